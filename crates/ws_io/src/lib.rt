@@ -1,0 +1,31 @@
+//! The outside of a program: what it reads from and writes to, the files that it loads, and how a command ends.
+#![tactic(auto)]
+
+mod files;
+mod mem_files;
+mod mem_sink;
+mod mem_source;
+mod numbers;
+mod outside;
+mod status;
+mod std_files;
+mod std_sink;
+mod std_source;
+mod steady_sink;
+mod steady_source;
+#[cfg(test)]
+mod tests;
+mod whole;
+
+pub use files::{Files, LoadRefused};
+pub use mem_files::MemFiles;
+pub use mem_sink::MemSink;
+pub use mem_source::MemSource;
+pub use outside::{Failed, Gate, OpenGate, Sink, Source};
+pub use status::Status;
+pub use std_files::StdFiles;
+pub use std_sink::StdSink;
+pub use std_source::StdSource;
+pub use steady_sink::SteadySink;
+pub use steady_source::SteadySource;
+pub use whole::write_whole;

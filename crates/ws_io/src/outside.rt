@@ -1,0 +1,65 @@
+ghost use Rattle.std.specs.Prelude.{◌≡◌, List, [], ℕ, Bool, true, Option};
+ghost use Rattle.ws_io.specs.Faults.{HasCause};
+ghost use Rattle.ws_io.specs.Feed.{Feed, Reads};
+ghost use Rattle.ws_io.specs.Gain.{Gains, Writes, Finishes, KeepsTold};
+
+/// A call of the outside failed.
+#[derive(Clone, Copy, Debug, PartialEq, Eq)]
+pub struct Failed;
+
+/// What bytes are read from.
+pub trait Source {
+    /// How often a read has failed, which never falls. It may stop at 2^64 - 1.
+    ghost faults: { Self → ℕ };
+
+    /// The bytes given and left and whether the end was met, or nothing where the source doesn't tell.
+    ghost feed: { Self → Option Feed };
+
+    /// Moves bytes into the front of the room, and answers how many. With room, 0 means that no byte is left.
+    /// At `Failed` no byte was moved.
+    fn read(&mut self, room: &mut [u8]) -> Result<usize, Failed>
+        ensures bytes { Reads (feed self.old) (feed self.new) result room.new }
+        ensures cause { HasCause (faults self.old) (faults self.new) result };
+}
+
+/// What bytes are written to.
+pub trait Sink {
+    /// How often a write or a finish has failed, which never falls. It may stop at 2^64 - 1.
+    ghost faults: { Self → ℕ };
+
+    /// The lists of bytes for which the sink stands.
+    ghost got: { Self → List ℕ → Type 0 };
+
+    /// Whether it was finished, or nothing where the sink doesn't tell.
+    ghost finished: { Self → Option Bool };
+
+    /// Whether it was begun, which only a sink that takes a name has to be.
+    ghost begun: { Self → Bool } = { λ _. true };
+
+    /// Takes bytes of the front of the piece, at least one of a piece that has one, and answers how many.
+    /// At `Failed` it took none.
+    fn write(&mut self, piece: &[u8]) -> Result<usize, Failed>
+        ensures bytes { Writes (got self.old) (got self.new) result piece.now }
+        ensures finished { KeepsTold (finished self.old) (finished self.new) }
+        ensures begun { begun self.new ≡ begun self.old }
+        ensures cause { HasCause (faults self.old) (faults self.new) result };
+
+    /// Says that no more comes.
+    fn finish(&mut self) -> Result<(), Failed>
+        ensures finished { Finishes (finished self.old) (finished self.new) result }
+        ensures bytes { Gains (got self.old) (got self.new) [] }
+        ensures begun { begun self.new ≡ begun self.old }
+        ensures cause { HasCause (faults self.old) (faults self.new) result };
+}
+
+/// A place at which a worker may be held. It tells nothing.
+pub trait Gate: Sync {
+    fn enter(&self, worker: u32, turn: u64);
+}
+
+/// It holds nobody.
+pub struct OpenGate;
+
+impl Gate for OpenGate {
+    fn enter(&self, _worker: u32, _turn: u64) {}
+}
