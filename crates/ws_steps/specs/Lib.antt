@@ -1,0 +1,4 @@
+pub mod Promises
+pub mod Queues
+pub mod Effects
+pub mod Readable

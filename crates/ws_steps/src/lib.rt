@@ -1,0 +1,10 @@
+//! The step table: the words in which a realm's operations are told. The operations themselves are definitions, in `specs/`, a file a section of the Streams Standard.
+#![tactic(auto)]
+
+mod effects;
+mod promises;
+mod readable;
+
+pub use effects::Effect;
+pub use promises::{Job, Reaction, Step};
+pub use readable::{Queued, ReadRequest, ReadableState, SizeBy};
