@@ -1,0 +1,5 @@
+pub mod Moves
+pub mod Oks
+pub mod Turns
+pub mod Copies
+mod Worked

@@ -1,0 +1,16 @@
+use Rattle.std.proofs.Common.{◌+◌, ◌-◌}
+use Rattle.ws_cli.specs.Run.{moment, Copied}
+use Rattle.ws_cli.specs.View.{IsAtRest}
+use Rattle.ws_cli.proofs.copy.copy.Given as goal
+
+abbrev pub invariant-turns : goal.invariant-turns
+invariant-turns g l = record {
+  copied : Copied l.max_input l.taken
+      (moment (g.S.Source.faults l.fn.input) (g.S.Source.feed l.fn.input) (g.K.Sink.faults l.fn.output) (g.K.Sink.finished l.fn.output))
+      (moment (g.S.Source.faults l.input) (g.S.Source.feed l.input) (g.K.Sink.faults l.output) (g.K.Sink.finished l.output))
+      (g.K.Sink.got l.fn.output) (g.K.Sink.got l.output);
+  rests : IsAtRest l.realm;
+}
+
+abbrev pub decreases-turns : goal.decreases-turns
+decreases-turns g l = l.max_input + 1 - l.taken

@@ -1,0 +1,85 @@
+-- What a run from an input to an output may end with.
+use Rattle.std.specs.Prelude.{◌≡◌, ◌+◌, ◌<◌, ◌≤◌, ℕ, Bool, List, ◌++◌, length, Option}
+use Rattle.ws_io.specs.Faults.{Rose}
+use Rattle.ws_io.specs.Feed.{Feed, Fed, IsEnded, IsEmpty}
+use Rattle.ws_io.specs.Gain.{Gains, Becomes, KeepsTold}
+use Rattle.ws_io.specs.declared.status.Status.{Status}
+use Rattle.ws_io.specs.declared.status.Status.TheVariants.{Done, Stage, Usage, Plan, ReadFault, WriteFault, Aborted, NoMemory, Script, LoadFault, TooMuch}
+
+-- what an input and an output tell at one moment: their counts of faults, the input's bytes, and whether the output is finished
+pub record Moment : Type 0 where
+  pub read_faults : ℕ
+  pub write_faults : ℕ
+  pub feed : Option Feed
+  pub finished : Option Bool
+
+abbrev pub moment : ℕ → Option Feed → ℕ → Option Bool → Moment
+moment read_faults feed write_faults finished =
+    record { read_faults = read_faults; write_faults = write_faults; feed = feed; finished = finished }
+
+-- neither count rose
+pub record NoFault (old new : Moment) : Type 0 where
+  pub read : new.read_faults ≡ old.read_faults
+  pub write : new.write_faults ≡ old.write_faults
+
+-- the run is complete: a read answered 0, nothing is left, neither count rose, at most `most` bytes were taken, the output
+-- gained exactly these, and it is finished
+pub record IsDone (most : ℕ) (old new : Moment) (taken gain : List ℕ) : Type 0 where
+  pub ended : IsEnded new.feed
+  pub emptied : IsEmpty new.feed
+  pub no_fault : NoFault old new
+  pub within : length taken ≤ most
+  pub whole : gain ≡ taken
+  pub finished : Becomes old.finished new.finished
+
+-- where a run may end with a status
+abbrev pub Allows : Status → ℕ → Moment → Moment → List ℕ → List ℕ → Type 0
+Allows Done most old new taken gain = IsDone most old new taken gain
+Allows (Stage index code place) most old new taken gain = ⊥
+Allows Usage most old new taken gain = ⊥
+Allows (Plan n) most old new taken gain = ⊥
+Allows ReadFault most old new taken gain = Rose old.read_faults new.read_faults
+Allows WriteFault most old new taken gain = Rose old.write_faults new.write_faults
+Allows Aborted most old new taken gain = ⊥
+Allows NoMemory most old new taken gain = Unit {0}
+Allows (Script n) most old new taken gain = ⊥
+Allows LoadFault most old new taken gain = ⊥
+Allows TooMuch most old new taken gain = most < length taken
+
+-- with any other status than those of a complete run and of want of memory, the output's end is as before
+abbrev pub Leaves : Status → Moment → Moment → Type 0
+Leaves Done old new = Unit {0}
+Leaves (Stage index code place) old new = KeepsTold old.finished new.finished
+Leaves Usage old new = KeepsTold old.finished new.finished
+Leaves (Plan n) old new = KeepsTold old.finished new.finished
+Leaves ReadFault old new = KeepsTold old.finished new.finished
+Leaves WriteFault old new = KeepsTold old.finished new.finished
+Leaves Aborted old new = KeepsTold old.finished new.finished
+Leaves NoMemory old new = Unit {0}
+Leaves (Script n) old new = KeepsTold old.finished new.finished
+Leaves LoadFault old new = KeepsTold old.finished new.finished
+Leaves TooMuch old new = KeepsTold old.finished new.finished
+
+-- How a run that took `taken` ends: what the output gained is a first part of it, at most `ahead` bytes of it weren't
+-- written, and at most one byte more than `most` was taken.
+pub record Ends (status : Status) (most ahead : ℕ) (old new : Moment) (got got' : List ℕ → Type 0) : Type 0 where
+  pub taken : List ℕ
+  pub gain : List ℕ
+  pub rest : List ℕ
+  pub fed : Fed old.feed new.feed taken
+  pub gained : Gains got got' gain
+  pub first : taken ≡ gain ++ rest
+  pub bound : length taken ≤ most + 1
+  pub ahead_by : length rest ≤ ahead
+  pub allowed : Allows status most old new taken gain
+  pub finish_kept : Leaves status old new
+
+-- a run that goes on: this many bytes, at most `most`, were taken and written, and there was no fault
+pub record Copied (most count : ℕ) (old new : Moment) (got got' : List ℕ → Type 0) : Type 0 where
+  pub bytes : List ℕ
+  pub fed : Fed old.feed new.feed bytes
+  pub gained : Gains got got' bytes
+  pub counted : length bytes ≡ count
+  pub within : count ≤ most
+  pub no_fault : NoFault old new
+  pub finish_kept : KeepsTold old.finished new.finished

@@ -1,0 +1,52 @@
+//! A run without stages: bytes go from the input through one readable stream to the output.
+ghost use Rattle.std.specs.Prelude.{◌<◌, ◌^◌};
+ghost use Rattle.ws_cli.specs.Run.{Ends, moment};
+ghost use Rattle.ws_cli.specs.View.{IsAtRest};
+
+use crate::realm::Realm;
+use crate::turn::{Turn, take_turn};
+use std::alloc::Global;
+use ws_io::{Sink, Source, Status};
+
+/// Takes turns until the run ends.
+fn copy<S: Source, K: Sink>(
+    realm: &mut Realm,
+    alloc: Global,
+    input: &mut S,
+    output: &mut K,
+    max_input: u64,
+) -> Status
+    requires rests { IsAtRest realm.old }
+    requires limit { max_input < 2 ^ 63 }
+    ensures { Ends result max_input 4096
+        (moment (S.faults input.old) (S.feed input.old) (K.faults output.old) (K.finished output.old))
+        (moment (S.faults input.new) (S.feed input.new) (K.faults output.new) (K.finished output.new))
+        (K.got output.old) (K.got output.new) }
+{
+    let mut taken: u64 = 0;
+    'turns: loop {
+        match take_turn(realm, alloc, input, output, max_input - taken) {
+            Turn::Moved(count) => taken += count,
+            Turn::Ended(status) => return status,
+        }
+    }
+}
+
+/// Copies the input, of at most `max_input` bytes, to the output, and finishes it. Nothing is read before the stream pulls, and the stream pulls only where a read waits, so at most one piece of 4,096 bytes is read and not yet written.
+pub fn run<S: Source, K: Sink>(
+    alloc: Global,
+    input: &mut S,
+    output: &mut K,
+    max_input: u64,
+) -> Status
+    requires { max_input < 2 ^ 63 }
+    ensures { Ends result max_input 4096
+        (moment (S.faults input.old) (S.feed input.old) (K.faults output.old) (K.finished output.old))
+        (moment (S.faults input.new) (S.feed input.new) (K.faults output.new) (K.finished output.new))
+        (K.got output.old) (K.got output.new) }
+{
+    match Realm::open(alloc) {
+        Ok(mut realm) => copy(&mut realm, alloc, input, output, max_input),
+        Err(_) => Status::NoMemory,
+    }
+}

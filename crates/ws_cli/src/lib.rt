@@ -1,0 +1,10 @@
+//! The commands of `streams`: what the words of its command line do, over any input, output, files and notes.
+#![tactic(auto)]
+
+mod command;
+mod copy;
+mod realm;
+mod turn;
+
+pub use command::{MAX_INPUT, top};
+pub use copy::run;

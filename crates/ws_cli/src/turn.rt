@@ -1,0 +1,145 @@
+//! One turn of a run: the stream is read, its host answers the pull with one read of the input, and what the read gets goes to the output.
+ghost use Rattle.std.specs.Prelude.{◌≡◌, [], ◌<◌, ◌≤◌, ◌+◌, ◌^◌, min, IfOk, OnOk, OnErr, MatchResult};
+ghost use Rattle.ws_value.specs.declared.ids.PromiseId.{PromiseId};
+ghost use Rattle.ws_cli.specs.Run.{Ends, moment};
+ghost use Rattle.ws_cli.specs.Turn.{GivesPiece, outcome_of, IsRunOutcome, IsRunReason, status_of, HandsBytes, HandsEnd, HandsOn, Turns};
+ghost use Rattle.ws_cli.specs.View.{IsAtRest, IsReading, HasEnded, RestsAfter, RestsOn};
+
+use crate::realm::Realm;
+use std::alloc::Global;
+use ws_io::{Failed, Sink, Source, Status, write_whole};
+use ws_value::{Chunk, Fault, NoMemory, Outcome, Plain, Room, Value};
+
+/// The most bytes of one read of the input.
+const MOST_OF_A_READ: u64 = 4096;
+
+/// How a turn ended.
+#[derive(Clone, Copy, Debug, PartialEq, Eq)]
+pub enum Turn {
+    /// So many bytes were read and written, and the run goes on.
+    Moved(u64),
+    /// The run has ended.
+    Ended(Status),
+}
+
+/// Reads the input once. The piece is empty at the input's end.
+fn read_piece<S: Source>(
+    alloc: Global,
+    input: &mut S,
+    want: usize,
+) -> Result<Result<Chunk, Failed>, NoMemory>
+    requires { 0 < want }
+    ensures piece { IfOk result (λ piece. GivesPiece (S.feed input.old) (S.feed input.new) (S.faults input.old) (S.faults input.new) want piece) }
+    ensures none { OnErr result (input.new ≡ input.old) }
+{
+    let mut room = Room::of(alloc, want)?;
+    match input.read(room.as_mut_slice()) {
+        Ok(count) => Ok(Ok(room.into_chunk(count))),
+        Err(Failed) => Ok(Err(Failed)),
+    }
+}
+
+/// The host answers the stream's pull with what it read, of which the run may take `most` bytes.
+fn answer(realm: &mut Realm, piece: Result<Chunk, Failed>, most: u64) -> Result<(), NoMemory>
+    requires { realm.old.agenda.effects ≡ [] }
+    ensures outcome { (promise : PromiseId) → IsReading realm.old promise → OnOk result (HasEnded realm.new promise (outcome_of most piece)) }
+    ensures rests { (promise : PromiseId) → IsReading realm.old promise → OnOk result (RestsAfter (outcome_of most piece) realm.new) }
+{
+    match piece {
+        Ok(chunk) => {
+            if chunk.is_empty() {
+                return realm.close();
+            }
+            if chunk.len() as u64 > most {
+                return realm.error(Plain::Fault(Fault::TooMuch));
+            }
+            realm.enqueue(chunk)
+        }
+        Err(Failed) => realm.error(Plain::Fault(Fault::Read)),
+    }
+}
+
+fn write_chunk<K: Sink>(chunk: &Chunk, output: &mut K) -> Turn
+    ensures { HandsBytes chunk.now result
+        (record { faults = K.faults output.old; finished = K.finished output.old })
+        (record { faults = K.faults output.new; finished = K.finished output.new })
+        (K.got output.old) (K.got output.new) }
+{
+    match write_whole(output, chunk.as_slice()) {
+        Ok(()) => Turn::Moved(chunk.len() as u64),
+        Err(Failed) => Turn::Ended(Status::WriteFault),
+    }
+}
+
+fn finish<K: Sink>(output: &mut K) -> Turn
+    ensures { HandsEnd result
+        (record { faults = K.faults output.old; finished = K.finished output.old })
+        (record { faults = K.faults output.new; finished = K.finished output.new })
+        (K.got output.old) (K.got output.new) }
+{
+    match output.finish() {
+        Ok(()) => Turn::Ended(Status::Done),
+        Err(Failed) => Turn::Ended(Status::WriteFault),
+    }
+}
+
+/// The status that follows from the reason with which the stream errored.
+fn status_of(reason: Plain) -> Status
+    requires { IsRunReason reason }
+    ensures { result ≡ status_of reason }
+{
+    match reason {
+        Plain::Fault(Fault::TooMuch) => Status::TooMuch,
+        Plain::Fault(Fault::Read) => Status::ReadFault,
+        _ => unreachable!(),
+    }
+}
+
+/// Does what follows from the outcome of a read: writes the chunk, finishes the output, or ends.
+fn hand_on<K: Sink>(outcome: &Outcome, output: &mut K) -> Turn
+    requires { IsRunOutcome outcome.now }
+    ensures { HandsOn outcome.now result
+        (record { faults = K.faults output.old; finished = K.finished output.old })
+        (record { faults = K.faults output.new; finished = K.finished output.new })
+        (K.got output.old) (K.got output.new) }
+{
+    match outcome {
+        Outcome::Given(Value::Bytes(chunk)) => write_chunk(chunk, output),
+        Outcome::Finished(_) => finish(output),
+        Outcome::Rejected(reason) => Turn::Ended(status_of(*reason)),
+        Outcome::Given(Value::Plain(_)) => unreachable!(),
+        Outcome::Pending => unreachable!(),
+        Outcome::Fulfilled(_) => unreachable!(),
+    }
+}
+
+/// One turn of a run that may take `most` bytes more. Want of memory ends the run.
+pub fn take_turn<S: Source, K: Sink>(
+    realm: &mut Realm,
+    alloc: Global,
+    input: &mut S,
+    output: &mut K,
+    most: u64,
+) -> Turn
+    requires rests { IsAtRest realm.old }
+    requires limit { most < 2 ^ 63 }
+    ensures turn { Turns result most
+        (moment (S.faults input.old) (S.feed input.old) (K.faults output.old) (K.finished output.old))
+        (moment (S.faults input.new) (S.feed input.new) (K.faults output.new) (K.finished output.new))
+        (K.got output.old) (K.got output.new) }
+    ensures rests { RestsOn result realm.new }
+{
+    let Ok(read) = realm.read() else {
+        return Turn::Ended(Status::NoMemory);
+    };
+    let want = (most + 1).min(MOST_OF_A_READ) as usize;
+    let Ok(piece) = read_piece(alloc, input, want) else {
+        return Turn::Ended(Status::NoMemory);
+    };
+    if answer(realm, piece, most).is_err() {
+        return Turn::Ended(Status::NoMemory);
+    }
+    let turn = hand_on(realm.outcome(read), output);
+    realm.forget(read);
+    turn
+}
