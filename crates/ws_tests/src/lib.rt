@@ -1,0 +1,9 @@
+//! Tests over several crates: what the contracts leave open, and that they say what was meant.
+#![tactic(auto)]
+
+#[cfg(test)]
+mod copy;
+#[cfg(test)]
+mod pace;
+#[cfg(test)]
+mod values;
