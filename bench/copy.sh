@@ -1,0 +1,39 @@
+#!/bin/sh
+# Copies a 256 MiB file by `./streams run`, by `cat` and, where node is there, through Node's own Web Streams, in one run.
+# Prints each one's best of three times, its rate, its peak memory, and how many times Node's rate `./streams run` has.
+set -eu
+root=$(CDPATH='' cd -- "$(dirname -- "$0")/.." && pwd)
+work=$(mktemp -d)
+trap 'rm -rf "$work"' EXIT
+mebibytes=${1:-256}
+head -c "$((mebibytes * 1048576))" /dev/urandom >"$work/in"
+printf 'x' | "$root/streams" run >/dev/null
+program=$root/crates/streams/out/streams
+
+# Best of three: seconds by the wall clock, and peak memory in KiB.
+measure() {
+    name=$1
+    shift
+    best=
+    for _ in 1 2 3; do
+        /usr/bin/time -f '%e %M' -o "$work/time" "$@" <"$work/in" >"$work/out"
+        cmp -s "$work/in" "$work/out" || { echo "$name: the copy differs" >&2; exit 1; }
+        read -r seconds memory <"$work/time"
+        if [ -z "$best" ] || [ "$(echo "$seconds < $best" | bc)" = 1 ]; then
+            best=$seconds
+            peak=$memory
+        fi
+    done
+    rate=$(echo "scale=1; $mebibytes / $best" | bc)
+    printf '%-8s %6s s  %8s MiB/s  %8s KiB\n' "$name" "$best" "$rate" "$peak"
+    eval "best_$name=$best"
+}
+
+echo "$(nproc) processors, $mebibytes MiB"
+measure streams "$program" run
+measure cat cat
+if command -v node >/dev/null 2>&1; then
+    measure node node "$root/bench/copy.mjs"
+    echo "streams has $(echo "scale=2; $best_node / $best_streams" | bc) times node's rate"
+fi
+echo "cat has $(echo "scale=2; $best_streams / $best_cat" | bc) times streams' rate"
