@@ -4,6 +4,8 @@
 #[cfg(test)]
 mod copy;
 #[cfg(test)]
+mod memory;
+#[cfg(test)]
 mod pace;
 #[cfg(test)]
 mod values;

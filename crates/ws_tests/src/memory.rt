@@ -1,0 +1,33 @@
+//! A run in which an allocation is refused: `rt try --test --fail-alloc N` refuses the Nth.
+use std::alloc::Global;
+use std::test::Fail;
+use ws_cli::run;
+use ws_io::{MemSink, MemSource, Status};
+use ws_value::NoMemory;
+
+const INPUT: &[u8] = b"abcdefghij";
+
+/// What a run over the input, in reads of three bytes, ended with, and what it wrote.
+fn copied(alloc: Global) -> Result<(Status, MemSink), NoMemory> {
+    let mut input = MemSource::make(alloc, INPUT, &[3], &[])?;
+    let mut output = MemSink::make(alloc, INPUT.len(), &[2], &[], &[])?;
+    let status = run(alloc, &mut input, &mut output, 100);
+    Ok((status, output))
+}
+
+#[test]
+fn a_refused_allocation(rt: HostRuntime) -> Result<(), Fail> {
+    match copied(rt.alloc()) {
+        Ok((Status::Done, output)) => {
+            assert_eq!(rt; output.got(), INPUT);
+            assert!(rt; output.finished());
+        }
+        Ok((status, output)) => {
+            assert_eq!(rt; status, Status::NoMemory);
+            assert!(rt; INPUT.starts_with(output.got()));
+            assert!(rt; !output.finished());
+        }
+        Err(NoMemory) => {}
+    }
+    Ok(())
+}
