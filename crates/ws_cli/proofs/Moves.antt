@@ -157,7 +157,7 @@ enqueue-rests n v w p h =
     let same : length (with_entry p x t).entries ≡ length t.entries = length-with_entry t p x in
     let host : entry_at (with_entry p x t) q ≡ Some (record pending { reactions = Perform (ReadablePull me) None ∷ [] }) =
     entry_at-with_entry_other t p q x (omega arith) ∙ h.host in
-    rw (enqueue-is v w c p h.stream, answer-open p (Given v) t [] h.asked, pull_answered n _ q (resting true c) h.under_way h.no_jobs host (pulled_acts c)) (
+    rw (enqueue-is v w c p h.stream, answer-open p (Given v) t [] h.asked, pull_answered n (record w { stream = record (resting true c) { pulling = true }; promises = with_entry p x t }) q (resting true c) h.under_way h.no_jobs host (pulled_acts c)) (
       record {
         disturbed = true;
         closed = c;
@@ -258,7 +258,7 @@ error-rejects n e w p h =
 
 set_up-made : set_up_source made ≡ record {
   stream = initialized;
-  promises = record { entries = Some (ended (Fulfilled Undefined)) ∷ []; jobs = ReactionJob (ReadableStart me) (Ok Undefined) None ∷ [] };
+  promises = record { entries = Some (ended (Fulfilled Undefined)) ∷ []; jobs = ReactionJob (ReadableStart me) (Ok Undefined) None ∷ []; watched = 0; settlements = [] };
   pull = None;
 }
 unfolding set_up_source set_up after fresh settle react
@@ -266,7 +266,7 @@ set_up-made = refl
 
 started-made : (n : ℕ) → jobs (suc n) (set_up_source made) ≡ record {
   stream = record initialized { started = true };
-  promises = record { entries = Some (ended (Fulfilled Undefined)) ∷ []; jobs = [] };
+  promises = record { entries = Some (ended (Fulfilled Undefined)) ∷ []; jobs = []; watched = 0; settlements = [] };
   pull = None;
 }
 unfolding jobs job perform_job after_next_job after start_settled call_pull_if_needed

@@ -5,10 +5,11 @@ use Rattle.ws_value.specs.declared.ids.StreamId.{StreamId}
 use Rattle.ws_value.specs.declared.value.Plain.{Plain}
 use Rattle.ws_value.specs.declared.value.Plain.TheVariants.{Undefined}
 use Rattle.ws_value.specs.declared.value.Value.{Value}
+use Rattle.ws_steps.specs.declared.calls.StartBy.TheVariants.{Now}
 use Rattle.ws_steps.specs.declared.effects.Effect.{Effect}
-use Rattle.ws_steps.specs.declared.effects.Effect.TheVariants.{Start, Pull}
+use Rattle.ws_steps.specs.declared.effects.Effect.TheVariants.{Start, Pull, Cancel}
 use Rattle.ws_steps.specs.declared.promises.Step.{Step}
-use Rattle.ws_steps.specs.declared.promises.Step.TheVariants.{ReadableStart, ReadablePull}
+use Rattle.ws_steps.specs.declared.promises.Step.TheVariants.{ReadableStart, ReadablePull, ReturnUndefined}
 use Rattle.ws_steps.specs.declared.promises.Reaction.TheVariants.{Perform}
 use Rattle.ws_steps.specs.declared.promises.Job.{Job}
 use Rattle.ws_steps.specs.declared.promises.Job.TheVariants.{Reaction, Follow, Settle}
@@ -31,14 +32,16 @@ me = record { 0 = 0 }
 abbrev pub acts_on : World → Acts
 acts_on w = record { slots = w.stream; out = record { promises = w.promises; effects = [] } }
 
--- an effect performed. The start algorithm gives undefined at once; a pull is recorded for the host, which answers later
+-- an effect performed. The start algorithm gives undefined at once; a pull is recorded for the host, which answers later;
+-- nobody cancels the stream
 abbrev pub performed : World → Effect → World
-performed w (Start s) =
+performed w (Start s start) =
     let p = next_id w.promises in
     record w { promises = react p (Perform (ReadableStart s) None) (settle p (Ok Undefined) (fresh w.promises)) }
 performed w (Pull s) =
     let p = next_id w.promises in
     record w { promises = react p (Perform (ReadablePull s) None) (fresh w.promises); pull = Some p }
+performed w (Cancel s reason p) = w
 
 abbrev pub performed_all : World → List Effect → World
 performed_all w [] = w
@@ -67,6 +70,7 @@ answer_pull w = answered w w.pull
 abbrev pub perform_step : Step → Result Plain Plain → World → World
 perform_step (ReadableStart s) outcome w = on_stream (start_settled s outcome) w
 perform_step (ReadablePull s) outcome w = on_stream (pull_settled s outcome) w
+perform_step ReturnUndefined outcome w = w
 
 -- a derived promise is resolved with what the step returned, which is undefined
 abbrev pub resolve_derived : Option PromiseId → World → World
@@ -117,7 +121,7 @@ made = record { stream = initialized; promises = no_promises; pull = None }
 
 -- the stream with mark 0 and a size of 1 for each chunk
 unfoldable pub set_up_source : World → World
-set_up_source w = on_stream (set_up me 0 Count) w
+set_up_source w = on_stream (set_up me Now 0 Count) w
 
 -- a reader takes the stream
 unfoldable pub get_reader : World → World

@@ -12,7 +12,7 @@ ghost use Rattle.ws_cli.specs.Realm as world;
 use std::alloc::Global;
 use ws_promise::{Agenda, Promises};
 use ws_readable::{ReadRequest, Readable, SizeBy};
-use ws_steps::{Effect, Job, Step};
+use ws_steps::{Effect, Job, StartBy, Step};
 use ws_value::{Chunk, NoMemory, Outcome, Plain, PromiseId, StreamId, Value};
 
 /// The number of the one stream.
@@ -52,20 +52,22 @@ impl Realm {
         ensures agenda { self.new.agenda ≡ self.old.agenda }
     {
         self.promises.reserve(2)?;
-        let promise = self.promises.fresh();
         match effect {
-            Effect::Start(stream) => {
+            Effect::Start(stream, _) => {
+                let promise = self.promises.fresh();
                 self.promises.fulfil(promise, Plain::Undefined);
                 self.promises
                     .react(promise, Step::ReadableStart(stream), None);
                 Ok(())
             }
             Effect::Pull(stream) => {
+                let promise = self.promises.fresh();
                 self.promises
                     .react(promise, Step::ReadablePull(stream), None);
                 self.pull = Some(promise);
                 Ok(())
             }
+            Effect::Cancel(_, _, _) => Ok(()),
         }
     }
 
@@ -99,6 +101,7 @@ impl Realm {
                     .pull_settled(stream, &mut self.promises, &mut self.agenda, outcome);
                 self.perform_effects()
             }
+            Step::ReturnUndefined => Ok(()),
         }
     }
 
@@ -170,7 +173,7 @@ impl Realm {
     {
         self.reserve()?;
         self.source
-            .set_up(SOURCE, &mut self.agenda, 0, SizeBy::Count);
+            .set_up(SOURCE, &mut self.agenda, StartBy::Now, 0, SizeBy::Count);
         self.perform_effects()
     }
 

@@ -1,10 +1,11 @@
 -- What contracts see of the promises and of the agenda.
 use Rattle.std.specs.Prelude.{ℕ, List, [], ◌∷◌, Option, Some, None}
+use Rattle.ws_value.specs.declared.ids.PromiseId.{PromiseId}
 use Rattle.ws_steps.specs.declared.effects.Effect.{Effect}
 use Rattle.ws_steps.specs.Effects.{Out}
 use Rattle.ws_steps.specs.Promises.{Table}
 
--- the promises, and for how many more promises, reactions and follows there is room
+-- the promises, and for how many more promises, reactions, follows and watchings there is room
 pub record Seen : Type 0 where
   pub table : Table
   pub spare : ℕ
@@ -25,3 +26,11 @@ first_effect (effect ∷ effects) = Some effect
 abbrev pub later_effects : List Effect → List Effect
 later_effects [] = []
 later_effects (effect ∷ effects) = effects
+
+abbrev pub first_settlement : List PromiseId → Option PromiseId
+first_settlement [] = None
+first_settlement (p ∷ ps) = Some p
+
+abbrev pub later_settlements : List PromiseId → List PromiseId
+later_settlements [] = []
+later_settlements (p ∷ ps) = ps

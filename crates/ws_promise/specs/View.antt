@@ -1,6 +1,7 @@
 -- How the places in memory stand for the promises.
-use Rattle.std.specs.Prelude.{ℕ, ◌<◌, ◌==◌, Bool, false, not, suc, List, [], ◌∷◌, map, filter, All, Option, Some, None}
-use Rattle.ws_steps.specs.Promises.{Entry, Table, is_pending}
+use Rattle.std.specs.Prelude.{ℕ, ◌<◌, ◌==◌, not, suc, List, [], ◌∷◌, map, filter, All, Option, Some, None, slice_get}
+use Rattle.ws_value.specs.declared.ids.PromiseId.{PromiseId}
+use Rattle.ws_steps.specs.Promises.{Entry, Table, live}
 use Rattle.ws_steps.specs.declared.promises.Job.{Job}
 use Rattle.ws_steps.specs.declared.promises.Reaction.{Reaction}
 use Rattle.ws_promise.specs.declared.slots.Slot.{Slot}
@@ -20,7 +21,7 @@ AllNamed ws n = All (λ w. w.on.0 < n) ws
 
 -- the promise of a place, for which these reactions wait
 abbrev pub entry_with : List Reaction → Slot → Entry
-entry_with rs s = record { outcome = s.outcome; reactions = rs; follows = s.follows }
+entry_with rs s = record { outcome = s.outcome; reactions = rs; follows = s.follows; rank = s.rank }
 
 abbrev pub entry_for : List Reaction → Option Slot → Option Entry
 entry_for rs None = None
@@ -31,11 +32,10 @@ abbrev pub entries_from : ℕ → List (Option Slot) → List Waiting → List (
 entries_from k [] ws = []
 entries_from k (s ∷ ss) ws = entry_for (waiting_on k ws) s ∷ entries_from (suc k) ss ws
 
--- the promises and jobs for which the places stand
-abbrev pub table_of : List (Option Slot) → List Waiting → List Job → Table
-table_of ss ws js = record { entries = entries_from 0 ss ws; jobs = js }
+-- the promise of this number, where there is one
+abbrev pub entry_of : List (Option Slot) → List Waiting → PromiseId → Option Entry
+entry_of ss ws p = live (slice_get (entries_from 0 ss ws) p.0)
 
--- whether there is such a promise, and it has settled
-abbrev pub is_settled : Option Entry → Bool
-is_settled None = false
-is_settled (Some e) = not (is_pending e.outcome)
+-- the promises and jobs for which the places stand, of which n became watched, and the settlings that are still to be told
+abbrev pub table_of : List (Option Slot) → List Waiting → List Job → ℕ → List PromiseId → Table
+table_of ss ws js n ps = record { entries = entries_from 0 ss ws; jobs = js; watched = n; settlements = ps }

@@ -1,5 +1,6 @@
-ghost use Rattle.std.specs.Prelude.{◌≡◌, ◌<◌, ◌≤◌, ◌-◌, length, IfOk, OnOk, OnErr, Ok, Err, Some, IsSome};
+ghost use Rattle.std.specs.Prelude.{◌≡◌, ◌<◌, ◌≤◌, ◌-◌, false, length, IfOk, OnOk, OnErr, Ok, Err, Some, IsSome};
 ghost use Rattle.std.specs.Option.{is_some};
+ghost use Rattle.ws_promise.specs.Seen.{first_settlement, later_settlements};
 ghost use Rattle.ws_steps.specs.Promises as table;
 ghost use Rattle.ws_value.specs.declared.value.Outcome.TheVariants as outcome;
 ghost use Rattle.ws_steps.specs.declared.promises.Reaction.TheVariants as reaction;
@@ -7,36 +8,48 @@ ghost use Rattle.ws_steps.specs.declared.promises.Reaction.TheVariants as reacti
 use crate::places::{answer, follow, register, release, settle, take_job};
 use crate::slots::{Slot, slot_at};
 use crate::waiting::Waiting;
+use crate::watched::{note, watch};
 use std::alloc::Global;
 use std::collections::VecDeque;
 use std::marker::Model;
 use ws_steps::{Job, Reaction, Step};
 use ws_value::{NoMemory, Outcome, Plain, PromiseId, Value};
 
-/// The promises of a realm, the jobs that they cause, and for how many more promises, reactions and jobs there is room.
+/// The promises of a realm, the jobs that they cause, which of those that are watched have settled, and for how many more promises,
+/// reactions, jobs and watchings there is room.
 #[derive(Drop)]
 pub struct Promises {
     slots: Vec<Option<Slot>>,
     waiting: Vec<Waiting>,
     jobs: VecDeque<Job>,
+    /// The watched promises whose settling is still to be told, in order.
+    settlements: VecDeque<PromiseId>,
+    /// How many promises became watched.
+    watched: u64,
+    /// How many watched promises are pending: as many settlings are yet to be noted.
+    unnoted: usize,
     spare: usize,
 }
 
 impl Model for Promises {
-    ghost use Rattle.std.specs.Prelude.{◌+◌, ◌≤◌, vec_len, vec_capacity};
+    ghost use Rattle.std.specs.Prelude.{◌≡◌, ◌+◌, ◌≤◌, vec_len, vec_capacity};
     ghost use Rattle.std.specs.VecDeque.{deque_len, deque_capacity};
     ghost use Rattle.ws_promise.specs.Seen.{Seen};
 
     ghost Value = { Seen };
 
+    ghost use Rattle.ws_promise.specs.Counts.{unnoted_in, unwatched_in};
     ghost use Rattle.ws_promise.specs.View.{table_of, AllNamed};
 
-    ghost view = { λ a. record { table = table_of a.slots.items a.waiting.items a.jobs.items; spare = a.spare } };
+    ghost view = { λ a. record { table = table_of a.slots.items a.waiting.items a.jobs.items a.watched a.settlements.items; spare = a.spare } };
 
     ghost invariant = { λ a. (a.spare + vec_len a.slots ≤ vec_capacity a.slots)
         × (a.spare + deque_len a.jobs + vec_len a.waiting ≤ deque_capacity a.jobs)
         × (a.spare + deque_len a.jobs + vec_len a.waiting ≤ vec_capacity a.waiting)
-        × AllNamed a.waiting.items (vec_len a.slots) };
+        × AllNamed a.waiting.items (vec_len a.slots)
+        × (a.spare + deque_len a.settlements + a.unnoted ≤ deque_capacity a.settlements)
+        × (a.unnoted ≡ unnoted_in a.slots.items)
+        × (unwatched_in a.slots.items + a.watched ≤ vec_len a.slots) };
 }
 
 impl Promises {
@@ -48,11 +61,14 @@ impl Promises {
             slots: Vec::new(alloc),
             waiting: Vec::new(alloc),
             jobs: VecDeque::new(alloc),
+            settlements: VecDeque::new(alloc),
+            watched: 0,
+            unnoted: 0,
             spare: 0,
         })
     }
 
-    /// Makes room for `n` further calls of `fresh`, `react` and `follow`, together.
+    /// Makes room for `n` further calls of `fresh`, `react`, `follow` and `watch`, together.
     pub fn reserve(&mut self, n: usize) -> Result<(), NoMemory>
         ensures ok { OnOk result (n ≤ self.new.spare) }
         ensures table { self.new.table ≡ self.old.table }
@@ -62,6 +78,7 @@ impl Promises {
         self.slots.reserve(n)?;
         self.jobs.reserve(self.waiting.len() + n)?;
         self.waiting.reserve(self.jobs.len() + n)?;
+        self.settlements.reserve(self.unnoted + n)?;
         if self.spare < n {
             self.spare = n;
         }
@@ -79,6 +96,7 @@ impl Promises {
         self.slots.push_reserved(Some(Slot {
             outcome: Outcome::Pending,
             follows: false,
+            rank: None,
         }));
         self.spare -= 1;
         PromiseId(number as u128)
@@ -108,13 +126,14 @@ impl Promises {
     fn settle(&mut self, p: PromiseId, outcome: Result<Plain, Plain>)
         ensures { self.new ≡ record self.old { table = table.settle p outcome self.old.table } }
     {
-        settle(
+        let rank = settle(
             &mut self.slots,
             &mut self.waiting,
             &mut self.jobs,
             p,
             outcome,
         );
+        note(&mut self.settlements, &mut self.unnoted, p, rank);
     }
 
     /// Fulfils `p` with a value, where it is pending and follows no other.
@@ -132,9 +151,11 @@ impl Promises {
     }
 
     fn answer(&mut self, p: PromiseId, outcome: Outcome)
+        requires { table.is_pending outcome ≡ false }
         ensures { self.new ≡ record self.old { table = table.answer p outcome self.old.table } }
     {
-        answer(&mut self.slots, &mut self.waiting, p, outcome);
+        let rank = answer(&mut self.slots, &mut self.waiting, p, outcome);
+        note(&mut self.settlements, &mut self.unnoted, p, rank);
     }
 
     /// Fulfils the promise of a read with the result that has this value and isn't done.
@@ -149,6 +170,41 @@ impl Promises {
         ensures { self.new ≡ record self.old { table = table.answer p (outcome.Finished v) self.old.table } }
     {
         self.answer(p, Outcome::Finished(v));
+    }
+
+    /// Has the settling of `p` be told from now on, once. Where it has settled already, that is to be told.
+    pub fn watch(&mut self, p: PromiseId)
+        requires { 0 < self.old.spare }
+        ensures table { self.new.table ≡ table.watch p self.old.table }
+        ensures spare { self.new.spare ≡ self.old.spare - 1 }
+    {
+        watch(
+            &mut self.slots,
+            &mut self.settlements,
+            &mut self.watched,
+            &mut self.unnoted,
+            p,
+        );
+        self.spare -= 1;
+    }
+
+    /// How many promises became watched before `p`, where it is watched.
+    pub fn rank(&self, p: PromiseId) -> Option<u64>
+        ensures { result ≡ table.rank_at self.now.table p }
+    {
+        match slot_at(&self.slots, p) {
+            Some(slot) => slot.rank,
+            None => None,
+        }
+    }
+
+    /// Takes out the watched promise that settled first of those whose settling isn't told yet.
+    pub fn next_settlement(&mut self) -> Option<PromiseId>
+        ensures settlement { result ≡ first_settlement self.old.table.settlements }
+        ensures table { self.new.table ≡ record self.old.table { settlements = later_settlements self.old.table.settlements } }
+        ensures spare { self.new.spare ≡ self.old.spare }
+    {
+        self.settlements.pop_front()
     }
 
     /// Takes out the first job. The caller performs it; for a `Settle` it settles the promise that the job names.

@@ -1,9 +1,7 @@
 //! The places of the promises, by number. A place is empty once its promise was let go of.
-ghost use Rattle.std.specs.Prelude.{◌≡◌, ◌<◌, List, Some, None, IfSome, IfNone, IsTrue, not, slice_get, slice_set, if◌then◌else◌, false, vec_len, vec_capacity};
-ghost use Rattle.ws_steps.specs.Promises as table;
-ghost use Rattle.ws_steps.specs.Promises.{entry_at, is_pending};
-ghost use Rattle.ws_promise.specs.View.{is_settled, table_of};
-ghost use Rattle.ws_steps.specs.declared.promises.Job.{Job};
+ghost use Rattle.std.specs.Prelude.{◌≡◌, ◌<◌, List, Some, None, IfSome, IfNone, slice_get, slice_set, true, false, vec_len, vec_capacity};
+ghost use Rattle.ws_steps.specs.Promises.{is_open_entry, is_pending};
+ghost use Rattle.ws_promise.specs.View.{entry_of};
 ghost use Rattle.ws_promise.specs.declared.waiting.Waiting.{Waiting};
 
 use ws_value::{Outcome, PromiseId};
@@ -13,10 +11,13 @@ use ws_value::{Outcome, PromiseId};
 pub struct Slot {
     pub outcome: Outcome,
     pub follows: bool,
+    /// Where the promise is watched, how many became watched before it.
+    pub rank: Option<u64>,
 }
 
 impl Slot {
-    fn is_pending(&self) -> bool
+    /// Whether the promise hasn't settled.
+    pub fn is_pending(&self) -> bool
         ensures { result ≡ is_pending self.now.outcome }
     {
         match &self.outcome {
@@ -27,18 +28,12 @@ impl Slot {
             Outcome::Rejected(_) => false,
         }
     }
-
-    fn is_open(&self) -> bool
-        ensures { result ≡ (if is_pending self.now.outcome then not self.now.follows else false) }
-    {
-        self.is_pending() && !self.follows
-    }
 }
 
 /// The place of `p`, where there is such a promise.
 pub fn slot_at(slots: &Vec<Option<Slot>>, p: PromiseId) -> Option<&Slot>
     ensures some { IfSome result (λ slot. slice_get slots.now.items p.0 ≡ Some (Some slot.now)) }
-    ensures none { IfNone result ((ws : List Waiting) (js : List Job) → entry_at (table_of slots.now.items ws js) p ≡ None) }
+    ensures none { IfNone result ((ws : List Waiting) → entry_of slots.now.items ws p ≡ None) }
 {
     if slots.len() as u128 <= p.0 {
         return None;
@@ -49,26 +44,16 @@ pub fn slot_at(slots: &Vec<Option<Slot>>, p: PromiseId) -> Option<&Slot>
     }
 }
 
-/// Whether `p` is pending and follows no other.
-pub fn is_open(slots: &Vec<Option<Slot>>, p: PromiseId) -> bool
-    ensures answer { (ws : List Waiting) (js : List Job) → result ≡ table.is_open p (table_of slots.now.items ws js) }
-    ensures there { IsTrue result → p.0 < vec_len slots.now }
+/// The place of `p`, where it is pending and follows no other.
+pub fn open_slot(slots: &Vec<Option<Slot>>, p: PromiseId) -> Option<&Slot>
+    ensures some { IfSome result (λ slot. (slice_get slots.now.items p.0 ≡ Some (Some slot.now)) × (is_pending slot.now.outcome ≡ true) × (slot.now.follows ≡ false)) }
+    ensures none { IfNone result ((ws : List Waiting) → is_open_entry (entry_of slots.now.items ws p) ≡ false) }
 {
-    match slot_at(slots, p) {
-        Some(slot) => slot.is_open(),
-        None => false,
+    let slot = slot_at(slots, p)?;
+    if !slot.is_pending() {
+        return None;
     }
-}
-
-/// Whether `p` has settled, and wasn't let go of.
-pub fn is_settled(slots: &Vec<Option<Slot>>, p: PromiseId) -> bool
-    ensures answer { (ws : List Waiting) (js : List Job) → result ≡ is_settled (entry_at (table_of slots.now.items ws js) p) }
-    ensures there { IsTrue result → p.0 < vec_len slots.now }
-{
-    match slot_at(slots, p) {
-        Some(slot) => !slot.is_pending(),
-        None => false,
-    }
+    if slot.follows { None } else { Some(slot) }
 }
 
 /// Writes the place of `p`.
@@ -104,5 +89,19 @@ pub fn put_follows(slots: &mut Vec<Option<Slot>>, p: PromiseId, follows: bool)
     let _len = slots.len();
     if let Some(slot) = &mut slots[p.0 as usize] {
         slot.follows = follows;
+    }
+}
+
+/// Writes how many promises became watched before `p`.
+pub fn put_rank(slots: &mut Vec<Option<Slot>>, p: PromiseId, rank: u64)
+    requires { p.0 < vec_len slots.old }
+    ensures items { (s : Slot) → slice_get slots.old.items p.0 ≡ Some (Some s)
+        → slots.new.items ≡ slice_set slots.old.items p.0 (Some (record s { rank = Some rank })) }
+    ensures len { vec_len slots.new ≡ vec_len slots.old }
+    ensures capacity { vec_capacity slots.new ≡ vec_capacity slots.old }
+{
+    let _len = slots.len();
+    if let Some(slot) = &mut slots[p.0 as usize] {
+        slot.rank = Some(rank);
     }
 }

@@ -1,121 +1,8 @@
-use crate::{Agenda, Effect, Job, Promises, Step};
-use std::process::Abort;
+use crate::scripts::{Line, State, perform_all};
+use crate::{Agenda, Effect};
 use std::test::Fail;
-use ws_value::{NoMemory, Outcome, Plain, PromiseId, StreamId, Value};
-
-/// A line of a script: an operation, or what must be seen.
-#[derive(Clone, Copy, Debug)]
-enum Line {
-    Fresh(u128),
-    React(u128, u32),
-    Follow(u128, u128),
-    Fulfil(u128, u64),
-    Reject(u128, u64),
-    Give(u128, u64),
-    Finish(u128, u64),
-    Release(u128),
-    /// The first job, which is taken, is the reaction with this step and outcome.
-    Reacts(u32, Result<u64, u64>),
-    /// The first job, which is taken, has one promise react to the other.
-    Follows(u128, u128),
-    /// The first job, which is taken, settles this promise so.
-    Settles(u128, Result<u64, u64>),
-    Queued(usize),
-    Is(u128, State),
-}
-
-#[derive(Clone, Copy, Debug, PartialEq, Eq)]
-enum State {
-    Pending,
-    Fulfilled(u64),
-    Given(u64),
-    Finished(u64),
-    Rejected(u64),
-    Gone,
-}
-
-fn step(stream: u32) -> Step {
-    Step::ReadableStart(StreamId(stream))
-}
-
-fn outcome(of: Result<u64, u64>) -> Result<Plain, Plain> {
-    match of {
-        Ok(v) => Ok(Plain::Number(v)),
-        Err(r) => Err(Plain::Number(r)),
-    }
-}
-
-fn number(of: &Plain) -> u64 {
-    match of {
-        Plain::Number(n) => *n,
-        _ => u64::MAX,
-    }
-}
-
-fn state_of(promises: &Promises, p: PromiseId) -> State {
-    if !promises.is_live(p) {
-        return State::Gone;
-    }
-    match promises.outcome(p) {
-        Outcome::Pending => State::Pending,
-        Outcome::Fulfilled(v) => State::Fulfilled(number(v)),
-        Outcome::Given(Value::Plain(v)) => State::Given(number(v)),
-        Outcome::Finished(Value::Plain(v)) => State::Finished(number(v)),
-        Outcome::Rejected(r) => State::Rejected(number(r)),
-        _ => State::Gone,
-    }
-}
-
-/// Takes the first job, and performs it as far as it concerns promises.
-fn take(promises: &mut Promises) -> Option<Job> {
-    let job = promises.next_job()?;
-    if let Job::Settle { p, outcome } = job {
-        match outcome {
-            Ok(v) => promises.fulfil(p, v),
-            Err(r) => promises.reject(p, r),
-        }
-    }
-    Some(job)
-}
-
-fn perform(rt: &impl Abort, promises: &mut Promises, line: Line) -> Result<(), NoMemory> {
-    promises.reserve(1)?;
-    match line {
-        Line::Fresh(p) => assert_eq!(rt; promises.fresh(), PromiseId(p)),
-        Line::React(p, stream) => promises.react(PromiseId(p), step(stream), None),
-        Line::Follow(p, q) => promises.follow(PromiseId(p), PromiseId(q)),
-        Line::Fulfil(p, v) => promises.fulfil(PromiseId(p), Plain::Number(v)),
-        Line::Reject(p, r) => promises.reject(PromiseId(p), Plain::Number(r)),
-        Line::Give(p, v) => promises.give(PromiseId(p), Value::Plain(Plain::Number(v))),
-        Line::Finish(p, v) => promises.finish(PromiseId(p), Value::Plain(Plain::Number(v))),
-        Line::Release(p) => promises.release(PromiseId(p)),
-        Line::Reacts(stream, result) => assert_eq!(rt;
-            take(promises),
-            Some(Job::Reaction {
-                step: step(stream),
-                outcome: outcome(result),
-                derived: None,
-            })
-        ),
-        Line::Follows(p, q) => assert_eq!(rt;
-            take(promises),
-            Some(Job::Follow {
-                p: PromiseId(p),
-                q: PromiseId(q),
-            })
-        ),
-        Line::Settles(p, result) => assert_eq!(rt;
-            take(promises),
-            Some(Job::Settle {
-                p: PromiseId(p),
-                outcome: outcome(result),
-            })
-        ),
-        Line::Queued(n) => assert_eq!(rt; promises.queued(), n),
-        Line::Is(p, wanted) => assert_eq!(rt; state_of(promises, PromiseId(p)), wanted),
-    }
-    Ok(())
-}
+use ws_steps::StartBy;
+use ws_value::StreamId;
 
 #[test]
 fn follows_ecmascript(rt: HostRuntime) -> Result<(), Fail> {
@@ -188,19 +75,112 @@ fn follows_ecmascript(rt: HostRuntime) -> Result<(), Fail> {
         Line::Release(2),
         Line::Is(2, State::Pending),
     ];
-    let scripts: [&[Line]; 5] = [
-        &in_order,
-        &once,
-        &follows_settled,
-        &follows_pending,
-        &lets_go,
+    perform_all(
+        &rt,
+        rt.alloc(),
+        &[
+            &in_order,
+            &once,
+            &follows_settled,
+            &follows_pending,
+            &lets_go,
+        ],
+    )?;
+    Ok(())
+}
+
+#[test]
+fn tells_of_watched_promises(rt: HostRuntime) -> Result<(), Fail> {
+    // each that settles is told once, in the order of settling, and no other
+    let in_order = [
+        Line::Fresh(0),
+        Line::Fresh(1),
+        Line::Fresh(2),
+        Line::Fresh(3),
+        Line::Watch(0),
+        Line::Watch(1),
+        Line::Watch(3),
+        Line::Tells(None),
+        Line::Give(3, 7),
+        Line::Reject(1, 7),
+        Line::Fulfil(2, 7),
+        Line::Fulfil(0, 7),
+        Line::Fulfil(1, 8),
+        Line::Tells(Some(3)),
+        Line::Tells(Some(1)),
+        Line::Tells(Some(0)),
+        Line::Tells(None),
     ];
-    for script in scripts {
-        let mut promises = Promises::make(rt.alloc())?;
-        for line in script {
-            perform(&rt, &mut promises, *line)?;
-        }
-    }
+    // one that has settled is told at the watching
+    let settled_before = [
+        Line::Fresh(0),
+        Line::Fresh(1),
+        Line::Fulfil(0, 7),
+        Line::Finish(1, 8),
+        Line::Tells(None),
+        Line::Watch(1),
+        Line::Watch(0),
+        Line::Tells(Some(1)),
+        Line::Tells(Some(0)),
+        Line::Tells(None),
+    ];
+    // watching again does nothing, whether the promise is pending, has settled or is told
+    let twice = [
+        Line::Fresh(0),
+        Line::Watch(0),
+        Line::Watch(0),
+        Line::Fulfil(0, 7),
+        Line::Watch(0),
+        Line::Tells(Some(0)),
+        Line::Tells(None),
+        Line::Watch(0),
+        Line::Tells(None),
+        Line::Rank(0, Some(0)),
+    ];
+    // a promise that follows another is told once it settles, and the other isn't
+    let follows = [
+        Line::Fresh(0),
+        Line::Fresh(1),
+        Line::Watch(0),
+        Line::Follow(0, 1),
+        Line::Follows(0, 1),
+        Line::Fulfil(0, 8),
+        Line::Fulfil(1, 7),
+        Line::Tells(None),
+        Line::Settles(0, Ok(7)),
+        Line::Tells(Some(0)),
+        Line::Tells(None),
+    ];
+    // ranks count up in the order of watching, and none is used again
+    let ranks = [
+        Line::Fresh(0),
+        Line::Fresh(1),
+        Line::Fresh(2),
+        Line::Rank(2, None),
+        Line::Watch(2),
+        Line::Watch(0),
+        Line::Watch(0),
+        Line::Watch(4),
+        Line::Rank(2, Some(0)),
+        Line::Rank(0, Some(1)),
+        Line::Rank(1, None),
+        Line::Rank(4, None),
+        Line::Fulfil(2, 7),
+        Line::Rank(2, Some(0)),
+        Line::Release(2),
+        Line::Rank(2, None),
+        Line::Watch(2),
+        Line::Watch(1),
+        Line::Rank(2, None),
+        Line::Rank(1, Some(2)),
+        Line::Tells(Some(2)),
+        Line::Tells(None),
+    ];
+    perform_all(
+        &rt,
+        rt.alloc(),
+        &[&in_order, &settled_before, &twice, &follows, &ranks],
+    )?;
     Ok(())
 }
 
@@ -208,9 +188,12 @@ fn follows_ecmascript(rt: HostRuntime) -> Result<(), Fail> {
 fn keeps_effects_in_order(rt: HostRuntime) -> Result<(), Fail> {
     let mut agenda = Agenda::make(rt.alloc())?;
     agenda.reserve(2)?;
-    agenda.push(Effect::Start(StreamId(1)));
+    agenda.push(Effect::Start(StreamId(1), StartBy::Now));
     agenda.push(Effect::Pull(StreamId(1)));
-    assert_eq!(rt; agenda.next_effect(), Some(Effect::Start(StreamId(1))));
+    assert_eq!(rt;
+        agenda.next_effect(),
+        Some(Effect::Start(StreamId(1), StartBy::Now))
+    );
     assert_eq!(rt; agenda.next_effect(), Some(Effect::Pull(StreamId(1))));
     assert_eq!(rt; agenda.next_effect(), None);
     Ok(())

@@ -6,15 +6,22 @@ ghost use Rattle.ws_readable.specs.Seen.{acts_of, after_request_added};
 
 use crate::Readable;
 use ws_promise::{Agenda, Promises};
-use ws_steps::{Effect, ReadRequest, ReadableState, SizeBy};
-use ws_value::{Plain, StreamId, Value};
+use ws_steps::{Effect, ReadRequest, ReadableState, SizeBy, StartBy};
+use ws_value::{Plain, PromiseId, StreamId, Value};
 
 impl Readable {
     /// SetUpReadableStreamDefaultController. The effect performs the start algorithm.
     #[tactic(auto, unfolding(ws_steps::specs::Readable::set_up))]
-    pub fn set_up(&mut self, me: StreamId, fx: &mut Agenda, high_water_mark: u64, size_by: SizeBy)
+    pub fn set_up(
+        &mut self,
+        me: StreamId,
+        fx: &mut Agenda,
+        start: StartBy,
+        high_water_mark: u64,
+        size_by: SizeBy,
+    )
         requires { 0 < fx.old.spare }
-        ensures row { (p : Seen) → acts_of self.new p fx.new ≡ rows.set_up me high_water_mark size_by (acts_of self.old p fx.old) }
+        ensures row { (p : Seen) → acts_of self.new p fx.new ≡ rows.set_up me start high_water_mark size_by (acts_of self.old p fx.old) }
         ensures spare { self.new.spare ≡ self.old.spare }
         ensures agenda_spare { fx.old.spare ≤ fx.new.spare + 1 }
     {
@@ -25,7 +32,7 @@ impl Readable {
         self.pulling = false;
         self.pull_again = false;
         self.close_requested = false;
-        fx.push(Effect::Start(me));
+        fx.push(Effect::Start(me, start));
     }
 
     /// ReadableStreamDefaultControllerCanCloseOrEnqueue.
@@ -238,5 +245,17 @@ impl Readable {
             }
             Err(e) => self.error(p, e),
         }
+    }
+
+    /// The default controller's `[[CancelSteps]]`. The promise is the result of reacting to the cancel algorithm.
+    #[tactic(auto, unfolding(ws_steps::specs::Readable::cancel_steps))]
+    pub fn cancel_steps(&mut self, me: StreamId, fx: &mut Agenda, reason: Plain, promise: PromiseId)
+        requires { 0 < fx.old.spare }
+        ensures row { (p : Seen) → acts_of self.new p fx.new ≡ rows.cancel_steps me reason promise (acts_of self.old p fx.old) }
+        ensures spare { self.new.spare ≡ self.old.spare }
+        ensures agenda_spare { fx.old.spare ≤ fx.new.spare + 1 }
+    {
+        self.queue.clear();
+        fx.push(Effect::Cancel(me, reason, promise));
     }
 }

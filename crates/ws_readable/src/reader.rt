@@ -1,15 +1,18 @@
 //! The operations of the default reader.
 ghost use Rattle.std.specs.Prelude.{◌≡◌, ◌<◌, ◌≤◌, ◌+◌};
-ghost use Rattle.ws_promise.specs.Seen.{Seen, SeenAgenda};
+ghost use Rattle.std.specs.Option.{option_map};
+ghost use Rattle.ws_promise.specs.Seen.{SeenAgenda};
 ghost use Rattle.ws_steps.specs.Promises.{next_id};
 ghost use Rattle.ws_steps.specs.Readable as rows;
 ghost use Rattle.ws_readable.specs.Seen.{acts_of};
 
 use crate::Readable;
-use crate::requests::{close_request, error_request};
+use crate::requests::{close_request, error_request, error_requests};
 use ws_promise::{Agenda, Promises};
 use ws_steps::{ReadRequest, ReadableState};
-use ws_value::{Plain, PromiseId, StreamId};
+use ws_value::{Fault, Plain, PromiseId, StreamId};
+
+const TYPE_ERROR: Plain = Plain::Fault(Fault::TypeError);
 
 impl Readable {
     /// The new closed promise of a reader that takes the stream.
@@ -65,6 +68,51 @@ impl Readable {
             ReadableState::Readable => self.pull_steps(me, p, fx, request),
             ReadableState::Closed => close_request(request, p),
             ReadableState::Errored => error_request(request, p, self.stored_error),
+        }
+    }
+
+    /// Rejects the closed promise of a reader that is released, or makes a rejected one. The answer is the closed promise from now on.
+    fn release_closed(&self, p: &mut Promises, closed: PromiseId) -> PromiseId
+        requires { 0 < p.old.spare }
+        ensures table { p.new.table ≡ rows.release_closed closed p.old.table self.now.slots.state }
+        ensures id { result ≡ rows.released closed p.old.table self.now.slots.state }
+        ensures promise_spare { p.old.spare ≤ p.new.spare + 1 }
+    {
+        match self.state {
+            ReadableState::Readable => {
+                p.reject(closed, TYPE_ERROR);
+                closed
+            }
+            ReadableState::Closed => {
+                let promise = p.fresh();
+                p.reject(promise, TYPE_ERROR);
+                promise
+            }
+            ReadableState::Errored => {
+                let promise = p.fresh();
+                p.reject(promise, TYPE_ERROR);
+                promise
+            }
+        }
+    }
+
+    /// ReadableStreamReaderGenericRelease, where a reader has the stream. The answer is the reader's closed promise from now on.
+    #[tactic(auto, unfolding(ws_steps::specs::Readable::reader_release))]
+    pub fn reader_release(&mut self, p: &mut Promises) -> Option<PromiseId>
+        requires { 0 < p.old.spare }
+        ensures row { (fx : SeenAgenda) → acts_of self.new p.new fx ≡ rows.reader_release (acts_of self.old p.old fx) }
+        ensures closed { result ≡ option_map (λ closed. rows.released closed p.old.table self.old.slots.state) self.old.slots.reader }
+        ensures spare { self.new.spare ≡ self.old.spare }
+        ensures promise_spare { p.old.spare ≤ p.new.spare + 1 }
+    {
+        match self.reader {
+            Some(closed) => {
+                let closed = self.release_closed(p, closed);
+                self.reader = None;
+                error_requests(&mut self.requests, p, TYPE_ERROR);
+                Some(closed)
+            }
+            None => None,
         }
     }
 }

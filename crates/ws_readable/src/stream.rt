@@ -1,6 +1,8 @@
 //! The record of a readable stream, and the operations of the stream itself.
-ghost use Rattle.std.specs.Prelude.{◌≡◌, ◌≤◌, ◌+◌, IfOk, OnOk, OnErr, length};
+ghost use Rattle.std.specs.Prelude.{◌≡◌, ◌<◌, ◌≤◌, ◌+◌, IfOk, OnOk, OnErr};
 ghost use Rattle.ws_promise.specs.Seen.{Seen, SeenAgenda};
+ghost use Rattle.ws_steps.specs.Promises.{next_id};
+ghost use Rattle.ws_steps.specs.Readable as rows;
 ghost use Rattle.ws_steps.specs.Readable.{initialized, waiting, stream_close, stream_error};
 ghost use Rattle.ws_readable.specs.Seen.{acts_of, request_taken, after_request_taken};
 
@@ -9,9 +11,9 @@ use crate::requests::{close_requests, error_requests};
 use std::alloc::Global;
 use std::collections::VecDeque;
 use std::marker::Model;
-use ws_promise::Promises;
+use ws_promise::{Agenda, Promises};
 use ws_steps::{ReadRequest, ReadableState, SizeBy};
-use ws_value::{NoMemory, Plain, PromiseId};
+use ws_value::{NoMemory, Plain, PromiseId, StreamId};
 
 /// A readable stream with its default controller and the reader that locks it. It is seen as its slots and as the number of chunks and read requests for which there is room.
 #[derive(Drop)]
@@ -136,5 +138,53 @@ impl Readable {
             p.reject(closed, e);
             error_requests(&mut self.requests, p, e);
         }
+    }
+
+    /// Closes or rejects the promise of a cancel, or performs the cancel steps.
+    fn cancel_by(
+        &mut self,
+        me: StreamId,
+        p: &mut Promises,
+        fx: &mut Agenda,
+        reason: Plain,
+        promise: PromiseId,
+    )
+        requires { 0 < fx.old.spare }
+        ensures row { acts_of self.new p.new fx.new ≡ rows.cancel_by me reason promise (acts_of self.old p.old fx.old) self.old.slots.state }
+        ensures spare { self.new.spare ≡ self.old.spare }
+        ensures agenda_spare { fx.old.spare ≤ fx.new.spare + 1 }
+        ensures promise_spare { p.new.spare ≡ p.old.spare }
+    {
+        match self.state {
+            ReadableState::Readable => {
+                self.stream_close(p);
+                self.cancel_steps(me, fx, reason, promise);
+            }
+            ReadableState::Closed => p.fulfil(promise, Plain::Undefined),
+            ReadableState::Errored => p.reject(promise, self.stored_error),
+        }
+    }
+
+    /// ReadableStreamCancel. The answer is its promise.
+    #[tactic(auto, unfolding(ws_steps::specs::Readable::stream_cancel))]
+    pub fn stream_cancel(
+        &mut self,
+        me: StreamId,
+        p: &mut Promises,
+        fx: &mut Agenda,
+        reason: Plain,
+    ) -> PromiseId
+        requires promise_room { 0 < p.old.spare }
+        requires agenda_room { 0 < fx.old.spare }
+        ensures promise { result ≡ next_id p.old.table }
+        ensures row { acts_of self.new p.new fx.new ≡ rows.stream_cancel me reason (acts_of self.old p.old fx.old) }
+        ensures spare { self.new.spare ≡ self.old.spare }
+        ensures agenda_spare { fx.old.spare ≤ fx.new.spare + 1 }
+        ensures promise_spare { p.old.spare ≤ p.new.spare + 1 }
+    {
+        let promise = p.fresh();
+        self.disturbed = true;
+        self.cancel_by(me, p, fx, reason, promise);
+        promise
     }
 }

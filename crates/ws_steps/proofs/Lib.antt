@@ -1,1 +1,4 @@
 pub mod PromiseLaws
+pub mod StreamLaws
+pub mod TurnLaws
+mod Worked

@@ -2,3 +2,8 @@ pub mod Promises
 pub mod Queues
 pub mod Effects
 pub mod Readable
+pub mod Slots
+pub mod Turns
+pub mod Jobs
+pub mod Calls
+pub mod Run

@@ -3,7 +3,7 @@
 -- open, settling and resolving it do nothing, and neither does reacting to a promise that isn't there. Nothing reacts to or
 -- follows the promise of a read, and no promise follows itself or one that was let go of: there the definitions have no
 -- reaction, where ECMAScript would have a job.
-use Rattle.std.specs.Prelude.{Bool, true, false, not, List, [], ◌∷◌, ◌++◌, length, map, if◌then◌else◌, Option, Some, None, Result, Ok, Err, slice_get, slice_set}
+use Rattle.std.specs.Prelude.{ℕ, ◌+◌, option_and_then, Bool, true, false, not, List, [], ◌∷◌, ◌++◌, length, map, if◌then◌else◌, Option, Some, None, Result, Ok, Err, slice_get, slice_set}
 use Rattle.std.specs.Option.{option_map}
 use Rattle.ws_value.specs.declared.ids.PromiseId.{PromiseId}
 use Rattle.ws_value.specs.declared.value.Plain.{Plain}
@@ -14,22 +14,27 @@ use Rattle.ws_steps.specs.declared.promises.Reaction.TheVariants.{Perform, Adopt
 use Rattle.ws_steps.specs.declared.promises.Job.{Job}
 use Rattle.ws_steps.specs.declared.promises.Job.TheVariants.{Reaction as ReactionJob, Follow, Settle}
 
--- a promise: its state and result, its reactions in order of registration, and whether it was resolved with another promise
+-- a promise: its state and result, its reactions in order of registration, whether it was resolved with another promise, and,
+-- where it is watched, how many became watched before it
 pub record Entry : Type 0 where
   pub outcome : Outcome
   pub reactions : List Reaction
   pub follows : Bool
+  pub rank : Option ℕ
 
--- the promises of a realm by number, of which some were let go of, and its jobs, first in, first out
+-- the promises of a realm by number, of which some were let go of; its jobs, first in, first out; how many promises are
+-- watched, and those of them whose settling isn't told yet, in order
 pub record Table : Type 0 where
   pub entries : List (Option Entry)
   pub jobs : List Job
+  pub watched : ℕ
+  pub settlements : List PromiseId
 
 abbrev pub no_promises : Table
-no_promises = record { entries = []; jobs = [] }
+no_promises = record { entries = []; jobs = []; watched = 0; settlements = [] }
 
 abbrev pub pending : Entry
-pending = record { outcome = Pending; reactions = []; follows = false }
+pending = record { outcome = Pending; reactions = []; follows = false; rank = None }
 
 abbrev pub live : Option (Option Entry) → Option Entry
 live None = None
@@ -82,25 +87,40 @@ job_of outcome (Adopt p) = Settle p outcome
 abbrev pub enqueue_job : Job → Table → Table
 enqueue_job job t = record t { jobs = t.jobs ++ job ∷ [] }
 
+abbrev pub ended_as : Outcome → Entry → Entry
+ended_as outcome e = record { outcome = outcome; reactions = []; follows = false; rank = e.rank }
+
+-- a promise that nobody watched and that has settled
 abbrev pub ended : Outcome → Entry
-ended outcome = record { outcome = outcome; reactions = []; follows = false }
+ended outcome = ended_as outcome pending
+
+-- the settling of a watched promise is to be told
+abbrev pub noted : PromiseId → Table → Option ℕ → Table
+noted p t None = t
+noted p t (Some rank) = record t { settlements = t.settlements ++ p ∷ [] }
 
 abbrev pub settle_entry : PromiseId → Result Plain Plain → Table → Option Entry → Table
 settle_entry p outcome t None = t
 settle_entry p outcome t (Some e) =
-    record {
-      entries = slice_set t.entries p.0 (Some (ended (settled outcome)));
+    noted p
+    (record t {
+      entries = slice_set t.entries p.0 (Some (ended_as (settled outcome) e));
       jobs = t.jobs ++ map (job_of outcome) e.reactions;
-    }
+    })
+    e.rank
 
 -- FulfillPromise, RejectPromise: the outcome is set, one job per reaction is put at the end in order of registration, and
 -- the reactions are emptied
 unfoldable pub settle : PromiseId → Result Plain Plain → Table → Table
 settle p outcome t = if is_open p t then settle_entry p outcome t (entry_at t p) else t
 
+abbrev pub answer_entry : PromiseId → Outcome → Table → Option Entry → Table
+answer_entry p outcome t None = t
+answer_entry p outcome t (Some e) = noted p (with_entry p (Some (ended_as outcome e)) t) e.rank
+
 -- fulfilment of the promise of a read with a read result; such a promise has no reactions
 unfoldable pub answer : PromiseId → Outcome → Table → Table
-answer p outcome t = if is_open p t then with_entry p (Some (ended outcome)) t else t
+answer p outcome t = if is_open p t then answer_entry p outcome t (entry_at t p) else t
 
 abbrev pub react_by : PromiseId → Reaction → Table → Entry → Outcome → Table
 react_by p r t e Pending = with_entry p (Some (record e { reactions = e.reactions ++ r ∷ [] })) t
@@ -121,7 +141,7 @@ react p r t = react_entry p r t (entry_at t p)
 abbrev pub follow_entry : PromiseId → PromiseId → Table → Option Entry → Table
 follow_entry p q t None = t
 follow_entry p q t (Some e) =
-    record {
+    record t {
       entries = slice_set t.entries p.0 (Some (record e { follows = true }));
       jobs = t.jobs ++ Follow p q ∷ [];
     }
@@ -167,3 +187,28 @@ release_entry p t (Some e) = if is_pending e.outcome then t else with_entry p No
 -- a settled promise is let go of; its number isn't used again
 unfoldable pub release : PromiseId → Table → Table
 release p t = release_entry p t (entry_at t p)
+
+abbrev pub watch_entry : PromiseId → Table → Entry → Option ℕ → Table
+watch_entry p t e (Some rank) = t
+watch_entry p t e None =
+    record t {
+      entries = slice_set t.entries p.0 (Some (record e { rank = Some t.watched }));
+      watched = t.watched + 1;
+      settlements = if is_pending e.outcome then t.settlements else t.settlements ++ p ∷ [];
+    }
+
+abbrev pub watch_at : PromiseId → Table → Option Entry → Table
+watch_at p t None = t
+watch_at p t (Some e) = watch_entry p t e e.rank
+
+-- the promise is watched from now on. Where it has settled already, that is to be told
+unfoldable pub watch : PromiseId → Table → Table
+watch p t = watch_at p t (entry_at t p)
+
+-- how many promises became watched before this one, where it is watched
+abbrev pub rank_at : Table → PromiseId → Option ℕ
+rank_at t p = option_and_then (λ (e : Entry). e.rank) (entry_at t p)
+
+-- what was to be told is told
+abbrev pub all_told : Table → Table
+all_told t = record t { settlements = [] }

@@ -5,10 +5,13 @@ use Rattle.ws_value.specs.declared.ids.PromiseId.{PromiseId}
 use Rattle.ws_value.specs.declared.ids.StreamId.{StreamId}
 use Rattle.ws_value.specs.declared.value.Plain.{Plain}
 use Rattle.ws_value.specs.declared.value.Plain.TheVariants.{Undefined}
+use Rattle.ws_value.specs.declared.value.Plain.TheVariants.{Fault as FaultReason}
+use Rattle.ws_value.specs.declared.fault.Fault.TheVariants.{TypeError}
 use Rattle.ws_value.specs.declared.value.Value.{Value}
 use Rattle.ws_value.specs.declared.value.Value.TheVariants.{Plain as PlainValue}
 use Rattle.ws_value.specs.declared.value.Outcome.TheVariants.{Given, Finished}
-use Rattle.ws_steps.specs.declared.effects.Effect.TheVariants.{Start, Pull}
+use Rattle.ws_steps.specs.declared.calls.StartBy.{StartBy}
+use Rattle.ws_steps.specs.declared.effects.Effect.TheVariants.{Start, Pull, Cancel}
 use Rattle.ws_steps.specs.declared.readable.Queued.{Queued}
 use Rattle.ws_steps.specs.declared.readable.ReadRequest.{ReadRequest}
 use Rattle.ws_steps.specs.declared.readable.ReadRequest.TheVariants.{Promise}
@@ -61,8 +64,8 @@ initialized =
 
 -- SetUpReadableStreamDefaultController: the slots as given, the queue empty, the flags false. Perform the start algorithm;
 -- the effect has the controller react to it
-unfoldable pub set_up : StreamId → ℕ → SizeBy → Acts → Acts
-set_up me mark size a =
+unfoldable pub set_up : StreamId → StartBy → ℕ → SizeBy → Acts → Acts
+set_up me start mark size a =
     record {
       slots = record a.slots {
         queue = [];
@@ -73,7 +76,7 @@ set_up me mark size a =
         pull_again = false;
         close_requested = false;
       };
-      out = cause (Start me) a.out;
+      out = cause (Start me start) a.out;
     }
 
 -- a read request's chunk steps
@@ -241,3 +244,50 @@ unfoldable pub pull_settled : StreamId → Result Plain Plain → Acts → Acts
 pull_settled me (Ok v) a =
     pull_ended me (record a { slots = record a.slots { pulling = false } }) a.slots.pull_again
 pull_settled me (Err e) a = controller_error e a
+
+abbrev pub type_error : Plain
+type_error = FaultReason TypeError
+
+-- the default controller's [[CancelSteps]]: reset the queue, and perform the cancel algorithm; the promise that is answered is
+-- the result of reacting to it with steps that return undefined
+unfoldable pub cancel_steps : StreamId → Plain → PromiseId → Acts → Acts
+cancel_steps me r p a = record { slots = record a.slots { queue = [] }; out = cause (Cancel me r p) a.out }
+
+abbrev pub cancel_by : StreamId → Plain → PromiseId → Acts → ReadableState → Acts
+cancel_by me r p a Readable = cancel_steps me r p (stream_close a)
+cancel_by me r p a Closed = record a { out = record a.out { promises = settle p (Ok Undefined) a.out.promises } }
+cancel_by me r p a Errored =
+    record a { out = record a.out { promises = settle p (Err a.slots.stored_error) a.out.promises } }
+
+-- ReadableStreamCancel: the stream is disturbed. The promise that is answered is new: resolved with undefined where the stream
+-- is closed, and rejected with the stored error where it is errored; else close the stream and perform the cancel steps
+unfoldable pub stream_cancel : StreamId → Plain → Acts → Acts
+stream_cancel me r a =
+    cancel_by me r (next_id a.out.promises)
+    (record { slots = record a.slots { disturbed = true }; out = record a.out { promises = fresh a.out.promises } })
+    a.slots.state
+
+abbrev pub release_closed : PromiseId → Table → ReadableState → Table
+release_closed closed t Readable = settle closed (Err type_error) t
+release_closed closed t Closed = settle (next_id t) (Err type_error) (fresh t)
+release_closed closed t Errored = settle (next_id t) (Err type_error) (fresh t)
+
+-- the closed promise of a reader from its release on
+abbrev pub released : PromiseId → Table → ReadableState → PromiseId
+released closed t Readable = closed
+released closed t Closed = next_id t
+released closed t Errored = next_id t
+
+abbrev pub release_by : Acts → Option PromiseId → Acts
+release_by a None = a
+release_by a (Some closed) =
+    record {
+      slots = record a.slots { reader = None; requests = [] };
+      out = error_all type_error a.slots.requests (record a.out { promises = release_closed closed a.out.promises a.slots.state });
+    }
+
+-- ReadableStreamReaderGenericRelease, and ReadableStreamDefaultReaderErrorReadRequests: where the stream is readable, reject
+-- the closed promise with a TypeError, and else it becomes a promise rejected with one. The default controller has no
+-- [[ReleaseSteps]]. The stream is unlocked. Perform the error steps of the reader's requests with a TypeError, in order
+unfoldable pub reader_release : Acts → Acts
+reader_release a = release_by a a.slots.reader

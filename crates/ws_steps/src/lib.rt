@@ -1,10 +1,12 @@
 //! The step table: the words in which a realm's operations are told. The operations themselves are definitions, in `specs/`, a file a section of the Streams Standard.
 #![tactic(auto)]
 
+mod calls;
 mod effects;
 mod promises;
 mod readable;
 
+pub use calls::{Answer, Call, Event, Flags, HostCall, Reply, StartBy, StateIs, Thrown, Word};
 pub use effects::Effect;
 pub use promises::{Job, Reaction, Step};
-pub use readable::{Queued, ReadRequest, ReadableState, SizeBy};
+pub use readable::{Lock, Queued, ReadRequest, ReadableState, SizeBy};

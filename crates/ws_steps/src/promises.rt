@@ -11,6 +11,8 @@ pub enum Step {
     ReadableStart(StreamId),
     /// The reaction of a readable stream's controller to its pull algorithm.
     ReadablePull(StreamId),
+    /// Fulfilment steps that return undefined; on rejection there are none.
+    ReturnUndefined,
 }
 
 /// What waits for a promise to settle.

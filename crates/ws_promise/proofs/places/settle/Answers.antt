@@ -1,13 +1,22 @@
-use Rattle.std.proofs.Common.{◌∙◌, sym}
+use Rattle.std.proofs.Common.{refl, sym}
 use Rattle.ws_promise.specs.View.{table_of}
+use Rattle.ws_promise.proofs.CountLemmas.{settled_so, unnoted_in-settle, unwatched_in-same}
 use Rattle.ws_promise.proofs.TableLemmas.{settle-open, settle-not_open}
 use Rattle.ws_promise.proofs.places.settle.Goals as goal
 
-pub returns-then-is_open-clause-table : goal.returns-then-is_open-clause-table
-returns-then-is_open-clause-table c =
+pub returns-clause-table : goal.returns-clause-table
+returns-clause-table c = λ n ps.
     rw (c.put_slot.ensures.items, c.move_waiting.ensures.waiting, c.move_waiting.ensures.jobs, c.settled_slot.ensures)
-    (sym (settle-open c.args.p c.args.outcome c.args.slots.now.items c.args.waiting.now.items c.args.jobs.now.items (sym (c.is_open.ensures.answer c.args.waiting.now.items c.args.jobs.now.items) ∙ c.if-is_open.true)))
+    (sym (settle-open c.args.p c.args.outcome c.args.slots.now.items c.args.waiting.now.items c.args.jobs.now.items n ps _ c.in-Some.ensures.some.0 c.in-Some.ensures.some.1 c.in-Some.ensures.some.2))
 
-pub returns-else-is_open-clause-table : goal.returns-else-is_open-clause-table
-returns-else-is_open-clause-table c =
-    sym (settle-not_open c.args.p c.args.outcome (table_of c.args.slots.now.items c.args.waiting.now.items c.args.jobs.now.items) (sym (c.is_open.ensures.answer c.args.waiting.now.items c.args.jobs.now.items) ∙ c.if-is_open.false))
+pub returns-clause-unnoted : goal.returns-clause-unnoted
+returns-clause-unnoted c =
+    rw (c.put_slot.ensures.items, c.settled_slot.ensures) (unnoted_in-settle c.args.slots.now.items c.args.p.0 _ _ c.in-Some.ensures.some.0 c.in-Some.ensures.some.1 (settled_so c.args.outcome))
+
+pub returns-clause-unwatched : goal.returns-clause-unwatched
+returns-clause-unwatched c =
+    rw (c.put_slot.ensures.items, c.settled_slot.ensures) (unwatched_in-same c.args.slots.now.items c.args.p.0 _ _ c.in-Some.ensures.some.0 refl)
+
+pub returns-in_default-clause-table : goal.returns-in_default-clause-table
+returns-in_default-clause-table c = λ n ps.
+    sym (settle-not_open c.args.p c.args.outcome (table_of c.args.slots.now.items c.args.waiting.now.items c.args.jobs.now.items n ps) (c.in_default.ensures.none c.args.waiting.now.items))

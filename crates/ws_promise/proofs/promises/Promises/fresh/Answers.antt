@@ -15,4 +15,4 @@ returns-clause-table c =
     let a = c.self.inside in
     let same : vec_len a.slots ≡ length a.slots.items = omega arith in
     rw c.push_reserved.ensures.items
-    (fresh-push a.slots.items a.waiting.items a.jobs.items (rw (← same) c.self.invariant.3) ∙ ap (λ (v : Seen). fresh v.table) c.self.view_is)
+    (fresh-push a.slots.items a.waiting.items a.jobs.items a.watched a.settlements.items (rw (← same) c.self.invariant.3) ∙ ap (λ (v : Seen). fresh v.table) c.self.view_is)

@@ -9,11 +9,11 @@ use Rattle.ws_promise.proofs.promises.Promises.is_live.Goals as goal
 pub returns-in-Some : goal.returns-in-Some
 returns-in-Some c =
     let a = c.self.inside in
-    sym (ap is_some (outcome_at-live c.args.p a.slots.items a.waiting.items a.jobs.items _ c.in-Some.ensures.some))
+    sym (ap is_some (outcome_at-live c.args.p a.slots.items a.waiting.items a.jobs.items a.watched a.settlements.items _ c.in-Some.ensures.some))
     ∙ ap (λ (v : Seen). is_some (outcome_at v.table c.args.p)) c.self.view_is
 
 pub returns-in-None : goal.returns-in-None
 returns-in-None c =
     let a = c.self.inside in
-    sym (ap is_some (outcome_at-none c.args.p (table_of a.slots.items a.waiting.items a.jobs.items) (c.in-None.ensures.none a.waiting.items a.jobs.items)))
+    sym (ap is_some (outcome_at-none c.args.p (table_of a.slots.items a.waiting.items a.jobs.items a.watched a.settlements.items) (c.in-None.ensures.none a.waiting.items)))
     ∙ ap (λ (v : Seen). is_some (outcome_at v.table c.args.p)) c.self.view_is

@@ -11,10 +11,10 @@ unreachable-requires c =
     let a = c.self.inside in
     let gone : outcome_at c.args.self.now.table c.args.p ≡ None =
     sym (ap (λ (v : Seen). outcome_at v.table c.args.p) c.self.view_is)
-    ∙ outcome_at-none c.args.p (table_of a.slots.items a.waiting.items a.jobs.items) (c.in-None.ensures.none a.waiting.items a.jobs.items) in
+    ∙ outcome_at-none c.args.p (table_of a.slots.items a.waiting.items a.jobs.items a.watched a.settlements.items) (c.in-None.ensures.none a.waiting.items) in
     absurd (false≢true (rw gone at c.requires))
 
 pub returns : goal.returns
 returns c =
     let a = c.self.inside in
-    rw (← c.self.view_is) (outcome_at-live c.args.p a.slots.items a.waiting.items a.jobs.items _ c.in-Some.ensures.some)
+    rw (← c.self.view_is) (outcome_at-live c.args.p a.slots.items a.waiting.items a.jobs.items a.watched a.settlements.items _ c.in-Some.ensures.some)
