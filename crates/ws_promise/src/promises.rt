@@ -85,6 +85,13 @@ impl Promises {
         Ok(())
     }
 
+    /// The promise that is made next.
+    pub fn next_id(&self) -> PromiseId
+        ensures { result ≡ table.next_id self.now.table }
+    {
+        PromiseId(self.slots.len() as u128)
+    }
+
     /// Makes a pending promise.
     pub fn fresh(&mut self) -> PromiseId
         requires { 0 < self.old.spare }

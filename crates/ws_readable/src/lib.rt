@@ -2,6 +2,7 @@
 #![tactic(auto)]
 
 mod controller;
+mod look;
 mod queue;
 mod reader;
 mod requests;

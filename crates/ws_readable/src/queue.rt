@@ -1,5 +1,5 @@
 //! The queue of a default controller.
-ghost use Rattle.std.specs.Prelude.{◌≡◌, ◌<◌, ◌≤◌, ◌-◌, ◌++◌, ◌∷◌, [], OnOk, OnErr};
+ghost use Rattle.std.specs.Prelude.{◌≡◌, ◌<◌, ◌≤◌, ◌-◌, ◌++◌, ◌∷◌, ◌-ℤ◌, pos, length, [], OnOk, OnErr};
 ghost use Rattle.ws_steps.specs.Queues.{total_of, is_empty};
 ghost use Rattle.ws_readable.specs.Queue.{first_of, rest_of};
 
@@ -53,6 +53,19 @@ impl Queue {
         ensures { result ≡ total_of self.now.items }
     {
         self.total
+    }
+
+    /// How far the sum of the sizes is below a mark.
+    pub fn below(&self, mark: u64) -> i128
+        ensures { result ≡ pos mark -ℤ pos (total_of self.now.items) }
+    {
+        i128::from(mark) - self.total as i128
+    }
+
+    pub fn len(&self) -> usize
+        ensures { result ≡ length self.now.items }
+    {
+        self.items.len()
     }
 
     pub fn is_empty(&self) -> bool

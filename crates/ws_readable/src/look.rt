@@ -1,0 +1,73 @@
+//! What a host may look at.
+ghost use Rattle.std.specs.Prelude.{◌≡◌};
+ghost use Rattle.ws_steps.specs.Calls as calls;
+
+use crate::Readable;
+use ws_steps::{Flags, ReadableState, StateIs, Word};
+
+impl Readable {
+    pub fn state(&self) -> ReadableState
+        ensures { result ≡ self.now.slots.state }
+    {
+        self.state
+    }
+
+    /// IsReadableStreamLocked.
+    pub fn is_locked(&self) -> bool
+        ensures { result ≡ calls.is_locked self.now.slots }
+    {
+        self.reader.is_some()
+    }
+
+    /// ReadableStreamDefaultControllerGetDesiredSize.
+    pub fn desired_size(&self) -> Option<i128>
+        ensures { result ≡ calls.desired_by self.now.slots self.now.slots.state }
+    {
+        match self.state {
+            ReadableState::Readable => Some(self.queue.below(self.high_water_mark)),
+            ReadableState::Closed => Some(0),
+            ReadableState::Errored => None,
+        }
+    }
+
+    fn word(&self) -> Word
+        ensures { result ≡ calls.word_of self.now.slots.state }
+    {
+        match self.state {
+            ReadableState::Readable => Word::Readable,
+            ReadableState::Closed => Word::Closed,
+            ReadableState::Errored => Word::Errored,
+        }
+    }
+
+    fn flags(&self) -> Flags
+        ensures { result ≡ calls.flags_of self.now.slots }
+    {
+        Flags {
+            s: self.started,
+            p: self.pulling,
+            g: self.pull_again,
+            c: self.close_requested,
+            d: self.disturbed,
+            l: self.is_locked(),
+            b: false,
+            w: false,
+            f: false,
+            q: false,
+            a: false,
+        }
+    }
+
+    /// The slots that a host may look at.
+    pub fn look(&self) -> StateIs
+        ensures { result ≡ calls.state_of self.now.slots }
+    {
+        StateIs {
+            state: self.word(),
+            flags: self.flags(),
+            total: self.queue.total(),
+            queue: self.queue.len() as u64,
+            requests: self.requests.len() as u64,
+        }
+    }
+}

@@ -1,0 +1,32 @@
+-- What is seen of a realm.
+use Rattle.std.specs.Prelude.{ℕ, ◌^◌, Bool, List, [], ◌∷◌, Option, Some, None}
+use Rattle.ws_value.specs.declared.ids.PromiseId.{PromiseId}
+use Rattle.ws_value.specs.declared.value.Outcome.{Outcome}
+use Rattle.ws_steps.specs.declared.calls.Event.{Event}
+use Rattle.ws_steps.specs.Promises.{outcome_at, rank_at}
+use Rattle.ws_steps.specs.Slots.{Slots}
+
+-- its slots, and whether memory was wanting in the middle of a call or a job
+pub record SeenRealm : Type 0 where
+  pub slots : Slots
+  pub wanting : Bool
+
+abbrev pub first_event : List Event → Option Event
+first_event [] = None
+first_event (event ∷ events) = Some event
+
+abbrev pub later_events : List Event → List Event
+later_events [] = []
+later_events (event ∷ events) = events
+
+-- the most calls and jobs of a realm
+abbrev pub oldest : ℕ
+oldest = 2 ^ 62
+
+abbrev pub where_named : Option ℕ → Option Outcome → Option Outcome
+where_named None outcome = None
+where_named (Some rank) outcome = outcome
+
+-- the state of a promise that a reply named
+abbrev pub outcome_named : PromiseId → Slots → Option Outcome
+outcome_named p s = where_named (rank_at s.promises p) (outcome_at s.promises p)

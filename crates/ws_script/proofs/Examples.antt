@@ -1,0 +1,134 @@
+-- The definitions computed on examples.
+use Rattle.std.proofs.Common.{◌≡◌, ℕ, ◌^◌, List, [], ◌∷◌, Some, None, Ok, Err, refl}
+use Rattle.std.specs.Prelude.{codes}
+use Rattle.ws_steps.specs.declared.calls.Call.{Call}
+use Rattle.ws_steps.specs.declared.calls.Call.TheVariants.{MakeReadable, GetReader, Cancel, CancelBy, Read, Closed, Release, Enqueue, Finish, Fail, Desired, DesiredBy, Settle, State, Step}
+use Rattle.ws_steps.specs.declared.calls.StartBy.TheVariants.{Later}
+use Rattle.ws_steps.specs.declared.calls.Answer.TheVariants.{Ok as AnswerOk, Fail as AnswerFail}
+use Rattle.ws_steps.specs.declared.readable.SizeBy.TheVariants.{ByteLength}
+use Rattle.ws_value.specs.declared.fault.Fault.TheVariants.{User}
+use Rattle.ws_value.specs.declared.value.Plain.TheVariants.{Undefined, Number, Fault, Local}
+use Rattle.ws_value.specs.declared.value.Value.TheVariants.{Plain as PlainValue, Bytes}
+use Rattle.hex.specs.Hex.{decode_pairs}
+use Rattle.ws_script.specs.Numbers.{number_below}
+use Rattle.ws_script.specs.Words.{words_of}
+use Rattle.ws_script.specs.Lines.{lines}
+
+zero_alone : number_below (2 ^ 32) (codes "0") ≡ Some 0
+zero_alone = refl
+
+leading_zero : number_below (2 ^ 32) (codes "01") ≡ None
+leading_zero = refl
+
+signed_number : number_below (2 ^ 32) (codes "+1") ≡ None
+signed_number = refl
+
+no_digits : number_below (2 ^ 32) [] ≡ None
+no_digits = refl
+
+largest : number_below (2 ^ 32) (codes "4294967295") ≡ Some 4294967295
+largest = refl
+
+too_large : number_below (2 ^ 32) (codes "4294967296") ≡ None
+too_large = refl
+
+some_words : words_of (codes " read \t l0 \r") ≡ codes "read" ∷ codes "l0" ∷ []
+some_words = refl
+
+-- a text of one line that performs a call
+abbrev AloneIs : List ℕ → Call → Type 0
+AloneIs text call = lines text ≡ Ok (record { number = 1; jobs = 100000; call = call } ∷ [])
+
+spelled_readable : AloneIs (codes "readable 18446744073709551615 bytes later") (MakeReadable 18446744073709551615 ByteLength Later)
+spelled_readable = refl
+
+spelled_reader : AloneIs (codes "reader s0") (GetReader (record { 0 = 0 }))
+spelled_reader = refl
+
+spelled_cancel : AloneIs (codes "cancel s1 e7") (Cancel (record { 0 = 1 }) (Fault (User 7)))
+spelled_cancel = refl
+
+spelled_cancel_by : AloneIs (codes "cancel l1 undefined") (CancelBy (record { 0 = 1 }) Undefined)
+spelled_cancel_by = refl
+
+spelled_read : AloneIs (codes "read l0") (Read (record { 0 = 0 }))
+spelled_read = refl
+
+spelled_closed : AloneIs (codes "closed l0") (Closed (record { 0 = 0 }))
+spelled_closed = refl
+
+spelled_release : AloneIs (codes "release l0") (Release (record { 0 = 0 }))
+spelled_release = refl
+
+spelled_enqueue : AloneIs (codes "enqueue s0 x0aFF") (Enqueue (record { 0 = 0 }) (Bytes (10 ∷ 255 ∷ [])))
+unfolding decode_pairs
+spelled_enqueue = refl
+
+spelled_enqueue_no_bytes : AloneIs (codes "enqueue s0 x") (Enqueue (record { 0 = 0 }) (Bytes []))
+unfolding decode_pairs
+spelled_enqueue_no_bytes = refl
+
+spelled_enqueue_number : AloneIs (codes "enqueue s0 n5") (Enqueue (record { 0 = 0 }) (PlainValue (Number 5)))
+spelled_enqueue_number = refl
+
+spelled_finish : AloneIs (codes "finish s0") (Finish (record { 0 = 0 }))
+spelled_finish = refl
+
+spelled_fail : AloneIs (codes "fail s0 k3") (Fail (record { 0 = 0 }) (Local 3))
+spelled_fail = refl
+
+spelled_desired : AloneIs (codes "desired s0") (Desired (record { 0 = 0 }))
+spelled_desired = refl
+
+spelled_desired_by : AloneIs (codes "desired l0") (DesiredBy (record { 0 = 0 }))
+spelled_desired_by = refl
+
+spelled_settle : AloneIs (codes "settle h0 ok") (Settle (record { 0 = 0 }) AnswerOk)
+spelled_settle = refl
+
+spelled_settle_fail : AloneIs (codes "settle h0 fail n1") (Settle (record { 0 = 0 }) (AnswerFail (Number 1)))
+spelled_settle_fail = refl
+
+spelled_state : AloneIs (codes "state s0") (State (record { 0 = 0 }))
+spelled_state = refl
+
+spelled_step : AloneIs (codes "step") Step
+spelled_step = refl
+
+-- comments and empty lines are passed over and counted, and a carriage return at a line's end is dropped
+counted : lines (codes "# a comment\n\n \t\r\n@0 step\r\n") ≡ Ok (record { number = 4; jobs = 0; call = Step } ∷ [])
+counted = refl
+
+most_jobs : lines (codes "@100000 step") ≡ Ok (record { number = 1; jobs = 100000; call = Step } ∷ [])
+most_jobs = refl
+
+refused_too_many_jobs : lines (codes "@100001 step") ≡ Err 1
+refused_too_many_jobs = refl
+
+refused_jobs_alone : lines (codes "@1") ≡ Err 1
+refused_jobs_alone = refl
+
+refused_zero_before : lines (codes "step\nread l01\nnothing") ≡ Err 2
+refused_zero_before = refl
+
+refused_another_word : lines (codes "step\n#\nnothing s0\nnothing") ≡ Err 3
+refused_another_word = refl
+
+refused_one_word_more : lines (codes "step s0") ≡ Err 1
+refused_one_word_more = refl
+
+refused_odd_digits : lines (codes "enqueue s0 xabc") ≡ Err 1
+refused_odd_digits = refl
+
+refused_no_hexadecimal : lines (codes "enqueue s0 xfg") ≡ Err 1
+unfolding decode_pairs
+refused_no_hexadecimal = refl
+
+refused_large_stream : lines (codes "reader s4294967296") ≡ Err 1
+refused_large_stream = refl
+
+refused_return_inside : lines (codes "step\r ") ≡ Err 1
+refused_return_inside = refl
+
+refused_indented_comment : lines (codes " # a comment") ≡ Err 1
+refused_indented_comment = refl

@@ -1,0 +1,4 @@
+mod NumberLemmas
+mod CallLemmas
+mod LineLemmas
+mod Examples

@@ -1,0 +1,112 @@
+-- The call that a line's words spell: a table by the first word, for each number of words after it.
+use Rattle.std.specs.Prelude.{ℕ, ◌^◌, if◌then◌else◌, List, [], ◌∷◌, Option, Some, None, option_map, codes}
+use Rattle.std.specs.Option.{option_or}
+use Rattle.std.specs.Str.{bytes_eq}
+use Rattle.ws_steps.specs.declared.calls.Call.{Call}
+use Rattle.ws_steps.specs.declared.calls.Call.TheVariants.{MakeReadable, GetReader, Cancel, CancelBy, Read, Closed, Release, Enqueue, Finish, Fail, Desired, DesiredBy, Settle, State, Step}
+use Rattle.ws_steps.specs.declared.calls.StartBy.{StartBy}
+use Rattle.ws_steps.specs.declared.calls.StartBy.TheVariants.{Now, Later}
+use Rattle.ws_steps.specs.declared.calls.Answer.TheVariants.{Ok as AnswerOk, Fail as AnswerFail}
+use Rattle.ws_steps.specs.declared.readable.SizeBy.{SizeBy}
+use Rattle.ws_steps.specs.declared.readable.SizeBy.TheVariants.{Count, ByteLength}
+use Rattle.ws_script.specs.Numbers.{number_below}
+use Rattle.ws_script.specs.Values.{stream_named, lock_named, host_named, reason_of, value_of}
+
+-- what is made of two things, where both are there
+abbrev pub both : {A B C : Type 0} → (A → B → C) → Option A → Option B → Option C
+both make None second = None
+both make (Some x) None = None
+both make (Some x) (Some y) = Some (make x y)
+
+-- the same of three
+abbrev pub all_three : {A B C D : Type 0} → (A → B → C → D) → Option A → Option B → Option C → Option D
+all_three make None second third = None
+all_three make (Some x) second third = both (make x) second third
+
+-- how a queue measures a chunk: `count` or `bytes`
+abbrev pub size_named : List ℕ → Option SizeBy
+size_named word =
+    if bytes_eq word (codes "count") then Some Count
+    else if bytes_eq word (codes "bytes") then Some ByteLength
+    else None
+
+-- when a start algorithm gives its result: `now` or `later`
+abbrev pub start_named : List ℕ → Option StartBy
+start_named word =
+    if bytes_eq word (codes "now") then Some Now
+    else if bytes_eq word (codes "later") then Some Later
+    else None
+
+-- `readable HWM SIZE START`
+abbrev pub readable_call : List ℕ → List ℕ → List ℕ → Option Call
+readable_call high_water_mark size start =
+    all_three MakeReadable (number_below (2 ^ 64) high_water_mark) (size_named size) (start_named start)
+
+-- `desired S`, or `desired L`
+abbrev pub desired_call : List ℕ → Option Call
+desired_call object = option_or (option_map Desired (stream_named object)) (option_map DesiredBy (lock_named object))
+
+-- `cancel S R`, or `cancel L R`
+abbrev pub cancel_call : List ℕ → List ℕ → Option Call
+cancel_call object reason =
+    option_or (both Cancel (stream_named object) (reason_of reason)) (both CancelBy (lock_named object) (reason_of reason))
+
+-- `enqueue S V`
+abbrev pub enqueue_call : List ℕ → List ℕ → Option Call
+enqueue_call stream value = both Enqueue (stream_named stream) (value_of value)
+
+-- `fail S R`
+abbrev pub fail_call : List ℕ → List ℕ → Option Call
+fail_call stream reason = both Fail (stream_named stream) (reason_of reason)
+
+-- `settle H ok`
+abbrev pub settle_ok_call : List ℕ → List ℕ → Option Call
+settle_ok_call host answer =
+    if bytes_eq answer (codes "ok") then option_map (λ id. Settle id AnswerOk) (host_named host) else None
+
+-- `settle H fail R`
+abbrev pub settle_fail_call : List ℕ → List ℕ → List ℕ → Option Call
+settle_fail_call host answer reason =
+    if bytes_eq answer (codes "fail") then both (λ id why. Settle id (AnswerFail why)) (host_named host) (reason_of reason)
+    else None
+
+-- a word alone: `step`
+abbrev pub call_alone : List ℕ → Option Call
+call_alone word = if bytes_eq word (codes "step") then Some Step else None
+
+-- a word and one more: `reader S`, `read L`, `closed L`, `release L`, `finish S`, `desired S` or `L`, `state S`
+abbrev pub call_on_one : List ℕ → List ℕ → Option Call
+call_on_one word first =
+    if bytes_eq word (codes "reader") then option_map GetReader (stream_named first)
+    else if bytes_eq word (codes "read") then option_map Read (lock_named first)
+    else if bytes_eq word (codes "closed") then option_map Closed (lock_named first)
+    else if bytes_eq word (codes "release") then option_map Release (lock_named first)
+    else if bytes_eq word (codes "finish") then option_map Finish (stream_named first)
+    else if bytes_eq word (codes "desired") then desired_call first
+    else if bytes_eq word (codes "state") then option_map State (stream_named first)
+    else None
+
+-- a word and two more: `cancel`, `enqueue`, `fail`, `settle H ok`
+abbrev pub call_on_two : List ℕ → List ℕ → List ℕ → Option Call
+call_on_two word first second =
+    if bytes_eq word (codes "cancel") then cancel_call first second
+    else if bytes_eq word (codes "enqueue") then enqueue_call first second
+    else if bytes_eq word (codes "fail") then fail_call first second
+    else if bytes_eq word (codes "settle") then settle_ok_call first second
+    else None
+
+-- a word and three more: `readable`, `settle H fail R`
+abbrev pub call_on_three : List ℕ → List ℕ → List ℕ → List ℕ → Option Call
+call_on_three word first second third =
+    if bytes_eq word (codes "readable") then readable_call first second third
+    else if bytes_eq word (codes "settle") then settle_fail_call first second third
+    else None
+
+-- the call of a line's words
+abbrev pub call_of : List (List ℕ) → Option Call
+call_of [] = None
+call_of (word ∷ []) = call_alone word
+call_of (word ∷ first ∷ []) = call_on_one word first
+call_of (word ∷ first ∷ second ∷ []) = call_on_two word first second
+call_of (word ∷ first ∷ second ∷ third ∷ []) = call_on_three word first second third
+call_of (word ∷ first ∷ second ∷ third ∷ fourth ∷ more) = None

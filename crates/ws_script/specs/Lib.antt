@@ -1,0 +1,6 @@
+pub mod Numbers
+pub mod Words
+pub mod Values
+pub mod Calls
+pub mod Lines
+pub mod Refusals

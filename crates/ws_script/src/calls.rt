@@ -1,0 +1,192 @@
+//! The call that a line's words spell.
+ghost use Rattle.std.specs.Prelude.{◌≡◌, IfOk, map};
+ghost use Rattle.ws_script.specs.Calls.{size_named, start_named, readable_call, desired_call, cancel_call, enqueue_call, fail_call, settle_ok_call, settle_fail_call};
+ghost use Rattle.ws_script.specs.Calls.{call_alone, call_on_one, call_on_two, call_on_three, call_of};
+
+use crate::numbers::number_u64;
+use crate::values::{host_named, lock_named, reason_of, stream_named, value_of};
+use std::alloc::Global;
+use ws_steps::{Answer, Call, SizeBy, StartBy};
+use ws_value::NoMemory;
+
+/// How a queue measures a chunk.
+fn size_named(word: &[u8]) -> Option<SizeBy>
+    ensures { result ≡ size_named word.now }
+{
+    if word == b"count".as_slice() {
+        Some(SizeBy::Count)
+    } else if word == b"bytes".as_slice() {
+        Some(SizeBy::ByteLength)
+    } else {
+        None
+    }
+}
+
+/// When a start algorithm gives its result.
+fn start_named(word: &[u8]) -> Option<StartBy>
+    ensures { result ≡ start_named word.now }
+{
+    if word == b"now".as_slice() {
+        Some(StartBy::Now)
+    } else if word == b"later".as_slice() {
+        Some(StartBy::Later)
+    } else {
+        None
+    }
+}
+
+/// A new readable stream.
+fn readable_call(high_water_mark: &[u8], size: &[u8], start: &[u8]) -> Option<Call>
+    ensures { result ≡ readable_call high_water_mark.now size.now start.now }
+{
+    Some(Call::MakeReadable {
+        high_water_mark: number_u64(high_water_mark)?,
+        size: size_named(size)?,
+        start: start_named(start)?,
+    })
+}
+
+/// The desired size of a stream, or of a writer.
+fn desired_call(object: &[u8]) -> Option<Call>
+    ensures { result ≡ desired_call object.now }
+{
+    match stream_named(object) {
+        Some(stream) => Some(Call::Desired(stream)),
+        None => lock_named(object).map(Call::DesiredBy),
+    }
+}
+
+/// A cancel of a stream, or by a reader.
+fn cancel_call(object: &[u8], reason: &[u8]) -> Option<Call>
+    ensures { result ≡ cancel_call object.now reason.now }
+{
+    let reason = reason_of(reason)?;
+    match stream_named(object) {
+        Some(stream) => Some(Call::Cancel(stream, reason)),
+        None => Some(Call::CancelBy(lock_named(object)?, reason)),
+    }
+}
+
+/// A chunk for a stream's queue.
+fn enqueue_call(alloc: Global, stream: &[u8], value: &[u8]) -> Result<Option<Call>, NoMemory>
+    ensures { IfOk result (λ call. call ≡ enqueue_call stream.now value.now) }
+{
+    let Some(stream) = stream_named(stream) else {
+        return Ok(None);
+    };
+    let value = value_of(alloc, value)?;
+    Ok(value.map(|value| Call::Enqueue(stream, value)))
+}
+
+/// The error of a stream.
+fn fail_call(stream: &[u8], reason: &[u8]) -> Option<Call>
+    ensures { result ≡ fail_call stream.now reason.now }
+{
+    Some(Call::Fail(stream_named(stream)?, reason_of(reason)?))
+}
+
+/// The promise of a host's algorithm, fulfilled.
+fn settle_ok_call(host: &[u8], answer: &[u8]) -> Option<Call>
+    ensures { result ≡ settle_ok_call host.now answer.now }
+{
+    if answer == b"ok".as_slice() {
+        Some(Call::Settle(host_named(host)?, Answer::Ok))
+    } else {
+        None
+    }
+}
+
+/// The promise of a host's algorithm, rejected.
+fn settle_fail_call(host: &[u8], answer: &[u8], reason: &[u8]) -> Option<Call>
+    ensures { result ≡ settle_fail_call host.now answer.now reason.now }
+{
+    if answer == b"fail".as_slice() {
+        Some(Call::Settle(host_named(host)?, Answer::Fail(reason_of(reason)?)))
+    } else {
+        None
+    }
+}
+
+/// The call of a word alone.
+fn call_alone(word: &[u8]) -> Option<Call>
+    ensures { result ≡ call_alone word.now }
+{
+    if word == b"step".as_slice() {
+        Some(Call::Step)
+    } else {
+        None
+    }
+}
+
+/// The call of a word and one more.
+fn call_on_one(word: &[u8], first: &[u8]) -> Option<Call>
+    ensures { result ≡ call_on_one word.now first.now }
+{
+    if word == b"reader".as_slice() {
+        stream_named(first).map(Call::GetReader)
+    } else if word == b"read".as_slice() {
+        lock_named(first).map(Call::Read)
+    } else if word == b"closed".as_slice() {
+        lock_named(first).map(Call::Closed)
+    } else if word == b"release".as_slice() {
+        lock_named(first).map(Call::Release)
+    } else if word == b"finish".as_slice() {
+        stream_named(first).map(Call::Finish)
+    } else if word == b"desired".as_slice() {
+        desired_call(first)
+    } else if word == b"state".as_slice() {
+        stream_named(first).map(Call::State)
+    } else {
+        None
+    }
+}
+
+/// The call of a word and two more.
+fn call_on_two(
+    alloc: Global,
+    word: &[u8],
+    first: &[u8],
+    second: &[u8],
+) -> Result<Option<Call>, NoMemory>
+    ensures { IfOk result (λ call. call ≡ call_on_two word.now first.now second.now) }
+{
+    if word == b"cancel".as_slice() {
+        Ok(cancel_call(first, second))
+    } else if word == b"enqueue".as_slice() {
+        enqueue_call(alloc, first, second)
+    } else if word == b"fail".as_slice() {
+        Ok(fail_call(first, second))
+    } else if word == b"settle".as_slice() {
+        Ok(settle_ok_call(first, second))
+    } else {
+        Ok(None)
+    }
+}
+
+/// The call of a word and three more.
+fn call_on_three(word: &[u8], first: &[u8], second: &[u8], third: &[u8]) -> Option<Call>
+    ensures { result ≡ call_on_three word.now first.now second.now third.now }
+{
+    if word == b"readable".as_slice() {
+        readable_call(first, second, third)
+    } else if word == b"settle".as_slice() {
+        settle_fail_call(first, second, third)
+    } else {
+        None
+    }
+}
+
+/// The call that a line's words spell.
+#[tactic(auto, using(crate::proofs::CallLemmas::call_of_many))]
+pub fn call_of(alloc: Global, words: &[&[u8]]) -> Result<Option<Call>, NoMemory>
+    ensures { IfOk result (λ call. call ≡ call_of (map (λ word. word.now) words.now)) }
+{
+    match words {
+        [] => Ok(None),
+        [word] => Ok(call_alone(word)),
+        [word, first] => Ok(call_on_one(word, first)),
+        [word, first, second] => call_on_two(alloc, word, first, second),
+        [word, first, second, third] => Ok(call_on_three(word, first, second, third)),
+        [_, _, _, _, _, ..] => Ok(None),
+    }
+}

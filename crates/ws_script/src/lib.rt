@@ -1,0 +1,16 @@
+//! The grammar of scripts, and the reader of a script's text. The grammar is a definition of its own, in `specs/`, and the reader is proved to answer exactly it.
+#![tactic(auto)]
+
+mod calls;
+mod line;
+mod numbers;
+mod refused;
+mod script;
+#[cfg(test)]
+mod tests;
+mod values;
+mod words;
+
+pub use line::Line;
+pub use refused::ScriptRefused;
+pub use script::read_script;
