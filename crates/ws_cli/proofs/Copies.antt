@@ -4,7 +4,8 @@ use Rattle.ws_io.specs.Gain.{KeepsTold}
 use Rattle.ws_io.specs.declared.status.Status.{Status}
 use Rattle.ws_io.specs.declared.status.Status.TheVariants.{Done, ReadFault, WriteFault, NoMemory, TooMuch}
 use Rattle.ws_io.proofs.Flow.{Gains-nothing, Gains-then, Fed-nothing, Fed-then, KeepsTold-same, KeepsTold-then, Becomes-then}
-use Rattle.ws_cli.specs.Run.{Moment, Allows, Leaves, Copied, Ends}
+use Rattle.ws_io.specs.Moment.{Moment}
+use Rattle.ws_cli.specs.Run.{Allows, Leaves, Copied, Ends}
 
 pub Copied-start : (most : ℕ) (m : Moment) (p : List ℕ → Type 0) → Copied most 0 m m p p
 Copied-start most m p =

@@ -17,7 +17,8 @@ use Rattle.ws_cli.specs.declared.turn.Turn.{Turn}
 use Rattle.ws_cli.specs.declared.turn.Turn.TheVariants.{Moved, Ended}
 use Rattle.ws_cli.specs.declared.realm.Realm.{Realm}
 use Rattle.ws_cli.specs.View.{IsAtRest, HasEnded, RestsAfter, RestsOn}
-use Rattle.ws_cli.specs.Run.{Moment, moment, Ends}
+use Rattle.ws_io.specs.Moment.{Moment, moment}
+use Rattle.ws_cli.specs.Run.{Ends}
 use Rattle.ws_cli.specs.Turn.{IsPiece, GivesPiece, outcome_by, outcome_of, IsRunOutcome, Shown, EndsOutput, HandsOn, Turns}
 
 -- a piece that isn't empty and not too long is given

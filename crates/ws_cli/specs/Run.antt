@@ -1,26 +1,11 @@
 -- What a run from an input to an output may end with.
-use Rattle.std.specs.Prelude.{◌≡◌, ◌+◌, ◌<◌, ◌≤◌, ℕ, Bool, List, ◌++◌, length, Option}
+use Rattle.std.specs.Prelude.{◌≡◌, ◌+◌, ◌<◌, ◌≤◌, ℕ, List, ◌++◌, length}
 use Rattle.ws_io.specs.Faults.{Rose}
-use Rattle.ws_io.specs.Feed.{Feed, Fed, IsEnded, IsEmpty}
+use Rattle.ws_io.specs.Feed.{Fed, IsEnded, IsEmpty}
 use Rattle.ws_io.specs.Gain.{Gains, Becomes, KeepsTold}
+use Rattle.ws_io.specs.Moment.{Moment, NoFault}
 use Rattle.ws_io.specs.declared.status.Status.{Status}
 use Rattle.ws_io.specs.declared.status.Status.TheVariants.{Done, Stage, Usage, Plan, ReadFault, WriteFault, Aborted, NoMemory, Script, LoadFault, TooMuch}
-
--- what an input and an output tell at one moment: their counts of faults, the input's bytes, and whether the output is finished
-pub record Moment : Type 0 where
-  pub read_faults : ℕ
-  pub write_faults : ℕ
-  pub feed : Option Feed
-  pub finished : Option Bool
-
-abbrev pub moment : ℕ → Option Feed → ℕ → Option Bool → Moment
-moment read_faults feed write_faults finished =
-    record { read_faults = read_faults; write_faults = write_faults; feed = feed; finished = finished }
-
--- neither count rose
-pub record NoFault (old new : Moment) : Type 0 where
-  pub read : new.read_faults ≡ old.read_faults
-  pub write : new.write_faults ≡ old.write_faults
 
 -- the run is complete: a read answered 0, nothing is left, neither count rose, at most `most` bytes were taken, the output
 -- gained exactly these, and it is finished

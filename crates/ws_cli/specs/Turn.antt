@@ -16,7 +16,8 @@ use Rattle.ws_io.specs.declared.status.Status.{Status}
 use Rattle.ws_io.specs.declared.status.Status.TheVariants.{Done, ReadFault, WriteFault, TooMuch}
 use Rattle.ws_cli.specs.declared.turn.Turn.{Turn}
 use Rattle.ws_cli.specs.declared.turn.Turn.TheVariants.{Moved, Ended}
-use Rattle.ws_cli.specs.Run.{Moment, Copied, Ends}
+use Rattle.ws_io.specs.Moment.{Moment}
+use Rattle.ws_cli.specs.Run.{Copied, Ends}
 
 -- a read of the input with room for `want` bytes moved these, and none only where none were left
 pub record IsPiece (old new : Option Feed) (before now want : ℕ) (piece : List ℕ) : Type 0 where

@@ -4,7 +4,8 @@ ghost use Rattle.ws_io.specs.Faults.{Calm};
 ghost use Rattle.ws_io.specs.Feed.{HasAtMost};
 ghost use Rattle.ws_io.specs.Gain.{Gains, KeepsTold};
 ghost use Rattle.ws_io.specs.Notes.{text_of};
-ghost use Rattle.ws_cli.specs.Run.{Ends, moment};
+ghost use Rattle.ws_io.specs.Moment.{moment};
+ghost use Rattle.ws_cli.specs.Run.{Ends};
 ghost use Rattle.ws_cli.specs.Words.{IsRun};
 
 use crate::copy::run;

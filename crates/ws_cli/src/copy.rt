@@ -1,6 +1,7 @@
 //! A run without stages: bytes go from the input through one readable stream to the output.
 ghost use Rattle.std.specs.Prelude.{◌<◌, ◌^◌};
-ghost use Rattle.ws_cli.specs.Run.{Ends, moment};
+ghost use Rattle.ws_io.specs.Moment.{moment};
+ghost use Rattle.ws_cli.specs.Run.{Ends};
 ghost use Rattle.ws_cli.specs.View.{IsAtRest};
 
 use crate::realm::Realm;

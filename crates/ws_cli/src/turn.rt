@@ -1,7 +1,8 @@
 //! One turn of a run: the stream is read, its host answers the pull with one read of the input, and what the read gets goes to the output.
 ghost use Rattle.std.specs.Prelude.{◌≡◌, [], ◌<◌, ◌≤◌, ◌+◌, ◌^◌, min, IfOk, OnOk, OnErr, MatchResult};
 ghost use Rattle.ws_value.specs.declared.ids.PromiseId.{PromiseId};
-ghost use Rattle.ws_cli.specs.Run.{Ends, moment};
+ghost use Rattle.ws_io.specs.Moment.{moment};
+ghost use Rattle.ws_cli.specs.Run.{Ends};
 ghost use Rattle.ws_cli.specs.Turn.{GivesPiece, outcome_of, IsRunOutcome, IsRunReason, status_of, HandsBytes, HandsEnd, HandsOn, Turns};
 ghost use Rattle.ws_cli.specs.View.{IsAtRest, IsReading, HasEnded, RestsAfter, RestsOn};
 

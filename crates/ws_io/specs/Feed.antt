@@ -41,6 +41,11 @@ abbrev pub HasAtMost : Option Feed → ℕ → Type 0
 HasAtMost None most = ⊥
 HasAtMost (Some feed) most = length feed.left ≤ most
 
+-- the source tells its bytes, and these are left
+abbrev pub HasLeft : Option Feed → List ℕ → Type 0
+HasLeft None bytes = ⊥
+HasLeft (Some feed) bytes = feed.left ≡ bytes
+
 -- what a read into `room` of this length did, at `Ok count`
 pub record ReadSome (old new : Option Feed) (count : ℕ) (room : List ℕ) : Type 0 where
   pub within : count ≤ length room

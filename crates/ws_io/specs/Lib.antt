@@ -1,6 +1,7 @@
 pub mod Faults
 pub mod Feed
 pub mod Gain
+pub mod Moment
 pub mod Memory
 pub mod Files
 pub mod MemFiles

@@ -96,6 +96,7 @@ impl Realm {
         ensures spent { IsErrAnd result (λ refused. refused.why ≡ why.Spent) ↔ (self.old.slots.age ≡ oldest) }
         ensures untouched { IfErr result (λ refused. refused.why ≡ why.Spent → self.new ≡ self.old) }
         ensures wanting { IfErr result (λ refused. refused.why ≡ why.NoMemory → self.new.wanting ≡ true) }
+        ensures still { self.old.wanting ≡ true → self.new ≡ self.old }
         ensures kept { IfErr result (λ refused. refused.call ≡ None) }
     {
         if let Some(why) = self.refusal() {
@@ -121,6 +122,7 @@ impl Realm {
         ensures spent { (result ≡ Err why.Spent) ↔ (self.old.slots.age ≡ oldest) }
         ensures untouched { result ≡ Err why.Spent → self.new ≡ self.old }
         ensures wanting { result ≡ Err why.NoMemory → self.new.wanting ≡ true }
+        ensures still { self.old.wanting ≡ true → self.new ≡ self.old }
     {
         if let Some(why) = self.refusal() {
             return Err(why);

@@ -1,4 +1,4 @@
-use Rattle.ws_cli.specs.Run.{moment}
+use Rattle.ws_io.specs.Moment.{moment}
 use Rattle.ws_cli.proofs.Copies.{Copied-then, Ends-after}
 use Rattle.ws_cli.proofs.copy.copy.Goals as goal
 

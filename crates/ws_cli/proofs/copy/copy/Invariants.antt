@@ -1,5 +1,6 @@
 use Rattle.std.proofs.Common.{◌+◌, ◌-◌}
-use Rattle.ws_cli.specs.Run.{moment, Copied}
+use Rattle.ws_io.specs.Moment.{moment}
+use Rattle.ws_cli.specs.Run.{Copied}
 use Rattle.ws_cli.specs.View.{IsAtRest}
 use Rattle.ws_cli.proofs.copy.copy.Given as goal
 

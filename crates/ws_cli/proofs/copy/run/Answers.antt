@@ -1,4 +1,4 @@
-use Rattle.ws_cli.specs.Run.{moment}
+use Rattle.ws_io.specs.Moment.{moment}
 use Rattle.ws_cli.proofs.Turns.{Ends-at_once}
 use Rattle.ws_cli.proofs.copy.run.Goals as goal
 

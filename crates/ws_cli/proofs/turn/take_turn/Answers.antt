@@ -1,6 +1,6 @@
 use Rattle.std.proofs.Common.{◌≡◌, ◌∙◌, sym, subst, arith}
 use Rattle.ws_value.specs.declared.value.Outcome.{Outcome}
-use Rattle.ws_cli.specs.Run.{moment}
+use Rattle.ws_io.specs.Moment.{moment}
 use Rattle.ws_cli.specs.Turn.{Shown, HandsOn, outcome_of}
 use Rattle.ws_cli.specs.View.{HasEnded, RestsAfter}
 use Rattle.ws_cli.proofs.Oks.{from_on_ok}

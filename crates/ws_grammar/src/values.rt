@@ -1,6 +1,6 @@
 //! Names of objects, reasons and values.
 ghost use Rattle.std.specs.Prelude.{◌≡◌, IfOk};
-ghost use Rattle.ws_script.specs.Values.{stream_named, lock_named, host_named, lettered_reason, reason_of, hex_value, value_of};
+ghost use Rattle.ws_grammar.specs.Values.{stream_named, lock_named, host_named, lettered_reason, reason_of, hex_value, value_of};
 
 use crate::numbers::{number_u32, number_u64, number_u128};
 use hex::FromHexError;

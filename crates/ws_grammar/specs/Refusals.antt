@@ -1,8 +1,8 @@
 -- Why lines aren't read.
 use Rattle.std.specs.Prelude.{◌≡◌, ℕ, List, Option, None, Result, Err}
-use Rattle.ws_script.specs.declared.line.Line.{Line}
-use Rattle.ws_script.specs.declared.refused.ScriptRefused.{ScriptRefused}
-use Rattle.ws_script.specs.declared.refused.ScriptRefused.TheVariants.{BadLine, TooLong, NoMemory}
+use Rattle.ws_grammar.specs.declared.line.Line.{Line}
+use Rattle.ws_grammar.specs.declared.refused.ScriptRefused.{ScriptRefused}
+use Rattle.ws_grammar.specs.declared.refused.ScriptRefused.TheVariants.{BadLine, TooLong, NoMemory}
 
 -- why a line isn't added: it is outside the grammar, or there is no memory
 abbrev pub IsRefusalOf : ScriptRefused → Option (List Line) → ℕ → Type 0

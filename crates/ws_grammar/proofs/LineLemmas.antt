@@ -2,11 +2,11 @@
 use Rattle.std.proofs.Common.{◌≡◌, ℕ, ◌+◌, ◌≤◌, ◌<◌, List, [], ◌++◌, length, get_or, drop, Option, Some, None, Result, Ok, Err, refl, ap, sym, ◌∙◌, append_assoc, append-nil}
 use Rattle.std.specs.Prelude.{option_map}
 use Rattle.std.proofs.lemmas.List.{at_drop_more, at_drop_all}
-use Rattle.ws_script.specs.declared.line.Line.{Line}
-use Rattle.ws_script.specs.declared.refused.ScriptRefused.{ScriptRefused}
-use Rattle.ws_script.specs.declared.refused.ScriptRefused.TheVariants.{BadLine, TooLong, NoMemory}
-use Rattle.ws_script.specs.Lines.{lines_from, before, added_by}
-use Rattle.ws_script.specs.Refusals.{IsRefusalOf, IsRefusal}
+use Rattle.ws_grammar.specs.declared.line.Line.{Line}
+use Rattle.ws_grammar.specs.declared.refused.ScriptRefused.{ScriptRefused}
+use Rattle.ws_grammar.specs.declared.refused.ScriptRefused.TheVariants.{BadLine, TooLong, NoMemory}
+use Rattle.ws_grammar.specs.Lines.{lines_from, before, added_by}
+use Rattle.ws_grammar.specs.Refusals.{IsRefusalOf, IsRefusal}
 
 -- lines in front of others
 abbrev pub with_front : List Line → Result (List Line) ℕ → Result (List Line) ℕ

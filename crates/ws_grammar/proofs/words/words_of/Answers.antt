@@ -3,8 +3,8 @@ use borrow.Author.Tests.{tests}
 use Rattle.std.proofs.lemmas.Iterator.Consumers.{YieldsList-from_filter, map_from_collect}
 use Rattle.std.proofs.lemmas.Iterator.Splits.{YieldsList-from_slice_split}
 use Rattle.std.specs.Str.Lines.{strip_carriage_return}
-use Rattle.ws_script.specs.Words.{is_blank}
-use Rattle.ws_script.proofs.words.words_of.Goals as goal
+use Rattle.ws_grammar.specs.Words.{is_blank}
+use Rattle.ws_grammar.proofs.words.words_of.Goals as goal
 
 pub returns : goal.returns
 returns c =

@@ -1,10 +1,10 @@
 -- The lines of a script.
 use Rattle.std.specs.Prelude.{ℕ, ◌+◌, Bool, ◌==◌, ◌||◌, length, slice_index, drop, if◌then◌else◌, List, [], ◌∷◌, ◌++◌, Option, Some, None, option_map, Result, Ok, Err}
 use Rattle.ws_steps.specs.declared.calls.Call.{Call}
-use Rattle.ws_script.specs.declared.line.Line.{Line}
-use Rattle.ws_script.specs.Numbers.{number_below}
-use Rattle.ws_script.specs.Words.{lines_of, words_of}
-use Rattle.ws_script.specs.Calls.{call_of, both}
+use Rattle.ws_grammar.specs.declared.line.Line.{Line}
+use Rattle.ws_grammar.specs.Numbers.{number_below}
+use Rattle.ws_grammar.specs.Words.{lines_of, words_of}
+use Rattle.ws_grammar.specs.Calls.{call_of, both}
 
 -- a line of this number that performs a call and then at most so many jobs
 abbrev pub line_with : ℕ → ℕ → Call → Line

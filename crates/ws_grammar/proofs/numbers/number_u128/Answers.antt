@@ -1,7 +1,7 @@
 use Rattle.std.proofs.Common.{◌≡◌, true, ◌∙◌}
-use Rattle.ws_script.specs.Numbers.{is_decimal}
-use Rattle.ws_script.proofs.NumberLemmas.{text_from_decimal, parse_is}
-use Rattle.ws_script.proofs.numbers.number_u128.Goals as goal
+use Rattle.ws_grammar.specs.Numbers.{is_decimal}
+use Rattle.ws_grammar.proofs.NumberLemmas.{text_from_decimal, parse_is}
+use Rattle.ws_grammar.proofs.numbers.number_u128.Goals as goal
 
 pub returns-in_default : goal.returns-in_default
 returns-in_default c =

@@ -1,7 +1,7 @@
 //! The call that a line's words spell.
 ghost use Rattle.std.specs.Prelude.{◌≡◌, IfOk, map};
-ghost use Rattle.ws_script.specs.Calls.{size_named, start_named, readable_call, desired_call, cancel_call, enqueue_call, fail_call, settle_ok_call, settle_fail_call};
-ghost use Rattle.ws_script.specs.Calls.{call_alone, call_on_one, call_on_two, call_on_three, call_of};
+ghost use Rattle.ws_grammar.specs.Calls.{size_named, start_named, readable_call, desired_call, cancel_call, enqueue_call, fail_call, settle_ok_call, settle_fail_call};
+ghost use Rattle.ws_grammar.specs.Calls.{call_alone, call_on_one, call_on_two, call_on_three, call_of};
 
 use crate::numbers::number_u64;
 use crate::values::{host_named, lock_named, reason_of, stream_named, value_of};

@@ -4,10 +4,10 @@ use Rattle.std.proofs.lemmas.Result.{err_from_is_err_and}
 use Rattle.std.proofs.lemmas.List.{length_push}
 use Rattle.std.proofs.lemmas.Iterator.Consumers.{YieldsList-turn, YieldsList-end}
 use Rattle.std.proofs.lemmas.Iterator.Splits.{YieldsList-from_slice_split}
-use Rattle.ws_script.specs.Words.{lines_of}
-use Rattle.ws_script.specs.Lines.{added_by}
-use Rattle.ws_script.proofs.LineLemmas.{with_front, front_before, left_at, refusal_at, all_read}
-use Rattle.ws_script.proofs.script.read_lines.Goals as goal
+use Rattle.ws_grammar.specs.Words.{lines_of}
+use Rattle.ws_grammar.specs.Lines.{added_by}
+use Rattle.ws_grammar.proofs.LineLemmas.{with_front, front_before, left_at, refusal_at, all_read}
+use Rattle.ws_grammar.proofs.script.read_lines.Goals as goal
 
 pub loop-line-preserved : goal.loop-line-preserved
 loop-line-preserved c =

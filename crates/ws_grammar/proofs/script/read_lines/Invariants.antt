@@ -1,8 +1,8 @@
 use Rattle.std.proofs.Common.{◌≡◌, ◌+◌, length, drop}
-use Rattle.ws_script.specs.Words.{lines_of}
-use Rattle.ws_script.specs.Lines.{lines, lines_from}
-use Rattle.ws_script.proofs.LineLemmas.{with_front}
-use Rattle.ws_script.proofs.script.read_lines.Given as goal
+use Rattle.ws_grammar.specs.Words.{lines_of}
+use Rattle.ws_grammar.specs.Lines.{lines, lines_from}
+use Rattle.ws_grammar.proofs.LineLemmas.{with_front}
+use Rattle.ws_grammar.proofs.script.read_lines.Given as goal
 
 abbrev pub invariant-loop-line : goal.invariant-loop-line
 invariant-loop-line l =

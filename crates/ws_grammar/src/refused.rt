@@ -28,7 +28,7 @@ impl Error for ScriptRefused {}
 
 impl From<AllocError> for ScriptRefused {
     ghost use Rattle.std.specs.Prelude.{◌≡◌};
-    ghost use Rattle.ws_script.specs.declared.refused.ScriptRefused.TheVariants.{NoMemory};
+    ghost use Rattle.ws_grammar.specs.declared.refused.ScriptRefused.TheVariants.{NoMemory};
 
     ghost from_gives = { λ _ refused. refused ≡ NoMemory };
 
@@ -39,7 +39,7 @@ impl From<AllocError> for ScriptRefused {
 
 impl<T: Drop> From<AllocFailed<T>> for ScriptRefused {
     ghost use Rattle.std.specs.Prelude.{◌≡◌};
-    ghost use Rattle.ws_script.specs.declared.refused.ScriptRefused.TheVariants.{NoMemory};
+    ghost use Rattle.ws_grammar.specs.declared.refused.ScriptRefused.TheVariants.{NoMemory};
 
     ghost from_gives = { λ _ refused. refused ≡ NoMemory };
 
@@ -50,7 +50,7 @@ impl<T: Drop> From<AllocFailed<T>> for ScriptRefused {
 
 impl From<NoMemory> for ScriptRefused {
     ghost use Rattle.std.specs.Prelude.{◌≡◌};
-    ghost use Rattle.ws_script.specs.declared.refused.ScriptRefused.TheVariants.{NoMemory};
+    ghost use Rattle.ws_grammar.specs.declared.refused.ScriptRefused.TheVariants.{NoMemory};
 
     ghost from_gives = { λ _ refused. refused ≡ NoMemory };
 

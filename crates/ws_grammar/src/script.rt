@@ -1,9 +1,9 @@
 //! The lines of a script.
 ghost use Rattle.std.specs.Prelude.{◌≡◌, ◌<◌, ◌≤◌, ◌↔◌, ◌++◌, ℕ, List, length, option_map, IfOk, IfErr, OnOk, IsOkUnless, IsErrAnd, ◌⊎◌};
-ghost use Rattle.ws_script.specs.declared.line.Line.{Line};
-ghost use Rattle.ws_script.specs.declared.refused.ScriptRefused.TheVariants.{BadLine, TooLong, NoMemory};
-ghost use Rattle.ws_script.specs.Lines.{lines, most_bytes, is_comment, added_by};
-ghost use Rattle.ws_script.specs.Refusals.{IsRefusalOf, IsRefusal};
+ghost use Rattle.ws_grammar.specs.declared.line.Line.{Line};
+ghost use Rattle.ws_grammar.specs.declared.refused.ScriptRefused.TheVariants.{BadLine, TooLong, NoMemory};
+ghost use Rattle.ws_grammar.specs.Lines.{lines, most_bytes, is_comment, added_by};
+ghost use Rattle.ws_grammar.specs.Refusals.{IsRefusalOf, IsRefusal};
 
 use crate::line::line_of_words;
 use crate::words::words_of;

@@ -1,7 +1,7 @@
 //! The words of a line.
 ghost use Rattle.std.specs.Prelude.{◌≡◌, IfOk, map};
 ghost use Rattle.std.specs.Str.Lines.{strip_carriage_return};
-ghost use Rattle.ws_script.specs.Words.{is_blank, words_of};
+ghost use Rattle.ws_grammar.specs.Words.{is_blank, words_of};
 
 use std::alloc::{AllocError, Global};
 

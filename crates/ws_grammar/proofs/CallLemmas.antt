@@ -1,6 +1,6 @@
 -- Lines with too many words.
 use Rattle.std.proofs.Common.{◌≡◌, ℕ, ◌≤◌, List, [], ◌∷◌, length, map, None, Bor, refl, arith}
-use Rattle.ws_script.specs.Calls.{call_of}
+use Rattle.ws_grammar.specs.Calls.{call_of}
 
 -- five words or more
 pub call_of_many : (words : List (Bor (List ℕ))) → 5 ≤ length words → None ≡ call_of (map (λ word. word.now) words)

@@ -9,8 +9,8 @@ use Rattle.ws_steps.specs.declared.calls.StartBy.TheVariants.{Now, Later}
 use Rattle.ws_steps.specs.declared.calls.Answer.TheVariants.{Ok as AnswerOk, Fail as AnswerFail}
 use Rattle.ws_steps.specs.declared.readable.SizeBy.{SizeBy}
 use Rattle.ws_steps.specs.declared.readable.SizeBy.TheVariants.{Count, ByteLength}
-use Rattle.ws_script.specs.Numbers.{number_below}
-use Rattle.ws_script.specs.Values.{stream_named, lock_named, host_named, reason_of, value_of}
+use Rattle.ws_grammar.specs.Numbers.{number_below}
+use Rattle.ws_grammar.specs.Values.{stream_named, lock_named, host_named, reason_of, value_of}
 
 -- what is made of two things, where both are there
 abbrev pub both : {A B C : Type 0} → (A → B → C) → Option A → Option B → Option C

@@ -11,7 +11,7 @@ use Rattle.ws_value.specs.declared.value.Plain.{Plain}
 use Rattle.ws_value.specs.declared.value.Plain.TheVariants.{Undefined, Number, Fault, Local}
 use Rattle.ws_value.specs.declared.value.Value.{Value}
 use Rattle.ws_value.specs.declared.value.Value.TheVariants.{Plain as PlainValue, Bytes}
-use Rattle.ws_script.specs.Numbers.{number_below}
+use Rattle.ws_grammar.specs.Numbers.{number_below}
 
 -- the number below the limit that stands after a letter
 abbrev pub number_after : ℕ → ℕ → List ℕ → Option ℕ

@@ -1,6 +1,6 @@
 //! A line of a script that performs a call.
 ghost use Rattle.std.specs.Prelude.{◌≡◌, map, IfOk};
-ghost use Rattle.ws_script.specs.Lines.{jobs_of, line_of_words};
+ghost use Rattle.ws_grammar.specs.Lines.{jobs_of, line_of_words};
 
 use crate::calls::call_of;
 use crate::numbers::number_u32;

@@ -10,9 +10,9 @@ use Rattle.ws_value.specs.declared.fault.Fault.TheVariants.{User}
 use Rattle.ws_value.specs.declared.value.Plain.TheVariants.{Undefined, Number, Fault, Local}
 use Rattle.ws_value.specs.declared.value.Value.TheVariants.{Plain as PlainValue, Bytes}
 use Rattle.hex.specs.Hex.{decode_pairs}
-use Rattle.ws_script.specs.Numbers.{number_below}
-use Rattle.ws_script.specs.Words.{words_of}
-use Rattle.ws_script.specs.Lines.{lines}
+use Rattle.ws_grammar.specs.Numbers.{number_below}
+use Rattle.ws_grammar.specs.Words.{words_of}
+use Rattle.ws_grammar.specs.Lines.{lines}
 
 zero_alone : number_below (2 ^ 32) (codes "0") ≡ Some 0
 zero_alone = refl

@@ -2,7 +2,7 @@
 ghost use Rattle.std.specs.Prelude.{◌≡◌, ◌^◌};
 ghost use Rattle.std.specs.Char.{is_ascii_digit};
 ghost use Rattle.std.specs.List.{list_all};
-ghost use Rattle.ws_script.specs.Numbers.{is_decimal, number_below};
+ghost use Rattle.ws_grammar.specs.Numbers.{is_decimal, number_below};
 
 /// Whether all bytes are decimal digits.
 fn all_digits(word: &[u8]) -> bool
