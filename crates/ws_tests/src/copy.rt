@@ -83,7 +83,7 @@ fn unknown_words(rt: HostRuntime) -> Result<(), Fail> {
         &[b"x"],
         &[b"--help"],
         &[b"Run"],
-        &[b"script"],
+        &[b"script", b"x"],
     ];
     for words in refused {
         let mut input = MemSource::make(alloc, b"abc", &[4096], &[])?;

@@ -8,4 +8,8 @@ mod memory;
 #[cfg(test)]
 mod pace;
 #[cfg(test)]
+mod script;
+#[cfg(test)]
+mod scripts;
+#[cfg(test)]
 mod values;

@@ -1,0 +1,125 @@
+-- The definitions computed on examples.
+use Rattle.std.proofs.Common.{◌≡◌, pos, negsuc, true, false, [], ◌∷◌, Some, None, refl}
+use Rattle.std.specs.Prelude.{codes}
+use Rattle.std.specs.Fmt.{digits}
+use Rattle.hex.specs.Hex.{encode_with}
+use Rattle.ws_steps.specs.declared.calls.Flags.{Flags}
+use Rattle.ws_steps.specs.declared.calls.HostCall.TheVariants.{Start, Pull, Cancel}
+use Rattle.ws_steps.specs.declared.calls.Reply.TheVariants.{Done, Made, Lock, Promise, Size, State, Throws, TooMany}
+use Rattle.ws_steps.specs.declared.calls.Thrown.TheVariants.{RangeError}
+use Rattle.ws_steps.specs.declared.calls.Word.TheVariants.{Readable, Erroring}
+use Rattle.ws_value.specs.declared.fault.Fault.TheVariants.{TypeError, User, Stage}
+use Rattle.ws_value.specs.declared.value.Outcome.TheVariants.{Fulfilled, Given, Finished, Rejected}
+use Rattle.ws_value.specs.declared.value.Plain.TheVariants.{Undefined, Number, Fault, Pair, Local}
+use Rattle.ws_value.specs.declared.value.Value.TheVariants.{Plain, Bytes}
+use Rattle.ws_print.specs.Replies.{letter_where, letters_of}
+use Rattle.ws_print.specs.Events.{reply_line, host_text, settled_text, again_text}
+
+abbrev no_flags : Flags
+no_flags = record { s = false; p = false; g = false; c = false; d = false; l = false; b = false; w = false; f = false; q = false; a = false }
+
+done : reply_line 4 None Done ≡ codes "4 done\n"
+unfolding digits
+done = refl
+
+made : reply_line 1 None (Made (record { 0 = 0 })) ≡ codes "1 made s0\n"
+unfolding digits
+made = refl
+
+lock : reply_line 2 None (Lock (record { 0 = 0 })) ≡ codes "2 lock l0\n"
+unfolding digits
+lock = refl
+
+promise : reply_line 3 (Some 0) (Promise (record { 0 = 12 })) ≡ codes "3 promise p0\n"
+unfolding digits
+promise = refl
+
+promise_that_no_reply_named : reply_line 3 None (Promise (record { 0 = 12 })) ≡ codes "3 promise p?\n"
+unfolding digits
+promise_that_no_reply_named = refl
+
+size : reply_line 6 None (Size (Some (pos 18446744073709551615))) ≡ codes "6 size 18446744073709551615\n"
+unfolding digits
+size = refl
+
+negative_size : reply_line 6 None (Size (Some (negsuc 1))) ≡ codes "6 size -2\n"
+unfolding digits
+negative_size = refl
+
+no_size : reply_line 6 None (Size None) ≡ codes "6 size null\n"
+unfolding digits
+no_size = refl
+
+throws : reply_line 10 None (Throws RangeError) ≡ codes "10 throws RangeError\n"
+unfolding digits
+throws = refl
+
+too_many : reply_line 1025 None TooMany ≡ codes "1025 too many\n"
+unfolding digits
+too_many = refl
+
+state_before_the_start : reply_line 4 None (State (record { state = Readable; flags = no_flags; total = 0; queue = 0; requests = 0 })) ≡ codes "4 state readable - total 0 queue 0 requests 0\n"
+unfolding digits letter_where letters_of
+state_before_the_start = refl
+
+state_while_pulling : reply_line 5 None (State (record { state = Readable; flags = record no_flags { s = true; p = true; d = true; l = true }; total = 0; queue = 0; requests = 0 })) ≡ codes "5 state readable spdl total 0 queue 0 requests 0\n"
+unfolding digits letter_where letters_of
+state_while_pulling = refl
+
+state_with_every_flag : reply_line 5 None (State (record { state = Erroring; flags = record { s = true; p = true; g = true; c = true; d = true; l = true; b = true; w = true; f = true; q = true; a = true }; total = 340282366920938463463374607431768211455; queue = 2; requests = 3 })) ≡ codes "5 state erroring spgcdlbwfqa total 340282366920938463463374607431768211455 queue 2 requests 3\n"
+unfolding digits letter_where letters_of
+state_with_every_flag = refl
+
+host_start : host_text (record { 0 = 0 }) (Start (record { 0 = 0 })) ≡ codes "  host h0 start s0\n"
+unfolding digits
+host_start = refl
+
+host_pull : host_text (record { 0 = 1 }) (Pull (record { 0 = 0 })) ≡ codes "  host h1 pull s0\n"
+unfolding digits
+host_pull = refl
+
+host_cancel : host_text (record { 0 = 2 }) (Cancel (record { 0 = 1 }) (Fault (User 7))) ≡ codes "  host h2 cancel s1 e7\n"
+unfolding digits
+host_cancel = refl
+
+given_number : settled_text (Some 0) (Some (Given (Plain (Number 1)))) ≡ codes "  p0 given n1\n"
+unfolding digits
+given_number = refl
+
+given_bytes : settled_text (Some 1) (Some (Given (Bytes (97 ∷ 98 ∷ 255 ∷ [])))) ≡ codes "  p1 given x6162ff\n"
+unfolding digits encode_with
+given_bytes = refl
+
+finished : settled_text (Some 10) (Some (Finished (Plain Undefined))) ≡ codes "  p10 finished undefined\n"
+unfolding digits
+finished = refl
+
+fulfilled : settled_text (Some 0) (Some (Fulfilled Undefined)) ≡ codes "  p0 fulfilled undefined\n"
+unfolding digits
+fulfilled = refl
+
+rejected_by_a_fault : settled_text (Some 0) (Some (Rejected (Fault TypeError))) ≡ codes "  p0 rejected TypeError\n"
+unfolding digits
+rejected_by_a_fault = refl
+
+rejected_by_a_stage : settled_text (Some 0) (Some (Rejected (Fault (Stage 1 2 3)))) ≡ codes "  p0 rejected Stage(1,2,3)\n"
+unfolding digits
+rejected_by_a_stage = refl
+
+rejected_by_a_pair : settled_text (Some 0) (Some (Rejected (Pair (record { 0 = 0 })))) ≡ codes "  p0 rejected pair\n"
+unfolding digits
+rejected_by_a_pair = refl
+
+rejected_by_a_local : settled_text (Some 0) (Some (Rejected (Local 4294967295))) ≡ codes "  p0 rejected k4294967295\n"
+unfolding digits
+rejected_by_a_local = refl
+
+unknown : settled_text (Some 5) None ≡ codes "  p5 unknown\n"
+unfolding digits
+unknown = refl
+
+again : again_text true ≡ codes "  again\n"
+again = refl
+
+not_again : again_text false ≡ []
+not_again = refl

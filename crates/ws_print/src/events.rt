@@ -1,0 +1,111 @@
+//! The lines of a task. After want of memory a part of a line may have been appended.
+ghost use Rattle.std.specs.Prelude.{◌≡◌, ◌++◌, OnOk};
+ghost use Rattle.std.specs.Option.{option_copied};
+ghost use Rattle.ws_print.specs.Events.{reply_line, host_call_text, host_text, outcome_text, outcome_if_known, settled_text, again_text};
+
+use crate::append::{append, append_number, append_numbered};
+use crate::replies::{print_promise, print_reply_text};
+use crate::values::{print_plain, print_value};
+use ws_steps::{HostCall, Reply};
+use ws_value::{HostId, NoMemory, Outcome};
+
+/// Appends the line of a reply: the number of the script's line, from 1, a blank, the reply. The rank is that of the promise that the reply names, from 0, and is read for no other reply.
+pub fn print_reply(
+    out: &mut Vec<u8>,
+    number: u32,
+    reply: &Reply,
+    rank: Option<u64>,
+) -> Result<(), NoMemory>
+    ensures appended { OnOk result (out.new.items ≡ out.old.items ++ reply_line number rank reply.now) }
+{
+    append_number(out, number)?;
+    append(out, b" ")?;
+    print_reply_text(out, reply, rank)?;
+    append(out, b"\n")
+}
+
+/// Appends a call of a host's algorithm.
+fn print_host_call(out: &mut Vec<u8>, call: &HostCall) -> Result<(), NoMemory>
+    ensures appended { OnOk result (out.new.items ≡ out.old.items ++ host_call_text call.now) }
+{
+    match call {
+        HostCall::Start(stream) => append_numbered(out, b"start s", stream.0),
+        HostCall::Pull(stream) => append_numbered(out, b"pull s", stream.0),
+        HostCall::Cancel(stream, reason) => {
+            append_numbered(out, b"cancel s", stream.0)?;
+            append(out, b" ")?;
+            print_plain(out, *reason)
+        }
+    }
+}
+
+/// Appends the line of a call of a host's algorithm, whose promise the host settles by the number `id`.
+pub fn print_host(out: &mut Vec<u8>, id: HostId, call: &HostCall) -> Result<(), NoMemory>
+    ensures appended { OnOk result (out.new.items ≡ out.old.items ++ host_text id call.now) }
+{
+    append_numbered(out, b"  host h", id.0)?;
+    append(out, b" ")?;
+    print_host_call(out, call)?;
+    append(out, b"\n")
+}
+
+/// Appends the state of a promise, with its result.
+fn print_outcome(out: &mut Vec<u8>, outcome: &Outcome) -> Result<(), NoMemory>
+    ensures appended { OnOk result (out.new.items ≡ out.old.items ++ outcome_text outcome.now) }
+{
+    match outcome {
+        Outcome::Pending => append(out, b"pending"),
+        Outcome::Fulfilled(plain) => {
+            append(out, b"fulfilled ")?;
+            print_plain(out, *plain)
+        }
+        Outcome::Given(value) => {
+            append(out, b"given ")?;
+            print_value(out, value)
+        }
+        Outcome::Finished(value) => {
+            append(out, b"finished ")?;
+            print_value(out, value)
+        }
+        Outcome::Rejected(reason) => {
+            append(out, b"rejected ")?;
+            print_plain(out, *reason)
+        }
+    }
+}
+
+/// Appends the state of a promise that may not be there.
+fn print_outcome_if_known(out: &mut Vec<u8>, outcome: Option<&Outcome>) -> Result<(), NoMemory>
+    ensures appended { OnOk result (out.new.items ≡ out.old.items ++ outcome_if_known (option_copied outcome.entry)) }
+{
+    match outcome {
+        Some(outcome) => print_outcome(out, outcome),
+        None => append(out, b"unknown"),
+    }
+}
+
+/// Appends the line of a settled promise, with its rank among the promises that replies named, and `unknown` where the outcome is none.
+pub fn print_settled(
+    out: &mut Vec<u8>,
+    rank: Option<u64>,
+    outcome: Option<&Outcome>,
+) -> Result<(), NoMemory>
+    ensures appended { OnOk result (out.new.items ≡ out.old.items ++ settled_text rank (option_copied outcome.entry)) }
+{
+    append(out, b"  ")?;
+    print_promise(out, rank)?;
+    append(out, b" ")?;
+    print_outcome_if_known(out, outcome)?;
+    append(out, b"\n")
+}
+
+/// Appends the line that says that a job is still queued, where one is.
+pub fn print_again(out: &mut Vec<u8>, again: bool) -> Result<(), NoMemory>
+    ensures appended { OnOk result (out.new.items ≡ out.old.items ++ again_text again) }
+{
+    if again {
+        append(out, b"  again\n")
+    } else {
+        Ok(())
+    }
+}

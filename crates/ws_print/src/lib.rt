@@ -1,0 +1,11 @@
+//! The printed text of a script's tasks: replies and events. The text is a definition, in `specs/`, and each call is proved to append exactly it.
+#![tactic(auto)]
+
+mod append;
+mod events;
+mod replies;
+#[cfg(test)]
+mod tests;
+mod values;
+
+pub use events::{print_again, print_host, print_reply, print_settled};

@@ -1,0 +1,5 @@
+mod Ending
+mod Working
+mod Events
+mod Flushing
+mod ReadingMore

@@ -1,0 +1,78 @@
+use Rattle.std.proofs.Common.{◌≡◌, ◌++◌, ◌∷◌, [], List, ℕ, refl, sym, ap, ap₂, subst, ◌∙◌, arith}
+use Rattle.std.proofs.lemmas.Result.{err_from_is_err_and, IfErr-at_err}
+use Rattle.std.specs.Prelude.{IfErr, OnOk, MatchResult}
+use Rattle.ws_io.specs.declared.status.Status.{Status}
+use Rattle.ws_steps.specs.Run.{heard}
+use Rattle.ws_script.specs.Printed.{after_line, line_text, lines_text, script_text}
+use Rattle.ws_script.specs.Printing.{Told, PrintsOn, PrintsSoFar, StopsPrinting}
+use Rattle.ws_script.proofs.Flushing.{SoFar-start, SoFar-then, SoFar-stop, SoFar-end, SoFar-end_stop, Stops-at_once, on_ok_both, if_err_weaker, first_line, no_line}
+use Rattle.ws_script.proofs.perform.print_lines.Goals as goal
+
+pub returns-in_default-clause-err : goal.returns-in_default-clause-err
+returns-in_default-clause-err g c =
+    Stops-at_once (record { faults = g.K.Sink.faults c.args.output.now; finished = g.K.Sink.finished c.args.output.now })
+    (g.K.Sink.got c.args.output.now) (script_text c.args.lines.items)
+
+pub loop-line-init : goal.loop-line-init
+loop-line-init g c =
+    SoFar-start (record { faults = g.K.Sink.faults c.args.output.now; finished = g.K.Sink.finished c.args.output.now })
+    (g.K.Sink.got c.args.output.now) (script_text c.args.lines.items) c.new-text.result.items (lines_text c.from-waiting.result.items c.in-Ok.realm.slots)
+    c.new-text.ensures.items (ap₂ lines_text c.from-waiting.ensures.0 c.in-Ok.ensures.0)
+
+pub loop-line-preserved : goal.loop-line-preserved
+loop-line-preserved g c =
+    SoFar-then
+    (record { faults = g.K.Sink.faults c.args.output.now; finished = g.K.Sink.finished c.args.output.now })
+    (record { faults = g.K.Sink.faults c.loop-line.output; finished = g.K.Sink.finished c.loop-line.output })
+    (record { faults = g.K.Sink.faults c.print_line.new.output; finished = g.K.Sink.finished c.print_line.new.output })
+    (g.K.Sink.got c.args.output.now) (g.K.Sink.got c.loop-line.output) (g.K.Sink.got c.print_line.new.output)
+    (script_text c.args.lines.items) c.loop-line.text.items c.print_line.new.text.items
+    (lines_text c.loop-line.waiting.items c.loop-line.realm.slots) (line_text c.in-Some.line c.loop-line.realm.slots)
+    (lines_text c.pop_front.new.self.items c.print_line.new.realm.slots)
+    c.loop-line.invariant
+    (first_line c.loop-line.waiting.items c.pop_front.new.self.items c.in-Some.line c.loop-line.realm.slots c.print_line.new.realm.slots c.in-Some.ensures.items c.in_ok-print_line.ensures.slots)
+    c.in_ok-print_line.ensures.ok
+
+pub returns-in_err-print_line-clause-err : goal.returns-in_err-print_line-clause-err
+returns-in_err-print_line-clause-err g c =
+    let p = err_from_is_err_and c.from_residual.result c.from_residual.ensures.1 in
+    rw (p.1, p.2)
+    (SoFar-stop c.in_err-print_line.field-0.0
+    (record { faults = g.K.Sink.faults c.args.output.now; finished = g.K.Sink.finished c.args.output.now })
+    (record { faults = g.K.Sink.faults c.loop-line.output; finished = g.K.Sink.finished c.loop-line.output })
+    (record { faults = g.K.Sink.faults c.print_line.new.output; finished = g.K.Sink.finished c.print_line.new.output })
+    (g.K.Sink.got c.args.output.now) (g.K.Sink.got c.loop-line.output) (g.K.Sink.got c.print_line.new.output)
+    (script_text c.args.lines.items) c.loop-line.text.items
+    (lines_text c.loop-line.waiting.items c.loop-line.realm.slots) (line_text c.in-Some.line c.loop-line.realm.slots)
+    (lines_text c.pop_front.new.self.items (heard (after_line c.in-Some.line c.loop-line.realm.slots)))
+    c.loop-line.invariant
+    (first_line c.loop-line.waiting.items c.pop_front.new.self.items c.in-Some.line c.loop-line.realm.slots (heard (after_line c.in-Some.line c.loop-line.realm.slots)) c.in-Some.ensures.items refl)
+    c.in_err-print_line.ensures.err)
+
+pub returns-clause-ok : goal.returns-clause-ok
+returns-clause-ok g c =
+    on_ok_both c.flush.result _ _ _
+    (λ on empty. SoFar-end
+    (record { faults = g.K.Sink.faults c.args.output.now; finished = g.K.Sink.finished c.args.output.now })
+    (record { faults = g.K.Sink.faults c.loop-line.output; finished = g.K.Sink.finished c.loop-line.output })
+    (record { faults = g.K.Sink.faults c.flush.new.output; finished = g.K.Sink.finished c.flush.new.output })
+    (g.K.Sink.got c.args.output.now) (g.K.Sink.got c.loop-line.output) (g.K.Sink.got c.flush.new.output)
+    (script_text c.args.lines.items) c.loop-line.text.items (lines_text c.loop-line.waiting.items c.loop-line.realm.slots) c.flush.new.text.items
+    c.loop-line.invariant
+    (no_line c.loop-line.waiting.items c.pop_front.new.self.items c.loop-line.realm.slots c.pop_front.result c.pop_front.ensures.items c.in_default-pop_front.is c.pop_front.ensures.rest)
+    on empty)
+    c.flush.ensures.ok c.flush.ensures.empty
+
+pub returns-clause-err : goal.returns-clause-err
+returns-clause-err g c =
+    if_err_weaker c.flush.result _ _
+    (λ status stop. SoFar-end_stop status
+    (record { faults = g.K.Sink.faults c.args.output.now; finished = g.K.Sink.finished c.args.output.now })
+    (record { faults = g.K.Sink.faults c.loop-line.output; finished = g.K.Sink.finished c.loop-line.output })
+    (record { faults = g.K.Sink.faults c.flush.new.output; finished = g.K.Sink.finished c.flush.new.output })
+    (g.K.Sink.got c.args.output.now) (g.K.Sink.got c.loop-line.output) (g.K.Sink.got c.flush.new.output)
+    (script_text c.args.lines.items) c.loop-line.text.items (lines_text c.loop-line.waiting.items c.loop-line.realm.slots)
+    c.loop-line.invariant
+    (no_line c.loop-line.waiting.items c.pop_front.new.self.items c.loop-line.realm.slots c.pop_front.result c.pop_front.ensures.items c.in_default-pop_front.is c.pop_front.ensures.rest)
+    stop)
+    c.flush.ensures.err

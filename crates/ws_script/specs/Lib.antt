@@ -1,0 +1,5 @@
+pub mod Heard
+pub mod Printed
+pub mod Printing
+pub mod Reading
+pub mod Ends

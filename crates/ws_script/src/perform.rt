@@ -1,0 +1,145 @@
+//! The tasks of a script's lines, and the writing of what they print.
+ghost use Rattle.std.specs.Prelude.{◌≡◌, ◌++◌, [], IfOk, OnOk, IfErr};
+ghost use Rattle.ws_steps.specs.Run.{work, heard};
+ghost use Rattle.ws_script.specs.Printed.{after_line, line_text, script_text};
+ghost use Rattle.ws_script.specs.Printing.{PrintsOn, StopsPrinting, Performs};
+
+use crate::print::print_step;
+use std::alloc::Global;
+use std::collections::VecDeque;
+use ws_grammar::Line;
+use ws_io::{Failed, Sink, Status, write_whole};
+use ws_realm::Realm;
+use ws_value::{Blob, NoMemory};
+
+/// How much text waits before it is written.
+const FULL: usize = 65_536;
+
+/// Performs jobs until none is queued, or so many were.
+fn work(realm: &mut Realm, jobs: u32) -> Result<(), NoMemory>
+    ensures { OnOk result (realm.new.slots ≡ work jobs realm.old.slots) }
+{
+    for _done in 0..jobs {
+        match realm.job() {
+            Ok(true) => {}
+            Ok(false) => return Ok(()),
+            Err(_) => return Err(NoMemory),
+        }
+    }
+    Ok(())
+}
+
+/// Performs the task of a line: the answer is what it prints.
+fn perform_line(alloc: Global, realm: &mut Realm, line: Line) -> Result<Blob, NoMemory>
+    ensures text { IfOk result (λ text. text ≡ line_text line realm.old.slots) }
+    ensures slots { OnOk result (realm.new.slots ≡ heard (after_line line realm.old.slots)) }
+{
+    let Line { number, jobs, call } = line;
+    let Ok(reply) = realm.call(call) else {
+        return Err(NoMemory);
+    };
+    work(realm, jobs)?;
+    print_step(alloc, number, &reply, realm)
+}
+
+/// Writes the text that waits.
+fn flush<K: Sink>(text: &mut Vec<u8>, output: &mut K) -> Result<(), Status>
+    ensures ok { OnOk result (PrintsOn
+        (record { faults = K.faults output.old; finished = K.finished output.old })
+        (record { faults = K.faults output.new; finished = K.finished output.new })
+        (K.got output.old) (K.got output.new) text.old.items text.new.items) }
+    ensures empty { OnOk result (text.new.items ≡ []) }
+    ensures err { IfErr result (λ status. StopsPrinting status
+        (record { faults = K.faults output.old; finished = K.finished output.old })
+        (record { faults = K.faults output.new; finished = K.finished output.new })
+        (K.got output.old) (K.got output.new) text.old.items) }
+{
+    match write_whole(output, text.as_slice()) {
+        Ok(()) => {
+            text.clear();
+            Ok(())
+        }
+        Err(Failed) => Err(Status::WriteFault),
+    }
+}
+
+/// Writes the text of the lines before the one for which memory was wanting.
+fn give_up<K: Sink>(text: &mut Vec<u8>, output: &mut K) -> Status
+    ensures { StopsPrinting result
+        (record { faults = K.faults output.old; finished = K.finished output.old })
+        (record { faults = K.faults output.new; finished = K.finished output.new })
+        (K.got output.old) (K.got output.new) text.old.items }
+{
+    match flush(text, output) {
+        Ok(()) => Status::NoMemory,
+        Err(status) => status,
+    }
+}
+
+/// Performs a line. What it prints waits behind the text of the lines before, which is written once it is long.
+fn print_line<K: Sink>(
+    alloc: Global,
+    realm: &mut Realm,
+    line: Line,
+    text: &mut Vec<u8>,
+    output: &mut K,
+) -> Result<(), Status>
+    ensures ok { OnOk result (PrintsOn
+        (record { faults = K.faults output.old; finished = K.finished output.old })
+        (record { faults = K.faults output.new; finished = K.finished output.new })
+        (K.got output.old) (K.got output.new) (text.old.items ++ line_text line realm.old.slots) text.new.items) }
+    ensures slots { OnOk result (realm.new.slots ≡ heard (after_line line realm.old.slots)) }
+    ensures err { IfErr result (λ status. StopsPrinting status
+        (record { faults = K.faults output.old; finished = K.finished output.old })
+        (record { faults = K.faults output.new; finished = K.finished output.new })
+        (K.got output.old) (K.got output.new) (text.old.items ++ line_text line realm.old.slots)) }
+{
+    let Ok(printed) = perform_line(alloc, realm, line) else {
+        return Err(give_up(text, output));
+    };
+    if text.extend_from_slice(printed.as_slice()).is_err() {
+        return Err(give_up(text, output));
+    }
+    if text.len() < FULL {
+        return Ok(());
+    }
+    flush(text, output)
+}
+
+/// Performs the lines in a new realm, and writes what they print.
+fn print_lines<K: Sink>(alloc: Global, lines: Vec<Line>, output: &mut K) -> Result<(), Status>
+    ensures ok { OnOk result (PrintsOn
+        (record { faults = K.faults output.old; finished = K.finished output.old })
+        (record { faults = K.faults output.new; finished = K.finished output.new })
+        (K.got output.old) (K.got output.new) (script_text lines.items) []) }
+    ensures err { IfErr result (λ status. StopsPrinting status
+        (record { faults = K.faults output.old; finished = K.finished output.old })
+        (record { faults = K.faults output.new; finished = K.finished output.new })
+        (K.got output.old) (K.got output.new) (script_text lines.items)) }
+{
+    let Ok(mut realm) = Realm::make(alloc) else {
+        return Err(Status::NoMemory);
+    };
+    let mut text = Vec::new(alloc);
+    let mut waiting = VecDeque::from(lines);
+    while let Some(line) = waiting.pop_front() {
+        print_line(alloc, &mut realm, line, &mut text, output)?;
+    }
+    flush(&mut text, output)
+}
+
+/// Performs the lines of a script, writes what they print, and finishes the output.
+pub(crate) fn perform<K: Sink>(alloc: Global, lines: Vec<Line>, output: &mut K) -> Status
+    ensures { Performs result (script_text lines.items)
+        (record { faults = K.faults output.old; finished = K.finished output.old })
+        (record { faults = K.faults output.new; finished = K.finished output.new })
+        (K.got output.old) (K.got output.new) }
+{
+    if let Err(status) = print_lines(alloc, lines, output) {
+        return status;
+    }
+    match output.finish() {
+        Ok(()) => Status::Done,
+        Err(Failed) => Status::WriteFault,
+    }
+}
