@@ -1,16 +1,15 @@
 -- How a script ends by how its text was read and its lines were performed, and what its ends exclude.
 use Rattle.std.proofs.Common.{◌≡◌, ◌+◌, ◌<◌, ◌≤◌, ◌⊎◌, inl, inr, ℕ, List, [], ◌++◌, length, refl, sym, ◌∙◌, ap, append-nil, length-append, arith}
-use Rattle.std.specs.Prelude.{Option, Some, None, Result, Ok, Err}
-use Rattle.ws_io.specs.Faults.{Calm, Rose}
+use Rattle.std.specs.Prelude.{Option, Some, None, Ok, Err}
+use Rattle.ws_io.specs.Faults.{Calm}
 use Rattle.ws_io.specs.Feed.{Feed, Fed, HasLeft, IsEmpty}
-use Rattle.ws_io.specs.Gain.{Gains}
 use Rattle.ws_io.specs.Moment.{Moment, moment}
 use Rattle.ws_io.proofs.Flow.{Gains-nothing, KeepsTold-same}
 use Rattle.ws_io.specs.declared.status.Status.{Status}
-use Rattle.ws_io.specs.declared.status.Status.TheVariants.{Done, Stage, Usage, Plan, ReadFault, WriteFault, Aborted, NoMemory, Script, LoadFault, TooMuch}
+use Rattle.ws_io.specs.declared.status.Status.TheVariants.{Done, ReadFault, WriteFault, NoMemory, Script}
 use Rattle.ws_grammar.specs.declared.line.Line.{Line}
 use Rattle.ws_grammar.specs.Lines.{lines, most_bytes}
-use Rattle.ws_script.specs.Ends.{ReadWhole, AllowsScript, ScriptEnds}
+use Rattle.ws_script.specs.Ends.{ReadWhole, ScriptEnds}
 use Rattle.ws_script.specs.Printed.{script_text}
 use Rattle.ws_script.specs.Printing.{Told, Performs}
 use Rattle.ws_script.specs.Reading.{ReadsText, StopsReading}

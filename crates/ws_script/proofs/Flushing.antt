@@ -1,16 +1,15 @@
 -- What waits to be written, and what is printed behind it.
-use Rattle.std.proofs.Common.{◌≡◌, ℕ, ◌+◌, List, [], ◌∷◌, ◌++◌, length, drop, refl, sym, ◌∙◌, ap, subst, append_assoc, append-nil, arith}
+use Rattle.std.proofs.Common.{◌≡◌, ℕ, List, [], ◌∷◌, ◌++◌, length, drop, refl, sym, ◌∙◌, ap, subst, append_assoc, append-nil, arith}
 use Rattle.std.specs.Prelude.{Option, None, Result, Ok, Err, OnOk, IfErr, option_to_list}
 use Rattle.ws_grammar.specs.declared.line.Line.{Line}
 use Rattle.ws_steps.specs.Run.{heard}
 use Rattle.ws_steps.specs.Slots.{Slots}
 use Rattle.ws_script.specs.Printed.{after_line, line_text, lines_text}
-use Rattle.ws_io.specs.Gain.{KeepsTold}
 use Rattle.ws_io.specs.declared.status.Status.{Status}
 use Rattle.ws_io.specs.declared.status.Status.TheVariants.{WriteFault, NoMemory}
 use Rattle.ws_io.specs.Faults.{Rose}
 use Rattle.ws_io.proofs.Flow.{Gains-nothing, Gains-then, KeepsTold-same, KeepsTold-then}
-use Rattle.ws_script.specs.Printing.{Told, Prints, PrintsOn, PrintsSoFar, IsStop, StopsPrinting}
+use Rattle.ws_script.specs.Printing.{Told, PrintsOn, PrintsSoFar, IsStop, StopsPrinting}
 
 -- nothing is written yet
 pub Prints-nothing : (told : Told) (p : List ℕ → Type 0) (text : List ℕ) → PrintsOn told told p p text text

@@ -1,7 +1,6 @@
 -- Reads after each other.
 use Rattle.std.proofs.Common.{◌≡◌, ◌+◌, ◌≤◌, ℕ, List, ◌++◌, length, length-append, arith}
 use Rattle.std.specs.Prelude.{Option}
-use Rattle.ws_io.specs.Faults.{Rose}
 use Rattle.ws_io.specs.Feed.{Feed, Fed}
 use Rattle.ws_io.proofs.Flow.{Fed-then}
 use Rattle.ws_io.specs.declared.status.Status.{Status}

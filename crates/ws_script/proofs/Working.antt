@@ -1,5 +1,5 @@
 -- Jobs one after another.
-use Rattle.std.proofs.Common.{◌≡◌, ℕ, Bool, true, false, zero, suc, refl, sym, ◌∙◌, arith}
+use Rattle.std.proofs.Common.{◌≡◌, ℕ, Bool, true, false, zero, suc, arith}
 use Rattle.std.specs.Prelude.{not, if◌then◌else◌}
 use Rattle.ws_steps.specs.Run.{work, is_idle, after_job}
 use Rattle.ws_steps.specs.Slots.{Slots}

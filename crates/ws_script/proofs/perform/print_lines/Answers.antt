@@ -1,10 +1,7 @@
-use Rattle.std.proofs.Common.{◌≡◌, ◌++◌, ◌∷◌, [], List, ℕ, refl, sym, ap, ap₂, subst, ◌∙◌, arith}
-use Rattle.std.proofs.lemmas.Result.{err_from_is_err_and, IfErr-at_err}
-use Rattle.std.specs.Prelude.{IfErr, OnOk, MatchResult}
-use Rattle.ws_io.specs.declared.status.Status.{Status}
+use Rattle.std.proofs.Common.{refl, ap₂}
+use Rattle.std.proofs.lemmas.Result.{err_from_is_err_and}
 use Rattle.ws_steps.specs.Run.{heard}
 use Rattle.ws_script.specs.Printed.{after_line, line_text, lines_text, script_text}
-use Rattle.ws_script.specs.Printing.{Told, PrintsOn, PrintsSoFar, StopsPrinting}
 use Rattle.ws_script.proofs.Flushing.{SoFar-start, SoFar-then, SoFar-stop, SoFar-end, SoFar-end_stop, Stops-at_once, on_ok_both, if_err_weaker, first_line, no_line}
 use Rattle.ws_script.proofs.perform.print_lines.Goals as goal
 

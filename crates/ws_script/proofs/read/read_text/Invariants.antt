@@ -1,4 +1,4 @@
-use Rattle.std.proofs.Common.{◌≡◌, ◌≤◌, ◌+◌, ◌-◌, length}
+use Rattle.std.proofs.Common.{◌≡◌, ◌≤◌, ◌-◌, length}
 use Rattle.ws_io.specs.Feed.{Fed}
 use Rattle.ws_script.specs.Reading.{most_of_a_text}
 use Rattle.ws_script.proofs.read.read_text.Given as goal

@@ -1,6 +1,5 @@
-use Rattle.std.proofs.Common.{◌≡◌, List, ℕ, subst, sym}
-use Rattle.ws_io.specs.Moment.{Moment, moment}
-use Rattle.ws_script.specs.Ends.{ScriptEnds}
+use Rattle.std.proofs.Common.{List, ℕ, subst, sym}
+use Rattle.ws_io.specs.Moment.{moment}
 use Rattle.ws_script.specs.Reading.{ReadsText}
 use Rattle.ws_script.proofs.Ending.{Complete, Outside, TooLong}
 use Rattle.ws_script.proofs.run.run_script.Goals as goal
