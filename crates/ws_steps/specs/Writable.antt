@@ -1,6 +1,6 @@
 -- The abstract operations of a writable stream with a default controller and a default writer. Each is a function of the
 -- stream's slots and of what it leaves outside them. `me` is the stream's own number, by which an effect names it.
-use Rattle.std.specs.Prelude.{ℕ, Bool, true, false, not, ◌&&◌, ◌||◌, nat_lt, is_some, is_none, if◌then◌else◌, List, [], ◌∷◌, ◌++◌, Option, Some, None, Result, Ok, Err}
+use Rattle.std.specs.Prelude.{ℕ, Bool, true, false, not, ◌&&◌, ◌||◌, nat_le, is_some, is_none, if◌then◌else◌, List, [], ◌∷◌, ◌++◌, Option, Some, None, Result, Ok, Err}
 use Rattle.ws_value.specs.declared.ids.PromiseId.{PromiseId}
 use Rattle.ws_value.specs.declared.ids.StreamId.{StreamId}
 use Rattle.ws_value.specs.declared.value.Plain.{Plain}
@@ -107,7 +107,7 @@ is_in_flight s = is_some s.write_in_flight || is_some s.close_in_flight
 
 -- WritableStreamDefaultControllerGetBackpressure: the desired size is at most 0
 abbrev pub has_backpressure : Slots → Bool
-has_backpressure s = not (nat_lt (total_of s.queue) s.high_water_mark)
+has_backpressure s = nat_le s.high_water_mark (total_of s.queue)
 
 -- a promise is settled where there is one
 abbrev pub settle_request : Result Plain Plain → Table → Option PromiseId → Table
@@ -339,13 +339,13 @@ abort_settled p (Err e) a = reject_close_and_closed (with_promises (settle p (Er
 
 -- what is asked of the stream
 
+abbrev pub enqueue_chunk : Value → Acts → Acts
+enqueue_chunk v a = record a { slots = record a.slots { queue = enqueued (Chunk v) (size_of a.slots.size_by v) a.slots.queue } }
+
 -- WritableStreamDefaultControllerWrite: the chunk goes to the end of the queue. Bring the backpressure up to date, and advance
 -- the queue
 unfoldable pub controller_write : StreamId → Value → Acts → Acts
-controller_write me v a =
-    advance_queue me
-    (refresh_backpressure
-    (record a { slots = record a.slots { queue = enqueued (Chunk v) (size_of a.slots.size_by v) a.slots.queue } }))
+controller_write me v a = advance_queue me (refresh_backpressure (enqueue_chunk v a))
 
 -- WritableStreamAddWriteRequest, of a new promise
 abbrev pub add_write_request : Acts → Acts
@@ -419,11 +419,14 @@ add_pending_abort r a =
       slots = record a.slots { pending_abort = Some (abort_of (next_id a.out.promises) r (is_erroring a.slots.state)) };
     })
 
-abbrev pub abort_first : StreamId → Plain → Acts → Option PendingAbort → Acts
-abort_first me r a (Some abort) = a
-abort_first me r a None =
+abbrev pub begin_abort : StreamId → Plain → Acts → Acts
+begin_abort me r a =
     let b : Acts = add_pending_abort r a in
     if is_erroring b.slots.state then b else start_erroring me r b
+
+abbrev pub abort_once : StreamId → Plain → Acts → Option PendingAbort → Acts
+abort_once me r a None = begin_abort me r a
+abort_once me r a (Some abort) = a
 
 -- WritableStreamAbort: where the stream is closed or errored, a promise resolved with undefined; where an abort is pending, its
 -- promise; else a new promise with the reason is the pending abort, and where the stream isn't erroring, it starts to
@@ -431,7 +434,7 @@ unfoldable pub stream_abort : StreamId → Plain → Acts → Acts
 stream_abort me r a =
     if has_ended a.slots.state
     then with_promises (fresh_settled (Ok Undefined) a.out.promises) a
-    else abort_first me r a a.slots.pending_abort
+    else abort_once me r a a.slots.pending_abort
 
 abbrev pub pending_promise : Table → Option PendingAbort → PromiseId
 pending_promise t None = next_id t
