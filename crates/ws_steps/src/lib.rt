@@ -4,9 +4,11 @@
 mod calls;
 mod effects;
 mod promises;
+mod queue;
 mod readable;
 
 pub use calls::{Answer, Call, Event, Flags, HostCall, Reply, StartBy, StateIs, Thrown, Word};
 pub use effects::Effect;
 pub use promises::{Job, Reaction, Step};
-pub use readable::{Lock, Queued, ReadRequest, ReadableState, SizeBy};
+pub use queue::Queued;
+pub use readable::{Lock, ReadRequest, ReadableState, SizeBy};

@@ -34,13 +34,6 @@ impl SizeBy {
     }
 }
 
-/// A value in a queue, with its size.
-#[derive(Debug, Drop)]
-pub struct Queued {
-    pub value: Value,
-    pub size: u64,
-}
-
 /// Whom a read answers.
 #[derive(Clone, Copy, Debug, PartialEq, Eq)]
 pub enum ReadRequest {
