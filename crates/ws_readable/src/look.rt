@@ -24,7 +24,7 @@ impl Readable {
         ensures { result ≡ looks.desired_by self.now.slots self.now.slots.state }
     {
         match self.state {
-            ReadableState::Readable => Some(self.queue.below(self.high_water_mark)),
+            ReadableState::Readable => Some(self.queue.desired(self.high_water_mark)),
             ReadableState::Closed => Some(0),
             ReadableState::Errored => None,
         }
