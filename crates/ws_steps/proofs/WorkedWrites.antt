@@ -25,7 +25,7 @@ use Rattle.ws_steps.specs.declared.calls.StartBy.TheVariants.{Now}
 use Rattle.ws_steps.specs.declared.calls.Word.TheVariants.{Closed as WordClosed}
 use Rattle.ws_steps.specs.declared.readable.SizeBy.TheVariants.{Count}
 use Rattle.ws_steps.specs.Promises.{fresh, settle, react, after_next_job, watch, outcome_at}
-use Rattle.ws_steps.specs.Writable.{ensure_rejected, update_backpressure, refresh_backpressure, set_up, reject_close_and_closed, finish_erroring, start_erroring, deal_with_rejection, process_write, process_close, advance_queue, write_settled, finish_in_flight_close, close_settled, start_settled, abort_settled, controller_write, writer_write, controller_close, stream_close, stream_abort, set_up_writer}
+use Rattle.ws_steps.specs.Writable.{ensure_rejected, update_backpressure, refresh_backpressure, set_up, reject_close_and_closed, finish_erroring, start_erroring, deal_with_rejection, process_write, process_close, advance_queue, write_settled, finish_in_flight_close, close_settled, start_settled, abort_settled, controller_write, writer_write, controller_close, stream_close, add_pending_abort, stream_abort, set_up_writer}
 use Rattle.ws_steps.specs.Slots.{Slots, empty, call_host}
 use Rattle.ws_steps.specs.Turns.{row, turns, performed}
 use Rattle.ws_steps.specs.Jobs.{perform_job}
@@ -83,11 +83,11 @@ abort_during_a_failing_write : tasks (calls failing_write) empty
     ∷ shows Done (Settled (p 3) ∷ Host (h 1) (Abort s0 (e 7)) ∷ [])
     ∷ shows Done (Settled (p 6) ∷ Settled (p 2) ∷ [])
     ∷ []
-unfolding fresh settle react after_next_job watch ensure_rejected update_backpressure refresh_backpressure set_up reject_close_and_closed finish_erroring start_erroring deal_with_rejection process_write advance_queue write_settled start_settled abort_settled controller_write writer_write stream_abort set_up_writer call_host row turns performed perform_job begin
+unfolding fresh settle react after_next_job watch ensure_rejected update_backpressure refresh_backpressure set_up reject_close_and_closed finish_erroring start_erroring deal_with_rejection process_write advance_queue write_settled start_settled abort_settled controller_write writer_write add_pending_abort stream_abort set_up_writer call_host row turns performed perform_job begin
 abort_during_a_failing_write = refl
 
 promises_of_a_failing_write : outcomes failing_write (3 ∷ 6 ∷ 2 ∷ []) ≡ Some (Rejected (e 9)) ∷ Some (Fulfilled Undefined) ∷ Some (Rejected (e 7)) ∷ []
-unfolding fresh settle react after_next_job watch ensure_rejected update_backpressure refresh_backpressure set_up reject_close_and_closed finish_erroring start_erroring deal_with_rejection process_write advance_queue write_settled start_settled abort_settled controller_write writer_write stream_abort set_up_writer call_host row turns performed perform_job begin
+unfolding fresh settle react after_next_job watch ensure_rejected update_backpressure refresh_backpressure set_up reject_close_and_closed finish_erroring start_erroring deal_with_rejection process_write advance_queue write_settled start_settled abort_settled controller_write writer_write add_pending_abort stream_abort set_up_writer call_host row turns performed perform_job begin
 promises_of_a_failing_write = refl
 
 -- an abort during a close in flight that succeeds: the stream is closed, and the abort with it
@@ -102,11 +102,11 @@ abort_during_a_close : tasks (calls close_in_flight) empty
     ∷ shows Done (Settled (p 3) ∷ Settled (p 5) ∷ [])
     ∷ shows (StateReply (record { state = WordClosed; flags = record no_flags { s = true; l = true }; total = 0; queue = 0; requests = 0 })) []
     ∷ []
-unfolding fresh settle react after_next_job watch ensure_rejected update_backpressure set_up start_erroring process_close advance_queue finish_in_flight_close close_settled start_settled controller_close stream_close stream_abort set_up_writer call_host row turns performed perform_job begin
+unfolding fresh settle react after_next_job watch ensure_rejected update_backpressure set_up start_erroring process_close advance_queue finish_in_flight_close close_settled start_settled controller_close stream_close add_pending_abort stream_abort set_up_writer call_host row turns performed perform_job begin
 abort_during_a_close = refl
 
 promises_of_a_close_in_flight : outcomes close_in_flight (3 ∷ 5 ∷ []) ≡ Some (Fulfilled Undefined) ∷ Some (Fulfilled Undefined) ∷ []
-unfolding fresh settle react after_next_job watch ensure_rejected update_backpressure set_up start_erroring process_close advance_queue finish_in_flight_close close_settled start_settled controller_close stream_close stream_abort set_up_writer call_host row turns performed perform_job begin
+unfolding fresh settle react after_next_job watch ensure_rejected update_backpressure set_up start_erroring process_close advance_queue finish_in_flight_close close_settled start_settled controller_close stream_close add_pending_abort stream_abort set_up_writer call_host row turns performed perform_job begin
 promises_of_a_close_in_flight = refl
 
 -- a close request waits for the abort
@@ -123,9 +123,9 @@ close_waits_for_the_abort : tasks (calls waiting_close) empty
     ∷ shows Done (Settled (p 3) ∷ Host (h 1) (Abort s0 (e 7)) ∷ [])
     ∷ shows Done (Settled (p 7) ∷ Settled (p 6) ∷ [])
     ∷ []
-unfolding fresh settle react after_next_job watch ensure_rejected update_backpressure refresh_backpressure set_up reject_close_and_closed finish_erroring start_erroring process_write advance_queue write_settled start_settled abort_settled controller_write writer_write controller_close stream_close stream_abort set_up_writer call_host row turns performed perform_job begin
+unfolding fresh settle react after_next_job watch ensure_rejected update_backpressure refresh_backpressure set_up reject_close_and_closed finish_erroring start_erroring process_write advance_queue write_settled start_settled abort_settled controller_write writer_write controller_close stream_close add_pending_abort stream_abort set_up_writer call_host row turns performed perform_job begin
 close_waits_for_the_abort = refl
 
 promises_of_a_waiting_close : outcomes waiting_close (3 ∷ 7 ∷ 6 ∷ []) ≡ Some (Fulfilled Undefined) ∷ Some (Fulfilled Undefined) ∷ Some (Rejected (e 7)) ∷ []
-unfolding fresh settle react after_next_job watch ensure_rejected update_backpressure refresh_backpressure set_up reject_close_and_closed finish_erroring start_erroring process_write advance_queue write_settled start_settled abort_settled controller_write writer_write controller_close stream_close stream_abort set_up_writer call_host row turns performed perform_job begin
+unfolding fresh settle react after_next_job watch ensure_rejected update_backpressure refresh_backpressure set_up reject_close_and_closed finish_erroring start_erroring process_write advance_queue write_settled start_settled abort_settled controller_write writer_write controller_close stream_close add_pending_abort stream_abort set_up_writer call_host row turns performed perform_job begin
 promises_of_a_waiting_close = refl

@@ -412,7 +412,7 @@ abbrev pub abort_of : PromiseId → Plain → Bool → PendingAbort
 abort_of p r true = record { promise = p; reason = Undefined; was_already_erroring = true }
 abort_of p r false = record { promise = p; reason = r; was_already_erroring = false }
 
-abbrev pub add_pending_abort : Plain → Acts → Acts
+unfoldable pub add_pending_abort : Plain → Acts → Acts
 add_pending_abort r a =
     with_promises (fresh a.out.promises)
     (record a {
@@ -421,8 +421,7 @@ add_pending_abort r a =
 
 abbrev pub begin_abort : StreamId → Plain → Acts → Acts
 begin_abort me r a =
-    let b : Acts = add_pending_abort r a in
-    if is_erroring b.slots.state then b else start_erroring me r b
+    if is_erroring a.slots.state then add_pending_abort r a else start_erroring me r (add_pending_abort r a)
 
 abbrev pub abort_once : StreamId → Plain → Acts → Option PendingAbort → Acts
 abort_once me r a None = begin_abort me r a
