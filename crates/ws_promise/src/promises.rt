@@ -233,6 +233,16 @@ impl Promises {
         }
     }
 
+    /// Whether there is such a promise that hasn't settled.
+    pub fn is_pending(&self, p: PromiseId) -> bool
+        ensures { result ≡ table.is_pending_at p self.now.table }
+    {
+        match slot_at(&self.slots, p) {
+            Some(slot) => slot.is_pending(),
+            None => false,
+        }
+    }
+
     /// The state of `p`, with its result.
     pub fn outcome(&self, p: PromiseId) -> &Outcome
         requires { IsSome (table.outcome_at self.now.table p) }

@@ -190,11 +190,10 @@ fn keeps_effects_in_order(rt: HostRuntime) -> Result<(), Fail> {
     agenda.reserve(2)?;
     agenda.push(Effect::Start(StreamId(1), StartBy::Now));
     agenda.push(Effect::Pull(StreamId(1)));
-    assert_eq!(rt;
-        agenda.next_effect(),
-        Some(Effect::Start(StreamId(1), StartBy::Now))
-    );
-    assert_eq!(rt; agenda.next_effect(), Some(Effect::Pull(StreamId(1))));
-    assert_eq!(rt; agenda.next_effect(), None);
+    let first = agenda.next_effect();
+    assert!(rt; matches!(first, Some(Effect::Start(StreamId(1), StartBy::Now))));
+    let second = agenda.next_effect();
+    assert!(rt; matches!(second, Some(Effect::Pull(StreamId(1)))));
+    assert!(rt; agenda.next_effect().is_none());
     Ok(())
 }

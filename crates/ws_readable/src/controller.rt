@@ -6,6 +6,7 @@ ghost use Rattle.ws_readable.specs.Seen.{acts_of, after_request_added};
 
 use crate::Readable;
 use ws_promise::{Agenda, Promises};
+use ws_queue::Queued;
 use ws_steps::{Effect, ReadRequest, ReadableState, SizeBy, StartBy};
 use ws_value::{Plain, PromiseId, StreamId, Value};
 
@@ -25,7 +26,7 @@ impl Readable {
         ensures spare { self.new.spare ≡ self.old.spare }
         ensures agenda_spare { fx.old.spare ≤ fx.new.spare + 1 }
     {
-        self.queue.clear();
+        self.queue.reset();
         self.high_water_mark = high_water_mark;
         self.size_by = size_by;
         self.started = false;
@@ -139,7 +140,7 @@ impl Readable {
         ensures promise_spare { p.new.spare ≡ p.old.spare }
     {
         if self.state == ReadableState::Readable {
-            self.queue.clear();
+            self.queue.reset();
             self.stream_error(p, e);
         }
     }
@@ -176,7 +177,7 @@ impl Readable {
         ensures promise_spare { p.new.spare ≡ p.old.spare }
     {
         match self.queue.pop() {
-            Some(value) => {
+            Some(Queued { value, size: _ }) => {
                 self.after_take(me, p, fx);
                 crate::requests::give_chunk(request, p, value);
             }
@@ -255,7 +256,7 @@ impl Readable {
         ensures spare { self.new.spare ≡ self.old.spare }
         ensures agenda_spare { fx.old.spare ≤ fx.new.spare + 1 }
     {
-        self.queue.clear();
+        self.queue.reset();
         fx.push(Effect::Cancel(me, reason, promise));
     }
 }

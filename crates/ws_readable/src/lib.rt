@@ -3,7 +3,6 @@
 
 mod controller;
 mod look;
-mod queue;
 mod reader;
 mod requests;
 mod stream;

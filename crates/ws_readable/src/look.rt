@@ -1,6 +1,6 @@
 //! What a host may look at.
 ghost use Rattle.std.specs.Prelude.{◌≡◌};
-ghost use Rattle.ws_steps.specs.Calls as calls;
+ghost use Rattle.ws_steps.specs.ReadableLooks as looks;
 
 use crate::Readable;
 use ws_steps::{Flags, ReadableState, StateIs, Word};
@@ -14,24 +14,24 @@ impl Readable {
 
     /// IsReadableStreamLocked.
     pub fn is_locked(&self) -> bool
-        ensures { result ≡ calls.is_locked self.now.slots }
+        ensures { result ≡ looks.is_locked self.now.slots }
     {
         self.reader.is_some()
     }
 
     /// ReadableStreamDefaultControllerGetDesiredSize.
     pub fn desired_size(&self) -> Option<i128>
-        ensures { result ≡ calls.desired_by self.now.slots self.now.slots.state }
+        ensures { result ≡ looks.desired_by self.now.slots self.now.slots.state }
     {
         match self.state {
-            ReadableState::Readable => Some(self.queue.below(self.high_water_mark)),
+            ReadableState::Readable => Some(self.queue.desired(self.high_water_mark)),
             ReadableState::Closed => Some(0),
             ReadableState::Errored => None,
         }
     }
 
     fn word(&self) -> Word
-        ensures { result ≡ calls.word_of self.now.slots.state }
+        ensures { result ≡ looks.word_of self.now.slots.state }
     {
         match self.state {
             ReadableState::Readable => Word::Readable,
@@ -41,7 +41,7 @@ impl Readable {
     }
 
     fn flags(&self) -> Flags
-        ensures { result ≡ calls.flags_of self.now.slots }
+        ensures { result ≡ looks.flags_of self.now.slots }
     {
         Flags {
             s: self.started,
@@ -60,7 +60,7 @@ impl Readable {
 
     /// The slots that a host may look at.
     pub fn look(&self) -> StateIs
-        ensures { result ≡ calls.state_of self.now.slots }
+        ensures { result ≡ looks.state_of self.now.slots }
     {
         StateIs {
             state: self.word(),

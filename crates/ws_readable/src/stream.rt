@@ -6,14 +6,14 @@ ghost use Rattle.ws_steps.specs.Readable as rows;
 ghost use Rattle.ws_steps.specs.Readable.{initialized, waiting, stream_close, stream_error};
 ghost use Rattle.ws_readable.specs.Seen.{acts_of, request_taken, after_request_taken};
 
-use crate::queue::Queue;
 use crate::requests::{close_requests, error_requests};
 use std::alloc::Global;
 use std::collections::VecDeque;
 use std::marker::Model;
 use ws_promise::{Agenda, Promises};
+use ws_queue::SizedQueue;
 use ws_steps::{ReadRequest, ReadableState, SizeBy};
-use ws_value::{NoMemory, Plain, PromiseId, StreamId};
+use ws_value::{NoMemory, Plain, PromiseId, StreamId, Value};
 
 /// A readable stream with its default controller and the reader that locks it. It is seen as its slots and as the number of chunks and read requests for which there is room.
 #[derive(Drop)]
@@ -23,7 +23,7 @@ pub struct Readable {
     pub(crate) disturbed: bool,
     pub(crate) reader: Option<PromiseId>,
     pub(crate) requests: VecDeque<ReadRequest>,
-    pub(crate) queue: Queue,
+    pub(crate) queue: SizedQueue<Value>,
     pub(crate) high_water_mark: u64,
     pub(crate) size_by: SizeBy,
     pub(crate) started: bool,
@@ -72,7 +72,7 @@ impl Readable {
             disturbed: false,
             reader: None,
             requests: VecDeque::new(alloc),
-            queue: Queue::new(alloc),
+            queue: SizedQueue::make(alloc)?,
             high_water_mark: 0,
             size_by: SizeBy::Count,
             started: false,

@@ -1,7 +1,7 @@
 -- The performing of effects, one at a time, and its one end.
 use Rattle.std.proofs.Common.{◌≡◌, ℕ, ◌+◌, suc, zero, List, [], ◌∷◌, ◌++◌, refl, sym, ◌∙◌, ap, arith}
 use Rattle.ws_steps.specs.declared.effects.Effect.{Effect}
-use Rattle.ws_steps.specs.declared.effects.Effect.TheVariants.{Start, Pull, Cancel}
+use Rattle.ws_steps.specs.declared.effects.Effect.TheVariants.{Start, Pull, Cancel, StartWritable, Write, Close, Abort}
 use Rattle.ws_steps.specs.Slots.{Slots, Done}
 use Rattle.ws_steps.specs.Turns.{Agenda, LeadsTo, row, turn, turns, credits, performed}
 
@@ -27,6 +27,18 @@ performed-next s (Pull i) es =
 performed-next s (Cancel i reason p) es =
     let next : credits (Cancel i reason p ∷ es) ≡ suc (credits es) = omega arith in
     ap (λ (n : ℕ). (turns n (record { slots = s; effects = Cancel i reason p ∷ es })).slots) next
+performed-next s (StartWritable i start) es =
+    let next : credits (StartWritable i start ∷ es) ≡ suc (credits es) = omega arith in
+    ap (λ (n : ℕ). (turns n (record { slots = s; effects = StartWritable i start ∷ es })).slots) next
+performed-next s (Write i v) es =
+    let next : credits (Write i v ∷ es) ≡ suc (credits es) = omega arith in
+    ap (λ (n : ℕ). (turns n (record { slots = s; effects = Write i v ∷ es })).slots) next
+performed-next s (Close i) es =
+    let next : credits (Close i ∷ es) ≡ suc (credits es) = omega arith in
+    ap (λ (n : ℕ). (turns n (record { slots = s; effects = Close i ∷ es })).slots) next
+performed-next s (Abort i reason p) es =
+    let next : credits (Abort i reason p ∷ es) ≡ suc (credits es) = omega arith in
+    ap (λ (n : ℕ). (turns n (record { slots = s; effects = Abort i reason p ∷ es })).slots) next
 
 -- as many turns as the credits say leave nothing to perform
 all_performed : (es : List Effect) (s : Slots) → (turns (credits es) (record { slots = s; effects = es })).effects ≡ []
@@ -35,6 +47,10 @@ all_performed [] s = refl
 all_performed (Start i start ∷ es) s = let next : credits (Start i start ∷ es) ≡ suc (credits es) = omega arith in rw next (all_performed es (row (Start i start) s).slots)
 all_performed (Pull i ∷ es) s = let next : credits (Pull i ∷ es) ≡ suc (credits es) = omega arith in rw next (all_performed es (row (Pull i) s).slots)
 all_performed (Cancel i reason p ∷ es) s = let next : credits (Cancel i reason p ∷ es) ≡ suc (credits es) = omega arith in rw next (all_performed es (row (Cancel i reason p) s).slots)
+all_performed (StartWritable i start ∷ es) s = let next : credits (StartWritable i start ∷ es) ≡ suc (credits es) = omega arith in rw next (all_performed es (row (StartWritable i start) s).slots)
+all_performed (Write i v ∷ es) s = let next : credits (Write i v ∷ es) ≡ suc (credits es) = omega arith in rw next (all_performed es (row (Write i v) s).slots)
+all_performed (Close i ∷ es) s = let next : credits (Close i ∷ es) ≡ suc (credits es) = omega arith in rw next (all_performed es (row (Close i) s).slots)
+all_performed (Abort i reason p ∷ es) s = let next : credits (Abort i reason p ∷ es) ≡ suc (credits es) = omega arith in rw next (all_performed es (row (Abort i reason p) s).slots)
 
 -- effects lead to their one end
 pub performed-leads : (d : Done) → LeadsTo d (performed d)

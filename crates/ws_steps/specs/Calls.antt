@@ -1,32 +1,32 @@
 -- The calls on a realm: their checks, what they answer, and the operation that they perform.
-use Rattle.std.specs.Prelude.{ℕ, Bool, false, nat_lt, is_some, if◌then◌else◌, [], ◌∷◌, ◌++◌, length, Option, Some, None, Result, Ok, Err, slice_set, pos, ℤ, ◌-ℤ◌}
+use Rattle.std.specs.Prelude.{ℕ, nat_lt, if◌then◌else◌, [], ◌∷◌, ◌++◌, length, Option, Some, None, Result, Ok, Err, slice_set}
 use Rattle.ws_value.specs.declared.ids.LockId.{LockId}
 use Rattle.ws_value.specs.declared.ids.PromiseId.{PromiseId}
 use Rattle.ws_value.specs.declared.ids.StreamId.{StreamId}
 use Rattle.ws_value.specs.declared.ids.HostId.{HostId}
 use Rattle.ws_value.specs.declared.value.Plain.{Plain}
 use Rattle.ws_value.specs.declared.value.Plain.TheVariants.{Undefined}
+use Rattle.ws_value.specs.declared.value.Value.{Value}
 use Rattle.ws_steps.specs.declared.calls.Answer.{Answer}
 use Rattle.ws_steps.specs.declared.calls.Answer.TheVariants.{Ok as AnswerOk, Fail as AnswerFail}
 use Rattle.ws_steps.specs.declared.calls.Call.{Call}
-use Rattle.ws_steps.specs.declared.calls.Call.TheVariants.{MakeReadable, GetReader, Cancel, CancelBy, Read, Closed, Release, Enqueue, Finish, Fail, Desired, DesiredBy, Settle, State, Step}
-use Rattle.ws_steps.specs.declared.calls.Flags.{Flags}
+use Rattle.ws_steps.specs.declared.calls.Call.TheVariants.{MakeReadable, MakeWritable, GetReader, GetWriter, Cancel, CancelBy, Read, Write, Close, CloseBy, Abort, AbortBy, Closed, Ready, Release, Enqueue, Finish, Fail, Desired, DesiredBy, Settle, State, Step}
 use Rattle.ws_steps.specs.declared.calls.Reply.{Reply}
 use Rattle.ws_steps.specs.declared.calls.Reply.TheVariants.{Done as ReplyDone, Made, Lock as ReplyLock, Promise, Size, State as ReplyState, Throws, TooMany}
-use Rattle.ws_steps.specs.declared.calls.StateIs.{StateIs}
 use Rattle.ws_steps.specs.declared.calls.StartBy.{StartBy}
 use Rattle.ws_steps.specs.declared.calls.Thrown.TheVariants.{TypeError, Unsupported}
-use Rattle.ws_steps.specs.declared.calls.Word.{Word}
-use Rattle.ws_steps.specs.declared.calls.Word.TheVariants.{Readable as WordReadable, Closed as WordClosed, Errored as WordErrored}
+use Rattle.ws_steps.specs.declared.locks.Lock.{Lock}
+use Rattle.ws_steps.specs.declared.locks.Lock.TheVariants.{Reader as ReaderLock, Writer as WriterLock, ReleasedWriter}
 use Rattle.ws_steps.specs.declared.readable.ReadRequest.TheVariants.{Promise as PromiseRequest}
-use Rattle.ws_steps.specs.declared.readable.ReadableState.{ReadableState}
-use Rattle.ws_steps.specs.declared.readable.ReadableState.TheVariants.{Readable, Closed as StateClosed, Errored}
 use Rattle.ws_steps.specs.declared.readable.SizeBy.{SizeBy}
-use Rattle.ws_steps.specs.Promises.{next_id, fresh, settle, watch}
-use Rattle.ws_steps.specs.Queues.{total_of}
-use Rattle.ws_steps.specs.Readable.{Slots as Stream, initialized, type_error, can_close_or_enqueue, set_up, reader_generic_initialize, default_reader_read, reader_release, released, stream_cancel, controller_enqueue, controller_close, controller_error}
-use Rattle.ws_steps.specs.declared.readable.Lock.{Lock}
-use Rattle.ws_steps.specs.Slots.{Slots, Done, nothing, on_stream, told, has_stream, stream_at, lock_at, host_at}
+use Rattle.ws_steps.specs.declared.writable.Writer.{Writer}
+use Rattle.ws_steps.specs.Promises.{next_id, fresh, fresh_settled, settle, watch}
+use Rattle.ws_steps.specs.Readable as readable
+use Rattle.ws_steps.specs.Readable.{type_error}
+use Rattle.ws_steps.specs.ReadableLooks as readable_looks
+use Rattle.ws_steps.specs.Writable as writable
+use Rattle.ws_steps.specs.WritableLooks as writable_looks
+use Rattle.ws_steps.specs.Slots.{Slots, Stream, ReadableStream, WritableStream, Done, nothing, on_readable, on_writable, abort_stream, told, has_readable, has_writable, readable_at, writable_at, lock_at, host_at}
 
 -- the most streams of a realm
 abbrev pub most_streams : ℕ
@@ -53,94 +53,146 @@ begun reply d = record { reply = reply; done = d }
 
 -- a promise that is rejected with a TypeError
 abbrev pub rejected : Slots → Begun
-rejected s =
-    begun (Promise (next_id s.promises))
-    (nothing (told (record s { promises = settle (next_id s.promises) (Err type_error) (fresh s.promises) })))
+rejected s = begun (Promise (next_id s.promises)) (nothing (told (record s { promises = fresh_settled (Err type_error) s.promises })))
 
-abbrev pub is_locked : Stream → Bool
-is_locked stream = is_some stream.reader
+-- a call on a readable stream, or on a writable one, where there is such a stream of this number
+abbrev pub for_readable : StreamId → (Slots → Begun) → Slots → Begun
+for_readable i operation s = if has_readable i s then operation s else unsupported s
+
+abbrev pub for_writable : StreamId → (Slots → Begun) → Slots → Begun
+for_writable i operation s = if has_writable i s then operation s else unsupported s
+
+-- a new stream
+abbrev pub add_stream : Stream → Slots → Slots
+add_stream stream s = record s { streams = s.streams ++ stream ∷ [] }
 
 -- a new stream, whose controller is set up
 abbrev pub make_readable : ℕ → SizeBy → StartBy → StreamId → Slots → Begun
 make_readable mark size start i s =
-    begun (Made i) (on_stream (set_up i start mark size) i (record s { streams = s.streams ++ initialized ∷ [] }))
+    begun (Made i) (on_readable (readable.set_up i start mark size) i (add_stream (ReadableStream readable.initialized) s))
+
+abbrev pub make_writable : ℕ → SizeBy → StartBy → StreamId → Slots → Begun
+make_writable mark size start i s =
+    begun (Made i) (on_writable (writable.set_up i start mark size) i (add_stream (WritableStream writable.initialized) s))
+
+-- a stream is made where there may be one more
+abbrev pub make_stream : (StreamId → Slots → Begun) → Slots → Begun
+make_stream make s = if nat_lt (length s.streams) most_streams then make (record { 0 = length s.streams }) s else replies TooMany s
 
 -- a new reader, which takes the stream
 abbrev pub get_reader : StreamId → Slots → Begun
 get_reader i s =
     begun (ReplyLock (record { 0 = length s.locks }))
-    (on_stream reader_generic_initialize i
-    (record s { locks = s.locks ++ record { stream = Some i; closed = next_id s.promises } ∷ [] }))
+    (on_readable readable.reader_generic_initialize i
+    (record s { locks = s.locks ++ ReaderLock (Some i) (next_id s.promises) ∷ [] }))
+
+-- a new writer, which takes the stream
+abbrev pub get_writer : StreamId → Slots → Begun
+get_writer i s =
+    begun (ReplyLock (record { 0 = length s.locks }))
+    (on_writable writable.set_up_writer i (record s { locks = s.locks ++ WriterLock i ∷ [] }))
+
+-- operations that answer a promise
 
 abbrev pub cancel : Plain → StreamId → Slots → Begun
-cancel reason i s = begun (Promise (next_id s.promises)) (on_stream (stream_cancel i reason) i s)
+cancel reason i s = begun (Promise (next_id s.promises)) (on_readable (readable.stream_cancel i reason) i s)
 
--- a read, whose promise is new
+-- the promise of a read is new
 abbrev pub read : StreamId → Slots → Begun
 read i s =
     let p = next_id s.promises in
-    begun (Promise p) (on_stream (default_reader_read i (PromiseRequest p)) i (record s { promises = fresh s.promises }))
+    begun (Promise p) (on_readable (readable.default_reader_read i (PromiseRequest p)) i (record s { promises = fresh s.promises }))
 
--- a call on a stream, where there is one of this number
-abbrev pub on_readable : StreamId → (Slots → Begun) → Slots → Begun
-on_readable i operation s = if has_stream i s then operation s else unsupported s
+abbrev pub write : Value → StreamId → Slots → Begun
+write v i s = begun (Promise (next_id s.promises)) (on_writable (writable.writer_write i v) i s)
 
--- what a reader does while it has a stream, and what is answered once it is released
-abbrev pub by_stream : Option StreamId → (StreamId → Slots → Begun) → (Slots → Begun) → Slots → Begun
-by_stream (Some i) holding free s = on_readable i (holding i) s
-by_stream None holding free s = free s
+-- a stream that is closing isn't closed again
+abbrev pub close : StreamId → Slots → Begun
+close i s =
+    if writable.is_closing (writable_at i s) then rejected s
+    else begun (Promise (next_id s.promises)) (on_writable (writable.stream_close i) i s)
 
-abbrev pub by_lock : Option Lock → (Lock → Slots → Begun) → Slots → Begun
-by_lock (Some lock) operation s = operation lock s
-by_lock None operation s = unsupported s
+abbrev pub abort : Plain → StreamId → Slots → Begun
+abort reason i s = begun (Promise (writable.abort_promise s.promises (writable_at i s))) (abort_stream reason i s)
+
+-- calls on readers and writers
+
+-- what a reader does while it has a stream, and what is answered once it is released; a writer has no such call
+abbrev pub by_reader : (StreamId → Slots → Begun) → (Slots → Begun) → Slots → Option Lock → Begun
+by_reader holding free s None = unsupported s
+by_reader holding free s (Some (ReaderLock (Some i) closed)) = for_readable i (holding i) s
+by_reader holding free s (Some (ReaderLock None closed)) = free s
+by_reader holding free s (Some (WriterLock i)) = unsupported s
+by_reader holding free s (Some (ReleasedWriter w)) = unsupported s
+
+-- what a writer does while it has a stream, and what is answered once it is released; a reader has no such call
+abbrev pub by_writer : (StreamId → Slots → Begun) → (Slots → Begun) → Slots → Option Lock → Begun
+by_writer holding free s None = unsupported s
+by_writer holding free s (Some (ReaderLock stream closed)) = unsupported s
+by_writer holding free s (Some (WriterLock i)) = for_writable i (holding i) s
+by_writer holding free s (Some (ReleasedWriter w)) = free s
+
+-- what is answered of the promises of a stream's writer
+abbrev pub of_writer : (Writer → Slots → Begun) → Slots → Option Writer → Begun
+of_writer operation s None = unsupported s
+of_writer operation s (Some w) = operation w s
+
+abbrev pub closed_by : Slots → Option Lock → Begun
+closed_by s None = unsupported s
+closed_by s (Some (ReaderLock stream closed)) = replies (Promise closed) s
+closed_by s (Some (WriterLock i)) = of_writer (λ w. replies (Promise w.closed)) s (writable_at i s).writer
+closed_by s (Some (ReleasedWriter w)) = replies (Promise w.closed) s
+
+abbrev pub ready_by : Slots → Option Lock → Begun
+ready_by s None = unsupported s
+ready_by s (Some (ReaderLock stream closed)) = unsupported s
+ready_by s (Some (WriterLock i)) = of_writer (λ w. replies (Promise w.ready)) s (writable_at i s).writer
+ready_by s (Some (ReleasedWriter w)) = replies (Promise w.ready) s
+
+abbrev pub with_lock : LockId → Lock → Slots → Slots
+with_lock l lock s = record s { locks = slice_set s.locks l.0 lock }
 
 -- a reader lets go of its stream
-abbrev pub release : LockId → PromiseId → StreamId → Slots → Begun
-release l closed i s =
+abbrev pub release_reader : LockId → PromiseId → StreamId → Slots → Begun
+release_reader l closed i s =
     begun ReplyDone
-    (on_stream reader_release i
-    (record s { locks = slice_set s.locks l.0 (record { stream = None; closed = released closed s.promises (stream_at i s).state }) }))
+    (on_readable readable.reader_release i
+    (with_lock l (ReaderLock None (readable.released closed s.promises (readable_at i s).state)) s))
+
+-- a writer lets go of its stream
+abbrev pub release_writer : LockId → StreamId → Writer → Slots → Begun
+release_writer l i w s =
+    begun ReplyDone (on_writable writable.writer_release i (with_lock l (ReleasedWriter (writable.released w s.promises)) s))
+
+abbrev pub release : LockId → Slots → Option Lock → Begun
+release l s None = unsupported s
+release l s (Some (ReaderLock (Some i) closed)) = for_readable i (release_reader l closed i) s
+release l s (Some (ReaderLock None closed)) = replies ReplyDone s
+release l s (Some (WriterLock i)) = of_writer (release_writer l i) s (writable_at i s).writer
+release l s (Some (ReleasedWriter w)) = replies ReplyDone s
+
+-- calls on controllers
 
 abbrev pub if_it_can : StreamId → (Slots → Done) → Slots → Begun
 if_it_can i operation s =
-    if can_close_or_enqueue (stream_at i s) then begun ReplyDone (operation s) else throws_type_error s
+    if readable.can_close_or_enqueue (readable_at i s) then begun ReplyDone (operation s) else throws_type_error s
 
--- the desired size: null where the stream is errored, 0 where it is closed, and else the mark minus the total
-abbrev pub desired_by : Stream → ReadableState → Option ℤ
-desired_by stream Readable = Some (pos stream.high_water_mark -ℤ pos (total_of stream.queue))
-desired_by stream StateClosed = Some (pos 0)
-desired_by stream Errored = None
+-- the controller of a stream of either kind
+abbrev pub fail : Plain → StreamId → Slots → Begun
+fail reason i s =
+    if has_readable i s then begun ReplyDone (on_readable (readable.controller_error reason) i s)
+    else for_writable i (λ s. begun ReplyDone (on_writable (writable.controller_error_if_needed i reason) i s)) s
 
-abbrev pub word_of : ReadableState → Word
-word_of Readable = WordReadable
-word_of StateClosed = WordClosed
-word_of Errored = WordErrored
+abbrev pub desired : StreamId → Slots → Begun
+desired i s = replies (Size (readable_looks.desired_by (readable_at i s) (readable_at i s).state)) s
 
-abbrev pub flags_of : Stream → Flags
-flags_of stream =
-    record {
-      s = stream.started;
-      p = stream.pulling;
-      g = stream.pull_again;
-      c = stream.close_requested;
-      d = stream.disturbed;
-      l = is_locked stream;
-      b = false;
-      w = false;
-      f = false;
-      q = false;
-      a = false;
-    }
+abbrev pub desired_of_writer : StreamId → Slots → Begun
+desired_of_writer i s = replies (Size (writable_looks.desired_by (writable_at i s) (writable_at i s).state)) s
 
-abbrev pub state_of : Stream → StateIs
-state_of stream =
-    record {
-      state = word_of stream.state;
-      flags = flags_of stream;
-      total = total_of stream.queue;
-      queue = length stream.queue;
-      requests = length stream.requests;
-    }
+abbrev pub look : StreamId → Slots → Begun
+look i s =
+    if has_readable i s then replies (ReplyState (readable_looks.state_of (readable_at i s))) s
+    else for_writable i (λ s. replies (ReplyState (writable_looks.state_of (writable_at i s))) s) s
 
 abbrev pub outcome_of : Answer → Result Plain Plain
 outcome_of AnswerOk = Ok Undefined
@@ -153,26 +205,39 @@ settle_host h answer s (Some p) =
     begun ReplyDone
     (nothing (told (record s { promises = settle p (outcome_of answer) s.promises; hosts = slice_set s.hosts h.0 None })))
 
+-- what is done with a stream that isn't locked, and what is answered of one that is
+abbrev pub unlocked_readable : StreamId → (Slots → Begun) → (StreamId → Slots → Begun) → Slots → Begun
+unlocked_readable i locked free s =
+    for_readable i (λ s. if readable_looks.is_locked (readable_at i s) then locked s else free i s) s
+
+abbrev pub unlocked_writable : StreamId → (Slots → Begun) → (StreamId → Slots → Begun) → Slots → Begun
+unlocked_writable i locked free s =
+    for_writable i (λ s. if writable_looks.is_locked (writable_at i s) then locked s else free i s) s
+
 -- the checks of a call in their order, and then its operation
 unfoldable pub begin : Call → Slots → Begun
-begin (MakeReadable mark size start) s =
-    if nat_lt (length s.streams) most_streams
-    then make_readable mark size start (record { 0 = length s.streams }) s
-    else replies TooMany s
-begin (GetReader i) s =
-    on_readable i (λ s. if is_locked (stream_at i s) then throws_type_error s else get_reader i s) s
-begin (Cancel i reason) s = on_readable i (λ s. if is_locked (stream_at i s) then rejected s else cancel reason i s) s
-begin (CancelBy l reason) s = by_lock (lock_at l s) (λ lock. by_stream lock.stream (cancel reason) rejected) s
-begin (Read l) s = by_lock (lock_at l s) (λ lock. by_stream lock.stream read rejected) s
-begin (Closed l) s = by_lock (lock_at l s) (λ lock. replies (Promise lock.closed)) s
-begin (Release l) s = by_lock (lock_at l s) (λ lock. by_stream lock.stream (release l lock.closed) (replies ReplyDone)) s
-begin (Enqueue i v) s = on_readable i (if_it_can i (on_stream (controller_enqueue i v) i)) s
-begin (Finish i) s = on_readable i (if_it_can i (on_stream controller_close i)) s
-begin (Fail i reason) s = on_readable i (λ s. begun ReplyDone (on_stream (controller_error reason) i s)) s
-begin (Desired i) s = on_readable i (λ s. replies (Size (desired_by (stream_at i s) (stream_at i s).state)) s) s
-begin (DesiredBy l) s = unsupported s
+begin (MakeReadable mark size start) s = make_stream (make_readable mark size start) s
+begin (MakeWritable mark size start) s = make_stream (make_writable mark size start) s
+begin (GetReader i) s = unlocked_readable i throws_type_error get_reader s
+begin (GetWriter i) s = unlocked_writable i throws_type_error get_writer s
+begin (Cancel i reason) s = unlocked_readable i rejected (cancel reason) s
+begin (CancelBy l reason) s = by_reader (cancel reason) rejected s (lock_at l s)
+begin (Read l) s = by_reader read rejected s (lock_at l s)
+begin (Write l v) s = by_writer (write v) rejected s (lock_at l s)
+begin (Close i) s = unlocked_writable i rejected close s
+begin (CloseBy l) s = by_writer close rejected s (lock_at l s)
+begin (Abort i reason) s = unlocked_writable i rejected (abort reason) s
+begin (AbortBy l reason) s = by_writer (abort reason) rejected s (lock_at l s)
+begin (Closed l) s = closed_by s (lock_at l s)
+begin (Ready l) s = ready_by s (lock_at l s)
+begin (Release l) s = release l s (lock_at l s)
+begin (Enqueue i v) s = for_readable i (if_it_can i (on_readable (readable.controller_enqueue i v) i)) s
+begin (Finish i) s = for_readable i (if_it_can i (on_readable readable.controller_close i)) s
+begin (Fail i reason) s = fail reason i s
+begin (Desired i) s = for_readable i (desired i) s
+begin (DesiredBy l) s = by_writer desired_of_writer throws_type_error s (lock_at l s)
 begin (Settle h answer) s = settle_host h answer s (host_at h s)
-begin (State i) s = on_readable i (λ s. replies (ReplyState (state_of (stream_at i s))) s) s
+begin (State i) s = look i s
 begin Step s = replies ReplyDone s
 
 -- a promise that a reply names is watched from now on

@@ -2,6 +2,9 @@ pub mod Promises
 pub mod Queues
 pub mod Effects
 pub mod Readable
+pub mod ReadableLooks
+pub mod Writable
+pub mod WritableLooks
 pub mod Slots
 pub mod Turns
 pub mod Jobs

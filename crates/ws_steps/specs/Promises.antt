@@ -65,6 +65,14 @@ is_pending (Given v) = false
 is_pending (Finished v) = false
 is_pending (Rejected r) = false
 
+abbrev pub is_pending_outcome : Option Outcome → Bool
+is_pending_outcome None = false
+is_pending_outcome (Some outcome) = is_pending outcome
+
+-- whether there is such a promise that hasn't settled
+abbrev pub is_pending_at : PromiseId → Table → Bool
+is_pending_at p t = is_pending_outcome (outcome_at t p)
+
 abbrev pub is_open_entry : Option Entry → Bool
 is_open_entry None = false
 is_open_entry (Some e) = if is_pending e.outcome then not e.follows else false
@@ -113,6 +121,10 @@ settle_entry p outcome t (Some e) =
 -- the reactions are emptied
 unfoldable pub settle : PromiseId → Result Plain Plain → Table → Table
 settle p outcome t = if is_open p t then settle_entry p outcome t (entry_at t p) else t
+
+-- a promise resolved with a value, a promise rejected with a reason: a new one, which is settled at once
+abbrev pub fresh_settled : Result Plain Plain → Table → Table
+fresh_settled outcome t = settle (next_id t) outcome (fresh t)
 
 abbrev pub answer_entry : PromiseId → Outcome → Table → Option Entry → Table
 answer_entry p outcome t None = t

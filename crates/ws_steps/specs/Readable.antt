@@ -12,7 +12,7 @@ use Rattle.ws_value.specs.declared.value.Value.TheVariants.{Plain as PlainValue}
 use Rattle.ws_value.specs.declared.value.Outcome.TheVariants.{Given, Finished}
 use Rattle.ws_steps.specs.declared.calls.StartBy.{StartBy}
 use Rattle.ws_steps.specs.declared.effects.Effect.TheVariants.{Start, Pull, Cancel}
-use Rattle.ws_steps.specs.declared.readable.Queued.{Queued}
+use Rattle.ws_steps.specs.declared.queue.Queued.{Queued}
 use Rattle.ws_steps.specs.declared.readable.ReadRequest.{ReadRequest}
 use Rattle.ws_steps.specs.declared.readable.ReadRequest.TheVariants.{Promise}
 use Rattle.ws_steps.specs.declared.readable.ReadableState.{ReadableState}
@@ -31,7 +31,7 @@ pub record Slots : Type 0 where
   -- the closed promise of the reader, where there is one
   pub reader : Option PromiseId
   pub requests : List ReadRequest
-  pub queue : List Queued
+  pub queue : List (Queued Value)
   pub high_water_mark : ℕ
   pub size_by : SizeBy
   pub started : Bool
@@ -196,7 +196,7 @@ after_take me a =
 abbrev pub give : Value → ReadRequest → Acts → Acts
 give v r a = record a { out = chunk_steps v r a.out }
 
-abbrev pub pull_from : StreamId → ReadRequest → Acts → List Queued → Acts
+abbrev pub pull_from : StreamId → ReadRequest → Acts → List (Queued Value) → Acts
 pull_from me r a [] =
     call_pull_if_needed me (record a { slots = record a.slots { requests = a.slots.requests ++ r ∷ [] } })
 pull_from me r a (q ∷ qs) = give q.value r (after_take me (record a { slots = record a.slots { queue = qs } }))

@@ -1,17 +1,26 @@
 -- The slots of a realm: its records in tables by number, its promises and jobs, and what the host hears of.
-use Rattle.std.specs.Prelude.{ℕ, Bool, true, nat_lt, if◌then◌else◌, List, [], ◌∷◌, ◌++◌, length, map, Option, Some, None, slice_get, slice_set, slice_index_or}
+use Rattle.std.specs.Prelude.{ℕ, Bool, true, false, if◌then◌else◌, List, [], ◌∷◌, ◌++◌, length, map, Option, Some, None, slice_get, slice_set}
 use Rattle.ws_value.specs.declared.ids.HostId.{HostId}
 use Rattle.ws_value.specs.declared.ids.LockId.{LockId}
 use Rattle.ws_value.specs.declared.ids.PromiseId.{PromiseId}
 use Rattle.ws_value.specs.declared.ids.StreamId.{StreamId}
+use Rattle.ws_value.specs.declared.value.Plain.{Plain}
 use Rattle.ws_steps.specs.declared.calls.Event.{Event}
-use Rattle.ws_steps.specs.declared.calls.Event.TheVariants.{Host, Settled}
+use Rattle.ws_steps.specs.declared.calls.Event.TheVariants.{Host, Settled, Signal}
 use Rattle.ws_steps.specs.declared.calls.HostCall.{HostCall}
 use Rattle.ws_steps.specs.declared.effects.Effect.{Effect}
-use Rattle.ws_steps.specs.declared.readable.Lock.{Lock}
-use Rattle.ws_steps.specs.declared.readable.ReadableState.TheVariants.{Closed}
+use Rattle.ws_steps.specs.declared.locks.Lock.{Lock}
+use Rattle.ws_steps.specs.declared.readable.ReadableState.TheVariants.{Closed as ReadableClosed}
+use Rattle.ws_steps.specs.declared.writable.WritableState.TheVariants.{Closed as WritableClosed}
 use Rattle.ws_steps.specs.Promises.{Table, no_promises, next_id, fresh, all_told}
-use Rattle.ws_steps.specs.Readable.{Slots as Stream, Acts, initialized}
+use Rattle.ws_steps.specs.Effects.{Out}
+use Rattle.ws_steps.specs.Readable as readable
+use Rattle.ws_steps.specs.Writable as writable
+
+-- a stream of either kind
+pub data Stream : Type 0 where
+  ReadableStream : readable.Slots → Stream
+  WritableStream : writable.Slots → Stream
 
 pub record Slots : Type 0 where
   pub streams : List Stream
@@ -28,15 +37,46 @@ pub record Slots : Type 0 where
 abbrev pub empty : Slots
 empty = record { streams = []; locks = []; promises = no_promises; hosts = []; events = []; age = 0 }
 
--- what stands where there is no stream: one that takes nothing and gives nothing
-abbrev pub no_stream : Stream
-no_stream = record initialized { state = Closed; reader = Some (record { 0 = 0 }); close_requested = true }
+-- what stands where there is no such stream: one that takes nothing and gives nothing
+abbrev pub no_readable : readable.Slots
+no_readable = record readable.initialized { state = ReadableClosed; reader = Some (record { 0 = 0 }); close_requested = true }
 
-abbrev pub has_stream : StreamId → Slots → Bool
-has_stream i s = nat_lt i.0 (length s.streams)
+abbrev pub no_writable : writable.Slots
+no_writable =
+    record writable.initialized { state = WritableClosed; writer = Some (record { ready = record { 0 = 0 }; closed = record { 0 = 0 } }) }
 
-abbrev pub stream_at : StreamId → Slots → Stream
-stream_at i s = slice_index_or s.streams i.0 no_stream
+abbrev pub is_readable_stream : Option Stream → Bool
+is_readable_stream None = false
+is_readable_stream (Some (ReadableStream r)) = true
+is_readable_stream (Some (WritableStream w)) = false
+
+abbrev pub is_writable_stream : Option Stream → Bool
+is_writable_stream None = false
+is_writable_stream (Some (ReadableStream r)) = false
+is_writable_stream (Some (WritableStream w)) = true
+
+abbrev pub as_readable : Option Stream → readable.Slots
+as_readable None = no_readable
+as_readable (Some (ReadableStream r)) = r
+as_readable (Some (WritableStream w)) = no_readable
+
+abbrev pub as_writable : Option Stream → writable.Slots
+as_writable None = no_writable
+as_writable (Some (ReadableStream r)) = no_writable
+as_writable (Some (WritableStream w)) = w
+
+-- whether there is a readable stream, or a writable stream, of this number
+abbrev pub has_readable : StreamId → Slots → Bool
+has_readable i s = is_readable_stream (slice_get s.streams i.0)
+
+abbrev pub has_writable : StreamId → Slots → Bool
+has_writable i s = is_writable_stream (slice_get s.streams i.0)
+
+abbrev pub readable_at : StreamId → Slots → readable.Slots
+readable_at i s = as_readable (slice_get s.streams i.0)
+
+abbrev pub writable_at : StreamId → Slots → writable.Slots
+writable_at i s = as_writable (slice_get s.streams i.0)
 
 abbrev pub lock_at : LockId → Slots → Option Lock
 lock_at l s = slice_get s.locks l.0
@@ -61,19 +101,39 @@ pub record Done : Type 0 where
 abbrev pub nothing : Slots → Done
 nothing s = record { slots = s; caused = [] }
 
-abbrev pub put_stream : StreamId → Slots → Acts → Done
-put_stream i s a =
-    record {
-      slots = told (record s { streams = slice_set s.streams i.0 a.slots; promises = a.out.promises });
-      caused = a.out.effects;
-    }
+-- an operation leaves a stream so, and this outside it
+abbrev pub put_stream : StreamId → Slots → Stream → Out → Done
+put_stream i s stream out =
+    record { slots = told (record s { streams = slice_set s.streams i.0 stream; promises = out.promises }); caused = out.effects }
 
--- an operation of one stream, where there is one of this number
-abbrev pub on_stream : (Acts → Acts) → StreamId → Slots → Done
-on_stream operation i s =
-    if has_stream i s
-    then put_stream i s (operation (record { slots = stream_at i s; out = record { promises = s.promises; effects = [] } }))
-    else nothing s
+-- what an operation finds outside its stream
+abbrev pub found : Slots → Out
+found s = record { promises = s.promises; effects = [] }
+
+abbrev pub put_readable : StreamId → Slots → readable.Acts → Done
+put_readable i s a = put_stream i s (ReadableStream a.slots) a.out
+
+-- an operation of a readable stream, where there is one of this number
+abbrev pub on_readable : (readable.Acts → readable.Acts) → StreamId → Slots → Done
+on_readable operation i s =
+    if has_readable i s then put_readable i s (operation (record { slots = readable_at i s; out = found s })) else nothing s
+
+abbrev pub put_writable : StreamId → Slots → writable.Acts → Done
+put_writable i s a = put_stream i s (WritableStream a.slots) a.out
+
+-- an operation of a writable stream, where there is one of this number
+abbrev pub on_writable : (writable.Acts → writable.Acts) → StreamId → Slots → Done
+on_writable operation i s =
+    if has_writable i s then put_writable i s (operation (record { slots = writable_at i s; out = found s })) else nothing s
+
+-- the first abort of a writable stream is signalled to its sink
+abbrev pub signalled : StreamId → Plain → Slots → Slots
+signalled i reason s =
+    if writable.is_first_abort (writable_at i s) then record s { events = s.events ++ Signal i reason ∷ [] } else s
+
+-- WritableStreamAbort: the sink hears of it before what the abort settles
+abbrev pub abort_stream : Plain → StreamId → Slots → Done
+abort_stream reason i s = on_writable (writable.stream_abort i reason) i (signalled i reason s)
 
 -- a call of a host's algorithm: a new promise with a new number, which the host hears of
 unfoldable pub call_host : HostCall → Slots → Slots

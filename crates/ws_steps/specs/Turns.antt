@@ -2,14 +2,15 @@
 use Rattle.std.specs.Prelude.{◌≡◌, ℕ, zero, suc, ◌+◌, List, [], ◌∷◌, ◌++◌, Some, None, Ok}
 use Rattle.ws_value.specs.declared.value.Plain.TheVariants.{Undefined}
 use Rattle.ws_value.specs.declared.ids.StreamId.{StreamId}
-use Rattle.ws_steps.specs.declared.calls.HostCall.TheVariants.{Start as HostStart, Pull as HostPull, Cancel as HostCancel}
+use Rattle.ws_steps.specs.declared.calls.HostCall.TheVariants.{Start as HostStart, Pull as HostPull, Cancel as HostCancel, Write as HostWrite, Close as HostClose, Abort as HostAbort}
 use Rattle.ws_steps.specs.declared.calls.StartBy.{StartBy}
 use Rattle.ws_steps.specs.declared.calls.StartBy.TheVariants.{Now, Later}
 use Rattle.ws_steps.specs.declared.effects.Effect.{Effect}
-use Rattle.ws_steps.specs.declared.effects.Effect.TheVariants.{Start, Pull, Cancel}
+use Rattle.ws_steps.specs.declared.effects.Effect.TheVariants.{Start, Pull, Cancel, StartWritable, Write, Close, Abort}
 use Rattle.ws_steps.specs.declared.promises.Reaction.{Reaction}
 use Rattle.ws_steps.specs.declared.promises.Reaction.TheVariants.{Perform}
-use Rattle.ws_steps.specs.declared.promises.Step.TheVariants.{ReadableStart, ReadablePull, ReturnUndefined}
+use Rattle.ws_steps.specs.declared.promises.Step.{Step}
+use Rattle.ws_steps.specs.declared.promises.Step.TheVariants.{ReadableStart, ReadablePull, ReturnUndefined, WritableStart, WritableWrite, WritableClose, WritableAbort}
 use Rattle.ws_steps.specs.Promises.{Table, next_id, fresh, settle, react, follow}
 use Rattle.ws_steps.specs.Slots.{Slots, Done, nothing, call_host}
 
@@ -17,22 +18,28 @@ use Rattle.ws_steps.specs.Slots.{Slots, Done, nothing, call_host}
 abbrev pub reacting : Reaction → Table → Slots → Slots
 reacting r before s = record s { promises = react (next_id before) r s.promises }
 
--- the start algorithm's result is undefined at once, or the host's promise; the start promise is resolved with it
-abbrev pub started : StreamId → StartBy → Slots → Slots
-started i Now s =
+-- the start algorithm's result is undefined at once, or the host's promise; the start promise is resolved with it, and the
+-- controller's step reacts to that
+abbrev pub started : StreamId → Step → StartBy → Slots → Slots
+started i step Now s =
     let p = next_id s.promises in
-    record s { promises = react p (Perform (ReadableStart i) None) (settle p (Ok Undefined) (fresh s.promises)) }
-started i Later s =
+    record s { promises = react p (Perform step None) (settle p (Ok Undefined) (fresh s.promises)) }
+started i step Later s =
     let z = call_host (HostStart i) s in
     let p = next_id z.promises in
-    record z { promises = react p (Perform (ReadableStart i) None) (follow p (next_id s.promises) (fresh z.promises)) }
+    record z { promises = react p (Perform step None) (follow p (next_id s.promises) (fresh z.promises)) }
 
 -- what an effect does, and what it causes
 unfoldable pub row : Effect → Slots → Done
-row (Start i start) s = nothing (started i start s)
+row (Start i start) s = nothing (started i (ReadableStart i) start s)
 row (Pull i) s = nothing (reacting (Perform (ReadablePull i) None) s.promises (call_host (HostPull i) s))
 row (Cancel i reason p) s =
     nothing (reacting (Perform ReturnUndefined (Some p)) s.promises (call_host (HostCancel i reason) s))
+row (StartWritable i start) s = nothing (started i (WritableStart i) start s)
+row (Write i v) s = nothing (reacting (Perform (WritableWrite i) None) s.promises (call_host (HostWrite i v) s))
+row (Close i) s = nothing (reacting (Perform (WritableClose i) None) s.promises (call_host (HostClose i) s))
+row (Abort i reason p) s =
+    nothing (reacting (Perform (WritableAbort i p) None) s.promises (call_host (HostAbort i reason) s))
 
 -- the slots, and the effects that are still to be performed
 pub record Agenda : Type 0 where
@@ -53,6 +60,10 @@ abbrev pub credit : Effect → ℕ
 credit (Start i start) = 1
 credit (Pull i) = 1
 credit (Cancel i reason p) = 1
+credit (StartWritable i start) = 1
+credit (Write i v) = 1
+credit (Close i) = 1
+credit (Abort i reason p) = 1
 
 abbrev pub credits : List Effect → ℕ
 credits [] = 0

@@ -3,10 +3,16 @@
 
 mod calls;
 mod effects;
+mod locks;
 mod promises;
+mod queue;
 mod readable;
+mod writable;
 
 pub use calls::{Answer, Call, Event, Flags, HostCall, Reply, StartBy, StateIs, Thrown, Word};
 pub use effects::Effect;
+pub use locks::Lock;
 pub use promises::{Job, Reaction, Step};
-pub use readable::{Lock, Queued, ReadRequest, ReadableState, SizeBy};
+pub use queue::Queued;
+pub use readable::{ReadRequest, ReadableState, SizeBy};
+pub use writable::{PendingAbort, WritableState, WriteRecord, Writer};

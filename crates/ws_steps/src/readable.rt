@@ -2,7 +2,7 @@
 ghost use Rattle.std.specs.Prelude.{◌≡◌};
 ghost use Rattle.ws_steps.specs.Queues.{size_of};
 
-use ws_value::{PromiseId, StreamId, Value};
+use ws_value::{PromiseId, Value};
 
 /// The state of a readable stream.
 #[derive(Clone, Copy, Debug, PartialEq, Eq)]
@@ -34,23 +34,9 @@ impl SizeBy {
     }
 }
 
-/// A value in a queue, with its size.
-#[derive(Debug, Drop)]
-pub struct Queued {
-    pub value: Value,
-    pub size: u64,
-}
-
 /// Whom a read answers.
 #[derive(Clone, Copy, Debug, PartialEq, Eq)]
 pub enum ReadRequest {
     /// The promise of a `read`.
     Promise(PromiseId),
-}
-
-/// A reader: the stream that it has, until it is released, and its closed promise.
-#[derive(Clone, Copy, Debug, PartialEq, Eq)]
-pub struct Lock {
-    pub stream: Option<StreamId>,
-    pub closed: PromiseId,
 }

@@ -1,0 +1,72 @@
+//! Backpressure, and the ready promise that follows it.
+ghost use Rattle.std.specs.Prelude.{◌≡◌, ◌<◌, ◌≤◌, ◌+◌};
+ghost use Rattle.ws_promise.specs.Seen.{SeenAgenda};
+ghost use Rattle.ws_steps.specs.Writable as rows;
+ghost use Rattle.ws_writable.specs.Seen.{acts_of};
+
+use crate::Writable;
+use ws_promise::Promises;
+use ws_steps::{WritableState, Writer};
+use ws_value::Plain;
+
+impl Writable {
+    /// WritableStreamDefaultControllerGetBackpressure.
+    pub fn has_backpressure(&self) -> bool
+        ensures { result ≡ rows.has_backpressure self.now.slots }
+    {
+        self.queue.total() >= u128::from(self.high_water_mark)
+    }
+
+    fn change_ready(&mut self, p: &mut Promises, writer: Writer, backpressure: bool)
+        requires { 0 < p.old.spare }
+        ensures row { (fx : SeenAgenda) → acts_of self.new p.new fx ≡ rows.change_ready writer (acts_of self.old p.old fx) backpressure }
+        ensures spare { self.new.spare ≡ self.old.spare }
+        ensures promise_spare { p.old.spare ≤ p.new.spare + 1 }
+    {
+        if backpressure {
+            let ready = p.fresh();
+            self.writer = Some(Writer { ready, ..writer });
+        } else {
+            p.fulfil(writer.ready, Plain::Undefined);
+        }
+    }
+
+    fn ready_for(&mut self, p: &mut Promises, backpressure: bool)
+        requires { 0 < p.old.spare }
+        ensures row { (fx : SeenAgenda) → acts_of self.new p.new fx ≡ rows.ready_for backpressure (acts_of self.old p.old fx) self.old.slots.writer }
+        ensures spare { self.new.spare ≡ self.old.spare }
+        ensures promise_spare { p.old.spare ≤ p.new.spare + 1 }
+    {
+        if let Some(writer) = self.writer {
+            if backpressure != self.backpressure {
+                self.change_ready(p, writer, backpressure);
+            }
+        }
+    }
+
+    /// WritableStreamUpdateBackpressure.
+    #[tactic(auto, unfolding(ws_steps::specs::Writable::update_backpressure))]
+    pub fn update_backpressure(&mut self, p: &mut Promises, backpressure: bool)
+        requires { 0 < p.old.spare }
+        ensures row { (fx : SeenAgenda) → acts_of self.new p.new fx ≡ rows.update_backpressure backpressure (acts_of self.old p.old fx) }
+        ensures spare { self.new.spare ≡ self.old.spare }
+        ensures promise_spare { p.old.spare ≤ p.new.spare + 1 }
+    {
+        self.ready_for(p, backpressure);
+        self.backpressure = backpressure;
+    }
+
+    /// Brings the backpressure up to date, where the stream isn't closing and is writable.
+    #[tactic(auto, unfolding(ws_steps::specs::Writable::refresh_backpressure))]
+    pub(crate) fn refresh_backpressure(&mut self, p: &mut Promises)
+        requires { 0 < p.old.spare }
+        ensures row { (fx : SeenAgenda) → acts_of self.new p.new fx ≡ rows.refresh_backpressure (acts_of self.old p.old fx) }
+        ensures spare { self.new.spare ≡ self.old.spare }
+        ensures promise_spare { p.old.spare ≤ p.new.spare + 1 }
+    {
+        if !self.is_closing() && self.is_writable() {
+            let backpressure = self.has_backpressure();
+            self.update_backpressure(p, backpressure);
+        }
+    }
+}

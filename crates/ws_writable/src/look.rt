@@ -1,0 +1,90 @@
+//! What a host may look at.
+ghost use Rattle.std.specs.Prelude.{◌≡◌};
+ghost use Rattle.ws_steps.specs.Writable as rows;
+ghost use Rattle.ws_steps.specs.WritableLooks as looks;
+
+use crate::Writable;
+use ws_steps::{Flags, StateIs, Word, WritableState, Writer};
+
+impl Writable {
+    pub fn state(&self) -> WritableState
+        ensures { result ≡ self.now.slots.state }
+    {
+        self.state
+    }
+
+    /// The promises of the writer, where there is one.
+    pub fn writer(&self) -> Option<Writer>
+        ensures { result ≡ self.now.slots.writer }
+    {
+        self.writer
+    }
+
+    /// IsWritableStreamLocked.
+    pub fn is_locked(&self) -> bool
+        ensures { result ≡ looks.is_locked self.now.slots }
+    {
+        self.writer.is_some()
+    }
+
+    /// Whether an abort would be the first of the stream, so that the sink is to be signalled.
+    pub fn is_first_abort(&self) -> bool
+        ensures { result ≡ rows.is_first_abort self.now.slots }
+    {
+        !self.has_ended() && self.pending_abort.is_none()
+    }
+
+    /// WritableStreamDefaultWriterGetDesiredSize.
+    pub fn desired_size(&self) -> Option<i128>
+        ensures { result ≡ looks.desired_by self.now.slots self.now.slots.state }
+    {
+        match self.state {
+            WritableState::Writable => Some(self.queue.desired(self.high_water_mark)),
+            WritableState::Erroring => None,
+            WritableState::Errored => None,
+            WritableState::Closed => Some(0),
+        }
+    }
+
+    fn word(&self) -> Word
+        ensures { result ≡ looks.word_of self.now.slots.state }
+    {
+        match self.state {
+            WritableState::Writable => Word::Writable,
+            WritableState::Erroring => Word::Erroring,
+            WritableState::Errored => Word::Errored,
+            WritableState::Closed => Word::Closed,
+        }
+    }
+
+    fn flags(&self) -> Flags
+        ensures { result ≡ looks.flags_of self.now.slots }
+    {
+        Flags {
+            s: self.started,
+            p: false,
+            g: false,
+            c: false,
+            d: false,
+            l: self.is_locked(),
+            b: self.backpressure,
+            w: self.write_in_flight.is_some(),
+            f: self.close_in_flight.is_some(),
+            q: self.close_request.is_some(),
+            a: self.pending_abort.is_some(),
+        }
+    }
+
+    /// The slots that a host may look at.
+    pub fn look(&self) -> StateIs
+        ensures { result ≡ looks.state_of self.now.slots }
+    {
+        StateIs {
+            state: self.word(),
+            flags: self.flags(),
+            total: self.queue.total(),
+            queue: self.queue.len() as u64,
+            requests: self.write_requests.len() as u64,
+        }
+    }
+}
