@@ -2,10 +2,10 @@
 use Rattle.std.proofs.Common.{◌≡◌, ℕ, ◌^◌, List, [], ◌∷◌, Some, None, Ok, Err, refl}
 use Rattle.std.specs.Prelude.{codes}
 use Rattle.ws_steps.specs.declared.calls.Call.{Call}
-use Rattle.ws_steps.specs.declared.calls.Call.TheVariants.{MakeReadable, GetReader, Cancel, CancelBy, Read, Closed, Release, Enqueue, Finish, Fail, Desired, DesiredBy, Settle, State, Step}
-use Rattle.ws_steps.specs.declared.calls.StartBy.TheVariants.{Later}
+use Rattle.ws_steps.specs.declared.calls.Call.TheVariants.{MakeReadable, MakeWritable, GetReader, GetWriter, Write, Close, CloseBy, Abort, AbortBy, Ready, Cancel, CancelBy, Read, Closed, Release, Enqueue, Finish, Fail, Desired, DesiredBy, Settle, State, Step}
+use Rattle.ws_steps.specs.declared.calls.StartBy.TheVariants.{Now, Later}
 use Rattle.ws_steps.specs.declared.calls.Answer.TheVariants.{Ok as AnswerOk, Fail as AnswerFail}
-use Rattle.ws_steps.specs.declared.readable.SizeBy.TheVariants.{ByteLength}
+use Rattle.ws_steps.specs.declared.readable.SizeBy.TheVariants.{Count, ByteLength}
 use Rattle.ws_value.specs.declared.fault.Fault.TheVariants.{User}
 use Rattle.ws_value.specs.declared.value.Plain.TheVariants.{Undefined, Number, Fault, Local}
 use Rattle.ws_value.specs.declared.value.Value.TheVariants.{Plain as PlainValue, Bytes}
@@ -44,6 +44,30 @@ spelled_readable = refl
 
 spelled_reader : AloneIs (codes "reader s0") (GetReader (record { 0 = 0 }))
 spelled_reader = refl
+
+spelled_writable : AloneIs (codes "writable 1 count now") (MakeWritable 1 Count Now)
+spelled_writable = refl
+
+spelled_writer : AloneIs (codes "writer s1") (GetWriter (record { 0 = 1 }))
+spelled_writer = refl
+
+spelled_write : AloneIs (codes "write l0 n1") (Write (record { 0 = 0 }) (PlainValue (Number 1)))
+spelled_write = refl
+
+spelled_close : AloneIs (codes "close s0") (Close (record { 0 = 0 }))
+spelled_close = refl
+
+spelled_close_by : AloneIs (codes "close l0") (CloseBy (record { 0 = 0 }))
+spelled_close_by = refl
+
+spelled_abort : AloneIs (codes "abort s0 e7") (Abort (record { 0 = 0 }) (Fault (User 7)))
+spelled_abort = refl
+
+spelled_abort_by : AloneIs (codes "abort l0 e7") (AbortBy (record { 0 = 0 }) (Fault (User 7)))
+spelled_abort_by = refl
+
+spelled_ready : AloneIs (codes "ready l2") (Ready (record { 0 = 2 }))
+spelled_ready = refl
 
 spelled_cancel : AloneIs (codes "cancel s1 e7") (Cancel (record { 0 = 1 }) (Fault (User 7)))
 spelled_cancel = refl

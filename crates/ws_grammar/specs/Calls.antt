@@ -3,7 +3,7 @@ use Rattle.std.specs.Prelude.{ℕ, ◌^◌, if◌then◌else◌, List, [], ◌�
 use Rattle.std.specs.Option.{option_or}
 use Rattle.std.specs.Str.{bytes_eq}
 use Rattle.ws_steps.specs.declared.calls.Call.{Call}
-use Rattle.ws_steps.specs.declared.calls.Call.TheVariants.{MakeReadable, GetReader, Cancel, CancelBy, Read, Closed, Release, Enqueue, Finish, Fail, Desired, DesiredBy, Settle, State, Step}
+use Rattle.ws_steps.specs.declared.calls.Call.TheVariants.{MakeReadable, MakeWritable, GetReader, GetWriter, Cancel, CancelBy, Read, Write, Close, CloseBy, Abort, AbortBy, Closed, Ready, Release, Enqueue, Finish, Fail, Desired, DesiredBy, Settle, State, Step}
 use Rattle.ws_steps.specs.declared.calls.StartBy.{StartBy}
 use Rattle.ws_steps.specs.declared.calls.StartBy.TheVariants.{Now, Later}
 use Rattle.ws_steps.specs.declared.calls.Answer.TheVariants.{Ok as AnswerOk, Fail as AnswerFail}
@@ -42,6 +42,11 @@ abbrev pub readable_call : List ℕ → List ℕ → List ℕ → Option Call
 readable_call high_water_mark size start =
     all_three MakeReadable (number_below (2 ^ 64) high_water_mark) (size_named size) (start_named start)
 
+-- `writable HWM SIZE START`
+abbrev pub writable_call : List ℕ → List ℕ → List ℕ → Option Call
+writable_call high_water_mark size start =
+    all_three MakeWritable (number_below (2 ^ 64) high_water_mark) (size_named size) (start_named start)
+
 -- `desired S`, or `desired L`
 abbrev pub desired_call : List ℕ → Option Call
 desired_call object = option_or (option_map Desired (stream_named object)) (option_map DesiredBy (lock_named object))
@@ -50,6 +55,19 @@ desired_call object = option_or (option_map Desired (stream_named object)) (opti
 abbrev pub cancel_call : List ℕ → List ℕ → Option Call
 cancel_call object reason =
     option_or (both Cancel (stream_named object) (reason_of reason)) (both CancelBy (lock_named object) (reason_of reason))
+
+-- `close S`, or `close L`
+abbrev pub close_call : List ℕ → Option Call
+close_call object = option_or (option_map Close (stream_named object)) (option_map CloseBy (lock_named object))
+
+-- `abort S R`, or `abort L R`
+abbrev pub abort_call : List ℕ → List ℕ → Option Call
+abort_call object reason =
+    option_or (both Abort (stream_named object) (reason_of reason)) (both AbortBy (lock_named object) (reason_of reason))
+
+-- `write L V`
+abbrev pub write_call : List ℕ → List ℕ → Option Call
+write_call lock value = both Write (lock_named lock) (value_of value)
 
 -- `enqueue S V`
 abbrev pub enqueue_call : List ℕ → List ℕ → Option Call
@@ -74,31 +92,38 @@ settle_fail_call host answer reason =
 abbrev pub call_alone : List ℕ → Option Call
 call_alone word = if bytes_eq word (codes "step") then Some Step else None
 
--- a word and one more: `reader S`, `read L`, `closed L`, `release L`, `finish S`, `desired S` or `L`, `state S`
+-- a word and one more: `reader S`, `writer S`, `read L`, `closed L`, `ready L`, `release L`, `close S` or `L`, `finish S`,
+-- `desired S` or `L`, `state S`
 abbrev pub call_on_one : List ℕ → List ℕ → Option Call
 call_on_one word first =
     if bytes_eq word (codes "reader") then option_map GetReader (stream_named first)
+    else if bytes_eq word (codes "writer") then option_map GetWriter (stream_named first)
     else if bytes_eq word (codes "read") then option_map Read (lock_named first)
     else if bytes_eq word (codes "closed") then option_map Closed (lock_named first)
+    else if bytes_eq word (codes "ready") then option_map Ready (lock_named first)
     else if bytes_eq word (codes "release") then option_map Release (lock_named first)
+    else if bytes_eq word (codes "close") then close_call first
     else if bytes_eq word (codes "finish") then option_map Finish (stream_named first)
     else if bytes_eq word (codes "desired") then desired_call first
     else if bytes_eq word (codes "state") then option_map State (stream_named first)
     else None
 
--- a word and two more: `cancel`, `enqueue`, `fail`, `settle H ok`
+-- a word and two more: `cancel`, `abort`, `write`, `enqueue`, `fail`, `settle H ok`
 abbrev pub call_on_two : List ℕ → List ℕ → List ℕ → Option Call
 call_on_two word first second =
     if bytes_eq word (codes "cancel") then cancel_call first second
+    else if bytes_eq word (codes "abort") then abort_call first second
+    else if bytes_eq word (codes "write") then write_call first second
     else if bytes_eq word (codes "enqueue") then enqueue_call first second
     else if bytes_eq word (codes "fail") then fail_call first second
     else if bytes_eq word (codes "settle") then settle_ok_call first second
     else None
 
--- a word and three more: `readable`, `settle H fail R`
+-- a word and three more: `readable`, `writable`, `settle H fail R`
 abbrev pub call_on_three : List ℕ → List ℕ → List ℕ → List ℕ → Option Call
 call_on_three word first second third =
     if bytes_eq word (codes "readable") then readable_call first second third
+    else if bytes_eq word (codes "writable") then writable_call first second third
     else if bytes_eq word (codes "settle") then settle_fail_call first second third
     else None
 

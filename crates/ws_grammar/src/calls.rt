@@ -1,6 +1,6 @@
 //! The call that a line's words spell.
 ghost use Rattle.std.specs.Prelude.{◌≡◌, IfOk, map};
-ghost use Rattle.ws_grammar.specs.Calls.{size_named, start_named, readable_call, desired_call, cancel_call, enqueue_call, fail_call, settle_ok_call, settle_fail_call};
+ghost use Rattle.ws_grammar.specs.Calls.{size_named, start_named, readable_call, writable_call, desired_call, cancel_call, close_call, abort_call, write_call, enqueue_call, fail_call, settle_ok_call, settle_fail_call};
 ghost use Rattle.ws_grammar.specs.Calls.{call_alone, call_on_one, call_on_two, call_on_three, call_of};
 
 use crate::numbers::number_u64;
@@ -46,6 +46,17 @@ fn readable_call(high_water_mark: &[u8], size: &[u8], start: &[u8]) -> Option<Ca
     })
 }
 
+/// A new writable stream.
+fn writable_call(high_water_mark: &[u8], size: &[u8], start: &[u8]) -> Option<Call>
+    ensures { result ≡ writable_call high_water_mark.now size.now start.now }
+{
+    Some(Call::MakeWritable {
+        high_water_mark: number_u64(high_water_mark)?,
+        size: size_named(size)?,
+        start: start_named(start)?,
+    })
+}
+
 /// The desired size of a stream, or of a writer.
 fn desired_call(object: &[u8]) -> Option<Call>
     ensures { result ≡ desired_call object.now }
@@ -65,6 +76,38 @@ fn cancel_call(object: &[u8], reason: &[u8]) -> Option<Call>
         Some(stream) => Some(Call::Cancel(stream, reason)),
         None => Some(Call::CancelBy(lock_named(object)?, reason)),
     }
+}
+
+/// The close of a stream, or by a writer.
+fn close_call(object: &[u8]) -> Option<Call>
+    ensures { result ≡ close_call object.now }
+{
+    match stream_named(object) {
+        Some(stream) => Some(Call::Close(stream)),
+        None => lock_named(object).map(Call::CloseBy),
+    }
+}
+
+/// An abort of a stream, or by a writer.
+fn abort_call(object: &[u8], reason: &[u8]) -> Option<Call>
+    ensures { result ≡ abort_call object.now reason.now }
+{
+    let reason = reason_of(reason)?;
+    match stream_named(object) {
+        Some(stream) => Some(Call::Abort(stream, reason)),
+        None => Some(Call::AbortBy(lock_named(object)?, reason)),
+    }
+}
+
+/// A chunk that a writer writes.
+fn write_call(alloc: Global, lock: &[u8], value: &[u8]) -> Result<Option<Call>, NoMemory>
+    ensures { IfOk result (λ call. call ≡ write_call lock.now value.now) }
+{
+    let Some(lock) = lock_named(lock) else {
+        return Ok(None);
+    };
+    let value = value_of(alloc, value)?;
+    Ok(value.map(|value| Call::Write(lock, value)))
 }
 
 /// A chunk for a stream's queue.
@@ -124,12 +167,18 @@ fn call_on_one(word: &[u8], first: &[u8]) -> Option<Call>
 {
     if word == b"reader".as_slice() {
         stream_named(first).map(Call::GetReader)
+    } else if word == b"writer".as_slice() {
+        stream_named(first).map(Call::GetWriter)
     } else if word == b"read".as_slice() {
         lock_named(first).map(Call::Read)
     } else if word == b"closed".as_slice() {
         lock_named(first).map(Call::Closed)
+    } else if word == b"ready".as_slice() {
+        lock_named(first).map(Call::Ready)
     } else if word == b"release".as_slice() {
         lock_named(first).map(Call::Release)
+    } else if word == b"close".as_slice() {
+        close_call(first)
     } else if word == b"finish".as_slice() {
         stream_named(first).map(Call::Finish)
     } else if word == b"desired".as_slice() {
@@ -152,6 +201,10 @@ fn call_on_two(
 {
     if word == b"cancel".as_slice() {
         Ok(cancel_call(first, second))
+    } else if word == b"abort".as_slice() {
+        Ok(abort_call(first, second))
+    } else if word == b"write".as_slice() {
+        write_call(alloc, first, second)
     } else if word == b"enqueue".as_slice() {
         enqueue_call(alloc, first, second)
     } else if word == b"fail".as_slice() {
@@ -169,6 +222,8 @@ fn call_on_three(word: &[u8], first: &[u8], second: &[u8], third: &[u8]) -> Opti
 {
     if word == b"readable".as_slice() {
         readable_call(first, second, third)
+    } else if word == b"writable".as_slice() {
+        writable_call(first, second, third)
     } else if word == b"settle".as_slice() {
         settle_fail_call(first, second, third)
     } else {

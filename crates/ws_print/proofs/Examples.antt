@@ -4,7 +4,7 @@ use Rattle.std.specs.Prelude.{codes}
 use Rattle.std.specs.Fmt.{digits}
 use Rattle.hex.specs.Hex.{encode_with}
 use Rattle.ws_steps.specs.declared.calls.Flags.{Flags}
-use Rattle.ws_steps.specs.declared.calls.HostCall.TheVariants.{Start, Pull, Cancel}
+use Rattle.ws_steps.specs.declared.calls.HostCall.TheVariants.{Start, Pull, Cancel, Write, Close, Abort}
 use Rattle.ws_steps.specs.declared.calls.Reply.TheVariants.{Done, Made, Lock, Promise, Size, State, Throws, TooMany}
 use Rattle.ws_steps.specs.declared.calls.Thrown.TheVariants.{RangeError}
 use Rattle.ws_steps.specs.declared.calls.Word.TheVariants.{Readable, Erroring}
@@ -13,7 +13,7 @@ use Rattle.ws_value.specs.declared.value.Outcome.TheVariants.{Fulfilled, Given, 
 use Rattle.ws_value.specs.declared.value.Plain.TheVariants.{Undefined, Number, Fault, Pair, Local}
 use Rattle.ws_value.specs.declared.value.Value.TheVariants.{Plain, Bytes}
 use Rattle.ws_print.specs.Replies.{letter_where, letters_of}
-use Rattle.ws_print.specs.Events.{reply_line, host_text, settled_text, again_text}
+use Rattle.ws_print.specs.Events.{reply_line, host_text, settled_text, signal_text, again_text}
 
 abbrev no_flags : Flags
 no_flags = record { s = false; p = false; g = false; c = false; d = false; l = false; b = false; w = false; f = false; q = false; a = false }
@@ -123,3 +123,19 @@ again = refl
 
 not_again : again_text false ≡ []
 not_again = refl
+
+host_write : host_text (record { 0 = 0 }) (Write (record { 0 = 0 }) (Plain (Number 1))) ≡ codes "  host h0 write s0 n1\n"
+unfolding digits
+host_write = refl
+
+host_close : host_text (record { 0 = 2 }) (Close (record { 0 = 1 })) ≡ codes "  host h2 close s1\n"
+unfolding digits
+host_close = refl
+
+host_abort : host_text (record { 0 = 1 }) (Abort (record { 0 = 0 }) (Fault (User 7))) ≡ codes "  host h1 abort s0 e7\n"
+unfolding digits
+host_abort = refl
+
+signal : signal_text (record { 0 = 0 }) (Fault (User 7)) ≡ codes "  signal s0 e7\n"
+unfolding digits
+signal = refl

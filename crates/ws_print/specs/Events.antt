@@ -1,10 +1,12 @@
 -- The lines of a task: its reply, its events, and whether a job is still queued. Each ends with a line feed.
 use Rattle.std.specs.Prelude.{ℕ, Bool, true, false, List, [], ◌++◌, Option, Some, None, codes, decimal}
 use Rattle.ws_value.specs.declared.ids.HostId.{HostId}
+use Rattle.ws_value.specs.declared.ids.StreamId.{StreamId}
 use Rattle.ws_value.specs.declared.value.Outcome.{Outcome}
+use Rattle.ws_value.specs.declared.value.Plain.{Plain}
 use Rattle.ws_value.specs.declared.value.Outcome.TheVariants.{Pending, Fulfilled, Given, Finished, Rejected}
 use Rattle.ws_steps.specs.declared.calls.HostCall.{HostCall}
-use Rattle.ws_steps.specs.declared.calls.HostCall.TheVariants.{Start, Pull, Cancel}
+use Rattle.ws_steps.specs.declared.calls.HostCall.TheVariants.{Start, Pull, Cancel, Write, Close, Abort}
 use Rattle.ws_steps.specs.declared.calls.Reply.{Reply}
 use Rattle.ws_print.specs.Values.{numbered, plain_text, value_text}
 use Rattle.ws_print.specs.Replies.{promise_name, reply_text}
@@ -18,6 +20,9 @@ abbrev pub host_call_text : HostCall → List ℕ
 host_call_text (Start stream) = numbered (codes "start s") stream.0
 host_call_text (Pull stream) = numbered (codes "pull s") stream.0
 host_call_text (Cancel stream reason) = numbered (codes "cancel s") stream.0 ++ codes " " ++ plain_text reason
+host_call_text (Write stream value) = numbered (codes "write s") stream.0 ++ codes " " ++ value_text value
+host_call_text (Close stream) = numbered (codes "close s") stream.0
+host_call_text (Abort stream reason) = numbered (codes "abort s") stream.0 ++ codes " " ++ plain_text reason
 
 -- the event of such a call, with the number by which the host settles its promise
 abbrev pub host_text : HostId → HostCall → List ℕ
@@ -39,6 +44,10 @@ outcome_if_known None = codes "unknown"
 -- the event of a promise that has settled
 abbrev pub settled_text : Option ℕ → Option Outcome → List ℕ
 settled_text rank outcome = codes "  " ++ promise_name rank ++ codes " " ++ outcome_if_known outcome ++ codes "\n"
+
+-- the event of a writable stream's first abort, with its reason
+abbrev pub signal_text : StreamId → Plain → List ℕ
+signal_text stream reason = numbered (codes "  signal s") stream.0 ++ codes " " ++ plain_text reason ++ codes "\n"
 
 -- the line that says that a job is still queued, where one is
 abbrev pub again_text : Bool → List ℕ

@@ -1,13 +1,13 @@
 //! The lines of a task. After want of memory a part of a line may have been appended.
 ghost use Rattle.std.specs.Prelude.{◌≡◌, ◌++◌, OnOk};
 ghost use Rattle.std.specs.Option.{option_copied};
-ghost use Rattle.ws_print.specs.Events.{reply_line, host_call_text, host_text, outcome_text, outcome_if_known, settled_text, again_text};
+ghost use Rattle.ws_print.specs.Events.{reply_line, host_call_text, host_text, outcome_text, outcome_if_known, settled_text, signal_text, again_text};
 
 use crate::append::{append, append_number, append_numbered};
 use crate::replies::{print_promise, print_reply_text};
 use crate::values::{print_plain, print_value};
 use ws_steps::{HostCall, Reply};
-use ws_value::{HostId, NoMemory, Outcome};
+use ws_value::{HostId, NoMemory, Outcome, Plain, StreamId};
 
 /// Appends the line of a reply: the number of the script's line, from 1, a blank, the reply. The rank is that of the promise that the reply names, from 0, and is read for no other reply.
 pub fn print_reply(
@@ -33,6 +33,17 @@ fn print_host_call(out: &mut Vec<u8>, call: &HostCall) -> Result<(), NoMemory>
         HostCall::Pull(stream) => append_numbered(out, b"pull s", stream.0),
         HostCall::Cancel(stream, reason) => {
             append_numbered(out, b"cancel s", stream.0)?;
+            append(out, b" ")?;
+            print_plain(out, *reason)
+        }
+        HostCall::Write(stream, value) => {
+            append_numbered(out, b"write s", stream.0)?;
+            append(out, b" ")?;
+            print_value(out, value)
+        }
+        HostCall::Close(stream) => append_numbered(out, b"close s", stream.0),
+        HostCall::Abort(stream, reason) => {
+            append_numbered(out, b"abort s", stream.0)?;
             append(out, b" ")?;
             print_plain(out, *reason)
         }
@@ -96,6 +107,16 @@ pub fn print_settled(
     print_promise(out, rank)?;
     append(out, b" ")?;
     print_outcome_if_known(out, outcome)?;
+    append(out, b"\n")
+}
+
+/// Appends the line of a writable stream's first abort, which its sink is signalled.
+pub fn print_signal(out: &mut Vec<u8>, stream: StreamId, reason: Plain) -> Result<(), NoMemory>
+    ensures appended { OnOk result (out.new.items ≡ out.old.items ++ signal_text stream reason) }
+{
+    append_numbered(out, b"  signal s", stream.0)?;
+    append(out, b" ")?;
+    print_plain(out, reason)?;
     append(out, b"\n")
 }
 

@@ -8,4 +8,4 @@ mod replies;
 mod tests;
 mod values;
 
-pub use events::{print_again, print_host, print_reply, print_settled};
+pub use events::{print_again, print_host, print_reply, print_settled, print_signal};

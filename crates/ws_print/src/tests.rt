@@ -1,7 +1,7 @@
-use crate::{print_again, print_host, print_reply, print_settled};
+use crate::{print_again, print_host, print_reply, print_settled, print_signal};
 use std::test::Fail;
 use ws_steps::{Flags, HostCall, Reply, StateIs, Word};
-use ws_value::{Chunk, HostId, Outcome, Plain, StreamId, Value};
+use ws_value::{Chunk, Fault, HostId, Outcome, Plain, StreamId, Value};
 
 #[test]
 fn each_line_is_printed(rt: HostRuntime) -> Result<(), Fail> {
@@ -33,6 +33,7 @@ fn each_line_is_printed(rt: HostRuntime) -> Result<(), Fail> {
     print_settled(&mut out, Some(1), Some(&bytes))?;
     print_reply(&mut out, 5, &Reply::State(state), None)?;
     print_reply(&mut out, 6, &Reply::Size(Some(-2)), None)?;
+    print_signal(&mut out, StreamId(1), Plain::Fault(Fault::User(5)))?;
     print_again(&mut out, true)?;
     assert_eq!(rt;
         out.as_slice(),
@@ -41,6 +42,7 @@ fn each_line_is_printed(rt: HostRuntime) -> Result<(), Fail> {
   p1 given x6162ff
 5 state readable spdl total 0 queue 0 requests 0
 6 size -2
+  signal s1 e5
   again
 "
             .as_slice()

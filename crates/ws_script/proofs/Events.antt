@@ -2,7 +2,7 @@
 use Rattle.std.proofs.Common.{◌≡◌, ℕ, zero, suc, List, [], ◌∷◌, ◌++◌, drop, refl, sym, ◌∙◌, ap, subst, append_assoc, append-nil}
 use Rattle.std.specs.Prelude.{Some, None}
 use Rattle.ws_steps.specs.declared.calls.Event.{Event}
-use Rattle.ws_steps.specs.declared.calls.Event.TheVariants.{Host, Settled}
+use Rattle.ws_steps.specs.declared.calls.Event.TheVariants.{Host, Settled, Signal}
 use Rattle.ws_steps.specs.Run.{heard}
 use Rattle.ws_steps.specs.Slots.{Slots}
 use Rattle.ws_realm.specs.Seen.{first_event, later_events}
@@ -13,6 +13,7 @@ use Rattle.ws_script.specs.Printed.{event_text, events_text}
 same_event : (s : Slots) (waiting : List Event) (event : Event) → event_text (record s { events = waiting }) event ≡ event_text s event
 same_event s waiting (Host id call) = refl
 same_event s waiting (Settled p) = refl
+same_event s waiting (Signal stream reason) = refl
 
 same_events : (s : Slots) (waiting events : List Event) → events_text (record s { events = waiting }) events ≡ events_text s events
 same_events s waiting [] = refl

@@ -1,7 +1,7 @@
 -- What a script prints: for each of its tasks the reply, the events in order, and whether a job is still queued.
 use Rattle.std.specs.Prelude.{ℕ, not, List, [], ◌∷◌, ◌++◌, Option, None}
 use Rattle.ws_steps.specs.declared.calls.Event.{Event}
-use Rattle.ws_steps.specs.declared.calls.Event.TheVariants.{Host, Settled}
+use Rattle.ws_steps.specs.declared.calls.Event.TheVariants.{Host, Settled, Signal}
 use Rattle.ws_steps.specs.declared.calls.Reply.{Reply}
 use Rattle.ws_steps.specs.declared.calls.Reply.TheVariants.{Promise}
 use Rattle.ws_steps.specs.Promises.{rank_at}
@@ -9,7 +9,7 @@ use Rattle.ws_steps.specs.Run.{reply_to, task, heard, is_idle}
 use Rattle.ws_steps.specs.Slots.{Slots, empty}
 use Rattle.ws_realm.specs.Seen.{outcome_named}
 use Rattle.ws_grammar.specs.declared.line.Line.{Line}
-use Rattle.ws_print.specs.Events.{reply_line, host_text, settled_text, again_text}
+use Rattle.ws_print.specs.Events.{reply_line, host_text, settled_text, signal_text, again_text}
 
 -- the name's number of the promise that a reply names
 abbrev pub rank_named : Reply → Slots → Option ℕ
@@ -20,6 +20,7 @@ rank_named _ s = None
 abbrev pub event_text : Slots → Event → List ℕ
 event_text s (Host id call) = host_text id call
 event_text s (Settled p) = settled_text (rank_at s.promises p) (outcome_named p s)
+event_text s (Signal stream reason) = signal_text stream reason
 
 abbrev pub events_text : Slots → List Event → List ℕ
 events_text s [] = []

@@ -5,7 +5,7 @@ ghost use Rattle.ws_script.specs.Printed.{rank_named, event_text, events_text, s
 ghost use Rattle.ws_script.specs.Heard.{IsPartlyHeard};
 
 use std::alloc::Global;
-use ws_print::{print_again, print_host, print_reply, print_settled};
+use ws_print::{print_again, print_host, print_reply, print_settled, print_signal};
 use ws_realm::Realm;
 use ws_steps::{Event, Reply};
 use ws_value::{Blob, NoMemory};
@@ -37,6 +37,7 @@ fn append_event(text: &mut Vec<u8>, realm: &Realm, event: &Event) -> Result<(), 
         Event::Settled(promise) => {
             print_settled(text, realm.rank(*promise), realm.outcome(*promise))
         }
+        Event::Signal { stream, reason } => print_signal(text, *stream, *reason),
     }
 }
 
