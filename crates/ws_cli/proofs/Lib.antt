@@ -2,4 +2,3 @@ pub mod Moves
 pub mod Oks
 pub mod Turns
 pub mod Copies
-mod Worked

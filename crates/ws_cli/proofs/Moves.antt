@@ -1,7 +1,7 @@
 -- From a stream at rest a read awaits the host's pull, and what the host answers is what the read's promise gets.
-use Rattle.std.proofs.Common.{◌≡◌, ◌≢◌, ℕ, ◌+◌, ◌<◌, suc, zero, Bool, true, false, List, [], ◌∷◌, length, map, Option, Some, None, Result, refl, sym, ◌∙◌, ap, arith}
-use Rattle.std.specs.Prelude.{Ok, Err, slice_get}
-use Rattle.std.proofs.lemmas.Bool.{false≢true}
+use Rattle.std.proofs.Common.{◌≡◌, ◌≢◌, ℕ, ◌+◌, ◌<◌, suc, zero, Bool, true, false, List, [], ◌∷◌, ◌++◌, length, map, Option, Some, None, Result, refl, sym, ◌∙◌, ap, subst, arith, append-nil}
+use Rattle.std.specs.Prelude.{Ok, Err, slice_get, slice_set}
+use Rattle.ws_value.specs.declared.ids.HostId.{HostId}
 use Rattle.ws_value.specs.declared.ids.PromiseId.{PromiseId}
 use Rattle.ws_value.specs.declared.value.Plain.{Plain}
 use Rattle.ws_value.specs.declared.value.Plain.TheVariants.{Undefined}
@@ -9,21 +9,43 @@ use Rattle.ws_value.specs.declared.value.Value.{Value}
 use Rattle.ws_value.specs.declared.value.Value.TheVariants.{Plain as PlainValue}
 use Rattle.ws_value.specs.declared.value.Outcome.{Outcome}
 use Rattle.ws_value.specs.declared.value.Outcome.TheVariants.{Fulfilled, Given, Finished, Rejected}
-use Rattle.ws_steps.specs.declared.effects.Effect.{Effect}
+use Rattle.ws_steps.specs.declared.calls.Call.{Call}
+use Rattle.ws_steps.specs.declared.calls.Call.TheVariants.{MakeReadable, Read, Enqueue, Finish, Fail, Settle}
+use Rattle.ws_steps.specs.declared.calls.Answer.TheVariants.{Ok as AnswerOk}
+use Rattle.ws_steps.specs.declared.calls.Event.{Event}
+use Rattle.ws_steps.specs.declared.calls.Event.TheVariants.{Host, Settled}
+use Rattle.ws_steps.specs.declared.calls.HostCall.TheVariants.{Pull as HostPull}
+use Rattle.ws_steps.specs.declared.calls.StartBy.TheVariants.{Now}
+use Rattle.ws_steps.specs.declared.readable.SizeBy.TheVariants.{Count}
 use Rattle.ws_steps.specs.declared.effects.Effect.TheVariants.{Pull}
-use Rattle.ws_promise.specs.Seen.{first_effect}
+use Rattle.ws_steps.specs.declared.locks.Lock.TheVariants.{Reader as ReaderLock}
 use Rattle.ws_steps.specs.declared.promises.Step.TheVariants.{ReadableStart, ReadablePull}
 use Rattle.ws_steps.specs.declared.promises.Reaction.{Reaction}
 use Rattle.ws_steps.specs.declared.promises.Reaction.TheVariants.{Perform}
 use Rattle.ws_steps.specs.declared.promises.Job.{Job}
 use Rattle.ws_steps.specs.declared.promises.Job.TheVariants.{Reaction as ReactionJob}
 use Rattle.ws_steps.specs.declared.readable.ReadRequest.TheVariants.{Promise}
-use Rattle.ws_steps.specs.Promises.{Table, Entry, pending, ended, settled, entry_at, with_entry, next_id, fresh, settle, answer, react, next_job, after_next_job, job_of, first_job, after_first, live, is_pending, is_open_entry, release}
-use Rattle.ws_steps.specs.Readable.{Slots, default_reader_read, pull_steps, call_pull_if_needed, controller_enqueue, accept, chunk_steps, controller_close, close_if_empty, stream_close, close_steps, controller_error, stream_error, error_steps, initialized, reader_generic_initialize, set_up, start_settled, pull_settled}
-use Rattle.ws_steps.proofs.PromiseLaws.{entry_within, entry_at-with_entry_same, entry_at-with_entry_other, length-with_entry, entry_at-fresh_new, entry_at-fresh, length-fresh, jobs-fresh, settle-open, answer-open, react-open}
+use Rattle.ws_steps.specs.Promises.{Table, Entry, pending, ended, ended_as, settled, entry_at, with_entry, next_id, fresh, settle, answer, react, watch, after_next_job, live, is_pending, is_open_entry, release}
 use Rattle.ws_steps.specs.declared.readable.ReadableState.TheVariants.{Closed, Errored}
-use Rattle.ws_cli.specs.Realm.{World, me, after, read, answer_pull, job, job_taken, jobs, perform_job, enqueue, close, error, made, set_up_source, get_reader, forget}
-use Rattle.ws_cli.specs.Moments.{resting, IsResting, awaiting, Awaits}
+use Rattle.ws_steps.specs.Readable.{Slots as Readable, default_reader_read, pull_steps, call_pull_if_needed, controller_enqueue, accept, chunk_steps, controller_close, close_if_empty, stream_close, close_steps, controller_error, stream_error, error_steps, initialized, set_up, start_settled, reader_generic_initialize, pull_settled}
+use Rattle.ws_steps.specs.declared.locks.Lock.{Lock}
+use Rattle.std.proofs.lemmas.Bool.{false≢true}
+use Rattle.ws_steps.specs.Slots.{Slots, Stream, empty, ReadableStream, told, call_host, pending_host}
+use Rattle.ws_steps.specs.Turns.{row, turns, performed}
+use Rattle.ws_steps.specs.Calls.{begin}
+use Rattle.ws_steps.specs.Jobs.{perform_job}
+use Rattle.ws_steps.specs.Run.{after_call, after_job, work}
+use Rattle.ws_steps.proofs.PromiseLaws.{entry_within, entry_at-with_entry_same, entry_at-with_entry_other, length-with_entry, entry_at-fresh_new, entry_at-fresh, length-fresh, jobs-fresh, settle-open, react-open}
+use Rattle.ws_cli.specs.Moments.{me, reader, resting, IsResting, awaiting, Awaits, HasEnded, answered, opened, forgotten}
+
+-- a realm whose one stream and its reader are so
+state : Readable → PromiseId → Table → List (Option PromiseId) → List Event → ℕ → Slots
+state stream closed t hosts events age =
+    record { streams = ReadableStream stream ∷ []; locks = ReaderLock (Some me) closed ∷ []; promises = t; hosts = hosts; events = events; age = age }
+
+-- a table without jobs, in which no settling is to be told
+quiet : List (Option Entry) → ℕ → Table
+quiet entries watched = record { entries = entries; jobs = []; watched = watched; settlements = [] }
 
 -- a read of a stream at rest
 
@@ -33,271 +55,398 @@ read_acts : (d : Bool) (c p : PromiseId) (t : Table)
 unfolding default_reader_read pull_steps call_pull_if_needed
 read_acts d c p t = refl
 
-read-resting : (w : World) (d : Bool) (c : PromiseId) → w.stream ≡ resting d c
-    → read w ≡ record {
-      stream = awaiting c (next_id w.promises);
-      promises = react (next_id (fresh w.promises)) (Perform (ReadablePull me) None) (fresh (fresh w.promises));
-      pull = Some (next_id (fresh w.promises));
-    }
-unfolding read after
-read-resting w d c h = rw (h, read_acts d c (next_id w.promises) (fresh w.promises)) refl
+reacting : Reaction
+reacting = Perform (ReadablePull me) None
 
-reacted : (t : Table) (q : PromiseId) (r : Reaction) → q.0 ≡ length t.entries
-    → react q r (fresh t) ≡ with_entry q (Some (record pending { reactions = r ∷ [] })) (fresh t)
-reacted t q r h = react-open q r (fresh t) [] (entry_at-fresh_new t q h)
+read_begun : (d : Bool) (c : PromiseId) (es : List (Option Entry)) (n : ℕ) (hosts : List (Option PromiseId)) (age : ℕ)
+    → performed (begin (Read reader) (state (resting d c) c (quiet es n) hosts [] age)).done
+    ≡ state (awaiting c (next_id (quiet es n))) c (react (next_id (fresh (quiet es n))) reacting (fresh (fresh (quiet es n))))
+      (hosts ++ Some (next_id (fresh (quiet es n))) ∷ []) (Host (record { 0 = length hosts }) (HostPull me) ∷ []) age
+unfolding state quiet reacting begin default_reader_read pull_steps call_pull_if_needed fresh call_host row turns performed
+read_begun d c es n hosts age = refl
 
-pub read-awaits : (w : World) → IsResting w → Awaits (read w) (next_id w.promises)
-read-awaits w h =
-    let t = w.promises in
+-- a pending promise is watched
+watch-pending : (t : Table) (p : PromiseId) → entry_at t p ≡ Some pending
+    → watch p t ≡ record (with_entry p (Some (record pending { rank = Some t.watched })) t) { watched = t.watched + 1 }
+unfolding watch
+watch-pending t p h = rw h refl
+
+older_told : Slots → Slots
+older_told s = record (told s) { age = s.age + 1 }
+
+read_named : (d : Bool) (c : PromiseId) (es : List (Option Entry)) (n : ℕ) (hosts : List (Option PromiseId)) (age : ℕ) (t : Table)
+    → watch (next_id (quiet es n)) (react (next_id (fresh (quiet es n))) reacting (fresh (fresh (quiet es n)))) ≡ t
+    → after_call (Read reader) (state (resting d c) c (quiet es n) hosts [] age)
+    ≡ older_told (state (awaiting c (next_id (quiet es n))) c t (hosts ++ Some (next_id (fresh (quiet es n))) ∷ []) (Host (record { 0 = length hosts }) (HostPull me) ∷ []) age)
+unfolding state quiet reacting begin default_reader_read pull_steps call_pull_if_needed fresh call_host row turns performed older_told
+read_named d c es n hosts age t h =
+    ap (λ (t : Table). record (told (record {
+      streams = ReadableStream (awaiting c (record { 0 = length es })) ∷ [];
+      locks = ReaderLock (Some me) c ∷ [];
+      promises = t;
+      hosts = hosts ++ Some (record { 0 = length (es ++ Some pending ∷ []) }) ∷ [];
+      events = Host (record { 0 = length hosts }) (HostPull me) ∷ [];
+      age = age;
+    })) { age = age + 1 }) h
+
+-- the promises of a read and of the pull that it causes are new
+asked : List (Option Entry) → ℕ → Table
+asked es n =
+    let t = quiet es n in
+    record (with_entry (next_id t) (Some (record pending { rank = Some n })) (with_entry (next_id (fresh t)) (Some (record pending { reactions = reacting ∷ [] })) (fresh (fresh t)))) { watched = n + 1 }
+
+asked-is : (es : List (Option Entry)) (n : ℕ)
+    → watch (next_id (quiet es n)) (react (next_id (fresh (quiet es n))) reacting (fresh (fresh (quiet es n)))) ≡ asked es n
+unfolding asked fresh quiet
+asked-is es n =
+    let t = quiet es n in
     let p : PromiseId = next_id t in
     let q : PromiseId = next_id (fresh t) in
-    let r : Reaction = Perform (ReadablePull me) None in
-    let within : h.closed.0 < length t.entries = entry_within t h.closed pending h.reader in
     let more : length (fresh t).entries ≡ length t.entries + 1 = length-fresh t in
+    let new : entry_at (fresh (fresh t)) q ≡ Some pending = entry_at-fresh_new (fresh t) q refl in
+    let y : Option Entry = Some (record pending { reactions = reacting ∷ [] }) in
+    let first : entry_at (with_entry q y (fresh (fresh t))) p ≡ Some pending =
+        entry_at-with_entry_other (fresh (fresh t)) q p y (omega arith) ∙ (entry_at-fresh (fresh t) p (omega arith) ∙ entry_at-fresh_new t p refl) in
+    rw (react-open q reacting (fresh (fresh t)) [] new) (watch-pending (with_entry q y (fresh (fresh t))) p first)
+
+read-is : (d : Bool) (c : PromiseId) (es : List (Option Entry)) (n : ℕ) (hosts : List (Option PromiseId)) (age : ℕ)
+    → after_call (Read reader) (state (resting d c) c (quiet es n) hosts [] age)
+    ≡ state (awaiting c (next_id (quiet es n))) c (asked es n) (hosts ++ Some (next_id (fresh (quiet es n))) ∷ []) (Host (record { 0 = length hosts }) (HostPull me) ∷ []) (age + 1)
+unfolding state asked quiet fresh older_told
+read-is d c es n hosts age = read_named d c es n hosts age (asked es n) (asked-is es n)
+
+-- slots of which the parts are so
+as_state : (s : Slots) (stream : Readable) (closed : PromiseId) → s.streams ≡ ReadableStream stream ∷ [] → s.locks ≡ ReaderLock (Some me) closed ∷ []
+    → s.promises.jobs ≡ [] → s.promises.settlements ≡ [] → s.events ≡ []
+    → s ≡ state stream closed (quiet s.promises.entries s.promises.watched) s.hosts [] s.age
+unfolding state quiet
+as_state s stream closed streams locks jobs told heard =
+    ap (λ (x : List Stream). record s { streams = x }) streams
+    ∙ (ap (λ (x : List Lock). record s { streams = ReadableStream stream ∷ []; locks = x }) locks
+    ∙ (ap (λ (x : List Event). record s { streams = ReadableStream stream ∷ []; locks = ReaderLock (Some me) closed ∷ []; events = x }) heard
+    ∙ (ap (λ (x : List Job). record s { streams = ReadableStream stream ∷ []; locks = ReaderLock (Some me) closed ∷ []; events = []; promises = record s.promises { jobs = x } }) jobs
+    ∙ ap (λ (x : List PromiseId). record s { streams = ReadableStream stream ∷ []; locks = ReaderLock (Some me) closed ∷ []; events = []; promises = record s.promises { jobs = []; settlements = x } }) told)))
+
+host_there : (hosts : List (Option PromiseId)) (q : PromiseId) → slice_get (hosts ++ Some q ∷ []) (length hosts) ≡ Some (Some q)
+host_there [] q = refl
+host_there (x ∷ xs) q = host_there xs q
+
+-- what a read of a stream at rest leaves, once the host has heard of it
+pub read-awaits : (s z : Slots) → IsResting s → z ≡ record (after_call (Read reader) s) { events = [] } → Awaits z (next_id s.promises) (record { 0 = length s.hosts })
+unfolding state asked quiet fresh reacting
+read-awaits s z h is =
+    let es = s.promises.entries in
+    let n = s.promises.watched in
+    let t : Table = quiet es n in
+    let p : PromiseId = next_id t in
+    let q : PromiseId = next_id (fresh t) in
+    let c : PromiseId = h.closed in
+    let at = as_state s (resting h.disturbed c) c h.streams h.locks h.jobs h.told h.heard in
+    let done : z ≡ state (awaiting c p) c (asked es n) (s.hosts ++ Some q ∷ []) [] (s.age + 1) =
+        is ∙ ap (λ (x : Slots). record x { events = [] }) (ap (after_call (Read reader)) at ∙ read-is h.disturbed c es n s.hosts s.age) in
+    let within : c.0 < length es = entry_within t c pending h.reader in
+    let more : length (fresh t).entries ≡ length es + 1 = length-fresh t in
     let most : length (fresh (fresh t)).entries ≡ length (fresh t).entries + 1 = length-fresh (fresh t) in
-    rw (read-resting w h.disturbed h.closed h.stream, reacted (fresh t) q r refl)
+    let y : Option Entry = Some (record pending { reactions = reacting ∷ [] }) in
+    let x : Option Entry = Some (record pending { rank = Some n }) in
+    let t₁ : Table = with_entry q y (fresh (fresh t)) in
+    let same : length t₁.entries ≡ length (fresh (fresh t)).entries = length-with_entry (fresh (fresh t)) q y in
+    rw done
     (record {
-      closed = h.closed;
+      closed = c;
       pull = q;
-      stream = refl;
-      under_way = refl;
-      no_jobs = jobs-fresh (fresh t) ∙ (jobs-fresh t ∙ h.no_jobs);
-      reader = entry_at-with_entry_other (fresh (fresh t)) q h.closed _ (omega arith) ∙ (entry_at-fresh (fresh t) h.closed (omega arith) ∙ (entry_at-fresh t h.closed within ∙ h.reader));
-      asked = entry_at-with_entry_other (fresh (fresh t)) q p _ (omega arith) ∙ (entry_at-fresh (fresh t) p (omega arith) ∙ entry_at-fresh_new t p refl);
-      host = entry_at-with_entry_same (fresh (fresh t)) q _ (omega arith);
+      rank = n;
+      streams = refl;
+      locks = refl;
+      jobs = refl;
+      told = refl;
+      heard = refl;
+      reader = entry_at-with_entry_other t₁ p c x (omega arith) ∙ (entry_at-with_entry_other (fresh (fresh t)) q c y (omega arith) ∙ (entry_at-fresh (fresh t) c (omega arith) ∙ (entry_at-fresh t c within ∙ h.reader)));
+      asked = entry_at-with_entry_same t₁ p x (omega arith);
+      under_way = ap pending_host (host_there s.hosts q);
+      host = entry_at-with_entry_other t₁ p q x (omega arith) ∙ entry_at-with_entry_same (fresh (fresh t)) q y (omega arith);
       before = within;
       later = omega arith;
     })
 
--- jobs
+-- the pull's number is what the host hears of
+pub read-tells : (s : Slots) → IsResting s → (after_call (Read reader) s).events ≡ Host (record { 0 = length s.hosts }) (HostPull me) ∷ []
+unfolding state
+read-tells s h =
+    ap (λ (x : Slots). x.events)
+    (ap (after_call (Read reader)) (as_state s (resting h.disturbed h.closed) h.closed h.streams h.locks h.jobs h.told h.heard)
+    ∙ read-is h.disturbed h.closed s.promises.entries s.promises.watched s.hosts s.age)
 
-job-none : (w : World) → w.promises.jobs ≡ [] → job w ≡ w
-unfolding job
-job-none w h = ap (λ (js : List Job). job_taken w (first_job js)) h
+-- the host answers
 
-pub jobs-none : (n : ℕ) (w : World) → w.promises.jobs ≡ [] → jobs n w ≡ w
-unfolding jobs
-jobs-none zero w h = refl
-jobs-none (suc n) w h = rw (job-none w h) (jobs-none n w h)
+watched : ℕ → Entry
+watched rank = record pending { rank = Some rank }
 
-pub jobs-done : (n : ℕ) (w : World) → n ≡ 0 → jobs n w ≡ w
-unfolding jobs
-jobs-done n w h = rw h refl
+answer-watched : (t : Table) (p : PromiseId) (outcome : Outcome) (rank : ℕ) → entry_at t p ≡ Some (record pending { rank = Some rank })
+    → answer p outcome t ≡ record (with_entry p (Some (ended_as outcome (watched rank))) t) { settlements = t.settlements ++ p ∷ [] }
+unfolding answer watched
+answer-watched t p outcome rank h = rw h refl
 
-pub jobs-some : (m n : ℕ) (w : World) (j : Job) → m ≡ suc n → next_job w.promises ≡ Some j → jobs m w ≡ jobs n (perform_job j (record w { promises = after_next_job w.promises }))
-unfolding jobs job
-jobs-some m n w j h some = rw (h, some) refl
+settle-watched : (t : Table) (p : PromiseId) (outcome : Result Plain Plain) (rank : ℕ) → t.jobs ≡ [] → entry_at t p ≡ Some (record pending { rank = Some rank })
+    → settle p outcome t ≡ record (with_entry p (Some (ended_as (settled outcome) (watched rank))) t) { jobs = []; settlements = t.settlements ++ p ∷ [] }
+unfolding settle watched
+settle-watched t p outcome rank none h = rw (h, none) refl
 
-pub no_job : (js : List Job) → first_job js ≡ None → js ≡ []
-no_job [] h = refl
-no_job (j ∷ js) h = cc
+settle-alone : (es : List (Option Entry)) (n : ℕ) (c : PromiseId) (outcome : Result Plain Plain) → entry_at (quiet es n) c ≡ Some pending
+    → settle c outcome (quiet es n) ≡ quiet (slice_set es c.0 (Some (ended (settled outcome)))) n
+unfolding quiet
+settle-alone es n c outcome h = settle-open c outcome (quiet es n) [] h
 
-pub after_next_job-none : (t : Table) → first_job t.jobs ≡ None → after_next_job t ≡ t
-unfolding after_next_job
-after_next_job-none t h = ap (after_first t) (no_job t.jobs h)
+-- the stream once it gave its chunk, was closed, or errored, while its pull is under way
+given_slots : PromiseId → Readable
+given_slots c = record (resting true c) { pulling = true }
 
-pub no_effect : (es : List Effect) → first_effect es ≡ None → es ≡ []
-no_effect [] h = refl
-no_effect (e ∷ es) h = cc
+closed_slots : PromiseId → PromiseId → Readable
+closed_slots c p = record (awaiting c p) { state = Closed; requests = []; close_requested = true }
 
--- the pull is answered, and its job, the only one, is performed
+errored_slots : Plain → PromiseId → PromiseId → Readable
+errored_slots e c p = record (awaiting c p) { state = Errored; stored_error = e; requests = [] }
 
-answer_pull-is : (w : World) (q : PromiseId) (rs : List Reaction) → w.pull ≡ Some q → w.promises.jobs ≡ [] → entry_at w.promises q ≡ Some (record pending { reactions = rs })
-    → answer_pull w ≡ record w { promises = record (with_entry q (Some (ended (Fulfilled Undefined))) w.promises) { jobs = map (job_of (Ok Undefined)) rs }; pull = None }
-unfolding answer_pull
-answer_pull-is w q rs under_way none host = rw (under_way, settle-open q (Ok Undefined) w.promises rs host, none) refl
+module _ (c p : PromiseId) (hosts : List (Option PromiseId)) (age : ℕ) where
+  enqueue_told : (v : Value) (t u : Table) → answer p (Given v) t ≡ u
+      → after_call (Enqueue me v) (state (awaiting c p) c t hosts [] age) ≡ older_told (state (given_slots c) c u hosts [] age)
+  unfolding state given_slots older_told begin controller_enqueue accept chunk_steps call_pull_if_needed turns performed
+  enqueue_told v t u h =
+      ap (λ (t : Table). record (told (record { streams = ReadableStream (record (resting true c) { pulling = true }) ∷ []; locks = ReaderLock (Some me) c ∷ []; promises = t; hosts = hosts; events = []; age = age })) { age = age + 1 }) h
 
-job-pull : (s s' : Slots) (t : Table) (pull : Option PromiseId)
-    → ((t : Table) → pull_settled me (Ok Undefined) (record { slots = s; out = record { promises = t; effects = [] } }) ≡ record { slots = s'; out = record { promises = t; effects = [] } })
-    → job (record { stream = s; promises = record t { jobs = ReactionJob (ReadablePull me) (Ok Undefined) None ∷ [] }; pull = pull }) ≡ record { stream = s'; promises = record t { jobs = [] }; pull = pull }
-unfolding job perform_job after_next_job after
-job-pull s s' t pull h = rw (h (record t { jobs = [] })) refl
+  finish_told : (t u : Table) → answer p (Finished (PlainValue Undefined)) (settle c (Ok Undefined) t) ≡ u
+      → after_call (Finish me) (state (awaiting c p) c t hosts [] age) ≡ older_told (state (closed_slots c p) c u hosts [] age)
+  unfolding state closed_slots older_told begin controller_close close_if_empty stream_close close_steps turns performed
+  finish_told t u h =
+      ap (λ (t : Table). record (told (record { streams = ReadableStream (record (awaiting c p) { state = Closed; requests = []; close_requested = true }) ∷ []; locks = ReaderLock (Some me) c ∷ []; promises = t; hosts = hosts; events = []; age = age })) { age = age + 1 }) h
 
-pub pull_answered : (n : ℕ) (w : World) (q : PromiseId) (s' : Slots)
-    → w.pull ≡ Some q → w.promises.jobs ≡ [] → entry_at w.promises q ≡ Some (record pending { reactions = Perform (ReadablePull me) None ∷ [] })
-    → ((t : Table) → pull_settled me (Ok Undefined) (record { slots = w.stream; out = record { promises = t; effects = [] } }) ≡ record { slots = s'; out = record { promises = t; effects = [] } })
-    → jobs (suc n) (answer_pull w) ≡ record { stream = s'; promises = record (with_entry q (Some (ended (Fulfilled Undefined))) w.promises) { jobs = [] }; pull = None }
-unfolding jobs
-pull_answered n w q s' under_way none host steps =
-    rw (answer_pull-is w q (Perform (ReadablePull me) None ∷ []) under_way none host, job-pull w.stream s' (with_entry q (Some (ended (Fulfilled Undefined))) w.promises) None steps)
-    (jobs-none n _ refl)
+  fail_told : (e : Plain) (t u : Table) → settle p (Err e) (settle c (Err e) t) ≡ u
+      → after_call (Fail me e) (state (awaiting c p) c t hosts [] age) ≡ older_told (state (errored_slots e c p) c u hosts [] age)
+  unfolding state errored_slots older_told begin controller_error stream_error error_steps turns performed
+  fail_told e t u h =
+      ap (λ (t : Table). record (told (record { streams = ReadableStream (record (awaiting c p) { state = Errored; stored_error = e; requests = [] }) ∷ []; locks = ReaderLock (Some me) c ∷ []; promises = t; hosts = hosts; events = []; age = age })) { age = age + 1 }) h
 
--- a chunk is enqueued for the read that waits
+-- the pull is settled, and its job, the only one, is performed
 
-enqueue_acts : (v : Value) (c p : PromiseId) (t : Table)
-    → controller_enqueue me v (record { slots = awaiting c p; out = record { promises = t; effects = [] } })
-    ≡ record { slots = record (resting true c) { pulling = true }; out = record { promises = answer p (Given v) t; effects = [] } }
-unfolding controller_enqueue accept chunk_steps call_pull_if_needed
-enqueue_acts v c p t = refl
+pulled : Job
+pulled = ReactionJob (ReadablePull me) (Ok Undefined) None
 
-pulled_acts : (c : PromiseId) (t : Table)
-    → pull_settled me (Ok Undefined) (record { slots = record (resting true c) { pulling = true }; out = record { promises = t; effects = [] } })
-    ≡ record { slots = resting true c; out = record { promises = t; effects = [] } }
-unfolding pull_settled
-pulled_acts c t = refl
+settle_told : (r : Readable) (c q : PromiseId) (h : HostId) (t u : Table) (hosts : List (Option PromiseId)) (age : ℕ)
+    → pending_host (slice_get hosts h.0) ≡ Some q → settle q (Ok Undefined) t ≡ u
+    → after_call (Settle h AnswerOk) (state r c t hosts [] age) ≡ older_told (state r c u (slice_set hosts h.0 None) [] age)
+unfolding state older_told begin turns performed
+settle_told r c q h t u hosts age under_way settled = rw (under_way, settled) refl
 
--- what stands of the other promises while a read's promise gets its outcome and the pull is answered
+work-idle : (n : ℕ) (s : Slots) → s.promises.jobs ≡ [] → work n s ≡ s
+work-idle zero s h = refl
+work-idle (suc n) s h = rw h refl
 
-enqueue-is : (v : Value) (w : World) (c p : PromiseId) → w.stream ≡ awaiting c p → enqueue v w ≡ record w { stream = record (resting true c) { pulling = true }; promises = answer p (Given v) w.promises }
-unfolding after enqueue
-enqueue-is v w c p h = rw (h, enqueue_acts v c p w.promises) refl
+-- what the controller's reaction to its pull leaves of the stream
+record Pulls (r r' : Readable) : Type 0 where
+  pub steps : (t : Table) → pull_settled me (Ok Undefined) (record { slots = r; out = record { promises = t; effects = [] } }) ≡ record { slots = r'; out = record { promises = t; effects = [] } }
 
-pub enqueue-rests : (n : ℕ) (v : Value) (w : World) (p : PromiseId) → Awaits w p
-    → IsResting (jobs (suc n) (answer_pull (enqueue v w))) × (entry_at (jobs (suc n) (answer_pull (enqueue v w))).promises p ≡ Some (ended (Given v)))
-enqueue-rests n v w p h =
-    let t = w.promises in
-    let x : Option Entry = Some (ended (Given v)) in
+pulled_job : (r r' : Readable) (c : PromiseId) (es : List (Option Entry)) (n : ℕ) (hosts : List (Option PromiseId)) (age : ℕ) → Pulls r r'
+    → after_job (state r c (record (quiet es n) { jobs = pulled ∷ [] }) hosts [] age) ≡ state r' c (quiet es n) hosts [] (age + 1)
+unfolding state quiet pulled after_next_job perform_job turns performed
+pulled_job r r' c es n hosts age h = rw (h.steps (record { entries = es; jobs = []; watched = n; settlements = [] })) refl
+
+pulled_work : (m : ℕ) (r r' : Readable) (c : PromiseId) (es : List (Option Entry)) (n : ℕ) (hosts : List (Option PromiseId)) (age : ℕ) → Pulls r r'
+    → work (suc m) (state r c (record (quiet es n) { jobs = pulled ∷ [] }) hosts [] age) ≡ state r' c (quiet es n) hosts [] (age + 1)
+unfolding state quiet pulled
+pulled_work m r r' c es n hosts age h =
+    ap (work m) (pulled_job r r' c es n hosts age h) ∙ work-idle m (state r' c (quiet es n) hosts [] (age + 1)) refl
+
+given_pulls : (c : PromiseId) → Pulls (given_slots c) (resting true c)
+unfolding given_slots pull_settled
+given_pulls c = record { steps = λ t. refl }
+
+closed_pulls : (c p : PromiseId) → Pulls (closed_slots c p) (record (closed_slots c p) { pulling = false })
+unfolding closed_slots pull_settled
+closed_pulls c p = record { steps = λ t. refl }
+
+errored_pulls : (e : Plain) (c p : PromiseId) → Pulls (errored_slots e c p) (record (errored_slots e c p) { pulling = false })
+unfolding errored_slots pull_settled
+errored_pulls e c p = record { steps = λ t. refl }
+
+-- the answer to a pull: the read's promise has settled by the call, and the pull's by the settling
+answered-is : (m : ℕ) (call : Call) (s : Slots) (c p q : PromiseId) (es es' : List (Option Entry)) (n : ℕ) (hosts : List (Option PromiseId)) (age : ℕ) (h : HostId) (r r' : Readable)
+    → s ≡ state (awaiting c p) c (quiet es n) hosts [] age
+    → after_call call (state (awaiting c p) c (quiet es n) hosts [] age) ≡ older_told (state r c (record (quiet es' n) { settlements = p ∷ [] }) hosts [] age)
+    → pending_host (slice_get hosts h.0) ≡ Some q → entry_at (quiet es' n) q ≡ Some (record pending { reactions = reacting ∷ [] }) → Pulls r r'
+    → answered (suc m) call h s ≡ state r' c (quiet (slice_set es' q.0 (Some (ended (Fulfilled Undefined)))) n) (slice_set hosts h.0 None) [] (age + 1 + 1 + 1)
+unfolding older_told state quiet reacting pulled
+answered-is m call s c p q es es' n hosts age h r r' at told under_way host pulls =
+    let ended_q : List (Option Entry) = slice_set es' q.0 (Some (ended (Fulfilled Undefined))) in
+    let first : record (after_call call s) { events = [] } ≡ state r c (quiet es' n) hosts [] (age + 1) =
+        ap (λ (x : Slots). record x { events = [] }) (ap (after_call call) at ∙ told) in
+    let second : after_call (Settle h AnswerOk) (state r c (quiet es' n) hosts [] (age + 1)) ≡ state r c (record (quiet ended_q n) { jobs = pulled ∷ [] }) (slice_set hosts h.0 None) [] (age + 1 + 1) =
+        settle_told r c q h (quiet es' n) (record (quiet ended_q n) { jobs = pulled ∷ [] }) hosts (age + 1) under_way (settle-open q (Ok Undefined) (quiet es' n) (reacting ∷ []) host) in
+    ap (λ (x : Slots). work (suc m) (after_call (Settle h AnswerOk) x)) first
+    ∙ (ap (work (suc m)) second ∙ pulled_work m r r' c ended_q n (slice_set hosts h.0 None) (age + 1 + 1) pulls)
+
+-- a chunk is enqueued for the read that waits: the read gets it, and the stream rests
+pub enqueue-rests : (m : ℕ) (v : Value) (s : Slots) (p : PromiseId) (h : HostId) → Awaits s p h
+    → IsResting (answered (suc m) (Enqueue me v) h s) × HasEnded (answered (suc m) (Enqueue me v) h s) p (Given v)
+unfolding state quiet watched reacting
+enqueue-rests m v s p h a =
+    let es = s.promises.entries in
+    let n = s.promises.watched in
+    let t : Table = quiet es n in
+    let c : PromiseId = a.closed in
+    let q : PromiseId = a.pull in
+    let before = a.before in
+    let later = a.later in
+    let x : Option Entry = Some (ended_as (Given v) (watched a.rank)) in
     let y : Option Entry = Some (ended (Fulfilled Undefined)) in
-    let q : PromiseId = h.pull in
-    let c : PromiseId = h.closed in
-    let q_in : q.0 < length t.entries = entry_within t q _ h.host in
-    let p_in : p.0 < length t.entries = entry_within t p _ h.asked in
-    let before = h.before in
-    let later = h.later in
-    let same : length (with_entry p x t).entries ≡ length t.entries = length-with_entry t p x in
-    let host : entry_at (with_entry p x t) q ≡ Some (record pending { reactions = Perform (ReadablePull me) None ∷ [] }) =
-    entry_at-with_entry_other t p q x (omega arith) ∙ h.host in
-    rw (enqueue-is v w c p h.stream, answer-open p (Given v) t [] h.asked, pull_answered n (record w { stream = record (resting true c) { pulling = true }; promises = with_entry p x t }) q (resting true c) h.under_way h.no_jobs host (pulled_acts c)) (
+    let p_in : p.0 < length es = entry_within t p _ a.asked in
+    let q_in : q.0 < length es = entry_within t q _ a.host in
+    let t₁ : Table = with_entry p x t in
+    let same : length t₁.entries ≡ length es = length-with_entry t p x in
+    let host : entry_at t₁ q ≡ Some (record pending { reactions = reacting ∷ [] }) = entry_at-with_entry_other t p q x (omega arith) ∙ a.host in
+    rw (answered-is m (Enqueue me v) s c p q es t₁.entries n s.hosts s.age h (given_slots c) (resting true c)
+      (as_state s (awaiting c p) c a.streams a.locks a.jobs a.told a.heard)
+      (enqueue_told c p s.hosts s.age v t (record t₁ { settlements = p ∷ [] }) (answer-watched t p (Given v) a.rank a.asked))
+      a.under_way host (given_pulls c)) (
       record {
         disturbed = true;
         closed = c;
-        stream = refl;
-        no_jobs = refl;
-        reader = entry_at-with_entry_other (with_entry p x t) q c y (omega arith) ∙ (entry_at-with_entry_other t p c x (omega arith) ∙ h.reader);
+        streams = refl;
+        locks = refl;
+        jobs = refl;
+        told = refl;
+        heard = refl;
+        reader = entry_at-with_entry_other t₁ q c y (omega arith) ∙ (entry_at-with_entry_other t p c x (omega arith) ∙ a.reader);
       },
-      entry_at-with_entry_other (with_entry p x t) q p y (omega arith) ∙ entry_at-with_entry_same t p x p_in,
+      record { rank = a.rank; entry = entry_at-with_entry_other t₁ q p y (omega arith) ∙ entry_at-with_entry_same t p x p_in },
     )
 
--- the stream is closed, or errored, while a read waits
-
-closed_slots : PromiseId → PromiseId → Slots
-closed_slots c p = record (awaiting c p) { state = Closed; requests = []; close_requested = true }
-
-close_acts : (c p : PromiseId) (t : Table)
-    → controller_close (record { slots = awaiting c p; out = record { promises = t; effects = [] } })
-    ≡ record { slots = closed_slots c p; out = record { promises = answer p (Finished (PlainValue Undefined)) (settle c (Ok Undefined) t); effects = [] } }
-unfolding closed_slots controller_close close_if_empty stream_close close_steps
-close_acts c p t = refl
-
-pulled_closed : (c p : PromiseId) (t : Table)
-    → pull_settled me (Ok Undefined) (record { slots = closed_slots c p; out = record { promises = t; effects = [] } })
-    ≡ record { slots = record (closed_slots c p) { pulling = false }; out = record { promises = t; effects = [] } }
-unfolding closed_slots pull_settled
-pulled_closed c p t = refl
-
-errored_slots : Plain → PromiseId → PromiseId → Slots
-errored_slots e c p = record (awaiting c p) { state = Errored; stored_error = e; requests = [] }
-
-error_acts : (e : Plain) (c p : PromiseId) (t : Table)
-    → controller_error e (record { slots = awaiting c p; out = record { promises = t; effects = [] } })
-    ≡ record { slots = errored_slots e c p; out = record { promises = settle p (Err e) (settle c (Err e) t); effects = [] } }
-unfolding errored_slots controller_error stream_error error_steps
-error_acts e c p t = refl
-
-pulled_errored : (e : Plain) (c p : PromiseId) (t : Table)
-    → pull_settled me (Ok Undefined) (record { slots = errored_slots e c p; out = record { promises = t; effects = [] } })
-    ≡ record { slots = record (errored_slots e c p) { pulling = false }; out = record { promises = t; effects = [] } }
-unfolding errored_slots pull_settled
-pulled_errored e c p t = refl
-
 -- the reader's closed promise settled first, then the read's promise, and then the pull was answered
-ended_last : (n : ℕ) (w : World) (p : PromiseId) (h : Awaits w p) (s s' : Slots) (closed : Result Plain Plain) (outcome : Outcome) (t : Table)
-    → t ≡ with_entry p (Some (ended outcome)) (record (with_entry h.closed (Some (ended (settled closed))) w.promises) { jobs = [] })
-    → ((t : Table) → pull_settled me (Ok Undefined) (record { slots = s; out = record { promises = t; effects = [] } }) ≡ record { slots = s'; out = record { promises = t; effects = [] } })
-    → entry_at (jobs (suc n) (answer_pull (record w { stream = s; promises = t }))).promises p ≡ Some (ended outcome)
-ended_last n w p h s s' closed outcome t is steps =
-    let t₁ : Table = record (with_entry h.closed (Some (ended (settled closed))) w.promises) { jobs = [] } in
-    let x : Option Entry = Some (ended outcome) in
+ended_last : (m : ℕ) (call : Call) (s : Slots) (p : PromiseId) (h : HostId) (a : Awaits s p h) (r r' : Readable) (closed : Result Plain Plain) (outcome : Outcome)
+    → after_call call (state (awaiting a.closed p) a.closed (quiet s.promises.entries s.promises.watched) s.hosts [] s.age)
+    ≡ older_told (state r a.closed (record (with_entry p (Some (ended_as outcome (watched a.rank))) (quiet (slice_set s.promises.entries a.closed.0 (Some (ended (settled closed)))) s.promises.watched)) { settlements = p ∷ [] }) s.hosts [] s.age)
+    → Pulls r r'
+    → HasEnded (answered (suc m) call h s) p outcome
+unfolding state quiet watched reacting
+ended_last m call s p h a r r' closed outcome told pulls =
+    let es = s.promises.entries in
+    let n = s.promises.watched in
+    let t : Table = quiet es n in
+    let c : PromiseId = a.closed in
+    let q : PromiseId = a.pull in
+    let before = a.before in
+    let later = a.later in
+    let z : Option Entry = Some (ended (settled closed)) in
+    let x : Option Entry = Some (ended_as outcome (watched a.rank)) in
     let y : Option Entry = Some (ended (Fulfilled Undefined)) in
-    let q : PromiseId = h.pull in
-    let p_in : p.0 < length w.promises.entries = entry_within w.promises p _ h.asked in
-    let before = h.before in
-    let later = h.later in
-    let same : length t₁.entries ≡ length w.promises.entries = length-with_entry w.promises h.closed _ in
-    let host : entry_at (with_entry p x t₁) q ≡ Some (record pending { reactions = Perform (ReadablePull me) None ∷ [] }) =
-    entry_at-with_entry_other t₁ p q x (omega arith) ∙ (entry_at-with_entry_other w.promises h.closed q _ (omega arith) ∙ h.host) in
-    rw (is, pull_answered n (record w { stream = s; promises = with_entry p x t₁ }) q s' h.under_way refl host steps)
-    (entry_at-with_entry_other (with_entry p x t₁) q p y (omega arith) ∙ entry_at-with_entry_same t₁ p x (omega arith))
+    let t₁ : Table = with_entry c z t in
+    let t₂ : Table = with_entry p x t₁ in
+    let p_in : p.0 < length es = entry_within t p _ a.asked in
+    let same₁ : length t₁.entries ≡ length es = length-with_entry t c z in
+    let same₂ : length t₂.entries ≡ length t₁.entries = length-with_entry t₁ p x in
+    let host : entry_at t₂ q ≡ Some (record pending { reactions = reacting ∷ [] }) =
+        entry_at-with_entry_other t₁ p q x (omega arith) ∙ (entry_at-with_entry_other t c q z (omega arith) ∙ a.host) in
+    rw (answered-is m call s c p q es t₂.entries n s.hosts s.age h r r' (as_state s (awaiting c p) c a.streams a.locks a.jobs a.told a.heard) told a.under_way host pulls)
+    (record { rank = a.rank; entry = entry_at-with_entry_other t₂ q p y (omega arith) ∙ entry_at-with_entry_same t₁ p x (omega arith) })
 
-close-is : (w : World) (c p : PromiseId) → w.stream ≡ awaiting c p → close w ≡ record w { stream = closed_slots c p; promises = answer p (Finished (PlainValue Undefined)) (settle c (Ok Undefined) w.promises) }
-unfolding after close
-close-is w c p h = rw (h, close_acts c p w.promises) refl
+asked_still : (s : Slots) (p : PromiseId) (h : HostId) (a : Awaits s p h) (closed : Result Plain Plain)
+    → entry_at (quiet (slice_set s.promises.entries a.closed.0 (Some (ended (settled closed)))) s.promises.watched) p ≡ Some (record pending { rank = Some a.rank })
+unfolding quiet
+asked_still s p h a closed =
+    let before = a.before in
+    entry_at-with_entry_other (quiet s.promises.entries s.promises.watched) a.closed p (Some (ended (settled closed))) (omega arith) ∙ a.asked
 
--- a promise settles that has no reactions, where no job is queued
-settle-alone : (c : PromiseId) (outcome : Result Plain Plain) (t : Table) → t.jobs ≡ [] → entry_at t c ≡ Some pending
-    → settle c outcome t ≡ record (with_entry c (Some (ended (settled outcome))) t) { jobs = [] }
-settle-alone c outcome t none h = rw (settle-open c outcome t [] h, none) refl
+-- the stream is closed while a read waits: the read is done
+pub finish-finishes : (m : ℕ) (s : Slots) (p : PromiseId) (h : HostId) → Awaits s p h → HasEnded (answered (suc m) (Finish me) h s) p (Finished (PlainValue Undefined))
+unfolding quiet
+finish-finishes m s p h a =
+    let es = s.promises.entries in
+    let n = s.promises.watched in
+    let c : PromiseId = a.closed in
+    let t₁ : Table = quiet (slice_set es c.0 (Some (ended (Fulfilled Undefined)))) n in
+    ended_last m (Finish me) s p h a (closed_slots c p) _ (Ok Undefined) (Finished (PlainValue Undefined))
+    (finish_told c p s.hosts s.age (quiet es n) _
+    (ap (answer p (Finished (PlainValue Undefined))) (settle-alone es n c (Ok Undefined) a.reader)
+    ∙ answer-watched t₁ p (Finished (PlainValue Undefined)) a.rank (asked_still s p h a (Ok Undefined))))
+    (closed_pulls c p)
 
-pub close-finishes : (n : ℕ) (w : World) (p : PromiseId) → Awaits w p
-    → entry_at (jobs (suc n) (answer_pull (close w))).promises p ≡ Some (ended (Finished (PlainValue Undefined)))
-close-finishes n w p h =
-    let c : PromiseId = h.closed in
-    let before = h.before in
-    let t₁ : Table = record (with_entry c (Some (ended (Fulfilled Undefined))) w.promises) { jobs = [] } in
-    let asked : entry_at t₁ p ≡ Some pending = entry_at-with_entry_other w.promises c p _ (omega arith) ∙ h.asked in
-    rw (close-is w c p h.stream)
-    (ended_last n w p h (closed_slots c p) _ (Ok Undefined) (Finished (PlainValue Undefined)) _
-    (rw (settle-alone c (Ok Undefined) w.promises h.no_jobs h.reader) (answer-open p (Finished (PlainValue Undefined)) t₁ [] asked)) (pulled_closed c p))
-
-error-is : (e : Plain) (w : World) (c p : PromiseId) → w.stream ≡ awaiting c p → error e w ≡ record w { stream = errored_slots e c p; promises = settle p (Err e) (settle c (Err e) w.promises) }
-unfolding after error
-error-is e w c p h = rw (h, error_acts e c p w.promises) refl
-
-pub error-rejects : (n : ℕ) (e : Plain) (w : World) (p : PromiseId) → Awaits w p
-    → entry_at (jobs (suc n) (answer_pull (error e w))).promises p ≡ Some (ended (Rejected e))
-error-rejects n e w p h =
-    let c : PromiseId = h.closed in
-    let before = h.before in
-    let t₁ : Table = record (with_entry c (Some (ended (Rejected e))) w.promises) { jobs = [] } in
-    let asked : entry_at t₁ p ≡ Some pending = entry_at-with_entry_other w.promises c p _ (omega arith) ∙ h.asked in
-    rw (error-is e w c p h.stream)
-    (ended_last n w p h (errored_slots e c p) _ (Err e) (Rejected e) _
-    (rw (settle-alone c (Err e) w.promises h.no_jobs h.reader) (settle-alone p (Err e) t₁ refl asked)) (pulled_errored e c p))
+-- the stream is errored while a read waits: the read is rejected
+pub fail-rejects : (m : ℕ) (e : Plain) (s : Slots) (p : PromiseId) (h : HostId) → Awaits s p h → HasEnded (answered (suc m) (Fail me e) h s) p (Rejected e)
+unfolding quiet
+fail-rejects m e s p h a =
+    let es = s.promises.entries in
+    let n = s.promises.watched in
+    let c : PromiseId = a.closed in
+    let t₁ : Table = quiet (slice_set es c.0 (Some (ended (Rejected e)))) n in
+    ended_last m (Fail me e) s p h a (errored_slots e c p) _ (Err e) (Rejected e)
+    (fail_told c p s.hosts s.age e (quiet es n) _
+    (ap (settle p (Err e)) (settle-alone es n c (Err e) a.reader)
+    ∙ settle-watched t₁ p (Err e) a.rank refl (asked_still s p h a (Err e))))
+    (errored_pulls e c p)
 
 -- the first moment
 
-set_up-made : set_up_source made ≡ record {
-  stream = initialized;
-  promises = record { entries = Some (ended (Fulfilled Undefined)) ∷ []; jobs = ReactionJob (ReadableStart me) (Ok Undefined) None ∷ []; watched = 0; settlements = [] };
-  pull = None;
-}
-unfolding set_up_source set_up after fresh settle react
-set_up-made = refl
+-- the stream is made, and its controller is to react to the start algorithm
+just_made : Slots
+just_made =
+    record {
+      streams = ReadableStream initialized ∷ [];
+      locks = [];
+      promises = record { entries = Some (ended (Fulfilled Undefined)) ∷ []; jobs = ReactionJob (ReadableStart me) (Ok Undefined) None ∷ []; watched = 0; settlements = [] };
+      hosts = [];
+      events = [];
+      age = 1;
+    }
 
-started-made : (n : ℕ) → jobs (suc n) (set_up_source made) ≡ record {
-  stream = record initialized { started = true };
-  promises = record { entries = Some (ended (Fulfilled Undefined)) ∷ []; jobs = []; watched = 0; settlements = [] };
-  pull = None;
-}
-unfolding jobs job perform_job after_next_job after start_settled call_pull_if_needed
-started-made n = rw set_up-made (jobs-none n _ refl)
+just_started : Slots
+just_started =
+    record {
+      streams = ReadableStream (record initialized { started = true }) ∷ [];
+      locks = [];
+      promises = record { entries = Some (ended (Fulfilled Undefined)) ∷ []; jobs = []; watched = 0; settlements = [] };
+      hosts = [];
+      events = [];
+      age = 2;
+    }
 
-pub opened-rests : (n : ℕ) → IsResting (get_reader (jobs (suc n) (set_up_source made)))
-unfolding get_reader after reader_generic_initialize fresh
-opened-rests n =
-    rw (started-made n)
-    (record { disturbed = false; closed = record { 0 = 1 }; stream = refl; no_jobs = refl; reader = refl })
+made : after_call (MakeReadable 0 Count Now) empty ≡ just_made
+unfolding just_made begin set_up fresh settle react row turns performed
+made = refl
+
+started : (m : ℕ) → work (suc m) (after_call (MakeReadable 0 Count Now) empty) ≡ just_started
+unfolding just_made just_started after_next_job perform_job start_settled call_pull_if_needed turns performed
+started m = ap (work (suc m)) made ∙ work-idle m just_started refl
+
+pub opened-rests : (m : ℕ) → IsResting (opened (suc m))
+unfolding just_started begin reader_generic_initialize fresh turns performed
+opened-rests m =
+    rw (started m)
+    (record { disturbed = false; closed = record { 0 = 1 }; streams = refl; locks = refl; jobs = refl; told = refl; heard = refl; reader = refl })
 
 -- the read's promise is let go of
 
-release-ended : (t : Table) (p : PromiseId) (o : Outcome) → is_pending o ≡ false → entry_at t p ≡ Some (ended o) → release p t ≡ with_entry p None t
+release-ended : (t : Table) (p : PromiseId) (o : Outcome) (e : Entry) → is_pending o ≡ false → entry_at t p ≡ Some (ended_as o e) → release p t ≡ with_entry p None t
 unfolding release
-release-ended t p o over h = rw (h, over) refl
+release-ended t p o e over h = rw (h, over) refl
 
-pending_apart : (t : Table) (p q : PromiseId) (o : Outcome) → is_pending o ≡ false → entry_at t p ≡ Some (ended o) → entry_at t q ≡ Some pending → p.0 ≢ q.0
-pending_apart t p q o over h g e =
-    let both : Some (ended o) ≡ Some pending = sym h ∙ (ap (λ (i : ℕ). live (slice_get t.entries i)) e ∙ g) in
-    let open_then : is_open_entry (Some (ended o)) ≡ true = ap is_open_entry both in
-    let shut : is_open_entry (Some (ended o)) ≡ false = rw over refl in
+pending_apart : (t : Table) (p q : PromiseId) (o : Outcome) (e : Entry) → is_pending o ≡ false → entry_at t p ≡ Some (ended_as o e) → entry_at t q ≡ Some pending → p.0 ≢ q.0
+pending_apart t p q o e over h g same =
+    let both : Some (ended_as o e) ≡ Some pending = sym h ∙ (ap (λ (i : ℕ). live (slice_get t.entries i)) same ∙ g) in
+    let open_then : is_open_entry (Some (ended_as o e)) ≡ true = ap is_open_entry both in
+    let shut : is_open_entry (Some (ended_as o e)) ≡ false = rw over refl in
     absurd (false≢true (sym shut ∙ open_then))
 
-pub forget-rests : (w : World) (p : PromiseId) (o : Outcome) → is_pending o ≡ false → entry_at w.promises p ≡ Some (ended o) → IsResting w → IsResting (forget p w)
-forget-rests w p o over h r =
-    rw (release-ended w.promises p o over h)
+pub forgotten-rests : (s : Slots) (p : PromiseId) (o : Outcome) → is_pending o ≡ false → HasEnded s p o → IsResting s → IsResting (forgotten p s)
+forgotten-rests s p o over h r =
+    let e : Entry = record pending { rank = Some h.rank } in
+    let gone : forgotten p s ≡ record s { promises = with_entry p None s.promises } = ap (λ (t : Table). record s { promises = t }) (release-ended s.promises p o e over h.entry) in
+    rw gone
     (record {
       disturbed = r.disturbed;
       closed = r.closed;
-      stream = r.stream;
-      no_jobs = r.no_jobs;
-      reader = entry_at-with_entry_other w.promises p r.closed None (pending_apart w.promises p r.closed o over h r.reader) ∙ r.reader;
+      streams = r.streams;
+      locks = r.locks;
+      jobs = r.jobs;
+      told = r.told;
+      heard = r.heard;
+      reader = entry_at-with_entry_other s.promises p r.closed None (pending_apart s.promises p r.closed o e over h.entry r.reader) ∙ r.reader;
     })

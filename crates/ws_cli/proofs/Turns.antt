@@ -1,13 +1,13 @@
 -- How the ends of a turn are made of what its parts did.
 use Rattle.std.proofs.Common.{◌≡◌, ℕ, ◌+◌, ◌<◌, ◌≤◌, Bool, true, false, List, [], ◌∷◌, length, refl, sym, ◌∙◌, ap, length-append, arith}
 use Rattle.std.specs.Option.{option_map}
-use Rattle.std.specs.Prelude.{Option, Some, Result, Ok, Err, nat_lt, ◌==◌}
+use Rattle.std.specs.Prelude.{Option, option_and_then, Some, Result, Ok, Err, nat_lt, ◌==◌}
 use Rattle.std.proofs.lemmas.Bool.Decides.{nat_tests}
 use Rattle.ws_value.specs.declared.value.Value.TheVariants.{Bytes}
 use Rattle.ws_value.specs.declared.value.Outcome.{Outcome}
 use Rattle.ws_value.specs.declared.ids.PromiseId.{PromiseId}
 use Rattle.ws_value.specs.declared.value.Outcome.TheVariants.{Pending, Fulfilled, Given, Finished, Rejected}
-use Rattle.ws_steps.specs.Promises.{Entry, is_pending, outcome_at}
+use Rattle.ws_steps.specs.Promises.{Entry, is_pending}
 use Rattle.ws_io.specs.Feed.{Feed}
 use Rattle.ws_io.specs.declared.outside.Failed.{Failed}
 use Rattle.ws_io.specs.declared.status.Status.{Status}
@@ -15,8 +15,9 @@ use Rattle.ws_io.specs.declared.status.Status.TheVariants.{Done, WriteFault, NoM
 use Rattle.ws_io.proofs.Flow.{Gains-nothing, Fed-nothing, IsEmpty-kept}
 use Rattle.ws_cli.specs.declared.turn.Turn.{Turn}
 use Rattle.ws_cli.specs.declared.turn.Turn.TheVariants.{Moved, Ended}
-use Rattle.ws_cli.specs.declared.realm.Realm.{Realm}
-use Rattle.ws_cli.specs.View.{IsAtRest, HasEnded, RestsAfter, RestsOn}
+use Rattle.ws_steps.specs.Slots.{Slots}
+use Rattle.ws_realm.specs.Seen.{outcome_named, where_named}
+use Rattle.ws_cli.specs.Moments.{IsResting, HasEnded, RestsAfter, RestsOn}
 use Rattle.ws_io.specs.Moment.{Moment, moment}
 use Rattle.ws_cli.specs.Run.{Ends}
 use Rattle.ws_cli.specs.Turn.{IsPiece, GivesPiece, outcome_by, outcome_of, IsRunOutcome, Shown, EndsOutput, HandsOn, Turns}
@@ -219,8 +220,8 @@ turns-from most want f g before now old new p q (Err failed) turn h limit room h
     })
 
 -- the realm is at rest again after a turn of a run that goes on
-pub rests-from : (o : Outcome) (turn : Turn) (r r' : Realm) (old new : Shown) (p q : List ℕ → Type 0)
-    → HandsOn o turn old new p q → RestsAfter o r → (is_pending o ≡ false → IsAtRest r → IsAtRest r') → RestsOn turn r'
+pub rests-from : (o : Outcome) (turn : Turn) (r r' : Slots) (old new : Shown) (p q : List ℕ → Type 0)
+    → HandsOn o turn old new p q → RestsAfter o r → (is_pending o ≡ false → IsResting r → IsResting r') → RestsOn turn r'
 rests-from o (Ended status) r r' old new p q hands rests forget = tt
 rests-from (Given v) (Moved count) r r' old new p q hands rests forget = forget refl rests
 rests-from (Finished v) (Moved count) r r' old new p q hands rests forget = absurd hands
@@ -228,8 +229,13 @@ rests-from (Rejected e) (Moved count) r r' old new p q hands rests forget = let 
 rests-from Pending (Moved count) r r' old new p q hands rests forget = absurd hands
 rests-from (Fulfilled v) (Moved count) r r' old new p q hands rests forget = absurd hands
 
+-- the outcome of a promise that has settled
+pub outcome-named : (s : Slots) (promise : PromiseId) (outcome : Outcome) → HasEnded s promise outcome → outcome_named promise s ≡ Some outcome
+outcome-named s promise outcome h =
+    ap (λ (entry : Option Entry). where_named (option_and_then (λ (e : Entry). e.rank) entry) (option_map (λ (e : Entry). e.outcome) entry)) h.entry
+
 -- the outcome that is read is the one with which the promise settled
-pub outcome-ended : (r : Realm) (promise : PromiseId) (outcome seen : Outcome) → HasEnded r promise outcome → outcome_at r.promises.table promise ≡ Some seen → seen ≡ outcome
-outcome-ended r promise outcome seen h is =
-    let told : outcome_at r.promises.table promise ≡ Some outcome = ap (option_map (λ (e : Entry). e.outcome)) h.entry in
+pub outcome-ended : (s : Slots) (promise : PromiseId) (outcome seen : Outcome) → HasEnded s promise outcome → outcome_named promise s ≡ Some seen → seen ≡ outcome
+outcome-ended s promise outcome seen h is =
+    let told = outcome-named s promise outcome h in
     cc

@@ -1,36 +1,100 @@
--- The moments between which the copying of bytes goes: the stream rests, and a read waits for the host's pull.
-use Rattle.std.specs.Prelude.{◌≡◌, ◌<◌, Bool, true, [], ◌∷◌, Some, None}
+-- The moments between which the copying of bytes goes, as slots of a realm: its one stream rests, and a read waits for the
+-- host's pull.
+use Rattle.std.specs.Prelude.{◌≡◌, ◌<◌, ℕ, Bool, true, List, [], ◌∷◌, Option, Some, None}
+use Rattle.ws_value.specs.declared.ids.HostId.{HostId}
+use Rattle.ws_value.specs.declared.ids.LockId.{LockId}
 use Rattle.ws_value.specs.declared.ids.PromiseId.{PromiseId}
+use Rattle.ws_value.specs.declared.ids.StreamId.{StreamId}
+use Rattle.ws_value.specs.declared.value.Outcome.{Outcome}
+use Rattle.ws_value.specs.declared.value.Outcome.TheVariants.{Pending, Fulfilled, Given, Finished, Rejected}
+use Rattle.ws_steps.specs.declared.calls.Answer.TheVariants.{Ok as AnswerOk}
+use Rattle.ws_steps.specs.declared.calls.Call.{Call}
+use Rattle.ws_steps.specs.declared.calls.Call.TheVariants.{MakeReadable, GetReader, Settle}
+use Rattle.ws_steps.specs.declared.calls.StartBy.TheVariants.{Now}
+use Rattle.ws_steps.specs.declared.readable.SizeBy.TheVariants.{Count}
+use Rattle.ws_steps.specs.declared.locks.Lock.TheVariants.{Reader as ReaderLock}
 use Rattle.ws_steps.specs.declared.promises.Step.TheVariants.{ReadablePull}
 use Rattle.ws_steps.specs.declared.promises.Reaction.TheVariants.{Perform}
 use Rattle.ws_steps.specs.declared.readable.ReadRequest.TheVariants.{Promise}
-use Rattle.ws_steps.specs.Promises.{pending, entry_at}
-use Rattle.ws_steps.specs.Readable.{Slots, initialized}
-use Rattle.ws_cli.specs.Realm.{World, me}
+use Rattle.ws_cli.specs.declared.turn.Turn.{Turn}
+use Rattle.ws_cli.specs.declared.turn.Turn.TheVariants.{Moved, Ended}
+use Rattle.ws_steps.specs.Promises.{pending, ended_as, entry_at, release}
+use Rattle.ws_steps.specs.Readable.{Slots as Readable, initialized}
+use Rattle.ws_steps.specs.Run.{after_call, work}
+use Rattle.ws_steps.specs.Slots.{Slots, ReadableStream, empty, host_at}
+
+-- the number of the one stream, and of its reader
+abbrev pub me : StreamId
+me = record { 0 = 0 }
+
+abbrev pub reader : LockId
+reader = record { 0 = 0 }
 
 -- the stream is readable, started, locked by a reader with this closed promise, and empty; nothing waits and nothing goes on
-abbrev pub resting : Bool → PromiseId → Slots
+abbrev pub resting : Bool → PromiseId → Readable
 resting disturbed closed = record initialized { disturbed = disturbed; reader = Some closed; started = true }
 
-pub record IsResting (w : World) : Type 0 where
-  pub disturbed : Bool
-  pub closed : PromiseId
-  pub stream : w.stream ≡ resting disturbed closed
-  pub no_jobs : w.promises.jobs ≡ []
-  pub reader : entry_at w.promises closed ≡ Some pending
-
 -- the same stream with a read of promise `p` that waits, for which a pull is under way
-abbrev pub awaiting : PromiseId → PromiseId → Slots
+abbrev pub awaiting : PromiseId → PromiseId → Readable
 awaiting closed p = record (resting true closed) { requests = Promise p ∷ []; pulling = true }
 
-pub record Awaits (w : World) (p : PromiseId) : Type 0 where
+pub record IsResting (s : Slots) : Type 0 where
+  pub disturbed : Bool
+  pub closed : PromiseId
+  pub streams : s.streams ≡ ReadableStream (resting disturbed closed) ∷ []
+  pub locks : s.locks ≡ ReaderLock (Some me) closed ∷ []
+  pub jobs : s.promises.jobs ≡ []
+  pub told : s.promises.settlements ≡ []
+  pub heard : s.events ≡ []
+  pub reader : entry_at s.promises closed ≡ Some pending
+
+-- the read of promise `p` waits, and the host is to answer the pull of number `h`
+pub record Awaits (s : Slots) (p : PromiseId) (h : HostId) : Type 0 where
   pub closed : PromiseId
   pub pull : PromiseId
-  pub stream : w.stream ≡ awaiting closed p
-  pub under_way : w.pull ≡ Some pull
-  pub no_jobs : w.promises.jobs ≡ []
-  pub reader : entry_at w.promises closed ≡ Some pending
-  pub asked : entry_at w.promises p ≡ Some pending
-  pub host : entry_at w.promises pull ≡ Some (record pending { reactions = Perform (ReadablePull me) None ∷ [] })
+  pub rank : ℕ
+  pub streams : s.streams ≡ ReadableStream (awaiting closed p) ∷ []
+  pub locks : s.locks ≡ ReaderLock (Some me) closed ∷ []
+  pub jobs : s.promises.jobs ≡ []
+  pub told : s.promises.settlements ≡ []
+  pub heard : s.events ≡ []
+  pub reader : entry_at s.promises closed ≡ Some pending
+  pub asked : entry_at s.promises p ≡ Some (record pending { rank = Some rank })
+  pub under_way : host_at h s ≡ Some pull
+  pub host : entry_at s.promises pull ≡ Some (record pending { reactions = Perform (ReadablePull me) None ∷ [] })
   pub before : closed.0 < p.0
   pub later : p.0 < pull.0
+
+-- the promise of a read has settled so
+pub record HasEnded (s : Slots) (p : PromiseId) (outcome : Outcome) : Type 0 where
+  pub rank : ℕ
+  pub entry : entry_at s.promises p ≡ Some (ended_as outcome (record pending { rank = Some rank }))
+
+-- the host answers the pull `h` by a call, of whose event it has heard, and at most so many jobs follow
+abbrev pub answered : ℕ → Call → HostId → Slots → Slots
+answered jobs call h s = work jobs (after_call (Settle h AnswerOk) (record (after_call call s) { events = [] }))
+
+-- the stream is made and started, and a reader takes it
+abbrev pub opened : ℕ → Slots
+opened jobs = after_call (GetReader me) (work jobs (after_call (MakeReadable 0 Count Now) empty))
+
+-- the promise of a read is let go of
+abbrev pub forgotten : PromiseId → Slots → Slots
+forgotten p s = record s { promises = release p s.promises }
+
+-- after a chunk was given the stream rests again
+abbrev pub RestsAfter : Outcome → Slots → Type 0
+RestsAfter (Given v) s = IsResting s
+RestsAfter Pending s = Unit {0}
+RestsAfter (Fulfilled v) s = Unit {0}
+RestsAfter (Finished v) s = Unit {0}
+RestsAfter (Rejected e) s = Unit {0}
+
+-- after a turn of a run that goes on the stream rests
+abbrev pub RestsOn : Turn → Slots → Type 0
+RestsOn (Moved count) s = IsResting s
+RestsOn (Ended status) s = Unit {0}
+
+-- the most jobs of one turn
+abbrev pub jobs_of_a_turn : ℕ
+jobs_of_a_turn = 100000

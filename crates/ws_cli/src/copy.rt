@@ -2,12 +2,13 @@
 ghost use Rattle.std.specs.Prelude.{◌<◌, ◌^◌};
 ghost use Rattle.ws_io.specs.Moment.{moment};
 ghost use Rattle.ws_cli.specs.Run.{Ends};
-ghost use Rattle.ws_cli.specs.View.{IsAtRest};
+ghost use Rattle.ws_cli.specs.Moments.{IsResting};
 
-use crate::realm::Realm;
+use crate::realm::open;
 use crate::turn::{Turn, take_turn};
 use std::alloc::Global;
 use ws_io::{Sink, Source, Status};
+use ws_realm::Realm;
 
 /// Takes turns until the run ends.
 fn copy<S: Source, K: Sink>(
@@ -17,7 +18,7 @@ fn copy<S: Source, K: Sink>(
     output: &mut K,
     max_input: u64,
 ) -> Status
-    requires rests { IsAtRest realm.old }
+    requires rests { IsResting realm.old.slots }
     requires limit { max_input < 2 ^ 63 }
     ensures { Ends result max_input 4096
         (moment (S.faults input.old) (S.feed input.old) (K.faults output.old) (K.finished output.old))
@@ -46,7 +47,7 @@ pub fn run<S: Source, K: Sink>(
         (moment (S.faults input.new) (S.feed input.new) (K.faults output.new) (K.finished output.new))
         (K.got output.old) (K.got output.new) }
 {
-    match Realm::open(alloc) {
+    match open(alloc) {
         Ok(mut realm) => copy(&mut realm, alloc, input, output, max_input),
         Err(_) => Status::NoMemory,
     }

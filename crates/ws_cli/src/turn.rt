@@ -1,14 +1,15 @@
 //! One turn of a run: the stream is read, its host answers the pull with one read of the input, and what the read gets goes to the output.
 ghost use Rattle.std.specs.Prelude.{◌≡◌, [], ◌<◌, ◌≤◌, ◌+◌, ◌^◌, min, IfOk, OnOk, OnErr, MatchResult};
-ghost use Rattle.ws_value.specs.declared.ids.PromiseId.{PromiseId};
 ghost use Rattle.ws_io.specs.Moment.{moment};
 ghost use Rattle.ws_cli.specs.Run.{Ends};
 ghost use Rattle.ws_cli.specs.Turn.{GivesPiece, outcome_of, IsRunOutcome, IsRunReason, status_of, HandsBytes, HandsEnd, HandsOn, Turns};
-ghost use Rattle.ws_cli.specs.View.{IsAtRest, IsReading, HasEnded, RestsAfter, RestsOn};
+ghost use Rattle.ws_cli.specs.Moments.{IsResting, Awaits, HasEnded, RestsAfter, RestsOn};
 
-use crate::realm::Realm;
+use crate::realm::{Asked, SOURCE, answer, outcome, read};
 use std::alloc::Global;
 use ws_io::{Failed, Sink, Source, Status, write_whole};
+use ws_realm::Realm;
+use ws_steps::Call;
 use ws_value::{Chunk, Fault, NoMemory, Outcome, Plain, Room, Value};
 
 /// The most bytes of one read of the input.
@@ -41,22 +42,31 @@ fn read_piece<S: Source>(
 }
 
 /// The host answers the stream's pull with what it read, of which the run may take `most` bytes.
-fn answer(realm: &mut Realm, piece: Result<Chunk, Failed>, most: u64) -> Result<(), NoMemory>
-    requires { realm.old.agenda.effects ≡ [] }
-    ensures outcome { (promise : PromiseId) → IsReading realm.old promise → OnOk result (HasEnded realm.new promise (outcome_of most piece)) }
-    ensures rests { (promise : PromiseId) → IsReading realm.old promise → OnOk result (RestsAfter (outcome_of most piece) realm.new) }
+fn answer_with(
+    realm: &mut Realm,
+    asked: Asked,
+    piece: Result<Chunk, Failed>,
+    most: u64,
+) -> Result<(), NoMemory>
+    requires { Awaits realm.old.slots asked.promise asked.pull }
+    ensures outcome { OnOk result (HasEnded realm.new.slots asked.promise (outcome_of most piece)) }
+    ensures rests { OnOk result (RestsAfter (outcome_of most piece) realm.new.slots) }
 {
     match piece {
         Ok(chunk) => {
             if chunk.is_empty() {
-                return realm.close();
+                return answer(realm, asked.pull, Call::Finish(SOURCE));
             }
             if chunk.len() as u64 > most {
-                return realm.error(Plain::Fault(Fault::TooMuch));
+                let reason = Plain::Fault(Fault::TooMuch);
+                return answer(realm, asked.pull, Call::Fail(SOURCE, reason));
             }
-            realm.enqueue(chunk)
+            answer(realm, asked.pull, Call::Enqueue(SOURCE, Value::Bytes(chunk)))
         }
-        Err(Failed) => realm.error(Plain::Fault(Fault::Read)),
+        Err(Failed) => {
+            let reason = Plain::Fault(Fault::Read);
+            answer(realm, asked.pull, Call::Fail(SOURCE, reason))
+        }
     }
 }
 
@@ -122,25 +132,25 @@ pub fn take_turn<S: Source, K: Sink>(
     output: &mut K,
     most: u64,
 ) -> Turn
-    requires rests { IsAtRest realm.old }
+    requires rests { IsResting realm.old.slots }
     requires limit { most < 2 ^ 63 }
     ensures turn { Turns result most
         (moment (S.faults input.old) (S.feed input.old) (K.faults output.old) (K.finished output.old))
         (moment (S.faults input.new) (S.feed input.new) (K.faults output.new) (K.finished output.new))
         (K.got output.old) (K.got output.new) }
-    ensures rests { RestsOn result realm.new }
+    ensures rests { RestsOn result realm.new.slots }
 {
-    let Ok(read) = realm.read() else {
+    let Ok(asked) = read(realm) else {
         return Turn::Ended(Status::NoMemory);
     };
     let want = (most + 1).min(MOST_OF_A_READ) as usize;
     let Ok(piece) = read_piece(alloc, input, want) else {
         return Turn::Ended(Status::NoMemory);
     };
-    if answer(realm, piece, most).is_err() {
+    if answer_with(realm, asked, piece, most).is_err() {
         return Turn::Ended(Status::NoMemory);
     }
-    let turn = hand_on(realm.outcome(read), output);
-    realm.forget(read);
+    let turn = hand_on(outcome(realm, asked.promise), output);
+    realm.forget(asked.promise);
     turn
 }

@@ -136,6 +136,30 @@ impl Realm {
         }
     }
 
+    /// Performs jobs until none is queued, or `most` were.
+    pub fn work(&mut self, most: u32) -> Result<(), Why>
+        ensures slots { OnOk result (self.new.slots ≡ run.work most self.old.slots) }
+        ensures spent { result ≡ Err why.Spent → self.new.slots.age ≡ oldest }
+        ensures wanting { result ≡ Err why.NoMemory → self.new.wanting ≡ true }
+    {
+        for _done in 0..most {
+            match self.job() {
+                Ok(true) => {}
+                Ok(false) => return Ok(()),
+                Err(why) => return Err(why),
+            }
+        }
+        Ok(())
+    }
+
+    /// The host lets go of `p`, where it has settled: nobody may ask for it any more, and what it holds is freed.
+    pub fn forget(&mut self, p: PromiseId)
+        ensures slots { self.new.slots ≡ record self.old.slots { promises = table.release p self.old.slots.promises } }
+        ensures wanting { self.new.wanting ≡ self.old.wanting }
+    {
+        self.tables.promises.release(p);
+    }
+
     /// The state of `p` with its result: none says that no reply has named `p`.
     pub fn outcome(&self, p: PromiseId) -> Option<&Outcome>
         ensures { option_map (λ outcome. outcome.now) result ≡ outcome_named p self.now.slots }

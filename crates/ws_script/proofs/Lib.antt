@@ -1,5 +1,4 @@
 mod Ending
-mod Working
 mod Events
 mod Flushing
 mod ReadingMore

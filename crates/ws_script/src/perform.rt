@@ -1,6 +1,6 @@
 //! The tasks of a script's lines, and the writing of what they print.
 ghost use Rattle.std.specs.Prelude.{◌≡◌, ◌++◌, [], IfOk, OnOk, IfErr};
-ghost use Rattle.ws_steps.specs.Run.{work, heard};
+ghost use Rattle.ws_steps.specs.Run.{heard};
 ghost use Rattle.ws_script.specs.Printed.{after_line, line_text, script_text};
 ghost use Rattle.ws_script.specs.Printing.{PrintsOn, StopsPrinting, Performs};
 
@@ -15,20 +15,6 @@ use ws_value::{Blob, NoMemory};
 /// How much text waits before it is written.
 const FULL: usize = 65_536;
 
-/// Performs jobs until none is queued, or so many were.
-fn work(realm: &mut Realm, jobs: u32) -> Result<(), NoMemory>
-    ensures { OnOk result (realm.new.slots ≡ work jobs realm.old.slots) }
-{
-    for _done in 0..jobs {
-        match realm.job() {
-            Ok(true) => {}
-            Ok(false) => return Ok(()),
-            Err(_) => return Err(NoMemory),
-        }
-    }
-    Ok(())
-}
-
 /// Performs the task of a line: the answer is what it prints.
 fn perform_line(alloc: Global, realm: &mut Realm, line: Line) -> Result<Blob, NoMemory>
     ensures text { IfOk result (λ text. text ≡ line_text line realm.old.slots) }
@@ -38,7 +24,9 @@ fn perform_line(alloc: Global, realm: &mut Realm, line: Line) -> Result<Blob, No
     let Ok(reply) = realm.call(call) else {
         return Err(NoMemory);
     };
-    work(realm, jobs)?;
+    if realm.work(jobs).is_err() {
+        return Err(NoMemory);
+    }
     print_step(alloc, number, &reply, realm)
 }
 

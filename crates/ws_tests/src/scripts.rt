@@ -1,7 +1,7 @@
 //! Scripts with all that they print.
 
 /// Scripts and what they print, by the Streams Standard and ECMAScript's order of jobs.
-pub const WORKED: [(&str, &str); 5] = [
+pub const WORKED: [(&str, &str); 8] = [
     (READ_BEFORE_ENQUEUE, READ_BEFORE_ENQUEUE_PRINTS),
     (
         TWO_READS_ONE_FURTHER_PULL,
@@ -10,6 +10,9 @@ pub const WORKED: [(&str, &str); 5] = [
     (START_THAT_WAITS, START_THAT_WAITS_PRINTS),
     (LAST_CHUNK_AND_CLOSE, LAST_CHUNK_AND_CLOSE_PRINTS),
     (CALLS_ON_ENDED_OBJECTS, CALLS_ON_ENDED_OBJECTS_PRINTS),
+    (ABORT_DURING_A_FAILING_WRITE, ABORT_DURING_A_FAILING_WRITE_PRINTS),
+    (ABORT_DURING_A_CLOSE, ABORT_DURING_A_CLOSE_PRINTS),
+    (CLOSE_WAITS_FOR_THE_ABORT, CLOSE_WAITS_FOR_THE_ABORT_PRINTS),
 ];
 
 /// The chunk goes to the request.
@@ -134,4 +137,81 @@ const CALLS_ON_ENDED_OBJECTS_PRINTS: &str = "\
 11 done
 12 size null
 13 throws Unsupported
+";
+
+/// An abort while a write is in flight, and then that write fails.
+const ABORT_DURING_A_FAILING_WRITE: &str = "\
+writable 1 count now
+writer s0
+closed l0
+write l0 n1
+abort l0 e7
+settle h0 fail e9
+settle h1 ok
+";
+
+const ABORT_DURING_A_FAILING_WRITE_PRINTS: &str = "\
+1 made s0
+2 lock l0
+3 promise p0
+4 promise p1
+  host h0 write s0 n1
+5 promise p2
+  signal s0 e7
+6 done
+  p1 rejected e9
+  host h1 abort s0 e7
+7 done
+  p2 fulfilled undefined
+  p0 rejected e7
+";
+
+/// An abort during a close in flight that succeeds.
+const ABORT_DURING_A_CLOSE: &str = "\
+writable 1 count now
+writer s0
+close l0
+abort l0 e7
+settle h0 ok
+state s0
+";
+
+const ABORT_DURING_A_CLOSE_PRINTS: &str = "\
+1 made s0
+2 lock l0
+3 promise p0
+  host h0 close s0
+4 promise p1
+  signal s0 e7
+5 done
+  p0 fulfilled undefined
+  p1 fulfilled undefined
+6 state closed sl total 0 queue 0 requests 0
+";
+
+/// A close request waits for the abort.
+const CLOSE_WAITS_FOR_THE_ABORT: &str = "\
+writable 1 count now
+writer s0
+write l0 n1
+close l0
+abort l0 e7
+settle h0 ok
+settle h1 ok
+";
+
+const CLOSE_WAITS_FOR_THE_ABORT_PRINTS: &str = "\
+1 made s0
+2 lock l0
+3 promise p0
+  host h0 write s0 n1
+4 promise p1
+5 promise p2
+  signal s0 e7
+6 done
+  p0 fulfilled undefined
+  host h1 abort s0 e7
+7 done
+  p2 fulfilled undefined
+  p1 rejected e7
 ";

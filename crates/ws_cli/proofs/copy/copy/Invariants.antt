@@ -1,7 +1,7 @@
 use Rattle.std.proofs.Common.{◌+◌, ◌-◌}
 use Rattle.ws_io.specs.Moment.{moment}
 use Rattle.ws_cli.specs.Run.{Copied}
-use Rattle.ws_cli.specs.View.{IsAtRest}
+use Rattle.ws_cli.specs.Moments.{IsResting}
 use Rattle.ws_cli.proofs.copy.copy.Given as goal
 
 abbrev pub invariant-turns : goal.invariant-turns
@@ -10,7 +10,7 @@ invariant-turns g l = record {
       (moment (g.S.Source.faults l.fn.input) (g.S.Source.feed l.fn.input) (g.K.Sink.faults l.fn.output) (g.K.Sink.finished l.fn.output))
       (moment (g.S.Source.faults l.input) (g.S.Source.feed l.input) (g.K.Sink.faults l.output) (g.K.Sink.finished l.output))
       (g.K.Sink.got l.fn.output) (g.K.Sink.got l.output);
-  rests : IsAtRest l.realm;
+  rests : IsResting l.realm.slots;
 }
 
 abbrev pub decreases-turns : goal.decreases-turns
