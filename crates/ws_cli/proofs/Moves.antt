@@ -14,6 +14,10 @@ use Rattle.ws_steps.specs.declared.calls.Call.TheVariants.{MakeReadable, Read, E
 use Rattle.ws_steps.specs.declared.calls.Answer.TheVariants.{Ok as AnswerOk}
 use Rattle.ws_steps.specs.declared.calls.Event.{Event}
 use Rattle.ws_steps.specs.declared.calls.Event.TheVariants.{Host, Settled}
+use Rattle.ws_steps.specs.declared.calls.HostCall.{HostCall}
+use Rattle.ws_steps.specs.declared.calls.Reply.{Reply}
+use Rattle.ws_steps.specs.declared.calls.Reply.TheVariants.{Promise as PromiseReply}
+use Rattle.ws_realm.specs.Seen.{first_event, later_events}
 use Rattle.ws_steps.specs.declared.calls.HostCall.TheVariants.{Pull as HostPull}
 use Rattle.ws_steps.specs.declared.calls.StartBy.TheVariants.{Now}
 use Rattle.ws_steps.specs.declared.readable.SizeBy.TheVariants.{Count}
@@ -34,7 +38,7 @@ use Rattle.ws_steps.specs.Slots.{Slots, Stream, empty, ReadableStream, told, cal
 use Rattle.ws_steps.specs.Turns.{row, turns, performed}
 use Rattle.ws_steps.specs.Calls.{begin}
 use Rattle.ws_steps.specs.Jobs.{perform_job}
-use Rattle.ws_steps.specs.Run.{after_call, after_job, work}
+use Rattle.ws_steps.specs.Run.{after_call, after_job, reply_to, work}
 use Rattle.ws_steps.proofs.PromiseLaws.{entry_within, entry_at-with_entry_same, entry_at-with_entry_other, length-with_entry, entry_at-fresh_new, entry_at-fresh, length-fresh, jobs-fresh, settle-open, react-open}
 use Rattle.ws_cli.specs.Moments.{me, reader, resting, IsResting, awaiting, Awaits, HasEnded, answered, opened, forgotten}
 
@@ -274,7 +278,7 @@ answered-is : (m : ℕ) (call : Call) (s : Slots) (c p q : PromiseId) (es es' : 
     → after_call call (state (awaiting c p) c (quiet es n) hosts [] age) ≡ older_told (state r c (record (quiet es' n) { settlements = p ∷ [] }) hosts [] age)
     → pending_host (slice_get hosts h.0) ≡ Some q → entry_at (quiet es' n) q ≡ Some (record pending { reactions = reacting ∷ [] }) → Pulls r r'
     → answered (suc m) call h s ≡ state r' c (quiet (slice_set es' q.0 (Some (ended (Fulfilled Undefined)))) n) (slice_set hosts h.0 None) [] (age + 1 + 1 + 1)
-unfolding older_told state quiet reacting pulled
+unfolding answered older_told state quiet reacting pulled
 answered-is m call s c p q es es' n hosts age h r r' at told under_way host pulls =
     let ended_q : List (Option Entry) = slice_set es' q.0 (Some (ended (Fulfilled Undefined))) in
     let first : record (after_call call s) { events = [] } ≡ state r c (quiet es' n) hosts [] (age + 1) =
@@ -417,7 +421,7 @@ unfolding just_made just_started after_next_job perform_job start_settled call_p
 started m = ap (work (suc m)) made ∙ work-idle m just_started refl
 
 pub opened-rests : (m : ℕ) → IsResting (opened (suc m))
-unfolding just_started begin reader_generic_initialize fresh turns performed
+unfolding opened just_started begin reader_generic_initialize fresh turns performed
 opened-rests m =
     rw (started m)
     (record { disturbed = false; closed = record { 0 = 1 }; streams = refl; locks = refl; jobs = refl; told = refl; heard = refl; reader = refl })
@@ -450,3 +454,39 @@ forgotten-rests s p o over h r =
       heard = r.heard;
       reader = entry_at-with_entry_other s.promises p r.closed None (pending_apart s.promises p r.closed o e over h.entry r.reader) ∙ r.reader;
     })
+
+-- what is answered to the read, and what the host hears of
+
+read_replies : (s : Slots) → IsResting s → reply_to (Read reader) s ≡ PromiseReply (next_id s.promises)
+unfolding state quiet begin
+read_replies s h =
+    ap (reply_to (Read reader)) (as_state s (resting h.disturbed h.closed) h.closed h.streams h.locks h.jobs h.told h.heard)
+
+pub read-promises : (s : Slots) (reply : Reply) → IsResting s → reply ≡ reply_to (Read reader) s → ((p : PromiseId) → reply ≡ PromiseReply p → ⊥) → ⊥
+read-promises s reply h is other = other (next_id s.promises) (is ∙ read_replies s h)
+
+pub read-hosts : (s y : Slots) → IsResting s → y ≡ after_call (Read reader) s → first_event y.events ≡ Some (Host (record { 0 = length s.hosts }) (HostPull me))
+read-hosts s y h is = ap first_event (ap (λ (x : Slots). x.events) is ∙ read-tells s h)
+
+-- the read of the promise that is answered awaits the answer to the pull that the host hears of
+pub read-asked : (s y z : Slots) (reply : Reply) (p : PromiseId) (id : HostId) (call : HostCall)
+    → IsResting s → reply ≡ reply_to (Read reader) s → reply ≡ PromiseReply p → y ≡ after_call (Read reader) s
+    → first_event y.events ≡ Some (Host id call) → z ≡ record y { events = later_events y.events }
+    → Awaits z p id
+read-asked s y z reply p id call h replies promise is tells heard =
+    let told : y.events ≡ Host (record { 0 = length s.hosts }) (HostPull me) ∷ [] = ap (λ (x : Slots). x.events) is ∙ read-tells s h in
+    let named : PromiseReply (next_id s.promises) ≡ PromiseReply p = sym (read_replies s h) ∙ (sym replies ∙ promise) in
+    let same : next_id s.promises ≡ p = cc in
+    let first : Some (Host (record { 0 = length s.hosts }) (HostPull me)) ≡ Some (Host id call) = sym (read-hosts s y h is) ∙ tells in
+    let number : ◌≡◌ {A = HostId} (record { 0 = length s.hosts }) id = cc in
+    let left : z ≡ record (after_call (Read reader) s) { events = [] } =
+        heard ∙ (ap (λ (events : List Event). record y { events = later_events events }) told ∙ ap (λ (x : Slots). record x { events = [] }) is) in
+    subst (λ (n : HostId). Awaits z p n) number (subst (λ (x : PromiseId). Awaits z x (record { 0 = length s.hosts })) same (read-awaits s z h left))
+
+no_event : (events : List Event) → first_event events ≡ None → events ≡ []
+no_event [] h = refl
+no_event (event ∷ events) h = cc
+
+-- the host has heard of all events
+pub heard-all : (l w y : Slots) → first_event l.events ≡ None → w ≡ record l { events = later_events l.events } → ◌≡◌ {A = Slots} (record l { events = [] }) (record y { events = [] }) → w ≡ record y { events = [] }
+heard-all l w y none left same = left ∙ (ap (λ (events : List Event). record l { events = later_events events }) (no_event l.events none) ∙ same)

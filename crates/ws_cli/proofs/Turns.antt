@@ -1,9 +1,11 @@
 -- How the ends of a turn are made of what its parts did.
-use Rattle.std.proofs.Common.{◌≡◌, ℕ, ◌+◌, ◌<◌, ◌≤◌, Bool, true, false, List, [], ◌∷◌, length, refl, sym, ◌∙◌, ap, length-append, arith}
+use Rattle.std.proofs.Common.{◌≡◌, ℕ, ◌+◌, ◌<◌, ◌≤◌, Bool, true, false, List, [], ◌∷◌, length, refl, sym, ◌∙◌, ap, length-append, arith, rules}
 use Rattle.std.specs.Option.{option_map}
-use Rattle.std.specs.Prelude.{Option, option_and_then, Some, Result, Ok, Err, nat_lt, ◌==◌}
+use Rattle.std.specs.Prelude.{Option, option_and_then, Some, IsSome, Result, Ok, Err, nat_lt, ◌==◌}
 use Rattle.std.proofs.lemmas.Bool.Decides.{nat_tests}
-use Rattle.ws_value.specs.declared.value.Value.TheVariants.{Bytes}
+use Rattle.ws_value.specs.declared.fault.Fault.TheVariants.{TooMuch}
+use Rattle.ws_value.specs.declared.value.Plain.TheVariants.{Undefined, Fault as FaultReason}
+use Rattle.ws_value.specs.declared.value.Value.TheVariants.{Plain as PlainValue, Bytes}
 use Rattle.ws_value.specs.declared.value.Outcome.{Outcome}
 use Rattle.ws_value.specs.declared.ids.PromiseId.{PromiseId}
 use Rattle.ws_value.specs.declared.value.Outcome.TheVariants.{Pending, Fulfilled, Given, Finished, Rejected}
@@ -27,6 +29,19 @@ pub outcome-given : (most : ℕ) (piece : List ℕ) → (length piece == 0) ≡ 
 outcome-given most piece some short =
     let fits : nat_lt most (length piece) ≡ false = grind (arith, nat_tests) in
     rw (some, fits) refl
+
+-- an empty piece closes the stream, and one that is too long errors it
+pub outcome-finished : (most : ℕ) (piece : List ℕ) → (length piece == 0) ≡ true → outcome_of most (Ok piece) ≡ Finished (PlainValue Undefined)
+outcome-finished most piece none = rw none refl
+
+pub outcome-too_much : (most : ℕ) (piece : List ℕ) → (length piece == 0) ≡ false → most < length piece → outcome_of most (Ok piece) ≡ Rejected (FaultReason TooMuch)
+outcome-too_much most piece some long =
+    let more : nat_lt most (length piece) ≡ true = grind (arith, nat_tests) in
+    rw (some, more) refl
+
+-- how a promise has ended in the same slots
+pub ended-so : (s z : Slots) (p : PromiseId) (o o' : Outcome) → z ≡ s → o ≡ o' → HasEnded s p o' → HasEnded z p o
+ended-so s z p o o' slots outcome h = rw (slots, outcome) h
 
 -- an outcome is one of those that a read can have
 run_outcome_by : (empty long : Bool) (piece : List ℕ) → IsRunOutcome (outcome_by empty long piece)
@@ -233,6 +248,9 @@ rests-from (Fulfilled v) (Moved count) r r' old new p q hands rests forget = abs
 pub outcome-named : (s : Slots) (promise : PromiseId) (outcome : Outcome) → HasEnded s promise outcome → outcome_named promise s ≡ Some outcome
 outcome-named s promise outcome h =
     ap (λ (entry : Option Entry). where_named (option_and_then (λ (e : Entry). e.rank) entry) (option_map (λ (e : Entry). e.outcome) entry)) h.entry
+
+pub outcome-some : (s : Slots) (promise : PromiseId) (outcome : Outcome) → HasEnded s promise outcome → IsSome (outcome_named promise s)
+outcome-some s promise outcome h = let named = outcome-named s promise outcome h in rw named (search rules)
 
 -- the outcome that is read is the one with which the promise settled
 pub outcome-ended : (s : Slots) (promise : PromiseId) (outcome seen : Outcome) → HasEnded s promise outcome → outcome_named promise s ≡ Some seen → seen ≡ outcome

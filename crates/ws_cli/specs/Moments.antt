@@ -71,11 +71,11 @@ pub record HasEnded (s : Slots) (p : PromiseId) (outcome : Outcome) : Type 0 whe
   pub entry : entry_at s.promises p ≡ Some (ended_as outcome (record pending { rank = Some rank }))
 
 -- the host answers the pull `h` by a call, of whose event it has heard, and at most so many jobs follow
-abbrev pub answered : ℕ → Call → HostId → Slots → Slots
+unfoldable pub answered : ℕ → Call → HostId → Slots → Slots
 answered jobs call h s = work jobs (after_call (Settle h AnswerOk) (record (after_call call s) { events = [] }))
 
 -- the stream is made and started, and a reader takes it
-abbrev pub opened : ℕ → Slots
+unfoldable pub opened : ℕ → Slots
 opened jobs = after_call (GetReader me) (work jobs (after_call (MakeReadable 0 Count Now) empty))
 
 -- the promise of a read is let go of

@@ -29,15 +29,16 @@ fn rank_named(reply: &Reply, realm: &Realm) -> Option<u64>
     }
 }
 
-fn append_event(text: &mut Vec<u8>, realm: &Realm, event: &Event) -> Result<(), NoMemory>
-    ensures { OnOk result (text.new.items ≡ text.old.items ++ event_text realm.now.slots event.now) }
+/// Appends the line of an event.
+fn append_event(text: &mut Vec<u8>, realm: &Realm, event: Event) -> Result<(), NoMemory>
+    ensures { OnOk result (text.new.items ≡ text.old.items ++ event_text realm.now.slots event) }
 {
     match event {
-        Event::Host { id, call } => print_host(text, *id, call),
+        Event::Host { id, call } => print_host(text, id, &call),
         Event::Settled(promise) => {
-            print_settled(text, realm.rank(*promise), realm.outcome(*promise))
+            print_settled(text, realm.rank(promise), realm.outcome(promise))
         }
-        Event::Signal { stream, reason } => print_signal(text, *stream, *reason),
+        Event::Signal { stream, reason } => print_signal(text, stream, reason),
     }
 }
 
@@ -49,7 +50,7 @@ fn append_events(text: &mut Vec<u8>, realm: &mut Realm) -> Result<(), NoMemory>
     ensures partly { IsPartlyHeard realm.old.slots realm.new.slots }
 {
     while let Some(event) = realm.next_event() {
-        append_event(text, realm, &event)?;
+        append_event(text, realm, event)?;
     }
     Ok(())
 }

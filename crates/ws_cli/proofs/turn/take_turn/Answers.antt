@@ -2,9 +2,10 @@ use Rattle.std.proofs.Common.{◌≡◌, ◌∙◌, sym, subst, arith}
 use Rattle.ws_value.specs.declared.value.Outcome.{Outcome}
 use Rattle.ws_io.specs.Moment.{moment}
 use Rattle.ws_cli.specs.Turn.{Shown, HandsOn, outcome_of}
-use Rattle.ws_cli.specs.View.{HasEnded, RestsAfter}
+use Rattle.ws_cli.specs.Moments.{HasEnded, IsResting, RestsAfter}
+use Rattle.ws_cli.proofs.Moves.{forgotten-rests}
 use Rattle.ws_cli.proofs.Oks.{from_on_ok}
-use Rattle.ws_cli.proofs.Turns.{Ends-at_once, turns-from, rests-from, outcome-ended}
+use Rattle.ws_cli.proofs.Turns.{Ends-at_once, Ends-unwritten, outcome-some, turns-from, rests-from, outcome-ended}
 use Rattle.ws_cli.proofs.turn.take_turn.Goals as goal
 
 pub returns-in_default-clause-turn : goal.returns-in_default-clause-turn
@@ -16,14 +17,26 @@ returns-in_default-read_piece-clause-turn g c =
     rw c.in_default-read_piece.ensures.none
     (Ends-at_once c.args.most (moment (g.S.Source.faults c.args.input.now) (g.S.Source.feed c.args.input.now) (g.K.Sink.faults c.args.output.now) (g.K.Sink.finished c.args.output.now)) (g.K.Sink.got c.args.output.now))
 
+pub outcome-requires : goal.outcome-requires
+outcome-requires g c =
+    let o : Outcome = outcome_of c.args.most c.in-Ok-read_piece.piece in
+    let ended : HasEnded c.answer_with.new.realm.slots c.in-Ok.asked.promise o =
+        from_on_ok c.answer_with.result _ (sym c.is_err.ensures.value ∙ c.if-is_err.false) c.answer_with.ensures.outcome in
+    outcome-some c.answer_with.new.realm.slots c.in-Ok.asked.promise o ended
+
+pub returns-then-is_err-clause-turn : goal.returns-then-is_err-clause-turn
+returns-then-is_err-clause-turn g c =
+    Ends-unwritten c.args.most c.min-want.result (g.S.Source.feed c.args.input.now) (g.S.Source.feed c.read_piece.new.input) (g.S.Source.faults c.args.input.now) (g.S.Source.faults c.read_piece.new.input)
+    (g.K.Sink.faults c.args.output.now) (g.K.Sink.finished c.args.output.now) (g.K.Sink.got c.args.output.now) c.in-Ok-read_piece.piece c.in-Ok-read_piece.ensures.piece (omega arith) (omega arith)
+
 pub returns-clause-turn : goal.returns-clause-turn
 returns-clause-turn g c =
     let before : Shown = record { faults = g.K.Sink.faults c.args.output.now; finished = g.K.Sink.finished c.args.output.now } in
     let after : Shown = record { faults = g.K.Sink.faults c.hand_on-turn.new.output; finished = g.K.Sink.finished c.hand_on-turn.new.output } in
-    let ended : HasEnded c.answer.new.realm c.in-Ok.read (outcome_of c.args.most c.in-Ok-read_piece.piece) =
-    from_on_ok c.answer.result _ (sym c.is_err.ensures.value ∙ c.if-is_err.false) (c.answer.ensures.outcome c.in-Ok.read c.in-Ok.ensures) in
+    let ended : HasEnded c.answer_with.new.realm.slots c.in-Ok.asked.promise (outcome_of c.args.most c.in-Ok-read_piece.piece) =
+        from_on_ok c.answer_with.result _ (sym c.is_err.ensures.value ∙ c.if-is_err.false) c.answer_with.ensures.outcome in
     let is : c.outcome.result.now ≡ outcome_of c.args.most c.in-Ok-read_piece.piece =
-    outcome-ended c.answer.new.realm c.in-Ok.read (outcome_of c.args.most c.in-Ok-read_piece.piece) c.outcome.result.now ended c.outcome.ensures in
+        outcome-ended c.answer_with.new.realm.slots c.in-Ok.asked.promise (outcome_of c.args.most c.in-Ok-read_piece.piece) c.outcome.result.now ended c.outcome.ensures in
     turns-from c.args.most c.min-want.result _ _ _ _ before after _ _ c.in-Ok-read_piece.piece c.hand_on-turn.result c.in-Ok-read_piece.ensures.piece (omega arith) (omega arith)
     (subst (λ (o : Outcome). HandsOn o c.hand_on-turn.result before after (g.K.Sink.got c.args.output.now) (g.K.Sink.got c.hand_on-turn.new.output)) is c.hand_on-turn.ensures)
 
@@ -33,9 +46,10 @@ returns-clause-rests g c =
     let after : Shown = record { faults = g.K.Sink.faults c.hand_on-turn.new.output; finished = g.K.Sink.finished c.hand_on-turn.new.output } in
     let calm = sym c.is_err.ensures.value ∙ c.if-is_err.false in
     let o : Outcome = outcome_of c.args.most c.in-Ok-read_piece.piece in
-    let ended : HasEnded c.answer.new.realm c.in-Ok.read o = from_on_ok c.answer.result _ calm (c.answer.ensures.outcome c.in-Ok.read c.in-Ok.ensures) in
-    let rests : RestsAfter o c.answer.new.realm = from_on_ok c.answer.result _ calm (c.answer.ensures.rests c.in-Ok.read c.in-Ok.ensures) in
-    let is : c.outcome.result.now ≡ o = outcome-ended c.answer.new.realm c.in-Ok.read o c.outcome.result.now ended c.outcome.ensures in
-    rests-from o c.hand_on-turn.result c.answer.new.realm c.forget.new.self before after (g.K.Sink.got c.args.output.now) (g.K.Sink.got c.hand_on-turn.new.output)
+    let ended : HasEnded c.answer_with.new.realm.slots c.in-Ok.asked.promise o = from_on_ok c.answer_with.result _ calm c.answer_with.ensures.outcome in
+    let rests : RestsAfter o c.answer_with.new.realm.slots = from_on_ok c.answer_with.result _ calm c.answer_with.ensures.rests in
+    let is : c.outcome.result.now ≡ o = outcome-ended c.answer_with.new.realm.slots c.in-Ok.asked.promise o c.outcome.result.now ended c.outcome.ensures in
+    rests-from o c.hand_on-turn.result c.answer_with.new.realm.slots c.forget.new.self.slots before after (g.K.Sink.got c.args.output.now) (g.K.Sink.got c.hand_on-turn.new.output)
     (subst (λ (v : Outcome). HandsOn v c.hand_on-turn.result before after (g.K.Sink.got c.args.output.now) (g.K.Sink.got c.hand_on-turn.new.output)) is c.hand_on-turn.ensures)
-    rests (λ over rest. c.forget.ensures.rests o over ended rest)
+    rests
+    (λ over rest. subst IsResting (sym c.forget.ensures.slots) (forgotten-rests c.answer_with.new.realm.slots c.in-Ok.asked.promise o over ended rest))

@@ -1,0 +1,18 @@
+use Rattle.std.proofs.Common.{sym, ◌∙◌, ap, subst}
+use Rattle.ws_steps.specs.declared.calls.Call.TheVariants.{MakeReadable, GetReader}
+use Rattle.ws_steps.specs.declared.calls.StartBy.TheVariants.{Now}
+use Rattle.ws_steps.specs.declared.readable.SizeBy.TheVariants.{Count}
+use Rattle.ws_steps.specs.Run.{after_call, work}
+use Rattle.ws_cli.specs.Moments.{IsResting, me, opened, jobs_of_a_turn}
+use Rattle.ws_cli.proofs.Moves.{opened-rests}
+use Rattle.ws_cli.proofs.Oks.{from_on_ok}
+use Rattle.ws_cli.proofs.realm.open.Goals as goal
+
+pub returns : goal.returns
+unfolding opened
+returns c =
+    let worked = from_on_ok c.work.result _ (sym c.is_err.ensures.value ∙ c.if-is_err.false) c.work.ensures.slots in
+    subst IsResting
+    (sym (c.in-Ok-call.ensures.slots
+    ∙ ap (after_call (GetReader me)) (worked ∙ ap (work jobs_of_a_turn) (c.in-Ok.ensures.slots ∙ ap (after_call (MakeReadable 0 Count Now)) c.in_ok-realm.ensures.0))))
+    (opened-rests 99999)
