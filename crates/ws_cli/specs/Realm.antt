@@ -7,9 +7,9 @@ use Rattle.ws_value.specs.declared.value.Plain.TheVariants.{Undefined}
 use Rattle.ws_value.specs.declared.value.Value.{Value}
 use Rattle.ws_steps.specs.declared.calls.StartBy.TheVariants.{Now}
 use Rattle.ws_steps.specs.declared.effects.Effect.{Effect}
-use Rattle.ws_steps.specs.declared.effects.Effect.TheVariants.{Start, Pull, Cancel}
+use Rattle.ws_steps.specs.declared.effects.Effect.TheVariants.{Start, Pull, Cancel, StartWritable, Write, Close, Abort}
 use Rattle.ws_steps.specs.declared.promises.Step.{Step}
-use Rattle.ws_steps.specs.declared.promises.Step.TheVariants.{ReadableStart, ReadablePull, ReturnUndefined}
+use Rattle.ws_steps.specs.declared.promises.Step.TheVariants.{ReadableStart, ReadablePull, ReturnUndefined, WritableStart, WritableWrite, WritableClose, WritableAbort}
 use Rattle.ws_steps.specs.declared.promises.Reaction.TheVariants.{Perform}
 use Rattle.ws_steps.specs.declared.promises.Job.{Job}
 use Rattle.ws_steps.specs.declared.promises.Job.TheVariants.{Reaction, Follow, Settle}
@@ -33,7 +33,7 @@ abbrev pub acts_on : World → Acts
 acts_on w = record { slots = w.stream; out = record { promises = w.promises; effects = [] } }
 
 -- an effect performed. The start algorithm gives undefined at once; a pull is recorded for the host, which answers later;
--- nobody cancels the stream
+-- nobody cancels the stream, and there is no writable one
 abbrev pub performed : World → Effect → World
 performed w (Start s start) =
     let p = next_id w.promises in
@@ -42,6 +42,10 @@ performed w (Pull s) =
     let p = next_id w.promises in
     record w { promises = react p (Perform (ReadablePull s) None) (fresh w.promises); pull = Some p }
 performed w (Cancel s reason p) = w
+performed w (StartWritable s start) = w
+performed w (Write s v) = w
+performed w (Close s) = w
+performed w (Abort s reason p) = w
 
 abbrev pub performed_all : World → List Effect → World
 performed_all w [] = w
@@ -71,6 +75,10 @@ abbrev pub perform_step : Step → Result Plain Plain → World → World
 perform_step (ReadableStart s) outcome w = on_stream (start_settled s outcome) w
 perform_step (ReadablePull s) outcome w = on_stream (pull_settled s outcome) w
 perform_step ReturnUndefined outcome w = w
+perform_step (WritableStart s) outcome w = w
+perform_step (WritableWrite s) outcome w = w
+perform_step (WritableClose s) outcome w = w
+perform_step (WritableAbort s p) outcome w = w
 
 -- a derived promise is resolved with what the step returned, which is undefined
 abbrev pub resolve_derived : Option PromiseId → World → World

@@ -68,6 +68,10 @@ impl Realm {
                 Ok(())
             }
             Effect::Cancel(_, _, _) => Ok(()),
+            Effect::StartWritable(_, _) => Ok(()),
+            Effect::Write(_, _) => Ok(()),
+            Effect::Close(_) => Ok(()),
+            Effect::Abort(_, _, _) => Ok(()),
         }
     }
 
@@ -102,6 +106,10 @@ impl Realm {
                 self.perform_effects()
             }
             Step::ReturnUndefined => Ok(()),
+            Step::WritableStart(_) => Ok(()),
+            Step::WritableWrite(_) => Ok(()),
+            Step::WritableClose(_) => Ok(()),
+            Step::WritableAbort(_, _) => Ok(()),
         }
     }
 
