@@ -19,16 +19,14 @@ impl Tables {
         ensures slots { OnOk result (slots_of self.new ≡ performed (calls.begin (call.Closed l) (slots_of self.old)).done) }
         ensures quiet { OnOk result (self.new.agenda.effects ≡ []) }
     {
-        let Some(lock) = self.lock(l) else {
-            return self.replies(UNSUPPORTED);
-        };
-        match lock {
-            Lock::Reader { stream: _, closed } => self.replies(Reply::Promise(closed)),
-            Lock::Writer(i) => match self.writer(i) {
+        match self.lock(l) {
+            Some(Lock::Reader { closed, .. }) => self.replies(Reply::Promise(closed)),
+            Some(Lock::Writer(i)) => match self.writer(i) {
                 Some(writer) => self.replies(Reply::Promise(writer.closed)),
                 None => self.replies(UNSUPPORTED),
             },
-            Lock::ReleasedWriter(writer) => self.replies(Reply::Promise(writer.closed)),
+            Some(Lock::ReleasedWriter(writer)) => self.replies(Reply::Promise(writer.closed)),
+            None => self.replies(UNSUPPORTED),
         }
     }
 
@@ -39,19 +37,13 @@ impl Tables {
         ensures slots { OnOk result (slots_of self.new ≡ performed (calls.begin (call.Ready l) (slots_of self.old)).done) }
         ensures quiet { OnOk result (self.new.agenda.effects ≡ []) }
     {
-        let Some(lock) = self.lock(l) else {
-            return self.replies(UNSUPPORTED);
-        };
-        match lock {
-            Lock::Reader {
-                stream: _,
-                closed: _,
-            } => self.replies(UNSUPPORTED),
-            Lock::Writer(i) => match self.writer(i) {
+        match self.lock(l) {
+            Some(Lock::Writer(i)) => match self.writer(i) {
                 Some(writer) => self.replies(Reply::Promise(writer.ready)),
                 None => self.replies(UNSUPPORTED),
             },
-            Lock::ReleasedWriter(writer) => self.replies(Reply::Promise(writer.ready)),
+            Some(Lock::ReleasedWriter(writer)) => self.replies(Reply::Promise(writer.ready)),
+            Some(Lock::Reader { .. }) | None => self.replies(UNSUPPORTED),
         }
     }
 
@@ -62,28 +54,25 @@ impl Tables {
         ensures slots { OnOk result (slots_of self.new ≡ performed (calls.begin (call.Release l) (slots_of self.old)).done) }
         ensures quiet { OnOk result (self.new.agenda.effects ≡ []) }
     {
-        let Some(lock) = self.lock(l) else {
-            return self.replies(UNSUPPORTED);
-        };
-        match lock {
-            Lock::Reader {
-                stream: Some(i),
-                closed,
-            } => {
+        match self.lock(l) {
+            Some(
+                Lock::Reader {
+                    stream: Some(i),
+                    closed,
+                },
+            ) => {
                 if !self.has_readable(i) {
                     return self.replies(UNSUPPORTED);
                 }
                 self.release_reader(l, closed, i)
             }
-            Lock::Reader {
-                stream: None,
-                closed: _,
-            } => self.replies(Reply::Done),
-            Lock::Writer(i) => match self.writer(i) {
+            Some(Lock::Reader { stream: None, .. }) => self.replies(Reply::Done),
+            Some(Lock::Writer(i)) => match self.writer(i) {
                 Some(writer) => self.release_writer(l, i, writer),
                 None => self.replies(UNSUPPORTED),
             },
-            Lock::ReleasedWriter(_) => self.replies(Reply::Done),
+            Some(Lock::ReleasedWriter(_)) => self.replies(Reply::Done),
+            None => self.replies(UNSUPPORTED),
         }
     }
 }

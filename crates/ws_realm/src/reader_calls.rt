@@ -69,25 +69,20 @@ impl Tables {
         ensures slots { OnOk result (slots_of self.new ≡ performed (calls.begin (call.CancelBy l reason) (slots_of self.old)).done) }
         ensures quiet { OnOk result (self.new.agenda.effects ≡ []) }
     {
-        let Some(lock) = self.lock(l) else {
-            return self.replies(UNSUPPORTED);
-        };
-        match lock {
-            Lock::Reader {
-                stream: Some(i),
-                closed: _,
-            } => {
+        match self.lock(l) {
+            Some(
+                Lock::Reader {
+                    stream: Some(i),
+                    ..
+                },
+            ) => {
                 if !self.has_readable(i) {
                     return self.replies(UNSUPPORTED);
                 }
                 self.cancel_stream(i, reason)
             }
-            Lock::Reader {
-                stream: None,
-                closed: _,
-            } => self.rejected(),
-            Lock::Writer(_) => self.replies(UNSUPPORTED),
-            Lock::ReleasedWriter(_) => self.replies(UNSUPPORTED),
+            Some(Lock::Reader { stream: None, .. }) => self.rejected(),
+            Some(Lock::Writer(_) | Lock::ReleasedWriter(_)) | None => self.replies(UNSUPPORTED),
         }
     }
 
@@ -98,25 +93,20 @@ impl Tables {
         ensures slots { OnOk result (slots_of self.new ≡ performed (calls.begin (call.Read l) (slots_of self.old)).done) }
         ensures quiet { OnOk result (self.new.agenda.effects ≡ []) }
     {
-        let Some(lock) = self.lock(l) else {
-            return self.replies(UNSUPPORTED);
-        };
-        match lock {
-            Lock::Reader {
-                stream: Some(i),
-                closed: _,
-            } => {
+        match self.lock(l) {
+            Some(
+                Lock::Reader {
+                    stream: Some(i),
+                    ..
+                },
+            ) => {
                 if !self.has_readable(i) {
                     return self.replies(UNSUPPORTED);
                 }
                 self.read_stream(i)
             }
-            Lock::Reader {
-                stream: None,
-                closed: _,
-            } => self.rejected(),
-            Lock::Writer(_) => self.replies(UNSUPPORTED),
-            Lock::ReleasedWriter(_) => self.replies(UNSUPPORTED),
+            Some(Lock::Reader { stream: None, .. }) => self.rejected(),
+            Some(Lock::Writer(_) | Lock::ReleasedWriter(_)) | None => self.replies(UNSUPPORTED),
         }
     }
 }

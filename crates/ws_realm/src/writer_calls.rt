@@ -53,21 +53,15 @@ impl Tables {
         ensures slots { OnOk result (slots_of self.new ≡ performed (calls.begin (call.Write l chunk) (slots_of self.old)).done) }
         ensures quiet { OnOk result (self.new.agenda.effects ≡ []) }
     {
-        let Some(lock) = self.lock(l) else {
-            return self.replies(UNSUPPORTED);
-        };
-        match lock {
-            Lock::Writer(i) => {
+        match self.lock(l) {
+            Some(Lock::Writer(i)) => {
                 if !self.has_writable(i) {
                     return self.replies(UNSUPPORTED);
                 }
                 self.write_stream(i, chunk)
             }
-            Lock::ReleasedWriter(_) => self.rejected(),
-            Lock::Reader {
-                stream: _,
-                closed: _,
-            } => self.replies(UNSUPPORTED),
+            Some(Lock::ReleasedWriter(_)) => self.rejected(),
+            Some(Lock::Reader { .. }) | None => self.replies(UNSUPPORTED),
         }
     }
 
@@ -94,21 +88,15 @@ impl Tables {
         ensures slots { OnOk result (slots_of self.new ≡ performed (calls.begin (call.CloseBy l) (slots_of self.old)).done) }
         ensures quiet { OnOk result (self.new.agenda.effects ≡ []) }
     {
-        let Some(lock) = self.lock(l) else {
-            return self.replies(UNSUPPORTED);
-        };
-        match lock {
-            Lock::Writer(i) => {
+        match self.lock(l) {
+            Some(Lock::Writer(i)) => {
                 if !self.has_writable(i) {
                     return self.replies(UNSUPPORTED);
                 }
                 self.close_stream(i)
             }
-            Lock::ReleasedWriter(_) => self.rejected(),
-            Lock::Reader {
-                stream: _,
-                closed: _,
-            } => self.replies(UNSUPPORTED),
+            Some(Lock::ReleasedWriter(_)) => self.rejected(),
+            Some(Lock::Reader { .. }) | None => self.replies(UNSUPPORTED),
         }
     }
 
@@ -135,21 +123,15 @@ impl Tables {
         ensures slots { OnOk result (slots_of self.new ≡ performed (calls.begin (call.AbortBy l reason) (slots_of self.old)).done) }
         ensures quiet { OnOk result (self.new.agenda.effects ≡ []) }
     {
-        let Some(lock) = self.lock(l) else {
-            return self.replies(UNSUPPORTED);
-        };
-        match lock {
-            Lock::Writer(i) => {
+        match self.lock(l) {
+            Some(Lock::Writer(i)) => {
                 if !self.has_writable(i) {
                     return self.replies(UNSUPPORTED);
                 }
                 self.abort_stream(i, reason)
             }
-            Lock::ReleasedWriter(_) => self.rejected(),
-            Lock::Reader {
-                stream: _,
-                closed: _,
-            } => self.replies(UNSUPPORTED),
+            Some(Lock::ReleasedWriter(_)) => self.rejected(),
+            Some(Lock::Reader { .. }) | None => self.replies(UNSUPPORTED),
         }
     }
 
@@ -160,22 +142,16 @@ impl Tables {
         ensures slots { OnOk result (slots_of self.new ≡ performed (calls.begin (call.DesiredBy l) (slots_of self.old)).done) }
         ensures quiet { OnOk result (self.new.agenda.effects ≡ []) }
     {
-        let Some(lock) = self.lock(l) else {
-            return self.replies(UNSUPPORTED);
-        };
-        match lock {
-            Lock::Writer(i) => {
+        match self.lock(l) {
+            Some(Lock::Writer(i)) => {
                 if !self.has_writable(i) {
                     return self.replies(UNSUPPORTED);
                 }
                 let size = self.writable(i).desired_size();
                 self.replies(Reply::Size(size))
             }
-            Lock::ReleasedWriter(_) => self.replies(TYPE_ERROR),
-            Lock::Reader {
-                stream: _,
-                closed: _,
-            } => self.replies(UNSUPPORTED),
+            Some(Lock::ReleasedWriter(_)) => self.replies(TYPE_ERROR),
+            Some(Lock::Reader { .. }) | None => self.replies(UNSUPPORTED),
         }
     }
 }
