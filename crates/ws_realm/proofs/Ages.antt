@@ -1,41 +1,52 @@
 -- No operation changes how many calls and jobs were performed.
 use Rattle.std.proofs.Common.{◌≡◌, ℕ, zero, suc, Bool, true, false, List, [], ◌∷◌, Option, Some, None, refl, ◌∙◌}
-use Rattle.std.specs.Prelude.{if◌then◌else◌, nat_lt, Result, length, slice_set, ◌++◌}
+use Rattle.std.specs.Prelude.{if◌then◌else◌, nat_lt, Result, length}
 use Rattle.ws_value.specs.declared.ids.HostId.{HostId}
+use Rattle.ws_value.specs.declared.ids.LockId.{LockId}
 use Rattle.ws_value.specs.declared.ids.PromiseId.{PromiseId}
 use Rattle.ws_value.specs.declared.ids.StreamId.{StreamId}
 use Rattle.ws_value.specs.declared.value.Plain.{Plain}
-use Rattle.ws_steps.specs.declared.calls.Call.{Call}
-use Rattle.ws_steps.specs.declared.calls.Call.TheVariants.{MakeReadable, GetReader, Cancel, CancelBy, Read, Closed, Release, Enqueue, Finish, Fail, Desired, DesiredBy, Settle, State, Step}
 use Rattle.ws_steps.specs.declared.calls.Answer.{Answer}
+use Rattle.ws_steps.specs.declared.calls.Call.{Call}
+use Rattle.ws_steps.specs.declared.calls.Call.TheVariants.{MakeReadable, MakeWritable, GetReader, GetWriter, Cancel, CancelBy, Read, Write, Close, CloseBy, Abort, AbortBy, Closed, Ready, Release, Enqueue, Finish, Fail, Desired, DesiredBy, Settle, State, Step}
 use Rattle.ws_steps.specs.declared.calls.Reply.{Reply}
 use Rattle.ws_steps.specs.declared.calls.Reply.TheVariants.{Done as ReplyDone, Made, Lock as ReplyLock, Promise, Size, State as ReplyState, Throws, TooMany}
+use Rattle.ws_steps.specs.declared.calls.StartBy.{StartBy}
 use Rattle.ws_steps.specs.declared.calls.StartBy.TheVariants.{Now, Later}
 use Rattle.ws_steps.specs.declared.effects.Effect.{Effect}
-use Rattle.ws_steps.specs.declared.effects.Effect.TheVariants.{Start, Pull, Cancel as CancelEffect}
+use Rattle.ws_steps.specs.declared.effects.Effect.TheVariants.{Start, Pull, Cancel as CancelEffect, StartWritable, Write as WriteEffect, Close as CloseEffect, Abort as AbortEffect}
+use Rattle.ws_steps.specs.declared.locks.Lock.{Lock}
+use Rattle.ws_steps.specs.declared.locks.Lock.TheVariants.{Reader as ReaderLock, Writer as WriterLock, ReleasedWriter}
 use Rattle.ws_steps.specs.declared.promises.Job.{Job}
 use Rattle.ws_steps.specs.declared.promises.Job.TheVariants.{Reaction, Follow, Settle as SettleJob}
 use Rattle.ws_steps.specs.declared.promises.Step.{Step as ReactionStep}
-use Rattle.ws_steps.specs.declared.promises.Step.TheVariants.{ReadableStart, ReadablePull, ReturnUndefined}
-use Rattle.ws_steps.specs.declared.readable.Lock.{Lock}
-use Rattle.ws_steps.specs.Calls.{Begun, begin, begun, named, on_readable, by_stream, by_lock, settle_host, replies, unsupported, throws_type_error, rejected, most_streams, make_readable, get_reader, cancel, read, release, if_it_can, is_locked, desired_by, state_of}
+use Rattle.ws_steps.specs.declared.promises.Step.TheVariants.{ReadableStart, ReadablePull, ReturnUndefined, WritableStart, WritableWrite, WritableClose, WritableAbort}
+use Rattle.ws_steps.specs.declared.writable.Writer.{Writer}
+use Rattle.ws_steps.specs.Calls.{Begun, begin, begun, named, replies, unsupported, throws_type_error, rejected, for_readable, for_writable, add_stream, make_stream, most_streams, make_readable, make_writable, get_reader, get_writer, cancel, read, write, close, abort, by_reader, by_writer, of_writer, closed_by, ready_by, release_reader, release_writer, release, with_lock, if_it_can, fail, desired, desired_of_writer, look, settle_host, unlocked_readable, unlocked_writable}
 use Rattle.ws_steps.specs.Jobs.{perform_step, perform_job, resolve_derived, returned}
-use Rattle.ws_steps.specs.Promises.{Table, next_id, fresh, next_job, first_job, after_next_job}
+use Rattle.ws_steps.specs.Promises.{Table, next_id, next_job, first_job, after_next_job}
 use Rattle.ws_steps.specs.Queues.{is_empty}
-use Rattle.ws_steps.specs.Readable.{Acts, initialized, can_close_or_enqueue, set_up, reader_generic_initialize, default_reader_read, reader_release, released, stream_cancel, controller_enqueue, controller_close, controller_error, start_settled, pull_settled}
-use Rattle.ws_steps.specs.declared.readable.ReadRequest.TheVariants.{Promise as PromiseRequest}
-use Rattle.ws_steps.specs.declared.readable.SizeBy.{SizeBy}
-use Rattle.ws_steps.specs.declared.calls.StartBy.{StartBy}
-use Rattle.ws_value.specs.declared.ids.LockId.{LockId}
-use Rattle.ws_steps.specs.Slots.{Slots, Done, call_host, has_stream, stream_at, on_stream, lock_at, host_at}
-use Rattle.ws_steps.specs.Turns.{Agenda, row, turn, turns, credits, performed}
+use Rattle.ws_steps.specs.Readable as readable
+use Rattle.ws_steps.specs.ReadableLooks as readable_looks
+use Rattle.ws_steps.specs.Writable as writable
+use Rattle.ws_steps.specs.WritableLooks as writable_looks
+use Rattle.ws_steps.specs.Slots.{Slots, Done, call_host, has_readable, has_writable, readable_at, writable_at, on_readable, on_writable, signalled, lock_at, host_at}
+use Rattle.ws_steps.specs.Turns.{Agenda, row, turn, turns, credits, performed, started}
+
+started-age : (i : StreamId) (step : ReactionStep) (start : StartBy) (s : Slots) → (started i step start s).age ≡ s.age
+unfolding call_host
+started-age i step Now s = refl
+started-age i step Later s = refl
 
 row-age : (e : Effect) (s : Slots) → (row e s).slots.age ≡ s.age
 unfolding row call_host
-row-age (Start i Now) s = refl
-row-age (Start i Later) s = refl
+row-age (Start i start) s = started-age i (ReadableStart i) start s
 row-age (Pull i) s = refl
 row-age (CancelEffect i reason p) s = refl
+row-age (StartWritable i start) s = started-age i (WritableStart i) start s
+row-age (WriteEffect i v) s = refl
+row-age (CloseEffect i) s = refl
+row-age (AbortEffect i reason p) s = refl
 
 turn-age : (s : Slots) (es : List Effect) → (turn s es).slots.age ≡ s.age
 turn-age s [] = refl
@@ -54,74 +65,131 @@ either : (b : Bool) (x y : Done) (n : ℕ) → x.slots.age ≡ n → y.slots.age
 either true x y n p q = p
 either false x y n p q = q
 
-on_stream-age : (operation : Acts → Acts) (i : StreamId) (s : Slots) → (on_stream operation i s).slots.age ≡ s.age
-on_stream-age operation i s = either (has_stream i s) _ _ s.age refl refl
+on_readable-age : (operation : readable.Acts → readable.Acts) (i : StreamId) (s : Slots) → (on_readable operation i s).slots.age ≡ s.age
+on_readable-age operation i s = either (has_readable i s) _ _ s.age refl refl
+
+on_writable-age : (operation : writable.Acts → writable.Acts) (i : StreamId) (s : Slots) → (on_writable operation i s).slots.age ≡ s.age
+on_writable-age operation i s = either (has_writable i s) _ _ s.age refl refl
+
+older-if : (b : Bool) (x y : Slots) (n : ℕ) → x.age ≡ n → y.age ≡ n → (if b then x else y).age ≡ n
+older-if true x y n p q = p
+older-if false x y n p q = q
+
+signalled-age : (i : StreamId) (reason : Plain) (s : Slots) → (signalled i reason s).age ≡ s.age
+signalled-age i reason s = older-if (writable.is_first_abort (writable_at i s)) _ _ s.age refl refl
 
 choice : (b : Bool) (x y : Begun) (n : ℕ) → x.done.slots.age ≡ n → y.done.slots.age ≡ n → (if b then x else y).done.slots.age ≡ n
 choice true x y n p q = p
 choice false x y n p q = q
 
-readable-age : (i : StreamId) (operation : Slots → Begun) (s : Slots) → (operation s).done.slots.age ≡ s.age → (on_readable i operation s).done.slots.age ≡ s.age
-readable-age i operation s same = choice (has_stream i s) (operation s) (unsupported s) s.age same refl
+for_readable-age : (i : StreamId) (operation : Slots → Begun) (s : Slots) → (operation s).done.slots.age ≡ s.age → (for_readable i operation s).done.slots.age ≡ s.age
+for_readable-age i operation s same = choice (has_readable i s) (operation s) (unsupported s) s.age same refl
 
-stream-age : (o : Option StreamId) (holding : StreamId → Slots → Begun) (free : Slots → Begun) (s : Slots) → ((i : StreamId) → (holding i s).done.slots.age ≡ s.age)
-    → (free s).done.slots.age ≡ s.age → (by_stream o holding free s).done.slots.age ≡ s.age
-stream-age (Some i) holding free s same other = readable-age i (holding i) s (same i)
-stream-age None holding free s same other = other
+for_writable-age : (i : StreamId) (operation : Slots → Begun) (s : Slots) → (operation s).done.slots.age ≡ s.age → (for_writable i operation s).done.slots.age ≡ s.age
+for_writable-age i operation s same = choice (has_writable i s) (operation s) (unsupported s) s.age same refl
 
-lock-age : (o : Option Lock) (operation : Lock → Slots → Begun) (s : Slots) → ((lock : Lock) → (operation lock s).done.slots.age ≡ s.age) → (by_lock o operation s).done.slots.age ≡ s.age
-lock-age (Some lock) operation s same = same lock
-lock-age None operation s same = refl
+unlocked_readable-age : (i : StreamId) (locked : Slots → Begun) (free : StreamId → Slots → Begun) (s : Slots) → (locked s).done.slots.age ≡ s.age → (free i s).done.slots.age ≡ s.age
+    → (unlocked_readable i locked free s).done.slots.age ≡ s.age
+unlocked_readable-age i locked free s p q =
+    for_readable-age i (λ s. if readable_looks.is_locked (readable_at i s) then locked s else free i s) s
+    (choice (readable_looks.is_locked (readable_at i s)) (locked s) (free i s) s.age p q)
+
+unlocked_writable-age : (i : StreamId) (locked : Slots → Begun) (free : StreamId → Slots → Begun) (s : Slots) → (locked s).done.slots.age ≡ s.age → (free i s).done.slots.age ≡ s.age
+    → (unlocked_writable i locked free s).done.slots.age ≡ s.age
+unlocked_writable-age i locked free s p q =
+    for_writable-age i (λ s. if writable_looks.is_locked (writable_at i s) then locked s else free i s) s
+    (choice (writable_looks.is_locked (writable_at i s)) (locked s) (free i s) s.age p q)
+
+by_reader-age : (holding : StreamId → Slots → Begun) (free : Slots → Begun) (s : Slots) (o : Option Lock) → ((i : StreamId) → (holding i s).done.slots.age ≡ s.age) → (free s).done.slots.age ≡ s.age
+    → (by_reader holding free s o).done.slots.age ≡ s.age
+by_reader-age holding free s None p q = refl
+by_reader-age holding free s (Some (ReaderLock (Some i) closed)) p q = for_readable-age i (holding i) s (p i)
+by_reader-age holding free s (Some (ReaderLock None closed)) p q = q
+by_reader-age holding free s (Some (WriterLock i)) p q = refl
+by_reader-age holding free s (Some (ReleasedWriter w)) p q = refl
+
+by_writer-age : (holding : StreamId → Slots → Begun) (free : Slots → Begun) (s : Slots) (o : Option Lock) → ((i : StreamId) → (holding i s).done.slots.age ≡ s.age) → (free s).done.slots.age ≡ s.age
+    → (by_writer holding free s o).done.slots.age ≡ s.age
+by_writer-age holding free s None p q = refl
+by_writer-age holding free s (Some (ReaderLock stream closed)) p q = refl
+by_writer-age holding free s (Some (WriterLock i)) p q = for_writable-age i (holding i) s (p i)
+by_writer-age holding free s (Some (ReleasedWriter w)) p q = q
+
+of_writer-age : (operation : Writer → Slots → Begun) (s : Slots) (o : Option Writer) → ((w : Writer) → (operation w s).done.slots.age ≡ s.age) → (of_writer operation s o).done.slots.age ≡ s.age
+of_writer-age operation s None p = refl
+of_writer-age operation s (Some w) p = p w
+
+make_stream-age : (make : StreamId → Slots → Begun) (s : Slots) → ((i : StreamId) → (make i s).done.slots.age ≡ s.age) → (make_stream make s).done.slots.age ≡ s.age
+make_stream-age make s p = choice (nat_lt (length s.streams) most_streams) (make (record { 0 = length s.streams }) s) (replies TooMany s) s.age (p (record { 0 = length s.streams })) refl
+
+close-age : (i : StreamId) (s : Slots) → (close i s).done.slots.age ≡ s.age
+close-age i s =
+    choice (writable.is_closing (writable_at i s)) (rejected s) (begun (Promise (next_id s.promises)) (on_writable (writable.stream_close i) i s)) s.age refl
+    (on_writable-age (writable.stream_close i) i s)
+
+abort-age : (reason : Plain) (i : StreamId) (s : Slots) → (abort reason i s).done.slots.age ≡ s.age
+abort-age reason i s = on_writable-age (writable.stream_abort i reason) i (signalled i reason s) ∙ signalled-age i reason s
+
+closed_by-age : (s : Slots) (o : Option Lock) → (closed_by s o).done.slots.age ≡ s.age
+closed_by-age s None = refl
+closed_by-age s (Some (ReaderLock stream closed)) = refl
+closed_by-age s (Some (WriterLock i)) = of_writer-age (λ w. replies (Promise w.closed)) s (writable_at i s).writer (λ w. refl)
+closed_by-age s (Some (ReleasedWriter w)) = refl
+
+ready_by-age : (s : Slots) (o : Option Lock) → (ready_by s o).done.slots.age ≡ s.age
+ready_by-age s None = refl
+ready_by-age s (Some (ReaderLock stream closed)) = refl
+ready_by-age s (Some (WriterLock i)) = of_writer-age (λ w. replies (Promise w.ready)) s (writable_at i s).writer (λ w. refl)
+ready_by-age s (Some (ReleasedWriter w)) = refl
+
+release-age : (l : LockId) (s : Slots) (o : Option Lock) → (release l s o).done.slots.age ≡ s.age
+release-age l s None = refl
+release-age l s (Some (ReaderLock (Some i) closed)) = for_readable-age i (release_reader l closed i) s (on_readable-age readable.reader_release i (with_lock l _ s))
+release-age l s (Some (ReaderLock None closed)) = refl
+release-age l s (Some (WriterLock i)) = of_writer-age (release_writer l i) s (writable_at i s).writer (λ w. on_writable-age writable.writer_release i (with_lock l _ s))
+release-age l s (Some (ReleasedWriter w)) = refl
+
+able-age : (i : StreamId) (operation : readable.Acts → readable.Acts) (s : Slots) → (if_it_can i (on_readable operation i) s).done.slots.age ≡ s.age
+able-age i operation s =
+    choice (readable.can_close_or_enqueue (readable_at i s)) (begun ReplyDone (on_readable operation i s)) (throws_type_error s) s.age (on_readable-age operation i s) refl
+
+fail-age : (reason : Plain) (i : StreamId) (s : Slots) → (fail reason i s).done.slots.age ≡ s.age
+fail-age reason i s =
+    choice (has_readable i s) _ _ s.age (on_readable-age (readable.controller_error reason) i s)
+    (for_writable-age i (λ s. begun ReplyDone (on_writable (writable.controller_error_if_needed i reason) i s)) s (on_writable-age (writable.controller_error_if_needed i reason) i s))
+
+look-age : (i : StreamId) (s : Slots) → (look i s).done.slots.age ≡ s.age
+look-age i s =
+    choice (has_readable i s) _ _ s.age refl (for_writable-age i (λ s. replies (ReplyState (writable_looks.state_of (writable_at i s))) s) s refl)
 
 settle-age : (h : HostId) (answer : Answer) (s : Slots) (o : Option PromiseId) → (settle_host h answer s o).done.slots.age ≡ s.age
 settle-age h answer s None = refl
 settle-age h answer s (Some p) = refl
 
-make-age : (mark : ℕ) (size : SizeBy) (start : StartBy) (i : StreamId) (s : Slots) → (make_readable mark size start i s).done.slots.age ≡ s.age
-make-age mark size start i s = on_stream-age (set_up i start mark size) i (record s { streams = s.streams ++ initialized ∷ [] })
-
-reader-age : (i : StreamId) (s : Slots) → (get_reader i s).done.slots.age ≡ s.age
-reader-age i s = on_stream-age reader_generic_initialize i (record s { locks = s.locks ++ record { stream = Some i; closed = next_id s.promises } ∷ [] })
-
-cancel-age : (reason : Plain) (i : StreamId) (s : Slots) → (cancel reason i s).done.slots.age ≡ s.age
-cancel-age reason i s = on_stream-age (stream_cancel i reason) i s
-
-read-age : (i : StreamId) (s : Slots) → (read i s).done.slots.age ≡ s.age
-read-age i s = on_stream-age (default_reader_read i (PromiseRequest (next_id s.promises))) i (record s { promises = fresh s.promises })
-
-release-age : (l : LockId) (closed : PromiseId) (i : StreamId) (s : Slots) → (release l closed i s).done.slots.age ≡ s.age
-release-age l closed i s =
-    on_stream-age reader_release i
-    (record s { locks = slice_set s.locks l.0 (record { stream = None; closed = released closed s.promises (stream_at i s).state }) })
-
-able-age : (i : StreamId) (operation : Slots → Done) (s : Slots) → (operation s).slots.age ≡ s.age → (if_it_can i operation s).done.slots.age ≡ s.age
-able-age i operation s same = choice (can_close_or_enqueue (stream_at i s)) (begun ReplyDone (operation s)) (throws_type_error s) s.age same refl
-
 pub begin-age : (c : Call) (s : Slots) → (begin c s).done.slots.age ≡ s.age
 unfolding begin
-begin-age (MakeReadable mark size start) s =
-    choice (nat_lt (length s.streams) most_streams) (make_readable mark size start (record { 0 = length s.streams }) s) (replies TooMany s) s.age
-    (make-age mark size start (record { 0 = length s.streams }) s) refl
-begin-age (GetReader i) s =
-    readable-age i (λ s. if is_locked (stream_at i s) then throws_type_error s else get_reader i s) s
-    (choice (is_locked (stream_at i s)) (throws_type_error s) (get_reader i s) s.age refl (reader-age i s))
-begin-age (Cancel i reason) s =
-    readable-age i (λ s. if is_locked (stream_at i s) then rejected s else cancel reason i s) s
-    (choice (is_locked (stream_at i s)) (rejected s) (cancel reason i s) s.age refl (cancel-age reason i s))
-begin-age (CancelBy l reason) s =
-    lock-age (lock_at l s) (λ lock. by_stream lock.stream (cancel reason) rejected) s (λ lock. stream-age lock.stream (cancel reason) rejected s (λ i. cancel-age reason i s) refl)
-begin-age (Read l) s = lock-age (lock_at l s) (λ lock. by_stream lock.stream read rejected) s (λ lock. stream-age lock.stream read rejected s (λ i. read-age i s) refl)
-begin-age (Closed l) s = lock-age (lock_at l s) (λ lock. replies (Promise lock.closed)) s (λ lock. refl)
-begin-age (Release l) s =
-    lock-age (lock_at l s) (λ lock. by_stream lock.stream (release l lock.closed) (replies ReplyDone)) s
-    (λ lock. stream-age lock.stream (release l lock.closed) (replies ReplyDone) s (λ i. release-age l lock.closed i s) refl)
-begin-age (Enqueue i v) s = readable-age i (if_it_can i (on_stream (controller_enqueue i v) i)) s (able-age i (on_stream (controller_enqueue i v) i) s (on_stream-age (controller_enqueue i v) i s))
-begin-age (Finish i) s = readable-age i (if_it_can i (on_stream controller_close i)) s (able-age i (on_stream controller_close i) s (on_stream-age controller_close i s))
-begin-age (Fail i reason) s = readable-age i (λ s. begun ReplyDone (on_stream (controller_error reason) i s)) s (on_stream-age (controller_error reason) i s)
-begin-age (Desired i) s = readable-age i (λ s. replies (Size (desired_by (stream_at i s) (stream_at i s).state)) s) s refl
-begin-age (DesiredBy l) s = refl
+begin-age (MakeReadable mark size start) s = make_stream-age (make_readable mark size start) s (λ i. on_readable-age (readable.set_up i start mark size) i (add_stream _ s))
+begin-age (MakeWritable mark size start) s = make_stream-age (make_writable mark size start) s (λ i. on_writable-age (writable.set_up i start mark size) i (add_stream _ s))
+begin-age (GetReader i) s = unlocked_readable-age i throws_type_error get_reader s refl (on_readable-age readable.reader_generic_initialize i (record s { locks = _ }))
+begin-age (GetWriter i) s = unlocked_writable-age i throws_type_error get_writer s refl (on_writable-age writable.set_up_writer i (record s { locks = _ }))
+begin-age (Cancel i reason) s = unlocked_readable-age i rejected (cancel reason) s refl (on_readable-age (readable.stream_cancel i reason) i s)
+begin-age (CancelBy l reason) s = by_reader-age (cancel reason) rejected s (lock_at l s) (λ i. on_readable-age (readable.stream_cancel i reason) i s) refl
+begin-age (Read l) s = by_reader-age read rejected s (lock_at l s) (λ i. on_readable-age (readable.default_reader_read i _) i (record s { promises = _ })) refl
+begin-age (Write l v) s = by_writer-age (write v) rejected s (lock_at l s) (λ i. on_writable-age (writable.writer_write i v) i s) refl
+begin-age (Close i) s = unlocked_writable-age i rejected close s refl (close-age i s)
+begin-age (CloseBy l) s = by_writer-age close rejected s (lock_at l s) (λ i. close-age i s) refl
+begin-age (Abort i reason) s = unlocked_writable-age i rejected (abort reason) s refl (abort-age reason i s)
+begin-age (AbortBy l reason) s = by_writer-age (abort reason) rejected s (lock_at l s) (λ i. abort-age reason i s) refl
+begin-age (Closed l) s = closed_by-age s (lock_at l s)
+begin-age (Ready l) s = ready_by-age s (lock_at l s)
+begin-age (Release l) s = release-age l s (lock_at l s)
+begin-age (Enqueue i v) s = for_readable-age i (if_it_can i (on_readable (readable.controller_enqueue i v) i)) s (able-age i (readable.controller_enqueue i v) s)
+begin-age (Finish i) s = for_readable-age i (if_it_can i (on_readable readable.controller_close i)) s (able-age i readable.controller_close s)
+begin-age (Fail i reason) s = fail-age reason i s
+begin-age (Desired i) s = for_readable-age i (desired i) s refl
+begin-age (DesiredBy l) s = by_writer-age desired_of_writer throws_type_error s (lock_at l s) (λ i. refl) refl
 begin-age (Settle h answer) s = settle-age h answer s (host_at h s)
-begin-age (State i) s = readable-age i (λ s. replies (ReplyState (state_of (stream_at i s))) s) s refl
+begin-age (State i) s = look-age i s
 begin-age Step s = refl
 
 pub named-age : (reply : Reply) (s : Slots) → (named reply s).age ≡ s.age
@@ -139,9 +207,13 @@ derived-age None outcome s = refl
 derived-age (Some p) outcome s = refl
 
 step-age : (step : ReactionStep) (outcome : Result Plain Plain) (s : Slots) → (perform_step step outcome s).slots.age ≡ s.age
-step-age (ReadableStart i) outcome s = on_stream-age (start_settled i outcome) i s
-step-age (ReadablePull i) outcome s = on_stream-age (pull_settled i outcome) i s
+step-age (ReadableStart i) outcome s = on_readable-age (readable.start_settled i outcome) i s
+step-age (ReadablePull i) outcome s = on_readable-age (readable.pull_settled i outcome) i s
 step-age ReturnUndefined outcome s = refl
+step-age (WritableStart i) outcome s = on_writable-age (writable.start_settled i outcome) i s
+step-age (WritableWrite i) outcome s = on_writable-age (writable.write_settled i outcome) i s
+step-age (WritableClose i) outcome s = on_writable-age (writable.close_settled i outcome) i s
+step-age (WritableAbort i p) outcome s = on_writable-age (writable.abort_settled p outcome) i s
 
 pub job-age : (job : Job) (s : Slots) → (perform_job job s).age ≡ s.age
 unfolding perform_job

@@ -1,12 +1,14 @@
 -- How the calls of a realm's parts make up the performing of effects.
-use Rattle.std.proofs.Common.{◌≡◌, List, [], ◌∷◌, ◌++◌, Some, None, false, refl, sym, ◌∙◌, ap}
-use Rattle.std.specs.Prelude.{Result, Ok, Err, OnOk}
+use Rattle.std.proofs.Common.{◌≡◌, ◌<◌, ℕ, zero, suc, List, [], ◌∷◌, ◌++◌, length, map, Some, None, true, false, refl, sym, ◌∙◌, ap, arith}
+use Rattle.std.specs.Prelude.{Result, Ok, Err, OnOk, slice_get}
 use Rattle.ws_promise.specs.Seen.{first_effect, later_effects}
 use Rattle.ws_steps.specs.declared.effects.Effect.{Effect}
+use Rattle.ws_steps.specs.declared.writable.Writer.{Writer}
 use Rattle.ws_steps.specs.Promises.{Table}
-use Rattle.ws_steps.specs.Readable.{Slots as Stream, Acts}
+use Rattle.ws_steps.specs.Readable as readable
+use Rattle.ws_steps.specs.Writable as writable
 use Rattle.ws_value.specs.declared.ids.StreamId.{StreamId}
-use Rattle.ws_steps.specs.Slots.{Slots, Done, nothing, has_stream, on_stream}
+use Rattle.ws_steps.specs.Slots.{Slots, Stream, is_readable_stream, is_writable_stream, as_writable, Done, nothing, has_readable, has_writable, on_readable, on_writable}
 use Rattle.ws_steps.specs.Turns.{row, performed}
 use Rattle.ws_steps.proofs.TurnLaws.{performed-next, performed-none}
 
@@ -29,17 +31,40 @@ performed-first s z (x ∷ xs) rest e first later is =
     ∙ sym (performed-next s x xs ∙ ap (λ (d : Done). performed (record { slots = d.slots; caused = d.caused ++ xs })) did)
 
 -- room was made, and what an operation finds is as before
-pub same_acts : (r r₀ : Stream) (t t₀ : Table) (es es₀ : List Effect) → r ≡ r₀ → t ≡ t₀ → es ≡ es₀ → es₀ ≡ []
-    → ◌≡◌ {A = Acts} (record { slots = r; out = record { promises = t; effects = es } }) (record { slots = r₀; out = record { promises = t₀; effects = [] } })
-same_acts r r₀ t t₀ es es₀ slots table effects quiet = rw (slots, table, effects, quiet) refl
+pub same_readable : (r r₀ : readable.Slots) (t t₀ : Table) (es es₀ : List Effect) → r ≡ r₀ → t ≡ t₀ → es ≡ es₀ → es₀ ≡ []
+    → ◌≡◌ {A = readable.Acts} (record { slots = r; out = record { promises = t; effects = es } }) (record { slots = r₀; out = record { promises = t₀; effects = [] } })
+same_readable r r₀ t t₀ es es₀ slots table effects quiet = rw (slots, table, effects, quiet) refl
+
+pub same_writable : (w w₀ : writable.Slots) (t t₀ : Table) (es es₀ : List Effect) → w ≡ w₀ → t ≡ t₀ → es ≡ es₀ → es₀ ≡ []
+    → ◌≡◌ {A = writable.Acts} (record { slots = w; out = record { promises = t; effects = es } }) (record { slots = w₀; out = record { promises = t₀; effects = [] } })
+same_writable w w₀ t t₀ es es₀ slots table effects quiet = rw (slots, table, effects, quiet) refl
 
 -- where nothing was caused, nothing more happens
 pub performed-nothing : (s z : Slots) → z ≡ s → z ≡ performed (nothing s)
 performed-nothing s z same = same ∙ sym (performed-none s)
 
--- there is no stream of this number
-pub on_stream-absent : (operation : Acts → Acts) (i : StreamId) (s : Slots) → has_stream i s ≡ false → s ≡ performed (on_stream operation i s)
-on_stream-absent operation i s absent = rw absent (sym (performed-none s))
+-- a stream's number is below the count of streams
+pub readable-within : {X : Type 0} (f : X → Stream) (items : List X) (i : ℕ) → is_readable_stream (slice_get (map f items) i) ≡ true → i < length items
+readable-within f [] i there = cc
+readable-within f (x ∷ xs) zero there = omega arith
+readable-within f (x ∷ xs) (suc i) there = let rest = readable-within f xs i there in omega arith
+
+pub writable-within : {X : Type 0} (f : X → Stream) (items : List X) (i : ℕ) → is_writable_stream (slice_get (map f items) i) ≡ true → i < length items
+writable-within f [] i there = cc
+writable-within f (x ∷ xs) zero there = omega arith
+writable-within f (x ∷ xs) (suc i) there = let rest = writable-within f xs i there in omega arith
+
+pub writer-within : {X : Type 0} (f : X → Stream) (items : List X) (i : ℕ) (w : Writer) → (as_writable (slice_get (map f items) i)).writer ≡ Some w → i < length items
+writer-within f [] i w there = cc
+writer-within f (x ∷ xs) zero w there = omega arith
+writer-within f (x ∷ xs) (suc i) w there = let rest = writer-within f xs i w there in omega arith
+
+-- there is no such stream of this number
+pub on_readable-absent : (operation : readable.Acts → readable.Acts) (i : StreamId) (s : Slots) → has_readable i s ≡ false → s ≡ performed (on_readable operation i s)
+on_readable-absent operation i s absent = rw absent (sym (performed-none s))
+
+pub on_writable-absent : (operation : writable.Acts → writable.Acts) (i : StreamId) (s : Slots) → has_writable i s ≡ false → s ≡ performed (on_writable operation i s)
+on_writable-absent operation i s absent = rw absent (sym (performed-none s))
 
 -- a call that changes nothing performs nothing
 pub performed_still : (s : Slots) → performed (nothing s) ≡ s

@@ -1,13 +1,18 @@
 -- What the tables of a realm stand for.
 use Rattle.std.specs.Prelude.{map}
-use Rattle.ws_readable.specs.Seen.{SeenReadable}
-use Rattle.ws_steps.specs.Slots.{Slots}
+use Rattle.ws_steps.specs.Slots.{Slots, Stream, ReadableStream, WritableStream}
+use Rattle.ws_realm.specs.declared.streams.Stream.{Stream as StreamRecord}
+use Rattle.ws_realm.specs.declared.streams.Stream.TheVariants.{Readable, Writable}
 use Rattle.ws_realm.specs.declared.tables.Tables.{Tables}
+
+abbrev pub stream_of : StreamRecord → Stream
+stream_of (Readable r) = ReadableStream r.slots
+stream_of (Writable w) = WritableStream w.slots
 
 abbrev pub slots_of : Tables → Slots
 slots_of t =
     record {
-      streams = map (λ (r : SeenReadable). r.slots) t.streams.items;
+      streams = map stream_of t.streams.items;
       locks = t.locks.items;
       promises = t.promises.table;
       hosts = t.hosts.items;

@@ -3,9 +3,11 @@ ghost use Rattle.std.specs.Prelude.{◌≡◌, [], Ok, OnOk, IfOk, Result, not};
 ghost use Rattle.ws_steps.specs.Jobs as jobs;
 ghost use Rattle.ws_steps.specs.Turns.{performed};
 
+use crate::readable_operations::ReadableOperation;
 use crate::tables::Tables;
+use crate::writable_operations::WritableOperation;
 use ws_steps::{Job, Step};
-use ws_value::{NoMemory, Plain, PromiseId, StreamId};
+use ws_value::{NoMemory, Plain, PromiseId};
 
 impl Tables {
     ghost use Rattle.ws_realm.specs.View.{slots_of};
@@ -34,18 +36,22 @@ impl Tables {
     {
         match step {
             Step::ReadableStart(i) => {
-                if self.has_stream(i) {
-                    return self.start_settled(i, outcome);
-                }
-                Ok(())
+                self.on_readable(i, ReadableOperation::StartSettled(outcome))
             }
-            Step::ReadablePull(i) => {
-                if self.has_stream(i) {
-                    return self.pull_settled(i, outcome);
-                }
-                Ok(())
-            }
+            Step::ReadablePull(i) => self.on_readable(i, ReadableOperation::PullSettled(outcome)),
             Step::ReturnUndefined => Ok(()),
+            Step::WritableStart(i) => {
+                self.on_writable(i, WritableOperation::StartSettled(outcome))
+            }
+            Step::WritableWrite(i) => {
+                self.on_writable(i, WritableOperation::WriteSettled(outcome))
+            }
+            Step::WritableClose(i) => {
+                self.on_writable(i, WritableOperation::CloseSettled(outcome))
+            }
+            Step::WritableAbort(i, promise) => {
+                self.on_writable(i, WritableOperation::AbortSettled(promise, outcome))
+            }
         }
     }
 
@@ -96,5 +102,9 @@ fn returned(step: Step, outcome: Result<Plain, Plain>) -> Result<Plain, Plain>
         },
         Step::ReadableStart(_) => Ok(Plain::Undefined),
         Step::ReadablePull(_) => Ok(Plain::Undefined),
+        Step::WritableStart(_) => Ok(Plain::Undefined),
+        Step::WritableWrite(_) => Ok(Plain::Undefined),
+        Step::WritableClose(_) => Ok(Plain::Undefined),
+        Step::WritableAbort(_, _) => Ok(Plain::Undefined),
     }
 }

@@ -1,30 +1,64 @@
 //! Objects of a realm by their numbers.
-ghost use Rattle.std.specs.Prelude.{◌≡◌, ◌<◌, IfSome, vec_len};
-ghost use Rattle.ws_steps.specs.Readable as rows;
-ghost use Rattle.ws_steps.specs.Slots.{has_stream, stream_at, lock_at, host_at};
+ghost use Rattle.std.specs.Prelude.{◌≡◌, ◌<◌, true, IfSome, vec_len};
+ghost use Rattle.ws_steps.specs.Readable as readable;
+ghost use Rattle.ws_steps.specs.Slots.{has_readable, has_writable, readable_at, writable_at, lock_at, host_at};
 
+use crate::streams::Stream;
 use crate::tables::Tables;
 use ws_readable::Readable;
-use ws_steps::{Lock, ReadableState};
+use ws_steps::{Lock, ReadableState, Writer};
 use ws_value::{HostId, LockId, PromiseId, StreamId};
+use ws_writable::Writable;
 
 impl Tables {
     ghost use Rattle.ws_realm.specs.View.{slots_of};
 
-    /// Whether there is a stream of this number.
-    pub(crate) fn has_stream(&self, i: StreamId) -> bool
-        ensures { result ≡ has_stream i (slots_of self.now) }
+    /// Whether there is a readable stream of this number.
+    pub(crate) fn has_readable(&self, i: StreamId) -> bool
+        ensures { result ≡ has_readable i (slots_of self.now) }
     {
-        (i.0 as usize) < self.streams.len()
+        matches!(self.streams.get(i.0 as usize), Some(Stream::Readable(_)))
     }
 
-    pub(crate) fn stream(&self, i: StreamId) -> &Readable
-        requires { i.0 < vec_len self.now.streams }
-        ensures { result.now.slots ≡ stream_at i (slots_of self.now) }
+    /// Whether there is a writable stream of this number.
+    pub(crate) fn has_writable(&self, i: StreamId) -> bool
+        ensures { result ≡ has_writable i (slots_of self.now) }
     {
-        &self.streams[i.0 as usize]
+        matches!(self.streams.get(i.0 as usize), Some(Stream::Writable(_)))
     }
 
+    pub(crate) fn readable(&self, i: StreamId) -> &Readable
+        requires { has_readable i (slots_of self.now) ≡ true }
+        ensures { result.now.slots ≡ readable_at i (slots_of self.now) }
+    {
+        match &self.streams[i.0 as usize] {
+            Stream::Readable(stream) => stream,
+            Stream::Writable(_) => unreachable!(),
+        }
+    }
+
+    pub(crate) fn writable(&self, i: StreamId) -> &Writable
+        requires { has_writable i (slots_of self.now) ≡ true }
+        ensures { result.now.slots ≡ writable_at i (slots_of self.now) }
+    {
+        match &self.streams[i.0 as usize] {
+            Stream::Writable(stream) => stream,
+            Stream::Readable(_) => unreachable!(),
+        }
+    }
+
+    /// The promises of the writer that has a stream.
+    pub(crate) fn writer(&self, i: StreamId) -> Option<Writer>
+        ensures { result ≡ (writable_at i (slots_of self.now)).writer }
+    {
+        match self.streams.get(i.0 as usize) {
+            Some(Stream::Writable(stream)) => stream.writer(),
+            Some(Stream::Readable(_)) => None,
+            None => None,
+        }
+    }
+
+    /// A reader or a writer.
     pub(crate) fn lock(&self, l: LockId) -> Option<Lock>
         ensures lock { result ≡ lock_at l (slots_of self.now) }
         ensures there { IfSome result (λ lock. l.0 < vec_len self.now.locks) }
@@ -48,10 +82,10 @@ impl Tables {
 
     /// The closed promise of a reader once it is released.
     pub(crate) fn released(&self, i: StreamId, closed: PromiseId) -> PromiseId
-        requires { i.0 < vec_len self.now.streams }
-        ensures { result ≡ rows.released closed self.now.promises.table (stream_at i (slots_of self.now)).state }
+        requires { has_readable i (slots_of self.now) ≡ true }
+        ensures { result ≡ readable.released closed self.now.promises.table (readable_at i (slots_of self.now)).state }
     {
-        match self.stream(i).state() {
+        match self.readable(i).state() {
             ReadableState::Readable => closed,
             ReadableState::Closed => self.promises.next_id(),
             ReadableState::Errored => self.promises.next_id(),

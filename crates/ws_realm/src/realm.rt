@@ -33,7 +33,7 @@ pub struct NoRoom {
     pub why: Why,
 }
 
-/// A realm of readable streams and their readers, with its promises, its one job queue, and what its host hasn't heard of yet.
+/// A realm of readable and writable streams, with their readers and writers, its promises, its one job queue, and what its host hasn't heard of yet.
 #[derive(Drop)]
 pub struct Realm {
     tables: Tables,

@@ -4,18 +4,22 @@ ghost use Rattle.ws_steps.specs.declared.promises.Reaction.TheVariants as reacti
 ghost use Rattle.ws_steps.specs.Promises.{next_id, react};
 ghost use Rattle.ws_steps.specs.Slots as slots;
 ghost use Rattle.ws_steps.specs.Turns as turns;
+ghost use Rattle.ws_value.specs.declared.ids.StreamId.{StreamId as StreamNumber};
 
+use crate::streams::Stream;
 use std::alloc::Global;
 use std::collections::VecDeque;
 use ws_promise::{Agenda, Promises};
-use ws_readable::Readable;
 use ws_steps::{Effect, Event, HostCall, Lock, StartBy, Step};
 use ws_value::{HostId, NoMemory, Plain, PromiseId, StreamId};
+
+/// The most streams of a realm.
+pub(crate) const MOST_STREAMS: usize = 1024;
 
 #[derive(Drop)]
 pub struct Tables {
     pub(crate) alloc: Global,
-    pub(crate) streams: Vec<Readable>,
+    pub(crate) streams: Vec<Stream>,
     pub(crate) locks: Vec<Lock>,
     pub(crate) promises: Promises,
     /// The promise of each call of a host's algorithm, until the host settles it.
@@ -54,38 +58,37 @@ impl Tables {
         Ok(promise)
     }
 
-    fn start(&mut self, stream: StreamId, start: StartBy) -> Result<(), NoMemory>
-        ensures slots { OnOk result (slots_of self.new ≡ turns.started stream start (slots_of self.old)) }
+    /// Gets the result of a start algorithm, which a step reacts to.
+    fn start(&mut self, stream: StreamId, step: Step, start: StartBy) -> Result<(), NoMemory>
+        ensures slots { OnOk result (slots_of self.new ≡ turns.started stream step start (slots_of self.old)) }
         ensures agenda { self.new.agenda ≡ self.old.agenda }
     {
         match start {
-            StartBy::Now => self.start_now(stream),
-            StartBy::Later => self.start_later(stream),
+            StartBy::Now => self.start_now(step),
+            StartBy::Later => self.start_later(stream, step),
         }
     }
 
-    fn start_now(&mut self, stream: StreamId) -> Result<(), NoMemory>
-        ensures slots { OnOk result (slots_of self.new ≡ turns.started stream StartBy.Now (slots_of self.old)) }
+    fn start_now(&mut self, step: Step) -> Result<(), NoMemory>
+        ensures slots { (stream : StreamNumber) → OnOk result (slots_of self.new ≡ turns.started stream step StartBy.Now (slots_of self.old)) }
         ensures agenda { self.new.agenda ≡ self.old.agenda }
     {
         self.promises.reserve(2)?;
         let promise = self.promises.fresh();
         self.promises.fulfil(promise, Plain::Undefined);
-        self.promises
-            .react(promise, Step::ReadableStart(stream), None);
+        self.promises.react(promise, step, None);
         Ok(())
     }
 
-    fn start_later(&mut self, stream: StreamId) -> Result<(), NoMemory>
-        ensures slots { OnOk result (slots_of self.new ≡ turns.started stream StartBy.Later (slots_of self.old)) }
+    fn start_later(&mut self, stream: StreamId, step: Step) -> Result<(), NoMemory>
+        ensures slots { OnOk result (slots_of self.new ≡ turns.started stream step StartBy.Later (slots_of self.old)) }
         ensures agenda { self.new.agenda ≡ self.old.agenda }
     {
         let host = self.call_host(HostCall::Start(stream))?;
         self.promises.reserve(3)?;
         let promise = self.promises.fresh();
         self.promises.follow(promise, host);
-        self.promises
-            .react(promise, Step::ReadableStart(stream), None);
+        self.promises.react(promise, step, None);
         Ok(())
     }
 
@@ -110,7 +113,7 @@ impl Tables {
         ensures agenda { self.new.agenda ≡ self.old.agenda }
     {
         match effect {
-            Effect::Start(stream, start) => self.start(stream, start),
+            Effect::Start(stream, start) => self.start(stream, Step::ReadableStart(stream), start),
             Effect::Pull(stream) => {
                 let host = self.call_host(HostCall::Pull(stream))?;
                 self.react(host, Step::ReadablePull(stream), None)
@@ -118,6 +121,21 @@ impl Tables {
             Effect::Cancel(stream, reason, promise) => {
                 let host = self.call_host(HostCall::Cancel(stream, reason))?;
                 self.react(host, Step::ReturnUndefined, Some(promise))
+            }
+            Effect::StartWritable(stream, start) => {
+                self.start(stream, Step::WritableStart(stream), start)
+            }
+            Effect::Write(stream, chunk) => {
+                let host = self.call_host(HostCall::Write(stream, chunk))?;
+                self.react(host, Step::WritableWrite(stream), None)
+            }
+            Effect::Close(stream) => {
+                let host = self.call_host(HostCall::Close(stream))?;
+                self.react(host, Step::WritableClose(stream), None)
+            }
+            Effect::Abort(stream, reason, promise) => {
+                let host = self.call_host(HostCall::Abort(stream, reason))?;
+                self.react(host, Step::WritableAbort(stream, promise), None)
             }
         }
     }

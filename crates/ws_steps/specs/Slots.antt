@@ -37,13 +37,12 @@ pub record Slots : Type 0 where
 abbrev pub empty : Slots
 empty = record { streams = []; locks = []; promises = no_promises; hosts = []; events = []; age = 0 }
 
--- what stands where there is no such stream: one that takes nothing and gives nothing
+-- what stands where there is no such stream: one that takes nothing, gives nothing, and has no writer
 abbrev pub no_readable : readable.Slots
 no_readable = record readable.initialized { state = ReadableClosed; reader = Some (record { 0 = 0 }); close_requested = true }
 
 abbrev pub no_writable : writable.Slots
-no_writable =
-    record writable.initialized { state = WritableClosed; writer = Some (record { ready = record { 0 = 0 }; closed = record { 0 = 0 } }) }
+no_writable = record writable.initialized { state = WritableClosed }
 
 abbrev pub is_readable_stream : Option Stream → Bool
 is_readable_stream None = false

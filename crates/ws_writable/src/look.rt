@@ -4,7 +4,9 @@ ghost use Rattle.ws_steps.specs.Writable as rows;
 ghost use Rattle.ws_steps.specs.WritableLooks as looks;
 
 use crate::Writable;
+use ws_promise::Promises;
 use ws_steps::{Flags, StateIs, Word, WritableState, Writer};
+use ws_value::PromiseId;
 
 impl Writable {
     pub fn state(&self) -> WritableState
@@ -25,6 +27,19 @@ impl Writable {
         ensures { result ≡ looks.is_locked self.now.slots }
     {
         self.writer.is_some()
+    }
+
+    /// The promise that WritableStreamAbort answers: a new one, or that of the pending abort.
+    pub fn abort_promise(&self, p: &Promises) -> PromiseId
+        ensures { result ≡ rows.abort_promise p.now.table self.now.slots }
+    {
+        if self.has_ended() {
+            return p.next_id();
+        }
+        match self.pending_abort {
+            Some(abort) => abort.promise,
+            None => p.next_id(),
+        }
     }
 
     /// Whether an abort would be the first of the stream, so that the sink is to be signalled.
