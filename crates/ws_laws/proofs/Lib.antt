@@ -3,3 +3,16 @@ pub mod ReadableOperations
 pub mod ReadableSteps
 pub mod ReadableCalls
 pub mod ReadableRuns
+pub mod Outstanding
+pub mod Apart
+pub mod ReadableApart
+pub mod WritableApart
+pub mod WritableShape
+pub mod WritableMoves
+pub mod WritableOperations
+pub mod WritableEnds
+pub mod WritableClosing
+pub mod WritableAsked
+pub mod WritableSteps
+pub mod WritableCalls
+pub mod WritableRuns
