@@ -10,3 +10,5 @@ pub mod Turns
 pub mod Jobs
 pub mod Calls
 pub mod Run
+pub mod Histories
+pub mod Laws

@@ -1,0 +1,118 @@
+-- The order of a readable stream, step by step and over every run.
+use Rattle.std.proofs.Common.{◌≡◌, ℕ, zero, suc, Bool, true, false, not, ◌||◌, ◌&&◌, List, [], ◌∷◌, ◌++◌, length, Option, Some, None, Result, Ok, Err, if◌then◌else◌, nat_lt, slice_get, refl, sym, ap, ◌∙◌, arith, append_assoc, append-nil}
+use Rattle.ws_value.specs.declared.ids.LockId.{LockId}
+use Rattle.ws_value.specs.declared.ids.PromiseId.{PromiseId}
+use Rattle.ws_value.specs.declared.ids.StreamId.{StreamId}
+use Rattle.ws_value.specs.declared.value.Plain.{Plain}
+use Rattle.ws_value.specs.declared.value.Value.{Value}
+use Rattle.ws_steps.specs.declared.calls.Reply.{Reply}
+use Rattle.ws_steps.specs.declared.calls.Reply.TheVariants.{Done, Made, Lock as ReplyLock, Promise, Size, State as StateReply, Throws, TooMany}
+use Rattle.ws_steps.specs.declared.calls.StartBy.{StartBy}
+use Rattle.ws_steps.specs.declared.locks.Lock.{Lock}
+use Rattle.ws_steps.specs.declared.locks.Lock.TheVariants.{Reader as ReaderLock, Writer as WriterLock, ReleasedWriter}
+use Rattle.ws_steps.specs.declared.promises.Job.{Job}
+use Rattle.ws_steps.specs.declared.promises.Job.TheVariants.{Reaction, Follow, Settle as SettleJob}
+use Rattle.ws_steps.specs.declared.promises.Step.{Step as JobStep}
+use Rattle.ws_steps.specs.declared.promises.Step.TheVariants.{ReadableStart, ReadablePull, ReturnUndefined, WritableStart, WritableWrite, WritableClose, WritableAbort}
+use Rattle.ws_steps.specs.declared.readable.ReadRequest.TheVariants.{Promise as PromiseRequest}
+use Rattle.ws_steps.specs.declared.readable.SizeBy.{SizeBy}
+use Rattle.ws_steps.specs.declared.writable.Writer.{Writer}
+use Rattle.ws_steps.specs.Promises.{next_id, next_job, after_next_job, fresh}
+use Rattle.ws_steps.specs.Readable as readable
+use Rattle.ws_steps.specs.ReadableLooks as readable_looks
+use Rattle.ws_steps.specs.Writable as writable
+use Rattle.ws_steps.specs.Slots.{Slots, Stream, empty, on_readable, on_writable, has_readable, has_writable, readable_at, writable_at, as_readable, no_readable, lock_at, host_at, ReadableStream, WritableStream}
+use Rattle.ws_steps.specs.Turns.{performed}
+use Rattle.ws_steps.specs.Jobs.{perform_step, perform_job, job_taken, resolve_derived, returned}
+use Rattle.ws_steps.specs.Calls.{Begun, begin, named, replies, unsupported, for_readable, for_writable, by_reader, by_writer, of_writer, add_stream}
+use Rattle.ws_steps.specs.Calls as calls
+use Rattle.ws_steps.specs.Run.{Entry, Called, Worked, step, run}
+use Rattle.ws_steps.specs.Histories.{Flow, no_flow, flow_then, is_same, flow_at, flow_by, enqueue_flow, read_flow, cancel_flow, call_flow, step_flow, run_flow, values}
+use Rattle.ws_steps.specs.Laws.{IsLawfulReadable, EachReadableIsLawful}
+use Rattle.ws_laws.proofs.Tables.{performed-streams}
+use Rattle.ws_laws.proofs.ReadableOperations.{Balanced, same_flow}
+use Rattle.ws_laws.proofs.ReadableSteps.{Held, Kept, quiet, on_readable-quiet, on_writable-kept, keeps_start, keeps_pull}
+use Rattle.ws_laws.proofs.ReadableCalls.{left, call_kept}
+
+-- jobs
+
+step_kept : (step : JobStep) (o : Result Plain Plain) (i : StreamId) (s : Slots) (h : Flow) → Kept i h s.streams → Kept i h (perform_step step o s).slots.streams
+step_kept (ReadableStart j) o i s h k = on_readable-quiet (readable.start_settled j o) (keeps_start j o) i j s h k
+step_kept (ReadablePull j) o i s h k = on_readable-quiet (readable.pull_settled j o) (keeps_pull j o) i j s h k
+step_kept ReturnUndefined o i s h k = k
+step_kept (WritableStart j) o i s h k = on_writable-kept (writable.start_settled j o) i j s h k
+step_kept (WritableWrite j) o i s h k = on_writable-kept (writable.write_settled j o) i j s h k
+step_kept (WritableClose j) o i s h k = on_writable-kept (writable.close_settled j o) i j s h k
+step_kept (WritableAbort j p) o i s h k = on_writable-kept (writable.abort_settled p o) i j s h k
+
+derived-streams : (derived : Option PromiseId) (o : Result Plain Plain) (s : Slots) → (resolve_derived derived o s).streams ≡ s.streams
+derived-streams None o s = refl
+derived-streams (Some p) o s = refl
+
+job_kept : (job : Job) (i : StreamId) (s : Slots) (h : Flow) → Kept i h s.streams → Kept i h (perform_job job s).streams
+unfolding perform_job
+job_kept (Reaction step o derived) i s h k =
+    rw (derived-streams derived (returned step o) (performed (perform_step step o s)), performed-streams (perform_step step o s)) (step_kept step o i s h k)
+job_kept (Follow p q) i s h k = k
+job_kept (SettleJob p o) i s h k = k
+
+taken_kept : (job : Option Job) (i : StreamId) (s : Slots) (h : Flow) → Kept i h s.streams → Kept i h (job_taken s job).streams
+taken_kept None i s h k = k
+taken_kept (Some job) i s h k = job_kept job i (record s { promises = after_next_job s.promises }) h k
+
+-- steps
+
+named-streams : (reply : Reply) (s : Slots) → (named reply s).streams ≡ s.streams
+named-streams Done s = refl
+named-streams (Made i) s = refl
+named-streams (ReplyLock l) s = refl
+named-streams (Promise p) s = refl
+named-streams (Size n) s = refl
+named-streams (StateReply x) s = refl
+named-streams (Throws t) s = refl
+named-streams TooMany s = refl
+
+pub entry_kept : (i : StreamId) (x : Entry) (s : Slots) (h : Flow) → Kept i h s.streams → Kept i (flow_then h (step_flow i s x)) (step s x).streams
+entry_kept i (Called c) s h k =
+    rw (named-streams (begin c s).reply (performed (begin c s).done), performed-streams (begin c s).done) (call_kept c i s h k)
+entry_kept i Worked s h k = quiet i h (job_taken s (next_job s.promises)).streams (taken_kept (next_job s.promises) i s h k)
+
+or_assoc : (a b c : Bool) → (a || b) || c ≡ a || (b || c)
+or_assoc true b c = refl
+or_assoc false b c = refl
+
+flow-assoc : (f g h : Flow) → flow_then (flow_then f g) h ≡ flow_then f (flow_then g h)
+flow-assoc f g h = λ i. record {
+  entered = append_assoc f.entered g.entered h.entered i;
+  given = append_assoc f.given g.given h.given i;
+  cancelled = or_assoc f.cancelled g.cancelled h.cancelled i;
+}
+
+run_kept : (i : StreamId) (xs : List Entry) (s : Slots) (h : Flow) → Kept i h s.streams → Kept i (flow_then h (run_flow i xs s)) (run xs s).streams
+run_kept i [] s h k = rw same_flow k
+run_kept i (x ∷ xs) s h k =
+    rw (← flow-assoc h (step_flow i s x) (run_flow i xs (step s x))) (run_kept i xs (step s x) (flow_then h (step_flow i s x)) (entry_kept i x s h k))
+
+-- laws
+
+front : (E G Q D : List Value) → E ≡ G ++ (Q ++ D) → G ++ (Q ++ D) ≡ E
+front E G Q D e = sym e
+
+lawful : (h : Flow) (r : readable.Slots) → Held h r → IsLawfulReadable h r
+lawful h r k = record {
+  front = (values r.queue ++ k.dropped, sym k.balanced.all);
+  readable = λ e. rw (k.balanced.live e, append-nil) at k.balanced.all;
+  closed = λ c e. sym (rw (k.balanced.whole c e, append-nil) at k.balanced.all);
+}
+
+none_made : (i : StreamId) → Kept i no_flow empty.streams
+none_made i = record {
+  unmade = λ e. refl;
+  held = record { dropped = []; balanced = record { all = refl; live = λ e. refl; whole = λ c e. refl; fit = λ e. cc } };
+}
+
+no_flow-then : (f : Flow) → flow_then no_flow f ≡ f
+no_flow-then f = refl
+
+pub each_readable_is_lawful : EachReadableIsLawful
+each_readable_is_lawful entries i = lawful (run_flow i entries empty) (readable_at i (run entries empty)) (run_kept i entries empty no_flow (none_made i)).held

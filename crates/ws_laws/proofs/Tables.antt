@@ -1,0 +1,189 @@
+-- The streams of a realm, by number, after an operation on one of them.
+use Rattle.std.proofs.Common.{◌≡◌, ◌≢◌, ℕ, zero, suc, Bool, true, false, List, [], ◌∷◌, ◌++◌, length, Option, Some, None, if◌then◌else◌, nat_eq, refl, sym, ap, ◌∙◌, arith, eqb, slice_get, slice_set}
+use Rattle.ws_value.specs.declared.ids.StreamId.{StreamId}
+use Rattle.ws_steps.specs.declared.effects.Effect.{Effect}
+use Rattle.ws_steps.specs.declared.effects.Effect.TheVariants.{Start, Pull, Cancel, StartWritable, Write, Close, Abort}
+use Rattle.ws_steps.specs.declared.calls.StartBy.{StartBy}
+use Rattle.ws_steps.specs.declared.calls.StartBy.TheVariants.{Now, Later}
+use Rattle.ws_steps.specs.declared.promises.Step.{Step}
+use Rattle.ws_steps.specs.Readable as readable
+use Rattle.ws_steps.specs.Writable as writable
+use Rattle.ws_steps.specs.Slots.{Slots, Stream, ReadableStream, WritableStream, Done, found, on_readable, on_writable, has_readable, has_writable, readable_at, writable_at, is_readable_stream, is_writable_stream, as_readable, as_writable, no_readable, no_writable, call_host}
+use Rattle.ws_steps.specs.Turns.{row, performed, started}
+use Rattle.ws_steps.specs.Histories.{is_same}
+use Rattle.ws_steps.proofs.TurnLaws.{performed-none, performed-next}
+
+-- whichever branch is taken
+pub either : {A : Type 0} (P : A → Type 0) (c : Bool) (x y : A) → (c ≡ true → P x) → (c ≡ false → P y) → P (if c then x else y)
+either P true x y f g = f refl
+either P false x y f g = g refl
+
+-- numbers of streams
+
+pub eq_numbers : (m n : ℕ) → nat_eq m n ≡ true → m ≡ n
+eq_numbers m n e = grind arith
+
+pub unequal_numbers : (m n : ℕ) → nat_eq m n ≡ false → m ≢ n
+unequal_numbers m n e = grind arith
+
+pub is_same-refl : (i : StreamId) → is_same i i ≡ true
+is_same-refl i = grind arith
+
+pub same_id : (i j : StreamId) → is_same i j ≡ true → i ≡ j
+same_id i j e = ap (λ (n : ℕ). record { 0 = n }) (eq_numbers i.0 j.0 e)
+
+-- places of a table
+
+place_same : (xs : List Stream) (i : ℕ) (x y : Stream) → slice_get xs i ≡ Some x → slice_get (slice_set xs i y) i ≡ Some y
+place_same [] i x y e = cc
+place_same (z ∷ xs) zero x y e = refl
+place_same (z ∷ xs) (suc i) x y e = place_same xs i x y e
+
+place_other : (xs : List Stream) (i j : ℕ) (y : Stream) → i ≢ j → slice_get (slice_set xs j y) i ≡ slice_get xs i
+place_other [] i j y n = refl
+place_other (z ∷ xs) zero zero y n = absurd (n refl)
+place_other (z ∷ xs) zero (suc j) y n = refl
+place_other (z ∷ xs) (suc i) zero y n = refl
+place_other (z ∷ xs) (suc i) (suc j) y n = place_other xs i j y (λ e. n (ap suc e))
+
+place_none : (xs : List Stream) (i j : ℕ) (y : Stream) → slice_get (slice_set xs j y) i ≡ None → slice_get xs i ≡ None
+place_none [] i j y e = refl
+place_none (z ∷ xs) zero zero y e = cc
+place_none (z ∷ xs) zero (suc j) y e = e
+place_none (z ∷ xs) (suc i) zero y e = e
+place_none (z ∷ xs) (suc i) (suc j) y e = place_none xs i j y e
+
+pub place_last : (xs : List Stream) (y : Stream) → slice_get (xs ++ y ∷ []) (length xs) ≡ Some y
+place_last [] y = refl
+place_last (x ∷ xs) y = place_last xs y
+
+pub place_before : (xs : List Stream) (y : Stream) (i : ℕ) → i ≢ length xs → slice_get (xs ++ y ∷ []) i ≡ slice_get xs i
+place_before [] y zero n = absurd (n refl)
+place_before [] y (suc i) n = refl
+place_before (x ∷ xs) y zero n = refl
+place_before (x ∷ xs) y (suc i) n = place_before xs y i (λ e. n (ap suc e))
+
+pub place_past : (xs : List Stream) → slice_get xs (length xs) ≡ None
+place_past [] = refl
+place_past (x ∷ xs) = place_past xs
+
+-- what is there
+
+pub readable_there : (o : Option Stream) → is_readable_stream o ≡ true → o ≡ Some (ReadableStream (as_readable o))
+readable_there None e = cc
+readable_there (Some (ReadableStream r)) e = refl
+readable_there (Some (WritableStream w)) e = cc
+
+pub no_readable_there : (o : Option Stream) → is_readable_stream o ≡ false → as_readable o ≡ no_readable
+no_readable_there None e = refl
+no_readable_there (Some (ReadableStream r)) e = cc
+no_readable_there (Some (WritableStream w)) e = refl
+
+pub writable_there : (o : Option Stream) → is_writable_stream o ≡ true → o ≡ Some (WritableStream (as_writable o))
+writable_there None e = cc
+writable_there (Some (ReadableStream r)) e = cc
+writable_there (Some (WritableStream w)) e = refl
+
+pub no_writable_there : (o : Option Stream) → is_writable_stream o ≡ false → as_writable o ≡ no_writable
+no_writable_there None e = refl
+no_writable_there (Some (ReadableStream r)) e = refl
+no_writable_there (Some (WritableStream w)) e = cc
+
+-- an operation on stream j
+
+-- what an operation of a readable stream finds
+abbrev pub readable_acts : StreamId → Slots → readable.Acts
+readable_acts j s = record { slots = readable_at j s; out = found s }
+
+abbrev pub writable_acts : StreamId → Slots → writable.Acts
+writable_acts j s = record { slots = writable_at j s; out = found s }
+
+pub on_readable-same : (operation : readable.Acts → readable.Acts) (j : StreamId) (s : Slots) → has_readable j s ≡ true
+    → slice_get (on_readable operation j s).slots.streams j.0 ≡ Some (ReadableStream (operation (readable_acts j s)).slots)
+on_readable-same operation j s h =
+    rw h (place_same s.streams j.0 (ReadableStream (readable_at j s)) (ReadableStream (operation (readable_acts j s)).slots) (readable_there (slice_get s.streams j.0) h))
+
+pub on_writable-same : (operation : writable.Acts → writable.Acts) (j : StreamId) (s : Slots) → has_writable j s ≡ true
+    → slice_get (on_writable operation j s).slots.streams j.0 ≡ Some (WritableStream (operation (writable_acts j s)).slots)
+on_writable-same operation j s h =
+    rw h (place_same s.streams j.0 (WritableStream (writable_at j s)) (WritableStream (operation (writable_acts j s)).slots) (writable_there (slice_get s.streams j.0) h))
+
+pub on_readable-other : (operation : readable.Acts → readable.Acts) (j : StreamId) (s : Slots) (i : StreamId) → is_same i j ≡ false
+    → slice_get (on_readable operation j s).slots.streams i.0 ≡ slice_get s.streams i.0
+on_readable-other operation j s i n =
+    either (λ (d : Done). slice_get d.slots.streams i.0 ≡ slice_get s.streams i.0) (has_readable j s) _ _
+    (λ h. place_other s.streams i.0 j.0 _ (unequal_numbers i.0 j.0 n)) (λ h. refl)
+
+pub on_writable-other : (operation : writable.Acts → writable.Acts) (j : StreamId) (s : Slots) (i : StreamId) → is_same i j ≡ false
+    → slice_get (on_writable operation j s).slots.streams i.0 ≡ slice_get s.streams i.0
+on_writable-other operation j s i n =
+    either (λ (d : Done). slice_get d.slots.streams i.0 ≡ slice_get s.streams i.0) (has_writable j s) _ _
+    (λ h. place_other s.streams i.0 j.0 _ (unequal_numbers i.0 j.0 n)) (λ h. refl)
+
+pub on_readable-none : (operation : readable.Acts → readable.Acts) (j : StreamId) (s : Slots) (i : StreamId)
+    → slice_get (on_readable operation j s).slots.streams i.0 ≡ None → slice_get s.streams i.0 ≡ None
+on_readable-none operation j s i =
+    either (λ (d : Done). slice_get d.slots.streams i.0 ≡ None → slice_get s.streams i.0 ≡ None) (has_readable j s) _ _
+    (λ h. place_none s.streams i.0 j.0 _) (λ h e. e)
+
+pub on_writable-none : (operation : writable.Acts → writable.Acts) (j : StreamId) (s : Slots) (i : StreamId)
+    → slice_get (on_writable operation j s).slots.streams i.0 ≡ None → slice_get s.streams i.0 ≡ None
+on_writable-none operation j s i =
+    either (λ (d : Done). slice_get d.slots.streams i.0 ≡ None → slice_get s.streams i.0 ≡ None) (has_writable j s) _ _
+    (λ h. place_none s.streams i.0 j.0 _) (λ h e. e)
+
+-- an operation on a writable stream leaves each readable stream, and the other way round
+
+pub on_writable-readable : (operation : writable.Acts → writable.Acts) (j : StreamId) (s : Slots) (i : StreamId) (same : Bool) → same ≡ is_same i j
+    → readable_at i (on_writable operation j s).slots ≡ readable_at i s
+on_writable-readable operation j s i false n = ap as_readable (on_writable-other operation j s i (sym n))
+on_writable-readable operation j s i true e =
+    let is : i ≡ j = same_id i j (sym e) in
+    rw is (either (λ (d : Done). readable_at j d.slots ≡ readable_at j s) (has_writable j s) _ _
+    (λ h. ap as_readable (place_same s.streams j.0 (WritableStream (writable_at j s)) _ (writable_there (slice_get s.streams j.0) h)) ∙ sym (ap as_readable (writable_there (slice_get s.streams j.0) h)))
+    (λ h. refl))
+
+pub on_readable-writable : (operation : readable.Acts → readable.Acts) (j : StreamId) (s : Slots) (i : StreamId) (same : Bool) → same ≡ is_same i j
+    → writable_at i (on_readable operation j s).slots ≡ writable_at i s
+on_readable-writable operation j s i false n = ap as_writable (on_readable-other operation j s i (sym n))
+on_readable-writable operation j s i true e =
+    let is : i ≡ j = same_id i j (sym e) in
+    rw is (either (λ (d : Done). writable_at j d.slots ≡ writable_at j s) (has_readable j s) _ _
+    (λ h. ap as_writable (place_same s.streams j.0 (ReadableStream (readable_at j s)) _ (readable_there (slice_get s.streams j.0) h)) ∙ sym (ap as_writable (readable_there (slice_get s.streams j.0) h)))
+    (λ h. refl))
+
+-- effects leave all streams
+
+started-streams : (i : StreamId) (step : Step) (start : StartBy) (s : Slots) → (started i step start s).streams ≡ s.streams
+unfolding call_host
+started-streams i step Now s = refl
+started-streams i step Later s = refl
+
+row-streams : (e : Effect) (s : Slots) → (row e s).slots.streams ≡ s.streams
+unfolding row call_host
+row-streams (Start i start) s = started-streams i _ start s
+row-streams (Pull i) s = refl
+row-streams (Cancel i reason p) s = refl
+row-streams (StartWritable i start) s = started-streams i _ start s
+row-streams (Write i v) s = refl
+row-streams (Close i) s = refl
+row-streams (Abort i reason p) s = refl
+
+-- an effect causes no other
+pub row-caused : (e : Effect) (s : Slots) → (row e s).caused ≡ []
+unfolding row
+row-caused (Start i start) s = refl
+row-caused (Pull i) s = refl
+row-caused (Cancel i reason p) s = refl
+row-caused (StartWritable i start) s = refl
+row-caused (Write i v) s = refl
+row-caused (Close i) s = refl
+row-caused (Abort i reason p) s = refl
+
+performed-streams_from : (es : List Effect) (s : Slots) → (performed (record { slots = s; caused = es })).streams ≡ s.streams
+performed-streams_from [] s = ap (λ (z : Slots). z.streams) (performed-none s)
+performed-streams_from (e ∷ es) s =
+    rw (performed-next s e es, row-caused e s) (performed-streams_from es (row e s).slots ∙ row-streams e s)
+
+pub performed-streams : (d : Done) → (performed d).streams ≡ d.slots.streams
+performed-streams d = performed-streams_from d.caused d.slots

@@ -1,0 +1,41 @@
+-- Laws over every run.
+use Rattle.std.specs.Prelude.{◌≡◌, ◌≤◌, ◌<◌, ℕ, Bool, true, false, List, [], ◌∷◌, ◌++◌, length}
+use Rattle.ws_value.specs.declared.ids.StreamId.{StreamId}
+use Rattle.ws_value.specs.declared.value.Value.{Value}
+use Rattle.ws_steps.specs.declared.readable.ReadableState.TheVariants.{Readable, Closed}
+use Rattle.ws_steps.specs.Readable as readable
+use Rattle.ws_steps.specs.Writable as writable
+use Rattle.ws_steps.specs.Slots.{Slots, empty, readable_at, writable_at}
+use Rattle.ws_steps.specs.Run.{Entry, run}
+use Rattle.ws_steps.specs.Histories.{Flow, Writes, values, todo, run_flow, run_writes}
+
+-- a first part, which may be all
+abbrev pub IsPrefixOf : List Value → List Value → Type 0
+IsPrefixOf xs ys = (rest : List Value) × (xs ++ rest ≡ ys)
+
+-- The order of a readable stream. What was given is the first part of what entered. While the stream is readable, what entered was
+-- given or is queued, in this order. Where the stream closed without a cancel, all that entered was given
+pub record IsLawfulReadable (h : Flow) (s : readable.Slots) : Type 0 where
+  pub front : IsPrefixOf h.given h.entered
+  pub readable : s.state ≡ Readable → h.entered ≡ h.given ++ values s.queue
+  pub closed : h.cancelled ≡ false → s.state ≡ Closed → h.given ≡ h.entered
+
+-- The order of a writable stream. What was acted on is the first part of what was written. While the stream is writable or
+-- erroring, what was written was acted on or is queued, in this order. The close algorithm is performed at most once, and only
+-- where all that was written was acted on, and each of these writes was fulfilled
+pub record IsLawfulWritable (h : Writes) (s : writable.Slots) : Type 0 where
+  pub front : IsPrefixOf h.acted h.written
+  pub alive : writable.has_ended s.state ≡ false → h.written ≡ h.acted ++ todo s.queue
+  pub once : h.closes ≤ 1
+  pub whole : 0 < h.closes → h.acted ≡ h.written
+  pub fulfilled : 0 < h.closes → h.fulfilled ≡ length h.written
+
+-- in every run each readable stream is lawful
+abbrev pub EachReadableIsLawful : Type 0
+EachReadableIsLawful =
+    (entries : List Entry) (i : StreamId) → IsLawfulReadable (run_flow i entries empty) (readable_at i (run entries empty))
+
+-- in every run each writable stream is lawful
+abbrev pub EachWritableIsLawful : Type 0
+EachWritableIsLawful =
+    (entries : List Entry) (i : StreamId) → IsLawfulWritable (run_writes i entries empty) (writable_at i (run entries empty))
