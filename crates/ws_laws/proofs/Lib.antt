@@ -16,3 +16,4 @@ pub mod WritableAsked
 pub mod WritableSteps
 pub mod WritableCalls
 pub mod WritableRuns
+mod Throws

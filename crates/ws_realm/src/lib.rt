@@ -23,3 +23,6 @@ mod writer_calls;
 
 pub use realm::{NoRoom, Realm, Why};
 pub use ws_steps::{Answer, Call, Event, Flags, HostCall, Reply, StartBy, StateIs, Thrown, Word};
+
+/// What holds of the streams of every realm, whatever calls and jobs it performs.
+pub use ws_laws as laws;
