@@ -16,3 +16,5 @@ pub mod WritableAsked
 pub mod WritableSteps
 pub mod WritableCalls
 pub mod WritableRuns
+pub mod Accepted
+pub mod Heard

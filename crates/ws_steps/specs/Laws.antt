@@ -7,7 +7,7 @@ use Rattle.ws_steps.specs.Readable as readable
 use Rattle.ws_steps.specs.Writable as writable
 use Rattle.ws_steps.specs.Slots.{Slots, empty, readable_at, writable_at}
 use Rattle.ws_steps.specs.Run.{Entry, run}
-use Rattle.ws_steps.specs.Histories.{Flow, Writes, values, todo, run_flow, run_writes}
+use Rattle.ws_steps.specs.Histories.{Flow, Writes, values, todo, run_flow, run_writes, accepted, heard_writes}
 
 -- a first part, which may be all
 abbrev pub IsPrefixOf : List Value → List Value → Type 0
@@ -39,3 +39,14 @@ EachReadableIsLawful =
 abbrev pub EachWritableIsLawful : Type 0
 EachWritableIsLawful =
     (entries : List Entry) (i : StreamId) → IsLawfulWritable (run_writes i entries empty) (writable_at i (run entries empty))
+
+-- in every run, what entered a readable stream is made of the values of the calls that enqueue into it and are answered Done, in the
+-- order of these calls
+abbrev pub EnteredWasAccepted : Type 0
+EnteredWasAccepted =
+    (entries : List Entry) (i : StreamId) → (run_flow i entries empty).entered ≡ accepted i entries empty
+
+-- in every run, a writable stream acted on the values of the events that call its write algorithm, in the order of these events
+abbrev pub ActedWasHeard : Type 0
+ActedWasHeard =
+    (entries : List Entry) (i : StreamId) → (run_writes i entries empty).acted ≡ heard_writes i (run entries empty).events
