@@ -18,3 +18,5 @@ pub mod WritableCalls
 pub mod WritableRuns
 pub mod Accepted
 pub mod Heard
+pub mod ReadableStep
+pub mod WritableStep
