@@ -16,4 +16,8 @@ pub mod WritableAsked
 pub mod WritableSteps
 pub mod WritableCalls
 pub mod WritableRuns
-mod Throws
+pub mod Accepted
+pub mod Heard
+pub mod ReadableStep
+pub mod WritableStep
+pub mod Throws

@@ -88,15 +88,12 @@ flow-assoc f g h = λ i. record {
   cancelled = or_assoc f.cancelled g.cancelled h.cancelled i;
 }
 
-run_kept : (i : StreamId) (xs : List Entry) (s : Slots) (h : Flow) → Kept i h s.streams → Kept i (flow_then h (run_flow i xs s)) (run xs s).streams
+pub run_kept : (i : StreamId) (xs : List Entry) (s : Slots) (h : Flow) → Kept i h s.streams → Kept i (flow_then h (run_flow i xs s)) (run xs s).streams
 run_kept i [] s h k = rw same_flow k
 run_kept i (x ∷ xs) s h k =
     rw (← flow-assoc h (step_flow i s x) (run_flow i xs (step s x))) (run_kept i xs (step s x) (flow_then h (step_flow i s x)) (entry_kept i x s h k))
 
 -- laws
-
-front : (E G Q D : List Value) → E ≡ G ++ (Q ++ D) → G ++ (Q ++ D) ≡ E
-front E G Q D e = sym e
 
 lawful : (h : Flow) (r : readable.Slots) → Held h r → IsLawfulReadable h r
 lawful h r k = record {
@@ -105,14 +102,11 @@ lawful h r k = record {
   closed = λ c e. sym (rw (k.balanced.whole c e, append-nil) at k.balanced.all);
 }
 
-none_made : (i : StreamId) → Kept i no_flow empty.streams
+pub none_made : (i : StreamId) → Kept i no_flow empty.streams
 none_made i = record {
   unmade = λ e. refl;
   held = record { dropped = []; balanced = record { all = refl; live = λ e. refl; whole = λ c e. refl; fit = λ e. cc } };
 }
-
-no_flow-then : (f : Flow) → flow_then no_flow f ≡ f
-no_flow-then f = refl
 
 pub each_readable_is_lawful : EachReadableIsLawful
 each_readable_is_lawful entries i = lawful (run_flow i entries empty) (readable_at i (run entries empty)) (run_kept i entries empty no_flow (none_made i)).held

@@ -74,7 +74,7 @@ appended-fine i h d v a w e f =
       shape = moves.chunk-shape k (core_of a.slots) q v p alive free.0 zero refl f.shape;
       closing = f.closing;
       told = moves.chunk-told (so_far i h a.out.effects) d (core_of a.slots) q v (a.slots.write_requests ++ p ∷ []) alive zero refl f.told;
-      owed = record { writes = later.writes; aborts = later.aborts };
+      owed = record { writes = later.writes; closes = later.closes; aborts = later.aborts };
     }
 
 fresh_settled-same : (i : StreamId) (a : Acts) (o : Result Plain Plain) → Same i a (with_promises (fresh_settled o a.out.promises) a)
@@ -113,7 +113,7 @@ marked-fine i h d a alive e f =
       shape = moves.mark-shape k (core_of a.slots) q alive free.0 zero refl f.shape;
       closing = f.closing;
       told = moves.mark-told (so_far i h a.out.effects) d (core_of a.slots) q alive refl f.told;
-      owed = record { writes = later.writes; aborts = later.aborts };
+      owed = record { writes = later.writes; closes = later.closes; aborts = later.aborts };
     }
 
 fulfil_ready-core : (a : Acts) (w : Option Writer) → core_of (fulfil_ready a w).slots ≡ core_of a.slots

@@ -41,7 +41,7 @@ use Rattle.ws_laws.proofs.Apart.{Apart, apart-same, apart-then, apart-promises, 
 use Rattle.ws_laws.proofs.ReadableApart as readable_apart
 use Rattle.ws_laws.proofs.WritableApart as writable_apart
 use Rattle.ws_laws.proofs.WritableShape.{one_if, Core, core_of, Shape, Closing, Told}
-use Rattle.ws_laws.proofs.WritableOperations.{is_write, is_abort, so_far, Owed, Fine, Held, Same, same_held}
+use Rattle.ws_laws.proofs.WritableOperations.{is_write, is_close, is_abort, so_far, Owed, Fine, Held, Same, same_held}
 use Rattle.ws_laws.proofs.WritableEnds.{false_true}
 use Rattle.ws_laws.proofs.WritableAsked.{write-held, close-held, abort-held, set_up_writer-held, release-held, set_up-core}
 use Rattle.ws_laws.proofs.WritableOperations.{error_if_needed-held}
@@ -250,11 +250,11 @@ write_by_lock v i s h k (Some (ReleasedWriter w)) = rw (unwritten h [] refl) (re
 
 -- a new writable stream
 
-new-fine : (i : StreamId) (h : Writes) (x : Out) (slots : writable.Slots) → Unmade i h x → weight (is_write i) x.promises + length (acted_in i x.effects) ≤ 0
+new-fine : (i : StreamId) (h : Writes) (x : Out) (slots : writable.Slots) → Unmade i h x → weight (is_write i) x.promises + length (acted_in i x.effects) ≤ 0 → weight (is_close i) x.promises + closes_in i x.effects ≤ 0
     → core_of slots ≡ record (core_of writable.initialized) { queue = []; started = false } → Fine i h [] (record { slots = slots; out = x })
-new-fine i h x slots u w core = let z = u.history in let closes : h.closes + closes_in i x.effects ≡ 0 = ap (λ (f : Writes). f.closes) z in record {
+new-fine i h x slots u w c core = let z = u.history in let closes : h.closes + closes_in i x.effects ≡ 0 = ap (λ (f : Writes). f.closes) z in record {
   shape = rw core (record {
-    errored = λ e. refl;
+    ended = λ e. refl;
     flying = λ o e. cc;
     requests = omega arith;
     last = refl;
@@ -266,13 +266,18 @@ new-fine i h x slots u w core = let z = u.history in let closes : h.closes + clo
     once = omega arith;
   });
   closing = λ f e. absurd (omega arith);
-  told = rw (core, z) (record { all = refl; live = λ o. refl; counted = λ o. refl; whole = λ f. refl; fulfilled = λ f. refl });
-  owed = rw core (record { writes = w; aborts = λ e. u.aborts });
+  told = rw (core, z) (record { all = refl; live = λ o. refl; counted = λ o. refl; whole = λ f. refl; fulfilled = λ f. refl; closed = λ e. cc });
+  owed = rw core (record { writes = w; closes = c; aborts = λ e. u.aborts });
 }
 
 nothing_owed : (i : StreamId) (h : Writes) (streams : List Stream) (x : Out) → slice_get streams i.0 ≡ None → Kept i h streams x → weight (is_write i) x.promises + length (acted_in i x.effects) ≤ 0
 nothing_owed i h streams x e k =
     let o : weight (is_write i) x.promises + length (acted_in i x.effects) ≤ one_if (is_some (as_writable (slice_get streams i.0)).write_in_flight) = k.held.fine.owed.writes in
+    rw e at o
+
+nothing_closing : (i : StreamId) (h : Writes) (streams : List Stream) (x : Out) → slice_get streams i.0 ≡ None → Kept i h streams x → weight (is_close i) x.promises + closes_in i x.effects ≤ 0
+nothing_closing i h streams x e k =
+    let o : weight (is_close i) x.promises + closes_in i x.effects ≤ one_if (is_some (as_writable (slice_get streams i.0)).close_in_flight) = k.held.fine.owed.closes in
     rw e at o
 
 set_up-fine : (j : StreamId) (start : StartBy) (mark : ℕ) (size : SizeBy) (s : Slots) (h : Writes) → slice_get s.streams j.0 ≡ None → Stands j h s → (a : writable.Acts) → a.out ≡ out_of (nothing s) → a.slots ≡ writable.initialized
@@ -283,9 +288,12 @@ set_up-fine j start mark size s h none k a o w =
     let x' : Apart j (out_of (nothing s)) y = subst (λ (z : Out). Apart j z y) o x in
     let u = unmade-later j h (out_of (nothing s)) y x' (k.unmade none) in
     let owed = nothing_owed j h s.streams (out_of (nothing s)) none k in
+    let closing = nothing_closing j h s.streams (out_of (nothing s)) none k in
     let lighter = x'.weight (is_write j) in
+    let lighter_too = x'.weight (is_close j) in
+    let same = x'.closes in
     let acted : length (acted_in j y.effects) ≡ length (acted_in j []) = ap length x'.acted in
-    new-fine j h y (writable.set_up j start mark size a).slots u (omega arith) (set_up-core j start mark size a ∙ ap (λ (z : writable.Slots). record (core_of z) { queue = []; started = false }) w)
+    new-fine j h y (writable.set_up j start mark size a).slots u (omega arith) (omega arith) (set_up-core j start mark size a ∙ ap (λ (z : writable.Slots). record (core_of z) { queue = []; started = false }) w)
 
 new_here : (mark : ℕ) (size : SizeBy) (start : StartBy) (j : StreamId) (s : Slots) (h : Writes) → slice_get s.streams j.0 ≡ None → j.0 ≡ length s.streams → Stands j h s
     → KeptBy j h (on_writable (writable.set_up j start mark size) j (add_stream (WritableStream writable.initialized) s))

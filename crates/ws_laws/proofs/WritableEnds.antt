@@ -30,7 +30,7 @@ use Rattle.ws_laws.proofs.Apart.{Apart, apart-same, apart-then, apart-promises, 
 use Rattle.ws_laws.proofs.WritableApart as apart
 use Rattle.ws_laws.proofs.WritableShape.{one_if, Core, core_of, failed, Shape, Closing, Told, failed-shape, failed-told, failed-closed, erroring-shape, erroring-told, closed-shape, closed-told, started-shape, started-told}
 use Rattle.ws_laws.proofs.WritableMoves as moves
-use Rattle.ws_laws.proofs.WritableOperations.{is_write, is_abort, so_far, Owed, Fine, Held, Same, owed-later, same_fine, same_held, settled-same, reject_both-fine, reject_ready-same, finish_abort-fine, finish_erroring-held, start_erroring-held, is_writable-true, deal-held, advance-held, and_left, and_right}
+use Rattle.ws_laws.proofs.WritableOperations.{is_write, is_close, is_abort, so_far, Owed, Fine, Held, Same, owed-later, same_fine, same_held, settled-same, reject_both-fine, reject_ready-same, finish_abort-fine, finish_erroring-held, start_erroring-held, is_writable-true, deal-held, advance-held, and_left, and_right}
 
 -- the backpressure doesn't matter
 
@@ -60,11 +60,11 @@ refresh-same i a = record { core = refresh-core a; apart = apart.refresh-apart i
 abbrev pub Due : StreamId → Acts → Type 0
 Due i a = weight (is_write i) a.out.promises + length (acted_in i a.out.effects) + 1 ≤ one_if (is_some a.slots.write_in_flight)
 
-one_if-true : (n : ℕ) (b : Bool) → n + 1 ≤ one_if b → b ≡ true
+pub one_if-true : (n : ℕ) (b : Bool) → n + 1 ≤ one_if b → b ≡ true
 one_if-true n true l = refl
 one_if-true n false l = absurd (omega arith)
 
-none_left : (n : ℕ) (b : Bool) → n + 1 ≤ one_if b → n ≤ 0
+pub none_left : (n : ℕ) (b : Bool) → n + 1 ≤ one_if b → n ≤ 0
 none_left n true l = omega arith
 none_left n false l = omega arith
 
@@ -81,7 +81,7 @@ fulfilled-fine i h d a due f =
       shape = moves.fulfilled-shape (h.closes + closes_in i a.out.effects) (core_of a.slots) w f.shape;
       closing = f.closing;
       told = moves.fulfilled-told (so_far i h a.out.effects) d (core_of a.slots) w f.shape f.told;
-      owed = record { writes = omega arith; aborts = later.aborts };
+      owed = record { writes = omega arith; closes = later.closes; aborts = later.aborts };
     }
 
 -- a stream that fails, from where it was fine: its flights may have ended meanwhile
@@ -91,6 +91,7 @@ pub record Fails (i : StreamId) (a b : Acts) : Type 0 where
   pub closing : is_some b.slots.close_in_flight ≡ true → is_some a.slots.close_in_flight ≡ true
   pub started : b.slots.started ≡ a.slots.started
   pub owed : weight (is_write i) b.out.promises + length (acted_in i b.out.effects) ≤ one_if (is_some b.slots.write_in_flight)
+  pub closes : weight (is_close i) b.out.promises + closes_in i b.out.effects ≤ one_if (is_some b.slots.close_in_flight)
 
 either_true : (a b c d : Bool) → (c ≡ true → a ≡ true) → (d ≡ true → b ≡ true) → c || d ≡ true → a || b ≡ true
 either_true a b true d f g e = let n = f refl in rw n refl
@@ -111,7 +112,7 @@ fails-fine i h d a b f g =
     let due = g.owed in
     record {
       shape = rw k (record {
-        errored = λ e. refl;
+        ended = λ e. refl;
         flying = λ o e. cc;
         requests = omega arith;
         last = refl;
@@ -123,8 +124,8 @@ fails-fine i h d a b f g =
         once = s.once;
       });
       closing = λ z e. cc;
-      told = rw (k, acted) (record { all = t.all; live = λ e. cc; counted = λ e. cc; whole = t.whole; fulfilled = t.fulfilled });
-      owed = record { writes = omega arith; aborts = λ e. cc };
+      told = rw (k, acted) (record { all = t.all; live = λ e. cc; counted = λ e. cc; whole = t.whole; fulfilled = t.fulfilled; closed = λ e. cc });
+      owed = record { writes = omega arith; closes = let m = (apart.fail_writes-apart i b).weight (is_close i) in let o = g.closes in omega arith; aborts = λ e. cc };
     }
 
 pub fails-held : (i me : StreamId) (h : Writes) (d : List Value) (a b : Acts) → Fine i h d a → Fails i a b → Held i h (finish_erroring me b)
@@ -149,6 +150,12 @@ fails-ready i r a b f =
       closing = λ e. f.closing (sym (ap (λ (z : Core). z.closing) core) ∙ e);
       started = ap (λ (z : Core). z.started) core ∙ f.started;
       owed = rw w (omega arith);
+      closes =
+          let m : closes_in i (reject_ready r c b.slots.writer).out.effects ≡ closes_in i b.out.effects = s.apart.closes in
+          let l = s.apart.weight (is_close i) in
+          let v : is_some (reject_ready r c b.slots.writer).slots.close_in_flight ≡ is_some b.slots.close_in_flight = ap (λ (z : Core). z.closing) core in
+          let o = f.closes in
+          rw v (omega arith);
     }
 
 -- the write in flight fails: nothing else is in flight, and the controller has started
@@ -157,12 +164,12 @@ not_flying : (k : ℕ) (b : Bool) → (b ≡ true → 0 < k) → (0 < k → ⊥)
 not_flying k true f g = absurd (g (f refl))
 not_flying k false f g = refl
 
-rejected-fails : (i : StreamId) (e : Plain) (a : Acts) → Due i a → Fails i a (write_ended (Err e) a)
-rejected-fails i e a due =
+rejected-fails : (i : StreamId) (e : Plain) (a : Acts) → weight (is_close i) a.out.promises + closes_in i a.out.effects ≤ one_if (is_some a.slots.close_in_flight) → Due i a → Fails i a (write_ended (Err e) a)
+rejected-fails i e a closes due =
     let ap_ = apart.write_ended-apart i (Err e) a in
     let lighter = ap_.weight (is_write i) in
     let left = none_left (weight (is_write i) a.out.promises + length (acted_in i a.out.effects)) (is_some a.slots.write_in_flight) due in
-    record { apart = ap_; writing = λ f. cc; closing = λ f. f; started = refl; owed = omega arith }
+    record { apart = ap_; writing = λ f. cc; closing = λ f. f; started = refl; owed = omega arith; closes = let m = ap_.weight (is_close i) in omega arith }
 
 pub false_true : {A : Type 0} (b : Bool) → b ≡ true → b ≡ false → A
 false_true b e f = cc
@@ -175,7 +182,7 @@ unfolding deal_with_rejection start_erroring
 rejected-held i h d e a due f =
     let w : is_some a.slots.write_in_flight ≡ true = one_if-true (weight (is_write i) a.out.promises + length (acted_in i a.out.effects)) (is_some a.slots.write_in_flight) due in
     let b : Acts = write_ended (Err e) a in
-    let g = rejected-fails i e a due in
+    let g = rejected-fails i e a f.owed.closes due in
     let c : Acts = reject_ready e (record b { slots = record b.slots { state = Erroring; stored_error = e } }) b.slots.writer in
     let core = (reject_ready-same i e (record b { slots = record b.slots { state = Erroring; stored_error = e } }) b.slots.writer).core in
     let open_ : is_some a.slots.close_in_flight ≡ false = not_flying (h.closes + closes_in i a.out.effects) (is_some a.slots.close_in_flight) f.shape.flight (λ z. false_true (is_some a.slots.write_in_flight) w (f.shape.still z)) in

@@ -8,7 +8,7 @@ use Rattle.ws_steps.specs.declared.writable.WritableState.TheVariants.{Writable,
 use Rattle.ws_steps.specs.declared.writable.WriteRecord.{WriteRecord}
 use Rattle.ws_steps.specs.declared.writable.WriteRecord.TheVariants.{Chunk, InFlight, CloseMark}
 use Rattle.ws_steps.specs.Queues.{is_empty, rest_of, with_first_value}
-use Rattle.ws_steps.specs.Writable.{has_ended, is_errored, first_request, later_requests}
+use Rattle.ws_steps.specs.Writable.{has_ended, is_errored, is_closed, first_request, later_requests}
 use Rattle.ws_steps.specs.Histories.{Writes, todo, chunk_of}
 use Rattle.ws_laws.proofs.WritableShape.{one_if, Core, leads, is_flying, is_mark, has_mark, marks_last, is_open, Shape, Closing, Told}
 
@@ -41,11 +41,17 @@ refuted false c f e = refl
 alive_open : (c : Core) → has_ended c.state ≡ false → is_open c ≡ true
 alive_open c e = rw e refl
 
-errored_ended : (s : WritableState) → is_errored s ≡ true → has_ended s ≡ false → ⊥
-errored_ended Writable e f = cc
-errored_ended Erroring e f = cc
-errored_ended Errored e f = cc
-errored_ended Closed e f = cc
+closed_ended : {A : Type 0} (s : WritableState) → is_closed s ≡ true → has_ended s ≡ false → A
+closed_ended Writable e f = cc
+closed_ended Erroring e f = cc
+closed_ended Errored e f = cc
+closed_ended Closed e f = cc
+
+ended_closed : (s : WritableState) → is_closed s ≡ true → has_ended s ≡ true
+ended_closed Writable e = cc
+ended_closed Erroring e = cc
+ended_closed Errored e = cc
+ended_closed Closed e = refl
 
 or_true : (b : Bool) → b || true ≡ true
 or_true true = refl
@@ -57,7 +63,7 @@ pub chunk-shape : (k : ℕ) (c : Core) (q : Queued WriteRecord) (v : Value) (p :
 chunk-shape k c q v p alive r z e s =
     let unmarked : has_mark c.queue ≡ false = refuted (has_mark c.queue) c.requested (s.marked alive) r in
     record {
-      errored = λ f. absurd (errored_ended c.state f alive);
+      ended = λ f. cc;
       flying = λ o f. leads-append c.queue (q ∷ []) (s.flying (alive_open c alive) f);
       requests = let m = s.requests in let n : todo (q ∷ []) ≡ v ∷ [] = rw e refl in rw (todo-append, n) (omega (arith, length-append (todo c.queue) (v ∷ []), length-append c.requests (p ∷ [])));
       last = last-append c.queue q unmarked;
@@ -83,6 +89,7 @@ chunk-told h d c q v rs alive z e t =
       counted = λ f. t.counted open_before;
       whole = λ f. absurd (omega arith);
       fulfilled = λ f. absurd (omega arith);
+      closed = λ f. closed_ended c.state f alive;
     }
 
 -- the close mark is appended, with its request
@@ -91,7 +98,7 @@ pub mark-shape : (k : ℕ) (c : Core) (q : Queued WriteRecord) → has_ended c.s
 mark-shape k c q alive r z e s =
     let unmarked : has_mark c.queue ≡ false = refuted (has_mark c.queue) c.requested (s.marked alive) r in
     record {
-      errored = λ f. absurd (errored_ended c.state f alive);
+      ended = λ f. cc;
       flying = λ o f. leads-append c.queue (q ∷ []) (s.flying (alive_open c alive) f);
       requests = let m = s.requests in let n : todo (q ∷ []) ≡ [] = rw e refl in rw (todo-append, n, append-nil) m;
       last = last-append c.queue q unmarked;
@@ -113,6 +120,7 @@ mark-told h d c q alive e t =
       counted = λ f. t.counted open_before;
       whole = t.whole;
       fulfilled = t.fulfilled;
+      closed = t.closed;
     }
 
 -- the first chunk is handed to the write algorithm
@@ -135,7 +143,7 @@ after_write n qs c = record (with_first InFlight n qs c) { requests = later_requ
 pub write-shape : (k : ℕ) (c : Core) (n : ℕ) (qs : List (Queued WriteRecord)) (v : Value) → c.started ≡ true → Shape k (with_first (Chunk v) n qs c) → Shape k (after_write n qs c)
 write-shape k c n qs v b s =
     record {
-      errored = λ g. let n = s.errored g in cc;
+      ended = λ g. let n = s.ended g in cc;
       flying = λ o g. refl;
       requests = later_length (length (todo qs)) c.requests s.requests;
       last = s.last;
@@ -164,6 +172,7 @@ write-told h d c n qs v w s t =
           rw some (omega (arith, length-append h.acted (v ∷ [])));
       whole = λ g. let n = s.spent g in cc;
       fulfilled = λ g. let n = s.spent g in cc;
+      closed = λ e. let n : record { value = Chunk v; size = n } ∷ qs ≡ [] = s.ended (ended_closed c.state e) in cc;
     }
 
 -- the close mark is processed
@@ -175,7 +184,7 @@ nothing_behind : (qs : List (Queued WriteRecord)) → is_empty qs ≡ true → q
 nothing_behind [] e = refl
 nothing_behind (q ∷ qs) e = cc
 
-not_spent : (k n : ℕ) (qs : List (Queued WriteRecord)) (c : Core) → Shape k (with_first CloseMark n qs c) → k ≡ 0
+pub not_spent : (k n : ℕ) (qs : List (Queued WriteRecord)) (c : Core) → Shape k (with_first CloseMark n qs c) → k ≡ 0
 not_spent zero n qs c s = refl
 not_spent (suc k) n qs c s = let e : record { value = CloseMark; size = n } ∷ qs ≡ [] = s.spent (omega arith) in cc
 
@@ -184,7 +193,7 @@ close-shape k c n qs w b s =
     let none : qs ≡ [] = nothing_behind qs s.last in
     let zero : k ≡ 0 = not_spent k n qs c s in
     record {
-      errored = λ g. none;
+      ended = λ g. none;
       flying = λ o g. cc;
       requests = rw none (omega arith);
       last = rw none refl;
@@ -214,6 +223,7 @@ close-told h d c n qs w s t =
       counted = λ f. counted;
       whole = λ g. sym all;
       fulfilled = λ g. let n : length h.written ≡ length h.acted = ap length all in omega arith;
+      closed = λ e z. absurd (omega arith);
     }
 
 -- the write in flight ends well
@@ -274,7 +284,7 @@ pub fulfilled-shape : (k : ℕ) (c : Core) → c.writing ≡ true → Shape k c 
 fulfilled-shape k c w s =
     let first = first_leads k c w s in
     record {
-      errored = λ g. rest_empty c.queue (s.errored g);
+      ended = λ g. rest_empty c.queue (s.ended g);
       flying = λ o g. cc;
       requests = rw (rest_todo c.queue first) s.requests;
       last = rest_last c.queue first ∙ s.last;
@@ -298,4 +308,5 @@ fulfilled-told h d c w s t =
           omega arith;
       whole = t.whole;
       fulfilled = λ g. let n = s.still g in cc;
+      closed = λ e z. let n = (t.closed e z).2 in cc;
     }

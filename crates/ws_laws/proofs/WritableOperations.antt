@@ -31,10 +31,14 @@ use Rattle.ws_laws.proofs.WritableApart as apart
 use Rattle.ws_laws.proofs.WritableShape.{one_if, Core, core_of, failed, Shape, Closing, Told, failed-shape, failed-told, failed-closed, erroring-shape, erroring-told, closed-shape, closed-told, started-shape, started-told}
 use Rattle.ws_laws.proofs.WritableMoves as moves
 
--- the steps that go on after a write of stream i, and after its abort
+-- the steps that go on after a write of stream i, after its close, and after its abort
 abbrev pub is_write : StreamId → Step → ℕ
 is_write i (WritableWrite j) = one_if (is_same i j)
 is_write i _ = 0
+
+abbrev pub is_close : StreamId → Step → ℕ
+is_close i (WritableClose j) = one_if (is_same i j)
+is_close i _ = 0
 
 abbrev pub is_abort : StreamId → Step → ℕ
 is_abort i (WritableAbort j p) = one_if (is_same i j)
@@ -44,9 +48,10 @@ is_abort i _ = 0
 abbrev pub so_far : StreamId → Writes → List Effect → Writes
 so_far i h es = record h { acted = h.acted ++ acted_in i es; closes = h.closes + closes_in i es }
 
--- a write goes on only where one is in flight, and an abort only where the stream has ended
+-- a write or a close goes on only where one is in flight, and an abort only where the stream has ended
 pub record Owed (i : StreamId) (c : Core) (x : Out) : Type 0 where
   pub writes : weight (is_write i) x.promises + length (acted_in i x.effects) ≤ one_if c.writing
+  pub closes : weight (is_close i) x.promises + closes_in i x.effects ≤ one_if c.closing
   pub aborts : has_ended c.state ≡ false → weight (is_abort i) x.promises + aborts_in i x.effects ≡ 0
 
 -- what holds of stream i at each moment
@@ -69,6 +74,7 @@ pub record Same (i : StreamId) (a b : Acts) : Type 0 where
 pub owed-later : (i : StreamId) (c : Core) (x y : Out) → Apart i x y → Owed i c x → Owed i c y
 owed-later i c x y a o = record {
   writes = let m = a.weight (is_write i) in let n : length (acted_in i y.effects) ≡ length (acted_in i x.effects) = ap length a.acted in let w = o.writes in omega arith;
+  closes = let m = a.weight (is_close i) in let n = a.closes in let w = o.closes in omega arith;
   aborts = λ e. let m = a.weight (is_abort i) in let n = a.aborts in let w = o.aborts e in omega arith;
 }
 
@@ -95,14 +101,14 @@ fail_writes-fine i h d a f = record {
   shape = failed-shape (so_far i h a.out.effects).closes (core_of a.slots) f.shape;
   closing = λ z e. cc;
   told = failed-told (so_far i h a.out.effects) d (core_of a.slots) f.told;
-  owed = let o = owed-later i (core_of a.slots) a.out (fail_writes a).out (apart.fail_writes-apart i a) f.owed in record { writes = o.writes; aborts = λ e. cc };
+  owed = let o = owed-later i (core_of a.slots) a.out (fail_writes a).out (apart.fail_writes-apart i a) f.owed in record { writes = o.writes; closes = o.closes; aborts = λ e. cc };
 }
 
 -- requests to close
 
 unrequested : (k : ℕ) (c : Core) → has_ended c.state ≡ true → Shape k c → Shape k (record c { requested = false })
 unrequested k c e s = record {
-  errored = s.errored;
+  ended = s.ended;
   flying = s.flying;
   requests = s.requests;
   last = s.last;
@@ -122,8 +128,8 @@ reject_close-fine i h d a (Some p) e f =
     record {
       shape = unrequested (h.closes + closes_in i a.out.effects) (core_of a.slots) e f.shape;
       closing = f.closing;
-      told = record { all = f.told.all; live = f.told.live; counted = f.told.counted; whole = f.told.whole; fulfilled = f.told.fulfilled };
-      owed = record { writes = later.writes; aborts = later.aborts };
+      told = record { all = f.told.all; live = f.told.live; counted = f.told.counted; whole = f.told.whole; fulfilled = f.told.fulfilled; closed = f.told.closed };
+      owed = record { writes = later.writes; closes = later.closes; aborts = later.aborts };
     }
 
 reject_closed-same : (i : StreamId) (a : Acts) (w : Option Writer) → Same i a (reject_closed a w)
@@ -155,7 +161,7 @@ abort-fine i me r p h d a e f =
       shape = rw closes f.shape;
       closing = rw closes f.closing;
       told = rw same f.told;
-      owed = record { writes = rw acted f.owed.writes; aborts = λ g. cc };
+      owed = record { writes = rw acted f.owed.writes; closes = let n = closes-cause i (Abort me r p) a.out in let o = f.owed.closes in omega arith; aborts = λ g. cc };
     }
 
 abort_by-fine : (i me : StreamId) (h : Writes) (d : List Value) (abort : PendingAbort) (a : Acts) (was : Bool) → has_ended a.slots.state ≡ true → Fine i h d a → Fine i h d (abort_by me abort a was)
@@ -185,7 +191,7 @@ erroring-fine i h d r a w f =
       shape = erroring-shape (h.closes + closes_in i a.out.effects) (core_of a.slots) w f.shape;
       closing = λ z e. f.closing z alive;
       told = erroring-told (so_far i h a.out.effects) d (core_of a.slots) w f.told;
-      owed = record { writes = f.owed.writes; aborts = λ e. f.owed.aborts alive };
+      owed = record { writes = f.owed.writes; closes = f.owed.closes; aborts = λ e. f.owed.aborts alive };
     }
 
 pub reject_ready-same : (i : StreamId) (r : Plain) (a : Acts) (w : Option Writer) → Same i a (reject_ready r a w)
@@ -239,6 +245,27 @@ so_far-close i h x =
     let n : h.closes + closes_in i (cause (Close i) x).effects ≡ (h.closes + closes_in i x.effects) + 1 = let l = closes-cause i (Close i) x in omega arith in
     λ k. record h { acted = h.acted ++ m k; closes = n k }
 
+-- only a stream that hasn't ended has a queue
+no_flight : (k w : ℕ) (closing : Bool) → k ≡ 0 → (closing ≡ true → 0 < k) → w ≤ one_if closing → w ≤ 0
+no_flight k w true z f l = let n = f refl in absurd (omega arith)
+no_flight k w false z f l = l
+
+queued_alive : (k : ℕ) (c : Core) (x : WriteRecord) (n : ℕ) (qs : List (Queued WriteRecord)) (ended : Bool) → ended ≡ has_ended c.state → Shape k (moves.with_first x n qs c) → has_ended c.state ≡ false
+queued_alive k c x n qs true e s = let none : record { value = x; size = n } ∷ qs ≡ [] = s.ended (sym e) in cc
+queued_alive k c x n qs false e s = sym e
+
+closed_owed : (i : StreamId) (d : List Value) (h : Writes) (a : Acts) (n : ℕ) (qs : List (Queued WriteRecord)) → Fine i h d (with_queue a (record { value = CloseMark; size = n } ∷ qs))
+    → weight (is_close i) a.out.promises + closes_in i (cause (Close i) a.out).effects ≤ one_if (is_some a.slots.close_request)
+closed_owed i d h a n qs f =
+    let k = h.closes + closes_in i a.out.effects in
+    let alive = queued_alive k (core_of a.slots) CloseMark n qs (has_ended a.slots.state) refl f.shape in
+    let requested : is_some a.slots.close_request ≡ true = f.shape.marked alive refl in
+    let zero : k ≡ 0 = moves.not_spent k n qs (core_of a.slots) f.shape in
+    let none : weight (is_close i) a.out.promises + closes_in i a.out.effects ≤ 0 = no_flight k (weight (is_close i) a.out.promises + closes_in i a.out.effects) (is_some a.slots.close_in_flight) zero f.shape.flight f.owed.closes in
+    let one : closes_by i (Close i) ≡ 1 = rw (is_same-refl i) refl in
+    let m = closes-cause i (Close i) a.out in
+    rw requested (omega arith)
+
 process_entry-fine : (i : StreamId) (h : Writes) (d : List Value) (a : Acts) (x : WriteRecord) (n : ℕ) (qs : List (Queued WriteRecord)) → is_some a.slots.write_in_flight ≡ false → a.slots.started ≡ true
     → Fine i h d (with_queue a (record { value = x; size = n } ∷ qs)) → Fine i h d (process_first i (with_queue a (record { value = x; size = n } ∷ qs)) (Some x))
 unfolding process_write process_close
@@ -257,6 +284,7 @@ process_entry-fine i h d a (Chunk v) n qs w b f =
             let p : weight (is_write i) a.out.promises + length (acted_in i a.out.effects) ≤ one_if false = rw w at o in
             let some = moves.first_some (length (todo qs)) a.slots.write_requests f.shape.requests in
             rw (some, acted-cause i (Write i v) a.out, one) (omega (arith, length-append (acted_in i a.out.effects) (v ∷ [])));
+        closes = let n = closes-cause i (Write i v) a.out in let o = f.owed.closes in omega arith;
         aborts = λ e. let o = f.owed.aborts e in let m = aborts-cause i (Write i v) a.out in omega arith;
       };
     }
@@ -271,6 +299,7 @@ process_entry-fine i h d a CloseMark n qs w b f =
       told = rw so (moves.close-told (so_far i h a.out.effects) d (core_of a.slots) n qs w f.shape f.told);
       owed = record {
         writes = rw acted f.owed.writes;
+        closes = closed_owed i d h a n qs f;
         aborts = λ e. let o = f.owed.aborts e in let m = aborts-cause i (Close i) a.out in omega arith;
       };
     }

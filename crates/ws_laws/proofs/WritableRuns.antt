@@ -30,24 +30,26 @@ use Rattle.ws_steps.specs.Calls as calls
 use Rattle.ws_steps.specs.Run.{Entry, Called, Worked, step, run}
 use Rattle.ws_steps.specs.Effects.{Out}
 use Rattle.ws_steps.specs.Histories.{Writes, no_writes, writes_then, is_same, todo, fulfilled_by, acted_in, closes_in, call_written, job_fulfilled, job_caused, step_writes, run_writes}
+use Rattle.ws_steps.specs.Writable.{is_closed}
 use Rattle.ws_steps.specs.Laws.{IsLawfulWritable, EachWritableIsLawful}
 use Rattle.ws_laws.proofs.Tables.{either, is_same-refl, same_id, writable_acts, no_writable_there, performed-streams}
 use Rattle.ws_laws.proofs.Outstanding.{weight, of_job, of_next, weight-next, weight-settle, weight-told, weight-watch}
 use Rattle.ws_laws.proofs.Apart.{Apart, apart-same, apart-then, apart-promises}
 use Rattle.ws_laws.proofs.ReadableApart as readable_apart
 use Rattle.ws_laws.proofs.WritableApart as writable_apart
-use Rattle.ws_laws.proofs.WritableShape.{one_if, core_of, Shape, Told}
-use Rattle.ws_laws.proofs.WritableOperations.{is_write, is_abort, so_far, Owed, Fine, Held}
+use Rattle.ws_laws.proofs.WritableShape.{one_if, Core, core_of, Shape, Closing, Told}
+use Rattle.ws_laws.proofs.WritableOperations.{is_write, is_close, is_abort, so_far, Owed, Fine, Held}
 use Rattle.ws_laws.proofs.WritableEnds.{Due, write_settled-held, false_true}
-use Rattle.ws_laws.proofs.WritableClosing.{close_settled-held, start_settled-held, abort_settled-held}
+use Rattle.ws_laws.proofs.WritableClosing.{DueClose, close_settled-held, start_settled-held, abort_settled-held}
 use Rattle.ws_laws.proofs.WritableSteps.{Unmade, acts_at, Kept, KeptBy, out_of, kept-later, on_readable-kept, on_writable-kept, on_writable-quiet, performed-kept}
 use Rattle.ws_laws.proofs.WritableCalls.{Stands, Begins, call_kept}
 
 -- reactions
 
--- what the first job takes away, where it is the reaction to a write, or to an abort, of stream i
+-- what the first job takes away, where it is the reaction to a write, a close, or an abort of stream i
 pub record Taken (i : StreamId) (step : JobStep) (s : Slots) : Type 0 where
   pub writes : weight (is_write i) s.promises + is_write i step ≤ one_if (is_some (writable_at i s).write_in_flight)
+  pub closes : weight (is_close i) s.promises + is_close i step ≤ one_if (is_some (writable_at i s).close_in_flight)
   pub aborts : writable.has_ended (writable_at i s).state ≡ false → weight (is_abort i) s.promises + is_abort i step ≡ 0
 
 -- the history after a reaction
@@ -68,6 +70,12 @@ due : (i j : StreamId) (s : Slots) → is_same i j ≡ true → Taken i (Writabl
 due i j s e t =
     let w : weight (is_write i) s.promises + one_if (is_same i j) ≤ one_if (is_some (writable_at i s).write_in_flight) = t.writes in
     let v : weight (is_write i) s.promises + one_if true ≤ one_if (is_some (writable_at i s).write_in_flight) = rw e at w in
+    omega arith
+
+due_close : (i j : StreamId) (s : Slots) → is_same i j ≡ true → Taken i (WritableClose j) s → DueClose i (writable_acts i s)
+due_close i j s e t =
+    let w : weight (is_close i) s.promises + one_if (is_same i j) ≤ one_if (is_some (writable_at i s).close_in_flight) = t.closes in
+    let v : weight (is_close i) s.promises + one_if true ≤ one_if (is_some (writable_at i s).close_in_flight) = rw e at w in
     omega arith
 
 write_settled-kept : (i j : StreamId) (o : Result Plain Plain) (s : Slots) (h : Writes) → Taken i (WritableWrite j) s → Stands i h s → KeptBy i (after_write i o s h j) (perform_step (WritableWrite j) o s)
@@ -93,7 +101,8 @@ step_kept (WritableStart j) o derived i s h t k =
     rw (unfulfilled h 0 refl) (on_writable-quiet (λ j. writable.start_settled j o) i j s h (λ d. start_settled-held i o h d (writable_acts i s)) (λ n. writable_apart.start_settled-apart i j o (writable_acts j s) n) k)
 step_kept (WritableWrite j) o derived i s h t k = write_settled-kept i j o s h t k
 step_kept (WritableClose j) o derived i s h t k =
-    rw (unfulfilled h 0 refl) (on_writable-quiet (λ j. writable.close_settled j o) i j s h (λ d. close_settled-held i o h d (writable_acts i s)) (λ n. writable_apart.close_settled-apart i j o (writable_acts j s) n) k)
+    rw (unfulfilled h 0 refl) (on_writable-kept (λ j. writable.close_settled j o) i j s h (λ l. h) (λ n. refl) (λ n. refl)
+    (λ same held. close_settled-held i o h held.dropped (writable_acts i s) (due_close i j s same t) held.fine) (λ n. writable_apart.close_settled-apart i j o (writable_acts j s) n) k)
 step_kept (WritableAbort j p) o derived i s h t k =
     rw (unfulfilled h 0 refl) (on_writable-kept (λ j. writable.abort_settled p o) i j s h (λ l. h) (λ n. refl) (λ n. refl)
     (λ same held. abort_settled-held i p o h held.dropped (writable_acts i s) (ended_by_abort i j p s (writable.has_ended (writable_at i s).state) refl same t) held.fine)
@@ -127,12 +136,16 @@ first_taken : (i : StreamId) (s : Slots) (h : Writes) (step : JobStep) (o : Resu
     → Taken i step (record s { promises = after_next_job s.promises })
 first_taken i s h step o derived e k =
     let m = weight-next (is_write i) s.promises in
+    let l = weight-next (is_close i) s.promises in
+    let c : is_close i step ≡ of_next (is_close i) (next_job s.promises) = ap (of_next (is_close i)) e in
+    let v = k.held.fine.owed.closes in
     let n = weight-next (is_abort i) s.promises in
     let w : is_write i step ≡ of_next (is_write i) (next_job s.promises) = ap (of_next (is_write i)) e in
     let a : is_abort i step ≡ of_next (is_abort i) (next_job s.promises) = ap (of_next (is_abort i)) e in
     let x = k.held.fine.owed.writes in
     record {
       writes = omega arith;
+      closes = omega arith;
       aborts = λ z. let y = k.held.fine.owed.aborts z in omega arith;
     }
 
@@ -203,21 +216,40 @@ writes-nothing h =
     let n : h.closes + 0 ≡ h.closes = omega arith in
     λ k. record { written = append-nil h.written k; acted = append-nil h.acted k; fulfilled = m k; closes = n k }
 
-nothing-writes : (h : Writes) → writes_then no_writes h ≡ h
+pub nothing-writes : (h : Writes) → writes_then no_writes h ≡ h
 nothing-writes h =
     let m : 0 + h.fulfilled ≡ h.fulfilled = omega arith in
     let n : 0 + h.closes ≡ h.closes = omega arith in
     λ k. record h { fulfilled = m k; closes = n k }
 
-run_kept : (i : StreamId) (xs : List Entry) (s : Slots) (h : Writes) → Rests i h s → Rests i (writes_then h (run_writes i xs s)) (run xs s)
+pub run_kept : (i : StreamId) (xs : List Entry) (s : Slots) (h : Writes) → Rests i h s → Rests i (writes_then h (run_writes i xs s)) (run xs s)
 run_kept i [] s h k = rw (writes-nothing h) k
 run_kept i (x ∷ xs) s h k =
     rw (← writes-assoc h (step_writes i s x) (run_writes i xs (step s x))) (run_kept i xs (step s x) (writes_then h (step_writes i s x)) (entry_kept i x s h k))
 
 -- laws
 
-so_far-nothing : (i : StreamId) (h : Writes) → so_far i h [] ≡ h
+pub so_far-nothing : (i : StreamId) (h : Writes) → so_far i h [] ≡ h
 so_far-nothing i h = let n : h.closes + 0 ≡ h.closes = omega arith in λ k. record h { acted = append-nil h.acted k; closes = n k }
+
+pub append_cancel : (xs ys zs : List Value) → xs ++ ys ≡ xs ++ zs → ys ≡ zs
+append_cancel [] ys zs e = e
+append_cancel (x ∷ xs) ys zs e = append_cancel xs ys zs (cc)
+
+pub append_none : (xs ys : List Value) → xs ++ ys ≡ [] → (xs ≡ []) × (ys ≡ [])
+append_none [] ys e = (refl, e)
+append_none (x ∷ xs) ys e = absurd (cc)
+
+-- nothing is queued in a stream that is closed, and nothing was dropped
+pub closed_whole : (h : Writes) (d : List Value) (c : Core) (k : ℕ) → k ≡ h.closes → is_closed c.state ≡ true → Told h d c → (h.acted ≡ h.written) × (h.fulfilled ≡ length h.written)
+closed_whole h d c (suc k) e f t = (t.whole (omega arith), t.fulfilled (omega arith))
+closed_whole h d c zero e f t =
+    let none = t.closed f (sym e) in
+    let all : h.acted ++ (todo c.queue ++ d) ≡ [] = sym t.all ∙ none.0 in
+    let acted = append_none h.acted (todo c.queue ++ d) all in
+    let length_none : length h.written ≡ 0 = ap length none.0 in
+    let fulfilled : h.fulfilled ≡ 0 = none.1 in
+    (acted.0 ∙ sym none.0, omega arith)
 
 lawful-from : (h : Writes) (d : List Value) (w : writable.Slots) (k : ℕ) → k ≡ h.closes → Shape k (core_of w) → Told h d (core_of w) → IsLawfulWritable h w
 lawful-from h d w k e s t = record {
@@ -226,6 +258,7 @@ lawful-from h d w k e s t = record {
   once = let n = s.once in omega arith;
   whole = t.whole;
   fulfilled = t.fulfilled;
+  closed = λ f. closed_whole h d (core_of w) h.closes refl (rw f refl) t;
 }
 
 lawful : (i : StreamId) (h : Writes) (s : Slots) → Rests i h s → IsLawfulWritable h (writable_at i s)
@@ -234,17 +267,17 @@ lawful i h s k =
     let n : h.closes + 0 ≡ h.closes = omega arith in
     lawful-from h k.held.dropped (writable_at i s) (h.closes + 0) n f.shape (rw (so_far-nothing i h) at f.told)
 
-none_made : (i : StreamId) → Rests i no_writes empty
+pub none_made : (i : StreamId) → Rests i no_writes empty
 unfolding weight
 none_made i = record {
   unmade = λ e. record { history = refl; aborts = refl };
   held = record {
     dropped = [];
     fine = record {
-      shape = record { errored = λ e. refl; flying = λ o e. cc; requests = omega arith; last = refl; started = λ e. cc; marked = λ e m. cc; flight = λ e. cc; spent = λ e. refl; still = λ e. refl; once = omega arith };
+      shape = record { ended = λ e. refl; flying = λ o e. cc; requests = omega arith; last = refl; started = λ e. cc; marked = λ e m. cc; flight = λ e. cc; spent = λ e. refl; still = λ e. refl; once = omega arith };
       closing = λ z e. cc;
-      told = record { all = refl; live = λ o. refl; counted = λ o. refl; whole = λ z. refl; fulfilled = λ z. refl };
-      owed = record { writes = omega arith; aborts = λ e. refl };
+      told = record { all = refl; live = λ o. refl; counted = λ o. refl; whole = λ z. refl; fulfilled = λ z. refl; closed = λ e z. (refl, refl, refl) };
+      owed = record { writes = omega arith; closes = omega arith; aborts = λ e. refl };
     };
   };
 }

@@ -11,7 +11,7 @@ use Rattle.ws_steps.specs.declared.writable.WritableState.TheVariants.{Writable,
 use Rattle.ws_steps.specs.declared.writable.WriteRecord.{WriteRecord}
 use Rattle.ws_steps.specs.declared.writable.WriteRecord.TheVariants.{Chunk, InFlight, CloseMark}
 use Rattle.ws_steps.specs.Queues.{is_empty, rest_of, with_first_value}
-use Rattle.ws_steps.specs.Writable.{Slots, Acts, has_ended, is_errored, first_request, later_requests}
+use Rattle.ws_steps.specs.Writable.{Slots, Acts, has_ended, is_errored, is_closed, first_request, later_requests}
 use Rattle.ws_steps.specs.Histories.{Writes, todo, chunk_of, acted_in, closes_in, is_same}
 use Rattle.ws_steps.specs.Effects.{Out}
 use Rattle.ws_laws.proofs.Outstanding.{weight}
@@ -73,7 +73,7 @@ is_open c = not (has_ended c.state) || not (is_empty c.queue)
 
 -- the queue, the requests and the flights of a stream whose close algorithm was performed k times
 pub record Shape (k : ℕ) (c : Core) : Type 0 where
-  pub errored : is_errored c.state ≡ true → c.queue ≡ []
+  pub ended : has_ended c.state ≡ true → c.queue ≡ []
   pub flying : is_open c ≡ true → c.writing ≡ true → leads c.queue ≡ true
   pub requests : length (todo c.queue) ≤ length c.requests
   pub last : marks_last c.queue ≡ true
@@ -95,6 +95,8 @@ pub record Told (h : Writes) (dropped : List Value) (c : Core) : Type 0 where
   pub counted : is_open c ≡ true → length h.acted ≡ h.fulfilled + one_if c.writing
   pub whole : 0 < h.closes → h.acted ≡ h.written
   pub fulfilled : 0 < h.closes → h.fulfilled ≡ length h.written
+  -- only of a stream that isn't there
+  pub closed : is_closed c.state ≡ true → h.closes ≡ 0 → (h.written ≡ []) × (h.fulfilled ≡ 0) × (c.writing ≡ false)
 
 -- the queue is reset and the stream errored
 abbrev pub failed : Core → Core
@@ -104,7 +106,7 @@ pub failed-shape : (k : ℕ) (c : Core) → Shape k c → Shape k (failed c)
 failed-shape k c s = grind arith
 
 pub failed-told : (h : Writes) (d : List Value) (c : Core) → Told h d c → Told h (todo c.queue ++ d) (failed c)
-failed-told h d c t = record { all = t.all; live = λ e. cc; counted = λ e. cc; whole = t.whole; fulfilled = t.fulfilled }
+failed-told h d c t = record { all = t.all; live = λ e. cc; counted = λ e. cc; whole = t.whole; fulfilled = t.fulfilled; closed = λ e. cc }
 
 -- no request to close is left, and no close is in flight
 pub failed-closed : (k : ℕ) (c : Core) (requested closing : Bool) → Shape k c → (closing ≡ true → c.closing ≡ true) → Shape k (record (failed c) { requested = requested; closing = closing })
@@ -118,15 +120,38 @@ pub erroring-told : (h : Writes) (d : List Value) (c : Core) → c.state ≡ Wri
 erroring-told h d c e t = grind arith
 
 -- the stream is closed
-pub closed-shape : (k : ℕ) (c : Core) → Shape k c → Shape k (record c { state = Closed; closing = false })
-closed-shape k c s = grind arith
+pub closed-shape : (k : ℕ) (c : Core) → c.closing ≡ true → Shape k c → Shape k (record c { state = Closed; closing = false })
+closed-shape k c e s =
+    let spent : c.queue ≡ [] = s.spent (s.flight e) in
+    record {
+      ended = λ g. spent;
+      flying = λ o w. let n = s.still (s.flight e) in cc;
+      requests = s.requests;
+      last = s.last;
+      started = λ g. s.started (grind arith);
+      marked = λ g m. cc;
+      flight = λ g. cc;
+      spent = s.spent;
+      still = s.still;
+      once = s.once;
+    }
 
-pub closed-told : (h : Writes) (d : List Value) (c : Core) → Told h d c → Told h d (record c { state = Closed; closing = false })
-closed-told h d c t = grind arith
+pub closed-told : (h : Writes) (d : List Value) (c : Core) → 0 < h.closes → Shape h.closes c → Told h d c → Told h d (record c { state = Closed; closing = false })
+closed-told h d c z s t =
+    let spent : c.queue ≡ [] = s.spent z in
+    let closed : is_open (record c { state = Closed; closing = false }) ≡ false = rw spent refl in
+    record {
+      all = t.all;
+      live = λ o. cc;
+      counted = λ o. cc;
+      whole = t.whole;
+      fulfilled = t.fulfilled;
+      closed = λ e n. absurd (omega arith);
+    }
 
 -- the controller has started
 pub started-shape : (k : ℕ) (c : Core) → Shape k c → Shape k (record c { started = true })
 started-shape k c s = grind arith
 
 pub started-told : (h : Writes) (d : List Value) (c : Core) → Told h d c → Told h d (record c { started = true })
-started-told h d c t = record { all = t.all; live = t.live; counted = t.counted; whole = t.whole; fulfilled = t.fulfilled }
+started-told h d c t = record { all = t.all; live = t.live; counted = t.counted; whole = t.whole; fulfilled = t.fulfilled; closed = t.closed }

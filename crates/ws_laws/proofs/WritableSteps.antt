@@ -26,7 +26,7 @@ use Rattle.ws_laws.proofs.Tables.{either, same_id, readable_acts, writable_acts,
 use Rattle.ws_laws.proofs.Outstanding.{weight, weight-fresh, weight-settle, weight-react, weight-follow, weight-told}
 use Rattle.ws_laws.proofs.Apart.{Apart, apart-same, apart-then, apart-promises, aborts_by, aborts_in}
 use Rattle.ws_laws.proofs.WritableShape.{one_if, Core, core_of, Shape, Closing, Told}
-use Rattle.ws_laws.proofs.WritableOperations.{is_write, is_abort, so_far, Owed, Fine, Held, Same, so_far-same, same_fine, same_held}
+use Rattle.ws_laws.proofs.WritableOperations.{is_write, is_close, is_abort, so_far, Owed, Fine, Held, Same, so_far-same, same_fine, same_held}
 
 -- nothing has happened of a stream that isn't made yet
 pub record Unmade (i : StreamId) (h : Writes) (x : Out) : Type 0 where
@@ -220,6 +220,19 @@ write-effects : (i : StreamId) (es : List Effect) → of_effects (is_write i) es
 write-effects i [] = refl
 write-effects i (e ∷ es) = let m = write-effect i e in let n = write-effects i es in omega (arith, length-append (acted_by i e) (acted_in i es))
 
+close-effect : (i : StreamId) (e : Effect) → of_effect (is_close i) e ≡ closes_by i e
+close-effect i (Start j start) = refl
+close-effect i (Pull j) = refl
+close-effect i (Cancel j reason p) = refl
+close-effect i (StartWritable j start) = refl
+close-effect i (Write j v) = refl
+close-effect i (Close j) = one_counted (is_same i j)
+close-effect i (Abort j reason p) = refl
+
+close-effects : (i : StreamId) (es : List Effect) → of_effects (is_close i) es ≡ closes_in i es
+close-effects i [] = refl
+close-effects i (e ∷ es) = let m = close-effect i e in let n = close-effects i es in omega arith
+
 abort-effect : (i : StreamId) (e : Effect) → of_effect (is_abort i) e ≡ aborts_by i e
 abort-effect i (Start j start) = refl
 abort-effect i (Pull j) = refl
@@ -240,10 +253,10 @@ told_so_far i h es =
     λ k. record h { acted = append-nil (h.acted ++ acted_in i es) k; closes = n k }
 
 performed-fine : (i : StreamId) (h : Writes) (d : List Value) (slots : WritableSlots) (es : List Effect) (t u : Table)
-    → weight (is_write i) u ≤ weight (is_write i) t + length (acted_in i es) → weight (is_abort i) u ≤ weight (is_abort i) t + aborts_in i es
+    → weight (is_write i) u ≤ weight (is_write i) t + length (acted_in i es) → weight (is_close i) u ≤ weight (is_close i) t + closes_in i es → weight (is_abort i) u ≤ weight (is_abort i) t + aborts_in i es
     → Fine i h d (record { slots = slots; out = record { promises = t; effects = es } })
     → Fine i (so_far i h es) d (record { slots = slots; out = record { promises = u; effects = [] } })
-performed-fine i h d slots es t u w a f =
+performed-fine i h d slots es t u w c a f =
     let n : (h.closes + closes_in i es) + 0 ≡ h.closes + closes_in i es = omega arith in
     record {
       shape = rw n f.shape;
@@ -251,6 +264,7 @@ performed-fine i h d slots es t u w a f =
       told = rw (told_so_far i h es) f.told;
       owed = record {
         writes = let o = f.owed.writes in omega arith;
+        closes = let o = f.owed.closes in omega arith;
         aborts = λ e. let o = f.owed.aborts e in omega arith;
       };
     }
@@ -258,6 +272,8 @@ performed-fine i h d slots es t u w a f =
 pub performed-kept : (i : StreamId) (h : Writes) (d : Done) → KeptBy i h d → Kept i (so_far i h d.caused) (performed d).streams (record { promises = (performed d).promises; effects = [] })
 performed-kept i h d k =
     let w = performed-weight (is_write i) d.caused d.slots in
+    let c = performed-weight (is_close i) d.caused d.slots in
+    let l = close-effects i d.caused in
     let a = performed-weight (is_abort i) d.caused d.slots in
     let m = write-effects i d.caused in
     let n = abort-effects i d.caused in
@@ -268,6 +284,6 @@ performed-kept i h d k =
       };
       held = record {
         dropped = k.held.dropped;
-        fine = performed-fine i h k.held.dropped (as_writable (slice_get d.slots.streams i.0)) d.caused d.slots.promises (performed d).promises (omega arith) (omega arith) k.held.fine;
+        fine = performed-fine i h k.held.dropped (as_writable (slice_get d.slots.streams i.0)) d.caused d.slots.promises (performed d).promises (omega arith) (omega arith) (omega arith) k.held.fine;
       };
     })

@@ -6,6 +6,11 @@ use Rattle.ws_value.specs.declared.value.Plain.{Plain}
 use Rattle.ws_value.specs.declared.value.Value.{Value}
 use Rattle.ws_steps.specs.declared.calls.Call.{Call}
 use Rattle.ws_steps.specs.declared.calls.Call.TheVariants.{Cancel, CancelBy, Read, Write as WriteCall, Enqueue}
+use Rattle.ws_steps.specs.declared.calls.Event.{Event}
+use Rattle.ws_steps.specs.declared.calls.Event.TheVariants.{Host}
+use Rattle.ws_steps.specs.declared.calls.HostCall.TheVariants.{Write as HostWrite}
+use Rattle.ws_steps.specs.declared.calls.Reply.{Reply}
+use Rattle.ws_steps.specs.declared.calls.Reply.TheVariants.{Done}
 use Rattle.ws_steps.specs.declared.effects.Effect.{Effect}
 use Rattle.ws_steps.specs.declared.effects.Effect.TheVariants.{Write, Close}
 use Rattle.ws_steps.specs.declared.locks.Lock.{Lock}
@@ -27,7 +32,7 @@ use Rattle.ws_steps.specs.Writable as writable
 use Rattle.ws_steps.specs.Slots.{Slots, readable_at, writable_at, lock_at}
 use Rattle.ws_steps.specs.Jobs.{perform_step}
 use Rattle.ws_steps.specs.Calls.{begin}
-use Rattle.ws_steps.specs.Run.{Entry, Called, Worked, step}
+use Rattle.ws_steps.specs.Run.{Entry, Called, Worked, step, reply_to}
 
 abbrev pub is_same : StreamId → StreamId → Bool
 is_same i j = nat_eq i.0 j.0
@@ -216,3 +221,29 @@ step_writes i s Worked =
 abbrev pub run_writes : StreamId → List Entry → Slots → Writes
 run_writes i [] s = no_writes
 run_writes i (x ∷ xs) s = writes_then (step_writes i s x) (run_writes i xs (step s x))
+
+-- what a host sees of these
+
+-- the value of a call that enqueues into stream i, where it is answered Done
+abbrev pub accepted_by : StreamId → Call → Reply → List Value
+accepted_by i (Enqueue j v) Done = if is_same i j then v ∷ [] else []
+accepted_by i _ _ = []
+
+abbrev pub accepted_in_step : StreamId → Slots → Entry → List Value
+accepted_in_step i s (Called c) = accepted_by i c (reply_to c s)
+accepted_in_step i s Worked = []
+
+-- the values of the calls of a run that enqueue into stream i and are answered Done, in their order
+abbrev pub accepted : StreamId → List Entry → Slots → List Value
+accepted i [] s = []
+accepted i (x ∷ xs) s = accepted_in_step i s x ++ accepted i xs (step s x)
+
+-- the value of an event that calls the write algorithm of stream i
+abbrev pub heard_write : StreamId → Event → List Value
+heard_write i (Host id (HostWrite j v)) = if is_same i j then v ∷ [] else []
+heard_write i _ = []
+
+-- the values of such events, in their order
+abbrev pub heard_writes : StreamId → List Event → List Value
+heard_writes i [] = []
+heard_writes i (e ∷ es) = heard_write i e ++ heard_writes i es

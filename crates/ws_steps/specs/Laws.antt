@@ -1,13 +1,17 @@
 -- Laws over every run.
-use Rattle.std.specs.Prelude.{◌≡◌, ◌≤◌, ◌<◌, ℕ, Bool, true, false, List, [], ◌∷◌, ◌++◌, length}
+use Rattle.std.specs.Prelude.{◌≡◌, ◌≤◌, ◌<◌, ◌≢◌, ℕ, Bool, true, false, List, [], ◌∷◌, ◌++◌, length}
 use Rattle.ws_value.specs.declared.ids.StreamId.{StreamId}
 use Rattle.ws_value.specs.declared.value.Value.{Value}
+use Rattle.ws_steps.specs.declared.calls.Call.{Call}
+use Rattle.ws_steps.specs.declared.calls.Reply.TheVariants.{Throws}
+use Rattle.ws_steps.specs.declared.calls.Thrown.{Thrown}
 use Rattle.ws_steps.specs.declared.readable.ReadableState.TheVariants.{Readable, Closed}
+use Rattle.ws_steps.specs.declared.writable.WritableState.TheVariants.{Closed as WritableClosed}
 use Rattle.ws_steps.specs.Readable as readable
 use Rattle.ws_steps.specs.Writable as writable
 use Rattle.ws_steps.specs.Slots.{Slots, empty, readable_at, writable_at}
-use Rattle.ws_steps.specs.Run.{Entry, run}
-use Rattle.ws_steps.specs.Histories.{Flow, Writes, values, todo, run_flow, run_writes}
+use Rattle.ws_steps.specs.Run.{Entry, step, run, reply_to, after_call, older}
+use Rattle.ws_steps.specs.Histories.{Flow, Writes, values, todo, step_flow, run_flow, step_writes, run_writes, accepted, heard_writes}
 
 -- a first part, which may be all
 abbrev pub IsPrefixOf : List Value → List Value → Type 0
@@ -22,13 +26,14 @@ pub record IsLawfulReadable (h : Flow) (s : readable.Slots) : Type 0 where
 
 -- The order of a writable stream. What was acted on is the first part of what was written. While the stream is writable or
 -- erroring, what was written was acted on or is queued, in this order. The close algorithm is performed at most once, and only
--- where all that was written was acted on, and each of these writes was fulfilled
+-- where all that was written was acted on, and each of these writes was fulfilled; so it is of a stream that is closed
 pub record IsLawfulWritable (h : Writes) (s : writable.Slots) : Type 0 where
   pub front : IsPrefixOf h.acted h.written
   pub alive : writable.has_ended s.state ≡ false → h.written ≡ h.acted ++ todo s.queue
   pub once : h.closes ≤ 1
   pub whole : 0 < h.closes → h.acted ≡ h.written
   pub fulfilled : 0 < h.closes → h.fulfilled ≡ length h.written
+  pub closed : s.state ≡ WritableClosed → (h.acted ≡ h.written) × (h.fulfilled ≡ length h.written)
 
 -- in every run each readable stream is lawful
 abbrev pub EachReadableIsLawful : Type 0
@@ -39,3 +44,46 @@ EachReadableIsLawful =
 abbrev pub EachWritableIsLawful : Type 0
 EachWritableIsLawful =
     (entries : List Entry) (i : StreamId) → IsLawfulWritable (run_writes i entries empty) (writable_at i (run entries empty))
+
+-- in every run, what entered a readable stream is made of the values of the calls that enqueue into it and are answered Done, in the
+-- order of these calls
+abbrev pub EnteredWasAccepted : Type 0
+EnteredWasAccepted =
+    (entries : List Entry) (i : StreamId) → (run_flow i entries empty).entered ≡ accepted i entries empty
+
+-- in every run, a writable stream acted on the values of the events that call its write algorithm, in the order of these events
+abbrev pub ActedWasHeard : Type 0
+ActedWasHeard =
+    (entries : List Entry) (i : StreamId) → (run_writes i entries empty).acted ≡ heard_writes i (run entries empty).events
+
+-- One step of a readable stream. Where it is readable before, and after it is readable or closed without a cancel, what was queued
+-- and what entered is what was given and what is queued. In each step what was given is the first part of what was queued and what
+-- entered. Nothing enters a stream that isn't readable before, and it gives nothing
+pub record IsReadableStep (h : Flow) (before after : readable.Slots) : Type 0 where
+  pub readable : before.state ≡ Readable → after.state ≡ Readable → values before.queue ++ h.entered ≡ h.given ++ values after.queue
+  pub closed : before.state ≡ Readable → h.cancelled ≡ false → after.state ≡ Closed → values before.queue ++ h.entered ≡ h.given ++ values after.queue
+  pub front : IsPrefixOf h.given (values before.queue ++ h.entered)
+  pub ended : before.state ≢ Readable → (h.entered ≡ []) × (h.given ≡ [])
+
+-- One step of a writable stream. Where it is writable or erroring before, and after it isn't errored, what was queued and what was
+-- written is what was acted on and what is queued. In each step what was acted on is the first part of what was queued and what was
+-- written. Nothing is written to a stream that has ended before, and it acts on nothing
+pub record IsWritableStep (h : Writes) (before after : writable.Slots) : Type 0 where
+  pub alive : writable.has_ended before.state ≡ false → writable.is_errored after.state ≡ false → todo before.queue ++ h.written ≡ h.acted ++ todo after.queue
+  pub front : IsPrefixOf h.acted (todo before.queue ++ h.written)
+  pub ended : writable.has_ended before.state ≡ true → (h.written ≡ []) × (h.acted ≡ [])
+
+-- each step of every run, of each stream
+abbrev pub EachReadableStep : Type 0
+EachReadableStep =
+    (entries : List Entry) (x : Entry) (i : StreamId)
+    → IsReadableStep (step_flow i (run entries empty) x) (readable_at i (run entries empty)) (readable_at i (step (run entries empty) x))
+
+abbrev pub EachWritableStep : Type 0
+EachWritableStep =
+    (entries : List Entry) (x : Entry) (i : StreamId)
+    → IsWritableStep (step_writes i (run entries empty) x) (writable_at i (run entries empty)) (writable_at i (step (run entries empty) x))
+
+-- a call that throws changes nothing but the age
+abbrev pub EachThrowChangesNothing : Type 0
+EachThrowChangesNothing = (c : Call) (s : Slots) (t : Thrown) → reply_to c s ≡ Throws t → after_call c s ≡ older s
