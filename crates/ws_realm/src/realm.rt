@@ -1,6 +1,8 @@
 //! A realm.
 ghost use Rattle.std.specs.Prelude.{◌≡◌, ◌<◌, ◌≢◌, ◌↔◌, true, false, not, length, option_map, IfOk, OnOk, IfErr, OnErr, Ok, Err, Some, None, IsErrAnd, if◌then◌else◌};
 ghost use Rattle.ws_steps.specs.Promises as table;
+ghost use Rattle.ws_steps.specs.declared.calls.Reply.TheVariants as reply;
+ghost use Rattle.ws_steps.specs.declared.calls.Thrown.{Thrown};
 ghost use Rattle.ws_steps.specs.Run as run;
 ghost use Rattle.ws_steps.specs.Slots.{empty};
 ghost use Rattle.ws_realm.specs.Seen.{first_event, later_events, outcome_named, oldest};
@@ -92,6 +94,7 @@ impl Realm {
     pub fn call(&mut self, call: Call) -> Result<Reply, NoRoom>
         ensures reply { IfOk result (λ reply. reply ≡ run.reply_to call self.old.slots) }
         ensures slots { OnOk result (self.new.slots ≡ run.after_call call self.old.slots) }
+        ensures throws { (t : Thrown) → result ≡ Ok (reply.Throws t) → self.new.slots ≡ run.older self.old.slots }
         ensures ready { OnOk result ((self.old.wanting ≡ false) × (self.new.wanting ≡ false)) }
         ensures spent { IsErrAnd result (λ refused. refused.why ≡ why.Spent) ↔ (self.old.slots.age ≡ oldest) }
         ensures untouched { IfErr result (λ refused. refused.why ≡ why.Spent → self.new ≡ self.old) }
