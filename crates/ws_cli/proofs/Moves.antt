@@ -65,7 +65,7 @@ reacting = Perform (ReadablePull me) None
 read_begun : (d : Bool) (c : PromiseId) (es : List (Option Entry)) (n : ℕ) (hosts : List (Option PromiseId)) (age : ℕ)
     → performed (begin (Read reader) (state (resting d c) c (quiet es n) hosts [] age)).done
     ≡ state (awaiting c (next_id (quiet es n))) c (react (next_id (fresh (quiet es n))) reacting (fresh (fresh (quiet es n))))
-      (hosts ++ Some (next_id (fresh (quiet es n))) ∷ []) (Host (record { 0 = length hosts }) (HostPull me) ∷ []) age
+    (hosts ++ Some (next_id (fresh (quiet es n))) ∷ []) (Host (record { 0 = length hosts }) (HostPull me) ∷ []) age
 unfolding state quiet reacting begin default_reader_read pull_steps call_pull_if_needed fresh call_host row turns performed
 read_begun d c es n hosts age = refl
 
@@ -110,7 +110,7 @@ asked-is es n =
     let new : entry_at (fresh (fresh t)) q ≡ Some pending = entry_at-fresh_new (fresh t) q refl in
     let y : Option Entry = Some (record pending { reactions = reacting ∷ [] }) in
     let first : entry_at (with_entry q y (fresh (fresh t))) p ≡ Some pending =
-        entry_at-with_entry_other (fresh (fresh t)) q p y (omega arith) ∙ (entry_at-fresh (fresh t) p (omega arith) ∙ entry_at-fresh_new t p refl) in
+    entry_at-with_entry_other (fresh (fresh t)) q p y (omega arith) ∙ (entry_at-fresh (fresh t) p (omega arith) ∙ entry_at-fresh_new t p refl) in
     rw (react-open q reacting (fresh (fresh t)) [] new) (watch-pending (with_entry q y (fresh (fresh t))) p first)
 
 read-is : (d : Bool) (c : PromiseId) (es : List (Option Entry)) (n : ℕ) (hosts : List (Option PromiseId)) (age : ℕ)
@@ -147,7 +147,7 @@ read-awaits s z h is =
     let c : PromiseId = h.closed in
     let at = as_state s (resting h.disturbed c) c h.streams h.locks h.jobs h.told h.heard in
     let done : z ≡ state (awaiting c p) c (asked es n) (s.hosts ++ Some q ∷ []) [] (s.age + 1) =
-        is ∙ ap (λ (x : Slots). record x { events = [] }) (ap (after_call (Read reader)) at ∙ read-is h.disturbed c es n s.hosts s.age) in
+    is ∙ ap (λ (x : Slots). record x { events = [] }) (ap (after_call (Read reader)) at ∙ read-is h.disturbed c es n s.hosts s.age) in
     let within : c.0 < length es = entry_within t c pending h.reader in
     let more : length (fresh t).entries ≡ length es + 1 = length-fresh t in
     let most : length (fresh (fresh t)).entries ≡ length (fresh t).entries + 1 = length-fresh (fresh t) in
@@ -282,9 +282,9 @@ unfolding answered older_told state quiet reacting pulled
 answered-is m call s c p q es es' n hosts age h r r' at told under_way host pulls =
     let ended_q : List (Option Entry) = slice_set es' q.0 (Some (ended (Fulfilled Undefined))) in
     let first : record (after_call call s) { events = [] } ≡ state r c (quiet es' n) hosts [] (age + 1) =
-        ap (λ (x : Slots). record x { events = [] }) (ap (after_call call) at ∙ told) in
+    ap (λ (x : Slots). record x { events = [] }) (ap (after_call call) at ∙ told) in
     let second : after_call (Settle h AnswerOk) (state r c (quiet es' n) hosts [] (age + 1)) ≡ state r c (record (quiet ended_q n) { jobs = pulled ∷ [] }) (slice_set hosts h.0 None) [] (age + 1 + 1) =
-        settle_told r c q h (quiet es' n) (record (quiet ended_q n) { jobs = pulled ∷ [] }) hosts (age + 1) under_way (settle-open q (Ok Undefined) (quiet es' n) (reacting ∷ []) host) in
+    settle_told r c q h (quiet es' n) (record (quiet ended_q n) { jobs = pulled ∷ [] }) hosts (age + 1) under_way (settle-open q (Ok Undefined) (quiet es' n) (reacting ∷ []) host) in
     ap (λ (x : Slots). work (suc m) (after_call (Settle h AnswerOk) x)) first
     ∙ (ap (work (suc m)) second ∙ pulled_work m r r' c ended_q n (slice_set hosts h.0 None) (age + 1 + 1) pulls)
 
@@ -308,9 +308,9 @@ enqueue-rests m v s p h a =
     let same : length t₁.entries ≡ length es = length-with_entry t p x in
     let host : entry_at t₁ q ≡ Some (record pending { reactions = reacting ∷ [] }) = entry_at-with_entry_other t p q x (omega arith) ∙ a.host in
     rw (answered-is m (Enqueue me v) s c p q es t₁.entries n s.hosts s.age h (given_slots c) (resting true c)
-      (as_state s (awaiting c p) c a.streams a.locks a.jobs a.told a.heard)
-      (enqueue_told c p s.hosts s.age v t (record t₁ { settlements = p ∷ [] }) (answer-watched t p (Given v) a.rank a.asked))
-      a.under_way host (given_pulls c)) (
+    (as_state s (awaiting c p) c a.streams a.locks a.jobs a.told a.heard)
+    (enqueue_told c p s.hosts s.age v t (record t₁ { settlements = p ∷ [] }) (answer-watched t p (Given v) a.rank a.asked))
+    a.under_way host (given_pulls c)) (
       record {
         disturbed = true;
         closed = c;
@@ -348,7 +348,7 @@ ended_last m call s p h a r r' closed outcome told pulls =
     let same₁ : length t₁.entries ≡ length es = length-with_entry t c z in
     let same₂ : length t₂.entries ≡ length t₁.entries = length-with_entry t₁ p x in
     let host : entry_at t₂ q ≡ Some (record pending { reactions = reacting ∷ [] }) =
-        entry_at-with_entry_other t₁ p q x (omega arith) ∙ (entry_at-with_entry_other t c q z (omega arith) ∙ a.host) in
+    entry_at-with_entry_other t₁ p q x (omega arith) ∙ (entry_at-with_entry_other t c q z (omega arith) ∙ a.host) in
     rw (answered-is m call s c p q es t₂.entries n s.hosts s.age h r r' (as_state s (awaiting c p) c a.streams a.locks a.jobs a.told a.heard) told a.under_way host pulls)
     (record { rank = a.rank; entry = entry_at-with_entry_other t₂ q p y (omega arith) ∙ entry_at-with_entry_same t₁ p x (omega arith) })
 
@@ -480,7 +480,7 @@ read-asked s y z reply p id call h replies promise is tells heard =
     let first : Some (Host (record { 0 = length s.hosts }) (HostPull me)) ≡ Some (Host id call) = sym (read-hosts s y h is) ∙ tells in
     let number : ◌≡◌ {A = HostId} (record { 0 = length s.hosts }) id = cc in
     let left : z ≡ record (after_call (Read reader) s) { events = [] } =
-        heard ∙ (ap (λ (events : List Event). record y { events = later_events events }) told ∙ ap (λ (x : Slots). record x { events = [] }) is) in
+    heard ∙ (ap (λ (events : List Event). record y { events = later_events events }) told ∙ ap (λ (x : Slots). record x { events = [] }) is) in
     subst (λ (n : HostId). Awaits z p n) number (subst (λ (x : PromiseId). Awaits z x (record { 0 = length s.hosts })) same (read-awaits s z h left))
 
 no_event : (events : List Event) → first_event events ≡ None → events ≡ []

@@ -61,7 +61,11 @@ fn answer_with(
                 let reason = Plain::Fault(Fault::TooMuch);
                 return answer(realm, asked.pull, Call::Fail(SOURCE, reason));
             }
-            answer(realm, asked.pull, Call::Enqueue(SOURCE, Value::Bytes(chunk)))
+            answer(
+                realm,
+                asked.pull,
+                Call::Enqueue(SOURCE, Value::Bytes(chunk)),
+            )
         }
         Err(Failed) => {
             let reason = Plain::Fault(Fault::Read);

@@ -15,37 +15,37 @@ pub returns-then-is_empty-clause-outcome : goal.returns-then-is_empty-clause-out
 returns-then-is_empty-clause-outcome c =
     on_ok c.answer.result _ _
     (λ is. ended-so _ _ _ _ _ is
-      (ap (outcome_of c.args.most) c.in-Ok.is ∙ outcome-finished c.args.most c.in-Ok.chunk (sym c.is_empty.ensures ∙ c.if-is_empty.true))
-      (finish-finishes 99999 c.args.realm.now.slots c.args.asked.promise c.args.asked.pull c.requires))
+    (ap (outcome_of c.args.most) c.in-Ok.is ∙ outcome-finished c.args.most c.in-Ok.chunk (sym c.is_empty.ensures ∙ c.if-is_empty.true))
+    (finish-finishes 99999 c.args.realm.now.slots c.args.asked.promise c.args.asked.pull c.requires))
     c.answer.ensures
 
 pub returns-then-len-most-clause-outcome : goal.returns-then-len-most-clause-outcome
 returns-then-len-most-clause-outcome c =
     on_ok c.answer-then-len-most.result _ _
     (λ is. ended-so _ _ _ _ _ is
-      (ap (outcome_of c.args.most) c.in-Ok.is ∙ outcome-too_much c.args.most c.in-Ok.chunk (sym c.is_empty.ensures ∙ c.if-is_empty.false) (omega arith))
-      (fail-rejects 99999 (Fault TooMuch) c.args.realm.now.slots c.args.asked.promise c.args.asked.pull c.requires))
+    (ap (outcome_of c.args.most) c.in-Ok.is ∙ outcome-too_much c.args.most c.in-Ok.chunk (sym c.is_empty.ensures ∙ c.if-is_empty.false) (omega arith))
+    (fail-rejects 99999 (Fault TooMuch) c.args.realm.now.slots c.args.asked.promise c.args.asked.pull c.requires))
     c.answer-then-len-most.ensures
 
 pub returns-else-len-most-clause-outcome : goal.returns-else-len-most-clause-outcome
 returns-else-len-most-clause-outcome c =
     on_ok c.answer-in-Ok.result _ _
     (λ is. ended-so _ _ _ _ _ is
-      (ap (outcome_of c.args.most) c.in-Ok.is ∙ outcome-given c.args.most c.in-Ok.chunk (sym c.is_empty.ensures ∙ c.if-is_empty.false) (omega arith))
-      (enqueue-rests 99999 (Bytes c.in-Ok.chunk) c.args.realm.now.slots c.args.asked.promise c.args.asked.pull c.requires).1)
+    (ap (outcome_of c.args.most) c.in-Ok.is ∙ outcome-given c.args.most c.in-Ok.chunk (sym c.is_empty.ensures ∙ c.if-is_empty.false) (omega arith))
+    (enqueue-rests 99999 (Bytes c.in-Ok.chunk) c.args.realm.now.slots c.args.asked.promise c.args.asked.pull c.requires).1)
     c.answer-in-Ok.ensures
 
 pub returns-else-len-most-clause-rests : goal.returns-else-len-most-clause-rests
 returns-else-len-most-clause-rests c =
     on_ok c.answer-in-Ok.result _ _
     (λ is. subst (λ (o : Outcome). RestsAfter o c.answer-in-Ok.new.realm.slots)
-      (sym (ap (outcome_of c.args.most) c.in-Ok.is ∙ outcome-given c.args.most c.in-Ok.chunk (sym c.is_empty.ensures ∙ c.if-is_empty.false) (omega arith)))
-      (subst (λ (s : Slots). IsResting s) (sym is) (enqueue-rests 99999 (Bytes c.in-Ok.chunk) c.args.realm.now.slots c.args.asked.promise c.args.asked.pull c.requires).0))
+    (sym (ap (outcome_of c.args.most) c.in-Ok.is ∙ outcome-given c.args.most c.in-Ok.chunk (sym c.is_empty.ensures ∙ c.if-is_empty.false) (omega arith)))
+    (subst (λ (s : Slots). IsResting s) (sym is) (enqueue-rests 99999 (Bytes c.in-Ok.chunk) c.args.realm.now.slots c.args.asked.promise c.args.asked.pull c.requires).0))
     c.answer-in-Ok.ensures
 
 pub returns-in-Err-clause-outcome : goal.returns-in-Err-clause-outcome
 returns-in-Err-clause-outcome c =
     on_ok c.answer-in-Err.result _ _
     (λ is. ended-so _ _ _ _ _ is (ap (outcome_of c.args.most) c.in-Err.is)
-      (fail-rejects 99999 (Fault Read) c.args.realm.now.slots c.args.asked.promise c.args.asked.pull c.requires))
+    (fail-rejects 99999 (Fault Read) c.args.realm.now.slots c.args.asked.promise c.args.asked.pull c.requires))
     c.answer-in-Err.ensures

@@ -21,7 +21,7 @@ pub outcome-requires : goal.outcome-requires
 outcome-requires g c =
     let o : Outcome = outcome_of c.args.most c.in-Ok-read_piece.piece in
     let ended : HasEnded c.answer_with.new.realm.slots c.in-Ok.asked.promise o =
-        from_on_ok c.answer_with.result _ (sym c.is_err.ensures.value ∙ c.if-is_err.false) c.answer_with.ensures.outcome in
+    from_on_ok c.answer_with.result _ (sym c.is_err.ensures.value ∙ c.if-is_err.false) c.answer_with.ensures.outcome in
     outcome-some c.answer_with.new.realm.slots c.in-Ok.asked.promise o ended
 
 pub returns-then-is_err-clause-turn : goal.returns-then-is_err-clause-turn
@@ -34,9 +34,9 @@ returns-clause-turn g c =
     let before : Shown = record { faults = g.K.Sink.faults c.args.output.now; finished = g.K.Sink.finished c.args.output.now } in
     let after : Shown = record { faults = g.K.Sink.faults c.hand_on-turn.new.output; finished = g.K.Sink.finished c.hand_on-turn.new.output } in
     let ended : HasEnded c.answer_with.new.realm.slots c.in-Ok.asked.promise (outcome_of c.args.most c.in-Ok-read_piece.piece) =
-        from_on_ok c.answer_with.result _ (sym c.is_err.ensures.value ∙ c.if-is_err.false) c.answer_with.ensures.outcome in
+    from_on_ok c.answer_with.result _ (sym c.is_err.ensures.value ∙ c.if-is_err.false) c.answer_with.ensures.outcome in
     let is : c.outcome.result.now ≡ outcome_of c.args.most c.in-Ok-read_piece.piece =
-        outcome-ended c.answer_with.new.realm.slots c.in-Ok.asked.promise (outcome_of c.args.most c.in-Ok-read_piece.piece) c.outcome.result.now ended c.outcome.ensures in
+    outcome-ended c.answer_with.new.realm.slots c.in-Ok.asked.promise (outcome_of c.args.most c.in-Ok-read_piece.piece) c.outcome.result.now ended c.outcome.ensures in
     turns-from c.args.most c.min-want.result _ _ _ _ before after _ _ c.in-Ok-read_piece.piece c.hand_on-turn.result c.in-Ok-read_piece.ensures.piece (omega arith) (omega arith)
     (subst (λ (o : Outcome). HandsOn o c.hand_on-turn.result before after (g.K.Sink.got c.args.output.now) (g.K.Sink.got c.hand_on-turn.new.output)) is c.hand_on-turn.ensures)
 

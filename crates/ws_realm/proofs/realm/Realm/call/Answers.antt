@@ -1,8 +1,6 @@
 use Rattle.std.proofs.Common.{◌≡◌, sym, ◌∙◌, ap}
-use Rattle.ws_steps.specs.declared.calls.Reply.{Reply}
 use Rattle.ws_steps.specs.declared.calls.Reply.TheVariants.{Throws}
-use Rattle.ws_steps.specs.Run.{after_call, older, reply_to}
-use Rattle.ws_steps.specs.Slots.{Slots}
+use Rattle.ws_steps.specs.Run.{after_call, reply_to}
 use Rattle.ws_laws.proofs.Throws.{throws-nothing}
 use Rattle.ws_realm.specs.Seen.{SeenRealm}
 use Rattle.ws_realm.specs.View.{slots_of}
