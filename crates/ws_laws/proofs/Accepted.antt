@@ -1,38 +1,19 @@
 -- What enters a readable stream is what calls that are answered Done enqueue.
-use Rattle.std.proofs.Common.{◌≡◌, ℕ, zero, suc, Bool, true, false, not, ◌||◌, ◌&&◌, List, [], ◌∷◌, ◌++◌, length, Option, Some, None, Result, Ok, Err, if◌then◌else◌, nat_lt, nat_eq, ◌≢◌, slice_get, refl, sym, ap, ◌∙◌, arith, append_assoc, append-nil}
-use Rattle.ws_value.specs.declared.ids.HostId.{HostId}
-use Rattle.ws_value.specs.declared.ids.LockId.{LockId}
-use Rattle.ws_value.specs.declared.ids.PromiseId.{PromiseId}
+use Rattle.std.proofs.Common.{◌≡◌, Bool, true, false, List, [], ◌∷◌, Option, Some, None, if◌then◌else◌, slice_get, refl, ap}
 use Rattle.ws_value.specs.declared.ids.StreamId.{StreamId}
-use Rattle.ws_value.specs.declared.value.Plain.{Plain}
 use Rattle.ws_value.specs.declared.value.Value.{Value}
-use Rattle.ws_steps.specs.declared.calls.Answer.{Answer}
 use Rattle.ws_steps.specs.declared.calls.Call.{Call}
 use Rattle.ws_steps.specs.declared.calls.Call.TheVariants.{MakeReadable, MakeWritable, GetReader, GetWriter, Cancel, CancelBy, Read, Write, Close, CloseBy, Abort, AbortBy, Closed, Ready, Release, Enqueue, Finish, Fail, Desired, DesiredBy, Settle, State, Step}
-use Rattle.ws_steps.specs.declared.calls.Reply.TheVariants.{Done as DoneReply, Promise, State as StateReply}
-use Rattle.ws_steps.specs.declared.calls.StartBy.{StartBy}
+use Rattle.ws_steps.specs.declared.calls.Reply.TheVariants.{Done as DoneReply}
 use Rattle.ws_steps.specs.declared.locks.Lock.{Lock}
 use Rattle.ws_steps.specs.declared.locks.Lock.TheVariants.{Reader as ReaderLock, Writer as WriterLock, ReleasedWriter}
-use Rattle.ws_steps.specs.declared.promises.Job.{Job}
-use Rattle.ws_steps.specs.declared.promises.Job.TheVariants.{Reaction, Follow, Settle as SettleJob}
-use Rattle.ws_steps.specs.declared.promises.Step.{Step as JobStep}
-use Rattle.ws_steps.specs.declared.promises.Step.TheVariants.{ReadableStart, ReadablePull, ReturnUndefined, WritableStart, WritableWrite, WritableClose, WritableAbort}
-use Rattle.ws_steps.specs.declared.readable.ReadRequest.TheVariants.{Promise as PromiseRequest}
-use Rattle.ws_steps.specs.declared.readable.SizeBy.{SizeBy}
-use Rattle.ws_steps.specs.declared.writable.Writer.{Writer}
-use Rattle.ws_steps.specs.Promises.{next_id, next_job, after_next_job, fresh}
 use Rattle.ws_steps.specs.Readable as readable
-use Rattle.ws_steps.specs.Queues.{is_empty}
 use Rattle.ws_steps.specs.ReadableLooks as readable_looks
-use Rattle.ws_steps.specs.Writable as writable
-use Rattle.ws_steps.specs.WritableLooks as writable_looks
-use Rattle.ws_steps.specs.Slots.{Slots, Stream, Done, nothing, empty, on_readable, on_writable, has_readable, has_writable, readable_at, writable_at, as_readable, no_readable, is_readable_stream, signalled, lock_at, host_at, ReadableStream, WritableStream}
-use Rattle.ws_steps.specs.Turns.{performed}
-use Rattle.ws_steps.specs.Jobs.{perform_step, perform_job, job_taken}
+use Rattle.ws_steps.specs.Slots.{Slots, Done, empty, on_readable, has_readable, readable_at, lock_at}
 use Rattle.ws_steps.specs.Calls.{Begun, begin, replies, unsupported, for_readable, for_writable, by_reader, by_writer, of_writer, add_stream}
 use Rattle.ws_steps.specs.Calls as calls
-use Rattle.ws_steps.specs.Run.{Entry, Called, Worked, step, run}
-use Rattle.ws_steps.specs.Histories.{Flow, no_flow, flow_then, is_same, flow_at, flow_by, enqueue_flow, read_flow, cancel_flow, call_flow, step_flow, run_flow, accepted_by, accepted_in_step, accepted}
+use Rattle.ws_steps.specs.Run.{Entry, Called, Worked, step}
+use Rattle.ws_steps.specs.Histories.{Flow, no_flow, is_same, flow_at, flow_by, enqueue_flow, read_flow, cancel_flow, call_flow, step_flow, run_flow, accepted_by, accepted_in_step, accepted}
 use Rattle.ws_steps.specs.Laws.{EnteredWasAccepted}
 use Rattle.ws_laws.proofs.Tables.{either, no_readable_there}
 
@@ -64,7 +45,7 @@ enqueued i j v s =
     let entered : List Value = (flow_at i j (enqueue_flow v) s).entered in
     either (λ (b : Begun). entered ≡ accepted_by i (Enqueue j v) b.reply) (has_readable j s) (calls.if_it_can j operation s) (unsupported s)
     (λ there. either (λ (b : Begun). entered ≡ accepted_by i (Enqueue j v) b.reply) (readable.can_close_or_enqueue (readable_at j s)) (calls.begun DoneReply (operation s)) (calls.throws_type_error s)
-        (λ can. entered_can (is_same i j) v (readable_at j s) can) (λ cannot. entered_cannot (is_same i j) v (readable_at j s) cannot))
+    (λ can. entered_can (is_same i j) v (readable_at j s) can) (λ cannot. entered_cannot (is_same i j) v (readable_at j s) cannot))
     (λ absent. entered_cannot (is_same i j) v (readable_at j s) (absent_cannot j s absent))
 
 cancelled : (i j : StreamId) (s : Slots) → (if readable_looks.is_locked (readable_at j s) then no_flow else flow_at i j cancel_flow s).entered ≡ []

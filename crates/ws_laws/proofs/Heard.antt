@@ -1,5 +1,5 @@
 -- The host hears of each performing of a write algorithm, in their order, and events are only added.
-use Rattle.std.proofs.Common.{◌≡◌, ℕ, is_some, ◌+◌, ◌≤◌, ◌<◌, subst, zero, suc, Bool, true, false, not, ◌||◌, ◌&&◌, map, List, [], ◌∷◌, ◌++◌, length, Option, Some, None, Result, Ok, Err, if◌then◌else◌, nat_lt, nat_eq, ◌≢◌, slice_get, slice_set, refl, sym, ap, ◌∙◌, arith, append_assoc, append-nil}
+use Rattle.std.proofs.Common.{◌≡◌, Bool, true, false, map, List, [], ◌∷◌, ◌++◌, length, Option, Some, None, Result, Err, if◌then◌else◌, nat_lt, slice_set, refl, sym, ap, ◌∙◌, append_assoc, append-nil}
 use Rattle.ws_value.specs.declared.ids.HostId.{HostId}
 use Rattle.ws_value.specs.declared.ids.LockId.{LockId}
 use Rattle.ws_value.specs.declared.ids.PromiseId.{PromiseId}
@@ -26,22 +26,19 @@ use Rattle.ws_steps.specs.declared.promises.Job.TheVariants.{Reaction, Follow, S
 use Rattle.ws_steps.specs.declared.promises.Step.{Step as JobStep}
 use Rattle.ws_steps.specs.declared.promises.Step.TheVariants.{ReadableStart, ReadablePull, ReturnUndefined, WritableStart, WritableWrite, WritableClose, WritableAbort}
 use Rattle.ws_steps.specs.declared.readable.ReadRequest.TheVariants.{Promise as PromiseRequest}
-use Rattle.ws_steps.specs.declared.readable.SizeBy.{SizeBy}
 use Rattle.ws_steps.specs.declared.writable.Writer.{Writer}
-use Rattle.ws_steps.specs.Promises.{next_id, next_job, after_next_job, fresh, settle, fresh_settled, watch, all_told}
+use Rattle.ws_steps.specs.Promises.{next_id, next_job, after_next_job, fresh, settle, fresh_settled, watch}
 use Rattle.ws_steps.specs.Readable as readable
-use Rattle.ws_steps.specs.Queues.{is_empty}
 use Rattle.ws_steps.specs.ReadableLooks as readable_looks
 use Rattle.ws_steps.specs.Writable as writable
 use Rattle.ws_steps.specs.WritableLooks as writable_looks
-use Rattle.ws_steps.specs.Slots.{Slots, Stream, Done, nothing, empty, call_host, told, found, put_readable, put_writable, on_readable, on_writable, has_readable, has_writable, readable_at, writable_at, as_writable, no_writable, is_writable_stream, signalled, lock_at, host_at, ReadableStream, WritableStream}
+use Rattle.ws_steps.specs.Slots.{Slots, Done, nothing, empty, call_host, told, found, put_readable, put_writable, on_readable, on_writable, has_readable, has_writable, readable_at, writable_at, signalled, lock_at, host_at, ReadableStream, WritableStream}
 use Rattle.ws_steps.specs.Turns.{row, performed, started}
 use Rattle.ws_steps.specs.Jobs.{perform_step, perform_job, job_taken, resolve_derived, returned}
 use Rattle.ws_steps.specs.Calls.{Begun, begin, named, replies, unsupported, for_readable, for_writable, by_reader, by_writer, of_writer, add_stream}
 use Rattle.ws_steps.specs.Calls as calls
 use Rattle.ws_steps.specs.Run.{Entry, Called, Worked, step, run}
-use Rattle.ws_steps.specs.Effects.{Out}
-use Rattle.ws_steps.specs.Histories.{is_same, Writes, writes_then, acted_by, acted_in, heard_write, heard_writes, job_caused, step_writes, run_writes}
+use Rattle.ws_steps.specs.Histories.{acted_by, acted_in, heard_write, heard_writes, job_caused, step_writes, run_writes}
 use Rattle.ws_steps.specs.Laws.{ActedWasHeard}
 use Rattle.ws_steps.proofs.TurnLaws.{performed-none, performed-next}
 use Rattle.ws_laws.proofs.Tables.{either, row-caused}

@@ -1,6 +1,6 @@
 -- The reactions that are registered and the jobs that are queued, weighed by the steps that they perform. No operation on promises
 -- makes them weigh more, but for the registering of a reaction.
-use Rattle.std.proofs.Common.{◌≡◌, ℕ, ◌+◌, ◌≤◌, zero, suc, Bool, true, false, not, List, [], ◌∷◌, ◌++◌, map, Option, Some, None, Result, Ok, Err, if◌then◌else◌, slice_get, slice_set, refl, sym, ap, arith, le_refl, le_trans}
+use Rattle.std.proofs.Common.{◌≡◌, ℕ, ◌+◌, ◌≤◌, zero, suc, true, false, List, [], ◌∷◌, ◌++◌, map, Option, Some, None, Result, Ok, Err, slice_get, slice_set, refl, sym, ap, arith}
 use Rattle.ws_value.specs.declared.ids.PromiseId.{PromiseId}
 use Rattle.ws_value.specs.declared.value.Plain.{Plain}
 use Rattle.ws_value.specs.declared.value.Outcome.{Outcome}
@@ -10,7 +10,7 @@ use Rattle.ws_steps.specs.declared.promises.Reaction.TheVariants.{Perform, Adopt
 use Rattle.ws_steps.specs.declared.promises.Job.{Job}
 use Rattle.ws_steps.specs.declared.promises.Job.TheVariants.{Reaction as ReactionJob, Follow, Settle}
 use Rattle.ws_steps.specs.declared.promises.Step.{Step}
-use Rattle.ws_steps.specs.Promises.{Entry, Table, pending, live, entry_at, with_entry, fresh, is_open, is_pending, settled, settle, settle_entry, ended_as, noted, fresh_settled, next_id, job_of, answer, answer_entry, react, react_entry, react_by, enqueue_job, follow, follow_entry, unfollow, unfollow_entry, taken, next_job, first_job, after_first, after_next_job, watch, watch_at, watch_entry, all_told}
+use Rattle.ws_steps.specs.Promises.{Entry, Table, pending, live, entry_at, with_entry, fresh, is_open, settled, settle, settle_entry, ended_as, noted, fresh_settled, next_id, job_of, answer, answer_entry, react, react_entry, react_by, enqueue_job, follow, follow_entry, unfollow, unfollow_entry, taken, next_job, first_job, after_first, after_next_job, watch, watch_at, watch_entry, all_told}
 use Rattle.ws_laws.proofs.Tables.{either}
 
 abbrev pub of_reaction : (Step → ℕ) → Reaction → ℕ

@@ -1,5 +1,5 @@
 -- The operations of readable streams cause no effect of a writable stream, and make no more outstanding.
-use Rattle.std.proofs.Common.{◌≡◌, ℕ, ◌≤◌, Bool, true, false, not, if◌then◌else◌, ◌&&◌, List, [], ◌∷◌, ◌++◌, Option, Some, None, Result, Ok, Err, refl, arith}
+use Rattle.std.proofs.Common.{ℕ, ◌≤◌, Bool, true, false, if◌then◌else◌, ◌&&◌, List, [], ◌∷◌, ◌++◌, Option, Some, None, Result, Ok, Err, refl}
 use Rattle.ws_value.specs.declared.ids.PromiseId.{PromiseId}
 use Rattle.ws_value.specs.declared.ids.StreamId.{StreamId}
 use Rattle.ws_value.specs.declared.value.Outcome.TheVariants.{Given, Finished}
@@ -16,10 +16,10 @@ use Rattle.ws_steps.specs.declared.readable.ReadRequest.TheVariants.{Promise}
 use Rattle.ws_steps.specs.declared.readable.ReadableState.{ReadableState}
 use Rattle.ws_steps.specs.declared.readable.ReadableState.TheVariants.{Readable, Closed, Errored}
 use Rattle.ws_steps.specs.declared.readable.SizeBy.{SizeBy}
-use Rattle.ws_steps.specs.Promises.{Table, next_id, fresh, fresh_settled, settle, answer}
+use Rattle.ws_steps.specs.Promises.{Table, next_id, fresh, settle, answer}
 use Rattle.ws_steps.specs.Queues.{is_empty}
 use Rattle.ws_steps.specs.Effects.{Out, cause}
-use Rattle.ws_steps.specs.Readable.{Slots, Acts, is_readable, waiting, can_close_or_enqueue, should_call_pull, chunk_steps, close_steps, error_steps, close_all, error_all, call_pull, call_pull_if_needed, accept_for, accept, controller_enqueue, close_reader, stream_close, error_reader, stream_error, close_if_empty, controller_close, controller_error, after_take, pull_from, pull_steps, read_by, default_reader_read, closed_promise, reader_generic_initialize, start_settled, pull_ended, pull_settled, cancel_steps, cancel_by, stream_cancel, type_error, release_closed, release_by, reader_release, set_up}
+use Rattle.ws_steps.specs.Readable.{Acts, is_readable, waiting, can_close_or_enqueue, should_call_pull, chunk_steps, close_steps, error_steps, close_all, error_all, call_pull, call_pull_if_needed, accept_for, accept, controller_enqueue, close_reader, stream_close, error_reader, stream_error, close_if_empty, controller_close, controller_error, after_take, pull_from, pull_steps, read_by, default_reader_read, closed_promise, reader_generic_initialize, start_settled, pull_ended, pull_settled, cancel_steps, cancel_by, stream_cancel, type_error, release_closed, release_by, reader_release, set_up}
 use Rattle.ws_laws.proofs.Tables.{either}
 use Rattle.ws_laws.proofs.Outstanding.{weight, weight-fresh, weight-settle, weight-fresh_settled, weight-answer}
 use Rattle.ws_laws.proofs.Apart.{Apart, apart-same, apart-then, apart-promises, apart-cause}
@@ -49,7 +49,7 @@ unfolding call_pull_if_needed
 pull-apart i me a =
     either (λ (z : Acts). Apart i a.out z.out) (should_call_pull a.slots) (call_pull me a) a
     (λ e. either (λ (z : Acts). Apart i a.out z.out) a.slots.pulling (record a { slots = record a.slots { pull_again = true } }) (record { slots = record a.slots { pulling = true }; out = cause (Pull me) a.out })
-        (λ f. apart-same i a.out) (λ f. apart-cause i (Pull me) a.out refl refl refl))
+    (λ f. apart-same i a.out) (λ f. apart-cause i (Pull me) a.out refl refl refl))
     (λ e. apart-same i a.out)
 
 accept_for-apart : (i : StreamId) (v : Value) (a : Acts) (rs : List ReadRequest) → Apart i a.out (accept_for v a rs).out

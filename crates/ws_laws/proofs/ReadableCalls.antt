@@ -1,5 +1,5 @@
 -- What each call keeps of the order of a readable stream.
-use Rattle.std.proofs.Common.{◌≡◌, ℕ, zero, suc, Bool, true, false, not, ◌||◌, ◌&&◌, List, [], ◌∷◌, ◌++◌, length, Option, Some, None, Result, Ok, Err, if◌then◌else◌, nat_lt, nat_eq, ◌≢◌, slice_get, refl, sym, ap, ◌∙◌, arith, append_assoc, append-nil}
+use Rattle.std.proofs.Common.{◌≡◌, ℕ, Bool, true, false, List, [], ◌∷◌, ◌++◌, length, Option, Some, None, if◌then◌else◌, nat_lt, nat_eq, ◌≢◌, slice_get, refl, sym, ap}
 use Rattle.ws_value.specs.declared.ids.HostId.{HostId}
 use Rattle.ws_value.specs.declared.ids.LockId.{LockId}
 use Rattle.ws_value.specs.declared.ids.PromiseId.{PromiseId}
@@ -13,28 +13,21 @@ use Rattle.ws_steps.specs.declared.calls.Reply.TheVariants.{Done, Promise, State
 use Rattle.ws_steps.specs.declared.calls.StartBy.{StartBy}
 use Rattle.ws_steps.specs.declared.locks.Lock.{Lock}
 use Rattle.ws_steps.specs.declared.locks.Lock.TheVariants.{Reader as ReaderLock, Writer as WriterLock, ReleasedWriter}
-use Rattle.ws_steps.specs.declared.promises.Job.{Job}
-use Rattle.ws_steps.specs.declared.promises.Job.TheVariants.{Reaction, Follow, Settle as SettleJob}
-use Rattle.ws_steps.specs.declared.promises.Step.{Step as JobStep}
-use Rattle.ws_steps.specs.declared.promises.Step.TheVariants.{ReadableStart, ReadablePull, ReturnUndefined, WritableStart, WritableWrite, WritableClose, WritableAbort}
 use Rattle.ws_steps.specs.declared.readable.ReadRequest.TheVariants.{Promise as PromiseRequest}
 use Rattle.ws_steps.specs.declared.readable.SizeBy.{SizeBy}
 use Rattle.ws_steps.specs.declared.writable.Writer.{Writer}
-use Rattle.ws_steps.specs.Promises.{next_id, next_job, after_next_job, fresh}
+use Rattle.ws_steps.specs.Promises.{next_id, fresh}
 use Rattle.ws_steps.specs.Readable as readable
 use Rattle.ws_steps.specs.Queues.{is_empty}
 use Rattle.ws_steps.specs.ReadableLooks as readable_looks
 use Rattle.ws_steps.specs.Writable as writable
 use Rattle.ws_steps.specs.WritableLooks as writable_looks
-use Rattle.ws_steps.specs.Slots.{Slots, Stream, nothing, on_readable, on_writable, has_readable, has_writable, readable_at, writable_at, as_readable, no_readable, is_readable_stream, signalled, lock_at, host_at, ReadableStream, WritableStream}
-use Rattle.ws_steps.specs.Turns.{performed}
-use Rattle.ws_steps.specs.Jobs.{perform_step, perform_job, job_taken}
+use Rattle.ws_steps.specs.Slots.{Slots, Stream, on_readable, on_writable, has_readable, has_writable, readable_at, writable_at, as_readable, no_readable, is_readable_stream, signalled, lock_at, host_at, ReadableStream, WritableStream}
 use Rattle.ws_steps.specs.Calls.{Begun, begin, replies, unsupported, for_readable, for_writable, by_reader, by_writer, of_writer, add_stream}
 use Rattle.ws_steps.specs.Calls as calls
-use Rattle.ws_steps.specs.Run.{Entry, Called, Worked, step, run}
-use Rattle.ws_steps.specs.Histories.{Flow, no_flow, flow_then, is_same, flow_at, flow_by, enqueue_flow, read_flow, cancel_flow, call_flow, step_flow, run_flow, values}
-use Rattle.ws_laws.proofs.Tables.{eq_numbers, unequal_numbers, either, same_id, readable_acts, on_readable-same, on_readable-other, on_readable-none, on_writable-none, on_writable-readable, no_readable_there, performed-streams, place_last, place_before, place_past}
-use Rattle.ws_laws.proofs.ReadableOperations.{Balanced, same_flow}
+use Rattle.ws_steps.specs.Histories.{Flow, no_flow, flow_then, is_same, flow_at, flow_by, enqueue_flow, read_flow, cancel_flow, call_flow, values}
+use Rattle.ws_laws.proofs.Tables.{eq_numbers, unequal_numbers, either, readable_acts, on_readable-same, no_readable_there, place_last, place_before, place_past}
+use Rattle.ws_laws.proofs.ReadableOperations.{same_flow}
 use Rattle.ws_laws.proofs.ReadableSteps.{Held, Kept, idle_flow, at_other, on_readable-kept, on_readable-quiet, on_writable-kept, keeps_enqueue, keeps_read, keeps_cancel, keeps_close, keeps_error, keeps_initialize, keeps_release}
 
 -- the streams that a call leaves
@@ -152,7 +145,7 @@ release-left l s i h k (Some (ReaderLock (Some j) closed)) =
     for_readable-quiet (calls.release_reader l closed j) i j s h k
     (on_readable-quiet readable.reader_release keeps_release i j (calls.with_lock l (ReaderLock None (readable.released closed s.promises (readable_at j s).state)) s) h k)
 release-left l s i h k (Some (ReaderLock None closed)) = k
-release-left l s i h k (Some (WriterLock j)) = 
+release-left l s i h k (Some (WriterLock j)) =
     of_writer-kept (calls.release_writer l j) i s h k
     (λ w. on_writable-kept writable.writer_release i j (calls.with_lock l (ReleasedWriter (writable.released w s.promises)) s) h k) (writable_at j s).writer
 release-left l s i h k (Some (ReleasedWriter w)) = k
@@ -202,7 +195,7 @@ fail-left reason i j s h k =
     either (λ (b : Begun). Kept i h (left b)) (has_readable j s) _ _
     (λ there. on_readable-quiet (readable.controller_error reason) (keeps_error reason) i j s h k)
     (λ absent. for_writable-quiet (λ s. calls.begun Done (on_writable (writable.controller_error_if_needed j reason) j s)) i j s h k
-        (on_writable-kept (writable.controller_error_if_needed j reason) i j s h k))
+    (on_writable-kept (writable.controller_error_if_needed j reason) i j s h k))
 
 look-left : (i j : StreamId) (s : Slots) (h : Flow) → Kept i h s.streams → Kept i h (left (calls.look j s))
 look-left i j s h k = either (λ (b : Begun). Kept i h (left b)) (has_readable j s) _ _ (λ there. k)
@@ -239,7 +232,7 @@ make_writable-left mark size start i s h k =
 
 pub call_kept : (c : Call) (i : StreamId) (s : Slots) (h : Flow) → Kept i h s.streams → Kept i (flow_then h (call_flow i c s)) (left (begin c s))
 unfolding begin
-call_kept (MakeReadable mark size start) i s h k = 
+call_kept (MakeReadable mark size start) i s h k =
     rw same_flow (made_stream (calls.make_readable mark size start) i s h k (made_readable mark size start i s h (nat_eq i.0 (length s.streams)) refl k))
 call_kept (MakeWritable mark size start) i s h k =
     rw same_flow (made_stream (calls.make_writable mark size start) i s h k (make_writable-left mark size start i s h k))
@@ -256,7 +249,7 @@ call_kept (AbortBy l reason) i s h k = rw same_flow (by_writer-kept (calls.abort
 call_kept (Closed l) i s h k = rw same_flow (closed_by-left s i h k (lock_at l s))
 call_kept (Ready l) i s h k = rw same_flow (ready_by-left s i h k (lock_at l s))
 call_kept (Release l) i s h k = rw same_flow (release-left l s i h k (lock_at l s))
-call_kept (Enqueue j v) i s h k = 
+call_kept (Enqueue j v) i s h k =
     for_readable-kept (enqueue_flow v) refl (calls.if_it_can j (on_readable (readable.controller_enqueue j v) j)) i j s h k (enqueue-left v i j s h k)
 call_kept (Finish j) i s h k = rw same_flow (for_readable-quiet (calls.if_it_can j (on_readable readable.controller_close j)) i j s h k (finish-left i j s h k))
 call_kept (Fail j reason) i s h k = rw same_flow (fail-left reason i j s h k)

@@ -1,5 +1,5 @@
 -- What each operation of a readable stream keeps of its order.
-use Rattle.std.proofs.Common.{◌≡◌, ℕ, Bool, true, false, not, ◌||◌, ◌&&◌, is_ok, if◌then◌else◌, List, [], ◌∷◌, ◌++◌, Option, Some, None, Result, Ok, Err, refl, sym, ap, ◌∙◌, arith, append_assoc, append-nil}
+use Rattle.std.proofs.Common.{◌≡◌, Bool, true, false, not, ◌||◌, ◌&&◌, if◌then◌else◌, List, [], ◌∷◌, ◌++◌, Result, Ok, Err, refl, sym, ap, arith, append_assoc, append-nil}
 use Rattle.ws_value.specs.declared.ids.PromiseId.{PromiseId}
 use Rattle.ws_value.specs.declared.ids.StreamId.{StreamId}
 use Rattle.ws_value.specs.declared.value.Plain.{Plain}
@@ -10,7 +10,7 @@ use Rattle.ws_steps.specs.declared.readable.ReadableState.{ReadableState}
 use Rattle.ws_steps.specs.declared.readable.ReadableState.TheVariants.{Readable, Closed, Errored}
 use Rattle.ws_steps.specs.Promises.{next_id, fresh}
 use Rattle.ws_steps.specs.Queues.{is_empty}
-use Rattle.ws_steps.specs.Readable.{Slots, Acts, is_readable, waiting, can_close_or_enqueue, accept_for, call_pull_if_needed, accept, controller_enqueue, stream_close, stream_error, close_if_empty, controller_close, controller_error, after_take, pull_from, read_by, cancel_by, pull_ended, pull_steps, default_reader_read, reader_generic_initialize, start_settled, pull_settled, cancel_steps, stream_cancel, reader_release, set_up}
+use Rattle.ws_steps.specs.Readable.{Slots, Acts, is_readable, waiting, can_close_or_enqueue, accept_for, call_pull_if_needed, accept, controller_enqueue, stream_close, stream_error, close_if_empty, controller_close, controller_error, after_take, pull_from, read_by, cancel_by, pull_ended, pull_steps, default_reader_read, reader_generic_initialize, start_settled, pull_settled, cancel_steps, stream_cancel, reader_release}
 use Rattle.ws_steps.specs.Histories.{Flow, no_flow, flow_then, values, given_to, first_given, enqueue_flow, read_flow, cancel_flow}
 use Rattle.ws_laws.proofs.Tables.{either}
 
@@ -100,9 +100,9 @@ unfolding controller_close close_if_empty
 controller_close_keeps h d a b =
     either (λ (z : Acts). Balanced h d z.slots) (can_close_or_enqueue a.slots) _ a
     (λ can. let c : Acts = record a { slots = record a.slots { close_requested = true } } in
-        let w : Balanced h d c.slots = with_close_requested h d a.slots b in
-        either (λ (z : Acts). Balanced h d z.slots) (is_empty c.slots.queue) (stream_close c) c
-        (λ e. close_keeps h d c (emptied a.slots.queue d e (b.live (readable_by a.slots.close_requested a.slots.state can))) w) (λ e. w))
+    let w : Balanced h d c.slots = with_close_requested h d a.slots b in
+    either (λ (z : Acts). Balanced h d z.slots) (is_empty c.slots.queue) (stream_close c) c
+    (λ e. close_keeps h d c (emptied a.slots.queue d e (b.live (readable_by a.slots.close_requested a.slots.state can))) w) (λ e. w))
     (λ cannot. b)
 
 -- what an error drops

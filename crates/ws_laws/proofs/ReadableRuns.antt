@@ -1,38 +1,28 @@
 -- The order of a readable stream, step by step and over every run.
-use Rattle.std.proofs.Common.{◌≡◌, ℕ, zero, suc, Bool, true, false, not, ◌||◌, ◌&&◌, List, [], ◌∷◌, ◌++◌, length, Option, Some, None, Result, Ok, Err, if◌then◌else◌, nat_lt, slice_get, refl, sym, ap, ◌∙◌, arith, append_assoc, append-nil}
-use Rattle.ws_value.specs.declared.ids.LockId.{LockId}
+use Rattle.std.proofs.Common.{◌≡◌, Bool, true, false, ◌||◌, List, [], ◌∷◌, ◌++◌, Option, Some, None, Result, refl, sym, append_assoc, append-nil}
 use Rattle.ws_value.specs.declared.ids.PromiseId.{PromiseId}
 use Rattle.ws_value.specs.declared.ids.StreamId.{StreamId}
 use Rattle.ws_value.specs.declared.value.Plain.{Plain}
-use Rattle.ws_value.specs.declared.value.Value.{Value}
 use Rattle.ws_steps.specs.declared.calls.Reply.{Reply}
 use Rattle.ws_steps.specs.declared.calls.Reply.TheVariants.{Done, Made, Lock as ReplyLock, Promise, Size, State as StateReply, Throws, TooMany}
-use Rattle.ws_steps.specs.declared.calls.StartBy.{StartBy}
-use Rattle.ws_steps.specs.declared.locks.Lock.{Lock}
-use Rattle.ws_steps.specs.declared.locks.Lock.TheVariants.{Reader as ReaderLock, Writer as WriterLock, ReleasedWriter}
 use Rattle.ws_steps.specs.declared.promises.Job.{Job}
 use Rattle.ws_steps.specs.declared.promises.Job.TheVariants.{Reaction, Follow, Settle as SettleJob}
 use Rattle.ws_steps.specs.declared.promises.Step.{Step as JobStep}
 use Rattle.ws_steps.specs.declared.promises.Step.TheVariants.{ReadableStart, ReadablePull, ReturnUndefined, WritableStart, WritableWrite, WritableClose, WritableAbort}
-use Rattle.ws_steps.specs.declared.readable.ReadRequest.TheVariants.{Promise as PromiseRequest}
-use Rattle.ws_steps.specs.declared.readable.SizeBy.{SizeBy}
-use Rattle.ws_steps.specs.declared.writable.Writer.{Writer}
-use Rattle.ws_steps.specs.Promises.{next_id, next_job, after_next_job, fresh}
+use Rattle.ws_steps.specs.Promises.{next_job, after_next_job}
 use Rattle.ws_steps.specs.Readable as readable
-use Rattle.ws_steps.specs.ReadableLooks as readable_looks
 use Rattle.ws_steps.specs.Writable as writable
-use Rattle.ws_steps.specs.Slots.{Slots, Stream, empty, on_readable, on_writable, has_readable, has_writable, readable_at, writable_at, as_readable, no_readable, lock_at, host_at, ReadableStream, WritableStream}
+use Rattle.ws_steps.specs.Slots.{Slots, empty, readable_at}
 use Rattle.ws_steps.specs.Turns.{performed}
 use Rattle.ws_steps.specs.Jobs.{perform_step, perform_job, job_taken, resolve_derived, returned}
-use Rattle.ws_steps.specs.Calls.{Begun, begin, named, replies, unsupported, for_readable, for_writable, by_reader, by_writer, of_writer, add_stream}
-use Rattle.ws_steps.specs.Calls as calls
+use Rattle.ws_steps.specs.Calls.{begin, named}
 use Rattle.ws_steps.specs.Run.{Entry, Called, Worked, step, run}
-use Rattle.ws_steps.specs.Histories.{Flow, no_flow, flow_then, is_same, flow_at, flow_by, enqueue_flow, read_flow, cancel_flow, call_flow, step_flow, run_flow, values}
+use Rattle.ws_steps.specs.Histories.{Flow, no_flow, flow_then, step_flow, run_flow, values}
 use Rattle.ws_steps.specs.Laws.{IsLawfulReadable, EachReadableIsLawful}
 use Rattle.ws_laws.proofs.Tables.{performed-streams}
-use Rattle.ws_laws.proofs.ReadableOperations.{Balanced, same_flow}
+use Rattle.ws_laws.proofs.ReadableOperations.{same_flow}
 use Rattle.ws_laws.proofs.ReadableSteps.{Held, Kept, quiet, on_readable-quiet, on_writable-kept, keeps_start, keeps_pull}
-use Rattle.ws_laws.proofs.ReadableCalls.{left, call_kept}
+use Rattle.ws_laws.proofs.ReadableCalls.{call_kept}
 
 -- jobs
 

@@ -1,45 +1,22 @@
 -- One step of a readable stream.
-use Rattle.std.proofs.Common.{◌≡◌, ℕ, ◌≢◌, zero, suc, Bool, true, false, not, ◌||◌, ◌&&◌, List, [], ◌∷◌, ◌++◌, length, Option, Some, None, Result, Ok, Err, if◌then◌else◌, nat_lt, nat_eq, slice_get, refl, sym, ap, ◌∙◌, arith, append_assoc, append-nil}
-use Rattle.ws_value.specs.declared.ids.HostId.{HostId}
-use Rattle.ws_value.specs.declared.ids.LockId.{LockId}
-use Rattle.ws_value.specs.declared.ids.PromiseId.{PromiseId}
+use Rattle.std.proofs.Common.{◌≡◌, ◌≢◌, Bool, true, false, not, ◌&&◌, List, [], ◌++◌, Option, Some, None, if◌then◌else◌, refl, sym, append-nil}
 use Rattle.ws_value.specs.declared.ids.StreamId.{StreamId}
-use Rattle.ws_value.specs.declared.value.Plain.{Plain}
 use Rattle.ws_value.specs.declared.value.Value.{Value}
-use Rattle.ws_steps.specs.declared.calls.Answer.{Answer}
 use Rattle.ws_steps.specs.declared.calls.Call.{Call}
-use Rattle.ws_steps.specs.declared.calls.Call.TheVariants.{MakeReadable, MakeWritable, GetReader, GetWriter, Cancel, CancelBy, Read, Write, Close, CloseBy, Abort, AbortBy, Closed, Ready, Release, Enqueue, Finish, Fail, Desired, DesiredBy, Settle, State, Step}
-use Rattle.ws_steps.specs.declared.calls.Reply.TheVariants.{Done, Promise, State as StateReply}
-use Rattle.ws_steps.specs.declared.calls.StartBy.{StartBy}
+use Rattle.ws_steps.specs.declared.calls.Call.TheVariants.{Cancel, CancelBy, Read, Enqueue}
 use Rattle.ws_steps.specs.declared.locks.Lock.{Lock}
 use Rattle.ws_steps.specs.declared.locks.Lock.TheVariants.{Reader as ReaderLock, Writer as WriterLock, ReleasedWriter}
-use Rattle.ws_steps.specs.declared.promises.Job.{Job}
-use Rattle.ws_steps.specs.declared.promises.Job.TheVariants.{Reaction, Follow, Settle as SettleJob}
-use Rattle.ws_steps.specs.declared.promises.Step.{Step as JobStep}
-use Rattle.ws_steps.specs.declared.promises.Step.TheVariants.{ReadableStart, ReadablePull, ReturnUndefined, WritableStart, WritableWrite, WritableClose, WritableAbort}
 use Rattle.ws_steps.specs.declared.queue.Queued.{Queued}
-use Rattle.ws_steps.specs.declared.readable.ReadRequest.TheVariants.{Promise as PromiseRequest}
-use Rattle.ws_steps.specs.declared.readable.SizeBy.{SizeBy}
-use Rattle.ws_steps.specs.declared.writable.Writer.{Writer}
-use Rattle.ws_steps.specs.Promises.{next_id, next_job, after_next_job, fresh}
 use Rattle.ws_steps.specs.Readable as readable
-use Rattle.ws_steps.specs.Queues.{is_empty}
 use Rattle.ws_steps.specs.ReadableLooks as readable_looks
-use Rattle.ws_steps.specs.Writable as writable
-use Rattle.ws_steps.specs.WritableLooks as writable_looks
-use Rattle.ws_steps.specs.Slots.{Slots, Stream, nothing, empty, on_readable, on_writable, has_readable, has_writable, readable_at, writable_at, as_readable, no_readable, is_readable_stream, signalled, lock_at, host_at, ReadableStream, WritableStream}
-use Rattle.ws_steps.specs.Turns.{performed}
-use Rattle.ws_steps.specs.Jobs.{perform_step, perform_job, job_taken}
-use Rattle.ws_steps.specs.Calls.{Begun, begin, replies, unsupported, for_readable, for_writable, by_reader, by_writer, of_writer, add_stream}
-use Rattle.ws_steps.specs.Calls as calls
+use Rattle.ws_steps.specs.Slots.{Slots, empty, readable_at, lock_at}
 use Rattle.ws_steps.specs.Run.{Entry, Called, Worked, step, run}
 use Rattle.ws_steps.specs.declared.readable.ReadableState.{ReadableState}
 use Rattle.ws_steps.specs.declared.readable.ReadableState.TheVariants.{Readable, Closed as ReadableClosed, Errored as ReadableErrored}
 use Rattle.ws_steps.specs.Histories.{Flow, no_flow, flow_then, values, is_same, flow_at, flow_by, enqueue_flow, read_flow, first_given, cancel_flow, call_flow, step_flow, run_flow}
-use Rattle.ws_steps.specs.Laws.{IsPrefixOf, IsReadableStep, EachReadableStep}
+use Rattle.ws_steps.specs.Laws.{IsReadableStep, EachReadableStep}
 use Rattle.ws_laws.proofs.Tables.{either, same_id}
-use Rattle.ws_laws.proofs.ReadableOperations.{Balanced}
-use Rattle.ws_laws.proofs.ReadableSteps.{Held, Kept}
+use Rattle.ws_laws.proofs.ReadableSteps.{Kept}
 use Rattle.ws_laws.proofs.ReadableRuns.{entry_kept, run_kept, none_made}
 use Rattle.ws_laws.proofs.WritableRuns.{append_none}
 

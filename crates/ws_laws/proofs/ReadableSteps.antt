@@ -1,34 +1,15 @@
 -- What each call and job keeps of the order of a readable stream.
-use Rattle.std.proofs.Common.{◌≡◌, ℕ, zero, suc, Bool, true, false, not, ◌||◌, ◌&&◌, List, [], ◌∷◌, ◌++◌, length, Option, Some, None, Result, Ok, Err, if◌then◌else◌, nat_lt, slice_get, refl, sym, ap, ◌∙◌, arith, append_assoc, append-nil}
-use Rattle.ws_value.specs.declared.ids.LockId.{LockId}
+use Rattle.std.proofs.Common.{◌≡◌, Bool, true, false, List, ◌++◌, None, Result, if◌then◌else◌, slice_get, refl, sym, ap, ◌∙◌}
 use Rattle.ws_value.specs.declared.ids.PromiseId.{PromiseId}
 use Rattle.ws_value.specs.declared.ids.StreamId.{StreamId}
 use Rattle.ws_value.specs.declared.value.Plain.{Plain}
 use Rattle.ws_value.specs.declared.value.Value.{Value}
-use Rattle.ws_steps.specs.declared.calls.Call.{Call}
-use Rattle.ws_steps.specs.declared.calls.Call.TheVariants.{MakeReadable, MakeWritable, GetReader, GetWriter, Cancel, CancelBy, Read, Write, Close, CloseBy, Abort, AbortBy, Closed, Ready, Release, Enqueue, Finish, Fail, Desired, DesiredBy, Settle, State, Step}
-use Rattle.ws_steps.specs.declared.calls.StartBy.{StartBy}
-use Rattle.ws_steps.specs.declared.locks.Lock.{Lock}
-use Rattle.ws_steps.specs.declared.locks.Lock.TheVariants.{Reader as ReaderLock, Writer as WriterLock, ReleasedWriter}
-use Rattle.ws_steps.specs.declared.promises.Job.{Job}
-use Rattle.ws_steps.specs.declared.promises.Job.TheVariants.{Reaction, Follow, Settle as SettleJob}
-use Rattle.ws_steps.specs.declared.promises.Step.{Step as JobStep}
-use Rattle.ws_steps.specs.declared.promises.Step.TheVariants.{ReadableStart, ReadablePull, ReturnUndefined, WritableStart, WritableWrite, WritableClose, WritableAbort}
 use Rattle.ws_steps.specs.declared.readable.ReadRequest.TheVariants.{Promise as PromiseRequest}
-use Rattle.ws_steps.specs.declared.readable.SizeBy.{SizeBy}
-use Rattle.ws_steps.specs.declared.writable.Writer.{Writer}
-use Rattle.ws_steps.specs.Promises.{next_id, next_job, after_next_job, fresh}
 use Rattle.ws_steps.specs.Readable as readable
-use Rattle.ws_steps.specs.ReadableLooks as readable_looks
 use Rattle.ws_steps.specs.Writable as writable
-use Rattle.ws_steps.specs.Slots.{Slots, Stream, Done, nothing, on_readable, on_writable, has_readable, has_writable, readable_at, writable_at, as_readable, no_readable, lock_at, host_at, ReadableStream, WritableStream}
-use Rattle.ws_steps.specs.Turns.{performed}
-use Rattle.ws_steps.specs.Jobs.{perform_step, perform_job, job_taken}
-use Rattle.ws_steps.specs.Calls.{Begun, begin, replies, unsupported, for_readable, for_writable, by_reader, by_writer, of_writer, add_stream}
-use Rattle.ws_steps.specs.Calls as calls
-use Rattle.ws_steps.specs.Run.{Entry, Called, Worked, step, run}
-use Rattle.ws_steps.specs.Histories.{Flow, no_flow, flow_then, is_same, flow_at, flow_by, enqueue_flow, read_flow, cancel_flow, call_flow, step_flow, run_flow, values}
-use Rattle.ws_laws.proofs.Tables.{either, same_id, readable_acts, on_readable-same, on_readable-other, on_readable-none, on_writable-none, on_writable-readable, no_readable_there, performed-streams, place_last, place_before, place_past}
+use Rattle.ws_steps.specs.Slots.{Slots, Stream, on_readable, on_writable, has_readable, readable_at, as_readable, no_readable}
+use Rattle.ws_steps.specs.Histories.{Flow, no_flow, flow_then, is_same, flow_at, enqueue_flow, read_flow, cancel_flow}
+use Rattle.ws_laws.proofs.Tables.{either, same_id, readable_acts, on_readable-same, on_readable-other, on_readable-none, on_writable-none, on_writable-readable, no_readable_there}
 use Rattle.ws_laws.proofs.ReadableOperations.{Balanced, same_flow, dropped_by, dropped_unless_ok, enqueue_keeps, read_keeps, cancel_keeps, controller_close_keeps, controller_error_keeps, initialize_keeps, release_keeps, start_settled_keeps, pull_settled_keeps}
 
 -- balanced, whatever was dropped

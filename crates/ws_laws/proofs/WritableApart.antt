@@ -1,14 +1,13 @@
 -- The operations of writable stream `me` cause no effect of another stream, and make no more outstanding.
-use Rattle.std.proofs.Common.{◌≡◌, ℕ, ◌≤◌, Bool, true, false, not, is_none, ◌&&◌, ◌||◌, if◌then◌else◌, List, [], ◌∷◌, ◌++◌, Option, Some, None, Result, Ok, Err, refl, arith}
+use Rattle.std.proofs.Common.{◌≡◌, ℕ, ◌≤◌, Bool, true, false, not, is_none, ◌&&◌, if◌then◌else◌, List, [], ◌∷◌, Option, Some, None, Result, Ok, Err, refl, arith}
 use Rattle.ws_value.specs.declared.ids.PromiseId.{PromiseId}
 use Rattle.ws_value.specs.declared.ids.StreamId.{StreamId}
 use Rattle.ws_value.specs.declared.value.Plain.{Plain}
 use Rattle.ws_value.specs.declared.value.Plain.TheVariants.{Undefined}
 use Rattle.ws_value.specs.declared.value.Value.{Value}
 use Rattle.ws_steps.specs.declared.calls.StartBy.{StartBy}
-use Rattle.ws_steps.specs.declared.effects.Effect.TheVariants.{StartWritable, Write, Close, Abort}
+use Rattle.ws_steps.specs.declared.effects.Effect.TheVariants.{StartWritable}
 use Rattle.ws_steps.specs.declared.promises.Step.{Step}
-use Rattle.ws_steps.specs.declared.queue.Queued.{Queued}
 use Rattle.ws_steps.specs.declared.readable.SizeBy.{SizeBy}
 use Rattle.ws_steps.specs.declared.writable.PendingAbort.{PendingAbort}
 use Rattle.ws_steps.specs.declared.writable.WritableState.{WritableState}
@@ -16,11 +15,10 @@ use Rattle.ws_steps.specs.declared.writable.WritableState.TheVariants.{Writable,
 use Rattle.ws_steps.specs.declared.writable.WriteRecord.{WriteRecord}
 use Rattle.ws_steps.specs.declared.writable.WriteRecord.TheVariants.{Chunk, InFlight, CloseMark}
 use Rattle.ws_steps.specs.declared.writable.Writer.{Writer}
-use Rattle.ws_steps.specs.Promises.{Table, is_pending_at, next_id, fresh, fresh_settled, settle}
+use Rattle.ws_steps.specs.Promises.{Table, is_pending_at, fresh, fresh_settled, settle}
 use Rattle.ws_steps.specs.Queues.{first_value, enqueued}
-use Rattle.ws_steps.specs.Effects.{Out, cause}
 use Rattle.ws_steps.specs.Readable.{type_error}
-use Rattle.ws_steps.specs.Writable.{Slots, Acts, with_promises, causing, settle_request, reject_all, ensure_rejected, rejected_promise, differs, change_ready, ready_for, with_backpressure, update_backpressure, has_backpressure, refresh_backpressure, is_closing, is_writable, is_erroring, is_errored, is_closed, is_in_flight, set_up, reject_close, reject_closed, reject_close_and_closed, abort_by, finish_abort, fail_writes, finish_erroring, reject_ready, start_erroring, deal_with_rejection, controller_error_if_needed, process_write, process_close, process_first, advance_queue, write_ended, without_first, write_settled, close_ended, settle_abort, abort_ended, clear_error, fulfil_closed, finish_in_flight_close, finish_in_flight_close_with_error, close_settled, start_settled, abort_settled, enqueue_chunk, controller_write, add_write_request, write_refusal, write_by, writer_write, controller_close, add_close_request, fulfil_ready, has_ended, stream_close, add_pending_abort, begin_abort, abort_once, stream_abort, ready_promise, closed_promise, set_up_writer, release_by, writer_release}
+use Rattle.ws_steps.specs.Writable.{Slots, Acts, with_promises, causing, settle_request, reject_all, ensure_rejected, differs, change_ready, ready_for, update_backpressure, has_backpressure, refresh_backpressure, is_closing, is_writable, is_erroring, is_in_flight, set_up, reject_close, reject_closed, reject_close_and_closed, abort_by, finish_abort, fail_writes, finish_erroring, reject_ready, start_erroring, deal_with_rejection, controller_error_if_needed, process_write, process_close, process_first, advance_queue, write_ended, without_first, write_settled, close_ended, settle_abort, abort_ended, clear_error, fulfil_closed, finish_in_flight_close, finish_in_flight_close_with_error, close_settled, start_settled, abort_settled, enqueue_chunk, controller_write, add_write_request, write_refusal, write_by, writer_write, controller_close, add_close_request, fulfil_ready, has_ended, stream_close, add_pending_abort, begin_abort, abort_once, stream_abort, ready_promise, closed_promise, set_up_writer, release_by, writer_release}
 use Rattle.ws_steps.specs.Histories.{is_same}
 use Rattle.ws_laws.proofs.Tables.{either}
 use Rattle.ws_laws.proofs.Outstanding.{weight, weight-fresh, weight-settle, weight-fresh_settled}
@@ -227,7 +225,7 @@ advance-apart i me a n =
     let b : Acts = if is_erroring a.slots.state then finish_erroring me a else process_first me a (first_value a.slots.queue) in
     either (λ (z : Acts). Apart i a.out z.out) (a.slots.started && is_none a.slots.write_in_flight) b a
     (λ e. either (λ (z : Acts). Apart i a.out z.out) (is_erroring a.slots.state) (finish_erroring me a) (process_first me a (first_value a.slots.queue))
-        (λ f. finish_erroring-apart i me a n) (λ f. process_first-apart i me a (first_value a.slots.queue) n))
+    (λ f. finish_erroring-apart i me a n) (λ f. process_first-apart i me a (first_value a.slots.queue) n))
     (λ e. apart-same i a.out)
 
 pub write_settled-apart : (i me : StreamId) (o : Result Plain Plain) (a : Acts) → is_same i me ≡ false → Apart i a.out (write_settled me o a).out
@@ -273,7 +271,7 @@ close-apart i me a n =
     either (λ (z : Acts). Apart i a.out z.out) (has_ended a.slots.state) (with_promises (fresh_settled (Err type_error) a.out.promises) a) (controller_close me c)
     (λ e. fresh_settled-apart i (Err type_error) a)
     (λ e. apart-then i a.out b.out (controller_close me c).out (add_close_request-apart i a)
-        (apart-then i b.out c.out (controller_close me c).out (fulfil_ready-apart i b b.slots.writer) (advance-apart i me (record c { slots = record c.slots { queue = enqueued CloseMark 0 c.slots.queue } }) n)))
+    (apart-then i b.out c.out (controller_close me c).out (fulfil_ready-apart i b b.slots.writer) (advance-apart i me (record c { slots = record c.slots { queue = enqueued CloseMark 0 c.slots.queue } }) n)))
 
 begin_abort-apart : (i me : StreamId) (r : Plain) (a : Acts) → is_same i me ≡ false → Apart i a.out (begin_abort me r a).out
 begin_abort-apart i me r a n =

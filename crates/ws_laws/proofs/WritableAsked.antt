@@ -1,37 +1,31 @@
 -- What the calls on a writable stream keep.
-use Rattle.std.proofs.Common.{◌≡◌, ℕ, zero, suc, ◌+◌, ◌≤◌, ◌<◌, Bool, true, false, not, ◌&&◌, ◌||◌, is_some, is_none, if◌then◌else◌, List, [], ◌∷◌, ◌++◌, length, Option, Some, None, Result, Ok, Err, refl, sym, ap, subst, ◌∙◌, arith, append_assoc, append-nil, length-append}
-use Rattle.ws_value.specs.declared.ids.PromiseId.{PromiseId}
+use Rattle.std.proofs.Common.{◌≡◌, ℕ, zero, suc, ◌+◌, ◌<◌, Bool, true, false, ◌&&◌, ◌||◌, is_some, if◌then◌else◌, List, [], ◌∷◌, ◌++◌, Option, Some, None, Result, Ok, Err, refl, ap, ◌∙◌, arith, append-nil}
 use Rattle.ws_value.specs.declared.ids.StreamId.{StreamId}
 use Rattle.ws_value.specs.declared.value.Plain.{Plain}
 use Rattle.ws_value.specs.declared.value.Plain.TheVariants.{Undefined}
 use Rattle.ws_value.specs.declared.value.Value.{Value}
 use Rattle.ws_steps.specs.declared.calls.StartBy.{StartBy}
-use Rattle.ws_steps.specs.declared.effects.Effect.{Effect}
-use Rattle.ws_steps.specs.declared.effects.Effect.TheVariants.{StartWritable, Write, Close, Abort}
-use Rattle.ws_steps.specs.declared.promises.Step.{Step}
-use Rattle.ws_steps.specs.declared.promises.Step.TheVariants.{ReadableStart, ReadablePull, ReturnUndefined, WritableStart, WritableWrite, WritableClose, WritableAbort}
 use Rattle.ws_steps.specs.declared.queue.Queued.{Queued}
 use Rattle.ws_steps.specs.declared.readable.SizeBy.{SizeBy}
 use Rattle.ws_steps.specs.declared.writable.PendingAbort.{PendingAbort}
 use Rattle.ws_steps.specs.declared.writable.WritableState.{WritableState}
 use Rattle.ws_steps.specs.declared.writable.WritableState.TheVariants.{Writable, Erroring, Errored, Closed}
 use Rattle.ws_steps.specs.declared.writable.WriteRecord.{WriteRecord}
-use Rattle.ws_steps.specs.declared.writable.WriteRecord.TheVariants.{Chunk, InFlight, CloseMark}
+use Rattle.ws_steps.specs.declared.writable.WriteRecord.TheVariants.{Chunk, CloseMark}
 use Rattle.ws_steps.specs.declared.writable.Writer.{Writer}
-use Rattle.ws_steps.specs.Promises.{Table, is_pending_at, next_id, fresh, fresh_settled, settle}
-use Rattle.ws_steps.specs.Queues.{first_value, enqueued, size_of}
-use Rattle.ws_steps.specs.Effects.{Out, cause}
+use Rattle.ws_steps.specs.Promises.{next_id, fresh, fresh_settled, settle}
+use Rattle.ws_steps.specs.Queues.{enqueued, size_of}
 use Rattle.ws_steps.specs.Readable.{type_error}
-use Rattle.ws_steps.specs.Writable.{Slots, Acts, with_promises, causing, settle_request, reject_all, differs, change_ready, ready_for, with_backpressure, update_backpressure, has_backpressure, refresh_backpressure, is_closing, is_writable, is_erroring, is_errored, is_closed, is_in_flight, set_up, reject_close, reject_closed, reject_close_and_closed, abort_by, finish_abort, fail_writes, finish_erroring, reject_ready, start_erroring, deal_with_rejection, controller_error_if_needed, process_write, process_close, process_first, advance_queue, write_ended, without_first, write_settled, close_ended, settle_abort, abort_ended, clear_error, fulfil_closed, finish_in_flight_close, finish_in_flight_close_with_error, close_settled, start_settled, abort_settled, enqueue_chunk, controller_write, add_write_request, write_refusal, write_by, writer_write, controller_close, add_close_request, fulfil_ready, has_ended, stream_close, add_pending_abort, begin_abort, abort_once, stream_abort, set_up_writer, release_by, writer_release}
-use Rattle.ws_steps.specs.Histories.{Writes, writes_then, todo, is_same, acted_in, closes_in, acted_by, closes_by, written_by, written_unless, fulfilled_by}
-use Rattle.ws_laws.proofs.Tables.{either, is_same-refl}
-use Rattle.ws_laws.proofs.Outstanding.{weight, weight-fresh, weight-settle, weight-fresh_settled}
-use Rattle.ws_laws.proofs.Apart.{Apart, apart-same, apart-then, apart-promises, apart-cause, acted-cause, closes-cause, aborts-cause, aborts_in, aborts_by}
+use Rattle.ws_steps.specs.Writable.{Slots, Acts, with_promises, has_backpressure, refresh_backpressure, is_closing, is_writable, is_erroring, is_errored, is_closed, set_up, start_erroring, advance_queue, enqueue_chunk, controller_write, add_write_request, write_refusal, write_by, writer_write, controller_close, add_close_request, fulfil_ready, has_ended, stream_close, add_pending_abort, begin_abort, abort_once, stream_abort, set_up_writer, release_by, writer_release}
+use Rattle.ws_steps.specs.Histories.{Writes, closes_in, written_by, written_unless}
+use Rattle.ws_laws.proofs.Tables.{either}
+use Rattle.ws_laws.proofs.Outstanding.{weight-fresh}
+use Rattle.ws_laws.proofs.Apart.{apart-promises}
 use Rattle.ws_laws.proofs.WritableApart as apart
-use Rattle.ws_laws.proofs.WritableShape.{one_if, Core, core_of, failed, Shape, Closing, Told, failed-shape, failed-told, failed-closed, erroring-shape, erroring-told, closed-shape, closed-told, started-shape, started-told}
+use Rattle.ws_laws.proofs.WritableShape.{Core, core_of, Closing}
 use Rattle.ws_laws.proofs.WritableMoves as moves
-use Rattle.ws_laws.proofs.WritableOperations.{is_write, is_abort, so_far, Owed, Fine, Held, Same, owed-later, same_fine, same_held, settled-same, reject_both-fine, reject_ready-same, finish_abort-fine, finish_erroring-held, start_erroring-held, is_writable-true, deal-held, advance-held, and_left, and_right}
-use Rattle.ws_laws.proofs.WritableEnds.{Fails, fails-held, fails-ready, update-core, refresh-same, false_true, both_hold}
+use Rattle.ws_laws.proofs.WritableOperations.{so_far, Fine, Held, Same, owed-later, same_fine, start_erroring-held, advance-held}
+use Rattle.ws_laws.proofs.WritableEnds.{update-core, refresh-same, false_true}
 
 -- a write
 

@@ -1,5 +1,5 @@
 -- What each call keeps of a writable stream.
-use Rattle.std.proofs.Common.{◌≡◌, ℕ, is_some, ◌+◌, ◌≤◌, ◌<◌, subst, zero, suc, Bool, true, false, not, ◌||◌, ◌&&◌, List, [], ◌∷◌, ◌++◌, length, Option, Some, None, Result, Ok, Err, if◌then◌else◌, nat_lt, nat_eq, ◌≢◌, slice_get, refl, sym, ap, ◌∙◌, arith, append_assoc, append-nil}
+use Rattle.std.proofs.Common.{◌≡◌, ℕ, is_some, ◌+◌, ◌≤◌, subst, Bool, true, false, List, [], ◌∷◌, ◌++◌, length, Option, Some, None, Err, if◌then◌else◌, nat_lt, nat_eq, ◌≢◌, slice_get, refl, sym, ap, ◌∙◌, arith, append-nil}
 use Rattle.ws_value.specs.declared.ids.HostId.{HostId}
 use Rattle.ws_value.specs.declared.ids.LockId.{LockId}
 use Rattle.ws_value.specs.declared.ids.PromiseId.{PromiseId}
@@ -14,38 +14,29 @@ use Rattle.ws_steps.specs.declared.calls.Reply.TheVariants.{Done as DoneReply, P
 use Rattle.ws_steps.specs.declared.calls.StartBy.{StartBy}
 use Rattle.ws_steps.specs.declared.locks.Lock.{Lock}
 use Rattle.ws_steps.specs.declared.locks.Lock.TheVariants.{Reader as ReaderLock, Writer as WriterLock, ReleasedWriter}
-use Rattle.ws_steps.specs.declared.promises.Job.{Job}
-use Rattle.ws_steps.specs.declared.promises.Job.TheVariants.{Reaction, Follow, Settle as SettleJob}
-use Rattle.ws_steps.specs.declared.promises.Step.{Step as JobStep}
-use Rattle.ws_steps.specs.declared.promises.Step.TheVariants.{ReadableStart, ReadablePull, ReturnUndefined, WritableStart, WritableWrite, WritableClose, WritableAbort}
 use Rattle.ws_steps.specs.declared.readable.ReadRequest.TheVariants.{Promise as PromiseRequest}
 use Rattle.ws_steps.specs.declared.readable.SizeBy.{SizeBy}
 use Rattle.ws_steps.specs.declared.writable.Writer.{Writer}
-use Rattle.ws_steps.specs.Promises.{next_id, next_job, after_next_job, fresh, settle, fresh_settled, all_told}
+use Rattle.ws_steps.specs.Promises.{next_id, fresh, settle, fresh_settled, all_told}
 use Rattle.ws_steps.specs.Readable as readable
-use Rattle.ws_steps.specs.Queues.{is_empty}
 use Rattle.ws_steps.specs.ReadableLooks as readable_looks
 use Rattle.ws_steps.specs.Writable as writable
 use Rattle.ws_steps.specs.WritableLooks as writable_looks
-use Rattle.ws_steps.specs.Slots.{Slots, Stream, Done, nothing, on_readable, on_writable, has_readable, has_writable, readable_at, writable_at, as_writable, no_writable, is_writable_stream, signalled, lock_at, host_at, ReadableStream, WritableStream}
-use Rattle.ws_steps.specs.Turns.{performed}
-use Rattle.ws_steps.specs.Jobs.{perform_step, perform_job, job_taken}
+use Rattle.ws_steps.specs.Slots.{Slots, Stream, Done, nothing, on_readable, on_writable, has_readable, has_writable, readable_at, writable_at, as_writable, is_writable_stream, signalled, lock_at, host_at, ReadableStream, WritableStream}
 use Rattle.ws_steps.specs.Calls.{Begun, begin, replies, unsupported, for_readable, for_writable, by_reader, by_writer, of_writer, add_stream}
 use Rattle.ws_steps.specs.Calls as calls
-use Rattle.ws_steps.specs.Run.{Entry, Called, Worked, step, run}
 use Rattle.ws_steps.specs.Effects.{Out}
-use Rattle.ws_steps.specs.Histories.{Writes, no_writes, is_same, todo, acted_in, closes_in, written_by, written_with, call_written}
-use Rattle.ws_laws.proofs.Tables.{either, is_same-refl, eq_numbers, unequal_numbers, same_id, readable_acts, writable_acts, on_writable-same, on_writable-other, no_writable_there, place_last, place_before, place_past}
+use Rattle.ws_steps.specs.Histories.{Writes, is_same, acted_in, closes_in, written_by, written_with, call_written}
+use Rattle.ws_laws.proofs.Tables.{either, is_same-refl, eq_numbers, unequal_numbers, same_id, writable_acts, no_writable_there, place_last, place_before, place_past}
 use Rattle.ws_laws.proofs.Outstanding.{weight, weight-fresh, weight-settle, weight-fresh_settled, weight-told}
-use Rattle.ws_laws.proofs.Apart.{Apart, apart-same, apart-then, apart-promises, aborts_in}
+use Rattle.ws_laws.proofs.Apart.{Apart, apart-promises}
 use Rattle.ws_laws.proofs.ReadableApart as readable_apart
 use Rattle.ws_laws.proofs.WritableApart as writable_apart
-use Rattle.ws_laws.proofs.WritableShape.{one_if, Core, core_of, Shape, Closing, Told}
-use Rattle.ws_laws.proofs.WritableOperations.{is_write, is_close, is_abort, so_far, Owed, Fine, Held, Same, same_held}
-use Rattle.ws_laws.proofs.WritableEnds.{false_true}
+use Rattle.ws_laws.proofs.WritableShape.{one_if, core_of}
+use Rattle.ws_laws.proofs.WritableOperations.{is_write, is_close, Fine, Held}
 use Rattle.ws_laws.proofs.WritableAsked.{write-held, close-held, abort-held, set_up_writer-held, release-held, set_up-core}
 use Rattle.ws_laws.proofs.WritableOperations.{error_if_needed-held}
-use Rattle.ws_laws.proofs.WritableSteps.{Unmade, here_kept, acts_at, Kept, KeptBy, out_of, unmade-later, kept-later, on_readable-kept, on_writable-kept, on_writable-quiet}
+use Rattle.ws_laws.proofs.WritableSteps.{Unmade, here_kept, Kept, KeptBy, out_of, unmade-later, kept-later, on_readable-kept, on_writable-kept, on_writable-quiet}
 
 -- what holds after a call's operation
 abbrev pub Begins : StreamId → Writes → Begun → Type 0
@@ -182,7 +173,7 @@ fail-begins reason i j s h k =
     either (λ (b : Begun). Begins i h b) (has_readable j s) (calls.begun DoneReply (on_readable (readable.controller_error reason) j s)) (for_writable j failed s)
     (λ there. on_readable-kept (readable.controller_error reason) i j s h (readable_apart.error-apart i reason) k)
     (λ absent. for_writable-begins failed i j s h k
-        (on_writable-quiet (λ j. writable.controller_error_if_needed j reason) i j s h (λ d. error_if_needed-held i i h d reason (writable_acts i s)) (λ n. writable_apart.error_if_needed-apart i j reason (writable_acts j s) n) k))
+    (on_writable-quiet (λ j. writable.controller_error_if_needed j reason) i j s h (λ d. error_if_needed-held i i h d reason (writable_acts i s)) (λ n. writable_apart.error_if_needed-apart i j reason (writable_acts j s) n) k))
 
 look-begins : (i j : StreamId) (s : Slots) (h : Writes) → Stands i h s → Begins i h (calls.look j s)
 look-begins i j s h k =

@@ -1,36 +1,21 @@
 -- What the reactions of a writable stream to its algorithms keep.
-use Rattle.std.proofs.Common.{◌≡◌, ℕ, zero, suc, ◌+◌, ◌≤◌, ◌<◌, Bool, true, false, not, ◌&&◌, ◌||◌, is_some, is_none, if◌then◌else◌, List, [], ◌∷◌, ◌++◌, length, Option, Some, None, Result, Ok, Err, refl, sym, ap, subst, ◌∙◌, arith, append_assoc, append-nil, length-append}
-use Rattle.ws_value.specs.declared.ids.PromiseId.{PromiseId}
+use Rattle.std.proofs.Common.{◌≡◌, ℕ, ◌+◌, ◌≤◌, ◌<◌, Bool, true, false, not, ◌&&◌, ◌||◌, is_some, if◌then◌else◌, List, ◌++◌, length, Option, Some, None, Result, Ok, Err, refl, sym, ap, ◌∙◌, arith}
 use Rattle.ws_value.specs.declared.ids.StreamId.{StreamId}
 use Rattle.ws_value.specs.declared.value.Plain.{Plain}
 use Rattle.ws_value.specs.declared.value.Plain.TheVariants.{Undefined}
 use Rattle.ws_value.specs.declared.value.Value.{Value}
-use Rattle.ws_steps.specs.declared.calls.StartBy.{StartBy}
-use Rattle.ws_steps.specs.declared.effects.Effect.{Effect}
-use Rattle.ws_steps.specs.declared.effects.Effect.TheVariants.{StartWritable, Write, Close, Abort}
-use Rattle.ws_steps.specs.declared.promises.Step.{Step}
-use Rattle.ws_steps.specs.declared.promises.Step.TheVariants.{ReadableStart, ReadablePull, ReturnUndefined, WritableStart, WritableWrite, WritableClose, WritableAbort}
-use Rattle.ws_steps.specs.declared.queue.Queued.{Queued}
-use Rattle.ws_steps.specs.declared.readable.SizeBy.{SizeBy}
-use Rattle.ws_steps.specs.declared.writable.PendingAbort.{PendingAbort}
-use Rattle.ws_steps.specs.declared.writable.WritableState.{WritableState}
-use Rattle.ws_steps.specs.declared.writable.WritableState.TheVariants.{Writable, Erroring, Errored, Closed}
-use Rattle.ws_steps.specs.declared.writable.WriteRecord.{WriteRecord}
-use Rattle.ws_steps.specs.declared.writable.WriteRecord.TheVariants.{Chunk, InFlight, CloseMark}
+use Rattle.ws_steps.specs.declared.writable.WritableState.TheVariants.{Erroring}
 use Rattle.ws_steps.specs.declared.writable.Writer.{Writer}
-use Rattle.ws_steps.specs.Promises.{Table, is_pending_at, next_id, fresh, fresh_settled, settle}
-use Rattle.ws_steps.specs.Queues.{first_value, enqueued, size_of}
-use Rattle.ws_steps.specs.Effects.{Out, cause}
-use Rattle.ws_steps.specs.Readable.{type_error}
-use Rattle.ws_steps.specs.Writable.{Slots, Acts, with_promises, causing, settle_request, reject_all, differs, change_ready, ready_for, with_backpressure, update_backpressure, has_backpressure, refresh_backpressure, is_closing, is_writable, is_erroring, is_errored, is_closed, is_in_flight, set_up, reject_close, reject_closed, reject_close_and_closed, abort_by, finish_abort, fail_writes, finish_erroring, reject_ready, start_erroring, deal_with_rejection, controller_error_if_needed, process_write, process_close, process_first, advance_queue, write_ended, without_first, write_settled, close_ended, settle_abort, abort_ended, clear_error, fulfil_closed, finish_in_flight_close, finish_in_flight_close_with_error, close_settled, start_settled, abort_settled, enqueue_chunk, controller_write, add_write_request, write_refusal, write_by, writer_write, controller_close, add_close_request, fulfil_ready, has_ended, stream_close, add_pending_abort, begin_abort, abort_once, stream_abort, set_up_writer, release_by, writer_release}
-use Rattle.ws_steps.specs.Histories.{Writes, writes_then, todo, is_same, acted_in, closes_in, acted_by, closes_by, written_by, written_unless, fulfilled_by}
-use Rattle.ws_laws.proofs.Tables.{either, is_same-refl}
-use Rattle.ws_laws.proofs.Outstanding.{weight, weight-fresh, weight-settle, weight-fresh_settled}
-use Rattle.ws_laws.proofs.Apart.{Apart, apart-same, apart-then, apart-promises, apart-cause, acted-cause, closes-cause, aborts-cause, aborts_in, aborts_by}
+use Rattle.ws_steps.specs.Effects.{Out}
+use Rattle.ws_steps.specs.Writable.{Acts, differs, change_ready, ready_for, update_backpressure, has_backpressure, refresh_backpressure, is_closing, is_writable, is_in_flight, fail_writes, finish_erroring, reject_ready, start_erroring, deal_with_rejection, write_ended, without_first, write_settled}
+use Rattle.ws_steps.specs.Histories.{Writes, todo, acted_in, closes_in, fulfilled_by}
+use Rattle.ws_laws.proofs.Tables.{either}
+use Rattle.ws_laws.proofs.Outstanding.{weight}
+use Rattle.ws_laws.proofs.Apart.{Apart, apart-then}
 use Rattle.ws_laws.proofs.WritableApart as apart
-use Rattle.ws_laws.proofs.WritableShape.{one_if, Core, core_of, failed, Shape, Closing, Told, failed-shape, failed-told, failed-closed, erroring-shape, erroring-told, closed-shape, closed-told, started-shape, started-told}
+use Rattle.ws_laws.proofs.WritableShape.{one_if, Core, core_of}
 use Rattle.ws_laws.proofs.WritableMoves as moves
-use Rattle.ws_laws.proofs.WritableOperations.{is_write, is_close, is_abort, so_far, Owed, Fine, Held, Same, owed-later, same_fine, same_held, settled-same, reject_both-fine, reject_ready-same, finish_abort-fine, finish_erroring-held, start_erroring-held, is_writable-true, deal-held, advance-held, and_left, and_right}
+use Rattle.ws_laws.proofs.WritableOperations.{is_write, is_close, so_far, Fine, Held, Same, owed-later, same_fine, reject_ready-same, finish_abort-fine, advance-held}
 
 -- the backpressure doesn't matter
 
@@ -191,8 +176,8 @@ rejected-held i h d e a due f =
     let begun : c.slots.started ≡ true = ap (λ (z : Core). z.started) core ∙ started in
     either (λ (z : Acts). Held i h z) (is_writable b.slots.state) (if not (is_in_flight c.slots) && c.slots.started then finish_erroring i c else c) (finish_erroring i b)
     (λ s. either (λ (z : Acts). Held i h z) (not (is_in_flight c.slots) && c.slots.started) (finish_erroring i c) c
-        (λ t. fails-held i i h d a c f (fails-ready i e a b g))
-        (λ t. false_true (not (is_in_flight c.slots) && c.slots.started) (both_hold (is_in_flight c.slots) c.slots.started quiet begun) t))
+    (λ t. fails-held i i h d a c f (fails-ready i e a b g))
+    (λ t. false_true (not (is_in_flight c.slots) && c.slots.started) (both_hold (is_in_flight c.slots) c.slots.started quiet begun) t))
     (λ s. fails-held i i h d a b f g)
 
 pub write_settled-held : (i : StreamId) (o : Result Plain Plain) (h : Writes) (d : List Value) (a : Acts) → Due i a → Fine i h d a → Held i (record h { fulfilled = h.fulfilled + fulfilled_by o a.slots }) (write_settled i o a)

@@ -1,5 +1,5 @@
 -- The moves of a writable stream's queue: a chunk or the close mark is appended, the first entry is processed, a write ends.
-use Rattle.std.proofs.Common.{◌≡◌, ℕ, zero, suc, ◌+◌, ◌≤◌, ◌<◌, Bool, true, false, not, ◌&&◌, ◌||◌, is_some, is_none, if◌then◌else◌, List, [], ◌∷◌, ◌++◌, length, Option, Some, None, refl, sym, ap, ◌∙◌, arith, append_assoc, append-nil, length-append}
+use Rattle.std.proofs.Common.{◌≡◌, ℕ, zero, suc, ◌+◌, ◌≤◌, Bool, true, false, not, ◌||◌, is_some, List, [], ◌∷◌, ◌++◌, length, refl, sym, ap, ◌∙◌, arith, append_assoc, append-nil, length-append}
 use Rattle.ws_value.specs.declared.ids.PromiseId.{PromiseId}
 use Rattle.ws_value.specs.declared.value.Value.{Value}
 use Rattle.ws_steps.specs.declared.queue.Queued.{Queued}
@@ -7,8 +7,8 @@ use Rattle.ws_steps.specs.declared.writable.WritableState.{WritableState}
 use Rattle.ws_steps.specs.declared.writable.WritableState.TheVariants.{Writable, Erroring, Errored, Closed}
 use Rattle.ws_steps.specs.declared.writable.WriteRecord.{WriteRecord}
 use Rattle.ws_steps.specs.declared.writable.WriteRecord.TheVariants.{Chunk, InFlight, CloseMark}
-use Rattle.ws_steps.specs.Queues.{is_empty, rest_of, with_first_value}
-use Rattle.ws_steps.specs.Writable.{has_ended, is_errored, is_closed, first_request, later_requests}
+use Rattle.ws_steps.specs.Queues.{is_empty, rest_of}
+use Rattle.ws_steps.specs.Writable.{has_ended, is_closed, first_request, later_requests}
 use Rattle.ws_steps.specs.Histories.{Writes, todo, chunk_of}
 use Rattle.ws_laws.proofs.WritableShape.{one_if, Core, leads, is_flying, is_mark, has_mark, marks_last, is_open, Shape, Closing, Told}
 

@@ -1,34 +1,30 @@
 -- What each operation of a writable stream keeps.
-use Rattle.std.proofs.Common.{◌≡◌, ℕ, zero, suc, ◌+◌, ◌≤◌, ◌<◌, Bool, true, false, not, ◌&&◌, ◌||◌, is_some, is_none, if◌then◌else◌, List, [], ◌∷◌, ◌++◌, length, Option, Some, None, Result, Ok, Err, refl, sym, ap, subst, ◌∙◌, arith, append_assoc, append-nil, length-append}
+use Rattle.std.proofs.Common.{◌≡◌, ℕ, ◌+◌, ◌≤◌, ◌<◌, Bool, true, false, not, ◌&&◌, is_some, is_none, if◌then◌else◌, List, [], ◌∷◌, ◌++◌, length, Option, Some, None, Result, Err, refl, sym, ap, subst, ◌∙◌, arith, append_assoc, append-nil, length-append}
 use Rattle.ws_value.specs.declared.ids.PromiseId.{PromiseId}
 use Rattle.ws_value.specs.declared.ids.StreamId.{StreamId}
 use Rattle.ws_value.specs.declared.value.Plain.{Plain}
-use Rattle.ws_value.specs.declared.value.Plain.TheVariants.{Undefined}
 use Rattle.ws_value.specs.declared.value.Value.{Value}
-use Rattle.ws_steps.specs.declared.calls.StartBy.{StartBy}
 use Rattle.ws_steps.specs.declared.effects.Effect.{Effect}
-use Rattle.ws_steps.specs.declared.effects.Effect.TheVariants.{StartWritable, Write, Close, Abort}
+use Rattle.ws_steps.specs.declared.effects.Effect.TheVariants.{Write, Close, Abort}
 use Rattle.ws_steps.specs.declared.promises.Step.{Step}
-use Rattle.ws_steps.specs.declared.promises.Step.TheVariants.{ReadableStart, ReadablePull, ReturnUndefined, WritableStart, WritableWrite, WritableClose, WritableAbort}
+use Rattle.ws_steps.specs.declared.promises.Step.TheVariants.{WritableWrite, WritableClose, WritableAbort}
 use Rattle.ws_steps.specs.declared.queue.Queued.{Queued}
-use Rattle.ws_steps.specs.declared.readable.SizeBy.{SizeBy}
 use Rattle.ws_steps.specs.declared.writable.PendingAbort.{PendingAbort}
 use Rattle.ws_steps.specs.declared.writable.WritableState.{WritableState}
 use Rattle.ws_steps.specs.declared.writable.WritableState.TheVariants.{Writable, Erroring, Errored, Closed}
 use Rattle.ws_steps.specs.declared.writable.WriteRecord.{WriteRecord}
 use Rattle.ws_steps.specs.declared.writable.WriteRecord.TheVariants.{Chunk, InFlight, CloseMark}
 use Rattle.ws_steps.specs.declared.writable.Writer.{Writer}
-use Rattle.ws_steps.specs.Promises.{Table, is_pending_at, next_id, fresh, fresh_settled, settle}
-use Rattle.ws_steps.specs.Queues.{first_value, enqueued, size_of}
+use Rattle.ws_steps.specs.Promises.{Table, settle}
+use Rattle.ws_steps.specs.Queues.{first_value}
 use Rattle.ws_steps.specs.Effects.{Out, cause}
-use Rattle.ws_steps.specs.Readable.{type_error}
-use Rattle.ws_steps.specs.Writable.{Slots, Acts, with_promises, causing, settle_request, reject_all, differs, change_ready, ready_for, with_backpressure, update_backpressure, has_backpressure, refresh_backpressure, is_closing, is_writable, is_erroring, is_errored, is_closed, is_in_flight, set_up, reject_close, reject_closed, reject_close_and_closed, abort_by, finish_abort, fail_writes, finish_erroring, reject_ready, start_erroring, deal_with_rejection, controller_error_if_needed, process_write, process_close, process_first, advance_queue, write_ended, without_first, write_settled, close_ended, settle_abort, abort_ended, clear_error, fulfil_closed, finish_in_flight_close, finish_in_flight_close_with_error, close_settled, start_settled, abort_settled, enqueue_chunk, controller_write, add_write_request, write_refusal, write_by, writer_write, controller_close, add_close_request, fulfil_ready, has_ended, stream_close, add_pending_abort, begin_abort, abort_once, stream_abort, set_up_writer, release_by, writer_release}
-use Rattle.ws_steps.specs.Histories.{Writes, writes_then, todo, is_same, acted_in, closes_in, acted_by, closes_by, written_by, written_unless, fulfilled_by}
+use Rattle.ws_steps.specs.Writable.{Acts, with_promises, causing, is_writable, is_erroring, is_in_flight, reject_close, reject_closed, reject_close_and_closed, abort_by, finish_abort, fail_writes, finish_erroring, reject_ready, start_erroring, deal_with_rejection, controller_error_if_needed, process_write, process_close, process_first, advance_queue, has_ended}
+use Rattle.ws_steps.specs.Histories.{Writes, todo, is_same, acted_in, closes_in, acted_by, closes_by}
 use Rattle.ws_laws.proofs.Tables.{either, is_same-refl}
-use Rattle.ws_laws.proofs.Outstanding.{weight, weight-fresh, weight-settle, weight-fresh_settled}
-use Rattle.ws_laws.proofs.Apart.{Apart, apart-same, apart-then, apart-promises, apart-cause, acted-cause, closes-cause, aborts-cause, aborts_in, aborts_by}
+use Rattle.ws_laws.proofs.Outstanding.{weight, weight-settle}
+use Rattle.ws_laws.proofs.Apart.{Apart, apart-same, apart-promises, acted-cause, closes-cause, aborts-cause, aborts_in}
 use Rattle.ws_laws.proofs.WritableApart as apart
-use Rattle.ws_laws.proofs.WritableShape.{one_if, Core, core_of, failed, Shape, Closing, Told, failed-shape, failed-told, failed-closed, erroring-shape, erroring-told, closed-shape, closed-told, started-shape, started-told}
+use Rattle.ws_laws.proofs.WritableShape.{one_if, Core, core_of, Shape, Closing, Told, failed-shape, failed-told, erroring-shape, erroring-told}
 use Rattle.ws_laws.proofs.WritableMoves as moves
 
 -- the steps that go on after a write of stream i, after its close, and after its abort
@@ -234,7 +230,7 @@ so_far-write : (i : StreamId) (h : Writes) (v : Value) (x : Out) → so_far i h 
 so_far-write i h v x =
     let one : acted_by i (Write i v) ≡ v ∷ [] = rw (is_same-refl i) refl in
     let m : h.acted ++ acted_in i (cause (Write i v) x).effects ≡ (h.acted ++ acted_in i x.effects) ++ v ∷ [] =
-        rw (acted-cause i (Write i v) x, one) (sym (append_assoc h.acted (acted_in i x.effects) (v ∷ []))) in
+    rw (acted-cause i (Write i v) x, one) (sym (append_assoc h.acted (acted_in i x.effects) (v ∷ []))) in
     let n : h.closes + closes_in i (cause (Write i v) x).effects ≡ h.closes + closes_in i x.effects = let l = closes-cause i (Write i v) x in omega arith in
     λ k. record h { acted = m k; closes = n k }
 
@@ -327,6 +323,6 @@ advance-held i h d a f =
     let processed : Acts = process_first i a (first_value a.slots.queue) in
     either (λ (z : Acts). Held i h z) (a.slots.started && is_none a.slots.write_in_flight) (if is_erroring a.slots.state then finish_erroring i a else processed) a
     (λ ready. either (λ (z : Acts). Held i h z) (is_erroring a.slots.state) (finish_erroring i a) processed
-        (λ e. finish_erroring-held i i h d a f)
-        (λ e. record { dropped = d; fine = process_first-fine i h d a a.slots.queue (none_some a.slots.write_in_flight (and_right a.slots.started (is_none a.slots.write_in_flight) ready)) (and_left a.slots.started (is_none a.slots.write_in_flight) ready) f }))
+    (λ e. finish_erroring-held i i h d a f)
+    (λ e. record { dropped = d; fine = process_first-fine i h d a a.slots.queue (none_some a.slots.write_in_flight (and_right a.slots.started (is_none a.slots.write_in_flight) ready)) (and_left a.slots.started (is_none a.slots.write_in_flight) ready) f }))
     (λ e. record { dropped = d; fine = f })

@@ -1,48 +1,38 @@
 -- The order of a writable stream, step by step and over every run.
-use Rattle.std.proofs.Common.{◌≡◌, ℕ, is_some, ◌+◌, ◌≤◌, ◌<◌, zero, suc, Bool, true, false, not, ◌||◌, ◌&&◌, List, [], ◌∷◌, ◌++◌, length, Option, Some, None, Result, Ok, Err, if◌then◌else◌, nat_lt, slice_get, refl, sym, ap, ◌∙◌, arith, append_assoc, append-nil}
-use Rattle.ws_value.specs.declared.ids.LockId.{LockId}
+use Rattle.std.proofs.Common.{◌≡◌, ℕ, is_some, ◌+◌, ◌≤◌, zero, suc, Bool, true, false, List, [], ◌∷◌, ◌++◌, length, Option, Some, None, Result, Ok, Err, if◌then◌else◌, slice_get, refl, sym, ap, ◌∙◌, arith, append_assoc, append-nil}
 use Rattle.ws_value.specs.declared.ids.PromiseId.{PromiseId}
 use Rattle.ws_value.specs.declared.ids.StreamId.{StreamId}
 use Rattle.ws_value.specs.declared.value.Plain.{Plain}
 use Rattle.ws_value.specs.declared.value.Value.{Value}
 use Rattle.ws_steps.specs.declared.calls.Reply.{Reply}
 use Rattle.ws_steps.specs.declared.calls.Reply.TheVariants.{Done, Made, Lock as ReplyLock, Promise, Size, State as StateReply, Throws, TooMany}
-use Rattle.ws_steps.specs.declared.calls.StartBy.{StartBy}
 use Rattle.ws_steps.specs.declared.effects.Effect.{Effect}
-use Rattle.ws_steps.specs.declared.locks.Lock.{Lock}
-use Rattle.ws_steps.specs.declared.locks.Lock.TheVariants.{Reader as ReaderLock, Writer as WriterLock, ReleasedWriter}
 use Rattle.ws_steps.specs.declared.promises.Job.{Job}
 use Rattle.ws_steps.specs.declared.promises.Job.TheVariants.{Reaction, Follow, Settle as SettleJob}
 use Rattle.ws_steps.specs.declared.promises.Step.{Step as JobStep}
 use Rattle.ws_steps.specs.declared.promises.Step.TheVariants.{ReadableStart, ReadablePull, ReturnUndefined, WritableStart, WritableWrite, WritableClose, WritableAbort}
-use Rattle.ws_steps.specs.declared.readable.ReadRequest.TheVariants.{Promise as PromiseRequest}
-use Rattle.ws_steps.specs.declared.readable.SizeBy.{SizeBy}
-use Rattle.ws_steps.specs.declared.writable.Writer.{Writer}
-use Rattle.ws_steps.specs.Promises.{next_id, next_job, after_next_job, fresh, settle, watch, all_told}
+use Rattle.ws_steps.specs.Promises.{next_job, after_next_job, settle, watch, all_told}
 use Rattle.ws_steps.specs.Readable as readable
-use Rattle.ws_steps.specs.ReadableLooks as readable_looks
 use Rattle.ws_steps.specs.Writable as writable
-use Rattle.ws_steps.specs.Slots.{Slots, Stream, Done as SlotsDone, nothing, empty, on_readable, on_writable, has_readable, has_writable, readable_at, writable_at, as_readable, no_readable, lock_at, host_at, ReadableStream, WritableStream}
+use Rattle.ws_steps.specs.Slots.{Slots, Done as SlotsDone, nothing, empty, has_writable, writable_at}
 use Rattle.ws_steps.specs.Turns.{performed}
 use Rattle.ws_steps.specs.Jobs.{perform_step, perform_job, job_taken, resolve_derived, returned}
-use Rattle.ws_steps.specs.Calls.{Begun, begin, named, replies, unsupported, for_readable, for_writable, by_reader, by_writer, of_writer, add_stream}
-use Rattle.ws_steps.specs.Calls as calls
+use Rattle.ws_steps.specs.Calls.{begin, named}
 use Rattle.ws_steps.specs.Run.{Entry, Called, Worked, step, run}
-use Rattle.ws_steps.specs.Effects.{Out}
 use Rattle.ws_steps.specs.Histories.{Writes, no_writes, writes_then, is_same, todo, fulfilled_by, acted_in, closes_in, call_written, job_fulfilled, job_caused, step_writes, run_writes}
 use Rattle.ws_steps.specs.Writable.{is_closed}
 use Rattle.ws_steps.specs.Laws.{IsLawfulWritable, EachWritableIsLawful}
-use Rattle.ws_laws.proofs.Tables.{either, is_same-refl, same_id, writable_acts, no_writable_there, performed-streams}
-use Rattle.ws_laws.proofs.Outstanding.{weight, of_job, of_next, weight-next, weight-settle, weight-told, weight-watch}
-use Rattle.ws_laws.proofs.Apart.{Apart, apart-same, apart-then, apart-promises}
+use Rattle.ws_laws.proofs.Tables.{either, is_same-refl, writable_acts, no_writable_there}
+use Rattle.ws_laws.proofs.Outstanding.{weight, of_next, weight-next, weight-settle, weight-told, weight-watch}
+use Rattle.ws_laws.proofs.Apart.{Apart, apart-then, apart-promises}
 use Rattle.ws_laws.proofs.ReadableApart as readable_apart
 use Rattle.ws_laws.proofs.WritableApart as writable_apart
-use Rattle.ws_laws.proofs.WritableShape.{one_if, Core, core_of, Shape, Closing, Told}
-use Rattle.ws_laws.proofs.WritableOperations.{is_write, is_close, is_abort, so_far, Owed, Fine, Held}
-use Rattle.ws_laws.proofs.WritableEnds.{Due, write_settled-held, false_true}
+use Rattle.ws_laws.proofs.WritableShape.{one_if, Core, core_of, Shape, Told}
+use Rattle.ws_laws.proofs.WritableOperations.{is_write, is_close, is_abort, so_far}
+use Rattle.ws_laws.proofs.WritableEnds.{Due, write_settled-held}
 use Rattle.ws_laws.proofs.WritableClosing.{DueClose, close_settled-held, start_settled-held, abort_settled-held}
-use Rattle.ws_laws.proofs.WritableSteps.{Unmade, acts_at, Kept, KeptBy, out_of, kept-later, on_readable-kept, on_writable-kept, on_writable-quiet, performed-kept}
-use Rattle.ws_laws.proofs.WritableCalls.{Stands, Begins, call_kept}
+use Rattle.ws_laws.proofs.WritableSteps.{Kept, KeptBy, out_of, kept-later, on_readable-kept, on_writable-kept, on_writable-quiet, performed-kept}
+use Rattle.ws_laws.proofs.WritableCalls.{Stands, call_kept}
 
 -- reactions
 

@@ -1,21 +1,15 @@
 -- What holds of a writable stream's queue, requests and flights, and how they go together with what was written.
-use Rattle.std.proofs.Common.{◌≡◌, ℕ, zero, suc, ◌+◌, ◌≤◌, ◌<◌, Bool, true, false, not, ◌&&◌, ◌||◌, is_some, is_none, if◌then◌else◌, List, [], ◌∷◌, ◌++◌, length, Option, Some, None, refl, sym, ap, ◌∙◌, arith, append_assoc, append-nil, length-append}
+use Rattle.std.proofs.Common.{◌≡◌, ℕ, ◌+◌, ◌≤◌, ◌<◌, Bool, true, false, not, ◌||◌, is_some, if◌then◌else◌, List, [], ◌∷◌, ◌++◌, length, refl, arith}
 use Rattle.ws_value.specs.declared.ids.PromiseId.{PromiseId}
-use Rattle.ws_value.specs.declared.ids.StreamId.{StreamId}
 use Rattle.ws_value.specs.declared.value.Value.{Value}
-use Rattle.ws_steps.specs.declared.promises.Step.{Step}
-use Rattle.ws_steps.specs.declared.promises.Step.TheVariants.{ReadableStart, ReadablePull, ReturnUndefined, WritableStart, WritableWrite, WritableClose, WritableAbort}
 use Rattle.ws_steps.specs.declared.queue.Queued.{Queued}
 use Rattle.ws_steps.specs.declared.writable.WritableState.{WritableState}
 use Rattle.ws_steps.specs.declared.writable.WritableState.TheVariants.{Writable, Erroring, Errored, Closed}
 use Rattle.ws_steps.specs.declared.writable.WriteRecord.{WriteRecord}
 use Rattle.ws_steps.specs.declared.writable.WriteRecord.TheVariants.{Chunk, InFlight, CloseMark}
-use Rattle.ws_steps.specs.Queues.{is_empty, rest_of, with_first_value}
-use Rattle.ws_steps.specs.Writable.{Slots, Acts, has_ended, is_errored, is_closed, first_request, later_requests}
-use Rattle.ws_steps.specs.Histories.{Writes, todo, chunk_of, acted_in, closes_in, is_same}
-use Rattle.ws_steps.specs.Effects.{Out}
-use Rattle.ws_laws.proofs.Outstanding.{weight}
-use Rattle.ws_laws.proofs.Apart.{Apart, aborts_in}
+use Rattle.ws_steps.specs.Queues.{is_empty}
+use Rattle.ws_steps.specs.Writable.{Slots, has_ended, is_closed}
+use Rattle.ws_steps.specs.Histories.{Writes, todo}
 
 abbrev pub one_if : Bool → ℕ
 one_if true = 1

@@ -1,5 +1,5 @@
 -- What operations on any stream, and the performing of effects, keep of a writable stream.
-use Rattle.std.proofs.Common.{◌≡◌, ℕ, zero, suc, ◌+◌, ◌≤◌, ◌<◌, Bool, true, false, not, ◌&&◌, ◌||◌, is_some, is_none, if◌then◌else◌, List, [], ◌∷◌, ◌++◌, length, Option, Some, None, Result, Ok, Err, slice_get, slice_set, refl, sym, ap, subst, ◌∙◌, arith, append_assoc, append-nil, length-append}
+use Rattle.std.proofs.Common.{◌≡◌, ℕ, ◌+◌, ◌≤◌, Bool, true, false, if◌then◌else◌, List, [], ◌∷◌, ◌++◌, length, Option, Some, None, Ok, slice_get, refl, sym, ◌∙◌, arith, append-nil, length-append}
 use Rattle.ws_value.specs.declared.ids.PromiseId.{PromiseId}
 use Rattle.ws_value.specs.declared.ids.StreamId.{StreamId}
 use Rattle.ws_value.specs.declared.value.Value.{Value}
@@ -10,23 +10,22 @@ use Rattle.ws_steps.specs.declared.calls.StartBy.{StartBy}
 use Rattle.ws_steps.specs.declared.calls.StartBy.TheVariants.{Now, Later}
 use Rattle.ws_steps.specs.declared.effects.Effect.{Effect}
 use Rattle.ws_steps.specs.declared.effects.Effect.TheVariants.{Start, Pull, Cancel, StartWritable, Write, Close, Abort}
-use Rattle.ws_steps.specs.declared.promises.Reaction.{Reaction}
 use Rattle.ws_steps.specs.declared.promises.Reaction.TheVariants.{Perform}
 use Rattle.ws_steps.specs.declared.promises.Step.{Step}
 use Rattle.ws_steps.specs.declared.promises.Step.TheVariants.{ReadableStart, ReadablePull, ReturnUndefined, WritableStart, WritableWrite, WritableClose, WritableAbort}
-use Rattle.ws_steps.specs.Promises.{Table, next_id, fresh, settle, react, follow, all_told}
+use Rattle.ws_steps.specs.Promises.{Table, next_id, fresh, settle, follow, all_told}
 use Rattle.ws_steps.specs.Effects.{Out}
 use Rattle.ws_steps.specs.Readable as readable
-use Rattle.ws_steps.specs.Writable.{Slots as WritableSlots, Acts, has_ended}
-use Rattle.ws_steps.specs.Slots.{Slots, Stream, ReadableStream, WritableStream, Done, nothing, found, told, on_readable, on_writable, has_readable, has_writable, readable_at, writable_at, as_writable, no_writable, call_host, put_readable, put_writable}
+use Rattle.ws_steps.specs.Writable.{Slots as WritableSlots, Acts}
+use Rattle.ws_steps.specs.Slots.{Slots, Stream, Done, nothing, found, on_readable, on_writable, has_readable, has_writable, as_writable, call_host}
 use Rattle.ws_steps.specs.Turns.{row, performed, started, reacting}
 use Rattle.ws_steps.specs.Histories.{Writes, no_writes, is_same, acted_by, acted_in, closes_by, closes_in}
 use Rattle.ws_steps.proofs.TurnLaws.{performed-none, performed-next}
-use Rattle.ws_laws.proofs.Tables.{either, same_id, readable_acts, writable_acts, on_writable-same, on_writable-other, on_writable-none, on_readable-none, on_readable-writable, row-caused, performed-streams}
+use Rattle.ws_laws.proofs.Tables.{same_id, readable_acts, writable_acts, on_writable-same, on_writable-other, on_writable-none, on_readable-none, on_readable-writable, row-caused, performed-streams}
 use Rattle.ws_laws.proofs.Outstanding.{weight, weight-fresh, weight-settle, weight-react, weight-follow, weight-told}
-use Rattle.ws_laws.proofs.Apart.{Apart, apart-same, apart-then, apart-promises, aborts_by, aborts_in}
-use Rattle.ws_laws.proofs.WritableShape.{one_if, Core, core_of, Shape, Closing, Told}
-use Rattle.ws_laws.proofs.WritableOperations.{is_write, is_close, is_abort, so_far, Owed, Fine, Held, Same, so_far-same, same_fine, same_held}
+use Rattle.ws_laws.proofs.Apart.{Apart, apart-then, apart-promises, aborts_by, aborts_in}
+use Rattle.ws_laws.proofs.WritableShape.{one_if}
+use Rattle.ws_laws.proofs.WritableOperations.{is_write, is_close, is_abort, so_far, Fine, Held, so_far-same, same_held}
 
 -- nothing has happened of a stream that isn't made yet
 pub record Unmade (i : StreamId) (h : Writes) (x : Out) : Type 0 where
