@@ -20,3 +20,4 @@ pub mod Accepted
 pub mod Heard
 pub mod ReadableStep
 pub mod WritableStep
+mod Worked
