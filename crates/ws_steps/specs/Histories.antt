@@ -8,7 +8,7 @@ use Rattle.ws_steps.specs.declared.calls.Call.{Call}
 use Rattle.ws_steps.specs.declared.calls.Call.TheVariants.{Cancel, CancelBy, Read, Write as WriteCall, Enqueue}
 use Rattle.ws_steps.specs.declared.calls.Event.{Event}
 use Rattle.ws_steps.specs.declared.calls.Event.TheVariants.{Host}
-use Rattle.ws_steps.specs.declared.calls.HostCall.TheVariants.{Write as HostWrite}
+use Rattle.ws_steps.specs.declared.calls.HostCall.TheVariants.{Write as HostWrite, Close as HostClose}
 use Rattle.ws_steps.specs.declared.calls.Reply.{Reply}
 use Rattle.ws_steps.specs.declared.calls.Reply.TheVariants.{Done}
 use Rattle.ws_steps.specs.declared.effects.Effect.{Effect}
@@ -247,3 +247,13 @@ heard_write i _ = []
 abbrev pub heard_writes : StreamId → List Event → List Value
 heard_writes i [] = []
 heard_writes i (e ∷ es) = heard_write i e ++ heard_writes i es
+
+-- whether an event calls the close algorithm of stream i
+abbrev pub heard_close : StreamId → Event → ℕ
+heard_close i (Host id (HostClose j)) = if is_same i j then 1 else 0
+heard_close i _ = 0
+
+-- how many such events there are
+abbrev pub heard_closes : StreamId → List Event → ℕ
+heard_closes i [] = 0
+heard_closes i (e ∷ es) = heard_close i e + heard_closes i es

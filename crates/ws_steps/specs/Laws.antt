@@ -8,7 +8,7 @@ use Rattle.ws_steps.specs.Readable as readable
 use Rattle.ws_steps.specs.Writable as writable
 use Rattle.ws_steps.specs.Slots.{Slots, empty, readable_at, writable_at}
 use Rattle.ws_steps.specs.Run.{Entry, step, run}
-use Rattle.ws_steps.specs.Histories.{Flow, Writes, values, todo, step_flow, run_flow, step_writes, run_writes, accepted, heard_writes}
+use Rattle.ws_steps.specs.Histories.{Flow, Writes, values, todo, step_flow, run_flow, step_writes, run_writes, accepted, heard_writes, heard_closes}
 
 -- a first part, which may be all
 abbrev pub IsPrefixOf : List Value → List Value → Type 0
@@ -52,6 +52,11 @@ EnteredWasAccepted =
 abbrev pub ActedWasHeard : Type 0
 ActedWasHeard =
     (entries : List Entry) (i : StreamId) → (run_writes i entries empty).acted ≡ heard_writes i (run entries empty).events
+
+-- in every run, the events that call a writable stream's close algorithm are as many as the performings of it
+abbrev pub ClosesWereHeard : Type 0
+ClosesWereHeard =
+    (entries : List Entry) (i : StreamId) → (run_writes i entries empty).closes ≡ heard_closes i (run entries empty).events
 
 -- One step of a readable stream. Where it is readable before, and after it is readable or closed without a cancel, what was queued
 -- and what entered is what was given and what is queued. In each step what was given is the first part of what was queued and what
