@@ -26,7 +26,7 @@ use Rattle.ws_steps.specs.Slots.{Slots, Stream, on_readable, on_writable, has_re
 use Rattle.ws_steps.specs.Calls.{Begun, begin, replies, unsupported, for_readable, for_writable, by_reader, by_writer, of_writer, add_stream}
 use Rattle.ws_steps.specs.Calls as calls
 use Rattle.ws_steps.specs.Histories.{Flow, no_flow, flow_then, is_same, flow_at, flow_by, enqueue_flow, read_flow, cancel_flow, call_flow, values}
-use Rattle.ws_laws.proofs.Tables.{eq_numbers, unequal_numbers, either, readable_acts, on_readable-same, no_readable_there, place_last, place_before, place_past}
+use Rattle.ws_laws.proofs.Tables.{no_stream, eq_numbers, unequal_numbers, either, readable_acts, on_readable-same, no_readable_there, place_last, place_before}
 use Rattle.ws_laws.proofs.ReadableOperations.{same_flow}
 use Rattle.ws_laws.proofs.ReadableSteps.{Held, Kept, idle_flow, at_other, on_readable-kept, on_readable-quiet, on_writable-kept, keeps_enqueue, keeps_read, keeps_cancel, keeps_close, keeps_error, keeps_initialize, keeps_release}
 
@@ -81,9 +81,6 @@ unlocked_writable-kept locked free i j s h k l f =
     (either (λ (b : Begun). Kept i h (left b)) (writable_looks.is_locked (writable_at j s)) (locked s) (free j s) (λ e. l) (λ e. f))
 
 -- new streams
-
-no_stream : (i : StreamId) (streams : List Stream) → i.0 ≡ length streams → slice_get streams i.0 ≡ None
-no_stream i streams e = rw e (place_past streams)
 
 added_other : (x : Stream) (i : StreamId) (streams : List Stream) (h : Flow) → i.0 ≢ length streams → Kept i h streams → Kept i h (streams ++ x ∷ [])
 added_other x i streams h n k = record { unmade = rw (place_before streams x i.0 n) k.unmade; held = rw (place_before streams x i.0 n) k.held }

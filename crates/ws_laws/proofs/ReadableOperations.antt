@@ -84,10 +84,6 @@ close_keeps : (h : Flow) (d : List Value) (a : Acts) → values a.slots.queue ++
 unfolding stream_close
 close_keeps h d a n b = grind arith
 
-error_keeps : (e : Plain) (h : Flow) (d : List Value) (a : Acts) → Balanced h d a.slots → Balanced h d (stream_error e a).slots
-unfolding stream_error
-error_keeps e h d a b = grind arith
-
 with_close_requested : (h : Flow) (d : List Value) (s : Slots) → Balanced h d s → Balanced h d (record s { close_requested = true })
 with_close_requested h d s b = record { all = b.all; live = b.live; whole = b.whole; fit = b.fit }
 

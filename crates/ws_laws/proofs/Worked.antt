@@ -1,5 +1,5 @@
 -- The histories computed on short runs.
-use Rattle.std.proofs.Common.{◌≡◌, ℕ, List, [], ◌∷◌, ◌++◌, refl, true, false}
+use Rattle.std.proofs.Common.{◌≡◌, ℕ, List, [], ◌∷◌, ◌++◌, refl, true}
 use Rattle.ws_value.specs.declared.ids.HostId.{HostId}
 use Rattle.ws_value.specs.declared.ids.LockId.{LockId}
 use Rattle.ws_value.specs.declared.ids.StreamId.{StreamId}
