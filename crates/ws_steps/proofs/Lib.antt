@@ -1,5 +1,7 @@
 pub mod PromiseLaws
 pub mod StreamLaws
 pub mod TurnLaws
-mod Worked
+mod WorkedWords
+mod WorkedReads
+mod WorkedAborts
 mod WorkedWrites

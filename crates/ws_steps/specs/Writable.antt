@@ -164,7 +164,7 @@ set_up me start mark size a =
     let b : Acts = record a { slots = record a.slots { queue = []; high_water_mark = mark; size_by = size; started = false } } in
     causing (StartWritable me start) (update_backpressure (has_backpressure b.slots) b)
 
--- errors
+-- erroring
 
 abbrev pub reject_close : Acts → Option PromiseId → Acts
 reject_close a None = a
@@ -267,7 +267,7 @@ advance_queue me a =
     then (if is_erroring a.slots.state then finish_erroring me a else process_first me a (first_value a.slots.queue))
     else a
 
--- what goes on
+-- the reactions to the sink's algorithms
 
 abbrev pub write_ended : Result Plain Plain → Acts → Acts
 write_ended outcome a =
@@ -337,7 +337,7 @@ unfoldable pub abort_settled : PromiseId → Result Plain Plain → Acts → Act
 abort_settled p (Ok v) a = reject_close_and_closed (with_promises (settle p (Ok Undefined) a.out.promises) a)
 abort_settled p (Err e) a = reject_close_and_closed (with_promises (settle p (Err e) a.out.promises) a)
 
--- what is asked of the stream
+-- writes, closes and aborts
 
 abbrev pub enqueue_chunk : Value → Acts → Acts
 enqueue_chunk v a = record a { slots = record a.slots { queue = enqueued (Chunk v) (size_of a.slots.size_by v) a.slots.queue } }
@@ -443,7 +443,7 @@ pending_promise t (Some abort) = abort.promise
 abbrev pub abort_promise : Table → Slots → PromiseId
 abort_promise t s = if has_ended s.state then next_id t else pending_promise t s.pending_abort
 
--- the first abort of a stream is one that signals it
+-- whether an abort would be the first of the stream, of which its sink hears by a signal
 abbrev pub is_first_abort : Slots → Bool
 is_first_abort s = not (has_ended s.state) && is_none s.pending_abort
 
