@@ -1,5 +1,5 @@
 -- What each call keeps of the order of a readable stream.
-use Rattle.std.proofs.Common.{◌≡◌, ℕ, Bool, true, false, List, [], ◌∷◌, ◌++◌, length, Option, Some, None, if◌then◌else◌, nat_lt, nat_eq, ◌≢◌, slice_get, refl, sym, ap}
+use Rattle.std.proofs.Common.{◌≡◌, ℕ, Bool, true, false, List, [], ◌∷◌, ◌++◌, length, Option, Some, None, if◌then◌else◌, nat_lt, nat_eq, ◌≢◌, slice_get, refl, sym, ap, ◌∙◌}
 use Rattle.ws_value.specs.declared.ids.HostId.{HostId}
 use Rattle.ws_value.specs.declared.ids.LockId.{LockId}
 use Rattle.ws_value.specs.declared.ids.PromiseId.{PromiseId}
@@ -93,15 +93,19 @@ added_writable w i streams h true e k =
     let after : slice_get (streams ++ WritableStream w ∷ []) i.0 ≡ Some (WritableStream w) = rw at_end (place_last streams (WritableStream w)) in
     record { unmade = λ f. k.unmade before; held = rw after (rw before at k.held) }
 
-nothing_queued : (h : Flow) (r : readable.Slots) → h.cancelled ≡ false → r.queue ≡ [] → Held h no_readable → Held h r
-nothing_queued h r n e k =
+nothing_queued : (h : Flow) (r : readable.Slots) → h.cancelled ≡ false → r.queue ≡ [] → r.requests ≡ [] → Held h no_readable → Held h r
+nothing_queued h r n e f k =
     let all : values r.queue ≡ [] = ap values e in
     let none_dropped : k.dropped ≡ [] = k.balanced.whole n refl in
-    record { dropped = k.dropped; balanced = record { all = rw all k.balanced.all; live = λ f. none_dropped; whole = λ f g. rw all none_dropped; fit = λ f. let empty : is_empty r.queue ≡ true = rw e refl in cc } }
+    record { dropped = k.dropped; balanced = record { all = rw all k.balanced.all; live = λ f. none_dropped; whole = λ f g. rw all none_dropped; fit = λ f. let empty : is_empty r.queue ≡ true = rw e refl in cc; asked = rw f k.balanced.asked } }
 
 set_up_empties : (me : StreamId) (start : StartBy) (mark : ℕ) (size : SizeBy) (a : readable.Acts) → (readable.set_up me start mark size a).slots.queue ≡ []
 unfolding readable.set_up
 set_up_empties me start mark size a = refl
+
+set_up_requests : (me : StreamId) (start : StartBy) (mark : ℕ) (size : SizeBy) (a : readable.Acts) → (readable.set_up me start mark size a).slots.requests ≡ a.slots.requests
+unfolding readable.set_up
+set_up_requests me start mark size a = refl
 
 made_readable : (mark : ℕ) (size : SizeBy) (start : StartBy) (i : StreamId) (s : Slots) (h : Flow) (here : Bool) → here ≡ nat_eq i.0 (length s.streams) → Kept i h s.streams
     → Kept i h (left (calls.make_readable mark size start (record { 0 = length s.streams }) s))
@@ -116,7 +120,8 @@ made_readable mark size start i s h true e k =
     let there : has_readable j t ≡ true = ap is_readable_stream (place_last s.streams (ReadableStream readable.initialized)) in
     let here = on_readable-same (readable.set_up j start mark size) j t there in
     let before = no_stream i s.streams at_end in
-    let held : Held h (as_readable (slice_get (left (calls.make_readable mark size start j s)) (length s.streams))) = rw here (nothing_queued h _ (k.unmade before) (set_up_empties j start mark size (readable_acts j t)) (rw before at k.held)) in
+    let no_requests : (readable_at j t).requests ≡ [] = ap (λ (o : Option Stream). (as_readable o).requests) (place_last s.streams (ReadableStream readable.initialized)) in
+    let held : Held h (as_readable (slice_get (left (calls.make_readable mark size start j s)) (length s.streams))) = rw here (nothing_queued h _ (k.unmade before) (set_up_empties j start mark size (readable_acts j t)) (set_up_requests j start mark size (readable_acts j t) ∙ no_requests) (rw before at k.held)) in
     record { unmade = λ f. k.unmade before; held = rw at_end held }
 
 made_stream : (make : StreamId → Slots → Begun) (i : StreamId) (s : Slots) (h : Flow) → Kept i h s.streams → Kept i h (left (make (record { 0 = length s.streams }) s)) → Kept i h (left (calls.make_stream make s))

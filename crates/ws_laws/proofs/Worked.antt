@@ -39,7 +39,7 @@ reads =
     ∷ Called (Read l0) ∷ Called (Read l0) ∷ Called (Read l0) ∷ Called (Enqueue s0 (n 3)) ∷ Called (Enqueue s0 (n 4))
     ∷ Called (CancelBy l0 (Number 5)) ∷ []
 
-flow_of_reads : run_flow s0 reads empty ≡ record { entered = n 1 ∷ n 2 ∷ n 3 ∷ n 4 ∷ []; given = n 1 ∷ n 2 ∷ n 3 ∷ []; cancelled = true }
+flow_of_reads : run_flow s0 reads empty ≡ record { entered = n 1 ∷ n 2 ∷ n 3 ∷ n 4 ∷ []; given = n 1 ∷ n 2 ∷ n 3 ∷ []; cancelled = true; asked = 3 }
 unfolding fresh settle answer react after_next_job watch readable.set_up readable.chunk_steps readable.close_steps readable.call_pull_if_needed readable.accept readable.controller_enqueue readable.stream_close readable.after_take readable.pull_steps readable.default_reader_read readable.reader_generic_initialize readable.start_settled readable.cancel_steps readable.stream_cancel call_host row turns performed perform_job begin
 flow_of_reads = refl
 

@@ -3,7 +3,7 @@
 
 ghost use Rattle.ws_steps.specs.Laws.{ActedWasHeard, ClosesWereHeard, EachReadableIsLawful, EachReadableStep, EachWritableIsLawful, EachWritableStep, EnteredWasAccepted};
 
-/// The order of readable streams. The values that were given to reads are the first part of those that the controller accepted; while the stream is readable, those that it accepted were given or stand in its queue, in this order; and where it closed without a cancel, all were given.
+/// The order of readable streams. The values that were given to reads are the first part of those that the controller accepted; while the stream is readable, those that it accepted were given or stand in its queue, in this order; and where it closed without a cancel, all were given. No more was given than reads were asked of it, less those that wait.
 pub fn each_readable_is_lawful()
     ensures { EachReadableIsLawful }
 {}

@@ -40,19 +40,25 @@ is_same i j = nat_eq i.0 j.0
 -- readable streams
 
 -- what went through a readable stream: the values that ReadableStreamDefaultControllerEnqueue accepted, the values with which
--- chunk steps were performed, and whether a cancel closed the stream
+-- chunk steps were performed, whether a cancel closed the stream, and how many reads were asked of it while it was readable
 pub record Flow : Type 0 where
   pub entered : List Value
   pub given : List Value
   pub cancelled : Bool
+  pub asked : ℕ
 
 abbrev pub no_flow : Flow
-no_flow = record { entered = []; given = []; cancelled = false }
+no_flow = record { entered = []; given = []; cancelled = false; asked = 0 }
 
 -- first f, then g
 abbrev pub flow_then : Flow → Flow → Flow
 flow_then f g =
-    record { entered = f.entered ++ g.entered; given = f.given ++ g.given; cancelled = f.cancelled || g.cancelled }
+    record {
+      entered = f.entered ++ g.entered;
+      given = f.given ++ g.given;
+      cancelled = f.cancelled || g.cancelled;
+      asked = f.asked + g.asked;
+    }
 
 -- the values in a queue
 abbrev pub values : List (Queued Value) → List Value
@@ -68,7 +74,7 @@ given_to v (r ∷ rs) = v ∷ []
 abbrev pub enqueue_flow : Value → readable.Slots → Flow
 enqueue_flow v s =
     if readable.can_close_or_enqueue s
-    then record { entered = v ∷ []; given = given_to v (readable.waiting s); cancelled = false }
+    then record { entered = v ∷ []; given = given_to v (readable.waiting s); cancelled = false; asked = 0 }
     else no_flow
 
 -- the first chunk of a readable stream's queue, where there is one
@@ -80,11 +86,12 @@ first_given Errored queue = []
 
 -- ReadableStreamDefaultReaderRead
 abbrev pub read_flow : readable.Slots → Flow
-read_flow s = record { entered = []; given = first_given s.state s.queue; cancelled = false }
+read_flow s =
+    record { entered = []; given = first_given s.state s.queue; cancelled = false; asked = if readable.is_readable s.state then 1 else 0 }
 
 -- ReadableStreamCancel
 abbrev pub cancel_flow : readable.Slots → Flow
-cancel_flow s = record { entered = []; given = []; cancelled = readable.is_readable s.state }
+cancel_flow s = record { entered = []; given = []; cancelled = readable.is_readable s.state; asked = 0 }
 
 -- an operation on stream j, as stream i sees it
 abbrev pub flow_at : StreamId → StreamId → (readable.Slots → Flow) → Slots → Flow

@@ -1,5 +1,5 @@
 -- Laws over every run.
-use Rattle.std.specs.Prelude.{◌≡◌, ◌≤◌, ◌<◌, ◌≢◌, ℕ, Bool, true, false, List, [], ◌∷◌, ◌++◌, length}
+use Rattle.std.specs.Prelude.{◌≡◌, ◌+◌, ◌≤◌, ◌<◌, ◌≢◌, ℕ, Bool, true, false, List, [], ◌∷◌, ◌++◌, length}
 use Rattle.ws_value.specs.declared.ids.StreamId.{StreamId}
 use Rattle.ws_value.specs.declared.value.Value.{Value}
 use Rattle.ws_steps.specs.declared.readable.ReadableState.TheVariants.{Readable, Closed}
@@ -15,11 +15,13 @@ abbrev pub IsPrefixOf : List Value → List Value → Type 0
 IsPrefixOf xs ys = (rest : List Value) × (xs ++ rest ≡ ys)
 
 -- The order of a readable stream. What was given is the first part of what entered. While the stream is readable, what entered was
--- given or is queued, in this order. Where the stream closed without a cancel, all that entered was given
+-- given or is queued, in this order. Where the stream closed without a cancel, all that entered was given. No more was given than
+-- reads were asked, less those that wait
 pub record IsLawfulReadable (h : Flow) (s : readable.Slots) : Type 0 where
   pub front : IsPrefixOf h.given h.entered
   pub readable : s.state ≡ Readable → h.entered ≡ h.given ++ values s.queue
   pub closed : h.cancelled ≡ false → s.state ≡ Closed → h.given ≡ h.entered
+  pub asked : length h.given + length s.requests ≤ h.asked
 
 -- The order of a writable stream. What was acted on is the first part of what was written. While the stream is writable or
 -- erroring, what was written was acted on or is queued, in this order. The close algorithm is performed at most once, and only
