@@ -1,11 +1,13 @@
--- The host hears of each performing of a write algorithm, in their order, and events are only added.
-use Rattle.std.proofs.Common.{◌≡◌, Bool, true, false, map, List, [], ◌∷◌, ◌++◌, length, Option, Some, None, Result, Err, if◌then◌else◌, nat_lt, slice_set, refl, sym, ap, ◌∙◌, append_assoc, append-nil}
+-- The host hears of each performing of a write or close algorithm, in their order, and events are only added.
+use Rattle.std.proofs.Common.{◌≡◌, ℕ, zero, suc, arith, length-append, Bool, true, false, map, List, [], ◌∷◌, ◌++◌, length, Option, Some, None, Result, Err, if◌then◌else◌, nat_lt, slice_set, refl, sym, ap, ◌∙◌, append_assoc, append-nil}
 use Rattle.ws_value.specs.declared.ids.HostId.{HostId}
 use Rattle.ws_value.specs.declared.ids.LockId.{LockId}
 use Rattle.ws_value.specs.declared.ids.PromiseId.{PromiseId}
 use Rattle.ws_value.specs.declared.ids.StreamId.{StreamId}
 use Rattle.ws_value.specs.declared.value.Plain.{Plain}
+use Rattle.ws_value.specs.declared.value.Plain.TheVariants.{Undefined}
 use Rattle.ws_value.specs.declared.value.Value.{Value}
+use Rattle.ws_value.specs.declared.value.Value.TheVariants.{Plain as PlainValue}
 use Rattle.ws_steps.specs.declared.calls.Answer.{Answer}
 use Rattle.ws_steps.specs.declared.calls.Event.{Event}
 use Rattle.ws_steps.specs.declared.calls.Event.TheVariants.{Host, Settled, Signal}
@@ -38,35 +40,58 @@ use Rattle.ws_steps.specs.Jobs.{perform_step, perform_job, job_taken, resolve_de
 use Rattle.ws_steps.specs.Calls.{Begun, begin, named, replies, unsupported, for_readable, for_writable, by_reader, by_writer, of_writer, add_stream}
 use Rattle.ws_steps.specs.Calls as calls
 use Rattle.ws_steps.specs.Run.{Entry, Called, Worked, step, run}
-use Rattle.ws_steps.specs.Histories.{acted_by, acted_in, heard_write, heard_writes, job_caused, step_writes, run_writes}
-use Rattle.ws_steps.specs.Laws.{ActedWasHeard}
+use Rattle.ws_steps.specs.Histories.{acted_by, acted_in, closes_by, closes_in, heard_write, heard_writes, heard_close, heard_closes, job_caused, step_writes, run_writes}
+use Rattle.ws_steps.specs.Laws.{ActedWasHeard, ClosesWereHeard}
 use Rattle.ws_steps.proofs.TurnLaws.{performed-none, performed-next}
 use Rattle.ws_laws.proofs.Tables.{either, row-caused}
 
-heard_writes-append : (i : StreamId) (xs ys : List Event) → heard_writes i (xs ++ ys) ≡ heard_writes i xs ++ heard_writes i ys
-heard_writes-append i [] ys = refl
-heard_writes-append i (x ∷ xs) ys = ap (λ vs. heard_write i x ++ vs) (heard_writes-append i xs ys) ∙ sym (append_assoc (heard_write i x) (heard_writes i xs) (heard_writes i ys))
+-- a way to hear of effects: what an event tells, and what is told of an effect that is performed
+pub record Ear : Type 0 where
+  pub hear : Event → List Value
+  pub of : Effect → List Value
+  pub settled : (p : PromiseId) → hear (Settled p) ≡ []
+  pub signalled : (j : StreamId) (reason : Plain) → hear (Signal j reason) ≡ []
+  pub starts : (a : HostId) (j : StreamId) → hear (Host a (HostStart j)) ≡ []
+  pub pulls : (a : HostId) (j : StreamId) → hear (Host a (HostPull j)) ≡ of (PullEffect j)
+  pub cancels : (a : HostId) (j : StreamId) (reason : Plain) (p : PromiseId) → hear (Host a (HostCancel j reason)) ≡ of (CancelEffect j reason p)
+  pub writes : (a : HostId) (j : StreamId) (v : Value) → hear (Host a (HostWrite j v)) ≡ of (WriteEffect j v)
+  pub closes : (a : HostId) (j : StreamId) → hear (Host a (HostClose j)) ≡ of (CloseEffect j)
+  pub aborts : (a : HostId) (j : StreamId) (reason : Plain) (p : PromiseId) → hear (Host a (HostAbort j reason)) ≡ of (AbortEffect j reason p)
+  pub starting : (j : StreamId) (start : StartBy) → of (StartEffect j start) ≡ []
+  pub starting_writable : (j : StreamId) (start : StartBy) → of (StartWritable j start) ≡ []
 
-heard_settlings : (i : StreamId) (ps : List PromiseId) → heard_writes i (map Settled ps) ≡ []
+abbrev pub all_heard : Ear → List Event → List Value
+all_heard i [] = []
+all_heard i (e ∷ es) = i.hear e ++ all_heard i es
+
+abbrev pub all_of : Ear → List Effect → List Value
+all_of i [] = []
+all_of i (e ∷ es) = i.of e ++ all_of i es
+
+all_heard-append : (i : Ear) (xs ys : List Event) → all_heard i (xs ++ ys) ≡ all_heard i xs ++ all_heard i ys
+all_heard-append i [] ys = refl
+all_heard-append i (x ∷ xs) ys = ap (λ vs. i.hear x ++ vs) (all_heard-append i xs ys) ∙ sym (append_assoc (i.hear x) (all_heard i xs) (all_heard i ys))
+
+heard_settlings : (i : Ear) (ps : List PromiseId) → all_heard i (map Settled ps) ≡ []
 heard_settlings i [] = refl
-heard_settlings i (p ∷ ps) = heard_settlings i ps
+heard_settlings i (p ∷ ps) = let a = i.settled p in let b = heard_settlings i ps in rw (a, b) refl
 
--- what the host hears of stream i's writes
-abbrev pub heard_in : StreamId → Slots → List Value
-heard_in i s = heard_writes i s.events
+-- what the events so far tell
+abbrev pub heard_in : Ear → Slots → List Value
+heard_in i s = all_heard i s.events
 
-told-heard : (i : StreamId) (s : Slots) → heard_in i (told s) ≡ heard_in i s
-told-heard i s = heard_writes-append i s.events (map Settled s.promises.settlements) ∙ (rw (heard_settlings i s.promises.settlements) (append-nil (heard_in i s)))
+told-heard : (i : Ear) (s : Slots) → heard_in i (told s) ≡ heard_in i s
+told-heard i s = all_heard-append i s.events (map Settled s.promises.settlements) ∙ (rw (heard_settlings i s.promises.settlements) (append-nil (heard_in i s)))
 
 -- operations
 
-readable-heard : (operation : readable.Acts → readable.Acts) (i j : StreamId) (s : Slots) → heard_in i (on_readable operation j s).slots ≡ heard_in i s
+readable-heard : (operation : readable.Acts → readable.Acts) (i : Ear) (j : StreamId) (s : Slots) → heard_in i (on_readable operation j s).slots ≡ heard_in i s
 readable-heard operation i j s =
     either (λ (d : Done). heard_in i d.slots ≡ heard_in i s) (has_readable j s) (put_readable j s (operation (record { slots = readable_at j s; out = found s }))) (nothing s)
     (λ e. told-heard i (record s { streams = slice_set s.streams j.0 (ReadableStream (operation (record { slots = readable_at j s; out = found s })).slots); promises = (operation (record { slots = readable_at j s; out = found s })).out.promises }))
     (λ e. refl)
 
-writable-heard : (operation : writable.Acts → writable.Acts) (i j : StreamId) (s : Slots) → heard_in i (on_writable operation j s).slots ≡ heard_in i s
+writable-heard : (operation : writable.Acts → writable.Acts) (i : Ear) (j : StreamId) (s : Slots) → heard_in i (on_writable operation j s).slots ≡ heard_in i s
 writable-heard operation i j s =
     either (λ (d : Done). heard_in i d.slots ≡ heard_in i s) (has_writable j s) (put_writable j s (operation (record { slots = writable_at j s; out = found s }))) (nothing s)
     (λ e. told-heard i (record s { streams = slice_set s.streams j.0 (WritableStream (operation (record { slots = writable_at j s; out = found s })).slots); promises = (operation (record { slots = writable_at j s; out = found s })).out.promises }))
@@ -74,94 +99,94 @@ writable-heard operation i j s =
 
 -- effects
 
-host_heard : (i : StreamId) (call : HostCall) (s : Slots) → heard_in i (call_host call s) ≡ heard_in i s ++ heard_write i (Host (record { 0 = length s.hosts }) call)
+host_heard : (i : Ear) (call : HostCall) (s : Slots) → heard_in i (call_host call s) ≡ heard_in i s ++ i.hear (Host (record { 0 = length s.hosts }) call)
 unfolding call_host
-host_heard i call s = heard_writes-append i s.events (Host (record { 0 = length s.hosts }) call ∷ []) ∙ ap (λ vs. heard_in i s ++ vs) (append-nil (heard_write i (Host (record { 0 = length s.hosts }) call)))
+host_heard i call s = all_heard-append i s.events (Host (record { 0 = length s.hosts }) call ∷ []) ∙ ap (λ vs. heard_in i s ++ vs) (append-nil (i.hear (Host (record { 0 = length s.hosts }) call)))
 
-started-heard : (i j : StreamId) (step : JobStep) (start : StartBy) (s : Slots) → heard_in i (started j step start s) ≡ heard_in i s ++ []
-started-heard i j step Now s = sym (append-nil (heard_in i s))
-started-heard i j step Later s = host_heard i (HostStart j) s
+started-heard : (i : Ear) (j : StreamId) (step : JobStep) (start : StartBy) (s : Slots) → heard_in i (started j step start s) ≡ heard_in i s
+started-heard i j step Now s = refl
+started-heard i j step Later s = host_heard i (HostStart j) s ∙ (rw (i.starts (record { 0 = length s.hosts }) j) (append-nil (heard_in i s)))
 
-row-heard : (i : StreamId) (e : Effect) (s : Slots) → heard_in i (row e s).slots ≡ heard_in i s ++ acted_by i e
+row-heard : (i : Ear) (e : Effect) (s : Slots) → heard_in i (row e s).slots ≡ heard_in i s ++ i.of e
 unfolding row
-row-heard i (StartEffect j start) s = started-heard i j (ReadableStart j) start s
-row-heard i (PullEffect j) s = host_heard i (HostPull j) s
-row-heard i (CancelEffect j reason p) s = host_heard i (HostCancel j reason) s
-row-heard i (StartWritable j start) s = started-heard i j (WritableStart j) start s
-row-heard i (WriteEffect j v) s = host_heard i (HostWrite j v) s
-row-heard i (CloseEffect j) s = host_heard i (HostClose j) s
-row-heard i (AbortEffect j reason p) s = host_heard i (HostAbort j reason) s
+row-heard i (StartEffect j start) s = rw (i.starting j start, append-nil) (started-heard i j (ReadableStart j) start s)
+row-heard i (PullEffect j) s = rw (← i.pulls (record { 0 = length s.hosts }) j) (host_heard i (HostPull j) s)
+row-heard i (CancelEffect j reason p) s = rw (← i.cancels (record { 0 = length s.hosts }) j reason p) (host_heard i (HostCancel j reason) s)
+row-heard i (StartWritable j start) s = rw (i.starting_writable j start, append-nil) (started-heard i j (WritableStart j) start s)
+row-heard i (WriteEffect j v) s = rw (← i.writes (record { 0 = length s.hosts }) j v) (host_heard i (HostWrite j v) s)
+row-heard i (CloseEffect j) s = rw (← i.closes (record { 0 = length s.hosts }) j) (host_heard i (HostClose j) s)
+row-heard i (AbortEffect j reason p) s = rw (← i.aborts (record { 0 = length s.hosts }) j reason p) (host_heard i (HostAbort j reason) s)
 
-performed-heard : (i : StreamId) (es : List Effect) (s : Slots) → heard_in i (performed (record { slots = s; caused = es })) ≡ heard_in i s ++ acted_in i es
+performed-heard : (i : Ear) (es : List Effect) (s : Slots) → heard_in i (performed (record { slots = s; caused = es })) ≡ heard_in i s ++ all_of i es
 performed-heard i [] s = ap (heard_in i) (performed-none s) ∙ sym (append-nil (heard_in i s))
 performed-heard i (e ∷ es) s =
     rw (performed-next s e es, row-caused e s)
-    (performed-heard i es (row e s).slots ∙ (rw (row-heard i e s) (append_assoc (heard_in i s) (acted_by i e) (acted_in i es))))
+    (performed-heard i es (row e s).slots ∙ (rw (row-heard i e s) (append_assoc (heard_in i s) (i.of e) (all_of i es))))
 
 -- calls
 
 -- a call's operation adds no such event
-abbrev pub Silent : StreamId → Slots → Begun → Type 0
+abbrev pub Silent : Ear → Slots → Begun → Type 0
 Silent i s b = heard_in i b.done.slots ≡ heard_in i s
 
-if-silent : (c : Bool) (i : StreamId) (s : Slots) (b d : Begun) → Silent i s b → Silent i s d → Silent i s (if c then b else d)
+if-silent : (c : Bool) (i : Ear) (s : Slots) (b d : Begun) → Silent i s b → Silent i s d → Silent i s (if c then b else d)
 if-silent true i s b d e f = e
 if-silent false i s b d e f = f
 
-by_reader-silent : (holding : StreamId → Slots → Begun) (free : Slots → Begun) (i : StreamId) (s : Slots) → ((j : StreamId) → Silent i s (holding j s)) → Silent i s (free s) → (lock : Option Lock) → Silent i s (by_reader holding free s lock)
+by_reader-silent : (holding : StreamId → Slots → Begun) (free : Slots → Begun) (i : Ear) (s : Slots) → ((j : StreamId) → Silent i s (holding j s)) → Silent i s (free s) → (lock : Option Lock) → Silent i s (by_reader holding free s lock)
 by_reader-silent holding free i s held freed None = refl
 by_reader-silent holding free i s held freed (Some (ReaderLock (Some j) closed)) = if-silent (has_readable j s) i s (holding j s) (unsupported s) (held j) refl
 by_reader-silent holding free i s held freed (Some (ReaderLock None closed)) = freed
 by_reader-silent holding free i s held freed (Some (WriterLock j)) = refl
 by_reader-silent holding free i s held freed (Some (ReleasedWriter w)) = refl
 
-by_writer-silent : (holding : StreamId → Slots → Begun) (free : Slots → Begun) (i : StreamId) (s : Slots) → ((j : StreamId) → Silent i s (holding j s)) → Silent i s (free s) → (lock : Option Lock) → Silent i s (by_writer holding free s lock)
+by_writer-silent : (holding : StreamId → Slots → Begun) (free : Slots → Begun) (i : Ear) (s : Slots) → ((j : StreamId) → Silent i s (holding j s)) → Silent i s (free s) → (lock : Option Lock) → Silent i s (by_writer holding free s lock)
 by_writer-silent holding free i s held freed None = refl
 by_writer-silent holding free i s held freed (Some (ReaderLock stream closed)) = refl
 by_writer-silent holding free i s held freed (Some (WriterLock j)) = if-silent (has_writable j s) i s (holding j s) (unsupported s) (held j) refl
 by_writer-silent holding free i s held freed (Some (ReleasedWriter w)) = freed
 
-of_writer-silent : (operation : Writer → Slots → Begun) (i : StreamId) (s : Slots) → ((w : Writer) → Silent i s (operation w s)) → (w : Option Writer) → Silent i s (of_writer operation s w)
+of_writer-silent : (operation : Writer → Slots → Begun) (i : Ear) (s : Slots) → ((w : Writer) → Silent i s (operation w s)) → (w : Option Writer) → Silent i s (of_writer operation s w)
 of_writer-silent operation i s done None = refl
 of_writer-silent operation i s done (Some w) = done w
 
-unlocked_readable-silent : (locked : Slots → Begun) (free : StreamId → Slots → Begun) (i j : StreamId) (s : Slots) → Silent i s (locked s) → Silent i s (free j s) → Silent i s (calls.unlocked_readable j locked free s)
+unlocked_readable-silent : (locked : Slots → Begun) (free : StreamId → Slots → Begun) (i : Ear) (j : StreamId) (s : Slots) → Silent i s (locked s) → Silent i s (free j s) → Silent i s (calls.unlocked_readable j locked free s)
 unlocked_readable-silent locked free i j s l f =
     if-silent (has_readable j s) i s (if readable_looks.is_locked (readable_at j s) then locked s else free j s) (unsupported s)
     (if-silent (readable_looks.is_locked (readable_at j s)) i s (locked s) (free j s) l f) refl
 
-unlocked_writable-silent : (locked : Slots → Begun) (free : StreamId → Slots → Begun) (i j : StreamId) (s : Slots) → Silent i s (locked s) → Silent i s (free j s) → Silent i s (calls.unlocked_writable j locked free s)
+unlocked_writable-silent : (locked : Slots → Begun) (free : StreamId → Slots → Begun) (i : Ear) (j : StreamId) (s : Slots) → Silent i s (locked s) → Silent i s (free j s) → Silent i s (calls.unlocked_writable j locked free s)
 unlocked_writable-silent locked free i j s l f =
     if-silent (has_writable j s) i s (if writable_looks.is_locked (writable_at j s) then locked s else free j s) (unsupported s)
     (if-silent (writable_looks.is_locked (writable_at j s)) i s (locked s) (free j s) l f) refl
 
-rejected-silent : (i : StreamId) (s : Slots) → Silent i s (calls.rejected s)
+rejected-silent : (i : Ear) (s : Slots) → Silent i s (calls.rejected s)
 rejected-silent i s = told-heard i (record s { promises = fresh_settled (Err readable.type_error) s.promises })
 
-close-silent : (i j : StreamId) (s : Slots) → Silent i s (calls.close j s)
+close-silent : (i : Ear) (j : StreamId) (s : Slots) → Silent i s (calls.close j s)
 close-silent i j s = if-silent (writable.is_closing (writable_at j s)) i s (calls.rejected s) (calls.begun (Promise (next_id s.promises)) (on_writable (writable.stream_close j) j s)) (rejected-silent i s) (writable-heard (writable.stream_close j) i j s)
 
-signalled-heard : (reason : Plain) (i j : StreamId) (s : Slots) → heard_in i (signalled j reason s) ≡ heard_in i s
+signalled-heard : (reason : Plain) (i : Ear) (j : StreamId) (s : Slots) → heard_in i (signalled j reason s) ≡ heard_in i s
 signalled-heard reason i j s =
     either (λ (z : Slots). heard_in i z ≡ heard_in i s) (writable.is_first_abort (writable_at j s)) (record s { events = s.events ++ Signal j reason ∷ [] }) s
-    (λ e. heard_writes-append i s.events (Signal j reason ∷ []) ∙ append-nil (heard_in i s)) (λ e. refl)
+    (λ e. all_heard-append i s.events (Signal j reason ∷ []) ∙ (rw (i.signalled j reason) (append-nil (heard_in i s)))) (λ e. refl)
 
-abort-silent : (reason : Plain) (i j : StreamId) (s : Slots) → Silent i s (calls.abort reason j s)
+abort-silent : (reason : Plain) (i : Ear) (j : StreamId) (s : Slots) → Silent i s (calls.abort reason j s)
 abort-silent reason i j s = writable-heard (writable.stream_abort j reason) i j (signalled j reason s) ∙ signalled-heard reason i j s
 
-closed_by-silent : (s : Slots) (i : StreamId) (lock : Option Lock) → Silent i s (calls.closed_by s lock)
+closed_by-silent : (s : Slots) (i : Ear) (lock : Option Lock) → Silent i s (calls.closed_by s lock)
 closed_by-silent s i None = refl
 closed_by-silent s i (Some (ReaderLock stream closed)) = refl
 closed_by-silent s i (Some (WriterLock j)) = of_writer-silent (λ w. replies (Promise w.closed)) i s (λ w. refl) (writable_at j s).writer
 closed_by-silent s i (Some (ReleasedWriter w)) = refl
 
-ready_by-silent : (s : Slots) (i : StreamId) (lock : Option Lock) → Silent i s (calls.ready_by s lock)
+ready_by-silent : (s : Slots) (i : Ear) (lock : Option Lock) → Silent i s (calls.ready_by s lock)
 ready_by-silent s i None = refl
 ready_by-silent s i (Some (ReaderLock stream closed)) = refl
 ready_by-silent s i (Some (WriterLock j)) = of_writer-silent (λ w. replies (Promise w.ready)) i s (λ w. refl) (writable_at j s).writer
 ready_by-silent s i (Some (ReleasedWriter w)) = refl
 
-release-silent : (l : LockId) (s : Slots) (i : StreamId) (lock : Option Lock) → Silent i s (calls.release l s lock)
+release-silent : (l : LockId) (s : Slots) (i : Ear) (lock : Option Lock) → Silent i s (calls.release l s lock)
 release-silent l s i None = refl
 release-silent l s i (Some (ReaderLock (Some j) closed)) =
     if-silent (has_readable j s) i s (calls.release_reader l closed j s) (unsupported s)
@@ -171,32 +196,32 @@ release-silent l s i (Some (WriterLock j)) =
     of_writer-silent (calls.release_writer l j) i s (λ w. writable-heard writable.writer_release i j (calls.with_lock l (ReleasedWriter (writable.released w s.promises)) s)) (writable_at j s).writer
 release-silent l s i (Some (ReleasedWriter w)) = refl
 
-if_it_can-silent : (operation : Slots → Done) (i j : StreamId) (s : Slots) → heard_in i (operation s).slots ≡ heard_in i s → Silent i s (for_readable j (calls.if_it_can j operation) s)
+if_it_can-silent : (operation : Slots → Done) (i : Ear) (j : StreamId) (s : Slots) → heard_in i (operation s).slots ≡ heard_in i s → Silent i s (for_readable j (calls.if_it_can j operation) s)
 if_it_can-silent operation i j s done =
     if-silent (has_readable j s) i s (calls.if_it_can j operation s) (unsupported s)
     (if-silent (readable.can_close_or_enqueue (readable_at j s)) i s (calls.begun DoneReply (operation s)) (calls.throws_type_error s) done refl) refl
 
-fail-silent : (reason : Plain) (i j : StreamId) (s : Slots) → Silent i s (calls.fail reason j s)
+fail-silent : (reason : Plain) (i : Ear) (j : StreamId) (s : Slots) → Silent i s (calls.fail reason j s)
 fail-silent reason i j s =
     let failed : Slots → Begun = λ s. calls.begun DoneReply (on_writable (writable.controller_error_if_needed j reason) j s) in
     if-silent (has_readable j s) i s (calls.begun DoneReply (on_readable (readable.controller_error reason) j s)) (for_writable j failed s)
     (readable-heard (readable.controller_error reason) i j s)
     (if-silent (has_writable j s) i s (failed s) (unsupported s) (writable-heard (writable.controller_error_if_needed j reason) i j s) refl)
 
-look-silent : (i j : StreamId) (s : Slots) → Silent i s (calls.look j s)
+look-silent : (i : Ear) (j : StreamId) (s : Slots) → Silent i s (calls.look j s)
 look-silent i j s =
     let looked : Slots → Begun = λ s. replies (StateReply (writable_looks.state_of (writable_at j s))) s in
     if-silent (has_readable j s) i s (replies (StateReply (readable_looks.state_of (readable_at j s))) s) (for_writable j looked s) refl
     (if-silent (has_writable j s) i s (looked s) (unsupported s) refl refl)
 
-settle-silent : (a : HostId) (answer : Answer) (i : StreamId) (s : Slots) (p : Option PromiseId) → Silent i s (calls.settle_host a answer s p)
+settle-silent : (a : HostId) (answer : Answer) (i : Ear) (s : Slots) (p : Option PromiseId) → Silent i s (calls.settle_host a answer s p)
 settle-silent a answer i s None = refl
 settle-silent a answer i s (Some p) = told-heard i (record s { promises = settle p (calls.outcome_of answer) s.promises; hosts = slice_set s.hosts a.0 None })
 
-made-silent : (make : StreamId → Slots → Begun) (i : StreamId) (s : Slots) → Silent i s (make (record { 0 = length s.streams }) s) → Silent i s (calls.make_stream make s)
+made-silent : (make : StreamId → Slots → Begun) (i : Ear) (s : Slots) → Silent i s (make (record { 0 = length s.streams }) s) → Silent i s (calls.make_stream make s)
 made-silent make i s done = if-silent (nat_lt (length s.streams) calls.most_streams) i s (make (record { 0 = length s.streams }) s) (replies TooMany s) done refl
 
-call_silent : (c : Call) (i : StreamId) (s : Slots) → Silent i s (begin c s)
+call_silent : (c : Call) (i : Ear) (s : Slots) → Silent i s (begin c s)
 unfolding begin
 call_silent (MakeReadable mark size start) i s =
     let j : StreamId = record { 0 = length s.streams } in
@@ -228,7 +253,7 @@ call_silent Step i s = refl
 
 -- jobs
 
-step-silent : (step : JobStep) (o : Result Plain Plain) (i : StreamId) (s : Slots) → heard_in i (perform_step step o s).slots ≡ heard_in i s
+step-silent : (step : JobStep) (o : Result Plain Plain) (i : Ear) (s : Slots) → heard_in i (perform_step step o s).slots ≡ heard_in i s
 step-silent (ReadableStart j) o i s = readable-heard (readable.start_settled j o) i j s
 step-silent (ReadablePull j) o i s = readable-heard (readable.pull_settled j o) i j s
 step-silent ReturnUndefined o i s = refl
@@ -237,23 +262,23 @@ step-silent (WritableWrite j) o i s = writable-heard (writable.write_settled j o
 step-silent (WritableClose j) o i s = writable-heard (writable.close_settled j o) i j s
 step-silent (WritableAbort j p) o i s = writable-heard (writable.abort_settled p o) i j s
 
-derived-silent : (derived : Option PromiseId) (o : Result Plain Plain) (i : StreamId) (s : Slots) → heard_in i (resolve_derived derived o s) ≡ heard_in i s
+derived-silent : (derived : Option PromiseId) (o : Result Plain Plain) (i : Ear) (s : Slots) → heard_in i (resolve_derived derived o s) ≡ heard_in i s
 derived-silent None o i s = refl
 derived-silent (Some p) o i s = told-heard i (record s { promises = settle p o s.promises })
 
-job-heard : (job : Option Job) (i : StreamId) (s : Slots) → heard_in i (job_taken s job) ≡ heard_in i s ++ acted_in i (job_caused s job)
+job-heard : (job : Option Job) (i : Ear) (s : Slots) → heard_in i (job_taken s job) ≡ heard_in i s ++ all_of i (job_caused s job)
 unfolding perform_job
 job-heard None i s = sym (append-nil (heard_in i s))
 job-heard (Some (Reaction step o derived)) i s =
     let t : Slots = record s { promises = after_next_job s.promises } in
     let d : Done = perform_step step o t in
-    derived-silent derived (returned step o) i (performed d) ∙ (performed-heard i d.caused d.slots ∙ ap (λ vs. vs ++ acted_in i d.caused) (step-silent step o i t))
+    derived-silent derived (returned step o) i (performed d) ∙ (performed-heard i d.caused d.slots ∙ ap (λ vs. vs ++ all_of i d.caused) (step-silent step o i t))
 job-heard (Some (Follow p q)) i s = sym (append-nil (heard_in i s))
 job-heard (Some (SettleJob p o)) i s = told-heard i (record s { promises = settle p o (after_next_job s.promises) }) ∙ sym (append-nil (heard_in i s))
 
 -- steps and runs
 
-named-silent : (reply : Reply) (i : StreamId) (s : Slots) → heard_in i (named reply s) ≡ heard_in i s
+named-silent : (reply : Reply) (i : Ear) (s : Slots) → heard_in i (named reply s) ≡ heard_in i s
 named-silent DoneReply i s = refl
 named-silent (Made j) i s = refl
 named-silent (ReplyLock l) i s = refl
@@ -263,16 +288,124 @@ named-silent (StateReply x) i s = refl
 named-silent (Throws t) i s = refl
 named-silent TooMany i s = refl
 
-entry-heard : (i : StreamId) (x : Entry) (s : Slots) → heard_in i (step s x) ≡ heard_in i s ++ (step_writes i s x).acted
+-- the effects of a step
+abbrev pub caused_in : Entry → Slots → List Effect
+caused_in (Called c) s = (begin c s).done.caused
+caused_in Worked s = job_caused s (next_job s.promises)
+
+entry-heard : (i : Ear) (x : Entry) (s : Slots) → heard_in i (step s x) ≡ heard_in i s ++ all_of i (caused_in x s)
 entry-heard i (Called c) s =
     let d : Done = (begin c s).done in
-    named-silent (begin c s).reply i (performed d) ∙ (performed-heard i d.caused d.slots ∙ ap (λ vs. vs ++ acted_in i d.caused) (call_silent c i s))
+    named-silent (begin c s).reply i (performed d) ∙ (performed-heard i d.caused d.slots ∙ ap (λ vs. vs ++ all_of i d.caused) (call_silent c i s))
 entry-heard i Worked s = job-heard (next_job s.promises) i s
 
-run-heard : (i : StreamId) (xs : List Entry) (s : Slots) → heard_in i (run xs s) ≡ heard_in i s ++ (run_writes i xs s).acted
+-- the effects of a run
+abbrev pub caused_by : Ear → List Entry → Slots → List Value
+caused_by i [] s = []
+caused_by i (x ∷ xs) s = all_of i (caused_in x s) ++ caused_by i xs (step s x)
+
+run-heard : (i : Ear) (xs : List Entry) (s : Slots) → heard_in i (run xs s) ≡ heard_in i s ++ caused_by i xs s
 run-heard i [] s = sym (append-nil (heard_in i s))
 run-heard i (x ∷ xs) s =
-    run-heard i xs (step s x) ∙ (rw (entry-heard i x s) (append_assoc (heard_in i s) (step_writes i s x).acted (run_writes i xs (step s x)).acted))
+    run-heard i xs (step s x) ∙ (rw (entry-heard i x s) (append_assoc (heard_in i s) (all_of i (caused_in x s)) (caused_by i xs (step s x))))
+
+-- writes
+
+hears_writes : StreamId → Ear
+hears_writes i = record {
+  hear = heard_write i;
+  of = acted_by i;
+  settled = λ p. refl;
+  signalled = λ j reason. refl;
+  starts = λ a j. refl;
+  pulls = λ a j. refl;
+  cancels = λ a j reason p. refl;
+  writes = λ a j v. refl;
+  closes = λ a j. refl;
+  aborts = λ a j reason p. refl;
+  starting = λ j start. refl;
+  starting_writable = λ j start. refl;
+}
+
+writes-heard : (i : StreamId) (es : List Event) → all_heard (hears_writes i) es ≡ heard_writes i es
+unfolding hears_writes
+writes-heard i [] = refl
+writes-heard i (e ∷ es) = ap (λ vs. heard_write i e ++ vs) (writes-heard i es)
+
+writes-of : (i : StreamId) (es : List Effect) → all_of (hears_writes i) es ≡ acted_in i es
+unfolding hears_writes
+writes-of i [] = refl
+writes-of i (e ∷ es) = ap (λ vs. acted_by i e ++ vs) (writes-of i es)
+
+writes-in : (i : StreamId) (x : Entry) (s : Slots) → all_of (hears_writes i) (caused_in x s) ≡ (step_writes i s x).acted
+writes-in i (Called c) s = writes-of i (begin c s).done.caused
+writes-in i Worked s = writes-of i (job_caused s (next_job s.promises))
+
+writes-by : (i : StreamId) (xs : List Entry) (s : Slots) → caused_by (hears_writes i) xs s ≡ (run_writes i xs s).acted
+writes-by i [] s = refl
+writes-by i (x ∷ xs) s = let a = writes-in i x s in let b = writes-by i xs (step s x) in rw (a, b) refl
 
 pub acted_was_heard : ActedWasHeard
-acted_was_heard entries i = sym (run-heard i entries empty)
+acted_was_heard entries i =
+    sym (writes-by i entries empty) ∙ (sym (run-heard (hears_writes i) entries empty) ∙ writes-heard i (run entries empty).events)
+
+-- closes
+
+-- a mark for each close
+abbrev pub marks : ℕ → List Value
+marks zero = []
+marks (suc n) = PlainValue Undefined ∷ marks n
+
+hears_closes : StreamId → Ear
+hears_closes i = record {
+  hear = λ e. marks (heard_close i e);
+  of = λ e. marks (closes_by i e);
+  settled = λ p. refl;
+  signalled = λ j reason. refl;
+  starts = λ a j. refl;
+  pulls = λ a j. refl;
+  cancels = λ a j reason p. refl;
+  writes = λ a j v. refl;
+  closes = λ a j. refl;
+  aborts = λ a j reason p. refl;
+  starting = λ j start. refl;
+  starting_writable = λ j start. refl;
+}
+
+length-marks : (n : ℕ) → length (marks n) ≡ n
+length-marks zero = refl
+length-marks (suc n) = ap suc (length-marks n)
+
+closes-heard : (i : StreamId) (es : List Event) → length (all_heard (hears_closes i) es) ≡ heard_closes i es
+unfolding hears_closes
+closes-heard i [] = refl
+closes-heard i (e ∷ es) =
+    let a = length-append (marks (heard_close i e)) (all_heard (hears_closes i) es) in
+    let b = length-marks (heard_close i e) in
+    let c = closes-heard i es in
+    omega arith
+
+closes-of : (i : StreamId) (es : List Effect) → length (all_of (hears_closes i) es) ≡ closes_in i es
+unfolding hears_closes
+closes-of i [] = refl
+closes-of i (e ∷ es) =
+    let a = length-append (marks (closes_by i e)) (all_of (hears_closes i) es) in
+    let b = length-marks (closes_by i e) in
+    let c = closes-of i es in
+    omega arith
+
+closes-step : (i : StreamId) (x : Entry) (s : Slots) → length (all_of (hears_closes i) (caused_in x s)) ≡ (step_writes i s x).closes
+closes-step i (Called c) s = closes-of i (begin c s).done.caused
+closes-step i Worked s = closes-of i (job_caused s (next_job s.promises))
+
+closes-run : (i : StreamId) (xs : List Entry) (s : Slots) → length (caused_by (hears_closes i) xs s) ≡ (run_writes i xs s).closes
+closes-run i [] s = refl
+closes-run i (x ∷ xs) s =
+    let a = length-append (all_of (hears_closes i) (caused_in x s)) (caused_by (hears_closes i) xs (step s x)) in
+    let b = closes-step i x s in
+    let c = closes-run i xs (step s x) in
+    omega arith
+
+pub closes_were_heard : ClosesWereHeard
+closes_were_heard entries i =
+    sym (closes-run i entries empty) ∙ (sym (ap length (run-heard (hears_closes i) entries empty)) ∙ closes-heard i (run entries empty).events)

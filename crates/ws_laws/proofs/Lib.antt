@@ -21,3 +21,4 @@ pub mod Heard
 pub mod ReadableStep
 pub mod WritableStep
 pub mod Throws
+mod Worked

@@ -1,5 +1,5 @@
 -- What each call keeps of the order of a readable stream.
-use Rattle.std.proofs.Common.{◌≡◌, ℕ, Bool, true, false, List, [], ◌∷◌, ◌++◌, length, Option, Some, None, if◌then◌else◌, nat_lt, nat_eq, ◌≢◌, slice_get, refl, sym, ap}
+use Rattle.std.proofs.Common.{◌≡◌, ℕ, Bool, true, false, List, [], ◌∷◌, ◌++◌, length, Option, Some, None, if◌then◌else◌, nat_lt, nat_eq, ◌≢◌, slice_get, refl, sym, ap, ◌∙◌}
 use Rattle.ws_value.specs.declared.ids.HostId.{HostId}
 use Rattle.ws_value.specs.declared.ids.LockId.{LockId}
 use Rattle.ws_value.specs.declared.ids.PromiseId.{PromiseId}
@@ -26,7 +26,7 @@ use Rattle.ws_steps.specs.Slots.{Slots, Stream, on_readable, on_writable, has_re
 use Rattle.ws_steps.specs.Calls.{Begun, begin, replies, unsupported, for_readable, for_writable, by_reader, by_writer, of_writer, add_stream}
 use Rattle.ws_steps.specs.Calls as calls
 use Rattle.ws_steps.specs.Histories.{Flow, no_flow, flow_then, is_same, flow_at, flow_by, enqueue_flow, read_flow, cancel_flow, call_flow, values}
-use Rattle.ws_laws.proofs.Tables.{eq_numbers, unequal_numbers, either, readable_acts, on_readable-same, no_readable_there, place_last, place_before, place_past}
+use Rattle.ws_laws.proofs.Tables.{no_stream, eq_numbers, unequal_numbers, either, readable_acts, on_readable-same, no_readable_there, place_last, place_before}
 use Rattle.ws_laws.proofs.ReadableOperations.{same_flow}
 use Rattle.ws_laws.proofs.ReadableSteps.{Held, Kept, idle_flow, at_other, on_readable-kept, on_readable-quiet, on_writable-kept, keeps_enqueue, keeps_read, keeps_cancel, keeps_close, keeps_error, keeps_initialize, keeps_release}
 
@@ -82,9 +82,6 @@ unlocked_writable-kept locked free i j s h k l f =
 
 -- new streams
 
-no_stream : (i : StreamId) (streams : List Stream) → i.0 ≡ length streams → slice_get streams i.0 ≡ None
-no_stream i streams e = rw e (place_past streams)
-
 added_other : (x : Stream) (i : StreamId) (streams : List Stream) (h : Flow) → i.0 ≢ length streams → Kept i h streams → Kept i h (streams ++ x ∷ [])
 added_other x i streams h n k = record { unmade = rw (place_before streams x i.0 n) k.unmade; held = rw (place_before streams x i.0 n) k.held }
 
@@ -96,15 +93,19 @@ added_writable w i streams h true e k =
     let after : slice_get (streams ++ WritableStream w ∷ []) i.0 ≡ Some (WritableStream w) = rw at_end (place_last streams (WritableStream w)) in
     record { unmade = λ f. k.unmade before; held = rw after (rw before at k.held) }
 
-nothing_queued : (h : Flow) (r : readable.Slots) → h.cancelled ≡ false → r.queue ≡ [] → Held h no_readable → Held h r
-nothing_queued h r n e k =
+nothing_queued : (h : Flow) (r : readable.Slots) → h.cancelled ≡ false → r.queue ≡ [] → r.requests ≡ [] → Held h no_readable → Held h r
+nothing_queued h r n e f k =
     let all : values r.queue ≡ [] = ap values e in
     let none_dropped : k.dropped ≡ [] = k.balanced.whole n refl in
-    record { dropped = k.dropped; balanced = record { all = rw all k.balanced.all; live = λ f. none_dropped; whole = λ f g. rw all none_dropped; fit = λ f. let empty : is_empty r.queue ≡ true = rw e refl in cc } }
+    record { dropped = k.dropped; balanced = record { all = rw all k.balanced.all; live = λ f. none_dropped; whole = λ f g. rw all none_dropped; fit = λ f. let empty : is_empty r.queue ≡ true = rw e refl in cc; asked = rw f k.balanced.asked } }
 
 set_up_empties : (me : StreamId) (start : StartBy) (mark : ℕ) (size : SizeBy) (a : readable.Acts) → (readable.set_up me start mark size a).slots.queue ≡ []
 unfolding readable.set_up
 set_up_empties me start mark size a = refl
+
+set_up_requests : (me : StreamId) (start : StartBy) (mark : ℕ) (size : SizeBy) (a : readable.Acts) → (readable.set_up me start mark size a).slots.requests ≡ a.slots.requests
+unfolding readable.set_up
+set_up_requests me start mark size a = refl
 
 made_readable : (mark : ℕ) (size : SizeBy) (start : StartBy) (i : StreamId) (s : Slots) (h : Flow) (here : Bool) → here ≡ nat_eq i.0 (length s.streams) → Kept i h s.streams
     → Kept i h (left (calls.make_readable mark size start (record { 0 = length s.streams }) s))
@@ -119,7 +120,8 @@ made_readable mark size start i s h true e k =
     let there : has_readable j t ≡ true = ap is_readable_stream (place_last s.streams (ReadableStream readable.initialized)) in
     let here = on_readable-same (readable.set_up j start mark size) j t there in
     let before = no_stream i s.streams at_end in
-    let held : Held h (as_readable (slice_get (left (calls.make_readable mark size start j s)) (length s.streams))) = rw here (nothing_queued h _ (k.unmade before) (set_up_empties j start mark size (readable_acts j t)) (rw before at k.held)) in
+    let no_requests : (readable_at j t).requests ≡ [] = ap (λ (o : Option Stream). (as_readable o).requests) (place_last s.streams (ReadableStream readable.initialized)) in
+    let held : Held h (as_readable (slice_get (left (calls.make_readable mark size start j s)) (length s.streams))) = rw here (nothing_queued h _ (k.unmade before) (set_up_empties j start mark size (readable_acts j t)) (set_up_requests j start mark size (readable_acts j t) ∙ no_requests) (rw before at k.held)) in
     record { unmade = λ f. k.unmade before; held = rw at_end held }
 
 made_stream : (make : StreamId → Slots → Begun) (i : StreamId) (s : Slots) (h : Flow) → Kept i h s.streams → Kept i h (left (make (record { 0 = length s.streams }) s)) → Kept i h (left (calls.make_stream make s))

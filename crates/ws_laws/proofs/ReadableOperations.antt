@@ -1,5 +1,5 @@
 -- What each operation of a readable stream keeps of its order.
-use Rattle.std.proofs.Common.{◌≡◌, Bool, true, false, not, ◌||◌, ◌&&◌, if◌then◌else◌, List, [], ◌∷◌, ◌++◌, Result, Ok, Err, refl, sym, ap, arith, append_assoc, append-nil}
+use Rattle.std.proofs.Common.{◌≡◌, Bool, true, false, not, ◌||◌, ◌&&◌, if◌then◌else◌, List, [], ◌∷◌, ◌++◌, Result, Ok, Err, refl, sym, ap, arith, append_assoc, append-nil, ◌+◌, ◌≤◌, is_some, length, length-append, add-zero}
 use Rattle.ws_value.specs.declared.ids.PromiseId.{PromiseId}
 use Rattle.ws_value.specs.declared.ids.StreamId.{StreamId}
 use Rattle.ws_value.specs.declared.value.Plain.{Plain}
@@ -20,6 +20,7 @@ pub record Balanced (h : Flow) (dropped : List Value) (s : Slots) : Type 0 where
   pub live : s.state ≡ Readable → dropped ≡ []
   pub whole : h.cancelled ≡ false → s.state ≡ Closed → values s.queue ++ dropped ≡ []
   pub fit : is_empty s.queue ≡ false → waiting s ≡ []
+  pub asked : length h.given + length s.requests ≤ h.asked
 
 values-append : (xs ys : List (Queued Value)) → values (xs ++ ys) ≡ values xs ++ values ys
 values-append [] ys = refl
@@ -35,7 +36,7 @@ or_false false = refl
 
 -- nothing happens
 pub same_flow : (h : Flow) → flow_then h no_flow ≡ h
-same_flow h = λ i. record { entered = append-nil h.entered i; given = append-nil h.given i; cancelled = or_false h.cancelled i }
+same_flow h = λ i. record { entered = append-nil h.entered i; given = append-nil h.given i; cancelled = or_false h.cancelled i; asked = add-zero h.asked i }
 
 readable_by : (c : Bool) (s : ReadableState) → not c && is_readable s ≡ true → s ≡ Readable
 readable_by c Readable e = refl
@@ -54,23 +55,36 @@ idle : (queue : List (Queued Value)) (ws : List ReadRequest) (r : ReadRequest) (
 idle [] ws r rs f e = refl
 idle (q ∷ queue) ws r rs f e = let n = f refl in cc
 
+within : (locked : Bool) (rs : List ReadRequest) → length (if locked then rs else []) ≤ length rs
+within true rs = omega arith
+within false rs = omega arith
+
+waiting_within : (s : Slots) → length (waiting s) ≤ length s.requests
+waiting_within s = within (is_some s.reader) s.requests
+
 accept_keeps : (v : Value) (h : Flow) (d : List Value) (a : Acts) (rs : List ReadRequest) → rs ≡ waiting a.slots → a.slots.state ≡ Readable → Balanced h d a.slots
-    → Balanced (flow_then h (record { entered = v ∷ []; given = given_to v rs; cancelled = false })) d (accept_for v a rs).slots
+    → Balanced (flow_then h (record { entered = v ∷ []; given = given_to v rs; cancelled = false; asked = 0 })) d (accept_for v a rs).slots
 accept_keeps v h d a [] w r b = record {
   all = rw values-append (enqueued h.entered h.given (values a.slots.queue) d v b.all (b.live r));
   live = b.live;
   whole = λ c e. cc;
   fit = λ e. sym w;
+  asked = let n = b.asked in omega (arith, length-append h.given []);
 }
 accept_keeps v h d a (q ∷ rs) w r b = let none : values a.slots.queue ≡ [] = idle a.slots.queue (waiting a.slots) q rs b.fit w in record {
   all = passed h.entered h.given (values a.slots.queue) d v b.all none (b.live r);
   live = b.live;
   whole = λ c e. cc;
   fit = λ e. let n : waiting a.slots ≡ [] = b.fit e in cc;
+  asked =
+      let n = b.asked in
+      let m = waiting_within a.slots in
+      let l : length (q ∷ rs) ≡ length (waiting a.slots) = ap length w in
+      omega (arith, length-append h.given (v ∷ []));
 }
 
 enqueue_by : (me : StreamId) (v : Value) (h : Flow) (d : List Value) (a : Acts) (t : Bool) → t ≡ can_close_or_enqueue a.slots → Balanced h d a.slots
-    → Balanced (flow_then h (if t then record { entered = v ∷ []; given = given_to v (waiting a.slots); cancelled = false } else no_flow)) d (if t then call_pull_if_needed me (accept v a) else a).slots
+    → Balanced (flow_then h (if t then record { entered = v ∷ []; given = given_to v (waiting a.slots); cancelled = false; asked = 0 } else no_flow)) d (if t then call_pull_if_needed me (accept v a) else a).slots
 unfolding accept
 enqueue_by me v h d a false e b = rw same_flow b
 enqueue_by me v h d a true e b = pull_keeps me _ d (accept v a) (accept_keeps v h d a (waiting a.slots) refl (readable_by a.slots.close_requested a.slots.state (sym e)) b)
@@ -84,12 +98,8 @@ close_keeps : (h : Flow) (d : List Value) (a : Acts) → values a.slots.queue ++
 unfolding stream_close
 close_keeps h d a n b = grind arith
 
-error_keeps : (e : Plain) (h : Flow) (d : List Value) (a : Acts) → Balanced h d a.slots → Balanced h d (stream_error e a).slots
-unfolding stream_error
-error_keeps e h d a b = grind arith
-
 with_close_requested : (h : Flow) (d : List Value) (s : Slots) → Balanced h d s → Balanced h d (record s { close_requested = true })
-with_close_requested h d s b = record { all = b.all; live = b.live; whole = b.whole; fit = b.fit }
+with_close_requested h d s b = record { all = b.all; live = b.live; whole = b.whole; fit = b.fit; asked = b.asked }
 
 emptied : (queue : List (Queued Value)) (d : List Value) → is_empty queue ≡ true → d ≡ [] → values queue ++ d ≡ []
 emptied [] d e n = n
@@ -134,19 +144,28 @@ taken E G Q D v e = simp (e, append-nil, append_assoc)
 
 -- a read takes the first chunk of the queue, or waits
 pull_from_keeps : (me : StreamId) (r : ReadRequest) (h : Flow) (d : List Value) (a : Acts) (queue : List (Queued Value)) → queue ≡ a.slots.queue → a.slots.state ≡ Readable → Balanced h d a.slots
-    → Balanced (flow_then h (record { entered = []; given = first_given Readable queue; cancelled = false })) d (pull_from me r a queue).slots
-pull_from_keeps me r h d a [] q s b = rw same_flow (pull_keeps me h d _ (record { all = b.all; live = b.live; whole = b.whole; fit = λ e. let n : is_empty a.slots.queue ≡ true = rw (← q) refl in cc }))
+    → Balanced (flow_then h (record { entered = []; given = first_given Readable queue; cancelled = false; asked = 1 })) d (pull_from me r a queue).slots
+pull_from_keeps me r h d a [] q s b =
+    let asked : Flow = flow_then h (record { entered = []; given = []; cancelled = false; asked = 1 }) in
+    pull_keeps me asked d (record a { slots = record a.slots { requests = a.slots.requests ++ r ∷ [] } })
+    (record {
+      all = rw (append-nil h.entered, append-nil h.given) b.all;
+      live = b.live;
+      whole = λ c f. cc;
+      fit = λ e. let n : is_empty a.slots.queue ≡ true = rw (← q) refl in cc;
+      asked = let n = b.asked in omega (arith, length-append h.given [], length-append a.slots.requests (r ∷ []));
+    })
 pull_from_keeps me r h d a (q ∷ qs) e s b =
     after_take_keeps me _ d (record a { slots = record a.slots { queue = qs } }) s
-    (record { all = taken h.entered h.given (values qs) d q.value (rw (← e) at b.all); live = b.live; whole = λ c f. cc; fit = λ f. b.fit (rw (← e) refl) })
+    (record { all = taken h.entered h.given (values qs) d q.value (rw (← e) at b.all); live = b.live; whole = λ c f. cc; fit = λ f. b.fit (rw (← e) refl); asked = let n = b.asked in omega (arith, length-append h.given (q.value ∷ [])) })
 
 read_by_keeps : (me : StreamId) (r : ReadRequest) (h : Flow) (d : List Value) (a : Acts) (state : ReadableState) → state ≡ a.slots.state → Balanced h d a.slots
-    → Balanced (flow_then h (record { entered = []; given = first_given state a.slots.queue; cancelled = false })) d (read_by me r (record a { slots = record a.slots { disturbed = true } }) state).slots
+    → Balanced (flow_then h (record { entered = []; given = first_given state a.slots.queue; cancelled = false; asked = if is_readable state then 1 else 0 })) d (read_by me r (record a { slots = record a.slots { disturbed = true } }) state).slots
 unfolding pull_steps
 read_by_keeps me r h d a Readable s b =
-    pull_from_keeps me r h d (record a { slots = record a.slots { disturbed = true } }) a.slots.queue refl (sym s) (record { all = b.all; live = b.live; whole = b.whole; fit = b.fit })
-read_by_keeps me r h d a Closed s b = rw same_flow (record { all = b.all; live = b.live; whole = b.whole; fit = b.fit })
-read_by_keeps me r h d a Errored s b = rw same_flow (record { all = b.all; live = b.live; whole = b.whole; fit = b.fit })
+    pull_from_keeps me r h d (record a { slots = record a.slots { disturbed = true } }) a.slots.queue refl (sym s) (record { all = b.all; live = b.live; whole = b.whole; fit = b.fit; asked = b.asked })
+read_by_keeps me r h d a Closed s b = rw same_flow (record { all = b.all; live = b.live; whole = b.whole; fit = b.fit; asked = b.asked })
+read_by_keeps me r h d a Errored s b = rw same_flow (record { all = b.all; live = b.live; whole = b.whole; fit = b.fit; asked = b.asked })
 
 pub read_keeps : (me : StreamId) (r : ReadRequest) (h : Flow) (d : List Value) (a : Acts) → Balanced h d a.slots → Balanced (flow_then h (read_flow a.slots)) d (default_reader_read me r a).slots
 unfolding default_reader_read
@@ -154,9 +173,9 @@ read_keeps me r h d a b = read_by_keeps me r h d a a.slots.state refl b
 
 -- a cancel
 cancel_by_keeps : (me : StreamId) (e : Plain) (p : PromiseId) (h : Flow) (d : List Value) (a : Acts) (state : ReadableState) → state ≡ a.slots.state → Balanced h d a.slots
-    → Balanced (flow_then h (record { entered = []; given = []; cancelled = is_readable state })) (dropped_in state a.slots.queue ++ d) (cancel_by me e p a state).slots
+    → Balanced (flow_then h (record { entered = []; given = []; cancelled = is_readable state; asked = 0 })) (dropped_in state a.slots.queue ++ d) (cancel_by me e p a state).slots
 unfolding cancel_steps stream_close
-cancel_by_keeps me e p h d a Readable s b = grind (arith, append-nil, append_assoc)
+cancel_by_keeps me e p h d a Readable s b = grind (arith, append-nil, append_assoc, length-append)
 cancel_by_keeps me e p h d a Closed s b = rw same_flow b
 cancel_by_keeps me e p h d a Errored s b = rw same_flow b
 
@@ -164,7 +183,7 @@ pub cancel_keeps : (me : StreamId) (e : Plain) (h : Flow) (d : List Value) (a : 
 unfolding stream_cancel
 cancel_keeps me e h d a b =
     cancel_by_keeps me e (next_id a.out.promises) h d (record { slots = record a.slots { disturbed = true }; out = record a.out { promises = fresh a.out.promises } }) a.slots.state refl
-    (record { all = b.all; live = b.live; whole = b.whole; fit = b.fit })
+    (record { all = b.all; live = b.live; whole = b.whole; fit = b.fit; asked = b.asked })
 
 pub initialize_keeps : (h : Flow) (d : List Value) (a : Acts) → Balanced h d a.slots → Balanced h d (reader_generic_initialize a).slots
 unfolding reader_generic_initialize
@@ -175,7 +194,7 @@ unfolding reader_release
 release_keeps h d a b = grind arith
 
 pull_ended_keeps : (me : StreamId) (h : Flow) (d : List Value) (a : Acts) (again : Bool) → Balanced h d a.slots → Balanced h d (pull_ended me a again).slots
-pull_ended_keeps me h d a true b = pull_keeps me h d _ (record { all = b.all; live = b.live; whole = b.whole; fit = b.fit })
+pull_ended_keeps me h d a true b = pull_keeps me h d _ (record { all = b.all; live = b.live; whole = b.whole; fit = b.fit; asked = b.asked })
 pull_ended_keeps me h d a false b = b
 
 -- what a reaction drops
@@ -185,10 +204,10 @@ dropped_unless_ok (Err e) s = dropped_by s
 
 pub pull_settled_keeps : (me : StreamId) (o : Result Plain Plain) (h : Flow) (d : List Value) (a : Acts) → Balanced h d a.slots → Balanced h (dropped_unless_ok o a.slots ++ d) (pull_settled me o a).slots
 unfolding pull_settled
-pull_settled_keeps me (Ok v) h d a b = pull_ended_keeps me h d _ a.slots.pull_again (record { all = b.all; live = b.live; whole = b.whole; fit = b.fit })
+pull_settled_keeps me (Ok v) h d a b = pull_ended_keeps me h d _ a.slots.pull_again (record { all = b.all; live = b.live; whole = b.whole; fit = b.fit; asked = b.asked })
 pull_settled_keeps me (Err e) h d a b = controller_error_keeps e h d a b
 
 pub start_settled_keeps : (me : StreamId) (o : Result Plain Plain) (h : Flow) (d : List Value) (a : Acts) → Balanced h d a.slots → Balanced h (dropped_unless_ok o a.slots ++ d) (start_settled me o a).slots
 unfolding start_settled
-start_settled_keeps me (Ok v) h d a b = pull_keeps me h d _ (record { all = b.all; live = b.live; whole = b.whole; fit = b.fit })
+start_settled_keeps me (Ok v) h d a b = pull_keeps me h d _ (record { all = b.all; live = b.live; whole = b.whole; fit = b.fit; asked = b.asked })
 start_settled_keeps me (Err e) h d a b = controller_error_keeps e h d a b

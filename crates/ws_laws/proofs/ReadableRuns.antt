@@ -1,5 +1,5 @@
 -- The order of a readable stream, step by step and over every run.
-use Rattle.std.proofs.Common.{◌≡◌, Bool, true, false, ◌||◌, List, [], ◌∷◌, ◌++◌, Option, Some, None, Result, refl, sym, append_assoc, append-nil}
+use Rattle.std.proofs.Common.{◌≡◌, Bool, true, false, ◌||◌, List, [], ◌∷◌, ◌++◌, Option, Some, None, Result, refl, sym, append_assoc, append-nil, add_assoc, arith, zero-add}
 use Rattle.ws_value.specs.declared.ids.PromiseId.{PromiseId}
 use Rattle.ws_value.specs.declared.ids.StreamId.{StreamId}
 use Rattle.ws_value.specs.declared.value.Plain.{Plain}
@@ -76,6 +76,7 @@ flow-assoc f g h = λ i. record {
   entered = append_assoc f.entered g.entered h.entered i;
   given = append_assoc f.given g.given h.given i;
   cancelled = or_assoc f.cancelled g.cancelled h.cancelled i;
+  asked = add_assoc f.asked g.asked h.asked i;
 }
 
 pub run_kept : (i : StreamId) (xs : List Entry) (s : Slots) (h : Flow) → Kept i h s.streams → Kept i (flow_then h (run_flow i xs s)) (run xs s).streams
@@ -90,13 +91,18 @@ lawful h r k = record {
   front = (values r.queue ++ k.dropped, sym k.balanced.all);
   readable = λ e. rw (k.balanced.live e, append-nil) at k.balanced.all;
   closed = λ c e. sym (rw (k.balanced.whole c e, append-nil) at k.balanced.all);
+  asked = k.balanced.asked;
 }
 
 pub none_made : (i : StreamId) → Kept i no_flow empty.streams
 none_made i = record {
   unmade = λ e. refl;
-  held = record { dropped = []; balanced = record { all = refl; live = λ e. refl; whole = λ c e. refl; fit = λ e. cc } };
+  held = record { dropped = []; balanced = record { all = refl; live = λ e. refl; whole = λ c e. refl; fit = λ e. cc; asked = omega arith } };
 }
 
+nothing_flows : (f : Flow) → flow_then no_flow f ≡ f
+nothing_flows f = λ i. record f { asked = zero-add f.asked i }
+
 pub each_readable_is_lawful : EachReadableIsLawful
-each_readable_is_lawful entries i = lawful (run_flow i entries empty) (readable_at i (run entries empty)) (run_kept i entries empty no_flow (none_made i)).held
+each_readable_is_lawful entries i =
+    lawful (run_flow i entries empty) (readable_at i (run entries empty)) (rw (nothing_flows (run_flow i entries empty)) at (run_kept i entries empty no_flow (none_made i))).held

@@ -1,5 +1,5 @@
 -- One step of a readable stream.
-use Rattle.std.proofs.Common.{◌≡◌, ◌≢◌, Bool, true, false, not, ◌&&◌, List, [], ◌++◌, Option, Some, None, if◌then◌else◌, refl, sym, append-nil}
+use Rattle.std.proofs.Common.{◌≡◌, ◌≢◌, Bool, true, false, not, ◌&&◌, List, [], ◌++◌, Option, Some, None, if◌then◌else◌, refl, sym, append-nil, arith, length}
 use Rattle.ws_value.specs.declared.ids.StreamId.{StreamId}
 use Rattle.ws_value.specs.declared.value.Value.{Value}
 use Rattle.ws_steps.specs.declared.calls.Call.{Call}
@@ -71,7 +71,7 @@ entry_ended i Worked s n = (refl, refl)
 -- the step of a stream that is readable, told from what is queued
 
 abbrev pub queued_before : readable.Slots → Flow
-queued_before r = record { entered = values r.queue; given = []; cancelled = false }
+queued_before r = record { entered = values r.queue; given = []; cancelled = false; asked = length r.requests }
 
 not_both : {A : Type 0} (s : ReadableState) → s ≡ Readable → s ≡ ReadableClosed → A
 not_both s e f = cc
@@ -81,7 +81,7 @@ from_readable i s h k e = record {
   unmade = λ f. refl;
   held = record {
     dropped = [];
-    balanced = record { all = sym (append-nil (values (readable_at i s).queue)); live = λ f. refl; whole = λ c f. not_both (readable_at i s).state e f; fit = k.held.balanced.fit };
+    balanced = record { all = sym (append-nil (values (readable_at i s).queue)); live = λ f. refl; whole = λ c f. not_both (readable_at i s).state e f; fit = k.held.balanced.fit; asked = omega arith };
   };
 }
 

@@ -67,6 +67,10 @@ pub place_past : (xs : List Stream) → slice_get xs (length xs) ≡ None
 place_past [] = refl
 place_past (x ∷ xs) = place_past xs
 
+-- nothing is there yet
+pub no_stream : (i : StreamId) (streams : List Stream) → i.0 ≡ length streams → slice_get streams i.0 ≡ None
+no_stream i streams e = rw e (place_past streams)
+
 -- what is there
 
 pub readable_there : (o : Option Stream) → is_readable_stream o ≡ true → o ≡ Some (ReadableStream (as_readable o))

@@ -27,7 +27,7 @@ use Rattle.ws_steps.specs.Calls.{Begun, begin, replies, unsupported, for_readabl
 use Rattle.ws_steps.specs.Calls as calls
 use Rattle.ws_steps.specs.Effects.{Out}
 use Rattle.ws_steps.specs.Histories.{Writes, is_same, acted_in, closes_in, written_by, written_with, call_written}
-use Rattle.ws_laws.proofs.Tables.{either, is_same-refl, eq_numbers, unequal_numbers, same_id, writable_acts, no_writable_there, place_last, place_before, place_past}
+use Rattle.ws_laws.proofs.Tables.{no_stream, either, is_same-refl, eq_numbers, unequal_numbers, same_id, writable_acts, no_writable_there, place_last, place_before}
 use Rattle.ws_laws.proofs.Outstanding.{weight, weight-fresh, weight-settle, weight-fresh_settled, weight-told}
 use Rattle.ws_laws.proofs.Apart.{Apart, apart-promises}
 use Rattle.ws_laws.proofs.ReadableApart as readable_apart
@@ -189,9 +189,6 @@ settle-begins a answer i s h k (Some p) =
     (apart-promises i (out_of (nothing s)) (all_told t) (λ f. let m = weight-told f t in let n = weight-settle f p (calls.outcome_of answer) s.promises in omega arith)) k
 
 -- new streams
-
-no_stream : (i : StreamId) (streams : List Stream) → i.0 ≡ length streams → slice_get streams i.0 ≡ None
-no_stream i streams e = rw e (place_past streams)
 
 added_other : (y : Stream) (i : StreamId) (streams : List Stream) (x : Out) (h : Writes) → i.0 ≢ length streams → Kept i h streams x → Kept i h (streams ++ y ∷ []) x
 added_other y i streams x h n k = record { unmade = rw (place_before streams y i.0 n) k.unmade; held = rw (place_before streams y i.0 n) k.held }

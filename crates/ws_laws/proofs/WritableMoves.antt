@@ -22,10 +22,6 @@ leads-append : (xs ys : List (Queued WriteRecord)) → leads xs ≡ true → lea
 leads-append [] ys e = cc
 leads-append (x ∷ xs) ys e = e
 
-nonempty-append : (xs : List (Queued WriteRecord)) (q : Queued WriteRecord) → is_empty (xs ++ q ∷ []) ≡ false
-nonempty-append [] q = refl
-nonempty-append (x ∷ xs) q = refl
-
 no_mark-append : (xs : List (Queued WriteRecord)) (q : Queued WriteRecord) → has_mark xs ≡ false → has_mark (xs ++ q ∷ []) ≡ is_mark q.value
 no_mark-append [] q e = grind arith
 no_mark-append (x ∷ xs) q e = let n = no_mark-append xs q in grind arith
@@ -262,12 +258,8 @@ rest_queued : (queue : List (Queued WriteRecord)) → is_empty (rest_of queue) �
 rest_queued [] e = e
 rest_queued (q ∷ qs) e = refl
 
-or_right : (b : Bool) → b || true ≡ true
-or_right true = refl
-or_right false = refl
-
 queued_open : (c : Core) → is_empty c.queue ≡ false → is_open c ≡ true
-queued_open c e = rw e (or_right (not (has_ended c.state)))
+queued_open c e = rw e (or_true (not (has_ended c.state)))
 
 still_open : (ended empty after : Bool) → (after ≡ false → empty ≡ false) → not ended || not after ≡ true → not ended || not empty ≡ true
 still_open false empty after f e = refl

@@ -102,10 +102,6 @@ failed-shape k c s = grind arith
 pub failed-told : (h : Writes) (d : List Value) (c : Core) → Told h d c → Told h (todo c.queue ++ d) (failed c)
 failed-told h d c t = record { all = t.all; live = λ e. cc; counted = λ e. cc; whole = t.whole; fulfilled = t.fulfilled; closed = λ e. cc }
 
--- no request to close is left, and no close is in flight
-pub failed-closed : (k : ℕ) (c : Core) (requested closing : Bool) → Shape k c → (closing ≡ true → c.closing ≡ true) → Shape k (record (failed c) { requested = requested; closing = closing })
-failed-closed k c requested closing s e = grind (arith, s.flight, s.started)
-
 -- the stream starts to be erroring
 pub erroring-shape : (k : ℕ) (c : Core) → c.state ≡ Writable → Shape k c → Shape k (record c { state = Erroring })
 erroring-shape k c e s = grind arith

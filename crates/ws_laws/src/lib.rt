@@ -1,9 +1,9 @@
 //! Laws over every run of a realm: what went through its streams. Each law is the contract of a function with nothing to do, and is said of the definitions alone: of every list of calls and jobs, performed one after another from the empty realm, and of each stream.
 #![tactic(auto)]
 
-ghost use Rattle.ws_steps.specs.Laws.{ActedWasHeard, EachReadableIsLawful, EachReadableStep, EachThrowChangesNothing, EachWritableIsLawful, EachWritableStep, EnteredWasAccepted};
+ghost use Rattle.ws_steps.specs.Laws.{ActedWasHeard, ClosesWereHeard, EachReadableIsLawful, EachReadableStep, EachThrowChangesNothing, EachWritableIsLawful, EachWritableStep, EnteredWasAccepted};
 
-/// The order of readable streams. The values that were given to reads are the first part of those that the controller accepted; while the stream is readable, those that it accepted were given or stand in its queue, in this order; and where it closed without a cancel, all were given.
+/// The order of readable streams. The values that were given to reads are the first part of those that the controller accepted; while the stream is readable, those that it accepted were given or stand in its queue, in this order; and where it closed without a cancel, all were given. No more was given than reads were asked of it, less those that wait.
 pub fn each_readable_is_lawful()
     ensures { EachReadableIsLawful }
 {}
@@ -21,6 +21,11 @@ pub fn entered_was_accepted()
 /// What a writable stream acted on are the values of the events by which the host hears that its write algorithm is performed, in the order of these events.
 pub fn acted_was_heard()
     ensures { ActedWasHeard }
+{}
+
+/// The events by which the host hears that a writable stream's close algorithm is performed are as many as the performings of it: by the order of writable streams at most one.
+pub fn closes_were_heard()
+    ensures { ClosesWereHeard }
 {}
 
 /// One step of a readable stream. Where it is readable before, and after it is readable or closed without a cancel, what was queued and what entered is what was given and what is queued. In each step what was given is the first part of what was queued and what entered. Nothing enters a stream that isn't readable before, and it gives nothing.

@@ -8,7 +8,7 @@ use Rattle.ws_steps.specs.declared.calls.Call.{Call}
 use Rattle.ws_steps.specs.declared.calls.Call.TheVariants.{Cancel, CancelBy, Read, Write as WriteCall, Enqueue}
 use Rattle.ws_steps.specs.declared.calls.Event.{Event}
 use Rattle.ws_steps.specs.declared.calls.Event.TheVariants.{Host}
-use Rattle.ws_steps.specs.declared.calls.HostCall.TheVariants.{Write as HostWrite}
+use Rattle.ws_steps.specs.declared.calls.HostCall.TheVariants.{Write as HostWrite, Close as HostClose}
 use Rattle.ws_steps.specs.declared.calls.Reply.{Reply}
 use Rattle.ws_steps.specs.declared.calls.Reply.TheVariants.{Done}
 use Rattle.ws_steps.specs.declared.effects.Effect.{Effect}
@@ -39,19 +39,25 @@ is_same i j = nat_eq i.0 j.0
 -- readable streams
 
 -- what went through a readable stream: the values that ReadableStreamDefaultControllerEnqueue accepted, the values with which
--- chunk steps were performed, and whether a cancel closed the stream
+-- chunk steps were performed, whether a cancel closed the stream, and how many reads were asked of it while it was readable
 pub record Flow : Type 0 where
   pub entered : List Value
   pub given : List Value
   pub cancelled : Bool
+  pub asked : ℕ
 
 abbrev pub no_flow : Flow
-no_flow = record { entered = []; given = []; cancelled = false }
+no_flow = record { entered = []; given = []; cancelled = false; asked = 0 }
 
 -- first f, then g
 abbrev pub flow_then : Flow → Flow → Flow
 flow_then f g =
-    record { entered = f.entered ++ g.entered; given = f.given ++ g.given; cancelled = f.cancelled || g.cancelled }
+    record {
+      entered = f.entered ++ g.entered;
+      given = f.given ++ g.given;
+      cancelled = f.cancelled || g.cancelled;
+      asked = f.asked + g.asked;
+    }
 
 -- the values in a queue
 abbrev pub values : List (Queued Value) → List Value
@@ -67,7 +73,7 @@ given_to v (r ∷ rs) = v ∷ []
 abbrev pub enqueue_flow : Value → readable.Slots → Flow
 enqueue_flow v s =
     if readable.can_close_or_enqueue s
-    then record { entered = v ∷ []; given = given_to v (readable.waiting s); cancelled = false }
+    then record { entered = v ∷ []; given = given_to v (readable.waiting s); cancelled = false; asked = 0 }
     else no_flow
 
 -- the first chunk of a readable stream's queue, where there is one
@@ -79,11 +85,12 @@ first_given Errored queue = []
 
 -- ReadableStreamDefaultReaderRead
 abbrev pub read_flow : readable.Slots → Flow
-read_flow s = record { entered = []; given = first_given s.state s.queue; cancelled = false }
+read_flow s =
+    record { entered = []; given = first_given s.state s.queue; cancelled = false; asked = if readable.is_readable s.state then 1 else 0 }
 
 -- ReadableStreamCancel
 abbrev pub cancel_flow : readable.Slots → Flow
-cancel_flow s = record { entered = []; given = []; cancelled = readable.is_readable s.state }
+cancel_flow s = record { entered = []; given = []; cancelled = readable.is_readable s.state; asked = 0 }
 
 -- an operation on stream j, as stream i sees it
 abbrev pub flow_at : StreamId → StreamId → (readable.Slots → Flow) → Slots → Flow
@@ -246,3 +253,13 @@ heard_write i _ = []
 abbrev pub heard_writes : StreamId → List Event → List Value
 heard_writes i [] = []
 heard_writes i (e ∷ es) = heard_write i e ++ heard_writes i es
+
+-- whether an event calls the close algorithm of stream i
+abbrev pub heard_close : StreamId → Event → ℕ
+heard_close i (Host id (HostClose j)) = if is_same i j then 1 else 0
+heard_close i _ = 0
+
+-- how many such events there are
+abbrev pub heard_closes : StreamId → List Event → ℕ
+heard_closes i [] = 0
+heard_closes i (e ∷ es) = heard_close i e + heard_closes i es

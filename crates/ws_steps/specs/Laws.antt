@@ -1,5 +1,5 @@
 -- Laws over every run.
-use Rattle.std.specs.Prelude.{◌≡◌, ◌≤◌, ◌<◌, ◌≢◌, true, false, List, [], ◌++◌, length}
+use Rattle.std.specs.Prelude.{◌≡◌, ◌+◌, ◌≤◌, ◌<◌, ◌≢◌, true, false, List, [], ◌++◌, length}
 use Rattle.ws_value.specs.declared.ids.StreamId.{StreamId}
 use Rattle.ws_value.specs.declared.value.Value.{Value}
 use Rattle.ws_steps.specs.declared.calls.Call.{Call}
@@ -11,18 +11,20 @@ use Rattle.ws_steps.specs.Readable as readable
 use Rattle.ws_steps.specs.Writable as writable
 use Rattle.ws_steps.specs.Slots.{Slots, empty, readable_at, writable_at}
 use Rattle.ws_steps.specs.Run.{Entry, step, run, reply_to, after_call, older}
-use Rattle.ws_steps.specs.Histories.{Flow, Writes, values, todo, step_flow, run_flow, step_writes, run_writes, accepted, heard_writes}
+use Rattle.ws_steps.specs.Histories.{Flow, Writes, values, todo, step_flow, run_flow, step_writes, run_writes, accepted, heard_writes, heard_closes}
 
 -- a first part, which may be all
 abbrev pub IsPrefixOf : List Value → List Value → Type 0
 IsPrefixOf xs ys = (rest : List Value) × (xs ++ rest ≡ ys)
 
 -- The order of a readable stream. What was given is the first part of what entered. While the stream is readable, what entered was
--- given or is queued, in this order. Where the stream closed without a cancel, all that entered was given
+-- given or is queued, in this order. Where the stream closed without a cancel, all that entered was given. No more was given than
+-- reads were asked, less those that wait
 pub record IsLawfulReadable (h : Flow) (s : readable.Slots) : Type 0 where
   pub front : IsPrefixOf h.given h.entered
   pub readable : s.state ≡ Readable → h.entered ≡ h.given ++ values s.queue
   pub closed : h.cancelled ≡ false → s.state ≡ Closed → h.given ≡ h.entered
+  pub asked : length h.given + length s.requests ≤ h.asked
 
 -- The order of a writable stream. What was acted on is the first part of what was written. While the stream is writable or
 -- erroring, what was written was acted on or is queued, in this order. The close algorithm is performed at most once, and only
@@ -55,6 +57,11 @@ EnteredWasAccepted =
 abbrev pub ActedWasHeard : Type 0
 ActedWasHeard =
     (entries : List Entry) (i : StreamId) → (run_writes i entries empty).acted ≡ heard_writes i (run entries empty).events
+
+-- in every run, the events that call a writable stream's close algorithm are as many as the performings of it
+abbrev pub ClosesWereHeard : Type 0
+ClosesWereHeard =
+    (entries : List Entry) (i : StreamId) → (run_writes i entries empty).closes ≡ heard_closes i (run entries empty).events
 
 -- One step of a readable stream. Where it is readable before, and after it is readable or closed without a cancel, what was queued
 -- and what entered is what was given and what is queued. In each step what was given is the first part of what was queued and what
