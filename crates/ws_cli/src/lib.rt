@@ -8,3 +8,4 @@ mod turn;
 
 pub use command::{MAX_INPUT, top};
 pub use copy::run;
+pub use ws_script::{Line, ScriptRefused, print_step, read_script, run_script};
