@@ -66,7 +66,7 @@ state_while_pulling : reply_line 5 None (State (record { state = Readable; flags
 unfolding digits letter_where letters_of
 state_while_pulling = refl
 
-state_with_every_flag : reply_line 5 None (State (record { state = Erroring; flags = record { s = true; p = true; g = true; c = true; d = true; l = true; b = true; w = true; f = true; q = true; a = true }; total = 340282366920938463463374607431768211455; queue = 2; requests = 3 })) ≡ codes "5 state erroring spgcdlbwfqa total 340282366920938463463374607431768211455 queue 2 requests 3\n"
+state_with_every_flag : reply_line 5 None (State (record { state = Erroring; flags = record { s = true; p = true; g = true; c = true; d = true; l = true; b = true; w = true; f = true; q = true; a = true }; total = 340282366920938463463374607431768211455; queue = 2; requests = 3 })) ≡ codes "5 state erroring spgcdbwfqal total 340282366920938463463374607431768211455 queue 2 requests 3\n"
 unfolding digits letter_where letters_of
 state_with_every_flag = refl
 

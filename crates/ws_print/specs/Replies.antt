@@ -32,7 +32,7 @@ word_text Erroring = codes "erroring"
 unfoldable pub letter_where : Bool → List ℕ → List ℕ
 letter_where flag letter = if flag then letter else []
 
--- the letters of the flags that are true
+-- the letters of the flags that are true: first those of either side alone, and whether it is locked last
 unfoldable pub letters_of : Flags → List ℕ
 letters_of flags =
     letter_where flags.s (codes "s")
@@ -40,12 +40,12 @@ letters_of flags =
     ++ letter_where flags.g (codes "g")
     ++ letter_where flags.c (codes "c")
     ++ letter_where flags.d (codes "d")
-    ++ letter_where flags.l (codes "l")
     ++ letter_where flags.b (codes "b")
     ++ letter_where flags.w (codes "w")
     ++ letter_where flags.f (codes "f")
     ++ letter_where flags.q (codes "q")
     ++ letter_where flags.a (codes "a")
+    ++ letter_where flags.l (codes "l")
 
 -- letters, or `-` where there are none
 abbrev pub letters_or_dash : List ℕ → List ℕ

@@ -57,12 +57,12 @@ fn print_letters(out: &mut Vec<u8>, flags: &Flags) -> Result<(), NoMemory>
     print_letter(out, flags.g, b"g")?;
     print_letter(out, flags.c, b"c")?;
     print_letter(out, flags.d, b"d")?;
-    print_letter(out, flags.l, b"l")?;
     print_letter(out, flags.b, b"b")?;
     print_letter(out, flags.w, b"w")?;
     print_letter(out, flags.f, b"f")?;
     print_letter(out, flags.q, b"q")?;
-    print_letter(out, flags.a, b"a")
+    print_letter(out, flags.a, b"a")?;
+    print_letter(out, flags.l, b"l")
 }
 
 /// Appends flags.

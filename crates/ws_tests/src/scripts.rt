@@ -1,7 +1,7 @@
 //! Scripts with all that they print.
 
 /// Scripts and what they print, by the Streams Standard and ECMAScript's order of jobs.
-pub const WORKED: [(&str, &str); 8] = [
+pub const WORKED: [(&str, &str); 9] = [
     (READ_BEFORE_ENQUEUE, READ_BEFORE_ENQUEUE_PRINTS),
     (
         TWO_READS_ONE_FURTHER_PULL,
@@ -16,6 +16,7 @@ pub const WORKED: [(&str, &str); 8] = [
     ),
     (ABORT_DURING_A_CLOSE, ABORT_DURING_A_CLOSE_PRINTS),
     (CLOSE_WAITS_FOR_THE_ABORT, CLOSE_WAITS_FOR_THE_ABORT_PRINTS),
+    (FLAGS_OF_A_WRITABLE, FLAGS_OF_A_WRITABLE_PRINTS),
 ];
 
 /// The chunk goes to the request.
@@ -217,4 +218,27 @@ const CLOSE_WAITS_FOR_THE_ABORT_PRINTS: &str = "\
 7 done
   p2 fulfilled undefined
   p1 rejected e7
+";
+
+/// A look at a writable stream with a write in flight, a close requested and an abort pending, which is erroring.
+const FLAGS_OF_A_WRITABLE: &str = "\
+writable 1 count now
+writer s0
+write l0 n1
+state s0
+close l0
+abort l0 e1
+state s0
+";
+
+const FLAGS_OF_A_WRITABLE_PRINTS: &str = "\
+1 made s0
+2 lock l0
+3 promise p0
+  host h0 write s0 n1
+4 state writable sbwl total 1 queue 1 requests 0
+5 promise p1
+6 promise p2
+  signal s0 e1
+7 state erroring sbwqal total 1 queue 2 requests 0
 ";
