@@ -1,5 +1,5 @@
 -- From a stream at rest a read awaits the host's pull, and what the host answers is what the read's promise gets.
-use Rattle.std.proofs.Common.{◌≡◌, ◌≢◌, ℕ, ◌+◌, ◌<◌, suc, zero, Bool, true, false, List, [], ◌∷◌, ◌++◌, length, map, Option, Some, None, Result, refl, sym, ◌∙◌, ap, subst, arith, append-nil}
+use Rattle.std.proofs.Common.{◌≡◌, ◌≢◌, ℕ, ◌+◌, ◌<◌, suc, zero, Bool, true, false, List, [], ◌∷◌, ◌++◌, length, Option, Some, None, Result, refl, sym, ◌∙◌, ap, subst, arith}
 use Rattle.std.specs.Prelude.{Ok, Err, slice_get, slice_set}
 use Rattle.ws_value.specs.declared.ids.HostId.{HostId}
 use Rattle.ws_value.specs.declared.ids.PromiseId.{PromiseId}
@@ -13,7 +13,7 @@ use Rattle.ws_steps.specs.declared.calls.Call.{Call}
 use Rattle.ws_steps.specs.declared.calls.Call.TheVariants.{MakeReadable, Read, Enqueue, Finish, Fail, Settle}
 use Rattle.ws_steps.specs.declared.calls.Answer.TheVariants.{Ok as AnswerOk}
 use Rattle.ws_steps.specs.declared.calls.Event.{Event}
-use Rattle.ws_steps.specs.declared.calls.Event.TheVariants.{Host, Settled}
+use Rattle.ws_steps.specs.declared.calls.Event.TheVariants.{Host}
 use Rattle.ws_steps.specs.declared.calls.HostCall.{HostCall}
 use Rattle.ws_steps.specs.declared.calls.Reply.{Reply}
 use Rattle.ws_steps.specs.declared.calls.Reply.TheVariants.{Promise as PromiseReply}
@@ -39,7 +39,7 @@ use Rattle.ws_steps.specs.Turns.{row, turns, performed}
 use Rattle.ws_steps.specs.Calls.{begin}
 use Rattle.ws_steps.specs.Jobs.{perform_job}
 use Rattle.ws_steps.specs.Run.{after_call, after_job, reply_to, work}
-use Rattle.ws_steps.proofs.PromiseLaws.{entry_within, entry_at-with_entry_same, entry_at-with_entry_other, length-with_entry, entry_at-fresh_new, entry_at-fresh, length-fresh, jobs-fresh, settle-open, react-open}
+use Rattle.ws_steps.proofs.PromiseLaws.{entry_within, entry_at-with_entry_same, entry_at-with_entry_other, length-with_entry, entry_at-fresh_new, entry_at-fresh, length-fresh, settle-open, react-open}
 use Rattle.ws_cli.specs.Moments.{me, reader, resting, IsResting, awaiting, Awaits, HasEnded, answered, opened, forgotten}
 
 -- a realm whose one stream and its reader are so
@@ -48,8 +48,8 @@ state stream closed t hosts events age =
     record { streams = ReadableStream stream ∷ []; locks = ReaderLock (Some me) closed ∷ []; promises = t; hosts = hosts; events = events; age = age }
 
 -- a table without jobs, in which no settling is to be told
-quiet : List (Option Entry) → ℕ → Table
-quiet entries watched = record { entries = entries; jobs = []; watched = watched; settlements = [] }
+quiet : List (Option Entry) → ℕ → Bool → Table
+quiet entries watched astray = record { entries = entries; jobs = []; watched = watched; settlements = []; astray = astray }
 
 -- a read of a stream at rest
 
@@ -62,12 +62,12 @@ read_acts d c p t = refl
 reacting : Reaction
 reacting = Perform (ReadablePull me) None
 
-read_begun : (d : Bool) (c : PromiseId) (es : List (Option Entry)) (n : ℕ) (hosts : List (Option PromiseId)) (age : ℕ)
-    → performed (begin (Read reader) (state (resting d c) c (quiet es n) hosts [] age)).done
-    ≡ state (awaiting c (next_id (quiet es n))) c (react (next_id (fresh (quiet es n))) reacting (fresh (fresh (quiet es n))))
-    (hosts ++ Some (next_id (fresh (quiet es n))) ∷ []) (Host (record { 0 = length hosts }) (HostPull me) ∷ []) age
+read_begun : (d : Bool) (c : PromiseId) (es : List (Option Entry)) (n : ℕ) (b : Bool) (hosts : List (Option PromiseId)) (age : ℕ)
+    → performed (begin (Read reader) (state (resting d c) c (quiet es n b) hosts [] age)).done
+    ≡ state (awaiting c (next_id (quiet es n b))) c (react (next_id (fresh (quiet es n b))) reacting (fresh (fresh (quiet es n b))))
+    (hosts ++ Some (next_id (fresh (quiet es n b))) ∷ []) (Host (record { 0 = length hosts }) (HostPull me) ∷ []) age
 unfolding state quiet reacting begin default_reader_read pull_steps call_pull_if_needed fresh call_host row turns performed
-read_begun d c es n hosts age = refl
+read_begun d c es n b hosts age = refl
 
 -- a pending promise is watched
 watch-pending : (t : Table) (p : PromiseId) → entry_at t p ≡ Some pending
@@ -78,12 +78,12 @@ watch-pending t p h = rw h refl
 older_told : Slots → Slots
 older_told s = record (told s) { age = s.age + 1 }
 
-read_named : (d : Bool) (c : PromiseId) (es : List (Option Entry)) (n : ℕ) (hosts : List (Option PromiseId)) (age : ℕ) (t : Table)
-    → watch (next_id (quiet es n)) (react (next_id (fresh (quiet es n))) reacting (fresh (fresh (quiet es n)))) ≡ t
-    → after_call (Read reader) (state (resting d c) c (quiet es n) hosts [] age)
-    ≡ older_told (state (awaiting c (next_id (quiet es n))) c t (hosts ++ Some (next_id (fresh (quiet es n))) ∷ []) (Host (record { 0 = length hosts }) (HostPull me) ∷ []) age)
+read_named : (d : Bool) (c : PromiseId) (es : List (Option Entry)) (n : ℕ) (b : Bool) (hosts : List (Option PromiseId)) (age : ℕ) (t : Table)
+    → watch (next_id (quiet es n b)) (react (next_id (fresh (quiet es n b))) reacting (fresh (fresh (quiet es n b)))) ≡ t
+    → after_call (Read reader) (state (resting d c) c (quiet es n b) hosts [] age)
+    ≡ older_told (state (awaiting c (next_id (quiet es n b))) c t (hosts ++ Some (next_id (fresh (quiet es n b))) ∷ []) (Host (record { 0 = length hosts }) (HostPull me) ∷ []) age)
 unfolding state quiet reacting begin default_reader_read pull_steps call_pull_if_needed fresh call_host row turns performed older_told
-read_named d c es n hosts age t h =
+read_named d c es n b hosts age t h =
     ap (λ (t : Table). record (told (record {
       streams = ReadableStream (awaiting c (record { 0 = length es })) ∷ [];
       locks = ReaderLock (Some me) c ∷ [];
@@ -94,16 +94,16 @@ read_named d c es n hosts age t h =
     })) { age = age + 1 }) h
 
 -- the promises of a read and of the pull that it causes are new
-asked : List (Option Entry) → ℕ → Table
-asked es n =
-    let t = quiet es n in
+asked : List (Option Entry) → ℕ → Bool → Table
+asked es n b =
+    let t = quiet es n b in
     record (with_entry (next_id t) (Some (record pending { rank = Some n })) (with_entry (next_id (fresh t)) (Some (record pending { reactions = reacting ∷ [] })) (fresh (fresh t)))) { watched = n + 1 }
 
-asked-is : (es : List (Option Entry)) (n : ℕ)
-    → watch (next_id (quiet es n)) (react (next_id (fresh (quiet es n))) reacting (fresh (fresh (quiet es n)))) ≡ asked es n
+asked-is : (es : List (Option Entry)) (n : ℕ) (b : Bool)
+    → watch (next_id (quiet es n b)) (react (next_id (fresh (quiet es n b))) reacting (fresh (fresh (quiet es n b)))) ≡ asked es n b
 unfolding asked fresh quiet
-asked-is es n =
-    let t = quiet es n in
+asked-is es n b =
+    let t = quiet es n b in
     let p : PromiseId = next_id t in
     let q : PromiseId = next_id (fresh t) in
     let more : length (fresh t).entries ≡ length t.entries + 1 = length-fresh t in
@@ -113,16 +113,16 @@ asked-is es n =
     entry_at-with_entry_other (fresh (fresh t)) q p y (omega arith) ∙ (entry_at-fresh (fresh t) p (omega arith) ∙ entry_at-fresh_new t p refl) in
     rw (react-open q reacting (fresh (fresh t)) [] new) (watch-pending (with_entry q y (fresh (fresh t))) p first)
 
-read-is : (d : Bool) (c : PromiseId) (es : List (Option Entry)) (n : ℕ) (hosts : List (Option PromiseId)) (age : ℕ)
-    → after_call (Read reader) (state (resting d c) c (quiet es n) hosts [] age)
-    ≡ state (awaiting c (next_id (quiet es n))) c (asked es n) (hosts ++ Some (next_id (fresh (quiet es n))) ∷ []) (Host (record { 0 = length hosts }) (HostPull me) ∷ []) (age + 1)
+read-is : (d : Bool) (c : PromiseId) (es : List (Option Entry)) (n : ℕ) (b : Bool) (hosts : List (Option PromiseId)) (age : ℕ)
+    → after_call (Read reader) (state (resting d c) c (quiet es n b) hosts [] age)
+    ≡ state (awaiting c (next_id (quiet es n b))) c (asked es n b) (hosts ++ Some (next_id (fresh (quiet es n b))) ∷ []) (Host (record { 0 = length hosts }) (HostPull me) ∷ []) (age + 1)
 unfolding state asked quiet fresh older_told
-read-is d c es n hosts age = read_named d c es n hosts age (asked es n) (asked-is es n)
+read-is d c es n b hosts age = read_named d c es n b hosts age (asked es n b) (asked-is es n b)
 
 -- slots of which the parts are so
 as_state : (s : Slots) (stream : Readable) (closed : PromiseId) → s.streams ≡ ReadableStream stream ∷ [] → s.locks ≡ ReaderLock (Some me) closed ∷ []
     → s.promises.jobs ≡ [] → s.promises.settlements ≡ [] → s.events ≡ []
-    → s ≡ state stream closed (quiet s.promises.entries s.promises.watched) s.hosts [] s.age
+    → s ≡ state stream closed (quiet s.promises.entries s.promises.watched s.promises.astray) s.hosts [] s.age
 unfolding state quiet
 as_state s stream closed streams locks jobs told heard =
     ap (λ (x : List Stream). record s { streams = x }) streams
@@ -141,13 +141,14 @@ unfolding state asked quiet fresh reacting
 read-awaits s z h is =
     let es = s.promises.entries in
     let n = s.promises.watched in
-    let t : Table = quiet es n in
+    let b = s.promises.astray in
+    let t : Table = quiet es n b in
     let p : PromiseId = next_id t in
     let q : PromiseId = next_id (fresh t) in
     let c : PromiseId = h.closed in
     let at = as_state s (resting h.disturbed c) c h.streams h.locks h.jobs h.told h.heard in
-    let done : z ≡ state (awaiting c p) c (asked es n) (s.hosts ++ Some q ∷ []) [] (s.age + 1) =
-    is ∙ ap (λ (x : Slots). record x { events = [] }) (ap (after_call (Read reader)) at ∙ read-is h.disturbed c es n s.hosts s.age) in
+    let done : z ≡ state (awaiting c p) c (asked es n b) (s.hosts ++ Some q ∷ []) [] (s.age + 1) =
+    is ∙ ap (λ (x : Slots). record x { events = [] }) (ap (after_call (Read reader)) at ∙ read-is h.disturbed c es n b s.hosts s.age) in
     let within : c.0 < length es = entry_within t c pending h.reader in
     let more : length (fresh t).entries ≡ length es + 1 = length-fresh t in
     let most : length (fresh (fresh t)).entries ≡ length (fresh t).entries + 1 = length-fresh (fresh t) in
@@ -179,7 +180,7 @@ unfolding state
 read-tells s h =
     ap (λ (x : Slots). x.events)
     (ap (after_call (Read reader)) (as_state s (resting h.disturbed h.closed) h.closed h.streams h.locks h.jobs h.told h.heard)
-    ∙ read-is h.disturbed h.closed s.promises.entries s.promises.watched s.hosts s.age)
+    ∙ read-is h.disturbed h.closed s.promises.entries s.promises.watched s.promises.astray s.hosts s.age)
 
 -- the host answers
 
@@ -196,10 +197,10 @@ settle-watched : (t : Table) (p : PromiseId) (outcome : Result Plain Plain) (ran
 unfolding settle watched
 settle-watched t p outcome rank none h = rw (h, none) refl
 
-settle-alone : (es : List (Option Entry)) (n : ℕ) (c : PromiseId) (outcome : Result Plain Plain) → entry_at (quiet es n) c ≡ Some pending
-    → settle c outcome (quiet es n) ≡ quiet (slice_set es c.0 (Some (ended (settled outcome)))) n
+settle-alone : (es : List (Option Entry)) (n : ℕ) (b : Bool) (c : PromiseId) (outcome : Result Plain Plain) → entry_at (quiet es n b) c ≡ Some pending
+    → settle c outcome (quiet es n b) ≡ quiet (slice_set es c.0 (Some (ended (settled outcome)))) n b
 unfolding quiet
-settle-alone es n c outcome h = settle-open c outcome (quiet es n) [] h
+settle-alone es n b c outcome h = settle-open c outcome (quiet es n b) [] h
 
 -- the stream once it gave its chunk, was closed, or errored, while its pull is under way
 given_slots : PromiseId → Readable
@@ -249,16 +250,16 @@ work-idle (suc n) s h = rw h refl
 record Pulls (r r' : Readable) : Type 0 where
   pub steps : (t : Table) → pull_settled me (Ok Undefined) (record { slots = r; out = record { promises = t; effects = [] } }) ≡ record { slots = r'; out = record { promises = t; effects = [] } }
 
-pulled_job : (r r' : Readable) (c : PromiseId) (es : List (Option Entry)) (n : ℕ) (hosts : List (Option PromiseId)) (age : ℕ) → Pulls r r'
-    → after_job (state r c (record (quiet es n) { jobs = pulled ∷ [] }) hosts [] age) ≡ state r' c (quiet es n) hosts [] (age + 1)
+pulled_job : (r r' : Readable) (c : PromiseId) (es : List (Option Entry)) (n : ℕ) (b : Bool) (hosts : List (Option PromiseId)) (age : ℕ) → Pulls r r'
+    → after_job (state r c (record (quiet es n b) { jobs = pulled ∷ [] }) hosts [] age) ≡ state r' c (quiet es n b) hosts [] (age + 1)
 unfolding state quiet pulled after_next_job perform_job turns performed
-pulled_job r r' c es n hosts age h = rw (h.steps (record { entries = es; jobs = []; watched = n; settlements = [] })) refl
+pulled_job r r' c es n b hosts age h = rw (h.steps (record { entries = es; jobs = []; watched = n; settlements = []; astray = b })) refl
 
-pulled_work : (m : ℕ) (r r' : Readable) (c : PromiseId) (es : List (Option Entry)) (n : ℕ) (hosts : List (Option PromiseId)) (age : ℕ) → Pulls r r'
-    → work (suc m) (state r c (record (quiet es n) { jobs = pulled ∷ [] }) hosts [] age) ≡ state r' c (quiet es n) hosts [] (age + 1)
+pulled_work : (m : ℕ) (r r' : Readable) (c : PromiseId) (es : List (Option Entry)) (n : ℕ) (b : Bool) (hosts : List (Option PromiseId)) (age : ℕ) → Pulls r r'
+    → work (suc m) (state r c (record (quiet es n b) { jobs = pulled ∷ [] }) hosts [] age) ≡ state r' c (quiet es n b) hosts [] (age + 1)
 unfolding state quiet pulled
-pulled_work m r r' c es n hosts age h =
-    ap (work m) (pulled_job r r' c es n hosts age h) ∙ work-idle m (state r' c (quiet es n) hosts [] (age + 1)) refl
+pulled_work m r r' c es n b hosts age h =
+    ap (work m) (pulled_job r r' c es n b hosts age h) ∙ work-idle m (state r' c (quiet es n b) hosts [] (age + 1)) refl
 
 given_pulls : (c : PromiseId) → Pulls (given_slots c) (resting true c)
 unfolding given_slots pull_settled
@@ -273,20 +274,20 @@ unfolding errored_slots pull_settled
 errored_pulls e c p = record { steps = λ t. refl }
 
 -- the answer to a pull: the read's promise has settled by the call, and the pull's by the settling
-answered-is : (m : ℕ) (call : Call) (s : Slots) (c p q : PromiseId) (es es' : List (Option Entry)) (n : ℕ) (hosts : List (Option PromiseId)) (age : ℕ) (h : HostId) (r r' : Readable)
-    → s ≡ state (awaiting c p) c (quiet es n) hosts [] age
-    → after_call call (state (awaiting c p) c (quiet es n) hosts [] age) ≡ older_told (state r c (record (quiet es' n) { settlements = p ∷ [] }) hosts [] age)
-    → pending_host (slice_get hosts h.0) ≡ Some q → entry_at (quiet es' n) q ≡ Some (record pending { reactions = reacting ∷ [] }) → Pulls r r'
-    → answered (suc m) call h s ≡ state r' c (quiet (slice_set es' q.0 (Some (ended (Fulfilled Undefined)))) n) (slice_set hosts h.0 None) [] (age + 1 + 1 + 1)
+answered-is : (m : ℕ) (call : Call) (s : Slots) (c p q : PromiseId) (es es' : List (Option Entry)) (n : ℕ) (b : Bool) (hosts : List (Option PromiseId)) (age : ℕ) (h : HostId) (r r' : Readable)
+    → s ≡ state (awaiting c p) c (quiet es n b) hosts [] age
+    → after_call call (state (awaiting c p) c (quiet es n b) hosts [] age) ≡ older_told (state r c (record (quiet es' n b) { settlements = p ∷ [] }) hosts [] age)
+    → pending_host (slice_get hosts h.0) ≡ Some q → entry_at (quiet es' n b) q ≡ Some (record pending { reactions = reacting ∷ [] }) → Pulls r r'
+    → answered (suc m) call h s ≡ state r' c (quiet (slice_set es' q.0 (Some (ended (Fulfilled Undefined)))) n b) (slice_set hosts h.0 None) [] (age + 1 + 1 + 1)
 unfolding answered older_told state quiet reacting pulled
-answered-is m call s c p q es es' n hosts age h r r' at told under_way host pulls =
+answered-is m call s c p q es es' n b hosts age h r r' at told under_way host pulls =
     let ended_q : List (Option Entry) = slice_set es' q.0 (Some (ended (Fulfilled Undefined))) in
-    let first : record (after_call call s) { events = [] } ≡ state r c (quiet es' n) hosts [] (age + 1) =
+    let first : record (after_call call s) { events = [] } ≡ state r c (quiet es' n b) hosts [] (age + 1) =
     ap (λ (x : Slots). record x { events = [] }) (ap (after_call call) at ∙ told) in
-    let second : after_call (Settle h AnswerOk) (state r c (quiet es' n) hosts [] (age + 1)) ≡ state r c (record (quiet ended_q n) { jobs = pulled ∷ [] }) (slice_set hosts h.0 None) [] (age + 1 + 1) =
-    settle_told r c q h (quiet es' n) (record (quiet ended_q n) { jobs = pulled ∷ [] }) hosts (age + 1) under_way (settle-open q (Ok Undefined) (quiet es' n) (reacting ∷ []) host) in
+    let second : after_call (Settle h AnswerOk) (state r c (quiet es' n b) hosts [] (age + 1)) ≡ state r c (record (quiet ended_q n b) { jobs = pulled ∷ [] }) (slice_set hosts h.0 None) [] (age + 1 + 1) =
+    settle_told r c q h (quiet es' n b) (record (quiet ended_q n b) { jobs = pulled ∷ [] }) hosts (age + 1) under_way (settle-open q (Ok Undefined) (quiet es' n b) (reacting ∷ []) host) in
     ap (λ (x : Slots). work (suc m) (after_call (Settle h AnswerOk) x)) first
-    ∙ (ap (work (suc m)) second ∙ pulled_work m r r' c ended_q n (slice_set hosts h.0 None) (age + 1 + 1) pulls)
+    ∙ (ap (work (suc m)) second ∙ pulled_work m r r' c ended_q n b (slice_set hosts h.0 None) (age + 1 + 1) pulls)
 
 -- a chunk is enqueued for the read that waits: the read gets it, and the stream rests
 pub enqueue-rests : (m : ℕ) (v : Value) (s : Slots) (p : PromiseId) (h : HostId) → Awaits s p h
@@ -295,7 +296,8 @@ unfolding state quiet watched reacting
 enqueue-rests m v s p h a =
     let es = s.promises.entries in
     let n = s.promises.watched in
-    let t : Table = quiet es n in
+    let b = s.promises.astray in
+    let t : Table = quiet es n b in
     let c : PromiseId = a.closed in
     let q : PromiseId = a.pull in
     let before = a.before in
@@ -307,7 +309,7 @@ enqueue-rests m v s p h a =
     let t₁ : Table = with_entry p x t in
     let same : length t₁.entries ≡ length es = length-with_entry t p x in
     let host : entry_at t₁ q ≡ Some (record pending { reactions = reacting ∷ [] }) = entry_at-with_entry_other t p q x (omega arith) ∙ a.host in
-    rw (answered-is m (Enqueue me v) s c p q es t₁.entries n s.hosts s.age h (given_slots c) (resting true c)
+    rw (answered-is m (Enqueue me v) s c p q es t₁.entries n b s.hosts s.age h (given_slots c) (resting true c)
     (as_state s (awaiting c p) c a.streams a.locks a.jobs a.told a.heard)
     (enqueue_told c p s.hosts s.age v t (record t₁ { settlements = p ∷ [] }) (answer-watched t p (Given v) a.rank a.asked))
     a.under_way host (given_pulls c)) (
@@ -326,15 +328,16 @@ enqueue-rests m v s p h a =
 
 -- the reader's closed promise settled first, then the read's promise, and then the pull was answered
 ended_last : (m : ℕ) (call : Call) (s : Slots) (p : PromiseId) (h : HostId) (a : Awaits s p h) (r r' : Readable) (closed : Result Plain Plain) (outcome : Outcome)
-    → after_call call (state (awaiting a.closed p) a.closed (quiet s.promises.entries s.promises.watched) s.hosts [] s.age)
-    ≡ older_told (state r a.closed (record (with_entry p (Some (ended_as outcome (watched a.rank))) (quiet (slice_set s.promises.entries a.closed.0 (Some (ended (settled closed)))) s.promises.watched)) { settlements = p ∷ [] }) s.hosts [] s.age)
+    → after_call call (state (awaiting a.closed p) a.closed (quiet s.promises.entries s.promises.watched s.promises.astray) s.hosts [] s.age)
+    ≡ older_told (state r a.closed (record (with_entry p (Some (ended_as outcome (watched a.rank))) (quiet (slice_set s.promises.entries a.closed.0 (Some (ended (settled closed)))) s.promises.watched s.promises.astray)) { settlements = p ∷ [] }) s.hosts [] s.age)
     → Pulls r r'
     → HasEnded (answered (suc m) call h s) p outcome
 unfolding state quiet watched reacting
 ended_last m call s p h a r r' closed outcome told pulls =
     let es = s.promises.entries in
     let n = s.promises.watched in
-    let t : Table = quiet es n in
+    let b = s.promises.astray in
+    let t : Table = quiet es n b in
     let c : PromiseId = a.closed in
     let q : PromiseId = a.pull in
     let before = a.before in
@@ -349,15 +352,15 @@ ended_last m call s p h a r r' closed outcome told pulls =
     let same₂ : length t₂.entries ≡ length t₁.entries = length-with_entry t₁ p x in
     let host : entry_at t₂ q ≡ Some (record pending { reactions = reacting ∷ [] }) =
     entry_at-with_entry_other t₁ p q x (omega arith) ∙ (entry_at-with_entry_other t c q z (omega arith) ∙ a.host) in
-    rw (answered-is m call s c p q es t₂.entries n s.hosts s.age h r r' (as_state s (awaiting c p) c a.streams a.locks a.jobs a.told a.heard) told a.under_way host pulls)
+    rw (answered-is m call s c p q es t₂.entries n b s.hosts s.age h r r' (as_state s (awaiting c p) c a.streams a.locks a.jobs a.told a.heard) told a.under_way host pulls)
     (record { rank = a.rank; entry = entry_at-with_entry_other t₂ q p y (omega arith) ∙ entry_at-with_entry_same t₁ p x (omega arith) })
 
 asked_still : (s : Slots) (p : PromiseId) (h : HostId) (a : Awaits s p h) (closed : Result Plain Plain)
-    → entry_at (quiet (slice_set s.promises.entries a.closed.0 (Some (ended (settled closed)))) s.promises.watched) p ≡ Some (record pending { rank = Some a.rank })
+    → entry_at (quiet (slice_set s.promises.entries a.closed.0 (Some (ended (settled closed)))) s.promises.watched s.promises.astray) p ≡ Some (record pending { rank = Some a.rank })
 unfolding quiet
 asked_still s p h a closed =
     let before = a.before in
-    entry_at-with_entry_other (quiet s.promises.entries s.promises.watched) a.closed p (Some (ended (settled closed))) (omega arith) ∙ a.asked
+    entry_at-with_entry_other (quiet s.promises.entries s.promises.watched s.promises.astray) a.closed p (Some (ended (settled closed))) (omega arith) ∙ a.asked
 
 -- the stream is closed while a read waits: the read is done
 pub finish-finishes : (m : ℕ) (s : Slots) (p : PromiseId) (h : HostId) → Awaits s p h → HasEnded (answered (suc m) (Finish me) h s) p (Finished (PlainValue Undefined))
@@ -365,11 +368,12 @@ unfolding quiet
 finish-finishes m s p h a =
     let es = s.promises.entries in
     let n = s.promises.watched in
+    let b = s.promises.astray in
     let c : PromiseId = a.closed in
-    let t₁ : Table = quiet (slice_set es c.0 (Some (ended (Fulfilled Undefined)))) n in
+    let t₁ : Table = quiet (slice_set es c.0 (Some (ended (Fulfilled Undefined)))) n b in
     ended_last m (Finish me) s p h a (closed_slots c p) _ (Ok Undefined) (Finished (PlainValue Undefined))
-    (finish_told c p s.hosts s.age (quiet es n) _
-    (ap (answer p (Finished (PlainValue Undefined))) (settle-alone es n c (Ok Undefined) a.reader)
+    (finish_told c p s.hosts s.age (quiet es n b) _
+    (ap (answer p (Finished (PlainValue Undefined))) (settle-alone es n b c (Ok Undefined) a.reader)
     ∙ answer-watched t₁ p (Finished (PlainValue Undefined)) a.rank (asked_still s p h a (Ok Undefined))))
     (closed_pulls c p)
 
@@ -379,11 +383,12 @@ unfolding quiet
 fail-rejects m e s p h a =
     let es = s.promises.entries in
     let n = s.promises.watched in
+    let b = s.promises.astray in
     let c : PromiseId = a.closed in
-    let t₁ : Table = quiet (slice_set es c.0 (Some (ended (Rejected e)))) n in
+    let t₁ : Table = quiet (slice_set es c.0 (Some (ended (Rejected e)))) n b in
     ended_last m (Fail me e) s p h a (errored_slots e c p) _ (Err e) (Rejected e)
-    (fail_told c p s.hosts s.age e (quiet es n) _
-    (ap (settle p (Err e)) (settle-alone es n c (Err e) a.reader)
+    (fail_told c p s.hosts s.age e (quiet es n b) _
+    (ap (settle p (Err e)) (settle-alone es n b c (Err e) a.reader)
     ∙ settle-watched t₁ p (Err e) a.rank refl (asked_still s p h a (Err e))))
     (errored_pulls e c p)
 
@@ -395,7 +400,7 @@ just_made =
     record {
       streams = ReadableStream initialized ∷ [];
       locks = [];
-      promises = record { entries = Some (ended (Fulfilled Undefined)) ∷ []; jobs = ReactionJob (ReadableStart me) (Ok Undefined) None ∷ []; watched = 0; settlements = [] };
+      promises = record { entries = Some (ended (Fulfilled Undefined)) ∷ []; jobs = ReactionJob (ReadableStart me) (Ok Undefined) None ∷ []; watched = 0; settlements = []; astray = false };
       hosts = [];
       events = [];
       age = 1;
@@ -406,7 +411,7 @@ just_started =
     record {
       streams = ReadableStream (record initialized { started = true }) ∷ [];
       locks = [];
-      promises = record { entries = Some (ended (Fulfilled Undefined)) ∷ []; jobs = []; watched = 0; settlements = [] };
+      promises = record { entries = Some (ended (Fulfilled Undefined)) ∷ []; jobs = []; watched = 0; settlements = []; astray = false };
       hosts = [];
       events = [];
       age = 2;

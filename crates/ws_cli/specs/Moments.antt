@@ -1,6 +1,6 @@
 -- The moments between which the copying of bytes goes, as slots of a realm: its one stream rests, and a read waits for the
 -- host's pull.
-use Rattle.std.specs.Prelude.{◌≡◌, ◌<◌, ℕ, Bool, true, List, [], ◌∷◌, Option, Some, None}
+use Rattle.std.specs.Prelude.{◌≡◌, ◌<◌, ℕ, Bool, true, [], ◌∷◌, Some, None}
 use Rattle.ws_value.specs.declared.ids.HostId.{HostId}
 use Rattle.ws_value.specs.declared.ids.LockId.{LockId}
 use Rattle.ws_value.specs.declared.ids.PromiseId.{PromiseId}

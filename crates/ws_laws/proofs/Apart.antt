@@ -1,16 +1,15 @@
 -- What an operation leaves of the effects of other streams, and of what is outstanding.
-use Rattle.std.proofs.Common.{◌≡◌, ℕ, ◌+◌, ◌≤◌, false, List, [], ◌∷◌, ◌++◌, if◌then◌else◌, refl, sym, ap, ◌∙◌, arith, append_assoc, append-nil}
+use Rattle.std.proofs.Common.{◌≡◌, ℕ, ◌+◌, false, List, [], ◌∷◌, ◌++◌, if◌then◌else◌, refl, sym, ap, ◌∙◌, arith, append_assoc, append-nil}
 use Rattle.ws_value.specs.declared.ids.PromiseId.{PromiseId}
 use Rattle.ws_value.specs.declared.ids.StreamId.{StreamId}
 use Rattle.ws_value.specs.declared.value.Plain.{Plain}
 use Rattle.ws_value.specs.declared.value.Value.{Value}
 use Rattle.ws_steps.specs.declared.effects.Effect.{Effect}
 use Rattle.ws_steps.specs.declared.effects.Effect.TheVariants.{Write, Close, Abort}
-use Rattle.ws_steps.specs.declared.promises.Step.{Step}
 use Rattle.ws_steps.specs.Promises.{Table}
 use Rattle.ws_steps.specs.Effects.{Out, cause}
 use Rattle.ws_steps.specs.Histories.{is_same, acted_by, acted_in, closes_by, closes_in}
-use Rattle.ws_laws.proofs.Outstanding.{weight}
+use Rattle.ws_laws.proofs.Later.{Later, later-same, later-then}
 
 -- whether an effect performs the abort algorithm of stream i
 abbrev pub aborts_by : StreamId → Effect → ℕ
@@ -26,21 +25,21 @@ pub record Apart (i : StreamId) (x y : Out) : Type 0 where
   pub acted : acted_in i y.effects ≡ acted_in i x.effects
   pub closes : closes_in i y.effects ≡ closes_in i x.effects
   pub aborts : aborts_in i y.effects ≡ aborts_in i x.effects
-  pub weight : (f : Step → ℕ) → weight f y.promises ≤ weight f x.promises
+  pub later : Later x.promises y.promises
 
 pub apart-same : (i : StreamId) (x : Out) → Apart i x x
-apart-same i x = record { acted = refl; closes = refl; aborts = refl; weight = λ f. omega arith }
+apart-same i x = record { acted = refl; closes = refl; aborts = refl; later = later-same x.promises }
 
 pub apart-then : (i : StreamId) (x y z : Out) → Apart i x y → Apart i y z → Apart i x z
 apart-then i x y z a b = record {
   acted = b.acted ∙ a.acted;
   closes = b.closes ∙ a.closes;
   aborts = b.aborts ∙ a.aborts;
-  weight = λ f. let m = a.weight f in let n = b.weight f in omega arith;
+  later = later-then x.promises y.promises z.promises a.later b.later;
 }
 
-pub apart-promises : (i : StreamId) (x : Out) (t : Table) → ((f : Step → ℕ) → weight f t ≤ weight f x.promises) → Apart i x (record x { promises = t })
-apart-promises i x t w = record { acted = refl; closes = refl; aborts = refl; weight = w }
+pub apart-promises : (i : StreamId) (x : Out) (t : Table) → Later x.promises t → Apart i x (record x { promises = t })
+apart-promises i x t w = record { acted = refl; closes = refl; aborts = refl; later = w }
 
 pub acted_in-append : (i : StreamId) (xs ys : List Effect) → acted_in i (xs ++ ys) ≡ acted_in i xs ++ acted_in i ys
 acted_in-append i [] ys = refl
@@ -68,7 +67,7 @@ apart-cause i e x a c b = record {
   acted = acted-cause i e x ∙ (rw a (append-nil (acted_in i x.effects)));
   closes = let n = closes-cause i e x in omega arith;
   aborts = let n = aborts-cause i e x in omega arith;
-  weight = λ f. omega arith;
+  later = later-same x.promises;
 }
 
 -- effects of another writable stream

@@ -1,5 +1,5 @@
 -- The operations of readable streams cause no effect of a writable stream, and make no more outstanding.
-use Rattle.std.proofs.Common.{ℕ, ◌≤◌, Bool, true, false, if◌then◌else◌, ◌&&◌, List, [], ◌∷◌, ◌++◌, Option, Some, None, Result, Ok, Err, refl}
+use Rattle.std.proofs.Common.{ℕ, Bool, true, false, if◌then◌else◌, ◌&&◌, List, [], ◌∷◌, ◌++◌, Option, Some, None, Result, Ok, Err, refl}
 use Rattle.ws_value.specs.declared.ids.PromiseId.{PromiseId}
 use Rattle.ws_value.specs.declared.ids.StreamId.{StreamId}
 use Rattle.ws_value.specs.declared.value.Outcome.TheVariants.{Given, Finished}
@@ -9,7 +9,6 @@ use Rattle.ws_value.specs.declared.value.Value.{Value}
 use Rattle.ws_value.specs.declared.value.Value.TheVariants.{Plain as PlainValue}
 use Rattle.ws_steps.specs.declared.calls.StartBy.{StartBy}
 use Rattle.ws_steps.specs.declared.effects.Effect.TheVariants.{Start, Pull, Cancel}
-use Rattle.ws_steps.specs.declared.promises.Step.{Step}
 use Rattle.ws_steps.specs.declared.queue.Queued.{Queued}
 use Rattle.ws_steps.specs.declared.readable.ReadRequest.{ReadRequest}
 use Rattle.ws_steps.specs.declared.readable.ReadRequest.TheVariants.{Promise}
@@ -21,20 +20,20 @@ use Rattle.ws_steps.specs.Queues.{is_empty}
 use Rattle.ws_steps.specs.Effects.{Out, cause}
 use Rattle.ws_steps.specs.Readable.{Acts, is_readable, waiting, can_close_or_enqueue, should_call_pull, chunk_steps, close_steps, error_steps, close_all, error_all, call_pull, call_pull_if_needed, accept_for, accept, controller_enqueue, close_reader, stream_close, error_reader, stream_error, close_if_empty, controller_close, controller_error, after_take, pull_from, pull_steps, read_by, default_reader_read, closed_promise, reader_generic_initialize, start_settled, pull_ended, pull_settled, cancel_steps, cancel_by, stream_cancel, type_error, release_closed, release_by, reader_release, set_up}
 use Rattle.ws_laws.proofs.Tables.{either}
-use Rattle.ws_laws.proofs.Outstanding.{weight, weight-fresh, weight-settle, weight-fresh_settled, weight-answer}
+use Rattle.ws_laws.proofs.Later.{Later, later-fresh, later-settle, later-fresh_settled, later-answer}
 use Rattle.ws_laws.proofs.Apart.{Apart, apart-same, apart-then, apart-promises, apart-cause}
 
 chunk_steps-apart : (i : StreamId) (v : Value) (r : ReadRequest) (x : Out) → Apart i x (chunk_steps v r x)
 unfolding chunk_steps
-chunk_steps-apart i v (Promise p) x = apart-promises i x (answer p (Given v) x.promises) (λ f. weight-answer f p (Given v) x.promises)
+chunk_steps-apart i v (Promise p) x = apart-promises i x (answer p (Given v) x.promises) (later-answer p (Given v) x.promises)
 
 close_steps-apart : (i : StreamId) (r : ReadRequest) (x : Out) → Apart i x (close_steps r x)
 unfolding close_steps
-close_steps-apart i (Promise p) x = apart-promises i x (answer p (Finished (PlainValue Undefined)) x.promises) (λ f. weight-answer f p (Finished (PlainValue Undefined)) x.promises)
+close_steps-apart i (Promise p) x = apart-promises i x (answer p (Finished (PlainValue Undefined)) x.promises) (later-answer p (Finished (PlainValue Undefined)) x.promises)
 
 error_steps-apart : (i : StreamId) (e : Plain) (r : ReadRequest) (x : Out) → Apart i x (error_steps e r x)
 unfolding error_steps
-error_steps-apart i e (Promise p) x = apart-promises i x (settle p (Err e) x.promises) (λ f. weight-settle f p (Err e) x.promises)
+error_steps-apart i e (Promise p) x = apart-promises i x (settle p (Err e) x.promises) (later-settle p (Err e) x.promises)
 
 close_all-apart : (i : StreamId) (rs : List ReadRequest) (x : Out) → Apart i x (close_all rs x)
 close_all-apart i [] x = apart-same i x
@@ -67,7 +66,7 @@ close_reader-apart : (i : StreamId) (a : Acts) (reader : Option PromiseId) → A
 close_reader-apart i a None = apart-same i a.out
 close_reader-apart i a (Some closed) =
     let x : Out = record a.out { promises = settle closed (Ok Undefined) a.out.promises } in
-    apart-then i a.out x (close_all a.slots.requests x) (apart-promises i a.out x.promises (λ f. weight-settle f closed (Ok Undefined) a.out.promises)) (close_all-apart i a.slots.requests x)
+    apart-then i a.out x (close_all a.slots.requests x) (apart-promises i a.out x.promises (later-settle closed (Ok Undefined) a.out.promises)) (close_all-apart i a.slots.requests x)
 
 stream_close-apart : (i : StreamId) (a : Acts) → Apart i a.out (stream_close a).out
 unfolding stream_close
@@ -77,7 +76,7 @@ error_reader-apart : (i : StreamId) (e : Plain) (a : Acts) (reader : Option Prom
 error_reader-apart i e a None = apart-same i a.out
 error_reader-apart i e a (Some closed) =
     let x : Out = record a.out { promises = settle closed (Err e) a.out.promises } in
-    apart-then i a.out x (error_all e a.slots.requests x) (apart-promises i a.out x.promises (λ f. weight-settle f closed (Err e) a.out.promises)) (error_all-apart i e a.slots.requests x)
+    apart-then i a.out x (error_all e a.slots.requests x) (apart-promises i a.out x.promises (later-settle closed (Err e) a.out.promises)) (error_all-apart i e a.slots.requests x)
 
 pub close-apart : (i : StreamId) (a : Acts) → Apart i a.out (controller_close a).out
 unfolding controller_close close_if_empty
@@ -113,14 +112,14 @@ pub read-apart : (i me : StreamId) (r : ReadRequest) (a : Acts) → Apart i a.ou
 unfolding default_reader_read
 read-apart i me r a = read_by-apart i me r (record a { slots = record a.slots { disturbed = true } }) a.slots.state
 
-closed_promise-weight : (f : Step → ℕ) (e : Plain) (t : Table) (state : ReadableState) → weight f (closed_promise e t state) ≤ weight f t
-closed_promise-weight f e t Readable = weight-fresh f t
-closed_promise-weight f e t Closed = weight-fresh_settled f (Ok Undefined) t
-closed_promise-weight f e t Errored = weight-fresh_settled f (Err e) t
+closed_promise-later : (e : Plain) (t : Table) (state : ReadableState) → Later t (closed_promise e t state)
+closed_promise-later e t Readable = later-fresh t
+closed_promise-later e t Closed = later-fresh_settled (Ok Undefined) t
+closed_promise-later e t Errored = later-fresh_settled (Err e) t
 
 pub initialize-apart : (i : StreamId) (a : Acts) → Apart i a.out (reader_generic_initialize a).out
 unfolding reader_generic_initialize
-initialize-apart i a = apart-promises i a.out (closed_promise a.slots.stored_error a.out.promises a.slots.state) (λ f. closed_promise-weight f a.slots.stored_error a.out.promises a.slots.state)
+initialize-apart i a = apart-promises i a.out (closed_promise a.slots.stored_error a.out.promises a.slots.state) (closed_promise-later a.slots.stored_error a.out.promises a.slots.state)
 
 pub start-apart : (i me : StreamId) (o : Result Plain Plain) (a : Acts) → Apart i a.out (start_settled me o a).out
 unfolding start_settled
@@ -141,26 +140,26 @@ unfolding cancel_steps
 cancel_by-apart i me r p a Readable =
     let b : Acts = stream_close a in
     apart-then i a.out b.out (cause (Cancel me r p) b.out) (stream_close-apart i a) (apart-cause i (Cancel me r p) b.out refl refl refl)
-cancel_by-apart i me r p a Closed = apart-promises i a.out (settle p (Ok Undefined) a.out.promises) (λ f. weight-settle f p (Ok Undefined) a.out.promises)
-cancel_by-apart i me r p a Errored = apart-promises i a.out (settle p (Err a.slots.stored_error) a.out.promises) (λ f. weight-settle f p (Err a.slots.stored_error) a.out.promises)
+cancel_by-apart i me r p a Closed = apart-promises i a.out (settle p (Ok Undefined) a.out.promises) (later-settle p (Ok Undefined) a.out.promises)
+cancel_by-apart i me r p a Errored = apart-promises i a.out (settle p (Err a.slots.stored_error) a.out.promises) (later-settle p (Err a.slots.stored_error) a.out.promises)
 
 pub cancel-apart : (i me : StreamId) (r : Plain) (a : Acts) → Apart i a.out (stream_cancel me r a).out
 unfolding stream_cancel
 cancel-apart i me r a =
     let b : Acts = record { slots = record a.slots { disturbed = true }; out = record a.out { promises = fresh a.out.promises } } in
     apart-then i a.out b.out (cancel_by me r (next_id a.out.promises) b a.slots.state).out
-    (apart-promises i a.out (fresh a.out.promises) (λ f. weight-fresh f a.out.promises)) (cancel_by-apart i me r (next_id a.out.promises) b a.slots.state)
+    (apart-promises i a.out (fresh a.out.promises) (later-fresh a.out.promises)) (cancel_by-apart i me r (next_id a.out.promises) b a.slots.state)
 
-release_closed-weight : (f : Step → ℕ) (p : PromiseId) (t : Table) (state : ReadableState) → weight f (release_closed p t state) ≤ weight f t
-release_closed-weight f p t Readable = weight-settle f p (Err type_error) t
-release_closed-weight f p t Closed = weight-fresh_settled f (Err type_error) t
-release_closed-weight f p t Errored = weight-fresh_settled f (Err type_error) t
+release_closed-later : (p : PromiseId) (t : Table) (state : ReadableState) → Later t (release_closed p t state)
+release_closed-later p t Readable = later-settle p (Err type_error) t
+release_closed-later p t Closed = later-fresh_settled (Err type_error) t
+release_closed-later p t Errored = later-fresh_settled (Err type_error) t
 
 release_by-apart : (i : StreamId) (a : Acts) (reader : Option PromiseId) → Apart i a.out (release_by a reader).out
 release_by-apart i a None = apart-same i a.out
 release_by-apart i a (Some closed) =
     let x : Out = record a.out { promises = release_closed closed a.out.promises a.slots.state } in
-    apart-then i a.out x (error_all type_error a.slots.requests x) (apart-promises i a.out x.promises (λ f. release_closed-weight f closed a.out.promises a.slots.state)) (error_all-apart i type_error a.slots.requests x)
+    apart-then i a.out x (error_all type_error a.slots.requests x) (apart-promises i a.out x.promises (release_closed-later closed a.out.promises a.slots.state)) (error_all-apart i type_error a.slots.requests x)
 
 pub release-apart : (i : StreamId) (a : Acts) → Apart i a.out (reader_release a).out
 unfolding reader_release

@@ -1,6 +1,8 @@
 -- The streams of a realm, by number, after an operation on one of them.
-use Rattle.std.proofs.Common.{◌≡◌, ◌≢◌, ℕ, zero, suc, Bool, true, false, List, [], ◌∷◌, ◌++◌, length, Option, Some, None, if◌then◌else◌, nat_eq, refl, sym, ap, ◌∙◌, arith, slice_get, slice_set}
+use Rattle.std.proofs.Common.{◌≡◌, ◌≢◌, ℕ, zero, suc, Bool, true, false, List, [], ◌∷◌, ◌++◌, length, Option, Some, None, Result, if◌then◌else◌, nat_eq, refl, sym, ap, ◌∙◌, arith, slice_get, slice_set}
+use Rattle.ws_value.specs.declared.ids.PromiseId.{PromiseId}
 use Rattle.ws_value.specs.declared.ids.StreamId.{StreamId}
+use Rattle.ws_value.specs.declared.value.Plain.{Plain}
 use Rattle.ws_steps.specs.declared.effects.Effect.{Effect}
 use Rattle.ws_steps.specs.declared.effects.Effect.TheVariants.{Start, Pull, Cancel, StartWritable, Write, Close, Abort}
 use Rattle.ws_steps.specs.declared.calls.StartBy.{StartBy}
@@ -12,6 +14,7 @@ use Rattle.ws_steps.specs.Slots.{Slots, Stream, ReadableStream, WritableStream, 
 use Rattle.ws_steps.specs.Turns.{row, performed, started}
 use Rattle.ws_steps.specs.Histories.{is_same}
 use Rattle.ws_steps.proofs.TurnLaws.{performed-none, performed-next}
+use Rattle.ws_steps.specs.Jobs.{resolve_derived}
 
 -- whichever branch is taken
 pub either : {A : Type 0} (P : A → Type 0) (c : Bool) (x y : A) → (c ≡ true → P x) → (c ≡ false → P y) → P (if c then x else y)
@@ -191,3 +194,8 @@ performed-streams_from (e ∷ es) s =
 
 pub performed-streams : (d : Done) → (performed d).streams ≡ d.slots.streams
 performed-streams d = performed-streams_from d.caused d.slots
+
+-- and so does the resolving of a derived promise
+pub derived-streams : (derived : Option PromiseId) (o : Result Plain Plain) (s : Slots) → (resolve_derived derived o s).streams ≡ s.streams
+derived-streams None o s = refl
+derived-streams (Some p) o s = refl

@@ -1,5 +1,5 @@
 -- The operations of writable stream `me` cause no effect of another stream, and make no more outstanding.
-use Rattle.std.proofs.Common.{◌≡◌, ℕ, ◌≤◌, Bool, true, false, not, is_none, ◌&&◌, if◌then◌else◌, List, [], ◌∷◌, Option, Some, None, Result, Ok, Err, refl, arith}
+use Rattle.std.proofs.Common.{◌≡◌, ℕ, Bool, true, false, not, is_none, ◌&&◌, if◌then◌else◌, List, [], ◌∷◌, Option, Some, None, Result, Ok, Err, refl}
 use Rattle.ws_value.specs.declared.ids.PromiseId.{PromiseId}
 use Rattle.ws_value.specs.declared.ids.StreamId.{StreamId}
 use Rattle.ws_value.specs.declared.value.Plain.{Plain}
@@ -7,7 +7,6 @@ use Rattle.ws_value.specs.declared.value.Plain.TheVariants.{Undefined}
 use Rattle.ws_value.specs.declared.value.Value.{Value}
 use Rattle.ws_steps.specs.declared.calls.StartBy.{StartBy}
 use Rattle.ws_steps.specs.declared.effects.Effect.TheVariants.{StartWritable}
-use Rattle.ws_steps.specs.declared.promises.Step.{Step}
 use Rattle.ws_steps.specs.declared.readable.SizeBy.{SizeBy}
 use Rattle.ws_steps.specs.declared.writable.PendingAbort.{PendingAbort}
 use Rattle.ws_steps.specs.declared.writable.WritableState.{WritableState}
@@ -21,46 +20,46 @@ use Rattle.ws_steps.specs.Readable.{type_error}
 use Rattle.ws_steps.specs.Writable.{Slots, Acts, with_promises, causing, settle_request, reject_all, ensure_rejected, differs, change_ready, ready_for, update_backpressure, has_backpressure, refresh_backpressure, is_closing, is_writable, is_erroring, is_in_flight, set_up, reject_close, reject_closed, reject_close_and_closed, abort_by, finish_abort, fail_writes, finish_erroring, reject_ready, start_erroring, deal_with_rejection, controller_error_if_needed, process_write, process_close, process_first, advance_queue, write_ended, without_first, write_settled, close_ended, settle_abort, abort_ended, clear_error, fulfil_closed, finish_in_flight_close, finish_in_flight_close_with_error, close_settled, start_settled, abort_settled, enqueue_chunk, controller_write, add_write_request, write_refusal, write_by, writer_write, controller_close, add_close_request, fulfil_ready, has_ended, stream_close, add_pending_abort, begin_abort, abort_once, stream_abort, ready_promise, closed_promise, set_up_writer, release_by, writer_release}
 use Rattle.ws_steps.specs.Histories.{is_same}
 use Rattle.ws_laws.proofs.Tables.{either}
-use Rattle.ws_laws.proofs.Outstanding.{weight, weight-fresh, weight-settle, weight-fresh_settled}
+use Rattle.ws_laws.proofs.Later.{Later, later-same, later-then, later-fresh, later-settle, later-fresh_settled}
 use Rattle.ws_laws.proofs.Apart.{Apart, apart-same, apart-then, apart-promises, apart-cause, apart-write, apart-close, apart-abort}
 
 -- promises
 
-pub settle_request-weight : (f : Step → ℕ) (o : Result Plain Plain) (t : Table) (p : Option PromiseId) → weight f (settle_request o t p) ≤ weight f t
-settle_request-weight f o t None = omega arith
-settle_request-weight f o t (Some p) = weight-settle f p o t
+pub settle_request-later : (o : Result Plain Plain) (t : Table) (p : Option PromiseId) → Later t (settle_request o t p)
+settle_request-later o t None = later-same t
+settle_request-later o t (Some p) = later-settle p o t
 
-reject_all-weight : (f : Step → ℕ) (e : Plain) (ps : List PromiseId) (t : Table) → weight f (reject_all e ps t) ≤ weight f t
-reject_all-weight f e [] t = omega arith
-reject_all-weight f e (p ∷ ps) t = let m = weight-settle f p (Err e) t in let n = reject_all-weight f e ps (settle p (Err e) t) in omega arith
+reject_all-later : (e : Plain) (ps : List PromiseId) (t : Table) → Later t (reject_all e ps t)
+reject_all-later e [] t = later-same t
+reject_all-later e (p ∷ ps) t = later-then t (settle p (Err e) t) (reject_all e ps (settle p (Err e) t)) (later-settle p (Err e) t) (reject_all-later e ps (settle p (Err e) t))
 
-ensure_rejected-weight : (f : Step → ℕ) (p : PromiseId) (r : Plain) (t : Table) → weight f (ensure_rejected p r t) ≤ weight f t
+ensure_rejected-later : (p : PromiseId) (r : Plain) (t : Table) → Later t (ensure_rejected p r t)
 unfolding ensure_rejected
-ensure_rejected-weight f p r t =
-    either (λ (z : Table). weight f z ≤ weight f t) (is_pending_at p t) (settle p (Err r) t) (fresh_settled (Err r) t) (λ e. weight-settle f p (Err r) t) (λ e. weight-fresh_settled f (Err r) t)
+ensure_rejected-later p r t =
+    either (Later t) (is_pending_at p t) (settle p (Err r) t) (fresh_settled (Err r) t) (λ e. later-settle p (Err r) t) (λ e. later-fresh_settled (Err r) t)
 
-settle_abort-weight : (f : Step → ℕ) (o : Result Plain Plain) (t : Table) (abort : Option PendingAbort) → weight f (settle_abort o t abort) ≤ weight f t
-settle_abort-weight f o t None = omega arith
-settle_abort-weight f o t (Some abort) = weight-settle f abort.promise o t
+settle_abort-later : (o : Result Plain Plain) (t : Table) (abort : Option PendingAbort) → Later t (settle_abort o t abort)
+settle_abort-later o t None = later-same t
+settle_abort-later o t (Some abort) = later-settle abort.promise o t
 
-ready_promise-weight : (f : Step → ℕ) (s : Slots) (t : Table) (state : WritableState) → weight f (ready_promise s t state) ≤ weight f t
-ready_promise-weight f s t Writable =
-    either (λ (z : Table). weight f z ≤ weight f t) (not (is_closing s) && s.backpressure) (fresh t) (fresh_settled (Ok Undefined) t) (λ e. weight-fresh f t) (λ e. weight-fresh_settled f (Ok Undefined) t)
-ready_promise-weight f s t Erroring = weight-fresh_settled f (Err s.stored_error) t
-ready_promise-weight f s t Closed = weight-fresh_settled f (Ok Undefined) t
-ready_promise-weight f s t Errored = weight-fresh_settled f (Err s.stored_error) t
+ready_promise-later : (s : Slots) (t : Table) (state : WritableState) → Later t (ready_promise s t state)
+ready_promise-later s t Writable =
+    either (Later t) (not (is_closing s) && s.backpressure) (fresh t) (fresh_settled (Ok Undefined) t) (λ e. later-fresh t) (λ e. later-fresh_settled (Ok Undefined) t)
+ready_promise-later s t Erroring = later-fresh_settled (Err s.stored_error) t
+ready_promise-later s t Closed = later-fresh_settled (Ok Undefined) t
+ready_promise-later s t Errored = later-fresh_settled (Err s.stored_error) t
 
-closed_promise-weight : (f : Step → ℕ) (s : Slots) (t : Table) (state : WritableState) → weight f (closed_promise s t state) ≤ weight f t
-closed_promise-weight f s t Writable = weight-fresh f t
-closed_promise-weight f s t Erroring = weight-fresh f t
-closed_promise-weight f s t Closed = weight-fresh_settled f (Ok Undefined) t
-closed_promise-weight f s t Errored = weight-fresh_settled f (Err s.stored_error) t
+closed_promise-later : (s : Slots) (t : Table) (state : WritableState) → Later t (closed_promise s t state)
+closed_promise-later s t Writable = later-fresh t
+closed_promise-later s t Erroring = later-fresh t
+closed_promise-later s t Closed = later-fresh_settled (Ok Undefined) t
+closed_promise-later s t Errored = later-fresh_settled (Err s.stored_error) t
 
 -- operations that cause nothing
 
 change_ready-apart : (i : StreamId) (w : Writer) (a : Acts) (b : Bool) → Apart i a.out (change_ready w a b).out
-change_ready-apart i w a true = apart-promises i a.out (fresh a.out.promises) (λ f. weight-fresh f a.out.promises)
-change_ready-apart i w a false = apart-promises i a.out (settle w.ready (Ok Undefined) a.out.promises) (λ f. weight-settle f w.ready (Ok Undefined) a.out.promises)
+change_ready-apart i w a true = apart-promises i a.out (fresh a.out.promises) (later-fresh a.out.promises)
+change_ready-apart i w a false = apart-promises i a.out (settle w.ready (Ok Undefined) a.out.promises) (later-settle w.ready (Ok Undefined) a.out.promises)
 
 ready_for-apart : (i : StreamId) (b : Bool) (a : Acts) (w : Option Writer) → Apart i a.out (ready_for b a w).out
 ready_for-apart i b a None = apart-same i a.out
@@ -86,11 +85,14 @@ set_up-apart i me start mark size a =
 
 reject_close-apart : (i : StreamId) (a : Acts) (p : Option PromiseId) → Apart i a.out (reject_close a p).out
 reject_close-apart i a None = apart-same i a.out
-reject_close-apart i a (Some p) = apart-promises i a.out (settle p (Err a.slots.stored_error) a.out.promises) (λ f. weight-settle f p (Err a.slots.stored_error) a.out.promises)
+reject_close-apart i a (Some p) = apart-promises i a.out (settle p (Err a.slots.stored_error) a.out.promises) (later-settle p (Err a.slots.stored_error) a.out.promises)
 
 reject_closed-apart : (i : StreamId) (a : Acts) (w : Option Writer) → Apart i a.out (reject_closed a w).out
 reject_closed-apart i a None = apart-same i a.out
-reject_closed-apart i a (Some w) = apart-promises i a.out (settle w.closed (Err a.slots.stored_error) a.out.promises) (λ f. weight-settle f w.closed (Err a.slots.stored_error) a.out.promises)
+reject_closed-apart i a (Some w) =
+    either (λ (b : Acts). Apart i a.out b.out) (is_pending_at w.closed a.out.promises) (with_promises (settle w.closed (Err a.slots.stored_error) a.out.promises) a) a
+    (λ e. apart-promises i a.out (settle w.closed (Err a.slots.stored_error) a.out.promises) (later-settle w.closed (Err a.slots.stored_error) a.out.promises))
+    (λ e. apart-same i a.out)
 
 pub reject_both-apart : (i : StreamId) (a : Acts) → Apart i a.out (reject_close_and_closed a).out
 unfolding reject_close_and_closed
@@ -100,20 +102,20 @@ reject_both-apart i a =
 
 pub fail_writes-apart : (i : StreamId) (a : Acts) → Apart i a.out (fail_writes a).out
 fail_writes-apart i a =
-    apart-promises i a.out (reject_all a.slots.stored_error a.slots.write_requests a.out.promises) (λ f. reject_all-weight f a.slots.stored_error a.slots.write_requests a.out.promises)
+    apart-promises i a.out (reject_all a.slots.stored_error a.slots.write_requests a.out.promises) (reject_all-later a.slots.stored_error a.slots.write_requests a.out.promises)
 
 pub reject_ready-apart : (i : StreamId) (r : Plain) (a : Acts) (w : Option Writer) → Apart i a.out (reject_ready r a w).out
 reject_ready-apart i r a None = apart-same i a.out
-reject_ready-apart i r a (Some w) = apart-promises i a.out (ensure_rejected w.ready r a.out.promises) (λ f. ensure_rejected-weight f w.ready r a.out.promises)
+reject_ready-apart i r a (Some w) = apart-promises i a.out (ensure_rejected w.ready r a.out.promises) (ensure_rejected-later w.ready r a.out.promises)
 
 pub write_ended-apart : (i : StreamId) (o : Result Plain Plain) (a : Acts) → Apart i a.out (write_ended o a).out
-write_ended-apart i o a = apart-promises i a.out (settle_request o a.out.promises a.slots.write_in_flight) (λ f. settle_request-weight f o a.out.promises a.slots.write_in_flight)
+write_ended-apart i o a = apart-promises i a.out (settle_request o a.out.promises a.slots.write_in_flight) (settle_request-later o a.out.promises a.slots.write_in_flight)
 
 pub close_ended-apart : (i : StreamId) (o : Result Plain Plain) (a : Acts) → Apart i a.out (close_ended o a).out
-close_ended-apart i o a = apart-promises i a.out (settle_request o a.out.promises a.slots.close_in_flight) (λ f. settle_request-weight f o a.out.promises a.slots.close_in_flight)
+close_ended-apart i o a = apart-promises i a.out (settle_request o a.out.promises a.slots.close_in_flight) (settle_request-later o a.out.promises a.slots.close_in_flight)
 
 pub abort_ended-apart : (i : StreamId) (o : Result Plain Plain) (a : Acts) → Apart i a.out (abort_ended o a).out
-abort_ended-apart i o a = apart-promises i a.out (settle_abort o a.out.promises a.slots.pending_abort) (λ f. settle_abort-weight f o a.out.promises a.slots.pending_abort)
+abort_ended-apart i o a = apart-promises i a.out (settle_abort o a.out.promises a.slots.pending_abort) (settle_abort-later o a.out.promises a.slots.pending_abort)
 
 pub clear_error-apart : (i : StreamId) (a : Acts) → Apart i a.out (clear_error a).out
 clear_error-apart i a =
@@ -122,7 +124,7 @@ clear_error-apart i a =
 
 pub fulfil_closed-apart : (i : StreamId) (a : Acts) (w : Option Writer) → Apart i a.out (fulfil_closed a w).out
 fulfil_closed-apart i a None = apart-same i a.out
-fulfil_closed-apart i a (Some w) = apart-promises i a.out (settle w.closed (Ok Undefined) a.out.promises) (λ f. weight-settle f w.closed (Ok Undefined) a.out.promises)
+fulfil_closed-apart i a (Some w) = apart-promises i a.out (settle w.closed (Ok Undefined) a.out.promises) (later-settle w.closed (Ok Undefined) a.out.promises)
 
 finish_close-apart : (i : StreamId) (a : Acts) → Apart i a.out (finish_in_flight_close a).out
 unfolding finish_in_flight_close
@@ -134,35 +136,35 @@ finish_close-apart i a =
     (apart-then i b.out c.out (fulfil_closed d c.slots.writer).out (clear_error-apart i b) (fulfil_closed-apart i d c.slots.writer))
 
 pub add_write_request-apart : (i : StreamId) (a : Acts) → Apart i a.out (add_write_request a).out
-add_write_request-apart i a = apart-promises i a.out (fresh a.out.promises) (λ f. weight-fresh f a.out.promises)
+add_write_request-apart i a = apart-promises i a.out (fresh a.out.promises) (later-fresh a.out.promises)
 
 pub add_close_request-apart : (i : StreamId) (a : Acts) → Apart i a.out (add_close_request a).out
-add_close_request-apart i a = apart-promises i a.out (fresh a.out.promises) (λ f. weight-fresh f a.out.promises)
+add_close_request-apart i a = apart-promises i a.out (fresh a.out.promises) (later-fresh a.out.promises)
 
 pub fulfil_ready-apart : (i : StreamId) (a : Acts) (w : Option Writer) → Apart i a.out (fulfil_ready a w).out
 fulfil_ready-apart i a None = apart-same i a.out
 fulfil_ready-apart i a (Some w) =
     either (λ (z : Acts). Apart i a.out z.out) (a.slots.backpressure && is_writable a.slots.state) (with_promises (settle w.ready (Ok Undefined) a.out.promises) a) a
-    (λ e. apart-promises i a.out (settle w.ready (Ok Undefined) a.out.promises) (λ f. weight-settle f w.ready (Ok Undefined) a.out.promises)) (λ e. apart-same i a.out)
+    (λ e. apart-promises i a.out (settle w.ready (Ok Undefined) a.out.promises) (later-settle w.ready (Ok Undefined) a.out.promises)) (λ e. apart-same i a.out)
 
 pub add_pending_abort-apart : (i : StreamId) (r : Plain) (a : Acts) → Apart i a.out (add_pending_abort r a).out
 unfolding add_pending_abort
-add_pending_abort-apart i r a = apart-promises i a.out (fresh a.out.promises) (λ f. weight-fresh f a.out.promises)
+add_pending_abort-apart i r a = apart-promises i a.out (fresh a.out.promises) (later-fresh a.out.promises)
 
 pub fresh_settled-apart : (i : StreamId) (o : Result Plain Plain) (a : Acts) → Apart i a.out (with_promises (fresh_settled o a.out.promises) a).out
-fresh_settled-apart i o a = apart-promises i a.out (fresh_settled o a.out.promises) (λ f. weight-fresh_settled f o a.out.promises)
+fresh_settled-apart i o a = apart-promises i a.out (fresh_settled o a.out.promises) (later-fresh_settled o a.out.promises)
 
 pub set_up_writer-apart : (i : StreamId) (a : Acts) → Apart i a.out (set_up_writer a).out
 unfolding set_up_writer
 set_up_writer-apart i a =
     let t : Table = ready_promise a.slots a.out.promises a.slots.state in
-    apart-promises i a.out (closed_promise a.slots t a.slots.state) (λ f. let m = closed_promise-weight f a.slots t a.slots.state in let n = ready_promise-weight f a.slots a.out.promises a.slots.state in omega arith)
+    apart-promises i a.out (closed_promise a.slots t a.slots.state) (later-then a.out.promises t (closed_promise a.slots t a.slots.state) (ready_promise-later a.slots a.out.promises a.slots.state) (closed_promise-later a.slots t a.slots.state))
 
 release_by-apart : (i : StreamId) (a : Acts) (w : Option Writer) → Apart i a.out (release_by a w).out
 release_by-apart i a None = apart-same i a.out
 release_by-apart i a (Some w) =
     let t : Table = ensure_rejected w.ready type_error a.out.promises in
-    apart-promises i a.out (ensure_rejected w.closed type_error t) (λ f. let m = ensure_rejected-weight f w.closed type_error t in let n = ensure_rejected-weight f w.ready type_error a.out.promises in omega arith)
+    apart-promises i a.out (ensure_rejected w.closed type_error t) (later-then a.out.promises t (ensure_rejected w.closed type_error t) (ensure_rejected-later w.ready type_error a.out.promises) (ensure_rejected-later w.closed type_error t))
 
 pub release-apart : (i : StreamId) (a : Acts) → Apart i a.out (writer_release a).out
 unfolding writer_release
@@ -171,7 +173,7 @@ release-apart i a = release_by-apart i a a.slots.writer
 abort_settled-promise : (i : StreamId) (p : PromiseId) (o : Result Plain Plain) (a : Acts) → Apart i a.out (reject_close_and_closed (with_promises (settle p o a.out.promises) a)).out
 abort_settled-promise i p o a =
     let b : Acts = with_promises (settle p o a.out.promises) a in
-    apart-then i a.out b.out (reject_close_and_closed b).out (apart-promises i a.out (settle p o a.out.promises) (λ f. weight-settle f p o a.out.promises)) (reject_both-apart i b)
+    apart-then i a.out b.out (reject_close_and_closed b).out (apart-promises i a.out (settle p o a.out.promises) (later-settle p o a.out.promises)) (reject_both-apart i b)
 
 pub abort_settled-apart : (i : StreamId) (p : PromiseId) (o : Result Plain Plain) (a : Acts) → Apart i a.out (abort_settled p o a).out
 unfolding abort_settled
@@ -219,7 +221,7 @@ process_first-apart i me a (Some CloseMark) n = apart-close i me a.out n
 process_first-apart i me a (Some (Chunk v)) n = apart-write i me v a.out n
 process_first-apart i me a (Some InFlight) n = apart-same i a.out
 
-advance-apart : (i me : StreamId) (a : Acts) → is_same i me ≡ false → Apart i a.out (advance_queue me a).out
+pub advance-apart : (i me : StreamId) (a : Acts) → is_same i me ≡ false → Apart i a.out (advance_queue me a).out
 unfolding advance_queue
 advance-apart i me a n =
     let b : Acts = if is_erroring a.slots.state then finish_erroring me a else process_first me a (first_value a.slots.queue) in

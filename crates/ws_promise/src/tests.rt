@@ -25,7 +25,9 @@ fn follows_ecmascript(rt: HostRuntime) -> Result<(), Fail> {
         Line::Fresh(0),
         Line::React(0, 1),
         Line::Reject(0, 7),
+        Line::Astray(false),
         Line::Fulfil(0, 8),
+        Line::Astray(true),
         Line::Is(0, State::Rejected(7)),
         Line::Queued(1),
         Line::Reacts(1, Err(7)),
@@ -54,11 +56,24 @@ fn follows_ecmascript(rt: HostRuntime) -> Result<(), Fail> {
         Line::Follow(0, 1),
         Line::Follows(0, 1),
         Line::Queued(0),
+        Line::Astray(false),
         Line::Fulfil(0, 8),
+        Line::Astray(true),
         Line::Is(0, State::Pending),
         Line::Reject(1, 7),
         Line::Settles(0, Err(7)),
         Line::Is(0, State::Rejected(7)),
+    ];
+    // a settled promise follows no other
+    let settled_follows = [
+        Line::Fresh(0),
+        Line::Fresh(1),
+        Line::Fulfil(0, 7),
+        Line::Astray(false),
+        Line::Follow(0, 1),
+        Line::Astray(true),
+        Line::Queued(0),
+        Line::Is(0, State::Fulfilled(7)),
     ];
     // reads are answered, and settled promises alone are let go of
     let lets_go = [
@@ -74,6 +89,10 @@ fn follows_ecmascript(rt: HostRuntime) -> Result<(), Fail> {
         Line::Fresh(2),
         Line::Release(2),
         Line::Is(2, State::Pending),
+        Line::Astray(false),
+        Line::Give(0, 7),
+        Line::Astray(true),
+        Line::Is(0, State::Gone),
     ];
     perform_all(
         &rt,
@@ -83,6 +102,7 @@ fn follows_ecmascript(rt: HostRuntime) -> Result<(), Fail> {
             &once,
             &follows_settled,
             &follows_pending,
+            &settled_follows,
             &lets_go,
         ],
     )?;

@@ -5,6 +5,7 @@ mod begin;
 mod calls;
 mod controller_calls;
 mod jobs;
+pub mod laws;
 mod lock_calls;
 mod lookups;
 mod operations;
@@ -23,6 +24,3 @@ mod writer_calls;
 
 pub use realm::{NoRoom, Realm, Why};
 pub use ws_steps::{Answer, Call, Event, Flags, HostCall, Reply, StartBy, StateIs, Thrown, Word};
-
-/// What holds of the streams of every realm, whatever calls and jobs it performs.
-pub use ws_laws as laws;

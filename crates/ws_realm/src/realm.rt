@@ -142,8 +142,10 @@ impl Realm {
     /// Performs jobs until none is queued, or `most` were.
     pub fn work(&mut self, most: u32) -> Result<(), Why>
         ensures slots { OnOk result (self.new.slots ≡ run.work most self.old.slots) }
+        ensures ready { OnOk result (self.new.wanting ≡ self.old.wanting) }
         ensures spent { result ≡ Err why.Spent → self.new.slots.age ≡ oldest }
         ensures wanting { result ≡ Err why.NoMemory → self.new.wanting ≡ true }
+        ensures still { self.old.wanting ≡ true → self.new ≡ self.old }
     {
         for _done in 0..most {
             match self.job() {

@@ -1,7 +1,7 @@
 -- The definitions computed on worked examples: how writable streams are aborted and errored.
-use Rattle.std.proofs.Common.{◌≡◌, [], ◌∷◌, refl, true, None}
+use Rattle.std.proofs.Common.{◌≡◌, [], ◌∷◌, refl, true, false, None}
 use Rattle.ws_steps.specs.declared.calls.Answer.TheVariants.{Ok, Fail as FailWith}
-use Rattle.ws_steps.specs.declared.calls.Call.TheVariants.{MakeWritable, GetWriter, Write as WriteBy, CloseBy, Abort as AbortStream, AbortBy, Closed as ClosedOf, Ready as ReadyOf, Fail, DesiredBy, Settle, State}
+use Rattle.ws_steps.specs.declared.calls.Call.TheVariants.{MakeWritable, GetWriter, Write as WriteBy, CloseBy, Abort as AbortStream, AbortBy, Closed as ClosedOf, Ready as ReadyOf, Release, Fail, DesiredBy, Settle, State}
 use Rattle.ws_steps.specs.declared.calls.HostCall.TheVariants.{Start, Write, Close, Abort}
 use Rattle.ws_steps.specs.declared.calls.Reply.TheVariants.{Done, Made, Lock, Size, State as StateReply}
 use Rattle.ws_steps.specs.declared.calls.StartBy.TheVariants.{Now, Later}
@@ -10,11 +10,12 @@ use Rattle.ws_steps.specs.declared.readable.SizeBy.TheVariants.{Count}
 use Rattle.ws_steps.specs.Readable.{type_error}
 use Rattle.ws_steps.specs.Promises.{fresh, settle, react, follow, unfollow, after_next_job, watch}
 use Rattle.ws_steps.specs.Writable.{ensure_rejected, update_backpressure, refresh_backpressure, set_up, reject_close_and_closed, finish_erroring, start_erroring, deal_with_rejection, controller_error_if_needed, process_write, process_close, advance_queue, write_settled, finish_in_flight_close, finish_in_flight_close_with_error, close_settled, start_settled, abort_settled, controller_write, writer_write, controller_close, stream_close, add_pending_abort, stream_abort, set_up_writer, writer_release}
-use Rattle.ws_steps.specs.Slots.{call_host}
+use Rattle.ws_steps.specs.Slots.{empty, call_host}
 use Rattle.ws_steps.specs.Turns.{row, turns, performed}
 use Rattle.ws_steps.specs.Jobs.{perform_job}
 use Rattle.ws_steps.specs.Calls.{begin}
-use Rattle.ws_steps.proofs.WorkedWords.{printed, s0, l0, h, e, v, says, promise, host, signal, fulfilled, rejected, no_flags}
+use Rattle.ws_steps.specs.Run.{Called, Worked, run}
+use Rattle.ws_steps.proofs.WorkedWords.{printed, s0, l0, l1, h, e, v, says, promise, host, signal, fulfilled, rejected, no_flags}
 
 -- an abort while a write is in flight, and then that write fails
 abort_during_a_failing_write : printed (MakeWritable 1 Count Now ∷ GetWriter s0 ∷ ClosedOf l0 ∷ WriteBy l0 (v 1) ∷ AbortBy l0 (e 7) ∷ Settle (h 0) (FailWith (e 9)) ∷ Settle (h 1) Ok ∷ [])
@@ -157,3 +158,21 @@ abort_without_a_writer : printed (MakeWritable 1 Count Now ∷ AbortStream s0 (e
     ∷ []
 unfolding fresh settle react follow unfollow after_next_job watch ensure_rejected update_backpressure refresh_backpressure set_up reject_close_and_closed finish_erroring start_erroring deal_with_rejection controller_error_if_needed process_write process_close advance_queue write_settled finish_in_flight_close finish_in_flight_close_with_error close_settled start_settled abort_settled controller_write writer_write controller_close stream_close add_pending_abort stream_abort set_up_writer writer_release call_host row turns performed perform_job begin
 abort_without_a_writer = refl
+
+-- a writer that is made while the abort algorithm is performed finds the stream errored: its closed promise isn't rejected again
+writer_made_during_an_abort : printed (MakeWritable 1 Count Now ∷ GetWriter s0 ∷ AbortBy l0 (e 7) ∷ Release l0 ∷ GetWriter s0 ∷ ClosedOf l1 ∷ Settle (h 0) Ok ∷ [])
+    ≡ says (Made s0) []
+    ∷ says (Lock l0) []
+    ∷ promise 0 (signal (e 7) ∷ host 0 (Abort s0 (e 7)) ∷ [])
+    ∷ says Done []
+    ∷ says (Lock l1) []
+    ∷ promise 1 (rejected 1 (e 7) ∷ [])
+    ∷ says Done (fulfilled 0 ∷ [])
+    ∷ []
+unfolding fresh settle react follow unfollow after_next_job watch ensure_rejected update_backpressure refresh_backpressure set_up reject_close_and_closed finish_erroring start_erroring deal_with_rejection controller_error_if_needed process_write process_close advance_queue write_settled finish_in_flight_close finish_in_flight_close_with_error close_settled start_settled abort_settled controller_write writer_write controller_close stream_close add_pending_abort stream_abort set_up_writer writer_release call_host row turns performed perform_job begin
+writer_made_during_an_abort = refl
+
+-- and no settling goes astray
+aborted_straight : (run (Called (MakeWritable 1 Count Now) ∷ Worked ∷ Called (GetWriter s0) ∷ Called (AbortBy l0 (e 7)) ∷ Called (Release l0) ∷ Called (GetWriter s0) ∷ Called (Settle (h 0) Ok) ∷ Worked ∷ []) empty).promises.astray ≡ false
+unfolding fresh settle react follow unfollow after_next_job watch ensure_rejected update_backpressure refresh_backpressure set_up reject_close_and_closed finish_erroring start_erroring deal_with_rejection controller_error_if_needed process_write process_close advance_queue write_settled finish_in_flight_close finish_in_flight_close_with_error close_settled start_settled abort_settled controller_write writer_write controller_close stream_close add_pending_abort stream_abort set_up_writer writer_release call_host row turns performed perform_job begin
+aborted_straight = refl

@@ -1,6 +1,7 @@
 -- Histories: what went through a stream, told beside the run and never in the slots. A history is told of an operation first, by
 -- what the operation is asked and the stream before it; then of a call or a job; then of a run.
 use Rattle.std.specs.Prelude.{ℕ, ◌+◌, Bool, false, ◌||◌, nat_eq, is_some, if◌then◌else◌, List, [], ◌∷◌, ◌++◌, Option, Some, None, Result, Ok, Err}
+use Rattle.ws_value.specs.declared.ids.PromiseId.{PromiseId}
 use Rattle.ws_value.specs.declared.ids.StreamId.{StreamId}
 use Rattle.ws_value.specs.declared.value.Plain.{Plain}
 use Rattle.ws_value.specs.declared.value.Value.{Value}
@@ -10,7 +11,7 @@ use Rattle.ws_steps.specs.declared.calls.Event.{Event}
 use Rattle.ws_steps.specs.declared.calls.Event.TheVariants.{Host}
 use Rattle.ws_steps.specs.declared.calls.HostCall.TheVariants.{Write as HostWrite, Close as HostClose}
 use Rattle.ws_steps.specs.declared.calls.Reply.{Reply}
-use Rattle.ws_steps.specs.declared.calls.Reply.TheVariants.{Done}
+use Rattle.ws_steps.specs.declared.calls.Reply.TheVariants.{Done, Promise}
 use Rattle.ws_steps.specs.declared.effects.Effect.{Effect}
 use Rattle.ws_steps.specs.declared.effects.Effect.TheVariants.{Write, Close}
 use Rattle.ws_steps.specs.declared.locks.Lock.{Lock}
@@ -199,6 +200,22 @@ written_with i v s (Some (ReleasedWriter w)) = []
 abbrev pub call_written : StreamId → Call → Slots → List Value
 call_written i (WriteCall l v) s = written_with i v s (lock_at l s)
 call_written i _ s = []
+
+-- the promise that a call answered, where it wrote
+abbrev pub promised_by : List Value → Reply → List PromiseId
+promised_by [] reply = []
+promised_by (v ∷ vs) (Promise p) = p ∷ []
+promised_by (v ∷ vs) _ = []
+
+-- the promise of the write that a step appends to stream i
+abbrev pub step_promised : StreamId → Slots → Entry → List PromiseId
+step_promised i s (Called c) = promised_by (call_written i c s) (reply_to c s)
+step_promised i s Worked = []
+
+-- the promises of the writes that a run appends to stream i, in their order
+abbrev pub run_promised : StreamId → List Entry → Slots → List PromiseId
+run_promised i [] s = []
+run_promised i (x ∷ xs) s = step_promised i s x ++ run_promised i xs (step s x)
 
 -- the writes of stream i that the first job fulfils
 abbrev pub job_fulfilled : StreamId → Slots → Option Job → ℕ

@@ -1,17 +1,24 @@
--- Laws over every run.
-use Rattle.std.specs.Prelude.{◌≡◌, ◌+◌, ◌≤◌, ◌<◌, ◌≢◌, true, false, List, [], ◌++◌, length}
+-- Laws over every run. What they say of a stream they say between steps: within one, effects are performed after the operation that
+-- caused them.
+use Rattle.std.specs.Prelude.{◌≡◌, ◌+◌, ◌≤◌, ◌<◌, ◌≢◌, true, false, List, [], ◌++◌, length, All, Some}
+use Rattle.ws_value.specs.declared.ids.PromiseId.{PromiseId}
 use Rattle.ws_value.specs.declared.ids.StreamId.{StreamId}
+use Rattle.ws_value.specs.declared.value.Outcome.{Outcome}
+use Rattle.ws_value.specs.declared.value.Outcome.TheVariants.{Fulfilled}
+use Rattle.ws_value.specs.declared.value.Plain.TheVariants.{Undefined}
 use Rattle.ws_value.specs.declared.value.Value.{Value}
 use Rattle.ws_steps.specs.declared.calls.Call.{Call}
 use Rattle.ws_steps.specs.declared.calls.Reply.TheVariants.{Throws}
 use Rattle.ws_steps.specs.declared.calls.Thrown.{Thrown}
 use Rattle.ws_steps.specs.declared.readable.ReadableState.TheVariants.{Readable, Closed}
 use Rattle.ws_steps.specs.declared.writable.WritableState.TheVariants.{Closed as WritableClosed}
+use Rattle.ws_steps.specs.Promises.{Table, is_pending, outcome_at}
 use Rattle.ws_steps.specs.Readable as readable
 use Rattle.ws_steps.specs.Writable as writable
-use Rattle.ws_steps.specs.Slots.{Slots, empty, readable_at, writable_at}
+use Rattle.ws_steps.specs.Slots.{Slots, Done, empty, readable_at, writable_at}
+use Rattle.ws_steps.specs.Turns.{LeadsTo, performed}
 use Rattle.ws_steps.specs.Run.{Entry, step, run, reply_to, after_call, older}
-use Rattle.ws_steps.specs.Histories.{Flow, Writes, values, todo, step_flow, run_flow, step_writes, run_writes, accepted, heard_writes, heard_closes}
+use Rattle.ws_steps.specs.Histories.{Flow, Writes, values, todo, step_flow, run_flow, step_writes, run_writes, run_promised, accepted, heard_writes, heard_closes}
 
 -- a first part, which may be all
 abbrev pub IsPrefixOf : List Value → List Value → Type 0
@@ -94,3 +101,40 @@ EachWritableStep =
 -- a call that throws changes nothing but the age
 abbrev pub EachThrowChangesNothing : Type 0
 EachThrowChangesNothing = (c : Call) (s : Slots) (t : Thrown) → reply_to c s ≡ Throws t → after_call c s ≡ older s
+
+-- in every run, no call and no job settles or resolves a promise that isn't open, and none stops following that followed no other
+abbrev pub NoneGoesAstray : Type 0
+NoneGoesAstray = (entries : List Entry) → (run entries empty).promises.astray ≡ false
+
+-- over any calls and jobs from any slots, a promise that has settled keeps its outcome
+abbrev pub EachOutcomeStays : Type 0
+EachOutcomeStays =
+    (s : Slots) (entries : List Entry) (p : PromiseId) (o : Outcome) → is_pending o ≡ false → outcome_at s.promises p ≡ Some o → outcome_at (run entries s).promises p ≡ Some o
+
+-- over any calls and jobs from any slots, the mark of what went astray stays
+abbrev pub EachMarkStays : Type 0
+EachMarkStays = (s : Slots) (entries : List Entry) → s.promises.astray ≡ true → (run entries s).promises.astray ≡ true
+
+-- these promises are fulfilled with undefined
+abbrev pub AllFulfilled : Table → List PromiseId → Type 0
+AllFulfilled t ps = All (λ p. outcome_at t p ≡ Some (Fulfilled Undefined)) ps
+
+-- The promises that writes answered, where these were appended. They are as many as the values that were written. As many of the first
+-- as the history counts are fulfilled with undefined; and where the close algorithm was performed, all are
+pub record AreFulfilled (h : Writes) (promised : List PromiseId) (t : Table) : Type 0 where
+  pub answered : length promised ≡ length h.written
+  pub first : List PromiseId
+  pub rest : List PromiseId
+  pub split : first ++ rest ≡ promised
+  pub counted : length first ≡ h.fulfilled
+  pub fulfilled : AllFulfilled t first
+  pub whole : 0 < h.closes → AllFulfilled t promised
+
+-- in every run, of each writable stream
+abbrev pub SuccessfulWritesAreFulfilled : Type 0
+SuccessfulWritesAreFulfilled =
+    (entries : List Entry) (i : StreamId) → AreFulfilled (run_writes i entries empty) (run_promised i entries empty) (run entries empty).promises
+
+-- performed one after another, effects come to an end, and to no other than that of `performed`
+abbrev pub EffectsEndOnce : Type 0
+EffectsEndOnce = (d : Done) → LeadsTo d (performed d) × ((z : Slots) → LeadsTo d z → z ≡ performed d)

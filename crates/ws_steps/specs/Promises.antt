@@ -1,8 +1,8 @@
 -- Promises, reactions and jobs, after ECMAScript's promise jobs and Web IDL's "react".
 -- A realm's promises are numbered in order of making. Each operation is total: where there is no such promise, or it isn't
--- open, settling and resolving it do nothing, and neither does reacting to a promise that isn't there. Nothing reacts to or
--- follows the promise of a read, and no promise follows itself or one that was let go of: there the definitions have no
--- reaction, where ECMAScript would have a job.
+-- open, settling and resolving it do nothing but leave a mark that they went astray, which no run leaves; and reacting to a promise
+-- that isn't there does nothing. Nothing reacts to or follows the promise of a read, and no promise follows itself or one that was
+-- let go of: there the definitions have no reaction, where ECMAScript would have a job.
 use Rattle.std.specs.Prelude.{ℕ, ◌+◌, option_and_then, Bool, true, false, not, List, [], ◌∷◌, ◌++◌, length, map, if◌then◌else◌, Option, Some, None, Result, Ok, Err, slice_get, slice_set}
 use Rattle.std.specs.Option.{option_map}
 use Rattle.ws_value.specs.declared.ids.PromiseId.{PromiseId}
@@ -23,15 +23,17 @@ pub record Entry : Type 0 where
   pub rank : Option ℕ
 
 -- the promises of a realm by number, of which some were let go of; its jobs, first in, first out; how many promises are
--- watched, and those of them whose settling isn't told yet, in order
+-- watched, and those of them whose settling isn't told yet, in order; and whether a promise that wasn't open was ever to be settled or
+-- resolved
 pub record Table : Type 0 where
   pub entries : List (Option Entry)
   pub jobs : List Job
   pub watched : ℕ
   pub settlements : List PromiseId
+  pub astray : Bool
 
 abbrev pub no_promises : Table
-no_promises = record { entries = []; jobs = []; watched = 0; settlements = [] }
+no_promises = record { entries = []; jobs = []; watched = 0; settlements = []; astray = false }
 
 abbrev pub pending : Entry
 pending = record { outcome = Pending; reactions = []; follows = false; rank = None }
@@ -81,6 +83,14 @@ is_open_entry (Some e) = if is_pending e.outcome then not e.follows else false
 abbrev pub is_open : PromiseId → Table → Bool
 is_open p t = is_open_entry (entry_at t p)
 
+abbrev pub is_following_entry : Option Entry → Bool
+is_following_entry None = false
+is_following_entry (Some e) = if is_pending e.outcome then e.follows else false
+
+-- whether the promise is pending and follows another
+abbrev pub is_following : PromiseId → Table → Bool
+is_following p t = is_following_entry (entry_at t p)
+
 -- the outcome of a promise that settles so
 abbrev pub settled : Result Plain Plain → Outcome
 settled (Ok v) = Fulfilled v
@@ -117,10 +127,14 @@ settle_entry p outcome t (Some e) =
     })
     e.rank
 
+-- a promise that isn't open was to be settled or resolved
+abbrev pub went_astray : Table → Table
+went_astray t = record t { astray = true }
+
 -- FulfillPromise, RejectPromise: the outcome is set, one job per reaction is put at the end in order of registration, and
 -- the reactions are emptied
 unfoldable pub settle : PromiseId → Result Plain Plain → Table → Table
-settle p outcome t = if is_open p t then settle_entry p outcome t (entry_at t p) else t
+settle p outcome t = if is_open p t then settle_entry p outcome t (entry_at t p) else went_astray t
 
 -- a promise resolved with a value, a promise rejected with a reason: a new one, which is settled at once
 abbrev pub fresh_settled : Result Plain Plain → Table → Table
@@ -132,7 +146,7 @@ answer_entry p outcome t (Some e) = noted p (with_entry p (Some (ended_as outcom
 
 -- fulfilment of the promise of a read with a read result; such a promise has no reactions
 unfoldable pub answer : PromiseId → Outcome → Table → Table
-answer p outcome t = if is_open p t then answer_entry p outcome t (entry_at t p) else t
+answer p outcome t = if is_open p t then answer_entry p outcome t (entry_at t p) else went_astray t
 
 abbrev pub react_by : PromiseId → Reaction → Table → Entry → Outcome → Table
 react_by p r t e Pending = with_entry p (Some (record e { reactions = e.reactions ++ r ∷ [] })) t
@@ -160,15 +174,15 @@ follow_entry p q t (Some e) =
 
 -- the resolve function called with a promise: p follows q from now on, and a NewPromiseResolveThenableJob is queued
 unfoldable pub follow : PromiseId → PromiseId → Table → Table
-follow p q t = if is_open p t then follow_entry p q t (entry_at t p) else t
+follow p q t = if is_open p t then follow_entry p q t (entry_at t p) else went_astray t
 
 abbrev pub unfollow_entry : PromiseId → Table → Option Entry → Table
 unfollow_entry p t None = t
 unfollow_entry p t (Some e) = with_entry p (Some (record e { follows = false })) t
 
--- p follows no other promise any more, and may be settled
+-- p follows no other promise any more, and may be settled. Where it didn't follow any, that went astray
 unfoldable pub unfollow : PromiseId → Table → Table
-unfollow p t = unfollow_entry p t (entry_at t p)
+unfollow p t = if is_following p t then unfollow_entry p t (entry_at t p) else went_astray t
 
 -- what the taking of a job changes besides the queue: a promise that follows another reacts to it, and one that is to settle
 -- may be settled

@@ -1,7 +1,6 @@
 -- Steps, runs and tasks.
-use Rattle.std.specs.Prelude.{ℕ, zero, suc, ◌+◌, Bool, not, if◌then◌else◌, List, [], ◌∷◌}
+use Rattle.std.specs.Prelude.{ℕ, zero, suc, ◌+◌, Bool, if◌then◌else◌, List, [], ◌∷◌}
 use Rattle.ws_steps.specs.declared.calls.Call.{Call}
-use Rattle.ws_steps.specs.declared.calls.Event.{Event}
 use Rattle.ws_steps.specs.declared.calls.Reply.{Reply}
 use Rattle.ws_steps.specs.Queues.{is_empty}
 use Rattle.ws_steps.specs.Slots.{Slots}
@@ -52,18 +51,3 @@ heard s = record s { events = [] }
 -- a task is a call and then jobs, at most so many
 abbrev pub task : ℕ → Call → Slots → Slots
 task n c s = work n (after_call c s)
-
--- what a task shows: the reply, the events in order, and whether a job is still queued
-pub record Shown : Type 0 where
-  pub reply : Reply
-  pub events : List Event
-  pub again : Bool
-
-abbrev pub shown : ℕ → Call → Slots → Shown
-shown n c s =
-    record { reply = reply_to c s; events = (task n c s).events; again = not (is_idle (task n c s)) }
-
--- what tasks show, one after another
-abbrev pub tasks : List (ℕ × Call) → Slots → List Shown
-tasks [] s = []
-tasks (t ∷ ts) s = shown t.0 t.1 s ∷ tasks ts (heard (task t.0 t.1 s))

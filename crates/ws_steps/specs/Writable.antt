@@ -173,7 +173,8 @@ reject_close a (Some p) =
 
 abbrev pub reject_closed : Acts → Option Writer → Acts
 reject_closed a None = a
-reject_closed a (Some w) = with_promises (settle w.closed (Err a.slots.stored_error) a.out.promises) a
+reject_closed a (Some w) =
+    if is_pending_at w.closed a.out.promises then with_promises (settle w.closed (Err a.slots.stored_error) a.out.promises) a else a
 
 -- WritableStreamRejectCloseAndClosedPromiseIfNeeded: where there is a close request, reject it with the stored error and clear
 -- it. Where there is a writer whose closed promise is pending, reject that promise with the stored error

@@ -28,7 +28,9 @@ impl Writable {
         ensures promise_spare { p.new.spare ≡ p.old.spare }
     {
         if let Some(writer) = self.writer {
-            p.reject(writer.closed, self.stored_error);
+            if p.is_pending(writer.closed) {
+                p.reject(writer.closed, self.stored_error);
+            }
         }
     }
 

@@ -1,9 +1,15 @@
-use Rattle.std.proofs.Common.{◌-◌, ◌+◌, sym, ◌∙◌, arith}
+use Rattle.std.proofs.Common.{◌-◌, ◌+◌, sym, ◌∙◌, ap, arith}
+use Rattle.std.proofs.lemmas.Bool.{false≢true}
+use Rattle.ws_realm.specs.Seen.{SeenRealm}
 use Rattle.ws_realm.proofs.Working.{work-job}
 use Rattle.ws_realm.proofs.realm.Realm.work.Goals as goal
 
 pub loop-done-preserved : goal.loop-done-preserved
-loop-done-preserved c =
-    sym (work-job (c.args.most - c.loop-done._done) (c.args.most - (c.loop-done._done + 1)) c.loop-done.self.slots c.job.new.self.slots c.in-Ok-true.field-0
-    (omega arith) c.in-Ok-true.ensures.worked c.in-Ok-true.field-0-test c.in-Ok-true.ensures.slots)
-    ∙ c.loop-done.invariant
+loop-done-preserved c = record {
+  slots =
+      sym (work-job (c.args.most - c.loop-done._done) (c.args.most - (c.loop-done._done + 1)) c.loop-done.self.slots c.job.new.self.slots c.in-Ok-true.field-0
+      (omega arith) c.in-Ok-true.ensures.worked c.in-Ok-true.field-0-test c.in-Ok-true.ensures.slots)
+      ∙ c.loop-done.invariant.slots;
+  ready = c.in-Ok-true.ensures.ready.1 ∙ (sym c.in-Ok-true.ensures.ready.0 ∙ c.loop-done.invariant.ready);
+  still = λ h. absurd (false≢true (sym c.in-Ok-true.ensures.ready.0 ∙ (ap (λ (r : SeenRealm). r.wanting) (c.loop-done.invariant.still h) ∙ h)));
+}

@@ -1,5 +1,0 @@
-use Rattle.ws_laws.proofs.each_writable_step.Goals as goal
-use Rattle.ws_laws.proofs.WritableStep as steps
-
-pub returns : goal.returns
-returns c = steps.each_writable_step

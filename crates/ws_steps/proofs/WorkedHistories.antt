@@ -1,0 +1,67 @@
+-- The histories computed on short runs.
+use Rattle.std.proofs.Common.{◌≡◌, ℕ, List, [], ◌∷◌, ◌++◌, refl, true}
+use Rattle.ws_value.specs.declared.ids.HostId.{HostId}
+use Rattle.ws_value.specs.declared.ids.LockId.{LockId}
+use Rattle.ws_value.specs.declared.ids.StreamId.{StreamId}
+use Rattle.ws_value.specs.declared.value.Plain.TheVariants.{Number}
+use Rattle.ws_value.specs.declared.value.Value.{Value}
+use Rattle.ws_value.specs.declared.value.Value.TheVariants.{Plain as PlainValue}
+use Rattle.ws_steps.specs.declared.calls.Answer.TheVariants.{Ok, Fail}
+use Rattle.ws_steps.specs.declared.calls.Call.TheVariants.{MakeReadable, MakeWritable, GetReader, GetWriter, CancelBy, Read, Write, CloseBy, Enqueue, Settle}
+use Rattle.ws_steps.specs.declared.calls.StartBy.TheVariants.{Now}
+use Rattle.ws_steps.specs.declared.readable.SizeBy.TheVariants.{Count}
+use Rattle.ws_steps.specs.Promises.{fresh, settle, answer, react, after_next_job, watch}
+use Rattle.ws_steps.specs.Readable as readable
+use Rattle.ws_steps.specs.Writable as writable
+use Rattle.ws_steps.specs.Slots.{empty, call_host}
+use Rattle.ws_steps.specs.Turns.{row, turns, performed}
+use Rattle.ws_steps.specs.Jobs.{perform_job}
+use Rattle.ws_steps.specs.Calls.{begin}
+use Rattle.ws_steps.specs.Run.{Entry, Called, Worked}
+use Rattle.ws_steps.specs.Histories.{run_flow, run_writes, run_promised}
+
+abbrev s0 : StreamId
+s0 = record { 0 = 0 }
+
+abbrev l0 : LockId
+l0 = record { 0 = 0 }
+
+abbrev h : ℕ → HostId
+h n = record { 0 = n }
+
+abbrev n : ℕ → Value
+n k = PlainValue (Number k)
+
+-- two chunks are read from the queue, one is given to a read that waits, and one is in the queue at the cancel
+abbrev reads : List Entry
+reads =
+    Called (MakeReadable 2 Count Now) ∷ Worked ∷ Called (Enqueue s0 (n 1)) ∷ Called (Enqueue s0 (n 2)) ∷ Called (GetReader s0)
+    ∷ Called (Read l0) ∷ Called (Read l0) ∷ Called (Read l0) ∷ Called (Enqueue s0 (n 3)) ∷ Called (Enqueue s0 (n 4))
+    ∷ Called (CancelBy l0 (Number 5)) ∷ []
+
+flow_of_reads : run_flow s0 reads empty ≡ record { entered = n 1 ∷ n 2 ∷ n 3 ∷ n 4 ∷ []; given = n 1 ∷ n 2 ∷ n 3 ∷ []; cancelled = true; asked = 3 }
+unfolding fresh settle answer react after_next_job watch readable.set_up readable.chunk_steps readable.close_steps readable.call_pull_if_needed readable.accept readable.controller_enqueue readable.stream_close readable.after_take readable.pull_steps readable.default_reader_read readable.reader_generic_initialize readable.start_settled readable.cancel_steps readable.stream_cancel call_host row turns performed perform_job begin
+flow_of_reads = refl
+
+-- two writes and a close are asked for
+abbrev writes : List Entry
+writes =
+    Called (MakeWritable 1 Count Now) ∷ Worked ∷ Called (GetWriter s0) ∷ Called (Write l0 (n 1)) ∷ Called (Write l0 (n 2))
+    ∷ Called (CloseBy l0) ∷ []
+
+-- both writes succeed
+writes_that_succeed : run_writes s0 (writes ++ Called (Settle (h 0) Ok) ∷ Worked ∷ Called (Settle (h 1) Ok) ∷ Worked ∷ []) empty
+    ≡ record { written = n 1 ∷ n 2 ∷ []; acted = n 1 ∷ n 2 ∷ []; fulfilled = 2; closes = 1 }
+unfolding fresh settle react after_next_job watch writable.ensure_rejected writable.update_backpressure writable.refresh_backpressure writable.set_up writable.process_write writable.process_close writable.advance_queue writable.write_settled writable.start_settled writable.controller_write writable.writer_write writable.controller_close writable.stream_close writable.set_up_writer call_host row turns performed perform_job begin
+writes_that_succeed = refl
+
+-- the first write fails
+write_that_fails : run_writes s0 (writes ++ Called (Settle (h 0) (Fail (Number 9))) ∷ Worked ∷ Called (Write l0 (n 3)) ∷ []) empty
+    ≡ record { written = n 1 ∷ n 2 ∷ []; acted = n 1 ∷ []; fulfilled = 0; closes = 0 }
+unfolding fresh settle react after_next_job watch writable.ensure_rejected writable.update_backpressure writable.refresh_backpressure writable.set_up writable.reject_close_and_closed writable.finish_erroring writable.start_erroring writable.deal_with_rejection writable.process_write writable.process_close writable.advance_queue writable.write_settled writable.start_settled writable.controller_write writable.writer_write writable.controller_close writable.stream_close writable.set_up_writer call_host row turns performed perform_job begin
+write_that_fails = refl
+
+-- the promises of the two writes
+promises_of_writes : run_promised s0 writes empty ≡ record { 0 = 3 } ∷ record { 0 = 6 } ∷ []
+unfolding fresh settle react after_next_job watch writable.ensure_rejected writable.update_backpressure writable.refresh_backpressure writable.set_up writable.process_write writable.process_close writable.advance_queue writable.write_settled writable.start_settled writable.controller_write writable.writer_write writable.controller_close writable.stream_close writable.set_up_writer call_host row turns performed perform_job begin
+promises_of_writes = refl

@@ -1,0 +1,11 @@
+pub mod Shape
+pub mod Moves
+pub mod Operations
+pub mod Ends
+pub mod Closing
+pub mod Asked
+pub mod Steps
+pub mod Calls
+pub mod Runs
+pub mod EachStep
+pub mod Heard
