@@ -2,7 +2,9 @@
 pub use ws_laws::{
     each_mark_stays, each_outcome_stays, each_throw_changes_nothing, effects_end_once,
 };
+pub use ws_promise_laws::none_goes_astray;
 pub use ws_readable_laws::{each_readable_is_lawful, each_readable_step, entered_was_accepted};
 pub use ws_writable_laws::{
     acted_was_heard, closes_were_heard, each_writable_is_lawful, each_writable_step,
 };
+pub use ws_write_laws::successful_writes_are_fulfilled;

@@ -1,0 +1,69 @@
+-- A write that ended well fulfilled its promise.
+use Rattle.std.proofs.Common.{◌≡◌, ℕ, zero, suc, ◌+◌, ◌≤◌, get_or, true, false, List, [], ◌∷◌, ◌++◌, Option, Some, None, Ok, refl, sym, ap, ◌∙◌, arith, append_assoc, length-append}
+use Rattle.std.proofs.lemmas.List.Elements.{All-append}
+use Rattle.ws_value.specs.declared.ids.PromiseId.{PromiseId}
+use Rattle.ws_value.specs.declared.ids.StreamId.{StreamId}
+use Rattle.ws_value.specs.declared.value.Outcome.TheVariants.{Fulfilled}
+use Rattle.ws_value.specs.declared.value.Plain.{Plain}
+use Rattle.ws_value.specs.declared.value.Plain.TheVariants.{Undefined}
+use Rattle.ws_steps.specs.Promises.{Table, is_open, outcome_at, settle}
+use Rattle.ws_steps.specs.Writable.{Slots, Acts, has_ended, settle_request, write_ended, without_first, refresh_backpressure, advance_queue, write_settled}
+use Rattle.ws_steps.specs.Slots.{Stream, as_writable}
+use Rattle.ws_steps.specs.Histories.{Writes}
+use Rattle.ws_laws.proofs.Outcomes.{Keeps, keeps-then}
+use Rattle.ws_laws.proofs.Stays.{other, other_same}
+use Rattle.ws_laws.proofs.WritableApart.{refresh-apart, advance-apart}
+use Rattle.ws_promise_laws.proofs.Tokens.{Token, PromiseToken, names_any}
+use Rattle.ws_promise_laws.proofs.Holds.{named, open_when}
+use Rattle.ws_promise_laws.proofs.Settling.{settled-outcome}
+use Rattle.ws_promise_laws.proofs.Streams.{Writes as Sound}
+use Rattle.ws_write_laws.proofs.Operations.{line, EndsFirst}
+use Rattle.ws_write_laws.proofs.Lined.{Lined, all_keep}
+
+-- the promise of the write in flight is open
+pub flying-open : (me : StreamId) (f l : Token → ℕ) (a : Acts) (p : PromiseId) → a.slots.write_in_flight ≡ Some p → Sound me f l a → is_open p a.out.promises ≡ true
+flying-open me f l a p e k =
+    let h = k.holds.once (PromiseToken p) in
+    let one : names_any (PromiseToken p) a.slots.write_in_flight ≡ 1 = rw e (named p) in
+    open_when (is_open p a.out.promises) (omega arith)
+
+ended_keeps : (me : StreamId) (b : Acts) → Keeps b.out.promises (advance_queue me (refresh_backpressure b)).out.promises
+ended_keeps me b =
+    let c : Acts = refresh_backpressure b in
+    keeps-then b.out.promises c.out.promises (advance_queue me c).out.promises (refresh-apart me b).later.keeps (advance-apart (other me) me c (other_same me)).later.keeps
+
+pub write_settled-fulfils : (me : StreamId) (v : Plain) (a : Acts) (p : PromiseId) → a.slots.write_in_flight ≡ Some p → is_open p a.out.promises ≡ true → outcome_at (write_settled me (Ok v) a).out.promises p ≡ Some (Fulfilled Undefined)
+unfolding write_settled
+write_settled-fulfils me v a p e o =
+    let b : Acts = without_first (write_ended (Ok Undefined) a) in
+    let is : b.out.promises ≡ settle p (Ok Undefined) a.out.promises = ap (settle_request (Ok Undefined) a.out.promises) e in
+    (ended_keeps me b).outcome p (Fulfilled Undefined) refl (rw is (settled-outcome p (Ok Undefined) a.out.promises o))
+
+all_one : (t : Table) (p : PromiseId) → outcome_at t p ≡ Some (Fulfilled Undefined) → (k : ℕ) (d : PromiseId) → suc k ≤ 1 → outcome_at t (get_or (p ∷ []) k d) ≡ Some (Fulfilled Undefined)
+all_one t p h zero d n = h
+all_one t p h (suc k) d n = absurd (omega arith)
+
+later_in_line : (p : PromiseId) (xs ys : List PromiseId) → ◌≡◌ {A = List PromiseId} (p ∷ xs) (p ∷ ys) → xs ≡ ys
+later_in_line p xs ys e = cc
+
+flying_first : (w : Slots) (p : PromiseId) → w.write_in_flight ≡ Some p → line w ≡ p ∷ w.write_requests
+flying_first w p e = rw e refl
+
+-- the first of the line is fulfilled
+pub lined-ended : (h : Writes) (q : List PromiseId) (p : PromiseId) (old new : Option Stream) (t z : Table) → EndsFirst p (as_writable old) (as_writable new) → (new ≡ None → old ≡ None)
+    → has_ended (as_writable old).state ≡ false → (as_writable old).write_in_flight ≡ Some p → Keeps t z → outcome_at z p ≡ Some (Fulfilled Undefined) → Lined h q old t
+    → Lined (record h { fulfilled = h.fulfilled + 1 }) q new z
+lined-ended h q p old new t z ends n alive flies keeps done l =
+    let w : Slots = as_writable old in
+    let rest : l.rest ≡ p ∷ w.write_requests = l.alive alive ∙ flying_first w p flies in
+    record {
+      answered = l.answered;
+      first = l.first ++ p ∷ [];
+      rest = w.write_requests;
+      split = append_assoc l.first (p ∷ []) w.write_requests ∙ (ap (λ (ps : List PromiseId). l.first ++ ps) (sym rest) ∙ l.split);
+      counted = let c = l.counted in omega (arith, length-append l.first (p ∷ []));
+      fulfilled = All-append (λ p. outcome_at z p ≡ Some (Fulfilled Undefined)) l.first (p ∷ []) (all_keep t z l.first keeps l.fulfilled) (all_one z p done);
+      alive = λ e. later_in_line p w.write_requests (line (as_writable new)) (sym (flying_first w p flies) ∙ sym (ends.alive e));
+      spent = ends.spent;
+      unmade = λ e. rw (n e) refl;
+    }

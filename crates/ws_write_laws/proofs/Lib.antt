@@ -1,0 +1,5 @@
+pub mod Operations
+pub mod Lined
+pub mod Ends
+pub mod Calls
+pub mod Runs

@@ -1,0 +1,96 @@
+-- The promises of the writes of a stream: those that ended well are fulfilled, and the others stand in line while the stream lives.
+use Rattle.std.proofs.Common.{◌≡◌, Bool, true, false, List, [], ◌∷◌, ◌++◌, length, get_or, Option, None, slice_get, refl, sym, ap, ◌∙◌, arith, append_assoc, length-append}
+use Rattle.ws_value.specs.declared.ids.PromiseId.{PromiseId}
+use Rattle.ws_value.specs.declared.ids.StreamId.{StreamId}
+use Rattle.ws_value.specs.declared.value.Outcome.TheVariants.{Fulfilled}
+use Rattle.ws_value.specs.declared.value.Plain.TheVariants.{Undefined}
+use Rattle.ws_value.specs.declared.value.Value.{Value}
+use Rattle.ws_steps.specs.Promises.{Table}
+use Rattle.ws_steps.specs.Readable as readable
+use Rattle.ws_steps.specs.Writable as writable
+use Rattle.ws_steps.specs.Writable.{has_ended}
+use Rattle.ws_steps.specs.Slots.{Slots, Stream, nothing, on_readable, on_writable, has_writable, writable_at, as_writable}
+use Rattle.ws_steps.specs.Histories.{Writes, is_same}
+use Rattle.ws_steps.specs.Laws.{AllFulfilled}
+use Rattle.ws_laws.proofs.Outcomes.{Keeps}
+use Rattle.ws_laws.proofs.Tables.{same_id, writable_acts, on_writable-same, on_writable-other, on_writable-none, on_readable-none, on_readable-writable}
+use Rattle.ws_write_laws.proofs.Operations.{line, Spent, KeepsLine, AppendsToLine}
+
+-- of the stream that stands in its place, by the history of its writes and their promises
+pub record Lined (h : Writes) (promised : List PromiseId) (place : Option Stream) (t : Table) : Type 0 where
+  pub answered : length promised ≡ length h.written
+  pub first : List PromiseId
+  pub rest : List PromiseId
+  pub split : first ++ rest ≡ promised
+  pub counted : length first ≡ h.fulfilled
+  pub fulfilled : AllFulfilled t first
+  pub alive : has_ended (as_writable place).state ≡ false → rest ≡ line (as_writable place)
+  pub spent : Spent (as_writable place)
+  pub unmade : place ≡ None → rest ≡ []
+
+pub all_keep : (t z : Table) (ps : List PromiseId) → Keeps t z → AllFulfilled t ps → AllFulfilled z ps
+all_keep t z ps k a n d h = k.outcome (get_or ps n d) (Fulfilled Undefined) refl (a n d h)
+
+-- settled promises keep their outcomes
+pub lined-later : (h : Writes) (q : List PromiseId) (place : Option Stream) (t z : Table) → Keeps t z → Lined h q place t → Lined h q place z
+lined-later h q place t z k l = record {
+  answered = l.answered;
+  first = l.first;
+  rest = l.rest;
+  split = l.split;
+  counted = l.counted;
+  fulfilled = all_keep t z l.first k l.fulfilled;
+  alive = l.alive;
+  spent = l.spent;
+  unmade = l.unmade;
+}
+
+-- the stream keeps its line
+pub lined-line : (h : Writes) (q : List PromiseId) (old new : Option Stream) (t : Table) → KeepsLine (as_writable old) (as_writable new) → (new ≡ None → old ≡ None) → Lined h q old t → Lined h q new t
+lined-line h q old new t k n l = record {
+  answered = l.answered;
+  first = l.first;
+  rest = l.rest;
+  split = l.split;
+  counted = l.counted;
+  fulfilled = l.fulfilled;
+  alive = λ e. let a = k.alive e in l.alive a.0 ∙ sym a.1;
+  spent = k.spent l.spent;
+  unmade = λ e. l.unmade (n e);
+}
+
+line-same : (a : writable.Slots) → KeepsLine a a
+line-same a = record { alive = λ e. (e, refl); spent = λ e. e }
+
+line_after : (operation : writable.Acts → writable.Acts) (i j : StreamId) (s : Slots) (same there : Bool) → same ≡ is_same i j → there ≡ has_writable j s
+    → KeepsLine (writable_at j s) (operation (writable_acts j s)).slots → KeepsLine (writable_at i s) (writable_at i (on_writable operation j s).slots)
+line_after operation i j s same false e t k = let n : on_writable operation j s ≡ nothing s = rw (← t) refl in rw n (line-same (writable_at i s))
+line_after operation i j s false true e t k = rw (on_writable-other operation j s i (sym e)) (line-same (writable_at i s))
+line_after operation i j s true true e t k = rw (same_id i j (sym e), on_writable-same operation j s (sym t)) k
+
+-- an operation on stream j that keeps its line
+pub lined-on_writable : (operation : writable.Acts → writable.Acts) (i j : StreamId) (s : Slots) (h : Writes) (q : List PromiseId) (t : Table)
+    → KeepsLine (writable_at j s) (operation (writable_acts j s)).slots → Lined h q (slice_get s.streams i.0) t → Lined h q (slice_get (on_writable operation j s).slots.streams i.0) t
+lined-on_writable operation i j s h q t k l =
+    lined-line h q (slice_get s.streams i.0) (slice_get (on_writable operation j s).slots.streams i.0) t (line_after operation i j s (is_same i j) (has_writable j s) refl refl k) (on_writable-none operation j s i) l
+
+pub lined-on_readable : (operation : readable.Acts → readable.Acts) (i j : StreamId) (s : Slots) (h : Writes) (q : List PromiseId) (t : Table)
+    → Lined h q (slice_get s.streams i.0) t → Lined h q (slice_get (on_readable operation j s).slots.streams i.0) t
+lined-on_readable operation i j s h q t l =
+    lined-line h q (slice_get s.streams i.0) (slice_get (on_readable operation j s).slots.streams i.0) t
+    (rw (on_readable-writable operation j s i (is_same i j) refl) (line-same (writable_at i s))) (on_readable-none operation j s i) l
+
+-- a write is appended
+pub lined-append : (h : Writes) (v : Value) (p : PromiseId) (q : List PromiseId) (old new : Option Stream) (t : Table) → AppendsToLine p (as_writable old) (as_writable new) → (new ≡ None → old ≡ None)
+    → has_ended (as_writable old).state ≡ false → Lined h q old t → Lined (record h { written = h.written ++ v ∷ [] }) (q ++ p ∷ []) new t
+lined-append h v p q old new t k n alive l = record {
+  answered = let a = l.answered in omega (arith, length-append q (p ∷ []), length-append h.written (v ∷ []));
+  first = l.first;
+  rest = l.rest ++ p ∷ [];
+  split = sym (append_assoc l.first l.rest (p ∷ [])) ∙ ap (λ (ps : List PromiseId). ps ++ p ∷ []) l.split;
+  counted = l.counted;
+  fulfilled = l.fulfilled;
+  alive = λ e. let a = k.alive e in ap (λ (ps : List PromiseId). ps ++ p ∷ []) (l.alive a.0) ∙ sym a.1;
+  spent = k.spent l.spent;
+  unmade = λ e. let gone : true ≡ false = rw (n e) at alive in absurd (cc);
+}
