@@ -1,0 +1,259 @@
+"""The calls on a realm, with their checks and replies.
+
+Each call first checks what it names, then what the standard's public method checks, and then
+performs an abstract operation. Each docstring gives what the call would be in a program.
+"""
+
+from __future__ import annotations
+
+from typing import Callable
+
+import looks
+from promises import Promise, promise_rejected_with
+from readable import ReadableStream
+from readable_controller import ReadableStreamDefaultController, UnderlyingSource
+from readable_reader import ReadableStreamDefaultReader, ReadRequest
+from realm import Lock, Realm, Throw
+from replies import Done, Locked, Look, Made, Named, Reply, Size, Throws, TooMany
+from values import TYPE_ERROR, UNDEFINED, Value
+from writable import WritableStream
+from writable_controller import (AbortController, UnderlyingSink,
+                                 WritableStreamDefaultController)
+from writable_writer import WritableStreamDefaultWriter
+
+MOST_STREAMS = 1024
+
+Call = Callable[..., Reply]
+SizeAlgorithm = Callable[[Value], int]
+
+
+def perform(realm: Realm, call: Call, arguments: tuple) -> Reply:
+    """Performs a call of this module, with the arguments behind the realm."""
+    try:
+        return call(realm, *arguments)
+    except Throw as thrown:
+        return Throws(str(thrown))
+
+
+# Streams
+
+def make_readable(realm: Realm, high_water_mark: int, size_algorithm: SizeAlgorithm,
+                  start_later: bool) -> Reply:
+    """new ReadableStream(underlyingSource, strategy)"""
+    number = len(realm.streams)
+    if number >= MOST_STREAMS:
+        return TooMany()
+    stream = ReadableStream(realm.jobs)
+    realm.streams.append(stream)
+    source = UnderlyingSource(
+        start=realm.start_algorithm(number, start_later),
+        pull=realm.host_algorithm("pull", number),
+        cancel=realm.host_algorithm("cancel", number))
+    ReadableStreamDefaultController(stream, source, high_water_mark, size_algorithm)
+    return Made(number)
+
+
+def make_writable(realm: Realm, high_water_mark: int, size_algorithm: SizeAlgorithm,
+                  start_later: bool) -> Reply:
+    """new WritableStream(underlyingSink, strategy)"""
+    number = len(realm.streams)
+    if number >= MOST_STREAMS:
+        return TooMany()
+    stream = WritableStream(realm.jobs)
+    realm.streams.append(stream)
+    sink = UnderlyingSink(
+        start=realm.start_algorithm(number, start_later),
+        write=realm.host_algorithm("write", number),
+        close=realm.host_algorithm("close", number),
+        abort=realm.host_algorithm("abort", number))
+    abort_controller = AbortController(lambda reason: realm.tell_signalled(number, reason))
+    WritableStreamDefaultController(stream, sink, high_water_mark, size_algorithm,
+                                    abort_controller)
+    return Made(number)
+
+
+def get_reader(realm: Realm, stream: int) -> Reply:
+    """stream.getReader()"""
+    readable = realm.readable(stream)
+    if readable.is_locked():
+        raise Throw("TypeError")
+    return locked(realm, ReadableStreamDefaultReader(readable))
+
+
+def get_writer(realm: Realm, stream: int) -> Reply:
+    """stream.getWriter()"""
+    writable = realm.writable(stream)
+    if writable.is_locked():
+        raise Throw("TypeError")
+    return locked(realm, WritableStreamDefaultWriter(writable))
+
+
+def cancel(realm: Realm, stream: int, reason: Value) -> Reply:
+    """stream.cancel(reason)"""
+    readable = realm.readable(stream)
+    if readable.is_locked():
+        return rejected_with_type_error(realm)
+    return named(realm, readable.cancel(reason))
+
+
+def close(realm: Realm, stream: int) -> Reply:
+    """stream.close()"""
+    writable = realm.writable(stream)
+    if writable.is_locked() or writable.close_queued_or_in_flight():
+        return rejected_with_type_error(realm)
+    return named(realm, writable.close())
+
+
+def abort(realm: Realm, stream: int, reason: Value) -> Reply:
+    """stream.abort(reason)"""
+    writable = realm.writable(stream)
+    if writable.is_locked():
+        return rejected_with_type_error(realm)
+    return named(realm, writable.abort(reason))
+
+
+def look(realm: Realm, stream: int) -> Look:
+    """A look at the slots of a stream"""
+    return looks.look_at(realm.stream(stream))
+
+
+# Controllers
+
+def enqueue(realm: Realm, stream: int, chunk: Value) -> Reply:
+    """controller.enqueue(chunk) of a readable stream"""
+    controller = realm.readable(stream).controller
+    if not controller.can_close_or_enqueue():
+        raise Throw("TypeError")
+    controller.enqueue(chunk)
+    return Done()
+
+
+def finish(realm: Realm, stream: int) -> Reply:
+    """controller.close() of a readable stream"""
+    controller = realm.readable(stream).controller
+    if not controller.can_close_or_enqueue():
+        raise Throw("TypeError")
+    controller.close()
+    return Done()
+
+
+def fail(realm: Realm, stream: int, reason: Value) -> Reply:
+    """controller.error(reason)"""
+    found = realm.stream(stream)
+    if isinstance(found, ReadableStream):
+        found.controller.error(reason)
+    else:
+        found.controller.error_if_needed(reason)
+    return Done()
+
+
+def desired(realm: Realm, stream: int) -> Reply:
+    """controller.desiredSize of a readable stream"""
+    return Size(realm.readable(stream).controller.desired_size())
+
+
+# Readers and writers
+
+def closed(realm: Realm, lock: int) -> Reply:
+    """reader.closed, writer.closed"""
+    return named(realm, realm.lock(lock).closed_promise)
+
+
+def release(realm: Realm, lock: int) -> Reply:
+    """reader.releaseLock(), writer.releaseLock()"""
+    reader_or_writer = realm.lock(lock)
+    if reader_or_writer.stream is not None:
+        reader_or_writer.release()
+    return Done()
+
+
+def read(realm: Realm, lock: int) -> Reply:
+    """reader.read()"""
+    reader = realm.reader(lock)
+    if reader.stream is None:
+        return rejected_with_type_error(realm)
+    promise = Promise(realm.jobs)
+    reader.read(ReadRequest(promise))
+    return named(realm, promise)
+
+
+def cancel_by_reader(realm: Realm, lock: int, reason: Value) -> Reply:
+    """reader.cancel(reason)"""
+    reader = realm.reader(lock)
+    if reader.stream is None:
+        return rejected_with_type_error(realm)
+    return named(realm, reader.generic_cancel(reason))
+
+
+def ready(realm: Realm, lock: int) -> Reply:
+    """writer.ready"""
+    return named(realm, realm.writer(lock).ready_promise)
+
+
+def desired_by_writer(realm: Realm, lock: int) -> Reply:
+    """writer.desiredSize"""
+    writer = realm.writer(lock)
+    if writer.stream is None:
+        raise Throw("TypeError")
+    return Size(writer.desired_size())
+
+
+def write(realm: Realm, lock: int, chunk: Value) -> Reply:
+    """writer.write(chunk)"""
+    writer = realm.writer(lock)
+    if writer.stream is None:
+        return rejected_with_type_error(realm)
+    return named(realm, writer.write(chunk))
+
+
+def close_by_writer(realm: Realm, lock: int) -> Reply:
+    """writer.close()"""
+    writer = realm.writer(lock)
+    if writer.stream is None or writer.stream.close_queued_or_in_flight():
+        return rejected_with_type_error(realm)
+    return named(realm, writer.close())
+
+
+def abort_by_writer(realm: Realm, lock: int, reason: Value) -> Reply:
+    """writer.abort(reason)"""
+    writer = realm.writer(lock)
+    if writer.stream is None:
+        return rejected_with_type_error(realm)
+    return named(realm, writer.abort(reason))
+
+
+# The host
+
+def settle_ok(realm: Realm, host_call: int) -> Reply:
+    """The host fulfils the promise of an algorithm with undefined"""
+    realm.host_promise(host_call).resolve(UNDEFINED)
+    return Done()
+
+
+def settle_fail(realm: Realm, host_call: int, reason: Value) -> Reply:
+    """The host rejects the promise of an algorithm"""
+    realm.host_promise(host_call).reject(reason)
+    return Done()
+
+
+def step(_realm: Realm) -> Reply:
+    """Nothing"""
+    return Done()
+
+
+# Replies that name something
+
+def locked(realm: Realm, lock: Lock) -> Reply:
+    """The reply that names a new reader or writer."""
+    realm.locks.append(lock)
+    return Locked(len(realm.locks) - 1)
+
+
+def named(realm: Realm, promise: Promise) -> Reply:
+    """The reply that names a promise."""
+    return Named(realm.name_of(promise))
+
+
+def rejected_with_type_error(realm: Realm) -> Reply:
+    """The reply that names a new promise, rejected with TypeError."""
+    return named(realm, promise_rejected_with(realm.jobs, TYPE_ERROR))

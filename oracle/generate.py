@@ -1,0 +1,191 @@
+"""Makes random scripts that reach deep states.
+
+The author of a script performs each line in a realm as it writes it. So it knows which
+streams are alive, who locks them and which algorithms of the host's still run, and mostly
+writes calls that do something. Each script has habits of its own, which are drawn first: one
+settles little and aborts much, another leaves its jobs undone. Scripts that all did everything
+equally often would rarely do one thing ten times in a row.
+"""
+
+from __future__ import annotations
+
+from random import Random
+from typing import Callable
+
+from language import task_in
+from readable import ReadableStream
+from realm import Lock, Realm, Stream
+from script import perform_task
+from writable import WritableStream
+
+# How often each kind of line is written where no habit changes it. Streams, readers and
+# writers are made beside these, where some are wanted.
+COMMONNESS: dict[str, float] = {
+    "reader": 1.2, "read": 8.0, "enqueue": 8.0, "finish": 1.0, "cancel stream": 0.6,
+    "cancel reader": 0.8,
+    "writer": 1.2, "write": 9.0, "close stream": 1.0, "close writer": 2.0,
+    "abort stream": 1.2, "abort writer": 2.2,
+    "fail": 1.0, "release": 1.8, "closed": 2.5, "ready": 3.0, "desired stream": 1.0,
+    "desired writer": 1.2, "settle ok": 9.0, "settle fail": 2.0, "state": 3.0, "step": 2.0,
+}
+
+REASONS = ("undefined", "n0", "n1", "n7", "n18446744073709551615", "e0", "e1", "e2", "e3",
+           "e4294967295", "k0", "k4294967295")
+CHUNKS = ("x", "x00", "x6162", "x616263", "xAbCdEf01", "n1", "n2", "n3", "e5", "k6",
+          "undefined")
+MARKS = ("0", "0", "1", "1", "1", "1", "2", "2", "3", "5") * 3 + ("18446744073709551615",)
+LIMITS = ("0", "0", "0", "1", "1", "1", "2", "2", "3", "4", "7", "100000")
+ALL_KINDS = (("readable",), ("writable",), ("writable",), ("readable", "writable"))
+
+
+def is_alive(stream: Stream | None) -> bool:
+    """Whether a stream is neither closed nor errored."""
+    return stream is not None and stream.state not in ("closed", "errored")
+
+
+class Author:
+    """Writes one script."""
+
+    def __init__(self, random: Random) -> None:
+        self._random = random
+        self._realm = Realm()
+        self._lines: list[str] = []
+        self._calls = list(COMMONNESS)
+        self._weights = [weight * random.choice((0.1, 1, 1, 1, 4))
+                         for weight in COMMONNESS.values()]
+        self._limited = random.choice((0.0, 0.0, 0.2, 0.6, 0.95))
+        self._careless = random.choice((0.0, 0.01, 0.02, 0.05, 0.3))
+        self._eager = random.choice((0.1, 0.3, 0.5))
+        self._start_later = random.choice((0.1, 0.3, 0.8))
+        self._kinds = random.choice(ALL_KINDS)
+        self._most_alive = random.choice((1, 1, 2, 3))
+        self._writers: dict[str, Callable[[], str | None]] = {
+            "reader": lambda: self._of_stream("reader", ReadableStream),
+            "read": lambda: self._of_lock("read", ReadableStream),
+            "enqueue": lambda: self._of_stream("enqueue", ReadableStream, CHUNKS),
+            "finish": lambda: self._of_stream("finish", ReadableStream),
+            "cancel stream": lambda: self._of_stream("cancel", ReadableStream, REASONS),
+            "cancel reader": lambda: self._of_lock("cancel", ReadableStream, REASONS),
+            "writer": lambda: self._of_stream("writer", WritableStream),
+            "write": lambda: self._of_lock("write", WritableStream, CHUNKS),
+            "close stream": lambda: self._of_stream("close", WritableStream),
+            "close writer": lambda: self._of_lock("close", WritableStream),
+            "abort stream": lambda: self._of_stream("abort", WritableStream, REASONS),
+            "abort writer": lambda: self._of_lock("abort", WritableStream, REASONS),
+            "fail": lambda: self._of_stream("fail", object, REASONS),
+            "release": lambda: self._of_lock("release", object),
+            "closed": lambda: self._of_lock("closed", object),
+            "ready": lambda: self._of_lock("ready", WritableStream),
+            "desired stream": lambda: self._of_stream("desired", ReadableStream),
+            "desired writer": lambda: self._of_lock("desired", WritableStream),
+            "settle ok": lambda: self._settle("ok"),
+            "settle fail": lambda: self._settle("fail " + random.choice(REASONS)),
+            "state": lambda: self._of_stream("state", object),
+            "step": lambda: "step",
+        }
+
+    def write_script(self, length: int) -> bytes:
+        """A script of so many lines. It ends earlier where an assertion of the realm fails,
+        and then it is a script that shows this."""
+        try:
+            while len(self._lines) < length:
+                call = self._next_call()
+                if call is not None:
+                    self._perform(call)
+        except AssertionError:
+            pass
+        return "".join(f"{line}\n" for line in self._lines).encode("ascii")
+
+    def _perform(self, call: str) -> None:
+        """Adds a line, and performs it."""
+        if self._random.random() < self._limited:
+            call = f"@{self._random.choice(LIMITS)} {call}"
+        self._lines.append(call)
+        perform_task(self._realm, task_in(len(self._lines), call.encode("ascii").split(b" ")))
+
+    def _next_call(self) -> str | None:
+        """A stream or a lock where one is wanted and the author is eager, or else a call of
+        any kind, or none where there is nothing that it could name."""
+        alive = [number for number, stream in enumerate(self._realm.streams)
+                 if is_alive(stream)]
+        if len(alive) < self._most_alive and self._random.random() < self._eager:
+            return self._new_stream()
+        free = [number for number in alive if not self._realm.streams[number].is_locked()]
+        if free and self._random.random() < self._eager:
+            return self._new_lock(self._random.choice(free))
+        [call] = self._random.choices(self._calls, self._weights)
+        return self._writers[call]()
+
+    def _new_stream(self) -> str:
+        kind = self._random.choice(self._kinds)
+        size = self._random.choice(("count", "count", "bytes"))
+        start = "later" if self._random.random() < self._start_later else "now"
+        return f"{kind} {self._random.choice(MARKS)} {size} {start}"
+
+    def _new_lock(self, number: int) -> str:
+        is_readable = isinstance(self._realm.streams[number], ReadableStream)
+        return f"{'reader' if is_readable else 'writer'} s{number}"
+
+    def _of_stream(self, word: str, kind: type, values: tuple[str, ...] = ()) -> str | None:
+        """A call on a stream of this kind: where it minds locks, mostly on one that is free,
+        and unless it makes a lock, mostly on one that is alive."""
+        streams = self._realm.streams
+        numbers = [number for number, stream in enumerate(streams) if isinstance(stream, kind)]
+        if word in ("reader", "writer", "cancel", "close", "abort"):
+            numbers = self._narrowed(numbers, lambda number: not streams[number].is_locked())
+        if word not in ("reader", "writer"):
+            numbers = self._narrowed(numbers, lambda number: is_alive(streams[number]))
+        return self._on(word, "s", numbers, values)
+
+    def _of_lock(self, word: str, kind: type, values: tuple[str, ...] = ()) -> str | None:
+        """A call on a reader or writer of such a stream, mostly on one that isn't released,
+        and mostly of a stream that is alive."""
+        locks: list[Lock] = self._realm.locks
+        numbers = [number for number, lock in enumerate(locks)
+                   if lock.stream is None or isinstance(lock.stream, kind)]
+        numbers = self._narrowed(numbers, lambda number: locks[number].stream is not None)
+        numbers = self._narrowed(numbers, lambda number: is_alive(locks[number].stream))
+        return self._on(word, "l", numbers, values)
+
+    def _settle(self, answer: str) -> str | None:
+        """Settles an algorithm's promise, mostly one of the last that are pending: earlier
+        ones may be of streams that have ended."""
+        promises = self._realm.host_promises
+        numbers = self._narrowed(list(range(len(promises))),
+                                 lambda number: promises[number].is_pending)
+        if self._random.random() < 0.7:
+            numbers = numbers[-2:]
+        name = self._name("h", numbers)
+        return None if name is None else f"settle {name} {answer}"
+
+    def _narrowed(self, numbers: list[int], fits: Callable[[int], bool]) -> list[int]:
+        """The numbers that fit; now and then, or where there is none, all of them."""
+        fitting = [number for number in numbers if fits(number)]
+        if fitting and self._random.random() >= max(self._careless, 0.1):
+            return fitting
+        return numbers
+
+    def _on(self, word: str, prefix: str, numbers: list[int],
+            values: tuple[str, ...]) -> str | None:
+        name = self._name(prefix, numbers)
+        if name is None:
+            return None
+        return f"{word} {name} {self._random.choice(values)}" if values else f"{word} {name}"
+
+    def _name(self, prefix: str, numbers: list[int]) -> str | None:
+        """One of the numbers behind its prefix, or a careless one that may name nothing."""
+        if self._random.random() < self._careless:
+            return f"{prefix}{self._random.randrange(6)}"
+        return f"{prefix}{self._random.choice(numbers)}" if numbers else None
+
+
+def random_script(random: Random, most_lines: int) -> bytes:
+    """A random script of at most so many lines."""
+    return Author(random).write_script(random.randint(1 + most_lines // 2, max(1, most_lines)))
+
+
+def crowded_script(random: Random) -> bytes:
+    """A script that asks for a few streams more than a realm may have."""
+    lines = [f"{random.choice(('readable', 'writable'))} 1 count now\n"
+             for _ in range(random.randint(1022, 1028))]
+    return "".join(lines).encode("ascii")

@@ -1,0 +1,98 @@
+"""Makes malformed scripts: scripts with a few random changes of their text.
+
+Most are refused; some are still scripts, and are performed.
+"""
+
+from __future__ import annotations
+
+from random import Random
+
+from language import LONGEST_SCRIPT
+
+BYTES = (b" ", b"\t", b"\r", b"\n", b"#", b"@", b"\0", b"\x0b", b"\x0c", b"\xa0", b"\xff",
+         b"-", b"+", b"_", b".", b"0", b"1", b"9", b"s", b"l", b"h", b"n", b"e", b"k", b"x",
+         b"S", b"X", b"A", b"f", b"g")
+
+WORDS = (
+    b"", b"0", b"00", b"01", b"-1", b"+1", b"1.0", b"1_0", b"0x1", b"4294967295",
+    b"4294967296", b"18446744073709551615", b"18446744073709551616", b"9" * 60,
+    b"s0", b"s00", b"s", b"s4294967295", b"s4294967296", b"S0",
+    b"l0", b"l", b"l340282366920938463463374607431768211455",
+    b"l340282366920938463463374607431768211456",
+    b"h0", b"h", b"h340282366920938463463374607431768211455",
+    b"h340282366920938463463374607431768211456", b"h01",
+    b"undefined", b"Undefined", b"n", b"n18446744073709551615", b"n18446744073709551616",
+    b"e4294967295", b"e4294967296", b"k4294967295", b"k4294967296", b"e01", b"k",
+    b"x", b"x0", b"x0G", b"xaB", b"x\xc3\xa9", b"X00", b"TypeError",
+    b"@0", b"@1", b"@", b"@00", b"@100000", b"@100001", b"@-1", b"@@1", b"@1step",
+    b"readable", b"writable", b"reader", b"writer", b"read", b"write", b"cancel", b"close",
+    b"abort", b"closed", b"ready", b"release", b"enqueue", b"finish", b"fail", b"desired",
+    b"settle", b"state", b"step", b"STEP", b"count", b"bytes", b"now", b"later", b"ok",
+    b"#", b"#step", "٣".encode(), "step\u00a0".encode(),
+)
+
+LINES = (
+    b"", b" ", b"\t", b"\r", b" \r", b"\r\r", b"# a comment", b"#\xff\r", b" # a comment",
+    b"step", b"step\r", b"step\r\r", b"\tstep \t\r", b"step\r ", b"@0 step", b"@0", b"@1 @1 step",
+    b"step step", b"readable 1 count", b"readable 1 count now now", b"settle h0",
+    b"settle h0 ok n1", b"settle h0 fail", b"settle h0 fail x00", b"cancel s0 x00",
+    b"abort l0", b"close h0", b"desired h0", b"write s0 n1", b"read s0", b"tee s0", b"bytes 0 0 now",
+)
+
+
+def mutated_script(random: Random, script: bytes) -> bytes:
+    """The script with a few changes. Few scripts are as long as a script may be."""
+    for _ in range(random.choice((1, 1, 1, 2, 3, 8))):
+        change = random.choice((change_byte, change_word, exchange_word, change_line))
+        script = change(random, script)
+    if random.random() < 0.25:
+        script = script.removesuffix(b"\n")
+    if random.random() < 0.002:
+        script = padded(script, LONGEST_SCRIPT + random.choice((-1, 0, 1)))
+    return script
+
+
+def change_byte(random: Random, script: bytes) -> bytes:
+    """Puts a byte in, takes one out, or puts one in another's place."""
+    place = random.randint(0, len(script))
+    removed = random.choice((0, 1, 1))
+    added = random.choice((b"", random.choice(BYTES), random.choice(BYTES)))
+    return script[:place] + added + script[place + removed:]
+
+
+def change_word(random: Random, script: bytes) -> bytes:
+    """Puts a word in a line, takes one out, or puts one in another's place."""
+    lines = script.split(b"\n")
+    place = random.randrange(len(lines))
+    words = lines[place].split(b" ")
+    at = random.randint(0, len(words))
+    removed = random.choice((0, 1, 1))
+    added = random.choice(([], [random.choice(WORDS)], [random.choice(WORDS)]))
+    blank = random.choice((b" ", b" ", b"\t", b"  "))
+    lines[place] = blank.join(words[:at] + added + words[at + removed:])
+    return b"\n".join(lines)
+
+
+def exchange_word(random: Random, script: bytes) -> bytes:
+    """Puts a word in the place of one that begins alike, so that it is near to what may stand
+    there."""
+    lines = script.split(b"\n")
+    place = random.randrange(len(lines))
+    words = lines[place].split(b" ")
+    at = random.randrange(len(words))
+    alike = [word for word in WORDS if word[:1] == words[at][:1]]
+    words[at] = random.choice(alike or WORDS)
+    lines[place] = b" ".join(words)
+    return b"\n".join(lines)
+
+
+def change_line(random: Random, script: bytes) -> bytes:
+    """Puts a line in."""
+    lines = script.split(b"\n")
+    lines.insert(random.randint(0, len(lines)), random.choice(LINES))
+    return b"\n".join(lines)
+
+
+def padded(script: bytes, length: int) -> bytes:
+    """The script with a comment before it, so that it is so long."""
+    return b"#" + b"." * (length - len(script) - 2) + b"\n" + script

@@ -1,0 +1,122 @@
+"""One realm: its streams, readers and writers by number, and what its host hears.
+
+Algorithms of sources and sinks belong to the host: a call of one is an event, and gives a
+promise that the host settles by a later call. A promise has a name once a reply told it, and
+from then on its settling is an event.
+"""
+
+from __future__ import annotations
+
+from typing import Callable
+
+from promises import JobQueue, Promise
+from readable import ReadableStream
+from readable_reader import ReadableStreamDefaultReader
+from replies import Event, HostCalled, Settled, Signalled
+from values import UNDEFINED, Value
+from writable import WritableStream
+from writable_writer import WritableStreamDefaultWriter
+
+Stream = ReadableStream | WritableStream
+Lock = ReadableStreamDefaultReader | WritableStreamDefaultWriter
+Algorithm = Callable[..., Promise]
+
+
+class Throw(Exception):
+    """A call throws. Its checks come first, so nothing was changed."""
+
+
+class Realm:
+    """The objects of a realm, and what its host hasn't heard of yet."""
+
+    def __init__(self) -> None:
+        self.jobs = JobQueue()
+        self.streams: list[Stream] = []
+        self.locks: list[Lock] = []
+        self.host_promises: list[Promise] = []
+        self._names: dict[Promise, int] = {}
+        self._events: list[Event] = []
+
+    # What a number names
+
+    def stream(self, number: int) -> Stream:
+        if number >= len(self.streams):
+            raise Throw("Unsupported")
+        return self.streams[number]
+
+    def readable(self, number: int) -> ReadableStream:
+        stream = self.stream(number)
+        if not isinstance(stream, ReadableStream):
+            raise Throw("Unsupported")
+        return stream
+
+    def writable(self, number: int) -> WritableStream:
+        stream = self.stream(number)
+        if not isinstance(stream, WritableStream):
+            raise Throw("Unsupported")
+        return stream
+
+    def lock(self, number: int) -> Lock:
+        if number >= len(self.locks):
+            raise Throw("Unsupported")
+        return self.locks[number]
+
+    def reader(self, number: int) -> ReadableStreamDefaultReader:
+        lock = self.lock(number)
+        if not isinstance(lock, ReadableStreamDefaultReader):
+            raise Throw("Unsupported")
+        return lock
+
+    def writer(self, number: int) -> WritableStreamDefaultWriter:
+        lock = self.lock(number)
+        if not isinstance(lock, WritableStreamDefaultWriter):
+            raise Throw("Unsupported")
+        return lock
+
+    def host_promise(self, number: int) -> Promise:
+        """The promise of a call of the host's, which the host settles once."""
+        if number >= len(self.host_promises) or not self.host_promises[number].is_pending:
+            raise Throw("Unsupported")
+        return self.host_promises[number]
+
+    # The host's algorithms
+
+    def start_algorithm(self, stream: int, later: bool) -> Callable[[], Value | Promise]:
+        """A start algorithm that gives undefined, or one of the host's."""
+        return self.host_algorithm("start", stream) if later else lambda: UNDEFINED
+
+    def host_algorithm(self, name: str, stream: int) -> Algorithm:
+        """An algorithm of the host's: it tells that it was called, with its argument if it
+        takes one, and gives a new promise."""
+
+        def call_host(value: Value | None = None) -> Promise:
+            self._events.append(HostCalled(len(self.host_promises), name, stream, value))
+            promise = Promise(self.jobs)
+            self.host_promises.append(promise)
+            return promise
+
+        return call_host
+
+    # Events and names
+
+    def take_events(self) -> list[Event]:
+        """The events since the last time, in the order in which they happened."""
+        events, self._events = self._events, []
+        return events
+
+    def tell_signalled(self, stream: int, reason: Value) -> None:
+        """The signal of a writable stream's controller was aborted."""
+        self._events.append(Signalled(stream, reason))
+
+    def name_of(self, promise: Promise) -> int:
+        """The name of a promise, which gets one where it has none. Where it has settled
+        before, that is told now."""
+        if promise not in self._names:
+            self._names[promise] = len(self._names)
+            promise.on_settled = self._tell_settled
+            if not promise.is_pending:
+                self._tell_settled(promise)
+        return self._names[promise]
+
+    def _tell_settled(self, promise: Promise) -> None:
+        self._events.append(Settled(self._names[promise], promise))
