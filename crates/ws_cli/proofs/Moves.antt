@@ -17,7 +17,7 @@ use Rattle.ws_steps.specs.declared.calls.Event.TheVariants.{Host}
 use Rattle.ws_steps.specs.declared.calls.HostCall.{HostCall}
 use Rattle.ws_steps.specs.declared.calls.Reply.{Reply}
 use Rattle.ws_steps.specs.declared.calls.Reply.TheVariants.{Promise as PromiseReply}
-use Rattle.ws_realm.specs.Seen.{first_event, later_events}
+use Rattle.ws_steps.specs.Run.{first_event, later_events}
 use Rattle.ws_steps.specs.declared.calls.HostCall.TheVariants.{Pull as HostPull}
 use Rattle.ws_steps.specs.declared.calls.StartBy.TheVariants.{Now}
 use Rattle.ws_steps.specs.declared.readable.SizeBy.TheVariants.{Count}

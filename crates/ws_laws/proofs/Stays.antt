@@ -29,7 +29,7 @@ use Rattle.ws_steps.specs.Turns.{row, performed, started, reacting}
 use Rattle.ws_steps.specs.Jobs.{settling, perform_step, perform_job, returned, resolve_derived, job_taken}
 use Rattle.ws_steps.specs.Calls.{Begun, begin, named, add_stream}
 use Rattle.ws_steps.specs.Calls as calls
-use Rattle.ws_steps.specs.Run.{Entry, Called, Worked, step, run}
+use Rattle.ws_steps.specs.Run.{Entry, Called, Worked, Heard, step, run}
 use Rattle.ws_steps.specs.Histories.{is_same}
 use Rattle.ws_steps.specs.Laws.{EachOutcomeStays, EachMarkStays}
 use Rattle.ws_steps.proofs.TurnLaws.{performed-none, performed-next}
@@ -206,6 +206,7 @@ step-keeps (Called c) s =
     keeps-then s.promises d.slots.promises (step s (Called c)).promises (each_call (Begins s) s (operations s) c (each_write (Begins s) s (operations s) (write_keeps s) c))
     (keeps-then d.slots.promises (performed d).promises (step s (Called c)).promises (performed-keeps d) (named-keeps (begin c s).reply (performed d)))
 step-keeps Worked s = taken_keeps (next_job s.promises) s
+step-keeps Heard s = keeps-same s.promises
 
 run_keeps : (xs : List Entry) (s : Slots) → Keeps s.promises (run xs s).promises
 run_keeps [] s = keeps-same s.promises

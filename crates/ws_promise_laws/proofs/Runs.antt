@@ -9,7 +9,7 @@ use Rattle.ws_steps.specs.Turns.{performed}
 use Rattle.ws_steps.specs.Calls.{begin, named}
 use Rattle.ws_steps.specs.Histories.{Writes, no_writes, writes_then, step_writes}
 use Rattle.ws_steps.specs.Laws.{NoneGoesAstray}
-use Rattle.ws_steps.specs.Run.{Entry, Called, Worked, step, run}
+use Rattle.ws_steps.specs.Run.{Entry, Called, Worked, Heard, step, run}
 use Rattle.ws_laws.proofs.Weights.{weigh}
 use Rattle.ws_writable_laws.proofs.Runs.{Rests, entry_kept, none_made}
 use Rattle.ws_promise_laws.proofs.Tokens.{Token, PromiseToken, StartToken, in_reaction}
@@ -48,6 +48,7 @@ entry-sound (Called c) s h r k =
 entry-sound Worked s h r k =
     let done = worked-sound s h r (λ i. known i (h i) s (r i)) k in
     record { holds = done.holds; calm = done.calm }
+entry-sound Heard s h r k = record { holds = k.holds; calm = k.calm }
 
 run-sound : (xs : List Entry) (s : Slots) (h : StreamId → Writes) → AllRest h s → Sound none (nothing s) → Sound none (nothing (run xs s))
 run-sound [] s h r k = k

@@ -1,8 +1,7 @@
 -- What is seen of a realm.
-use Rattle.std.specs.Prelude.{ℕ, ◌^◌, Bool, List, [], ◌∷◌, Option, Some, None}
+use Rattle.std.specs.Prelude.{ℕ, ◌^◌, Bool, Option, Some, None}
 use Rattle.ws_value.specs.declared.ids.PromiseId.{PromiseId}
 use Rattle.ws_value.specs.declared.value.Outcome.{Outcome}
-use Rattle.ws_steps.specs.declared.calls.Event.{Event}
 use Rattle.ws_steps.specs.Promises.{outcome_at, rank_at}
 use Rattle.ws_steps.specs.Slots.{Slots}
 
@@ -10,14 +9,6 @@ use Rattle.ws_steps.specs.Slots.{Slots}
 pub record SeenRealm : Type 0 where
   pub slots : Slots
   pub wanting : Bool
-
-abbrev pub first_event : List Event → Option Event
-first_event [] = None
-first_event (event ∷ events) = Some event
-
-abbrev pub later_events : List Event → List Event
-later_events [] = []
-later_events (event ∷ events) = events
 
 -- the most calls and jobs of a realm
 abbrev pub oldest : ℕ

@@ -5,7 +5,7 @@ ghost use Rattle.ws_steps.specs.declared.calls.Reply.TheVariants as reply;
 ghost use Rattle.ws_steps.specs.declared.calls.Thrown.{Thrown};
 ghost use Rattle.ws_steps.specs.Run as run;
 ghost use Rattle.ws_steps.specs.Slots.{empty};
-ghost use Rattle.ws_realm.specs.Seen.{first_event, later_events, outcome_named, oldest};
+ghost use Rattle.ws_realm.specs.Seen.{outcome_named, oldest};
 ghost use Rattle.ws_realm.specs.declared.realm.Why.TheVariants as why;
 
 use crate::tables::Tables;
@@ -198,8 +198,8 @@ impl Realm {
 
     /// Takes out what the host hears of next.
     pub fn next_event(&mut self) -> Option<Event>
-        ensures event { result ≡ first_event self.old.slots.events }
-        ensures slots { self.new.slots ≡ record self.old.slots { events = later_events self.old.slots.events } }
+        ensures event { result ≡ run.first_event self.old.slots.events }
+        ensures slots { self.new.slots ≡ run.after_event self.old.slots }
         ensures wanting { self.new.wanting ≡ self.old.wanting }
     {
         self.tables.events.pop_front()

@@ -5,7 +5,7 @@ use Rattle.ws_steps.specs.declared.calls.Event.{Event}
 use Rattle.ws_steps.specs.declared.calls.Event.TheVariants.{Host, Settled, Signal}
 use Rattle.ws_steps.specs.Run.{heard}
 use Rattle.ws_steps.specs.Slots.{Slots}
-use Rattle.ws_realm.specs.Seen.{first_event, later_events}
+use Rattle.ws_steps.specs.Run.{first_event, later_events}
 use Rattle.ws_script.specs.Heard.{IsPartlyHeard}
 use Rattle.ws_script.specs.Printed.{event_text, events_text}
 

@@ -8,6 +8,8 @@ use Rattle.ws_value.specs.declared.value.Value.{Value}
 use Rattle.ws_value.specs.declared.value.Value.TheVariants.{Plain as PlainValue}
 use Rattle.ws_steps.specs.declared.calls.Answer.TheVariants.{Ok, Fail}
 use Rattle.ws_steps.specs.declared.calls.Call.TheVariants.{MakeReadable, MakeWritable, GetReader, GetWriter, CancelBy, Read, Write, CloseBy, Enqueue, Settle}
+use Rattle.ws_steps.specs.declared.calls.Event.TheVariants.{Host}
+use Rattle.ws_steps.specs.declared.calls.HostCall.TheVariants.{Pull, Cancel}
 use Rattle.ws_steps.specs.declared.calls.StartBy.TheVariants.{Now}
 use Rattle.ws_steps.specs.declared.readable.SizeBy.TheVariants.{Count}
 use Rattle.ws_steps.specs.Promises.{fresh, settle, answer, react, after_next_job, watch}
@@ -17,8 +19,8 @@ use Rattle.ws_steps.specs.Slots.{empty, call_host}
 use Rattle.ws_steps.specs.Turns.{row, turns, performed}
 use Rattle.ws_steps.specs.Jobs.{perform_job}
 use Rattle.ws_steps.specs.Calls.{begin}
-use Rattle.ws_steps.specs.Run.{Entry, Called, Worked}
-use Rattle.ws_steps.specs.Histories.{run_flow, run_writes, run_promised}
+use Rattle.ws_steps.specs.Run.{Entry, Called, Worked, Heard}
+use Rattle.ws_steps.specs.Histories.{run_flow, run_writes, run_promised, run_events}
 
 abbrev s0 : StreamId
 s0 = record { 0 = 0 }
@@ -65,3 +67,9 @@ write_that_fails = refl
 promises_of_writes : run_promised s0 writes empty ≡ record { 0 = 3 } ∷ record { 0 = 6 } ∷ []
 unfolding fresh settle react after_next_job watch writable.ensure_rejected writable.update_backpressure writable.refresh_backpressure writable.set_up writable.process_write writable.process_close writable.advance_queue writable.write_settled writable.start_settled writable.controller_write writable.writer_write writable.controller_close writable.stream_close writable.set_up_writer call_host row turns performed perform_job begin
 promises_of_writes = refl
+
+-- the host takes an event, and another happens
+events_taken : run_events (Called (MakeReadable 2 Count Now) ∷ Worked ∷ Heard ∷ Called (GetReader s0) ∷ Called (CancelBy l0 (Number 5)) ∷ []) empty
+    ≡ Host (h 0) (Pull s0) ∷ Host (h 1) (Cancel s0 (Number 5)) ∷ []
+unfolding fresh settle answer react after_next_job watch readable.set_up readable.chunk_steps readable.close_steps readable.call_pull_if_needed readable.accept readable.controller_enqueue readable.stream_close readable.after_take readable.pull_steps readable.default_reader_read readable.reader_generic_initialize readable.start_settled readable.cancel_steps readable.stream_cancel call_host row turns performed perform_job begin
+events_taken = refl

@@ -32,7 +32,7 @@ use Rattle.ws_steps.specs.Writable as writable
 use Rattle.ws_steps.specs.Slots.{Slots, readable_at, writable_at, lock_at}
 use Rattle.ws_steps.specs.Jobs.{perform_step}
 use Rattle.ws_steps.specs.Calls.{begin}
-use Rattle.ws_steps.specs.Run.{Entry, Called, Worked, step, reply_to}
+use Rattle.ws_steps.specs.Run.{Entry, Called, Worked, Heard, step, reply_to}
 
 abbrev pub is_same : StreamId → StreamId → Bool
 is_same i j = nat_eq i.0 j.0
@@ -118,6 +118,7 @@ call_flow i _ s = no_flow
 abbrev pub step_flow : StreamId → Slots → Entry → Flow
 step_flow i s (Called c) = call_flow i c s
 step_flow i s Worked = no_flow
+step_flow i s Heard = no_flow
 
 -- what goes through readable stream i in a run
 abbrev pub run_flow : StreamId → List Entry → Slots → Flow
@@ -211,6 +212,7 @@ promised_by (v ∷ vs) _ = []
 abbrev pub step_promised : StreamId → Slots → Entry → List PromiseId
 step_promised i s (Called c) = promised_by (call_written i c s) (reply_to c s)
 step_promised i s Worked = []
+step_promised i s Heard = []
 
 -- the promises of the writes that a run appends to stream i, in their order
 abbrev pub run_promised : StreamId → List Entry → Slots → List PromiseId
@@ -239,6 +241,7 @@ step_writes i s Worked =
     let job : Option Job = next_job s.promises in
     let effects : List Effect = job_caused s job in
     record { written = []; acted = acted_in i effects; fulfilled = job_fulfilled i s job; closes = closes_in i effects }
+step_writes i s Heard = no_writes
 
 -- what goes through writable stream i in a run
 abbrev pub run_writes : StreamId → List Entry → Slots → Writes
@@ -255,11 +258,27 @@ accepted_by i _ _ = []
 abbrev pub accepted_in_step : StreamId → Slots → Entry → List Value
 accepted_in_step i s (Called c) = accepted_by i c (reply_to c s)
 accepted_in_step i s Worked = []
+accepted_in_step i s Heard = []
 
 -- the values of the calls of a run that enqueue into stream i and are answered Done, in their order
 abbrev pub accepted : StreamId → List Entry → Slots → List Value
 accepted i [] s = []
 accepted i (x ∷ xs) s = accepted_in_step i s x ++ accepted i xs (step s x)
+
+-- the event that the host takes in a step, where there is one
+abbrev pub taken_event : List Event → List Event
+taken_event [] = []
+taken_event (e ∷ es) = e ∷ []
+
+abbrev pub taken_in_step : Slots → Entry → List Event
+taken_in_step s (Called c) = []
+taken_in_step s Worked = []
+taken_in_step s Heard = taken_event s.events
+
+-- the events of a run, in their order: those that the host took, and then those that it hasn't taken
+abbrev pub run_events : List Entry → Slots → List Event
+run_events [] s = s.events
+run_events (x ∷ xs) s = taken_in_step s x ++ run_events xs (step s x)
 
 -- the value of an event that calls the write algorithm of stream i
 abbrev pub heard_write : StreamId → Event → List Value

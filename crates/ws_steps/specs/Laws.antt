@@ -18,7 +18,7 @@ use Rattle.ws_steps.specs.Writable as writable
 use Rattle.ws_steps.specs.Slots.{Slots, Done, empty, readable_at, writable_at}
 use Rattle.ws_steps.specs.Turns.{LeadsTo, performed}
 use Rattle.ws_steps.specs.Run.{Entry, step, run, reply_to, after_call, older}
-use Rattle.ws_steps.specs.Histories.{Flow, Writes, values, todo, step_flow, run_flow, step_writes, run_writes, run_promised, accepted, heard_writes, heard_closes}
+use Rattle.ws_steps.specs.Histories.{Flow, Writes, values, todo, step_flow, run_flow, step_writes, run_writes, run_promised, accepted, run_events, heard_writes, heard_closes}
 
 -- a first part, which may be all
 abbrev pub IsPrefixOf : List Value → List Value → Type 0
@@ -60,15 +60,15 @@ abbrev pub EnteredWasAccepted : Type 0
 EnteredWasAccepted =
     (entries : List Entry) (i : StreamId) → (run_flow i entries empty).entered ≡ accepted i entries empty
 
--- in every run, a writable stream acted on the values of the events that call its write algorithm, in the order of these events
+-- in every run, a writable stream acted on the values of the run's events that call its write algorithm, in the order of these events
 abbrev pub ActedWasHeard : Type 0
 ActedWasHeard =
-    (entries : List Entry) (i : StreamId) → (run_writes i entries empty).acted ≡ heard_writes i (run entries empty).events
+    (entries : List Entry) (i : StreamId) → (run_writes i entries empty).acted ≡ heard_writes i (run_events entries empty)
 
--- in every run, the events that call a writable stream's close algorithm are as many as the performings of it
+-- in every run, the run's events that call a writable stream's close algorithm are as many as the performings of it
 abbrev pub ClosesWereHeard : Type 0
 ClosesWereHeard =
-    (entries : List Entry) (i : StreamId) → (run_writes i entries empty).closes ≡ heard_closes i (run entries empty).events
+    (entries : List Entry) (i : StreamId) → (run_writes i entries empty).closes ≡ heard_closes i (run_events entries empty)
 
 -- One step of a readable stream. Where it is readable before, and after it is readable or closed without a cancel, what was queued
 -- and what entered is what was given and what is queued. In each step what was given is the first part of what was queued and what
@@ -106,12 +106,12 @@ EachThrowChangesNothing = (c : Call) (s : Slots) (t : Thrown) → reply_to c s �
 abbrev pub NoneGoesAstray : Type 0
 NoneGoesAstray = (entries : List Entry) → (run entries empty).promises.astray ≡ false
 
--- over any calls and jobs from any slots, a promise that has settled keeps its outcome
+-- over any run from any slots, a promise that has settled keeps its outcome
 abbrev pub EachOutcomeStays : Type 0
 EachOutcomeStays =
     (s : Slots) (entries : List Entry) (p : PromiseId) (o : Outcome) → is_pending o ≡ false → outcome_at s.promises p ≡ Some o → outcome_at (run entries s).promises p ≡ Some o
 
--- over any calls and jobs from any slots, the mark of what went astray stays
+-- over any run from any slots, the mark of what went astray stays
 abbrev pub EachMarkStays : Type 0
 EachMarkStays = (s : Slots) (entries : List Entry) → s.promises.astray ≡ true → (run entries s).promises.astray ≡ true
 

@@ -1,6 +1,7 @@
 -- Steps, runs and tasks.
-use Rattle.std.specs.Prelude.{ℕ, zero, suc, ◌+◌, Bool, if◌then◌else◌, List, [], ◌∷◌}
+use Rattle.std.specs.Prelude.{ℕ, zero, suc, ◌+◌, Bool, if◌then◌else◌, List, [], ◌∷◌, Option, Some, None}
 use Rattle.ws_steps.specs.declared.calls.Call.{Call}
+use Rattle.ws_steps.specs.declared.calls.Event.{Event}
 use Rattle.ws_steps.specs.declared.calls.Reply.{Reply}
 use Rattle.ws_steps.specs.Queues.{is_empty}
 use Rattle.ws_steps.specs.Slots.{Slots}
@@ -23,14 +24,28 @@ after_call c s = older (named (begin c s).reply (performed (begin c s).done))
 abbrev pub after_job : Slots → Slots
 after_job s = older (next_job_done s)
 
--- a call or a job
+abbrev pub first_event : List Event → Option Event
+first_event [] = None
+first_event (event ∷ events) = Some event
+
+abbrev pub later_events : List Event → List Event
+later_events [] = []
+later_events (event ∷ events) = events
+
+-- the host takes the event that happened first of those that it hasn't taken
+abbrev pub after_event : Slots → Slots
+after_event s = record s { events = later_events s.events }
+
+-- a call, a job, or the taking of an event
 pub data Entry : Type 0 where
   Called : Call → Entry
   Worked : Entry
+  Heard : Entry
 
 abbrev pub step : Slots → Entry → Slots
 step s (Called c) = after_call c s
 step s Worked = after_job s
+step s Heard = after_event s
 
 abbrev pub run : List Entry → Slots → Slots
 run [] s = s

@@ -39,8 +39,8 @@ use Rattle.ws_steps.specs.Turns.{row, performed, started}
 use Rattle.ws_steps.specs.Jobs.{perform_step, perform_job, job_taken, resolve_derived, returned}
 use Rattle.ws_steps.specs.Calls.{Begun, begin, named, replies, unsupported, for_readable, for_writable, by_reader, by_writer, of_writer, add_stream}
 use Rattle.ws_steps.specs.Calls as calls
-use Rattle.ws_steps.specs.Run.{Entry, Called, Worked, step, run}
-use Rattle.ws_steps.specs.Histories.{acted_by, acted_in, closes_by, closes_in, heard_write, heard_writes, heard_close, heard_closes, job_caused, step_writes, run_writes}
+use Rattle.ws_steps.specs.Run.{Entry, Called, Worked, Heard, later_events, step}
+use Rattle.ws_steps.specs.Histories.{taken_event, taken_in_step, run_events, acted_by, acted_in, closes_by, closes_in, heard_write, heard_writes, heard_close, heard_closes, job_caused, step_writes, run_writes}
 use Rattle.ws_steps.specs.Laws.{ActedWasHeard, ClosesWereHeard}
 use Rattle.ws_steps.proofs.TurnLaws.{performed-none, performed-next}
 use Rattle.ws_laws.proofs.Tables.{either, row-caused}
@@ -292,22 +292,32 @@ named-silent TooMany i s = refl
 abbrev pub caused_in : Entry → Slots → List Effect
 caused_in (Called c) s = (begin c s).done.caused
 caused_in Worked s = job_caused s (next_job s.promises)
+caused_in Heard s = []
 
-entry-heard : (i : Ear) (x : Entry) (s : Slots) → heard_in i (step s x) ≡ heard_in i s ++ all_of i (caused_in x s)
+first-heard : (i : Ear) (es : List Event) → all_heard i (taken_event es) ++ all_heard i (later_events es) ≡ all_heard i es
+first-heard i [] = refl
+first-heard i (e ∷ es) = rw (append-nil (i.hear e)) refl
+
+-- what the host takes in a step, and what is there after it, is what was there before, and what the step causes
+entry-heard : (i : Ear) (x : Entry) (s : Slots) → all_heard i (taken_in_step s x) ++ heard_in i (step s x) ≡ heard_in i s ++ all_of i (caused_in x s)
 entry-heard i (Called c) s =
     let d : Done = (begin c s).done in
     named-silent (begin c s).reply i (performed d) ∙ (performed-heard i d.caused d.slots ∙ ap (λ vs. vs ++ all_of i d.caused) (call_silent c i s))
 entry-heard i Worked s = job-heard (next_job s.promises) i s
+entry-heard i Heard s = first-heard i s.events ∙ sym (append-nil (heard_in i s))
 
 -- the effects of a run
 abbrev pub caused_by : Ear → List Entry → Slots → List Value
 caused_by i [] s = []
 caused_by i (x ∷ xs) s = all_of i (caused_in x s) ++ caused_by i xs (step s x)
 
-run-heard : (i : Ear) (xs : List Entry) (s : Slots) → heard_in i (run xs s) ≡ heard_in i s ++ caused_by i xs s
+run-heard : (i : Ear) (xs : List Entry) (s : Slots) → all_heard i (run_events xs s) ≡ heard_in i s ++ caused_by i xs s
 run-heard i [] s = sym (append-nil (heard_in i s))
 run-heard i (x ∷ xs) s =
-    run-heard i xs (step s x) ∙ (rw (entry-heard i x s) (append_assoc (heard_in i s) (all_of i (caused_in x s)) (caused_by i xs (step s x))))
+    all_heard-append i (taken_in_step s x) (run_events xs (step s x))
+    ∙ (ap (λ vs. all_heard i (taken_in_step s x) ++ vs) (run-heard i xs (step s x))
+    ∙ (sym (append_assoc (all_heard i (taken_in_step s x)) (heard_in i (step s x)) (caused_by i xs (step s x)))
+    ∙ (ap (λ vs. vs ++ caused_by i xs (step s x)) (entry-heard i x s) ∙ append_assoc (heard_in i s) (all_of i (caused_in x s)) (caused_by i xs (step s x)))))
 
 -- writes
 
@@ -340,6 +350,7 @@ writes-of i (e ∷ es) = ap (λ vs. acted_by i e ++ vs) (writes-of i es)
 writes-in : (i : StreamId) (x : Entry) (s : Slots) → all_of (hears_writes i) (caused_in x s) ≡ (step_writes i s x).acted
 writes-in i (Called c) s = writes-of i (begin c s).done.caused
 writes-in i Worked s = writes-of i (job_caused s (next_job s.promises))
+writes-in i Heard s = refl
 
 writes-by : (i : StreamId) (xs : List Entry) (s : Slots) → caused_by (hears_writes i) xs s ≡ (run_writes i xs s).acted
 writes-by i [] s = refl
@@ -347,7 +358,7 @@ writes-by i (x ∷ xs) s = let a = writes-in i x s in let b = writes-by i xs (st
 
 pub acted_was_heard : ActedWasHeard
 acted_was_heard entries i =
-    sym (writes-by i entries empty) ∙ (sym (run-heard (hears_writes i) entries empty) ∙ writes-heard i (run entries empty).events)
+    sym (writes-by i entries empty) ∙ (sym (run-heard (hears_writes i) entries empty) ∙ writes-heard i (run_events entries empty))
 
 -- closes
 
@@ -397,6 +408,7 @@ closes-of i (e ∷ es) =
 closes-step : (i : StreamId) (x : Entry) (s : Slots) → length (all_of (hears_closes i) (caused_in x s)) ≡ (step_writes i s x).closes
 closes-step i (Called c) s = closes-of i (begin c s).done.caused
 closes-step i Worked s = closes-of i (job_caused s (next_job s.promises))
+closes-step i Heard s = refl
 
 closes-run : (i : StreamId) (xs : List Entry) (s : Slots) → length (caused_by (hears_closes i) xs s) ≡ (run_writes i xs s).closes
 closes-run i [] s = refl
@@ -408,4 +420,4 @@ closes-run i (x ∷ xs) s =
 
 pub closes_were_heard : ClosesWereHeard
 closes_were_heard entries i =
-    sym (closes-run i entries empty) ∙ (sym (ap length (run-heard (hears_closes i) entries empty)) ∙ closes-heard i (run entries empty).events)
+    sym (closes-run i entries empty) ∙ (sym (ap length (run-heard (hears_closes i) entries empty)) ∙ closes-heard i (run_events entries empty))

@@ -18,7 +18,7 @@ use Rattle.ws_steps.specs.Slots.{Slots, Done as SlotsDone, nothing, empty, has_w
 use Rattle.ws_steps.specs.Turns.{performed}
 use Rattle.ws_steps.specs.Jobs.{perform_step, perform_job, job_taken, resolve_derived, returned}
 use Rattle.ws_steps.specs.Calls.{begin, named}
-use Rattle.ws_steps.specs.Run.{Entry, Called, Worked, step, run}
+use Rattle.ws_steps.specs.Run.{Entry, Called, Worked, Heard, step, run}
 use Rattle.ws_steps.specs.Histories.{Writes, no_writes, writes_then, is_same, todo, fulfilled_by, acted_in, closes_in, call_written, job_fulfilled, job_caused, step_writes, run_writes}
 use Rattle.ws_steps.specs.Writable.{is_closed}
 use Rattle.ws_steps.specs.Laws.{IsLawfulWritable, EachWritableIsLawful}
@@ -183,6 +183,12 @@ worked_writes : (i : StreamId) (h : Writes) (m : ℕ) (es : List Effect)
     → writes_then h (record { written = []; acted = acted_in i es; fulfilled = m; closes = closes_in i es }) ≡ so_far i (record h { fulfilled = h.fulfilled + m }) es
 worked_writes i h m es = λ k. record { written = append-nil h.written k; acted = h.acted ++ acted_in i es; fulfilled = h.fulfilled + m; closes = h.closes + closes_in i es }
 
+pub writes-nothing : (h : Writes) → writes_then h no_writes ≡ h
+writes-nothing h =
+    let m : h.fulfilled + 0 ≡ h.fulfilled = omega arith in
+    let n : h.closes + 0 ≡ h.closes = omega arith in
+    λ k. record { written = append-nil h.written k; acted = append-nil h.acted k; fulfilled = m k; closes = n k }
+
 pub entry_kept : (i : StreamId) (x : Entry) (s : Slots) (h : Writes) → Rests i h s → Rests i (writes_then h (step_writes i s x)) (step s x)
 entry_kept i (Called c) s h k =
     let d : SlotsDone = (begin c s).done in
@@ -191,6 +197,7 @@ entry_kept i (Called c) s h k =
     (named-kept (begin c s).reply i (performed d) g (performed-kept i (record h { written = h.written ++ call_written i c s }) d (call_kept c i s h k)))
 entry_kept i Worked s h k =
     rw (worked_writes i h (job_fulfilled i s (next_job s.promises)) (job_caused s (next_job s.promises))) (taken_kept (next_job s.promises) i s h refl k)
+entry_kept i Heard s h k = rw (writes-nothing h) k
 
 pub writes-assoc : (f g h : Writes) → writes_then (writes_then f g) h ≡ writes_then f (writes_then g h)
 writes-assoc f g h =
@@ -202,12 +209,6 @@ writes-assoc f g h =
       fulfilled = m k;
       closes = n k;
     }
-
-pub writes-nothing : (h : Writes) → writes_then h no_writes ≡ h
-writes-nothing h =
-    let m : h.fulfilled + 0 ≡ h.fulfilled = omega arith in
-    let n : h.closes + 0 ≡ h.closes = omega arith in
-    λ k. record { written = append-nil h.written k; acted = append-nil h.acted k; fulfilled = m k; closes = n k }
 
 pub nothing-writes : (h : Writes) → writes_then no_writes h ≡ h
 nothing-writes h =

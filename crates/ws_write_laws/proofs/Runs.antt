@@ -17,7 +17,7 @@ use Rattle.ws_steps.specs.Slots.{Slots, Stream, Done as Operation, nothing, empt
 use Rattle.ws_steps.specs.Turns.{performed}
 use Rattle.ws_steps.specs.Jobs.{perform_step, perform_job, returned, resolve_derived, settling, job_taken}
 use Rattle.ws_steps.specs.Calls.{begin, named}
-use Rattle.ws_steps.specs.Run.{Entry, Called, Worked, step, run}
+use Rattle.ws_steps.specs.Run.{Entry, Called, Worked, Heard, step, run}
 use Rattle.ws_steps.specs.Histories.{Writes, no_writes, writes_then, is_same, call_written, fulfilled_by, job_fulfilled, step_writes, run_writes, step_promised, run_promised}
 use Rattle.ws_steps.specs.Laws.{SuccessfulWritesAreFulfilled, AreFulfilled}
 use Rattle.ws_laws.proofs.Outcomes.{keeps-then, keeps-next}
@@ -225,6 +225,7 @@ entry_lined Worked i s h q r rests k l =
     rw (append-nil q)
     (lined-history (writes_then h (step_writes i s Worked)) g q (slice_get z.streams i.0) z.promises (ap length (append-nil h.written)) refl
     (worked_lined (next_job s.promises) i s h q refl r rests k l))
+entry_lined Heard i s h q r rests k l = rw (writes-nothing h, append-nil q) l
 
 run_lined : (xs : List Entry) (i : StreamId) (s : Slots) (h : Writes) (q : List PromiseId) (r : StreamId → Writes) → AllRest r s → Sound none (nothing s) → Stands i h q s
     → Stands i (writes_then h (run_writes i xs s)) (q ++ run_promised i xs s) (run xs s)
