@@ -39,7 +39,8 @@ fn is_alone(words: &[Text], name: &[u8]) -> bool
 }
 
 /// Does what the words after the program's name say.
-fn perform<S: Source, K: Sink>(
+fn perform<R: Wait, S: Source, K: Sink>(
+    rt: &R,
     alloc: Global,
     words: &[Text],
     input: &mut S,
@@ -65,7 +66,7 @@ fn perform<S: Source, K: Sink>(
         → Calm (S.faults input.old) (S.faults input.new) → (result ≡ Status.Script 0) ⊎ (result ≡ Status.NoMemory) }
 {
     if is_alone(words, b"run") {
-        return run(alloc, input, output, MAX_INPUT);
+        return run(rt, alloc, input, output, MAX_INPUT);
     }
     if is_alone(words, b"script") {
         return run_script(alloc, input, output);
@@ -75,7 +76,7 @@ fn perform<S: Source, K: Sink>(
 
 /// Does what the words after the program's name say, and writes the text of the status on the notes.
 pub fn top<R: Threads + Wait, F: Files, S: Source, K: Sink, E: Sink, G: Gate>(
-    _rt: &R,
+    rt: &R,
     alloc: Global,
     words: &[Text],
     files: &mut F,
@@ -124,7 +125,7 @@ pub fn top<R: Threads + Wait, F: Files, S: Source, K: Sink, E: Sink, G: Gate>(
     ensures notes_end { KeepsTold (E.finished notes.old) (E.finished notes.new) }
 {
     let _ = files;
-    let status = perform(alloc, words, input, output);
+    let status = perform(rt, alloc, words, input, output);
     let _ = status.write_text(notes);
     status
 }

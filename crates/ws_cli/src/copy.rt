@@ -7,11 +7,13 @@ ghost use Rattle.ws_cli.specs.Moments.{IsResting};
 use crate::realm::open;
 use crate::turn::{Turn, take_turn};
 use std::alloc::Global;
+use std::sync::Wait;
 use ws_io::{Sink, Source, Status};
 use ws_realm::Realm;
 
 /// Takes turns until the run ends.
-fn copy<S: Source, K: Sink>(
+fn copy<R: Wait, S: Source, K: Sink>(
+    rt: &R,
     realm: &mut Realm,
     alloc: Global,
     input: &mut S,
@@ -27,15 +29,16 @@ fn copy<S: Source, K: Sink>(
 {
     let mut taken: u64 = 0;
     'turns: loop {
-        match take_turn(realm, alloc, input, output, max_input - taken) {
+        match take_turn(rt, realm, alloc, input, output, max_input - taken) {
             Turn::Moved(count) => taken += count,
             Turn::Ended(status) => return status,
         }
     }
 }
 
-/// Copies the input, of at most `max_input` bytes, to the output, and finishes it. Nothing is read before the stream pulls, and the stream pulls only where a read waits, so at most one piece of 4,096 bytes is read and not yet written.
-pub fn run<S: Source, K: Sink>(
+/// Copies the input, of at most `max_input` bytes, to the output, and finishes it. Nothing is read before the stream pulls, and the stream pulls only where a read waits, so at most one piece of 4,096 bytes is read and not yet written. It returns unless its realm is spent, after 2^62 calls and jobs.
+pub fn run<R: Wait, S: Source, K: Sink>(
+    rt: &R,
     alloc: Global,
     input: &mut S,
     output: &mut K,
@@ -47,8 +50,8 @@ pub fn run<S: Source, K: Sink>(
         (moment (S.faults input.new) (S.feed input.new) (K.faults output.new) (K.finished output.new))
         (K.got output.old) (K.got output.new) }
 {
-    match open(alloc) {
-        Ok(mut realm) => copy(&mut realm, alloc, input, output, max_input),
+    match open(rt, alloc) {
+        Ok(mut realm) => copy(rt, &mut realm, alloc, input, output, max_input),
         Err(_) => Status::NoMemory,
     }
 }

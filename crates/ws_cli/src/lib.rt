@@ -1,6 +1,7 @@
 //! The commands of `streams`: what the words of its command line do, over any input, output, files and notes.
 #![tactic(auto)]
 
+mod ask;
 mod command;
 mod copy;
 mod realm;

@@ -1,9 +1,11 @@
 //! A realm of one readable stream with mark 0 and its reader: a read, and the host's answer to the pull that it causes.
-ghost use Rattle.std.specs.Prelude.{◌≡◌, Some, IsSome, IfOk, OnOk};
+ghost use Rattle.std.specs.Prelude.{◌≡◌, true, Some, IsSome, IfOk, OnOk, OnErr};
 ghost use Rattle.ws_realm.specs.Seen.{outcome_named};
 ghost use Rattle.ws_cli.specs.Moments.{IsResting, Awaits, answered, jobs_of_a_turn};
 
+use crate::ask;
 use std::alloc::Global;
+use std::sync::Wait;
 use ws_realm::Realm;
 use ws_steps::{Answer, Call, Event, Reply, SizeBy, StartBy};
 use ws_value::{HostId, LockId, NoMemory, Outcome, PromiseId, StreamId};
@@ -25,7 +27,7 @@ pub struct Asked {
 }
 
 /// A realm whose stream, with a size of 1 for each chunk, has started and is locked by a default reader.
-pub fn open(alloc: Global) -> Result<Realm, NoMemory>
+pub fn open<R: Wait>(rt: &R, alloc: Global) -> Result<Realm, NoMemory>
     ensures { IfOk result (λ realm. IsResting realm.slots) }
 {
     let mut realm = Realm::make(alloc)?;
@@ -34,27 +36,19 @@ pub fn open(alloc: Global) -> Result<Realm, NoMemory>
         size: SizeBy::Count,
         start: StartBy::Now,
     };
-    let Ok(_made) = realm.call(source) else {
-        return Err(NoMemory);
-    };
-    if realm.work(JOBS_OF_A_TURN).is_err() {
-        return Err(NoMemory);
-    }
-    let Ok(_locked) = realm.call(Call::GetReader(SOURCE)) else {
-        return Err(NoMemory);
-    };
+    ask::call(rt, &mut realm, source)?;
+    ask::work(rt, &mut realm, JOBS_OF_A_TURN)?;
+    ask::call(rt, &mut realm, Call::GetReader(SOURCE))?;
     Ok(realm)
 }
 
 /// The reader reads, and the stream pulls.
-pub fn read(realm: &mut Realm) -> Result<Asked, NoMemory>
+pub fn read<R: Wait>(rt: &R, realm: &mut Realm) -> Result<Asked, NoMemory>
     requires { IsResting realm.old.slots }
-    ensures { IfOk result (λ asked. Awaits realm.new.slots asked.promise asked.pull) }
+    ensures asked { IfOk result (λ asked. Awaits realm.new.slots asked.promise asked.pull) }
+    ensures wanting { OnErr result (realm.new.wanting ≡ true) }
 {
-    let Ok(reply) = realm.call(Call::Read(READER)) else {
-        return Err(NoMemory);
-    };
-    let Reply::Promise(promise) = reply else {
+    let Reply::Promise(promise) = ask::call(rt, realm, Call::Read(READER))? else {
         unreachable!();
     };
     match realm.next_event() {
@@ -66,20 +60,14 @@ pub fn read(realm: &mut Realm) -> Result<Asked, NoMemory>
 }
 
 /// The host answers a pull by a call on the stream, and settles it.
-pub fn answer(realm: &mut Realm, pull: HostId, call: Call) -> Result<(), NoMemory>
-    ensures { OnOk result (realm.new.slots ≡ answered jobs_of_a_turn call pull realm.old.slots) }
+pub fn answer<R: Wait>(rt: &R, realm: &mut Realm, pull: HostId, call: Call) -> Result<(), NoMemory>
+    ensures slots { OnOk result (realm.new.slots ≡ answered jobs_of_a_turn call pull realm.old.slots) }
+    ensures wanting { OnErr result (realm.new.wanting ≡ true) }
 {
-    let Ok(_done) = realm.call(call) else {
-        return Err(NoMemory);
-    };
+    ask::call(rt, realm, call)?;
     while let Some(_heard) = realm.next_event() {}
-    let Ok(_settled) = realm.call(Call::Settle(pull, Answer::Ok)) else {
-        return Err(NoMemory);
-    };
-    match realm.work(JOBS_OF_A_TURN) {
-        Ok(()) => Ok(()),
-        Err(_) => Err(NoMemory),
-    }
+    ask::call(rt, realm, Call::Settle(pull, Answer::Ok))?;
+    ask::work(rt, realm, JOBS_OF_A_TURN)
 }
 
 /// What a read ended with.

@@ -7,6 +7,7 @@ ghost use Rattle.ws_cli.specs.Moments.{IsResting, Awaits, HasEnded, RestsAfter, 
 
 use crate::realm::{Asked, SOURCE, answer, outcome, read};
 use std::alloc::Global;
+use std::sync::Wait;
 use ws_io::{Failed, Sink, Source, Status, write_whole};
 use ws_realm::Realm;
 use ws_steps::Call;
@@ -42,7 +43,8 @@ fn read_piece<S: Source>(
 }
 
 /// The host answers the stream's pull with what it read, of which the run may take `most` bytes.
-fn answer_with(
+fn answer_with<R: Wait>(
+    rt: &R,
     realm: &mut Realm,
     asked: Asked,
     piece: Result<Chunk, Failed>,
@@ -55,13 +57,14 @@ fn answer_with(
     match piece {
         Ok(chunk) => {
             if chunk.is_empty() {
-                return answer(realm, asked.pull, Call::Finish(SOURCE));
+                return answer(rt, realm, asked.pull, Call::Finish(SOURCE));
             }
             if chunk.len() as u64 > most {
                 let reason = Plain::Fault(Fault::TooMuch);
-                return answer(realm, asked.pull, Call::Fail(SOURCE, reason));
+                return answer(rt, realm, asked.pull, Call::Fail(SOURCE, reason));
             }
             answer(
+                rt,
                 realm,
                 asked.pull,
                 Call::Enqueue(SOURCE, Value::Bytes(chunk)),
@@ -69,7 +72,7 @@ fn answer_with(
         }
         Err(Failed) => {
             let reason = Plain::Fault(Fault::Read);
-            answer(realm, asked.pull, Call::Fail(SOURCE, reason))
+            answer(rt, realm, asked.pull, Call::Fail(SOURCE, reason))
         }
     }
 }
@@ -129,7 +132,8 @@ fn hand_on<K: Sink>(outcome: &Outcome, output: &mut K) -> Turn
 }
 
 /// One turn of a run that may take `most` bytes more. Want of memory ends the run.
-pub fn take_turn<S: Source, K: Sink>(
+pub fn take_turn<R: Wait, S: Source, K: Sink>(
+    rt: &R,
     realm: &mut Realm,
     alloc: Global,
     input: &mut S,
@@ -144,14 +148,14 @@ pub fn take_turn<S: Source, K: Sink>(
         (K.got output.old) (K.got output.new) }
     ensures rests { RestsOn result realm.new.slots }
 {
-    let Ok(asked) = read(realm) else {
+    let Ok(asked) = read(rt, realm) else {
         return Turn::Ended(Status::NoMemory);
     };
     let want = (most + 1).min(MOST_OF_A_READ) as usize;
     let Ok(piece) = read_piece(alloc, input, want) else {
         return Turn::Ended(Status::NoMemory);
     };
-    if answer_with(realm, asked, piece, most).is_err() {
+    if answer_with(rt, realm, asked, piece, most).is_err() {
         return Turn::Ended(Status::NoMemory);
     }
     let turn = hand_on(outcome(realm, asked.promise), output);

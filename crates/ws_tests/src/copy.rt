@@ -102,7 +102,13 @@ fn unknown_words(rt: HostRuntime) -> Result<(), Fail> {
 }
 
 /// Copies the bytes in reads and in writes of these sizes, and tells whether the whole came out.
-fn copies(alloc: Global, bytes: &[u8], reads: &[u64], writes: &[u64]) -> Result<bool, NoMemory>
+fn copies<R: Wait>(
+    rt: &R,
+    alloc: Global,
+    bytes: &[u8],
+    reads: &[u64],
+    writes: &[u64],
+) -> Result<bool, NoMemory>
     requires some_read { 0 < length reads.now }
     requires each_read { All (λ n. 0 < n) reads.now }
     requires some_write { 0 < length writes.now }
@@ -110,7 +116,7 @@ fn copies(alloc: Global, bytes: &[u8], reads: &[u64], writes: &[u64]) -> Result<
 {
     let mut input = MemSource::make(alloc, bytes, reads, &[])?;
     let mut output = MemSink::make(alloc, bytes.len(), writes, &[], &[])?;
-    let status = run(alloc, &mut input, &mut output, 1 << 40);
+    let status = run(rt, alloc, &mut input, &mut output, 1 << 40);
     Ok(status == Status::Done && output.finished() && output.got() == bytes)
 }
 
@@ -121,15 +127,16 @@ fn a_million_bytes(rt: HostRuntime) -> Result<(), Fail> {
     for i in 0..1_000_000u32 {
         bytes.push((i % 251) as u8)?;
     }
-    assert!(rt; copies(alloc, &bytes, &[1], &[4095])?);
-    assert!(rt; copies(alloc, &bytes, &[7], &[1])?);
-    assert!(rt; copies(alloc, &bytes, &[4096], &[4095])?);
-    assert!(rt; copies(alloc, &bytes, &[65536], &[1])?);
+    assert!(rt; copies(&rt, alloc, &bytes, &[1], &[4095])?);
+    assert!(rt; copies(&rt, alloc, &bytes, &[7], &[1])?);
+    assert!(rt; copies(&rt, alloc, &bytes, &[4096], &[4095])?);
+    assert!(rt; copies(&rt, alloc, &bytes, &[65536], &[1])?);
     Ok(())
 }
 
 /// A run with the limit 100 over `abcdef`, in reads and writes of two bytes, of which these calls fail: its status, its input and its output.
-fn faulty(
+fn faulty<R: Wait>(
+    rt: &R,
     alloc: Global,
     reads: &[u64],
     writes: &[u64],
@@ -137,7 +144,7 @@ fn faulty(
 ) -> Result<(Status, MemSource, MemSink), NoMemory> {
     let mut input = MemSource::make(alloc, b"abcdef", &[2], reads)?;
     let mut output = MemSink::make(alloc, 6, &[2], writes, finishes)?;
-    let status = run(alloc, &mut input, &mut output, 100);
+    let status = run(rt, alloc, &mut input, &mut output, 100);
     Ok((status, input, output))
 }
 
@@ -146,7 +153,7 @@ fn each_call_failing_in_turn(rt: HostRuntime) -> Result<(), Fail> {
     let alloc = rt.alloc();
     for call in 0..4u64 {
         let written = &b"abcdef"[..(call * 2) as usize];
-        let (status, input, output) = faulty(alloc, &[call + 1], &[], &[])?;
+        let (status, input, output) = faulty(&rt, alloc, &[call + 1], &[], &[])?;
         assert_eq!(rt; status, Status::ReadFault, "read {call}");
         assert_eq!(rt;
             input.calls(),
@@ -158,13 +165,13 @@ fn each_call_failing_in_turn(rt: HostRuntime) -> Result<(), Fail> {
     }
     for call in 0..3u64 {
         let written = &b"abcdef"[..(call * 2) as usize];
-        let (status, input, output) = faulty(alloc, &[], &[call + 1], &[])?;
+        let (status, input, output) = faulty(&rt, alloc, &[], &[call + 1], &[])?;
         assert_eq!(rt; status, Status::WriteFault, "write {call}");
         assert_eq!(rt; input.calls(), call + 1, "nothing is read ahead");
         assert_eq!(rt; output.got(), written, "write {call}");
         assert!(rt; !output.finished());
     }
-    let (status, _, output) = faulty(alloc, &[], &[], &[1])?;
+    let (status, _, output) = faulty(&rt, alloc, &[], &[], &[1])?;
     assert_eq!(rt; status, Status::WriteFault);
     assert_eq!(rt; output.got(), b"abcdef".as_slice());
     assert!(rt; !output.finished());
@@ -176,7 +183,7 @@ fn no_call_too_many(rt: HostRuntime) -> Result<(), Fail> {
     let alloc = rt.alloc();
     let mut input = MemSource::make(alloc, b"abc", &[4096], &[3])?;
     let mut output = MemSink::make(alloc, 16, &[4096], &[2], &[2])?;
-    let status = run(alloc, &mut input, &mut output, 100);
+    let status = run(&rt, alloc, &mut input, &mut output, 100);
     assert_eq!(rt; status, Status::Done);
     assert_eq!(rt; output.got(), b"abc".as_slice());
     Ok(())
@@ -232,7 +239,7 @@ fn small_limits(rt: HostRuntime) -> Result<(), Fail> {
     ] {
         let mut input = MemSource::make(alloc, b"abc", &[4096], &[])?;
         let mut output = MemSink::make(alloc, 16, &[4096], &[], &[])?;
-        let status = run(alloc, &mut input, &mut output, limit);
+        let status = run(&rt, alloc, &mut input, &mut output, limit);
         assert_eq!(rt; status, want, "limit {limit}");
         assert_eq!(rt; output.got(), written, "limit {limit}");
     }

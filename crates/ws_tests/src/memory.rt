@@ -1,5 +1,6 @@
 //! A run in which an allocation is refused: `rt try --test --fail-alloc N` refuses the Nth.
 use std::alloc::Global;
+use std::sync::Wait;
 use std::test::Fail;
 use ws_cli::run;
 use ws_io::{MemSink, MemSource, Status};
@@ -8,16 +9,16 @@ use ws_value::NoMemory;
 const INPUT: &[u8] = b"abcdefghij";
 
 /// What a run over the input, in reads of three bytes, ended with, and what it wrote.
-fn copied(alloc: Global) -> Result<(Status, MemSink), NoMemory> {
+fn copied<R: Wait>(rt: &R, alloc: Global) -> Result<(Status, MemSink), NoMemory> {
     let mut input = MemSource::make(alloc, INPUT, &[3], &[])?;
     let mut output = MemSink::make(alloc, INPUT.len(), &[2], &[], &[])?;
-    let status = run(alloc, &mut input, &mut output, 100);
+    let status = run(rt, alloc, &mut input, &mut output, 100);
     Ok((status, output))
 }
 
 #[test]
 fn a_refused_allocation(rt: HostRuntime) -> Result<(), Fail> {
-    match copied(rt.alloc()) {
+    match copied(&rt, rt.alloc()) {
         Ok((Status::Done, output)) => {
             assert_eq!(rt; output.got(), INPUT);
             assert!(rt; output.finished());

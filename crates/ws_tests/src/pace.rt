@@ -67,7 +67,7 @@ fn nothing_is_read_ahead(rt: HostRuntime) -> Result<(), Fail> {
         count: 0,
     };
     let mut output = CountingSink { written: &written };
-    let status = run(rt.alloc(), &mut input, &mut output, 1 << 40);
+    let status = run(&rt, rt.alloc(), &mut input, &mut output, 1 << 40);
     assert_eq!(rt; status, Status::Done);
     assert_eq!(rt; written.get(), 1000);
     Ok(())

@@ -5,14 +5,12 @@ use Rattle.ws_steps.specs.declared.readable.SizeBy.TheVariants.{Count}
 use Rattle.ws_steps.specs.Run.{after_call, work}
 use Rattle.ws_cli.specs.Moments.{IsResting, me, opened, jobs_of_a_turn}
 use Rattle.ws_cli.proofs.Moves.{opened-rests}
-use Rattle.ws_cli.proofs.Oks.{from_on_ok}
 use Rattle.ws_cli.proofs.realm.open.Goals as goal
 
 pub returns : goal.returns
 unfolding opened
-returns c =
-    let worked = from_on_ok c.work.result _ (sym c.is_err.ensures.value ∙ c.if-is_err.false) c.work.ensures.slots in
+returns g c =
     subst IsResting
-    (sym (c.in-Ok-call.ensures.slots
-    ∙ ap (after_call (GetReader me)) (worked ∙ ap (work jobs_of_a_turn) (c.in-Ok.ensures.slots ∙ ap (after_call (MakeReadable 0 Count Now)) c.in_ok-realm.ensures.0))))
+    (sym (c.in_ok-call-2.ensures.slots
+    ∙ ap (after_call (GetReader me)) (c.in_ok-work.ensures.slots ∙ ap (work jobs_of_a_turn) (c.in_ok-call.ensures.slots ∙ ap (after_call (MakeReadable 0 Count Now)) c.in_ok-realm.ensures.0))))
     (opened-rests 99999)

@@ -12,40 +12,40 @@ use Rattle.ws_cli.proofs.Turns.{outcome-given, outcome-finished, outcome-too_muc
 use Rattle.ws_cli.proofs.turn.answer_with.Goals as goal
 
 pub returns-then-is_empty-clause-outcome : goal.returns-then-is_empty-clause-outcome
-returns-then-is_empty-clause-outcome c =
+returns-then-is_empty-clause-outcome g c =
     on_ok c.answer.result _ _
     (λ is. ended-so _ _ _ _ _ is
     (ap (outcome_of c.args.most) c.in-Ok.is ∙ outcome-finished c.args.most c.in-Ok.chunk (sym c.is_empty.ensures ∙ c.if-is_empty.true))
     (finish-finishes 99999 c.args.realm.now.slots c.args.asked.promise c.args.asked.pull c.requires))
-    c.answer.ensures
+    c.answer.ensures.slots
 
 pub returns-then-len-most-clause-outcome : goal.returns-then-len-most-clause-outcome
-returns-then-len-most-clause-outcome c =
+returns-then-len-most-clause-outcome g c =
     on_ok c.answer-then-len-most.result _ _
     (λ is. ended-so _ _ _ _ _ is
     (ap (outcome_of c.args.most) c.in-Ok.is ∙ outcome-too_much c.args.most c.in-Ok.chunk (sym c.is_empty.ensures ∙ c.if-is_empty.false) (omega arith))
     (fail-rejects 99999 (Fault TooMuch) c.args.realm.now.slots c.args.asked.promise c.args.asked.pull c.requires))
-    c.answer-then-len-most.ensures
+    c.answer-then-len-most.ensures.slots
 
 pub returns-else-len-most-clause-outcome : goal.returns-else-len-most-clause-outcome
-returns-else-len-most-clause-outcome c =
+returns-else-len-most-clause-outcome g c =
     on_ok c.answer-in-Ok.result _ _
     (λ is. ended-so _ _ _ _ _ is
     (ap (outcome_of c.args.most) c.in-Ok.is ∙ outcome-given c.args.most c.in-Ok.chunk (sym c.is_empty.ensures ∙ c.if-is_empty.false) (omega arith))
     (enqueue-rests 99999 (Bytes c.in-Ok.chunk) c.args.realm.now.slots c.args.asked.promise c.args.asked.pull c.requires).1)
-    c.answer-in-Ok.ensures
+    c.answer-in-Ok.ensures.slots
 
 pub returns-else-len-most-clause-rests : goal.returns-else-len-most-clause-rests
-returns-else-len-most-clause-rests c =
+returns-else-len-most-clause-rests g c =
     on_ok c.answer-in-Ok.result _ _
     (λ is. subst (λ (o : Outcome). RestsAfter o c.answer-in-Ok.new.realm.slots)
     (sym (ap (outcome_of c.args.most) c.in-Ok.is ∙ outcome-given c.args.most c.in-Ok.chunk (sym c.is_empty.ensures ∙ c.if-is_empty.false) (omega arith)))
     (subst (λ (s : Slots). IsResting s) (sym is) (enqueue-rests 99999 (Bytes c.in-Ok.chunk) c.args.realm.now.slots c.args.asked.promise c.args.asked.pull c.requires).0))
-    c.answer-in-Ok.ensures
+    c.answer-in-Ok.ensures.slots
 
 pub returns-in-Err-clause-outcome : goal.returns-in-Err-clause-outcome
-returns-in-Err-clause-outcome c =
+returns-in-Err-clause-outcome g c =
     on_ok c.answer-in-Err.result _ _
     (λ is. ended-so _ _ _ _ _ is (ap (outcome_of c.args.most) c.in-Err.is)
     (fail-rejects 99999 (Fault Read) c.args.realm.now.slots c.args.asked.promise c.args.asked.pull c.requires))
-    c.answer-in-Err.ensures
+    c.answer-in-Err.ensures.slots
