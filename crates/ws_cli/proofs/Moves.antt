@@ -17,7 +17,7 @@ use Rattle.ws_steps.specs.declared.calls.Event.TheVariants.{Host}
 use Rattle.ws_steps.specs.declared.calls.HostCall.{HostCall}
 use Rattle.ws_steps.specs.declared.calls.Reply.{Reply}
 use Rattle.ws_steps.specs.declared.calls.Reply.TheVariants.{Promise as PromiseReply}
-use Rattle.ws_steps.specs.Run.{first_event, later_events}
+use Rattle.ws_steps.specs.Run.{after_forgetting, first_event, later_events}
 use Rattle.ws_steps.specs.declared.calls.HostCall.TheVariants.{Pull as HostPull}
 use Rattle.ws_steps.specs.declared.calls.StartBy.TheVariants.{Now}
 use Rattle.ws_steps.specs.declared.readable.SizeBy.TheVariants.{Count}
@@ -40,7 +40,7 @@ use Rattle.ws_steps.specs.Calls.{begin}
 use Rattle.ws_steps.specs.Jobs.{perform_job}
 use Rattle.ws_steps.specs.Run.{after_call, after_job, reply_to, work}
 use Rattle.ws_steps.proofs.PromiseLaws.{entry_within, entry_at-with_entry_same, entry_at-with_entry_other, length-with_entry, entry_at-fresh_new, entry_at-fresh, length-fresh, settle-open, react-open}
-use Rattle.ws_cli.specs.Moments.{me, reader, resting, IsResting, awaiting, Awaits, HasEnded, answered, opened, forgotten}
+use Rattle.ws_cli.specs.Moments.{me, reader, resting, IsResting, awaiting, Awaits, HasEnded, answered, opened}
 
 -- a realm whose one stream and its reader are so
 state : Readable → PromiseId → Table → List (Option PromiseId) → List Event → ℕ → Slots
@@ -444,10 +444,10 @@ pending_apart t p q o e over h g same =
     let shut : is_open_entry (Some (ended_as o e)) ≡ false = rw over refl in
     absurd (false≢true (sym shut ∙ open_then))
 
-pub forgotten-rests : (s : Slots) (p : PromiseId) (o : Outcome) → is_pending o ≡ false → HasEnded s p o → IsResting s → IsResting (forgotten p s)
+pub forgotten-rests : (s : Slots) (p : PromiseId) (o : Outcome) → is_pending o ≡ false → HasEnded s p o → IsResting s → IsResting (after_forgetting p s)
 forgotten-rests s p o over h r =
     let e : Entry = record pending { rank = Some h.rank } in
-    let gone : forgotten p s ≡ record s { promises = with_entry p None s.promises } = ap (λ (t : Table). record s { promises = t }) (release-ended s.promises p o e over h.entry) in
+    let gone : after_forgetting p s ≡ record s { promises = with_entry p None s.promises } = ap (λ (t : Table). record s { promises = t }) (release-ended s.promises p o e over h.entry) in
     rw gone
     (record {
       disturbed = r.disturbed;

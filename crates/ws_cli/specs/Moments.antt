@@ -18,7 +18,7 @@ use Rattle.ws_steps.specs.declared.promises.Reaction.TheVariants.{Perform}
 use Rattle.ws_steps.specs.declared.readable.ReadRequest.TheVariants.{Promise}
 use Rattle.ws_cli.specs.declared.turn.Turn.{Turn}
 use Rattle.ws_cli.specs.declared.turn.Turn.TheVariants.{Moved, Ended}
-use Rattle.ws_steps.specs.Promises.{pending, ended_as, entry_at, release}
+use Rattle.ws_steps.specs.Promises.{pending, ended_as, entry_at}
 use Rattle.ws_steps.specs.Readable.{Slots as Readable, initialized}
 use Rattle.ws_steps.specs.Run.{after_call, work}
 use Rattle.ws_steps.specs.Slots.{Slots, ReadableStream, empty, host_at}
@@ -77,10 +77,6 @@ answered jobs call h s = work jobs (after_call (Settle h AnswerOk) (record (afte
 -- the stream is made and started, and a reader takes it
 unfoldable pub opened : ℕ → Slots
 opened jobs = after_call (GetReader me) (work jobs (after_call (MakeReadable 0 Count Now) empty))
-
--- the promise of a read is let go of
-abbrev pub forgotten : PromiseId → Slots → Slots
-forgotten p s = record s { promises = release p s.promises }
 
 -- after a chunk was given the stream rests again
 abbrev pub RestsAfter : Outcome → Slots → Type 0

@@ -4,6 +4,7 @@ pub mod Lists
 pub mod Outcomes
 pub mod Weights
 pub mod Outstanding
+pub mod Releasing
 pub mod Later
 pub mod Apart
 pub mod ReadableApart

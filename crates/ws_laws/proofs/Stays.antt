@@ -1,10 +1,12 @@
--- A promise that has settled keeps its outcome, over every run.
-use Rattle.std.proofs.Common.{◌≡◌, suc, false, List, [], ◌∷◌, ◌++◌, length, Option, Some, None, Result, Ok, Err, arith}
+-- A promise that has settled keeps its outcome, over every run in which the host doesn't let go of it.
+use Rattle.std.proofs.Common.{◌≡◌, ◌∙◌, suc, true, false, List, [], ◌∷◌, ◌++◌, length, Option, Some, None, Result, Ok, Err, arith}
 use Rattle.ws_value.specs.declared.ids.PromiseId.{PromiseId}
 use Rattle.ws_value.specs.declared.ids.StreamId.{StreamId}
+use Rattle.ws_value.specs.declared.value.Outcome.{Outcome}
 use Rattle.ws_value.specs.declared.value.Plain.{Plain}
 use Rattle.ws_value.specs.declared.value.Plain.TheVariants.{Undefined}
 use Rattle.ws_value.specs.declared.value.Value.{Value}
+use Rattle.ws_steps.specs.declared.calls.Call.{Call}
 use Rattle.ws_steps.specs.declared.calls.Event.TheVariants.{Signal}
 use Rattle.ws_steps.specs.declared.calls.HostCall.{HostCall}
 use Rattle.ws_steps.specs.declared.calls.HostCall.TheVariants.{Start as HostStart, Pull as HostPull, Cancel as HostCancel, Write as HostWrite, Close as HostClose, Abort as HostAbort}
@@ -21,7 +23,7 @@ use Rattle.ws_steps.specs.declared.promises.Reaction.TheVariants.{Perform}
 use Rattle.ws_steps.specs.declared.promises.Step.{Step as JobStep}
 use Rattle.ws_steps.specs.declared.promises.Step.TheVariants.{ReadableStart, ReadablePull, ReturnUndefined, WritableStart, WritableWrite, WritableClose, WritableAbort}
 use Rattle.ws_steps.specs.declared.readable.ReadRequest.TheVariants.{Promise as PromiseRequest}
-use Rattle.ws_steps.specs.Promises.{Table, next_id, fresh, settle, react, follow, fresh_settled, next_job, after_next_job, watch, all_told}
+use Rattle.ws_steps.specs.Promises.{Table, is_pending, outcome_at, next_id, fresh, settle, react, follow, fresh_settled, next_job, after_next_job, watch, all_told}
 use Rattle.ws_steps.specs.Readable as readable
 use Rattle.ws_steps.specs.Writable as writable
 use Rattle.ws_steps.specs.Slots.{Slots, Done, nothing, on_readable, on_writable, has_readable, has_writable, readable_at, writable_at, ReadableStream, WritableStream, signalled, call_host}
@@ -29,12 +31,14 @@ use Rattle.ws_steps.specs.Turns.{row, performed, started, reacting}
 use Rattle.ws_steps.specs.Jobs.{settling, perform_step, perform_job, returned, resolve_derived, job_taken}
 use Rattle.ws_steps.specs.Calls.{Begun, begin, named, add_stream}
 use Rattle.ws_steps.specs.Calls as calls
-use Rattle.ws_steps.specs.Run.{Entry, Called, Worked, Heard, step, run}
+use Rattle.ws_steps.specs.Run.{Entry, Called, Worked, Heard, Forgot, step, lets_go, is_forgotten}
 use Rattle.ws_steps.specs.Histories.{is_same}
 use Rattle.ws_steps.specs.Laws.{EachOutcomeStays, EachMarkStays}
 use Rattle.ws_steps.proofs.TurnLaws.{performed-none, performed-next}
 use Rattle.ws_laws.proofs.Tables.{either, readable_acts, writable_acts, row-caused}
 use Rattle.ws_laws.proofs.Outcomes.{Keeps, keeps-same, keeps-then, keeps-fresh, keeps-settle, keeps-fresh_settled, keeps-react, keeps-follow, keeps-next, keeps-watch, keeps-told}
+use Rattle.ws_laws.proofs.Truth.{nor_left, nor_right}
+use Rattle.ws_laws.proofs.Releasing.{release-outcome, release-mark}
 use Rattle.ws_laws.proofs.EachCall.{Operations, each_write, each_call}
 use Rattle.ws_laws.proofs.ReadableApart as readable_apart
 use Rattle.ws_laws.proofs.WritableApart as writable_apart
@@ -200,20 +204,32 @@ named-keeps (ReplyState x) s = keeps-same s.promises
 named-keeps (Throws t) s = keeps-same s.promises
 named-keeps TooMany s = keeps-same s.promises
 
-pub step-keeps : (x : Entry) (s : Slots) → Keeps s.promises (step s x).promises
-step-keeps (Called c) s =
+pub called-keeps : (c : Call) (s : Slots) → Keeps s.promises (step s (Called c)).promises
+called-keeps c s =
     let d : Done = (begin c s).done in
     keeps-then s.promises d.slots.promises (step s (Called c)).promises (each_call (Begins s) s (operations s) c (each_write (Begins s) s (operations s) (write_keeps s) c))
     (keeps-then d.slots.promises (performed d).promises (step s (Called c)).promises (performed-keeps d) (named-keeps (begin c s).reply (performed d)))
-step-keeps Worked s = taken_keeps (next_job s.promises) s
-step-keeps Heard s = keeps-same s.promises
 
-run_keeps : (xs : List Entry) (s : Slots) → Keeps s.promises (run xs s).promises
-run_keeps [] s = keeps-same s.promises
-run_keeps (x ∷ xs) s = keeps-then s.promises (step s x).promises (run xs (step s x)).promises (step-keeps x s) (run_keeps xs (step s x))
+-- a promise that the host doesn't let go of
+entry_keeps : (x : Entry) (s : Slots) (p : PromiseId) (o : Outcome) → is_pending o ≡ false → lets_go p x ≡ false → outcome_at s.promises p ≡ Some o → outcome_at (step s x).promises p ≡ Some o
+entry_keeps (Called c) s p o n g h = (called-keeps c s).outcome p o n h
+entry_keeps Worked s p o n g h = (taken_keeps (next_job s.promises) s).outcome p o n h
+entry_keeps Heard s p o n g h = h
+entry_keeps (Forgot q) s p o n g h = release-outcome p q s.promises g ∙ h
 
 pub each_outcome_stays : EachOutcomeStays
-each_outcome_stays s entries = (run_keeps entries s).outcome
+each_outcome_stays s [] p o n g h = h
+each_outcome_stays s (x ∷ xs) p o n g h =
+    let here : lets_go p x ≡ false = nor_left (lets_go p x) (is_forgotten p xs) g in
+    let later : is_forgotten p xs ≡ false = nor_right (lets_go p x) (is_forgotten p xs) g in
+    each_outcome_stays (step s x) xs p o n later (entry_keeps x s p o n here h)
+
+mark_stays : (x : Entry) (s : Slots) → s.promises.astray ≡ true → (step s x).promises.astray ≡ true
+mark_stays (Called c) s m = (called-keeps c s).mark m
+mark_stays Worked s m = (taken_keeps (next_job s.promises) s).mark m
+mark_stays Heard s m = m
+mark_stays (Forgot q) s m = release-mark q s.promises ∙ m
 
 pub each_mark_stays : EachMarkStays
-each_mark_stays s entries = (run_keeps entries s).mark
+each_mark_stays s [] m = m
+each_mark_stays s (x ∷ xs) m = each_mark_stays (step s x) xs (mark_stays x s m)

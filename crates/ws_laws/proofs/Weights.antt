@@ -60,7 +60,7 @@ of_jobs-reactions f o [] = refl
 of_jobs-reactions f o (r ∷ rs) = let n = of_jobs-reactions f o rs in let m = of_job-reaction f o r in omega arith
 
 -- a place is written
-of_entries-set : (f : Reaction → ℕ) (es : List (Option Entry)) (i : ℕ) (x : Option Entry) (e : Entry) → live (slice_get es i) ≡ Some e
+pub of_entries-set : (f : Reaction → ℕ) (es : List (Option Entry)) (i : ℕ) (x : Option Entry) (e : Entry) → live (slice_get es i) ≡ Some e
     → of_entries f (slice_set es i x) + of_reactions f e.reactions ≡ of_entries f es + of_entry f x
 of_entries-set f [] i x e h = cc
 of_entries-set f (y ∷ ys) zero x e h = rw h (omega arith)

@@ -3,12 +3,12 @@
 
 ghost use Rattle.ws_steps.specs.Laws.{EachMarkStays, EachOutcomeStays, EachThrowChangesNothing, EffectsEndOnce};
 
-/// A promise that has settled keeps its outcome, whatever calls and jobs are performed.
+/// A promise that has settled keeps its outcome, whatever is performed, until the host lets go of it.
 pub fn each_outcome_stays()
     ensures { EachOutcomeStays }
 {}
 
-/// The mark that a promise was to be settled or resolved and wasn't open stays, whatever calls and jobs are performed: where there is none at the end, nothing went astray before.
+/// The mark that a promise was to be settled or resolved and wasn't open stays, whatever is performed: where there is none at the end, nothing went astray before.
 pub fn each_mark_stays()
     ensures { EachMarkStays }
 {}

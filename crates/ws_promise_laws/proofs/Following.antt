@@ -2,19 +2,20 @@
 use Rattle.std.proofs.Common.{◌≡◌, ℕ, ◌+◌, ◌≤◌, Bool, true, false, not, nat_eq, Option, Some, None, refl, sym, ap, ◌∙◌, arith}
 use Rattle.ws_value.specs.declared.ids.PromiseId.{PromiseId}
 use Rattle.ws_steps.specs.Promises.{is_following_entry, Entry, Table, entry_at, is_pending, is_open, is_open_entry, follow, follow_entry}
-use Rattle.ws_steps.proofs.PromiseLaws.{entry_within, entry_at-with_entry_same, entry_at-with_entry_other}
+use Rattle.ws_steps.proofs.PromiseLaws.{entry_within, entry_at-with_entry_same}
 use Rattle.ws_laws.proofs.Weights.{weigh, weigh-follow}
 use Rattle.ws_writable_laws.proofs.Shape.{one_if}
 use Rattle.ws_promise_laws.proofs.Tokens.{Token, PromiseToken, StartToken, names, in_reaction, adopts}
 use Rattle.ws_laws.proofs.Outcomes.{open_pending}
-use Rattle.ws_promise_laws.proofs.Holds.{Holds, is_settled, shut, is_unsettled, when, eq_promises, other_number, named, open_when, open_follows, shut_by}
+use Rattle.ws_promise_laws.proofs.Places.{place_at, is_over, place-other}
+use Rattle.ws_promise_laws.proofs.Holds.{Holds, shut, is_unsettled, when, eq_promises, other_number, named, open_when, open_follows, shut_by}
 use Rattle.ws_promise_laws.proofs.Reacting.{shared}
 
 -- promise p follows from now on
 pub record Led (p : PromiseId) (t z : Table) : Type 0 where
-  pub settled : (r : PromiseId) → is_settled (entry_at z r) ≡ is_settled (entry_at t r)
+  pub over : (r : PromiseId) → is_over (place_at z r) ≡ is_over (place_at t r)
   pub here : is_following_entry (entry_at z p) ≡ true
-  pub there : (r : PromiseId) → nat_eq r.0 p.0 ≡ false → entry_at z r ≡ entry_at t r
+  pub there : (r : PromiseId) → nat_eq r.0 p.0 ≡ false → place_at z r ≡ place_at t r
   pub straight : z.astray ≡ t.astray
 
 follow_led : (p q : PromiseId) (t : Table) (x : Option Entry) → x ≡ entry_at t p → is_open_entry x ≡ true → Led p t (follow_entry p q t x)
@@ -23,9 +24,9 @@ follow_led p q t (Some e) h o =
     let d : Entry = record e { follows = true } in
     let n : is_pending e.outcome ≡ true = open_pending (is_pending e.outcome) e.follows o in
     record {
-      settled = λ r. shared is_settled r p t (follow_entry p q t (Some e)) e d (nat_eq r.0 p.0) refl (sym h) refl refl;
+      over = λ r. shared is_over r p t (follow_entry p q t (Some e)) e d (nat_eq r.0 p.0) refl (sym h) refl refl;
       here = ap is_following_entry (entry_at-with_entry_same t p (Some d) (entry_within t p e (sym h))) ∙ (rw n refl);
-      there = λ r o. entry_at-with_entry_other t p r (Some d) (other_number r p o);
+      there = λ r o. place-other t p r (Some d) (other_number r p o);
       straight = refl;
     }
 
@@ -54,7 +55,7 @@ follow_once f l g p r t z true e k d w a =
     let n = a x in
     let one = named p in
     let o = following_shut (entry_at z p) d.here in
-    let u : when (is_unsettled x z) (l x) ≡ when (is_unsettled x t) (l x) = ap (λ (b : Bool). when (not b) (l x)) (d.settled p) in
+    let u : when (is_unsettled x z) (l x) ≡ when (is_unsettled x t) (l x) = ap (λ (b : Bool). when (not b) (l x)) (d.over p) in
     rw is (omega arith)
 
 follow_token : (f l g : Token → ℕ) (p : PromiseId) (t z : Table) → Holds f l t → Led p t z → ((x : Token) → weigh (in_reaction x) z ≤ weigh (in_reaction x) t) → ((x : Token) → g x + names x p ≤ f x)

@@ -5,11 +5,8 @@ use Rattle.ws_steps.specs.Promises.{is_following_entry, Entry, Table, live, entr
 use Rattle.ws_laws.proofs.Tables.{eq_numbers, unequal_numbers}
 use Rattle.ws_laws.proofs.Weights.{weigh}
 use Rattle.ws_writable_laws.proofs.Shape.{one_if}
+use Rattle.ws_promise_laws.proofs.Places.{place_at, is_over}
 use Rattle.ws_promise_laws.proofs.Tokens.{Token, PromiseToken, StartToken, names, in_reaction, adopts}
-
-abbrev pub is_settled : Option Entry → Bool
-is_settled None = false
-is_settled (Some e) = not (is_pending e.outcome)
 
 -- 1 where the promise of a token isn't open
 abbrev pub shut : Token → Table → ℕ
@@ -18,7 +15,7 @@ shut (StartToken i) t = 0
 
 -- whether it may be settled yet, now or once it is made
 abbrev pub is_unsettled : Token → Table → Bool
-is_unsettled (PromiseToken p) t = not (is_settled (entry_at t p))
+is_unsettled (PromiseToken p) t = not (is_over (place_at t p))
 is_unsettled (StartToken i) t = false
 
 -- a number that counts where this holds
@@ -93,14 +90,14 @@ one_most false = omega arith
 
 -- the places of promises keep what matters here
 pub record Alike (t z : Table) : Type 0 where
-  pub settled : (p : PromiseId) → is_settled (entry_at z p) ≡ is_settled (entry_at t p)
+  pub over : (p : PromiseId) → is_over (place_at z p) ≡ is_over (place_at t p)
   pub open_ : (p : PromiseId) → is_open_entry (entry_at z p) ≡ is_open_entry (entry_at t p)
   pub following : (p : PromiseId) → is_following_entry (entry_at z p) ≡ is_following_entry (entry_at t p)
   pub straight : z.astray ≡ t.astray
 
 alike_token : (f l g : Token → ℕ) (t z : Table) → Holds f l t → Alike t z → (x : Token) → g x + weigh (in_reaction x) z ≤ f x + weigh (in_reaction x) t
     → g x + (when (is_unsettled x z) (l x) + (weigh (in_reaction x) z + shut x z)) ≤ 1
-alike_token f l g t z k a (PromiseToken p) w = let h = k.once (PromiseToken p) in rw (a.settled p, a.open_ p) (omega arith)
+alike_token f l g t z k a (PromiseToken p) w = let h = k.once (PromiseToken p) in rw (a.over p, a.open_ p) (omega arith)
 alike_token f l g t z k a (StartToken i) w = let h = k.once (StartToken i) in omega arith
 
 -- reactions are registered and queued, which stand for no more
@@ -114,7 +111,7 @@ holds-alike f l g t z k a w v = record {
 
 pub alike-same : (t z : Table) → z.entries ≡ t.entries → z.astray ≡ t.astray → Alike t z
 alike-same t z e s = record {
-  settled = λ p. ap (λ (es : List (Option Entry)). is_settled (live (slice_get es p.0))) e;
+  over = λ p. ap (λ (es : List (Option Entry)). is_over (slice_get es p.0)) e;
   open_ = λ p. ap (λ (es : List (Option Entry)). is_open_entry (live (slice_get es p.0))) e;
   following = λ p. ap (λ (es : List (Option Entry)). is_following_entry (live (slice_get es p.0))) e;
   straight = s;

@@ -1,3 +1,4 @@
+pub mod Places
 pub mod Tokens
 pub mod Holds
 pub mod Settling
@@ -10,6 +11,7 @@ pub mod ReadableKeeps
 pub mod WritableErroring
 pub mod WritableQueue
 pub mod WritableAsks
+pub mod Forgetting
 pub mod Realm
 pub mod Performing
 pub mod Known

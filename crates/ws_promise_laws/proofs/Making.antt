@@ -2,12 +2,13 @@
 use Rattle.std.proofs.Common.{◌≡◌, ◌≢◌, ℕ, zero, suc, ◌+◌, ◌≤◌, Bool, true, false, nat_eq, List, [], ◌∷◌, ◌++◌, length, Option, Some, None, Result, slice_get, refl, sym, ap, ◌∙◌, arith}
 use Rattle.ws_value.specs.declared.ids.PromiseId.{PromiseId}
 use Rattle.ws_value.specs.declared.value.Plain.{Plain}
-use Rattle.ws_steps.specs.Promises.{is_following_entry, Entry, Table, pending, live, entry_at, next_id, fresh, fresh_settled}
+use Rattle.ws_steps.specs.Promises.{is_following_entry, Entry, Table, pending, entry_at, next_id, fresh, fresh_settled}
 use Rattle.ws_steps.proofs.PromiseLaws.{entry_at-fresh_new}
 use Rattle.ws_laws.proofs.Tables.{eq_numbers, unequal_numbers}
 use Rattle.ws_laws.proofs.Weights.{weigh, weigh-fresh}
 use Rattle.ws_writable_laws.proofs.Shape.{one_if}
 use Rattle.ws_promise_laws.proofs.Tokens.{Token, PromiseToken, StartToken, names, in_reaction, adopts}
+use Rattle.ws_promise_laws.proofs.Places.{place_at, place-there}
 use Rattle.ws_promise_laws.proofs.Holds.{Holds, shut, is_unsettled, when, less_when}
 use Rattle.ws_promise_laws.proofs.Settling.{holds-settle}
 
@@ -16,8 +17,8 @@ past [] = refl
 past (x ∷ xs) = past xs
 
 -- a promise that isn't made yet stands nowhere
-unmade : (t : Table) (p : PromiseId) → p.0 ≡ length t.entries → entry_at t p ≡ None
-unmade t p e = rw e (ap live (past t.entries))
+unmade : (t : Table) (p : PromiseId) → p.0 ≡ length t.entries → place_at t p ≡ None
+unmade t p e = rw e (past t.entries)
 
 before : (es : List (Option Entry)) (x : Option Entry) (i : ℕ) → i ≢ length es → slice_get (es ++ x ∷ []) i ≡ slice_get es i
 before [] x zero n = absurd (n refl)
@@ -25,9 +26,12 @@ before [] x (suc i) n = refl
 before (e ∷ es) x zero n = refl
 before (e ∷ es) x (suc i) n = before es x i (λ h. n (ap suc h))
 
-fresh_elsewhere : (t : Table) (p : PromiseId) → p.0 ≢ length t.entries → entry_at (fresh t) p ≡ entry_at t p
+fresh_here : (t : Table) (p : PromiseId) → p.0 ≡ length t.entries → place_at (fresh t) p ≡ Some (Some pending)
+fresh_here t p e = place-there (fresh t) p pending (entry_at-fresh_new t p e)
+
+fresh_elsewhere : (t : Table) (p : PromiseId) → p.0 ≢ length t.entries → place_at (fresh t) p ≡ place_at t p
 unfolding fresh
-fresh_elsewhere t p n = ap live (before t.entries (Some pending) p.0 n)
+fresh_elsewhere t p n = before t.entries (Some pending) p.0 n
 
 fresh_once : (f l g m : Token → ℕ) (p : PromiseId) (t : Table) (new : Bool) → new ≡ nat_eq p.0 (length t.entries) → Holds f l t
     → ((x : Token) → g x ≤ f x + names x (next_id t)) → ((x : Token) → g x + m x ≤ f x + (l x + names x (next_id t)))
@@ -35,12 +39,12 @@ fresh_once : (f l g m : Token → ℕ) (p : PromiseId) (t : Table) (new : Bool) 
 fresh_once f l g m p t true e k a b =
     let x : Token = PromiseToken p in
     let is : p.0 ≡ length t.entries = eq_numbers p.0 (length t.entries) (sym e) in
-    let old : entry_at t p ≡ None = unmade t p is in
+    let old : place_at t p ≡ None = unmade t p is in
     let h : f x + (l x + (weigh (in_reaction x) t + 1)) ≤ 1 = rw old at (k.once x) in
     let w = weigh-fresh (in_reaction x) t in
     let n = b x in
     let one : names x (next_id t) ≡ 1 = rw (← e) refl in
-    rw (entry_at-fresh_new t p is) (omega arith)
+    rw (fresh_here t p is) (omega arith)
 fresh_once f l g m p t false e k a b =
     let x : Token = PromiseToken p in
     let h = k.once x in
@@ -63,7 +67,7 @@ fresh_led f l p t true e k =
     let is : p.0 ≡ length t.entries = eq_numbers p.0 (length t.entries) (sym e) in
     let h : weigh (adopts p) t ≤ 0 = rw (unmade t p is) at (k.led p) in
     let w = weigh-fresh (adopts p) t in
-    rw (entry_at-fresh_new t p is) (omega arith)
+    rw (fresh_here t p is) (omega arith)
 fresh_led f l p t false e k =
     let h = k.led p in
     let w = weigh-fresh (adopts p) t in

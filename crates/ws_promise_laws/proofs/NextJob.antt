@@ -7,11 +7,12 @@ use Rattle.ws_steps.specs.declared.promises.Job.TheVariants.{Reaction as Reactio
 use Rattle.ws_steps.specs.declared.promises.Reaction.{Reaction}
 use Rattle.ws_steps.specs.declared.promises.Reaction.TheVariants.{Adopt}
 use Rattle.ws_steps.specs.Promises.{is_following, is_following_entry, Entry, Table, entry_at, is_pending, is_open_entry, react, unfollow, unfollow_entry, first_job, after_first, next_job, after_next_job}
-use Rattle.ws_steps.proofs.PromiseLaws.{entry_within, entry_at-with_entry_same, entry_at-with_entry_other}
+use Rattle.ws_steps.proofs.PromiseLaws.{entry_within, entry_at-with_entry_same}
 use Rattle.ws_laws.proofs.Weights.{weigh, of_next, weigh-next}
 use Rattle.ws_writable_laws.proofs.Shape.{one_if}
 use Rattle.ws_promise_laws.proofs.Tokens.{Token, PromiseToken, StartToken, names, in_reaction, adopts, in_hand}
-use Rattle.ws_promise_laws.proofs.Holds.{Holds, is_settled, shut, is_unsettled, when, eq_promises, other_number, named, Alike, alike-same, holds-alike, one_most}
+use Rattle.ws_promise_laws.proofs.Places.{place_at, is_over, place-other}
+use Rattle.ws_promise_laws.proofs.Holds.{Holds, shut, is_unsettled, when, eq_promises, other_number, named, Alike, alike-same, holds-alike, one_most}
 use Rattle.ws_promise_laws.proofs.Reacting.{shared, react-alike}
 use Rattle.ws_promise_laws.proofs.Following.{following_shut}
 
@@ -23,7 +24,7 @@ next_weighs : (h : Reaction → ℕ) (t : Table) (js : List Job) → js ≡ t.jo
 next_weighs h t js e = rw e (weigh-next h t)
 
 alike_queue : (t z : Table) (js : List Job) → Alike (record t { jobs = js }) z → Alike t z
-alike_queue t z js a = record { settled = a.settled; open_ = a.open_; following = a.following; straight = a.straight }
+alike_queue t z js a = record { over = a.over; open_ = a.open_; following = a.following; straight = a.straight }
 
 -- a job is taken out that leaves the places of promises alike
 next_alike : (f l : Token → ℕ) (t : Table) (js : List Job) → js ≡ t.jobs → Alike t (after_first t js) → ((x : Token) → in_hand x (first_job js) ≤ of_next (in_reaction x) (first_job js)) → Holds f l t
@@ -35,25 +36,25 @@ next_alike f l t js e a n k =
 
 -- promise p follows no more
 pub record Freed (p : PromiseId) (t z : Table) : Type 0 where
-  pub settled : (r : PromiseId) → is_settled (entry_at z r) ≡ is_settled (entry_at t r)
-  pub there : (r : PromiseId) → nat_eq r.0 p.0 ≡ false → entry_at z r ≡ entry_at t r
+  pub over : (r : PromiseId) → is_over (place_at z r) ≡ is_over (place_at t r)
+  pub there : (r : PromiseId) → nat_eq r.0 p.0 ≡ false → place_at z r ≡ place_at t r
   pub here : is_following_entry (entry_at t p) ≡ true → is_open_entry (entry_at z p) ≡ true
   pub straight : z.astray ≡ t.astray
 
 freed_queue : (p : PromiseId) (t z : Table) (js : List Job) → Freed p (record t { jobs = js }) z → Freed p t z
-freed_queue p t z js d = record { settled = d.settled; there = d.there; here = d.here; straight = d.straight }
+freed_queue p t z js d = record { over = d.over; there = d.there; here = d.here; straight = d.straight }
 
 freed_open : (b f : Bool) → (if b then f else false) ≡ true → (if b then not false else false) ≡ true
 freed_open true f h = refl
 freed_open false f h = h
 
 unfollow_free : (p : PromiseId) (t : Table) (x : Option Entry) → x ≡ entry_at t p → Freed p t (unfollow_entry p t x)
-unfollow_free p t None h = record { settled = λ r. refl; there = λ r o. refl; here = λ o. absurd (cc); straight = refl }
+unfollow_free p t None h = record { over = λ r. refl; there = λ r o. refl; here = λ o. absurd (cc); straight = refl }
 unfollow_free p t (Some e) h =
     let d : Entry = record e { follows = false } in
     record {
-      settled = λ r. shared is_settled r p t (unfollow_entry p t (Some e)) e d (nat_eq r.0 p.0) refl (sym h) refl refl;
-      there = λ r o. entry_at-with_entry_other t p r (Some d) (other_number r p o);
+      over = λ r. shared is_over r p t (unfollow_entry p t (Some e)) e d (nat_eq r.0 p.0) refl (sym h) refl refl;
+      there = λ r o. place-other t p r (Some d) (other_number r p o);
       here = λ o. ap is_open_entry (entry_at-with_entry_same t p (Some d) (entry_within t p e (sym h))) ∙ freed_open (is_pending e.outcome) e.follows (ap is_following_entry h ∙ o);
       straight = refl;
     }
@@ -81,7 +82,7 @@ free_once f l p r t z true e k d o w =
     let v : weigh (in_reaction x) z ≤ weigh (in_reaction x) t = rw is at w in
     let h = k.once x in
     let m = following_shut (entry_at t p) o in
-    let u : when (is_unsettled x z) (l x) ≡ when (is_unsettled x t) (l x) = ap (λ (b : Bool). when (not b) (l x)) (d.settled p) in
+    let u : when (is_unsettled x z) (l x) ≡ when (is_unsettled x t) (l x) = ap (λ (b : Bool). when (not b) (l x)) (d.over p) in
     let n : one_if (not (is_open_entry (entry_at z p))) ≡ 0 = rw (d.here o) refl in
     rw is (omega arith)
 

@@ -7,31 +7,30 @@ use Rattle.ws_steps.specs.declared.promises.Reaction.{Reaction}
 use Rattle.ws_steps.specs.declared.promises.Reaction.TheVariants.{Perform}
 use Rattle.ws_steps.specs.declared.promises.Step.{Step}
 use Rattle.ws_steps.specs.Promises.{is_following_entry, Entry, Table, live, entry_at, is_open_entry, react, react_entry, react_by, watch, watch_at, watch_entry, all_told}
-use Rattle.ws_steps.proofs.PromiseLaws.{entry_within, entry_at-with_entry_same, entry_at-with_entry_other}
 use Rattle.ws_laws.proofs.Weights.{weigh-react, weigh-watch, weigh-told}
 use Rattle.ws_promise_laws.proofs.Tokens.{Token, names_any, in_step, in_reaction, adopts}
-use Rattle.ws_promise_laws.proofs.Holds.{Holds, is_settled, eq_promises, other_number, Alike, alike-same, holds-alike}
+use Rattle.ws_promise_laws.proofs.Places.{place_at, is_over, place-there, place-same, place-other}
+use Rattle.ws_promise_laws.proofs.Holds.{Holds, eq_promises, other_number, Alike, alike-same, holds-alike}
 
 -- a place is written that keeps what matters here
 
 written : (p q : PromiseId) (t z : Table) (e d : Entry) (same : Bool) → same ≡ nat_eq p.0 q.0 → entry_at t q ≡ Some e → z.entries ≡ slice_set t.entries q.0 (Some d)
-    → entry_at z p ≡ (if same then Some d else entry_at t p)
+    → place_at z p ≡ (if same then Some (Some d) else place_at t p)
 written p q t z e d true n h w =
-    rw (eq_promises p q (sym n)) (ap (λ (es : List (Option Entry)). live (slice_get es q.0)) w ∙ entry_at-with_entry_same t q (Some d) (entry_within t q e h))
-written p q t z e d false n h w =
-    ap (λ (es : List (Option Entry)). live (slice_get es p.0)) w ∙ entry_at-with_entry_other t q p (Some d) (other_number p q (sym n))
+    rw (eq_promises p q (sym n)) (ap (λ (es : List (Option Entry)). slice_get es q.0) w ∙ place-same t q e (Some d) h)
+written p q t z e d false n h w = ap (λ (es : List (Option Entry)). slice_get es p.0) w ∙ place-other t q p (Some d) (other_number p q (sym n))
 
 -- a property of places that the written entry shares with the one before
-pub shared : (P : Option Entry → Bool) (p q : PromiseId) (t z : Table) (e d : Entry) (same : Bool) → same ≡ nat_eq p.0 q.0 → entry_at t q ≡ Some e → z.entries ≡ slice_set t.entries q.0 (Some d)
-    → P (Some d) ≡ P (Some e) → P (entry_at z p) ≡ P (entry_at t p)
-shared P p q t z e d true n h w i = ap P (written p q t z e d true n h w) ∙ (i ∙ sym (ap (λ (r : PromiseId). P (entry_at t r)) (eq_promises p q (sym n)) ∙ ap P h))
+pub shared : (P : Option (Option Entry) → Bool) (p q : PromiseId) (t z : Table) (e d : Entry) (same : Bool) → same ≡ nat_eq p.0 q.0 → entry_at t q ≡ Some e → z.entries ≡ slice_set t.entries q.0 (Some d)
+    → P (Some (Some d)) ≡ P (Some (Some e)) → P (place_at z p) ≡ P (place_at t p)
+shared P p q t z e d true n h w i = ap P (written p q t z e d true n h w) ∙ (i ∙ sym (ap (λ (r : PromiseId). P (place_at t r)) (eq_promises p q (sym n)) ∙ ap P (place-there t q e h)))
 shared P p q t z e d false n h w i = ap P (written p q t z e d false n h w)
 
 alike_put : (q : PromiseId) (t z : Table) (e d : Entry) → entry_at t q ≡ Some e → z.entries ≡ slice_set t.entries q.0 (Some d) → z.astray ≡ t.astray → d.outcome ≡ e.outcome → d.follows ≡ e.follows → Alike t z
 alike_put q t z e d h w s o f = record {
-  settled = λ p. shared is_settled p q t z e d (nat_eq p.0 q.0) refl h w (rw o refl);
-  open_ = λ p. shared is_open_entry p q t z e d (nat_eq p.0 q.0) refl h w (rw (o, f) refl);
-  following = λ p. shared is_following_entry p q t z e d (nat_eq p.0 q.0) refl h w (rw (o, f) refl);
+  over = λ p. shared is_over p q t z e d (nat_eq p.0 q.0) refl h w (rw o refl);
+  open_ = λ p. shared (λ x. is_open_entry (live x)) p q t z e d (nat_eq p.0 q.0) refl h w (rw (o, f) refl);
+  following = λ p. shared (λ x. is_following_entry (live x)) p q t z e d (nat_eq p.0 q.0) refl h w (rw (o, f) refl);
   straight = s;
 }
 

@@ -9,12 +9,13 @@ use Rattle.ws_steps.specs.Turns.{performed}
 use Rattle.ws_steps.specs.Calls.{begin, named}
 use Rattle.ws_steps.specs.Histories.{Writes, no_writes, writes_then, step_writes}
 use Rattle.ws_steps.specs.Laws.{NoneGoesAstray}
-use Rattle.ws_steps.specs.Run.{Entry, Called, Worked, Heard, step, run}
+use Rattle.ws_steps.specs.Run.{Entry, Called, Worked, Heard, Forgot, step, run}
 use Rattle.ws_laws.proofs.Weights.{weigh}
 use Rattle.ws_writable_laws.proofs.Runs.{Rests, entry_kept, none_made}
 use Rattle.ws_promise_laws.proofs.Tokens.{Token, PromiseToken, StartToken, in_reaction}
 use Rattle.ws_promise_laws.proofs.Holds.{when, is_unsettled, shut, one_most}
 use Rattle.ws_promise_laws.proofs.Reacting.{holds-watch, holds-told}
+use Rattle.ws_promise_laws.proofs.Forgetting.{holds-release}
 use Rattle.ws_promise_laws.proofs.Realm.{in_done, loose_in_done, Sound}
 use Rattle.ws_promise_laws.proofs.Performing.{performed-sound}
 use Rattle.ws_promise_laws.proofs.Known.{known}
@@ -49,6 +50,10 @@ entry-sound Worked s h r k =
     let done = worked-sound s h r (λ i. known i (h i) s (r i)) k in
     record { holds = done.holds; calm = done.calm }
 entry-sound Heard s h r k = record { holds = k.holds; calm = k.calm }
+entry-sound (Forgot p) s h r k = record {
+  holds = holds-release (λ x. 0 + in_done x (nothing s)) (λ x. loose_in_done x (nothing s)) p s.promises k.holds;
+  calm = k.calm;
+}
 
 run-sound : (xs : List Entry) (s : Slots) (h : StreamId → Writes) → AllRest h s → Sound none (nothing s) → Sound none (nothing (run xs s))
 run-sound [] s h r k = k

@@ -7,29 +7,30 @@ use Rattle.ws_value.specs.declared.value.Outcome.{Outcome}
 use Rattle.ws_steps.specs.declared.promises.Job.{Job}
 use Rattle.ws_steps.specs.declared.promises.Reaction.{Reaction}
 use Rattle.ws_steps.specs.Promises.{is_following_entry, Entry, Table, live, entry_at, is_pending, is_pending_at, is_pending_outcome, outcome_at, is_open, is_open_entry, settled, settle, settle_entry, job_of, ended_as, noted, answer, answer_entry}
-use Rattle.ws_steps.proofs.PromiseLaws.{entry_within, entry_at-with_entry_same, entry_at-with_entry_other}
+use Rattle.ws_steps.proofs.PromiseLaws.{entry_within, entry_at-with_entry_same}
 use Rattle.ws_laws.proofs.Weights.{weigh, weigh-settle, weigh-answer}
 use Rattle.ws_writable_laws.proofs.Shape.{one_if}
 use Rattle.ws_promise_laws.proofs.Tokens.{Token, PromiseToken, StartToken, names, in_reaction, adopts}
-use Rattle.ws_promise_laws.proofs.Holds.{Holds, is_settled, shut, is_unsettled, when, eq_promises, other_number, named, open_when, less_when, open_follows, one_most}
+use Rattle.ws_promise_laws.proofs.Places.{place_at, is_over, place-same, place-other}
+use Rattle.ws_promise_laws.proofs.Holds.{Holds, shut, is_unsettled, when, eq_promises, other_number, named, open_when, less_when, open_follows, one_most}
 use Rattle.ws_laws.proofs.Outcomes.{entries_noted, astray_noted}
 
 -- a promise that isn't settled and follows no other is settled
 
 -- what is written in the place of promise q, and what stays in the other places
 pub record Ended (q : PromiseId) (t z : Table) : Type 0 where
-  pub here : is_settled (entry_at z q) ≡ true
-  pub there : (p : PromiseId) → nat_eq p.0 q.0 ≡ false → entry_at z p ≡ entry_at t p
+  pub here : is_over (place_at z q) ≡ true
+  pub there : (p : PromiseId) → nat_eq p.0 q.0 ≡ false → place_at z p ≡ place_at t p
   pub straight : z.astray ≡ t.astray
 
 ended_put : (q : PromiseId) (t : Table) (e d : Entry) (js : List Job) (r : Option ℕ) → entry_at t q ≡ Some e → is_pending d.outcome ≡ false
     → Ended q t (noted q (record t { entries = slice_set t.entries q.0 (Some d); jobs = js }) r)
 ended_put q t e d js r h n =
     let y : Table = record t { entries = slice_set t.entries q.0 (Some d); jobs = js } in
-    let at : entry_at (noted q y r) q ≡ Some d = ap (λ (es : List (Option Entry)). live (slice_get es q.0)) (entries_noted q y r) ∙ entry_at-with_entry_same t q (Some d) (entry_within t q e h) in
+    let at : place_at (noted q y r) q ≡ Some (Some d) = ap (λ (es : List (Option Entry)). slice_get es q.0) (entries_noted q y r) ∙ place-same t q e (Some d) h in
     record {
-      here = ap is_settled at ∙ ap not n;
-      there = λ p o. ap (λ (es : List (Option Entry)). live (slice_get es p.0)) (entries_noted q y r) ∙ entry_at-with_entry_other t q p (Some d) (other_number p q o);
+      here = ap is_over at ∙ ap not n;
+      there = λ p o. ap (λ (es : List (Option Entry)). slice_get es p.0) (entries_noted q y r) ∙ place-other t q p (Some d) (other_number p q o);
       straight = astray_noted q y r;
     }
 
@@ -128,15 +129,16 @@ holds-answer f l g m q o t n k a b =
     ended-holds f l g m q t (answer q o t) k (answer-ends q o t n) (λ h. weigh-answer h q o t) (λ x. let n = a x in omega arith) b
     (let n = a (PromiseToken q) in let one = named q in omega arith)
 
-pending_unsettled : (x : Option Entry) → is_pending_outcome (option_map (λ (e : Entry). e.outcome) x) ≡ true → not (is_settled x) ≡ true
+pending_unsettled : (x : Option (Option Entry)) → is_pending_outcome (option_map (λ (e : Entry). e.outcome) (live x)) ≡ true → not (is_over x) ≡ true
 pending_unsettled None e = cc
-pending_unsettled (Some e) h = rw h refl
+pending_unsettled (Some None) e = cc
+pending_unsettled (Some (Some e)) h = rw h refl
 
 -- a promise that is settled if it hasn't been, and hasn't
 pub holds-settle_pending : (f l g m : Token → ℕ) (q : PromiseId) (o : Result Plain Plain) (t : Table) → is_pending_at q t ≡ true → Holds f l t
     → ((x : Token) → g x ≤ f x) → ((x : Token) → g x + m x ≤ f x + l x) → ((x : Token) → g x + names x q ≤ f x + l x) → Holds g m (settle q o t)
 holds-settle_pending f l g m q o t e k a b c =
-    let u : is_unsettled (PromiseToken q) t ≡ true = pending_unsettled (entry_at t q) e in
+    let u : is_unsettled (PromiseToken q) t ≡ true = pending_unsettled (place_at t q) e in
     let n = c (PromiseToken q) in
     let one = named q in
     let room : g (PromiseToken q) + 1 ≤ f (PromiseToken q) + when (is_unsettled (PromiseToken q) t) (l (PromiseToken q)) = rw u (omega arith) in

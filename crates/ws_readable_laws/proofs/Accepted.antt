@@ -12,7 +12,7 @@ use Rattle.ws_steps.specs.ReadableLooks as readable_looks
 use Rattle.ws_steps.specs.Slots.{Slots, Done, empty, on_readable, has_readable, readable_at, lock_at}
 use Rattle.ws_steps.specs.Calls.{Begun, begin, replies, unsupported, for_readable, for_writable, by_reader, by_writer, of_writer, add_stream}
 use Rattle.ws_steps.specs.Calls as calls
-use Rattle.ws_steps.specs.Run.{Entry, Called, Worked, Heard, step}
+use Rattle.ws_steps.specs.Run.{Entry, Called, Worked, Heard, Forgot, step}
 use Rattle.ws_steps.specs.Histories.{Flow, no_flow, is_same, flow_at, flow_by, enqueue_flow, read_flow, cancel_flow, call_flow, step_flow, run_flow, accepted_by, accepted_in_step, accepted}
 use Rattle.ws_steps.specs.Laws.{EnteredWasAccepted}
 use Rattle.ws_laws.proofs.Tables.{either, no_readable_there}
@@ -82,6 +82,7 @@ entry_accepted : (i : StreamId) (x : Entry) (s : Slots) → (step_flow i s x).en
 entry_accepted i (Called c) s = call_accepted c i s
 entry_accepted i Worked s = refl
 entry_accepted i Heard s = refl
+entry_accepted i (Forgot p) s = refl
 
 run_accepted : (i : StreamId) (xs : List Entry) (s : Slots) → (run_flow i xs s).entered ≡ accepted i xs s
 run_accepted i [] s = refl

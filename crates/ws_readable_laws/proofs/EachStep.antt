@@ -10,7 +10,7 @@ use Rattle.ws_steps.specs.declared.queue.Queued.{Queued}
 use Rattle.ws_steps.specs.Readable as readable
 use Rattle.ws_steps.specs.ReadableLooks as readable_looks
 use Rattle.ws_steps.specs.Slots.{Slots, empty, readable_at, lock_at}
-use Rattle.ws_steps.specs.Run.{Entry, Called, Worked, Heard, step, run}
+use Rattle.ws_steps.specs.Run.{Entry, Called, Worked, Heard, Forgot, step, run}
 use Rattle.ws_steps.specs.declared.readable.ReadableState.{ReadableState}
 use Rattle.ws_steps.specs.declared.readable.ReadableState.TheVariants.{Readable, Closed as ReadableClosed, Errored as ReadableErrored}
 use Rattle.ws_steps.specs.Histories.{Flow, no_flow, flow_then, values, is_same, flow_at, flow_by, enqueue_flow, read_flow, first_given, cancel_flow, call_flow, step_flow, run_flow}
@@ -68,6 +68,7 @@ entry_ended : (i : StreamId) (x : Entry) (s : Slots) → (readable_at i s).state
 entry_ended i (Called c) s n = call_ended c i s n
 entry_ended i Worked s n = (refl, refl)
 entry_ended i Heard s n = (refl, refl)
+entry_ended i (Forgot p) s n = (refl, refl)
 
 -- the step of a stream that is readable, told from what is queued
 

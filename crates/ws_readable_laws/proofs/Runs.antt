@@ -15,7 +15,7 @@ use Rattle.ws_steps.specs.Slots.{Slots, empty, readable_at}
 use Rattle.ws_steps.specs.Turns.{performed}
 use Rattle.ws_steps.specs.Jobs.{perform_step, perform_job, job_taken, returned}
 use Rattle.ws_steps.specs.Calls.{begin, named}
-use Rattle.ws_steps.specs.Run.{Entry, Called, Worked, Heard, step, run}
+use Rattle.ws_steps.specs.Run.{Entry, Called, Worked, Heard, Forgot, step, run}
 use Rattle.ws_steps.specs.Histories.{Flow, no_flow, flow_then, step_flow, run_flow, values}
 use Rattle.ws_steps.specs.Laws.{IsLawfulReadable, EachReadableIsLawful}
 use Rattle.ws_laws.proofs.Tables.{performed-streams}
@@ -63,6 +63,7 @@ entry_kept i (Called c) s h k =
     rw (named-streams (begin c s).reply (performed (begin c s).done), performed-streams (begin c s).done) (call_kept c i s h k)
 entry_kept i Worked s h k = quiet i h (job_taken s (next_job s.promises)).streams (taken_kept (next_job s.promises) i s h k)
 entry_kept i Heard s h k = rw same_flow k
+entry_kept i (Forgot p) s h k = rw same_flow k
 
 or_assoc : (a b c : Bool) → (a || b) || c ≡ a || (b || c)
 or_assoc true b c = refl

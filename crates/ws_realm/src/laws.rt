@@ -1,4 +1,4 @@
-//! What holds of the streams and promises of a realm, whatever calls and jobs it performs and events its host takes. Of one that lets go of promises these laws say nothing, but for those that are said from any slots.
+//! What holds of the streams and promises of a realm, whatever calls and jobs it performs, events its host takes and promises its host lets go of.
 pub use ws_laws::{
     each_mark_stays, each_outcome_stays, each_throw_changes_nothing, effects_end_once,
 };

@@ -159,7 +159,7 @@ impl Realm {
 
     /// The host lets go of `p`, where it has settled: nobody may ask for it any more, and what it holds is freed.
     pub fn forget(&mut self, p: PromiseId)
-        ensures slots { self.new.slots ≡ record self.old.slots { promises = table.release p self.old.slots.promises } }
+        ensures slots { self.new.slots ≡ run.after_forgetting p self.old.slots }
         ensures wanting { self.new.wanting ≡ self.old.wanting }
     {
         self.tables.promises.release(p);

@@ -1,8 +1,9 @@
 -- The histories computed on short runs.
-use Rattle.std.proofs.Common.{◌≡◌, ℕ, List, [], ◌∷◌, ◌++◌, refl, true}
+use Rattle.std.proofs.Common.{◌≡◌, ℕ, List, [], ◌∷◌, ◌++◌, Some, None, refl, true}
 use Rattle.ws_value.specs.declared.ids.HostId.{HostId}
 use Rattle.ws_value.specs.declared.ids.LockId.{LockId}
 use Rattle.ws_value.specs.declared.ids.StreamId.{StreamId}
+use Rattle.ws_value.specs.declared.value.Outcome.TheVariants.{Pending}
 use Rattle.ws_value.specs.declared.value.Plain.TheVariants.{Number}
 use Rattle.ws_value.specs.declared.value.Value.{Value}
 use Rattle.ws_value.specs.declared.value.Value.TheVariants.{Plain as PlainValue}
@@ -12,14 +13,14 @@ use Rattle.ws_steps.specs.declared.calls.Event.TheVariants.{Host}
 use Rattle.ws_steps.specs.declared.calls.HostCall.TheVariants.{Pull, Cancel}
 use Rattle.ws_steps.specs.declared.calls.StartBy.TheVariants.{Now}
 use Rattle.ws_steps.specs.declared.readable.SizeBy.TheVariants.{Count}
-use Rattle.ws_steps.specs.Promises.{fresh, settle, answer, react, after_next_job, watch}
+use Rattle.ws_steps.specs.Promises.{outcome_at, fresh, settle, answer, react, release, after_next_job, watch}
 use Rattle.ws_steps.specs.Readable as readable
 use Rattle.ws_steps.specs.Writable as writable
 use Rattle.ws_steps.specs.Slots.{empty, call_host}
 use Rattle.ws_steps.specs.Turns.{row, turns, performed}
 use Rattle.ws_steps.specs.Jobs.{perform_job}
 use Rattle.ws_steps.specs.Calls.{begin}
-use Rattle.ws_steps.specs.Run.{Entry, Called, Worked, Heard}
+use Rattle.ws_steps.specs.Run.{Entry, Called, Worked, Heard, Forgot, run}
 use Rattle.ws_steps.specs.Histories.{run_flow, run_writes, run_promised, run_events}
 
 abbrev s0 : StreamId
@@ -73,3 +74,15 @@ events_taken : run_events (Called (MakeReadable 2 Count Now) ∷ Worked ∷ Hear
     ≡ Host (h 0) (Pull s0) ∷ Host (h 1) (Cancel s0 (Number 5)) ∷ []
 unfolding fresh settle answer react after_next_job watch readable.set_up readable.chunk_steps readable.close_steps readable.call_pull_if_needed readable.accept readable.controller_enqueue readable.stream_close readable.after_take readable.pull_steps readable.default_reader_read readable.reader_generic_initialize readable.start_settled readable.cancel_steps readable.stream_cancel call_host row turns performed perform_job begin
 events_taken = refl
+
+-- the host lets go of the promises of both writes, of which the second hasn't settled and stays
+abbrev forgotten : List Entry
+forgotten = writes ++ Called (Settle (h 0) Ok) ∷ Worked ∷ Forgot (record { 0 = 3 }) ∷ Forgot (record { 0 = 6 }) ∷ []
+
+a_settled_promise_is_gone : outcome_at (run forgotten empty).promises (record { 0 = 3 }) ≡ None
+unfolding fresh settle react release after_next_job watch writable.ensure_rejected writable.update_backpressure writable.refresh_backpressure writable.set_up writable.process_write writable.process_close writable.advance_queue writable.write_settled writable.start_settled writable.controller_write writable.writer_write writable.controller_close writable.stream_close writable.set_up_writer call_host row turns performed perform_job begin
+a_settled_promise_is_gone = refl
+
+a_pending_promise_stays : outcome_at (run forgotten empty).promises (record { 0 = 6 }) ≡ Some Pending
+unfolding fresh settle react release after_next_job watch writable.ensure_rejected writable.update_backpressure writable.refresh_backpressure writable.set_up writable.process_write writable.process_close writable.advance_queue writable.write_settled writable.start_settled writable.controller_write writable.writer_write writable.controller_close writable.stream_close writable.set_up_writer call_host row turns performed perform_job begin
+a_pending_promise_stays = refl

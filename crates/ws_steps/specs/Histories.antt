@@ -32,7 +32,7 @@ use Rattle.ws_steps.specs.Writable as writable
 use Rattle.ws_steps.specs.Slots.{Slots, readable_at, writable_at, lock_at}
 use Rattle.ws_steps.specs.Jobs.{perform_step}
 use Rattle.ws_steps.specs.Calls.{begin}
-use Rattle.ws_steps.specs.Run.{Entry, Called, Worked, Heard, step, reply_to}
+use Rattle.ws_steps.specs.Run.{Entry, Called, Worked, Heard, Forgot, step, reply_to}
 
 abbrev pub is_same : StreamId → StreamId → Bool
 is_same i j = nat_eq i.0 j.0
@@ -119,6 +119,7 @@ abbrev pub step_flow : StreamId → Slots → Entry → Flow
 step_flow i s (Called c) = call_flow i c s
 step_flow i s Worked = no_flow
 step_flow i s Heard = no_flow
+step_flow i s (Forgot p) = no_flow
 
 -- what goes through readable stream i in a run
 abbrev pub run_flow : StreamId → List Entry → Slots → Flow
@@ -213,6 +214,7 @@ abbrev pub step_promised : StreamId → Slots → Entry → List PromiseId
 step_promised i s (Called c) = promised_by (call_written i c s) (reply_to c s)
 step_promised i s Worked = []
 step_promised i s Heard = []
+step_promised i s (Forgot p) = []
 
 -- the promises of the writes that a run appends to stream i, in their order
 abbrev pub run_promised : StreamId → List Entry → Slots → List PromiseId
@@ -242,6 +244,7 @@ step_writes i s Worked =
     let effects : List Effect = job_caused s job in
     record { written = []; acted = acted_in i effects; fulfilled = job_fulfilled i s job; closes = closes_in i effects }
 step_writes i s Heard = no_writes
+step_writes i s (Forgot p) = no_writes
 
 -- what goes through writable stream i in a run
 abbrev pub run_writes : StreamId → List Entry → Slots → Writes
@@ -259,6 +262,7 @@ abbrev pub accepted_in_step : StreamId → Slots → Entry → List Value
 accepted_in_step i s (Called c) = accepted_by i c (reply_to c s)
 accepted_in_step i s Worked = []
 accepted_in_step i s Heard = []
+accepted_in_step i s (Forgot p) = []
 
 -- the values of the calls of a run that enqueue into stream i and are answered Done, in their order
 abbrev pub accepted : StreamId → List Entry → Slots → List Value
@@ -274,6 +278,7 @@ abbrev pub taken_in_step : Slots → Entry → List Event
 taken_in_step s (Called c) = []
 taken_in_step s Worked = []
 taken_in_step s Heard = taken_event s.events
+taken_in_step s (Forgot p) = []
 
 -- the events of a run, in their order: those that the host took, and then those that it hasn't taken
 abbrev pub run_events : List Entry → Slots → List Event

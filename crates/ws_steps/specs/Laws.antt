@@ -1,6 +1,6 @@
 -- Laws over every run. What they say of a stream they say between steps: within one, effects are performed after the operation that
 -- caused them.
-use Rattle.std.specs.Prelude.{◌≡◌, ◌+◌, ◌≤◌, ◌<◌, ◌≢◌, true, false, List, [], ◌++◌, length, All, Some}
+use Rattle.std.specs.Prelude.{Bool, ◌≡◌, ◌+◌, ◌≤◌, ◌<◌, ◌≢◌, true, false, List, [], ◌++◌, length, All, Some}
 use Rattle.ws_value.specs.declared.ids.PromiseId.{PromiseId}
 use Rattle.ws_value.specs.declared.ids.StreamId.{StreamId}
 use Rattle.ws_value.specs.declared.value.Outcome.{Outcome}
@@ -17,7 +17,7 @@ use Rattle.ws_steps.specs.Readable as readable
 use Rattle.ws_steps.specs.Writable as writable
 use Rattle.ws_steps.specs.Slots.{Slots, Done, empty, readable_at, writable_at}
 use Rattle.ws_steps.specs.Turns.{LeadsTo, performed}
-use Rattle.ws_steps.specs.Run.{Entry, step, run, reply_to, after_call, older}
+use Rattle.ws_steps.specs.Run.{Entry, step, run, is_forgotten, reply_to, after_call, older}
 use Rattle.ws_steps.specs.Histories.{Flow, Writes, values, todo, step_flow, run_flow, step_writes, run_writes, run_promised, accepted, run_events, heard_writes, heard_closes}
 
 -- a first part, which may be all
@@ -106,34 +106,36 @@ EachThrowChangesNothing = (c : Call) (s : Slots) (t : Thrown) → reply_to c s �
 abbrev pub NoneGoesAstray : Type 0
 NoneGoesAstray = (entries : List Entry) → (run entries empty).promises.astray ≡ false
 
--- over any run from any slots, a promise that has settled keeps its outcome
+-- over any run from any slots, a promise that has settled keeps its outcome, unless the host lets go of it
 abbrev pub EachOutcomeStays : Type 0
 EachOutcomeStays =
-    (s : Slots) (entries : List Entry) (p : PromiseId) (o : Outcome) → is_pending o ≡ false → outcome_at s.promises p ≡ Some o → outcome_at (run entries s).promises p ≡ Some o
+    (s : Slots) (entries : List Entry) (p : PromiseId) (o : Outcome) → is_pending o ≡ false → is_forgotten p entries ≡ false
+    → outcome_at s.promises p ≡ Some o → outcome_at (run entries s).promises p ≡ Some o
 
 -- over any run from any slots, the mark of what went astray stays
 abbrev pub EachMarkStays : Type 0
 EachMarkStays = (s : Slots) (entries : List Entry) → s.promises.astray ≡ true → (run entries s).promises.astray ≡ true
 
--- these promises are fulfilled with undefined
-abbrev pub AllFulfilled : Table → List PromiseId → Type 0
-AllFulfilled t ps = All (λ p. outcome_at t p ≡ Some (Fulfilled Undefined)) ps
+-- these promises are fulfilled with undefined, but for those that the host let go of
+abbrev pub AllFulfilled : (PromiseId → Bool) → Table → List PromiseId → Type 0
+AllFulfilled gone t ps = All (λ p. gone p ≡ false → outcome_at t p ≡ Some (Fulfilled Undefined)) ps
 
 -- The promises that writes answered, where these were appended. They are as many as the values that were written. As many of the first
 -- as the history counts are fulfilled with undefined; and where the close algorithm was performed, all are
-pub record AreFulfilled (h : Writes) (promised : List PromiseId) (t : Table) : Type 0 where
+pub record AreFulfilled (h : Writes) (promised : List PromiseId) (gone : PromiseId → Bool) (t : Table) : Type 0 where
   pub answered : length promised ≡ length h.written
   pub first : List PromiseId
   pub rest : List PromiseId
   pub split : first ++ rest ≡ promised
   pub counted : length first ≡ h.fulfilled
-  pub fulfilled : AllFulfilled t first
-  pub whole : 0 < h.closes → AllFulfilled t promised
+  pub fulfilled : AllFulfilled gone t first
+  pub whole : 0 < h.closes → AllFulfilled gone t promised
 
 -- in every run, of each writable stream
 abbrev pub SuccessfulWritesAreFulfilled : Type 0
 SuccessfulWritesAreFulfilled =
-    (entries : List Entry) (i : StreamId) → AreFulfilled (run_writes i entries empty) (run_promised i entries empty) (run entries empty).promises
+    (entries : List Entry) (i : StreamId)
+    → AreFulfilled (run_writes i entries empty) (run_promised i entries empty) (λ p. is_forgotten p entries) (run entries empty).promises
 
 -- performed one after another, effects come to an end, and to no other than that of `performed`
 abbrev pub EffectsEndOnce : Type 0

@@ -1,8 +1,10 @@
 -- Steps, runs and tasks.
-use Rattle.std.specs.Prelude.{ℕ, zero, suc, ◌+◌, Bool, if◌then◌else◌, List, [], ◌∷◌, Option, Some, None}
+use Rattle.std.specs.Prelude.{ℕ, zero, suc, ◌+◌, nat_eq, Bool, false, ◌||◌, if◌then◌else◌, List, [], ◌∷◌, Option, Some, None}
+use Rattle.ws_value.specs.declared.ids.PromiseId.{PromiseId}
 use Rattle.ws_steps.specs.declared.calls.Call.{Call}
 use Rattle.ws_steps.specs.declared.calls.Event.{Event}
 use Rattle.ws_steps.specs.declared.calls.Reply.{Reply}
+use Rattle.ws_steps.specs.Promises.{release}
 use Rattle.ws_steps.specs.Queues.{is_empty}
 use Rattle.ws_steps.specs.Slots.{Slots}
 use Rattle.ws_steps.specs.Turns.{performed}
@@ -36,20 +38,38 @@ later_events (event ∷ events) = events
 abbrev pub after_event : Slots → Slots
 after_event s = record s { events = later_events s.events }
 
--- a call, a job, or the taking of an event
+-- the host lets go of a promise, where it has settled
+abbrev pub after_forgetting : PromiseId → Slots → Slots
+after_forgetting p s = record s { promises = release p s.promises }
+
+-- a call, a job, the taking of an event, or the letting go of a promise
 pub data Entry : Type 0 where
   Called : Call → Entry
   Worked : Entry
   Heard : Entry
+  Forgot : PromiseId → Entry
 
 abbrev pub step : Slots → Entry → Slots
 step s (Called c) = after_call c s
 step s Worked = after_job s
 step s Heard = after_event s
+step s (Forgot p) = after_forgetting p s
 
 abbrev pub run : List Entry → Slots → Slots
 run [] s = s
 run (x ∷ xs) s = run xs (step s x)
+
+-- whether an entry lets go of this promise
+abbrev pub lets_go : PromiseId → Entry → Bool
+lets_go p (Called c) = false
+lets_go p Worked = false
+lets_go p Heard = false
+lets_go p (Forgot q) = nat_eq p.0 q.0
+
+-- whether a run lets go of it
+abbrev pub is_forgotten : PromiseId → List Entry → Bool
+is_forgotten p [] = false
+is_forgotten p (x ∷ xs) = lets_go p x || is_forgotten p xs
 
 abbrev pub is_idle : Slots → Bool
 is_idle s = is_empty s.promises.jobs

@@ -7,7 +7,7 @@ use Rattle.ws_steps.specs.declared.locks.Lock.{Lock}
 use Rattle.ws_steps.specs.declared.locks.Lock.TheVariants.{Reader as ReaderLock, Writer as WriterLock, ReleasedWriter}
 use Rattle.ws_steps.specs.Writable as writable
 use Rattle.ws_steps.specs.Slots.{Slots, empty, writable_at, lock_at}
-use Rattle.ws_steps.specs.Run.{Entry, Called, Worked, Heard, step, run}
+use Rattle.ws_steps.specs.Run.{Entry, Called, Worked, Heard, Forgot, step, run}
 use Rattle.ws_steps.specs.Histories.{Writes, no_writes, writes_then, is_same, todo, written_by, written_unless, written_with, call_written, step_writes, run_writes}
 use Rattle.ws_steps.specs.declared.writable.WritableState.{WritableState}
 use Rattle.ws_steps.specs.declared.writable.WritableState.TheVariants.{Writable, Erroring, Errored, Closed as WritableClosed}
@@ -54,6 +54,7 @@ entry_ended : (x : Entry) (i : StreamId) (s : Slots) → has_ended (writable_at 
 entry_ended (Called c) i s f = call_ended c i s f
 entry_ended Worked i s f = refl
 entry_ended Heard i s f = refl
+entry_ended (Forgot p) i s f = refl
 
 -- a stream that has ended acts on nothing: its past may be forgotten, but for its closing
 

@@ -39,7 +39,7 @@ use Rattle.ws_steps.specs.Turns.{row, performed, started}
 use Rattle.ws_steps.specs.Jobs.{perform_step, perform_job, job_taken, resolve_derived, returned}
 use Rattle.ws_steps.specs.Calls.{Begun, begin, named, replies, unsupported, for_readable, for_writable, by_reader, by_writer, of_writer, add_stream}
 use Rattle.ws_steps.specs.Calls as calls
-use Rattle.ws_steps.specs.Run.{Entry, Called, Worked, Heard, later_events, step}
+use Rattle.ws_steps.specs.Run.{Entry, Called, Worked, Heard, Forgot, later_events, step}
 use Rattle.ws_steps.specs.Histories.{taken_event, taken_in_step, run_events, acted_by, acted_in, closes_by, closes_in, heard_write, heard_writes, heard_close, heard_closes, job_caused, step_writes, run_writes}
 use Rattle.ws_steps.specs.Laws.{ActedWasHeard, ClosesWereHeard}
 use Rattle.ws_steps.proofs.TurnLaws.{performed-none, performed-next}
@@ -293,6 +293,7 @@ abbrev pub caused_in : Entry → Slots → List Effect
 caused_in (Called c) s = (begin c s).done.caused
 caused_in Worked s = job_caused s (next_job s.promises)
 caused_in Heard s = []
+caused_in (Forgot p) s = []
 
 first-heard : (i : Ear) (es : List Event) → all_heard i (taken_event es) ++ all_heard i (later_events es) ≡ all_heard i es
 first-heard i [] = refl
@@ -305,6 +306,7 @@ entry-heard i (Called c) s =
     named-silent (begin c s).reply i (performed d) ∙ (performed-heard i d.caused d.slots ∙ ap (λ vs. vs ++ all_of i d.caused) (call_silent c i s))
 entry-heard i Worked s = job-heard (next_job s.promises) i s
 entry-heard i Heard s = first-heard i s.events ∙ sym (append-nil (heard_in i s))
+entry-heard i (Forgot p) s = sym (append-nil (heard_in i s))
 
 -- the effects of a run
 abbrev pub caused_by : Ear → List Entry → Slots → List Value
@@ -351,6 +353,7 @@ writes-in : (i : StreamId) (x : Entry) (s : Slots) → all_of (hears_writes i) (
 writes-in i (Called c) s = writes-of i (begin c s).done.caused
 writes-in i Worked s = writes-of i (job_caused s (next_job s.promises))
 writes-in i Heard s = refl
+writes-in i (Forgot p) s = refl
 
 writes-by : (i : StreamId) (xs : List Entry) (s : Slots) → caused_by (hears_writes i) xs s ≡ (run_writes i xs s).acted
 writes-by i [] s = refl
@@ -409,6 +412,7 @@ closes-step : (i : StreamId) (x : Entry) (s : Slots) → length (all_of (hears_c
 closes-step i (Called c) s = closes-of i (begin c s).done.caused
 closes-step i Worked s = closes-of i (job_caused s (next_job s.promises))
 closes-step i Heard s = refl
+closes-step i (Forgot p) s = refl
 
 closes-run : (i : StreamId) (xs : List Entry) (s : Slots) → length (caused_by (hears_closes i) xs s) ≡ (run_writes i xs s).closes
 closes-run i [] s = refl

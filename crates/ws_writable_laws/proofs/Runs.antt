@@ -18,7 +18,7 @@ use Rattle.ws_steps.specs.Slots.{Slots, Done as SlotsDone, nothing, empty, has_w
 use Rattle.ws_steps.specs.Turns.{performed}
 use Rattle.ws_steps.specs.Jobs.{perform_step, perform_job, job_taken, resolve_derived, returned}
 use Rattle.ws_steps.specs.Calls.{begin, named}
-use Rattle.ws_steps.specs.Run.{Entry, Called, Worked, Heard, step, run}
+use Rattle.ws_steps.specs.Run.{Entry, Called, Worked, Heard, Forgot, step, run, after_forgetting}
 use Rattle.ws_steps.specs.Histories.{Writes, no_writes, writes_then, is_same, todo, fulfilled_by, acted_in, closes_in, call_written, job_fulfilled, job_caused, step_writes, run_writes}
 use Rattle.ws_steps.specs.Writable.{is_closed}
 use Rattle.ws_steps.specs.Laws.{IsLawfulWritable, EachWritableIsLawful}
@@ -27,6 +27,7 @@ use Rattle.ws_laws.proofs.Tables.{either, is_same-refl, writable_acts, no_writab
 use Rattle.ws_laws.proofs.Weights.{weigh}
 use Rattle.ws_laws.proofs.Outstanding.{weight, of_next, weight-next}
 use Rattle.ws_laws.proofs.Later.{later-then, later-settle, later-next, later-watch, later-told}
+use Rattle.ws_laws.proofs.Releasing.{weight-release}
 use Rattle.ws_laws.proofs.Apart.{Apart, apart-then, apart-promises}
 use Rattle.ws_laws.proofs.ReadableApart as readable_apart
 use Rattle.ws_laws.proofs.WritableApart as writable_apart
@@ -189,6 +190,30 @@ writes-nothing h =
     let n : h.closes + 0 ≡ h.closes = omega arith in
     λ k. record { written = append-nil h.written k; acted = append-nil h.acted k; fulfilled = m k; closes = n k }
 
+-- a promise that is let go of is owed nothing
+forgotten_rests : (i : StreamId) (p : PromiseId) (s : Slots) (h : Writes) → Rests i h s → Rests i h (after_forgetting p s)
+forgotten_rests i p s h k =
+    let f = k.held.fine in
+    let writes = weight-release (is_write i) p s.promises in
+    let closes = weight-release (is_close i) p s.promises in
+    let aborts = weight-release (is_abort i) p s.promises in
+    record {
+      unmade = λ e. let u = k.unmade e in record { history = u.history; aborts = let n = u.aborts in omega arith };
+      held = record {
+        dropped = k.held.dropped;
+        fine = record {
+          shape = f.shape;
+          closing = f.closing;
+          told = f.told;
+          owed = record {
+            writes = let n = f.owed.writes in omega arith;
+            closes = let n = f.owed.closes in omega arith;
+            aborts = λ e. let n = f.owed.aborts e in omega arith;
+          };
+        };
+      };
+    }
+
 pub entry_kept : (i : StreamId) (x : Entry) (s : Slots) (h : Writes) → Rests i h s → Rests i (writes_then h (step_writes i s x)) (step s x)
 entry_kept i (Called c) s h k =
     let d : SlotsDone = (begin c s).done in
@@ -198,6 +223,7 @@ entry_kept i (Called c) s h k =
 entry_kept i Worked s h k =
     rw (worked_writes i h (job_fulfilled i s (next_job s.promises)) (job_caused s (next_job s.promises))) (taken_kept (next_job s.promises) i s h refl k)
 entry_kept i Heard s h k = rw (writes-nothing h) k
+entry_kept i (Forgot p) s h k = rw (writes-nothing h) (forgotten_rests i p s h k)
 
 pub writes-assoc : (f g h : Writes) → writes_then (writes_then f g) h ≡ writes_then f (writes_then g h)
 writes-assoc f g h =

@@ -43,67 +43,67 @@ impossible : {A : Type 0} → true ≡ false → A
 impossible e = cc
 
 -- what is to be shown of a call that doesn't write
-abbrev pub Begins : StreamId → Slots → Writes → List PromiseId → Begun → Type 0
-Begins i s h q b = Lined h q (slice_get b.done.slots.streams i.0) s.promises
+abbrev pub Begins : (PromiseId → Bool) → StreamId → Slots → Writes → List PromiseId → Begun → Type 0
+Begins gone i s h q b = Lined gone h q (slice_get b.done.slots.streams i.0) s.promises
 
-abbrev pub Stands : StreamId → Writes → List PromiseId → Slots → Type 0
-Stands i h q s = Lined h q (slice_get s.streams i.0) s.promises
+abbrev pub Stands : (PromiseId → Bool) → StreamId → Writes → List PromiseId → Slots → Type 0
+Stands gone i h q s = Lined gone h q (slice_get s.streams i.0) s.promises
 
 -- a stream is made
 
-made_readable : (r : readable.Slots) (i : StreamId) (s : Slots) (h : Writes) (q : List PromiseId) (last : Bool) → last ≡ nat_eq i.0 (length s.streams) → Stands i h q s
-    → Lined h q (slice_get (add_stream (ReadableStream r) s).streams i.0) s.promises
-made_readable r i s h q false e k = rw (place_before s.streams (ReadableStream r) i.0 (unequal_numbers i.0 (length s.streams) (sym e))) k
-made_readable r i s h q true e k =
+made_readable : (gone : PromiseId → Bool) (r : readable.Slots) (i : StreamId) (s : Slots) (h : Writes) (q : List PromiseId) (last : Bool) → last ≡ nat_eq i.0 (length s.streams) → Stands gone i h q s
+    → Lined gone h q (slice_get (add_stream (ReadableStream r) s).streams i.0) s.promises
+made_readable gone r i s h q false e k = rw (place_before s.streams (ReadableStream r) i.0 (unequal_numbers i.0 (length s.streams) (sym e))) k
+made_readable gone r i s h q true e k =
     let at_end : i.0 ≡ length s.streams = eq_numbers i.0 (length s.streams) (sym e) in
-    let before : Lined h q None s.promises = rw (no_stream i s.streams at_end) at k in
+    let before : Lined gone h q None s.promises = rw (no_stream i s.streams at_end) at k in
     let after : slice_get (add_stream (ReadableStream r) s).streams i.0 ≡ Some (ReadableStream r) = rw at_end (place_last s.streams (ReadableStream r)) in
     rw after (record { answered = before.answered; first = before.first; rest = before.rest; split = before.split; counted = before.counted; fulfilled = before.fulfilled; alive = before.alive; spent = before.spent; unmade = λ n. cc })
 
-made_writable : (i : StreamId) (s : Slots) (h : Writes) (q : List PromiseId) (last : Bool) → last ≡ nat_eq i.0 (length s.streams) → Stands i h q s
-    → Lined h q (slice_get (add_stream (WritableStream writable.initialized) s).streams i.0) s.promises
-made_writable i s h q false e k = rw (place_before s.streams (WritableStream writable.initialized) i.0 (unequal_numbers i.0 (length s.streams) (sym e))) k
-made_writable i s h q true e k =
+made_writable : (gone : PromiseId → Bool) (i : StreamId) (s : Slots) (h : Writes) (q : List PromiseId) (last : Bool) → last ≡ nat_eq i.0 (length s.streams) → Stands gone i h q s
+    → Lined gone h q (slice_get (add_stream (WritableStream writable.initialized) s).streams i.0) s.promises
+made_writable gone i s h q false e k = rw (place_before s.streams (WritableStream writable.initialized) i.0 (unequal_numbers i.0 (length s.streams) (sym e))) k
+made_writable gone i s h q true e k =
     let at_end : i.0 ≡ length s.streams = eq_numbers i.0 (length s.streams) (sym e) in
-    let before : Lined h q None s.promises = rw (no_stream i s.streams at_end) at k in
+    let before : Lined gone h q None s.promises = rw (no_stream i s.streams at_end) at k in
     let after : slice_get (add_stream (WritableStream writable.initialized) s).streams i.0 ≡ Some (WritableStream writable.initialized) = rw at_end (place_last s.streams (WritableStream writable.initialized)) in
     rw after (record { answered = before.answered; first = before.first; rest = before.rest; split = before.split; counted = before.counted; fulfilled = before.fulfilled; alive = λ n. before.unmade refl; spent = λ n. refl; unmade = λ n. cc })
 
-signalled_lined : (reason : Plain) (i j : StreamId) (s : Slots) (h : Writes) (q : List PromiseId) → Stands i h q s → Lined h q (slice_get (signalled j reason s).streams i.0) s.promises
-signalled_lined reason i j s h q k =
-    either (λ (z : Slots). Lined h q (slice_get z.streams i.0) s.promises) (writable.is_first_abort (writable_at j s)) (record s { events = s.events ++ Signal j reason ∷ [] }) s (λ e. k) (λ e. k)
+signalled_lined : (gone : PromiseId → Bool) (reason : Plain) (i j : StreamId) (s : Slots) (h : Writes) (q : List PromiseId) → Stands gone i h q s → Lined gone h q (slice_get (signalled j reason s).streams i.0) s.promises
+signalled_lined gone reason i j s h q k =
+    either (λ (z : Slots). Lined gone h q (slice_get z.streams i.0) s.promises) (writable.is_first_abort (writable_at j s)) (record s { events = s.events ++ Signal j reason ∷ [] }) s (λ e. k) (λ e. k)
 
-operations : (i : StreamId) (s : Slots) (h : Writes) (q : List PromiseId) → Stands i h q s → Operations (Begins i s h q) s
-operations i s h q k = record {
+operations : (gone : PromiseId → Bool) (i : StreamId) (s : Slots) (h : Writes) (q : List PromiseId) → Stands gone i h q s → Operations (Begins gone i s h q) s
+operations gone i s h q k = record {
   unchanged = λ reply. k;
   rejected = k;
   make_readable = λ mark size start. let j : StreamId = record { 0 = length s.streams } in let t : Slots = add_stream (ReadableStream readable.initialized) s in
-      lined-on_readable (readable.set_up j start mark size) i j t h q s.promises (made_readable readable.initialized i s h q (nat_eq i.0 (length s.streams)) refl k);
+      lined-on_readable gone (readable.set_up j start mark size) i j t h q s.promises (made_readable gone readable.initialized i s h q (nat_eq i.0 (length s.streams)) refl k);
   make_writable = λ mark size start. let j : StreamId = record { 0 = length s.streams } in let t : Slots = add_stream (WritableStream writable.initialized) s in
-      lined-on_writable (writable.set_up j start mark size) i j t h q s.promises (lines.set_up-line j start mark size (writable_acts j t)) (made_writable i s h q (nat_eq i.0 (length s.streams)) refl k);
-  get_reader = λ j. lined-on_readable readable.reader_generic_initialize i j (record s { locks = s.locks ++ ReaderLock (Some j) (next_id s.promises) ∷ [] }) h q s.promises k;
+      lined-on_writable gone (writable.set_up j start mark size) i j t h q s.promises (lines.set_up-line j start mark size (writable_acts j t)) (made_writable gone i s h q (nat_eq i.0 (length s.streams)) refl k);
+  get_reader = λ j. lined-on_readable gone readable.reader_generic_initialize i j (record s { locks = s.locks ++ ReaderLock (Some j) (next_id s.promises) ∷ [] }) h q s.promises k;
   get_writer = λ j. let t : Slots = record s { locks = s.locks ++ WriterLock j ∷ [] } in
-      lined-on_writable writable.set_up_writer i j t h q s.promises (lines.set_up_writer-line (writable_acts j t)) k;
-  cancel = λ reason j. lined-on_readable (readable.stream_cancel j reason) i j s h q s.promises k;
-  read = λ j. lined-on_readable (readable.default_reader_read j (PromiseRequest (next_id s.promises))) i j (record s { promises = fresh s.promises }) h q s.promises k;
-  close = λ j e. lined-on_writable (writable.stream_close j) i j s h q s.promises (lines.stream_close-line j (writable_acts j s)) k;
+      lined-on_writable gone writable.set_up_writer i j t h q s.promises (lines.set_up_writer-line (writable_acts j t)) k;
+  cancel = λ reason j. lined-on_readable gone (readable.stream_cancel j reason) i j s h q s.promises k;
+  read = λ j. lined-on_readable gone (readable.default_reader_read j (PromiseRequest (next_id s.promises))) i j (record s { promises = fresh s.promises }) h q s.promises k;
+  close = λ j e. lined-on_writable gone (writable.stream_close j) i j s h q s.promises (lines.stream_close-line j (writable_acts j s)) k;
   abort = λ reason j. let t : Slots = signalled j reason s in
-      lined-on_writable (writable.stream_abort j reason) i j t h q s.promises (lines.stream_abort-line j reason (writable_acts j t)) (signalled_lined reason i j s h q k);
-  release_reader = λ l closed j. lined-on_readable readable.reader_release i j (calls.with_lock l (ReaderLock None (readable.released closed s.promises (readable_at j s).state)) s) h q s.promises k;
+      lined-on_writable gone (writable.stream_abort j reason) i j t h q s.promises (lines.stream_abort-line j reason (writable_acts j t)) (signalled_lined gone reason i j s h q k);
+  release_reader = λ l closed j. lined-on_readable gone readable.reader_release i j (calls.with_lock l (ReaderLock None (readable.released closed s.promises (readable_at j s).state)) s) h q s.promises k;
   release_writer = λ l j w. let t : Slots = calls.with_lock l (ReleasedWriter (writable.released w s.promises)) s in
-      lined-on_writable writable.writer_release i j t h q s.promises (lines.writer_release-line (writable_acts j t)) k;
-  enqueue = λ j v. lined-on_readable (readable.controller_enqueue j v) i j s h q s.promises k;
-  finish = λ j. lined-on_readable readable.controller_close i j s h q s.promises k;
-  fail_readable = λ j reason. lined-on_readable (readable.controller_error reason) i j s h q s.promises k;
-  fail_writable = λ j reason. lined-on_writable (writable.controller_error_if_needed j reason) i j s h q s.promises (lines.controller_error_if_needed-line j reason (writable_acts j s)) k;
+      lined-on_writable gone writable.writer_release i j t h q s.promises (lines.writer_release-line (writable_acts j t)) k;
+  enqueue = λ j v. lined-on_readable gone (readable.controller_enqueue j v) i j s h q s.promises k;
+  finish = λ j. lined-on_readable gone readable.controller_close i j s h q s.promises k;
+  fail_readable = λ j reason. lined-on_readable gone (readable.controller_error reason) i j s h q s.promises k;
+  fail_writable = λ j reason. lined-on_writable gone (writable.controller_error_if_needed j reason) i j s h q s.promises (lines.controller_error_if_needed-line j reason (writable_acts j s)) k;
   settle = λ host answer p e. k;
 }
 
 -- a write
 
 -- nothing is appended
-lined-none : (h : Writes) (q : List PromiseId) (place : Option Stream) (t : Table) → Lined h q place t → Lined (record h { written = h.written ++ [] }) (q ++ []) place t
-lined-none h q place t l = record {
+lined-none : (gone : PromiseId → Bool) (h : Writes) (q : List PromiseId) (place : Option Stream) (t : Table) → Lined gone h q place t → Lined gone (record h { written = h.written ++ [] }) (q ++ []) place t
+lined-none gone h q place t l = record {
   answered = let a = l.answered in omega (arith, length-append q [], length-append h.written []);
   first = l.first;
   rest = l.rest;
@@ -115,46 +115,46 @@ lined-none h q place t l = record {
   unmade = l.unmade;
 }
 
-write_there : (v : Value) (i j : StreamId) (s : Slots) (h : Writes) (q : List PromiseId) (same : Bool) (refusal : Option Plain) → same ≡ is_same i j → refusal ≡ writable.write_refusal (writable_at j s) → has_writable j s ≡ true → Stands i h q s
-    → Lined (record h { written = h.written ++ (if same then written_unless v refusal else []) }) (q ++ promised_by (if same then written_unless v refusal else []) (Promise (next_id s.promises)))
+write_there : (gone : PromiseId → Bool) (v : Value) (i j : StreamId) (s : Slots) (h : Writes) (q : List PromiseId) (same : Bool) (refusal : Option Plain) → same ≡ is_same i j → refusal ≡ writable.write_refusal (writable_at j s) → has_writable j s ≡ true → Stands gone i h q s
+    → Lined gone (record h { written = h.written ++ (if same then written_unless v refusal else []) }) (q ++ promised_by (if same then written_unless v refusal else []) (Promise (next_id s.promises)))
     (slice_get (on_writable (writable.writer_write j v) j s).slots.streams i.0) s.promises
-write_there v i j s h q false refusal e r there k =
-    lined-none h q (slice_get (on_writable (writable.writer_write j v) j s).slots.streams i.0) s.promises (rw (on_writable-other (writable.writer_write j v) j s i (sym e)) k)
-write_there v i j s h q true (Some reason) e r there k =
-    lined-none h q (slice_get (on_writable (writable.writer_write j v) j s).slots.streams i.0) s.promises
-    (lined-on_writable (writable.writer_write j v) i j s h q s.promises (lines.writer_write-line j v (writable_acts j s) reason (sym r)) k)
-write_there v i j s h q true None e r there k =
+write_there gone v i j s h q false refusal e r there k =
+    lined-none gone h q (slice_get (on_writable (writable.writer_write j v) j s).slots.streams i.0) s.promises (rw (on_writable-other (writable.writer_write j v) j s i (sym e)) k)
+write_there gone v i j s h q true (Some reason) e r there k =
+    lined-none gone h q (slice_get (on_writable (writable.writer_write j v) j s).slots.streams i.0) s.promises
+    (lined-on_writable gone (writable.writer_write j v) i j s h q s.promises (lines.writer_write-line j v (writable_acts j s) reason (sym r)) k)
+write_there gone v i j s h q true None e r there k =
     let is : i ≡ j = same_id i j (sym e) in
-    let here : Stands j h q s = rw is at k in
+    let here : Stands gone j h q s = rw is at k in
     let new : slice_get (on_writable (writable.writer_write j v) j s).slots.streams j.0 ≡ Some (WritableStream (writable.writer_write j v (writable_acts j s)).slots) = on_writable-same (writable.writer_write j v) j s there in
     let appends : AppendsToLine (next_id s.promises) (writable_at j s) (as_writable (slice_get (on_writable (writable.writer_write j v) j s).slots.streams j.0)) = rw new (lines.writer_write-appends j v (writable_acts j s) (sym r)) in
-    rw is (lined-append h v (next_id s.promises) q (slice_get s.streams j.0) (slice_get (on_writable (writable.writer_write j v) j s).slots.streams j.0) s.promises appends (on_writable-none (writable.writer_write j v) j s j) (ap writable.has_ended (not_refused (writable_at j s) r).0) here)
+    rw is (lined-append gone h v (next_id s.promises) q (slice_get s.streams j.0) (slice_get (on_writable (writable.writer_write j v) j s).slots.streams j.0) s.promises appends (on_writable-none (writable.writer_write j v) j s j) (ap writable.has_ended (not_refused (writable_at j s) r).0) here)
 
 -- where there is no such stream, a write of it would be refused
-write_absent : (v : Value) (i j : StreamId) (s : Slots) (h : Writes) (q : List PromiseId) (reply : Reply) → has_writable j s ≡ false → Stands i h q s
-    → Lined (record h { written = h.written ++ (if is_same i j then written_by v (writable_at j s) else []) }) (q ++ promised_by (if is_same i j then written_by v (writable_at j s) else []) reply) (slice_get s.streams i.0) s.promises
-write_absent v i j s h q reply absent k =
-    either (λ (vs : List Value). Lined (record h { written = h.written ++ vs }) (q ++ promised_by vs reply) (slice_get s.streams i.0) s.promises) (is_same i j) (written_by v (writable_at j s)) []
-    (λ e. rw (absent_refuses v j s absent) (lined-none h q (slice_get s.streams i.0) s.promises k)) (λ e. lined-none h q (slice_get s.streams i.0) s.promises k)
+write_absent : (gone : PromiseId → Bool) (v : Value) (i j : StreamId) (s : Slots) (h : Writes) (q : List PromiseId) (reply : Reply) → has_writable j s ≡ false → Stands gone i h q s
+    → Lined gone (record h { written = h.written ++ (if is_same i j then written_by v (writable_at j s) else []) }) (q ++ promised_by (if is_same i j then written_by v (writable_at j s) else []) reply) (slice_get s.streams i.0) s.promises
+write_absent gone v i j s h q reply absent k =
+    either (λ (vs : List Value). Lined gone (record h { written = h.written ++ vs }) (q ++ promised_by vs reply) (slice_get s.streams i.0) s.promises) (is_same i j) (written_by v (writable_at j s)) []
+    (λ e. rw (absent_refuses v j s absent) (lined-none gone h q (slice_get s.streams i.0) s.promises k)) (λ e. lined-none gone h q (slice_get s.streams i.0) s.promises k)
 
 -- what is to be shown of a write through this lock
-abbrev pub Wrote : StreamId → Value → Slots → Writes → List PromiseId → Option Lock → Begun → Type 0
-Wrote i v s h q lock b = Lined (record h { written = h.written ++ written_with i v s lock }) (q ++ promised_by (written_with i v s lock) b.reply) (slice_get b.done.slots.streams i.0) s.promises
+abbrev pub Wrote : (PromiseId → Bool) → StreamId → Value → Slots → Writes → List PromiseId → Option Lock → Begun → Type 0
+Wrote gone i v s h q lock b = Lined gone (record h { written = h.written ++ written_with i v s lock }) (q ++ promised_by (written_with i v s lock) b.reply) (slice_get b.done.slots.streams i.0) s.promises
 
-write_lined : (v : Value) (i : StreamId) (s : Slots) (h : Writes) (q : List PromiseId) → Stands i h q s → (lock : Option Lock) → Wrote i v s h q lock (by_writer (calls.write v) calls.rejected s lock)
-write_lined v i s h q k None = lined-none h q (slice_get s.streams i.0) s.promises k
-write_lined v i s h q k (Some (ReaderLock stream closed)) = lined-none h q (slice_get s.streams i.0) s.promises k
-write_lined v i s h q k (Some (ReleasedWriter w)) = lined-none h q (slice_get s.streams i.0) s.promises k
-write_lined v i s h q k (Some (WriterLock j)) =
-    either (Wrote i v s h q (Some (WriterLock j))) (has_writable j s) (calls.write v j s) (unsupported s)
-    (λ there. write_there v i j s h q (is_same i j) (writable.write_refusal (writable_at j s)) refl refl there k)
-    (λ absent. write_absent v i j s h q (Throws Unsupported) absent k)
+write_lined : (gone : PromiseId → Bool) (v : Value) (i : StreamId) (s : Slots) (h : Writes) (q : List PromiseId) → Stands gone i h q s → (lock : Option Lock) → Wrote gone i v s h q lock (by_writer (calls.write v) calls.rejected s lock)
+write_lined gone v i s h q k None = lined-none gone h q (slice_get s.streams i.0) s.promises k
+write_lined gone v i s h q k (Some (ReaderLock stream closed)) = lined-none gone h q (slice_get s.streams i.0) s.promises k
+write_lined gone v i s h q k (Some (ReleasedWriter w)) = lined-none gone h q (slice_get s.streams i.0) s.promises k
+write_lined gone v i s h q k (Some (WriterLock j)) =
+    either (Wrote gone i v s h q (Some (WriterLock j))) (has_writable j s) (calls.write v j s) (unsupported s)
+    (λ there. write_there gone v i j s h q (is_same i j) (writable.write_refusal (writable_at j s)) refl refl there k)
+    (λ absent. write_absent gone v i j s h q (Throws Unsupported) absent k)
 
-pub called-lined : (c : Call) (i : StreamId) (s : Slots) (h : Writes) (q : List PromiseId) → Stands i h q s
-    → Lined (record h { written = h.written ++ call_written i c s }) (q ++ promised_by (call_written i c s) (reply_to c s)) (slice_get (begin c s).done.slots.streams i.0) s.promises
+pub called-lined : (gone : PromiseId → Bool) (c : Call) (i : StreamId) (s : Slots) (h : Writes) (q : List PromiseId) → Stands gone i h q s
+    → Lined gone (record h { written = h.written ++ call_written i c s }) (q ++ promised_by (call_written i c s) (reply_to c s)) (slice_get (begin c s).done.slots.streams i.0) s.promises
 unfolding begin
-called-lined c i s h q k = by_kind (kind i s c)
+called-lined gone c i s h q k = by_kind (kind i s c)
   where
-    by_kind : Kind i s c → Lined (record h { written = h.written ++ call_written i c s }) (q ++ promised_by (call_written i c s) (reply_to c s)) (slice_get (begin c s).done.slots.streams i.0) s.promises
-    by_kind (Other e n) = rw e (lined-none h q (slice_get (begin c s).done.slots.streams i.0) s.promises (each_call (Begins i s h q) s (operations i s h q k) c (λ l v w. impossible (n l v w))))
-    by_kind (Writing l v e) = rw e (write_lined v i s h q k (lock_at l s))
+    by_kind : Kind i s c → Lined gone (record h { written = h.written ++ call_written i c s }) (q ++ promised_by (call_written i c s) (reply_to c s)) (slice_get (begin c s).done.slots.streams i.0) s.promises
+    by_kind (Other e n) = rw e (lined-none gone h q (slice_get (begin c s).done.slots.streams i.0) s.promises (each_call (Begins gone i s h q) s (operations gone i s h q k) c (λ l v w. impossible (n l v w))))
+    by_kind (Writing l v e) = rw e (write_lined gone v i s h q k (lock_at l s))

@@ -1,5 +1,5 @@
 -- A write that ended well fulfilled its promise.
-use Rattle.std.proofs.Common.{◌≡◌, ℕ, zero, suc, ◌+◌, ◌≤◌, get_or, true, false, List, [], ◌∷◌, ◌++◌, Option, Some, None, Ok, refl, sym, ap, ◌∙◌, arith, append_assoc, length-append}
+use Rattle.std.proofs.Common.{◌≡◌, Bool, ℕ, zero, suc, ◌+◌, true, false, List, [], ◌∷◌, ◌++◌, Option, Some, None, Ok, refl, sym, ap, ◌∙◌, arith, append_assoc, length-append}
 use Rattle.std.proofs.lemmas.List.Elements.{All-append}
 use Rattle.ws_value.specs.declared.ids.PromiseId.{PromiseId}
 use Rattle.ws_value.specs.declared.ids.StreamId.{StreamId}
@@ -10,6 +10,7 @@ use Rattle.ws_steps.specs.Promises.{Table, is_open, outcome_at, settle}
 use Rattle.ws_steps.specs.Writable.{Slots, Acts, has_ended, settle_request, write_ended, without_first, refresh_backpressure, advance_queue, write_settled}
 use Rattle.ws_steps.specs.Slots.{Stream, as_writable}
 use Rattle.ws_steps.specs.Histories.{Writes}
+use Rattle.ws_steps.specs.Laws.{AllFulfilled}
 use Rattle.ws_laws.proofs.Outcomes.{Keeps, keeps-then}
 use Rattle.ws_laws.proofs.Stays.{other, other_same}
 use Rattle.ws_laws.proofs.WritableApart.{refresh-apart, advance-apart}
@@ -39,9 +40,9 @@ write_settled-fulfils me v a p e o =
     let is : b.out.promises ≡ settle p (Ok Undefined) a.out.promises = ap (settle_request (Ok Undefined) a.out.promises) e in
     (ended_keeps me b).outcome p (Fulfilled Undefined) refl (rw is (settled-outcome p (Ok Undefined) a.out.promises o))
 
-all_one : (t : Table) (p : PromiseId) → outcome_at t p ≡ Some (Fulfilled Undefined) → (k : ℕ) (d : PromiseId) → suc k ≤ 1 → outcome_at t (get_or (p ∷ []) k d) ≡ Some (Fulfilled Undefined)
-all_one t p h zero d n = h
-all_one t p h (suc k) d n = absurd (omega arith)
+all_one : (gone : PromiseId → Bool) (t : Table) (p : PromiseId) → outcome_at t p ≡ Some (Fulfilled Undefined) → AllFulfilled gone t (p ∷ [])
+all_one gone t p h zero d n g = h
+all_one gone t p h (suc k) d n g = absurd (omega arith)
 
 later_in_line : (p : PromiseId) (xs ys : List PromiseId) → ◌≡◌ {A = List PromiseId} (p ∷ xs) (p ∷ ys) → xs ≡ ys
 later_in_line p xs ys e = cc
@@ -50,10 +51,10 @@ flying_first : (w : Slots) (p : PromiseId) → w.write_in_flight ≡ Some p → 
 flying_first w p e = rw e refl
 
 -- the first of the line is fulfilled
-pub lined-ended : (h : Writes) (q : List PromiseId) (p : PromiseId) (old new : Option Stream) (t z : Table) → EndsFirst p (as_writable old) (as_writable new) → (new ≡ None → old ≡ None)
-    → has_ended (as_writable old).state ≡ false → (as_writable old).write_in_flight ≡ Some p → Keeps t z → outcome_at z p ≡ Some (Fulfilled Undefined) → Lined h q old t
-    → Lined (record h { fulfilled = h.fulfilled + 1 }) q new z
-lined-ended h q p old new t z ends n alive flies keeps done l =
+pub lined-ended : (gone : PromiseId → Bool) (h : Writes) (q : List PromiseId) (p : PromiseId) (old new : Option Stream) (t z : Table) → EndsFirst p (as_writable old) (as_writable new) → (new ≡ None → old ≡ None)
+    → has_ended (as_writable old).state ≡ false → (as_writable old).write_in_flight ≡ Some p → Keeps t z → outcome_at z p ≡ Some (Fulfilled Undefined) → Lined gone h q old t
+    → Lined gone (record h { fulfilled = h.fulfilled + 1 }) q new z
+lined-ended gone h q p old new t z ends n alive flies keeps done l =
     let w : Slots = as_writable old in
     let rest : l.rest ≡ p ∷ w.write_requests = l.alive alive ∙ flying_first w p flies in
     record {
@@ -62,7 +63,7 @@ lined-ended h q p old new t z ends n alive flies keeps done l =
       rest = w.write_requests;
       split = append_assoc l.first (p ∷ []) w.write_requests ∙ (ap (λ (ps : List PromiseId). l.first ++ ps) (sym rest) ∙ l.split);
       counted = let c = l.counted in omega (arith, length-append l.first (p ∷ []));
-      fulfilled = All-append (λ p. outcome_at z p ≡ Some (Fulfilled Undefined)) l.first (p ∷ []) (all_keep t z l.first keeps l.fulfilled) (all_one z p done);
+      fulfilled = All-append (λ p. gone p ≡ false → outcome_at z p ≡ Some (Fulfilled Undefined)) l.first (p ∷ []) (all_keep gone t z l.first keeps l.fulfilled) (all_one gone z p done);
       alive = λ e. later_in_line p w.write_requests (line (as_writable new)) (sym (flying_first w p flies) ∙ sym (ends.alive e));
       spent = ends.spent;
       unmade = λ e. rw (n e) refl;

@@ -17,11 +17,11 @@ use Rattle.ws_steps.specs.Slots.{Slots, Stream, Done as Operation, nothing, empt
 use Rattle.ws_steps.specs.Turns.{performed}
 use Rattle.ws_steps.specs.Jobs.{perform_step, perform_job, returned, resolve_derived, settling, job_taken}
 use Rattle.ws_steps.specs.Calls.{begin, named}
-use Rattle.ws_steps.specs.Run.{Entry, Called, Worked, Heard, step, run}
+use Rattle.ws_steps.specs.Run.{Entry, Called, Worked, Heard, Forgot, after_forgetting, step, run, lets_go, is_forgotten}
 use Rattle.ws_steps.specs.Histories.{Writes, no_writes, writes_then, is_same, call_written, fulfilled_by, job_fulfilled, step_writes, run_writes, step_promised, run_promised}
 use Rattle.ws_steps.specs.Laws.{SuccessfulWritesAreFulfilled, AreFulfilled}
 use Rattle.ws_laws.proofs.Outcomes.{keeps-then, keeps-next}
-use Rattle.ws_laws.proofs.Stays.{reaction-keeps, performed-keeps, derived-keeps, settling-keeps, step-keeps}
+use Rattle.ws_laws.proofs.Stays.{reaction-keeps, performed-keeps, derived-keeps, settling-keeps, called-keeps}
 use Rattle.ws_laws.proofs.Tables.{same_id, no_writable_there, writable_acts, on_writable-same, on_writable-other, on_writable-none, performed-streams}
 use Rattle.ws_writable_laws.proofs.Shape.{core_of}
 use Rattle.ws_writable_laws.proofs.Runs.{Taken, first_taken, entry_kept, none_made, writes-assoc, writes-nothing, nothing-writes, each_writable_is_lawful}
@@ -33,15 +33,15 @@ use Rattle.ws_promise_laws.proofs.Calls.{none}
 use Rattle.ws_promise_laws.proofs.Runs.{AllRest, entry-sound, sound_empty}
 use Rattle.ws_write_laws.proofs.Operations.{line, KeepsLine, EndsFirst, over-line}
 use Rattle.ws_write_laws.proofs.Operations as lines
-use Rattle.ws_write_laws.proofs.Lined.{Lined, lined-later, lined-on_writable, lined-on_readable}
+use Rattle.ws_write_laws.proofs.Lined.{Lined, all_released, lined-later, lined-on_writable, lined-on_readable}
 use Rattle.ws_write_laws.proofs.Ends.{flying-open, write_settled-fulfils, lined-ended}
 use Rattle.ws_write_laws.proofs.Calls.{Stands, called-lined}
-use Rattle.ws_laws.proofs.Truth.{false_true}
+use Rattle.ws_laws.proofs.Truth.{false_true, or_left, or_right}
 use Rattle.ws_laws.proofs.Tables.{derived-streams}
 
 -- no write ends
-lined-count : (h : Writes) (n : ℕ) (q : List PromiseId) (place : Option Stream) (t : Table) → n ≡ 0 → Lined h q place t → Lined (record h { fulfilled = h.fulfilled + n }) q place t
-lined-count h n q place t e l = record {
+lined-count : (gone : PromiseId → Bool) (h : Writes) (n : ℕ) (q : List PromiseId) (place : Option Stream) (t : Table) → n ≡ 0 → Lined gone h q place t → Lined gone (record h { fulfilled = h.fulfilled + n }) q place t
+lined-count gone h n q place t e l = record {
   answered = l.answered;
   first = l.first;
   rest = l.rest;
@@ -79,9 +79,9 @@ not_writing true closing h e = false_true closing e (h refl)
 abbrev pub Taking : StreamId → Step → Slots → Type 0
 Taking i step t = Sound (λ x. in_step x step) (nothing t) × (Known (core_of (writable_at i t)) × Taken i step t)
 
-write_ends : (i : StreamId) (o : Result Plain Plain) (t : Slots) (h : Writes) (q : List PromiseId) (p : PromiseId) → (writable_at i t).write_in_flight ≡ Some p → has_writable i t ≡ true → Taking i (WritableWrite i) t → Stands i h q t
-    → Lined (record h { fulfilled = h.fulfilled + fulfilled_by o (writable_at i t) }) q (slice_get (on_writable (writable.write_settled i o) i t).slots.streams i.0) (on_writable (writable.write_settled i o) i t).slots.promises
-write_ends i (Ok v) t h q p flies there k l =
+write_ends : (gone : PromiseId → Bool) (i : StreamId) (o : Result Plain Plain) (t : Slots) (h : Writes) (q : List PromiseId) (p : PromiseId) → (writable_at i t).write_in_flight ≡ Some p → has_writable i t ≡ true → Taking i (WritableWrite i) t → Stands gone i h q t
+    → Lined gone (record h { fulfilled = h.fulfilled + fulfilled_by o (writable_at i t) }) q (slice_get (on_writable (writable.write_settled i o) i t).slots.streams i.0) (on_writable (writable.write_settled i o) i t).slots.promises
+write_ends gone i (Ok v) t h q p flies there k l =
     let w : writable.Slots = writable_at i t in
     let d : Operation = on_writable (writable.write_settled i (Ok v)) i t in
     let old : Option Stream = slice_get t.streams i.0 in
@@ -91,28 +91,28 @@ write_ends i (Ok v) t h q p flies there k l =
     let sound = writes-before i t (λ x. 0) (λ x. 0) there (sound-less (λ x. 0) (λ x. 0 + 0) (nothing t) (λ x. omega arith) k.0) in
     let fulfilled = write_settled-fulfils i v (writable_acts i t) p flies (flying-open i (λ x. elsewhere (λ x. 0) i t x + 0) (loose_elsewhere i t) (writable_acts i t) p flies sound) in
     let ends : EndsFirst p w (as_writable new) = rw (on_writable-same (writable.write_settled i (Ok v)) i t there) (lines.write_settled-line i v p (writable_acts i t) flies alive) in
-    rw one (lined-ended h q p old new t.promises d.slots.promises ends (on_writable-none (writable.write_settled i (Ok v)) i t i) alive flies (reaction-keeps (WritableWrite i) (Ok v) t) (rw there fulfilled) l)
-write_ends i (Err e) t h q p flies there k l =
+    rw one (lined-ended gone h q p old new t.promises d.slots.promises ends (on_writable-none (writable.write_settled i (Ok v)) i t i) alive flies (reaction-keeps (WritableWrite i) (Ok v) t) (rw there fulfilled) l)
+write_ends gone i (Err e) t h q p flies there k l =
     let d : Operation = on_writable (writable.write_settled i (Err e)) i t in
     let writing : is_some (writable_at i t).write_in_flight ≡ true = rw flies refl in
     let over = lines.write_settled-over i e (writable_acts i t) (k.1.0.writing writing) (k.1.0.flying writing) in
-    lined-count h 0 q (slice_get d.slots.streams i.0) d.slots.promises refl
-    (lined-later h q (slice_get d.slots.streams i.0) t.promises d.slots.promises (reaction-keeps (WritableWrite i) (Err e) t)
-    (lined-on_writable (writable.write_settled i (Err e)) i i t h q t.promises (over-line (writable_at i t) (writable.write_settled i (Err e) (writable_acts i t)).slots over) l))
+    lined-count gone h 0 q (slice_get d.slots.streams i.0) d.slots.promises refl
+    (lined-later gone h q (slice_get d.slots.streams i.0) t.promises d.slots.promises (reaction-keeps (WritableWrite i) (Err e) t)
+    (lined-on_writable gone (writable.write_settled i (Err e)) i i t h q t.promises (over-line (writable_at i t) (writable.write_settled i (Err e) (writable_acts i t)).slots over) l))
 
 -- of stream j, by the history of stream i
-written_apart : (i j : StreamId) (o : Result Plain Plain) (t : Slots) (h : Writes) (q : List PromiseId) (same : Bool) → same ≡ is_same i j → Taking j (WritableWrite j) t → Stands i h q t
-    → Lined (record h { fulfilled = h.fulfilled + (if same then fulfilled_by o (writable_at j t) else 0) }) q (slice_get (perform_step (WritableWrite j) o t).slots.streams i.0) (perform_step (WritableWrite j) o t).slots.promises
-written_apart i j o t h q false e k l =
+written_apart : (gone : PromiseId → Bool) (i j : StreamId) (o : Result Plain Plain) (t : Slots) (h : Writes) (q : List PromiseId) (same : Bool) → same ≡ is_same i j → Taking j (WritableWrite j) t → Stands gone i h q t
+    → Lined gone (record h { fulfilled = h.fulfilled + (if same then fulfilled_by o (writable_at j t) else 0) }) q (slice_get (perform_step (WritableWrite j) o t).slots.streams i.0) (perform_step (WritableWrite j) o t).slots.promises
+written_apart gone i j o t h q false e k l =
     let d : Operation = perform_step (WritableWrite j) o t in
-    lined-count h 0 q (slice_get d.slots.streams i.0) d.slots.promises refl
-    (lined-later h q (slice_get d.slots.streams i.0) t.promises d.slots.promises (reaction-keeps (WritableWrite j) o t)
+    lined-count gone h 0 q (slice_get d.slots.streams i.0) d.slots.promises refl
+    (lined-later gone h q (slice_get d.slots.streams i.0) t.promises d.slots.promises (reaction-keeps (WritableWrite j) o t)
     (rw (on_writable-other (writable.write_settled j o) j t i (sym e)) l))
-written_apart i j o t h q true e k l =
+written_apart gone i j o t h q true e k l =
     let is : i ≡ j = same_id i j (sym e) in
     let flies = some_there (writable_at j t).write_in_flight (writing-taken j t k.1.1) in
     let there = flying_there j t (has_writable j t) refl (writing-taken j t k.1.1) in
-    rw is (write_ends j o t h q flies.0 flies.1 there k (rw is at l))
+    rw is (write_ends gone j o t h q flies.0 flies.1 there k (rw is at l))
 
 -- the reaction of stream j, of which no write ends
 
@@ -123,27 +123,27 @@ start_idles j t true e k =
 start_idles j t false e k = ap (λ (w : writable.Slots). is_some w.write_in_flight) (no_writable_there (slice_get t.streams j.0) (sym e))
 
 -- where the streams are lined by the table before, they are by that after
-lined-then : (i : StreamId) (step : Step) (o : Result Plain Plain) (t : Slots) (h : Writes) (q : List PromiseId) → Lined h q (slice_get (perform_step step o t).slots.streams i.0) t.promises
-    → Lined (record h { fulfilled = h.fulfilled + 0 }) q (slice_get (perform_step step o t).slots.streams i.0) (perform_step step o t).slots.promises
-lined-then i step o t h q l =
+lined-then : (gone : PromiseId → Bool) (i : StreamId) (step : Step) (o : Result Plain Plain) (t : Slots) (h : Writes) (q : List PromiseId) → Lined gone h q (slice_get (perform_step step o t).slots.streams i.0) t.promises
+    → Lined gone (record h { fulfilled = h.fulfilled + 0 }) q (slice_get (perform_step step o t).slots.streams i.0) (perform_step step o t).slots.promises
+lined-then gone i step o t h q l =
     let d : Operation = perform_step step o t in
-    lined-count h 0 q (slice_get d.slots.streams i.0) d.slots.promises refl (lined-later h q (slice_get d.slots.streams i.0) t.promises d.slots.promises (reaction-keeps step o t) l)
+    lined-count gone h 0 q (slice_get d.slots.streams i.0) d.slots.promises refl (lined-later gone h q (slice_get d.slots.streams i.0) t.promises d.slots.promises (reaction-keeps step o t) l)
 
-reaction_lined : (step : Step) (o : Result Plain Plain) (derived : Option PromiseId) (i : StreamId) (s t : Slots) (h : Writes) (q : List PromiseId) → t.streams ≡ s.streams → ((j : StreamId) → Taking j step t) → Stands i h q t
-    → Lined (record h { fulfilled = h.fulfilled + job_fulfilled i s (Some (Reaction step o derived)) }) q (slice_get (perform_step step o t).slots.streams i.0) (perform_step step o t).slots.promises
-reaction_lined (ReadableStart j) o derived i s t h q e k l = lined-then i (ReadableStart j) o t h q (lined-on_readable (readable.start_settled j o) i j t h q t.promises l)
-reaction_lined (ReadablePull j) o derived i s t h q e k l = lined-then i (ReadablePull j) o t h q (lined-on_readable (readable.pull_settled j o) i j t h q t.promises l)
-reaction_lined ReturnUndefined o derived i s t h q e k l = lined-then i ReturnUndefined o t h q l
-reaction_lined (WritableStart j) o derived i s t h q e k l =
-    lined-then i (WritableStart j) o t h q (lined-on_writable (writable.start_settled j o) i j t h q t.promises (lines.start_settled-line j o (writable_acts j t) (start_idles j t (has_writable j t) refl (k j)) (k j).1.0.ended) l)
-reaction_lined (WritableWrite j) o derived i s t h q e k l =
+reaction_lined : (gone : PromiseId → Bool) (step : Step) (o : Result Plain Plain) (derived : Option PromiseId) (i : StreamId) (s t : Slots) (h : Writes) (q : List PromiseId) → t.streams ≡ s.streams → ((j : StreamId) → Taking j step t) → Stands gone i h q t
+    → Lined gone (record h { fulfilled = h.fulfilled + job_fulfilled i s (Some (Reaction step o derived)) }) q (slice_get (perform_step step o t).slots.streams i.0) (perform_step step o t).slots.promises
+reaction_lined gone (ReadableStart j) o derived i s t h q e k l = lined-then gone i (ReadableStart j) o t h q (lined-on_readable gone (readable.start_settled j o) i j t h q t.promises l)
+reaction_lined gone (ReadablePull j) o derived i s t h q e k l = lined-then gone i (ReadablePull j) o t h q (lined-on_readable gone (readable.pull_settled j o) i j t h q t.promises l)
+reaction_lined gone ReturnUndefined o derived i s t h q e k l = lined-then gone i ReturnUndefined o t h q l
+reaction_lined gone (WritableStart j) o derived i s t h q e k l =
+    lined-then gone i (WritableStart j) o t h q (lined-on_writable gone (writable.start_settled j o) i j t h q t.promises (lines.start_settled-line j o (writable_acts j t) (start_idles j t (has_writable j t) refl (k j)) (k j).1.0.ended) l)
+reaction_lined gone (WritableWrite j) o derived i s t h q e k l =
     let same : writable_at j s ≡ writable_at j t = ap (λ (ss : List Stream). as_writable (slice_get ss j.0)) (sym e) in
-    rw same (written_apart i j o t h q (is_same i j) refl (k j) l)
-reaction_lined (WritableClose j) o derived i s t h q e k l =
+    rw same (written_apart gone i j o t h q (is_same i j) refl (k j) l)
+reaction_lined gone (WritableClose j) o derived i s t h q e k l =
     let writing = not_writing (is_some (writable_at j t).write_in_flight) (is_some (writable_at j t).close_in_flight) (k j).1.0.writing (closing-taken j t (k j).1.1) in
-    lined-then i (WritableClose j) o t h q (lined-on_writable (writable.close_settled j o) i j t h q t.promises (lines.close_settled-line j o (writable_acts j t) writing) l)
-reaction_lined (WritableAbort j p) o derived i s t h q e k l =
-    lined-then i (WritableAbort j p) o t h q (lined-on_writable (writable.abort_settled p o) i j t h q t.promises (lines.abort_settled-line p o (writable_acts j t)) l)
+    lined-then gone i (WritableClose j) o t h q (lined-on_writable gone (writable.close_settled j o) i j t h q t.promises (lines.close_settled-line j o (writable_acts j t) writing) l)
+reaction_lined gone (WritableAbort j p) o derived i s t h q e k l =
+    lined-then gone i (WritableAbort j p) o t h q (lined-on_writable gone (writable.abort_settled p o) i j t h q t.promises (lines.abort_settled-line p o (writable_acts j t)) l)
 
 -- jobs
 
@@ -151,39 +151,39 @@ settling_streams : (p : PromiseId) (o : Result Plain Plain) (s : Slots) → (set
 settling_streams p o s = refl
 
 -- what holds of the operation of a job holds once its effects are performed
-reaction_done : (step : Step) (o : Result Plain Plain) (derived : Option PromiseId) (i : StreamId) (t : Slots) (h : Writes) (q : List PromiseId)
-    → Lined h q (slice_get (perform_step step o t).slots.streams i.0) (perform_step step o t).slots.promises → Stands i h q (perform_job (Reaction step o derived) t)
+reaction_done : (gone : PromiseId → Bool) (step : Step) (o : Result Plain Plain) (derived : Option PromiseId) (i : StreamId) (t : Slots) (h : Writes) (q : List PromiseId)
+    → Lined gone h q (slice_get (perform_step step o t).slots.streams i.0) (perform_step step o t).slots.promises → Stands gone i h q (perform_job (Reaction step o derived) t)
 unfolding perform_job
-reaction_done step o derived i t h q l =
+reaction_done gone step o derived i t h q l =
     let d : Operation = perform_step step o t in
     let z : Slots = performed d in
     let streams = derived-streams derived (returned step o) z ∙ performed-streams d in
     rw streams
-    (lined-later h q (slice_get d.slots.streams i.0) d.slots.promises (resolve_derived derived (returned step o) z).promises
+    (lined-later gone h q (slice_get d.slots.streams i.0) d.slots.promises (resolve_derived derived (returned step o) z).promises
     (keeps-then d.slots.promises z.promises (resolve_derived derived (returned step o) z).promises (performed-keeps d) (derived-keeps derived (returned step o) z)) l)
 
-worked_lined : (job : Option Job) (i : StreamId) (s : Slots) (h : Writes) (q : List PromiseId) → job ≡ next_job s.promises → (r : StreamId → Writes) → AllRest r s → Sound none (nothing s) → Stands i h q s
-    → Stands i (record h { fulfilled = h.fulfilled + job_fulfilled i s job }) q (job_taken s job)
+worked_lined : (gone : PromiseId → Bool) (job : Option Job) (i : StreamId) (s : Slots) (h : Writes) (q : List PromiseId) → job ≡ next_job s.promises → (r : StreamId → Writes) → AllRest r s → Sound none (nothing s) → Stands gone i h q s
+    → Stands gone i (record h { fulfilled = h.fulfilled + job_fulfilled i s job }) q (job_taken s job)
 unfolding perform_job
-worked_lined None i s h q e r rests k l = lined-count h 0 q (slice_get s.streams i.0) s.promises refl l
-worked_lined (Some (Reaction reaction o derived)) i s h q e r rests k l =
+worked_lined gone None i s h q e r rests k l = lined-count gone h 0 q (slice_get s.streams i.0) s.promises refl l
+worked_lined gone (Some (Reaction reaction o derived)) i s h q e r rests k l =
     let t : Slots = record s { promises = after_next_job s.promises } in
-    let standing : Stands i h q t = lined-later h q (slice_get s.streams i.0) s.promises t.promises (keeps-next s.promises) l in
+    let standing : Stands gone i h q t = lined-later gone h q (slice_get s.streams i.0) s.promises t.promises (keeps-next s.promises) l in
     let hand : Sound (λ x. in_hand x (Some (Reaction reaction o derived))) (nothing t) = subst (λ (j : Option Job). Sound (λ x. in_hand x j) (nothing t)) (sym e) (next-sound s k) in
     let taking : (j : StreamId) → Taking j reaction t = λ j. (sound-less (λ x. in_hand x (Some (Reaction reaction o derived))) (λ x. in_step x reaction) (nothing t) (λ x. omega arith) hand, (known j (r j) s (rests j), first_taken j s (r j) reaction o derived e (rests j))) in
-    reaction_done reaction o derived i t (record h { fulfilled = h.fulfilled + job_fulfilled i s (Some (Reaction reaction o derived)) }) q (reaction_lined reaction o derived i s t h q refl taking standing)
-worked_lined (Some (Follow p r)) i s h q e rs rests k l =
-    lined-count h 0 q (slice_get s.streams i.0) (after_next_job s.promises) refl (lined-later h q (slice_get s.streams i.0) s.promises (after_next_job s.promises) (keeps-next s.promises) l)
-worked_lined (Some (Settle p o)) i s h q e r rests k l =
+    reaction_done gone reaction o derived i t (record h { fulfilled = h.fulfilled + job_fulfilled i s (Some (Reaction reaction o derived)) }) q (reaction_lined gone reaction o derived i s t h q refl taking standing)
+worked_lined gone (Some (Follow p r)) i s h q e rs rests k l =
+    lined-count gone h 0 q (slice_get s.streams i.0) (after_next_job s.promises) refl (lined-later gone h q (slice_get s.streams i.0) s.promises (after_next_job s.promises) (keeps-next s.promises) l)
+worked_lined gone (Some (Settle p o)) i s h q e r rests k l =
     let t : Slots = record s { promises = after_next_job s.promises } in
-    lined-count h 0 q (slice_get s.streams i.0) (settling p o t).promises refl
-    (lined-later h q (slice_get s.streams i.0) s.promises (settling p o t).promises (keeps-then s.promises t.promises (settling p o t).promises (keeps-next s.promises) (settling-keeps p o t)) l)
+    lined-count gone h 0 q (slice_get s.streams i.0) (settling p o t).promises refl
+    (lined-later gone h q (slice_get s.streams i.0) s.promises (settling p o t).promises (keeps-then s.promises t.promises (settling p o t).promises (keeps-next s.promises) (settling-keeps p o t)) l)
 
 -- steps
 
 -- the history counts as many writes, and as many that were fulfilled
-lined-history : (g h : Writes) (q : List PromiseId) (place : Option Stream) (t : Table) → length g.written ≡ length h.written → g.fulfilled ≡ h.fulfilled → Lined h q place t → Lined g q place t
-lined-history g h q place t w f l = record {
+lined-history : (gone : PromiseId → Bool) (g h : Writes) (q : List PromiseId) (place : Option Stream) (t : Table) → length g.written ≡ length h.written → g.fulfilled ≡ h.fulfilled → Lined gone h q place t → Lined gone g q place t
+lined-history gone g h q place t w f l = record {
   answered = l.answered ∙ sym w;
   first = l.first;
   rest = l.rest;
@@ -208,34 +208,53 @@ named_streams TooMany s = refl
 called_streams : (c : Call) (s : Slots) → (step s (Called c)).streams ≡ (begin c s).done.slots.streams
 called_streams c s = named_streams (begin c s).reply (performed (begin c s).done) ∙ performed-streams (begin c s).done
 
-entry_lined : (x : Entry) (i : StreamId) (s : Slots) (h : Writes) (q : List PromiseId) (r : StreamId → Writes) → AllRest r s → Sound none (nothing s) → Stands i h q s
-    → Stands i (writes_then h (step_writes i s x)) (q ++ step_promised i s x) (step s x)
-entry_lined (Called c) i s h q r rests k l =
+-- a promise is let go of that may be
+forgotten_lined : (gone : PromiseId → Bool) (p : PromiseId) (i : StreamId) (s : Slots) (h : Writes) (q : List PromiseId) → gone p ≡ true → Stands gone i h q s → Stands gone i h q (after_forgetting p s)
+forgotten_lined gone p i s h q may l = record {
+  answered = l.answered;
+  first = l.first;
+  rest = l.rest;
+  split = l.split;
+  counted = l.counted;
+  fulfilled = all_released gone p s.promises l.first may l.fulfilled;
+  alive = l.alive;
+  spent = l.spent;
+  unmade = l.unmade;
+}
+
+same_self : (p : PromiseId) → lets_go p (Forgot p) ≡ true
+same_self p = grind arith
+
+entry_lined : (gone : PromiseId → Bool) (x : Entry) (i : StreamId) (s : Slots) (h : Writes) (q : List PromiseId) (r : StreamId → Writes) → ((p : PromiseId) → lets_go p x ≡ true → gone p ≡ true) → AllRest r s → Sound none (nothing s) → Stands gone i h q s
+    → Stands gone i (writes_then h (step_writes i s x)) (q ++ step_promised i s x) (step s x)
+entry_lined gone (Called c) i s h q r may rests k l =
     let z : Slots = step s (Called c) in
     let p : List PromiseId = q ++ step_promised i s (Called c) in
-    let begun = called-lined c i s h q l in
+    let begun = called-lined gone c i s h q l in
     let g : Writes = record h { written = h.written ++ call_written i c s } in
     let place : Option Stream = slice_get (begin c s).done.slots.streams i.0 in
     rw (called_streams c s)
-    (lined-history (writes_then h (step_writes i s (Called c))) g p place z.promises refl (omega arith)
-    (lined-later g p place s.promises z.promises (step-keeps (Called c) s) begun))
-entry_lined Worked i s h q r rests k l =
+    (lined-history gone (writes_then h (step_writes i s (Called c))) g p place z.promises refl (omega arith)
+    (lined-later gone g p place s.promises z.promises (called-keeps c s) begun))
+entry_lined gone Worked i s h q r may rests k l =
     let z : Slots = step s Worked in
     let g : Writes = record h { fulfilled = h.fulfilled + job_fulfilled i s (next_job s.promises) } in
     rw (append-nil q)
-    (lined-history (writes_then h (step_writes i s Worked)) g q (slice_get z.streams i.0) z.promises (ap length (append-nil h.written)) refl
-    (worked_lined (next_job s.promises) i s h q refl r rests k l))
-entry_lined Heard i s h q r rests k l = rw (writes-nothing h, append-nil q) l
+    (lined-history gone (writes_then h (step_writes i s Worked)) g q (slice_get z.streams i.0) z.promises (ap length (append-nil h.written)) refl
+    (worked_lined gone (next_job s.promises) i s h q refl r rests k l))
+entry_lined gone Heard i s h q r may rests k l = rw (writes-nothing h, append-nil q) l
+entry_lined gone (Forgot p) i s h q r may rests k l = rw (writes-nothing h, append-nil q) (forgotten_lined gone p i s h q (may p (same_self p)) l)
 
-run_lined : (xs : List Entry) (i : StreamId) (s : Slots) (h : Writes) (q : List PromiseId) (r : StreamId → Writes) → AllRest r s → Sound none (nothing s) → Stands i h q s
-    → Stands i (writes_then h (run_writes i xs s)) (q ++ run_promised i xs s) (run xs s)
-run_lined [] i s h q r rests k l = rw (writes-nothing h, append-nil q) l
-run_lined (x ∷ xs) i s h q r rests k l =
+run_lined : (gone : PromiseId → Bool) (xs : List Entry) (i : StreamId) (s : Slots) (h : Writes) (q : List PromiseId) (r : StreamId → Writes) → ((p : PromiseId) → is_forgotten p xs ≡ true → gone p ≡ true) → AllRest r s → Sound none (nothing s) → Stands gone i h q s
+    → Stands gone i (writes_then h (run_writes i xs s)) (q ++ run_promised i xs s) (run xs s)
+run_lined gone [] i s h q r may rests k l = rw (writes-nothing h, append-nil q) l
+run_lined gone (x ∷ xs) i s h q r may rests k l =
     rw (← writes-assoc h (step_writes i s x) (run_writes i xs (step s x)), ← append_assoc q (step_promised i s x) (run_promised i xs (step s x)))
-    (run_lined xs i (step s x) (writes_then h (step_writes i s x)) (q ++ step_promised i s x) (λ j. writes_then (r j) (step_writes j s x)) (λ j. entry_kept j x s (r j) (rests j)) (entry-sound x s r rests k) (entry_lined x i s h q r rests k l))
+    (run_lined gone xs i (step s x) (writes_then h (step_writes i s x)) (q ++ step_promised i s x) (λ j. writes_then (r j) (step_writes j s x)) (λ p g. may p (or_right (lets_go p x) (is_forgotten p xs) g)) (λ j. entry_kept j x s (r j) (rests j)) (entry-sound x s r rests k)
+    (entry_lined gone x i s h q r (λ p g. may p (or_left (lets_go p x) (is_forgotten p xs) g)) rests k l))
 
-lined_empty : (i : StreamId) → Stands i no_writes [] empty
-lined_empty i = record { answered = refl; first = []; rest = []; split = refl; counted = refl; fulfilled = λ n d h. absurd (omega arith); alive = λ e. cc; spent = λ e. refl; unmade = λ e. refl }
+lined_empty : (gone : PromiseId → Bool) (i : StreamId) → Stands gone i no_writes [] empty
+lined_empty gone i = record { answered = refl; first = []; rest = []; split = refl; counted = refl; fulfilled = λ n d h g. absurd (omega arith); alive = λ e. cc; spent = λ e. refl; unmade = λ e. refl }
 
 -- the law
 
@@ -245,8 +264,8 @@ none_left first (p ∷ rest) promised e n =
     let m : length promised ≡ length first + suc (length rest) = ap length (sym e) ∙ length-append first (p ∷ rest) in
     absurd (omega arith)
 
-are_fulfilled : (h : Writes) (q : List PromiseId) (place : Option Stream) (t : Table) → (0 < h.closes → h.fulfilled ≡ length h.written) → Lined h q place t → AreFulfilled h q t
-are_fulfilled h q place t w l = record {
+are_fulfilled : (gone : PromiseId → Bool) (h : Writes) (q : List PromiseId) (place : Option Stream) (t : Table) → (0 < h.closes → h.fulfilled ≡ length h.written) → Lined gone h q place t → AreFulfilled h q gone t
+are_fulfilled gone h q place t w l = record {
   answered = l.answered;
   first = l.first;
   rest = l.rest;
@@ -258,6 +277,7 @@ are_fulfilled h q place t w l = record {
 
 pub successful_writes_are_fulfilled : SuccessfulWritesAreFulfilled
 successful_writes_are_fulfilled entries i =
-    let l : Stands i (writes_then no_writes (run_writes i entries empty)) (run_promised i entries empty) (run entries empty) = run_lined entries i empty no_writes [] (λ j. no_writes) (λ j. none_made j) sound_empty (lined_empty i) in
+    let gone : PromiseId → Bool = λ p. is_forgotten p entries in
+    let l : Stands gone i (writes_then no_writes (run_writes i entries empty)) (run_promised i entries empty) (run entries empty) = run_lined gone entries i empty no_writes [] (λ j. no_writes) (λ p g. g) (λ j. none_made j) sound_empty (lined_empty gone i) in
     let lawful = each_writable_is_lawful entries i in
-    are_fulfilled (run_writes i entries empty) (run_promised i entries empty) (slice_get (run entries empty).streams i.0) (run entries empty).promises lawful.fulfilled (rw (nothing-writes (run_writes i entries empty)) at l)
+    are_fulfilled gone (run_writes i entries empty) (run_promised i entries empty) (slice_get (run entries empty).streams i.0) (run entries empty).promises lawful.fulfilled (rw (nothing-writes (run_writes i entries empty)) at l)
