@@ -204,15 +204,22 @@ named-keeps (ReplyState x) s = keeps-same s.promises
 named-keeps (Throws t) s = keeps-same s.promises
 named-keeps TooMany s = keeps-same s.promises
 
-pub called-keeps : (c : Call) (s : Slots) → Keeps s.promises (step s (Called c)).promises
-called-keeps c s =
+-- a call up to its effects
+pub begun-keeps : (c : Call) (s : Slots) → Keeps s.promises (begin c s).done.slots.promises
+begun-keeps c s = each_call (Begins s) s (operations s) c (each_write (Begins s) s (operations s) (write_keeps s) c)
+
+-- its effects, and the watching of what it answers
+pub finished-keeps : (c : Call) (s : Slots) → Keeps (begin c s).done.slots.promises (step s (Called c)).promises
+finished-keeps c s =
     let d : Done = (begin c s).done in
-    keeps-then s.promises d.slots.promises (step s (Called c)).promises (each_call (Begins s) s (operations s) c (each_write (Begins s) s (operations s) (write_keeps s) c))
-    (keeps-then d.slots.promises (performed d).promises (step s (Called c)).promises (performed-keeps d) (named-keeps (begin c s).reply (performed d)))
+    keeps-then d.slots.promises (performed d).promises (step s (Called c)).promises (performed-keeps d) (named-keeps (begin c s).reply (performed d))
+
+called_keeps : (c : Call) (s : Slots) → Keeps s.promises (step s (Called c)).promises
+called_keeps c s = keeps-then s.promises (begin c s).done.slots.promises (step s (Called c)).promises (begun-keeps c s) (finished-keeps c s)
 
 -- a promise that the host doesn't let go of
 entry_keeps : (x : Entry) (s : Slots) (p : PromiseId) (o : Outcome) → is_pending o ≡ false → lets_go p x ≡ false → outcome_at s.promises p ≡ Some o → outcome_at (step s x).promises p ≡ Some o
-entry_keeps (Called c) s p o n g h = (called-keeps c s).outcome p o n h
+entry_keeps (Called c) s p o n g h = (called_keeps c s).outcome p o n h
 entry_keeps Worked s p o n g h = (taken_keeps (next_job s.promises) s).outcome p o n h
 entry_keeps Heard s p o n g h = h
 entry_keeps (Forgot q) s p o n g h = release-outcome p q s.promises g ∙ h
@@ -225,7 +232,7 @@ each_outcome_stays s (x ∷ xs) p o n g h =
     each_outcome_stays (step s x) xs p o n later (entry_keeps x s p o n here h)
 
 mark_stays : (x : Entry) (s : Slots) → s.promises.astray ≡ true → (step s x).promises.astray ≡ true
-mark_stays (Called c) s m = (called-keeps c s).mark m
+mark_stays (Called c) s m = (called_keeps c s).mark m
 mark_stays Worked s m = (taken_keeps (next_job s.promises) s).mark m
 mark_stays Heard s m = m
 mark_stays (Forgot q) s m = release-mark q s.promises ∙ m

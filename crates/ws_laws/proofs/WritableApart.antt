@@ -29,7 +29,7 @@ pub settle_request-later : (o : Result Plain Plain) (t : Table) (p : Option Prom
 settle_request-later o t None = later-same t
 settle_request-later o t (Some p) = later-settle p o t
 
-reject_all-later : (e : Plain) (ps : List PromiseId) (t : Table) → Later t (reject_all e ps t)
+pub reject_all-later : (e : Plain) (ps : List PromiseId) (t : Table) → Later t (reject_all e ps t)
 reject_all-later e [] t = later-same t
 reject_all-later e (p ∷ ps) t = later-then t (settle p (Err e) t) (reject_all e ps (settle p (Err e) t)) (later-settle p (Err e) t) (reject_all-later e ps (settle p (Err e) t))
 
@@ -186,7 +186,7 @@ abort_by-apart : (i me : StreamId) (abort : PendingAbort) (a : Acts) (was : Bool
 abort_by-apart i me abort a true n = abort_settled-promise i abort.promise (Err a.slots.stored_error) a
 abort_by-apart i me abort a false n = apart-abort i me abort.reason abort.promise a.out n
 
-finish_abort-apart : (i me : StreamId) (a : Acts) (abort : Option PendingAbort) → is_same i me ≡ false → Apart i a.out (finish_abort me a abort).out
+pub finish_abort-apart : (i me : StreamId) (a : Acts) (abort : Option PendingAbort) → is_same i me ≡ false → Apart i a.out (finish_abort me a abort).out
 finish_abort-apart i me a None n = reject_both-apart i a
 finish_abort-apart i me a (Some abort) n = abort_by-apart i me abort (record a { slots = record a.slots { pending_abort = None } }) abort.was_already_erroring n
 
@@ -204,7 +204,7 @@ start_erroring-apart i me r a n =
     either (λ (z : Acts). Apart i a.out z.out) (not (is_in_flight b.slots) && b.slots.started) (finish_erroring me b) b
     (λ e. apart-then i a.out b.out (finish_erroring me b).out first (finish_erroring-apart i me b n)) (λ e. first)
 
-deal-apart : (i me : StreamId) (e : Plain) (a : Acts) → is_same i me ≡ false → Apart i a.out (deal_with_rejection me e a).out
+pub deal-apart : (i me : StreamId) (e : Plain) (a : Acts) → is_same i me ≡ false → Apart i a.out (deal_with_rejection me e a).out
 unfolding deal_with_rejection
 deal-apart i me e a n =
     either (λ (z : Acts). Apart i a.out z.out) (is_writable a.slots.state) (start_erroring me e a) (finish_erroring me a) (λ f. start_erroring-apart i me e a n) (λ f. finish_erroring-apart i me a n)

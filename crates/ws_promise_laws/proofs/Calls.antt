@@ -128,7 +128,7 @@ read-sound i s k =
       calm = k.calm;
     })
 
-signalled-sound : (reason : Plain) (i : StreamId) (s : Slots) → Sound none (nothing s) → Sound none (nothing (signalled i reason s))
+pub signalled-sound : (reason : Plain) (i : StreamId) (s : Slots) → Sound none (nothing s) → Sound none (nothing (signalled i reason s))
 signalled-sound reason i s k =
     either (λ (z : Slots). Sound none (nothing z)) (writable.is_first_abort (writable_at i s)) (record s { events = s.events ++ Signal i reason ∷ [] }) s
     (λ e. record { holds = k.holds; calm = k.calm }) (λ e. k)

@@ -38,7 +38,7 @@ in_list-last : (x : Token) (ps : List PromiseId) (p : PromiseId) → in_list x (
 in_list-last x [] p = omega arith
 in_list-last x (q ∷ ps) p = let n = in_list-last x ps p in omega arith
 
-add_write_request-keeps : (me : StreamId) (f l : Token → ℕ) (a : Acts) → Writes me f l a → Writes me f l (add_write_request a)
+pub add_write_request-keeps : (me : StreamId) (f l : Token → ℕ) (a : Acts) → Writes me f l a → Writes me f l (add_write_request a)
 add_write_request-keeps me f l a k =
     let b : Acts = add_write_request a in
     record {
@@ -133,6 +133,13 @@ fulfil_ready-slots a None = refl
 fulfil_ready-slots a (Some w) =
     either (λ (z : Acts). z.slots ≡ a.slots) (a.slots.backpressure && is_writable a.slots.state) (with_promises (settle w.ready (Ok Undefined) a.out.promises) a) a (λ e. refl) (λ e. refl)
 
+-- a close is requested, of which the writer hears
+pub requested-keeps : (me : StreamId) (f l : Token → ℕ) (a : Acts) → is_closing a.slots ≡ false → Writes me f l a → Writes me f l (fulfil_ready (add_close_request a) a.slots.writer)
+requested-keeps me f l a e k =
+    let b : Acts = add_close_request a in
+    let after : is_awaited b.slots ≡ false = closing_unawaited (a.slots.backpressure && is_writable a.slots.state) true refl in
+    fulfil_ready-keeps me f l b b.slots.writer refl after k.calm (add_close_request-keeps me f l a e k)
+
 -- the close mark behind a queue
 abbrev marked_slots : Slots → Slots
 marked_slots s = record s { queue = enqueued CloseMark 0 s.queue }
@@ -143,8 +150,7 @@ stream_close-keeps me f l a e k =
     let b : Acts = add_close_request a in
     let c : Acts = fulfil_ready b b.slots.writer in
     let d : Acts = record c { slots = marked_slots c.slots } in
-    let after : is_awaited b.slots ≡ false = closing_unawaited (a.slots.backpressure && is_writable a.slots.state) true refl in
-    let requested : Writes me f l c = fulfil_ready-keeps me f l b b.slots.writer refl after k.calm (add_close_request-keeps me f l a e k) in
+    let requested : Writes me f l c = requested-keeps me f l a e k in
     let same : core_of (marked_slots b.slots) ≡ core_of (marked_slots c.slots) = ap (λ (s : Slots). core_of (marked_slots s)) (sym (fulfil_ready-slots b b.slots.writer)) in
     either (Writes me f l) (has_ended a.slots.state) (with_promises (fresh_settled (Err type_error) a.out.promises) a) (advance_queue me d)
     (λ h. fresh_settled-keeps me f l (Err type_error) a k)
@@ -159,7 +165,7 @@ abort_of-promise : (p : PromiseId) (r : Plain) (was : Bool) → (abort_of p r wa
 abort_of-promise p r true = refl
 abort_of-promise p r false = refl
 
-add_pending_abort-keeps : (me : StreamId) (f l : Token → ℕ) (r : Plain) (a : Acts) → Writes me f l a → Writes me f l (add_pending_abort r a)
+pub add_pending_abort-keeps : (me : StreamId) (f l : Token → ℕ) (r : Plain) (a : Acts) → Writes me f l a → Writes me f l (add_pending_abort r a)
 unfolding add_pending_abort
 add_pending_abort-keeps me f l r a k =
     let b : Acts = add_pending_abort r a in

@@ -327,7 +327,7 @@ ready-keeps me f l r a w false i e s alive k =
       calm = λ h. false_true (has_ended a.slots.state) h alive;
     }
 
-reject_ready-keeps : (me : StreamId) (f l : Token → ℕ) (r : Plain) (a : Acts) (w : Option Writer) → a.slots.writer ≡ w → is_writable a.slots.state ≡ false → has_ended a.slots.state ≡ false
+pub reject_ready-keeps : (me : StreamId) (f l : Token → ℕ) (r : Plain) (a : Acts) (w : Option Writer) → a.slots.writer ≡ w → is_writable a.slots.state ≡ false → has_ended a.slots.state ≡ false
     → Unready me f l a → Writes me f l (reject_ready r a w)
 unfolding ensure_rejected
 reject_ready-keeps me f l r a None e s alive k = record {
@@ -339,7 +339,7 @@ reject_ready-keeps me f l r a None e s alive k = record {
 reject_ready-keeps me f l r a (Some w) e s alive k = ready-keeps me f l r a w (is_pending_at w.ready a.out.promises) refl e s alive k
 
 -- the closed promise of a stream that hasn't ended is still to be settled
-erroring-unready : (me : StreamId) (f l : Token → ℕ) (r : Plain) (a : Acts) → has_ended a.slots.state ≡ false → Unready me f l a → Unready me f l (record a { slots = record a.slots { state = Erroring; stored_error = r } })
+pub erroring-unready : (me : StreamId) (f l : Token → ℕ) (r : Plain) (a : Acts) → has_ended a.slots.state ≡ false → Unready me f l a → Unready me f l (record a { slots = record a.slots { state = Erroring; stored_error = r } })
 erroring-unready me f l r a alive k =
     holds-less _ _ _ _ a.out.promises k
     (λ x. let n = all_when (is_alive a.slots) (of_closed x a.slots.writer) (not_true (has_ended a.slots.state) alive) in omega arith)

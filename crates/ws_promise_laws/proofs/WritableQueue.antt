@@ -115,7 +115,7 @@ settle_request-holds : (f l g m : Token → ℕ) (o : Result Plain Plain) (t : T
 settle_request-holds f l g m o t None k a b = holds-less f l g m t k (λ x. let n = a x in omega arith) b
 settle_request-holds f l g m o t (Some p) k a b = holds-settle f l g m p o t k a b
 
-write_ended-keeps : (me : StreamId) (f l : Token → ℕ) (o : Result Plain Plain) (a : Acts) → Writes me f l a → Writes me f l (write_ended o a)
+pub write_ended-keeps : (me : StreamId) (f l : Token → ℕ) (o : Result Plain Plain) (a : Acts) → Writes me f l a → Writes me f l (write_ended o a)
 write_ended-keeps me f l o a k =
     let b : Acts = write_ended o a in
     record {
@@ -123,7 +123,7 @@ write_ended-keeps me f l o a k =
       calm = k.calm;
     }
 
-without_first-keeps : (me : StreamId) (f l : Token → ℕ) (a : Acts) → Writes me f l a → Writes me f l (without_first a)
+pub without_first-keeps : (me : StreamId) (f l : Token → ℕ) (a : Acts) → Writes me f l a → Writes me f l (without_first a)
 without_first-keeps me f l a k = record { holds = k.holds; calm = k.calm }
 
 -- no mark comes to a queue that is shortened
@@ -146,7 +146,7 @@ write_settled-keeps me f l (Err e) a c m k =
 
 -- the controller has started
 
-started-keeps : (me : StreamId) (f l : Token → ℕ) (a : Acts) → Writes me (λ x. f x + starts x me) l a → Writes me f l (record a { slots = record a.slots { started = true } })
+pub started-keeps : (me : StreamId) (f l : Token → ℕ) (a : Acts) → Writes me (λ x. f x + starts x me) l a → Writes me f l (record a { slots = record a.slots { started = true } })
 started-keeps me f l a k =
     let b : Acts = record a { slots = record a.slots { started = true } } in
     record {
@@ -172,7 +172,7 @@ abort_settled-keeps me f l p (Err e) a d k = reject_close_and_closed-keeps me f 
 -- the close in flight ends
 
 -- the stream's ready promise stands aside, and no close is in flight of a stream that hasn't ended
-record Landed (me : StreamId) (f l : Token → ℕ) (a : Acts) : Type 0 where
+pub record Landed (me : StreamId) (f l : Token → ℕ) (a : Acts) : Type 0 where
   pub holds : Unready me f l a
   pub alive : has_ended a.slots.state ≡ false
   pub ended : is_some a.slots.close_in_flight ≡ false
@@ -238,6 +238,12 @@ alive_calm : (ended flies : Bool) → (ended ≡ true → flies ≡ false) → f
 alive_calm true flies c e = false_true flies e (c refl)
 alive_calm false flies c e = refl
 
+-- the close in flight failed, and what is left is to be dealt with
+pub close_failed-keeps : (me : StreamId) (f l : Token → ℕ) (e : Plain) (a : Acts) → is_some a.slots.close_in_flight ≡ true → Writes me f l a → Landed me f l (abort_ended (Err e) (close_ended (Err e) a))
+close_failed-keeps me f l e a c k =
+    let alive : has_ended a.slots.state ≡ false = alive_calm (has_ended a.slots.state) (is_some a.slots.close_in_flight) k.calm c in
+    abort_ended-keeps me f l (Err e) (close_ended (Err e) a) (close_ended-keeps me f l (Err e) a alive (unready me f l a k))
+
 pub close_settled-keeps : (me : StreamId) (f l : Token → ℕ) (o : Result Plain Plain) (a : Acts) → is_some a.slots.close_in_flight ≡ true → Writes me f l a → Writes me f l (close_settled me o a)
 unfolding close_settled finish_in_flight_close finish_in_flight_close_with_error
 close_settled-keeps me f l (Ok v) a e k =
@@ -245,7 +251,6 @@ close_settled-keeps me f l (Ok v) a e k =
     let b : Acts = clear_error (close_ended (Ok Undefined) a) in
     fulfil_closed-keeps me f l b b.slots.writer refl (clear_error-keeps me f l (close_ended (Ok Undefined) a) (close_ended-keeps me f l (Ok Undefined) a alive (unready me f l a k)))
 close_settled-keeps me f l (Err r) a e k =
-    let alive : has_ended a.slots.state ≡ false = alive_calm (has_ended a.slots.state) (is_some a.slots.close_in_flight) k.calm e in
     let b : Acts = abort_ended (Err r) (close_ended (Err r) a) in
-    let landed : Landed me f l b = abort_ended-keeps me f l (Err r) (close_ended (Err r) a) (close_ended-keeps me f l (Err r) a alive (unready me f l a k)) in
+    let landed : Landed me f l b = close_failed-keeps me f l r a e k in
     deal_with_rejection-keeps me f l r b landed.ended landed.holds

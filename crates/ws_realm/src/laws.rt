@@ -7,4 +7,4 @@ pub use ws_readable_laws::{each_readable_is_lawful, each_readable_step, entered_
 pub use ws_writable_laws::{
     acted_was_heard, closes_were_heard, each_writable_is_lawful, each_writable_step,
 };
-pub use ws_write_laws::successful_writes_are_fulfilled;
+pub use ws_write_laws::each_write_is_settled;

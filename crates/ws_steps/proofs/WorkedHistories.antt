@@ -1,10 +1,10 @@
 -- The histories computed on short runs.
-use Rattle.std.proofs.Common.{◌≡◌, ℕ, List, [], ◌∷◌, ◌++◌, Some, None, refl, true}
+use Rattle.std.proofs.Common.{◌≡◌, ℕ, List, [], ◌∷◌, ◌++◌, map, Some, None, refl, true}
 use Rattle.ws_value.specs.declared.ids.HostId.{HostId}
 use Rattle.ws_value.specs.declared.ids.LockId.{LockId}
 use Rattle.ws_value.specs.declared.ids.StreamId.{StreamId}
-use Rattle.ws_value.specs.declared.value.Outcome.TheVariants.{Pending}
-use Rattle.ws_value.specs.declared.value.Plain.TheVariants.{Number}
+use Rattle.ws_value.specs.declared.value.Outcome.TheVariants.{Pending, Fulfilled, Rejected}
+use Rattle.ws_value.specs.declared.value.Plain.TheVariants.{Undefined, Number}
 use Rattle.ws_value.specs.declared.value.Value.{Value}
 use Rattle.ws_value.specs.declared.value.Value.TheVariants.{Plain as PlainValue}
 use Rattle.ws_steps.specs.declared.calls.Answer.TheVariants.{Ok, Fail}
@@ -13,10 +13,11 @@ use Rattle.ws_steps.specs.declared.calls.Event.TheVariants.{Host}
 use Rattle.ws_steps.specs.declared.calls.HostCall.TheVariants.{Pull, Cancel}
 use Rattle.ws_steps.specs.declared.calls.StartBy.TheVariants.{Now}
 use Rattle.ws_steps.specs.declared.readable.SizeBy.TheVariants.{Count}
+use Rattle.ws_steps.specs.declared.writable.WritableState.TheVariants.{Errored}
 use Rattle.ws_steps.specs.Promises.{outcome_at, fresh, settle, answer, react, release, after_next_job, watch}
 use Rattle.ws_steps.specs.Readable as readable
 use Rattle.ws_steps.specs.Writable as writable
-use Rattle.ws_steps.specs.Slots.{empty, call_host}
+use Rattle.ws_steps.specs.Slots.{empty, writable_at, call_host}
 use Rattle.ws_steps.specs.Turns.{row, turns, performed}
 use Rattle.ws_steps.specs.Jobs.{perform_job}
 use Rattle.ws_steps.specs.Calls.{begin}
@@ -68,6 +69,15 @@ write_that_fails = refl
 promises_of_writes : run_promised s0 writes empty ≡ record { 0 = 3 } ∷ record { 0 = 6 } ∷ []
 unfolding fresh settle react after_next_job watch writable.ensure_rejected writable.update_backpressure writable.refresh_backpressure writable.set_up writable.process_write writable.process_close writable.advance_queue writable.write_settled writable.start_settled writable.controller_write writable.writer_write writable.controller_close writable.stream_close writable.set_up_writer call_host row turns performed perform_job begin
 promises_of_writes = refl
+
+-- the first write ends well and the second fails, and so does the stream
+abbrev half_failed : List Entry
+half_failed = writes ++ Called (Settle (h 0) Ok) ∷ Worked ∷ Called (Settle (h 1) (Fail (Number 9))) ∷ Worked ∷ []
+
+outcomes_of_writes : ((writable_at s0 (run half_failed empty)).state ≡ Errored)
+    × (map (outcome_at (run half_failed empty).promises) (run_promised s0 half_failed empty) ≡ Some (Fulfilled Undefined) ∷ Some (Rejected (Number 9)) ∷ [])
+unfolding fresh settle react after_next_job watch writable.ensure_rejected writable.update_backpressure writable.refresh_backpressure writable.set_up writable.reject_close_and_closed writable.finish_erroring writable.start_erroring writable.deal_with_rejection writable.process_write writable.process_close writable.advance_queue writable.write_settled writable.start_settled writable.controller_write writable.writer_write writable.controller_close writable.stream_close writable.set_up_writer call_host row turns performed perform_job begin
+outcomes_of_writes = (refl, refl)
 
 -- the host takes an event, and another happens
 events_taken : run_events (Called (MakeReadable 2 Count Now) ∷ Worked ∷ Heard ∷ Called (GetReader s0) ∷ Called (CancelBy l0 (Number 5)) ∷ []) empty

@@ -1,10 +1,10 @@
 -- Laws over every run. What they say of a stream they say between steps: within one, effects are performed after the operation that
 -- caused them.
-use Rattle.std.specs.Prelude.{Bool, ◌≡◌, ◌+◌, ◌≤◌, ◌<◌, ◌≢◌, true, false, List, [], ◌++◌, length, All, Some}
+use Rattle.std.specs.Prelude.{Bool, ◌≡◌, ◌+◌, ◌≤◌, ◌<◌, ◌≢◌, true, false, List, [], ◌++◌, length, All, Option, None, Some}
 use Rattle.ws_value.specs.declared.ids.PromiseId.{PromiseId}
 use Rattle.ws_value.specs.declared.ids.StreamId.{StreamId}
 use Rattle.ws_value.specs.declared.value.Outcome.{Outcome}
-use Rattle.ws_value.specs.declared.value.Outcome.TheVariants.{Fulfilled}
+use Rattle.ws_value.specs.declared.value.Outcome.TheVariants.{Pending, Fulfilled, Given, Finished, Rejected}
 use Rattle.ws_value.specs.declared.value.Plain.TheVariants.{Undefined}
 use Rattle.ws_value.specs.declared.value.Value.{Value}
 use Rattle.ws_steps.specs.declared.calls.Call.{Call}
@@ -116,13 +116,27 @@ EachOutcomeStays =
 abbrev pub EachMarkStays : Type 0
 EachMarkStays = (s : Slots) (entries : List Entry) → s.promises.astray ≡ true → (run entries s).promises.astray ≡ true
 
+-- whether a promise with this outcome is rejected
+abbrev pub is_rejected : Option Outcome → Bool
+is_rejected None = false
+is_rejected (Some Pending) = false
+is_rejected (Some (Fulfilled v)) = false
+is_rejected (Some (Given v)) = false
+is_rejected (Some (Finished v)) = false
+is_rejected (Some (Rejected r)) = true
+
 -- these promises are fulfilled with undefined, but for those that the host let go of
 abbrev pub AllFulfilled : (PromiseId → Bool) → Table → List PromiseId → Type 0
 AllFulfilled gone t ps = All (λ p. gone p ≡ false → outcome_at t p ≡ Some (Fulfilled Undefined)) ps
 
+-- these promises are rejected, but for those that the host let go of
+abbrev pub AllRejected : (PromiseId → Bool) → Table → List PromiseId → Type 0
+AllRejected gone t ps = All (λ p. gone p ≡ false → is_rejected (outcome_at t p) ≡ true) ps
+
 -- The promises that writes answered, where these were appended. They are as many as the values that were written. As many of the first
--- as the history counts are fulfilled with undefined; and where the close algorithm was performed, all are
-pub record AreFulfilled (h : Writes) (promised : List PromiseId) (gone : PromiseId → Bool) (t : Table) : Type 0 where
+-- as the history counts are fulfilled with undefined, and where the close algorithm was performed, all are. Where the stream has ended,
+-- all others are rejected
+pub record AreSettled (h : Writes) (promised : List PromiseId) (gone : PromiseId → Bool) (s : writable.Slots) (t : Table) : Type 0 where
   pub answered : length promised ≡ length h.written
   pub first : List PromiseId
   pub rest : List PromiseId
@@ -130,12 +144,13 @@ pub record AreFulfilled (h : Writes) (promised : List PromiseId) (gone : Promise
   pub counted : length first ≡ h.fulfilled
   pub fulfilled : AllFulfilled gone t first
   pub whole : 0 < h.closes → AllFulfilled gone t promised
+  pub ended : writable.has_ended s.state ≡ true → AllRejected gone t rest
 
 -- in every run, of each writable stream
-abbrev pub SuccessfulWritesAreFulfilled : Type 0
-SuccessfulWritesAreFulfilled =
+abbrev pub EachWriteIsSettled : Type 0
+EachWriteIsSettled =
     (entries : List Entry) (i : StreamId)
-    → AreFulfilled (run_writes i entries empty) (run_promised i entries empty) (λ p. is_forgotten p entries) (run entries empty).promises
+    → AreSettled (run_writes i entries empty) (run_promised i entries empty) (λ p. is_forgotten p entries) (writable_at i (run entries empty)) (run entries empty).promises
 
 -- performed one after another, effects come to an end, and to no other than that of `performed`
 abbrev pub EffectsEndOnce : Type 0

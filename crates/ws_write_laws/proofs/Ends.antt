@@ -1,5 +1,5 @@
 -- A write that ended well fulfilled its promise.
-use Rattle.std.proofs.Common.{◌≡◌, Bool, ℕ, zero, suc, ◌+◌, true, false, List, [], ◌∷◌, ◌++◌, Option, Some, None, Ok, refl, sym, ap, ◌∙◌, arith, append_assoc, length-append}
+use Rattle.std.proofs.Common.{◌≡◌, Bool, zero, suc, ◌+◌, true, false, List, [], ◌∷◌, ◌++◌, Option, Some, None, Ok, refl, sym, ap, ◌∙◌, arith, append_assoc, length-append}
 use Rattle.std.proofs.lemmas.List.Elements.{All-append}
 use Rattle.ws_value.specs.declared.ids.PromiseId.{PromiseId}
 use Rattle.ws_value.specs.declared.ids.StreamId.{StreamId}
@@ -14,19 +14,10 @@ use Rattle.ws_steps.specs.Laws.{AllFulfilled}
 use Rattle.ws_laws.proofs.Outcomes.{Keeps, keeps-then}
 use Rattle.ws_laws.proofs.Stays.{other, other_same}
 use Rattle.ws_laws.proofs.WritableApart.{refresh-apart, advance-apart}
-use Rattle.ws_promise_laws.proofs.Tokens.{Token, PromiseToken, names_any}
-use Rattle.ws_promise_laws.proofs.Holds.{named, open_when}
 use Rattle.ws_promise_laws.proofs.Settling.{settled-outcome}
-use Rattle.ws_promise_laws.proofs.Streams.{Writes as Sound}
-use Rattle.ws_write_laws.proofs.Operations.{line, EndsFirst}
-use Rattle.ws_write_laws.proofs.Lined.{Lined, all_keep}
-
--- the promise of the write in flight is open
-pub flying-open : (me : StreamId) (f l : Token → ℕ) (a : Acts) (p : PromiseId) → a.slots.write_in_flight ≡ Some p → Sound me f l a → is_open p a.out.promises ≡ true
-flying-open me f l a p e k =
-    let h = k.holds.once (PromiseToken p) in
-    let one : names_any (PromiseToken p) a.slots.write_in_flight ≡ 1 = rw e (named p) in
-    open_when (is_open p a.out.promises) (omega arith)
+use Rattle.ws_write_laws.proofs.Operations.{line, flying_first, EndsFirst}
+use Rattle.ws_write_laws.proofs.Rejecting.{EachRejected}
+use Rattle.ws_write_laws.proofs.Lined.{Lined, all_keep, rejected_all}
 
 ended_keeps : (me : StreamId) (b : Acts) → Keeps b.out.promises (advance_queue me (refresh_backpressure b)).out.promises
 ended_keeps me b =
@@ -47,14 +38,12 @@ all_one gone t p h (suc k) d n g = absurd (omega arith)
 later_in_line : (p : PromiseId) (xs ys : List PromiseId) → ◌≡◌ {A = List PromiseId} (p ∷ xs) (p ∷ ys) → xs ≡ ys
 later_in_line p xs ys e = cc
 
-flying_first : (w : Slots) (p : PromiseId) → w.write_in_flight ≡ Some p → line w ≡ p ∷ w.write_requests
-flying_first w p e = rw e refl
-
--- the first of the line is fulfilled
+-- the first of the line is fulfilled, and where the stream ends with that, the others are rejected
 pub lined-ended : (gone : PromiseId → Bool) (h : Writes) (q : List PromiseId) (p : PromiseId) (old new : Option Stream) (t z : Table) → EndsFirst p (as_writable old) (as_writable new) → (new ≡ None → old ≡ None)
-    → has_ended (as_writable old).state ≡ false → (as_writable old).write_in_flight ≡ Some p → Keeps t z → outcome_at z p ≡ Some (Fulfilled Undefined) → Lined gone h q old t
+    → has_ended (as_writable old).state ≡ false → (as_writable old).write_in_flight ≡ Some p → Keeps t z → outcome_at z p ≡ Some (Fulfilled Undefined)
+    → (has_ended (as_writable new).state ≡ true → EachRejected z (as_writable old).write_requests) → Lined gone h q old t
     → Lined gone (record h { fulfilled = h.fulfilled + 1 }) q new z
-lined-ended gone h q p old new t z ends n alive flies keeps done l =
+lined-ended gone h q p old new t z ends n alive flies keeps done failed l =
     let w : Slots = as_writable old in
     let rest : l.rest ≡ p ∷ w.write_requests = l.alive alive ∙ flying_first w p flies in
     record {
@@ -67,4 +56,5 @@ lined-ended gone h q p old new t z ends n alive flies keeps done l =
       alive = λ e. later_in_line p w.write_requests (line (as_writable new)) (sym (flying_first w p flies) ∙ sym (ends.alive e));
       spent = ends.spent;
       unmade = λ e. rw (n e) refl;
+      ended = λ e. rejected_all gone z w.write_requests w.write_requests refl (failed e);
     }

@@ -34,6 +34,9 @@ flight (Some p) = p ∷ []
 abbrev pub line : Slots → List PromiseId
 line w = flight w.write_in_flight ++ w.write_requests
 
+pub flying_first : (w : Slots) (p : PromiseId) → w.write_in_flight ≡ Some p → line w ≡ p ∷ w.write_requests
+flying_first w p e = rw e refl
+
 -- no write of a stream that has ended is in flight
 abbrev pub Spent : Slots → Type 0
 Spent w = has_ended w.state ≡ true → is_some w.write_in_flight ≡ false
@@ -60,12 +63,12 @@ line-then a b c f g = record {
 }
 
 -- the slots that matter here
-record Kept : Type 0 where
+pub record Kept : Type 0 where
   pub state : WritableState
   pub flying : Option PromiseId
   pub requests : List PromiseId
 
-abbrev kept : Slots → Kept
+abbrev pub kept : Slots → Kept
 kept s = record { state = s.state; flying = s.write_in_flight; requests = s.write_requests }
 
 pub kept-line : (a b : Slots) → kept b ≡ kept a → KeepsLine a b
@@ -94,11 +97,11 @@ ready_for-kept b a None = refl
 ready_for-kept b a (Some w) =
     either (λ (z : Acts). kept z.slots ≡ kept a.slots) (differs b a.slots.backpressure) (change_ready w a b) a (λ e. change_ready-kept w a b) (λ e. refl)
 
-update_backpressure-kept : (b : Bool) (a : Acts) → kept (update_backpressure b a).slots ≡ kept a.slots
+pub update_backpressure-kept : (b : Bool) (a : Acts) → kept (update_backpressure b a).slots ≡ kept a.slots
 unfolding update_backpressure
 update_backpressure-kept b a = ready_for-kept b a a.slots.writer
 
-refresh_backpressure-kept : (a : Acts) → kept (refresh_backpressure a).slots ≡ kept a.slots
+pub refresh_backpressure-kept : (a : Acts) → kept (refresh_backpressure a).slots ≡ kept a.slots
 unfolding refresh_backpressure
 refresh_backpressure-kept a =
     either (λ (z : Acts). kept z.slots ≡ kept a.slots) (not (is_closing a.slots) && is_writable a.slots.state) (update_backpressure (has_backpressure a.slots) a) a
@@ -160,11 +163,11 @@ finish_erroring-line me a idle = over-line a.slots (finish_erroring me a).slots 
 
 -- the stream starts to be erroring
 
-reject_ready-kept : (r : Plain) (a : Acts) (w : Option Writer) → kept (reject_ready r a w).slots ≡ kept a.slots
+pub reject_ready-kept : (r : Plain) (a : Acts) (w : Option Writer) → kept (reject_ready r a w).slots ≡ kept a.slots
 reject_ready-kept r a None = refl
 reject_ready-kept r a (Some w) = refl
 
-none_written : (w c s : Bool) → not (w || c) && s ≡ true → w ≡ false
+pub none_written : (w c s : Bool) → not (w || c) && s ≡ true → w ≡ false
 none_written true c s e = cc
 none_written false c s e = refl
 
@@ -323,7 +326,7 @@ writer_write-appends me v a h = write_by-appends me v a (write_refusal a.slots) 
 
 -- a close
 
-fulfil_ready-kept : (a : Acts) (w : Option Writer) → kept (fulfil_ready a w).slots ≡ kept a.slots
+pub fulfil_ready-kept : (a : Acts) (w : Option Writer) → kept (fulfil_ready a w).slots ≡ kept a.slots
 fulfil_ready-kept a None = refl
 fulfil_ready-kept a (Some w) =
     either (λ (z : Acts). kept z.slots ≡ kept a.slots) (a.slots.backpressure && is_writable a.slots.state) (with_promises (settle w.ready (Ok Undefined) a.out.promises) a) a (λ e. refl) (λ e. refl)

@@ -1,9 +1,9 @@
 //! Laws over every run of a realm: the promises of writes, in every list of calls, jobs, takings of events and lettings go of promises, performed one after another from the empty realm.
 #![tactic(auto)]
 
-ghost use Rattle.ws_steps.specs.Laws.{SuccessfulWritesAreFulfilled};
+ghost use Rattle.ws_steps.specs.Laws.{EachWriteIsSettled};
 
-/// In every run, of each writable stream: the promises that writes answered, where these were appended to its queue, are as many as the values that were written. The first of them, as many as writes ended well, are fulfilled with undefined; and where the close algorithm was performed, all are; but for those that the host let go of. Of the promises of writes that failed it says nothing.
-pub fn successful_writes_are_fulfilled()
-    ensures { SuccessfulWritesAreFulfilled }
+/// In every run, of each writable stream: the promises that writes answered, where these were appended to its queue, are as many as the values that were written. The first of them, as many as writes ended well, are fulfilled with undefined, and where the close algorithm was performed, all are; and where the stream has ended, all others are rejected; but for those that the host let go of.
+pub fn each_write_is_settled()
+    ensures { EachWriteIsSettled }
 {}
