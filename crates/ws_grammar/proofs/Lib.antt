@@ -1,4 +1,5 @@
 mod NumberLemmas
 mod CallLemmas
 mod LineLemmas
+mod FewLines
 mod Examples

@@ -1,5 +1,5 @@
 //! The lines of a script.
-ghost use Rattle.std.specs.Prelude.{◌≡◌, ◌<◌, ◌≤◌, ◌↔◌, ◌++◌, ℕ, List, length, option_map, IfOk, IfErr, OnOk, IsOkUnless, IsErrAnd, ◌⊎◌};
+ghost use Rattle.std.specs.Prelude.{◌≡◌, ◌+◌, ◌<◌, ◌≤◌, ◌↔◌, ◌++◌, ℕ, List, length, option_map, IfOk, IfErr, OnOk, IsOkUnless, IsErrAnd, ◌⊎◌};
 ghost use Rattle.ws_grammar.specs.declared.line.Line.{Line};
 ghost use Rattle.ws_grammar.specs.declared.refused.ScriptRefused.TheVariants.{BadLine, TooLong, NoMemory};
 ghost use Rattle.ws_grammar.specs.Lines.{lines, most_bytes, is_comment, added_by};
@@ -65,6 +65,7 @@ fn read_lines(alloc: Global, text: &[u8]) -> Result<Vec<Line>, ScriptRefused>
 /// dropped, and empty lines and lines that begin with `#` are passed over, but counted.
 pub fn read_script(alloc: Global, text: &[u8]) -> Result<Vec<Line>, ScriptRefused>
     ensures read { IfOk result (λ found. (length text.now ≤ most_bytes) × (lines text.now ≡ Ok found.items)) }
+    ensures few { IfOk result (λ found. length found.items ≤ length text.now + 1) }
     ensures bad_line { (n : ℕ) → result ≡ Err (BadLine n) → (length text.now ≤ most_bytes) × (lines text.now ≡ Err n) }
     ensures too_long { (result ≡ Err TooLong) ↔ (most_bytes < length text.now) }
     // What is in the grammar and short enough is read, unless memory runs out.

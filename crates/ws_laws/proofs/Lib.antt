@@ -12,3 +12,4 @@ pub mod WritableApart
 pub mod EachCall
 pub mod Stays
 pub mod Throws
+pub mod Ages

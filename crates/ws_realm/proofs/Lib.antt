@@ -1,3 +1,2 @@
-pub mod Ages
 pub mod Performing
-mod Working
+pub mod Working

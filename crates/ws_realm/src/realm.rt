@@ -1,5 +1,5 @@
 //! A realm.
-ghost use Rattle.std.specs.Prelude.{◌≡◌, ◌<◌, ◌≢◌, ◌↔◌, true, false, not, length, option_map, IfOk, OnOk, IfErr, OnErr, Ok, Err, Some, None, IsErrAnd, if◌then◌else◌};
+ghost use Rattle.std.specs.Prelude.{◌≡◌, ◌+◌, ◌<◌, ◌≤◌, ◌≢◌, ◌↔◌, true, false, not, length, option_map, IfOk, OnOk, IfErr, OnErr, Ok, Err, Some, None, IsErrAnd, if◌then◌else◌};
 ghost use Rattle.ws_steps.specs.Promises as table;
 ghost use Rattle.ws_steps.specs.declared.calls.Reply.TheVariants as reply;
 ghost use Rattle.ws_steps.specs.declared.calls.Thrown.{Thrown};
@@ -144,6 +144,7 @@ impl Realm {
         ensures slots { OnOk result (self.new.slots ≡ run.work most self.old.slots) }
         ensures ready { OnOk result (self.new.wanting ≡ self.old.wanting) }
         ensures spent { result ≡ Err why.Spent → self.new.slots.age ≡ oldest }
+        ensures early { self.old.slots.age + most ≤ oldest → result ≢ Err why.Spent }
         ensures wanting { result ≡ Err why.NoMemory → self.new.wanting ≡ true }
         ensures still { self.old.wanting ≡ true → self.new ≡ self.old }
     {

@@ -1,6 +1,9 @@
 //! The tasks of a script's lines, and the writing of what they print.
-ghost use Rattle.std.specs.Prelude.{◌≡◌, ◌++◌, [], IfOk, OnOk, IfErr};
+ghost use Rattle.std.specs.Prelude.{◌≡◌, ◌≢◌, ◌+◌, ◌<◌, ◌≤◌, ◌++◌, [], length, IfOk, OnOk, IfErr};
 ghost use Rattle.ws_steps.specs.Run.{heard};
+ghost use Rattle.ws_realm.specs.Seen.{oldest};
+ghost use Rattle.ws_realm.specs.declared.realm.Why.TheVariants.{Spent};
+ghost use Rattle.ws_grammar.specs.Lines.{most_bytes};
 ghost use Rattle.ws_script.specs.Printed.{after_line, line_text, script_text};
 ghost use Rattle.ws_script.specs.Printing.{PrintsOn, StopsPrinting, Performs};
 
@@ -9,23 +12,35 @@ use std::alloc::Global;
 use std::collections::VecDeque;
 use ws_grammar::Line;
 use ws_io::{Failed, Sink, Status, write_whole};
-use ws_realm::Realm;
+use ws_realm::{Realm, Why};
 use ws_value::{Blob, NoMemory};
 
 /// How much text waits before it is written.
 const FULL: usize = 65_536;
 
-/// Performs the task of a line: the answer is what it prints.
+/// Why a realm that isn't spent performs nothing.
+fn want_of_memory(why: Why) -> NoMemory
+    requires { why ≢ Spent }
+{
+    match why {
+        Why::NoMemory => NoMemory,
+        Why::Spent => unreachable!(),
+    }
+}
+
+/// Performs the task of a line, for which the realm has room: the answer is what it prints.
 fn perform_line(alloc: Global, realm: &mut Realm, line: Line) -> Result<Blob, NoMemory>
+    requires { realm.old.slots.age + line.jobs < oldest }
     ensures text { IfOk result (λ text. text ≡ line_text line realm.old.slots) }
     ensures slots { OnOk result (realm.new.slots ≡ heard (after_line line realm.old.slots)) }
 {
     let Line { number, jobs, call } = line;
-    let Ok(reply) = realm.call(call) else {
-        return Err(NoMemory);
+    let reply = match realm.call(call) {
+        Ok(reply) => reply,
+        Err(refused) => return Err(want_of_memory(refused.why)),
     };
-    if realm.work(jobs).is_err() {
-        return Err(NoMemory);
+    if let Err(why) = realm.work(jobs) {
+        return Err(want_of_memory(why));
     }
     print_step(alloc, number, &reply, realm)
 }
@@ -72,6 +87,7 @@ fn print_line<K: Sink>(
     text: &mut Vec<u8>,
     output: &mut K,
 ) -> Result<(), Status>
+    requires { realm.old.slots.age + line.jobs < oldest }
     ensures ok { OnOk result (PrintsOn
         (record { faults = K.faults output.old; finished = K.finished output.old })
         (record { faults = K.faults output.new; finished = K.finished output.new })
@@ -96,6 +112,7 @@ fn print_line<K: Sink>(
 
 /// Performs the lines in a new realm, and writes what they print.
 fn print_lines<K: Sink>(alloc: Global, lines: Vec<Line>, output: &mut K) -> Result<(), Status>
+    requires { length lines.items ≤ most_bytes + 1 }
     ensures ok { OnOk result (PrintsOn
         (record { faults = K.faults output.old; finished = K.finished output.old })
         (record { faults = K.faults output.new; finished = K.finished output.new })
@@ -118,6 +135,7 @@ fn print_lines<K: Sink>(alloc: Global, lines: Vec<Line>, output: &mut K) -> Resu
 
 /// Performs the lines of a script, writes what they print, and finishes the output.
 pub(crate) fn perform<K: Sink>(alloc: Global, lines: Vec<Line>, output: &mut K) -> Status
+    requires { length lines.items ≤ most_bytes + 1 }
     ensures { Performs result (script_text lines.items)
         (record { faults = K.faults output.old; finished = K.finished output.old })
         (record { faults = K.faults output.new; finished = K.finished output.new })

@@ -17,7 +17,7 @@ use Rattle.ws_steps.specs.Readable as readable
 use Rattle.ws_steps.specs.Writable as writable
 use Rattle.ws_steps.specs.Slots.{Slots, Done, empty, readable_at, writable_at}
 use Rattle.ws_steps.specs.Turns.{LeadsTo, performed}
-use Rattle.ws_steps.specs.Run.{Entry, step, run, is_forgotten, reply_to, after_call, older}
+use Rattle.ws_steps.specs.Run.{Entry, step, run, is_forgotten, performed_in, reply_to, after_call, older}
 use Rattle.ws_steps.specs.Histories.{Flow, Writes, values, todo, step_flow, run_flow, step_writes, run_writes, run_promised, accepted, run_events, heard_writes, heard_closes}
 
 -- a first part, which may be all
@@ -155,3 +155,7 @@ EachWriteIsSettled =
 -- performed one after another, effects come to an end, and to no other than that of `performed`
 abbrev pub EffectsEndOnce : Type 0
 EffectsEndOnce = (d : Done) → LeadsTo d (performed d) × ((z : Slots) → LeadsTo d z → z ≡ performed d)
+
+-- over any run from any slots, the age grows by one with each call and each job, and by nothing else
+abbrev pub EachAgeCounts : Type 0
+EachAgeCounts = (s : Slots) (entries : List Entry) → (run entries s).age ≡ s.age + performed_in entries

@@ -71,6 +71,13 @@ abbrev pub is_forgotten : PromiseId → List Entry → Bool
 is_forgotten p [] = false
 is_forgotten p (x ∷ xs) = lets_go p x || is_forgotten p xs
 
+-- how many calls and jobs a run performs
+abbrev pub performed_in : List Entry → ℕ
+performed_in [] = 0
+performed_in (Called c ∷ entries) = 1 + performed_in entries
+performed_in (Worked ∷ entries) = 1 + performed_in entries
+performed_in (_ ∷ entries) = performed_in entries
+
 abbrev pub is_idle : Slots → Bool
 is_idle s = is_empty s.promises.jobs
 

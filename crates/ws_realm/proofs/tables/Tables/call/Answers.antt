@@ -1,6 +1,6 @@
 use Rattle.std.proofs.Common.{◌≡◌, ◌∙◌, ◌+◌, ℕ, ap, arith}
 use Rattle.ws_steps.specs.Slots.{Slots}
-use Rattle.ws_realm.proofs.Ages.{performed-age, begin-age, named-age}
+use Rattle.ws_laws.proofs.Ages.{performed-age, begin-age, named-age}
 use Rattle.ws_realm.proofs.tables.Tables.call.Goals as goal
 
 pub overflow_add-self : goal.overflow_add-self

@@ -2,7 +2,8 @@ use Rattle.std.proofs.Common.{◌≡◌, ◌∙◌, ap, sym, arith}
 use Rattle.ws_steps.specs.Promises.{Table}
 use Rattle.ws_steps.specs.Slots.{Slots}
 use Rattle.ws_realm.specs.View.{slots_of}
-use Rattle.ws_realm.proofs.Ages.{job-age, idle}
+use Rattle.ws_laws.proofs.Ages.{job-age}
+use Rattle.ws_realm.proofs.Working.{idle}
 use Rattle.ws_realm.proofs.tables.Tables.job.Goals as goal
 
 pub overflow_add-self : goal.overflow_add-self
