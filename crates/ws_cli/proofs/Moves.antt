@@ -29,7 +29,7 @@ use Rattle.ws_steps.specs.declared.promises.Reaction.TheVariants.{Perform}
 use Rattle.ws_steps.specs.declared.promises.Job.{Job}
 use Rattle.ws_steps.specs.declared.promises.Job.TheVariants.{Reaction as ReactionJob}
 use Rattle.ws_steps.specs.declared.readable.ReadRequest.TheVariants.{Promise}
-use Rattle.ws_steps.specs.Promises.{Table, Entry, pending, ended, ended_as, settled, entry_at, with_entry, next_id, fresh, settle, answer, react, watch, after_next_job, live, is_pending, is_open_entry, release}
+use Rattle.ws_steps.specs.Promises.{Table, Entry, pending, ended, ended_as, settled, entry_at, with_entry, next_id, fresh, settle, answer, react, watch, after_next_job, live, is_pending, is_open_entry, let_go}
 use Rattle.ws_steps.specs.declared.readable.ReadableState.TheVariants.{Closed, Errored}
 use Rattle.ws_steps.specs.Readable.{Slots as Readable, default_reader_read, pull_steps, call_pull_if_needed, controller_enqueue, accept, chunk_steps, controller_close, close_if_empty, stream_close, close_steps, controller_error, stream_error, error_steps, initialized, set_up, start_settled, reader_generic_initialize, pull_settled}
 use Rattle.ws_steps.specs.declared.locks.Lock.{Lock}
@@ -433,9 +433,9 @@ opened-rests m =
 
 -- the read's promise is let go of
 
-release-ended : (t : Table) (p : PromiseId) (o : Outcome) (e : Entry) → is_pending o ≡ false → entry_at t p ≡ Some (ended_as o e) → release p t ≡ with_entry p None t
-unfolding release
-release-ended t p o e over h = rw (h, over) refl
+let_go-ended : (t : Table) (p : PromiseId) (o : Outcome) (n : ℕ) → is_pending o ≡ false → entry_at t p ≡ Some (ended_as o (record pending { rank = Some n })) → let_go p t ≡ with_entry p None t
+unfolding let_go
+let_go-ended t p o n over h = rw (h, over) refl
 
 pending_apart : (t : Table) (p q : PromiseId) (o : Outcome) (e : Entry) → is_pending o ≡ false → entry_at t p ≡ Some (ended_as o e) → entry_at t q ≡ Some pending → p.0 ≢ q.0
 pending_apart t p q o e over h g same =
@@ -447,7 +447,7 @@ pending_apart t p q o e over h g same =
 pub forgotten-rests : (s : Slots) (p : PromiseId) (o : Outcome) → is_pending o ≡ false → HasEnded s p o → IsResting s → IsResting (after_forgetting p s)
 forgotten-rests s p o over h r =
     let e : Entry = record pending { rank = Some h.rank } in
-    let gone : after_forgetting p s ≡ record s { promises = with_entry p None s.promises } = ap (λ (t : Table). record s { promises = t }) (release-ended s.promises p o e over h.entry) in
+    let gone : after_forgetting p s ≡ record s { promises = with_entry p None s.promises } = ap (λ (t : Table). record s { promises = t }) (let_go-ended s.promises p o h.rank over h.entry) in
     rw gone
     (record {
       disturbed = r.disturbed;

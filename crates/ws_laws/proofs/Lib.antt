@@ -4,7 +4,7 @@ pub mod Lists
 pub mod Outcomes
 pub mod Weights
 pub mod Outstanding
-pub mod Releasing
+pub mod LettingGo
 pub mod Later
 pub mod Apart
 pub mod ReadableApart
@@ -13,3 +13,4 @@ pub mod EachCall
 pub mod Stays
 pub mod Throws
 pub mod Ages
+pub mod Works

@@ -1,5 +1,5 @@
 -- A promise that has settled keeps its outcome, over every run in which the host doesn't let go of it.
-use Rattle.std.proofs.Common.{◌≡◌, ◌∙◌, suc, true, false, List, [], ◌∷◌, ◌++◌, length, Option, Some, None, Result, Ok, Err, arith}
+use Rattle.std.proofs.Common.{◌≡◌, ◌∙◌, ℕ, suc, nat_eq, Bool, true, false, ◌&&◌, List, [], ◌∷◌, ◌++◌, length, Option, Some, None, Result, Ok, Err, refl, sym, ap, arith}
 use Rattle.ws_value.specs.declared.ids.PromiseId.{PromiseId}
 use Rattle.ws_value.specs.declared.ids.StreamId.{StreamId}
 use Rattle.ws_value.specs.declared.value.Outcome.{Outcome}
@@ -23,7 +23,7 @@ use Rattle.ws_steps.specs.declared.promises.Reaction.TheVariants.{Perform}
 use Rattle.ws_steps.specs.declared.promises.Step.{Step as JobStep}
 use Rattle.ws_steps.specs.declared.promises.Step.TheVariants.{ReadableStart, ReadablePull, ReturnUndefined, WritableStart, WritableWrite, WritableClose, WritableAbort}
 use Rattle.ws_steps.specs.declared.readable.ReadRequest.TheVariants.{Promise as PromiseRequest}
-use Rattle.ws_steps.specs.Promises.{Table, is_pending, outcome_at, next_id, fresh, settle, react, follow, fresh_settled, next_job, after_next_job, watch, all_told}
+use Rattle.ws_steps.specs.Promises.{Table, is_pending, outcome_at, may_go, let_go, next_id, fresh, settle, react, follow, fresh_settled, next_job, after_next_job, watch, all_told}
 use Rattle.ws_steps.specs.Readable as readable
 use Rattle.ws_steps.specs.Writable as writable
 use Rattle.ws_steps.specs.Slots.{Slots, Done, nothing, on_readable, on_writable, has_readable, has_writable, readable_at, writable_at, ReadableStream, WritableStream, signalled, call_host}
@@ -35,10 +35,10 @@ use Rattle.ws_steps.specs.Run.{Entry, Called, Worked, Heard, Forgot, step, lets_
 use Rattle.ws_steps.specs.Histories.{is_same}
 use Rattle.ws_steps.specs.Laws.{EachOutcomeStays, EachMarkStays}
 use Rattle.ws_steps.proofs.TurnLaws.{performed-none, performed-next}
-use Rattle.ws_laws.proofs.Tables.{either, readable_acts, writable_acts, row-caused}
+use Rattle.ws_laws.proofs.Tables.{either, eq_numbers, readable_acts, writable_acts, row-caused}
 use Rattle.ws_laws.proofs.Outcomes.{Keeps, keeps-same, keeps-then, keeps-fresh, keeps-settle, keeps-fresh_settled, keeps-react, keeps-follow, keeps-next, keeps-watch, keeps-told}
 use Rattle.ws_laws.proofs.Truth.{nor_left, nor_right}
-use Rattle.ws_laws.proofs.Releasing.{release-outcome, release-mark}
+use Rattle.ws_laws.proofs.LettingGo.{let_go-kept, let_go-outcome, let_go-mark}
 use Rattle.ws_laws.proofs.EachCall.{Operations, each_write, each_call}
 use Rattle.ws_laws.proofs.ReadableApart as readable_apart
 use Rattle.ws_laws.proofs.WritableApart as writable_apart
@@ -217,25 +217,31 @@ finished-keeps c s =
 called_keeps : (c : Call) (s : Slots) → Keeps s.promises (step s (Called c)).promises
 called_keeps c s = keeps-then s.promises (begin c s).done.slots.promises (step s (Called c)).promises (begun-keeps c s) (finished-keeps c s)
 
+forgotten_keeps : (p q : PromiseId) (t : Table) (same : Bool) → same ≡ nat_eq p.0 q.0 → same && may_go p t ≡ false → outcome_at (let_go q t) p ≡ outcome_at t p
+forgotten_keeps p q t false e g = let_go-outcome p q t (sym e)
+forgotten_keeps p q t true e g =
+    let is : p ≡ q = ap (λ (n : ℕ). record { 0 = n }) (eq_numbers p.0 q.0 (sym e)) in
+    ap (λ (z : Table). outcome_at z p) (let_go-kept q t (rw is at g))
+
 -- a promise that the host doesn't let go of
-entry_keeps : (x : Entry) (s : Slots) (p : PromiseId) (o : Outcome) → is_pending o ≡ false → lets_go p x ≡ false → outcome_at s.promises p ≡ Some o → outcome_at (step s x).promises p ≡ Some o
+entry_keeps : (x : Entry) (s : Slots) (p : PromiseId) (o : Outcome) → is_pending o ≡ false → lets_go p s x ≡ false → outcome_at s.promises p ≡ Some o → outcome_at (step s x).promises p ≡ Some o
 entry_keeps (Called c) s p o n g h = (called_keeps c s).outcome p o n h
 entry_keeps Worked s p o n g h = (taken_keeps (next_job s.promises) s).outcome p o n h
 entry_keeps Heard s p o n g h = h
-entry_keeps (Forgot q) s p o n g h = release-outcome p q s.promises g ∙ h
+entry_keeps (Forgot q) s p o n g h = forgotten_keeps p q s.promises (nat_eq p.0 q.0) refl g ∙ h
 
 pub each_outcome_stays : EachOutcomeStays
 each_outcome_stays s [] p o n g h = h
 each_outcome_stays s (x ∷ xs) p o n g h =
-    let here : lets_go p x ≡ false = nor_left (lets_go p x) (is_forgotten p xs) g in
-    let later : is_forgotten p xs ≡ false = nor_right (lets_go p x) (is_forgotten p xs) g in
+    let here : lets_go p s x ≡ false = nor_left (lets_go p s x) (is_forgotten p xs (step s x)) g in
+    let later : is_forgotten p xs (step s x) ≡ false = nor_right (lets_go p s x) (is_forgotten p xs (step s x)) g in
     each_outcome_stays (step s x) xs p o n later (entry_keeps x s p o n here h)
 
 mark_stays : (x : Entry) (s : Slots) → s.promises.astray ≡ true → (step s x).promises.astray ≡ true
 mark_stays (Called c) s m = (called_keeps c s).mark m
 mark_stays Worked s m = (taken_keeps (next_job s.promises) s).mark m
 mark_stays Heard s m = m
-mark_stays (Forgot q) s m = release-mark q s.promises ∙ m
+mark_stays (Forgot q) s m = let_go-mark q s.promises ∙ m
 
 pub each_mark_stays : EachMarkStays
 each_mark_stays s [] m = m

@@ -5,6 +5,8 @@ use Rattle.ws_value.specs.declared.ids.StreamId.{StreamId}
 use Rattle.ws_value.specs.declared.value.Plain.{Plain}
 use Rattle.ws_steps.specs.declared.effects.Effect.{Effect}
 use Rattle.ws_steps.specs.declared.effects.Effect.TheVariants.{Start, Pull, Cancel, StartWritable, Write, Close, Abort}
+use Rattle.ws_steps.specs.declared.calls.Reply.{Reply}
+use Rattle.ws_steps.specs.declared.calls.Reply.TheVariants.{Done as ReplyDone, Made, Lock as ReplyLock, Promise, Size, State as StateReply, Throws, TooMany}
 use Rattle.ws_steps.specs.declared.calls.StartBy.{StartBy}
 use Rattle.ws_steps.specs.declared.calls.StartBy.TheVariants.{Now, Later}
 use Rattle.ws_steps.specs.declared.promises.Step.{Step}
@@ -15,6 +17,7 @@ use Rattle.ws_steps.specs.Turns.{row, performed, started}
 use Rattle.ws_steps.specs.Histories.{is_same}
 use Rattle.ws_steps.proofs.TurnLaws.{performed-none, performed-next}
 use Rattle.ws_steps.specs.Jobs.{resolve_derived}
+use Rattle.ws_steps.specs.Calls.{named}
 
 -- whichever branch is taken
 pub either : {A : Type 0} (P : A → Type 0) (c : Bool) (x y : A) → (c ≡ true → P x) → (c ≡ false → P y) → P (if c then x else y)
@@ -199,3 +202,14 @@ performed-streams d = performed-streams_from d.caused d.slots
 pub derived-streams : (derived : Option PromiseId) (o : Result Plain Plain) (s : Slots) → (resolve_derived derived o s).streams ≡ s.streams
 derived-streams None o s = refl
 derived-streams (Some p) o s = refl
+
+-- and so does the watching of what a call answers
+pub named-streams : (reply : Reply) (s : Slots) → (named reply s).streams ≡ s.streams
+named-streams ReplyDone s = refl
+named-streams (Made i) s = refl
+named-streams (ReplyLock l) s = refl
+named-streams (Promise p) s = refl
+named-streams (Size n) s = refl
+named-streams (StateReply x) s = refl
+named-streams (Throws t) s = refl
+named-streams TooMany s = refl

@@ -1,8 +1,8 @@
 -- A promise is let go of: it had settled, and stands nowhere.
 use Rattle.std.proofs.Common.{◌≡◌, ℕ, Bool, true, false, not, nat_eq, if◌then◌else◌, Option, Some, None, refl, sym, ap, ◌∙◌, arith}
 use Rattle.ws_value.specs.declared.ids.PromiseId.{PromiseId}
-use Rattle.ws_steps.specs.Promises.{is_following_entry, Entry, Table, live, entry_at, with_entry, is_pending, is_open_entry, release}
-use Rattle.ws_laws.proofs.Releasing.{release-either, weigh-release}
+use Rattle.ws_steps.specs.Promises.{is_following_entry, Entry, Table, live, entry_at, with_entry, is_pending, is_open_entry, let_go}
+use Rattle.ws_laws.proofs.LettingGo.{let_go-either, weigh-let_go}
 use Rattle.ws_promise_laws.proofs.Places.{place_at, is_over, place-there, place-same, place-other}
 use Rattle.ws_promise_laws.proofs.Tokens.{Token, in_reaction, adopts}
 use Rattle.ws_promise_laws.proofs.Holds.{Holds, eq_promises, other_number, Alike, alike-same, holds-alike}
@@ -26,11 +26,11 @@ emptied_alike q t e h n = record {
   straight = refl;
 }
 
-release_alike : (q : PromiseId) (t : Table) → Alike t (release q t)
-release_alike q t = release-either (Alike t) q t (alike-same t t refl refl) (λ e h n. emptied_alike q t e h n)
+let_go_alike : (q : PromiseId) (t : Table) → Alike t (let_go q t)
+let_go_alike q t = let_go-either (Alike t) q t (alike-same t t refl refl) (λ e h n. emptied_alike q t e h n)
 
-pub holds-release : (f l : Token → ℕ) (q : PromiseId) (t : Table) → Holds f l t → Holds f l (release q t)
-holds-release f l q t k =
-    holds-alike f l f t (release q t) k (release_alike q t)
-    (λ x. let w = weigh-release (in_reaction x) q t in omega arith)
-    (λ p. weigh-release (adopts p) q t)
+pub holds-let_go : (f l : Token → ℕ) (q : PromiseId) (t : Table) → Holds f l t → Holds f l (let_go q t)
+holds-let_go f l q t k =
+    holds-alike f l f t (let_go q t) k (let_go_alike q t)
+    (λ x. let w = weigh-let_go (in_reaction x) q t in omega arith)
+    (λ p. weigh-let_go (adopts p) q t)

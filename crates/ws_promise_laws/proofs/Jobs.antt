@@ -1,5 +1,5 @@
 -- Each job settles open promises alone.
-use Rattle.std.proofs.Common.{◌≡◌, ℕ, ◌+◌, ◌≤◌, Bool, true, false, is_some, Option, Some, None, Result, refl, sym, ap, arith}
+use Rattle.std.proofs.Common.{◌≡◌, ℕ, ◌+◌, ◌≤◌, Bool, true, false, is_some, Option, Some, None, Result, refl, ap, arith}
 use Rattle.ws_value.specs.declared.ids.PromiseId.{PromiseId}
 use Rattle.ws_value.specs.declared.ids.StreamId.{StreamId}
 use Rattle.ws_value.specs.declared.value.Plain.{Plain}
@@ -15,6 +15,7 @@ use Rattle.ws_steps.specs.Histories.{Writes as History}
 use Rattle.ws_steps.specs.Turns.{performed}
 use Rattle.ws_steps.specs.Jobs.{settling, perform_step, returned, resolve_derived, perform_job, job_taken}
 use Rattle.ws_laws.proofs.Tables.{readable_acts, writable_acts, is_same-refl}
+use Rattle.ws_laws.proofs.Truth.{refuted}
 use Rattle.ws_writable_laws.proofs.Shape.{core_of}
 use Rattle.ws_writable_laws.proofs.Runs.{Taken, Rests, first_taken}
 use Rattle.ws_promise_laws.proofs.Tokens.{Token, StartToken, names, names_any, starts, in_step, in_hand}
@@ -33,11 +34,6 @@ unstarted : (b : Bool) → when b 1 ≤ 0 → b ≡ false
 unstarted true h = absurd (omega arith)
 unstarted false h = refl
 
-not_closing : (closing started : Bool) → (closing ≡ true → started ≡ true) → started ≡ false → closing ≡ false
-not_closing true true h e = e
-not_closing true false h e = sym (h refl)
-not_closing false started h e = refl
-
 -- a stream whose start is in hand hasn't started
 start_waits : (i : StreamId) (f l : Token → ℕ) (a : writable.Acts) → Writes i (λ x. f x + starts x i) l a → a.slots.started ≡ false
 start_waits i f l a w =
@@ -48,11 +44,11 @@ start_waits i f l a w =
 
 -- so it closes nothing
 start_free : (i : StreamId) (f l : Token → ℕ) (a : writable.Acts) → Writes i (λ x. f x + starts x i) l a → Known (core_of a.slots) → is_some a.slots.close_in_flight ≡ false
-start_free i f l a w k = not_closing (is_some a.slots.close_in_flight) a.slots.started k.started (start_waits i f l a w)
+start_free i f l a w k = refuted (is_some a.slots.close_in_flight) a.slots.started k.started (start_waits i f l a w)
 
 -- nor has it a write in flight
 pub start_idle : (i : StreamId) (f l : Token → ℕ) (a : writable.Acts) → Writes i (λ x. f x + starts x i) l a → Known (core_of a.slots) → is_some a.slots.write_in_flight ≡ false
-start_idle i f l a w k = not_closing (is_some a.slots.write_in_flight) a.slots.started k.flying (start_waits i f l a w)
+start_idle i f l a w k = refuted (is_some a.slots.write_in_flight) a.slots.started k.flying (start_waits i f l a w)
 
 step-sound : (step : Step) (o : Result Plain Plain) (hand : Token → ℕ) (s : Slots) → ((i : StreamId) → Known (core_of (writable_at i s))) → ((i : StreamId) → Taken i step s)
     → Sound (λ x. hand x + in_step x step) (nothing s) → Sound hand (perform_step step o s)

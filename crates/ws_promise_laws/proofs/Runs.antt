@@ -15,7 +15,7 @@ use Rattle.ws_writable_laws.proofs.Runs.{Rests, entry_kept, none_made}
 use Rattle.ws_promise_laws.proofs.Tokens.{Token, PromiseToken, StartToken, in_reaction}
 use Rattle.ws_promise_laws.proofs.Holds.{when, is_unsettled, shut, one_most}
 use Rattle.ws_promise_laws.proofs.Reacting.{holds-watch, holds-told}
-use Rattle.ws_promise_laws.proofs.Forgetting.{holds-release}
+use Rattle.ws_promise_laws.proofs.Forgetting.{holds-let_go}
 use Rattle.ws_promise_laws.proofs.Realm.{in_done, loose_in_done, Sound}
 use Rattle.ws_promise_laws.proofs.Performing.{performed-sound}
 use Rattle.ws_promise_laws.proofs.Known.{known}
@@ -51,7 +51,7 @@ entry-sound Worked s h r k =
     record { holds = done.holds; calm = done.calm }
 entry-sound Heard s h r k = record { holds = k.holds; calm = k.calm }
 entry-sound (Forgot p) s h r k = record {
-  holds = holds-release (λ x. 0 + in_done x (nothing s)) (λ x. loose_in_done x (nothing s)) p s.promises k.holds;
+  holds = holds-let_go (λ x. 0 + in_done x (nothing s)) (λ x. loose_in_done x (nothing s)) p s.promises k.holds;
   calm = k.calm;
 }
 

@@ -1,5 +1,5 @@
 -- What the queue of a writable stream and its reactions to the sink keep: no promise that isn't open is settled.
-use Rattle.std.proofs.Common.{◌≡◌, ℕ, ◌+◌, ◌≤◌, Bool, true, false, not, ◌&&◌, ◌||◌, is_some, is_none, if◌then◌else◌, List, [], ◌∷◌, Option, Some, None, Result, Ok, Err, refl, sym, ap, subst, arith}
+use Rattle.std.proofs.Common.{◌≡◌, ℕ, ◌+◌, ◌≤◌, true, false, not, ◌&&◌, is_some, is_none, if◌then◌else◌, List, [], ◌∷◌, Option, Some, None, Result, Ok, Err, refl, sym, ap, subst, arith}
 use Rattle.ws_value.specs.declared.ids.PromiseId.{PromiseId}
 use Rattle.ws_value.specs.declared.ids.StreamId.{StreamId}
 use Rattle.ws_value.specs.declared.value.Plain.{Plain}
@@ -24,7 +24,7 @@ use Rattle.ws_promise_laws.proofs.Holds.{Holds, holds-less, whole, all_when, non
 use Rattle.ws_promise_laws.proofs.Settling.{holds-settle}
 use Rattle.ws_promise_laws.proofs.Streams.{of_closed, of_ready, of_abort, in_list, is_alive, is_awaited, Writes}
 use Rattle.ws_promise_laws.proofs.WritableErroring.{unawaited, closing_unawaited, firm, loose, Unready, unready, causing-keeps, settle-keeps, refresh_backpressure-keeps, reject_close_and_closed-keeps, finish_erroring-keeps, deal_with_rejection-keeps}
-use Rattle.ws_laws.proofs.Truth.{not_true, false_true, or_right}
+use Rattle.ws_laws.proofs.Truth.{excluded, or_left, not_true, false_true, or_right}
 
 -- where the close mark is queued, the close is requested of a stream that hasn't ended
 abbrev pub Marked : Core → Type 0
@@ -66,15 +66,11 @@ process_write-keeps me f l v a k =
     let b : Acts = record a { slots = record a.slots { write_in_flight = first_request a.slots.write_requests; write_requests = later_requests a.slots.write_requests; queue = queue } } in
     causing-keeps me f l (Write me v) b (no_more me f l (Write me v) b (λ x. refl) (flying me f l a queue k))
 
-either_way : (b c : Bool) → b ≡ true → b || c ≡ true
-either_way true c e = refl
-either_way false c e = cc
-
 process_close-keeps : (me : StreamId) (f l : Token → ℕ) (a : Acts) → is_some a.slots.close_request ≡ true → has_ended a.slots.state ≡ false → Writes me f l a → Writes me f l (process_close me a)
 unfolding process_close
 process_close-keeps me f l a e alive k =
     let b : Acts = record a { slots = record a.slots { close_in_flight = a.slots.close_request; close_request = None; queue = rest_of a.slots.queue } } in
-    let before : is_awaited a.slots ≡ false = closing_unawaited (a.slots.backpressure && is_writable a.slots.state) (is_closing a.slots) (either_way (is_some a.slots.close_request) (is_some a.slots.close_in_flight) e) in
+    let before : is_awaited a.slots ≡ false = closing_unawaited (a.slots.backpressure && is_writable a.slots.state) (is_closing a.slots) (or_left (is_some a.slots.close_request) (is_some a.slots.close_in_flight) e) in
     let after : is_awaited b.slots ≡ false = closing_unawaited (a.slots.backpressure && is_writable a.slots.state) (is_closing b.slots) e in
     let moved : Writes me f l b = record {
       holds =
@@ -234,20 +230,16 @@ fulfil_closed-keeps me f l a (Some w) e k =
       calm = λ h. k.ended;
     }
 
-alive_calm : (ended flies : Bool) → (ended ≡ true → flies ≡ false) → flies ≡ true → ended ≡ false
-alive_calm true flies c e = false_true flies e (c refl)
-alive_calm false flies c e = refl
-
 -- the close in flight failed, and what is left is to be dealt with
 pub close_failed-keeps : (me : StreamId) (f l : Token → ℕ) (e : Plain) (a : Acts) → is_some a.slots.close_in_flight ≡ true → Writes me f l a → Landed me f l (abort_ended (Err e) (close_ended (Err e) a))
 close_failed-keeps me f l e a c k =
-    let alive : has_ended a.slots.state ≡ false = alive_calm (has_ended a.slots.state) (is_some a.slots.close_in_flight) k.calm c in
+    let alive : has_ended a.slots.state ≡ false = excluded (has_ended a.slots.state) (is_some a.slots.close_in_flight) k.calm c in
     abort_ended-keeps me f l (Err e) (close_ended (Err e) a) (close_ended-keeps me f l (Err e) a alive (unready me f l a k))
 
 pub close_settled-keeps : (me : StreamId) (f l : Token → ℕ) (o : Result Plain Plain) (a : Acts) → is_some a.slots.close_in_flight ≡ true → Writes me f l a → Writes me f l (close_settled me o a)
 unfolding close_settled finish_in_flight_close finish_in_flight_close_with_error
 close_settled-keeps me f l (Ok v) a e k =
-    let alive : has_ended a.slots.state ≡ false = alive_calm (has_ended a.slots.state) (is_some a.slots.close_in_flight) k.calm e in
+    let alive : has_ended a.slots.state ≡ false = excluded (has_ended a.slots.state) (is_some a.slots.close_in_flight) k.calm e in
     let b : Acts = clear_error (close_ended (Ok Undefined) a) in
     fulfil_closed-keeps me f l b b.slots.writer refl (clear_error-keeps me f l (close_ended (Ok Undefined) a) (close_ended-keeps me f l (Ok Undefined) a alive (unready me f l a k)))
 close_settled-keeps me f l (Err r) a e k =

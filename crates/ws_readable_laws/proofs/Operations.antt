@@ -13,6 +13,7 @@ use Rattle.ws_steps.specs.Queues.{is_empty}
 use Rattle.ws_steps.specs.Readable.{Slots, Acts, is_readable, waiting, can_close_or_enqueue, accept_for, call_pull_if_needed, accept, controller_enqueue, stream_close, stream_error, close_if_empty, controller_close, controller_error, after_take, pull_from, read_by, cancel_by, pull_ended, pull_steps, default_reader_read, reader_generic_initialize, start_settled, pull_settled, cancel_steps, stream_cancel, reader_release}
 use Rattle.ws_steps.specs.Histories.{Flow, no_flow, flow_then, values, given_to, first_given, enqueue_flow, read_flow, cancel_flow}
 use Rattle.ws_laws.proofs.Tables.{either}
+use Rattle.ws_laws.proofs.Truth.{and_right}
 
 -- what entered was given, is queued, or was dropped, in this order; and no request waits beside a queue
 pub record Balanced (h : Flow) (dropped : List Value) (s : Slots) : Type 0 where
@@ -128,15 +129,11 @@ pub controller_error_keeps : (e : Plain) (h : Flow) (d : List Value) (a : Acts) 
 unfolding controller_error stream_error
 controller_error_keeps e h d a b = grind (arith, append_assoc)
 
-both : (c d : Bool) → c && d ≡ true → d ≡ true
-both true d e = e
-both false d e = cc
-
 after_take_keeps : (me : StreamId) (h : Flow) (d : List Value) (a : Acts) → a.slots.state ≡ Readable → Balanced h d a.slots → Balanced h d (after_take me a).slots
 unfolding after_take
 after_take_keeps me h d a r b =
     either (λ (z : Acts). Balanced h d z.slots) (a.slots.close_requested && is_empty a.slots.queue) _ _
-    (λ e. close_keeps h d a (emptied a.slots.queue d (both a.slots.close_requested (is_empty a.slots.queue) e) (b.live r)) b)
+    (λ e. close_keeps h d a (emptied a.slots.queue d (and_right a.slots.close_requested (is_empty a.slots.queue) e) (b.live r)) b)
     (λ e. pull_keeps me h d a b)
 
 taken : (E G Q D : List Value) (v : Value) → E ≡ G ++ ((v ∷ Q) ++ D) → E ++ [] ≡ (G ++ v ∷ []) ++ (Q ++ D)

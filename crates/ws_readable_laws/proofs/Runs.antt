@@ -2,8 +2,6 @@
 use Rattle.std.proofs.Common.{◌≡◌, Bool, true, false, ◌||◌, List, [], ◌∷◌, ◌++◌, Option, Some, None, Result, refl, sym, append_assoc, append-nil, add_assoc, arith, zero-add}
 use Rattle.ws_value.specs.declared.ids.StreamId.{StreamId}
 use Rattle.ws_value.specs.declared.value.Plain.{Plain}
-use Rattle.ws_steps.specs.declared.calls.Reply.{Reply}
-use Rattle.ws_steps.specs.declared.calls.Reply.TheVariants.{Done, Made, Lock as ReplyLock, Promise, Size, State as StateReply, Throws, TooMany}
 use Rattle.ws_steps.specs.declared.promises.Job.{Job}
 use Rattle.ws_steps.specs.declared.promises.Job.TheVariants.{Reaction, Follow, Settle as SettleJob}
 use Rattle.ws_steps.specs.declared.promises.Step.{Step as JobStep}
@@ -14,11 +12,11 @@ use Rattle.ws_steps.specs.Writable as writable
 use Rattle.ws_steps.specs.Slots.{Slots, empty, readable_at}
 use Rattle.ws_steps.specs.Turns.{performed}
 use Rattle.ws_steps.specs.Jobs.{perform_step, perform_job, job_taken, returned}
-use Rattle.ws_steps.specs.Calls.{begin, named}
+use Rattle.ws_steps.specs.Calls.{begin}
 use Rattle.ws_steps.specs.Run.{Entry, Called, Worked, Heard, Forgot, step, run}
 use Rattle.ws_steps.specs.Histories.{Flow, no_flow, flow_then, step_flow, run_flow, values}
 use Rattle.ws_steps.specs.Laws.{IsLawfulReadable, EachReadableIsLawful}
-use Rattle.ws_laws.proofs.Tables.{performed-streams}
+use Rattle.ws_laws.proofs.Tables.{performed-streams, named-streams}
 use Rattle.ws_readable_laws.proofs.Operations.{same_flow}
 use Rattle.ws_readable_laws.proofs.Steps.{Held, Kept, quiet, on_readable-quiet, on_writable-kept, keeps_start, keeps_pull}
 use Rattle.ws_readable_laws.proofs.Calls.{call_kept}
@@ -47,16 +45,6 @@ taken_kept None i s h k = k
 taken_kept (Some job) i s h k = job_kept job i (record s { promises = after_next_job s.promises }) h k
 
 -- steps
-
-named-streams : (reply : Reply) (s : Slots) → (named reply s).streams ≡ s.streams
-named-streams Done s = refl
-named-streams (Made i) s = refl
-named-streams (ReplyLock l) s = refl
-named-streams (Promise p) s = refl
-named-streams (Size n) s = refl
-named-streams (StateReply x) s = refl
-named-streams (Throws t) s = refl
-named-streams TooMany s = refl
 
 pub entry_kept : (i : StreamId) (x : Entry) (s : Slots) (h : Flow) → Kept i h s.streams → Kept i (flow_then h (step_flow i s x)) (step s x).streams
 entry_kept i (Called c) s h k =

@@ -1,7 +1,7 @@
 //! What holds of the streams and promises of a realm, whatever calls and jobs it performs, events its host takes and promises its host lets go of.
 pub use ws_laws::{
     each_age_counts, each_mark_stays, each_outcome_stays, each_throw_changes_nothing,
-    effects_end_once,
+    each_work_is_a_run, effects_end_once,
 };
 pub use ws_promise_laws::none_goes_astray;
 pub use ws_readable_laws::{each_readable_is_lawful, each_readable_step, entered_was_accepted};

@@ -158,15 +158,17 @@ impl Realm {
         Ok(())
     }
 
-    /// The host lets go of `p`, where it has settled: nobody may ask for it any more, and what it holds is freed.
+    /// The host lets go of `p`, where a reply named it and it has settled: nobody may ask for it any more, and what it holds is freed. Else nothing happens.
     pub fn forget(&mut self, p: PromiseId)
         ensures slots { self.new.slots ≡ run.after_forgetting p self.old.slots }
         ensures wanting { self.new.wanting ≡ self.old.wanting }
     {
-        self.tables.promises.release(p);
+        if self.tables.promises.rank(p).is_some() {
+            self.tables.promises.release(p);
+        }
     }
 
-    /// The state of `p` with its result: none says that no reply has named `p`.
+    /// The state of `p` with its result: none says that no reply has named `p`, or that the host let go of it.
     pub fn outcome(&self, p: PromiseId) -> Option<&Outcome>
         ensures { option_map (λ outcome. outcome.now) result ≡ outcome_named p self.now.slots }
     {
@@ -190,7 +192,7 @@ impl Realm {
         self.tables.promises.queued() as u64
     }
 
-    /// How many promises became watched before `p`: none says that no reply has named `p`.
+    /// How many promises became watched before `p`: none says that no reply has named `p`, or that the host let go of it.
     pub fn rank(&self, p: PromiseId) -> Option<u64>
         ensures { result ≡ table.rank_at self.now.slots.promises p }
     {

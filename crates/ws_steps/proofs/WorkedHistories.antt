@@ -14,7 +14,7 @@ use Rattle.ws_steps.specs.declared.calls.HostCall.TheVariants.{Pull, Cancel}
 use Rattle.ws_steps.specs.declared.calls.StartBy.TheVariants.{Now}
 use Rattle.ws_steps.specs.declared.readable.SizeBy.TheVariants.{Count}
 use Rattle.ws_steps.specs.declared.writable.WritableState.TheVariants.{Errored}
-use Rattle.ws_steps.specs.Promises.{outcome_at, fresh, settle, answer, react, release, after_next_job, watch}
+use Rattle.ws_steps.specs.Promises.{outcome_at, fresh, settle, answer, react, let_go, after_next_job, watch}
 use Rattle.ws_steps.specs.Readable as readable
 use Rattle.ws_steps.specs.Writable as writable
 use Rattle.ws_steps.specs.Slots.{empty, writable_at, call_host}
@@ -79,6 +79,17 @@ outcomes_of_writes : ((writable_at s0 (run half_failed empty)).state ≡ Errored
 unfolding fresh settle react after_next_job watch writable.ensure_rejected writable.update_backpressure writable.refresh_backpressure writable.set_up writable.reject_close_and_closed writable.finish_erroring writable.start_erroring writable.deal_with_rejection writable.process_write writable.process_close writable.advance_queue writable.write_settled writable.start_settled writable.controller_write writable.writer_write writable.controller_close writable.stream_close writable.set_up_writer call_host row turns performed perform_job begin
 outcomes_of_writes = (refl, refl)
 
+-- three writes, of which the first two end well: their promises are fulfilled in the order of the writes
+abbrev in_order : List Entry
+in_order =
+    Called (MakeWritable 3 Count Now) ∷ Worked ∷ Called (GetWriter s0) ∷ Called (Write l0 (n 1)) ∷ Called (Write l0 (n 2)) ∷ Called (Write l0 (n 3))
+    ∷ Called (Settle (h 0) Ok) ∷ Worked ∷ Called (Settle (h 1) Ok) ∷ Worked ∷ []
+
+outcomes_in_order : map (outcome_at (run in_order empty).promises) (run_promised s0 in_order empty)
+    ≡ Some (Fulfilled Undefined) ∷ Some (Fulfilled Undefined) ∷ Some Pending ∷ []
+unfolding fresh settle react after_next_job watch writable.ensure_rejected writable.update_backpressure writable.refresh_backpressure writable.set_up writable.process_write writable.process_close writable.advance_queue writable.write_settled writable.start_settled writable.controller_write writable.writer_write writable.controller_close writable.stream_close writable.set_up_writer call_host row turns performed perform_job begin
+outcomes_in_order = refl
+
 -- the host takes an event, and another happens
 events_taken : run_events (Called (MakeReadable 2 Count Now) ∷ Worked ∷ Heard ∷ Called (GetReader s0) ∷ Called (CancelBy l0 (Number 5)) ∷ []) empty
     ≡ Host (h 0) (Pull s0) ∷ Host (h 1) (Cancel s0 (Number 5)) ∷ []
@@ -90,9 +101,14 @@ abbrev forgotten : List Entry
 forgotten = writes ++ Called (Settle (h 0) Ok) ∷ Worked ∷ Forgot (record { 0 = 3 }) ∷ Forgot (record { 0 = 6 }) ∷ []
 
 a_settled_promise_is_gone : outcome_at (run forgotten empty).promises (record { 0 = 3 }) ≡ None
-unfolding fresh settle react release after_next_job watch writable.ensure_rejected writable.update_backpressure writable.refresh_backpressure writable.set_up writable.process_write writable.process_close writable.advance_queue writable.write_settled writable.start_settled writable.controller_write writable.writer_write writable.controller_close writable.stream_close writable.set_up_writer call_host row turns performed perform_job begin
+unfolding fresh settle react let_go after_next_job watch writable.ensure_rejected writable.update_backpressure writable.refresh_backpressure writable.set_up writable.process_write writable.process_close writable.advance_queue writable.write_settled writable.start_settled writable.controller_write writable.writer_write writable.controller_close writable.stream_close writable.set_up_writer call_host row turns performed perform_job begin
 a_settled_promise_is_gone = refl
 
 a_pending_promise_stays : outcome_at (run forgotten empty).promises (record { 0 = 6 }) ≡ Some Pending
-unfolding fresh settle react release after_next_job watch writable.ensure_rejected writable.update_backpressure writable.refresh_backpressure writable.set_up writable.process_write writable.process_close writable.advance_queue writable.write_settled writable.start_settled writable.controller_write writable.writer_write writable.controller_close writable.stream_close writable.set_up_writer call_host row turns performed perform_job begin
+unfolding fresh settle react let_go after_next_job watch writable.ensure_rejected writable.update_backpressure writable.refresh_backpressure writable.set_up writable.process_write writable.process_close writable.advance_queue writable.write_settled writable.start_settled writable.controller_write writable.writer_write writable.controller_close writable.stream_close writable.set_up_writer call_host row turns performed perform_job begin
 a_pending_promise_stays = refl
+
+-- no reply named the promise of the start, which has settled
+an_unnamed_promise_stays : outcome_at (run (writes ++ Forgot (record { 0 = 0 }) ∷ []) empty).promises (record { 0 = 0 }) ≡ Some (Fulfilled Undefined)
+unfolding fresh settle react let_go after_next_job watch writable.ensure_rejected writable.update_backpressure writable.refresh_backpressure writable.set_up writable.process_write writable.process_close writable.advance_queue writable.write_settled writable.start_settled writable.controller_write writable.writer_write writable.controller_close writable.stream_close writable.set_up_writer call_host row turns performed perform_job begin
+an_unnamed_promise_stays = refl

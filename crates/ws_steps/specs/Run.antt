@@ -1,10 +1,10 @@
 -- Steps, runs and tasks.
-use Rattle.std.specs.Prelude.{ℕ, zero, suc, ◌+◌, nat_eq, Bool, false, ◌||◌, if◌then◌else◌, List, [], ◌∷◌, Option, Some, None}
+use Rattle.std.specs.Prelude.{ℕ, zero, suc, ◌+◌, nat_eq, Bool, false, ◌&&◌, ◌||◌, if◌then◌else◌, List, [], ◌∷◌, Option, Some, None}
 use Rattle.ws_value.specs.declared.ids.PromiseId.{PromiseId}
 use Rattle.ws_steps.specs.declared.calls.Call.{Call}
 use Rattle.ws_steps.specs.declared.calls.Event.{Event}
 use Rattle.ws_steps.specs.declared.calls.Reply.{Reply}
-use Rattle.ws_steps.specs.Promises.{release}
+use Rattle.ws_steps.specs.Promises.{may_go, let_go}
 use Rattle.ws_steps.specs.Queues.{is_empty}
 use Rattle.ws_steps.specs.Slots.{Slots}
 use Rattle.ws_steps.specs.Turns.{performed}
@@ -38,9 +38,9 @@ later_events (event ∷ events) = events
 abbrev pub after_event : Slots → Slots
 after_event s = record s { events = later_events s.events }
 
--- the host lets go of a promise, where it has settled
+-- the host lets go of a promise, where a reply named it and it has settled
 abbrev pub after_forgetting : PromiseId → Slots → Slots
-after_forgetting p s = record s { promises = release p s.promises }
+after_forgetting p s = record s { promises = let_go p s.promises }
 
 -- a call, a job, the taking of an event, or the letting go of a promise
 pub data Entry : Type 0 where
@@ -60,18 +60,18 @@ run [] s = s
 run (x ∷ xs) s = run xs (step s x)
 
 -- whether an entry lets go of this promise
-abbrev pub lets_go : PromiseId → Entry → Bool
-lets_go p (Called c) = false
-lets_go p Worked = false
-lets_go p Heard = false
-lets_go p (Forgot q) = nat_eq p.0 q.0
+abbrev pub lets_go : PromiseId → Slots → Entry → Bool
+lets_go p s (Called c) = false
+lets_go p s Worked = false
+lets_go p s Heard = false
+lets_go p s (Forgot q) = nat_eq p.0 q.0 && may_go p s.promises
 
 -- whether a run lets go of it
-abbrev pub is_forgotten : PromiseId → List Entry → Bool
-is_forgotten p [] = false
-is_forgotten p (x ∷ xs) = lets_go p x || is_forgotten p xs
+abbrev pub is_forgotten : PromiseId → List Entry → Slots → Bool
+is_forgotten p [] s = false
+is_forgotten p (x ∷ xs) s = lets_go p s x || is_forgotten p xs (step s x)
 
--- how many calls and jobs a run performs
+-- how many calls and jobs a run performs; a job counts where none is queued too
 abbrev pub performed_in : List Entry → ℕ
 performed_in [] = 0
 performed_in (Called c ∷ entries) = 1 + performed_in entries
@@ -85,6 +85,11 @@ is_idle s = is_empty s.promises.jobs
 abbrev pub work : ℕ → Slots → Slots
 work zero s = s
 work (suc n) s = if is_idle s then s else work n (after_job s)
+
+-- so many jobs, one after another
+abbrev pub jobs_in_a_row : ℕ → List Entry
+jobs_in_a_row zero = []
+jobs_in_a_row (suc n) = Worked ∷ jobs_in_a_row n
 
 -- what the host has heard of is forgotten
 abbrev pub heard : Slots → Slots

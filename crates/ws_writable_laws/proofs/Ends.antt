@@ -16,7 +16,7 @@ use Rattle.ws_laws.proofs.WritableApart as apart
 use Rattle.ws_writable_laws.proofs.Shape.{one_if, Core, core_of}
 use Rattle.ws_writable_laws.proofs.Moves as moves
 use Rattle.ws_writable_laws.proofs.Operations.{is_write, is_close, so_far, Fine, Held, Same, owed-later, same_fine, reject_ready-same, finish_abort-fine, advance-held}
-use Rattle.ws_laws.proofs.Truth.{false_true}
+use Rattle.ws_laws.proofs.Truth.{false_true, refuted}
 
 -- the backpressure doesn't matter
 
@@ -84,10 +84,6 @@ either_true a b true d f g e = let n = f refl in rw n refl
 either_true true b false d f g e = refl
 either_true false b false d f g e = g e
 
-not_then : (b c : Bool) → (b ≡ true → c ≡ true) → c ≡ false → b ≡ false
-not_then true c f e = let n = f refl in cc
-not_then false c f e = refl
-
 fails-fine : (i : StreamId) (h : Writes) (d : List Value) (a b : Acts) → Fine i h d a → Fails i a b → Fine i h (todo a.slots.queue ++ d) (fail_writes b)
 fails-fine i h d a b f g =
     let k : h.closes + closes_in i b.out.effects ≡ h.closes + closes_in i a.out.effects = ap (λ (n : ℕ). h.closes + n) g.apart.closes in
@@ -106,7 +102,7 @@ fails-fine i h d a b f g =
         marked = λ e m. cc;
         flight = λ e. s.flight (g.closing e);
         spent = λ z. refl;
-        still = λ z. not_then (is_some b.slots.write_in_flight) (is_some a.slots.write_in_flight) g.writing (s.still z);
+        still = λ z. refuted (is_some b.slots.write_in_flight) (is_some a.slots.write_in_flight) g.writing (s.still z);
         once = s.once;
       });
       closing = λ z e. cc;

@@ -10,6 +10,7 @@ use Rattle.ws_steps.specs.declared.writable.WriteRecord.TheVariants.{Chunk, InFl
 use Rattle.ws_steps.specs.Queues.{is_empty, rest_of}
 use Rattle.ws_steps.specs.Writable.{has_ended, is_closed, first_request, later_requests}
 use Rattle.ws_steps.specs.Histories.{Writes, todo, chunk_of}
+use Rattle.ws_laws.proofs.Truth.{refuted}
 use Rattle.ws_writable_laws.proofs.Shape.{one_if, Core, leads, is_flying, is_mark, has_mark, marks_last, is_open, Shape, Closing, Told}
 
 -- one more entry
@@ -29,10 +30,6 @@ no_mark-append (x ∷ xs) q e = let n = no_mark-append xs q in grind arith
 last-append : (xs : List (Queued WriteRecord)) (q : Queued WriteRecord) → has_mark xs ≡ false → marks_last (xs ++ q ∷ []) ≡ true
 last-append [] q e = grind arith
 last-append (x ∷ xs) q e = let n = last-append xs q in grind arith
-
-refuted : (b c : Bool) → (b ≡ true → c ≡ true) → c ≡ false → b ≡ false
-refuted true c f e = let n = f refl in cc
-refuted false c f e = refl
 
 alive_open : (c : Core) → has_ended c.state ≡ false → is_open c ≡ true
 alive_open c e = rw e refl

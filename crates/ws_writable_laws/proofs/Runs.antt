@@ -27,7 +27,7 @@ use Rattle.ws_laws.proofs.Tables.{either, is_same-refl, writable_acts, no_writab
 use Rattle.ws_laws.proofs.Weights.{weigh}
 use Rattle.ws_laws.proofs.Outstanding.{weight, of_next, weight-next}
 use Rattle.ws_laws.proofs.Later.{later-then, later-settle, later-next, later-watch, later-told}
-use Rattle.ws_laws.proofs.Releasing.{weight-release}
+use Rattle.ws_laws.proofs.LettingGo.{weight-let_go}
 use Rattle.ws_laws.proofs.Apart.{Apart, apart-then, apart-promises}
 use Rattle.ws_laws.proofs.ReadableApart as readable_apart
 use Rattle.ws_laws.proofs.WritableApart as writable_apart
@@ -194,9 +194,9 @@ writes-nothing h =
 forgotten_rests : (i : StreamId) (p : PromiseId) (s : Slots) (h : Writes) → Rests i h s → Rests i h (after_forgetting p s)
 forgotten_rests i p s h k =
     let f = k.held.fine in
-    let writes = weight-release (is_write i) p s.promises in
-    let closes = weight-release (is_close i) p s.promises in
-    let aborts = weight-release (is_abort i) p s.promises in
+    let writes = weight-let_go (is_write i) p s.promises in
+    let closes = weight-let_go (is_close i) p s.promises in
+    let aborts = weight-let_go (is_abort i) p s.promises in
     record {
       unmade = λ e. let u = k.unmade e in record { history = u.history; aborts = let n = u.aborts in omega arith };
       held = record {

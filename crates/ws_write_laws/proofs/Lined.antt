@@ -6,7 +6,7 @@ use Rattle.ws_value.specs.declared.ids.StreamId.{StreamId}
 use Rattle.ws_value.specs.declared.value.Outcome.TheVariants.{Fulfilled}
 use Rattle.ws_value.specs.declared.value.Plain.TheVariants.{Undefined}
 use Rattle.ws_value.specs.declared.value.Value.{Value}
-use Rattle.ws_steps.specs.Promises.{Table, release}
+use Rattle.ws_steps.specs.Promises.{Table, let_go}
 use Rattle.ws_steps.specs.Readable as readable
 use Rattle.ws_steps.specs.Writable as writable
 use Rattle.ws_steps.specs.Writable.{has_ended}
@@ -16,7 +16,7 @@ use Rattle.ws_steps.specs.Laws.{is_rejected, AllFulfilled, AllRejected}
 use Rattle.ws_laws.proofs.Outcomes.{Keeps}
 use Rattle.ws_laws.proofs.Tables.{same_id, writable_acts, on_writable-same, on_writable-other, on_writable-none, on_readable-none, on_readable-writable}
 use Rattle.ws_laws.proofs.Truth.{false_true}
-use Rattle.ws_laws.proofs.Releasing.{release-outcome}
+use Rattle.ws_laws.proofs.LettingGo.{let_go-outcome}
 use Rattle.ws_promise_laws.proofs.Holds.{eq_promises}
 use Rattle.ws_write_laws.proofs.Operations.{line, Spent, KeepsLine, AppendsToLine}
 use Rattle.ws_write_laws.proofs.Rejecting.{EachRejected, rejected-keeps, FailsLine, fails-state}
@@ -43,14 +43,14 @@ pub all_keep : (gone : PromiseId → Bool) (t z : Table) (ps : List PromiseId) �
 all_keep gone t z ps k a n d h g = k.outcome (get_or ps n d) (Fulfilled Undefined) refl (a n d h g)
 
 -- a promise is let go of that may be
-pub all_released : (gone : PromiseId → Bool) (q : PromiseId) (t : Table) (ps : List PromiseId) → gone q ≡ true → AllFulfilled gone t ps → AllFulfilled gone (release q t) ps
-all_released gone q t ps may a n d h g = release-outcome (get_or ps n d) q t (kept_number gone (get_or ps n d) q (nat_eq (get_or ps n d).0 q.0) refl g may) ∙ a n d h g
+pub all_released : (gone : PromiseId → Bool) (q : PromiseId) (t : Table) (ps : List PromiseId) → gone q ≡ true → AllFulfilled gone t ps → AllFulfilled gone (let_go q t) ps
+all_released gone q t ps may a n d h g = let_go-outcome (get_or ps n d) q t (kept_number gone (get_or ps n d) q (nat_eq (get_or ps n d).0 q.0) refl g may) ∙ a n d h g
 
 pub rejected_keep : (gone : PromiseId → Bool) (t z : Table) (ps : List PromiseId) → Keeps t z → AllRejected gone t ps → AllRejected gone z ps
 rejected_keep gone t z ps k a n d h g = rejected-keeps t z (get_or ps n d) k (a n d h g)
 
-pub rejected_released : (gone : PromiseId → Bool) (q : PromiseId) (t : Table) (ps : List PromiseId) → gone q ≡ true → AllRejected gone t ps → AllRejected gone (release q t) ps
-rejected_released gone q t ps may a n d h g = ap is_rejected (release-outcome (get_or ps n d) q t (kept_number gone (get_or ps n d) q (nat_eq (get_or ps n d).0 q.0) refl g may)) ∙ a n d h g
+pub rejected_released : (gone : PromiseId → Bool) (q : PromiseId) (t : Table) (ps : List PromiseId) → gone q ≡ true → AllRejected gone t ps → AllRejected gone (let_go q t) ps
+rejected_released gone q t ps may a n d h g = ap is_rejected (let_go-outcome (get_or ps n d) q t (kept_number gone (get_or ps n d) q (nat_eq (get_or ps n d).0 q.0) refl g may)) ∙ a n d h g
 
 -- where each is rejected, so is each that the host didn't let go of
 pub rejected_all : (gone : PromiseId → Bool) (t : Table) (ps qs : List PromiseId) → ps ≡ qs → EachRejected t qs → AllRejected gone t ps
@@ -148,6 +148,6 @@ lined-append gone h v p q old new t z k f keeps n alive l =
       fulfilled = all_keep gone t z l.first keeps l.fulfilled;
       alive = λ e. rest ∙ sym (k.alive e).1;
       spent = k.spent l.spent;
-      unmade = λ e. let gone : true ≡ false = rw (n e) at alive in absurd (cc);
+      unmade = λ e. let none : true ≡ false = rw (n e) at alive in absurd (cc);
       ended = λ e. rejected_all gone z (l.rest ++ p ∷ []) (line (as_writable old) ++ p ∷ []) rest (f e);
     }

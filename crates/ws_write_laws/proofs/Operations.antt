@@ -107,9 +107,6 @@ refresh_backpressure-kept a =
     either (λ (z : Acts). kept z.slots ≡ kept a.slots) (not (is_closing a.slots) && is_writable a.slots.state) (update_backpressure (has_backpressure a.slots) a) a
     (λ e. update_backpressure-kept (has_backpressure a.slots) a) (λ e. refl)
 
-pub refresh_backpressure-line : (a : Acts) → KeepsLine a.slots (refresh_backpressure a).slots
-refresh_backpressure-line a = kept-line a.slots (refresh_backpressure a).slots (refresh_backpressure-kept a)
-
 pub set_up-line : (me : StreamId) (start : StartBy) (mark : ℕ) (size : SizeBy) (a : Acts) → KeepsLine a.slots (set_up me start mark size a).slots
 unfolding set_up
 set_up-line me start mark size a =

@@ -1,29 +1,28 @@
 -- The promises of the writes that ended well are fulfilled, and once the stream has ended the others are rejected, over every run.
-use Rattle.std.proofs.Common.{◌≡◌, ℕ, ◌+◌, ◌<◌, suc, Bool, true, false, is_some, List, [], ◌∷◌, ◌++◌, length, Option, Some, None, Result, Ok, Err, if◌then◌else◌, slice_get, refl, sym, ap, ◌∙◌, subst, arith, append-nil, append_assoc, length-append}
+use Rattle.std.proofs.Common.{◌≡◌, ℕ, ◌+◌, ◌<◌, suc, nat_eq, Bool, true, false, is_some, List, [], ◌∷◌, ◌++◌, length, Option, Some, None, Result, Ok, Err, if◌then◌else◌, slice_get, refl, sym, ap, ◌∙◌, subst, arith, append-nil, append_assoc, length-append}
 use Rattle.ws_value.specs.declared.ids.PromiseId.{PromiseId}
 use Rattle.ws_value.specs.declared.ids.StreamId.{StreamId}
 use Rattle.ws_value.specs.declared.value.Plain.{Plain}
 use Rattle.ws_steps.specs.declared.calls.Call.{Call}
-use Rattle.ws_steps.specs.declared.calls.Reply.{Reply}
-use Rattle.ws_steps.specs.declared.calls.Reply.TheVariants.{Done, Made, Lock as ReplyLock, Promise, Size, State, Throws, TooMany}
 use Rattle.ws_steps.specs.declared.promises.Job.{Job}
 use Rattle.ws_steps.specs.declared.promises.Job.TheVariants.{Reaction, Follow, Settle}
 use Rattle.ws_steps.specs.declared.promises.Step.{Step}
 use Rattle.ws_steps.specs.declared.promises.Step.TheVariants.{ReadableStart, ReadablePull, ReturnUndefined, WritableStart, WritableWrite, WritableClose, WritableAbort}
-use Rattle.ws_steps.specs.Promises.{Table, next_job, after_next_job}
+use Rattle.ws_steps.specs.Promises.{Table, may_go, next_job, after_next_job}
 use Rattle.ws_steps.specs.Readable as readable
 use Rattle.ws_steps.specs.Writable as writable
 use Rattle.ws_steps.specs.Slots.{Slots, Stream, Done as Operation, nothing, empty, on_writable, has_writable, writable_at, as_writable}
 use Rattle.ws_steps.specs.Turns.{performed}
 use Rattle.ws_steps.specs.Jobs.{perform_step, perform_job, returned, resolve_derived, settling, job_taken}
-use Rattle.ws_steps.specs.Calls.{begin, named}
+use Rattle.ws_steps.specs.Calls.{begin}
 use Rattle.ws_steps.specs.Run.{Entry, Called, Worked, Heard, Forgot, after_forgetting, step, run, lets_go, is_forgotten}
 use Rattle.ws_steps.specs.Histories.{Writes, no_writes, writes_then, is_same, call_written, fulfilled_by, job_fulfilled, step_writes, run_writes, step_promised, run_promised}
 use Rattle.ws_steps.specs.Laws.{EachWriteIsSettled, AreSettled}
 use Rattle.ws_laws.proofs.Outcomes.{keeps-then, keeps-next}
+use Rattle.ws_laws.proofs.LettingGo.{let_go-kept}
 use Rattle.ws_laws.proofs.Stays.{reaction-keeps, performed-keeps, derived-keeps, settling-keeps, finished-keeps}
-use Rattle.ws_laws.proofs.Tables.{same_id, no_writable_there, writable_acts, on_writable-same, on_writable-other, on_writable-none, performed-streams, derived-streams}
-use Rattle.ws_laws.proofs.Truth.{false_true, or_left, or_right}
+use Rattle.ws_laws.proofs.Tables.{same_id, no_writable_there, writable_acts, on_writable-same, on_writable-other, on_writable-none, performed-streams, derived-streams, named-streams}
+use Rattle.ws_laws.proofs.Truth.{excluded, false_true, or_left, or_right}
 use Rattle.ws_writable_laws.proofs.Shape.{core_of}
 use Rattle.ws_writable_laws.proofs.Runs.{Taken, Rests, first_taken, entry_kept, none_made, writes-assoc, writes-nothing, nothing-writes, each_writable_is_lawful}
 use Rattle.ws_promise_laws.proofs.Tokens.{starts, in_step, in_hand}
@@ -71,10 +70,6 @@ flying_there i s false e w =
 flying_alive : (w : writable.Slots) (ended : Bool) → ended ≡ writable.has_ended w.state → (writable.has_ended w.state ≡ true → is_some w.write_in_flight ≡ false) → is_some w.write_in_flight ≡ true → ended ≡ false
 flying_alive w false e spent f = refl
 flying_alive w true e spent f = false_true (is_some w.write_in_flight) f (spent (sym e))
-
-not_writing : (writing closing : Bool) → (writing ≡ true → closing ≡ false) → closing ≡ true → writing ≡ false
-not_writing false closing h e = refl
-not_writing true closing h e = false_true closing e (h refl)
 
 -- the reaction to a write
 
@@ -146,7 +141,7 @@ closing_whole i h s k e = k.held.fine.told.fulfilled (k.held.fine.shape.flight e
 -- the reaction to a close
 
 close_idles : (j : StreamId) (t : Slots) → Taking j (WritableClose j) t → is_some (writable_at j t).write_in_flight ≡ false
-close_idles j t k = not_writing (is_some (writable_at j t).write_in_flight) (is_some (writable_at j t).close_in_flight) k.1.0.writing (closing-taken j t k.1.1)
+close_idles j t k = excluded (is_some (writable_at j t).write_in_flight) (is_some (writable_at j t).close_in_flight) k.1.0.writing (closing-taken j t k.1.1)
 
 close_ends : (gone : PromiseId → Bool) (i : StreamId) (v : Plain) (t : Slots) (h : Writes) (q : List PromiseId) → Taking i (WritableClose i) t → Whole i t h → Stands gone i h q t
     → Lined gone h q (slice_get (perform_step (WritableClose i) (Ok v) t).slots.streams i.0) (perform_step (WritableClose i) (Ok v) t).slots.promises
@@ -203,9 +198,6 @@ reaction_lined gone (WritableAbort j p) o derived i s t h q e k whole l =
 
 -- jobs
 
-settling_streams : (p : PromiseId) (o : Result Plain Plain) (s : Slots) → (settling p o s).streams ≡ s.streams
-settling_streams p o s = refl
-
 -- what holds of the operation of a job holds once its effects are performed
 reaction_done : (gone : PromiseId → Bool) (step : Step) (o : Result Plain Plain) (derived : Option PromiseId) (i : StreamId) (t : Slots) (h : Writes) (q : List PromiseId)
     → Lined gone h q (slice_get (perform_step step o t).slots.streams i.0) (perform_step step o t).slots.promises → Stands gone i h q (perform_job (Reaction step o derived) t)
@@ -253,18 +245,8 @@ lined-history gone g h q place t w f l = record {
   ended = l.ended;
 }
 
-named_streams : (reply : Reply) (s : Slots) → (named reply s).streams ≡ s.streams
-named_streams Done s = refl
-named_streams (Made i) s = refl
-named_streams (ReplyLock l) s = refl
-named_streams (Promise p) s = refl
-named_streams (Size n) s = refl
-named_streams (State x) s = refl
-named_streams (Throws t) s = refl
-named_streams TooMany s = refl
-
 called_streams : (c : Call) (s : Slots) → (step s (Called c)).streams ≡ (begin c s).done.slots.streams
-called_streams c s = named_streams (begin c s).reply (performed (begin c s).done) ∙ performed-streams (begin c s).done
+called_streams c s = named-streams (begin c s).reply (performed (begin c s).done) ∙ performed-streams (begin c s).done
 
 -- a promise is let go of that may be
 forgotten_lined : (gone : PromiseId → Bool) (p : PromiseId) (i : StreamId) (s : Slots) (h : Writes) (q : List PromiseId) → gone p ≡ true → Stands gone i h q s → Stands gone i h q (after_forgetting p s)
@@ -281,10 +263,16 @@ forgotten_lined gone p i s h q may l = record {
   ended = λ e. rejected_released gone p s.promises l.rest may (l.ended e);
 }
 
-same_self : (p : PromiseId) → lets_go p (Forgot p) ≡ true
-same_self p = grind arith
+same_self : (p : PromiseId) (s : Slots) → may_go p s.promises ≡ true → lets_go p s (Forgot p) ≡ true
+same_self p s e = let same : nat_eq p.0 p.0 ≡ true = grind arith in rw same e
 
-entry_lined : (gone : PromiseId → Bool) (x : Entry) (i : StreamId) (s : Slots) (q : List PromiseId) (r : StreamId → Writes) → ((p : PromiseId) → lets_go p x ≡ true → gone p ≡ true) → AllRest r s → Sound none (nothing s) → Stands gone i (r i) q s
+-- a promise is to be let go of
+forgotten_or_kept : (gone : PromiseId → Bool) (p : PromiseId) (i : StreamId) (s : Slots) (h : Writes) (q : List PromiseId) (may : Bool) → may ≡ may_go p s.promises → (may ≡ true → gone p ≡ true) → Stands gone i h q s
+    → Stands gone i h q (after_forgetting p s)
+forgotten_or_kept gone p i s h q true e g l = forgotten_lined gone p i s h q (g refl) l
+forgotten_or_kept gone p i s h q false e g l = rw (let_go-kept p s.promises (sym e)) l
+
+entry_lined : (gone : PromiseId → Bool) (x : Entry) (i : StreamId) (s : Slots) (q : List PromiseId) (r : StreamId → Writes) → ((p : PromiseId) → lets_go p s x ≡ true → gone p ≡ true) → AllRest r s → Sound none (nothing s) → Stands gone i (r i) q s
     → Stands gone i (writes_then (r i) (step_writes i s x)) (q ++ step_promised i s x) (step s x)
 entry_lined gone (Called c) i s q r may rests k l =
     let h : Writes = r i in
@@ -305,15 +293,15 @@ entry_lined gone Worked i s q r may rests k l =
     (lined-history gone (writes_then h (step_writes i s Worked)) g q (slice_get z.streams i.0) z.promises (ap length (append-nil h.written)) refl
     (worked_lined gone (next_job s.promises) i s q refl r rests k l))
 entry_lined gone Heard i s q r may rests k l = rw (writes-nothing (r i), append-nil q) l
-entry_lined gone (Forgot p) i s q r may rests k l = rw (writes-nothing (r i), append-nil q) (forgotten_lined gone p i s (r i) q (may p (same_self p)) l)
+entry_lined gone (Forgot p) i s q r may rests k l = rw (writes-nothing (r i), append-nil q) (forgotten_or_kept gone p i s (r i) q (may_go p s.promises) refl (λ e. may p (same_self p s e)) l)
 
-run_lined : (gone : PromiseId → Bool) (xs : List Entry) (i : StreamId) (s : Slots) (q : List PromiseId) (r : StreamId → Writes) → ((p : PromiseId) → is_forgotten p xs ≡ true → gone p ≡ true) → AllRest r s → Sound none (nothing s) → Stands gone i (r i) q s
+run_lined : (gone : PromiseId → Bool) (xs : List Entry) (i : StreamId) (s : Slots) (q : List PromiseId) (r : StreamId → Writes) → ((p : PromiseId) → is_forgotten p xs s ≡ true → gone p ≡ true) → AllRest r s → Sound none (nothing s) → Stands gone i (r i) q s
     → Stands gone i (writes_then (r i) (run_writes i xs s)) (q ++ run_promised i xs s) (run xs s)
 run_lined gone [] i s q r may rests k l = rw (writes-nothing (r i), append-nil q) l
 run_lined gone (x ∷ xs) i s q r may rests k l =
     rw (← writes-assoc (r i) (step_writes i s x) (run_writes i xs (step s x)), ← append_assoc q (step_promised i s x) (run_promised i xs (step s x)))
-    (run_lined gone xs i (step s x) (q ++ step_promised i s x) (λ j. writes_then (r j) (step_writes j s x)) (λ p g. may p (or_right (lets_go p x) (is_forgotten p xs) g)) (λ j. entry_kept j x s (r j) (rests j)) (entry-sound x s r rests k)
-    (entry_lined gone x i s q r (λ p g. may p (or_left (lets_go p x) (is_forgotten p xs) g)) rests k l))
+    (run_lined gone xs i (step s x) (q ++ step_promised i s x) (λ j. writes_then (r j) (step_writes j s x)) (λ p g. may p (or_right (lets_go p s x) (is_forgotten p xs (step s x)) g)) (λ j. entry_kept j x s (r j) (rests j)) (entry-sound x s r rests k)
+    (entry_lined gone x i s q r (λ p g. may p (or_left (lets_go p s x) (is_forgotten p xs (step s x)) g)) rests k l))
 
 lined_empty : (gone : PromiseId → Bool) (i : StreamId) → Stands gone i no_writes [] empty
 lined_empty gone i = record {
@@ -348,7 +336,7 @@ are_settled gone h q place t w l = record {
 
 pub each_write_is_settled : EachWriteIsSettled
 each_write_is_settled entries i =
-    let gone : PromiseId → Bool = λ p. is_forgotten p entries in
+    let gone : PromiseId → Bool = λ p. is_forgotten p entries empty in
     let l : Stands gone i (writes_then no_writes (run_writes i entries empty)) (run_promised i entries empty) (run entries empty) = run_lined gone entries i empty [] (λ j. no_writes) (λ p g. g) (λ j. none_made j) sound_empty (lined_empty gone i) in
     let lawful = each_writable_is_lawful entries i in
     are_settled gone (run_writes i entries empty) (run_promised i entries empty) (slice_get (run entries empty).streams i.0) (run entries empty).promises lawful.fulfilled (rw (nothing-writes (run_writes i entries empty)) at l)

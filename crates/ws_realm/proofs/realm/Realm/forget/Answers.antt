@@ -1,0 +1,19 @@
+use Rattle.std.proofs.Common.{◌≡◌, true, false, is_some, sym, ap, ◌∙◌}
+use Rattle.ws_promise.specs.Seen.{Seen}
+use Rattle.ws_steps.specs.Promises.{Table, rank_at, let_go}
+use Rattle.ws_realm.specs.View.{slots_of}
+use Rattle.ws_realm.proofs.LettingGo.{named-goes, unnamed-stays}
+use Rattle.ws_realm.proofs.realm.Realm.forget.Goals as goal
+
+pub returns-then-is_some-clause-slots : goal.returns-then-is_some-clause-slots
+returns-then-is_some-clause-slots c =
+    let t : Table = c.self.inside.tables.promises.table in
+    let named : is_some (rank_at t c.args.p) ≡ true = sym (ap is_some c.rank.ensures) ∙ (sym c.is_some.ensures ∙ c.if-is_some.true) in
+    let gone : c.release.new.self.table ≡ let_go c.args.p t = ap (λ (s : Seen). s.table) c.release.ensures ∙ named-goes c.args.p t named in
+    rw (← c.self.view_is) (ap (λ (z : Table). record (slots_of c.self.inside.tables) { promises = z }) gone)
+
+pub returns-else-is_some-clause-slots : goal.returns-else-is_some-clause-slots
+returns-else-is_some-clause-slots c =
+    let t : Table = c.self.inside.tables.promises.table in
+    let unnamed : is_some (rank_at t c.args.p) ≡ false = sym (ap is_some c.rank.ensures) ∙ (sym c.is_some.ensures ∙ c.if-is_some.false) in
+    rw (← c.self.view_is) (ap (λ (z : Table). record (slots_of c.self.inside.tables) { promises = z }) (unnamed-stays c.args.p t unnamed))
