@@ -13,15 +13,17 @@ use Rattle.ws_steps.specs.declared.calls.Call.{Call}
 use Rattle.ws_steps.specs.declared.calls.Call.TheVariants.{MakeReadable, Read, Enqueue, Finish, Fail, Settle}
 use Rattle.ws_steps.specs.declared.calls.Answer.TheVariants.{Ok as AnswerOk}
 use Rattle.ws_steps.specs.declared.calls.Event.{Event}
-use Rattle.ws_steps.specs.declared.calls.Event.TheVariants.{Host}
+use Rattle.ws_steps.specs.declared.calls.Event.TheVariants.{Host, Settled}
 use Rattle.ws_steps.specs.declared.calls.HostCall.{HostCall}
+use Rattle.ws_steps.specs.declared.calls.HostCall.TheVariants.{Pull as HostPull}
 use Rattle.ws_steps.specs.declared.calls.Reply.{Reply}
 use Rattle.ws_steps.specs.declared.calls.Reply.TheVariants.{Promise as PromiseReply}
-use Rattle.ws_steps.specs.Run.{after_forgetting, first_event, later_events}
-use Rattle.ws_steps.specs.declared.calls.HostCall.TheVariants.{Pull as HostPull}
 use Rattle.ws_steps.specs.declared.calls.StartBy.TheVariants.{Now}
-use Rattle.ws_steps.specs.declared.readable.SizeBy.TheVariants.{Count}
-use Rattle.ws_steps.specs.declared.effects.Effect.TheVariants.{Pull}
+use Rattle.ws_steps.specs.declared.effects.Effect.{Effect}
+use Rattle.ws_steps.specs.declared.effects.Effect.TheVariants.{Readable as OnReadable, PullAlgorithm, ChunkSteps, CloseSteps, ErrorSteps, CallHost, Settle as SettlePromise}
+use Rattle.ws_steps.specs.declared.effects.Owner.TheVariants.{Host as HostOwner}
+use Rattle.ws_steps.specs.declared.effects.Use.TheVariants.{React}
+use Rattle.ws_steps.specs.declared.locks.Lock.{Lock}
 use Rattle.ws_steps.specs.declared.locks.Lock.TheVariants.{Reader as ReaderLock}
 use Rattle.ws_steps.specs.declared.promises.Step.TheVariants.{ReadableStart, ReadablePull}
 use Rattle.ws_steps.specs.declared.promises.Reaction.{Reaction}
@@ -29,45 +31,70 @@ use Rattle.ws_steps.specs.declared.promises.Reaction.TheVariants.{Perform}
 use Rattle.ws_steps.specs.declared.promises.Job.{Job}
 use Rattle.ws_steps.specs.declared.promises.Job.TheVariants.{Reaction as ReactionJob}
 use Rattle.ws_steps.specs.declared.readable.ReadRequest.TheVariants.{Promise}
-use Rattle.ws_steps.specs.Promises.{Table, Entry, pending, ended, ended_as, settled, entry_at, with_entry, next_id, fresh, settle, answer, react, watch, after_next_job, live, is_pending, is_open_entry, let_go}
+use Rattle.ws_steps.specs.declared.readable.ReadableOperation.TheVariants.{Read as ReadChunk, Enqueue as EnqueueChunk, Close, Error, PullSettled}
 use Rattle.ws_steps.specs.declared.readable.ReadableState.TheVariants.{Closed, Errored}
-use Rattle.ws_steps.specs.Readable.{Slots as Readable, default_reader_read, pull_steps, call_pull_if_needed, controller_enqueue, accept, chunk_steps, controller_close, close_if_empty, stream_close, close_steps, controller_error, stream_error, error_steps, initialized, set_up, start_settled, reader_generic_initialize, pull_settled}
-use Rattle.ws_steps.specs.declared.locks.Lock.{Lock}
-use Rattle.std.proofs.lemmas.Bool.{false≢true}
-use Rattle.ws_steps.specs.Slots.{Slots, Stream, empty, ReadableStream, told, call_host, pending_host}
-use Rattle.ws_steps.specs.Turns.{row, turns, performed}
+use Rattle.ws_steps.specs.declared.readable.SizeBy.TheVariants.{Count}
+use Rattle.ws_steps.specs.Promises.{Table, Entry, pending, ended, ended_as, settled, entry_at, with_entry, next_id, fresh, settle, answer, react, watch, tell, after_next_job, use_gift, live, is_pending, is_open_entry, let_go}
+use Rattle.ws_steps.specs.Readable.{Slots as Readable, default_reader_read, pull_steps, call_pull_if_needed, controller_enqueue, accept, controller_close, close_if_empty, stream_close, controller_error, stream_error, set_up, start_settled, reader_generic_initialize, pull_settled}
+use Rattle.ws_steps.specs.Slots.{Slots, Stream, Done, empty, ReadableStream, causes, nothing, pending_host, with_promises}
+use Rattle.ws_steps.specs.Turns.{row, turns, performed, call_host}
 use Rattle.ws_steps.specs.Calls.{begin}
-use Rattle.ws_steps.specs.Jobs.{perform_job}
-use Rattle.ws_steps.specs.Run.{after_call, after_job, reply_to, work}
+use Rattle.ws_steps.specs.Jobs.{begin_job}
+use Rattle.ws_steps.specs.Run.{older, after_call, after_event, after_forgetting, reply_to, work, heard, first_event, later_events}
 use Rattle.ws_steps.proofs.PromiseLaws.{entry_within, entry_at-with_entry_same, entry_at-with_entry_other, length-with_entry, entry_at-fresh_new, entry_at-fresh, length-fresh, settle-open, react-open}
+use Rattle.ws_room_laws.proofs.Turns.{performed_next, performed_none}
+use Rattle.std.proofs.lemmas.Bool.{false≢true}
 use Rattle.ws_cli.specs.Moments.{me, reader, resting, IsResting, awaiting, Awaits, HasEnded, answered, opened}
 
--- a realm whose one stream and its reader are so
-state : Readable → PromiseId → Table → List (Option PromiseId) → List Event → ℕ → Slots
-state stream closed t hosts events age =
-    record { streams = ReadableStream stream ∷ []; locks = ReaderLock (Some me) closed ∷ []; promises = t; hosts = hosts; events = events; age = age }
+-- what the one effect of a list leaves that causes nothing, or one other
+performs-last : (s z : Slots) (e : Effect) → row e s ≡ nothing z → performed (causes (e ∷ []) s) ≡ z
+performs-last s z e h = performed_next s e [] ∙ (ap (λ (d : Done). performed (causes (d.caused ++ []) d.slots)) h ∙ performed_none z)
 
--- a table without jobs, in which no settling is to be told
+performs-then : (s y z : Slots) (e f : Effect) → row e s ≡ causes (f ∷ []) y → performed (causes (f ∷ []) y) ≡ z → performed (causes (e ∷ []) s) ≡ z
+performs-then s y z e f h g = performed_next s e [] ∙ (ap (λ (d : Done). performed (causes (d.caused ++ []) d.slots)) h ∙ g)
+
+-- a realm whose one stream and its reader are so
+state : Readable → PromiseId → Table → List (Option PromiseId) → ℕ → Slots
+state stream closed t hosts age =
+    record { streams = ReadableStream stream ∷ []; locks = ReaderLock (Some me) closed ∷ []; promises = t; hosts = hosts; age = age }
+
+-- a table without jobs, of which the host has heard all
 quiet : List (Option Entry) → ℕ → Bool → Table
-quiet entries watched astray = record { entries = entries; jobs = []; watched = watched; settlements = []; astray = astray }
+quiet entries watched astray = record { entries = entries; jobs = []; watched = watched; events = []; astray = astray }
+
+-- slots of which the parts are so
+as_state : (s : Slots) (stream : Readable) (closed : PromiseId) → s.streams ≡ ReadableStream stream ∷ [] → s.locks ≡ ReaderLock (Some me) closed ∷ []
+    → s.promises.jobs ≡ [] → s.promises.events ≡ []
+    → s ≡ state stream closed (quiet s.promises.entries s.promises.watched s.promises.astray) s.hosts s.age
+unfolding state quiet
+as_state s stream closed streams locks jobs heard =
+    ap (λ (x : List Stream). record s { streams = x }) streams
+    ∙ (ap (λ (x : List Lock). record s { streams = ReadableStream stream ∷ []; locks = x }) locks
+    ∙ (ap (λ (x : List Job). record s { streams = ReadableStream stream ∷ []; locks = ReaderLock (Some me) closed ∷ []; promises = record s.promises { jobs = x } }) jobs
+    ∙ ap (λ (x : List Event). record s { streams = ReadableStream stream ∷ []; locks = ReaderLock (Some me) closed ∷ []; promises = record s.promises { jobs = []; events = x } }) heard))
 
 -- a read of a stream at rest
-
-read_acts : (d : Bool) (c p : PromiseId) (t : Table)
-    → default_reader_read me (Promise p) (record { slots = resting d c; out = record { promises = t; effects = [] } })
-    ≡ record { slots = awaiting c p; out = record { promises = t; effects = Pull me ∷ [] } }
-unfolding default_reader_read pull_steps call_pull_if_needed
-read_acts d c p t = refl
 
 reacting : Reaction
 reacting = Perform (ReadablePull me) None
 
-read_begun : (d : Bool) (c : PromiseId) (es : List (Option Entry)) (n : ℕ) (b : Bool) (hosts : List (Option PromiseId)) (age : ℕ)
-    → performed (begin (Read reader) (state (resting d c) c (quiet es n b) hosts [] age)).done
-    ≡ state (awaiting c (next_id (quiet es n b))) c (react (next_id (fresh (quiet es n b))) reacting (fresh (fresh (quiet es n b))))
-    (hosts ++ Some (next_id (fresh (quiet es n b))) ∷ []) (Host (record { 0 = length hosts }) (HostPull me) ∷ []) age
-unfolding state quiet reacting begin default_reader_read pull_steps call_pull_if_needed fresh call_host row turns performed
-read_begun d c es n b hosts age = refl
+-- the host's call of the pull algorithm
+pulling : List (Option PromiseId) → Event
+pulling hosts = Host (record { 0 = length hosts }) (HostPull me)
+
+-- the promises once the host is called
+called : List (Option PromiseId) → Table → Table
+called hosts t = react (next_id t) reacting (tell (pulling hosts) (fresh t))
+
+read_performed : (c p : PromiseId) (hosts : List (Option PromiseId)) (age : ℕ) (d : Bool) (t : Table)
+    → performed (causes (OnReadable me (ReadChunk (Promise p)) ∷ []) (state (resting d c) c t hosts age)) ≡ state (awaiting c p) c (called hosts t) (hosts ++ Some (next_id t) ∷ []) age
+unfolding row state default_reader_read pull_steps call_pull_if_needed call_host called pulling reacting
+read_performed c p hosts age d t =
+    let y : Slots = state (awaiting c p) c t hosts age in
+    let z : Slots = state (awaiting c p) c (called hosts t) (hosts ++ Some (next_id t) ∷ []) age in
+    let call : Effect = CallHost (HostPull me) (React (ReadablePull me) None) in
+    performs-then (state (resting d c) c t hosts age) y z (OnReadable me (ReadChunk (Promise p))) (PullAlgorithm me) refl
+    (performs-then y y z (PullAlgorithm me) call refl (performs-last y z call refl))
 
 -- a pending promise is watched
 watch-pending : (t : Table) (p : PromiseId) → entry_at t p ≡ Some pending
@@ -75,68 +102,45 @@ watch-pending : (t : Table) (p : PromiseId) → entry_at t p ≡ Some pending
 unfolding watch
 watch-pending t p h = rw h refl
 
-older_told : Slots → Slots
-older_told s = record (told s) { age = s.age + 1 }
-
-read_named : (d : Bool) (c : PromiseId) (es : List (Option Entry)) (n : ℕ) (b : Bool) (hosts : List (Option PromiseId)) (age : ℕ) (t : Table)
-    → watch (next_id (quiet es n b)) (react (next_id (fresh (quiet es n b))) reacting (fresh (fresh (quiet es n b)))) ≡ t
-    → after_call (Read reader) (state (resting d c) c (quiet es n b) hosts [] age)
-    ≡ older_told (state (awaiting c (next_id (quiet es n b))) c t (hosts ++ Some (next_id (fresh (quiet es n b))) ∷ []) (Host (record { 0 = length hosts }) (HostPull me) ∷ []) age)
-unfolding state quiet reacting begin default_reader_read pull_steps call_pull_if_needed fresh call_host row turns performed older_told
-read_named d c es n b hosts age t h =
-    ap (λ (t : Table). record (told (record {
-      streams = ReadableStream (awaiting c (record { 0 = length es })) ∷ [];
-      locks = ReaderLock (Some me) c ∷ [];
-      promises = t;
-      hosts = hosts ++ Some (record { 0 = length (es ++ Some pending ∷ []) }) ∷ [];
-      events = Host (record { 0 = length hosts }) (HostPull me) ∷ [];
-      age = age;
-    })) { age = age + 1 }) h
-
 -- the promises of a read and of the pull that it causes are new
-asked : List (Option Entry) → ℕ → Bool → Table
-asked es n b =
+asked : List (Option Entry) → ℕ → Bool → List (Option PromiseId) → Table
+asked es n b hosts =
     let t = quiet es n b in
-    record (with_entry (next_id t) (Some (record pending { rank = Some n })) (with_entry (next_id (fresh t)) (Some (record pending { reactions = reacting ∷ [] })) (fresh (fresh t)))) { watched = n + 1 }
+    record (with_entry (next_id t) (Some (record pending { rank = Some n })) (with_entry (next_id (fresh t)) (Some (record pending { reactions = reacting ∷ [] })) (fresh (fresh t)))) {
+      watched = n + 1;
+      events = pulling hosts ∷ [];
+    }
 
-asked-is : (es : List (Option Entry)) (n : ℕ) (b : Bool)
-    → watch (next_id (quiet es n b)) (react (next_id (fresh (quiet es n b))) reacting (fresh (fresh (quiet es n b)))) ≡ asked es n b
-unfolding asked fresh quiet
-asked-is es n b =
+asked-is : (es : List (Option Entry)) (n : ℕ) (b : Bool) (hosts : List (Option PromiseId)) → watch (next_id (quiet es n b)) (called hosts (fresh (quiet es n b))) ≡ asked es n b hosts
+unfolding asked called fresh quiet
+asked-is es n b hosts =
     let t = quiet es n b in
     let p : PromiseId = next_id t in
     let q : PromiseId = next_id (fresh t) in
+    let u : Table = tell (pulling hosts) (fresh (fresh t)) in
     let more : length (fresh t).entries ≡ length t.entries + 1 = length-fresh t in
-    let new : entry_at (fresh (fresh t)) q ≡ Some pending = entry_at-fresh_new (fresh t) q refl in
+    let new : entry_at u q ≡ Some pending = entry_at-fresh_new (fresh t) q refl in
     let y : Option Entry = Some (record pending { reactions = reacting ∷ [] }) in
-    let first : entry_at (with_entry q y (fresh (fresh t))) p ≡ Some pending =
-    entry_at-with_entry_other (fresh (fresh t)) q p y (omega arith) ∙ (entry_at-fresh (fresh t) p (omega arith) ∙ entry_at-fresh_new t p refl) in
-    rw (react-open q reacting (fresh (fresh t)) [] new) (watch-pending (with_entry q y (fresh (fresh t))) p first)
+    let first : entry_at (with_entry q y u) p ≡ Some pending =
+    entry_at-with_entry_other u q p y (omega arith) ∙ (entry_at-fresh (fresh t) p (omega arith) ∙ entry_at-fresh_new t p refl) in
+    rw (react-open q reacting u [] new) (watch-pending (with_entry q y u) p first)
 
 read-is : (d : Bool) (c : PromiseId) (es : List (Option Entry)) (n : ℕ) (b : Bool) (hosts : List (Option PromiseId)) (age : ℕ)
-    → after_call (Read reader) (state (resting d c) c (quiet es n b) hosts [] age)
-    ≡ state (awaiting c (next_id (quiet es n b))) c (asked es n b) (hosts ++ Some (next_id (fresh (quiet es n b))) ∷ []) (Host (record { 0 = length hosts }) (HostPull me) ∷ []) (age + 1)
-unfolding state asked quiet fresh older_told
-read-is d c es n b hosts age = read_named d c es n b hosts age (asked es n b) (asked-is es n b)
-
--- slots of which the parts are so
-as_state : (s : Slots) (stream : Readable) (closed : PromiseId) → s.streams ≡ ReadableStream stream ∷ [] → s.locks ≡ ReaderLock (Some me) closed ∷ []
-    → s.promises.jobs ≡ [] → s.promises.settlements ≡ [] → s.events ≡ []
-    → s ≡ state stream closed (quiet s.promises.entries s.promises.watched s.promises.astray) s.hosts [] s.age
-unfolding state quiet
-as_state s stream closed streams locks jobs told heard =
-    ap (λ (x : List Stream). record s { streams = x }) streams
-    ∙ (ap (λ (x : List Lock). record s { streams = ReadableStream stream ∷ []; locks = x }) locks
-    ∙ (ap (λ (x : List Event). record s { streams = ReadableStream stream ∷ []; locks = ReaderLock (Some me) closed ∷ []; events = x }) heard
-    ∙ (ap (λ (x : List Job). record s { streams = ReadableStream stream ∷ []; locks = ReaderLock (Some me) closed ∷ []; events = []; promises = record s.promises { jobs = x } }) jobs
-    ∙ ap (λ (x : List PromiseId). record s { streams = ReadableStream stream ∷ []; locks = ReaderLock (Some me) closed ∷ []; events = []; promises = record s.promises { jobs = []; settlements = x } }) told)))
+    → after_call (Read reader) (state (resting d c) c (quiet es n b) hosts age)
+    ≡ state (awaiting c (next_id (quiet es n b))) c (asked es n b hosts) (hosts ++ Some (next_id (fresh (quiet es n b))) ∷ []) (age + 1)
+unfolding state begin
+read-is d c es n b hosts age =
+    let t = quiet es n b in
+    let p : PromiseId = next_id t in
+    ap (λ (s : Slots). older (with_promises (watch p s.promises) s)) (read_performed c p hosts age d (fresh t))
+    ∙ ap (λ (t' : Table). state (awaiting c p) c t' (hosts ++ Some (next_id (fresh t)) ∷ []) (age + 1)) (asked-is es n b hosts)
 
 host_there : (hosts : List (Option PromiseId)) (q : PromiseId) → slice_get (hosts ++ Some q ∷ []) (length hosts) ≡ Some (Some q)
 host_there [] q = refl
 host_there (x ∷ xs) q = host_there xs q
 
 -- what a read of a stream at rest leaves, once the host has heard of it
-pub read-awaits : (s z : Slots) → IsResting s → z ≡ record (after_call (Read reader) s) { events = [] } → Awaits z (next_id s.promises) (record { 0 = length s.hosts })
+pub read-awaits : (s z : Slots) → IsResting s → z ≡ heard (after_call (Read reader) s) → Awaits z (next_id s.promises) (record { 0 = length s.hosts })
 unfolding state asked quiet fresh reacting
 read-awaits s z h is =
     let es = s.promises.entries in
@@ -146,9 +150,9 @@ read-awaits s z h is =
     let p : PromiseId = next_id t in
     let q : PromiseId = next_id (fresh t) in
     let c : PromiseId = h.closed in
-    let at = as_state s (resting h.disturbed c) c h.streams h.locks h.jobs h.told h.heard in
-    let done : z ≡ state (awaiting c p) c (asked es n b) (s.hosts ++ Some q ∷ []) [] (s.age + 1) =
-    is ∙ ap (λ (x : Slots). record x { events = [] }) (ap (after_call (Read reader)) at ∙ read-is h.disturbed c es n b s.hosts s.age) in
+    let at = as_state s (resting h.disturbed c) c h.streams h.locks h.jobs h.heard in
+    let done : z ≡ heard (state (awaiting c p) c (asked es n b s.hosts) (s.hosts ++ Some q ∷ []) (s.age + 1)) =
+    is ∙ ap heard (ap (after_call (Read reader)) at ∙ read-is h.disturbed c es n b s.hosts s.age) in
     let within : c.0 < length es = entry_within t c pending h.reader in
     let more : length (fresh t).entries ≡ length es + 1 = length-fresh t in
     let most : length (fresh (fresh t)).entries ≡ length (fresh t).entries + 1 = length-fresh (fresh t) in
@@ -164,7 +168,6 @@ read-awaits s z h is =
       streams = refl;
       locks = refl;
       jobs = refl;
-      told = refl;
       heard = refl;
       reader = entry_at-with_entry_other t₁ p c x (omega arith) ∙ (entry_at-with_entry_other (fresh (fresh t)) q c y (omega arith) ∙ (entry_at-fresh (fresh t) c (omega arith) ∙ (entry_at-fresh t c within ∙ h.reader)));
       asked = entry_at-with_entry_same t₁ p x (omega arith);
@@ -175,11 +178,11 @@ read-awaits s z h is =
     })
 
 -- the pull's number is what the host hears of
-pub read-tells : (s : Slots) → IsResting s → (after_call (Read reader) s).events ≡ Host (record { 0 = length s.hosts }) (HostPull me) ∷ []
-unfolding state
+pub read-tells : (s : Slots) → IsResting s → (after_call (Read reader) s).promises.events ≡ Host (record { 0 = length s.hosts }) (HostPull me) ∷ []
+unfolding state asked pulling
 read-tells s h =
-    ap (λ (x : Slots). x.events)
-    (ap (after_call (Read reader)) (as_state s (resting h.disturbed h.closed) h.closed h.streams h.locks h.jobs h.told h.heard)
+    ap (λ (x : Slots). x.promises.events)
+    (ap (after_call (Read reader)) (as_state s (resting h.disturbed h.closed) h.closed h.streams h.locks h.jobs h.heard)
     ∙ read-is h.disturbed h.closed s.promises.entries s.promises.watched s.promises.astray s.hosts s.age)
 
 -- the host answers
@@ -188,12 +191,12 @@ watched : ℕ → Entry
 watched rank = record pending { rank = Some rank }
 
 answer-watched : (t : Table) (p : PromiseId) (outcome : Outcome) (rank : ℕ) → entry_at t p ≡ Some (record pending { rank = Some rank })
-    → answer p outcome t ≡ record (with_entry p (Some (ended_as outcome (watched rank))) t) { settlements = t.settlements ++ p ∷ [] }
+    → answer p outcome t ≡ record (with_entry p (Some (ended_as outcome (watched rank))) t) { events = t.events ++ Settled p ∷ [] }
 unfolding answer watched
 answer-watched t p outcome rank h = rw h refl
 
 settle-watched : (t : Table) (p : PromiseId) (outcome : Result Plain Plain) (rank : ℕ) → t.jobs ≡ [] → entry_at t p ≡ Some (record pending { rank = Some rank })
-    → settle p outcome t ≡ record (with_entry p (Some (ended_as (settled outcome) (watched rank))) t) { jobs = []; settlements = t.settlements ++ p ∷ [] }
+    → settle p outcome t ≡ record (with_entry p (Some (ended_as (settled outcome) (watched rank))) t) { jobs = []; events = t.events ++ Settled p ∷ [] }
 unfolding settle watched
 settle-watched t p outcome rank none h = rw (h, none) refl
 
@@ -212,80 +215,83 @@ closed_slots c p = record (awaiting c p) { state = Closed; requests = []; close_
 errored_slots : Plain → PromiseId → PromiseId → Readable
 errored_slots e c p = record (awaiting c p) { state = Errored; stored_error = e; requests = [] }
 
-module _ (c p : PromiseId) (hosts : List (Option PromiseId)) (age : ℕ) where
-  enqueue_told : (v : Value) (t u : Table) → answer p (Given v) t ≡ u
-      → after_call (Enqueue me v) (state (awaiting c p) c t hosts [] age) ≡ older_told (state (given_slots c) c u hosts [] age)
-  unfolding state given_slots older_told begin controller_enqueue accept chunk_steps call_pull_if_needed turns performed
-  enqueue_told v t u h =
-      ap (λ (t : Table). record (told (record { streams = ReadableStream (record (resting true c) { pulling = true }) ∷ []; locks = ReaderLock (Some me) c ∷ []; promises = t; hosts = hosts; events = []; age = age })) { age = age + 1 }) h
+-- a call of which the one effect causes one other, which causes none
+does-then : (y z s : Slots) (e f : Effect) → row e s ≡ causes (f ∷ []) y → row f y ≡ nothing z → older (performed (causes (e ∷ []) s)) ≡ older z
+does-then y z s e f h g = ap older (performs-then s y z e f h (performs-last y z f g))
 
-  finish_told : (t u : Table) → answer p (Finished (PlainValue Undefined)) (settle c (Ok Undefined) t) ≡ u
-      → after_call (Finish me) (state (awaiting c p) c t hosts [] age) ≡ older_told (state (closed_slots c p) c u hosts [] age)
-  unfolding state closed_slots older_told begin controller_close close_if_empty stream_close close_steps turns performed
-  finish_told t u h =
-      ap (λ (t : Table). record (told (record { streams = ReadableStream (record (awaiting c p) { state = Closed; requests = []; close_requested = true }) ∷ []; locks = ReaderLock (Some me) c ∷ []; promises = t; hosts = hosts; events = []; age = age })) { age = age + 1 }) h
+module _ (c p : PromiseId) (hosts : List (Option PromiseId)) (age : ℕ) (t : Table) where
+  enqueue-is : (v : Value) → after_call (Enqueue me v) (state (awaiting c p) c t hosts age) ≡ state (given_slots c) c (answer p (Given v) t) hosts (age + 1)
+  unfolding state begin row given_slots controller_enqueue accept call_pull_if_needed
+  enqueue-is v =
+      does-then (state (given_slots c) c t hosts age) (state (given_slots c) c (answer p (Given v) t) hosts age)
+      (state (awaiting c p) c t hosts age) (OnReadable me (EnqueueChunk v)) (ChunkSteps me (Promise p) v) refl refl
 
-  fail_told : (e : Plain) (t u : Table) → settle p (Err e) (settle c (Err e) t) ≡ u
-      → after_call (Fail me e) (state (awaiting c p) c t hosts [] age) ≡ older_told (state (errored_slots e c p) c u hosts [] age)
-  unfolding state errored_slots older_told begin controller_error stream_error error_steps turns performed
-  fail_told e t u h =
-      ap (λ (t : Table). record (told (record { streams = ReadableStream (record (awaiting c p) { state = Errored; stored_error = e; requests = [] }) ∷ []; locks = ReaderLock (Some me) c ∷ []; promises = t; hosts = hosts; events = []; age = age })) { age = age + 1 }) h
+  finish-is : after_call (Finish me) (state (awaiting c p) c t hosts age) ≡ state (closed_slots c p) c (answer p (Finished (PlainValue Undefined)) (settle c (Ok Undefined) t)) hosts (age + 1)
+  unfolding state begin row closed_slots controller_close close_if_empty stream_close
+  finish-is =
+      does-then (state (closed_slots c p) c (settle c (Ok Undefined) t) hosts age)
+      (state (closed_slots c p) c (answer p (Finished (PlainValue Undefined)) (settle c (Ok Undefined) t)) hosts age)
+      (state (awaiting c p) c t hosts age) (OnReadable me Close) (CloseSteps me (Promise p)) refl refl
+
+  fail-is : (e : Plain) → after_call (Fail me e) (state (awaiting c p) c t hosts age) ≡ state (errored_slots e c p) c (settle p (Err e) (settle c (Err e) t)) hosts (age + 1)
+  unfolding state begin row errored_slots controller_error stream_error
+  fail-is e =
+      does-then (state (errored_slots e c p) c (settle c (Err e) t) hosts age)
+      (state (errored_slots e c p) c (settle p (Err e) (settle c (Err e) t)) hosts age)
+      (state (awaiting c p) c t hosts age) (OnReadable me (Error e)) (ErrorSteps me (Promise p) e) refl refl
 
 -- the pull is settled, and its job, the only one, is performed
 
 pulled : Job
 pulled = ReactionJob (ReadablePull me) (Ok Undefined) None
 
-settle_told : (r : Readable) (c q : PromiseId) (h : HostId) (t u : Table) (hosts : List (Option PromiseId)) (age : ℕ)
-    → pending_host (slice_get hosts h.0) ≡ Some q → settle q (Ok Undefined) t ≡ u
-    → after_call (Settle h AnswerOk) (state r c t hosts [] age) ≡ older_told (state r c u (slice_set hosts h.0 None) [] age)
-unfolding state older_told begin turns performed
-settle_told r c q h t u hosts age under_way settled = rw (under_way, settled) refl
+settle-is : (r : Readable) (c q : PromiseId) (h : HostId) (t : Table) (hosts : List (Option PromiseId)) (age : ℕ) → pending_host (slice_get hosts h.0) ≡ Some q
+    → after_call (Settle h AnswerOk) (state r c t hosts age) ≡ state r c (settle q (Ok Undefined) t) (slice_set hosts h.0 None) (age + 1)
+unfolding state begin row
+settle-is r c q h t hosts age under_way =
+    rw under_way
+    (ap older (performs-last (state r c t (slice_set hosts h.0 None) age) (state r c (settle q (Ok Undefined) t) (slice_set hosts h.0 None) age) (SettlePromise q (Ok Undefined)) refl))
 
 work-idle : (n : ℕ) (s : Slots) → s.promises.jobs ≡ [] → work n s ≡ s
 work-idle zero s h = refl
 work-idle (suc n) s h = rw h refl
 
 -- what the controller's reaction to its pull leaves of the stream
-record Pulls (r r' : Readable) : Type 0 where
-  pub steps : (t : Table) → pull_settled me (Ok Undefined) (record { slots = r; out = record { promises = t; effects = [] } }) ≡ record { slots = r'; out = record { promises = t; effects = [] } }
+Pulls : PromiseId → Readable → Readable → Type 0
+Pulls c r r' = (t : Table) (hosts : List (Option PromiseId)) (age : ℕ) → row (OnReadable me (PullSettled (Ok Undefined))) (state r c t hosts age) ≡ nothing (state r' c t hosts age)
 
-pulled_job : (r r' : Readable) (c : PromiseId) (es : List (Option Entry)) (n : ℕ) (b : Bool) (hosts : List (Option PromiseId)) (age : ℕ) → Pulls r r'
-    → after_job (state r c (record (quiet es n b) { jobs = pulled ∷ [] }) hosts [] age) ≡ state r' c (quiet es n b) hosts [] (age + 1)
-unfolding state quiet pulled after_next_job perform_job turns performed
-pulled_job r r' c es n b hosts age h = rw (h.steps (record { entries = es; jobs = []; watched = n; settlements = []; astray = b })) refl
-
-pulled_work : (m : ℕ) (r r' : Readable) (c : PromiseId) (es : List (Option Entry)) (n : ℕ) (b : Bool) (hosts : List (Option PromiseId)) (age : ℕ) → Pulls r r'
-    → work (suc m) (state r c (record (quiet es n b) { jobs = pulled ∷ [] }) hosts [] age) ≡ state r' c (quiet es n b) hosts [] (age + 1)
-unfolding state quiet pulled
+pulled_work : (m : ℕ) (r r' : Readable) (c : PromiseId) (es : List (Option Entry)) (n : ℕ) (b : Bool) (hosts : List (Option PromiseId)) (age : ℕ) → Pulls c r r'
+    → work (suc m) (state r c (record (quiet es n b) { jobs = pulled ∷ [] }) hosts age) ≡ state r' c (quiet es n b) hosts (age + 1)
+unfolding state quiet pulled begin_job after_next_job Pulls
 pulled_work m r r' c es n b hosts age h =
-    ap (work m) (pulled_job r r' c es n b hosts age h) ∙ work-idle m (state r' c (quiet es n b) hosts [] (age + 1)) refl
+    ap (λ (s : Slots). work m (older s)) (performs-last _ _ _ (h (quiet es n b) hosts age))
+    ∙ work-idle m (state r' c (quiet es n b) hosts (age + 1)) refl
 
-given_pulls : (c : PromiseId) → Pulls (given_slots c) (resting true c)
-unfolding given_slots pull_settled
-given_pulls c = record { steps = λ t. refl }
+given_pulls : (c : PromiseId) → Pulls c (given_slots c) (resting true c)
+unfolding Pulls row state given_slots pull_settled
+given_pulls c t hosts age = refl
 
-closed_pulls : (c p : PromiseId) → Pulls (closed_slots c p) (record (closed_slots c p) { pulling = false })
-unfolding closed_slots pull_settled
-closed_pulls c p = record { steps = λ t. refl }
+closed_pulls : (c p : PromiseId) → Pulls c (closed_slots c p) (record (closed_slots c p) { pulling = false })
+unfolding Pulls row state closed_slots pull_settled
+closed_pulls c p t hosts age = refl
 
-errored_pulls : (e : Plain) (c p : PromiseId) → Pulls (errored_slots e c p) (record (errored_slots e c p) { pulling = false })
-unfolding errored_slots pull_settled
-errored_pulls e c p = record { steps = λ t. refl }
+errored_pulls : (e : Plain) (c p : PromiseId) → Pulls c (errored_slots e c p) (record (errored_slots e c p) { pulling = false })
+unfolding Pulls row state errored_slots pull_settled
+errored_pulls e c p t hosts age = refl
 
 -- the answer to a pull: the read's promise has settled by the call, and the pull's by the settling
 answered-is : (m : ℕ) (call : Call) (s : Slots) (c p q : PromiseId) (es es' : List (Option Entry)) (n : ℕ) (b : Bool) (hosts : List (Option PromiseId)) (age : ℕ) (h : HostId) (r r' : Readable)
-    → s ≡ state (awaiting c p) c (quiet es n b) hosts [] age
-    → after_call call (state (awaiting c p) c (quiet es n b) hosts [] age) ≡ older_told (state r c (record (quiet es' n b) { settlements = p ∷ [] }) hosts [] age)
-    → pending_host (slice_get hosts h.0) ≡ Some q → entry_at (quiet es' n b) q ≡ Some (record pending { reactions = reacting ∷ [] }) → Pulls r r'
-    → answered (suc m) call h s ≡ state r' c (quiet (slice_set es' q.0 (Some (ended (Fulfilled Undefined)))) n b) (slice_set hosts h.0 None) [] (age + 1 + 1 + 1)
-unfolding answered older_told state quiet reacting pulled
+    → s ≡ state (awaiting c p) c (quiet es n b) hosts age
+    → after_call call (state (awaiting c p) c (quiet es n b) hosts age) ≡ state r c (record (quiet es' n b) { events = Settled p ∷ [] }) hosts (age + 1)
+    → pending_host (slice_get hosts h.0) ≡ Some q → entry_at (quiet es' n b) q ≡ Some (record pending { reactions = reacting ∷ [] }) → Pulls c r r'
+    → answered (suc m) call h s ≡ state r' c (quiet (slice_set es' q.0 (Some (ended (Fulfilled Undefined)))) n b) (slice_set hosts h.0 None) (age + 1 + 1 + 1)
+unfolding answered state quiet reacting pulled
 answered-is m call s c p q es es' n b hosts age h r r' at told under_way host pulls =
     let ended_q : List (Option Entry) = slice_set es' q.0 (Some (ended (Fulfilled Undefined))) in
-    let first : record (after_call call s) { events = [] } ≡ state r c (quiet es' n b) hosts [] (age + 1) =
-    ap (λ (x : Slots). record x { events = [] }) (ap (after_call call) at ∙ told) in
-    let second : after_call (Settle h AnswerOk) (state r c (quiet es' n b) hosts [] (age + 1)) ≡ state r c (record (quiet ended_q n b) { jobs = pulled ∷ [] }) (slice_set hosts h.0 None) [] (age + 1 + 1) =
-    settle_told r c q h (quiet es' n b) (record (quiet ended_q n b) { jobs = pulled ∷ [] }) hosts (age + 1) under_way (settle-open q (Ok Undefined) (quiet es' n b) (reacting ∷ []) host) in
+    let first : heard (after_call call s) ≡ state r c (quiet es' n b) hosts (age + 1) = ap heard (ap (after_call call) at ∙ told) in
+    let second : after_call (Settle h AnswerOk) (state r c (quiet es' n b) hosts (age + 1)) ≡ state r c (record (quiet ended_q n b) { jobs = pulled ∷ [] }) (slice_set hosts h.0 None) (age + 1 + 1) =
+    settle-is r c q h (quiet es' n b) hosts (age + 1) under_way
+    ∙ ap (λ (t : Table). state r c t (slice_set hosts h.0 None) (age + 1 + 1)) (settle-open q (Ok Undefined) (quiet es' n b) (reacting ∷ []) host) in
     ap (λ (x : Slots). work (suc m) (after_call (Settle h AnswerOk) x)) first
     ∙ (ap (work (suc m)) second ∙ pulled_work m r r' c ended_q n b (slice_set hosts h.0 None) (age + 1 + 1) pulls)
 
@@ -310,8 +316,8 @@ enqueue-rests m v s p h a =
     let same : length t₁.entries ≡ length es = length-with_entry t p x in
     let host : entry_at t₁ q ≡ Some (record pending { reactions = reacting ∷ [] }) = entry_at-with_entry_other t p q x (omega arith) ∙ a.host in
     rw (answered-is m (Enqueue me v) s c p q es t₁.entries n b s.hosts s.age h (given_slots c) (resting true c)
-    (as_state s (awaiting c p) c a.streams a.locks a.jobs a.told a.heard)
-    (enqueue_told c p s.hosts s.age v t (record t₁ { settlements = p ∷ [] }) (answer-watched t p (Given v) a.rank a.asked))
+    (as_state s (awaiting c p) c a.streams a.locks a.jobs a.heard)
+    (enqueue-is c p s.hosts s.age t v ∙ ap (λ (u : Table). state (given_slots c) c u s.hosts (s.age + 1)) (answer-watched t p (Given v) a.rank a.asked))
     a.under_way host (given_pulls c)) (
       record {
         disturbed = true;
@@ -319,7 +325,6 @@ enqueue-rests m v s p h a =
         streams = refl;
         locks = refl;
         jobs = refl;
-        told = refl;
         heard = refl;
         reader = entry_at-with_entry_other t₁ q c y (omega arith) ∙ (entry_at-with_entry_other t p c x (omega arith) ∙ a.reader);
       },
@@ -328,9 +333,9 @@ enqueue-rests m v s p h a =
 
 -- the reader's closed promise settled first, then the read's promise, and then the pull was answered
 ended_last : (m : ℕ) (call : Call) (s : Slots) (p : PromiseId) (h : HostId) (a : Awaits s p h) (r r' : Readable) (closed : Result Plain Plain) (outcome : Outcome)
-    → after_call call (state (awaiting a.closed p) a.closed (quiet s.promises.entries s.promises.watched s.promises.astray) s.hosts [] s.age)
-    ≡ older_told (state r a.closed (record (with_entry p (Some (ended_as outcome (watched a.rank))) (quiet (slice_set s.promises.entries a.closed.0 (Some (ended (settled closed)))) s.promises.watched s.promises.astray)) { settlements = p ∷ [] }) s.hosts [] s.age)
-    → Pulls r r'
+    → after_call call (state (awaiting a.closed p) a.closed (quiet s.promises.entries s.promises.watched s.promises.astray) s.hosts s.age)
+    ≡ state r a.closed (record (with_entry p (Some (ended_as outcome (watched a.rank))) (quiet (slice_set s.promises.entries a.closed.0 (Some (ended (settled closed)))) s.promises.watched s.promises.astray)) { events = Settled p ∷ [] }) s.hosts (s.age + 1)
+    → Pulls a.closed r r'
     → HasEnded (answered (suc m) call h s) p outcome
 unfolding state quiet watched reacting
 ended_last m call s p h a r r' closed outcome told pulls =
@@ -352,7 +357,7 @@ ended_last m call s p h a r r' closed outcome told pulls =
     let same₂ : length t₂.entries ≡ length t₁.entries = length-with_entry t₁ p x in
     let host : entry_at t₂ q ≡ Some (record pending { reactions = reacting ∷ [] }) =
     entry_at-with_entry_other t₁ p q x (omega arith) ∙ (entry_at-with_entry_other t c q z (omega arith) ∙ a.host) in
-    rw (answered-is m call s c p q es t₂.entries n b s.hosts s.age h r r' (as_state s (awaiting c p) c a.streams a.locks a.jobs a.told a.heard) told a.under_way host pulls)
+    rw (answered-is m call s c p q es t₂.entries n b s.hosts s.age h r r' (as_state s (awaiting c p) c a.streams a.locks a.jobs a.heard) told a.under_way host pulls)
     (record { rank = a.rank; entry = entry_at-with_entry_other t₂ q p y (omega arith) ∙ entry_at-with_entry_same t₁ p x (omega arith) })
 
 asked_still : (s : Slots) (p : PromiseId) (h : HostId) (a : Awaits s p h) (closed : Result Plain Plain)
@@ -372,7 +377,8 @@ finish-finishes m s p h a =
     let c : PromiseId = a.closed in
     let t₁ : Table = quiet (slice_set es c.0 (Some (ended (Fulfilled Undefined)))) n b in
     ended_last m (Finish me) s p h a (closed_slots c p) _ (Ok Undefined) (Finished (PlainValue Undefined))
-    (finish_told c p s.hosts s.age (quiet es n b) _
+    (finish-is c p s.hosts s.age (quiet es n b)
+    ∙ ap (λ (u : Table). state (closed_slots c p) c u s.hosts (s.age + 1))
     (ap (answer p (Finished (PlainValue Undefined))) (settle-alone es n b c (Ok Undefined) a.reader)
     ∙ answer-watched t₁ p (Finished (PlainValue Undefined)) a.rank (asked_still s p h a (Ok Undefined))))
     (closed_pulls c p)
@@ -387,7 +393,8 @@ fail-rejects m e s p h a =
     let c : PromiseId = a.closed in
     let t₁ : Table = quiet (slice_set es c.0 (Some (ended (Rejected e)))) n b in
     ended_last m (Fail me e) s p h a (errored_slots e c p) _ (Err e) (Rejected e)
-    (fail_told c p s.hosts s.age e (quiet es n b) _
+    (fail-is c p s.hosts s.age (quiet es n b) e
+    ∙ ap (λ (u : Table). state (errored_slots e c p) c u s.hosts (s.age + 1))
     (ap (settle p (Err e)) (settle-alone es n b c (Err e) a.reader)
     ∙ settle-watched t₁ p (Err e) a.rank refl (asked_still s p h a (Err e))))
     (errored_pulls e c p)
@@ -398,38 +405,36 @@ fail-rejects m e s p h a =
 just_made : Slots
 just_made =
     record {
-      streams = ReadableStream initialized ∷ [];
+      streams = ReadableStream (set_up HostOwner 0 Count) ∷ [];
       locks = [];
-      promises = record { entries = Some (ended (Fulfilled Undefined)) ∷ []; jobs = ReactionJob (ReadableStart me) (Ok Undefined) None ∷ []; watched = 0; settlements = []; astray = false };
+      promises = record { entries = Some (ended (Fulfilled Undefined)) ∷ []; jobs = ReactionJob (ReadableStart me) (Ok Undefined) None ∷ []; watched = 0; events = []; astray = false };
       hosts = [];
-      events = [];
       age = 1;
     }
 
 just_started : Slots
 just_started =
     record {
-      streams = ReadableStream (record initialized { started = true }) ∷ [];
+      streams = ReadableStream (record (set_up HostOwner 0 Count) { started = true }) ∷ [];
       locks = [];
-      promises = record { entries = Some (ended (Fulfilled Undefined)) ∷ []; jobs = []; watched = 0; settlements = []; astray = false };
+      promises = record { entries = Some (ended (Fulfilled Undefined)) ∷ []; jobs = []; watched = 0; events = []; astray = false };
       hosts = [];
-      events = [];
       age = 2;
     }
 
 made : after_call (MakeReadable 0 Count Now) empty ≡ just_made
-unfolding just_made begin set_up fresh settle react row turns performed
+unfolding just_made begin use_gift fresh settle react row turns performed
 made = refl
 
 started : (m : ℕ) → work (suc m) (after_call (MakeReadable 0 Count Now) empty) ≡ just_started
-unfolding just_made just_started after_next_job perform_job start_settled call_pull_if_needed turns performed
+unfolding just_made just_started begin_job after_next_job start_settled call_pull_if_needed row turns performed
 started m = ap (work (suc m)) made ∙ work-idle m just_started refl
 
 pub opened-rests : (m : ℕ) → IsResting (opened (suc m))
-unfolding opened just_started begin reader_generic_initialize fresh turns performed
+unfolding opened just_started begin reader_generic_initialize fresh row turns performed
 opened-rests m =
     rw (started m)
-    (record { disturbed = false; closed = record { 0 = 1 }; streams = refl; locks = refl; jobs = refl; told = refl; heard = refl; reader = refl })
+    (record { disturbed = false; closed = record { 0 = 1 }; streams = refl; locks = refl; jobs = refl; heard = refl; reader = refl })
 
 -- the read's promise is let go of
 
@@ -455,7 +460,6 @@ forgotten-rests s p o over h r =
       streams = r.streams;
       locks = r.locks;
       jobs = r.jobs;
-      told = r.told;
       heard = r.heard;
       reader = entry_at-with_entry_other s.promises p r.closed None (pending_apart s.promises p r.closed o e over h.entry r.reader) ∙ r.reader;
     })
@@ -465,33 +469,34 @@ forgotten-rests s p o over h r =
 read_replies : (s : Slots) → IsResting s → reply_to (Read reader) s ≡ PromiseReply (next_id s.promises)
 unfolding state quiet begin
 read_replies s h =
-    ap (reply_to (Read reader)) (as_state s (resting h.disturbed h.closed) h.closed h.streams h.locks h.jobs h.told h.heard)
+    ap (reply_to (Read reader)) (as_state s (resting h.disturbed h.closed) h.closed h.streams h.locks h.jobs h.heard)
 
 pub read-promises : (s : Slots) (reply : Reply) → IsResting s → reply ≡ reply_to (Read reader) s → ((p : PromiseId) → reply ≡ PromiseReply p → ⊥) → ⊥
 read-promises s reply h is other = other (next_id s.promises) (is ∙ read_replies s h)
 
-pub read-hosts : (s y : Slots) → IsResting s → y ≡ after_call (Read reader) s → first_event y.events ≡ Some (Host (record { 0 = length s.hosts }) (HostPull me))
-read-hosts s y h is = ap first_event (ap (λ (x : Slots). x.events) is ∙ read-tells s h)
+pub read-hosts : (s y : Slots) → IsResting s → y ≡ after_call (Read reader) s → first_event y.promises.events ≡ Some (Host (record { 0 = length s.hosts }) (HostPull me))
+read-hosts s y h is = ap first_event (ap (λ (x : Slots). x.promises.events) is ∙ read-tells s h)
 
 -- the read of the promise that is answered awaits the answer to the pull that the host hears of
 pub read-asked : (s y z : Slots) (reply : Reply) (p : PromiseId) (id : HostId) (call : HostCall)
     → IsResting s → reply ≡ reply_to (Read reader) s → reply ≡ PromiseReply p → y ≡ after_call (Read reader) s
-    → first_event y.events ≡ Some (Host id call) → z ≡ record y { events = later_events y.events }
+    → first_event y.promises.events ≡ Some (Host id call) → z ≡ after_event y
     → Awaits z p id
-read-asked s y z reply p id call h replies promise is tells heard =
-    let told : y.events ≡ Host (record { 0 = length s.hosts }) (HostPull me) ∷ [] = ap (λ (x : Slots). x.events) is ∙ read-tells s h in
+read-asked s y z reply p id call h replies promise is tells left =
+    let told : y.promises.events ≡ Host (record { 0 = length s.hosts }) (HostPull me) ∷ [] = ap (λ (x : Slots). x.promises.events) is ∙ read-tells s h in
     let named : PromiseReply (next_id s.promises) ≡ PromiseReply p = sym (read_replies s h) ∙ (sym replies ∙ promise) in
     let same : next_id s.promises ≡ p = cc in
     let first : Some (Host (record { 0 = length s.hosts }) (HostPull me)) ≡ Some (Host id call) = sym (read-hosts s y h is) ∙ tells in
     let number : ◌≡◌ {A = HostId} (record { 0 = length s.hosts }) id = cc in
-    let left : z ≡ record (after_call (Read reader) s) { events = [] } =
-    heard ∙ (ap (λ (events : List Event). record y { events = later_events events }) told ∙ ap (λ (x : Slots). record x { events = [] }) is) in
-    subst (λ (n : HostId). Awaits z p n) number (subst (λ (x : PromiseId). Awaits z x (record { 0 = length s.hosts })) same (read-awaits s z h left))
+    let told_all : z ≡ heard (after_call (Read reader) s) =
+    left ∙ (ap (λ (events : List Event). record y { promises = record y.promises { events = later_events events } }) told ∙ ap heard is) in
+    subst (λ (n : HostId). Awaits z p n) number (subst (λ (x : PromiseId). Awaits z x (record { 0 = length s.hosts })) same (read-awaits s z h told_all))
 
 no_event : (events : List Event) → first_event events ≡ None → events ≡ []
 no_event [] h = refl
 no_event (event ∷ events) h = cc
 
 -- the host has heard of all events
-pub heard-all : (l w y : Slots) → first_event l.events ≡ None → w ≡ record l { events = later_events l.events } → ◌≡◌ {A = Slots} (record l { events = [] }) (record y { events = [] }) → w ≡ record y { events = [] }
-heard-all l w y none left same = left ∙ (ap (λ (events : List Event). record l { events = later_events events }) (no_event l.events none) ∙ same)
+pub heard-all : (l w y : Slots) → first_event l.promises.events ≡ None → w ≡ after_event l → heard l ≡ heard y → w ≡ heard y
+heard-all l w y none left same =
+    left ∙ (ap (λ (events : List Event). record l { promises = record l.promises { events = later_events events } }) (no_event l.promises.events none) ∙ same)

@@ -19,8 +19,9 @@ use Rattle.ws_steps.specs.declared.readable.ReadRequest.TheVariants.{Promise}
 use Rattle.ws_cli.specs.declared.turn.Turn.{Turn}
 use Rattle.ws_cli.specs.declared.turn.Turn.TheVariants.{Moved, Ended}
 use Rattle.ws_steps.specs.Promises.{pending, ended_as, entry_at}
-use Rattle.ws_steps.specs.Readable.{Slots as Readable, initialized}
-use Rattle.ws_steps.specs.Run.{after_call, work}
+use Rattle.ws_steps.specs.declared.effects.Owner.TheVariants.{Host}
+use Rattle.ws_steps.specs.Readable.{Slots as Readable, set_up}
+use Rattle.ws_steps.specs.Run.{after_call, work, heard}
 use Rattle.ws_steps.specs.Slots.{Slots, ReadableStream, empty, host_at}
 
 -- the number of the one stream, and of its reader
@@ -32,7 +33,7 @@ reader = record { 0 = 0 }
 
 -- the stream is readable, started, locked by a reader with this closed promise, and empty; nothing waits and nothing goes on
 abbrev pub resting : Bool → PromiseId → Readable
-resting disturbed closed = record initialized { disturbed = disturbed; reader = Some closed; started = true }
+resting disturbed closed = record (set_up Host 0 Count) { disturbed = disturbed; reader = Some closed; started = true }
 
 -- the same stream with a read of promise `p` that waits, for which a pull is under way
 abbrev pub awaiting : PromiseId → PromiseId → Readable
@@ -44,8 +45,7 @@ pub record IsResting (s : Slots) : Type 0 where
   pub streams : s.streams ≡ ReadableStream (resting disturbed closed) ∷ []
   pub locks : s.locks ≡ ReaderLock (Some me) closed ∷ []
   pub jobs : s.promises.jobs ≡ []
-  pub told : s.promises.settlements ≡ []
-  pub heard : s.events ≡ []
+  pub heard : s.promises.events ≡ []
   pub reader : entry_at s.promises closed ≡ Some pending
 
 -- the read of promise `p` waits, and the host is to answer the pull of number `h`
@@ -56,8 +56,7 @@ pub record Awaits (s : Slots) (p : PromiseId) (h : HostId) : Type 0 where
   pub streams : s.streams ≡ ReadableStream (awaiting closed p) ∷ []
   pub locks : s.locks ≡ ReaderLock (Some me) closed ∷ []
   pub jobs : s.promises.jobs ≡ []
-  pub told : s.promises.settlements ≡ []
-  pub heard : s.events ≡ []
+  pub heard : s.promises.events ≡ []
   pub reader : entry_at s.promises closed ≡ Some pending
   pub asked : entry_at s.promises p ≡ Some (record pending { rank = Some rank })
   pub under_way : host_at h s ≡ Some pull
@@ -72,7 +71,7 @@ pub record HasEnded (s : Slots) (p : PromiseId) (outcome : Outcome) : Type 0 whe
 
 -- the host answers the pull `h` by a call, of whose event it has heard, and at most so many jobs follow
 unfoldable pub answered : ℕ → Call → HostId → Slots → Slots
-answered jobs call h s = work jobs (after_call (Settle h AnswerOk) (record (after_call call s) { events = [] }))
+answered jobs call h s = work jobs (after_call (Settle h AnswerOk) (heard (after_call call s)))
 
 -- the stream is made and started, and a reader takes it
 unfoldable pub opened : ℕ → Slots

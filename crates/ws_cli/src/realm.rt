@@ -1,6 +1,6 @@
 //! A realm of one readable stream with mark 0 and its reader: a read, and the host's answer to the pull that it causes.
-ghost use Rattle.std.specs.Prelude.{◌≡◌, true, Some, IsSome, IfOk, OnOk, OnErr};
-ghost use Rattle.ws_realm.specs.Seen.{outcome_named};
+ghost use Rattle.std.specs.Prelude.{◌≡◌, ◌≢◌, true, Some, IsOk, IsSome, IfOk, OnOk, OnErr};
+ghost use Rattle.ws_realm.specs.Seen.{oldest, outcome_named};
 ghost use Rattle.ws_cli.specs.Moments.{IsResting, Awaits, answered, jobs_of_a_turn};
 
 use crate::ask;
@@ -46,7 +46,9 @@ pub fn open<R: Wait>(rt: &R, alloc: Global) -> Result<Realm, NoMemory>
 pub fn read<R: Wait>(rt: &R, realm: &mut Realm) -> Result<Asked, NoMemory>
     requires { IsResting realm.old.slots }
     ensures asked { IfOk result (λ asked. Awaits realm.new.slots asked.promise asked.pull) }
-    ensures wanting { OnErr result (realm.new.wanting ≡ true) }
+    ensures spent { OnErr result (realm.new.slots.age ≢ oldest) }
+    ensures untouched { OnErr result (realm.new ≡ realm.old) }
+    ensures prepared { realm.old.prepared ≡ true → IsOk result }
 {
     let Reply::Promise(promise) = ask::call(rt, realm, Call::Read(READER))? else {
         unreachable!();
@@ -62,7 +64,7 @@ pub fn read<R: Wait>(rt: &R, realm: &mut Realm) -> Result<Asked, NoMemory>
 /// The host answers a pull by a call on the stream, and settles it.
 pub fn answer<R: Wait>(rt: &R, realm: &mut Realm, pull: HostId, call: Call) -> Result<(), NoMemory>
     ensures slots { OnOk result (realm.new.slots ≡ answered jobs_of_a_turn call pull realm.old.slots) }
-    ensures wanting { OnErr result (realm.new.wanting ≡ true) }
+    ensures spent { OnErr result (realm.new.slots.age ≢ oldest) }
 {
     ask::call(rt, realm, call)?;
     while let Some(_heard) = realm.next_event() {}

@@ -1,16 +1,12 @@
 -- What the letting go of a promise leaves: each other place as it was, the mark of what went astray, and no more of what is registered
 -- or queued.
-use Rattle.std.proofs.Common.{◌≡◌, ℕ, ◌≤◌, nat_eq, true, false, not, is_some, Option, Some, None, slice_get, refl, sym, ap, arith}
+use Rattle.std.proofs.Common.{◌≡◌, nat_eq, true, false, not, is_some, Option, Some, None, slice_get, refl, sym, ap}
 use Rattle.std.specs.Option.{option_map}
 use Rattle.ws_value.specs.declared.ids.PromiseId.{PromiseId}
-use Rattle.ws_steps.specs.declared.promises.Reaction.{Reaction}
-use Rattle.ws_steps.specs.declared.promises.Step.{Step}
 use Rattle.ws_steps.specs.Promises.{Entry, Table, live, entry_at, outcome_at, with_entry, is_pending, may_go_entry, may_go, let_go}
 use Rattle.ws_steps.proofs.PromiseLaws.{slice_get-set_other}
 use Rattle.ws_laws.proofs.Tables.{either, unequal_numbers}
 use Rattle.ws_laws.proofs.Truth.{and_right, not_false}
-use Rattle.ws_laws.proofs.Weights.{weigh, of_entries-set}
-use Rattle.ws_laws.proofs.Outstanding.{of_reaction, weight}
 
 settled_entry : (P : Type 0) (x : Option Entry) → may_go_entry x ≡ true → ((e : Entry) → x ≡ Some e → is_pending e.outcome ≡ false → P) → P
 settled_entry P None may gone = absurd (cc)
@@ -36,13 +32,3 @@ let_go-outcome p q t n = ap (λ (x : Option (Option Entry)). option_map (λ (e :
 
 pub let_go-mark : (q : PromiseId) (t : Table) → (let_go q t).astray ≡ t.astray
 let_go-mark q t = let_go-either (λ (z : Table). z.astray ≡ t.astray) q t refl (λ e h k. refl)
-
-pub weigh-let_go : (f : Reaction → ℕ) (q : PromiseId) (t : Table) → weigh f (let_go q t) ≤ weigh f t
-unfolding weigh
-weigh-let_go f q t =
-    let_go-either (λ (z : Table). weigh f z ≤ weigh f t) q t (omega arith)
-    (λ e h k. let n = of_entries-set f t.entries q.0 None e h in omega arith)
-
-pub weight-let_go : (f : Step → ℕ) (q : PromiseId) (t : Table) → weight f (let_go q t) ≤ weight f t
-unfolding weight
-weight-let_go f q t = weigh-let_go (of_reaction f) q t

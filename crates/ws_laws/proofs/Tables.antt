@@ -1,23 +1,10 @@
 -- The streams of a realm, by number, after an operation on one of them.
-use Rattle.std.proofs.Common.{◌≡◌, ◌≢◌, ℕ, zero, suc, Bool, true, false, List, [], ◌∷◌, ◌++◌, length, Option, Some, None, Result, if◌then◌else◌, nat_eq, refl, sym, ap, ◌∙◌, arith, slice_get, slice_set}
-use Rattle.ws_value.specs.declared.ids.PromiseId.{PromiseId}
+use Rattle.std.proofs.Common.{◌≡◌, ◌≢◌, ℕ, zero, suc, Bool, true, false, List, [], ◌∷◌, ◌++◌, length, Option, Some, None, if◌then◌else◌, nat_eq, refl, sym, ap, ◌∙◌, arith, slice_get, slice_set}
 use Rattle.ws_value.specs.declared.ids.StreamId.{StreamId}
-use Rattle.ws_value.specs.declared.value.Plain.{Plain}
-use Rattle.ws_steps.specs.declared.effects.Effect.{Effect}
-use Rattle.ws_steps.specs.declared.effects.Effect.TheVariants.{Start, Pull, Cancel, StartWritable, Write, Close, Abort}
-use Rattle.ws_steps.specs.declared.calls.Reply.{Reply}
-use Rattle.ws_steps.specs.declared.calls.Reply.TheVariants.{Done as ReplyDone, Made, Lock as ReplyLock, Promise, Size, State as StateReply, Throws, TooMany}
-use Rattle.ws_steps.specs.declared.calls.StartBy.{StartBy}
-use Rattle.ws_steps.specs.declared.calls.StartBy.TheVariants.{Now, Later}
-use Rattle.ws_steps.specs.declared.promises.Step.{Step}
 use Rattle.ws_steps.specs.Readable as readable
 use Rattle.ws_steps.specs.Writable as writable
-use Rattle.ws_steps.specs.Slots.{Slots, Stream, ReadableStream, WritableStream, Done, found, on_readable, on_writable, has_readable, has_writable, readable_at, writable_at, is_readable_stream, is_writable_stream, as_readable, as_writable, no_readable, no_writable, call_host}
-use Rattle.ws_steps.specs.Turns.{row, performed, started}
+use Rattle.ws_steps.specs.Slots.{Slots, Stream, ReadableStream, WritableStream, Done, found, on_readable, on_writable, has_readable, has_writable, readable_at, writable_at, is_readable_stream, is_writable_stream, as_readable, as_writable, no_readable, no_writable}
 use Rattle.ws_steps.specs.Histories.{is_same}
-use Rattle.ws_steps.proofs.TurnLaws.{performed-none, performed-next}
-use Rattle.ws_steps.specs.Jobs.{resolve_derived}
-use Rattle.ws_steps.specs.Calls.{named}
 
 -- whichever branch is taken
 pub either : {A : Type 0} (P : A → Type 0) (c : Bool) (x y : A) → (c ≡ true → P x) → (c ≡ false → P y) → P (if c then x else y)
@@ -80,24 +67,16 @@ no_stream i streams e = rw e (place_past streams)
 -- what is there
 
 pub readable_there : (o : Option Stream) → is_readable_stream o ≡ true → o ≡ Some (ReadableStream (as_readable o))
-readable_there None e = cc
-readable_there (Some (ReadableStream r)) e = refl
-readable_there (Some (WritableStream w)) e = cc
+readable_there o e = grind arith
 
 pub no_readable_there : (o : Option Stream) → is_readable_stream o ≡ false → as_readable o ≡ no_readable
-no_readable_there None e = refl
-no_readable_there (Some (ReadableStream r)) e = cc
-no_readable_there (Some (WritableStream w)) e = refl
+no_readable_there o e = grind arith
 
 pub writable_there : (o : Option Stream) → is_writable_stream o ≡ true → o ≡ Some (WritableStream (as_writable o))
-writable_there None e = cc
-writable_there (Some (ReadableStream r)) e = cc
-writable_there (Some (WritableStream w)) e = refl
+writable_there o e = grind arith
 
 pub no_writable_there : (o : Option Stream) → is_writable_stream o ≡ false → as_writable o ≡ no_writable
-no_writable_there None e = refl
-no_writable_there (Some (ReadableStream r)) e = refl
-no_writable_there (Some (WritableStream w)) e = cc
+no_writable_there o e = grind arith
 
 -- an operation on stream j
 
@@ -161,55 +140,3 @@ on_readable-writable operation j s i true e =
     rw is (either (λ (d : Done). writable_at j d.slots ≡ writable_at j s) (has_readable j s) _ _
     (λ h. ap as_writable (place_same s.streams j.0 (ReadableStream (readable_at j s)) _ (readable_there (slice_get s.streams j.0) h)) ∙ sym (ap as_writable (readable_there (slice_get s.streams j.0) h)))
     (λ h. refl))
-
--- effects leave all streams
-
-started-streams : (i : StreamId) (step : Step) (start : StartBy) (s : Slots) → (started i step start s).streams ≡ s.streams
-unfolding call_host
-started-streams i step Now s = refl
-started-streams i step Later s = refl
-
-row-streams : (e : Effect) (s : Slots) → (row e s).slots.streams ≡ s.streams
-unfolding row call_host
-row-streams (Start i start) s = started-streams i _ start s
-row-streams (Pull i) s = refl
-row-streams (Cancel i reason p) s = refl
-row-streams (StartWritable i start) s = started-streams i _ start s
-row-streams (Write i v) s = refl
-row-streams (Close i) s = refl
-row-streams (Abort i reason p) s = refl
-
--- an effect causes no other
-pub row-caused : (e : Effect) (s : Slots) → (row e s).caused ≡ []
-unfolding row
-row-caused (Start i start) s = refl
-row-caused (Pull i) s = refl
-row-caused (Cancel i reason p) s = refl
-row-caused (StartWritable i start) s = refl
-row-caused (Write i v) s = refl
-row-caused (Close i) s = refl
-row-caused (Abort i reason p) s = refl
-
-performed-streams_from : (es : List Effect) (s : Slots) → (performed (record { slots = s; caused = es })).streams ≡ s.streams
-performed-streams_from [] s = ap (λ (z : Slots). z.streams) (performed-none s)
-performed-streams_from (e ∷ es) s =
-    rw (performed-next s e es, row-caused e s) (performed-streams_from es (row e s).slots ∙ row-streams e s)
-
-pub performed-streams : (d : Done) → (performed d).streams ≡ d.slots.streams
-performed-streams d = performed-streams_from d.caused d.slots
-
--- and so does the resolving of a derived promise
-pub derived-streams : (derived : Option PromiseId) (o : Result Plain Plain) (s : Slots) → (resolve_derived derived o s).streams ≡ s.streams
-derived-streams None o s = refl
-derived-streams (Some p) o s = refl
-
--- and so does the watching of what a call answers
-pub named-streams : (reply : Reply) (s : Slots) → (named reply s).streams ≡ s.streams
-named-streams ReplyDone s = refl
-named-streams (Made i) s = refl
-named-streams (ReplyLock l) s = refl
-named-streams (Promise p) s = refl
-named-streams (Size n) s = refl
-named-streams (StateReply x) s = refl
-named-streams (Throws t) s = refl
-named-streams TooMany s = refl

@@ -1,72 +1,74 @@
-ghost use Rattle.std.specs.Prelude.{◌≡◌, ◌≤◌, ◌<◌, ◌++◌, ◌-◌, ◌∷◌, [], IfOk, OnOk, OnErr};
-ghost use Rattle.ws_promise.specs.Seen.{first_effect, later_effects};
+ghost use Rattle.std.specs.Prelude.{◌≡◌, ◌≤◌, ◌++◌, ◌∷◌, [], length, MatchOption, IsOk, IfOk, OnOk, OnErr};
+ghost use Rattle.ws_promise.specs.Seen.{HasEffectRoom};
 
 use std::alloc::Global;
-use std::collections::VecDeque;
 use std::marker::Model;
 use ws_steps::Effect;
 use ws_value::NoMemory;
 
-/// The effects that are still to be performed, in order, and for how many more there is room.
+/// The effects that the effect under way has caused so far, in order. It is seen with the number of its places.
 #[derive(Drop)]
 pub struct Agenda {
-    effects: VecDeque<Effect>,
-    spare: usize,
+    effects: Vec<Effect>,
 }
 
 impl Model for Agenda {
-    ghost use Rattle.std.specs.Prelude.{◌+◌, ◌≤◌};
-    ghost use Rattle.std.specs.VecDeque.{deque_len, deque_capacity};
+    ghost use Rattle.std.specs.Prelude.{vec_capacity};
     ghost use Rattle.ws_promise.specs.Seen.{SeenAgenda};
 
     ghost Value = { SeenAgenda };
 
-    ghost view = { λ a. record { effects = a.effects.items; spare = a.spare } };
-
-    ghost invariant = { λ a. a.spare + deque_len a.effects ≤ deque_capacity a.effects };
+    ghost view = { λ a. record { effects = a.effects.items; capacity = vec_capacity a.effects } };
 }
 
 impl Agenda {
-    /// An empty agenda. Room is made by `reserve`.
+    /// No effects. Places are made by `reserve`.
     pub fn make(alloc: Global) -> Result<Agenda, NoMemory>
-        ensures { IfOk result (λ agenda. agenda.effects ≡ []) }
+        ensures made { IsOk result }
+        ensures effects { IfOk result (λ agenda. agenda.effects ≡ []) }
     {
         Ok(Agenda {
-            effects: VecDeque::new(alloc),
-            spare: 0,
+            effects: Vec::new(alloc),
         })
     }
 
-    /// Makes room for `n` effects more.
+    /// Makes places for `n` effects more.
     pub fn reserve(&mut self, n: usize) -> Result<(), NoMemory>
-        ensures ok { OnOk result (n ≤ self.new.spare) }
+        ensures ok { OnOk result (HasEffectRoom n self.new) }
         ensures effects { self.new.effects ≡ self.old.effects }
-        ensures spare { self.old.spare ≤ self.new.spare }
+        ensures grows { self.old.capacity ≤ self.new.capacity }
         ensures err { OnErr result (self.new ≡ self.old) }
+        ensures ready { HasEffectRoom n self.old → (IsOk result) × (self.new ≡ self.old) }
     {
-        self.effects.reserve(n)?;
-        if self.spare < n {
-            self.spare = n;
+        if n <= self.effects.capacity() - self.effects.len() {
+            return Ok(());
         }
+        self.effects.reserve(n)?;
         Ok(())
     }
 
-    /// Puts an effect after the others.
-    pub fn push(&mut self, effect: Effect)
-        requires { 0 < self.old.spare }
-        ensures effects { self.new.effects ≡ self.old.effects ++ effect ∷ [] }
-        ensures spare { self.new.spare ≡ self.old.spare - 1 }
+    /// How many effects there are.
+    pub fn len(&self) -> usize
+        ensures { result ≡ length self.now.effects }
     {
-        self.effects.push_back_reserved(effect);
-        self.spare -= 1;
+        self.effects.len()
     }
 
-    /// Takes the first effect.
-    pub fn next_effect(&mut self) -> Option<Effect>
-        ensures effect { result ≡ first_effect self.old.effects }
-        ensures effects { self.new.effects ≡ later_effects self.old.effects }
-        ensures spare { self.new.spare ≡ self.old.spare }
+    /// Causes an effect, which goes after the others.
+    pub fn push(&mut self, effect: Effect)
+        requires { HasEffectRoom 1 self.old }
+        ensures { self.new ≡ record self.old { effects = self.old.effects ++ effect ∷ [] } }
     {
-        self.effects.pop_front()
+        self.effects.push_reserved(effect);
+    }
+
+    /// Takes the last effect.
+    pub fn take_last(&mut self) -> Option<Effect>
+        ensures effects { MatchOption result
+            ((self.old.effects ≡ []) × (self.new.effects ≡ []))
+            (λ effect. self.old.effects ≡ self.new.effects ++ effect ∷ []) }
+        ensures capacity { self.new.capacity ≡ self.old.capacity }
+    {
+        self.effects.pop()
     }
 }

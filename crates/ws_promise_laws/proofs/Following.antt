@@ -1,89 +1,121 @@
--- A promise that stands where it is to be settled follows another, and stands there no more.
-use Rattle.std.proofs.Common.{◌≡◌, ℕ, ◌+◌, ◌≤◌, Bool, true, false, not, nat_eq, Option, Some, None, refl, sym, ap, ◌∙◌, arith}
+-- A promise that stands where it is to be settled follows another, and stands there no more; and the first job is taken.
+use Rattle.std.proofs.Common.{◌≡◌, ℕ, ◌+◌, ◌≤◌, Bool, true, false, not, nat_eq, List, [], ◌∷◌, Option, Some, None, Result, slice_set, refl, sym, ap, ◌∙◌, arith}
 use Rattle.ws_value.specs.declared.ids.PromiseId.{PromiseId}
-use Rattle.ws_steps.specs.Promises.{is_following_entry, Entry, Table, entry_at, is_pending, is_open, is_open_entry, follow, follow_entry}
-use Rattle.ws_steps.proofs.PromiseLaws.{entry_within, entry_at-with_entry_same}
-use Rattle.ws_laws.proofs.Weights.{weigh, weigh-follow}
-use Rattle.ws_writable_laws.proofs.Shape.{one_if}
-use Rattle.ws_promise_laws.proofs.Tokens.{Token, PromiseToken, StartToken, names, in_reaction, adopts}
-use Rattle.ws_laws.proofs.Outcomes.{open_pending}
-use Rattle.ws_promise_laws.proofs.Places.{place_at, is_over, place-other}
-use Rattle.ws_promise_laws.proofs.Holds.{Holds, shut, is_unsettled, when, eq_promises, other_number, named, open_when, open_follows, shut_by}
-use Rattle.ws_promise_laws.proofs.Reacting.{shared}
+use Rattle.ws_value.specs.declared.value.Plain.{Plain}
+use Rattle.ws_steps.specs.declared.{promises.Job.{Job}, promises.Job.TheVariants.{Reaction as ReactionJob, Follow, Settle, Micro as MicroJob}, promises.Reaction.{Reaction}}
+use Rattle.ws_steps.specs.declared.promises.Reaction.TheVariants.{Adopt}
+use Rattle.ws_steps.specs.Promises.{Entry, Table, entry_at, is_pending, is_open, is_open_entry, is_following, is_following_entry, follow, follow_entry, unfollow, unfollow_entry, react, first_job, after_first, next_job, after_next_job}
+use Rattle.ws_laws.proofs.Weights.{weigh, weigh-follow, of_next, weigh-next}
+use Rattle.ws_promise_laws.proofs.Holds.{Holds, Alike, alike-same, holds-alike, place-there, puts-holds, put-placed, named, when, is_unsettled}
+use Rattle.ws_promise_laws.proofs.Reacting.{react-alike}
+use Rattle.ws_promise_laws.proofs.Settling.{open_when, open_follows}
+use Rattle.ws_promise_laws.proofs.Tokens.{one_if, names, in_reaction, adopts, in_hand}
 
--- promise p follows from now on
-pub record Led (p : PromiseId) (t z : Table) : Type 0 where
-  pub over : (r : PromiseId) → is_over (place_at z r) ≡ is_over (place_at t r)
-  pub here : is_following_entry (entry_at z p) ≡ true
-  pub there : (r : PromiseId) → nat_eq r.0 p.0 ≡ false → place_at z r ≡ place_at t r
+-- promise p, which is pending, follows from now on, or no more
+pub record Leads (follows : Bool) (p : PromiseId) (t z : Table) : Type 0 where
+  pub before : Entry
+  pub there : entry_at t p ≡ Some before
+  pub pending : is_pending before.outcome ≡ true
+  pub entries : z.entries ≡ slice_set t.entries p.0 (Some (record before { follows = follows }))
   pub straight : z.astray ≡ t.astray
 
-follow_led : (p q : PromiseId) (t : Table) (x : Option Entry) → x ≡ entry_at t p → is_open_entry x ≡ true → Led p t (follow_entry p q t x)
-follow_led p q t None h o = cc
-follow_led p q t (Some e) h o =
-    let d : Entry = record e { follows = true } in
-    let n : is_pending e.outcome ≡ true = open_pending (is_pending e.outcome) e.follows o in
-    record {
-      over = λ r. shared is_over r p t (follow_entry p q t (Some e)) e d (nat_eq r.0 p.0) refl (sym h) refl refl;
-      here = ap is_following_entry (entry_at-with_entry_same t p (Some d) (entry_within t p e (sym h))) ∙ (rw n refl);
-      there = λ r o. place-other t p r (Some d) (other_number r p o);
-      straight = refl;
-    }
+follow_leads : (p q : PromiseId) (t : Table) (x : Option Entry) → x ≡ entry_at t p → is_open_entry x ≡ true → Leads true p t (follow_entry p q t x)
+follow_leads p q t None h o = cc
+follow_leads p q t (Some e) h o = record { before = e; there = sym h; pending = grind arith; entries = refl; straight = refl }
 
-follow-led : (p q : PromiseId) (t : Table) → is_open p t ≡ true → Led p t (follow p q t)
+follow-leads : (p q : PromiseId) (t : Table) → is_open p t ≡ true → Leads true p t (follow p q t)
 unfolding follow
-follow-led p q t o = rw o (follow_led p q t (entry_at t p) refl o)
+follow-leads p q t o = rw o (follow_leads p q t (entry_at t p) refl o)
 
-pub following_shut : (x : Option Entry) → is_following_entry x ≡ true → one_if (not (is_open_entry x)) ≡ 1
-following_shut None h = cc
-following_shut (Some e) h = shut_by (is_pending e.outcome) e.follows h
-
-follow_once : (f l g : Token → ℕ) (p r : PromiseId) (t z : Table) (same : Bool) → same ≡ nat_eq r.0 p.0 → Holds f l t → Led p t z
-    → weigh (in_reaction (PromiseToken r)) z ≤ weigh (in_reaction (PromiseToken r)) t → ((x : Token) → g x + names x p ≤ f x)
-    → g (PromiseToken r) + (when (is_unsettled (PromiseToken r) z) (l (PromiseToken r)) + (weigh (in_reaction (PromiseToken r)) z + shut (PromiseToken r) z)) ≤ 1
-follow_once f l g p r t z false e k d w a =
-    let x : Token = PromiseToken r in
-    let h = k.once x in
-    let n = a x in
-    let kept : g x + (when (is_unsettled x t) (l x) + (weigh (in_reaction x) z + shut x t)) ≤ 1 = omega arith in
-    rw (d.there r (sym e)) kept
-follow_once f l g p r t z true e k d w a =
-    let x : Token = PromiseToken p in
-    let is : r ≡ p = eq_promises r p (sym e) in
-    let v : weigh (in_reaction x) z ≤ weigh (in_reaction x) t = rw is at w in
-    let h = k.once x in
-    let n = a x in
-    let one = named p in
-    let o = following_shut (entry_at z p) d.here in
-    let u : when (is_unsettled x z) (l x) ≡ when (is_unsettled x t) (l x) = ap (λ (b : Bool). when (not b) (l x)) (d.over p) in
-    rw is (omega arith)
-
-follow_token : (f l g : Token → ℕ) (p : PromiseId) (t z : Table) → Holds f l t → Led p t z → ((x : Token) → weigh (in_reaction x) z ≤ weigh (in_reaction x) t) → ((x : Token) → g x + names x p ≤ f x)
-    → (x : Token) → g x + (when (is_unsettled x z) (l x) + (weigh (in_reaction x) z + shut x z)) ≤ 1
-follow_token f l g p t z k d w a (PromiseToken r) = follow_once f l g p r t z (nat_eq r.0 p.0) refl k d (w (PromiseToken r)) a
-follow_token f l g p t z k d w a (StartToken i) = let h = k.once (StartToken i) in let n = a (StartToken i) in let v = w (StartToken i) in omega arith
-
-follow_adopts : (f l : Token → ℕ) (p r : PromiseId) (t z : Table) (same : Bool) → same ≡ nat_eq r.0 p.0 → Holds f l t → Led p t z → is_open p t ≡ true
-    → weigh (adopts r) z ≤ weigh (adopts r) t + one_if same → weigh (adopts r) z ≤ one_if (is_following_entry (entry_at z r))
-follow_adopts f l p r t z false e k d o w = let h = k.led r in rw (d.there r (sym e)) (omega arith)
-follow_adopts f l p r t z true e k d o w =
-    let is : r ≡ p = eq_promises r p (sym e) in
-    let v : weigh (adopts p) z ≤ weigh (adopts p) t + 1 = rw is at w in
-    let h = k.led p in
-    let n = open_follows (entry_at t p) o in
-    rw (is, d.here) (omega arith)
-
--- a promise that stands where it is to be settled follows another, and stands there no more
-pub holds-follow : (f l g : Token → ℕ) (p q : PromiseId) (t : Table) → Holds f l t
-    → ((x : Token) → g x + names x p ≤ f x) → Holds g l (follow p q t)
+pub holds-follow : (f l g : PromiseId → ℕ) (p q : PromiseId) (t : Table) → Holds f l t → ((x : PromiseId) → g x + names x p ≤ f x) → Holds g l (follow p q t)
 holds-follow f l g p q t k a =
-    let h = k.once (PromiseToken p) in
-    let n = a (PromiseToken p) in
-    let one = named p in
+    let z : Table = follow p q t in
+    let h = k.once p in let n = a p in let one = named p in
     let there : is_open p t ≡ true = open_when (is_open p t) (omega arith) in
-    let d : Led p t (follow p q t) = follow-led p q t there in
-    record {
+    let d : Leads true p t z = follow-leads p q t there in
+    let is = place-there t p d.before d.there in
+    let once : f p + (when (not (not (is_pending d.before.outcome))) (l p) + (weigh (in_reaction p) t + one_if (not (is_open_entry (Some d.before))))) ≤ 1 = rw is at (k.once p) in
+    let w = weigh-follow (in_reaction p) p q t in
+    let i = k.led p in let j = open_follows (entry_at t p) there in let v = weigh-follow (adopts p) p q t in
+    puts-holds f l g l p (Some (Some (record d.before { follows = true }))) t z k (record {
+      placed = put-placed p d.before _ t z d.there d.entries;
       straight = d.straight ∙ k.straight;
-      once = follow_token f l g p t (follow p q t) k d (λ x. let w = weigh-follow (in_reaction x) p q t in omega arith) a;
-      led = λ r. follow_adopts f l p r t (follow p q t) (nat_eq r.0 p.0) refl k d there (weigh-follow (adopts r) p q t);
-    }
+      firm = λ x n. let i = a x in let w = weigh-follow (in_reaction x) p q t in omega arith;
+      all = λ x n. let i = a x in let w = weigh-follow (in_reaction x) p q t in omega arith;
+      here = rw d.pending (let o = rw d.pending at once in omega arith);
+      others = λ r n. let w = weigh-follow (adopts r) p q t in let none : one_if (nat_eq r.0 p.0) ≡ 0 = rw n refl in omega arith;
+      led = rw d.pending (omega arith);
+    })
+
+-- the first job hands over what it is to settle
+
+next_is : (t : Table) (js : List Job) → js ≡ t.jobs → after_next_job t ≡ after_first t js
+unfolding after_next_job
+next_is t js e = ap (after_first t) (sym e)
+
+next_weighs : (h : Reaction → ℕ) (t : Table) (js : List Job) → js ≡ t.jobs → weigh h (after_next_job t) + of_next h (first_job js) ≤ weigh h t
+next_weighs h t js e = rw e (weigh-next h t)
+
+-- a job is taken out that leaves the places of promises alike
+next_alike : (f l : PromiseId → ℕ) (t : Table) (js : List Job) → js ≡ t.jobs → Alike t (after_first t js) → ((x : PromiseId) → in_hand x (first_job js) ≤ of_next (in_reaction x) (first_job js)) → Holds f l t
+    → Holds (λ x. f x + in_hand x (first_job js)) l (after_next_job t)
+next_alike f l t js e a n k =
+    holds-alike f l (λ x. f x + in_hand x (first_job js)) t (after_next_job t) k (rw (next_is t js e) a)
+    (λ x. let w = next_weighs (in_reaction x) t js e in let m = n x in omega arith)
+    (λ p. let w = next_weighs (adopts p) t js e in omega arith)
+
+alike_queue : (t z : Table) (js : List Job) → Alike (record t { jobs = js }) z → Alike t z
+alike_queue t z js a = record { over = a.over; open_ = a.open_; following = a.following; straight = a.straight }
+
+unfollow_leads : (p : PromiseId) (t : Table) (x : Option Entry) → x ≡ entry_at t p → is_following_entry x ≡ true → Leads false p t (unfollow_entry p t x)
+unfollow_leads p t None h o = cc
+unfollow_leads p t (Some e) h o = record { before = e; there = sym h; pending = grind arith; entries = refl; straight = refl }
+
+unfollow-leads : (p : PromiseId) (t : Table) → is_following p t ≡ true → Leads false p t (unfollow p t)
+unfolding unfollow
+unfollow-leads p t o = rw o (unfollow_leads p t (entry_at t p) refl o)
+
+following_when : (b : Bool) → 1 ≤ one_if b → b ≡ true
+following_when b h = grind arith
+
+one_most : (b : Bool) → one_if b ≤ 1
+one_most true = omega arith
+one_most false = omega arith
+
+-- a promise that follows isn't open
+following_shut : (x : Option Entry) → is_following_entry x ≡ true → is_open_entry x ≡ false
+following_shut x e = grind arith
+
+settle_holds : (f l : PromiseId → ℕ) (t : Table) (p : PromiseId) (o : Result Plain Plain) (js : List Job) → Settle p o ∷ js ≡ t.jobs → Holds f l t → Holds (λ x. f x + names x p) l (after_next_job t)
+settle_holds f l t p o js e k =
+    let z : Table = after_next_job t in
+    let w = λ (h : Reaction → ℕ). next_weighs h t (Settle p o ∷ js) e in
+    let v = w (adopts p) in let u = w (in_reaction p) in
+    let one = named p in let h = k.once p in let i = k.led p in
+    let led : is_following_entry (entry_at t p) ≡ true = following_when (is_following_entry (entry_at t p)) (omega arith) in
+    let d : Leads false p (record t { jobs = js }) z = rw (next_is t (Settle p o ∷ js) e) (unfollow-leads p (record t { jobs = js }) led) in
+    let is = place-there t p d.before d.there in
+    let shut_ : is_open_entry (entry_at t p) ≡ false = following_shut (entry_at t p) led in
+    let once : f p + (when (is_unsettled p t) (l p) + (weigh (in_reaction p) t + 1)) ≤ 1 = rw shut_ at h in
+    let loose : f p + (when (not (not (is_pending d.before.outcome))) (l p) + (weigh (in_reaction p) t + 1)) ≤ 1 = rw is at once in
+    let most = one_most (is_following_entry (entry_at t p)) in
+    puts-holds f l (λ x. f x + names x p) l p (Some (Some (record d.before { follows = false }))) t z k (record {
+      placed = put-placed p d.before _ t z d.there d.entries;
+      straight = d.straight ∙ k.straight;
+      firm = λ x n. let v = w (in_reaction x) in let none : names x p ≡ 0 = rw n refl in omega arith;
+      all = λ x n. let v = w (in_reaction x) in let none : names x p ≡ 0 = rw n refl in omega arith;
+      here = rw d.pending (let o = rw d.pending at loose in omega arith);
+      others = λ r n. let v = w (adopts r) in omega arith;
+      led = rw d.pending (omega arith);
+    })
+
+next_holds : (f l : PromiseId → ℕ) (t : Table) (js : List Job) → js ≡ t.jobs → Holds f l t → Holds (λ x. f x + in_hand x (first_job js)) l (after_next_job t)
+next_holds f l t [] e k = next_alike f l t [] e (alike-same t t refl refl) (λ x. omega arith) k
+next_holds f l t (ReactionJob step o derived ∷ js) e k = next_alike f l t (ReactionJob step o derived ∷ js) e (alike-same t (record t { jobs = js }) refl refl) (λ x. omega arith) k
+next_holds f l t (Follow p q ∷ js) e k =
+    next_alike f l t (Follow p q ∷ js) e (alike_queue t (react q (Adopt p) (record t { jobs = js })) js (react-alike q (Adopt p) (record t { jobs = js }))) (λ x. omega arith) k
+next_holds f l t (Settle p o ∷ js) e k = settle_holds f l t p o js e k
+next_holds f l t (MicroJob m ∷ js) e k = next_alike f l t (MicroJob m ∷ js) e (alike-same t (record t { jobs = js }) refl refl) (λ x. omega arith) k
+
+pub holds-next : (f l : PromiseId → ℕ) (t : Table) → Holds f l t → Holds (λ x. f x + in_hand x (next_job t)) l (after_next_job t)
+holds-next f l t k = next_holds f l t t.jobs refl k

@@ -1,77 +1,88 @@
 -- No step of a run settles a promise that isn't open.
-use Rattle.std.proofs.Common.{◌+◌, ◌≤◌, nat_le, List, [], ◌∷◌, refl, arith}
 use Rattle.ws_value.specs.declared.ids.StreamId.{StreamId}
-use Rattle.ws_steps.specs.declared.calls.Reply.{Reply}
-use Rattle.ws_steps.specs.declared.calls.Reply.TheVariants.{Done, Made, Lock as ReplyLock, Promise, Size, State, Throws, TooMany}
-use Rattle.ws_steps.specs.Promises.{no_promises, watch}
-use Rattle.ws_steps.specs.Slots.{Slots, nothing, empty}
-use Rattle.ws_steps.specs.Turns.{performed}
-use Rattle.ws_steps.specs.Calls.{begin, named}
-use Rattle.ws_steps.specs.Histories.{Writes, no_writes, writes_then, step_writes}
+use Rattle.ws_steps.specs.declared.effects.Effect.TheVariants.{Writable}
+use Rattle.ws_steps.specs.declared.writable.WritableOperation.TheVariants.{SetUpWriter, ReleaseWriter, Write, Close, Abort, ErrorIfNeeded, HandOn, StartSettled, WriteSettled, CloseSettled, AbortSettled}
+use Rattle.ws_steps.specs.WritableHistory.{Writes as History, no_writes, writes_then, effect_writes}
+use Rattle.ws_writable_laws.proofs.Agenda.{Kept}
+use Rattle.ws_writable_laws.proofs.Expects.{write-expects, close-expects, start-expects, write_settled-expects, close_settled-expects, abort_settled-expects}
+use Rattle.ws_writable_laws.proofs.Runs.{goes, rests, none_made}
+use Rattle.std.proofs.Common.{◌+◌, List, [], ◌∷◌, ◌++◌, refl, arith}
+use Rattle.ws_steps.specs.declared.effects.Effect.{Effect}
+use Rattle.ws_steps.specs.Promises.{watch, let_go}
+use Rattle.ws_steps.specs.Slots.{Slots, empty}
+use Rattle.ws_steps.specs.Turns.{row}
+use Rattle.ws_steps.specs.Run.{Entry, run}
 use Rattle.ws_steps.specs.Laws.{NoneGoesAstray}
-use Rattle.ws_steps.specs.Run.{Entry, Called, Worked, Heard, Forgot, step, run}
+use Rattle.ws_laws.proofs.Walker.{Stays, run-stays}
 use Rattle.ws_laws.proofs.Weights.{weigh}
-use Rattle.ws_writable_laws.proofs.Runs.{Rests, entry_kept, none_made}
-use Rattle.ws_promise_laws.proofs.Tokens.{Token, PromiseToken, StartToken, in_reaction}
-use Rattle.ws_promise_laws.proofs.Holds.{when, is_unsettled, shut, one_most}
+use Rattle.ws_promise_laws.proofs.Begins.{begin-sound, job-sound}
+use Rattle.ws_promise_laws.proofs.Reacting.{holds-let_go}
 use Rattle.ws_promise_laws.proofs.Reacting.{holds-watch, holds-told}
-use Rattle.ws_promise_laws.proofs.Forgetting.{holds-let_go}
-use Rattle.ws_promise_laws.proofs.Realm.{in_done, loose_in_done, Sound}
-use Rattle.ws_promise_laws.proofs.Performing.{performed-sound}
-use Rattle.ws_promise_laws.proofs.Known.{known}
-use Rattle.ws_promise_laws.proofs.Jobs.{worked-sound}
-use Rattle.ws_promise_laws.proofs.Calls.{none, called-sound}
+use Rattle.ws_promise_laws.proofs.Realm.{Sound, sound-less, firm_in, loosely_in}
+use Rattle.ws_promise_laws.proofs.Rows.{Expected, row-sound, sound-promises}
+use Rattle.ws_promise_laws.proofs.Tokens.{of_effect, in_effects, in_effects-append}
 
-named-sound : (reply : Reply) (s : Slots) → Sound none (nothing s) → Sound none (nothing (named reply s))
-named-sound Done s k = k
-named-sound (Made i) s k = k
-named-sound (ReplyLock l) s k = k
-named-sound (Promise p) s k = record {
-  holds = holds-told (λ x. 0 + in_done x (nothing s)) (λ x. loose_in_done x (nothing s)) (watch p s.promises) (holds-watch (λ x. 0 + in_done x (nothing s)) (λ x. loose_in_done x (nothing s)) p s.promises k.holds);
-  calm = k.calm;
-}
-named-sound (Size n) s k = k
-named-sound (State x) s k = k
-named-sound (Throws t) s k = k
-named-sound TooMany s k = k
-
--- the histories of all streams
-abbrev pub AllRest : (StreamId → Writes) → Slots → Type 0
-AllRest h s = (i : StreamId) → Rests i (h i) s
-
-pub entry-sound : (x : Entry) (s : Slots) (h : StreamId → Writes) → AllRest h s → Sound none (nothing s) → Sound none (nothing (step s x))
-entry-sound (Called c) s h r k =
-    let d = (begin c s).done in
-    let done : Sound none (nothing (named (begin c s).reply (performed d))) =
-    named-sound (begin c s).reply (performed d) (performed-sound none d (called-sound c s (λ i. known i (h i) s (r i)) k))
-    in
-    record { holds = done.holds; calm = done.calm }
-entry-sound Worked s h r k =
-    let done = worked-sound s h r (λ i. known i (h i) s (r i)) k in
-    record { holds = done.holds; calm = done.calm }
-entry-sound Heard s h r k = record { holds = k.holds; calm = k.calm }
-entry-sound (Forgot p) s h r k = record {
-  holds = holds-let_go (λ x. 0 + in_done x (nothing s)) (λ x. loose_in_done x (nothing s)) p s.promises k.holds;
-  calm = k.calm;
-}
-
-run-sound : (xs : List Entry) (s : Slots) (h : StreamId → Writes) → AllRest h s → Sound none (nothing s) → Sound none (nothing (run xs s))
-run-sound [] s h r k = k
-run-sound (x ∷ xs) s h r k =
-    run-sound xs (step s x) (λ i. writes_then (h i) (step_writes i s x)) (λ i. entry_kept i x s (h i) (r i)) (entry-sound x s h r k)
-
--- only the starts of streams that are still to be made
-once_empty : (x : Token) → (0 + in_done x (nothing empty)) + (when (is_unsettled x no_promises) 0 + (weigh (in_reaction x) no_promises + shut x no_promises)) ≤ 1
+sound_empty : Sound (λ x. 0) empty
 unfolding weigh
-once_empty (PromiseToken p) = omega arith
-once_empty (StartToken i) = let n = one_most (nat_le 0 i.0) in omega arith
+sound_empty = record { holds = record { straight = refl; once = λ x. omega arith; led = λ p. omega arith }; calm = λ i e. refl }
 
-pub sound_empty : Sound none (nothing empty)
-unfolding weigh
-sound_empty = record {
-  holds = record { straight = refl; once = once_empty; led = λ p. omega arith };
-  calm = λ i e. refl;
+-- what is known of each writable stream, and that each promise stands at most once in all, effects too, and then is open
+record Straight (s : Slots) (es : List Effect) : Type 0 where
+  known : (i : StreamId) → (h : History) × Kept i h s es
+  sound : Sound (λ x. in_effects x es) s
+
+-- what is known tells what an effect expects
+expected : (s : Slots) (e : Effect) (es : List Effect) → ((i : StreamId) → (h : History) × Kept i h s (e ∷ es)) → Expected e s
+expected s (Writable i (Write v p)) es k = write-expects i (k i).0 es s v p (k i).1
+expected s (Writable i (Close p)) es k = close-expects i (k i).0 es s p (k i).1
+expected s (Writable i (StartSettled o)) es k = start-expects i (k i).0 es s o (k i).1
+expected s (Writable i (WriteSettled o)) es k = write_settled-expects i (k i).0 es s o (k i).1
+expected s (Writable i (CloseSettled o)) es k = close_settled-expects i (k i).0 es s o (k i).1
+expected s (Writable i (AbortSettled p o)) es k = abort_settled-expects i (k i).0 es s p o (k i).1
+expected s (Writable i (SetUpWriter w)) es k = tt
+expected s (Writable i ReleaseWriter) es k = tt
+expected s (Writable i (Abort r p)) es k = tt
+expected s (Writable i (ErrorIfNeeded r)) es k = tt
+expected s (Writable i HandOn) es k = tt
+expected s _ es k = tt
+
+row-straight : (s : Slots) (e : Effect) (es : List Effect) → Straight s (e ∷ es) → Straight (row e s).slots ((row e s).caused ++ es)
+row-straight s e es k = record {
+  known = λ i. (writes_then (k.known i).0 (effect_writes i e s), (goes i).row (k.known i).0 s e es (k.known i).1);
+  sound =
+      sound-less (λ x. in_effects x es + in_effects x (row e s).caused) (λ x. in_effects x ((row e s).caused ++ es)) (row e s).slots
+      (λ x. let n = in_effects-append x (row e s).caused es in omega arith)
+      (row-sound (λ x. in_effects x es) e s (expected s e es k.known)
+      (sound-less (λ x. of_effect x e + in_effects x es) (λ x. in_effects x es + of_effect x e) s (λ x. omega arith) k.sound));
 }
+
+straight-stays : Stays Straight
+straight-stays = record {
+  row = row-straight;
+  call = λ s c k. record { known = λ i. ((k.known i).0, (goes i).call (k.known i).0 s c (k.known i).1); sound = begin-sound c s k.sound };
+  job = λ s job e k. record { known = λ i. ((k.known i).0, (goes i).job (k.known i).0 s job e (k.known i).1); sound = job-sound s job e k.sound };
+  answered = λ s p k. record {
+    known = λ i. ((k.known i).0, (goes i).answered (k.known i).0 s p (k.known i).1);
+    sound = sound-promises (λ x. 0) (λ x. 0) s (watch p s.promises) (λ h l. holds-watch (λ x. 0 + h x) (loosely_in s) p s.promises l) k.sound;
+  };
+  older = λ s k. record {
+    known = λ i. ((k.known i).0, (goes i).older (k.known i).0 s (k.known i).1);
+    sound = record { holds = k.sound.holds; calm = k.sound.calm };
+  };
+}
+
+run-straight : (entries : List Entry) → Straight (run entries empty) []
+run-straight entries =
+    run-stays Straight straight-stays
+    (λ s k. record {
+      known = λ i. ((k.known i).0, (rests i).heard (k.known i).0 s (k.known i).1);
+      sound = record { holds = holds-told (λ x. 0 + firm_in x s) (loosely_in s) _ s.promises k.sound.holds; calm = k.sound.calm };
+    })
+    (λ s p k. record {
+      known = λ i. ((k.known i).0, (rests i).forgotten (k.known i).0 s p (k.known i).1);
+      sound = sound-promises (λ x. 0) (λ x. 0) s (let_go p s.promises) (λ h l. holds-let_go (λ x. 0 + h x) (loosely_in s) p s.promises l) k.sound;
+    })
+    entries empty (record { known = λ i. (no_writes, none_made i); sound = sound_empty })
 
 pub none_goes_astray : NoneGoesAstray
-none_goes_astray entries = (run-sound entries empty (λ i. no_writes) (λ i. none_made i) sound_empty).holds.straight
+none_goes_astray entries = (run-straight entries).sound.holds.straight

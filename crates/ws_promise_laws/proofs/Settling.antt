@@ -1,133 +1,90 @@
--- A promise that stands where it is to be settled is settled, and stands there no more.
-use Rattle.std.proofs.Common.{◌≡◌, ℕ, ◌+◌, ◌≤◌, Bool, true, false, not, nat_eq, List, ◌++◌, map, Option, Some, None, Result, Ok, Err, slice_get, slice_set, refl, sym, ap, ◌∙◌, arith}
+-- A promise that stands where it is to be settled is settled, and stands there no more; and a promise is made.
+use Rattle.std.proofs.Common.{◌≡◌, ◌≢◌, ℕ, zero, suc, ◌+◌, ◌≤◌, Bool, true, false, not, nat_eq, if◌then◌else◌, List, [], ◌∷◌, ◌++◌, length, map, Option, Some, None, Result, Ok, Err, slice_get, slice_set, refl, sym, ap, ◌∙◌, arith}
 use Rattle.std.specs.Option.{option_map}
 use Rattle.ws_value.specs.declared.ids.PromiseId.{PromiseId}
-use Rattle.ws_value.specs.declared.value.Plain.{Plain}
 use Rattle.ws_value.specs.declared.value.Outcome.{Outcome}
-use Rattle.ws_steps.specs.declared.promises.Job.{Job}
+use Rattle.ws_value.specs.declared.value.Plain.{Plain}
 use Rattle.ws_steps.specs.declared.promises.Reaction.{Reaction}
-use Rattle.ws_steps.specs.Promises.{is_following_entry, Entry, Table, live, entry_at, is_pending, is_pending_at, is_pending_outcome, outcome_at, is_open, is_open_entry, settled, settle, settle_entry, job_of, ended_as, noted, answer, answer_entry}
-use Rattle.ws_steps.proofs.PromiseLaws.{entry_within, entry_at-with_entry_same}
-use Rattle.ws_laws.proofs.Weights.{weigh, weigh-settle, weigh-answer}
-use Rattle.ws_writable_laws.proofs.Shape.{one_if}
-use Rattle.ws_promise_laws.proofs.Tokens.{Token, PromiseToken, StartToken, names, in_reaction, adopts}
-use Rattle.ws_promise_laws.proofs.Places.{place_at, is_over, place-same, place-other}
-use Rattle.ws_promise_laws.proofs.Holds.{Holds, shut, is_unsettled, when, eq_promises, other_number, named, open_when, less_when, open_follows, one_most}
+use Rattle.ws_steps.specs.Promises.{is_following_entry, Entry, Table, pending, live, entry_at, next_id, fresh, fresh_settled, is_pending, is_pending_at, is_pending_outcome, is_open, is_open_entry, settled, settle, settle_entry, job_of, ended_as, with_entry, answer, answer_entry}
+use Rattle.ws_steps.specs.Writable.{settle_pending}
 use Rattle.ws_laws.proofs.Outcomes.{entries_noted, astray_noted}
+use Rattle.ws_laws.proofs.Tables.{either, eq_numbers, unequal_numbers}
+use Rattle.ws_laws.proofs.Weights.{weigh, weigh-fresh, weigh-settle, weigh-answer}
+use Rattle.ws_promise_laws.proofs.Holds.{Holds, place_at, is_over, is_unsettled, when, named, puts-holds, put-placed}
+use Rattle.ws_promise_laws.proofs.Tokens.{one_if, names, in_reaction, adopts}
 
--- a promise that isn't settled and follows no other is settled
-
--- what is written in the place of promise q, and what stays in the other places
-pub record Ended (q : PromiseId) (t z : Table) : Type 0 where
-  pub here : is_over (place_at z q) ≡ true
-  pub there : (p : PromiseId) → nat_eq p.0 q.0 ≡ false → place_at z p ≡ place_at t p
+-- promise q ends
+pub record Ends (q : PromiseId) (t z : Table) : Type 0 where
+  pub before : Entry
+  pub after : Entry
+  pub there : entry_at t q ≡ Some before
+  pub over : is_pending after.outcome ≡ false
+  pub entries : z.entries ≡ slice_set t.entries q.0 (Some after)
   pub straight : z.astray ≡ t.astray
-
-ended_put : (q : PromiseId) (t : Table) (e d : Entry) (js : List Job) (r : Option ℕ) → entry_at t q ≡ Some e → is_pending d.outcome ≡ false
-    → Ended q t (noted q (record t { entries = slice_set t.entries q.0 (Some d); jobs = js }) r)
-ended_put q t e d js r h n =
-    let y : Table = record t { entries = slice_set t.entries q.0 (Some d); jobs = js } in
-    let at : place_at (noted q y r) q ≡ Some (Some d) = ap (λ (es : List (Option Entry)). slice_get es q.0) (entries_noted q y r) ∙ place-same t q e (Some d) h in
-    record {
-      here = ap is_over at ∙ ap not n;
-      there = λ p o. ap (λ (es : List (Option Entry)). slice_get es p.0) (entries_noted q y r) ∙ place-other t q p (Some d) (other_number p q o);
-      straight = astray_noted q y r;
-    }
 
 settled_pending : (o : Result Plain Plain) → is_pending (settled o) ≡ false
 settled_pending (Ok v) = refl
 settled_pending (Err v) = refl
 
-ended_settle : (q : PromiseId) (o : Result Plain Plain) (t : Table) (x : Option Entry) → x ≡ entry_at t q → is_open_entry x ≡ true → Ended q t (settle_entry q o t x)
-ended_settle q o t None e h = cc
-ended_settle q o t (Some e) h k = ended_put q t e (ended_as (settled o) e) (t.jobs ++ map (job_of o) e.reactions) e.rank (sym h) (settled_pending o)
-
-ended_answer : (q : PromiseId) (o : Outcome) (t : Table) (x : Option Entry) → is_pending o ≡ false → x ≡ entry_at t q → is_open_entry x ≡ true → Ended q t (answer_entry q o t x)
-ended_answer q o t None n e h = cc
-ended_answer q o t (Some e) n h k = ended_put q t e (ended_as o e) t.jobs e.rank (sym h) n
-
-settle-ends : (q : PromiseId) (o : Result Plain Plain) (t : Table) → is_open q t ≡ true → Ended q t (settle q o t)
-unfolding settle
-settle-ends q o t e = rw e (ended_settle q o t (entry_at t q) refl e)
-
-answer-ends : (q : PromiseId) (o : Outcome) (t : Table) → is_pending o ≡ false → is_open q t ≡ true → Ended q t (answer q o t)
-unfolding answer
-answer-ends q o t n e = rw e (ended_answer q o t (entry_at t q) n refl e)
-
-ended_once : (f l g m : Token → ℕ) (p q : PromiseId) (t z : Table) (same : Bool) → same ≡ nat_eq p.0 q.0 → Holds f l t → Ended q t z
-    → weigh (in_reaction (PromiseToken p)) z ≤ weigh (in_reaction (PromiseToken p)) t
-    → ((x : Token) → g x ≤ f x) → ((x : Token) → g x + m x ≤ f x + l x) → g (PromiseToken q) + 1 ≤ f (PromiseToken q) + when (is_unsettled (PromiseToken q) t) (l (PromiseToken q))
-    → g (PromiseToken p) + (when (is_unsettled (PromiseToken p) z) (m (PromiseToken p)) + (weigh (in_reaction (PromiseToken p)) z + shut (PromiseToken p) z)) ≤ 1
-ended_once f l g m p q t z false e k d w a b c =
-    let x : Token = PromiseToken p in
-    let h = k.once x in
-    let n = less_when (is_unsettled x t) (f x) (l x) (g x) (m x) (a x) (b x) in
-    let kept : g x + (when (is_unsettled x t) (m x) + (weigh (in_reaction x) z + shut x t)) ≤ 1 = omega arith in
-    rw (d.there p (sym e)) kept
-ended_once f l g m p q t z true e k d w a b c =
-    let x : Token = PromiseToken q in
-    let is : p ≡ q = eq_promises p q (sym e) in
-    let v : weigh (in_reaction x) z ≤ weigh (in_reaction x) t = rw is at w in
-    let u : one_if (not (is_open_entry (entry_at z q))) ≤ 1 = one_most (not (is_open_entry (entry_at z q))) in
-    let h = k.once x in
-    let done : g x + (0 + (weigh (in_reaction x) z + one_if (not (is_open_entry (entry_at z q))))) ≤ 1 = omega arith in
-    rw (is, d.here) done
-
-ended_led : (f l : Token → ℕ) (p q : PromiseId) (t z : Table) (same : Bool) → same ≡ nat_eq p.0 q.0 → Holds f l t → Ended q t z → is_open q t ≡ true
-    → weigh (adopts p) z ≤ weigh (adopts p) t → weigh (adopts p) z ≤ one_if (is_following_entry (entry_at z p))
-ended_led f l p q t z false e k d o w = let h = k.led p in rw (d.there p (sym e)) (omega arith)
-ended_led f l p q t z true e k d o w =
-    let is : p ≡ q = eq_promises p q (sym e) in
-    let v : weigh (adopts q) z ≤ weigh (adopts q) t = rw is at w in
-    let h = k.led q in
-    let n = open_follows (entry_at t q) o in
-    rw is (omega arith)
-
-token_once : (f l g m : Token → ℕ) (q : PromiseId) (t z : Table) → Holds f l t → Ended q t z → ((h : Reaction → ℕ) → weigh h z ≤ weigh h t)
-    → ((x : Token) → g x ≤ f x) → ((x : Token) → g x + m x ≤ f x + l x) → g (PromiseToken q) + 1 ≤ f (PromiseToken q) + when (is_unsettled (PromiseToken q) t) (l (PromiseToken q))
-    → (x : Token) → g x + (when (is_unsettled x z) (m x) + (weigh (in_reaction x) z + shut x z)) ≤ 1
-token_once f l g m q t z k d w a b c (PromiseToken p) = ended_once f l g m p q t z (nat_eq p.0 q.0) refl k d (w (in_reaction (PromiseToken p))) a b c
-token_once f l g m q t z k d w a b c (StartToken i) = let h = k.once (StartToken i) in let n = a (StartToken i) in let v = w (in_reaction (StartToken i)) in omega arith
-
--- promise q ends, which stood where it is to be settled
-ended-holds : (f l g m : Token → ℕ) (q : PromiseId) (t z : Table) → Holds f l t → (is_open q t ≡ true → Ended q t z) → ((h : Reaction → ℕ) → weigh h z ≤ weigh h t)
-    → ((x : Token) → g x ≤ f x) → ((x : Token) → g x + m x ≤ f x + l x) → g (PromiseToken q) + 1 ≤ f (PromiseToken q) + when (is_unsettled (PromiseToken q) t) (l (PromiseToken q))
-    → Holds g m z
-ended-holds f l g m q t z k ends w a b c =
-    let h = k.once (PromiseToken q) in
-    let there : is_open q t ≡ true = open_when (is_open q t) (omega arith) in
-    let d : Ended q t z = ends there in
-    record {
-      straight = d.straight ∙ k.straight;
-      once = λ x. token_once f l g m q t z k d w a b c x;
-      led = λ p. ended_led f l p q t z (nat_eq p.0 q.0) refl k d there (w (adopts p));
-    }
-
-outcome_put : (q : PromiseId) (o : Result Plain Plain) (t : Table) (x : Option Entry) → x ≡ entry_at t q → is_open_entry x ≡ true → outcome_at (settle_entry q o t x) q ≡ Some (settled o)
-outcome_put q o t None e h = cc
-outcome_put q o t (Some e) h k =
+settle_ends : (q : PromiseId) (o : Result Plain Plain) (t : Table) (x : Option Entry) → x ≡ entry_at t q → is_open_entry x ≡ true → Ends q t (settle_entry q o t x)
+settle_ends q o t None e h = cc
+settle_ends q o t (Some e) h k =
     let d : Entry = ended_as (settled o) e in
-    let y : Table = record t { entries = slice_set t.entries q.0 (Some d); jobs = t.jobs ++ map (job_of o) e.reactions } in
-    let at : entry_at (noted q y e.rank) q ≡ Some d = ap (λ (es : List (Option Entry)). live (slice_get es q.0)) (entries_noted q y e.rank) ∙ entry_at-with_entry_same t q (Some d) (entry_within t q e (sym h)) in
-    ap (λ (x : Option Entry). option_map (λ (e : Entry). e.outcome) x) at
+    let z : Table = record t { entries = slice_set t.entries q.0 (Some d); jobs = t.jobs ++ map (job_of o) e.reactions } in
+    record { before = e; after = d; there = sym h; over = settled_pending o; entries = entries_noted q z e.rank; straight = astray_noted q z e.rank }
 
--- an open promise has the outcome with which it is settled
-pub settled-outcome : (q : PromiseId) (o : Result Plain Plain) (t : Table) → is_open q t ≡ true → outcome_at (settle q o t) q ≡ Some (settled o)
+pub settle-ends : (q : PromiseId) (o : Result Plain Plain) (t : Table) → is_open q t ≡ true → Ends q t (settle q o t)
 unfolding settle
-settled-outcome q o t e = rw e (outcome_put q o t (entry_at t q) refl e)
+settle-ends q o t e = rw e (settle_ends q o t (entry_at t q) refl e)
+
+answer_ends : (q : PromiseId) (o : Outcome) (t : Table) (x : Option Entry) → is_pending o ≡ false → x ≡ entry_at t q → is_open_entry x ≡ true → Ends q t (answer_entry q o t x)
+answer_ends q o t None n e h = cc
+answer_ends q o t (Some e) n h k =
+    let d : Entry = ended_as o e in
+    let z : Table = with_entry q (Some d) t in
+    record { before = e; after = d; there = sym h; over = n; entries = entries_noted q z e.rank; straight = astray_noted q z e.rank }
+
+answer-ends : (q : PromiseId) (o : Outcome) (t : Table) → is_pending o ≡ false → is_open q t ≡ true → Ends q t (answer q o t)
+unfolding answer
+answer-ends q o t n e = rw e (answer_ends q o t (entry_at t q) n refl e)
+
+pub open_when : (b : Bool) → one_if (not b) ≤ 0 → b ≡ true
+open_when b h = grind arith
+
+-- an open promise follows no other
+pub open_follows : (x : Option Entry) → is_open_entry x ≡ true → one_if (is_following_entry x) ≡ 0
+open_follows x e = grind arith
+
+ends-holds : (f l g m : PromiseId → ℕ) (q : PromiseId) (t z : Table) → Holds f l t → (is_open q t ≡ true → Ends q t z) → ((h : Reaction → ℕ) → weigh h z ≤ weigh h t)
+    → ((x : PromiseId) → g x ≤ f x) → ((x : PromiseId) → g x + m x ≤ f x + l x) → g q + 1 ≤ f q + when (is_unsettled q t) (l q) → Holds g m z
+ends-holds f l g m q t z k ends w a b c =
+    let h = k.once q in
+    let there : is_open q t ≡ true = open_when (is_open q t) (omega arith) in
+    let d : Ends q t z = ends there in
+    let v = w (in_reaction q) in
+    let i = k.led q in let j = open_follows (entry_at t q) there in let n = w (adopts q) in
+    puts-holds f l g m q (Some (Some d.after)) t z k (record {
+      placed = put-placed q d.before (Some d.after) t z d.there d.entries;
+      straight = d.straight ∙ k.straight;
+      firm = λ x n. let i = a x in let j = w (in_reaction x) in omega arith;
+      all = λ x n. let i = b x in let j = w (in_reaction x) in omega arith;
+      here = rw d.over (omega arith);
+      others = λ p n. w (adopts p);
+      led = rw d.over (omega arith);
+    })
 
 -- the promise that stands where it is to be settled is settled, and stands there no more
-pub holds-settle : (f l g m : Token → ℕ) (q : PromiseId) (o : Result Plain Plain) (t : Table) → Holds f l t
-    → ((x : Token) → g x + names x q ≤ f x) → ((x : Token) → g x + m x ≤ f x + l x) → Holds g m (settle q o t)
+pub holds-settle : (f l g m : PromiseId → ℕ) (q : PromiseId) (o : Result Plain Plain) (t : Table) → Holds f l t
+    → ((x : PromiseId) → g x + names x q ≤ f x) → ((x : PromiseId) → g x + m x ≤ f x + l x) → Holds g m (settle q o t)
 holds-settle f l g m q o t k a b =
-    ended-holds f l g m q t (settle q o t) k (settle-ends q o t) (λ h. weigh-settle h q o t) (λ x. let n = a x in omega arith) b
-    (let n = a (PromiseToken q) in let one = named q in omega arith)
+    ends-holds f l g m q t (settle q o t) k (settle-ends q o t) (λ h. weigh-settle h q o t) (λ x. let n = a x in omega arith) b
+    (let n = a q in let one = named q in omega arith)
 
-pub holds-answer : (f l g m : Token → ℕ) (q : PromiseId) (o : Outcome) (t : Table) → is_pending o ≡ false → Holds f l t
-    → ((x : Token) → g x + names x q ≤ f x) → ((x : Token) → g x + m x ≤ f x + l x) → Holds g m (answer q o t)
+pub holds-answer : (f l g m : PromiseId → ℕ) (q : PromiseId) (o : Outcome) (t : Table) → is_pending o ≡ false → Holds f l t
+    → ((x : PromiseId) → g x + names x q ≤ f x) → ((x : PromiseId) → g x + m x ≤ f x + l x) → Holds g m (answer q o t)
 holds-answer f l g m q o t n k a b =
-    ended-holds f l g m q t (answer q o t) k (answer-ends q o t n) (λ h. weigh-answer h q o t) (λ x. let n = a x in omega arith) b
-    (let n = a (PromiseToken q) in let one = named q in omega arith)
+    ends-holds f l g m q t (answer q o t) k (answer-ends q o t n) (λ h. weigh-answer h q o t) (λ x. let n = a x in omega arith) b
+    (let n = a q in let one = named q in omega arith)
 
 pending_unsettled : (x : Option (Option Entry)) → is_pending_outcome (option_map (λ (e : Entry). e.outcome) (live x)) ≡ true → not (is_over x) ≡ true
 pending_unsettled None e = cc
@@ -135,11 +92,67 @@ pending_unsettled (Some None) e = cc
 pending_unsettled (Some (Some e)) h = rw h refl
 
 -- a promise that is settled if it hasn't been, and hasn't
-pub holds-settle_pending : (f l g m : Token → ℕ) (q : PromiseId) (o : Result Plain Plain) (t : Table) → is_pending_at q t ≡ true → Holds f l t
-    → ((x : Token) → g x ≤ f x) → ((x : Token) → g x + m x ≤ f x + l x) → ((x : Token) → g x + names x q ≤ f x + l x) → Holds g m (settle q o t)
-holds-settle_pending f l g m q o t e k a b c =
-    let u : is_unsettled (PromiseToken q) t ≡ true = pending_unsettled (place_at t q) e in
-    let n = c (PromiseToken q) in
+pub holds-pending : (f l g m : PromiseId → ℕ) (q : PromiseId) (o : Result Plain Plain) (t : Table) → is_pending_at q t ≡ true → Holds f l t
+    → ((x : PromiseId) → g x ≤ f x) → ((x : PromiseId) → g x + m x ≤ f x + l x) → ((x : PromiseId) → g x + names x q ≤ f x + l x) → Holds g m (settle q o t)
+holds-pending f l g m q o t e k a b c =
+    let u : is_unsettled q t ≡ true = pending_unsettled (place_at t q) e in
+    let n = c q in
     let one = named q in
-    let room : g (PromiseToken q) + 1 ≤ f (PromiseToken q) + when (is_unsettled (PromiseToken q) t) (l (PromiseToken q)) = rw u (omega arith) in
-    ended-holds f l g m q t (settle q o t) k (settle-ends q o t) (λ h. weigh-settle h q o t) a b room
+    ends-holds f l g m q t (settle q o t) k (settle-ends q o t) (λ h. weigh-settle h q o t) a b (rw u (omega arith))
+
+-- a promise that is settled if it hasn't been
+pub holds-settle_pending : (f l : PromiseId → ℕ) (q : PromiseId) (o : Result Plain Plain) (t : Table) → ((x : PromiseId) → names x q ≤ l x) → Holds f l t → Holds f l (settle_pending q o t)
+unfolding settle_pending
+holds-settle_pending f l q o t n k =
+    either (Holds f l) (is_pending_at q t) (settle q o t) t
+    (λ e. holds-pending f l f l q o t e k (λ x. omega arith) (λ x. omega arith) (λ x. let m = n x in omega arith)) (λ e. k)
+
+-- a new promise
+
+past : (es : List (Option Entry)) → slice_get es (length es) ≡ None
+past [] = refl
+past (x ∷ xs) = past xs
+
+last : (es : List (Option Entry)) (x : Option Entry) → slice_get (es ++ x ∷ []) (length es) ≡ Some x
+last [] x = refl
+last (e ∷ es) x = last es x
+
+before : (es : List (Option Entry)) (x : Option Entry) (i : ℕ) → i ≢ length es → slice_get (es ++ x ∷ []) i ≡ slice_get es i
+before [] x zero n = absurd (n refl)
+before [] x (suc i) n = refl
+before (e ∷ es) x zero n = refl
+before (e ∷ es) x (suc i) n = before es x i (λ h. n (ap suc h))
+
+fresh_placed : (t : Table) (p : PromiseId) (same : Bool) → same ≡ nat_eq p.0 (length t.entries) → place_at (fresh t) p ≡ (if same then Some (Some pending) else place_at t p)
+unfolding fresh
+fresh_placed t p true e = rw (eq_numbers p.0 (length t.entries) (sym e)) (last t.entries (Some pending))
+fresh_placed t p false e = before t.entries (Some pending) p.0 (unequal_numbers p.0 (length t.entries) (sym e))
+
+astray_fresh : (t : Table) → (fresh t).astray ≡ t.astray
+unfolding fresh
+astray_fresh t = refl
+
+pub holds-fresh : (f l g m : PromiseId → ℕ) (t : Table) → Holds f l t
+    → ((x : PromiseId) → g x ≤ f x + names x (next_id t)) → ((x : PromiseId) → g x + m x ≤ f x + (l x + names x (next_id t))) → Holds g m (fresh t)
+holds-fresh f l g m t k a b =
+    let q : PromiseId = next_id t in
+    let h : f q + (l q + (weigh (in_reaction q) t + 1)) ≤ 1 = rw (past t.entries) at (k.once q) in
+    let i : weigh (adopts q) t ≤ 0 = rw (past t.entries) at (k.led q) in
+    let w = weigh-fresh (in_reaction q) t in let v = weigh-fresh (adopts q) t in
+    let n = b q in let one = named q in
+    puts-holds f l g m q (Some (Some pending)) t (fresh t) k (record {
+      placed = λ p. fresh_placed t p (nat_eq p.0 q.0) refl;
+      straight = astray_fresh t ∙ k.straight;
+      firm = λ x n. let i = a x in let w = weigh-fresh (in_reaction x) t in let none : names x q ≡ 0 = rw n refl in omega arith;
+      all = λ x n. let i = b x in let w = weigh-fresh (in_reaction x) t in let none : names x q ≡ 0 = rw n refl in omega arith;
+      here = omega arith;
+      others = λ p n. weigh-fresh (adopts p) t;
+      led = omega arith;
+    })
+
+-- that is settled at once
+pub holds-fresh_settled : (f l g m : PromiseId → ℕ) (o : Result Plain Plain) (t : Table) → Holds f l t
+    → ((x : PromiseId) → g x ≤ f x) → ((x : PromiseId) → g x + m x ≤ f x + (l x + names x (next_id t))) → Holds g m (fresh_settled o t)
+holds-fresh_settled f l g m o t k a b =
+    let made : Holds (λ x. f x + names x (next_id t)) l (fresh t) = holds-fresh f l (λ x. f x + names x (next_id t)) l t k (λ x. omega arith) (λ x. omega arith) in
+    holds-settle (λ x. f x + names x (next_id t)) l g m (next_id t) o (fresh t) made (λ x. let n = a x in omega arith) (λ x. let n = b x in omega arith)

@@ -1,78 +1,93 @@
--- What may stand in one place at a time: a promise that is to be settled, and the start of a writable stream.
-use Rattle.std.proofs.Common.{◌≡◌, ◌++◌, arith, ℕ, ◌+◌, nat_eq, List, [], ◌∷◌, Option, Some, None}
+-- How often a promise stands where it is to be settled: in effects, in reactions and in jobs.
+use Rattle.std.proofs.Common.{◌≡◌, ℕ, ◌+◌, Bool, true, false, nat_eq, List, [], ◌∷◌, ◌++◌, Option, Some, None, arith}
 use Rattle.ws_value.specs.declared.ids.PromiseId.{PromiseId}
-use Rattle.ws_value.specs.declared.ids.StreamId.{StreamId}
 use Rattle.ws_steps.specs.declared.effects.Effect.{Effect}
-use Rattle.ws_steps.specs.declared.effects.Effect.TheVariants.{Start, Pull, Cancel, StartWritable, Write, Close, Abort}
-use Rattle.ws_steps.specs.declared.promises.Job.{Job}
-use Rattle.ws_steps.specs.declared.promises.Job.TheVariants.{Reaction as ReactionJob, Follow, Settle}
-use Rattle.ws_steps.specs.declared.promises.Reaction.{Reaction}
-use Rattle.ws_steps.specs.declared.promises.Reaction.TheVariants.{Perform, Adopt}
-use Rattle.ws_steps.specs.declared.promises.Step.{Step}
-use Rattle.ws_steps.specs.declared.promises.Step.TheVariants.{ReadableStart, ReadablePull, ReturnUndefined, WritableStart, WritableWrite, WritableClose, WritableAbort}
-use Rattle.ws_steps.specs.Histories.{is_same}
-use Rattle.ws_writable_laws.proofs.Shape.{one_if}
+use Rattle.ws_steps.specs.declared.effects.Effect.TheVariants.{Readable, Writable, StartAlgorithm, PullAlgorithm, CancelAlgorithm, WriteAlgorithm, CloseAlgorithm, AbortAlgorithm, ChunkSteps, CloseSteps, ErrorSteps, Give, Settle as SettleEffect, CallHost}
+use Rattle.ws_steps.specs.declared.{effects.Use.{Use}, effects.Use.TheVariants.{React, Resolve}, promises.Job.{Job}}
+use Rattle.ws_steps.specs.declared.{promises.Job.TheVariants.{Reaction as ReactionJob, Follow, Settle, Micro as MicroJob}, promises.Reaction.{Reaction}}
+use Rattle.ws_steps.specs.declared.{promises.Reaction.TheVariants.{Perform, Adopt}, promises.Step.{Step}, promises.Step.TheVariants.{WritableAbort}, readable.ReadRequest.{ReadRequest}}
+use Rattle.ws_steps.specs.declared.{readable.ReadRequest.TheVariants.{Promise}, readable.ReadableOperation.{ReadableOperation}}
+use Rattle.ws_steps.specs.declared.{readable.ReadableOperation.TheVariants.{InitializeReader, Read, Cancel}, writable.WritableOperation.{WritableOperation}}
+use Rattle.ws_steps.specs.declared.writable.WritableOperation.TheVariants.{SetUpWriter, Write, Close as CloseWritable, Abort, AbortSettled}
 
-pub data Token : Type 0 where
-  PromiseToken : PromiseId → Token
-  StartToken : StreamId → Token
+abbrev pub one_if : Bool → ℕ
+one_if true = 1
+one_if false = 0
 
--- 1 where the token is that of promise q, and else 0
-abbrev pub names : Token → PromiseId → ℕ
-names (PromiseToken p) q = one_if (nat_eq p.0 q.0)
-names (StartToken i) q = 0
+-- 1 where it is the same promise, and else 0
+abbrev pub names : PromiseId → PromiseId → ℕ
+names x q = one_if (nat_eq x.0 q.0)
 
-abbrev pub names_any : Token → Option PromiseId → ℕ
+abbrev pub names_any : PromiseId → Option PromiseId → ℕ
 names_any x None = 0
 names_any x (Some q) = names x q
 
--- 1 where the token is that of the start of stream j, and else 0
-abbrev pub starts : Token → StreamId → ℕ
-starts (PromiseToken p) j = 0
-starts (StartToken i) j = one_if (is_same i j)
+-- in a reaction
 
--- how often it stands in a reaction
-
-abbrev pub in_step : Token → Step → ℕ
-in_step x (ReadableStart i) = 0
-in_step x (ReadablePull i) = 0
-in_step x ReturnUndefined = 0
-in_step x (WritableStart i) = starts x i
-in_step x (WritableWrite i) = 0
-in_step x (WritableClose i) = 0
+abbrev pub in_step : PromiseId → Step → ℕ
 in_step x (WritableAbort i p) = names x p
+in_step x _ = 0
 
-abbrev pub in_reaction : Token → Reaction → ℕ
+abbrev pub in_reaction : PromiseId → Reaction → ℕ
 in_reaction x (Perform step derived) = in_step x step + names_any x derived
 in_reaction x (Adopt p) = 0
 
 -- whether promise p adopts by this reaction what it followed
 abbrev pub adopts : PromiseId → Reaction → ℕ
 adopts p (Perform step derived) = 0
-adopts p (Adopt q) = one_if (nat_eq p.0 q.0)
+adopts p (Adopt q) = names p q
 
--- what a job that is taken out of the queue hands to its performing
-abbrev pub in_hand : Token → Option Job → ℕ
+-- what a job that is taken out of the queue hands to its effects
+abbrev pub in_hand : PromiseId → Option Job → ℕ
 in_hand x None = 0
 in_hand x (Some (ReactionJob step outcome derived)) = in_step x step + names_any x derived
 in_hand x (Some (Follow p q)) = 0
 in_hand x (Some (Settle p outcome)) = names x p
+in_hand x (Some (MicroJob m)) = 0
 
--- how often it stands in effects
+-- in effects
 
-abbrev pub of_effect : Token → Effect → ℕ
-of_effect x (Start i start) = 0
-of_effect x (Pull i) = 0
-of_effect x (Cancel i reason p) = names x p
-of_effect x (StartWritable i start) = starts x i
-of_effect x (Write i v) = 0
-of_effect x (Close i) = 0
-of_effect x (Abort i reason p) = names x p
+abbrev pub of_request : PromiseId → ReadRequest → ℕ
+of_request x (Promise p) = names x p
 
-abbrev pub in_effects : Token → List Effect → ℕ
+abbrev pub of_use : PromiseId → Use → ℕ
+of_use x (React step derived) = in_step x step + names_any x derived
+of_use x (Resolve q) = names x q
+
+abbrev pub of_readable : PromiseId → ReadableOperation → ℕ
+of_readable x (InitializeReader closed) = names x closed
+of_readable x (Read request) = of_request x request
+of_readable x (Cancel r p) = names x p
+of_readable x _ = 0
+
+abbrev pub of_writable : PromiseId → WritableOperation → ℕ
+of_writable x (SetUpWriter w) = names x w.ready + names x w.closed
+of_writable x (Write v p) = names x p
+of_writable x (CloseWritable p) = names x p
+of_writable x (Abort r p) = names x p
+of_writable x (AbortSettled p outcome) = names x p
+of_writable x _ = 0
+
+abbrev pub of_effect : PromiseId → Effect → ℕ
+of_effect x (Readable i operation) = of_readable x operation
+of_effect x (Writable i operation) = of_writable x operation
+of_effect x (StartAlgorithm i step start) = in_step x step
+of_effect x (PullAlgorithm i) = 0
+of_effect x (CancelAlgorithm i r p) = names x p
+of_effect x (WriteAlgorithm i) = 0
+of_effect x (CloseAlgorithm i) = 0
+of_effect x (AbortAlgorithm i r p) = names x p
+of_effect x (ChunkSteps i request v) = of_request x request
+of_effect x (CloseSteps i request) = of_request x request
+of_effect x (ErrorSteps i request e) = of_request x request
+of_effect x (Give gift u) = of_use x u
+of_effect x (SettleEffect p outcome) = names x p
+of_effect x (CallHost call u) = of_use x u
+
+abbrev pub in_effects : PromiseId → List Effect → ℕ
 in_effects x [] = 0
 in_effects x (e ∷ es) = of_effect x e + in_effects x es
 
-pub in_effects-cause : (x : Token) (es : List Effect) (e : Effect) → in_effects x (es ++ e ∷ []) ≡ in_effects x es + of_effect x e
-in_effects-cause x [] e = omega arith
-in_effects-cause x (d ∷ es) e = let n = in_effects-cause x es e in omega arith
+pub in_effects-append : (x : PromiseId) (es ds : List Effect) → in_effects x (es ++ ds) ≡ in_effects x es + in_effects x ds
+in_effects-append x [] ds = omega arith
+in_effects-append x (e ∷ es) ds = let n = in_effects-append x es ds in omega arith

@@ -1,11 +1,13 @@
-//! Readable streams with a default controller and a default reader: the record of one stream, with a method for each of its abstract operations.
+//! Readable streams with a default controller and a default reader: the record of one stream, with a method for each
+//! of its abstract operations.
 #![tactic(auto)]
 
 mod controller;
 mod look;
+mod operations;
 mod reader;
 mod requests;
 mod stream;
 
 pub use stream::Readable;
-pub use ws_steps::{ReadRequest, ReadableState, SizeBy};
+pub use ws_steps::{Owner, ReadRequest, ReadableOperation, ReadableState, SizeBy};

@@ -1,15 +1,44 @@
 //! What a host may look at.
-ghost use Rattle.std.specs.Prelude.{◌≡◌};
+ghost use Rattle.std.specs.Prelude.{◌≡◌, length};
+ghost use Rattle.ws_steps.specs.Readable as rows;
 ghost use Rattle.ws_steps.specs.ReadableLooks as looks;
+ghost use Rattle.ws_readable.specs.Seen.{has_room};
 
 use crate::Readable;
-use ws_steps::{Flags, ReadableState, StateIs, Word};
+use ws_steps::{Flags, Owner, ReadableState, StateIs, Word};
 
 impl Readable {
     pub fn state(&self) -> ReadableState
         ensures { result ≡ self.now.slots.state }
     {
         self.state
+    }
+
+    /// Whose algorithms the stream performs.
+    pub fn owner(&self) -> Owner
+        ensures { result ≡ self.now.slots.owner }
+    {
+        self.owner
+    }
+
+    pub fn is_readable(&self) -> bool
+        ensures { result ≡ rows.is_readable self.now.slots.state }
+    {
+        self.state == ReadableState::Readable
+    }
+
+    /// Whether there is a place for one more chunk and for one more read request.
+    pub fn has_room(&self) -> bool
+        ensures { result ≡ has_room self.now }
+    {
+        self.queue.len() < self.queue.capacity() && self.requests.len() < self.requests.capacity()
+    }
+
+    /// How many read requests wait.
+    pub fn waiting_requests(&self) -> usize
+        ensures { result ≡ length self.now.slots.requests }
+    {
+        self.requests.len()
     }
 
     /// IsReadableStreamLocked.

@@ -1,64 +1,35 @@
-//! The steps of read requests.
-ghost use Rattle.std.specs.Prelude.{◌≡◌, [], ◌≤◌, ◌+◌};
+//! The requests of a reader, which are all answered at once.
+ghost use Rattle.std.specs.Prelude.{◌≡◌, ◌+◌, ◌++◌, length, []};
 ghost use Rattle.std.specs.VecDeque.{deque_len, deque_capacity};
-ghost use Rattle.ws_steps.specs.Readable.{chunk_steps, close_steps, error_steps, close_all, error_all};
-ghost use Rattle.ws_promise.specs.Seen.{SeenAgenda, out_of};
+ghost use Rattle.ws_promise.specs.Seen.{HasEffectRoom};
+ghost use Rattle.ws_steps.specs.Readable.{close_all, error_all};
 
 use std::collections::VecDeque;
-use ws_promise::Promises;
-use ws_steps::ReadRequest;
-use ws_value::{Plain, Value};
+use ws_promise::Agenda;
+use ws_steps::{Effect, ReadRequest};
+use ws_value::{Plain, StreamId};
 
-#[tactic(auto, unfolding(ws_steps::specs::Readable::chunk_steps))]
-pub fn give_chunk(request: ReadRequest, p: &mut Promises, value: Value)
-    ensures row { (fx : SeenAgenda) → out_of p.new fx ≡ chunk_steps value request (out_of p.old fx) }
-    ensures promise_spare { p.new.spare ≡ p.old.spare }
-{
-    match request {
-        ReadRequest::Promise(id) => p.give(id, value),
-    }
-}
-
-#[tactic(auto, unfolding(ws_steps::specs::Readable::close_steps))]
-pub fn close_request(request: ReadRequest, p: &mut Promises)
-    ensures row { (fx : SeenAgenda) → out_of p.new fx ≡ close_steps request (out_of p.old fx) }
-    ensures promise_spare { p.new.spare ≡ p.old.spare }
-{
-    match request {
-        ReadRequest::Promise(id) => p.finish(id, Value::Plain(Plain::Undefined)),
-    }
-}
-
-#[tactic(auto, unfolding(ws_steps::specs::Readable::error_steps))]
-pub fn error_request(request: ReadRequest, p: &mut Promises, e: Plain)
-    ensures row { (fx : SeenAgenda) → out_of p.new fx ≡ error_steps e request (out_of p.old fx) }
-    ensures promise_spare { p.new.spare ≡ p.old.spare }
-{
-    match request {
-        ReadRequest::Promise(id) => p.reject(id, e),
-    }
-}
-
-/// Takes all requests and performs their close steps, in order.
-pub fn close_requests(requests: &mut VecDeque<ReadRequest>, p: &mut Promises)
-    ensures row { (fx : SeenAgenda) → out_of p.new fx ≡ close_all requests.old.items (out_of p.old fx) }
+/// Takes all requests and causes their close steps, in order.
+pub fn close_requests(requests: &mut VecDeque<ReadRequest>, me: StreamId, fx: &mut Agenda)
+    requires { HasEffectRoom (deque_len requests.old) fx.old }
+    ensures effects { fx.new ≡ record fx.old { effects = fx.old.effects ++ close_all me requests.old.items } }
+    ensures caused { length fx.new.effects ≡ deque_len requests.old + length fx.old.effects }
     ensures emptied { requests.new.items ≡ [] }
     ensures capacity { deque_capacity requests.new ≡ deque_capacity requests.old }
-    ensures promise_spare { p.new.spare ≡ p.old.spare }
 {
     while let Some(request) = requests.pop_front() {
-        close_request(request, p);
+        fx.push(Effect::CloseSteps(me, request));
     }
 }
 
-/// Takes all requests and performs their error steps, in order.
-pub fn error_requests(requests: &mut VecDeque<ReadRequest>, p: &mut Promises, e: Plain)
-    ensures row { (fx : SeenAgenda) → out_of p.new fx ≡ error_all e requests.old.items (out_of p.old fx) }
+/// Takes all requests and causes their error steps, in order.
+pub fn error_requests(requests: &mut VecDeque<ReadRequest>, me: StreamId, fx: &mut Agenda, e: Plain)
+    requires { HasEffectRoom (deque_len requests.old) fx.old }
+    ensures effects { fx.new ≡ record fx.old { effects = fx.old.effects ++ error_all me e requests.old.items } }
     ensures emptied { requests.new.items ≡ [] }
     ensures capacity { deque_capacity requests.new ≡ deque_capacity requests.old }
-    ensures promise_spare { p.new.spare ≡ p.old.spare }
 {
     while let Some(request) = requests.pop_front() {
-        error_request(request, p, e);
+        fx.push(Effect::ErrorSteps(me, request, e));
     }
 }

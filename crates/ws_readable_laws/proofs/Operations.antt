@@ -1,37 +1,47 @@
 -- What each operation of a readable stream keeps of its order.
-use Rattle.std.proofs.Common.{◌≡◌, Bool, true, false, not, ◌||◌, ◌&&◌, if◌then◌else◌, List, [], ◌∷◌, ◌++◌, Result, Ok, Err, refl, sym, ap, arith, append_assoc, append-nil, ◌+◌, ◌≤◌, is_some, length, length-append, add-zero}
+use Rattle.std.proofs.Common.{◌≡◌, ◌+◌, ◌≤◌, Bool, true, false, not, ◌||◌, ◌&&◌, is_some, if◌then◌else◌, List, [], ◌∷◌, ◌++◌, length, Option, Some, None, Ok, Err, refl, sym, ap, arith, append_assoc, append-nil, length-append, add-zero}
 use Rattle.ws_value.specs.declared.ids.PromiseId.{PromiseId}
 use Rattle.ws_value.specs.declared.ids.StreamId.{StreamId}
 use Rattle.ws_value.specs.declared.value.Plain.{Plain}
 use Rattle.ws_value.specs.declared.value.Value.{Value}
-use Rattle.ws_steps.specs.declared.queue.Queued.{Queued}
-use Rattle.ws_steps.specs.declared.readable.ReadRequest.{ReadRequest}
-use Rattle.ws_steps.specs.declared.readable.ReadableState.{ReadableState}
-use Rattle.ws_steps.specs.declared.readable.ReadableState.TheVariants.{Readable, Closed, Errored}
-use Rattle.ws_steps.specs.Promises.{next_id, fresh}
+use Rattle.ws_steps.specs.declared.{queue.Queued.{Queued}, readable.ReadRequest.{ReadRequest}, readable.ReadableOperation.{ReadableOperation}}
+use Rattle.ws_steps.specs.declared.readable.ReadableOperation.TheVariants.{InitializeReader, ReleaseReader, Read, Cancel, Enqueue, Close, Error, StartSettled, PullSettled}
+use Rattle.ws_steps.specs.declared.{readable.ReadableState.{ReadableState}, readable.ReadableState.TheVariants.{Readable, Closed, Errored}}
+use Rattle.ws_steps.specs.Operations.{readable_operation}
 use Rattle.ws_steps.specs.Queues.{is_empty}
-use Rattle.ws_steps.specs.Readable.{Slots, Acts, is_readable, waiting, can_close_or_enqueue, accept_for, call_pull_if_needed, accept, controller_enqueue, stream_close, stream_error, close_if_empty, controller_close, controller_error, after_take, pull_from, read_by, cancel_by, pull_ended, pull_steps, default_reader_read, reader_generic_initialize, start_settled, pull_settled, cancel_steps, stream_cancel, reader_release}
-use Rattle.ws_steps.specs.Histories.{Flow, no_flow, flow_then, values, given_to, first_given, enqueue_flow, read_flow, cancel_flow}
+use Rattle.ws_steps.specs.Readable.{Slots, Acts, is_readable, waiting, can_close_or_enqueue, should_call_pull, call_pull, call_pull_if_needed, accept_for, accept, controller_enqueue, close_reader, stream_close, error_reader, stream_error, close_if_empty, controller_close, controller_error, after_take, pull_from, read_by, cancel_by, pull_ended, pull_steps, default_reader_read, reader_generic_initialize, start_settled, pull_settled, cancel_steps, stream_cancel, release_by, reader_release}
+use Rattle.ws_steps.specs.ReadableHistory.{Flow, no_flow, flow_then, values, operation_flow}
 use Rattle.ws_laws.proofs.Tables.{either}
-use Rattle.ws_laws.proofs.Truth.{and_right}
+use Rattle.ws_laws.proofs.Truth.{false_true, and_right, nor_left, nor_right}
 
--- what entered was given, is queued, or was dropped, in this order; and no request waits beside a queue
-pub record Balanced (h : Flow) (dropped : List Value) (s : Slots) : Type 0 where
-  pub all : h.entered ≡ h.given ++ (values s.queue ++ dropped)
-  pub live : s.state ≡ Readable → dropped ≡ []
-  pub whole : h.cancelled ≡ false → s.state ≡ Closed → values s.queue ++ dropped ≡ []
-  pub fit : is_empty s.queue ≡ false → waiting s ≡ []
-  pub asked : length h.given + length s.requests ≤ h.asked
+-- the requests of a reader, where there is one
+abbrev wait : Option PromiseId → List ReadRequest → List ReadRequest
+wait reader requests = if is_some reader then requests else []
+
+-- Where what is due counts as given: what entered was given, is queued, or was dropped, in this order; a stream that isn't readable has
+-- nothing queued; and no request waits beside a queue
+pub record Balanced (h : Flow) (dropped : List Value) (state : ReadableState) (queue : List (Queued Value))
+    (reader : Option PromiseId) (requests : List ReadRequest) : Type 0 where
+  pub all : h.entered ≡ h.given ++ (values queue ++ dropped)
+  pub live : state ≡ Readable → dropped ≡ []
+  pub whole : h.cancelled ≡ false → state ≡ Closed → dropped ≡ []
+  pub gone : is_readable state ≡ false → values queue ≡ []
+  pub fit : is_empty queue ≡ false → wait reader requests ≡ []
+  pub asked : length h.given + length requests ≤ h.asked
+
+abbrev pub Is : Flow → List Value → Slots → Type 0
+Is h d s = Balanced h d s.state s.queue s.reader s.requests
+
+-- balanced, whatever was dropped
+pub record Held (h : Flow) (s : Slots) : Type 0 where
+  pub dropped : List Value
+  pub balanced : Is h dropped s
 
 values-append : (xs ys : List (Queued Value)) → values (xs ++ ys) ≡ values xs ++ values ys
 values-append [] ys = refl
 values-append (x ∷ xs) ys = ap (λ vs. x.value ∷ vs) (values-append xs ys)
 
-pub pull_keeps : (me : StreamId) (h : Flow) (d : List Value) (a : Acts) → Balanced h d a.slots → Balanced h d (call_pull_if_needed me a).slots
-unfolding call_pull_if_needed
-pull_keeps me h d a b = grind arith
-
-or_false : (b : Bool) → b || false ≡ b
+pub or_false : (b : Bool) → b || false ≡ b
 or_false true = refl
 or_false false = refl
 
@@ -39,172 +49,230 @@ or_false false = refl
 pub same_flow : (h : Flow) → flow_then h no_flow ≡ h
 same_flow h = λ i. record { entered = append-nil h.entered i; given = append-nil h.given i; cancelled = or_false h.cancelled i; asked = add-zero h.asked i }
 
-readable_by : (c : Bool) (s : ReadableState) → not c && is_readable s ≡ true → s ≡ Readable
+pub readable_by : (c : Bool) (s : ReadableState) → not c && is_readable s ≡ true → s ≡ Readable
 readable_by c Readable e = refl
 readable_by true Closed e = cc
 readable_by false Closed e = cc
 readable_by true Errored e = cc
 readable_by false Errored e = cc
 
-enqueued : (E G Q D : List Value) (v : Value) → E ≡ G ++ (Q ++ D) → D ≡ [] → E ++ v ∷ [] ≡ (G ++ []) ++ ((Q ++ v ∷ []) ++ D)
-enqueued E G Q D v e d = simp (e, d, append-nil, append_assoc)
+state_is : (s z : ReadableState) → s ≡ z → is_readable s ≡ is_readable z
+state_is s z e = ap is_readable e
 
-passed : (E G Q D : List Value) (v : Value) → E ≡ G ++ (Q ++ D) → Q ≡ [] → D ≡ [] → E ++ v ∷ [] ≡ (G ++ v ∷ []) ++ (Q ++ D)
-passed E G Q D v e q d = simp (e, q, d, append-nil, append_assoc)
+emptied : (queue : List (Queued Value)) → is_empty queue ≡ true → values queue ≡ []
+emptied [] e = refl
+emptied (q ∷ queue) e = cc
 
-idle : (queue : List (Queued Value)) (ws : List ReadRequest) (r : ReadRequest) (rs : List ReadRequest) → (is_empty queue ≡ false → ws ≡ []) → r ∷ rs ≡ ws → values queue ≡ []
-idle [] ws r rs f e = refl
-idle (q ∷ queue) ws r rs f e = let n = f refl in cc
+filled : (queue : List (Queued Value)) (ws : List ReadRequest) (r : ReadRequest) (rs : List ReadRequest) → (is_empty queue ≡ false → ws ≡ []) → r ∷ rs ≡ ws → values queue ≡ []
+filled [] ws r rs f e = refl
+filled (q ∷ queue) ws r rs f e = let n = f refl in cc
 
-within : (locked : Bool) (rs : List ReadRequest) → length (if locked then rs else []) ≤ length rs
-within true rs = omega arith
-within false rs = omega arith
+within : (reader : Option PromiseId) (rs : List ReadRequest) → length (wait reader rs) ≤ length rs
+within None rs = omega arith
+within (Some p) rs = omega arith
 
-waiting_within : (s : Slots) → length (waiting s) ≤ length s.requests
-waiting_within s = within (is_some s.reader) s.requests
+-- what an operation is about to give: the chunk steps that it causes
 
-accept_keeps : (v : Value) (h : Flow) (d : List Value) (a : Acts) (rs : List ReadRequest) → rs ≡ waiting a.slots → a.slots.state ≡ Readable → Balanced h d a.slots
-    → Balanced (flow_then h (record { entered = v ∷ []; given = given_to v rs; cancelled = false; asked = 0 })) d (accept_for v a rs).slots
-accept_keeps v h d a [] w r b = record {
-  all = rw values-append (enqueued h.entered h.given (values a.slots.queue) d v b.all (b.live r));
-  live = b.live;
-  whole = λ c e. cc;
-  fit = λ e. sym w;
-  asked = let n = b.asked in omega (arith, length-append h.given []);
-}
-accept_keeps v h d a (q ∷ rs) w r b = let none : values a.slots.queue ≡ [] = idle a.slots.queue (waiting a.slots) q rs b.fit w in record {
-  all = passed h.entered h.given (values a.slots.queue) d v b.all none (b.live r);
-  live = b.live;
-  whole = λ c e. cc;
-  fit = λ e. let n : waiting a.slots ≡ [] = b.fit e in cc;
-  asked =
-      let n = b.asked in
-      let m = waiting_within a.slots in
-      let l : length (q ∷ rs) ≡ length (waiting a.slots) = ap length w in
-      omega (arith, length-append h.given (v ∷ []));
-}
+abbrev pub given_to : Value → List ReadRequest → List Value
+given_to v [] = []
+given_to v (r ∷ rs) = v ∷ []
 
-enqueue_by : (me : StreamId) (v : Value) (h : Flow) (d : List Value) (a : Acts) (t : Bool) → t ≡ can_close_or_enqueue a.slots → Balanced h d a.slots
-    → Balanced (flow_then h (if t then record { entered = v ∷ []; given = given_to v (waiting a.slots); cancelled = false; asked = 0 } else no_flow)) d (if t then call_pull_if_needed me (accept v a) else a).slots
-unfolding accept
-enqueue_by me v h d a false e b = rw same_flow b
-enqueue_by me v h d a true e b = pull_keeps me _ d (accept v a) (accept_keeps v h d a (waiting a.slots) refl (readable_by a.slots.close_requested a.slots.state (sym e)) b)
+abbrev pub first_given : ReadableState → List (Queued Value) → List Value
+first_given Readable [] = []
+first_given Readable (q ∷ qs) = q.value ∷ []
+first_given Closed queue = []
+first_given Errored queue = []
 
-pub enqueue_keeps : (me : StreamId) (v : Value) (h : Flow) (d : List Value) (a : Acts) → Balanced h d a.slots → Balanced (flow_then h (enqueue_flow v a.slots)) d (controller_enqueue me v a).slots
-unfolding controller_enqueue
-enqueue_keeps me v h d a b = enqueue_by me v h d a (can_close_or_enqueue a.slots) refl b
+abbrev pub due : ReadableOperation → Slots → List Value
+due (Enqueue v) s = if can_close_or_enqueue s then given_to v (waiting s) else []
+due (Read request) s = first_given s.state s.queue
+due _ s = []
 
--- the flow of a stream's closing: only without a cancel must all be given
-close_keeps : (h : Flow) (d : List Value) (a : Acts) → values a.slots.queue ++ d ≡ [] → Balanced h d a.slots → Balanced h d (stream_close a).slots
-unfolding stream_close
-close_keeps h d a n b = grind arith
+-- the flow of an operation with what it is about to give
+abbrev pub with_due : ReadableOperation → Slots → Flow
+with_due operation s = record (operation_flow operation s) { given = due operation s }
 
-with_close_requested : (h : Flow) (d : List Value) (s : Slots) → Balanced h d s → Balanced h d (record s { close_requested = true })
-with_close_requested h d s b = record { all = b.all; live = b.live; whole = b.whole; fit = b.fit; asked = b.asked }
+module _ (me : StreamId) where
+  -- nothing more was given
+  reflowed : (h g : Flow) (d : List Value) (s : Slots) → g.entered ≡ h.entered → g.given ≡ h.given → (g.cancelled ≡ false → h.cancelled ≡ false) → h.asked ≤ g.asked
+      → Is h d s → Is g d s
+  reflowed h g d s e f c n b = record {
+    all = rw (e, f) b.all;
+    live = b.live;
+    whole = λ k. b.whole (c k);
+    gone = b.gone;
+    fit = b.fit;
+    asked = let m = b.asked in let l = ap length f in omega arith;
+  }
 
-emptied : (queue : List (Queued Value)) (d : List Value) → is_empty queue ≡ true → d ≡ [] → values queue ++ d ≡ []
-emptied [] d e n = n
-emptied (q ∷ queue) d e n = cc
+  -- the stream ends, and drops what was queued
+  over : (h : Flow) (d : List Value) (s z : Slots) → is_readable z.state ≡ false → values z.queue ≡ [] → (h.cancelled ≡ false → z.state ≡ Closed → values s.queue ++ d ≡ [])
+      → length z.requests ≤ length s.requests → (is_empty z.queue ≡ false → wait z.reader z.requests ≡ []) → Is h d s → Is h (values s.queue ++ d) z
+  over h d s z n e c l f b = record {
+    all = rw e b.all;
+    live = λ r. false_true (is_readable z.state) (state_is z.state Readable r) n;
+    whole = c;
+    gone = λ k. e;
+    fit = f;
+    asked = let m = b.asked in omega arith;
+  }
 
-pub controller_close_keeps : (h : Flow) (d : List Value) (a : Acts) → Balanced h d a.slots → Balanced h d (controller_close a).slots
-unfolding controller_close close_if_empty
-controller_close_keeps h d a b =
-    either (λ (z : Acts). Balanced h d z.slots) (can_close_or_enqueue a.slots) _ a
-    (λ can. let c : Acts = record a { slots = record a.slots { close_requested = true } } in
-    let w : Balanced h d c.slots = with_close_requested h d a.slots b in
-    either (λ (z : Acts). Balanced h d z.slots) (is_empty c.slots.queue) (stream_close c) c
-    (λ e. close_keeps h d c (emptied a.slots.queue d e (b.live (readable_by a.slots.close_requested a.slots.state can))) w) (λ e. w))
-    (λ cannot. b)
+  -- a reader comes or goes, and its requests are gone
+  unlocked : (h : Flow) (d : List Value) (s : Slots) (reader : Option PromiseId) → Is h d s → Is h d (record s { reader = reader; requests = [] })
+  unlocked h d s reader b = record {
+    all = b.all;
+    live = b.live;
+    whole = b.whole;
+    gone = b.gone;
+    fit = λ e. either (λ (rs : List ReadRequest). rs ≡ []) (is_some reader) [] [] (λ f. refl) (λ f. refl);
+    asked = let n = b.asked in omega arith;
+  }
 
--- what an error drops
-abbrev pub dropped_in : ReadableState → List (Queued Value) → List Value
-dropped_in Readable queue = values queue
-dropped_in Closed queue = []
-dropped_in Errored queue = []
+  pull_keeps : (h : Flow) (d : List Value) (a : Acts) → Is h d a.slots → Is h d (call_pull_if_needed me a).slots
+  unfolding call_pull_if_needed
+  pull_keeps h d a b =
+      either (λ (z : Acts). Is h d z.slots) (should_call_pull a.slots) (call_pull me a) a
+      (λ e. either (λ (z : Acts). Is h d z.slots) a.slots.pulling _ _ (λ e. b) (λ e. b)) (λ e. b)
 
-abbrev pub dropped_by : Slots → List Value
-dropped_by s = dropped_in s.state s.queue
+  accept_keeps : (v : Value) (h : Flow) (d : List Value) (a : Acts) (rs : List ReadRequest) → rs ≡ waiting a.slots → a.slots.state ≡ Readable → Is h d a.slots
+      → Is (flow_then h (record { entered = v ∷ []; given = given_to v rs; cancelled = false; asked = 0 })) d (accept_for me v a rs).slots
+  accept_keeps v h d a [] w r b = record {
+    all = rw values-append (simp (b.all, b.live r, append-nil, append_assoc));
+    live = b.live;
+    whole = λ c e. b.live r;
+    gone = λ n. false_true (is_readable a.slots.state) (state_is a.slots.state Readable r) n;
+    fit = λ e. sym w;
+    asked = let n = b.asked in omega (arith, length-append h.given []);
+  }
+  accept_keeps v h d a (q ∷ rs) w r b = let none : values a.slots.queue ≡ [] = filled a.slots.queue (waiting a.slots) q rs b.fit w in record {
+    all = simp (b.all, none, b.live r, append-nil);
+    live = b.live;
+    whole = λ c e. b.live r;
+    gone = λ n. none;
+    fit = λ e. let n : waiting a.slots ≡ [] = b.fit e in cc;
+    asked =
+        let n = b.asked in
+        let m = within a.slots.reader a.slots.requests in
+        let l : length (q ∷ rs) ≡ length (waiting a.slots) = ap length w in
+        omega (arith, length-append h.given (v ∷ []));
+  }
 
-pub controller_error_keeps : (e : Plain) (h : Flow) (d : List Value) (a : Acts) → Balanced h d a.slots → Balanced h (dropped_by a.slots ++ d) (controller_error e a).slots
-unfolding controller_error stream_error
-controller_error_keeps e h d a b = grind (arith, append_assoc)
+  enqueue_by : (v : Value) (h : Flow) (d : List Value) (a : Acts) (t : Bool) → t ≡ can_close_or_enqueue a.slots → Is h d a.slots
+      → Is (flow_then h (record (if t then record no_flow { entered = v ∷ [] } else no_flow) { given = if t then given_to v (waiting a.slots) else [] })) d
+      (if t then call_pull_if_needed me (accept me v a) else a).slots
+  unfolding accept
+  enqueue_by v h d a false e b = rw same_flow b
+  enqueue_by v h d a true e b = pull_keeps _ d (accept me v a) (accept_keeps v h d a (waiting a.slots) refl (readable_by a.slots.close_requested a.slots.state (sym e)) b)
 
-after_take_keeps : (me : StreamId) (h : Flow) (d : List Value) (a : Acts) → a.slots.state ≡ Readable → Balanced h d a.slots → Balanced h d (after_take me a).slots
-unfolding after_take
-after_take_keeps me h d a r b =
-    either (λ (z : Acts). Balanced h d z.slots) (a.slots.close_requested && is_empty a.slots.queue) _ _
-    (λ e. close_keeps h d a (emptied a.slots.queue d (and_right a.slots.close_requested (is_empty a.slots.queue) e) (b.live r)) b)
-    (λ e. pull_keeps me h d a b)
+  -- the closing of a stream; only without a cancel must all be given
+  close_keeps : (h : Flow) (d : List Value) (a : Acts) (reader : Option PromiseId) → reader ≡ a.slots.reader → (h.cancelled ≡ false → d ≡ []) → values a.slots.queue ≡ []
+      → Is h d a.slots → Is h d (close_reader me (record a { slots = record a.slots { state = Closed } }) reader).slots
+  close_keeps h d a None e c n b =
+      rw n at (over h d a.slots (record a.slots { state = Closed }) refl n (λ k f. rw n (c k)) (omega arith) b.fit b)
+  close_keeps h d a (Some closed) e c n b =
+      rw n at (over h d a.slots (record a.slots { state = Closed; requests = [] }) refl n (λ k f. rw n (c k)) (omega arith) (λ f. rw (← e) refl) b)
 
-taken : (E G Q D : List Value) (v : Value) → E ≡ G ++ ((v ∷ Q) ++ D) → E ++ [] ≡ (G ++ v ∷ []) ++ (Q ++ D)
-taken E G Q D v e = simp (e, append-nil, append_assoc)
+  controller_close_keeps : (h : Flow) (d : List Value) (a : Acts) → Is h d a.slots → Is h d (controller_close me a).slots
+  unfolding controller_close close_if_empty stream_close
+  controller_close_keeps h d a b =
+      let c : Acts = record a { slots = record a.slots { close_requested = true } } in
+      either (λ (z : Acts). Is h d z.slots) (can_close_or_enqueue a.slots) (close_if_empty me c) a
+      (λ can. either (λ (z : Acts). Is h d z.slots) (is_empty c.slots.queue) (stream_close me c) c
+      (λ e. close_keeps h d c c.slots.reader refl (λ k. b.live (readable_by a.slots.close_requested a.slots.state can)) (emptied a.slots.queue e) b) (λ e. b))
+      (λ cannot. b)
 
--- a read takes the first chunk of the queue, or waits
-pull_from_keeps : (me : StreamId) (r : ReadRequest) (h : Flow) (d : List Value) (a : Acts) (queue : List (Queued Value)) → queue ≡ a.slots.queue → a.slots.state ≡ Readable → Balanced h d a.slots
-    → Balanced (flow_then h (record { entered = []; given = first_given Readable queue; cancelled = false; asked = 1 })) d (pull_from me r a queue).slots
-pull_from_keeps me r h d a [] q s b =
-    let asked : Flow = flow_then h (record { entered = []; given = []; cancelled = false; asked = 1 }) in
-    pull_keeps me asked d (record a { slots = record a.slots { requests = a.slots.requests ++ r ∷ [] } })
-    (record {
-      all = rw (append-nil h.entered, append-nil h.given) b.all;
-      live = b.live;
-      whole = λ c f. cc;
-      fit = λ e. let n : is_empty a.slots.queue ≡ true = rw (← q) refl in cc;
-      asked = let n = b.asked in omega (arith, length-append h.given [], length-append a.slots.requests (r ∷ []));
-    })
-pull_from_keeps me r h d a (q ∷ qs) e s b =
-    after_take_keeps me _ d (record a { slots = record a.slots { queue = qs } }) s
-    (record { all = taken h.entered h.given (values qs) d q.value (rw (← e) at b.all); live = b.live; whole = λ c f. cc; fit = λ f. b.fit (rw (← e) refl); asked = let n = b.asked in omega (arith, length-append h.given (q.value ∷ [])) })
+  after_take_keeps : (h : Flow) (d : List Value) (a : Acts) → a.slots.state ≡ Readable → Is h d a.slots → Is h d (after_take me a).slots
+  unfolding after_take stream_close
+  after_take_keeps h d a r b =
+      either (λ (z : Acts). Is h d z.slots) (a.slots.close_requested && is_empty a.slots.queue) (stream_close me a) (call_pull_if_needed me a)
+      (λ e. close_keeps h d a a.slots.reader refl (λ k. b.live r) (emptied a.slots.queue (and_right a.slots.close_requested (is_empty a.slots.queue) e)) b) (λ e. pull_keeps h d a b)
 
-read_by_keeps : (me : StreamId) (r : ReadRequest) (h : Flow) (d : List Value) (a : Acts) (state : ReadableState) → state ≡ a.slots.state → Balanced h d a.slots
-    → Balanced (flow_then h (record { entered = []; given = first_given state a.slots.queue; cancelled = false; asked = if is_readable state then 1 else 0 })) d (read_by me r (record a { slots = record a.slots { disturbed = true } }) state).slots
-unfolding pull_steps
-read_by_keeps me r h d a Readable s b =
-    pull_from_keeps me r h d (record a { slots = record a.slots { disturbed = true } }) a.slots.queue refl (sym s) (record { all = b.all; live = b.live; whole = b.whole; fit = b.fit; asked = b.asked })
-read_by_keeps me r h d a Closed s b = rw same_flow (record { all = b.all; live = b.live; whole = b.whole; fit = b.fit; asked = b.asked })
-read_by_keeps me r h d a Errored s b = rw same_flow (record { all = b.all; live = b.live; whole = b.whole; fit = b.fit; asked = b.asked })
+  error_reader_keeps : (e : Plain) (h : Flow) (d : List Value) (a : Acts) (reader : Option PromiseId) → reader ≡ a.slots.reader → Is h d a.slots
+      → Held h (error_reader me e (record a { slots = record a.slots { state = Errored; stored_error = e; queue = [] } }) reader).slots
+  error_reader_keeps e h d a None r b =
+      record { dropped = _; balanced = over h d a.slots (record a.slots { state = Errored; queue = [] }) refl refl (λ k f. cc) (omega arith) (λ f. cc) b }
+  error_reader_keeps e h d a (Some closed) r b =
+      record { dropped = _; balanced = over h d a.slots (record a.slots { state = Errored; queue = []; requests = [] }) refl refl (λ k f. cc) (omega arith) (λ f. cc) b }
 
-pub read_keeps : (me : StreamId) (r : ReadRequest) (h : Flow) (d : List Value) (a : Acts) → Balanced h d a.slots → Balanced (flow_then h (read_flow a.slots)) d (default_reader_read me r a).slots
-unfolding default_reader_read
-read_keeps me r h d a b = read_by_keeps me r h d a a.slots.state refl b
+  error_keeps : (e : Plain) (h : Flow) (a : Acts) → Held h a.slots → Held h (controller_error me e a).slots
+  unfolding controller_error stream_error
+  error_keeps e h a k =
+      either (λ (z : Acts). Held h z.slots) (is_readable a.slots.state) _ a (λ is. error_reader_keeps e h k.dropped a a.slots.reader refl k.balanced) (λ isnt. k)
 
--- a cancel
-cancel_by_keeps : (me : StreamId) (e : Plain) (p : PromiseId) (h : Flow) (d : List Value) (a : Acts) (state : ReadableState) → state ≡ a.slots.state → Balanced h d a.slots
-    → Balanced (flow_then h (record { entered = []; given = []; cancelled = is_readable state; asked = 0 })) (dropped_in state a.slots.queue ++ d) (cancel_by me e p a state).slots
-unfolding cancel_steps stream_close
-cancel_by_keeps me e p h d a Readable s b = grind (arith, append-nil, append_assoc, length-append)
-cancel_by_keeps me e p h d a Closed s b = rw same_flow b
-cancel_by_keeps me e p h d a Errored s b = rw same_flow b
+  taken : (E G Q D : List Value) (v : Value) → E ≡ G ++ ((v ∷ Q) ++ D) → E ++ [] ≡ (G ++ v ∷ []) ++ (Q ++ D)
+  taken E G Q D v e = simp (e, append-nil, append_assoc)
 
-pub cancel_keeps : (me : StreamId) (e : Plain) (h : Flow) (d : List Value) (a : Acts) → Balanced h d a.slots → Balanced (flow_then h (cancel_flow a.slots)) (dropped_by a.slots ++ d) (stream_cancel me e a).slots
-unfolding stream_cancel
-cancel_keeps me e h d a b =
-    cancel_by_keeps me e (next_id a.out.promises) h d (record { slots = record a.slots { disturbed = true }; out = record a.out { promises = fresh a.out.promises } }) a.slots.state refl
-    (record { all = b.all; live = b.live; whole = b.whole; fit = b.fit; asked = b.asked })
+  -- a read takes the first chunk of the queue, or waits
+  pull_from_keeps : (r : ReadRequest) (h : Flow) (d : List Value) (a : Acts) (queue : List (Queued Value)) → queue ≡ a.slots.queue → a.slots.state ≡ Readable → Is h d a.slots
+      → Is (flow_then h (record { entered = []; given = first_given Readable queue; cancelled = false; asked = 1 })) d (pull_from me r a queue).slots
+  pull_from_keeps r h d a [] q s b =
+      pull_keeps _ d (record a { slots = record a.slots { requests = a.slots.requests ++ r ∷ [] } })
+      (record {
+        all = rw (append-nil h.entered, append-nil h.given) b.all;
+        live = b.live;
+        whole = λ c f. b.live s;
+        gone = b.gone;
+        fit = λ e. let n : is_empty a.slots.queue ≡ true = rw (← q) refl in cc;
+        asked = let n = b.asked in omega (arith, length-append h.given [], length-append a.slots.requests (r ∷ []));
+      })
+  pull_from_keeps r h d a (q ∷ qs) e s b =
+      after_take_keeps _ d (record a { slots = record a.slots { queue = qs } }) s
+      (record {
+        all = taken h.entered h.given (values qs) d q.value (rw (← e) at b.all);
+        live = b.live;
+        whole = λ c f. b.live s;
+        gone = λ n. false_true (is_readable a.slots.state) (state_is a.slots.state Readable s) n;
+        fit = λ f. b.fit (rw (← e) refl);
+        asked = let n = b.asked in omega (arith, length-append h.given (q.value ∷ []));
+      })
 
-pub initialize_keeps : (h : Flow) (d : List Value) (a : Acts) → Balanced h d a.slots → Balanced h d (reader_generic_initialize a).slots
-unfolding reader_generic_initialize
-initialize_keeps h d a b = grind arith
+  read_by_keeps : (r : ReadRequest) (h : Flow) (d : List Value) (a : Acts) (state : ReadableState) → state ≡ a.slots.state → Is h d a.slots
+      → Is (flow_then h (record { entered = []; given = first_given state a.slots.queue; cancelled = false; asked = if is_readable state then 1 else 0 })) d (read_by me r a state).slots
+  unfolding pull_steps
+  read_by_keeps r h d a Readable s b = pull_from_keeps r h d a a.slots.queue refl (sym s) b
+  read_by_keeps r h d a Closed s b = rw same_flow b
+  read_by_keeps r h d a Errored s b = rw same_flow b
 
-pub release_keeps : (h : Flow) (d : List Value) (a : Acts) → Balanced h d a.slots → Balanced h d (reader_release a).slots
-unfolding reader_release
-release_keeps h d a b = grind arith
+  cancel_reader_keeps : (g : Flow) (d : List Value) (a : Acts) (reader : Option PromiseId) → reader ≡ a.slots.reader → (g.cancelled ≡ false → values a.slots.queue ++ d ≡ []) → Is g d a.slots
+      → Is g (values a.slots.queue ++ d) (record (close_reader me (record a { slots = record a.slots { state = Closed } }) reader).slots { queue = [] })
+  cancel_reader_keeps g d a None e c b = over g d a.slots (record a.slots { state = Closed; queue = [] }) refl refl (λ k f. c k) (omega arith) (λ f. cc) b
+  cancel_reader_keeps g d a (Some closed) e c b = over g d a.slots (record a.slots { state = Closed; queue = []; requests = [] }) refl refl (λ k f. c k) (omega arith) (λ f. cc) b
 
-pull_ended_keeps : (me : StreamId) (h : Flow) (d : List Value) (a : Acts) (again : Bool) → Balanced h d a.slots → Balanced h d (pull_ended me a again).slots
-pull_ended_keeps me h d a true b = pull_keeps me h d _ (record { all = b.all; live = b.live; whole = b.whole; fit = b.fit; asked = b.asked })
-pull_ended_keeps me h d a false b = b
+  cancel_by_keeps : (e : Plain) (p : PromiseId) (h : Flow) (d : List Value) (a : Acts) (state : ReadableState) → state ≡ a.slots.state → Is h d a.slots
+      → Held (flow_then h (record no_flow { cancelled = is_readable state })) (cancel_by me e p a state).slots
+  unfolding cancel_steps stream_close
+  cancel_by_keeps e p h d a Readable s b =
+      let g : Flow = flow_then h (record no_flow { cancelled = true }) in
+      record {
+        dropped = _;
+        balanced =
+            cancel_reader_keeps g d a a.slots.reader refl (λ c. let n = nor_right h.cancelled true c in cc)
+            (reflowed h g d a.slots (append-nil h.entered) (append-nil h.given) (nor_left h.cancelled true) (omega arith) b);
+      }
+  cancel_by_keeps e p h d a Closed s b = record { dropped = d; balanced = rw same_flow b }
+  cancel_by_keeps e p h d a Errored s b = record { dropped = d; balanced = rw same_flow b }
 
--- what a reaction drops
-abbrev pub dropped_unless_ok : Result Plain Plain → Slots → List Value
-dropped_unless_ok (Ok v) s = []
-dropped_unless_ok (Err e) s = dropped_by s
+  release_by_keeps : (h : Flow) (d : List Value) (a : Acts) (reader : Option PromiseId) → Is h d a.slots → Is h d (release_by me a reader).slots
+  release_by_keeps h d a None b = b
+  release_by_keeps h d a (Some closed) b = unlocked h d a.slots None b
 
-pub pull_settled_keeps : (me : StreamId) (o : Result Plain Plain) (h : Flow) (d : List Value) (a : Acts) → Balanced h d a.slots → Balanced h (dropped_unless_ok o a.slots ++ d) (pull_settled me o a).slots
-unfolding pull_settled
-pull_settled_keeps me (Ok v) h d a b = pull_ended_keeps me h d _ a.slots.pull_again (record { all = b.all; live = b.live; whole = b.whole; fit = b.fit; asked = b.asked })
-pull_settled_keeps me (Err e) h d a b = controller_error_keeps e h d a b
+  pull_ended_keeps : (h : Flow) (d : List Value) (a : Acts) (again : Bool) → Is h d a.slots → Is h d (pull_ended me a again).slots
+  pull_ended_keeps h d a true b = pull_keeps h d (record a { slots = record a.slots { pull_again = false } }) b
+  pull_ended_keeps h d a false b = b
 
-pub start_settled_keeps : (me : StreamId) (o : Result Plain Plain) (h : Flow) (d : List Value) (a : Acts) → Balanced h d a.slots → Balanced h (dropped_unless_ok o a.slots ++ d) (start_settled me o a).slots
-unfolding start_settled
-start_settled_keeps me (Ok v) h d a b = pull_keeps me h d _ (record { all = b.all; live = b.live; whole = b.whole; fit = b.fit; asked = b.asked })
-start_settled_keeps me (Err e) h d a b = controller_error_keeps e h d a b
+  pub operation_keeps : (operation : ReadableOperation) (h : Flow) (a : Acts) → Held h a.slots → Held (flow_then h (with_due operation a.slots)) (readable_operation me operation a).slots
+  unfolding controller_enqueue default_reader_read stream_cancel reader_generic_initialize reader_release start_settled pull_settled
+  operation_keeps (Enqueue v) h a k = record { dropped = k.dropped; balanced = enqueue_by v h k.dropped a (can_close_or_enqueue a.slots) refl k.balanced }
+  operation_keeps (Read r) h a k =
+      record { dropped = k.dropped; balanced = read_by_keeps r h k.dropped (record a { slots = record a.slots { disturbed = true } }) a.slots.state refl k.balanced }
+  operation_keeps (Cancel e p) h a k = cancel_by_keeps e p h k.dropped (record a { slots = record a.slots { disturbed = true } }) a.slots.state refl k.balanced
+  operation_keeps (InitializeReader closed) h a k = record { dropped = k.dropped; balanced = rw same_flow (unlocked h k.dropped a.slots (Some closed) k.balanced) }
+  operation_keeps ReleaseReader h a k = record { dropped = k.dropped; balanced = rw same_flow (release_by_keeps h k.dropped a a.slots.reader k.balanced) }
+  operation_keeps Close h a k = record { dropped = k.dropped; balanced = rw same_flow (controller_close_keeps h k.dropped a k.balanced) }
+  operation_keeps (Error e) h a k = rw same_flow (error_keeps e h a k)
+  operation_keeps (StartSettled (Ok v)) h a k =
+      record { dropped = k.dropped; balanced = rw same_flow (pull_keeps h k.dropped (record a { slots = record a.slots { started = true } }) k.balanced) }
+  operation_keeps (StartSettled (Err e)) h a k = rw same_flow (error_keeps e h a k)
+  operation_keeps (PullSettled (Ok v)) h a k =
+      record { dropped = k.dropped; balanced = rw same_flow (pull_ended_keeps h k.dropped (record a { slots = record a.slots { pulling = false } }) a.slots.pull_again k.balanced) }
+  operation_keeps (PullSettled (Err e)) h a k = rw same_flow (error_keeps e h a k)

@@ -1,57 +1,140 @@
--- The order of a readable stream, step by step and over every run.
-use Rattle.std.proofs.Common.{◌≡◌, Bool, true, false, ◌||◌, List, [], ◌∷◌, ◌++◌, Option, Some, None, Result, refl, sym, append_assoc, append-nil, add_assoc, arith, zero-add}
+-- The order of a readable stream over every run.
+use Rattle.std.proofs.Common.{◌≡◌, ℕ, Bool, true, false, ◌||◌, if◌then◌else◌, List, [], ◌∷◌, ◌++◌, ◌⊎◌, inl, inr, refl, sym, ap, ◌∙◌, append_assoc, append-nil, add_assoc, zero-add, add-zero, arith}
 use Rattle.ws_value.specs.declared.ids.StreamId.{StreamId}
-use Rattle.ws_value.specs.declared.value.Plain.{Plain}
-use Rattle.ws_steps.specs.declared.promises.Job.{Job}
-use Rattle.ws_steps.specs.declared.promises.Job.TheVariants.{Reaction, Follow, Settle as SettleJob}
-use Rattle.ws_steps.specs.declared.promises.Step.{Step as JobStep}
-use Rattle.ws_steps.specs.declared.promises.Step.TheVariants.{ReadableStart, ReadablePull, ReturnUndefined, WritableStart, WritableWrite, WritableClose, WritableAbort}
-use Rattle.ws_steps.specs.Promises.{next_job, after_next_job}
+use Rattle.ws_value.specs.declared.value.Value.{Value}
+use Rattle.ws_steps.specs.declared.{effects.Effect.{Effect}, effects.Effect.TheVariants.{Readable as OnReadable, ChunkSteps}, effects.Owner.TheVariants.{Host}, queue.Queued.{Queued}}
+use Rattle.ws_steps.specs.declared.{readable.ReadRequest.{ReadRequest}, readable.ReadableOperation.{ReadableOperation}, readable.ReadableOperation.TheVariants.{Read, Cancel, Enqueue}}
+use Rattle.ws_steps.specs.declared.{readable.ReadableState.{ReadableState}, readable.ReadableState.TheVariants.{Readable, Closed, Errored}, readable.SizeBy.{SizeBy}}
+use Rattle.ws_steps.specs.Effects.{Out}
+use Rattle.ws_steps.specs.Operations.{readable_operation}
 use Rattle.ws_steps.specs.Readable as readable
-use Rattle.ws_steps.specs.Writable as writable
-use Rattle.ws_steps.specs.Slots.{Slots, empty, readable_at}
-use Rattle.ws_steps.specs.Turns.{performed}
-use Rattle.ws_steps.specs.Jobs.{perform_step, perform_job, job_taken, returned}
-use Rattle.ws_steps.specs.Calls.{begin}
-use Rattle.ws_steps.specs.Run.{Entry, Called, Worked, Heard, Forgot, step, run}
-use Rattle.ws_steps.specs.Histories.{Flow, no_flow, flow_then, step_flow, run_flow, values}
+use Rattle.ws_steps.specs.Readable.{Acts, is_readable, accept_for, accept, call_pull_if_needed, controller_enqueue, after_take, pull_from, pull_steps, read_by, default_reader_read, can_close_or_enqueue, waiting}
+use Rattle.ws_steps.specs.Slots.{Slots, empty, readable_at, no_readable}
+use Rattle.ws_steps.specs.Run.{Entry, step, run}
+use Rattle.ws_steps.specs.Histories.{is_same}
+use Rattle.ws_steps.specs.ReadableHistory.{Flow, no_flow, flow_then, values, operation_flow, effect_flow, step_flow, run_flow}
 use Rattle.ws_steps.specs.Laws.{IsLawfulReadable, EachReadableIsLawful}
-use Rattle.ws_laws.proofs.Tables.{performed-streams, named-streams}
-use Rattle.ws_readable_laws.proofs.Operations.{same_flow}
-use Rattle.ws_readable_laws.proofs.Steps.{Held, Kept, quiet, on_readable-quiet, on_writable-kept, keeps_start, keeps_pull}
-use Rattle.ws_readable_laws.proofs.Calls.{call_kept}
-use Rattle.ws_laws.proofs.Tables.{derived-streams}
+use Rattle.ws_laws.proofs.Tables.{either, is_same-refl, readable_acts}
+use Rattle.ws_laws.proofs.Lists.{Each}
+use Rattle.ws_laws.proofs.ReadableDoes.{OfReadableEnds, is_taking, pull-does, take-does, ends-do}
+use Rattle.ws_laws.proofs.Begin.{IsFirst, Any}
+use Rattle.ws_laws.proofs.Walker.{IsHistory}
+use Rattle.ws_laws.proofs.OnReadable as on_readable
+use Rattle.ws_laws.proofs.OnReadable.{IsForeign, IsLaw, Kept, all_seen, all_seen-append}
+use Rattle.ws_readable_laws.proofs.Operations.{Held, same_flow, or_false, due, with_due, given_to, first_given, operation_keeps}
 
--- jobs
+-- what is seen of the agenda: an operation that may give, and chunk steps of the stream
+pub data Mark : Type 0 where
+  Takes : Mark
+  Gives : Value → Mark
 
-step_kept : (step : JobStep) (o : Result Plain Plain) (i : StreamId) (s : Slots) (h : Flow) → Kept i h s.streams → Kept i h (perform_step step o s).slots.streams
-step_kept (ReadableStart j) o i s h k = on_readable-quiet (readable.start_settled j o) (keeps_start j o) i j s h k
-step_kept (ReadablePull j) o i s h k = on_readable-quiet (readable.pull_settled j o) (keeps_pull j o) i j s h k
-step_kept ReturnUndefined o i s h k = k
-step_kept (WritableStart j) o i s h k = on_writable-kept (writable.start_settled j o) i j s h k
-step_kept (WritableWrite j) o i s h k = on_writable-kept (writable.write_settled j o) i j s h k
-step_kept (WritableClose j) o i s h k = on_writable-kept (writable.close_settled j o) i j s h k
-step_kept (WritableAbort j p) o i s h k = on_writable-kept (writable.abort_settled p o) i j s h k
+abbrev pub takes : Bool → List Mark
+takes true = Takes ∷ []
+takes false = []
 
-job_kept : (job : Job) (i : StreamId) (s : Slots) (h : Flow) → Kept i h s.streams → Kept i h (perform_job job s).streams
-unfolding perform_job
-job_kept (Reaction step o derived) i s h k =
-    rw (derived-streams derived (returned step o) (performed (perform_step step o s)), performed-streams (perform_step step o s)) (step_kept step o i s h k)
-job_kept (Follow p q) i s h k = k
-job_kept (SettleJob p o) i s h k = k
+abbrev pub mark : StreamId → Effect → List Mark
+mark i (OnReadable j operation) = if is_same i j then takes (is_taking operation) else []
+mark i (ChunkSteps j request v) = if is_same i j then Gives v ∷ [] else []
+mark i _ = []
 
-taken_kept : (job : Option Job) (i : StreamId) (s : Slots) (h : Flow) → Kept i h s.streams → Kept i h (job_taken s job).streams
-taken_kept None i s h k = k
-taken_kept (Some job) i s h k = job_kept job i (record s { promises = after_next_job s.promises }) h k
+-- what is still to be given
+abbrev pub pending : List Mark → List Value
+pending [] = []
+pending (Takes ∷ ms) = pending ms
+pending (Gives v ∷ ms) = v ∷ pending ms
 
--- steps
+-- behind an operation that may give stand no chunk steps of the stream
+abbrev pub Clear : List Mark → Type 0
+Clear [] = Unit {0}
+Clear (Takes ∷ ms) = (pending ms ≡ []) × Clear ms
+Clear (Gives v ∷ ms) = Clear ms
 
-pub entry_kept : (i : StreamId) (x : Entry) (s : Slots) (h : Flow) → Kept i h s.streams → Kept i (flow_then h (step_flow i s x)) (step s x).streams
-entry_kept i (Called c) s h k =
-    rw (named-streams (begin c s).reply (performed (begin c s).done), performed-streams (begin c s).done) (call_kept c i s h k)
-entry_kept i Worked s h k = quiet i h (job_taken s (next_job s.promises)).streams (taken_kept (next_job s.promises) i s h k)
-entry_kept i Heard s h k = rw same_flow k
-entry_kept i (Forgot p) s h k = rw same_flow k
+-- the flow with what is still to be given
+abbrev pub with_pending : List Mark → Flow → Flow
+with_pending ms h = record h { given = h.given ++ pending ms }
+
+pub record Ordered (h : Flow) (r : readable.Slots) (ms : List Mark) : Type 0 where
+  pub held : Held (with_pending ms h) r
+  pub clear : Clear ms
+
+abbrev pub gives : List Value → List Mark
+gives [] = []
+gives (v ∷ vs) = Gives v ∷ gives vs
+
+pending-gives : (vs : List Value) (ms : List Mark) → pending (gives vs ++ ms) ≡ vs ++ pending ms
+pending-gives [] ms = refl
+pending-gives (v ∷ vs) ms = ap (λ us. v ∷ us) (pending-gives vs ms)
+
+clear-gives : (vs : List Value) (ms : List Mark) → Clear ms → Clear (gives vs ++ ms)
+clear-gives [] ms c = c
+clear-gives (v ∷ vs) ms c = clear-gives vs ms c
+
+-- an operation causes the chunk steps that were due, and no others
+
+module _ (i : StreamId) where
+  abbrev Shows : List Mark → Out → Type 0
+  Shows ms x = all_seen (mark i) x.effects ≡ ms
+
+  hidden : (ms : List Mark) (es : List Effect) (e : Effect) → mark i e ≡ [] → all_seen (mark i) es ≡ ms → all_seen (mark i) (es ++ e ∷ []) ≡ ms
+  hidden ms es e n h = rw (all_seen-append, n) (append-nil (all_seen (mark i) es) ∙ h)
+
+  shows : (ms : List Mark) → OfReadableEnds (Shows ms) i
+  shows ms = record {
+    settle = λ x p o h. h;
+    pull = λ x h. hidden ms x.effects _ refl h;
+    cancel = λ x r p h. hidden ms x.effects _ refl h;
+    close = λ x r h. hidden ms x.effects _ refl h;
+    error = λ x r e h. hidden ms x.effects _ refl h;
+  }
+
+  gives-chunk : (r : ReadRequest) (v : Value) (es : List Effect) → all_seen (mark i) es ≡ [] → all_seen (mark i) (es ++ ChunkSteps i r v ∷ []) ≡ Gives v ∷ []
+  gives-chunk r v es h = rw (all_seen-append, h, is_same-refl) refl
+
+  accept-shows : (v : Value) (a : Acts) (rs : List ReadRequest) → Shows [] a.out → Shows (gives (given_to v rs)) (accept_for i v a rs).out
+  accept-shows v a [] h = h
+  accept-shows v a (r ∷ rs) h = gives-chunk r v a.out.effects h
+
+  enqueue-shows : (v : Value) (a : Acts) (t : Bool) → Shows [] a.out → Shows (gives (if t then given_to v (waiting a.slots) else [])) (if t then call_pull_if_needed i (accept i v a) else a).out
+  unfolding accept
+  enqueue-shows v a false h = h
+  enqueue-shows v a true h =
+      pull-does (Shows (gives (given_to v (waiting a.slots)))) i (shows (gives (given_to v (waiting a.slots)))) (accept i v a) (accept-shows v a (waiting a.slots) h)
+
+  pull_from-shows : (r : ReadRequest) (a : Acts) (queue : List (Queued Value)) → Shows [] a.out → Shows (gives (first_given Readable queue)) (pull_from i r a queue).out
+  pull_from-shows r a [] h = pull-does (Shows []) i (shows []) (record a { slots = record a.slots { requests = a.slots.requests ++ r ∷ [] } }) h
+  pull_from-shows r a (q ∷ qs) h =
+      let b : Acts = record a { slots = record a.slots { queue = qs } } in
+      gives-chunk r q.value (after_take i b).out.effects (take-does (Shows []) i (shows []) b h)
+
+  read_by-shows : (r : ReadRequest) (a : Acts) (state : ReadableState) → Shows [] a.out → Shows (gives (first_given state a.slots.queue)) (read_by i r a state).out
+  unfolding pull_steps
+  read_by-shows r a Readable h = pull_from-shows r a a.slots.queue h
+  read_by-shows r a Closed h = hidden [] a.out.effects _ refl h
+  read_by-shows r a Errored h = hidden [] a.out.effects _ refl h
+
+  operation-shows : (operation : ReadableOperation) (a : Acts) → Shows [] a.out → Shows (gives (due operation a.slots)) (readable_operation i operation a).out
+  unfolding controller_enqueue default_reader_read
+  operation-shows (Enqueue v) a h = enqueue-shows v a (can_close_or_enqueue a.slots) h
+  operation-shows (Read r) a h = read_by-shows r (record a { slots = record a.slots { disturbed = true } }) a.slots.state h
+  operation-shows operation a h = ends-do (Shows []) i (shows []) operation a refl h
+
+no_gives : (operation : ReadableOperation) (r : readable.Slots) → (operation_flow operation r).given ≡ []
+no_gives (Enqueue v) r = either (λ (f : Flow). f.given ≡ []) (can_close_or_enqueue r) _ no_flow (λ e. refl) (λ e. refl)
+no_gives (Read request) r = refl
+no_gives (Cancel reason p) r = refl
+no_gives _ r = refl
+
+-- what an operation was about to give stands before all that is still to be given, of which there is none, or it gives none
+moved : (G P D N : List Value) → N ≡ [] → (P ≡ []) ⊎ (D ≡ []) → (G ++ P) ++ D ≡ (G ++ N) ++ (D ++ P)
+moved G P D N n (inl p) = rw (n, p) (simp append-nil)
+moved G P D N n (inr d) = rw (n, d) (simp append-nil)
+
+due_none : (operation : ReadableOperation) (r : readable.Slots) → is_taking operation ≡ false → due operation r ≡ []
+due_none (Enqueue v) r n = cc
+due_none (Read request) r n = cc
+due_none operation r n = refl
+
+-- histories
 
 or_assoc : (a b c : Bool) → (a || b) || c ≡ a || (b || c)
 or_assoc true b c = refl
@@ -65,30 +148,120 @@ flow-assoc f g h = λ i. record {
   asked = add_assoc f.asked g.asked h.asked i;
 }
 
-pub run_kept : (i : StreamId) (xs : List Entry) (s : Slots) (h : Flow) → Kept i h s.streams → Kept i (flow_then h (run_flow i xs s)) (run xs s).streams
-run_kept i [] s h k = rw same_flow k
-run_kept i (x ∷ xs) s h k =
-    rw (← flow-assoc h (step_flow i s x) (run_flow i xs (step s x))) (run_kept i xs (step s x) (flow_then h (step_flow i s x)) (entry_kept i x s h k))
+pub nothing_flows : (f : Flow) → flow_then no_flow f ≡ f
+nothing_flows f = λ i. record f { asked = zero-add f.asked i }
 
--- laws
+pub is_history : IsHistory no_flow flow_then
+is_history = record { left = nothing_flows; right = same_flow; assoc = flow-assoc }
+
+-- until it is made, no cancel closed it
+abbrev pub Unmade : Flow → Type 0
+Unmade h = h.cancelled ≡ false
+
+made : (mark : ℕ) (size : SizeBy) (h : Flow) → Unmade h → Ordered h no_readable [] → Ordered h (readable.set_up Host mark size) []
+made mark size h n k =
+    let none_dropped : k.held.dropped ≡ [] = k.held.balanced.whole n refl in
+    record {
+      held = record { dropped = k.held.dropped; balanced = record { all = k.held.balanced.all; live = λ f. none_dropped; whole = λ f g. none_dropped; gone = λ f. refl; fit = λ f. refl; asked = k.held.balanced.asked } };
+      clear = tt;
+    }
+
+idle_flow : (operation : ReadableOperation) → operation_flow operation no_readable ≡ no_flow
+idle_flow (Enqueue v) = refl
+idle_flow (Read request) = refl
+idle_flow (Cancel r p) = refl
+idle_flow _ = refl
+
+module _ (i : StreamId) where
+  unseen : (e : Effect) → IsForeign i e → mark i e ≡ []
+  unseen (OnReadable j operation) f = rw f refl
+  unseen (ChunkSteps j request v) f = rw f refl
+  unseen _ f = refl
+
+  untold : (e : Effect) (s : Slots) → IsForeign i e → effect_flow i e s ≡ no_flow
+  untold (OnReadable j operation) s f = rw f refl
+  untold (ChunkSteps j request v) s f = rw f refl
+  untold _ s f = refl
+
+  moved_keeps : (operation : ReadableOperation) (s : Slots) (h : Flow) (ms : List Mark) → (pending ms ≡ []) ⊎ (due operation (readable_at i s) ≡ []) → Held (with_pending ms h) (readable_at i s) → Clear ms
+      → let a : Acts = readable_operation i operation (readable_acts i s) in Ordered (flow_then h (operation_flow operation (readable_at i s))) a.slots (all_seen (mark i) a.out.effects ++ ms)
+  moved_keeps operation s h ms none held clear =
+      let r : readable.Slots = readable_at i s in
+      let f : Flow = operation_flow operation r in
+      let d : List Value = due operation r in
+      let given : (h.given ++ pending ms) ++ d ≡ (h.given ++ f.given) ++ pending (gives d ++ ms) =
+      moved h.given (pending ms) d f.given (no_gives operation r) none ∙ ap (λ vs. (h.given ++ f.given) ++ vs) (sym (pending-gives d ms)) in
+      let same : flow_then (with_pending ms h) (with_due operation r) ≡ with_pending (gives d ++ ms) (flow_then h f) = λ k. record (flow_then h f) { given = given k } in
+      rw (operation-shows i operation (readable_acts i s) refl)
+      (record { held = rw same at (operation_keeps i operation (with_pending ms h) (readable_acts i s) held); clear = clear-gives d ms clear })
+
+  taking_keeps : (operation : ReadableOperation) (s : Slots) (h : Flow) (ms : List Mark) (t : Bool) → t ≡ is_taking operation → Ordered h (readable_at i s) (takes t ++ ms)
+      → let a : Acts = readable_operation i operation (readable_acts i s) in Ordered (flow_then h (operation_flow operation (readable_at i s))) a.slots (all_seen (mark i) a.out.effects ++ ms)
+  taking_keeps operation s h ms true t k = moved_keeps operation s h ms (inl k.clear.0) k.held k.clear.1
+  taking_keeps operation s h ms false t k = moved_keeps operation s h ms (inr (due_none operation (readable_at i s) (sym t))) k.held k.clear
+
+  absent_keeps : (h : Flow) (ms : List Mark) (t : Bool) → Ordered h no_readable (takes t ++ ms) → Ordered h no_readable ms
+  absent_keeps h ms true k = record { held = k.held; clear = k.clear.1 }
+  absent_keeps h ms false k = k
+
+  chunk_keeps : (v : Value) (h : Flow) (r : readable.Slots) (ms : List Mark) → Ordered h r (Gives v ∷ ms) → Ordered (flow_then h (record no_flow { given = v ∷ [] })) r ms
+  chunk_keeps v h r ms k =
+      let given : h.given ++ (v ∷ pending ms) ≡ (h.given ++ v ∷ []) ++ pending ms = sym (append_assoc h.given (v ∷ []) (pending ms)) in
+      let same : with_pending (Gives v ∷ ms) h ≡ with_pending ms (flow_then h (record no_flow { given = v ∷ [] })) =
+      λ k. record { entered = sym (append-nil h.entered) k; given = given k; cancelled = sym (or_false h.cancelled) k; asked = sym (add-zero h.asked) k } in
+      record { held = rw same at k.held; clear = k.clear }
+
+  taken_first : (b t : Bool) (ms : List Mark) → (pending ms ≡ []) × Clear ms → let ns : List Mark = (if b then takes t else []) ++ ms in (pending ns ≡ []) × Clear ns
+  taken_first true true ms c = (c.0, c)
+  taken_first true false ms c = c
+  taken_first false t ms c = c
+
+  first_marks : (es : List Effect) → Each (IsFirst Any) es → (pending (all_seen (mark i) es) ≡ []) × Clear (all_seen (mark i) es)
+  first_marks [] f = (refl, tt)
+  first_marks (OnReadable j operation ∷ es) f = taken_first (is_same i j) (is_taking operation) (all_seen (mark i) es) (first_marks es f.1)
+  first_marks (ChunkSteps j request v ∷ es) f = absurd (f.0)
+  first_marks (e ∷ es) f = first_marks es f.1
+
+  first_keeps : (es : List Effect) → Each (IsFirst Any) es → (h : Flow) (r : readable.Slots) → Ordered h r [] → Ordered h r (all_seen (mark i) es)
+  first_keeps es f h r k = let m = first_marks es f in record { held = rw m.0 k.held; clear = m.1 }
+
+  law : IsLaw no_flow flow_then (effect_flow i) (mark i) i Ordered Unmade
+  law = record {
+    history = is_history;
+    unseen = unseen;
+    untold = untold;
+    operation = λ operation s h ms k. rw (is_same-refl i) (taking_keeps operation s h ms (is_taking operation) refl (rw (is_same-refl i) at k));
+    idle = λ operation s e. rw (is_same-refl i, e) (idle_flow operation);
+    absent = λ operation h ms k. absent_keeps h ms (is_taking operation) (rw (is_same-refl i) at k);
+    chunk = λ request v s h r ms k. rw (is_same-refl i) (chunk_keeps v h r ms (rw (is_same-refl i) at k));
+    chunk_unmade = λ request v s h n. rw (is_same-refl i) (rw (or_false h.cancelled) n);
+    first = first_keeps;
+    made = made;
+    empty = record { held = record { dropped = []; balanced = record { all = refl; live = λ e. refl; whole = λ c e. refl; gone = λ e. refl; fit = λ e. refl; asked = omega arith } }; clear = tt };
+    unmade = refl;
+  }
+
+  abbrev pub Keeps : Flow → Slots → Type 0
+  Keeps h s = Kept (mark i) i Ordered Unmade h s.streams []
+
+  pub step-kept : (h : Flow) (s : Slots) (x : Entry) → Keeps h s → Keeps (flow_then h (step_flow i s x)) (step s x)
+  step-kept h s x k = on_readable.step-kept no_flow flow_then (effect_flow i) (mark i) i Ordered Unmade law h s x k
+
+  pub run-kept : (entries : List Entry) → Keeps (run_flow i entries empty) (run entries empty)
+  run-kept entries = on_readable.run-kept no_flow flow_then (effect_flow i) (mark i) i Ordered Unmade law entries
+
+-- between steps nothing is still to be given
+pub between : (h : Flow) (r : readable.Slots) → Ordered h r [] → Held h r
+between h r k = let same : with_pending [] h ≡ h = λ i. record h { given = append-nil h.given i } in rw same at k.held
 
 lawful : (h : Flow) (r : readable.Slots) → Held h r → IsLawfulReadable h r
 lawful h r k = record {
   front = (values r.queue ++ k.dropped, sym k.balanced.all);
   readable = λ e. rw (k.balanced.live e, append-nil) at k.balanced.all;
-  closed = λ c e. sym (rw (k.balanced.whole c e, append-nil) at k.balanced.all);
+  closed = λ c e. let g = k.balanced.gone (ap is_readable e) in sym (rw (g, k.balanced.whole c e, append-nil) at k.balanced.all);
   asked = k.balanced.asked;
 }
 
-pub none_made : (i : StreamId) → Kept i no_flow empty.streams
-none_made i = record {
-  unmade = λ e. refl;
-  held = record { dropped = []; balanced = record { all = refl; live = λ e. refl; whole = λ c e. refl; fit = λ e. cc; asked = omega arith } };
-}
-
-nothing_flows : (f : Flow) → flow_then no_flow f ≡ f
-nothing_flows f = λ i. record f { asked = zero-add f.asked i }
-
 pub each_readable_is_lawful : EachReadableIsLawful
 each_readable_is_lawful entries i =
-    lawful (run_flow i entries empty) (readable_at i (run entries empty)) (rw (nothing_flows (run_flow i entries empty)) at (run_kept i entries empty no_flow (none_made i))).held
+    let s : Slots = run entries empty in lawful (run_flow i entries empty) (readable_at i s) (between (run_flow i entries empty) (readable_at i s) (run-kept i entries).held)

@@ -1,3 +1,9 @@
-pub mod Performing
+pub mod Beginning
+pub mod Fits
 pub mod LettingGo
+pub mod Loops
+pub mod Places
+pub mod Preparing
+pub mod Streams
+pub mod Turns
 pub mod Working

@@ -1,12 +1,13 @@
 -- Jobs one after another.
-use Rattle.std.proofs.Common.{◌≡◌, ◌≤◌, ◌+◌, ℕ, Bool, true, false, zero, suc, List, [], ◌∷◌, None, refl, arith}
+use Rattle.std.proofs.Common.{◌≡◌, ◌∙◌, ◌≤◌, ◌+◌, ℕ, Bool, true, false, zero, suc, List, [], ◌∷◌, None, refl, arith}
 use Rattle.std.specs.Prelude.{not, if◌then◌else◌}
 use Rattle.ws_steps.specs.declared.calls.Call.{Call}
 use Rattle.ws_steps.specs.declared.promises.Job.{Job}
 use Rattle.ws_steps.specs.Promises.{Table, next_job, first_job, after_next_job}
 use Rattle.ws_steps.specs.Queues.{is_empty}
 use Rattle.ws_steps.specs.Run.{work, task, is_idle, after_call, after_job}
-use Rattle.ws_steps.specs.Slots.{Slots}
+use Rattle.ws_steps.specs.Jobs.{begin_job}
+use Rattle.ws_steps.specs.Slots.{Slots, nothing}
 use Rattle.ws_laws.proofs.Ages.{called-age, worked-age}
 use Rattle.ws_laws.proofs.Tables.{either}
 
@@ -28,6 +29,17 @@ work-idle (suc n) s z worked asked none left = grind arith
 pub work-job : (m n : ℕ) (s z : Slots) (worked : Bool) → m ≡ suc n → worked ≡ not (is_idle s) → worked ≡ true → z ≡ (if is_idle s then s else after_job s) → work m s ≡ work n z
 work-job m n s z worked more asked some left = rw more (grind arith)
 
+more-by : (idle : Bool) (n : ℕ) (s z x : Slots) (worked : Bool) → is_idle s ≡ idle → z ≡ work (suc n) s → worked ≡ not (is_idle z) → worked ≡ true
+    → (z ≡ work n (after_job s) → x ≡ work (suc n) (after_job s)) → x ≡ work (suc (suc n)) s
+more-by true n s z x worked is done asked some more = grind arith
+more-by false n s z x worked is done asked some more = more (done ∙ rw is refl) ∙ rw is refl
+
+-- after so many jobs, one more is performed
+pub work-more : (n : ℕ) (s z x : Slots) (worked : Bool) → z ≡ work n s → worked ≡ not (is_idle z) → worked ≡ true → x ≡ (if is_idle z then z else after_job z) → x ≡ work (suc n) s
+work-more zero s z x worked done asked some left = rw (← done) (grind arith)
+work-more (suc n) s z x worked done asked some left =
+    more-by (is_idle s) n s z x worked refl done asked some (λ later. work-more n (after_job s) z x worked later asked some left)
+
 -- how old a realm is at most
 
 pub job_or_none-age : (s z : Slots) → z ≡ (if is_idle s then s else after_job s) → z.age ≤ s.age + 1
@@ -42,3 +54,23 @@ work-age (suc n) s =
 
 pub task-age : (n : ℕ) (call : Call) (s : Slots) → (task n call s).age ≤ s.age + 1 + n
 task-age n call s = let jobs = work-age n (after_call call s) in let older = called-age call s in omega arith
+
+-- a job begins, or none is queued
+
+first-is-none : (js : List Job) → is_empty js ≡ true → first_job js ≡ None
+first-is-none [] empty = refl
+first-is-none (job ∷ jobs) empty = cc
+
+idle-none : (t : Table) → is_empty t.jobs ≡ true → next_job t ≡ None
+idle-none t empty = first-is-none t.jobs empty
+
+pub begins-none : (s : Slots) → next_job s.promises ≡ None → begin_job s ≡ nothing s
+unfolding begin_job
+begins-none s none = rw none refl
+
+pub idle-begins : (s : Slots) → is_idle s ≡ true → begin_job s ≡ nothing s
+idle-begins s empty = begins-none s (idle-none s.promises empty)
+
+pub not-false : (b : Bool) → false ≡ not b → b ≡ true
+not-false true e = refl
+not-false false e = cc

@@ -1,8 +1,8 @@
 -- What the tables of a realm stand for.
 use Rattle.std.specs.Prelude.{map}
 use Rattle.ws_steps.specs.Slots.{Slots, Stream, ReadableStream, WritableStream}
-use Rattle.ws_realm.specs.declared.streams.Stream.{Stream as StreamRecord}
-use Rattle.ws_realm.specs.declared.streams.Stream.TheVariants.{Readable, Writable}
+use Rattle.ws_realm.specs.declared.tables.Stream.{Stream as StreamRecord}
+use Rattle.ws_realm.specs.declared.tables.Stream.TheVariants.{Readable, Writable}
 use Rattle.ws_realm.specs.declared.tables.Tables.{Tables}
 
 abbrev pub stream_of : StreamRecord → Stream
@@ -16,6 +16,5 @@ slots_of t =
       locks = t.locks.items;
       promises = t.promises.table;
       hosts = t.hosts.items;
-      events = t.events.items;
       age = t.age;
     }

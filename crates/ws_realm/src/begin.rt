@@ -1,32 +1,30 @@
-//! The calls by their names.
-ghost use Rattle.std.specs.Prelude.{◌≡◌, [], IfOk, OnOk};
+//! Calls and jobs whole: what they begin with, and all that comes of it.
+ghost use Rattle.std.specs.Prelude.{◌≡◌, ◌<◌, ◌≤◌, ◌+◌, ◌^◌, not, if◌then◌else◌};
+ghost use Rattle.ws_promise.specs.Seen.{HasEventRoom};
 ghost use Rattle.ws_steps.specs.Calls as calls;
-ghost use Rattle.ws_steps.specs.Turns.{performed};
+ghost use Rattle.ws_steps.specs.Run as run;
+ghost use Rattle.ws_realm.specs.Room.{Answers, CanBegin, CanMake, IsPrepared, IsResting, IsSameBeside};
 ghost use Rattle.ws_steps.specs.declared.calls.Call.TheVariants as call;
 
 use crate::tables::Tables;
 use ws_steps::{Call, Reply};
-use ws_value::NoMemory;
 
 impl Tables {
     ghost use Rattle.ws_realm.specs.View.{slots_of};
 
     #[tactic(auto, unfolding(ws_steps::specs::Calls::begin))]
-    fn call_step(&mut self) -> Result<Reply, NoMemory>
-        requires quiet { self.old.agenda.effects ≡ [] }
-        ensures reply { IfOk result (λ r. r ≡ (calls.begin call.Step (slots_of self.old)).reply) }
-        ensures slots { OnOk result (slots_of self.new ≡ performed (calls.begin call.Step (slots_of self.old)).done) }
-        ensures quiet { OnOk result (self.new.agenda.effects ≡ []) }
+    fn call_step(&mut self) -> Reply
+        requires ready { CanBegin self.old }
+        ensures { Answers (calls.begin call.Step (slots_of self.old)) result self.old self.new }
     {
-        self.replies(Reply::Done)
+        Reply::Done
     }
 
-    /// The checks of a call in their order, and then its operation with all that it causes.
-    pub(crate) fn begin(&mut self, call: Call) -> Result<Reply, NoMemory>
-        requires quiet { self.old.agenda.effects ≡ [] }
-        ensures reply { IfOk result (λ r. r ≡ (calls.begin call (slots_of self.old)).reply) }
-        ensures slots { OnOk result (slots_of self.new ≡ performed (calls.begin call (slots_of self.old)).done) }
-        ensures quiet { OnOk result (self.new.agenda.effects ≡ []) }
+    /// The checks of a call in their order, what it answers and makes, and the effects that it begins with.
+    fn begin(&mut self, call: Call) -> Reply
+        requires ready { CanBegin self.old }
+        requires room { CanMake self.old }
+        ensures { Answers (calls.begin call (slots_of self.old)) result self.old self.new }
     {
         match call {
             Call::MakeReadable {
@@ -61,5 +59,58 @@ impl Tables {
             Call::State(i) => self.call_state(i),
             Call::Step => self.call_step(),
         }
+    }
+
+    /// A promise that a reply names is watched from now on.
+    fn name(&mut self, reply: Reply)
+        requires room { HasEventRoom 1 self.old.promises }
+        ensures slots { slots_of self.new ≡ calls.named reply (slots_of self.old) }
+        ensures rest { IsSameBeside self.old self.new }
+    {
+        match reply {
+            Reply::Promise(promise) => self.promises.watch(promise),
+            Reply::Done => {}
+            Reply::Made(_) => {}
+            Reply::Lock(_) => {}
+            Reply::Size(_) => {}
+            Reply::State(_) => {}
+            Reply::Throws(_) => {}
+            Reply::TooMany => {}
+        }
+    }
+
+    /// Performs a call with all that comes of it, in the places that there are.
+    pub(crate) fn call(&mut self, call: Call) -> Reply
+        requires prepared { IsPrepared self.old }
+        requires resting { IsResting self.old }
+        requires young { self.old.age < 2 ^ 62 }
+        ensures reply { result ≡ run.reply_to call (slots_of self.old) }
+        ensures slots { slots_of self.new ≡ run.after_call call (slots_of self.old) }
+        ensures resting { IsResting self.new }
+        ensures age { self.new.age ≡ self.old.age + 1 }
+    {
+        let reply = self.begin(call);
+        self.perform_effects();
+        self.name(reply);
+        self.age += 1;
+        reply
+    }
+
+    /// Performs the first job with all that comes of it, where one is queued, in the places that there are.
+    pub(crate) fn job(&mut self) -> bool
+        requires prepared { IsPrepared self.old }
+        requires resting { IsResting self.old }
+        requires young { self.old.age < 2 ^ 62 }
+        ensures worked { result ≡ not (run.is_idle (slots_of self.old)) }
+        ensures slots { slots_of self.new ≡ (if run.is_idle (slots_of self.old) then slots_of self.old else run.after_job (slots_of self.old)) }
+        ensures resting { IsResting self.new }
+        ensures age { self.new.age ≤ self.old.age + 1 }
+    {
+        if !self.begin_job() {
+            return false;
+        }
+        self.perform_effects();
+        self.age += 1;
+        true
     }
 }

@@ -1,11 +1,16 @@
-//! What calls answer that change nothing, or throw.
-ghost use Rattle.std.specs.Prelude.{◌≡◌, [], IfOk, OnOk};
+//! The calls, by what they are asked of: their checks in order, what they answer and make, and the effects that they begin with.
 ghost use Rattle.ws_steps.specs.Calls as calls;
-ghost use Rattle.ws_steps.specs.Turns.{performed};
+ghost use Rattle.ws_realm.specs.Room.{Answers, CanBegin};
 
 use crate::tables::Tables;
-use ws_steps::{Reply, Thrown};
-use ws_value::{Fault, NoMemory, Plain};
+use ws_steps::{Effect, Reply, Thrown};
+use ws_value::{Fault, Plain};
+
+mod controllers;
+mod locks;
+mod readers;
+mod streams;
+mod writers;
 
 pub(crate) const UNSUPPORTED: Reply = Reply::Throws(Thrown::Unsupported);
 
@@ -14,30 +19,14 @@ pub(crate) const TYPE_ERROR: Reply = Reply::Throws(Thrown::TypeError);
 impl Tables {
     ghost use Rattle.ws_realm.specs.View.{slots_of};
 
-    /// A call that changes nothing.
-    #[tactic(auto, using(crate::proofs::Performing::performed_still))]
-    pub(crate) fn replies(&mut self, reply: Reply) -> Result<Reply, NoMemory>
-        requires quiet { self.old.agenda.effects ≡ [] }
-        ensures reply { IfOk result (λ r. r ≡ reply) }
-        ensures slots { OnOk result (slots_of self.new ≡ performed (calls.replies reply (slots_of self.old)).done) }
-        ensures quiet { OnOk result (self.new.agenda.effects ≡ []) }
-    {
-        Ok(reply)
-    }
-
     /// Answers a promise that is rejected with a TypeError.
-    #[tactic(auto, unfolding(ws_steps::specs::Promises::fresh_settled))]
-    pub(crate) fn rejected(&mut self) -> Result<Reply, NoMemory>
-        requires quiet { self.old.agenda.effects ≡ [] }
-        ensures reply { IfOk result (λ r. r ≡ (calls.rejected (slots_of self.old)).reply) }
-        ensures slots { OnOk result (slots_of self.new ≡ performed (calls.rejected (slots_of self.old)).done) }
-        ensures quiet { OnOk result (self.new.agenda.effects ≡ []) }
+    pub(crate) fn rejected(&mut self) -> Reply
+        requires ready { CanBegin self.old }
+        ensures { Answers (calls.rejected (slots_of self.old)) result self.old self.new }
     {
-        self.promises.reserve(1)?;
         let promise = self.promises.fresh();
-        self.promises
-            .reject(promise, Plain::Fault(Fault::TypeError));
-        self.settle_effects()?;
-        Ok(Reply::Promise(promise))
+        let reason = Plain::Fault(Fault::TypeError);
+        self.caused.push(Effect::Settle(promise, Err(reason)));
+        Reply::Promise(promise)
     }
 }

@@ -1,95 +1,13 @@
-//! The performing of jobs.
-ghost use Rattle.std.specs.Prelude.{◌≡◌, [], Ok, OnOk, IfOk, Result, not};
+//! What a job begins with.
+ghost use Rattle.std.specs.Prelude.{◌≡◌, ◌≤◌, [], Ok, Result, not};
 ghost use Rattle.ws_steps.specs.Jobs as jobs;
-ghost use Rattle.ws_steps.specs.Turns.{performed};
+ghost use Rattle.ws_steps.specs.Run.{is_idle};
+ghost use Rattle.ws_steps.specs.Slots.{causes};
+ghost use Rattle.ws_realm.specs.Room.{Begins};
 
-use crate::readable_operations::ReadableOperation;
 use crate::tables::Tables;
-use crate::writable_operations::WritableOperation;
-use ws_steps::{Job, Step};
-use ws_value::{NoMemory, Plain, PromiseId};
-
-impl Tables {
-    ghost use Rattle.ws_realm.specs.View.{slots_of};
-
-    /// Settles a promise, and tells the host where it is watched.
-    pub(crate) fn settle_promise(
-        &mut self,
-        promise: PromiseId,
-        outcome: Result<Plain, Plain>,
-    ) -> Result<(), NoMemory>
-        ensures slots { OnOk result (slots_of self.new ≡ jobs.settling promise outcome (slots_of self.old)) }
-        ensures agenda { self.new.agenda ≡ self.old.agenda }
-    {
-        match outcome {
-            Ok(value) => self.promises.fulfil(promise, value),
-            Err(reason) => self.promises.reject(promise, reason),
-        }
-        self.tell()
-    }
-
-    /// Performs the steps of a reaction.
-    fn perform_step(&mut self, step: Step, outcome: Result<Plain, Plain>) -> Result<(), NoMemory>
-        requires { self.old.agenda.effects ≡ [] }
-        ensures slots { OnOk result (slots_of self.new ≡ performed (jobs.perform_step step outcome (slots_of self.old))) }
-        ensures quiet { OnOk result (self.new.agenda.effects ≡ []) }
-    {
-        match step {
-            Step::ReadableStart(i) => {
-                self.on_readable(i, ReadableOperation::StartSettled(outcome))
-            }
-            Step::ReadablePull(i) => self.on_readable(i, ReadableOperation::PullSettled(outcome)),
-            Step::ReturnUndefined => Ok(()),
-            Step::WritableStart(i) => {
-                self.on_writable(i, WritableOperation::StartSettled(outcome))
-            }
-            Step::WritableWrite(i) => {
-                self.on_writable(i, WritableOperation::WriteSettled(outcome))
-            }
-            Step::WritableClose(i) => {
-                self.on_writable(i, WritableOperation::CloseSettled(outcome))
-            }
-            Step::WritableAbort(i, promise) => {
-                self.on_writable(i, WritableOperation::AbortSettled(promise, outcome))
-            }
-        }
-    }
-
-    /// Resolves the promise that is derived from a reaction, where there is one.
-    fn resolve_derived(
-        &mut self,
-        derived: Option<PromiseId>,
-        outcome: Result<Plain, Plain>,
-    ) -> Result<(), NoMemory>
-        ensures slots { OnOk result (slots_of self.new ≡ jobs.resolve_derived derived outcome (slots_of self.old)) }
-        ensures agenda { self.new.agenda ≡ self.old.agenda }
-    {
-        match derived {
-            Some(promise) => self.settle_promise(promise, outcome),
-            None => Ok(()),
-        }
-    }
-
-    #[tactic(auto, unfolding(ws_steps::specs::Jobs::perform_job))]
-    pub(crate) fn perform_job(&mut self, job: Job) -> Result<(), NoMemory>
-        requires { self.old.agenda.effects ≡ [] }
-        ensures slots { OnOk result (slots_of self.new ≡ jobs.perform_job job (slots_of self.old)) }
-        ensures quiet { OnOk result (self.new.agenda.effects ≡ []) }
-    {
-        match job {
-            Job::Reaction {
-                step,
-                outcome,
-                derived,
-            } => {
-                self.perform_step(step, outcome)?;
-                self.resolve_derived(derived, returned(step, outcome))
-            }
-            Job::Follow { p: _, q: _ } => Ok(()),
-            Job::Settle { p, outcome } => self.settle_promise(p, outcome),
-        }
-    }
-}
+use ws_steps::{Effect, Job, Micro, ReadableOperation, Step, WritableOperation};
+use ws_value::{Plain, PromiseId};
 
 /// What the steps of a reaction return or throw; where there are none for the outcome, it goes on.
 fn returned(step: Step, outcome: Result<Plain, Plain>) -> Result<Plain, Plain>
@@ -106,5 +24,85 @@ fn returned(step: Step, outcome: Result<Plain, Plain>) -> Result<Plain, Plain>
         Step::WritableWrite(_) => Ok(Plain::Undefined),
         Step::WritableClose(_) => Ok(Plain::Undefined),
         Step::WritableAbort(_, _) => Ok(Plain::Undefined),
+    }
+}
+
+impl Tables {
+    ghost use Rattle.ws_realm.specs.View.{slots_of};
+
+    /// Causes the steps of a reaction.
+    fn cause_steps(&mut self, step: Step, outcome: Result<Plain, Plain>)
+        requires quiet { self.old.caused.effects ≡ [] }
+        requires room { 2 ≤ self.old.caused.capacity }
+        ensures { Begins (causes (jobs.steps step outcome) (slots_of self.old)) self.old self.new }
+    {
+        match step {
+            Step::ReadableStart(i) => {
+                let operation = ReadableOperation::StartSettled(outcome);
+                self.caused.push(Effect::Readable(i, operation));
+            }
+            Step::ReadablePull(i) => {
+                let operation = ReadableOperation::PullSettled(outcome);
+                self.caused.push(Effect::Readable(i, operation));
+            }
+            Step::ReturnUndefined => {}
+            Step::WritableStart(i) => {
+                let operation = WritableOperation::StartSettled(outcome);
+                self.caused.push(Effect::Writable(i, operation));
+            }
+            Step::WritableWrite(i) => {
+                let operation = WritableOperation::WriteSettled(outcome);
+                self.caused.push(Effect::Writable(i, operation));
+            }
+            Step::WritableClose(i) => {
+                let operation = WritableOperation::CloseSettled(outcome);
+                self.caused.push(Effect::Writable(i, operation));
+            }
+            Step::WritableAbort(i, promise) => {
+                let operation = WritableOperation::AbortSettled(promise, outcome);
+                self.caused.push(Effect::Writable(i, operation));
+            }
+        }
+    }
+
+    /// Causes the effects of a job.
+    fn cause_job(&mut self, job: Job)
+        requires quiet { self.old.caused.effects ≡ [] }
+        requires room { 2 ≤ self.old.caused.capacity }
+        ensures { Begins (causes (jobs.job_effects job) (slots_of self.old)) self.old self.new }
+    {
+        match job {
+            Job::Reaction {
+                step,
+                outcome,
+                derived,
+            } => {
+                self.cause_steps(step, outcome);
+                if let Some(promise) = derived {
+                    self.caused
+                        .push(Effect::Settle(promise, returned(step, outcome)));
+                }
+            }
+            Job::Follow { p: _, q: _ } => {}
+            Job::Settle { p, outcome } => self.caused.push(Effect::Settle(p, outcome)),
+            Job::Micro(Micro::PipeLook(_)) => {}
+        }
+    }
+
+    /// Takes the first job out of the queue, and causes its effects. False says that none is queued.
+    #[tactic(auto, using(crate::proofs::Working::idle), unfolding(ws_steps::specs::Jobs::begin_job))]
+    pub(crate) fn begin_job(&mut self) -> bool
+        requires quiet { self.old.caused.effects ≡ [] }
+        requires room { 2 ≤ self.old.caused.capacity }
+        ensures worked { result ≡ not (is_idle (slots_of self.old)) }
+        ensures begins { Begins (jobs.begin_job (slots_of self.old)) self.old self.new }
+    {
+        match self.promises.next_job() {
+            Some(job) => {
+                self.cause_job(job);
+                true
+            }
+            None => false,
+        }
     }
 }

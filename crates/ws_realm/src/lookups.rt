@@ -1,12 +1,10 @@
 //! Objects of a realm by their numbers.
 ghost use Rattle.std.specs.Prelude.{◌≡◌, ◌<◌, true, IfSome, vec_len};
-ghost use Rattle.ws_steps.specs.Readable as readable;
-ghost use Rattle.ws_steps.specs.Slots.{has_readable, has_writable, readable_at, writable_at, lock_at, host_at};
+ghost use Rattle.ws_steps.specs.Slots.{has_readable, has_writable, readable_at, writable_at, lock_at, host_at, owner_at};
 
-use crate::streams::Stream;
-use crate::tables::Tables;
+use crate::tables::{Stream, Tables};
 use ws_readable::Readable;
-use ws_steps::{Lock, ReadableState, Writer};
+use ws_steps::{Lock, Owner, Writer};
 use ws_value::{HostId, LockId, PromiseId, StreamId};
 use ws_writable::Writable;
 
@@ -47,6 +45,17 @@ impl Tables {
         }
     }
 
+    /// Whose algorithms a stream performs.
+    pub(crate) fn owner(&self, i: StreamId) -> Owner
+        ensures { result ≡ owner_at i (slots_of self.now) }
+    {
+        match self.streams.get(i.0 as usize) {
+            Some(Stream::Readable(stream)) => stream.owner(),
+            Some(Stream::Writable(stream)) => stream.owner(),
+            None => Owner::Host,
+        }
+    }
+
     /// The promises of the writer that has a stream.
     pub(crate) fn writer(&self, i: StreamId) -> Option<Writer>
         ensures { result ≡ (writable_at i (slots_of self.now)).writer }
@@ -78,17 +87,5 @@ impl Tables {
             return None;
         }
         self.hosts[h.0 as usize]
-    }
-
-    /// The closed promise of a reader once it is released.
-    pub(crate) fn released(&self, i: StreamId, closed: PromiseId) -> PromiseId
-        requires { has_readable i (slots_of self.now) ≡ true }
-        ensures { result ≡ readable.released closed self.now.promises.table (readable_at i (slots_of self.now)).state }
-    {
-        match self.readable(i).state() {
-            ReadableState::Readable => closed,
-            ReadableState::Closed => self.promises.next_id(),
-            ReadableState::Errored => self.promises.next_id(),
-        }
     }
 }

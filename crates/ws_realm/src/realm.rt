@@ -1,16 +1,15 @@
 //! A realm.
-ghost use Rattle.std.specs.Prelude.{◌≡◌, ◌+◌, ◌<◌, ◌≤◌, ◌≢◌, ◌↔◌, true, false, not, length, option_map, IfOk, OnOk, IfErr, OnErr, Ok, Err, Some, None, IsErrAnd, if◌then◌else◌};
+ghost use Rattle.std.specs.Prelude.{◌≡◌, ◌+◌, ◌<◌, ◌≤◌, ◌≢◌, ◌↔◌, ◌^◌, true, false, not, length, option_map, IsOk, IfOk, OnOk, IfErr, OnErr, Ok, Err, Some, None, IsErrAnd, if◌then◌else◌};
 ghost use Rattle.ws_steps.specs.Promises as table;
 ghost use Rattle.ws_steps.specs.declared.calls.Reply.TheVariants as reply;
 ghost use Rattle.ws_steps.specs.declared.calls.Thrown.{Thrown};
 ghost use Rattle.ws_steps.specs.Run as run;
 ghost use Rattle.ws_steps.specs.Slots.{empty};
-ghost use Rattle.ws_realm.specs.Seen.{outcome_named, oldest};
+ghost use Rattle.ws_realm.specs.Seen.{WorksUntil, outcome_named, oldest};
 ghost use Rattle.ws_realm.specs.declared.realm.Why.TheVariants as why;
 
 use crate::tables::Tables;
 use std::alloc::Global;
-use std::collections::VecDeque;
 use std::marker::Model;
 use ws_promise::{Agenda, Promises};
 use ws_steps::{Call, Event, Reply};
@@ -22,43 +21,44 @@ const OLDEST: u64 = 1 << 62;
 /// Why a realm performs nothing.
 #[derive(Clone, Copy, Debug, PartialEq, Eq)]
 pub enum Why {
-    /// Memory was wanting, in this call or job or in an earlier one.
+    /// The memory that the call or job can need couldn't be had.
     NoMemory,
     /// The realm performed 2^62 calls and jobs.
     Spent,
 }
 
-/// A call that wasn't performed. It isn't handed back yet.
+/// A call that wasn't performed is handed back, with the cause.
 #[derive(Debug, Drop)]
 pub struct NoRoom {
     pub call: Option<Call>,
     pub why: Why,
 }
 
-/// A realm of readable and writable streams, with their readers and writers, its promises, its one job queue, and what its host hasn't heard of yet.
+/// A realm of readable and writable streams, with their readers and writers, its promises, its one job queue, and what its host hasn't heard of yet. It is seen as its slots, and whether all memory was taken that the next call or job can need.
 #[derive(Drop)]
 pub struct Realm {
     tables: Tables,
-    wanting: bool,
+    prepared: bool,
 }
 
 impl Model for Realm {
-    ghost use Rattle.std.specs.Prelude.{◌≡◌, ◌≤◌, ◌^◌, false, []};
+    ghost use Rattle.std.specs.Prelude.{◌≡◌, ◌≤◌, ◌<◌, ◌^◌, true};
+    ghost use Rattle.ws_realm.specs.Room.{IsPrepared, IsResting};
     ghost use Rattle.ws_realm.specs.Seen.{SeenRealm};
     ghost use Rattle.ws_realm.specs.View.{slots_of};
 
     ghost Value = { SeenRealm };
 
-    ghost view = { λ r. record { slots = slots_of r.tables; wanting = r.wanting } };
+    ghost view = { λ r. record { slots = slots_of r.tables; prepared = r.prepared } };
 
-    // Between calls no effect is left, unless memory was wanting in one.
-    ghost invariant = { λ r. r.wanting ≡ false → (r.tables.agenda.effects ≡ []) × (r.tables.age ≤ 2 ^ 62) };
+    // Between calls and jobs no effect waits.
+    ghost invariant = { λ r. IsResting r.tables × (r.tables.age ≤ 2 ^ 62) × (r.prepared ≡ true → IsPrepared r.tables × (r.tables.age < 2 ^ 62)) };
 }
 
 impl Realm {
     /// A new realm.
     pub fn make(alloc: Global) -> Result<Realm, NoMemory>
-        ensures { IfOk result (λ realm. (realm.slots ≡ empty) × (realm.wanting ≡ false)) }
+        ensures { IfOk result (λ realm. realm.slots ≡ empty) }
     {
         Ok(Realm {
             tables: Tables {
@@ -67,86 +67,85 @@ impl Realm {
                 locks: Vec::new(alloc),
                 promises: Promises::make(alloc)?,
                 hosts: Vec::new(alloc),
-                agenda: Agenda::make(alloc)?,
-                events: VecDeque::new(alloc),
+                caused: Agenda::make(alloc)?,
+                others: Vec::new(alloc),
+                waiting: 0,
+                grown: Vec::new(alloc),
                 age: 0,
             },
-            wanting: false,
+            prepared: false,
         })
     }
 
-    /// Why nothing is performed now, where it isn't.
-    fn refusal(&self) -> Option<Why>
-        ensures spent { (result ≡ Some why.Spent) ↔ (self.now.slots.age ≡ oldest) }
-        ensures wanting { result ≡ Some why.NoMemory → self.now.wanting ≡ true }
-        ensures ready { result ≡ None → self.now.wanting ≡ false }
+    /// Takes all memory that the next call or job can need, whichever it is: after Ok that one is performed without taking any. A refusal changes nothing.
+    pub fn prepare(&mut self) -> Result<(), Why>
+        ensures slots { self.new.slots ≡ self.old.slots }
+        ensures ready { OnOk result (self.new.prepared ≡ true) }
+        ensures spent { (result ≡ Err why.Spent) ↔ (self.old.slots.age ≡ oldest) }
+        ensures refused { OnErr result (self.new ≡ self.old) }
+        ensures prepared { self.old.prepared ≡ true → IsOk result }
     {
+        if self.prepared {
+            return Ok(());
+        }
         if self.tables.age == OLDEST {
-            return Some(Why::Spent);
+            return Err(Why::Spent);
         }
-        if self.wanting {
-            return Some(Why::NoMemory);
+        match self.tables.prepare() {
+            Ok(()) => {
+                self.prepared = true;
+                Ok(())
+            }
+            Err(NoMemory) => Err(Why::NoMemory),
         }
-        None
     }
 
-    /// Performs a call with all that it causes, and watches the promise that it answers.
+    /// Performs a call with all that it causes, and watches the promise that it answers. A call that is refused is handed back, and nothing changes.
     pub fn call(&mut self, call: Call) -> Result<Reply, NoRoom>
         ensures reply { IfOk result (λ reply. reply ≡ run.reply_to call self.old.slots) }
         ensures slots { OnOk result (self.new.slots ≡ run.after_call call self.old.slots) }
         ensures throws { (t : Thrown) → result ≡ Ok (reply.Throws t) → self.new.slots ≡ run.older self.old.slots }
-        ensures ready { OnOk result ((self.old.wanting ≡ false) × (self.new.wanting ≡ false)) }
         ensures spent { IsErrAnd result (λ refused. refused.why ≡ why.Spent) ↔ (self.old.slots.age ≡ oldest) }
-        ensures untouched { IfErr result (λ refused. refused.why ≡ why.Spent → self.new ≡ self.old) }
-        ensures wanting { IfErr result (λ refused. refused.why ≡ why.NoMemory → self.new.wanting ≡ true) }
-        ensures still { self.old.wanting ≡ true → self.new ≡ self.old }
-        ensures kept { IfErr result (λ refused. refused.call ≡ None) }
+        ensures handed_back { IfErr result (λ refused. refused.call ≡ Some call) }
+        ensures untouched { OnErr result (self.new ≡ self.old) }
+        ensures prepared { self.old.prepared ≡ true → IsOk result }
     {
-        if let Some(why) = self.refusal() {
-            return Err(NoRoom { call: None, why });
+        if let Err(why) = self.prepare() {
+            return Err(NoRoom {
+                call: Some(call),
+                why,
+            });
         }
-        match self.tables.call(call) {
-            Ok(reply) => Ok(reply),
-            Err(_) => {
-                self.wanting = true;
-                Err(NoRoom {
-                    call: None,
-                    why: Why::NoMemory,
-                })
-            }
-        }
+        self.prepared = false;
+        Ok(self.tables.call(call))
     }
 
-    /// Performs the first job with all that it causes. False says that no job is queued.
+    /// Performs the first job with all that it causes. False says that no job is queued, and then no memory is taken. A refusal changes nothing.
     pub fn job(&mut self) -> Result<bool, Why>
         ensures worked { IfOk result (λ worked. worked ≡ not (run.is_idle self.old.slots)) }
         ensures slots { OnOk result (self.new.slots ≡ (if run.is_idle self.old.slots then self.old.slots else run.after_job self.old.slots)) }
-        ensures ready { OnOk result ((self.old.wanting ≡ false) × (self.new.wanting ≡ false)) }
         ensures spent { (result ≡ Err why.Spent) ↔ (self.old.slots.age ≡ oldest) }
-        ensures untouched { result ≡ Err why.Spent → self.new ≡ self.old }
-        ensures wanting { result ≡ Err why.NoMemory → self.new.wanting ≡ true }
-        ensures still { self.old.wanting ≡ true → self.new ≡ self.old }
+        ensures idle { self.old.slots.age < oldest → run.is_idle self.old.slots ≡ true → result ≡ Ok false }
+        ensures untouched { OnErr result (self.new ≡ self.old) }
+        ensures prepared { self.old.prepared ≡ true → IsOk result }
     {
-        if let Some(why) = self.refusal() {
-            return Err(why);
+        if self.tables.age == OLDEST {
+            return Err(Why::Spent);
         }
-        match self.tables.job() {
-            Ok(worked) => Ok(worked),
-            Err(_) => {
-                self.wanting = true;
-                Err(Why::NoMemory)
-            }
+        if self.queued() == 0 {
+            return Ok(false);
         }
+        self.prepare()?;
+        self.prepared = false;
+        Ok(self.tables.job())
     }
 
-    /// Performs jobs until none is queued, or `most` were.
+    /// Performs jobs until none is queued, or `most` were. Where one is refused, those before it were performed.
     pub fn work(&mut self, most: u32) -> Result<(), Why>
         ensures slots { OnOk result (self.new.slots ≡ run.work most self.old.slots) }
-        ensures ready { OnOk result (self.new.wanting ≡ self.old.wanting) }
-        ensures spent { result ≡ Err why.Spent → self.new.slots.age ≡ oldest }
+        ensures partly { OnErr result (WorksUntil most self.old.slots self.new.slots) }
+        ensures spent { OnErr result ((result ≡ Err why.Spent) ↔ (self.new.slots.age ≡ oldest)) }
         ensures early { self.old.slots.age + most ≤ oldest → result ≢ Err why.Spent }
-        ensures wanting { result ≡ Err why.NoMemory → self.new.wanting ≡ true }
-        ensures still { self.old.wanting ≡ true → self.new ≡ self.old }
     {
         for _done in 0..most {
             match self.job() {
@@ -161,7 +160,7 @@ impl Realm {
     /// The host lets go of `p`, where a reply named it and it has settled: nobody may ask for it any more, and what it holds is freed. Else nothing happens.
     pub fn forget(&mut self, p: PromiseId)
         ensures slots { self.new.slots ≡ run.after_forgetting p self.old.slots }
-        ensures wanting { self.new.wanting ≡ self.old.wanting }
+        ensures prepared { self.new.prepared ≡ self.old.prepared }
     {
         if self.tables.promises.rank(p).is_some() {
             self.tables.promises.release(p);
@@ -201,10 +200,10 @@ impl Realm {
 
     /// Takes out what the host hears of next.
     pub fn next_event(&mut self) -> Option<Event>
-        ensures event { result ≡ run.first_event self.old.slots.events }
+        ensures event { result ≡ run.first_event self.old.slots.promises.events }
         ensures slots { self.new.slots ≡ run.after_event self.old.slots }
-        ensures wanting { self.new.wanting ≡ self.old.wanting }
+        ensures prepared { self.new.prepared ≡ self.old.prepared }
     {
-        self.tables.events.pop_front()
+        self.tables.promises.next_event()
     }
 }

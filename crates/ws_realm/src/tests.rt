@@ -1,5 +1,5 @@
 //! Calls on a realm, with what is answered and heard of. Promises are numbered by their ranks: the order in which replies named them.
-use crate::{Answer, Call, Event, Flags, HostCall, Realm, Reply, StartBy, StateIs, Word};
+use crate::{Answer, Call, Event, Flags, HostCall, Realm, Reply, StartBy, StateIs, Why, Word};
 use std::process::Abort;
 use std::test::Fail;
 use ws_readable::SizeBy;
@@ -91,6 +91,13 @@ fn task(rt: &impl Abort, realm: &mut Realm, c: Call, reply: Reply, events: &[Hea
     hears(rt, realm, events);
 }
 
+/// Takes the memory for the next call or job. Where one allocation is refused, as by `rt try --test --fail-alloc N`, it is asked for again.
+fn prepare(rt: &impl Abort, realm: &mut Realm) {
+    if realm.prepare() == Err(Why::NoMemory) {
+        assert_eq!(rt; realm.prepare(), Ok(()));
+    }
+}
+
 /// Performs a task that must answer the promise of this rank.
 fn promise(
     rt: &impl Abort,
@@ -157,14 +164,17 @@ fn readable(high_water_mark: u64, start: StartBy) -> Call {
     }
 }
 
-/// A realm with a writable stream whose mark is 1, and its writer.
-fn with_writer(rt: &impl Abort, realm: &mut Realm) {
-    let writable = Call::MakeWritable {
-        high_water_mark: 1,
+fn writable(high_water_mark: u64) -> Call {
+    Call::MakeWritable {
+        high_water_mark,
         size: SizeBy::Count,
         start: StartBy::Now,
-    };
-    task(rt, realm, writable, Reply::Made(S0), &[]);
+    }
+}
+
+/// A realm with a writable stream whose mark is 1, and its writer.
+fn with_writer(rt: &impl Abort, realm: &mut Realm) {
+    task(rt, realm, writable(1), Reply::Made(S0), &[]);
     task(rt, realm, Call::GetWriter(S0), Reply::Lock(L0), &[]);
 }
 
@@ -313,5 +323,40 @@ fn calls_on_a_writable_stream(rt: HostRuntime) -> Result<(), Fail> {
     };
     let shown = state(Word::Errored, flags);
     task(&rt, &mut realm, Call::State(S0), shown, &[]);
+    Ok(())
+}
+
+/// On a prepared realm no call and no job is refused, whichever allocation failed before.
+#[test]
+fn prepared_calls_and_jobs(rt: HostRuntime) -> Result<(), Fail> {
+    let Ok(mut realm) = Realm::make(rt.alloc()) else {
+        return Ok(());
+    };
+    let rows: [(Call, &[Heard]); 8] = [
+        (writable(1), &[]),
+        (Call::GetWriter(S0), &[]),
+        (Call::Closed(L0), &[]),
+        (write_one(), &[Heard::Write(0, Plain::Number(1))]),
+        (write_one(), &[]),
+        (Call::AbortBy(L0, E7), &[Heard::Signal(E7)]),
+        (
+            Call::Settle(HostId(0), Answer::Ok),
+            &[Heard::Settled(1), Heard::Settled(2), Heard::Abort(1, E7)],
+        ),
+        (
+            Call::Settle(HostId(1), Answer::Ok),
+            &[Heard::Settled(3), Heard::Settled(0)],
+        ),
+    ];
+    for (c, events) in rows {
+        prepare(&rt, &mut realm);
+        assert!(rt; realm.call(c).is_ok());
+        for _ in 0..4 {
+            prepare(&rt, &mut realm);
+            assert!(rt; realm.job().is_ok());
+        }
+        hears(&rt, &mut realm, events);
+    }
+    assert_eq!(rt; realm.queued(), 0);
     Ok(())
 }

@@ -4,41 +4,47 @@ use Rattle.std.specs.Prelude.{Some, None}
 use Rattle.ws_steps.specs.declared.calls.Event.{Event}
 use Rattle.ws_steps.specs.declared.calls.Event.TheVariants.{Host, Settled, Signal}
 use Rattle.ws_steps.specs.Run.{heard}
-use Rattle.ws_steps.specs.Slots.{Slots}
-use Rattle.ws_steps.specs.Run.{first_event, later_events}
+use Rattle.ws_steps.specs.Slots.{Slots, with_promises}
+use Rattle.ws_steps.specs.Run.{after_event, first_event, later_events}
 use Rattle.ws_script.specs.Heard.{IsPartlyHeard}
 use Rattle.ws_script.specs.Printed.{event_text, events_text}
 
+-- the events that wait are these
+left : List Event → Slots → Slots
+left events s = with_promises (record s.promises { events = events }) s
+
 -- how an event is printed doesn't depend on the events that wait
-same_event : (s : Slots) (waiting : List Event) (event : Event) → event_text (record s { events = waiting }) event ≡ event_text s event
+same_event : (s : Slots) (waiting : List Event) (event : Event) → event_text (left waiting s) event ≡ event_text s event
+unfolding left
 same_event s waiting (Host id call) = refl
 same_event s waiting (Settled p) = refl
 same_event s waiting (Signal stream reason) = refl
 
-same_events : (s : Slots) (waiting events : List Event) → events_text (record s { events = waiting }) events ≡ events_text s events
+same_events : (s : Slots) (waiting events : List Event) → events_text (left waiting s) events ≡ events_text s events
 same_events s waiting [] = refl
 same_events s waiting (event ∷ events) =
-    ap (λ (xs : List ℕ). xs ++ events_text (record s { events = waiting }) events) (same_event s waiting event)
+    ap (λ (xs : List ℕ). xs ++ events_text (left waiting s) events) (same_event s waiting event)
     ∙ ap (λ (xs : List ℕ). event_text s event ++ xs) (same_events s waiting events)
 
 -- the first event is printed, and then the others
 printed_by : (s : Slots) (events : List Event) (event : Event) (text text' : List ℕ) → first_event events ≡ Some event
-    → text' ≡ text ++ event_text (record s { events = later_events events }) event
-    → text' ++ events_text (record s { events = later_events events }) (later_events events) ≡ text ++ events_text s events
+    → text' ≡ text ++ event_text (left (later_events events) s) event
+    → text' ++ events_text (left (later_events events) s) (later_events events) ≡ text ++ events_text s events
 printed_by s [] event text text' first printed = cc
 printed_by s (e ∷ events) event text text' first printed =
     let same : event ≡ e = cc in
-    ap (λ (xs : List ℕ). xs ++ events_text (record s { events = events }) events) printed
-    ∙ (append_assoc text (event_text (record s { events = events }) event) (events_text (record s { events = events }) events)
-    ∙ (ap (λ (xs : List ℕ). text ++ (xs ++ events_text (record s { events = events }) events)) (same_event s events event ∙ ap (event_text s) same)
+    ap (λ (xs : List ℕ). xs ++ events_text (left events s) events) printed
+    ∙ (append_assoc text (event_text (left events s) event) (events_text (left events s) events)
+    ∙ (ap (λ (xs : List ℕ). text ++ (xs ++ events_text (left events s) events)) (same_event s events event ∙ ap (event_text s) same)
     ∙ ap (λ (xs : List ℕ). text ++ (event_text s e ++ xs)) (same_events s events events)))
 
-pub printed-then : (s z : Slots) (event : Event) (text text' : List ℕ) → first_event s.events ≡ Some event
-    → z ≡ record s { events = later_events s.events } → text' ≡ text ++ event_text z event
-    → text' ++ events_text z z.events ≡ text ++ events_text s s.events
-printed-then s z event text text' first left printed =
-    let P : Slots → Type 0 = λ w. text' ≡ text ++ event_text w event → text' ++ events_text w w.events ≡ text ++ events_text s s.events in
-    subst P (sym left) (printed_by s s.events event text text' first) printed
+pub printed-then : (s z : Slots) (event : Event) (text text' : List ℕ) → first_event s.promises.events ≡ Some event
+    → z ≡ after_event s → text' ≡ text ++ event_text z event
+    → text' ++ events_text z z.promises.events ≡ text ++ events_text s s.promises.events
+unfolding left
+printed-then s z event text text' first is printed =
+    let P : Slots → Type 0 = λ w. text' ≡ text ++ event_text w event → text' ++ events_text w w.promises.events ≡ text ++ events_text s s.promises.events in
+    subst P (sym is) (printed_by s s.promises.events event text text' first) printed
 
 later_dropped : (n : ℕ) (events : List Event) → later_events (drop n events) ≡ drop (suc n) events
 later_dropped zero [] = refl
@@ -49,14 +55,12 @@ later_dropped (suc n) (event ∷ events) = later_dropped n events
 pub partly-none : (s : Slots) → IsPartlyHeard s s
 partly-none s = record { count = 0; slots = refl }
 
-pub partly-then : (s y z : Slots) → IsPartlyHeard s y → z ≡ record y { events = later_events y.events } → IsPartlyHeard s z
-partly-then s y z h left =
+pub partly-then : (s y z : Slots) → IsPartlyHeard s y → z ≡ after_event y → IsPartlyHeard s z
+unfolding left
+partly-then s y z h is =
     record {
       count = suc h.count;
-      slots =
-          left
-          ∙ (ap (λ (w : Slots). record w { events = later_events w.events }) h.slots
-          ∙ ap (λ (events : List Event). record s { events = events }) (later_dropped h.count s.events));
+      slots = is ∙ (ap after_event h.slots ∙ ap (λ (events : List Event). left events s) (later_dropped h.count s.promises.events));
     }
 
 no_event : (events : List Event) → first_event events ≡ None → events ≡ []
@@ -64,11 +68,10 @@ no_event [] h = refl
 no_event (event ∷ events) h = cc
 
 -- where no event is left, all were printed and the host has heard of all
-pub all-printed : (s : Slots) (text : List ℕ) → first_event s.events ≡ None → text ++ events_text s s.events ≡ text
-all-printed s text h = ap (λ (events : List Event). text ++ events_text s events) (no_event s.events h) ∙ append-nil text
+pub all-printed : (s : Slots) (text : List ℕ) → first_event s.promises.events ≡ None → text ++ events_text s s.promises.events ≡ text
+all-printed s text h = ap (λ (events : List Event). text ++ events_text s events) (no_event s.promises.events h) ∙ append-nil text
 
-pub all-heard : (s y z : Slots) → IsPartlyHeard s y → first_event y.events ≡ None → z ≡ record y { events = later_events y.events } → z ≡ heard s
-all-heard s y z h none left =
-    left
-    ∙ (ap (λ (events : List Event). record y { events = later_events events }) (no_event y.events none)
-    ∙ ap (λ (w : Slots). record w { events = [] }) h.slots)
+pub all-heard : (s y z : Slots) → IsPartlyHeard s y → first_event y.promises.events ≡ None → z ≡ after_event y → z ≡ heard s
+unfolding left
+all-heard s y z h none is =
+    is ∙ (ap (λ (events : List Event). left (later_events events) y) (no_event y.promises.events none) ∙ ap heard h.slots)

@@ -30,7 +30,7 @@ events_text s (event ∷ events) = event_text s event ++ events_text s events
 -- hasn't heard of, and `again` where a job is still queued
 abbrev pub step_text : ℕ → Reply → Slots → List ℕ
 step_text number reply s =
-    reply_line number (rank_named reply s) reply ++ (events_text s s.events ++ again_text (not (is_idle s)))
+    reply_line number (rank_named reply s) reply ++ (events_text s s.promises.events ++ again_text (not (is_idle s)))
 
 -- what the task of a line leaves: its call, and jobs until none is queued or the line's number of them is performed
 abbrev pub after_line : Line → Slots → Slots

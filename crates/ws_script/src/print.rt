@@ -44,9 +44,9 @@ fn append_event(text: &mut Vec<u8>, realm: &Realm, event: Event) -> Result<(), N
 
 /// Takes the events of a realm, and appends their lines.
 fn append_events(text: &mut Vec<u8>, realm: &mut Realm) -> Result<(), NoMemory>
-    ensures text { OnOk result (text.new.items ≡ text.old.items ++ events_text realm.old.slots realm.old.slots.events) }
+    ensures text { OnOk result (text.new.items ≡ text.old.items ++ events_text realm.old.slots realm.old.slots.promises.events) }
     ensures slots { OnOk result (realm.new.slots ≡ heard realm.old.slots) }
-    ensures wanting { realm.new.wanting ≡ realm.old.wanting }
+    ensures prepared { realm.new.prepared ≡ realm.old.prepared }
     ensures partly { IsPartlyHeard realm.old.slots realm.new.slots }
 {
     while let Some(event) = realm.next_event() {
@@ -65,7 +65,7 @@ pub fn print_step(
 ) -> Result<Blob, NoMemory>
     ensures text { IfOk result (λ text. text ≡ step_text number reply.now realm.old.slots) }
     ensures slots { OnOk result (realm.new.slots ≡ heard realm.old.slots) }
-    ensures wanting { realm.new.wanting ≡ realm.old.wanting }
+    ensures prepared { realm.new.prepared ≡ realm.old.prepared }
     ensures err { OnErr result (IsPartlyHeard realm.old.slots realm.new.slots) }
 {
     let mut text = Vec::with_capacity(alloc, ROOM)?;

@@ -1,6 +1,5 @@
 pub mod PromiseLaws
 pub mod StreamLaws
-pub mod TurnLaws
 mod WorkedPromises
 mod WorkedWords
 mod WorkedReads

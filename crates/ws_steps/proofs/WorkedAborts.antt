@@ -7,12 +7,12 @@ use Rattle.ws_steps.specs.declared.calls.Reply.TheVariants.{Done, Made, Lock, Si
 use Rattle.ws_steps.specs.declared.calls.StartBy.TheVariants.{Now, Later}
 use Rattle.ws_steps.specs.declared.calls.Word.TheVariants.{Closed as WordClosed}
 use Rattle.ws_steps.specs.declared.readable.SizeBy.TheVariants.{Count}
-use Rattle.ws_steps.specs.Readable.{type_error}
-use Rattle.ws_steps.specs.Promises.{fresh, settle, react, follow, unfollow, after_next_job, watch}
-use Rattle.ws_steps.specs.Writable.{ensure_rejected, update_backpressure, refresh_backpressure, set_up, reject_close_and_closed, finish_erroring, start_erroring, deal_with_rejection, controller_error_if_needed, process_write, process_close, advance_queue, write_settled, finish_in_flight_close, finish_in_flight_close_with_error, close_settled, start_settled, abort_settled, controller_write, writer_write, controller_close, stream_close, add_pending_abort, stream_abort, set_up_writer, writer_release}
-use Rattle.ws_steps.specs.Slots.{empty, call_host}
-use Rattle.ws_steps.specs.Turns.{row, turns, performed}
-use Rattle.ws_steps.specs.Jobs.{perform_job}
+use Rattle.ws_steps.specs.Effects.{type_error}
+use Rattle.ws_steps.specs.Promises.{fresh, settle, answer, react, follow, unfollow, use_gift, after_next_job, watch}
+use Rattle.ws_steps.specs.Writable.{ensure_rejected, settle_pending, update_backpressure, refresh_backpressure, reject_close_and_closed, finish_erroring, start_erroring, deal_with_rejection, controller_error_if_needed, process_write, process_close, advance_queue, hand_on, write_settled, finish_in_flight_close, finish_in_flight_close_with_error, close_settled, start_settled, abort_settled, controller_write, writer_write, controller_close, stream_close, stream_abort, set_up_writer, writer_release}
+use Rattle.ws_steps.specs.Slots.{empty}
+use Rattle.ws_steps.specs.Turns.{call_host, row, turns, performed}
+use Rattle.ws_steps.specs.Jobs.{begin_job}
 use Rattle.ws_steps.specs.Calls.{begin}
 use Rattle.ws_steps.specs.Run.{Called, Worked, run}
 use Rattle.ws_steps.proofs.WorkedWords.{printed, s0, l0, l1, h, e, v, says, promise, host, signal, fulfilled, rejected, no_flags}
@@ -27,7 +27,7 @@ abort_during_a_failing_write : printed (MakeWritable 1 Count Now ∷ GetWriter s
     ∷ says Done (rejected 1 (e 9) ∷ host 1 (Abort s0 (e 7)) ∷ [])
     ∷ says Done (fulfilled 2 ∷ rejected 0 (e 7) ∷ [])
     ∷ []
-unfolding fresh settle react follow unfollow after_next_job watch ensure_rejected update_backpressure refresh_backpressure set_up reject_close_and_closed finish_erroring start_erroring deal_with_rejection controller_error_if_needed process_write process_close advance_queue write_settled finish_in_flight_close finish_in_flight_close_with_error close_settled start_settled abort_settled controller_write writer_write controller_close stream_close add_pending_abort stream_abort set_up_writer writer_release call_host row turns performed perform_job begin
+unfolding fresh settle answer react follow unfollow use_gift after_next_job watch ensure_rejected settle_pending update_backpressure refresh_backpressure reject_close_and_closed finish_erroring start_erroring deal_with_rejection controller_error_if_needed process_write process_close advance_queue hand_on write_settled finish_in_flight_close finish_in_flight_close_with_error close_settled start_settled abort_settled controller_write writer_write controller_close stream_close stream_abort set_up_writer writer_release call_host row turns performed begin_job begin
 abort_during_a_failing_write = refl
 
 -- an abort during a close in flight that succeeds: the stream is closed
@@ -39,7 +39,7 @@ abort_during_a_close : printed (MakeWritable 1 Count Now ∷ GetWriter s0 ∷ Cl
     ∷ says Done (fulfilled 0 ∷ fulfilled 1 ∷ [])
     ∷ says (StateReply (record { state = WordClosed; flags = record no_flags { s = true; l = true }; total = 0; queue = 0; requests = 0 })) []
     ∷ []
-unfolding fresh settle react follow unfollow after_next_job watch ensure_rejected update_backpressure refresh_backpressure set_up reject_close_and_closed finish_erroring start_erroring deal_with_rejection controller_error_if_needed process_write process_close advance_queue write_settled finish_in_flight_close finish_in_flight_close_with_error close_settled start_settled abort_settled controller_write writer_write controller_close stream_close add_pending_abort stream_abort set_up_writer writer_release call_host row turns performed perform_job begin
+unfolding fresh settle answer react follow unfollow use_gift after_next_job watch ensure_rejected settle_pending update_backpressure refresh_backpressure reject_close_and_closed finish_erroring start_erroring deal_with_rejection controller_error_if_needed process_write process_close advance_queue hand_on write_settled finish_in_flight_close finish_in_flight_close_with_error close_settled start_settled abort_settled controller_write writer_write controller_close stream_close stream_abort set_up_writer writer_release call_host row turns performed begin_job begin
 abort_during_a_close = refl
 
 -- an abort during a close in flight that fails
@@ -51,7 +51,7 @@ abort_during_a_failing_close : printed (MakeWritable 1 Count Now ∷ GetWriter s
     ∷ promise 2 (signal (e 7) ∷ [])
     ∷ says Done (rejected 1 (e 9) ∷ rejected 2 (e 9) ∷ rejected 0 (e 7) ∷ [])
     ∷ []
-unfolding fresh settle react follow unfollow after_next_job watch ensure_rejected update_backpressure refresh_backpressure set_up reject_close_and_closed finish_erroring start_erroring deal_with_rejection controller_error_if_needed process_write process_close advance_queue write_settled finish_in_flight_close finish_in_flight_close_with_error close_settled start_settled abort_settled controller_write writer_write controller_close stream_close add_pending_abort stream_abort set_up_writer writer_release call_host row turns performed perform_job begin
+unfolding fresh settle answer react follow unfollow use_gift after_next_job watch ensure_rejected settle_pending update_backpressure refresh_backpressure reject_close_and_closed finish_erroring start_erroring deal_with_rejection controller_error_if_needed process_write process_close advance_queue hand_on write_settled finish_in_flight_close finish_in_flight_close_with_error close_settled start_settled abort_settled controller_write writer_write controller_close stream_close stream_abort set_up_writer writer_release call_host row turns performed begin_job begin
 abort_during_a_failing_close = refl
 
 -- a close request waits for the abort
@@ -64,7 +64,7 @@ close_waits_for_the_abort : printed (MakeWritable 1 Count Now ∷ GetWriter s0 �
     ∷ says Done (fulfilled 0 ∷ host 1 (Abort s0 (e 7)) ∷ [])
     ∷ says Done (fulfilled 2 ∷ rejected 1 (e 7) ∷ [])
     ∷ []
-unfolding fresh settle react follow unfollow after_next_job watch ensure_rejected update_backpressure refresh_backpressure set_up reject_close_and_closed finish_erroring start_erroring deal_with_rejection controller_error_if_needed process_write process_close advance_queue write_settled finish_in_flight_close finish_in_flight_close_with_error close_settled start_settled abort_settled controller_write writer_write controller_close stream_close add_pending_abort stream_abort set_up_writer writer_release call_host row turns performed perform_job begin
+unfolding fresh settle answer react follow unfollow use_gift after_next_job watch ensure_rejected settle_pending update_backpressure refresh_backpressure reject_close_and_closed finish_erroring start_erroring deal_with_rejection controller_error_if_needed process_write process_close advance_queue hand_on write_settled finish_in_flight_close finish_in_flight_close_with_error close_settled start_settled abort_settled controller_write writer_write controller_close stream_close stream_abort set_up_writer writer_release call_host row turns performed begin_job begin
 close_waits_for_the_abort = refl
 
 -- a second abort gives the same promise, and signals nothing; once the stream is errored, an abort is fulfilled
@@ -79,7 +79,7 @@ second_abort : printed (MakeWritable 1 Count Now ∷ GetWriter s0 ∷ ClosedOf l
     ∷ says Done (fulfilled 2 ∷ rejected 0 (e 7) ∷ [])
     ∷ promise 3 (fulfilled 3 ∷ [])
     ∷ []
-unfolding fresh settle react follow unfollow after_next_job watch ensure_rejected update_backpressure refresh_backpressure set_up reject_close_and_closed finish_erroring start_erroring deal_with_rejection controller_error_if_needed process_write process_close advance_queue write_settled finish_in_flight_close finish_in_flight_close_with_error close_settled start_settled abort_settled controller_write writer_write controller_close stream_close add_pending_abort stream_abort set_up_writer writer_release call_host row turns performed perform_job begin
+unfolding fresh settle answer react follow unfollow use_gift after_next_job watch ensure_rejected settle_pending update_backpressure refresh_backpressure reject_close_and_closed finish_erroring start_erroring deal_with_rejection controller_error_if_needed process_write process_close advance_queue hand_on write_settled finish_in_flight_close finish_in_flight_close_with_error close_settled start_settled abort_settled controller_write writer_write controller_close stream_close stream_abort set_up_writer writer_release call_host row turns performed begin_job begin
 second_abort = refl
 
 -- an abort while the stream is erroring signals, and performs no abort algorithm
@@ -92,7 +92,7 @@ abort_while_erroring : printed (MakeWritable 1 Count Now ∷ GetWriter s0 ∷ Cl
     ∷ promise 2 (signal (e 7) ∷ [])
     ∷ says Done (fulfilled 1 ∷ rejected 2 (e 5) ∷ rejected 0 (e 5) ∷ [])
     ∷ []
-unfolding fresh settle react follow unfollow after_next_job watch ensure_rejected update_backpressure refresh_backpressure set_up reject_close_and_closed finish_erroring start_erroring deal_with_rejection controller_error_if_needed process_write process_close advance_queue write_settled finish_in_flight_close finish_in_flight_close_with_error close_settled start_settled abort_settled controller_write writer_write controller_close stream_close add_pending_abort stream_abort set_up_writer writer_release call_host row turns performed perform_job begin
+unfolding fresh settle answer react follow unfollow use_gift after_next_job watch ensure_rejected settle_pending update_backpressure refresh_backpressure reject_close_and_closed finish_erroring start_erroring deal_with_rejection controller_error_if_needed process_write process_close advance_queue hand_on write_settled finish_in_flight_close finish_in_flight_close_with_error close_settled start_settled abort_settled controller_write writer_write controller_close stream_close stream_abort set_up_writer writer_release call_host row turns performed begin_job begin
 abort_while_erroring = refl
 
 -- a close while the stream is erroring is accepted; a write then finds it closing
@@ -106,7 +106,7 @@ close_while_erroring : printed (MakeWritable 1 Count Now ∷ GetWriter s0 ∷ Cl
     ∷ promise 3 (rejected 3 type_error ∷ [])
     ∷ says Done (rejected 1 (e 9) ∷ rejected 2 (e 5) ∷ rejected 0 (e 5) ∷ [])
     ∷ []
-unfolding fresh settle react follow unfollow after_next_job watch ensure_rejected update_backpressure refresh_backpressure set_up reject_close_and_closed finish_erroring start_erroring deal_with_rejection controller_error_if_needed process_write process_close advance_queue write_settled finish_in_flight_close finish_in_flight_close_with_error close_settled start_settled abort_settled controller_write writer_write controller_close stream_close add_pending_abort stream_abort set_up_writer writer_release call_host row turns performed perform_job begin
+unfolding fresh settle answer react follow unfollow use_gift after_next_job watch ensure_rejected settle_pending update_backpressure refresh_backpressure reject_close_and_closed finish_erroring start_erroring deal_with_rejection controller_error_if_needed process_write process_close advance_queue hand_on write_settled finish_in_flight_close finish_in_flight_close_with_error close_settled start_settled abort_settled controller_write writer_write controller_close stream_close stream_abort set_up_writer writer_release call_host row turns performed begin_job begin
 close_while_erroring = refl
 
 -- writes to an erroring stream and to an errored one are rejected with its error, and a close with a TypeError
@@ -120,7 +120,7 @@ write_while_erroring : printed (MakeWritable 1 Count Now ∷ GetWriter s0 ∷ Wr
     ∷ promise 2 (rejected 2 (e 5) ∷ [])
     ∷ promise 3 (rejected 3 type_error ∷ [])
     ∷ []
-unfolding fresh settle react follow unfollow after_next_job watch ensure_rejected update_backpressure refresh_backpressure set_up reject_close_and_closed finish_erroring start_erroring deal_with_rejection controller_error_if_needed process_write process_close advance_queue write_settled finish_in_flight_close finish_in_flight_close_with_error close_settled start_settled abort_settled controller_write writer_write controller_close stream_close add_pending_abort stream_abort set_up_writer writer_release call_host row turns performed perform_job begin
+unfolding fresh settle answer react follow unfollow use_gift after_next_job watch ensure_rejected settle_pending update_backpressure refresh_backpressure reject_close_and_closed finish_erroring start_erroring deal_with_rejection controller_error_if_needed process_write process_close advance_queue hand_on write_settled finish_in_flight_close finish_in_flight_close_with_error close_settled start_settled abort_settled controller_write writer_write controller_close stream_close stream_abort set_up_writer writer_release call_host row turns performed begin_job begin
 write_while_erroring = refl
 
 -- an abort waits for the start; the abort algorithm fails
@@ -132,7 +132,7 @@ abort_before_the_start : printed (MakeWritable 1 Count Later ∷ GetWriter s0 �
     ∷ says Done (rejected 0 (e 7) ∷ host 1 (Abort s0 (e 7)) ∷ [])
     ∷ says Done (rejected 1 (e 9) ∷ [])
     ∷ []
-unfolding fresh settle react follow unfollow after_next_job watch ensure_rejected update_backpressure refresh_backpressure set_up reject_close_and_closed finish_erroring start_erroring deal_with_rejection controller_error_if_needed process_write process_close advance_queue write_settled finish_in_flight_close finish_in_flight_close_with_error close_settled start_settled abort_settled controller_write writer_write controller_close stream_close add_pending_abort stream_abort set_up_writer writer_release call_host row turns performed perform_job begin
+unfolding fresh settle answer react follow unfollow use_gift after_next_job watch ensure_rejected settle_pending update_backpressure refresh_backpressure reject_close_and_closed finish_erroring start_erroring deal_with_rejection controller_error_if_needed process_write process_close advance_queue hand_on write_settled finish_in_flight_close finish_in_flight_close_with_error close_settled start_settled abort_settled controller_write writer_write controller_close stream_close stream_abort set_up_writer writer_release call_host row turns performed begin_job begin
 abort_before_the_start = refl
 
 -- the start fails
@@ -143,7 +143,7 @@ failing_start : printed (MakeWritable 1 Count Later ∷ GetWriter s0 ∷ ClosedO
     ∷ promise 1 []
     ∷ says Done (rejected 1 (e 9) ∷ rejected 0 (e 9) ∷ [])
     ∷ []
-unfolding fresh settle react follow unfollow after_next_job watch ensure_rejected update_backpressure refresh_backpressure set_up reject_close_and_closed finish_erroring start_erroring deal_with_rejection controller_error_if_needed process_write process_close advance_queue write_settled finish_in_flight_close finish_in_flight_close_with_error close_settled start_settled abort_settled controller_write writer_write controller_close stream_close add_pending_abort stream_abort set_up_writer writer_release call_host row turns performed perform_job begin
+unfolding fresh settle answer react follow unfollow use_gift after_next_job watch ensure_rejected settle_pending update_backpressure refresh_backpressure reject_close_and_closed finish_erroring start_erroring deal_with_rejection controller_error_if_needed process_write process_close advance_queue hand_on write_settled finish_in_flight_close finish_in_flight_close_with_error close_settled start_settled abort_settled controller_write writer_write controller_close stream_close stream_abort set_up_writer writer_release call_host row turns performed begin_job begin
 failing_start = refl
 
 -- an abort of a stream that nothing locks; its writer finds it errored
@@ -156,7 +156,7 @@ abort_without_a_writer : printed (MakeWritable 1 Count Now ∷ AbortStream s0 (e
     ∷ promise 2 (rejected 2 (e 7) ∷ [])
     ∷ says (Size None) []
     ∷ []
-unfolding fresh settle react follow unfollow after_next_job watch ensure_rejected update_backpressure refresh_backpressure set_up reject_close_and_closed finish_erroring start_erroring deal_with_rejection controller_error_if_needed process_write process_close advance_queue write_settled finish_in_flight_close finish_in_flight_close_with_error close_settled start_settled abort_settled controller_write writer_write controller_close stream_close add_pending_abort stream_abort set_up_writer writer_release call_host row turns performed perform_job begin
+unfolding fresh settle answer react follow unfollow use_gift after_next_job watch ensure_rejected settle_pending update_backpressure refresh_backpressure reject_close_and_closed finish_erroring start_erroring deal_with_rejection controller_error_if_needed process_write process_close advance_queue hand_on write_settled finish_in_flight_close finish_in_flight_close_with_error close_settled start_settled abort_settled controller_write writer_write controller_close stream_close stream_abort set_up_writer writer_release call_host row turns performed begin_job begin
 abort_without_a_writer = refl
 
 -- a writer that is made while the abort algorithm is performed finds the stream errored: its closed promise isn't rejected again
@@ -169,10 +169,10 @@ writer_made_during_an_abort : printed (MakeWritable 1 Count Now ∷ GetWriter s0
     ∷ promise 1 (rejected 1 (e 7) ∷ [])
     ∷ says Done (fulfilled 0 ∷ [])
     ∷ []
-unfolding fresh settle react follow unfollow after_next_job watch ensure_rejected update_backpressure refresh_backpressure set_up reject_close_and_closed finish_erroring start_erroring deal_with_rejection controller_error_if_needed process_write process_close advance_queue write_settled finish_in_flight_close finish_in_flight_close_with_error close_settled start_settled abort_settled controller_write writer_write controller_close stream_close add_pending_abort stream_abort set_up_writer writer_release call_host row turns performed perform_job begin
+unfolding fresh settle answer react follow unfollow use_gift after_next_job watch ensure_rejected settle_pending update_backpressure refresh_backpressure reject_close_and_closed finish_erroring start_erroring deal_with_rejection controller_error_if_needed process_write process_close advance_queue hand_on write_settled finish_in_flight_close finish_in_flight_close_with_error close_settled start_settled abort_settled controller_write writer_write controller_close stream_close stream_abort set_up_writer writer_release call_host row turns performed begin_job begin
 writer_made_during_an_abort = refl
 
 -- and no settling goes astray
 aborted_straight : (run (Called (MakeWritable 1 Count Now) ∷ Worked ∷ Called (GetWriter s0) ∷ Called (AbortBy l0 (e 7)) ∷ Called (Release l0) ∷ Called (GetWriter s0) ∷ Called (Settle (h 0) Ok) ∷ Worked ∷ []) empty).promises.astray ≡ false
-unfolding fresh settle react follow unfollow after_next_job watch ensure_rejected update_backpressure refresh_backpressure set_up reject_close_and_closed finish_erroring start_erroring deal_with_rejection controller_error_if_needed process_write process_close advance_queue write_settled finish_in_flight_close finish_in_flight_close_with_error close_settled start_settled abort_settled controller_write writer_write controller_close stream_close add_pending_abort stream_abort set_up_writer writer_release call_host row turns performed perform_job begin
+unfolding fresh settle answer react follow unfollow use_gift after_next_job watch ensure_rejected settle_pending update_backpressure refresh_backpressure reject_close_and_closed finish_erroring start_erroring deal_with_rejection controller_error_if_needed process_write process_close advance_queue hand_on write_settled finish_in_flight_close finish_in_flight_close_with_error close_settled start_settled abort_settled controller_write writer_write controller_close stream_close stream_abort set_up_writer writer_release call_host row turns performed begin_job begin
 aborted_straight = refl

@@ -14,15 +14,17 @@ use Rattle.ws_steps.specs.declared.calls.HostCall.TheVariants.{Pull, Cancel}
 use Rattle.ws_steps.specs.declared.calls.StartBy.TheVariants.{Now}
 use Rattle.ws_steps.specs.declared.readable.SizeBy.TheVariants.{Count}
 use Rattle.ws_steps.specs.declared.writable.WritableState.TheVariants.{Errored}
-use Rattle.ws_steps.specs.Promises.{outcome_at, fresh, settle, answer, react, let_go, after_next_job, watch}
+use Rattle.ws_steps.specs.Promises.{outcome_at, fresh, settle, answer, react, follow, unfollow, use_gift, after_next_job, watch, let_go}
 use Rattle.ws_steps.specs.Readable as readable
 use Rattle.ws_steps.specs.Writable as writable
-use Rattle.ws_steps.specs.Slots.{empty, writable_at, call_host}
-use Rattle.ws_steps.specs.Turns.{row, turns, performed}
-use Rattle.ws_steps.specs.Jobs.{perform_job}
+use Rattle.ws_steps.specs.Slots.{empty, writable_at}
+use Rattle.ws_steps.specs.Turns.{call_host, row, turns, performed, moments_of, moments}
+use Rattle.ws_steps.specs.Jobs.{begin_job}
 use Rattle.ws_steps.specs.Calls.{begin}
 use Rattle.ws_steps.specs.Run.{Entry, Called, Worked, Heard, Forgot, run}
-use Rattle.ws_steps.specs.Histories.{run_flow, run_writes, run_promised, run_events}
+use Rattle.ws_steps.specs.Histories.{run_events}
+use Rattle.ws_steps.specs.ReadableHistory.{run_flow}
+use Rattle.ws_steps.specs.WritableHistory.{run_writes, run_promised}
 
 abbrev s0 : StreamId
 s0 = record { 0 = 0 }
@@ -44,7 +46,7 @@ reads =
     ∷ Called (CancelBy l0 (Number 5)) ∷ []
 
 flow_of_reads : run_flow s0 reads empty ≡ record { entered = n 1 ∷ n 2 ∷ n 3 ∷ n 4 ∷ []; given = n 1 ∷ n 2 ∷ n 3 ∷ []; cancelled = true; asked = 3 }
-unfolding fresh settle answer react after_next_job watch readable.set_up readable.chunk_steps readable.close_steps readable.call_pull_if_needed readable.accept readable.controller_enqueue readable.stream_close readable.after_take readable.pull_steps readable.default_reader_read readable.reader_generic_initialize readable.start_settled readable.cancel_steps readable.stream_cancel call_host row turns performed perform_job begin
+unfolding fresh settle answer react follow unfollow use_gift after_next_job watch let_go readable.call_pull_if_needed readable.accept readable.controller_enqueue readable.stream_close readable.stream_error readable.close_if_empty readable.controller_close readable.controller_error readable.after_take readable.pull_steps readable.default_reader_read readable.reader_generic_initialize readable.start_settled readable.pull_settled readable.cancel_steps readable.stream_cancel readable.reader_release writable.ensure_rejected writable.settle_pending writable.update_backpressure writable.refresh_backpressure writable.reject_close_and_closed writable.finish_erroring writable.start_erroring writable.deal_with_rejection writable.controller_error_if_needed writable.process_write writable.process_close writable.advance_queue writable.hand_on writable.write_settled writable.finish_in_flight_close writable.finish_in_flight_close_with_error writable.close_settled writable.start_settled writable.abort_settled writable.controller_write writable.writer_write writable.controller_close writable.stream_close writable.stream_abort writable.set_up_writer writable.writer_release call_host row turns performed moments_of moments begin_job begin
 flow_of_reads = refl
 
 -- two writes and a close are asked for
@@ -56,18 +58,18 @@ writes =
 -- both writes succeed
 writes_that_succeed : run_writes s0 (writes ++ Called (Settle (h 0) Ok) ∷ Worked ∷ Called (Settle (h 1) Ok) ∷ Worked ∷ []) empty
     ≡ record { written = n 1 ∷ n 2 ∷ []; acted = n 1 ∷ n 2 ∷ []; fulfilled = 2; closes = 1 }
-unfolding fresh settle react after_next_job watch writable.ensure_rejected writable.update_backpressure writable.refresh_backpressure writable.set_up writable.process_write writable.process_close writable.advance_queue writable.write_settled writable.start_settled writable.controller_write writable.writer_write writable.controller_close writable.stream_close writable.set_up_writer call_host row turns performed perform_job begin
+unfolding fresh settle answer react follow unfollow use_gift after_next_job watch let_go readable.call_pull_if_needed readable.accept readable.controller_enqueue readable.stream_close readable.stream_error readable.close_if_empty readable.controller_close readable.controller_error readable.after_take readable.pull_steps readable.default_reader_read readable.reader_generic_initialize readable.start_settled readable.pull_settled readable.cancel_steps readable.stream_cancel readable.reader_release writable.ensure_rejected writable.settle_pending writable.update_backpressure writable.refresh_backpressure writable.reject_close_and_closed writable.finish_erroring writable.start_erroring writable.deal_with_rejection writable.controller_error_if_needed writable.process_write writable.process_close writable.advance_queue writable.hand_on writable.write_settled writable.finish_in_flight_close writable.finish_in_flight_close_with_error writable.close_settled writable.start_settled writable.abort_settled writable.controller_write writable.writer_write writable.controller_close writable.stream_close writable.stream_abort writable.set_up_writer writable.writer_release call_host row turns performed moments_of moments begin_job begin
 writes_that_succeed = refl
 
 -- the first write fails
 write_that_fails : run_writes s0 (writes ++ Called (Settle (h 0) (Fail (Number 9))) ∷ Worked ∷ Called (Write l0 (n 3)) ∷ []) empty
     ≡ record { written = n 1 ∷ n 2 ∷ []; acted = n 1 ∷ []; fulfilled = 0; closes = 0 }
-unfolding fresh settle react after_next_job watch writable.ensure_rejected writable.update_backpressure writable.refresh_backpressure writable.set_up writable.reject_close_and_closed writable.finish_erroring writable.start_erroring writable.deal_with_rejection writable.process_write writable.process_close writable.advance_queue writable.write_settled writable.start_settled writable.controller_write writable.writer_write writable.controller_close writable.stream_close writable.set_up_writer call_host row turns performed perform_job begin
+unfolding fresh settle answer react follow unfollow use_gift after_next_job watch let_go readable.call_pull_if_needed readable.accept readable.controller_enqueue readable.stream_close readable.stream_error readable.close_if_empty readable.controller_close readable.controller_error readable.after_take readable.pull_steps readable.default_reader_read readable.reader_generic_initialize readable.start_settled readable.pull_settled readable.cancel_steps readable.stream_cancel readable.reader_release writable.ensure_rejected writable.settle_pending writable.update_backpressure writable.refresh_backpressure writable.reject_close_and_closed writable.finish_erroring writable.start_erroring writable.deal_with_rejection writable.controller_error_if_needed writable.process_write writable.process_close writable.advance_queue writable.hand_on writable.write_settled writable.finish_in_flight_close writable.finish_in_flight_close_with_error writable.close_settled writable.start_settled writable.abort_settled writable.controller_write writable.writer_write writable.controller_close writable.stream_close writable.stream_abort writable.set_up_writer writable.writer_release call_host row turns performed moments_of moments begin_job begin
 write_that_fails = refl
 
 -- the promises of the two writes
 promises_of_writes : run_promised s0 writes empty ≡ record { 0 = 3 } ∷ record { 0 = 6 } ∷ []
-unfolding fresh settle react after_next_job watch writable.ensure_rejected writable.update_backpressure writable.refresh_backpressure writable.set_up writable.process_write writable.process_close writable.advance_queue writable.write_settled writable.start_settled writable.controller_write writable.writer_write writable.controller_close writable.stream_close writable.set_up_writer call_host row turns performed perform_job begin
+unfolding fresh settle answer react follow unfollow use_gift after_next_job watch let_go readable.call_pull_if_needed readable.accept readable.controller_enqueue readable.stream_close readable.stream_error readable.close_if_empty readable.controller_close readable.controller_error readable.after_take readable.pull_steps readable.default_reader_read readable.reader_generic_initialize readable.start_settled readable.pull_settled readable.cancel_steps readable.stream_cancel readable.reader_release writable.ensure_rejected writable.settle_pending writable.update_backpressure writable.refresh_backpressure writable.reject_close_and_closed writable.finish_erroring writable.start_erroring writable.deal_with_rejection writable.controller_error_if_needed writable.process_write writable.process_close writable.advance_queue writable.hand_on writable.write_settled writable.finish_in_flight_close writable.finish_in_flight_close_with_error writable.close_settled writable.start_settled writable.abort_settled writable.controller_write writable.writer_write writable.controller_close writable.stream_close writable.stream_abort writable.set_up_writer writable.writer_release call_host row turns performed moments_of moments begin_job begin
 promises_of_writes = refl
 
 -- the first write ends well and the second fails, and so does the stream
@@ -76,7 +78,7 @@ half_failed = writes ++ Called (Settle (h 0) Ok) ∷ Worked ∷ Called (Settle (
 
 outcomes_of_writes : ((writable_at s0 (run half_failed empty)).state ≡ Errored)
     × (map (outcome_at (run half_failed empty).promises) (run_promised s0 half_failed empty) ≡ Some (Fulfilled Undefined) ∷ Some (Rejected (Number 9)) ∷ [])
-unfolding fresh settle react after_next_job watch writable.ensure_rejected writable.update_backpressure writable.refresh_backpressure writable.set_up writable.reject_close_and_closed writable.finish_erroring writable.start_erroring writable.deal_with_rejection writable.process_write writable.process_close writable.advance_queue writable.write_settled writable.start_settled writable.controller_write writable.writer_write writable.controller_close writable.stream_close writable.set_up_writer call_host row turns performed perform_job begin
+unfolding fresh settle answer react follow unfollow use_gift after_next_job watch let_go readable.call_pull_if_needed readable.accept readable.controller_enqueue readable.stream_close readable.stream_error readable.close_if_empty readable.controller_close readable.controller_error readable.after_take readable.pull_steps readable.default_reader_read readable.reader_generic_initialize readable.start_settled readable.pull_settled readable.cancel_steps readable.stream_cancel readable.reader_release writable.ensure_rejected writable.settle_pending writable.update_backpressure writable.refresh_backpressure writable.reject_close_and_closed writable.finish_erroring writable.start_erroring writable.deal_with_rejection writable.controller_error_if_needed writable.process_write writable.process_close writable.advance_queue writable.hand_on writable.write_settled writable.finish_in_flight_close writable.finish_in_flight_close_with_error writable.close_settled writable.start_settled writable.abort_settled writable.controller_write writable.writer_write writable.controller_close writable.stream_close writable.stream_abort writable.set_up_writer writable.writer_release call_host row turns performed moments_of moments begin_job begin
 outcomes_of_writes = (refl, refl)
 
 -- three writes, of which the first two end well: their promises are fulfilled in the order of the writes
@@ -87,13 +89,13 @@ in_order =
 
 outcomes_in_order : map (outcome_at (run in_order empty).promises) (run_promised s0 in_order empty)
     ≡ Some (Fulfilled Undefined) ∷ Some (Fulfilled Undefined) ∷ Some Pending ∷ []
-unfolding fresh settle react after_next_job watch writable.ensure_rejected writable.update_backpressure writable.refresh_backpressure writable.set_up writable.process_write writable.process_close writable.advance_queue writable.write_settled writable.start_settled writable.controller_write writable.writer_write writable.controller_close writable.stream_close writable.set_up_writer call_host row turns performed perform_job begin
+unfolding fresh settle answer react follow unfollow use_gift after_next_job watch let_go readable.call_pull_if_needed readable.accept readable.controller_enqueue readable.stream_close readable.stream_error readable.close_if_empty readable.controller_close readable.controller_error readable.after_take readable.pull_steps readable.default_reader_read readable.reader_generic_initialize readable.start_settled readable.pull_settled readable.cancel_steps readable.stream_cancel readable.reader_release writable.ensure_rejected writable.settle_pending writable.update_backpressure writable.refresh_backpressure writable.reject_close_and_closed writable.finish_erroring writable.start_erroring writable.deal_with_rejection writable.controller_error_if_needed writable.process_write writable.process_close writable.advance_queue writable.hand_on writable.write_settled writable.finish_in_flight_close writable.finish_in_flight_close_with_error writable.close_settled writable.start_settled writable.abort_settled writable.controller_write writable.writer_write writable.controller_close writable.stream_close writable.stream_abort writable.set_up_writer writable.writer_release call_host row turns performed moments_of moments begin_job begin
 outcomes_in_order = refl
 
 -- the host takes an event, and another happens
 events_taken : run_events (Called (MakeReadable 2 Count Now) ∷ Worked ∷ Heard ∷ Called (GetReader s0) ∷ Called (CancelBy l0 (Number 5)) ∷ []) empty
     ≡ Host (h 0) (Pull s0) ∷ Host (h 1) (Cancel s0 (Number 5)) ∷ []
-unfolding fresh settle answer react after_next_job watch readable.set_up readable.chunk_steps readable.close_steps readable.call_pull_if_needed readable.accept readable.controller_enqueue readable.stream_close readable.after_take readable.pull_steps readable.default_reader_read readable.reader_generic_initialize readable.start_settled readable.cancel_steps readable.stream_cancel call_host row turns performed perform_job begin
+unfolding fresh settle answer react follow unfollow use_gift after_next_job watch let_go readable.call_pull_if_needed readable.accept readable.controller_enqueue readable.stream_close readable.stream_error readable.close_if_empty readable.controller_close readable.controller_error readable.after_take readable.pull_steps readable.default_reader_read readable.reader_generic_initialize readable.start_settled readable.pull_settled readable.cancel_steps readable.stream_cancel readable.reader_release writable.ensure_rejected writable.settle_pending writable.update_backpressure writable.refresh_backpressure writable.reject_close_and_closed writable.finish_erroring writable.start_erroring writable.deal_with_rejection writable.controller_error_if_needed writable.process_write writable.process_close writable.advance_queue writable.hand_on writable.write_settled writable.finish_in_flight_close writable.finish_in_flight_close_with_error writable.close_settled writable.start_settled writable.abort_settled writable.controller_write writable.writer_write writable.controller_close writable.stream_close writable.stream_abort writable.set_up_writer writable.writer_release call_host row turns performed moments_of moments begin_job begin
 events_taken = refl
 
 -- the host lets go of the promises of both writes, of which the second hasn't settled and stays
@@ -101,14 +103,14 @@ abbrev forgotten : List Entry
 forgotten = writes ++ Called (Settle (h 0) Ok) ∷ Worked ∷ Forgot (record { 0 = 3 }) ∷ Forgot (record { 0 = 6 }) ∷ []
 
 a_settled_promise_is_gone : outcome_at (run forgotten empty).promises (record { 0 = 3 }) ≡ None
-unfolding fresh settle react let_go after_next_job watch writable.ensure_rejected writable.update_backpressure writable.refresh_backpressure writable.set_up writable.process_write writable.process_close writable.advance_queue writable.write_settled writable.start_settled writable.controller_write writable.writer_write writable.controller_close writable.stream_close writable.set_up_writer call_host row turns performed perform_job begin
+unfolding fresh settle answer react follow unfollow use_gift after_next_job watch let_go readable.call_pull_if_needed readable.accept readable.controller_enqueue readable.stream_close readable.stream_error readable.close_if_empty readable.controller_close readable.controller_error readable.after_take readable.pull_steps readable.default_reader_read readable.reader_generic_initialize readable.start_settled readable.pull_settled readable.cancel_steps readable.stream_cancel readable.reader_release writable.ensure_rejected writable.settle_pending writable.update_backpressure writable.refresh_backpressure writable.reject_close_and_closed writable.finish_erroring writable.start_erroring writable.deal_with_rejection writable.controller_error_if_needed writable.process_write writable.process_close writable.advance_queue writable.hand_on writable.write_settled writable.finish_in_flight_close writable.finish_in_flight_close_with_error writable.close_settled writable.start_settled writable.abort_settled writable.controller_write writable.writer_write writable.controller_close writable.stream_close writable.stream_abort writable.set_up_writer writable.writer_release call_host row turns performed moments_of moments begin_job begin
 a_settled_promise_is_gone = refl
 
 a_pending_promise_stays : outcome_at (run forgotten empty).promises (record { 0 = 6 }) ≡ Some Pending
-unfolding fresh settle react let_go after_next_job watch writable.ensure_rejected writable.update_backpressure writable.refresh_backpressure writable.set_up writable.process_write writable.process_close writable.advance_queue writable.write_settled writable.start_settled writable.controller_write writable.writer_write writable.controller_close writable.stream_close writable.set_up_writer call_host row turns performed perform_job begin
+unfolding fresh settle answer react follow unfollow use_gift after_next_job watch let_go readable.call_pull_if_needed readable.accept readable.controller_enqueue readable.stream_close readable.stream_error readable.close_if_empty readable.controller_close readable.controller_error readable.after_take readable.pull_steps readable.default_reader_read readable.reader_generic_initialize readable.start_settled readable.pull_settled readable.cancel_steps readable.stream_cancel readable.reader_release writable.ensure_rejected writable.settle_pending writable.update_backpressure writable.refresh_backpressure writable.reject_close_and_closed writable.finish_erroring writable.start_erroring writable.deal_with_rejection writable.controller_error_if_needed writable.process_write writable.process_close writable.advance_queue writable.hand_on writable.write_settled writable.finish_in_flight_close writable.finish_in_flight_close_with_error writable.close_settled writable.start_settled writable.abort_settled writable.controller_write writable.writer_write writable.controller_close writable.stream_close writable.stream_abort writable.set_up_writer writable.writer_release call_host row turns performed moments_of moments begin_job begin
 a_pending_promise_stays = refl
 
 -- no reply named the promise of the start, which has settled
 an_unnamed_promise_stays : outcome_at (run (writes ++ Forgot (record { 0 = 0 }) ∷ []) empty).promises (record { 0 = 0 }) ≡ Some (Fulfilled Undefined)
-unfolding fresh settle react let_go after_next_job watch writable.ensure_rejected writable.update_backpressure writable.refresh_backpressure writable.set_up writable.process_write writable.process_close writable.advance_queue writable.write_settled writable.start_settled writable.controller_write writable.writer_write writable.controller_close writable.stream_close writable.set_up_writer call_host row turns performed perform_job begin
+unfolding fresh settle answer react follow unfollow use_gift after_next_job watch let_go readable.call_pull_if_needed readable.accept readable.controller_enqueue readable.stream_close readable.stream_error readable.close_if_empty readable.controller_close readable.controller_error readable.after_take readable.pull_steps readable.default_reader_read readable.reader_generic_initialize readable.start_settled readable.pull_settled readable.cancel_steps readable.stream_cancel readable.reader_release writable.ensure_rejected writable.settle_pending writable.update_backpressure writable.refresh_backpressure writable.reject_close_and_closed writable.finish_erroring writable.start_erroring writable.deal_with_rejection writable.controller_error_if_needed writable.process_write writable.process_close writable.advance_queue writable.hand_on writable.write_settled writable.finish_in_flight_close writable.finish_in_flight_close_with_error writable.close_settled writable.start_settled writable.abort_settled writable.controller_write writable.writer_write writable.controller_close writable.stream_close writable.stream_abort writable.set_up_writer writable.writer_release call_host row turns performed moments_of moments begin_job begin
 an_unnamed_promise_stays = refl

@@ -8,11 +8,10 @@ use Rattle.ws_steps.specs.declared.calls.Reply.TheVariants.{Done, Made, Lock, St
 use Rattle.ws_steps.specs.declared.calls.StartBy.TheVariants.{Now, Later}
 use Rattle.ws_steps.specs.declared.calls.Word.TheVariants.{Readable}
 use Rattle.ws_steps.specs.declared.readable.SizeBy.TheVariants.{Count}
-use Rattle.ws_steps.specs.Promises.{fresh, settle, answer, react, follow, unfollow, after_next_job, watch}
-use Rattle.ws_steps.specs.Readable.{set_up, chunk_steps, close_steps, call_pull_if_needed, accept, controller_enqueue, controller_close, close_if_empty, stream_close, after_take, pull_steps, default_reader_read, reader_generic_initialize, start_settled, pull_settled}
-use Rattle.ws_steps.specs.Slots.{call_host}
-use Rattle.ws_steps.specs.Turns.{row, turns, performed}
-use Rattle.ws_steps.specs.Jobs.{perform_job}
+use Rattle.ws_steps.specs.Promises.{fresh, settle, answer, react, follow, unfollow, use_gift, after_next_job, watch}
+use Rattle.ws_steps.specs.Readable.{call_pull_if_needed, accept, controller_enqueue, stream_close, stream_error, close_if_empty, controller_close, controller_error, after_take, pull_steps, default_reader_read, reader_generic_initialize, start_settled, pull_settled, cancel_steps, stream_cancel, reader_release}
+use Rattle.ws_steps.specs.Turns.{call_host, row, turns, performed}
+use Rattle.ws_steps.specs.Jobs.{begin_job}
 use Rattle.ws_steps.specs.Calls.{begin}
 use Rattle.ws_steps.proofs.WorkedWords.{printed, printed_tasks, s0, l0, h, v, leaves, says, promise, host, given, finished, fulfilled, no_flags}
 
@@ -24,7 +23,7 @@ read_before_enqueue : printed (MakeReadable 0 Count Now ∷ GetReader s0 ∷ Rea
     ∷ says Done (given 0 (v 1) ∷ [])
     ∷ says (StateReply (record { state = Readable; flags = record no_flags { s = true; p = true; d = true; l = true }; total = 0; queue = 0; requests = 0 })) []
     ∷ []
-unfolding fresh settle answer react follow unfollow after_next_job watch set_up chunk_steps close_steps call_pull_if_needed accept controller_enqueue controller_close close_if_empty stream_close after_take pull_steps default_reader_read reader_generic_initialize start_settled pull_settled call_host row turns performed perform_job begin
+unfolding fresh settle answer react follow unfollow use_gift after_next_job watch call_pull_if_needed accept controller_enqueue stream_close stream_error close_if_empty controller_close controller_error after_take pull_steps default_reader_read reader_generic_initialize start_settled pull_settled cancel_steps stream_cancel reader_release call_host row turns performed begin_job begin
 read_before_enqueue = refl
 
 -- two reads while pulling give one further pull
@@ -37,7 +36,7 @@ two_reads_one_further_pull : printed (MakeReadable 0 Count Now ∷ GetReader s0 
     ∷ says Done (host 1 (Pull s0) ∷ [])
     ∷ says (StateReply (record { state = Readable; flags = record no_flags { s = true; p = true; d = true; l = true }; total = 0; queue = 0; requests = 1 })) []
     ∷ []
-unfolding fresh settle answer react follow unfollow after_next_job watch set_up chunk_steps close_steps call_pull_if_needed accept controller_enqueue controller_close close_if_empty stream_close after_take pull_steps default_reader_read reader_generic_initialize start_settled pull_settled call_host row turns performed perform_job begin
+unfolding fresh settle answer react follow unfollow use_gift after_next_job watch call_pull_if_needed accept controller_enqueue stream_close stream_error close_if_empty controller_close controller_error after_take pull_steps default_reader_read reader_generic_initialize start_settled pull_settled cancel_steps stream_cancel reader_release call_host row turns performed begin_job begin
 two_reads_one_further_pull = refl
 
 -- a start that gives a promise: the stream starts in the third job after it is settled
@@ -48,7 +47,7 @@ start_that_waits : printed_tasks ((9, MakeReadable 1 Count Later) ∷ (0, Settle
     ∷ leaves (StateReply (record { state = Readable; flags = no_flags; total = 0; queue = 0; requests = 0 })) []
     ∷ says Done (host 1 (Pull s0) ∷ [])
     ∷ []
-unfolding fresh settle answer react follow unfollow after_next_job watch set_up chunk_steps close_steps call_pull_if_needed accept controller_enqueue controller_close close_if_empty stream_close after_take pull_steps default_reader_read reader_generic_initialize start_settled pull_settled call_host row turns performed perform_job begin
+unfolding fresh settle answer react follow unfollow use_gift after_next_job watch call_pull_if_needed accept controller_enqueue stream_close stream_error close_if_empty controller_close controller_error after_take pull_steps default_reader_read reader_generic_initialize start_settled pull_settled cancel_steps stream_cancel reader_release call_host row turns performed begin_job begin
 start_that_waits = refl
 
 -- the last chunk and the close come together; the closed promise settles first
@@ -61,5 +60,5 @@ last_chunk_and_close : printed (MakeReadable 2 Count Now ∷ Enqueue s0 (Bytes (
     ∷ promise 1 (fulfilled 0 ∷ given 1 (Bytes (97 ∷ 98 ∷ [])) ∷ [])
     ∷ promise 2 (finished 2 ∷ [])
     ∷ []
-unfolding fresh settle answer react follow unfollow after_next_job watch set_up chunk_steps close_steps call_pull_if_needed accept controller_enqueue controller_close close_if_empty stream_close after_take pull_steps default_reader_read reader_generic_initialize start_settled pull_settled call_host row turns performed perform_job begin
+unfolding fresh settle answer react follow unfollow use_gift after_next_job watch call_pull_if_needed accept controller_enqueue stream_close stream_error close_if_empty controller_close controller_error after_take pull_steps default_reader_read reader_generic_initialize start_settled pull_settled cancel_steps stream_cancel reader_release call_host row turns performed begin_job begin
 last_chunk_and_close = refl

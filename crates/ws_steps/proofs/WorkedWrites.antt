@@ -9,12 +9,11 @@ use Rattle.ws_steps.specs.declared.calls.StartBy.TheVariants.{Now}
 use Rattle.ws_steps.specs.declared.calls.Thrown.TheVariants.{TypeError}
 use Rattle.ws_steps.specs.declared.calls.Word.TheVariants.{Writable as WordWritable, Erroring as WordErroring}
 use Rattle.ws_steps.specs.declared.readable.SizeBy.TheVariants.{Count, ByteLength}
-use Rattle.ws_steps.specs.Readable.{type_error}
-use Rattle.ws_steps.specs.Promises.{fresh, settle, react, follow, unfollow, after_next_job, watch}
-use Rattle.ws_steps.specs.Writable.{ensure_rejected, update_backpressure, refresh_backpressure, set_up, reject_close_and_closed, finish_erroring, start_erroring, deal_with_rejection, controller_error_if_needed, process_write, process_close, advance_queue, write_settled, finish_in_flight_close, finish_in_flight_close_with_error, close_settled, start_settled, abort_settled, controller_write, writer_write, controller_close, stream_close, add_pending_abort, stream_abort, set_up_writer, writer_release}
-use Rattle.ws_steps.specs.Slots.{call_host}
-use Rattle.ws_steps.specs.Turns.{row, turns, performed}
-use Rattle.ws_steps.specs.Jobs.{perform_job}
+use Rattle.ws_steps.specs.Effects.{type_error}
+use Rattle.ws_steps.specs.Promises.{fresh, settle, answer, react, follow, unfollow, use_gift, after_next_job, watch}
+use Rattle.ws_steps.specs.Writable.{ensure_rejected, settle_pending, update_backpressure, refresh_backpressure, reject_close_and_closed, finish_erroring, start_erroring, deal_with_rejection, controller_error_if_needed, process_write, process_close, advance_queue, hand_on, write_settled, finish_in_flight_close, finish_in_flight_close_with_error, close_settled, start_settled, abort_settled, controller_write, writer_write, controller_close, stream_close, stream_abort, set_up_writer, writer_release}
+use Rattle.ws_steps.specs.Turns.{call_host, row, turns, performed}
+use Rattle.ws_steps.specs.Jobs.{begin_job}
 use Rattle.ws_steps.specs.Calls.{begin}
 use Rattle.ws_steps.proofs.WorkedWords.{printed, s0, l0, l1, h, e, v, says, promise, host, signal, fulfilled, rejected, no_flags}
 
@@ -32,7 +31,7 @@ two_writes_and_a_close : printed (MakeWritable 1 Count Now ∷ GetWriter s0 ∷ 
     ∷ promise 4 (rejected 4 type_error ∷ [])
     ∷ promise 5 (rejected 5 type_error ∷ [])
     ∷ []
-unfolding fresh settle react follow unfollow after_next_job watch ensure_rejected update_backpressure refresh_backpressure set_up reject_close_and_closed finish_erroring start_erroring deal_with_rejection controller_error_if_needed process_write process_close advance_queue write_settled finish_in_flight_close finish_in_flight_close_with_error close_settled start_settled abort_settled controller_write writer_write controller_close stream_close add_pending_abort stream_abort set_up_writer writer_release call_host row turns performed perform_job begin
+unfolding fresh settle answer react follow unfollow use_gift after_next_job watch ensure_rejected settle_pending update_backpressure refresh_backpressure reject_close_and_closed finish_erroring start_erroring deal_with_rejection controller_error_if_needed process_write process_close advance_queue hand_on write_settled finish_in_flight_close finish_in_flight_close_with_error close_settled start_settled abort_settled controller_write writer_write controller_close stream_close stream_abort set_up_writer writer_release call_host row turns performed begin_job begin
 two_writes_and_a_close = refl
 
 -- the close fails, and a second close meanwhile is refused
@@ -44,7 +43,7 @@ failing_close : printed (MakeWritable 1 Count Now ∷ GetWriter s0 ∷ ClosedOf 
     ∷ promise 2 (rejected 2 type_error ∷ [])
     ∷ says Done (rejected 1 (e 9) ∷ rejected 0 (e 9) ∷ [])
     ∷ []
-unfolding fresh settle react follow unfollow after_next_job watch ensure_rejected update_backpressure refresh_backpressure set_up reject_close_and_closed finish_erroring start_erroring deal_with_rejection controller_error_if_needed process_write process_close advance_queue write_settled finish_in_flight_close finish_in_flight_close_with_error close_settled start_settled abort_settled controller_write writer_write controller_close stream_close add_pending_abort stream_abort set_up_writer writer_release call_host row turns performed perform_job begin
+unfolding fresh settle answer react follow unfollow use_gift after_next_job watch ensure_rejected settle_pending update_backpressure refresh_backpressure reject_close_and_closed finish_erroring start_erroring deal_with_rejection controller_error_if_needed process_write process_close advance_queue hand_on write_settled finish_in_flight_close finish_in_flight_close_with_error close_settled start_settled abort_settled controller_write writer_write controller_close stream_close stream_abort set_up_writer writer_release call_host row turns performed begin_job begin
 failing_close = refl
 
 -- ready is a new promise once there is backpressure, and is fulfilled once there is none
@@ -62,7 +61,7 @@ ready_follows_the_backpressure : printed (MakeWritable 1 Count Now ∷ GetWriter
     ∷ says Done (fulfilled 3 ∷ fulfilled 2 ∷ [])
     ∷ says (Size (Some (pos 1))) []
     ∷ []
-unfolding fresh settle react follow unfollow after_next_job watch ensure_rejected update_backpressure refresh_backpressure set_up reject_close_and_closed finish_erroring start_erroring deal_with_rejection controller_error_if_needed process_write process_close advance_queue write_settled finish_in_flight_close finish_in_flight_close_with_error close_settled start_settled abort_settled controller_write writer_write controller_close stream_close add_pending_abort stream_abort set_up_writer writer_release call_host row turns performed perform_job begin
+unfolding fresh settle answer react follow unfollow use_gift after_next_job watch ensure_rejected settle_pending update_backpressure refresh_backpressure reject_close_and_closed finish_erroring start_erroring deal_with_rejection controller_error_if_needed process_write process_close advance_queue hand_on write_settled finish_in_flight_close finish_in_flight_close_with_error close_settled start_settled abort_settled controller_write writer_write controller_close stream_close stream_abort set_up_writer writer_release call_host row turns performed begin_job begin
 ready_follows_the_backpressure = refl
 
 -- an abort rejects the pending ready promise
@@ -74,7 +73,7 @@ ready_on_abort : printed (MakeWritable 1 Count Now ∷ GetWriter s0 ∷ WriteBy 
     ∷ promise 2 (signal (e 7) ∷ rejected 1 (e 7) ∷ [])
     ∷ promise 1 []
     ∷ []
-unfolding fresh settle react follow unfollow after_next_job watch ensure_rejected update_backpressure refresh_backpressure set_up reject_close_and_closed finish_erroring start_erroring deal_with_rejection controller_error_if_needed process_write process_close advance_queue write_settled finish_in_flight_close finish_in_flight_close_with_error close_settled start_settled abort_settled controller_write writer_write controller_close stream_close add_pending_abort stream_abort set_up_writer writer_release call_host row turns performed perform_job begin
+unfolding fresh settle answer react follow unfollow use_gift after_next_job watch ensure_rejected settle_pending update_backpressure refresh_backpressure reject_close_and_closed finish_erroring start_erroring deal_with_rejection controller_error_if_needed process_write process_close advance_queue hand_on write_settled finish_in_flight_close finish_in_flight_close_with_error close_settled start_settled abort_settled controller_write writer_write controller_close stream_close stream_abort set_up_writer writer_release call_host row turns performed begin_job begin
 ready_on_abort = refl
 
 -- a released writer: its promises are rejected, ready first; a write in flight goes on, and another writer sees it end
@@ -96,7 +95,7 @@ released_writer : printed (MakeWritable 1 Count Now ∷ GetWriter s0 ∷ ClosedO
     ∷ says (Size (Some (pos 1))) []
     ∷ says Done []
     ∷ []
-unfolding fresh settle react follow unfollow after_next_job watch ensure_rejected update_backpressure refresh_backpressure set_up reject_close_and_closed finish_erroring start_erroring deal_with_rejection controller_error_if_needed process_write process_close advance_queue write_settled finish_in_flight_close finish_in_flight_close_with_error close_settled start_settled abort_settled controller_write writer_write controller_close stream_close add_pending_abort stream_abort set_up_writer writer_release call_host row turns performed perform_job begin
+unfolding fresh settle answer react follow unfollow use_gift after_next_job watch ensure_rejected settle_pending update_backpressure refresh_backpressure reject_close_and_closed finish_erroring start_erroring deal_with_rejection controller_error_if_needed process_write process_close advance_queue hand_on write_settled finish_in_flight_close finish_in_flight_close_with_error close_settled start_settled abort_settled controller_write writer_write controller_close stream_close stream_abort set_up_writer writer_release call_host row turns performed begin_job begin
 released_writer = refl
 
 -- a close of a stream that nothing locks; a writer of a closing stream is ready
@@ -110,7 +109,7 @@ close_without_a_writer : printed (MakeWritable 0 Count Now ∷ CloseStream s0 �
     ∷ promise 2 (rejected 2 type_error ∷ [])
     ∷ promise 3 (fulfilled 3 ∷ [])
     ∷ []
-unfolding fresh settle react follow unfollow after_next_job watch ensure_rejected update_backpressure refresh_backpressure set_up reject_close_and_closed finish_erroring start_erroring deal_with_rejection controller_error_if_needed process_write process_close advance_queue write_settled finish_in_flight_close finish_in_flight_close_with_error close_settled start_settled abort_settled controller_write writer_write controller_close stream_close add_pending_abort stream_abort set_up_writer writer_release call_host row turns performed perform_job begin
+unfolding fresh settle answer react follow unfollow use_gift after_next_job watch ensure_rejected settle_pending update_backpressure refresh_backpressure reject_close_and_closed finish_erroring start_erroring deal_with_rejection controller_error_if_needed process_write process_close advance_queue hand_on write_settled finish_in_flight_close finish_in_flight_close_with_error close_settled start_settled abort_settled controller_write writer_write controller_close stream_close stream_abort set_up_writer writer_release call_host row turns performed begin_job begin
 close_without_a_writer = refl
 
 -- a write in flight keeps its size in the queue, and its request is no longer one that waits
@@ -124,5 +123,5 @@ sizes_of_writes : printed (MakeWritable 5 ByteLength Now ∷ GetWriter s0 ∷ Wr
     ∷ says Done []
     ∷ says (StateReply (record { state = WordErroring; flags = record no_flags { s = true; b = true; w = true; l = true }; total = 5; queue = 2; requests = 1 })) []
     ∷ []
-unfolding fresh settle react follow unfollow after_next_job watch ensure_rejected update_backpressure refresh_backpressure set_up reject_close_and_closed finish_erroring start_erroring deal_with_rejection controller_error_if_needed process_write process_close advance_queue write_settled finish_in_flight_close finish_in_flight_close_with_error close_settled start_settled abort_settled controller_write writer_write controller_close stream_close add_pending_abort stream_abort set_up_writer writer_release call_host row turns performed perform_job begin
+unfolding fresh settle answer react follow unfollow use_gift after_next_job watch ensure_rejected settle_pending update_backpressure refresh_backpressure reject_close_and_closed finish_erroring start_erroring deal_with_rejection controller_error_if_needed process_write process_close advance_queue hand_on write_settled finish_in_flight_close finish_in_flight_close_with_error close_settled start_settled abort_settled controller_write writer_write controller_close stream_close stream_abort set_up_writer writer_release call_host row turns performed begin_job begin
 sizes_of_writes = refl

@@ -1,5 +1,5 @@
--- The calls on a realm: their checks, what they answer, and the operation that they perform.
-use Rattle.std.specs.Prelude.{ℕ, nat_lt, if◌then◌else◌, [], ◌∷◌, ◌++◌, length, Option, Some, None, Result, Ok, Err, slice_set}
+-- The calls on a realm: their checks, what they answer, what they make, and the effects that they cause.
+use Rattle.std.specs.Prelude.{ℕ, Bool, true, false, nat_lt, if◌then◌else◌, List, [], ◌∷◌, ◌++◌, length, Option, Some, None, Result, Ok, Err, slice_set}
 use Rattle.ws_value.specs.declared.ids.LockId.{LockId}
 use Rattle.ws_value.specs.declared.ids.PromiseId.{PromiseId}
 use Rattle.ws_value.specs.declared.ids.StreamId.{StreamId}
@@ -15,24 +15,31 @@ use Rattle.ws_steps.specs.declared.calls.Reply.{Reply}
 use Rattle.ws_steps.specs.declared.calls.Reply.TheVariants.{Done as ReplyDone, Made, Lock as ReplyLock, Promise, Size, State as ReplyState, Throws, TooMany}
 use Rattle.ws_steps.specs.declared.calls.StartBy.{StartBy}
 use Rattle.ws_steps.specs.declared.calls.Thrown.TheVariants.{TypeError, Unsupported}
+use Rattle.ws_steps.specs.declared.effects.Effect.{Effect}
+use Rattle.ws_steps.specs.declared.effects.Effect.TheVariants.{Readable, Writable, StartAlgorithm, Settle as SettlePromise}
+use Rattle.ws_steps.specs.declared.effects.Owner.TheVariants.{Host}
 use Rattle.ws_steps.specs.declared.locks.Lock.{Lock}
 use Rattle.ws_steps.specs.declared.locks.Lock.TheVariants.{Reader as ReaderLock, Writer as WriterLock, ReleasedWriter}
 use Rattle.ws_steps.specs.declared.readable.ReadRequest.TheVariants.{Promise as PromiseRequest}
+use Rattle.ws_steps.specs.declared.readable.ReadableOperation.{ReadableOperation}
+use Rattle.ws_steps.specs.declared.readable.ReadableOperation.TheVariants.{InitializeReader, ReleaseReader, Read as ReadChunk, Cancel as CancelStream, Enqueue as EnqueueChunk, Close as CloseReadable, Error as ErrorReadable}
+use Rattle.ws_steps.specs.declared.promises.Step.TheVariants.{ReadableStart, WritableStart}
 use Rattle.ws_steps.specs.declared.readable.SizeBy.{SizeBy}
+use Rattle.ws_steps.specs.declared.writable.WritableOperation.TheVariants.{SetUpWriter, ReleaseWriter, Write as WriteChunk, Close as CloseStream, Abort as AbortStream, ErrorIfNeeded}
 use Rattle.ws_steps.specs.declared.writable.Writer.{Writer}
-use Rattle.ws_steps.specs.Promises.{next_id, fresh, fresh_settled, settle, watch}
+use Rattle.ws_steps.specs.Promises.{Table, next_id, fresh, watch, is_pending_at}
+use Rattle.ws_steps.specs.Effects.{type_error}
 use Rattle.ws_steps.specs.Readable as readable
-use Rattle.ws_steps.specs.Readable.{type_error}
 use Rattle.ws_steps.specs.ReadableLooks as readable_looks
 use Rattle.ws_steps.specs.Writable as writable
 use Rattle.ws_steps.specs.WritableLooks as writable_looks
-use Rattle.ws_steps.specs.Slots.{Slots, Stream, ReadableStream, WritableStream, Done, nothing, on_readable, on_writable, abort_stream, told, has_readable, has_writable, readable_at, writable_at, lock_at, host_at}
+use Rattle.ws_steps.specs.Slots.{Slots, Stream, ReadableStream, WritableStream, Done, nothing, causes, with_promises, has_readable, has_writable, readable_at, writable_at, lock_at, host_at}
 
 -- the most streams of a realm
 abbrev pub most_streams : ℕ
 most_streams = 1024
 
--- a call's reply, and what its operation leaves and causes
+-- a call's reply, and what it leaves and causes
 pub record Begun : Type 0 where
   pub reply : Reply
   pub done : Done
@@ -47,13 +54,19 @@ unsupported s = replies (Throws Unsupported) s
 abbrev pub throws_type_error : Slots → Begun
 throws_type_error s = replies (Throws TypeError) s
 
--- an operation of a stream that answers so
+-- what answers so
 abbrev pub begun : Reply → Done → Begun
 begun reply d = record { reply = reply; done = d }
 
+-- a call that answers a new promise, and causes this
+abbrev pub promising : (PromiseId → List Effect) → Slots → Begun
+promising effects s =
+    let p = next_id s.promises in
+    begun (Promise p) (causes (effects p) (with_promises (fresh s.promises) s))
+
 -- a promise that is rejected with a TypeError
 abbrev pub rejected : Slots → Begun
-rejected s = begun (Promise (next_id s.promises)) (nothing (told (record s { promises = fresh_settled (Err type_error) s.promises })))
+rejected s = promising (λ p. SettlePromise p (Err type_error) ∷ []) s
 
 -- a call on a readable stream, or on a writable one, where there is such a stream of this number
 abbrev pub for_readable : StreamId → (Slots → Begun) → Slots → Begun
@@ -69,11 +82,13 @@ add_stream stream s = record s { streams = s.streams ++ stream ∷ [] }
 -- a new stream, whose controller is set up
 abbrev pub make_readable : ℕ → SizeBy → StartBy → StreamId → Slots → Begun
 make_readable mark size start i s =
-    begun (Made i) (on_readable (readable.set_up i start mark size) i (add_stream (ReadableStream readable.initialized) s))
+    begun (Made i)
+    (causes (StartAlgorithm i (ReadableStart i) start ∷ []) (add_stream (ReadableStream (readable.set_up Host mark size)) s))
 
 abbrev pub make_writable : ℕ → SizeBy → StartBy → StreamId → Slots → Begun
 make_writable mark size start i s =
-    begun (Made i) (on_writable (writable.set_up i start mark size) i (add_stream (WritableStream writable.initialized) s))
+    begun (Made i)
+    (causes (StartAlgorithm i (WritableStart i) start ∷ []) (add_stream (WritableStream (writable.set_up Host mark size)) s))
 
 -- a stream is made where there may be one more
 abbrev pub make_stream : (StreamId → Slots → Begun) → Slots → Begun
@@ -82,38 +97,41 @@ make_stream make s = if nat_lt (length s.streams) most_streams then make (record
 -- a new reader, which takes the stream
 abbrev pub get_reader : StreamId → Slots → Begun
 get_reader i s =
+    let closed = next_id s.promises in
     begun (ReplyLock (record { 0 = length s.locks }))
-    (on_readable readable.reader_generic_initialize i
-    (record s { locks = s.locks ++ ReaderLock (Some i) (next_id s.promises) ∷ [] }))
+    (causes (Readable i (InitializeReader closed) ∷ [])
+    (record s { locks = s.locks ++ ReaderLock (Some i) closed ∷ []; promises = fresh s.promises }))
 
 -- a new writer, which takes the stream
 abbrev pub get_writer : StreamId → Slots → Begun
 get_writer i s =
+    let w : Writer = record { ready = next_id s.promises; closed = next_id (fresh s.promises) } in
     begun (ReplyLock (record { 0 = length s.locks }))
-    (on_writable writable.set_up_writer i (record s { locks = s.locks ++ WriterLock i ∷ [] }))
+    (causes (Writable i (SetUpWriter w) ∷ [])
+    (record s { locks = s.locks ++ WriterLock i ∷ []; promises = fresh (fresh s.promises) }))
 
 -- operations that answer a promise
 
 abbrev pub cancel : Plain → StreamId → Slots → Begun
-cancel reason i s = begun (Promise (next_id s.promises)) (on_readable (readable.stream_cancel i reason) i s)
+cancel reason i s = promising (λ p. Readable i (CancelStream reason p) ∷ []) s
 
--- the promise of a read is new
 abbrev pub read : StreamId → Slots → Begun
-read i s =
-    let p = next_id s.promises in
-    begun (Promise p) (on_readable (readable.default_reader_read i (PromiseRequest p)) i (record s { promises = fresh s.promises }))
+read i s = promising (λ p. Readable i (ReadChunk (PromiseRequest p)) ∷ []) s
 
 abbrev pub write : Value → StreamId → Slots → Begun
-write v i s = begun (Promise (next_id s.promises)) (on_writable (writable.writer_write i v) i s)
+write v i s = promising (λ p. Writable i (WriteChunk v p) ∷ []) s
 
 -- a stream that is closing isn't closed again
 abbrev pub close : StreamId → Slots → Begun
-close i s =
-    if writable.is_closing (writable_at i s) then rejected s
-    else begun (Promise (next_id s.promises)) (on_writable (writable.stream_close i) i s)
+close i s = if writable.is_closing (writable_at i s) then rejected s else promising (λ p. Writable i (CloseStream p) ∷ []) s
+
+-- where an abort is pending, its promise is answered
+abbrev pub abort_unless : Plain → StreamId → Slots → Option PromiseId → Begun
+abort_unless reason i s None = promising (λ p. Writable i (AbortStream reason p) ∷ []) s
+abort_unless reason i s (Some p) = replies (Promise p) s
 
 abbrev pub abort : Plain → StreamId → Slots → Begun
-abort reason i s = begun (Promise (writable.abort_promise s.promises (writable_at i s))) (abort_stream reason i s)
+abort reason i s = abort_unless reason i s (writable.answered_abort (writable_at i s))
 
 -- calls on readers and writers
 
@@ -152,17 +170,38 @@ ready_by s (Some (ReleasedWriter w)) = replies (Promise w.ready) s
 abbrev pub with_lock : LockId → Lock → Slots → Slots
 with_lock l lock s = record s { locks = slice_set s.locks l.0 lock }
 
+-- the promise of a reader or a writer from its release on: where it isn't pending, a new one, which is rejected
+abbrev pub renewed : PromiseId → Table → Bool → PromiseId
+renewed p t true = p
+renewed p t false = next_id t
+
+abbrev pub with_renewed : Table → Bool → Table
+with_renewed t true = t
+with_renewed t false = fresh t
+
+abbrev pub reject_renewed : Table → Bool → List Effect
+reject_renewed t true = []
+reject_renewed t false = SettlePromise (next_id t) (Err type_error) ∷ []
+
 -- a reader lets go of its stream
 abbrev pub release_reader : LockId → PromiseId → StreamId → Slots → Begun
 release_reader l closed i s =
+    let kept : Bool = readable.is_readable (readable_at i s).state in
     begun ReplyDone
-    (on_readable readable.reader_release i
-    (with_lock l (ReaderLock None (readable.released closed s.promises (readable_at i s).state)) s))
+    (causes (reject_renewed s.promises kept ++ Readable i ReleaseReader ∷ [])
+    (with_lock l (ReaderLock None (renewed closed s.promises kept)) (with_promises (with_renewed s.promises kept) s)))
 
 -- a writer lets go of its stream
 abbrev pub release_writer : LockId → StreamId → Writer → Slots → Begun
 release_writer l i w s =
-    begun ReplyDone (on_writable writable.writer_release i (with_lock l (ReleasedWriter (writable.released w s.promises)) s))
+    let t : Table = with_renewed s.promises (is_pending_at w.ready s.promises) in
+    let released : Writer =
+    record { ready = renewed w.ready s.promises (is_pending_at w.ready s.promises); closed = renewed w.closed t (is_pending_at w.closed t) } in
+    begun ReplyDone
+    (causes
+    (reject_renewed s.promises (is_pending_at w.ready s.promises)
+    ++ (reject_renewed t (is_pending_at w.closed t) ++ Writable i ReleaseWriter ∷ []))
+    (with_lock l (ReleasedWriter released) (with_promises (with_renewed t (is_pending_at w.closed t)) s)))
 
 abbrev pub release : LockId → Slots → Option Lock → Begun
 release l s None = unsupported s
@@ -173,15 +212,19 @@ release l s (Some (ReleasedWriter w)) = replies ReplyDone s
 
 -- calls on controllers
 
-abbrev pub if_it_can : StreamId → (Slots → Done) → Slots → Begun
+-- a call that changes nothing but by its effects, and is done
+abbrev pub does : List Effect → Slots → Begun
+does effects s = begun ReplyDone (causes effects s)
+
+abbrev pub if_it_can : StreamId → ReadableOperation → Slots → Begun
 if_it_can i operation s =
-    if readable.can_close_or_enqueue (readable_at i s) then begun ReplyDone (operation s) else throws_type_error s
+    if readable.can_close_or_enqueue (readable_at i s) then does (Readable i operation ∷ []) s else throws_type_error s
 
 -- the controller of a stream of either kind
 abbrev pub fail : Plain → StreamId → Slots → Begun
 fail reason i s =
-    if has_readable i s then begun ReplyDone (on_readable (readable.controller_error reason) i s)
-    else for_writable i (λ s. begun ReplyDone (on_writable (writable.controller_error_if_needed i reason) i s)) s
+    if has_readable i s then does (Readable i (ErrorReadable reason) ∷ []) s
+    else for_writable i (does (Writable i (ErrorIfNeeded reason) ∷ [])) s
 
 abbrev pub desired : StreamId → Slots → Begun
 desired i s = replies (Size (readable_looks.desired_by (readable_at i s) (readable_at i s).state)) s
@@ -202,8 +245,7 @@ outcome_of (AnswerFail reason) = Err reason
 abbrev pub settle_host : HostId → Answer → Slots → Option PromiseId → Begun
 settle_host h answer s None = unsupported s
 settle_host h answer s (Some p) =
-    begun ReplyDone
-    (nothing (told (record s { promises = settle p (outcome_of answer) s.promises; hosts = slice_set s.hosts h.0 None })))
+    begun ReplyDone (causes (SettlePromise p (outcome_of answer) ∷ []) (record s { hosts = slice_set s.hosts h.0 None }))
 
 -- what is done with a stream that isn't locked, and what is answered of one that is
 abbrev pub unlocked_readable : StreamId → (Slots → Begun) → (StreamId → Slots → Begun) → Slots → Begun
@@ -214,7 +256,7 @@ abbrev pub unlocked_writable : StreamId → (Slots → Begun) → (StreamId → 
 unlocked_writable i locked free s =
     for_writable i (λ s. if writable_looks.is_locked (writable_at i s) then locked s else free i s) s
 
--- the checks of a call in their order, and then its operation
+-- the checks of a call in their order; what it answers and makes, and its effects
 unfoldable pub begin : Call → Slots → Begun
 begin (MakeReadable mark size start) s = make_stream (make_readable mark size start) s
 begin (MakeWritable mark size start) s = make_stream (make_writable mark size start) s
@@ -231,8 +273,8 @@ begin (AbortBy l reason) s = by_writer (abort reason) rejected s (lock_at l s)
 begin (Closed l) s = closed_by s (lock_at l s)
 begin (Ready l) s = ready_by s (lock_at l s)
 begin (Release l) s = release l s (lock_at l s)
-begin (Enqueue i v) s = for_readable i (if_it_can i (on_readable (readable.controller_enqueue i v) i)) s
-begin (Finish i) s = for_readable i (if_it_can i (on_readable readable.controller_close i)) s
+begin (Enqueue i v) s = for_readable i (if_it_can i (EnqueueChunk v)) s
+begin (Finish i) s = for_readable i (if_it_can i CloseReadable) s
 begin (Fail i reason) s = fail reason i s
 begin (Desired i) s = for_readable i (desired i) s
 begin (DesiredBy l) s = by_writer desired_of_writer throws_type_error s (lock_at l s)
@@ -242,5 +284,5 @@ begin Step s = replies ReplyDone s
 
 -- a promise that a reply names is watched from now on
 abbrev pub named : Reply → Slots → Slots
-named (Promise p) s = told (record s { promises = watch p s.promises })
+named (Promise p) s = with_promises (watch p s.promises) s
 named _ s = s

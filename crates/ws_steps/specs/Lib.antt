@@ -5,10 +5,14 @@ pub mod Readable
 pub mod ReadableLooks
 pub mod Writable
 pub mod WritableLooks
+pub mod Operations
 pub mod Slots
+pub mod Places
 pub mod Turns
 pub mod Jobs
 pub mod Calls
 pub mod Run
 pub mod Histories
+pub mod ReadableHistory
+pub mod WritableHistory
 pub mod Laws

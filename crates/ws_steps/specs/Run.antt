@@ -6,9 +6,9 @@ use Rattle.ws_steps.specs.declared.calls.Event.{Event}
 use Rattle.ws_steps.specs.declared.calls.Reply.{Reply}
 use Rattle.ws_steps.specs.Promises.{may_go, let_go}
 use Rattle.ws_steps.specs.Queues.{is_empty}
-use Rattle.ws_steps.specs.Slots.{Slots}
-use Rattle.ws_steps.specs.Turns.{performed}
-use Rattle.ws_steps.specs.Jobs.{next_job_done}
+use Rattle.ws_steps.specs.Slots.{Slots, Done, nothing, with_promises}
+use Rattle.ws_steps.specs.Turns.{Moment, moments, performed}
+use Rattle.ws_steps.specs.Jobs.{begin_job}
 use Rattle.ws_steps.specs.Calls.{begin, named}
 
 abbrev pub older : Slots → Slots
@@ -18,13 +18,13 @@ older s = record s { age = s.age + 1 }
 abbrev pub reply_to : Call → Slots → Reply
 reply_to c s = (begin c s).reply
 
--- what a call leaves: its operation and all effects are performed, and then the promise that it answers is watched
+-- what a call leaves: all its effects are performed, and then the promise that it answers is watched
 abbrev pub after_call : Call → Slots → Slots
 after_call c s = older (named (begin c s).reply (performed (begin c s).done))
 
 -- what a job leaves
 abbrev pub after_job : Slots → Slots
-after_job s = older (next_job_done s)
+after_job s = older (performed (begin_job s))
 
 abbrev pub first_event : List Event → Option Event
 first_event [] = None
@@ -36,11 +36,11 @@ later_events (event ∷ events) = events
 
 -- the host takes the event that happened first of those that it hasn't taken
 abbrev pub after_event : Slots → Slots
-after_event s = record s { events = later_events s.events }
+after_event s = with_promises (record s.promises { events = later_events s.promises.events }) s
 
 -- the host lets go of a promise, where a reply named it and it has settled
 abbrev pub after_forgetting : PromiseId → Slots → Slots
-after_forgetting p s = record s { promises = let_go p s.promises }
+after_forgetting p s = with_promises (let_go p s.promises) s
 
 -- a call, a job, the taking of an event, or the letting go of a promise
 pub data Entry : Type 0 where
@@ -54,6 +54,16 @@ step s (Called c) = after_call c s
 step s Worked = after_job s
 step s Heard = after_event s
 step s (Forgot p) = after_forgetting p s
+
+-- what an entry begins with, and the moments of its effects
+abbrev pub begun_by : Slots → Entry → Done
+begun_by s (Called c) = (begin c s).done
+begun_by s Worked = begin_job s
+begun_by s Heard = nothing s
+begun_by s (Forgot p) = nothing s
+
+abbrev pub moments_in : Slots → Entry → List Moment
+moments_in s x = moments (begun_by s x)
 
 abbrev pub run : List Entry → Slots → Slots
 run [] s = s
@@ -93,7 +103,7 @@ jobs_in_a_row (suc n) = Worked ∷ jobs_in_a_row n
 
 -- what the host has heard of is forgotten
 abbrev pub heard : Slots → Slots
-heard s = record s { events = [] }
+heard s = with_promises (record s.promises { events = [] }) s
 
 -- a task is a call and then jobs, at most so many
 abbrev pub task : ℕ → Call → Slots → Slots

@@ -1,18 +1,17 @@
--- The slots of a realm: its records in tables by number, its promises and jobs, and what the host hears of.
-use Rattle.std.specs.Prelude.{ℕ, Bool, true, false, if◌then◌else◌, List, [], ◌∷◌, ◌++◌, length, map, Option, Some, None, slice_get, slice_set}
+-- The slots of a realm: its records in tables by number, and its promises with their jobs and what the host hears of.
+use Rattle.std.specs.Prelude.{ℕ, Bool, true, false, if◌then◌else◌, List, [], Option, Some, None, slice_get, slice_set}
 use Rattle.ws_value.specs.declared.ids.HostId.{HostId}
 use Rattle.ws_value.specs.declared.ids.LockId.{LockId}
 use Rattle.ws_value.specs.declared.ids.PromiseId.{PromiseId}
 use Rattle.ws_value.specs.declared.ids.StreamId.{StreamId}
-use Rattle.ws_value.specs.declared.value.Plain.{Plain}
-use Rattle.ws_steps.specs.declared.calls.Event.{Event}
-use Rattle.ws_steps.specs.declared.calls.Event.TheVariants.{Host, Settled, Signal}
-use Rattle.ws_steps.specs.declared.calls.HostCall.{HostCall}
 use Rattle.ws_steps.specs.declared.effects.Effect.{Effect}
+use Rattle.ws_steps.specs.declared.effects.Owner.{Owner}
+use Rattle.ws_steps.specs.declared.effects.Owner.TheVariants.{Host}
 use Rattle.ws_steps.specs.declared.locks.Lock.{Lock}
 use Rattle.ws_steps.specs.declared.readable.ReadableState.TheVariants.{Closed as ReadableClosed}
+use Rattle.ws_steps.specs.declared.readable.SizeBy.TheVariants.{Count}
 use Rattle.ws_steps.specs.declared.writable.WritableState.TheVariants.{Closed as WritableClosed}
-use Rattle.ws_steps.specs.Promises.{Table, no_promises, next_id, fresh, all_told}
+use Rattle.ws_steps.specs.Promises.{Table, no_promises}
 use Rattle.ws_steps.specs.Effects.{Out}
 use Rattle.ws_steps.specs.Readable as readable
 use Rattle.ws_steps.specs.Writable as writable
@@ -28,21 +27,19 @@ pub record Slots : Type 0 where
   pub promises : Table
   -- the promise of each call of a host's algorithm, until the host settles it
   pub hosts : List (Option PromiseId)
-  -- what the host hasn't heard of yet, in the order in which it happened
-  pub events : List Event
   -- the calls and jobs that were performed
   pub age : ℕ
 
 -- a new realm
 abbrev pub empty : Slots
-empty = record { streams = []; locks = []; promises = no_promises; hosts = []; events = []; age = 0 }
+empty = record { streams = []; locks = []; promises = no_promises; hosts = []; age = 0 }
 
 -- what stands where there is no such stream: one that takes nothing, gives nothing, and has no writer
 abbrev pub no_readable : readable.Slots
-no_readable = record readable.initialized { state = ReadableClosed; reader = Some (record { 0 = 0 }); close_requested = true }
+no_readable = record (readable.set_up Host 0 Count) { state = ReadableClosed; reader = Some (record { 0 = 0 }); close_requested = true }
 
 abbrev pub no_writable : writable.Slots
-no_writable = record writable.initialized { state = WritableClosed }
+no_writable = record (writable.set_up Host 0 Count) { state = WritableClosed }
 
 abbrev pub is_readable_stream : Option Stream → Bool
 is_readable_stream None = false
@@ -88,9 +85,14 @@ pending_host (Some waiting) = waiting
 abbrev pub host_at : HostId → Slots → Option PromiseId
 host_at h s = pending_host (slice_get s.hosts h.0)
 
--- the settlings of watched promises are told to the host
-abbrev pub told : Slots → Slots
-told s = record s { promises = all_told s.promises; events = s.events ++ map Settled s.promises.settlements }
+-- whose algorithms the stream of this number performs
+abbrev pub owner_of : Option Stream → Owner
+owner_of None = Host
+owner_of (Some (ReadableStream r)) = r.owner
+owner_of (Some (WritableStream w)) = w.owner
+
+abbrev pub owner_at : StreamId → Slots → Owner
+owner_at i s = owner_of (slice_get s.streams i.0)
 
 -- what an operation leaves, and the effects that it caused
 pub record Done : Type 0 where
@@ -100,10 +102,18 @@ pub record Done : Type 0 where
 abbrev pub nothing : Slots → Done
 nothing s = record { slots = s; caused = [] }
 
+-- these effects are caused, and nothing is changed
+abbrev pub causes : List Effect → Slots → Done
+causes effects s = record { slots = s; caused = effects }
+
+-- only the promises are changed
+abbrev pub with_promises : Table → Slots → Slots
+with_promises t s = record s { promises = t }
+
 -- an operation leaves a stream so, and this outside it
 abbrev pub put_stream : StreamId → Slots → Stream → Out → Done
 put_stream i s stream out =
-    record { slots = told (record s { streams = slice_set s.streams i.0 stream; promises = out.promises }); caused = out.effects }
+    record { slots = record s { streams = slice_set s.streams i.0 stream; promises = out.promises }; caused = out.effects }
 
 -- what an operation finds outside its stream
 abbrev pub found : Slots → Out
@@ -124,21 +134,3 @@ put_writable i s a = put_stream i s (WritableStream a.slots) a.out
 abbrev pub on_writable : (writable.Acts → writable.Acts) → StreamId → Slots → Done
 on_writable operation i s =
     if has_writable i s then put_writable i s (operation (record { slots = writable_at i s; out = found s })) else nothing s
-
--- the first abort of a writable stream is signalled to its sink
-abbrev pub signalled : StreamId → Plain → Slots → Slots
-signalled i reason s =
-    if writable.is_first_abort (writable_at i s) then record s { events = s.events ++ Signal i reason ∷ [] } else s
-
--- WritableStreamAbort: the sink hears of it before what the abort settles
-abbrev pub abort_stream : Plain → StreamId → Slots → Done
-abort_stream reason i s = on_writable (writable.stream_abort i reason) i (signalled i reason s)
-
--- a call of a host's algorithm: a new promise with a new number, which the host hears of
-unfoldable pub call_host : HostCall → Slots → Slots
-call_host call s =
-    record s {
-      promises = fresh s.promises;
-      hosts = s.hosts ++ Some (next_id s.promises) ∷ [];
-      events = s.events ++ Host (record { 0 = length s.hosts }) call ∷ [];
-    }

@@ -1,45 +1,96 @@
--- Effects are performed one after another: the first, then those that it caused, then the others.
-use Rattle.std.specs.Prelude.{◌≡◌, ℕ, zero, suc, ◌+◌, List, [], ◌∷◌, ◌++◌, Some, None, Ok}
-use Rattle.ws_value.specs.declared.value.Plain.TheVariants.{Undefined}
+-- The row of each effect: what it does, and what it causes. Effects are performed one after another: the first, then those that it
+-- caused, then the others.
+use Rattle.std.specs.Prelude.{ℕ, zero, suc, ◌≡◌, List, [], ◌∷◌, ◌++◌, length, Some, None, Ok, Err}
+use Rattle.ws_value.specs.declared.ids.PromiseId.{PromiseId}
 use Rattle.ws_value.specs.declared.ids.StreamId.{StreamId}
-use Rattle.ws_steps.specs.declared.calls.HostCall.TheVariants.{Start as HostStart, Pull as HostPull, Cancel as HostCancel, Write as HostWrite, Close as HostClose, Abort as HostAbort}
+use Rattle.ws_value.specs.declared.value.Outcome.TheVariants.{Given, Finished}
+use Rattle.ws_value.specs.declared.value.Plain.{Plain}
+use Rattle.ws_value.specs.declared.value.Plain.TheVariants.{Undefined}
+use Rattle.ws_value.specs.declared.value.Value.{Value}
+use Rattle.ws_value.specs.declared.value.Value.TheVariants.{Plain as PlainValue}
+use Rattle.ws_steps.specs.declared.calls.Event.TheVariants.{Host as HostCalled}
+use Rattle.ws_steps.specs.declared.calls.HostCall.{HostCall}
+use Rattle.ws_steps.specs.declared.calls.HostCall.TheVariants.{Start as HostStart, Pull as HostPull, Cancel as HostCancel, Close as HostClose, Abort as HostAbort}
 use Rattle.ws_steps.specs.declared.calls.StartBy.{StartBy}
 use Rattle.ws_steps.specs.declared.calls.StartBy.TheVariants.{Now, Later}
 use Rattle.ws_steps.specs.declared.effects.Effect.{Effect}
-use Rattle.ws_steps.specs.declared.effects.Effect.TheVariants.{Start, Pull, Cancel, StartWritable, Write, Close, Abort}
-use Rattle.ws_steps.specs.declared.promises.Reaction.{Reaction}
-use Rattle.ws_steps.specs.declared.promises.Reaction.TheVariants.{Perform}
+use Rattle.ws_steps.specs.declared.effects.Effect.TheVariants.{Readable, Writable, StartAlgorithm, PullAlgorithm, CancelAlgorithm, WriteAlgorithm, CloseAlgorithm, AbortAlgorithm, ChunkSteps, CloseSteps, ErrorSteps, Give, Settle, CallHost}
+use Rattle.ws_steps.specs.declared.effects.Gift.TheVariants.{This, Fresh}
+use Rattle.ws_steps.specs.declared.effects.Owner.{Owner}
+use Rattle.ws_steps.specs.declared.effects.Owner.TheVariants.{Host}
+use Rattle.ws_steps.specs.declared.effects.Use.{Use}
+use Rattle.ws_steps.specs.declared.effects.Use.TheVariants.{React, Resolve}
 use Rattle.ws_steps.specs.declared.promises.Step.{Step}
-use Rattle.ws_steps.specs.declared.promises.Step.TheVariants.{ReadableStart, ReadablePull, ReturnUndefined, WritableStart, WritableWrite, WritableClose, WritableAbort}
-use Rattle.ws_steps.specs.Promises.{Table, next_id, fresh, settle, react, follow}
-use Rattle.ws_steps.specs.Slots.{Slots, Done, nothing, call_host}
+use Rattle.ws_steps.specs.declared.promises.Step.TheVariants.{ReadablePull, ReturnUndefined, WritableClose, WritableAbort}
+use Rattle.ws_steps.specs.declared.readable.ReadRequest.{ReadRequest}
+use Rattle.ws_steps.specs.declared.readable.ReadRequest.TheVariants.{Promise}
+use Rattle.ws_steps.specs.declared.writable.WritableOperation.TheVariants.{HandOn}
+use Rattle.ws_steps.specs.Promises.{next_id, fresh, settle, answer, tell, use_this, use_gift}
+use Rattle.ws_steps.specs.Operations.{readable_operation, writable_operation}
+use Rattle.ws_steps.specs.Places.{measure}
+use Rattle.ws_steps.specs.Slots.{Slots, Done, nothing, causes, with_promises, owner_at, on_readable, on_writable}
 
--- a reaction to the promise that a host's algorithm gave, of which `before` is the table without it
-abbrev pub reacting : Reaction → Table → Slots → Slots
-reacting r before s = record s { promises = react (next_id before) r s.promises }
+-- the algorithms of a stream, by whose they are, and what is done with the promise that they give
 
--- the start algorithm's result is undefined at once, or the host's promise; the start promise is resolved with it, and the
--- controller's step reacts to that
-abbrev pub started : StreamId → Step → StartBy → Slots → Slots
-started i step Now s =
-    let p = next_id s.promises in
-    record s { promises = react p (Perform step None) (settle p (Ok Undefined) (fresh s.promises)) }
-started i step Later s =
-    let z = call_host (HostStart i) s in
-    let p = next_id z.promises in
-    record z { promises = react p (Perform step None) (follow p (next_id s.promises) (fresh z.promises)) }
+-- the start algorithm's result is undefined, or the host's promise. The start promise is resolved with it, and the step reacts to that
+abbrev pub start_algorithm : StreamId → Step → Slots → StartBy → Done
+start_algorithm i step s Now = causes (Give (Fresh (Ok Undefined)) (React step None) ∷ []) s
+start_algorithm i step s Later =
+    let p : PromiseId = next_id s.promises in
+    causes (CallHost (HostStart i) (Resolve p) ∷ Give (This p) (React step None) ∷ []) (with_promises (fresh s.promises) s)
+
+abbrev pub pull_algorithm : StreamId → Use → Owner → List Effect
+pull_algorithm i u Host = CallHost (HostPull i) u ∷ []
+
+abbrev pub cancel_algorithm : StreamId → Plain → Use → Owner → List Effect
+cancel_algorithm i r u Host = CallHost (HostCancel i r) u ∷ []
+
+-- the chunk at the front of the queue is handed on
+abbrev pub write_algorithm : StreamId → Owner → List Effect
+write_algorithm i Host = Writable i HandOn ∷ []
+
+abbrev pub close_algorithm : StreamId → Use → Owner → List Effect
+close_algorithm i u Host = CallHost (HostClose i) u ∷ []
+
+abbrev pub abort_algorithm : StreamId → Plain → Use → Owner → List Effect
+abort_algorithm i r u Host = CallHost (HostAbort i r) u ∷ []
+
+-- the steps of a read request, by whom it answers
+
+abbrev pub chunk_steps : Value → Slots → ReadRequest → Done
+chunk_steps v s (Promise p) = nothing (with_promises (answer p (Given v) s.promises) s)
+
+abbrev pub close_steps : Slots → ReadRequest → Done
+close_steps s (Promise p) = nothing (with_promises (answer p (Finished (PlainValue Undefined)) s.promises) s)
+
+abbrev pub error_steps : Plain → Slots → ReadRequest → Done
+error_steps e s (Promise p) = nothing (with_promises (settle p (Err e) s.promises) s)
+
+-- a call of a host's algorithm: a new promise with a new number, which the host hears of, and what is done with the promise
+unfoldable pub call_host : HostCall → Use → Slots → Slots
+call_host call u s =
+    let p : PromiseId = next_id s.promises in
+    record s {
+      promises = use_this p (tell (HostCalled (record { 0 = length s.hosts }) call) (fresh s.promises)) u;
+      hosts = s.hosts ++ Some p ∷ [];
+    }
 
 -- what an effect does, and what it causes
 unfoldable pub row : Effect → Slots → Done
-row (Start i start) s = nothing (started i (ReadableStart i) start s)
-row (Pull i) s = nothing (reacting (Perform (ReadablePull i) None) s.promises (call_host (HostPull i) s))
-row (Cancel i reason p) s =
-    nothing (reacting (Perform ReturnUndefined (Some p)) s.promises (call_host (HostCancel i reason) s))
-row (StartWritable i start) s = nothing (started i (WritableStart i) start s)
-row (Write i v) s = nothing (reacting (Perform (WritableWrite i) None) s.promises (call_host (HostWrite i v) s))
-row (Close i) s = nothing (reacting (Perform (WritableClose i) None) s.promises (call_host (HostClose i) s))
-row (Abort i reason p) s =
-    nothing (reacting (Perform (WritableAbort i p) None) s.promises (call_host (HostAbort i reason) s))
+row (Readable i operation) s = on_readable (readable_operation i operation) i s
+row (Writable i operation) s = on_writable (writable_operation i operation) i s
+row (StartAlgorithm i step start) s = start_algorithm i step s start
+row (PullAlgorithm i) s = causes (pull_algorithm i (React (ReadablePull i) None) (owner_at i s)) s
+row (CancelAlgorithm i r p) s = causes (cancel_algorithm i r (React ReturnUndefined (Some p)) (owner_at i s)) s
+row (WriteAlgorithm i) s = causes (write_algorithm i (owner_at i s)) s
+row (CloseAlgorithm i) s = causes (close_algorithm i (React (WritableClose i) None) (owner_at i s)) s
+row (AbortAlgorithm i r p) s = causes (abort_algorithm i r (React (WritableAbort i p) None) (owner_at i s)) s
+row (ChunkSteps i request v) s = chunk_steps v s request
+row (CloseSteps i request) s = close_steps s request
+row (ErrorSteps i request e) s = error_steps e s request
+row (Give gift u) s = nothing (with_promises (use_gift gift u s.promises) s)
+row (Settle p outcome) s = nothing (with_promises (settle p outcome s.promises) s)
+row (CallHost call u) s = nothing (call_host call u s)
 
 -- the slots, and the effects that are still to be performed
 pub record Agenda : Type 0 where
@@ -55,25 +106,30 @@ unfoldable pub turns : ℕ → Agenda → Agenda
 turns zero a = a
 turns (suc n) a = turns n (turn a.slots a.effects)
 
--- how many turns an effect takes, with those that it causes
-abbrev pub credit : Effect → ℕ
-credit (Start i start) = 1
-credit (Pull i) = 1
-credit (Cancel i reason p) = 1
-credit (StartWritable i start) = 1
-credit (Write i v) = 1
-credit (Close i) = 1
-credit (Abort i reason p) = 1
+-- the agenda after so many turns from what was caused
+abbrev pub after_turns : ℕ → Done → Agenda
+after_turns n d = turns n (record { slots = d.slots; effects = d.caused })
 
-abbrev pub credits : List Effect → ℕ
-credits [] = 0
-credits (e ∷ es) = credit e + credits es
-
--- the slots once all effects are performed
+-- the slots once all effects are performed, with those that they cause: as many turns as they may take
 unfoldable pub performed : Done → Slots
-performed d = (turns (credits d.caused) (record { slots = d.slots; effects = d.caused })).slots
+performed d = (after_turns (measure d.slots d.caused) d).slots
+
+-- an effect that is performed, and the slots as it finds them
+pub record Moment : Type 0 where
+  pub effect : Effect
+  pub found : Slots
+
+-- the effects that so many turns perform, in their order
+unfoldable pub moments_of : ℕ → Slots → List Effect → List Moment
+moments_of zero s es = []
+moments_of (suc n) s [] = []
+moments_of (suc n) s (e ∷ es) = record { effect = e; found = s } ∷ moments_of n (row e s).slots ((row e s).caused ++ es)
+
+-- the effects that are performed until none is left
+unfoldable pub moments : Done → List Moment
+moments d = moments_of (measure d.slots d.caused) d.slots d.caused
 
 -- some number of turns leads to the slots z with nothing left to perform
 pub record LeadsTo (d : Done) (z : Slots) : Type 0 where
   pub count : ℕ
-  pub ends : turns count (record { slots = d.slots; effects = d.caused }) ≡ record { slots = z; effects = [] }
+  pub ends : after_turns count d ≡ record { slots = z; effects = [] }

@@ -1,30 +1,35 @@
 -- The abstract operations of a writable stream with a default controller and a default writer. Each is a function of the
--- stream's slots and of what it leaves outside them. `me` is the stream's own number, by which an effect names it.
+-- stream's slots and of what it leaves outside them: the promises, and the effects that it causes, in order. `me` is the stream's
+-- own number, by which an effect names it.
 use Rattle.std.specs.Prelude.{ℕ, Bool, true, false, not, ◌&&◌, ◌||◌, nat_le, is_some, is_none, if◌then◌else◌, List, [], ◌∷◌, ◌++◌, Option, Some, None, Result, Ok, Err}
 use Rattle.ws_value.specs.declared.ids.PromiseId.{PromiseId}
 use Rattle.ws_value.specs.declared.ids.StreamId.{StreamId}
 use Rattle.ws_value.specs.declared.value.Plain.{Plain}
 use Rattle.ws_value.specs.declared.value.Plain.TheVariants.{Undefined}
 use Rattle.ws_value.specs.declared.value.Value.{Value}
-use Rattle.ws_steps.specs.declared.calls.StartBy.{StartBy}
 use Rattle.ws_steps.specs.declared.effects.Effect.{Effect}
-use Rattle.ws_steps.specs.declared.effects.Effect.TheVariants.{StartWritable, Write, Close, Abort}
+use Rattle.ws_steps.specs.declared.calls.Event.TheVariants.{Signal}
+use Rattle.ws_steps.specs.declared.calls.HostCall.TheVariants.{Write as HostWrite}
+use Rattle.ws_steps.specs.declared.effects.Effect.TheVariants.{WriteAlgorithm, CloseAlgorithm, AbortAlgorithm, CallHost}
+use Rattle.ws_steps.specs.declared.effects.Owner.{Owner}
+use Rattle.ws_steps.specs.declared.effects.Owner.TheVariants.{Host}
+use Rattle.ws_steps.specs.declared.effects.Use.TheVariants.{React}
+use Rattle.ws_steps.specs.declared.promises.Step.TheVariants.{WritableWrite}
 use Rattle.ws_steps.specs.declared.queue.Queued.{Queued}
 use Rattle.ws_steps.specs.declared.readable.SizeBy.{SizeBy}
-use Rattle.ws_steps.specs.declared.readable.SizeBy.TheVariants.{Count}
 use Rattle.ws_steps.specs.declared.writable.PendingAbort.{PendingAbort}
 use Rattle.ws_steps.specs.declared.writable.WritableState.{WritableState}
 use Rattle.ws_steps.specs.declared.writable.WritableState.TheVariants.{Writable, Erroring, Errored, Closed}
 use Rattle.ws_steps.specs.declared.writable.WriteRecord.{WriteRecord}
 use Rattle.ws_steps.specs.declared.writable.WriteRecord.TheVariants.{Chunk, InFlight, CloseMark}
 use Rattle.ws_steps.specs.declared.writable.Writer.{Writer}
-use Rattle.ws_steps.specs.Promises.{Table, is_pending_at, settle, fresh, fresh_settled, next_id}
+use Rattle.ws_steps.specs.Promises.{Table, is_pending_at, settle, fresh, fresh_settled, next_id, tell}
 use Rattle.ws_steps.specs.Queues.{total_of, enqueued, rest_of, first_value, with_first_value, size_of}
-use Rattle.ws_steps.specs.Effects.{Out, cause}
-use Rattle.ws_steps.specs.Readable.{type_error}
+use Rattle.ws_steps.specs.Effects.{Out, cause, type_error}
 
--- the slots of the stream, of its controller, and of the writer that locks it
+-- the slots of the stream, of its controller, and of the writer that locks it; and whose algorithms it performs
 pub record Slots : Type 0 where
+  pub owner : Owner
   pub state : WritableState
   pub stored_error : Plain
   -- the promises of the writer, where there is one
@@ -36,7 +41,7 @@ pub record Slots : Type 0 where
   pub close_request : Option PromiseId
   pub close_in_flight : Option PromiseId
   pub pending_abort : Option PendingAbort
-  -- a chunk whose write is in flight has left its place, with its size, at the front
+  -- a chunk that was handed on has left its place, with its size, at the front until its write ends
   pub queue : List (Queued WriteRecord)
   pub high_water_mark : ℕ
   pub size_by : SizeBy
@@ -54,22 +59,24 @@ with_promises t a = record a { out = record a.out { promises = t } }
 abbrev pub causing : Effect → Acts → Acts
 causing effect a = record a { out = cause effect a.out }
 
--- InitializeWritableStream; the controller is still to be set up
-abbrev pub initialized : Slots
-initialized =
+-- InitializeWritableStream, and SetUpWritableStreamDefaultController: the controller's slots as given, the queue empty, and the
+-- backpressure as it is then. The start algorithm is performed once the stream is made
+abbrev pub set_up : Owner → ℕ → SizeBy → Slots
+set_up owner mark size =
     record {
+      owner = owner;
       state = Writable;
       stored_error = Undefined;
       writer = None;
-      backpressure = false;
+      backpressure = nat_le mark 0;
       write_requests = [];
       write_in_flight = None;
       close_request = None;
       close_in_flight = None;
       pending_abort = None;
       queue = [];
-      high_water_mark = 0;
-      size_by = Count;
+      high_water_mark = mark;
+      size_by = size;
       started = false;
     }
 
@@ -128,6 +135,10 @@ ensure_rejected p r t = if is_pending_at p t then settle p (Err r) t else fresh_
 abbrev pub rejected_promise : PromiseId → Table → PromiseId
 rejected_promise p t = if is_pending_at p t then p else next_id t
 
+-- a promise is settled where it is pending
+unfoldable pub settle_pending : PromiseId → Result Plain Plain → Table → Table
+settle_pending p outcome t = if is_pending_at p t then settle p outcome t else t
+
 -- backpressure
 
 abbrev pub differs : Bool → Bool → Bool
@@ -157,13 +168,6 @@ unfoldable pub refresh_backpressure : Acts → Acts
 refresh_backpressure a =
     if not (is_closing a.slots) && is_writable a.slots.state then update_backpressure (has_backpressure a.slots) a else a
 
--- SetUpWritableStreamDefaultController: the slots as given, the queue empty. Update the backpressure. Perform the start
--- algorithm; the effect has the controller react to it
-unfoldable pub set_up : StreamId → StartBy → ℕ → SizeBy → Acts → Acts
-set_up me start mark size a =
-    let b : Acts = record a { slots = record a.slots { queue = []; high_water_mark = mark; size_by = size; started = false } } in
-    causing (StartWritable me start) (update_backpressure (has_backpressure b.slots) b)
-
 -- erroring
 
 abbrev pub reject_close : Acts → Option PromiseId → Acts
@@ -174,7 +178,7 @@ reject_close a (Some p) =
 abbrev pub reject_closed : Acts → Option Writer → Acts
 reject_closed a None = a
 reject_closed a (Some w) =
-    if is_pending_at w.closed a.out.promises then with_promises (settle w.closed (Err a.slots.stored_error) a.out.promises) a else a
+    with_promises (settle_pending w.closed (Err a.slots.stored_error) a.out.promises) a
 
 -- WritableStreamRejectCloseAndClosedPromiseIfNeeded: where there is a close request, reject it with the stored error and clear
 -- it. Where there is a writer whose closed promise is pending, reject that promise with the stored error
@@ -184,7 +188,7 @@ reject_close_and_closed a = let b : Acts = reject_close a a.slots.close_request 
 abbrev pub abort_by : StreamId → PendingAbort → Acts → Bool → Acts
 abort_by me abort a true =
     reject_close_and_closed (with_promises (settle abort.promise (Err a.slots.stored_error) a.out.promises) a)
-abort_by me abort a false = causing (Abort me abort.reason abort.promise) a
+abort_by me abort a false = causing (AbortAlgorithm me abort.reason abort.promise) a
 
 abbrev pub finish_abort : StreamId → Acts → Option PendingAbort → Acts
 finish_abort me a None = reject_close_and_closed a
@@ -198,8 +202,7 @@ fail_writes a =
 
 -- WritableStreamFinishErroring: the stream is errored. Reset the queue. Reject the write requests with the stored error, in
 -- order. Where an abort is pending, take it: where it was already erroring, reject its promise with the stored error; else
--- perform the abort algorithm with its reason, and the effect has the stream react to it. In all other cases reject the close
--- request and the closed promise
+-- perform the abort algorithm with its reason. Where it isn't performed, reject the close request and the closed promise
 unfoldable pub finish_erroring : StreamId → Acts → Acts
 finish_erroring me a = let b : Acts = fail_writes a in finish_abort me b b.slots.pending_abort
 
@@ -235,29 +238,28 @@ later_requests [] = []
 later_requests (p ∷ ps) = ps
 
 -- WritableStreamDefaultControllerProcessWrite: the first write request becomes the write in flight. Perform the write
--- algorithm with the chunk, whose size stays in the queue; the effect has the controller react to it
-unfoldable pub process_write : StreamId → Value → Acts → Acts
-process_write me v a =
-    causing (Write me v)
+-- algorithm with the chunk, which stays at the front of the queue until it is handed on
+unfoldable pub process_write : StreamId → Acts → Acts
+process_write me a =
+    causing (WriteAlgorithm me)
     (record a {
       slots = record a.slots {
         write_in_flight = first_request a.slots.write_requests;
         write_requests = later_requests a.slots.write_requests;
-        queue = with_first_value InFlight a.slots.queue;
       };
     })
 
 -- WritableStreamDefaultControllerProcessClose: the close request becomes the close in flight, and its mark leaves the queue.
--- Perform the close algorithm; the effect has the controller react to it
+-- Perform the close algorithm
 unfoldable pub process_close : StreamId → Acts → Acts
 process_close me a =
-    causing (Close me)
+    causing (CloseAlgorithm me)
     (record a { slots = record a.slots { close_in_flight = a.slots.close_request; close_request = None; queue = rest_of a.slots.queue } })
 
 abbrev pub process_first : StreamId → Acts → Option WriteRecord → Acts
 process_first me a None = a
 process_first me a (Some CloseMark) = process_close me a
-process_first me a (Some (Chunk v)) = process_write me v a
+process_first me a (Some (Chunk v)) = process_write me a
 process_first me a (Some InFlight) = a
 
 -- WritableStreamDefaultControllerAdvanceQueueIfNeeded: nothing where the controller hasn't started, or a write is in flight.
@@ -267,6 +269,21 @@ advance_queue me a =
     if a.slots.started && is_none a.slots.write_in_flight
     then (if is_erroring a.slots.state then finish_erroring me a else process_first me a (first_value a.slots.queue))
     else a
+
+-- the host's write algorithm is called with a chunk
+abbrev pub write_to_host : StreamId → Value → Effect
+write_to_host me v = CallHost (HostWrite me v) (React (WritableWrite me) None)
+
+abbrev pub hand_on_first : StreamId → Acts → Option WriteRecord → Acts
+hand_on_first me a None = a
+hand_on_first me a (Some CloseMark) = a
+hand_on_first me a (Some InFlight) = a
+hand_on_first me a (Some (Chunk v)) =
+    causing (write_to_host me v) (record a { slots = record a.slots { queue = with_first_value InFlight a.slots.queue } })
+
+-- the chunk of the write in flight is handed on; its place, with its size, stays at the front of the queue
+unfoldable pub hand_on : StreamId → Acts → Acts
+hand_on me a = hand_on_first me a (first_value a.slots.queue)
 
 -- the reactions to the sink's algorithms
 
@@ -348,11 +365,9 @@ enqueue_chunk v a = record a { slots = record a.slots { queue = enqueued (Chunk 
 unfoldable pub controller_write : StreamId → Value → Acts → Acts
 controller_write me v a = advance_queue me (refresh_backpressure (enqueue_chunk v a))
 
--- WritableStreamAddWriteRequest, of a new promise
-abbrev pub add_write_request : Acts → Acts
-add_write_request a =
-    with_promises (fresh a.out.promises)
-    (record a { slots = record a.slots { write_requests = a.slots.write_requests ++ next_id a.out.promises ∷ [] } })
+-- WritableStreamAddWriteRequest
+abbrev pub add_write_request : PromiseId → Acts → Acts
+add_write_request p a = record a { slots = record a.slots { write_requests = a.slots.write_requests ++ p ∷ [] } }
 
 -- with what a write is rejected at once
 abbrev pub write_refusal : Slots → Option Plain
@@ -362,23 +377,22 @@ write_refusal s =
     else if is_erroring s.state then Some s.stored_error
     else None
 
-abbrev pub write_by : StreamId → Value → Acts → Option Plain → Acts
-write_by me v a (Some e) = with_promises (fresh_settled (Err e) a.out.promises) a
-write_by me v a None = controller_write me v (add_write_request a)
+abbrev pub write_by : StreamId → Value → PromiseId → Acts → Option Plain → Acts
+write_by me v p a (Some e) = with_promises (settle p (Err e) a.out.promises) a
+write_by me v p a None = controller_write me v (add_write_request p a)
 
--- WritableStreamDefaultWriterWrite, where the writer has the stream. The promise that is answered is new: where the stream is
--- errored, rejected with the stored error; where it is closing or closed, rejected with a TypeError; where it is erroring,
--- rejected with the stored error; else it is a write request, and the controller writes
-unfoldable pub writer_write : StreamId → Value → Acts → Acts
-writer_write me v a = write_by me v a (write_refusal a.slots)
+-- WritableStreamDefaultWriterWrite, where the writer has the stream. The promise that is answered, which is new, is rejected with
+-- the stored error where the stream is errored, with a TypeError where it is closing or closed, and with the stored error where it
+-- is erroring; else it is a write request, and the controller writes
+unfoldable pub writer_write : StreamId → Value → PromiseId → Acts → Acts
+writer_write me v p a = write_by me v p a (write_refusal a.slots)
 
 -- WritableStreamDefaultControllerClose: the close mark goes to the end of the queue, with size 0. Advance the queue
 unfoldable pub controller_close : StreamId → Acts → Acts
 controller_close me a = advance_queue me (record a { slots = record a.slots { queue = enqueued CloseMark 0 a.slots.queue } })
 
-abbrev pub add_close_request : Acts → Acts
-add_close_request a =
-    with_promises (fresh a.out.promises) (record a { slots = record a.slots { close_request = Some (next_id a.out.promises) } })
+abbrev pub add_close_request : PromiseId → Acts → Acts
+add_close_request p a = record a { slots = record a.slots { close_request = Some p } }
 
 abbrev pub fulfil_ready : Acts → Option Writer → Acts
 fulfil_ready a None = a
@@ -391,99 +405,86 @@ has_ended Erroring = false
 has_ended Errored = true
 has_ended Closed = true
 
--- WritableStreamClose. The promise that is answered is new: rejected with a TypeError where the stream is closed or errored;
--- else it is the close request. Where there is a writer, backpressure, and the stream is writable, fulfil its ready promise.
--- The controller closes
-unfoldable pub stream_close : StreamId → Acts → Acts
-stream_close me a =
+-- WritableStreamClose. The promise that is answered, which is new, is rejected with a TypeError where the stream is closed or
+-- errored; else it is the close request. Where there is a writer, backpressure, and the stream is writable, fulfil its ready
+-- promise. The controller closes
+unfoldable pub stream_close : StreamId → PromiseId → Acts → Acts
+stream_close me p a =
     if has_ended a.slots.state
-    then with_promises (fresh_settled (Err type_error) a.out.promises) a
-    else let b : Acts = add_close_request a in controller_close me (fulfil_ready b b.slots.writer)
+    then with_promises (settle p (Err type_error) a.out.promises) a
+    else let b : Acts = add_close_request p a in controller_close me (fulfil_ready b b.slots.writer)
 
 -- WritableStreamDefaultWriterCloseWithErrorPropagation: where the stream is closing or closed, a promise resolved with
 -- undefined; where it is errored, a promise rejected with the stored error; else close it
-unfoldable pub close_with_error_propagation : StreamId → Acts → Acts
-close_with_error_propagation me a =
-    if is_closing a.slots || is_closed a.slots.state then with_promises (fresh_settled (Ok Undefined) a.out.promises) a
-    else if is_errored a.slots.state then with_promises (fresh_settled (Err a.slots.stored_error) a.out.promises) a
-    else stream_close me a
+unfoldable pub close_with_error_propagation : StreamId → PromiseId → Acts → Acts
+close_with_error_propagation me p a =
+    if is_closing a.slots || is_closed a.slots.state then with_promises (settle p (Ok Undefined) a.out.promises) a
+    else if is_errored a.slots.state then with_promises (settle p (Err a.slots.stored_error) a.out.promises) a
+    else stream_close me p a
 
 -- an abort that is pending: where the stream is erroring already, its reason is undefined
 abbrev pub abort_of : PromiseId → Plain → Bool → PendingAbort
 abort_of p r true = record { promise = p; reason = Undefined; was_already_erroring = true }
 abort_of p r false = record { promise = p; reason = r; was_already_erroring = false }
 
-unfoldable pub add_pending_abort : Plain → Acts → Acts
-add_pending_abort r a =
-    with_promises (fresh a.out.promises)
-    (record a {
-      slots = record a.slots { pending_abort = Some (abort_of (next_id a.out.promises) r (is_erroring a.slots.state)) };
-    })
+abbrev pub add_pending_abort : Plain → PromiseId → Acts → Acts
+add_pending_abort r p a = record a { slots = record a.slots { pending_abort = Some (abort_of p r (is_erroring a.slots.state)) } }
 
-abbrev pub begin_abort : StreamId → Plain → Acts → Acts
-begin_abort me r a =
-    if is_erroring a.slots.state then add_pending_abort r a else start_erroring me r (add_pending_abort r a)
+abbrev pub begin_abort : StreamId → Plain → PromiseId → Acts → Acts
+begin_abort me r p a =
+    if is_erroring a.slots.state then add_pending_abort r p a else start_erroring me r (add_pending_abort r p a)
 
-abbrev pub abort_once : StreamId → Plain → Acts → Option PendingAbort → Acts
-abort_once me r a None = begin_abort me r a
-abort_once me r a (Some abort) = a
+-- the host's sink hears of its first abort by a signal
+abbrev pub signalled : StreamId → Plain → Acts → Owner → Acts
+signalled me r a Host = with_promises (tell (Signal me r) a.out.promises) a
 
--- WritableStreamAbort: where the stream is closed or errored, a promise resolved with undefined; where an abort is pending, its
--- promise; else a new promise with the reason is the pending abort, and where the stream isn't erroring, it starts to
-unfoldable pub stream_abort : StreamId → Plain → Acts → Acts
-stream_abort me r a =
+-- WritableStreamAbort, where no abort is pending: where the stream is closed or errored, the promise is resolved with undefined. Else
+-- the sink hears of it before what the abort settles. The promise, which is new, with the reason is the pending abort, and where the
+-- stream isn't erroring, it starts to
+unfoldable pub stream_abort : StreamId → Plain → PromiseId → Acts → Acts
+stream_abort me r p a =
     if has_ended a.slots.state
-    then with_promises (fresh_settled (Ok Undefined) a.out.promises) a
-    else abort_once me r a a.slots.pending_abort
+    then with_promises (settle p (Ok Undefined) a.out.promises) a
+    else begin_abort me r p (signalled me r a a.slots.owner)
 
-abbrev pub pending_promise : Table → Option PendingAbort → PromiseId
-pending_promise t None = next_id t
-pending_promise t (Some abort) = abort.promise
+abbrev pub promise_of : Option PendingAbort → Option PromiseId
+promise_of None = None
+promise_of (Some abort) = Some abort.promise
 
--- the promise that WritableStreamAbort answers
-abbrev pub abort_promise : Table → Slots → PromiseId
-abort_promise t s = if has_ended s.state then next_id t else pending_promise t s.pending_abort
-
--- whether an abort would be the first of the stream, of which its sink hears by a signal
-abbrev pub is_first_abort : Slots → Bool
-is_first_abort s = not (has_ended s.state) && is_none s.pending_abort
+-- the promise that an abort answers that came before, where one is pending
+abbrev pub answered_abort : Slots → Option PromiseId
+answered_abort s = if has_ended s.state then None else promise_of s.pending_abort
 
 -- writers
 
-abbrev pub ready_promise : Slots → Table → WritableState → Table
-ready_promise s t Writable = if not (is_closing s) && s.backpressure then fresh t else fresh_settled (Ok Undefined) t
-ready_promise s t Erroring = fresh_settled (Err s.stored_error) t
-ready_promise s t Closed = fresh_settled (Ok Undefined) t
-ready_promise s t Errored = fresh_settled (Err s.stored_error) t
+abbrev pub ready_promise : PromiseId → Slots → Table → WritableState → Table
+ready_promise p s t Writable = if not (is_closing s) && s.backpressure then t else settle p (Ok Undefined) t
+ready_promise p s t Erroring = settle p (Err s.stored_error) t
+ready_promise p s t Closed = settle p (Ok Undefined) t
+ready_promise p s t Errored = settle p (Err s.stored_error) t
 
-abbrev pub closed_promise : Slots → Table → WritableState → Table
-closed_promise s t Writable = fresh t
-closed_promise s t Erroring = fresh t
-closed_promise s t Closed = fresh_settled (Ok Undefined) t
-closed_promise s t Errored = fresh_settled (Err s.stored_error) t
+abbrev pub closed_promise : PromiseId → Slots → Table → WritableState → Table
+closed_promise p s t Writable = t
+closed_promise p s t Erroring = t
+closed_promise p s t Closed = settle p (Ok Undefined) t
+closed_promise p s t Errored = settle p (Err s.stored_error) t
 
 -- SetUpWritableStreamDefaultWriter: the writer locks the stream. Its two promises are new. Where the stream is writable, ready
 -- is pending where it isn't closing and has backpressure, and else resolved with undefined, and closed is pending. Where it is
 -- erroring, ready is rejected with the stored error, and closed is pending. Where it is closed, both are resolved with
 -- undefined. Where it is errored, both are rejected with the stored error
-unfoldable pub set_up_writer : Acts → Acts
-set_up_writer a =
-    let t : Table = ready_promise a.slots a.out.promises a.slots.state in
-    with_promises (closed_promise a.slots t a.slots.state)
-    (record a { slots = record a.slots { writer = Some (record { ready = next_id a.out.promises; closed = next_id t }) } })
-
--- the promises of a writer from its release on
-abbrev pub released : Writer → Table → Writer
-released w t =
-    record { ready = rejected_promise w.ready t; closed = rejected_promise w.closed (ensure_rejected w.ready type_error t) }
+unfoldable pub set_up_writer : Writer → Acts → Acts
+set_up_writer w a =
+    with_promises (closed_promise w.closed a.slots (ready_promise w.ready a.slots a.out.promises a.slots.state) a.slots.state)
+    (record a { slots = record a.slots { writer = Some w } })
 
 abbrev pub release_by : Acts → Option Writer → Acts
 release_by a None = a
 release_by a (Some w) =
-    with_promises (ensure_rejected w.closed type_error (ensure_rejected w.ready type_error a.out.promises))
+    with_promises (settle_pending w.closed (Err type_error) (settle_pending w.ready (Err type_error) a.out.promises))
     (record a { slots = record a.slots { writer = None } })
 
--- WritableStreamDefaultWriterRelease: ensure that the ready promise and then the closed promise are rejected with a TypeError.
--- The stream is unlocked
+-- WritableStreamDefaultWriterRelease: the ready promise and then the closed promise are rejected with a TypeError where they are
+-- pending; where not, the writer gets new ones, which the call makes. The stream is unlocked
 unfoldable pub writer_release : Acts → Acts
 writer_release a = release_by a a.slots.writer

@@ -1,21 +1,61 @@
-use crate::StartBy;
+//! What stands on a realm's agenda.
+use crate::{HostCall, ReadRequest, ReadableOperation, StartBy, Step, WritableOperation};
 use ws_value::{Plain, PromiseId, StreamId, Value};
 
-/// What an operation on one record causes elsewhere, in the order in which it is to be performed.
+/// Whose algorithms a stream performs.
+#[derive(Clone, Copy, Debug, PartialEq, Eq)]
+pub enum Owner {
+    /// Those of the host's underlying source or sink.
+    Host,
+}
+
+/// The promise that an algorithm gives.
+#[derive(Clone, Copy, Debug, PartialEq, Eq)]
+pub enum Gift {
+    /// A promise that there is already.
+    This(PromiseId),
+    /// A new one, which is resolved with a value or rejected with a reason.
+    Fresh(Result<Plain, Plain>),
+}
+
+/// What is done with a promise that an algorithm gives.
+#[derive(Clone, Copy, Debug, PartialEq, Eq)]
+pub enum Use {
+    /// A step reacts to it. Where there is a derived promise, it is the result of the reaction.
+    React(Step, Option<PromiseId>),
+    /// Another promise is resolved with it.
+    Resolve(PromiseId),
+}
+
+/// What stands on the agenda. While a call or a job is performed nothing but an effect changes what a realm holds, apart from what the call makes and names, and the taking of the job.
 #[derive(Debug, Drop)]
 pub enum Effect {
-    /// Perform the start algorithm of a readable stream, and have its controller react to the result.
-    Start(StreamId, StartBy),
-    /// Perform the pull algorithm of a readable stream, and have its controller react to the result.
-    Pull(StreamId),
-    /// Perform the cancel algorithm of a readable stream with a reason. The promise is the result of reacting to it with steps that return undefined.
-    Cancel(StreamId, Plain, PromiseId),
-    /// Perform the start algorithm of a writable stream, and have its controller react to the result.
-    StartWritable(StreamId, StartBy),
-    /// Perform the write algorithm of a writable stream with a chunk, and have its controller react to the result.
-    Write(StreamId, Value),
-    /// Perform the close algorithm of a writable stream, and have its controller react to the result.
-    Close(StreamId),
-    /// Perform the abort algorithm of a writable stream with a reason, and have the stream react to the result. The promise is that of the abort.
-    Abort(StreamId, Plain, PromiseId),
+    /// An operation of a readable stream.
+    Readable(StreamId, ReadableOperation),
+    /// An operation of a writable stream.
+    Writable(StreamId, WritableOperation),
+    /// The start algorithm of a stream is performed, and the step reacts to its result.
+    StartAlgorithm(StreamId, Step, StartBy),
+    /// The pull algorithm of a readable stream is performed, and its controller reacts to the promise.
+    PullAlgorithm(StreamId),
+    /// The cancel algorithm of a readable stream is performed with a reason. The promise is the result of reacting to it with steps that return undefined.
+    CancelAlgorithm(StreamId, Plain, PromiseId),
+    /// The write algorithm of a writable stream is performed with the chunk at the front of its queue, and its controller reacts to the promise.
+    WriteAlgorithm(StreamId),
+    /// The close algorithm of a writable stream is performed, and its controller reacts to the promise.
+    CloseAlgorithm(StreamId),
+    /// The abort algorithm of a writable stream is performed with a reason, and the stream reacts to it. The promise is that of the abort.
+    AbortAlgorithm(StreamId, Plain, PromiseId),
+    /// The chunk steps of a read request of a stream are performed with a chunk.
+    ChunkSteps(StreamId, ReadRequest, Value),
+    /// The close steps of a read request of a stream are performed.
+    CloseSteps(StreamId, ReadRequest),
+    /// The error steps of a read request of a stream are performed with a reason.
+    ErrorSteps(StreamId, ReadRequest, Plain),
+    /// A promise that an algorithm gives is used.
+    Give(Gift, Use),
+    /// A promise is fulfilled with a value, or rejected with a reason.
+    Settle(PromiseId, Result<Plain, Plain>),
+    /// An algorithm of the host's is called, and the promise that the host will settle is used.
+    CallHost(HostCall, Use),
 }

@@ -10,9 +10,9 @@ mod readable;
 mod writable;
 
 pub use calls::{Answer, Call, Event, Flags, HostCall, Reply, StartBy, StateIs, Thrown, Word};
-pub use effects::Effect;
+pub use effects::{Effect, Gift, Owner, Use};
 pub use locks::Lock;
-pub use promises::{Job, Reaction, Step};
+pub use promises::{Job, Micro, Reaction, Step};
 pub use queue::Queued;
-pub use readable::{ReadRequest, ReadableState, SizeBy};
-pub use writable::{PendingAbort, WritableState, WriteRecord, Writer};
+pub use readable::{ReadRequest, ReadableOperation, ReadableState, SizeBy};
+pub use writable::{PendingAbort, WritableOperation, WritableState, WriteRecord, Writer};

@@ -2,7 +2,7 @@
 ghost use Rattle.std.specs.Prelude.{◌≡◌};
 ghost use Rattle.ws_steps.specs.Queues.{size_of};
 
-use ws_value::{PromiseId, Value};
+use ws_value::{Plain, PromiseId, Value};
 
 /// The state of a readable stream.
 #[derive(Clone, Copy, Debug, PartialEq, Eq)]
@@ -39,4 +39,27 @@ impl SizeBy {
 pub enum ReadRequest {
     /// The promise of a `read`.
     Promise(PromiseId),
+}
+
+/// An operation of a readable stream, as it stands on the agenda. Promises that it answers are told to it.
+#[derive(Debug, Drop)]
+pub enum ReadableOperation {
+    /// ReadableStreamReaderGenericInitialize, with the reader's closed promise.
+    InitializeReader(PromiseId),
+    /// ReadableStreamReaderGenericRelease.
+    ReleaseReader,
+    /// ReadableStreamDefaultReaderRead.
+    Read(ReadRequest),
+    /// ReadableStreamCancel, with the promise that it answers.
+    Cancel(Plain, PromiseId),
+    /// ReadableStreamDefaultControllerEnqueue.
+    Enqueue(Value),
+    /// ReadableStreamDefaultControllerClose.
+    Close,
+    /// ReadableStreamDefaultControllerError.
+    Error(Plain),
+    /// The controller's reaction to its start algorithm.
+    StartSettled(Result<Plain, Plain>),
+    /// The controller's reaction to its pull algorithm.
+    PullSettled(Result<Plain, Plain>),
 }

@@ -30,8 +30,35 @@ pub struct PendingAbort {
 #[derive(Debug, Drop)]
 pub enum WriteRecord {
     Chunk(Value),
-    /// The place of a chunk that was handed to the write algorithm, until that ends.
+    /// The place of a chunk that was handed on to the write algorithm, until that ends.
     InFlight,
     /// The sink is to be closed.
     CloseMark,
+}
+
+/// An operation of a writable stream, as it stands on the agenda. Promises that it answers are told to it.
+#[derive(Debug, Drop)]
+pub enum WritableOperation {
+    /// SetUpWritableStreamDefaultWriter, with the writer's promises.
+    SetUpWriter(Writer),
+    /// WritableStreamDefaultWriterRelease.
+    ReleaseWriter,
+    /// WritableStreamDefaultWriterWrite, with the promise that it answers.
+    Write(Value, PromiseId),
+    /// WritableStreamClose, with the promise that it answers.
+    Close(PromiseId),
+    /// WritableStreamAbort where no abort is pending, with the promise that it answers.
+    Abort(Plain, PromiseId),
+    /// WritableStreamDefaultControllerErrorIfNeeded.
+    ErrorIfNeeded(Plain),
+    /// The chunk at the front of the queue is handed on to the write algorithm.
+    HandOn,
+    /// The controller's reaction to its start algorithm.
+    StartSettled(Result<Plain, Plain>),
+    /// The controller's reaction to its write algorithm.
+    WriteSettled(Result<Plain, Plain>),
+    /// The controller's reaction to its close algorithm.
+    CloseSettled(Result<Plain, Plain>),
+    /// The stream's reaction to its abort algorithm, with the promise of the abort.
+    AbortSettled(PromiseId, Result<Plain, Plain>),
 }

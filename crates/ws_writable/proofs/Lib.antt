@@ -1,1 +1,1 @@
-pub mod QueueLemmas
+pub mod Lengths

@@ -1,13 +1,43 @@
 -- What is seen of the record of a writable stream.
-use Rattle.std.specs.Prelude.{ℕ}
-use Rattle.ws_promise.specs.Seen.{Seen, SeenAgenda, out_of}
+use Rattle.std.specs.Prelude.{ℕ, ◌+◌, ◌≤◌, Bool, true, false, ◌&&◌, nat_lt, Option, Some, None, length}
+use Rattle.ws_promise.specs.Seen.{Seen, SeenAgenda, out_of, HasPromiseRoom, HasEventRoom}
+use Rattle.ws_queue.specs.Seen.{Lists}
+use Rattle.ws_steps.specs.declared.writable.WritableOperation.{WritableOperation}
+use Rattle.ws_steps.specs.declared.writable.WriteRecord.{WriteRecord}
+use Rattle.ws_steps.specs.declared.writable.WriteRecord.TheVariants.{Chunk, InFlight, CloseMark}
+use Rattle.ws_steps.specs.Places.{own_writable, promises_alone, events_alone, queued_alone, requests_alone}
 use Rattle.ws_steps.specs.Writable.{Slots, Acts}
 
--- the slots, and the number of writes and closes for which there is room
+-- the slots, and the places in memory
 pub record SeenWritable : Type 0 where
   pub slots : Slots
-  pub spare : ℕ
+  pub room : Lists
+
+-- there are places for n more entries of the queue, and for n more write requests
+abbrev pub HasQueueRoom : ℕ → SeenWritable → Type 0
+HasQueueRoom n w = n + length w.slots.queue ≤ w.room.queue
+
+abbrev pub HasRequestRoom : ℕ → SeenWritable → Type 0
+HasRequestRoom n w = n + length w.slots.write_requests ≤ w.room.requests
+
+-- whether there is a place for one more of each
+abbrev pub has_room : SeenWritable → Bool
+has_room w = nat_lt (length w.slots.queue) w.room.queue && nat_lt (length w.slots.write_requests) w.room.requests
 
 -- a stream, the promises and the agenda, as an operation of the stream finds and leaves them
 abbrev pub acts_of : SeenWritable → Seen → SeenAgenda → Acts
 acts_of w p fx = record { slots = w.slots; out = out_of p fx }
+
+-- there are places for what an operation takes by itself
+pub record HasRoomFor (operation : WritableOperation) (w : SeenWritable) (p : Seen) : Type 0 where
+  pub promises : HasPromiseRoom (own_writable promises_alone operation) p
+  pub events : HasEventRoom (own_writable events_alone operation) p
+  pub queue : HasQueueRoom (own_writable queued_alone operation) w
+  pub requests : HasRequestRoom (own_writable requests_alone operation) w
+
+-- whether a chunk stands there
+abbrev pub is_chunk : Option WriteRecord → Bool
+is_chunk None = false
+is_chunk (Some (Chunk v)) = true
+is_chunk (Some InFlight) = false
+is_chunk (Some CloseMark) = false

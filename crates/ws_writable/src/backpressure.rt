@@ -1,6 +1,6 @@
 //! Backpressure, and the ready promise that follows it.
-ghost use Rattle.std.specs.Prelude.{◌≡◌, ◌<◌, ◌≤◌, ◌+◌};
-ghost use Rattle.ws_promise.specs.Seen.{SeenAgenda};
+ghost use Rattle.std.specs.Prelude.{◌≡◌};
+ghost use Rattle.ws_promise.specs.Seen.{HasPromiseRoom, SeenAgenda};
 ghost use Rattle.ws_steps.specs.Writable as rows;
 ghost use Rattle.ws_writable.specs.Seen.{acts_of};
 
@@ -18,10 +18,10 @@ impl Writable {
     }
 
     fn change_ready(&mut self, p: &mut Promises, writer: Writer, backpressure: bool)
-        requires { 0 < p.old.spare }
+        requires promise_room { HasPromiseRoom 1 p.old }
         ensures row { (fx : SeenAgenda) → acts_of self.new p.new fx ≡ rows.change_ready writer (acts_of self.old p.old fx) backpressure }
-        ensures spare { self.new.spare ≡ self.old.spare }
-        ensures promise_spare { p.old.spare ≤ p.new.spare + 1 }
+        ensures room { self.new.room ≡ self.old.room }
+        ensures promise_room { p.new.room ≡ p.old.room }
     {
         if backpressure {
             let ready = p.fresh();
@@ -32,10 +32,10 @@ impl Writable {
     }
 
     fn ready_for(&mut self, p: &mut Promises, backpressure: bool)
-        requires { 0 < p.old.spare }
+        requires promise_room { HasPromiseRoom 1 p.old }
         ensures row { (fx : SeenAgenda) → acts_of self.new p.new fx ≡ rows.ready_for backpressure (acts_of self.old p.old fx) self.old.slots.writer }
-        ensures spare { self.new.spare ≡ self.old.spare }
-        ensures promise_spare { p.old.spare ≤ p.new.spare + 1 }
+        ensures room { self.new.room ≡ self.old.room }
+        ensures promise_room { p.new.room ≡ p.old.room }
     {
         if let Some(writer) = self.writer {
             if backpressure != self.backpressure {
@@ -47,10 +47,10 @@ impl Writable {
     /// WritableStreamUpdateBackpressure.
     #[tactic(auto, unfolding(ws_steps::specs::Writable::update_backpressure))]
     pub fn update_backpressure(&mut self, p: &mut Promises, backpressure: bool)
-        requires { 0 < p.old.spare }
+        requires promise_room { HasPromiseRoom 1 p.old }
         ensures row { (fx : SeenAgenda) → acts_of self.new p.new fx ≡ rows.update_backpressure backpressure (acts_of self.old p.old fx) }
-        ensures spare { self.new.spare ≡ self.old.spare }
-        ensures promise_spare { p.old.spare ≤ p.new.spare + 1 }
+        ensures room { self.new.room ≡ self.old.room }
+        ensures promise_room { p.new.room ≡ p.old.room }
     {
         self.ready_for(p, backpressure);
         self.backpressure = backpressure;
@@ -59,10 +59,10 @@ impl Writable {
     /// Brings the backpressure up to date, where the stream isn't closing and is writable.
     #[tactic(auto, unfolding(ws_steps::specs::Writable::refresh_backpressure))]
     pub(crate) fn refresh_backpressure(&mut self, p: &mut Promises)
-        requires { 0 < p.old.spare }
+        requires promise_room { HasPromiseRoom 1 p.old }
         ensures row { (fx : SeenAgenda) → acts_of self.new p.new fx ≡ rows.refresh_backpressure (acts_of self.old p.old fx) }
-        ensures spare { self.new.spare ≡ self.old.spare }
-        ensures promise_spare { p.old.spare ≤ p.new.spare + 1 }
+        ensures room { self.new.room ≡ self.old.room }
+        ensures promise_room { p.new.room ≡ p.old.room }
     {
         if !self.is_closing() && self.is_writable() {
             let backpressure = self.has_backpressure();

@@ -5,6 +5,7 @@ mod backpressure;
 mod controller;
 mod erroring;
 mod look;
+mod operations;
 mod reactions;
 mod requests;
 mod stream;

@@ -4,8 +4,7 @@ ghost use Rattle.ws_steps.specs.Writable as rows;
 ghost use Rattle.ws_steps.specs.WritableLooks as looks;
 
 use crate::Writable;
-use ws_promise::Promises;
-use ws_steps::{Flags, StateIs, Word, WritableState, Writer};
+use ws_steps::{Flags, Owner, StateIs, Word, WritableState, Writer};
 use ws_value::PromiseId;
 
 impl Writable {
@@ -13,6 +12,13 @@ impl Writable {
         ensures { result ≡ self.now.slots.state }
     {
         self.state
+    }
+
+    /// Whose algorithms the stream performs.
+    pub fn owner(&self) -> Owner
+        ensures { result ≡ self.now.slots.owner }
+    {
+        self.owner
     }
 
     /// The promises of the writer, where there is one.
@@ -29,24 +35,17 @@ impl Writable {
         self.writer.is_some()
     }
 
-    /// The promise that WritableStreamAbort answers: a new one, or that of the pending abort.
-    pub fn abort_promise(&self, p: &Promises) -> PromiseId
-        ensures { result ≡ rows.abort_promise p.now.table self.now.slots }
+    /// The promise that an abort answers that came before, where one is pending.
+    pub fn answered_abort(&self) -> Option<PromiseId>
+        ensures { result ≡ rows.answered_abort self.now.slots }
     {
         if self.has_ended() {
-            return p.next_id();
+            return None;
         }
         match self.pending_abort {
-            Some(abort) => abort.promise,
-            None => p.next_id(),
+            Some(abort) => Some(abort.promise),
+            None => None,
         }
-    }
-
-    /// Whether an abort would be the first of the stream, so that the sink is to be signalled.
-    pub fn is_first_abort(&self) -> bool
-        ensures { result ≡ rows.is_first_abort self.now.slots }
-    {
-        !self.has_ended() && self.pending_abort.is_none()
     }
 
     /// WritableStreamDefaultWriterGetDesiredSize.

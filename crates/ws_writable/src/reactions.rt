@@ -1,6 +1,6 @@
 //! The reactions to a sink's algorithms.
-ghost use Rattle.std.specs.Prelude.{◌≡◌, ◌<◌, ◌≤◌, ◌+◌};
-ghost use Rattle.ws_promise.specs.Seen.{Seen, SeenAgenda};
+ghost use Rattle.std.specs.Prelude.{◌≡◌, length};
+ghost use Rattle.ws_promise.specs.Seen.{HasEffectRoom, HasPromiseRoom, Seen, SeenAgenda};
 ghost use Rattle.ws_steps.specs.Writable as rows;
 ghost use Rattle.ws_writable.specs.Seen.{acts_of};
 
@@ -20,12 +20,12 @@ impl Writable {
         fx: &mut Agenda,
         outcome: Result<Plain, Plain>,
     )
-        requires promise_room { 0 < p.old.spare }
-        requires agenda_room { 0 < fx.old.spare }
+        requires promise_room { HasPromiseRoom 1 p.old }
+        requires effect_room { HasEffectRoom 1 fx.old }
         ensures row { acts_of self.new p.new fx.new ≡ rows.start_settled me outcome (acts_of self.old p.old fx.old) }
-        ensures spare { self.new.spare ≡ self.old.spare }
-        ensures agenda_spare { fx.old.spare ≤ fx.new.spare + 1 }
-        ensures promise_spare { p.old.spare ≤ p.new.spare + 1 }
+        ensures room { self.new.room ≡ self.old.room }
+        ensures promise_room { p.new.room ≡ p.old.room }
+        ensures effect_room { fx.new.capacity ≡ fx.old.capacity }
     {
         self.started = true;
         match outcome {
@@ -36,8 +36,9 @@ impl Writable {
 
     fn write_ended(&mut self, p: &mut Promises, outcome: Result<Plain, Plain>)
         ensures row { (fx : SeenAgenda) → acts_of self.new p.new fx ≡ rows.write_ended outcome (acts_of self.old p.old fx) }
-        ensures spare { self.new.spare ≡ self.old.spare }
-        ensures promise_spare { p.new.spare ≡ p.old.spare }
+        ensures room { self.new.room ≡ self.old.room }
+        ensures promise_room { p.new.room ≡ p.old.room }
+        ensures made { length p.new.table.entries ≡ length p.old.table.entries }
     {
         settle_request(p, outcome, self.write_in_flight);
         self.write_in_flight = None;
@@ -45,7 +46,7 @@ impl Writable {
 
     fn drop_first(&mut self)
         ensures row { (p : Seen) (fx : SeenAgenda) → acts_of self.new p fx ≡ rows.without_first (acts_of self.old p fx) }
-        ensures spare { self.new.spare ≡ self.old.spare }
+        ensures room { self.new.room ≡ self.old.room }
     {
         self.queue.pop();
     }
@@ -59,12 +60,12 @@ impl Writable {
         fx: &mut Agenda,
         outcome: Result<Plain, Plain>,
     )
-        requires promise_room { 0 < p.old.spare }
-        requires agenda_room { 0 < fx.old.spare }
+        requires promise_room { HasPromiseRoom 1 p.old }
+        requires effect_room { HasEffectRoom 1 fx.old }
         ensures row { acts_of self.new p.new fx.new ≡ rows.write_settled me outcome (acts_of self.old p.old fx.old) }
-        ensures spare { self.new.spare ≡ self.old.spare }
-        ensures agenda_spare { fx.old.spare ≤ fx.new.spare + 1 }
-        ensures promise_spare { p.old.spare ≤ p.new.spare + 1 }
+        ensures room { self.new.room ≡ self.old.room }
+        ensures promise_room { p.new.room ≡ p.old.room }
+        ensures effect_room { fx.new.capacity ≡ fx.old.capacity }
     {
         match outcome {
             Ok(_) => {
@@ -82,8 +83,9 @@ impl Writable {
 
     fn close_ended(&mut self, p: &mut Promises, outcome: Result<Plain, Plain>)
         ensures row { (fx : SeenAgenda) → acts_of self.new p.new fx ≡ rows.close_ended outcome (acts_of self.old p.old fx) }
-        ensures spare { self.new.spare ≡ self.old.spare }
-        ensures promise_spare { p.new.spare ≡ p.old.spare }
+        ensures room { self.new.room ≡ self.old.room }
+        ensures promise_room { p.new.room ≡ p.old.room }
+        ensures made { length p.new.table.entries ≡ length p.old.table.entries }
     {
         settle_request(p, outcome, self.close_in_flight);
         self.close_in_flight = None;
@@ -91,8 +93,9 @@ impl Writable {
 
     fn abort_ended(&mut self, p: &mut Promises, outcome: Result<Plain, Plain>)
         ensures row { (fx : SeenAgenda) → acts_of self.new p.new fx ≡ rows.abort_ended outcome (acts_of self.old p.old fx) }
-        ensures spare { self.new.spare ≡ self.old.spare }
-        ensures promise_spare { p.new.spare ≡ p.old.spare }
+        ensures room { self.new.room ≡ self.old.room }
+        ensures promise_room { p.new.room ≡ p.old.room }
+        ensures made { length p.new.table.entries ≡ length p.old.table.entries }
     {
         if let Some(abort) = self.pending_abort {
             settle_request(p, outcome, Some(abort.promise));
@@ -102,8 +105,8 @@ impl Writable {
 
     fn clear_error(&mut self, p: &mut Promises)
         ensures row { (fx : SeenAgenda) → acts_of self.new p.new fx ≡ rows.clear_error (acts_of self.old p.old fx) }
-        ensures spare { self.new.spare ≡ self.old.spare }
-        ensures promise_spare { p.new.spare ≡ p.old.spare }
+        ensures room { self.new.room ≡ self.old.room }
+        ensures promise_room { p.new.room ≡ p.old.room }
     {
         if self.is_erroring() {
             self.stored_error = Plain::Undefined;
@@ -113,8 +116,8 @@ impl Writable {
 
     fn fulfil_closed(&mut self, p: &mut Promises)
         ensures row { (fx : SeenAgenda) → acts_of self.new p.new fx ≡ rows.fulfil_closed (acts_of self.old p.old fx) self.old.slots.writer }
-        ensures spare { self.new.spare ≡ self.old.spare }
-        ensures promise_spare { p.new.spare ≡ p.old.spare }
+        ensures room { self.new.room ≡ self.old.room }
+        ensures promise_room { p.new.room ≡ p.old.room }
     {
         if let Some(writer) = self.writer {
             p.fulfil(writer.closed, Plain::Undefined);
@@ -125,8 +128,8 @@ impl Writable {
     #[tactic(auto, unfolding(ws_steps::specs::Writable::finish_in_flight_close))]
     pub fn finish_in_flight_close(&mut self, p: &mut Promises)
         ensures row { (fx : SeenAgenda) → acts_of self.new p.new fx ≡ rows.finish_in_flight_close (acts_of self.old p.old fx) }
-        ensures spare { self.new.spare ≡ self.old.spare }
-        ensures promise_spare { p.new.spare ≡ p.old.spare }
+        ensures room { self.new.room ≡ self.old.room }
+        ensures promise_room { p.new.room ≡ p.old.room }
     {
         self.close_ended(p, Ok(Plain::Undefined));
         self.clear_error(p);
@@ -143,12 +146,12 @@ impl Writable {
         fx: &mut Agenda,
         e: Plain,
     )
-        requires promise_room { 0 < p.old.spare }
-        requires agenda_room { 0 < fx.old.spare }
+        requires promise_room { HasPromiseRoom 1 p.old }
+        requires effect_room { HasEffectRoom 1 fx.old }
         ensures row { acts_of self.new p.new fx.new ≡ rows.finish_in_flight_close_with_error me e (acts_of self.old p.old fx.old) }
-        ensures spare { self.new.spare ≡ self.old.spare }
-        ensures agenda_spare { fx.old.spare ≤ fx.new.spare + 1 }
-        ensures promise_spare { p.old.spare ≤ p.new.spare + 1 }
+        ensures room { self.new.room ≡ self.old.room }
+        ensures promise_room { p.new.room ≡ p.old.room }
+        ensures effect_room { fx.new.capacity ≡ fx.old.capacity }
     {
         self.close_ended(p, Err(e));
         self.abort_ended(p, Err(e));
@@ -164,12 +167,12 @@ impl Writable {
         fx: &mut Agenda,
         outcome: Result<Plain, Plain>,
     )
-        requires promise_room { 0 < p.old.spare }
-        requires agenda_room { 0 < fx.old.spare }
+        requires promise_room { HasPromiseRoom 1 p.old }
+        requires effect_room { HasEffectRoom 1 fx.old }
         ensures row { acts_of self.new p.new fx.new ≡ rows.close_settled me outcome (acts_of self.old p.old fx.old) }
-        ensures spare { self.new.spare ≡ self.old.spare }
-        ensures agenda_spare { fx.old.spare ≤ fx.new.spare + 1 }
-        ensures promise_spare { p.old.spare ≤ p.new.spare + 1 }
+        ensures room { self.new.room ≡ self.old.room }
+        ensures promise_room { p.new.room ≡ p.old.room }
+        ensures effect_room { fx.new.capacity ≡ fx.old.capacity }
     {
         match outcome {
             Ok(_) => self.finish_in_flight_close(p),
@@ -186,8 +189,8 @@ impl Writable {
         outcome: Result<Plain, Plain>,
     )
         ensures row { (fx : SeenAgenda) → acts_of self.new p.new fx ≡ rows.abort_settled promise outcome (acts_of self.old p.old fx) }
-        ensures spare { self.new.spare ≡ self.old.spare }
-        ensures promise_spare { p.new.spare ≡ p.old.spare }
+        ensures room { self.new.room ≡ self.old.room }
+        ensures promise_room { p.new.room ≡ p.old.room }
     {
         match outcome {
             Ok(_) => {

@@ -1,17 +1,15 @@
 //! The record of a writable stream, and the operations of the stream itself.
-ghost use Rattle.std.specs.Prelude.{◌≡◌, ◌<◌, ◌≤◌, ◌+◌, IfOk, OnOk, OnErr};
-ghost use Rattle.ws_promise.specs.Seen.{SeenAgenda};
-ghost use Rattle.ws_steps.specs.Promises.{next_id};
+ghost use Rattle.std.specs.Prelude.{◌≡◌, ◌≤◌, IsOk, OnOk, length};
+ghost use Rattle.ws_promise.specs.Seen.{HasEffectRoom, HasEventRoom, HasPromiseRoom, Seen, SeenAgenda};
 ghost use Rattle.ws_steps.specs.Writable as rows;
-ghost use Rattle.ws_writable.specs.Seen.{acts_of};
+ghost use Rattle.ws_writable.specs.Seen.{HasQueueRoom, HasRequestRoom, acts_of, has_room};
 
-use crate::requests::fresh_settled;
 use std::alloc::Global;
 use std::collections::VecDeque;
 use std::marker::Model;
 use ws_promise::{Agenda, Promises};
 use ws_queue::SizedQueue;
-use ws_steps::{PendingAbort, SizeBy, WritableState, WriteRecord, Writer};
+use ws_steps::{Event, Owner, PendingAbort, SizeBy, WritableState, WriteRecord, Writer};
 use ws_value::{Fault, NoMemory, Plain, PromiseId, StreamId};
 
 pub(crate) const TYPE_ERROR: Plain = Plain::Fault(Fault::TypeError);
@@ -31,9 +29,10 @@ fn abort_of(promise: PromiseId, reason: Plain, was_already_erroring: bool) -> Pe
     }
 }
 
-/// A writable stream with its default controller and the writer that locks it. It is seen as its slots and as the number of writes and closes for which there is room.
+/// A writable stream with its default controller and the writer that locks it. It is seen as its slots, and as the places in memory for entries of its queue and for write requests.
 #[derive(Drop)]
 pub struct Writable {
+    pub(crate) owner: Owner,
     pub(crate) state: WritableState,
     pub(crate) stored_error: Plain,
     pub(crate) writer: Option<Writer>,
@@ -47,18 +46,17 @@ pub struct Writable {
     pub(crate) high_water_mark: u64,
     pub(crate) size_by: SizeBy,
     pub(crate) started: bool,
-    pub(crate) spare: usize,
 }
 
 impl Model for Writable {
-    ghost use Rattle.std.specs.Prelude.{◌≤◌, ◌+◌};
-    ghost use Rattle.std.specs.VecDeque.{deque_len, deque_capacity};
+    ghost use Rattle.std.specs.VecDeque.{deque_capacity};
     ghost use Rattle.ws_writable.specs.Seen.{SeenWritable};
 
     ghost Value = { SeenWritable };
 
     ghost view = { λ w. record {
       slots = record {
+        owner = w.owner;
         state = w.state;
         stored_error = w.stored_error;
         writer = w.writer;
@@ -73,48 +71,58 @@ impl Model for Writable {
         size_by = w.size_by;
         started = w.started;
       };
-      spare = w.spare;
+      room = record { queue = w.queue.capacity; requests = deque_capacity w.write_requests };
     } };
-
-    ghost invariant = { λ w. (w.spare ≤ w.queue.spare) × (w.spare + deque_len w.write_requests ≤ deque_capacity w.write_requests) };
 }
 
 impl Writable {
-    /// A writable stream as InitializeWritableStream leaves it; its controller is still to be set up.
-    pub fn make(alloc: Global) -> Result<Writable, NoMemory>
-        ensures { IfOk result (λ w. w.slots ≡ rows.initialized) }
+    /// InitializeWritableStream, and SetUpWritableStreamDefaultController: a new stream, whose start algorithm is still to be performed. It has no places in memory; `reserve` makes them.
+    pub fn make(alloc: Global, owner: Owner, high_water_mark: u64, size_by: SizeBy) -> Writable
+        ensures { result.slots ≡ rows.set_up owner high_water_mark size_by }
     {
-        Ok(Writable {
+        let Ok(queue) = SizedQueue::make(alloc) else {
+            unreachable!()
+        };
+        Writable {
+            owner,
             state: WritableState::Writable,
             stored_error: Plain::Undefined,
             writer: None,
-            backpressure: false,
+            backpressure: high_water_mark == 0,
             write_requests: VecDeque::new(alloc),
             write_in_flight: None,
             close_request: None,
             close_in_flight: None,
             pending_abort: None,
-            queue: SizedQueue::make(alloc)?,
-            high_water_mark: 0,
-            size_by: SizeBy::Count,
+            queue,
+            high_water_mark,
+            size_by,
             started: false,
-            spare: 0,
-        })
+        }
     }
 
-    /// Makes room for `n` more writes and closes, or changes nothing.
+    /// Makes places for `n` more entries of the queue and `n` more write requests, where there aren't so many.
     pub fn reserve(&mut self, n: usize) -> Result<(), NoMemory>
-        ensures ok { OnOk result (n ≤ self.new.spare) }
+        ensures queue { OnOk result (HasQueueRoom n self.new) }
+        ensures requests { OnOk result (HasRequestRoom n self.new) }
         ensures slots { self.new.slots ≡ self.old.slots }
-        ensures spare { self.old.spare ≤ self.new.spare }
-        ensures err { OnErr result (self.new ≡ self.old) }
+        ensures queue_grows { self.old.room.queue ≤ self.new.room.queue }
+        ensures requests_grow { self.old.room.requests ≤ self.new.room.requests }
+        ensures ready { HasQueueRoom n self.old → HasRequestRoom n self.old → IsOk result }
     {
         self.queue.reserve(n)?;
-        self.write_requests.reserve(n)?;
-        if self.spare < n {
-            self.spare = n;
+        if self.write_requests.capacity() - self.write_requests.len() < n {
+            self.write_requests.reserve(n)?;
         }
         Ok(())
+    }
+
+    /// Whether there is a place for one more entry of the queue and for one more write request.
+    pub fn has_room(&self) -> bool
+        ensures { result ≡ has_room self.now }
+    {
+        self.queue.len() < self.queue.capacity()
+            && self.write_requests.len() < self.write_requests.capacity()
     }
 
     pub(crate) fn is_writable(&self) -> bool
@@ -166,22 +174,17 @@ impl Writable {
         self.write_in_flight.is_some() || self.close_in_flight.is_some()
     }
 
-    fn add_close_request(&mut self, p: &mut Promises) -> PromiseId
-        requires { 0 < p.old.spare }
-        ensures id { result ≡ next_id p.old.table }
-        ensures row { (fx : SeenAgenda) → acts_of self.new p.new fx ≡ rows.add_close_request (acts_of self.old p.old fx) }
-        ensures spare { self.new.spare ≡ self.old.spare }
-        ensures promise_spare { p.old.spare ≤ p.new.spare + 1 }
+    fn add_close_request(&mut self, promise: PromiseId)
+        ensures row { (p : Seen) (fx : SeenAgenda) → acts_of self.new p fx ≡ rows.add_close_request promise (acts_of self.old p fx) }
+        ensures room { self.new.room ≡ self.old.room }
+        ensures queue { self.new.slots.queue ≡ self.old.slots.queue }
     {
-        let promise = p.fresh();
         self.close_request = Some(promise);
-        promise
     }
 
-    fn fulfil_ready(&mut self, p: &mut Promises)
-        ensures row { (fx : SeenAgenda) → acts_of self.new p.new fx ≡ rows.fulfil_ready (acts_of self.old p.old fx) self.old.slots.writer }
-        ensures spare { self.new.spare ≡ self.old.spare }
-        ensures promise_spare { p.new.spare ≡ p.old.spare }
+    fn fulfil_ready(&self, p: &mut Promises)
+        ensures row { (fx : SeenAgenda) → acts_of self.now p.new fx ≡ rows.fulfil_ready (acts_of self.now p.old fx) self.now.slots.writer }
+        ensures promise_room { p.new.room ≡ p.old.room }
     {
         if let Some(writer) = self.writer {
             if self.backpressure && self.is_writable() {
@@ -190,39 +193,37 @@ impl Writable {
         }
     }
 
-    /// WritableStreamClose. The answer is its promise.
+    /// WritableStreamClose, with the promise that it answers.
     #[tactic(auto, unfolding(ws_steps::specs::Writable::stream_close))]
-    pub fn stream_close(&mut self, me: StreamId, p: &mut Promises, fx: &mut Agenda) -> PromiseId
-        requires room { 0 < self.old.spare }
-        requires promise_room { 0 < p.old.spare }
-        requires agenda_room { 0 < fx.old.spare }
-        ensures promise { result ≡ next_id p.old.table }
-        ensures row { acts_of self.new p.new fx.new ≡ rows.stream_close me (acts_of self.old p.old fx.old) }
-        ensures spare { self.old.spare ≤ self.new.spare + 1 }
-        ensures agenda_spare { fx.old.spare ≤ fx.new.spare + 1 }
-        ensures promise_spare { p.old.spare ≤ p.new.spare + 1 }
+    pub fn stream_close(
+        &mut self,
+        me: StreamId,
+        p: &mut Promises,
+        fx: &mut Agenda,
+        promise: PromiseId,
+    )
+        requires queue_room { HasQueueRoom 1 self.old }
+        requires effect_room { HasEffectRoom 1 fx.old }
+        ensures row { acts_of self.new p.new fx.new ≡ rows.stream_close me promise (acts_of self.old p.old fx.old) }
+        ensures room { self.new.room ≡ self.old.room }
+        ensures promise_room { p.new.room ≡ p.old.room }
+        ensures effect_room { fx.new.capacity ≡ fx.old.capacity }
     {
         if self.has_ended() {
-            return fresh_settled(p, Err(TYPE_ERROR));
+            p.reject(promise, TYPE_ERROR);
+            return;
         }
-        let promise = self.add_close_request(p);
+        self.add_close_request(promise);
         self.fulfil_ready(p);
         self.controller_close(me, p, fx);
-        promise
     }
 
-    #[tactic(auto, unfolding(ws_steps::specs::Writable::add_pending_abort))]
-    fn add_pending_abort(&mut self, p: &mut Promises, reason: Plain) -> PromiseId
-        requires { 0 < p.old.spare }
-        ensures id { result ≡ next_id p.old.table }
-        ensures row { (fx : SeenAgenda) → acts_of self.new p.new fx ≡ rows.add_pending_abort reason (acts_of self.old p.old fx) }
-        ensures spare { self.new.spare ≡ self.old.spare }
-        ensures promise_spare { p.old.spare ≤ p.new.spare + 1 }
+    fn add_pending_abort(&mut self, promise: PromiseId, reason: Plain)
+        ensures row { (p : Seen) (fx : SeenAgenda) → acts_of self.new p fx ≡ rows.add_pending_abort reason promise (acts_of self.old p fx) }
+        ensures room { self.new.room ≡ self.old.room }
     {
-        let promise = p.fresh();
         let was_already_erroring = self.is_erroring();
         self.pending_abort = Some(abort_of(promise, reason, was_already_erroring));
-        promise
     }
 
     fn begin_abort(
@@ -231,24 +232,37 @@ impl Writable {
         p: &mut Promises,
         fx: &mut Agenda,
         reason: Plain,
-    ) -> PromiseId
-        requires promise_room { 1 < p.old.spare }
-        requires agenda_room { 0 < fx.old.spare }
-        ensures id { result ≡ next_id p.old.table }
-        ensures row { acts_of self.new p.new fx.new ≡ rows.begin_abort me reason (acts_of self.old p.old fx.old) }
-        ensures spare { self.new.spare ≡ self.old.spare }
-        ensures agenda_spare { fx.old.spare ≤ fx.new.spare + 1 }
-        ensures promise_spare { p.old.spare ≤ p.new.spare + 2 }
+        promise: PromiseId,
+    )
+        requires promise_room { HasPromiseRoom 1 p.old }
+        requires effect_room { HasEffectRoom 1 fx.old }
+        ensures row { acts_of self.new p.new fx.new ≡ rows.begin_abort me reason promise (acts_of self.old p.old fx.old) }
+        ensures room { self.new.room ≡ self.old.room }
+        ensures promise_room { p.new.room ≡ p.old.room }
+        ensures effect_room { fx.new.capacity ≡ fx.old.capacity }
     {
         if self.is_erroring() {
-            return self.add_pending_abort(p, reason);
+            self.add_pending_abort(promise, reason);
+            return;
         }
-        let promise = self.add_pending_abort(p, reason);
+        self.add_pending_abort(promise, reason);
         self.start_erroring(me, p, fx, reason);
-        promise
     }
 
-    /// WritableStreamAbort. The answer is its promise.
+    /// The host's sink hears of its first abort by a signal.
+    fn signal(&mut self, me: StreamId, p: &mut Promises, reason: Plain)
+        requires event_room { HasEventRoom 1 p.old }
+        ensures row { (fx : SeenAgenda) → acts_of self.new p.new fx ≡ rows.signalled me reason (acts_of self.old p.old fx) self.old.slots.owner }
+        ensures room { self.new.room ≡ self.old.room }
+        ensures promise_room { p.new.room ≡ p.old.room }
+        ensures made { length p.new.table.entries ≡ length p.old.table.entries }
+    {
+        match self.owner {
+            Owner::Host => p.tell(Event::Signal { stream: me, reason }),
+        }
+    }
+
+    /// WritableStreamAbort, where no abort is pending, with the promise that it answers.
     #[tactic(auto, unfolding(ws_steps::specs::Writable::stream_abort))]
     pub fn stream_abort(
         &mut self,
@@ -256,21 +270,21 @@ impl Writable {
         p: &mut Promises,
         fx: &mut Agenda,
         reason: Plain,
-    ) -> PromiseId
-        requires promise_room { 1 < p.old.spare }
-        requires agenda_room { 0 < fx.old.spare }
-        ensures promise { result ≡ rows.abort_promise p.old.table self.old.slots }
-        ensures row { acts_of self.new p.new fx.new ≡ rows.stream_abort me reason (acts_of self.old p.old fx.old) }
-        ensures spare { self.new.spare ≡ self.old.spare }
-        ensures agenda_spare { fx.old.spare ≤ fx.new.spare + 1 }
-        ensures promise_spare { p.old.spare ≤ p.new.spare + 2 }
+        promise: PromiseId,
+    )
+        requires promise_room { HasPromiseRoom 1 p.old }
+        requires event_room { HasEventRoom 1 p.old }
+        requires effect_room { HasEffectRoom 1 fx.old }
+        ensures row { acts_of self.new p.new fx.new ≡ rows.stream_abort me reason promise (acts_of self.old p.old fx.old) }
+        ensures room { self.new.room ≡ self.old.room }
+        ensures promise_room { p.new.room ≡ p.old.room }
+        ensures effect_room { fx.new.capacity ≡ fx.old.capacity }
     {
         if self.has_ended() {
-            return fresh_settled(p, Ok(Plain::Undefined));
+            p.fulfil(promise, Plain::Undefined);
+            return;
         }
-        match self.pending_abort {
-            None => self.begin_abort(me, p, fx, reason),
-            Some(abort) => abort.promise,
-        }
+        self.signal(me, p, reason);
+        self.begin_abort(me, p, fx, reason, promise);
     }
 }

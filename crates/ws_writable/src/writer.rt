@@ -1,64 +1,53 @@
 //! The operations of the default writer.
-ghost use Rattle.std.specs.Prelude.{◌≡◌, ◌<◌, ◌≤◌, ◌+◌};
-ghost use Rattle.std.specs.Option.{option_map};
-ghost use Rattle.ws_promise.specs.Seen.{SeenAgenda};
-ghost use Rattle.ws_steps.specs.Promises.{next_id};
+ghost use Rattle.std.specs.Prelude.{◌≡◌};
+ghost use Rattle.ws_promise.specs.Seen.{HasEffectRoom, HasPromiseRoom, Seen, SeenAgenda};
 ghost use Rattle.ws_steps.specs.Writable as rows;
-ghost use Rattle.ws_writable.specs.Seen.{acts_of};
+ghost use Rattle.ws_writable.specs.Seen.{HasQueueRoom, HasRequestRoom, acts_of};
 
 use crate::Writable;
-use crate::requests::{ensure_rejected, fresh_settled};
+use crate::requests::settle_pending;
 use crate::stream::TYPE_ERROR;
 use ws_promise::{Agenda, Promises};
 use ws_steps::{WritableState, WriteRecord, Writer};
 use ws_value::{Plain, PromiseId, StreamId, Value};
 
 impl Writable {
-    fn ready_promise(&self, p: &mut Promises) -> PromiseId
-        requires { 0 < p.old.spare }
-        ensures id { result ≡ next_id p.old.table }
-        ensures table { p.new.table ≡ rows.ready_promise self.now.slots p.old.table self.now.slots.state }
-        ensures promise_spare { p.old.spare ≤ p.new.spare + 1 }
+    fn settle_ready(&self, p: &mut Promises, ready: PromiseId)
+        ensures table { p.new ≡ record p.old { table = rows.ready_promise ready self.now.slots p.old.table self.now.slots.state } }
     {
         match self.state {
             WritableState::Writable => {
-                if !self.is_closing() && self.backpressure {
-                    p.fresh()
-                } else {
-                    fresh_settled(p, Ok(Plain::Undefined))
+                if self.is_closing() || !self.backpressure {
+                    p.fulfil(ready, Plain::Undefined);
                 }
             }
-            WritableState::Erroring => fresh_settled(p, Err(self.stored_error)),
-            WritableState::Closed => fresh_settled(p, Ok(Plain::Undefined)),
-            WritableState::Errored => fresh_settled(p, Err(self.stored_error)),
+            WritableState::Erroring => p.reject(ready, self.stored_error),
+            WritableState::Closed => p.fulfil(ready, Plain::Undefined),
+            WritableState::Errored => p.reject(ready, self.stored_error),
         }
     }
 
-    fn closed_promise(&self, p: &mut Promises) -> PromiseId
-        requires { 0 < p.old.spare }
-        ensures id { result ≡ next_id p.old.table }
-        ensures table { p.new.table ≡ rows.closed_promise self.now.slots p.old.table self.now.slots.state }
-        ensures promise_spare { p.old.spare ≤ p.new.spare + 1 }
+    fn settle_closed(&self, p: &mut Promises, closed: PromiseId)
+        ensures table { p.new ≡ record p.old { table = rows.closed_promise closed self.now.slots p.old.table self.now.slots.state } }
     {
         match self.state {
-            WritableState::Writable => p.fresh(),
-            WritableState::Erroring => p.fresh(),
-            WritableState::Closed => fresh_settled(p, Ok(Plain::Undefined)),
-            WritableState::Errored => fresh_settled(p, Err(self.stored_error)),
+            WritableState::Writable => {}
+            WritableState::Erroring => {}
+            WritableState::Closed => p.fulfil(closed, Plain::Undefined),
+            WritableState::Errored => p.reject(closed, self.stored_error),
         }
     }
 
-    /// SetUpWritableStreamDefaultWriter: a writer takes the stream.
+    /// SetUpWritableStreamDefaultWriter: a writer, with its promises, takes the stream.
     #[tactic(auto, unfolding(ws_steps::specs::Writable::set_up_writer))]
-    pub fn set_up_writer(&mut self, p: &mut Promises)
-        requires { 1 < p.old.spare }
-        ensures row { (fx : SeenAgenda) → acts_of self.new p.new fx ≡ rows.set_up_writer (acts_of self.old p.old fx) }
-        ensures spare { self.new.spare ≡ self.old.spare }
-        ensures promise_spare { p.old.spare ≤ p.new.spare + 2 }
+    pub fn set_up_writer(&mut self, p: &mut Promises, writer: Writer)
+        ensures row { (fx : SeenAgenda) → acts_of self.new p.new fx ≡ rows.set_up_writer writer (acts_of self.old p.old fx) }
+        ensures room { self.new.room ≡ self.old.room }
+        ensures promise_room { p.new.room ≡ p.old.room }
     {
-        let ready = self.ready_promise(p);
-        let closed = self.closed_promise(p);
-        self.writer = Some(Writer { ready, closed });
+        self.settle_ready(p, writer.ready);
+        self.settle_closed(p, writer.closed);
+        self.writer = Some(writer);
     }
 
     /// With what a write is rejected at once.
@@ -77,95 +66,113 @@ impl Writable {
         None
     }
 
-    /// WritableStreamAddWriteRequest, and the chunk at the end of the queue. The answer is the promise of the write.
-    fn add_write(&mut self, p: &mut Promises, chunk: Value) -> PromiseId
-        requires room { 0 < self.old.spare }
-        requires promise_room { 0 < p.old.spare }
-        ensures id { result ≡ next_id p.old.table }
-        ensures row { (fx : SeenAgenda) → acts_of self.new p.new fx ≡ rows.enqueue_chunk chunk (rows.add_write_request (acts_of self.old p.old fx)) }
-        ensures spare { self.old.spare ≤ self.new.spare + 1 }
-        ensures promise_spare { p.old.spare ≤ p.new.spare + 1 }
+    /// WritableStreamAddWriteRequest.
+    pub fn add_write_request(&mut self, promise: PromiseId)
+        requires request_room { HasRequestRoom 1 self.old }
+        ensures row { (p : Seen) (fx : SeenAgenda) → acts_of self.new p fx ≡ rows.add_write_request promise (acts_of self.old p fx) }
+        ensures room { self.new.room ≡ self.old.room }
+        ensures queue { self.new.slots.queue ≡ self.old.slots.queue }
     {
-        let promise = p.fresh();
         self.write_requests.push_back_reserved(promise);
-        let size = self.size_by.size_of(&chunk);
-        self.queue.push(WriteRecord::Chunk(chunk), size);
-        self.spare -= 1;
-        promise
     }
 
-    /// WritableStreamDefaultWriterWrite, where the writer has the stream. The answer is the promise of the write.
-    #[tactic(auto, unfolding(ws_steps::specs::Writable::writer_write, ws_steps::specs::Writable::controller_write))]
+    fn enqueue_chunk(&mut self, chunk: Value)
+        requires queue_room { HasQueueRoom 1 self.old }
+        ensures row { (p : Seen) (fx : SeenAgenda) → acts_of self.new p fx ≡ rows.enqueue_chunk chunk (acts_of self.old p fx) }
+        ensures room { self.new.room ≡ self.old.room }
+    {
+        let size = self.size_by.size_of(&chunk);
+        self.queue.push(WriteRecord::Chunk(chunk), size);
+    }
+
+    /// WritableStreamDefaultControllerWrite.
+    #[tactic(auto, unfolding(ws_steps::specs::Writable::controller_write))]
+    pub fn controller_write(
+        &mut self,
+        me: StreamId,
+        p: &mut Promises,
+        fx: &mut Agenda,
+        chunk: Value,
+    )
+        requires queue_room { HasQueueRoom 1 self.old }
+        requires promise_room { HasPromiseRoom 1 p.old }
+        requires effect_room { HasEffectRoom 1 fx.old }
+        ensures row { acts_of self.new p.new fx.new ≡ rows.controller_write me chunk (acts_of self.old p.old fx.old) }
+        ensures room { self.new.room ≡ self.old.room }
+        ensures promise_room { p.new.room ≡ p.old.room }
+        ensures effect_room { fx.new.capacity ≡ fx.old.capacity }
+    {
+        self.enqueue_chunk(chunk);
+        self.refresh_backpressure(p);
+        self.advance_queue(me, p, fx);
+    }
+
+    /// WritableStreamDefaultWriterWrite, where the writer has the stream, with the promise that it answers.
+    #[tactic(auto, unfolding(ws_steps::specs::Writable::writer_write))]
     pub fn writer_write(
         &mut self,
         me: StreamId,
         p: &mut Promises,
         fx: &mut Agenda,
         chunk: Value,
-    ) -> PromiseId
-        requires room { 0 < self.old.spare }
-        requires promise_room { 1 < p.old.spare }
-        requires agenda_room { 0 < fx.old.spare }
-        ensures promise { result ≡ next_id p.old.table }
-        ensures row { acts_of self.new p.new fx.new ≡ rows.writer_write me chunk (acts_of self.old p.old fx.old) }
-        ensures spare { self.old.spare ≤ self.new.spare + 1 }
-        ensures agenda_spare { fx.old.spare ≤ fx.new.spare + 1 }
-        ensures promise_spare { p.old.spare ≤ p.new.spare + 2 }
+        promise: PromiseId,
+    )
+        requires queue_room { HasQueueRoom 1 self.old }
+        requires request_room { HasRequestRoom 1 self.old }
+        requires promise_room { HasPromiseRoom 1 p.old }
+        requires effect_room { HasEffectRoom 1 fx.old }
+        ensures row { acts_of self.new p.new fx.new ≡ rows.writer_write me chunk promise (acts_of self.old p.old fx.old) }
+        ensures room { self.new.room ≡ self.old.room }
+        ensures promise_room { p.new.room ≡ p.old.room }
+        ensures effect_room { fx.new.capacity ≡ fx.old.capacity }
     {
         match self.write_refusal() {
-            Some(e) => fresh_settled(p, Err(e)),
+            Some(e) => p.reject(promise, e),
             None => {
-                let promise = self.add_write(p, chunk);
-                self.refresh_backpressure(p);
-                self.advance_queue(me, p, fx);
-                promise
+                self.add_write_request(promise);
+                self.controller_write(me, p, fx, chunk);
             }
         }
     }
 
-    /// WritableStreamDefaultWriterCloseWithErrorPropagation. The answer is its promise.
+    /// WritableStreamDefaultWriterCloseWithErrorPropagation, with the promise that it answers.
     #[tactic(auto, unfolding(ws_steps::specs::Writable::close_with_error_propagation))]
     pub fn close_with_error_propagation(
         &mut self,
         me: StreamId,
         p: &mut Promises,
         fx: &mut Agenda,
-    ) -> PromiseId
-        requires room { 0 < self.old.spare }
-        requires promise_room { 0 < p.old.spare }
-        requires agenda_room { 0 < fx.old.spare }
-        ensures promise { result ≡ next_id p.old.table }
-        ensures row { acts_of self.new p.new fx.new ≡ rows.close_with_error_propagation me (acts_of self.old p.old fx.old) }
-        ensures spare { self.old.spare ≤ self.new.spare + 1 }
-        ensures agenda_spare { fx.old.spare ≤ fx.new.spare + 1 }
-        ensures promise_spare { p.old.spare ≤ p.new.spare + 1 }
+        promise: PromiseId,
+    )
+        requires queue_room { HasQueueRoom 1 self.old }
+        requires effect_room { HasEffectRoom 1 fx.old }
+        ensures row { acts_of self.new p.new fx.new ≡ rows.close_with_error_propagation me promise (acts_of self.old p.old fx.old) }
+        ensures room { self.new.room ≡ self.old.room }
+        ensures promise_room { p.new.room ≡ p.old.room }
+        ensures effect_room { fx.new.capacity ≡ fx.old.capacity }
     {
         if self.is_closing() || self.is_closed() {
-            return fresh_settled(p, Ok(Plain::Undefined));
+            p.fulfil(promise, Plain::Undefined);
+            return;
         }
         if self.is_errored() {
-            return fresh_settled(p, Err(self.stored_error));
+            p.reject(promise, self.stored_error);
+            return;
         }
-        self.stream_close(me, p, fx)
+        self.stream_close(me, p, fx, promise);
     }
 
-    /// WritableStreamDefaultWriterRelease, where a writer has the stream. The answer is the writer's promises from now on.
+    /// WritableStreamDefaultWriterRelease. The new promises of a released writer are made by the call.
     #[tactic(auto, unfolding(ws_steps::specs::Writable::writer_release))]
-    pub fn writer_release(&mut self, p: &mut Promises) -> Option<Writer>
-        requires { 1 < p.old.spare }
+    pub fn writer_release(&mut self, p: &mut Promises)
         ensures row { (fx : SeenAgenda) → acts_of self.new p.new fx ≡ rows.writer_release (acts_of self.old p.old fx) }
-        ensures writer { result ≡ option_map (λ w. rows.released w p.old.table) self.old.slots.writer }
-        ensures spare { self.new.spare ≡ self.old.spare }
-        ensures promise_spare { p.old.spare ≤ p.new.spare + 2 }
+        ensures room { self.new.room ≡ self.old.room }
+        ensures promise_room { p.new.room ≡ p.old.room }
     {
-        match self.writer {
-            Some(writer) => {
-                let ready = ensure_rejected(p, writer.ready, TYPE_ERROR);
-                let closed = ensure_rejected(p, writer.closed, TYPE_ERROR);
-                self.writer = None;
-                Some(Writer { ready, closed })
-            }
-            None => None,
+        if let Some(writer) = self.writer {
+            settle_pending(p, writer.ready, Err(TYPE_ERROR));
+            settle_pending(p, writer.closed, Err(TYPE_ERROR));
+            self.writer = None;
         }
     }
 }

@@ -1,154 +1,134 @@
 -- One step of a writable stream.
-use Rattle.std.proofs.Common.{◌≡◌, ◌+◌, Bool, true, false, ◌||◌, List, [], ◌++◌, Option, Some, None, if◌then◌else◌, refl, sym, ap, ◌∙◌, append_assoc, append-nil}
+use Rattle.std.proofs.Common.{◌≡◌, ◌⊎◌, Bool, true, false, List, [], ◌∷◌, ◌++◌, refl, sym, ◌∙◌, append_assoc, append-nil, arith}
 use Rattle.ws_value.specs.declared.ids.StreamId.{StreamId}
-use Rattle.ws_value.specs.declared.value.Plain.{Plain}
 use Rattle.ws_value.specs.declared.value.Value.{Value}
-use Rattle.ws_steps.specs.declared.locks.Lock.{Lock}
-use Rattle.ws_steps.specs.declared.locks.Lock.TheVariants.{Reader as ReaderLock, Writer as WriterLock, ReleasedWriter}
+use Rattle.ws_steps.specs.declared.{effects.Effect.{Effect}, effects.Effect.TheVariants.{Writable}, writable.WritableOperation.TheVariants.{Write}}
 use Rattle.ws_steps.specs.Writable as writable
-use Rattle.ws_steps.specs.Slots.{Slots, empty, writable_at, lock_at}
+use Rattle.ws_steps.specs.Writable.{has_ended, is_errored, is_closed}
+use Rattle.ws_steps.specs.Slots.{Slots, Done, nothing, empty, writable_at}
+use Rattle.ws_steps.specs.Turns.{row, moments}
+use Rattle.ws_steps.specs.Jobs.{begin_job}
+use Rattle.ws_steps.specs.Calls.{Begun, begin}
 use Rattle.ws_steps.specs.Run.{Entry, Called, Worked, Heard, Forgot, step, run}
-use Rattle.ws_steps.specs.Histories.{Writes, no_writes, writes_then, is_same, todo, written_by, written_unless, written_with, call_written, step_writes, run_writes}
-use Rattle.ws_steps.specs.declared.writable.WritableState.{WritableState}
-use Rattle.ws_steps.specs.declared.writable.WritableState.TheVariants.{Writable, Erroring, Errored, Closed as WritableClosed}
-use Rattle.ws_steps.specs.declared.calls.Call.{Call}
-use Rattle.ws_steps.specs.declared.calls.Call.TheVariants.{Write}
-use Rattle.ws_steps.specs.Writable.{has_ended, is_errored, is_closed, write_refusal}
-use Rattle.ws_steps.specs.Readable.{type_error}
+use Rattle.ws_steps.specs.Histories.{along}
+use Rattle.ws_steps.specs.WritableHistory.{Writes, no_writes, writes_then, todo, written_by, effect_writes, step_writes, run_writes}
 use Rattle.ws_steps.specs.Laws.{IsWritableStep, EachWritableStep}
-use Rattle.ws_laws.proofs.Lists.{append_cancel, append_none}
-use Rattle.ws_laws.proofs.Tables.{either, same_id}
-use Rattle.ws_writable_laws.proofs.Shape.{Core, core_of, is_open, Told}
-use Rattle.ws_writable_laws.proofs.Runs.{Rests, entry_kept, run_kept, none_made, so_far-nothing, closed_whole}
+use Rattle.ws_laws.proofs.EachCall.{each_call}
+use Rattle.ws_laws.proofs.Lists.{Each, each-append, append_cancel, append_none}
+use Rattle.ws_laws.proofs.Rows.{row-causes}
+use Rattle.ws_laws.proofs.Tables.{same_id}
+use Rattle.ws_laws.proofs.Walker.{performed-goes}
+use Rattle.ws_writable_laws.proofs.Shape.{Core, core_of, Told}
+use Rattle.ws_writable_laws.proofs.Operations.{so_far-nothing}
+use Rattle.ws_writable_laws.proofs.Agenda.{Kept}
+use Rattle.ws_writable_laws.proofs.Runs.{is_history, step-kept, run-kept, resting, closed_whole}
 
 -- nothing is written to a stream that has ended
 
-or_true_false : {A : Type 0} (b : Bool) → b || true ≡ false → A
-or_true_false true e = cc
-or_true_false false e = cc
+refuses : (v : Value) (w : writable.Slots) → has_ended w.state ≡ true → written_by v w ≡ []
+refuses v w e = grind arith
 
-closed_refuses : (v : Value) (closing : Bool) (w : writable.Slots) → WritableClosed ≡ w.state → written_by v w ≡ []
-closed_refuses v closing w e = rw (← e) (either (λ (o : Option Plain). written_unless v o ≡ []) (writable.is_closing w || true) (Some type_error) None (λ f. refl) (λ f. or_true_false (writable.is_closing w) f))
+-- an effect that asks no stream to write
+abbrev IsNoWrite : Effect → Type 0
+IsNoWrite (Writable i (Write v p)) = ⊥
+IsNoWrite _ = Unit {0}
 
-refuses : (v : Value) (w : writable.Slots) (state : WritableState) → state ≡ w.state → has_ended w.state ≡ true → written_by v w ≡ []
-refuses v w Writable e f = cc
-refuses v w Erroring e f = cc
-refuses v w Errored e f = rw (← e) refl
-refuses v w WritableClosed e f = closed_refuses v (writable.is_closing w) w e
+-- a write stands only at the front, and there only where the stream has ended
+abbrev Blocked : StreamId → Slots → List Effect → Type 0
+Blocked i s [] = Unit {0}
+Blocked i s (e ∷ es) = (IsNoWrite e ⊎ (has_ended (writable_at i s).state ≡ true)) × Each IsNoWrite es
 
-writes_ended : (v : Value) (i j : StreamId) (s : Slots) (same : Bool) → same ≡ is_same i j → has_ended (writable_at i s).state ≡ true → (if same then written_by v (writable_at j s) else []) ≡ []
-writes_ended v i j s false e f = refl
-writes_ended v i j s true e f = let is : i ≡ j = same_id i j (sym e) in refuses v (writable_at j s) (writable_at j s).state refl (rw is at f)
+blocked : (i : StreamId) (s : Slots) (es : List Effect) → Each IsNoWrite es → Blocked i s es
+blocked i s es n = grind arith
 
-by_ended : (v : Value) (i : StreamId) (s : Slots) → has_ended (writable_at i s).state ≡ true → (lock : Option Lock) → written_with i v s lock ≡ []
-by_ended v i s f None = refl
-by_ended v i s f (Some (ReaderLock stream closed)) = refl
-by_ended v i s f (Some (WriterLock j)) = writes_ended v i j s (is_same i j) refl f
-by_ended v i s f (Some (ReleasedWriter w)) = refl
+effect_none : (i : StreamId) (e : Effect) (s : Slots) → IsNoWrite e ⊎ (has_ended (writable_at i s).state ≡ true) → (effect_writes i e s).written ≡ []
+effect_none i e s b = grind (arith, refuses, same_id)
 
-call_ended : (c : Call) (i : StreamId) (s : Slots) → has_ended (writable_at i s).state ≡ true → call_written i c s ≡ []
-call_ended (Write l v) i s f = by_ended v i s f (lock_at l s)
-call_ended _ i s f = refl
+-- nothing was written yet, and nothing will be
+record Unwritten (i : StreamId) (h : Writes) (s : Slots) (es : List Effect) : Type 0 where
+  pub none : h.written ≡ []
+  pub blocked : Blocked i s es
 
-entry_ended : (x : Entry) (i : StreamId) (s : Slots) → has_ended (writable_at i s).state ≡ true → (step_writes i s x).written ≡ []
-entry_ended (Called c) i s f = call_ended c i s f
-entry_ended Worked i s f = refl
-entry_ended Heard i s f = refl
-entry_ended (Forgot p) i s f = refl
+row_unwritten : (i : StreamId) (h : Writes) (s : Slots) (e : Effect) (es : List Effect) → Unwritten i h s (e ∷ es) → Unwritten i (writes_then h (effect_writes i e s)) (row e s).slots ((row e s).caused ++ es)
+row_unwritten i h s e es u = record {
+  none = rw (u.none, effect_none i e s u.blocked.0) refl;
+  blocked = blocked i (row e s).slots ((row e s).caused ++ es) (each-append IsNoWrite (row e s).caused es (row-causes IsNoWrite e s (grind arith)) u.blocked.1);
+}
+
+performed_none : (i : StreamId) (d : Done) → Blocked i d.slots d.caused → (along no_writes writes_then (effect_writes i) (moments d)).written ≡ []
+performed_none i d b = (performed-goes no_writes writes_then is_history (effect_writes i) (Unwritten i) (row_unwritten i) no_writes d (record { none = refl; blocked = b })).none
+
+entry_none : (i : StreamId) (s : Slots) (x : Entry) → has_ended (writable_at i s).state ≡ true → (step_writes i s x).written ≡ []
+unfolding begin_job
+entry_none i s (Called c) e = performed_none i (begin c s).done (each_call (λ (b : Begun). Blocked i b.done.slots b.done.caused) c s (grind arith))
+entry_none i s Worked e = performed_none i (begin_job s) (grind arith)
+entry_none i s Heard e = performed_none i (nothing s) tt
+entry_none i s (Forgot p) e = performed_none i (nothing s) tt
 
 -- a stream that has ended acts on nothing: its past may be forgotten, but for its closing
 
-abbrev pub forgotten : Writes → Writes
+abbrev forgotten : Writes → Writes
 forgotten h = record no_writes { closes = h.closes }
 
 forgotten-told : (h : Writes) (d : List Value) (c : Core) → has_ended c.state ≡ true → c.queue ≡ [] → Told h d c → Told (forgotten h) [] c
-forgotten-told h d c e q t =
-    let shut : is_open c ≡ false = rw (e, q) refl in
-    let none : todo c.queue ≡ [] = rw q refl in
-    record {
-      all = rw none refl;
-      live = λ o. refl;
-      counted = λ o. cc;
-      whole = λ z. refl;
-      fulfilled = λ z. refl;
-      closed = λ f z. (refl, refl, (t.closed f z).2);
-    }
+forgotten-told h d c e q t = grind arith
 
-forgotten-kept : (i : StreamId) (h : Writes) (s : Slots) → has_ended (writable_at i s).state ≡ true → Rests i h s → Rests i (forgotten h) s
+forgotten-kept : (i : StreamId) (h : Writes) (s : Slots) → has_ended (writable_at i s).state ≡ true → Kept i h s [] → Kept i (forgotten h) s []
 forgotten-kept i h s e k =
-    let f = k.held.fine in
-    let told : Told h k.held.dropped (core_of (writable_at i s)) = rw (so_far-nothing i h) at f.told in
+    let r = resting i h s k in
+    let t = forgotten-told h k.held.dropped (core_of (writable_at i s)) e (r.shape.ended e) r.told in
     record {
-      unmade = λ g. let u = k.unmade g in let n : h.closes + 0 ≡ 0 = ap (λ (w : Writes). w.closes) u.history in record {
-        history = λ l. record no_writes { closes = n l };
-        aborts = u.aborts;
-      };
-      held = record {
-        dropped = [];
-        fine = record {
-          shape = f.shape;
-          closing = f.closing;
-          told = rw (so_far-nothing i (forgotten h)) (forgotten-told h k.held.dropped (core_of (writable_at i s)) e (f.shape.ended e) told);
-          owed = f.owed;
-        };
-      };
+      unmade = λ g. let u = k.unmade g in grind arith;
+      held = record { behind = refl; dropped = []; fine = rw (so_far-nothing i (forgotten h) (writable_at i s)) (record { shape = r.shape; closing = r.closing; told = t; owed = r.owed }) };
     }
 
-told_after : (i : StreamId) (h : Writes) (s : Slots) (k : Rests i h s) → Told h k.held.dropped (core_of (writable_at i s))
-told_after i h s k = rw (so_far-nothing i h) at k.held.fine.told
-
-acts_ended : (i : StreamId) (x : Entry) (s : Slots) (h : Writes) → has_ended (writable_at i s).state ≡ true → Rests i h s → (step_writes i s x).acted ≡ []
-acts_ended i x s h e k =
-    let after = entry_kept i x s (forgotten h) (forgotten-kept i h s e k) in
-    let t = told_after i (writes_then (forgotten h) (step_writes i s x)) (step s x) after in
-    let all : (step_writes i s x).acted ++ (todo (writable_at i (step s x)).queue ++ after.held.dropped) ≡ [] = sym t.all ∙ entry_ended x i s e in
+acts_none : (i : StreamId) (x : Entry) (s : Slots) (h : Writes) → has_ended (writable_at i s).state ≡ true → Kept i h s [] → (step_writes i s x).acted ≡ []
+acts_none i x s h e k =
+    let g : Writes = writes_then (forgotten h) (step_writes i s x) in
+    let after = step-kept i (forgotten h) s x (forgotten-kept i h s e k) in
+    let t = (resting i g (step s x) after).told in
+    let all : (step_writes i s x).acted ++ (todo (writable_at i (step s x)).queue ++ after.held.dropped) ≡ [] = sym t.all ∙ entry_none i s x e in
     (append_none (step_writes i s x).acted (todo (writable_at i (step s x)).queue ++ after.held.dropped) all).0
 
 -- a stream that hasn't ended
 
 step_lists : (E A Q D W B R F : List Value) → E ≡ A ++ (Q ++ D) → D ≡ [] → E ++ W ≡ (A ++ B) ++ (R ++ F) → Q ++ W ≡ B ++ (R ++ F)
-step_lists E A Q D W B R F e d f =
-    let before : E ≡ A ++ Q = rw (d, append-nil) at e in
-    let after : (A ++ Q) ++ W ≡ (A ++ B) ++ (R ++ F) = rw before at f in
-    append_cancel A (Q ++ W) (B ++ (R ++ F)) (sym (append_assoc A Q W) ∙ (after ∙ append_assoc A B (R ++ F)))
-
-alive_or_closed : (s : WritableState) → is_errored s ≡ false → has_ended s ≡ true → is_closed s ≡ true
-alive_or_closed Writable e f = cc
-alive_or_closed Erroring e f = cc
-alive_or_closed Errored e f = cc
-alive_or_closed WritableClosed e f = refl
+step_lists E A Q D W B R F e d f = append_cancel A (Q ++ W) (B ++ (R ++ F)) (grind (arith, append_assoc, append-nil))
 
 -- nothing was dropped of a stream that isn't errored
-none_dropped : (h : Writes) (d : List Value) (c : Core) (ended : Bool) → ended ≡ has_ended c.state → is_errored c.state ≡ false → Told h d c → d ≡ []
-none_dropped h d c false e f t = t.live (rw (← e) refl)
-none_dropped h d c true e f t =
-    let whole = closed_whole h d c h.closes refl (alive_or_closed c.state f (sym e)) t in
-    let all : h.acted ++ [] ≡ h.acted ++ (todo c.queue ++ d) = append-nil h.acted ∙ (whole.0 ∙ t.all) in
-    (append_none (todo c.queue) d (sym (append_cancel h.acted [] (todo c.queue ++ d) all))).1
+none_dropped : (h : Writes) (d : List Value) (c : Core) → is_errored c.state ≡ false → Told h d c → d ≡ []
+none_dropped h d c f t =
+    let closed : is_closed c.state ≡ true → d ≡ [] = λ e.
+    let all : h.acted ++ [] ≡ h.acted ++ (todo c.queue ++ d) = append-nil h.acted ∙ ((closed_whole h d c e t).0 ∙ t.all) in
+    (append_none (todo c.queue) d (sym (append_cancel h.acted [] (todo c.queue ++ d) all))).1 in
+    grind arith
 
-writable_step : (i : StreamId) (x : Entry) (s : Slots) (h : Writes) → Rests i h s → (ended : Bool) → ended ≡ has_ended (writable_at i s).state → IsWritableStep (step_writes i s x) (writable_at i s) (writable_at i (step s x))
+writable_step : (i : StreamId) (x : Entry) (s : Slots) (h : Writes) → Kept i h s [] → (ended : Bool) → ended ≡ has_ended (writable_at i s).state → IsWritableStep (step_writes i s x) (writable_at i s) (writable_at i (step s x))
 writable_step i x s h k true e =
-    let written = entry_ended x i s (sym e) in
-    let acted = acts_ended i x s h (sym e) k in
+    let written = entry_none i s x (sym e) in
+    let acted = acts_none i x s h (sym e) k in
     record {
       alive = λ f g. absurd (cc);
       front = (todo (writable_at i s).queue ++ (step_writes i s x).written, rw acted refl);
       ended = λ f. (written, acted);
     }
 writable_step i x s h k false e =
-    let t = told_after i h s k in
-    let after = entry_kept i x s h k in
-    let u = told_after i (writes_then h (step_writes i s x)) (step s x) after in
-    let lists = step_lists h.written h.acted (todo (writable_at i s).queue) k.held.dropped (step_writes i s x).written (step_writes i s x).acted (todo (writable_at i (step s x)).queue) after.held.dropped t.all (t.live (rw (← e) refl)) u.all in
+    let g : Writes = step_writes i s x in
+    let before : writable.Slots = writable_at i s in
+    let now : writable.Slots = writable_at i (step s x) in
+    let after = step-kept i h s x k in
+    let t = (resting i h s k).told in
+    let u = (resting i (writes_then h g) (step s x) after).told in
+    let lists = step_lists h.written h.acted (todo before.queue) k.held.dropped g.written g.acted (todo now.queue) after.held.dropped t.all (t.live (rw (← e) refl)) u.all in
     record {
-      alive = λ f g.
-          let none : after.held.dropped ≡ [] = none_dropped (writes_then h (step_writes i s x)) after.held.dropped (core_of (writable_at i (step s x))) (has_ended (writable_at i (step s x)).state) refl g u in
+      alive = λ f l.
+          let none : after.held.dropped ≡ [] = none_dropped (writes_then h g) after.held.dropped (core_of now) l u in
           rw (none, append-nil) at lists;
-      front = (todo (writable_at i (step s x)).queue ++ after.held.dropped, sym lists);
+      front = (todo now.queue ++ after.held.dropped, sym lists);
       ended = λ f. absurd (cc);
     }
 
 pub each_writable_step : EachWritableStep
 each_writable_step entries x i =
     let s : Slots = run entries empty in
-    writable_step i x s (writes_then no_writes (run_writes i entries empty)) (run_kept i entries empty no_writes (none_made i)) (has_ended (writable_at i s).state) refl
+    writable_step i x s (run_writes i entries empty) (run-kept entries i) (has_ended (writable_at i s).state) refl

@@ -1,11 +1,7 @@
 pub mod Shape
-pub mod Moves
 pub mod Operations
-pub mod Ends
-pub mod Closing
-pub mod Asked
-pub mod Steps
-pub mod Calls
+pub mod Agenda
 pub mod Runs
+pub mod Expects
 pub mod EachStep
 pub mod Heard

@@ -1,325 +1,389 @@
--- What each operation of a writable stream keeps.
-use Rattle.std.proofs.Common.{◌≡◌, ℕ, ◌+◌, ◌≤◌, ◌<◌, Bool, true, false, not, ◌&&◌, is_some, is_none, if◌then◌else◌, List, [], ◌∷◌, ◌++◌, length, Option, Some, None, Result, Err, refl, sym, ap, subst, ◌∙◌, arith, append_assoc, append-nil, length-append}
+-- What each operation of a writable stream keeps, where it ends well or fails.
+use Rattle.std.proofs.Common.{◌≡◌, ℕ, zero, suc, ◌+◌, ◌≤◌, Bool, true, false, not, ◌&&◌, is_some, is_none, if◌then◌else◌, List, [], ◌∷◌, ◌++◌, Option, Some, None, Err, refl, sym, subst, ◌∙◌, arith, append_assoc, append-nil, length-append, Ok, ap}
 use Rattle.ws_value.specs.declared.ids.PromiseId.{PromiseId}
 use Rattle.ws_value.specs.declared.ids.StreamId.{StreamId}
 use Rattle.ws_value.specs.declared.value.Plain.{Plain}
 use Rattle.ws_value.specs.declared.value.Value.{Value}
-use Rattle.ws_steps.specs.declared.effects.Effect.{Effect}
-use Rattle.ws_steps.specs.declared.effects.Effect.TheVariants.{Write, Close, Abort}
-use Rattle.ws_steps.specs.declared.promises.Step.{Step}
-use Rattle.ws_steps.specs.declared.promises.Step.TheVariants.{WritableWrite, WritableClose, WritableAbort}
-use Rattle.ws_steps.specs.declared.queue.Queued.{Queued}
-use Rattle.ws_steps.specs.declared.writable.PendingAbort.{PendingAbort}
-use Rattle.ws_steps.specs.declared.writable.WritableState.{WritableState}
-use Rattle.ws_steps.specs.declared.writable.WritableState.TheVariants.{Writable, Erroring, Errored, Closed}
-use Rattle.ws_steps.specs.declared.writable.WriteRecord.{WriteRecord}
-use Rattle.ws_steps.specs.declared.writable.WriteRecord.TheVariants.{Chunk, InFlight, CloseMark}
-use Rattle.ws_steps.specs.declared.writable.Writer.{Writer}
-use Rattle.ws_steps.specs.Promises.{Table, is_pending_at, settle}
-use Rattle.ws_steps.specs.Queues.{first_value}
-use Rattle.ws_steps.specs.Effects.{Out, cause}
-use Rattle.ws_steps.specs.Writable.{Acts, with_promises, causing, is_writable, is_erroring, is_in_flight, reject_close, reject_closed, reject_close_and_closed, abort_by, finish_abort, fail_writes, finish_erroring, reject_ready, start_erroring, deal_with_rejection, controller_error_if_needed, process_write, process_close, process_first, advance_queue, has_ended}
-use Rattle.ws_steps.specs.Histories.{Writes, todo, is_same, acted_in, closes_in, acted_by, closes_by}
+use Rattle.ws_value.specs.declared.value.Plain.TheVariants.{Undefined}
+use Rattle.ws_steps.specs.declared.{effects.Effect.{Effect}, queue.Queued.{Queued}, writable.PendingAbort.{PendingAbort}, writable.WritableState.{WritableState}}
+use Rattle.ws_steps.specs.declared.{writable.WritableState.TheVariants.{Writable, Erroring, Closed}, writable.WriteRecord.{WriteRecord}}
+use Rattle.ws_steps.specs.declared.{writable.WriteRecord.TheVariants.{Chunk, InFlight, CloseMark}, writable.Writer.{Writer}}
+use Rattle.ws_steps.specs.Promises.{settle}
+use Rattle.ws_steps.specs.Queues.{first_value, with_first_value, rest_of, enqueued, size_of}
+use Rattle.ws_steps.specs.Writable.{Slots, Acts, with_promises, is_writable, is_erroring, is_in_flight, reject_close_and_closed, abort_by, finish_abort, fail_writes, finish_erroring, reject_ready, start_erroring, deal_with_rejection, controller_error_if_needed, first_request, later_requests, process_write, process_close, process_first, advance_queue, has_ended, update_backpressure, refresh_backpressure, write_ended, without_first, write_settled, close_ended, abort_ended, clear_error, fulfil_closed, finish_in_flight_close, finish_in_flight_close_with_error, close_settled, start_settled, abort_settled, is_closing, enqueue_chunk, controller_write, add_write_request, write_refusal, write_by, writer_write, controller_close, add_close_request, fulfil_ready, stream_close, add_pending_abort, begin_abort, signalled, stream_abort, set_up_writer, release_by, writer_release}
+use Rattle.ws_steps.specs.WritableHistory.{Writes, todo, first_chunk, fulfilled_by, no_writes, writes_then, written_by, written_unless, operation_writes}
+use Rattle.ws_steps.specs.declared.{effects.Effect.TheVariants.{Writable as OnWritable}, effects.Owner.{Owner}, effects.Owner.TheVariants.{Host}}
+use Rattle.ws_steps.specs.declared.writable.WritableOperation.{WritableOperation}
+use Rattle.ws_steps.specs.declared.writable.WritableOperation.TheVariants.{SetUpWriter, ReleaseWriter, Write, Close, Abort, ErrorIfNeeded, HandOn, StartSettled, WriteSettled, CloseSettled, AbortSettled}
+use Rattle.ws_steps.specs.Effects.{type_error}
+use Rattle.ws_steps.specs.Operations.{writable_operation}
+use Rattle.ws_steps.specs.Histories.{is_same}
 use Rattle.ws_laws.proofs.Tables.{either, is_same-refl}
-use Rattle.ws_laws.proofs.Outstanding.{weight}
-use Rattle.ws_laws.proofs.Later.{later-settle}
-use Rattle.ws_laws.proofs.Apart.{Apart, apart-same, apart-promises, acted-cause, closes-cause, aborts-cause, aborts_in}
-use Rattle.ws_laws.proofs.WritableApart as apart
-use Rattle.ws_writable_laws.proofs.Shape.{one_if, Core, core_of, Shape, Closing, Told, failed-shape, failed-told, erroring-shape, erroring-told}
-use Rattle.ws_writable_laws.proofs.Moves as moves
-use Rattle.ws_laws.proofs.Truth.{and_left, and_right}
+use Rattle.ws_laws.proofs.Truth.{and_left, and_right, refuted, nor_left, nor_right}
+use Rattle.ws_laws.proofs.WritableDoes.{IsHandOn}
+use Rattle.ws_writable_laws.proofs.Shape.{one_if, Core, core_of, Shape, Closing, Told, failed, has_mark, todo-append, leads-append, no_mark-append, last-append, is_start, is_write, is_close, is_abort, leads_to, hands, closes, asks, all}
 
--- the steps that go on after a write of stream i, after its close, and after its abort
-abbrev pub is_write : StreamId → Step → ℕ
-is_write i (WritableWrite j) = one_if (is_same i j)
-is_write i _ = 0
+-- how much is under way of a stream: of its start, its writes, its close and its abort, and how often it is asked to close
+pub record Due : Type 0 where
+  pub starts : ℕ
+  pub writes : ℕ
+  pub closes : ℕ
+  pub aborts : ℕ
+  pub asks : ℕ
 
-abbrev pub is_close : StreamId → Step → ℕ
-is_close i (WritableClose j) = one_if (is_same i j)
-is_close i _ = 0
+-- a start goes on once, and then the controller has started; a write or a close goes on only where one is in flight, an abort only where
+-- the stream has ended; and only a stream that isn't closing is asked to close, once
+pub record Owed (n : Due) (c : Core) : Type 0 where
+  pub starts : n.starts + one_if c.started ≤ 1
+  pub writes : n.writes ≤ one_if c.writing
+  pub closes : n.closes ≤ one_if c.closing
+  pub aborts : has_ended c.state ≡ false → n.aborts ≡ 0
+  pub asks : n.asks + (one_if c.requested + one_if c.closing) ≤ 1
 
-abbrev pub is_abort : StreamId → Step → ℕ
-is_abort i (WritableAbort j p) = one_if (is_same i j)
-is_abort i _ = 0
+-- what holds of a stream between its operations
+pub record Fine (n : Due) (h : Writes) (dropped : List Value) (c : Core) : Type 0 where
+  pub shape : Shape h.closes c
+  pub closing : Closing h.closes c
+  pub told : Told h dropped c
+  pub owed : Owed n c
+
+-- what is under way, with these effects
+abbrev pub with_effects : StreamId → Due → List Effect → Due
+with_effects i n es = record {
+  starts = n.starts + all (leads_to (is_start i)) es;
+  writes = n.writes + all (leads_to (is_write i)) es;
+  closes = n.closes + all (leads_to (is_close i)) es;
+  aborts = n.aborts + all (leads_to (is_abort i)) es;
+  asks = n.asks + all (asks i) es;
+}
+
+-- the queue once its first chunk is handed on
+
+abbrev pub handed_by : List (Queued WriteRecord) → WriteRecord → List (Queued WriteRecord)
+handed_by queue (Chunk v) = with_first_value InFlight queue
+handed_by queue InFlight = queue
+handed_by queue CloseMark = queue
+
+abbrev pub handed_queue : List (Queued WriteRecord) → List (Queued WriteRecord)
+handed_queue [] = []
+handed_queue (q ∷ qs) = handed_by (q ∷ qs) q.value
+
+-- what is to be handed on counts as handed on
+
+abbrev pub handed : ℕ → Slots → Slots
+handed zero s = s
+handed (suc n) s = record s { queue = handed_queue s.queue }
+
+abbrev pub chunk_handed : ℕ → Slots → List Value
+chunk_handed zero s = []
+chunk_handed (suc n) s = first_chunk s.queue
 
 -- the history with the effects that are still to be performed
-abbrev pub so_far : StreamId → Writes → List Effect → Writes
-so_far i h es = record h { acted = h.acted ++ acted_in i es; closes = h.closes + closes_in i es }
+abbrev pub so_far : StreamId → Writes → List Effect → Slots → Writes
+so_far i h es s = record h { acted = h.acted ++ chunk_handed (all (hands i) es) s; closes = h.closes + all (closes i) es }
 
--- a write or a close goes on only where one is in flight, and an abort only where the stream has ended
-pub record Owed (i : StreamId) (c : Core) (x : Out) : Type 0 where
-  pub writes : weight (is_write i) x.promises + length (acted_in i x.effects) ≤ one_if c.writing
-  pub closes : weight (is_close i) x.promises + closes_in i x.effects ≤ one_if c.closing
-  pub aborts : has_ended c.state ≡ false → weight (is_abort i) x.promises + aborts_in i x.effects ≡ 0
+abbrev pub later_effects : List Effect → List Effect
+later_effects [] = []
+later_effects (e ∷ es) = es
 
--- what holds of stream i at each moment
-pub record Fine (i : StreamId) (h : Writes) (dropped : List Value) (a : Acts) : Type 0 where
-  pub shape : Shape (so_far i h a.out.effects).closes (core_of a.slots)
-  pub closing : Closing (so_far i h a.out.effects).closes (core_of a.slots)
-  pub told : Told (so_far i h a.out.effects) dropped (core_of a.slots)
-  pub owed : Owed i (core_of a.slots) a.out
-
--- whatever was dropped
-pub record Held (i : StreamId) (h : Writes) (a : Acts) : Type 0 where
+-- what holds of stream i at each moment, whatever was dropped; only the first effect hands a chunk on
+pub record Held (i : StreamId) (n : Due) (h : Writes) (es : List Effect) (s : Slots) : Type 0 where
+  pub behind : all (hands i) (later_effects es) ≡ 0
   pub dropped : List Value
-  pub fine : Fine i h dropped a
+  pub fine : Fine (with_effects i n es) (so_far i h es s) dropped (core_of (handed (all (hands i) es) s))
+
+-- less is under way
+
+pub record Less (m n : Due) : Type 0 where
+  pub starts : m.starts ≤ n.starts
+  pub writes : m.writes ≤ n.writes
+  pub closes : m.closes ≤ n.closes
+  pub aborts : m.aborts ≤ n.aborts
+  pub asks : m.asks ≤ n.asks
+
+pub fine-less : (m n : Due) (h : Writes) (d : List Value) (c : Core) → Less m n → Fine n h d c → Fine m h d c
+fine-less m n h d c l f = grind arith
+
+-- where nothing is caused
+
+pub so_far-nothing : (i : StreamId) (h : Writes) (s : Slots) → so_far i h [] s ≡ h
+so_far-nothing i h s = grind (arith, append-nil)
+
+pub quiet-held : (i : StreamId) (n : Due) (h : Writes) (d : List Value) (es : List Effect) (s : Slots) → es ≡ [] → Fine n h d (core_of s) → Held i n h es s
+quiet-held i n h d es s e f = rw e (record { behind = refl; dropped = d; fine = rw (so_far-nothing i h s) (grind arith) })
 
 -- what doesn't matter changes
-pub record Same (i : StreamId) (a b : Acts) : Type 0 where
+pub record Same (a b : Acts) : Type 0 where
   pub core : core_of b.slots ≡ core_of a.slots
-  pub apart : Apart i a.out b.out
+  pub effects : b.out.effects ≡ a.out.effects
 
-pub owed-later : (i : StreamId) (c : Core) (x y : Out) → Apart i x y → Owed i c x → Owed i c y
-owed-later i c x y a o = record {
-  writes = let m = a.later.weight (is_write i) in let n : length (acted_in i y.effects) ≡ length (acted_in i x.effects) = ap length a.acted in let w = o.writes in omega arith;
-  closes = let m = a.later.weight (is_close i) in let n = a.closes in let w = o.closes in omega arith;
-  aborts = λ e. let m = a.later.weight (is_abort i) in let n = a.aborts in let w = o.aborts e in omega arith;
-}
+pub same_fine : (n : Due) (h : Writes) (d : List Value) (a b : Acts) → Same a b → Fine n h d (core_of a.slots) → Fine n h d (core_of b.slots)
+same_fine n h d a b s f = rw s.core f
 
-pub so_far-same : (i : StreamId) (h : Writes) (x y : Out) → Apart i x y → so_far i h y.effects ≡ so_far i h x.effects
-so_far-same i h x y a = λ k. record h { acted = h.acted ++ a.acted k; closes = h.closes + a.closes k }
+-- all is well once the writes are failed and the stream is errored
+abbrev pub Failing : Due → Writes → List Value → Core → Type 0
+Failing n h dropped c = Fine n h (todo c.queue ++ dropped) (failed c)
 
-closes-same : (i : StreamId) (h : Writes) (x y : Out) → Apart i x y → h.closes + closes_in i y.effects ≡ h.closes + closes_in i x.effects
-closes-same i h x y a = ap (λ (n : ℕ). h.closes + n) a.closes
-
-pub same_fine : (i : StreamId) (h : Writes) (d : List Value) (a b : Acts) → Same i a b → Fine i h d a → Fine i h d b
-same_fine i h d a b s f = record {
-  shape = rw (s.core, closes-same i h a.out b.out s.apart) f.shape;
-  closing = subst (λ (c : Core). Closing (h.closes + closes_in i b.out.effects) c) (sym s.core) (rw (closes-same i h a.out b.out s.apart) f.closing);
-  told = rw (s.core, so_far-same i h a.out b.out s.apart) f.told;
-  owed = rw s.core (owed-later i (core_of a.slots) a.out b.out s.apart f.owed);
-}
-
-pub same_held : (i : StreamId) (h : Writes) (a b : Acts) → Same i a b → Held i h a → Held i h b
-same_held i h a b s f = record { dropped = f.dropped; fine = same_fine i h f.dropped a b s f.fine }
-
--- the writes are failed, and the stream is errored
-pub fail_writes-fine : (i : StreamId) (h : Writes) (d : List Value) (a : Acts) → Fine i h d a → Fine i h (todo a.slots.queue ++ d) (fail_writes a)
-fail_writes-fine i h d a f = record {
-  shape = failed-shape (so_far i h a.out.effects).closes (core_of a.slots) f.shape;
-  closing = λ z e. cc;
-  told = failed-told (so_far i h a.out.effects) d (core_of a.slots) f.told;
-  owed = let o = owed-later i (core_of a.slots) a.out (fail_writes a).out (apart.fail_writes-apart i a) f.owed in record { writes = o.writes; closes = o.closes; aborts = λ e. cc };
-}
-
--- requests to close
-
-unrequested : (k : ℕ) (c : Core) → has_ended c.state ≡ true → Shape k c → Shape k (record c { requested = false })
-unrequested k c e s = record {
-  ended = s.ended;
-  flying = s.flying;
-  requests = s.requests;
-  last = s.last;
-  started = s.started;
-  marked = λ f g. cc;
-  flight = s.flight;
-  spent = s.spent;
-  still = s.still;
-  once = s.once;
-}
-
-reject_close-fine : (i : StreamId) (h : Writes) (d : List Value) (a : Acts) (p : Option PromiseId) → has_ended a.slots.state ≡ true → Fine i h d a → Fine i h d (reject_close a p)
-reject_close-fine i h d a None e f = f
-reject_close-fine i h d a (Some p) e f =
-    let t : Table = settle p (Err a.slots.stored_error) a.out.promises in
-    let later = owed-later i (core_of a.slots) a.out (record a.out { promises = t }) (apart-promises i a.out t (later-settle p (Err a.slots.stored_error) a.out.promises)) f.owed in
-    record {
-      shape = unrequested (h.closes + closes_in i a.out.effects) (core_of a.slots) e f.shape;
-      closing = f.closing;
-      told = record { all = f.told.all; live = f.told.live; counted = f.told.counted; whole = f.told.whole; fulfilled = f.told.fulfilled; closed = f.told.closed };
-      owed = record { writes = later.writes; closes = later.closes; aborts = later.aborts };
-    }
-
-reject_closed-same : (i : StreamId) (a : Acts) (w : Option Writer) → Same i a (reject_closed a w)
-reject_closed-same i a None = record { core = refl; apart = apart-same i a.out }
-reject_closed-same i a (Some w) =
-    either (Same i a) (is_pending_at w.closed a.out.promises) (with_promises (settle w.closed (Err a.slots.stored_error) a.out.promises) a) a
-    (λ e. record { core = refl; apart = apart-promises i a.out (settle w.closed (Err a.slots.stored_error) a.out.promises) (later-settle w.closed (Err a.slots.stored_error) a.out.promises) })
-    (λ e. record { core = refl; apart = apart-same i a.out })
-
-pub reject_both-fine : (i : StreamId) (h : Writes) (d : List Value) (a : Acts) → has_ended a.slots.state ≡ true → Fine i h d a → Fine i h d (reject_close_and_closed a)
+unrequested : (a : Acts) → (core_of (reject_close_and_closed a).slots ≡ record (core_of a.slots) { requested = false }) × ((reject_close_and_closed a).out.effects ≡ a.out.effects)
 unfolding reject_close_and_closed
-reject_both-fine i h d a e f =
-    let b : Acts = reject_close a a.slots.close_request in
-    same_fine i h d b (reject_closed b b.slots.writer) (reject_closed-same i b b.slots.writer) (reject_close-fine i h d a a.slots.close_request e f)
+unrequested a = grind arith
 
-pub settled-same : (i : StreamId) (a : Acts) (p : PromiseId) (o : Result Plain Plain) → Same i a (with_promises (settle p o a.out.promises) a)
-settled-same i a p o = record { core = refl; apart = apart-promises i a.out (settle p o a.out.promises) (later-settle p o a.out.promises) }
+pub reject_both-held : (i : StreamId) (n : Due) (h : Writes) (d : List Value) (a : Acts) → has_ended a.slots.state ≡ true → a.out.effects ≡ [] → Fine n h d (core_of a.slots) → Held i n h (reject_close_and_closed a).out.effects (reject_close_and_closed a).slots
+reject_both-held i n h d a e q f =
+    let u = unrequested a in quiet-held i n h d (reject_close_and_closed a).out.effects (reject_close_and_closed a).slots (u.1 ∙ q) (rw u.0 (grind arith))
 
--- effects that perform neither the write algorithm nor the close algorithm
-so_far-cause : (i : StreamId) (h : Writes) (e : Effect) (x : Out) → acted_by i e ≡ [] → closes_by i e ≡ 0 → so_far i h (cause e x).effects ≡ so_far i h x.effects
-so_far-cause i h e x a c =
-    let m : acted_in i (cause e x).effects ≡ acted_in i x.effects = acted-cause i e x ∙ (rw a (append-nil (acted_in i x.effects))) in
-    let n : closes_in i (cause e x).effects ≡ closes_in i x.effects = let l = closes-cause i e x in omega arith in
-    λ k. record h { acted = h.acted ++ m k; closes = h.closes + n k }
+abort_by-held : (i : StreamId) (abort : PendingAbort) (n : Due) (h : Writes) (d : List Value) (a : Acts) (was : Bool) → has_ended a.slots.state ≡ true → a.out.effects ≡ [] → Fine n h d (core_of a.slots) → Held i n h (abort_by i abort a was).out.effects (abort_by i abort a was).slots
+abort_by-held i abort n h d a true e q f = reject_both-held i n h d (with_promises (settle abort.promise (Err a.slots.stored_error) a.out.promises) a) e q f
+abort_by-held i abort n h d a false e q f = rw q (record { behind = refl; dropped = d; fine = rw (so_far-nothing i h a.slots) (grind arith) })
 
-abort-fine : (i me : StreamId) (r : Plain) (p : PromiseId) (h : Writes) (d : List Value) (a : Acts) → has_ended a.slots.state ≡ true → Fine i h d a → Fine i h d (causing (Abort me r p) a)
-abort-fine i me r p h d a e f =
-    let same = so_far-cause i h (Abort me r p) a.out refl refl in
-    let closes : h.closes + closes_in i (cause (Abort me r p) a.out).effects ≡ h.closes + closes_in i a.out.effects = ap (λ (w : Writes). w.closes) same in
-    let acted : acted_in i (cause (Abort me r p) a.out).effects ≡ acted_in i a.out.effects = acted-cause i (Abort me r p) a.out ∙ append-nil (acted_in i a.out.effects) in
-    record {
-      shape = rw closes f.shape;
-      closing = rw closes f.closing;
-      told = rw same f.told;
-      owed = record { writes = rw acted f.owed.writes; closes = let n = closes-cause i (Abort me r p) a.out in let o = f.owed.closes in omega arith; aborts = λ g. cc };
-    }
-
-abort_by-fine : (i me : StreamId) (h : Writes) (d : List Value) (abort : PendingAbort) (a : Acts) (was : Bool) → has_ended a.slots.state ≡ true → Fine i h d a → Fine i h d (abort_by me abort a was)
-abort_by-fine i me h d abort a true e f =
-    let b : Acts = with_promises (settle abort.promise (Err a.slots.stored_error) a.out.promises) a in
-    reject_both-fine i h d b e (same_fine i h d a b (settled-same i a abort.promise (Err a.slots.stored_error)) f)
-abort_by-fine i me h d abort a false e f = abort-fine i me abort.reason abort.promise h d a e f
-
-pub finish_abort-fine : (i me : StreamId) (h : Writes) (d : List Value) (a : Acts) (abort : Option PendingAbort) → has_ended a.slots.state ≡ true → Fine i h d a → Fine i h d (finish_abort me a abort)
-finish_abort-fine i me h d a None e f = reject_both-fine i h d a e f
-finish_abort-fine i me h d a (Some abort) e f =
-    let b : Acts = record a { slots = record a.slots { pending_abort = None } } in
-    abort_by-fine i me h d abort b abort.was_already_erroring e (same_fine i h d a b (record { core = refl; apart = apart-same i a.out }) f)
+finish_abort-held : (i : StreamId) (n : Due) (h : Writes) (d : List Value) (a : Acts) (abort : Option PendingAbort) → has_ended a.slots.state ≡ true → a.out.effects ≡ [] → Fine n h d (core_of a.slots) → Held i n h (finish_abort i a abort).out.effects (finish_abort i a abort).slots
+finish_abort-held i n h d a None e q f = reject_both-held i n h d a e q f
+finish_abort-held i n h d a (Some abort) e q f =
+    abort_by-held i abort n h d (record a { slots = record a.slots { pending_abort = None } }) abort.was_already_erroring e q f
 
 -- erroring
 
-pub finish_erroring-held : (i me : StreamId) (h : Writes) (d : List Value) (a : Acts) → Fine i h d a → Held i h (finish_erroring me a)
+pub finish_erroring-held : (i : StreamId) (n : Due) (h : Writes) (d : List Value) (a : Acts) → a.out.effects ≡ [] → Failing n h d (core_of a.slots) → Held i n h (finish_erroring i a).out.effects (finish_erroring i a).slots
 unfolding finish_erroring
-finish_erroring-held i me h d a f =
+finish_erroring-held i n h d a q f =
     let b : Acts = fail_writes a in
-    record { dropped = todo a.slots.queue ++ d; fine = finish_abort-fine i me h (todo a.slots.queue ++ d) b b.slots.pending_abort refl (fail_writes-fine i h d a f) }
+    finish_abort-held i n h (todo a.slots.queue ++ d) b b.slots.pending_abort refl q f
 
-erroring-fine : (i : StreamId) (h : Writes) (d : List Value) (r : Plain) (a : Acts) → a.slots.state ≡ Writable → Fine i h d a → Fine i h d (record a { slots = record a.slots { state = Erroring; stored_error = r } })
-erroring-fine i h d r a w f =
-    let alive : has_ended a.slots.state ≡ false = rw w refl in
-    record {
-      shape = erroring-shape (h.closes + closes_in i a.out.effects) (core_of a.slots) w f.shape;
-      closing = λ z e. f.closing z alive;
-      told = erroring-told (so_far i h a.out.effects) d (core_of a.slots) w f.told;
-      owed = record { writes = f.owed.writes; closes = f.owed.closes; aborts = λ e. f.owed.aborts alive };
-    }
+pub reject_ready-same : (r : Plain) (a : Acts) (w : Option Writer) → Same a (reject_ready r a w)
+reject_ready-same r a w = grind arith
 
-pub reject_ready-same : (i : StreamId) (r : Plain) (a : Acts) (w : Option Writer) → Same i a (reject_ready r a w)
-reject_ready-same i r a None = record { core = refl; apart = apart-same i a.out }
-reject_ready-same i r a (Some w) = record { core = refl; apart = apart.reject_ready-apart i r a (Some w) }
-
-pub start_erroring-held : (i me : StreamId) (h : Writes) (d : List Value) (r : Plain) (a : Acts) → a.slots.state ≡ Writable → Fine i h d a → Held i h (start_erroring me r a)
+pub start_erroring-held : (i : StreamId) (n : Due) (h : Writes) (d : List Value) (r : Plain) (a : Acts) → a.slots.state ≡ Writable → a.out.effects ≡ [] → Fine n h d (core_of a.slots)
+    → Held i n h (start_erroring i r a).out.effects (start_erroring i r a).slots
 unfolding start_erroring
-start_erroring-held i me h d r a w f =
+start_erroring-held i n h d r a w q f =
     let c : Acts = record a { slots = record a.slots { state = Erroring; stored_error = r } } in
     let b : Acts = reject_ready r c a.slots.writer in
-    let fine : Fine i h d b = same_fine i h d c b (reject_ready-same i r c a.slots.writer) (erroring-fine i h d r a w f) in
-    either (λ (z : Acts). Held i h z) (not (is_in_flight b.slots) && b.slots.started) (finish_erroring me b) b
-    (λ e. finish_erroring-held i me h d b fine) (λ e. record { dropped = d; fine = fine })
+    let same = reject_ready-same r c a.slots.writer in
+    let fine : Fine n h d (core_of b.slots) = same_fine n h d c b same (grind arith) in
+    let quiet : b.out.effects ≡ [] = same.effects ∙ q in
+    either (λ (z : Acts). Held i n h z.out.effects z.slots) (not (is_in_flight b.slots) && b.slots.started) (finish_erroring i b) b
+    (λ e. finish_erroring-held i n h d b quiet (grind arith)) (λ e. quiet-held i n h d b.out.effects b.slots quiet fine)
 
 pub is_writable-true : (s : WritableState) → is_writable s ≡ true → s ≡ Writable
-is_writable-true Writable e = refl
-is_writable-true Erroring e = cc
-is_writable-true Errored e = cc
-is_writable-true Closed e = cc
+is_writable-true s e = grind arith
 
-pub deal-held : (i me : StreamId) (h : Writes) (d : List Value) (e : Plain) (a : Acts) → Fine i h d a → Held i h (deal_with_rejection me e a)
+pub deal-held : (i : StreamId) (n : Due) (h : Writes) (d : List Value) (e : Plain) (a : Acts) → a.out.effects ≡ [] → Fine n h d (core_of a.slots) → Held i n h (deal_with_rejection i e a).out.effects (deal_with_rejection i e a).slots
 unfolding deal_with_rejection
-deal-held i me h d e a f =
-    either (λ (z : Acts). Held i h z) (is_writable a.slots.state) (start_erroring me e a) (finish_erroring me a)
-    (λ w. start_erroring-held i me h d e a (is_writable-true a.slots.state w) f) (λ w. finish_erroring-held i me h d a f)
+deal-held i n h d e a q f =
+    either (λ (z : Acts). Held i n h z.out.effects z.slots) (is_writable a.slots.state) (start_erroring i e a) (finish_erroring i a)
+    (λ w. start_erroring-held i n h d e a (is_writable-true a.slots.state w) q f) (λ w. finish_erroring-held i n h d a q (grind arith))
 
-pub error_if_needed-held : (i me : StreamId) (h : Writes) (d : List Value) (e : Plain) (a : Acts) → Fine i h d a → Held i h (controller_error_if_needed me e a)
+pub error_if_needed-held : (i : StreamId) (n : Due) (h : Writes) (d : List Value) (e : Plain) (a : Acts) → a.out.effects ≡ [] → Fine n h d (core_of a.slots)
+    → Held i n h (controller_error_if_needed i e a).out.effects (controller_error_if_needed i e a).slots
 unfolding controller_error_if_needed
-error_if_needed-held i me h d e a f =
-    either (λ (z : Acts). Held i h z) (is_writable a.slots.state) (start_erroring me e a) a
-    (λ w. start_erroring-held i me h d e a (is_writable-true a.slots.state w) f) (λ w. record { dropped = d; fine = f })
+error_if_needed-held i n h d e a q f =
+    either (λ (z : Acts). Held i n h z.out.effects z.slots) (is_writable a.slots.state) (start_erroring i e a) a
+    (λ w. start_erroring-held i n h d e a (is_writable-true a.slots.state w) q f) (λ w. quiet-held i n h d a.out.effects a.slots q f)
+
+-- a stream that fails with nothing in flight is errored at once
+pub record Alone (c : Core) : Type 0 where
+  pub writing : c.writing ≡ false
+  pub closing : c.closing ≡ false
+  pub started : c.started ≡ true
+
+pub alone-quiet : (a b : Acts) → core_of b.slots ≡ record (core_of a.slots) { state = Erroring } → Alone (core_of a.slots) → not (is_in_flight b.slots) && b.slots.started ≡ true
+alone-quiet a b e l = grind arith
+
+pub fails-held : (i : StreamId) (n : Due) (h : Writes) (d : List Value) (e : Plain) (a : Acts) → a.out.effects ≡ [] → Alone (core_of a.slots) → Failing n h d (core_of a.slots)
+    → Held i n h (deal_with_rejection i e a).out.effects (deal_with_rejection i e a).slots
+unfolding deal_with_rejection start_erroring
+fails-held i n h d e a q l f =
+    let c : Acts = record a { slots = record a.slots { state = Erroring; stored_error = e } } in
+    let b : Acts = reject_ready e c a.slots.writer in
+    let same = reject_ready-same e c a.slots.writer in
+    let left : Failing n h d (core_of b.slots) = subst (Failing n h d) (sym same.core) f in
+    either (λ (z : Acts). Held i n h z.out.effects z.slots) (is_writable a.slots.state) (if not (is_in_flight b.slots) && b.slots.started then finish_erroring i b else b) (finish_erroring i a)
+    (λ w. rw (alone-quiet a b same.core l) (finish_erroring-held i n h d b (same.effects ∙ q) left))
+    (λ w. finish_erroring-held i n h d a q f)
 
 -- the queue advances
 
-abbrev pub with_queue : Acts → List (Queued WriteRecord) → Acts
-with_queue a queue = record a { slots = record a.slots { queue = queue } }
+process-fine : (n : Due) (h : Writes) (d : List Value) (c : Core) (v : Value) → first_value c.queue ≡ Some (Chunk v) → c.writing ≡ false → c.started ≡ true → Fine n h d c
+    → Fine (record n { starts = n.starts + 0; writes = n.writes + 1; closes = n.closes + 0; aborts = n.aborts + 0; asks = n.asks + 0 }) (record h { acted = h.acted ++ first_chunk c.queue }) d
+    (record c { queue = handed_queue c.queue; requests = later_requests c.requests; flying = first_request c.requests; writing = is_some (first_request c.requests) })
+process-fine n h d c v e w b f = grind (arith, append_assoc, length-append)
 
-so_far-write : (i : StreamId) (h : Writes) (v : Value) (x : Out) → so_far i h (cause (Write i v) x).effects ≡ record (so_far i h x.effects) { acted = (h.acted ++ acted_in i x.effects) ++ v ∷ [] }
-so_far-write i h v x =
-    let one : acted_by i (Write i v) ≡ v ∷ [] = rw (is_same-refl i) refl in
-    let m : h.acted ++ acted_in i (cause (Write i v) x).effects ≡ (h.acted ++ acted_in i x.effects) ++ v ∷ [] =
-    rw (acted-cause i (Write i v) x, one) (sym (append_assoc h.acted (acted_in i x.effects) (v ∷ []))) in
-    let n : h.closes + closes_in i (cause (Write i v) x).effects ≡ h.closes + closes_in i x.effects = let l = closes-cause i (Write i v) x in omega arith in
-    λ k. record h { acted = m k; closes = n k }
+close-fine : (n : Due) (h : Writes) (d : List Value) (c : Core) → first_value c.queue ≡ Some CloseMark → c.writing ≡ false → c.started ≡ true → Fine n h d c
+    → Fine (record n { starts = n.starts + 0; writes = n.writes + 0; closes = n.closes + 1; aborts = n.aborts + 0; asks = n.asks + 0 }) (record h { closes = h.closes + 1 }) d (record c { queue = rest_of c.queue; requested = false; closing = c.requested })
+close-fine n h d c e w b f = grind (arith, append-nil)
 
-so_far-close : (i : StreamId) (h : Writes) (x : Out) → so_far i h (cause (Close i) x).effects ≡ record (so_far i h x.effects) { closes = (h.closes + closes_in i x.effects) + 1 }
-so_far-close i h x =
-    let one : closes_by i (Close i) ≡ 1 = rw (is_same-refl i) refl in
-    let m : acted_in i (cause (Close i) x).effects ≡ acted_in i x.effects = acted-cause i (Close i) x ∙ append-nil (acted_in i x.effects) in
-    let n : h.closes + closes_in i (cause (Close i) x).effects ≡ (h.closes + closes_in i x.effects) + 1 = let l = closes-cause i (Close i) x in omega arith in
-    λ k. record h { acted = h.acted ++ m k; closes = n k }
-
--- only a stream that hasn't ended has a queue
-no_flight : (k w : ℕ) (closing : Bool) → k ≡ 0 → (closing ≡ true → 0 < k) → w ≤ one_if closing → w ≤ 0
-no_flight k w true z f l = let n = f refl in absurd (omega arith)
-no_flight k w false z f l = l
-
-queued_alive : (k : ℕ) (c : Core) (x : WriteRecord) (n : ℕ) (qs : List (Queued WriteRecord)) (ended : Bool) → ended ≡ has_ended c.state → Shape k (moves.with_first x n qs c) → has_ended c.state ≡ false
-queued_alive k c x n qs true e s = let none : record { value = x; size = n } ∷ qs ≡ [] = s.ended (sym e) in cc
-queued_alive k c x n qs false e s = sym e
-
-closed_owed : (i : StreamId) (d : List Value) (h : Writes) (a : Acts) (n : ℕ) (qs : List (Queued WriteRecord)) → Fine i h d (with_queue a (record { value = CloseMark; size = n } ∷ qs))
-    → weight (is_close i) a.out.promises + closes_in i (cause (Close i) a.out).effects ≤ one_if (is_some a.slots.close_request)
-closed_owed i d h a n qs f =
-    let k = h.closes + closes_in i a.out.effects in
-    let alive = queued_alive k (core_of a.slots) CloseMark n qs (has_ended a.slots.state) refl f.shape in
-    let requested : is_some a.slots.close_request ≡ true = f.shape.marked alive refl in
-    let zero : k ≡ 0 = moves.not_spent k n qs (core_of a.slots) f.shape in
-    let none : weight (is_close i) a.out.promises + closes_in i a.out.effects ≤ 0 = no_flight k (weight (is_close i) a.out.promises + closes_in i a.out.effects) (is_some a.slots.close_in_flight) zero f.shape.flight f.owed.closes in
-    let one : closes_by i (Close i) ≡ 1 = rw (is_same-refl i) refl in
-    let m = closes-cause i (Close i) a.out in
-    rw requested (omega arith)
-
-process_entry-fine : (i : StreamId) (h : Writes) (d : List Value) (a : Acts) (x : WriteRecord) (n : ℕ) (qs : List (Queued WriteRecord)) → is_some a.slots.write_in_flight ≡ false → a.slots.started ≡ true
-    → Fine i h d (with_queue a (record { value = x; size = n } ∷ qs)) → Fine i h d (process_first i (with_queue a (record { value = x; size = n } ∷ qs)) (Some x))
+process_first-held : (i : StreamId) (n : Due) (h : Writes) (d : List Value) (a : Acts) (first : Option WriteRecord) → first_value a.slots.queue ≡ first → is_some a.slots.write_in_flight ≡ false → a.slots.started ≡ true → a.out.effects ≡ []
+    → Fine n h d (core_of a.slots) → Held i n h (process_first i a first).out.effects (process_first i a first).slots
 unfolding process_write process_close
-process_entry-fine i h d a (Chunk v) n qs w b f =
-    let so = so_far-write i h v a.out in
-    let closes : h.closes + closes_in i (cause (Write i v) a.out).effects ≡ h.closes + closes_in i a.out.effects = ap (λ (z : Writes). z.closes) so in
-    let shape = moves.write-shape (h.closes + closes_in i a.out.effects) (core_of a.slots) n qs v b f.shape in
-    let one : acted_by i (Write i v) ≡ v ∷ [] = rw (is_same-refl i) refl in
-    record {
-      shape = rw closes shape;
-      closing = rw closes f.closing;
-      told = rw so (moves.write-told (so_far i h a.out.effects) d (core_of a.slots) n qs v w f.shape f.told);
-      owed = record {
-        writes =
-            let o : weight (is_write i) a.out.promises + length (acted_in i a.out.effects) ≤ one_if (is_some a.slots.write_in_flight) = f.owed.writes in
-            let p : weight (is_write i) a.out.promises + length (acted_in i a.out.effects) ≤ one_if false = rw w at o in
-            let some = moves.first_some (length (todo qs)) a.slots.write_requests f.shape.requests in
-            rw (some, acted-cause i (Write i v) a.out, one) (omega (arith, length-append (acted_in i a.out.effects) (v ∷ [])));
-        closes = let n = closes-cause i (Write i v) a.out in let o = f.owed.closes in omega arith;
-        aborts = λ e. let o = f.owed.aborts e in let m = aborts-cause i (Write i v) a.out in omega arith;
-      };
-    }
-process_entry-fine i h d a InFlight n qs w b f = f
-process_entry-fine i h d a CloseMark n qs w b f =
-    let so = so_far-close i h a.out in
-    let closes : h.closes + closes_in i (cause (Close i) a.out).effects ≡ (h.closes + closes_in i a.out.effects) + 1 = ap (λ (z : Writes). z.closes) so in
-    let acted : acted_in i (cause (Close i) a.out).effects ≡ acted_in i a.out.effects = acted-cause i (Close i) a.out ∙ append-nil (acted_in i a.out.effects) in
-    record {
-      shape = rw closes (moves.close-shape (h.closes + closes_in i a.out.effects) (core_of a.slots) n qs w b f.shape);
-      closing = rw closes (moves.close-closing (h.closes + closes_in i a.out.effects) (core_of a.slots) n qs f.shape);
-      told = rw so (moves.close-told (so_far i h a.out.effects) d (core_of a.slots) n qs w f.shape f.told);
-      owed = record {
-        writes = rw acted f.owed.writes;
-        closes = closed_owed i d h a n qs f;
-        aborts = λ e. let o = f.owed.aborts e in let m = aborts-cause i (Close i) a.out in omega arith;
-      };
-    }
-
-process_first-fine : (i : StreamId) (h : Writes) (d : List Value) (a : Acts) (queue : List (Queued WriteRecord)) → is_some a.slots.write_in_flight ≡ false → a.slots.started ≡ true
-    → Fine i h d (with_queue a queue) → Fine i h d (process_first i (with_queue a queue) (first_value queue))
-process_first-fine i h d a [] w b f = f
-process_first-fine i h d a (q ∷ qs) w b f = process_entry-fine i h d a q.value q.size qs w b f
+process_first-held i n h d a (Some (Chunk v)) e w b q f =
+    let k : h.closes + 0 ≡ h.closes = omega arith in rw q (record { behind = refl; dropped = d; fine = rw (is_same-refl i, k) (process-fine n h d (core_of a.slots) v e w b f) })
+process_first-held i n h d a (Some CloseMark) e w b q f = rw q (record { behind = refl; dropped = d; fine = rw (is_same-refl i, append-nil h.acted) (close-fine n h d (core_of a.slots) e w b f) })
+process_first-held i n h d a (Some InFlight) e w b q f = quiet-held i n h d a.out.effects a.slots q f
+process_first-held i n h d a None e w b q f = quiet-held i n h d a.out.effects a.slots q f
 
 pub none_some : (o : Option PromiseId) → is_none o ≡ true → is_some o ≡ false
-none_some None e = refl
-none_some (Some p) e = cc
+none_some o e = grind arith
 
-pub advance-held : (i : StreamId) (h : Writes) (d : List Value) (a : Acts) → Fine i h d a → Held i h (advance_queue i a)
+pub advance-held : (i : StreamId) (n : Due) (h : Writes) (d : List Value) (a : Acts) → a.out.effects ≡ [] → Fine n h d (core_of a.slots) → Held i n h (advance_queue i a).out.effects (advance_queue i a).slots
 unfolding advance_queue
-advance-held i h d a f =
+advance-held i n h d a q f =
     let processed : Acts = process_first i a (first_value a.slots.queue) in
-    either (λ (z : Acts). Held i h z) (a.slots.started && is_none a.slots.write_in_flight) (if is_erroring a.slots.state then finish_erroring i a else processed) a
-    (λ ready. either (λ (z : Acts). Held i h z) (is_erroring a.slots.state) (finish_erroring i a) processed
-    (λ e. finish_erroring-held i i h d a f)
-    (λ e. record { dropped = d; fine = process_first-fine i h d a a.slots.queue (none_some a.slots.write_in_flight (and_right a.slots.started (is_none a.slots.write_in_flight) ready)) (and_left a.slots.started (is_none a.slots.write_in_flight) ready) f }))
-    (λ e. record { dropped = d; fine = f })
+    either (λ (z : Acts). Held i n h z.out.effects z.slots) (a.slots.started && is_none a.slots.write_in_flight) (if is_erroring a.slots.state then finish_erroring i a else processed) a
+    (λ ready. either (λ (z : Acts). Held i n h z.out.effects z.slots) (is_erroring a.slots.state) (finish_erroring i a) processed
+    (λ e. finish_erroring-held i n h d a q (grind arith))
+    (λ e. process_first-held i n h d a (first_value a.slots.queue) refl (none_some a.slots.write_in_flight (and_right a.slots.started (is_none a.slots.write_in_flight) ready)) (and_left a.slots.started (is_none a.slots.write_in_flight) ready) q f))
+    (λ e. quiet-held i n h d a.out.effects a.slots q f)
+
+-- the backpressure doesn't matter
+
+pub refresh-same : (a : Acts) → Same a (refresh_backpressure a)
+unfolding refresh_backpressure update_backpressure
+refresh-same a = grind arith
+
+-- the close in flight ends
+
+pub clear_error-same : (a : Acts) → Same a (clear_error a)
+clear_error-same a = grind arith
+
+pub fulfil_closed-same : (a : Acts) (w : Option Writer) → Same a (fulfil_closed a w)
+fulfil_closed-same a w = grind arith
+
+closed : (a : Acts) → (core_of (finish_in_flight_close a).slots ≡ record (core_of a.slots) { state = Closed; closing = false }) × ((finish_in_flight_close a).out.effects ≡ a.out.effects)
+unfolding finish_in_flight_close
+closed a = grind arith
+
+-- a write
+
+pub not_refused : (s : Slots) → None ≡ write_refusal s → (s.state ≡ Writable) × (is_closing s ≡ false)
+not_refused s e = grind arith
+
+appended-fine : (n : Due) (h : Writes) (d : List Value) (q : Queued WriteRecord) (v : Value) (p : PromiseId) (c : Core) → q.value ≡ Chunk v → c.state ≡ Writable → c.requested ≡ false → c.closing ≡ false → Fine n h d c
+    → Fine n (record h { written = h.written ++ v ∷ [] }) d (record c { queue = c.queue ++ q ∷ []; requests = c.requests ++ p ∷ [] })
+appended-fine n h d q v p c x w r e f =
+    let z : h.closes ≡ 0 = grind arith in
+    let alive : has_ended c.state ≡ false = rw w refl in
+    let u = refuted (has_mark c.queue) c.requested (f.shape.marked alive) r in
+    let a = todo-append c.queue (q ∷ []) in
+    let b = no_mark-append c.queue q u in
+    let l = last-append c.queue q u in
+    let k = leads-append c.queue (q ∷ []) in
+    record { shape = grind (arith, length-append); closing = f.closing; told = grind (arith, append_assoc, append-nil); owed = grind arith }
+
+write_by-held : (i : StreamId) (v : Value) (p : PromiseId) (n : Due) (h : Writes) (d : List Value) (a : Acts) (refusal : Option Plain) → refusal ≡ write_refusal a.slots → a.out.effects ≡ [] → Fine n h d (core_of a.slots)
+    → Held i n (record h { written = h.written ++ written_unless v refusal }) (write_by i v p a refusal).out.effects (write_by i v p a refusal).slots
+unfolding controller_write
+write_by-held i v p n h d a (Some e) r q f = rw (append-nil h.written) (quiet-held i n h d a.out.effects a.slots q f)
+write_by-held i v p n h d a None r q f =
+    let u = not_refused a.slots r in
+    let b : Acts = enqueue_chunk v (add_write_request p a) in
+    let h' : Writes = record h { written = h.written ++ v ∷ [] } in
+    let same = refresh-same b in
+    advance-held i n h' d (refresh_backpressure b) (same.effects ∙ q) (same_fine n h' d b (refresh_backpressure b) same (appended-fine n h d (record { value = Chunk v; size = size_of a.slots.size_by v }) v p (core_of a.slots) refl u.0 (nor_left (is_some a.slots.close_request) (is_some a.slots.close_in_flight) u.1) (nor_right (is_some a.slots.close_request) (is_some a.slots.close_in_flight) u.1) f))
+
+-- a close
+
+-- the close mark behind a queue
+abbrev mark_behind : Acts → Acts
+mark_behind a = record a { slots = record a.slots { queue = enqueued CloseMark 0 a.slots.queue } }
+
+marked-fine : (n : Due) (h : Writes) (d : List Value) (q : Queued WriteRecord) (c : Core) → q.value ≡ CloseMark → has_ended c.state ≡ false → Fine (record n { asks = n.asks + 1 }) h d c → Fine n h d (record c { queue = c.queue ++ q ∷ []; requested = true })
+marked-fine n h d q c x alive f =
+    let r : c.requested ≡ false = grind arith in
+    let u = refuted (has_mark c.queue) c.requested (f.shape.marked alive) r in
+    let a = todo-append c.queue (q ∷ []) in
+    let b = no_mark-append c.queue q u in
+    let l = last-append c.queue q u in
+    let k = leads-append c.queue (q ∷ []) in
+    record { shape = grind (arith, append-nil); closing = f.closing; told = grind (arith, append-nil); owed = grind arith }
+
+pub fulfil_ready-same : (a : Acts) (w : Option Writer) → Same a (fulfil_ready a w)
+fulfil_ready-same a w = grind arith
+
+close-held : (i : StreamId) (p : PromiseId) (n : Due) (h : Writes) (d : List Value) (a : Acts) → a.out.effects ≡ [] → Fine (record n { asks = n.asks + 1 }) h d (core_of a.slots) → Held i n h (stream_close i p a).out.effects (stream_close i p a).slots
+unfolding stream_close controller_close
+close-held i p n h d a q f =
+    let b : Acts = add_close_request p a in
+    let c : Acts = fulfil_ready b b.slots.writer in
+    let same = fulfil_ready-same b b.slots.writer in
+    let marked : Same (mark_behind b) (mark_behind c) = record { core = ap (λ (x : Core). record x { queue = enqueued CloseMark 0 x.queue }) same.core; effects = same.effects } in
+    either (λ (z : Acts). Held i n h z.out.effects z.slots) (has_ended a.slots.state) (with_promises (settle p (Err type_error) a.out.promises) a) (advance_queue i (mark_behind c))
+    (λ g. quiet-held i n h d a.out.effects a.slots q (grind arith))
+    (λ g. advance-held i n h d (mark_behind c) (same.effects ∙ q) (same_fine n h d (mark_behind b) (mark_behind c) marked (marked-fine n h d (record { value = CloseMark; size = 0 }) (core_of a.slots) refl g f)))
+
+-- an abort
+
+begin_abort-held : (i : StreamId) (r : Plain) (p : PromiseId) (n : Due) (h : Writes) (d : List Value) (a : Acts) → has_ended a.slots.state ≡ false → a.out.effects ≡ [] → Fine n h d (core_of a.slots)
+    → Held i n h (begin_abort i r p a).out.effects (begin_abort i r p a).slots
+begin_abort-held i r p n h d a alive q f =
+    let b : Acts = add_pending_abort r p a in
+    either (λ (z : Acts). Held i n h z.out.effects z.slots) (is_erroring a.slots.state) b (start_erroring i r b)
+    (λ e. quiet-held i n h d b.out.effects b.slots q f)
+    (λ e. start_erroring-held i n h d r b (grind arith) q f)
+
+pub signalled-same : (i : StreamId) (r : Plain) (a : Acts) (owner : Owner) → Same a (signalled i r a owner)
+signalled-same i r a Host = record { core = refl; effects = refl }
+
+abort-held : (i : StreamId) (r : Plain) (p : PromiseId) (n : Due) (h : Writes) (d : List Value) (a : Acts) → a.out.effects ≡ [] → Fine n h d (core_of a.slots) → Held i n h (stream_abort i r p a).out.effects (stream_abort i r p a).slots
+unfolding stream_abort
+abort-held i r p n h d a q f =
+    let b : Acts = signalled i r a a.slots.owner in
+    let same = signalled-same i r a a.slots.owner in
+    either (λ (z : Acts). Held i n h z.out.effects z.slots) (has_ended a.slots.state) (with_promises (settle p (Ok Undefined) a.out.promises) a) (begin_abort i r p b)
+    (λ e. quiet-held i n h d a.out.effects a.slots q f)
+    (λ e. begin_abort-held i r p n h d b (ap (λ (c : Core). has_ended c.state) same.core ∙ e) (same.effects ∙ q) (same_fine n h d a b same f))
+
+-- writers
+
+pub release-same : (a : Acts) (w : Option Writer) → Same a (release_by a w)
+release-same a w = grind arith
+
+-- each operation, but for the handing on of a chunk
+
+-- what is under way where this operation is to be performed
+abbrev pub with_operation : StreamId → WritableOperation → Due → Due
+with_operation i operation n = with_effects i n (OnWritable i operation ∷ [])
+
+pub writes-nothing : (h : Writes) → writes_then h no_writes ≡ h
+writes-nothing h = grind (arith, append-nil)
+
+writes-written : (h : Writes) (vs : List Value) → writes_then h (record no_writes { written = vs }) ≡ record h { written = h.written ++ vs }
+writes-written h vs = grind (arith, append-nil)
+
+writes-fulfilled : (h : Writes) (m : ℕ) → writes_then h (record no_writes { fulfilled = m }) ≡ record h { fulfilled = h.fulfilled + m }
+writes-fulfilled h m = grind (arith, append-nil)
+
+pub same_once : (i : StreamId) → one_if (is_same i i) ≡ 1
+same_once i = rw (is_same-refl i) refl
+
+pub ended_by : (m : ℕ) (s : WritableState) → (has_ended s ≡ false → m ≡ 0) → 1 ≤ m → has_ended s ≡ true
+ended_by m s f l = grind arith
+
+pub operation-held : (i : StreamId) (operation : WritableOperation) (n : Due) (h : Writes) (d : List Value) (a : Acts) → (IsHandOn operation → ⊥) → a.out.effects ≡ [] → Fine (with_operation i operation n) h d (core_of a.slots)
+    → Held i n (writes_then h (operation_writes operation a.slots)) (writable_operation i operation a).out.effects (writable_operation i operation a).slots
+unfolding set_up_writer writer_release writer_write start_settled write_settled close_settled finish_in_flight_close_with_error abort_settled
+operation-held i (SetUpWriter w) n h d a u q f = rw (writes-nothing h) (quiet-held i n h d a.out.effects (set_up_writer w a).slots q (grind arith))
+operation-held i ReleaseWriter n h d a u q f =
+    let same = release-same a a.slots.writer in rw (writes-nothing h) (quiet-held i n h d (writer_release a).out.effects (writer_release a).slots (same.effects ∙ q) (same_fine n h d a (writer_release a) same (grind arith)))
+operation-held i (Write v p) n h d a u q f = rw (writes-written h (written_by v a.slots)) (write_by-held i v p n h d a (write_refusal a.slots) refl q (grind arith))
+operation-held i (Close p) n h d a u q f = let one = same_once i in rw (writes-nothing h) (close-held i p n h d a q (grind arith))
+operation-held i (Abort r p) n h d a u q f = rw (writes-nothing h) (abort-held i r p n h d a q (grind arith))
+operation-held i (ErrorIfNeeded e) n h d a u q f = rw (writes-nothing h) (error_if_needed-held i n h d e a q (grind arith))
+operation-held i HandOn n h d a u q f = absurd (u tt)
+operation-held i (StartSettled (Ok v)) n h d a u q f = let one = same_once i in rw (writes-nothing h) (advance-held i n h d (record a { slots = record a.slots { started = true } }) q (grind arith))
+operation-held i (StartSettled (Err e)) n h d a u q f = let one = same_once i in rw (writes-nothing h) (deal-held i n h d e (record a { slots = record a.slots { started = true } }) q (grind arith))
+operation-held i (WriteSettled (Ok v)) n h d a u q f =
+    let one = same_once i in
+    let w : is_some a.slots.write_in_flight ≡ true = grind arith in
+    let b : Acts = without_first (write_ended (Ok Undefined) a) in
+    let h' : Writes = record h { fulfilled = h.fulfilled + 1 } in
+    let same = refresh-same b in
+    rw (writes-fulfilled h (fulfilled_by (Ok v) a.slots), w) (advance-held i n h' d (refresh_backpressure b) (same.effects ∙ q) (same_fine n h' d b (refresh_backpressure b) same (grind arith)))
+operation-held i (WriteSettled (Err e)) n h d a u q f = let one = same_once i in rw (writes-nothing h) (fails-held i n h d e (write_ended (Err e) a) q (grind arith) (grind arith))
+operation-held i (CloseSettled (Ok v)) n h d a u q f =
+    let one = same_once i in
+    let c = closed a in rw (writes-nothing h) (quiet-held i n h d (finish_in_flight_close a).out.effects (finish_in_flight_close a).slots (c.1 ∙ q) (rw c.0 (grind arith)))
+operation-held i (CloseSettled (Err e)) n h d a u q f = let one = same_once i in rw (writes-nothing h) (fails-held i n h d e (abort_ended (Err e) (close_ended (Err e) a)) q (grind arith) (grind arith))
+operation-held i (AbortSettled p (Ok v)) n h d a u q f =
+    let one = same_once i in rw (writes-nothing h) (reject_both-held i n h d (with_promises (settle p (Ok Undefined) a.out.promises) a) (ended_by _ a.slots.state f.owed.aborts (omega arith)) q (grind arith))
+operation-held i (AbortSettled p (Err e)) n h d a u q f =
+    let one = same_once i in rw (writes-nothing h) (reject_both-held i n h d (with_promises (settle p (Err e) a.out.promises) a) (ended_by _ a.slots.state f.owed.aborts (omega arith)) q (grind arith))

@@ -1,299 +1,216 @@
--- The order of a writable stream, step by step and over every run.
-use Rattle.std.proofs.Common.{◌≡◌, ℕ, is_some, ◌+◌, ◌≤◌, zero, suc, Bool, true, false, List, [], ◌∷◌, ◌++◌, length, Option, Some, None, Result, Ok, Err, if◌then◌else◌, slice_get, refl, sym, ap, ◌∙◌, arith, append_assoc, append-nil}
+-- The order of a writable stream over every run.
+use Rattle.std.proofs.Common.{◌≡◌, ◌≢◌, ℕ, ◌+◌, ◌≤◌, Bool, true, false, nat_eq, List, [], ◌∷◌, ◌++◌, length, Some, None, slice_get, refl, sym, ap, subst, ◌∙◌, arith, append_assoc, append-nil}
 use Rattle.ws_value.specs.declared.ids.PromiseId.{PromiseId}
 use Rattle.ws_value.specs.declared.ids.StreamId.{StreamId}
-use Rattle.ws_value.specs.declared.value.Plain.{Plain}
 use Rattle.ws_value.specs.declared.value.Value.{Value}
-use Rattle.ws_steps.specs.declared.calls.Reply.{Reply}
-use Rattle.ws_steps.specs.declared.calls.Reply.TheVariants.{Done, Made, Lock as ReplyLock, Promise, Size, State as StateReply, Throws, TooMany}
-use Rattle.ws_steps.specs.declared.effects.Effect.{Effect}
-use Rattle.ws_steps.specs.declared.promises.Job.{Job}
-use Rattle.ws_steps.specs.declared.promises.Job.TheVariants.{Reaction, Follow, Settle as SettleJob}
-use Rattle.ws_steps.specs.declared.promises.Step.{Step as JobStep}
-use Rattle.ws_steps.specs.declared.promises.Step.TheVariants.{ReadableStart, ReadablePull, ReturnUndefined, WritableStart, WritableWrite, WritableClose, WritableAbort}
-use Rattle.ws_steps.specs.Promises.{next_job, after_next_job, settle, watch, all_told}
+use Rattle.ws_steps.specs.declared.{calls.Call.{Call}, calls.StartBy.{StartBy}, effects.Effect.{Effect}, effects.Effect.TheVariants.{Writable, StartAlgorithm}}
+use Rattle.ws_steps.specs.declared.{effects.Owner.TheVariants.{Host}, promises.Job.{Job}, promises.Step.{Step}, promises.Step.TheVariants.{WritableStart}, readable.SizeBy.{SizeBy}}
+use Rattle.ws_steps.specs.declared.writable.WritableOperation.TheVariants.{ReleaseWriter, Close}
+use Rattle.ws_steps.specs.Promises.{Table, next_id, fresh, next_job, after_next_job, watch, is_pending_at}
 use Rattle.ws_steps.specs.Readable as readable
 use Rattle.ws_steps.specs.Writable as writable
-use Rattle.ws_steps.specs.Slots.{Slots, Done as SlotsDone, nothing, empty, has_writable, writable_at}
-use Rattle.ws_steps.specs.Turns.{performed}
-use Rattle.ws_steps.specs.Jobs.{perform_step, perform_job, job_taken, resolve_derived, returned}
-use Rattle.ws_steps.specs.Calls.{begin, named}
-use Rattle.ws_steps.specs.Run.{Entry, Called, Worked, Heard, Forgot, step, run, after_forgetting}
-use Rattle.ws_steps.specs.Histories.{Writes, no_writes, writes_then, is_same, todo, fulfilled_by, acted_in, closes_in, call_written, job_fulfilled, job_caused, step_writes, run_writes}
-use Rattle.ws_steps.specs.Writable.{is_closed}
+use Rattle.ws_steps.specs.Writable.{is_closing, is_closed}
+use Rattle.ws_steps.specs.Slots.{Slots, Stream, ReadableStream, WritableStream, empty, with_promises, readable_at, writable_at, as_writable, no_writable}
+use Rattle.ws_steps.specs.Jobs.{job_effects}
+use Rattle.ws_steps.specs.Calls.{Begun, begin}
+use Rattle.ws_steps.specs.Calls as calls
+use Rattle.ws_steps.specs.Run.{Entry, step, run, older, after_event, after_forgetting}
+use Rattle.ws_steps.specs.Histories.{is_same}
+use Rattle.ws_steps.specs.WritableHistory.{Writes, no_writes, writes_then, todo, effect_writes, step_writes, run_writes}
 use Rattle.ws_steps.specs.Laws.{IsLawfulWritable, EachWritableIsLawful}
 use Rattle.ws_laws.proofs.Lists.{append_none}
-use Rattle.ws_laws.proofs.Tables.{either, is_same-refl, writable_acts, no_writable_there}
-use Rattle.ws_laws.proofs.Weights.{weigh}
-use Rattle.ws_laws.proofs.Outstanding.{weight, of_next, weight-next}
-use Rattle.ws_laws.proofs.Later.{later-then, later-settle, later-next, later-watch, later-told}
-use Rattle.ws_laws.proofs.LettingGo.{weight-let_go}
-use Rattle.ws_laws.proofs.Apart.{Apart, apart-then, apart-promises}
-use Rattle.ws_laws.proofs.ReadableApart as readable_apart
-use Rattle.ws_laws.proofs.WritableApart as writable_apart
-use Rattle.ws_writable_laws.proofs.Shape.{one_if, Core, core_of, Shape, Told}
-use Rattle.ws_writable_laws.proofs.Operations.{is_write, is_close, is_abort, so_far}
-use Rattle.ws_writable_laws.proofs.Ends.{Due, write_settled-held}
-use Rattle.ws_writable_laws.proofs.Closing.{DueClose, close_settled-held, start_settled-held, abort_settled-held}
-use Rattle.ws_writable_laws.proofs.Steps.{Kept, KeptBy, out_of, kept-later, on_readable-kept, on_writable-kept, on_writable-quiet, performed-kept}
-use Rattle.ws_writable_laws.proofs.Calls.{Stands, call_kept}
+use Rattle.ws_laws.proofs.Tables.{is_same-refl, same_id, eq_numbers, unequal_numbers, place_last, place_before, no_stream}
+use Rattle.ws_laws.proofs.EachCall.{each_call}
+use Rattle.ws_laws.proofs.Walker as walker
+use Rattle.ws_laws.proofs.Walker.{IsHistory, GoesUntold, RestsUntold}
+use Rattle.ws_laws.proofs.Weights.{weigh, taken_off, weigh-fresh, weigh-next, weigh-watch, weigh-let_go}
+use Rattle.ws_writable_laws.proofs.Shape.{Core, core_of, Shape, Told, is_start, is_write, is_close, is_abort, leads_to, hands, closes, asks, all, mass, of_reaction, weight}
+use Rattle.ws_writable_laws.proofs.Operations.{Fine, with_effects, so_far, so_far-nothing, writes-nothing}
+use Rattle.ws_writable_laws.proofs.Agenda.{none_behind, among, Unmade, Kept, kept-lighter, massless, Lightens, lightly, same_weight, lightens-fresh, row-kept}
 
--- reactions
+-- changes between steps and where one begins
 
--- what the first job takes away, where it is the reaction to a write, a close, or an abort of stream i
-pub record Taken (i : StreamId) (step : JobStep) (s : Slots) : Type 0 where
-  pub writes : weight (is_write i) s.promises + is_write i step ≤ one_if (is_some (writable_at i s).write_in_flight)
-  pub closes : weight (is_close i) s.promises + is_close i step ≤ one_if (is_some (writable_at i s).close_in_flight)
-  pub aborts : writable.has_ended (writable_at i s).state ≡ false → weight (is_abort i) s.promises + is_abort i step ≡ 0
+-- the stream stays, the promises weigh no more, and nothing is caused that concerns it
+clear-kept : (i : StreamId) (h : Writes) (s z : Slots) (cs : List Effect) → (slice_get z.streams i.0 ≡ None → slice_get s.streams i.0 ≡ None) → writable_at i z ≡ writable_at i s → Lightens s.promises z.promises → all (mass i) cs ≡ 0
+    → Kept i h s [] → Kept i h z cs
+clear-kept i h s z cs there place l m k =
+    let c = massless i cs m in
+    let n = none_behind i cs c.hands in
+    let l1 = l (is_start i) in let l2 = l (is_write i) in let l3 = l (is_close i) in let l4 = l (is_abort i) in kept-lighter i h h s z [] cs (grind (arith, append-nil)) k
 
--- the history after a reaction
-abbrev pub after_reaction : StreamId → JobStep → Result Plain Plain → Option PromiseId → Slots → Writes → Writes
-after_reaction i step o derived s h = record h { fulfilled = h.fulfilled + job_fulfilled i s (Some (Reaction step o derived)) }
+still-kept : (i : StreamId) (h : Writes) (s z : Slots) (cs : List Effect) → z.streams ≡ s.streams → Lightens s.promises z.promises → all (mass i) cs ≡ 0 → Kept i h s [] → Kept i h z cs
+still-kept i h s z cs e l m k = clear-kept i h s z cs (λ n. rw e at n) (rw e refl) l m k
 
-unfulfilled : (h : Writes) (n : ℕ) → n ≡ 0 → record h { fulfilled = h.fulfilled + n } ≡ h
-unfulfilled h n e = let m : h.fulfilled + n ≡ h.fulfilled = omega arith in λ k. record h { fulfilled = m k }
+-- new streams
 
-abbrev pub after_write : StreamId → Result Plain Plain → Slots → Writes → StreamId → Writes
-after_write i o s h j = record h { fulfilled = h.fulfilled + (if is_same i j then fulfilled_by o (writable_at j s) else 0) }
+added_other : (i : StreamId) (h : Writes) (s : Slots) (y : Stream) (cs : List Effect) → i.0 ≢ length s.streams → all (mass i) cs ≡ 0 → Kept i h s [] → Kept i h (calls.add_stream y s) cs
+added_other i h s y cs n m k =
+    let same = place_before s.streams y i.0 n in
+    clear-kept i h s (calls.add_stream y s) cs (λ e. sym same ∙ e) (ap as_writable same) (same_weight s.promises) m k
 
-absent_write : (o : Result Plain Plain) (j : StreamId) (s : Slots) → has_writable j s ≡ false → fulfilled_by o (writable_at j s) ≡ 0
-absent_write (Ok v) j s e = ap (fulfilled_by (Ok v)) (no_writable_there (slice_get s.streams j.0) e)
-absent_write (Err r) j s e = refl
+added_readable : (i : StreamId) (h : Writes) (s : Slots) (r : readable.Slots) (cs : List Effect) (here : Bool) → here ≡ nat_eq i.0 (length s.streams) → all (mass i) cs ≡ 0 → Kept i h s [] → Kept i h (calls.add_stream (ReadableStream r) s) cs
+added_readable i h s r cs false e m k = added_other i h s (ReadableStream r) cs (unequal_numbers i.0 (length s.streams) (sym e)) m k
+added_readable i h s r cs true e m k =
+    let at_end : i.0 ≡ length s.streams = eq_numbers i.0 (length s.streams) (sym e) in
+    let before = no_stream i s.streams at_end in
+    let after : slice_get (s.streams ++ ReadableStream r ∷ []) i.0 ≡ Some (ReadableStream r) = rw at_end (place_last s.streams (ReadableStream r)) in
+    clear-kept i h s (calls.add_stream (ReadableStream r) s) cs (λ n. cc) (ap as_writable after ∙ sym (ap as_writable before)) (same_weight s.promises) m k
 
-due : (i j : StreamId) (s : Slots) → is_same i j ≡ true → Taken i (WritableWrite j) s → Due i (writable_acts i s)
-due i j s e t =
-    let w : weight (is_write i) s.promises + one_if (is_same i j) ≤ one_if (is_some (writable_at i s).write_in_flight) = t.writes in
-    let v : weight (is_write i) s.promises + one_if true ≤ one_if (is_some (writable_at i s).write_in_flight) = rw e at w in
-    omega arith
+-- a stream of which nothing has happened
+new-fine : (i : StreamId) (mark : ℕ) (size : SizeBy) (start : StartBy) (h : Writes) (s : Slots) (d : List Value) → Unmade i h s [] → Fine (with_effects i (among i s.promises) []) (so_far i h [] no_writable) d (core_of no_writable)
+    → Fine (with_effects i (among i s.promises) (StartAlgorithm i (WritableStart i) start ∷ [])) (so_far i h [] no_writable) [] (core_of (writable.set_up Host mark size))
+new-fine i mark size start h s d u f =
+    let one = is_same-refl i in grind (arith, append_none, append-nil)
 
-due_close : (i j : StreamId) (s : Slots) → is_same i j ≡ true → Taken i (WritableClose j) s → DueClose i (writable_acts i s)
-due_close i j s e t =
-    let w : weight (is_close i) s.promises + one_if (is_same i j) ≤ one_if (is_some (writable_at i s).close_in_flight) = t.closes in
-    let v : weight (is_close i) s.promises + one_if true ≤ one_if (is_some (writable_at i s).close_in_flight) = rw e at w in
-    omega arith
+added_writable : (i j : StreamId) (mark : ℕ) (size : SizeBy) (start : StartBy) (h : Writes) (s : Slots) (here : Bool) → here ≡ is_same i j → j.0 ≡ length s.streams → Kept i h s []
+    → Kept i h (calls.add_stream (WritableStream (writable.set_up Host mark size)) s) (StartAlgorithm j (WritableStart j) start ∷ [])
+added_writable i j mark size start h s false e at_end k =
+    added_other i h s (WritableStream (writable.set_up Host mark size)) (StartAlgorithm j (WritableStart j) start ∷ []) (λ f. unequal_numbers i.0 j.0 (sym e) (f ∙ sym at_end)) (rw (← e) refl) k
+added_writable i j mark size start h s true e at_end k =
+    let is : i ≡ j = same_id i j (sym e) in
+    let z : Slots = calls.add_stream (WritableStream (writable.set_up Host mark size)) s in
+    let at_i : i.0 ≡ length s.streams = ap (λ (l : StreamId). l.0) is ∙ at_end in
+    let before = no_stream i s.streams at_i in
+    let after : slice_get z.streams i.0 ≡ Some (WritableStream (writable.set_up Host mark size)) = rw at_i (place_last s.streams (WritableStream (writable.set_up Host mark size))) in
+    subst (λ (l : StreamId). Kept i h z (StartAlgorithm l (WritableStart l) start ∷ [])) is (record {
+      unmade = λ n. cc;
+      held = rw after (record { behind = refl; dropped = []; fine = new-fine i mark size start h s k.held.dropped (k.unmade before) (rw before at k.held.fine) });
+    })
 
-write_settled-kept : (i j : StreamId) (o : Result Plain Plain) (s : Slots) (h : Writes) → Taken i (WritableWrite j) s → Stands i h s → KeptBy i (after_write i o s h j) (perform_step (WritableWrite j) o s)
-write_settled-kept i j o s h t k =
-    on_writable-kept (λ j. writable.write_settled j o) i j s h (after_write i o s h)
-    (λ n. unfulfilled h (if is_same i j then fulfilled_by o (writable_at j s) else 0) (rw n refl))
-    (λ absent. unfulfilled h (if is_same i j then fulfilled_by o (writable_at j s) else 0) (either (λ (n : ℕ). n ≡ 0) (is_same i j) (fulfilled_by o (writable_at j s)) 0 (λ e. absent_write o j s absent) (λ e. refl)))
-    (λ same held. rw (is_same-refl i) (write_settled-held i o h held.dropped (writable_acts i s) (due i j s same t) held.fine))
-    (λ n. writable_apart.write_settled-apart i j o (writable_acts j s) n) k
+-- calls
 
-ended_by_abort : (i j : StreamId) (p : PromiseId) (s : Slots) (ended : Bool) → ended ≡ writable.has_ended (writable_at i s).state → is_same i j ≡ true → Taken i (WritableAbort j p) s → writable.has_ended (writable_at i s).state ≡ true
-ended_by_abort i j p s true e same t = sym e
-ended_by_abort i j p s false e same t =
-    let z : weight (is_abort i) s.promises + one_if (is_same i j) ≡ 0 = t.aborts (sym e) in
-    let y : weight (is_abort i) s.promises + one_if true ≡ 0 = rw same at z in
-    absurd (omega arith)
+renewed-lightens : (t : Table) (kept : Bool) → Lightens t (calls.with_renewed t kept)
+renewed-lightens t kept f = grind (arith, weigh-fresh)
 
-step_kept : (step : JobStep) (o : Result Plain Plain) (derived : Option PromiseId) (i : StreamId) (s : Slots) (h : Writes) → Taken i step s → Stands i h s → KeptBy i (after_reaction i step o derived s h) (perform_step step o s)
-step_kept (ReadableStart j) o derived i s h t k = rw (unfulfilled h 0 refl) (on_readable-kept (readable.start_settled j o) i j s h (readable_apart.start-apart i j o) k)
-step_kept (ReadablePull j) o derived i s h t k = rw (unfulfilled h 0 refl) (on_readable-kept (readable.pull_settled j o) i j s h (readable_apart.pulled-apart i j o) k)
-step_kept ReturnUndefined o derived i s h t k = rw (unfulfilled h 0 refl) k
-step_kept (WritableStart j) o derived i s h t k =
-    rw (unfulfilled h 0 refl) (on_writable-quiet (λ j. writable.start_settled j o) i j s h (λ d. start_settled-held i o h d (writable_acts i s)) (λ n. writable_apart.start_settled-apart i j o (writable_acts j s) n) k)
-step_kept (WritableWrite j) o derived i s h t k = write_settled-kept i j o s h t k
-step_kept (WritableClose j) o derived i s h t k =
-    rw (unfulfilled h 0 refl) (on_writable-kept (λ j. writable.close_settled j o) i j s h (λ l. h) (λ n. refl) (λ n. refl)
-    (λ same held. close_settled-held i o h held.dropped (writable_acts i s) (due_close i j s same t) held.fine) (λ n. writable_apart.close_settled-apart i j o (writable_acts j s) n) k)
-step_kept (WritableAbort j p) o derived i s h t k =
-    rw (unfulfilled h 0 refl) (on_writable-kept (λ j. writable.abort_settled p o) i j s h (λ l. h) (λ n. refl) (λ n. refl)
-    (λ same held. abort_settled-held i p o h held.dropped (writable_acts i s) (ended_by_abort i j p s (writable.has_ended (writable_at i s).state) refl same t) held.fine)
-    (λ n. writable_apart.abort_settled-apart i p o (writable_acts j s)) k)
+renewed-clear : (i : StreamId) (t : Table) (kept : Bool) (es : List Effect) → all (mass i) es ≡ 0 → all (mass i) (calls.reject_renewed t kept ++ es) ≡ 0
+renewed-clear i t kept es z = grind arith
+
+-- a stream that isn't closing is asked to close
+asked-kept : (i j : StreamId) (p : PromiseId) (h : Writes) (s : Slots) (same : Bool) → same ≡ is_same i j → is_closing (writable_at j s) ≡ false → Kept i h s [] → Kept i h (with_promises (fresh s.promises) s) (Writable j (Close p) ∷ [])
+asked-kept i j p h s false e n k = still-kept i h s (with_promises (fresh s.promises) s) (Writable j (Close p) ∷ []) refl (lightens-fresh s.promises) (rw (← e) refl) k
+asked-kept i j p h s true e n k =
+    let is : j ≡ i = sym (same_id i j (sym e)) in
+    let open_ : is_closing (writable_at i s) ≡ false = subst (λ (l : StreamId). is_closing (writable_at l s) ≡ false) is n in
+    let z : Slots = with_promises (fresh s.promises) s in
+    let one = is_same-refl i in
+    let f = k.held.fine in
+    subst (λ (l : StreamId). Kept i h z (Writable l (Close p) ∷ [])) (sym is) (record {
+      unmade = λ e. let u = k.unmade e in grind (arith, weigh-fresh);
+      held = record { behind = refl; dropped = k.held.dropped; fine = record { shape = f.shape; closing = f.closing; told = f.told; owed = grind (arith, weigh-fresh) } };
+    })
+
+pub call-kept : (i : StreamId) (h : Writes) (s : Slots) (c : Call) → Kept i h s [] → Kept i h (begin c s).done.slots (begin c s).done.caused
+call-kept i h s c k =
+    each_call (λ (b : Begun). Kept i h b.done.slots b.done.caused) c s (record {
+      unchanged = λ reply. k;
+      rejected = still-kept i h s (with_promises (fresh s.promises) s) _ refl (lightens-fresh s.promises) refl k;
+      make_readable = λ mark size start. added_readable i h s (readable.set_up Host mark size) _ (nat_eq i.0 (length s.streams)) refl refl k;
+      make_writable = λ mark size start. added_writable i (record { 0 = length s.streams }) mark size start h s (is_same i (record { 0 = length s.streams })) refl refl k;
+      get_reader = λ j e. still-kept i h s _ _ refl (lightens-fresh s.promises) refl k;
+      get_writer = λ j e. still-kept i h s _ _ refl (lightly s.promises (fresh s.promises) (fresh (fresh s.promises)) (lightens-fresh s.promises) (lightens-fresh (fresh s.promises))) refl k;
+      release_reader = λ l closed j e. still-kept i h s _ _ refl (renewed-lightens s.promises (readable.is_readable (readable_at j s).state)) (renewed-clear i s.promises (readable.is_readable (readable_at j s).state) _ refl) k;
+      release_writer = λ l j w e f.
+          let ready : Bool = is_pending_at w.ready s.promises in
+          let t : Table = calls.with_renewed s.promises ready in
+          let closed : Bool = is_pending_at w.closed t in
+          still-kept i h s _ _ refl (lightly s.promises t (calls.with_renewed t closed) (renewed-lightens s.promises ready) (renewed-lightens t closed))
+          (renewed-clear i s.promises ready _ (renewed-clear i t closed (Writable j ReleaseWriter ∷ []) refl)) k;
+      cancel = λ reason j. still-kept i h s _ _ refl (lightens-fresh s.promises) refl k;
+      read = λ j. still-kept i h s _ _ refl (lightens-fresh s.promises) refl k;
+      write = λ l v j e. still-kept i h s _ _ refl (lightens-fresh s.promises) refl k;
+      close = λ j n. asked-kept i j (next_id s.promises) h s (is_same i j) refl n k;
+      abort = λ reason j e. still-kept i h s _ _ refl (lightens-fresh s.promises) refl k;
+      enqueue = λ j v e can. still-kept i h s s _ refl (same_weight s.promises) refl k;
+      finish = λ j. still-kept i h s s _ refl (same_weight s.promises) refl k;
+      fail_readable = λ j reason. still-kept i h s s _ refl (same_weight s.promises) refl k;
+      fail_writable = λ j reason. still-kept i h s s _ refl (same_weight s.promises) refl k;
+      settle = λ a answer p e. still-kept i h s _ _ refl (same_weight s.promises) refl k;
+    })
 
 -- jobs
 
--- the slots whose effects are all performed
-abbrev pub Rests : StreamId → Writes → Slots → Type 0
-Rests i h s = Kept i h s.streams (record { promises = s.promises; effects = [] })
+-- the steps of a job weigh what the job did, and they tell of no stream before its operation
+record Begins (i : StreamId) (job : Job) : Type 0 where
+  pub leads : (f : Step → ℕ) → all (leads_to f) (job_effects job) ≤ taken_off (of_reaction f) job
+  pub hands : all (hands i) (job_effects job) ≡ 0
+  pub closes : all (closes i) (job_effects job) ≡ 0
+  pub asks : all (asks i) (job_effects job) ≡ 0
 
-apart-settling : (i : StreamId) (p : PromiseId) (o : Result Plain Plain) (s : Slots) → Apart i (out_of (nothing s)) (record { promises = all_told (settle p o s.promises); effects = [] })
-apart-settling i p o s =
-    apart-promises i (out_of (nothing s)) (all_told (settle p o s.promises)) (later-then s.promises (settle p o s.promises) (all_told (settle p o s.promises)) (later-settle p o s.promises) (later-told (settle p o s.promises)))
+job-begins : (i : StreamId) (job : Job) → Begins i job
+job-begins i job = record { leads = λ f. grind arith; hands = grind arith; closes = grind arith; asks = grind arith }
 
-derived-kept : (derived : Option PromiseId) (o : Result Plain Plain) (i : StreamId) (s : Slots) (h : Writes) → Rests i h s → Rests i h (resolve_derived derived o s)
-derived-kept None o i s h k = k
-derived-kept (Some p) o i s h k = kept-later i h s.streams (out_of (nothing s)) (record { promises = all_told (settle p o s.promises); effects = [] }) (apart-settling i p o s) k
+pub job-kept : (i : StreamId) (h : Writes) (s : Slots) (job : Job) → next_job s.promises ≡ Some job → Kept i h s [] → Kept i h (with_promises (after_next_job s.promises) s) (job_effects job)
+job-kept i h s job e k =
+    let b = job-begins i job in
+    let fs = job_effects job in
+    let less : (f : Step → ℕ) → weight f (after_next_job s.promises) + all (leads_to f) fs ≤ weight f s.promises + 0 =
+    λ f. let l = b.leads f in let n : weight f (after_next_job s.promises) + taken_off (of_reaction f) job ≤ weight f s.promises = rw e at (weigh-next (of_reaction f) s.promises) in omega arith in
+    let n = none_behind i fs b.hands in
+    let l1 = less (is_start i) in let l2 = less (is_write i) in let l3 = less (is_close i) in let l4 = less (is_abort i) in
+    kept-lighter i h h s (with_promises (after_next_job s.promises) s) [] fs (grind (arith, append-nil)) k
 
--- the history after the first job
-abbrev pub after_taken : StreamId → Slots → Option Job → Writes → Writes
-after_taken i s job h = so_far i (record h { fulfilled = h.fulfilled + job_fulfilled i s job }) (job_caused s job)
-
-so_far-none : (i : StreamId) (h : Writes) → so_far i (record h { fulfilled = h.fulfilled + 0 }) [] ≡ h
-so_far-none i h =
-    let m : h.fulfilled + 0 ≡ h.fulfilled = omega arith in
-    let n : h.closes + 0 ≡ h.closes = omega arith in
-    λ k. record h { acted = append-nil h.acted k; fulfilled = m k; closes = n k }
-
-pub first_taken : (i : StreamId) (s : Slots) (h : Writes) (step : JobStep) (o : Result Plain Plain) (derived : Option PromiseId) → Some (Reaction step o derived) ≡ next_job s.promises → Rests i h s
-    → Taken i step (record s { promises = after_next_job s.promises })
-first_taken i s h step o derived e k =
-    let m = weight-next (is_write i) s.promises in
-    let l = weight-next (is_close i) s.promises in
-    let c : is_close i step ≡ of_next (is_close i) (next_job s.promises) = ap (of_next (is_close i)) e in
-    let v = k.held.fine.owed.closes in
-    let n = weight-next (is_abort i) s.promises in
-    let w : is_write i step ≡ of_next (is_write i) (next_job s.promises) = ap (of_next (is_write i)) e in
-    let a : is_abort i step ≡ of_next (is_abort i) (next_job s.promises) = ap (of_next (is_abort i)) e in
-    let x = k.held.fine.owed.writes in
-    record {
-      writes = omega arith;
-      closes = omega arith;
-      aborts = λ z. let y = k.held.fine.owed.aborts z in omega arith;
-    }
-
-apart-next : (i : StreamId) (s : Slots) → Apart i (out_of (nothing s)) (record { promises = after_next_job s.promises; effects = [] })
-apart-next i s = apart-promises i (out_of (nothing s)) (after_next_job s.promises) (later-next s.promises)
-
-taken_kept : (job : Option Job) (i : StreamId) (s : Slots) (h : Writes) → job ≡ next_job s.promises → Rests i h s → Rests i (after_taken i s job h) (job_taken s job)
-unfolding perform_job
-taken_kept None i s h e k = rw (so_far-none i h) k
-taken_kept (Some (Reaction step o derived)) i s h e k =
-    let t : Slots = record s { promises = after_next_job s.promises } in
-    let standing : Stands i h t = kept-later i h s.streams (out_of (nothing s)) (out_of (nothing t)) (apart-next i s) k in
-    let done : KeptBy i (after_reaction i step o derived s h) (perform_step step o t) = step_kept step o derived i t h (first_taken i s h step o derived e k) standing in
-    derived-kept derived (returned step o) i (performed (perform_step step o t)) (so_far i (after_reaction i step o derived s h) (perform_step step o t).caused)
-    (performed-kept i (after_reaction i step o derived s h) (perform_step step o t) done)
-taken_kept (Some (Follow p q)) i s h e k =
-    rw (so_far-none i h) (kept-later i h s.streams (out_of (nothing s)) (record { promises = after_next_job s.promises; effects = [] }) (apart-next i s) k)
-taken_kept (Some (SettleJob p o)) i s h e k =
-    let t : Slots = record s { promises = after_next_job s.promises } in
-    rw (so_far-none i h) (kept-later i h s.streams (out_of (nothing s)) (record { promises = all_told (settle p o t.promises); effects = [] })
-    (apart-then i (out_of (nothing s)) (out_of (nothing t)) (record { promises = all_told (settle p o t.promises); effects = [] }) (apart-next i s) (apart-settling i p o t)) k)
-
--- steps
-
-named-kept : (reply : Reply) (i : StreamId) (s : Slots) (h : Writes) → Rests i h s → Rests i h (named reply s)
-named-kept Done i s h k = k
-named-kept (Made j) i s h k = k
-named-kept (ReplyLock l) i s h k = k
-named-kept (Promise p) i s h k =
-    kept-later i h s.streams (out_of (nothing s)) (record { promises = all_told (watch p s.promises); effects = [] })
-    (apart-promises i (out_of (nothing s)) (all_told (watch p s.promises)) (later-then s.promises (watch p s.promises) (all_told (watch p s.promises)) (later-watch p s.promises) (later-told (watch p s.promises)))) k
-named-kept (Size n) i s h k = k
-named-kept (StateReply x) i s h k = k
-named-kept (Throws t) i s h k = k
-named-kept TooMany i s h k = k
-
-called_writes : (i : StreamId) (h : Writes) (vs : List Value) (es : List Effect)
-    → writes_then h (record { written = vs; acted = acted_in i es; fulfilled = 0; closes = closes_in i es }) ≡ so_far i (record h { written = h.written ++ vs }) es
-called_writes i h vs es = let n : h.fulfilled + 0 ≡ h.fulfilled = omega arith in λ k. record { written = h.written ++ vs; acted = h.acted ++ acted_in i es; fulfilled = n k; closes = h.closes + closes_in i es }
-
-worked_writes : (i : StreamId) (h : Writes) (m : ℕ) (es : List Effect)
-    → writes_then h (record { written = []; acted = acted_in i es; fulfilled = m; closes = closes_in i es }) ≡ so_far i (record h { fulfilled = h.fulfilled + m }) es
-worked_writes i h m es = λ k. record { written = append-nil h.written k; acted = h.acted ++ acted_in i es; fulfilled = h.fulfilled + m; closes = h.closes + closes_in i es }
-
-pub writes-nothing : (h : Writes) → writes_then h no_writes ≡ h
-writes-nothing h =
-    let m : h.fulfilled + 0 ≡ h.fulfilled = omega arith in
-    let n : h.closes + 0 ≡ h.closes = omega arith in
-    λ k. record { written = append-nil h.written k; acted = append-nil h.acted k; fulfilled = m k; closes = n k }
-
--- a promise that is let go of is owed nothing
-forgotten_rests : (i : StreamId) (p : PromiseId) (s : Slots) (h : Writes) → Rests i h s → Rests i h (after_forgetting p s)
-forgotten_rests i p s h k =
-    let f = k.held.fine in
-    let writes = weight-let_go (is_write i) p s.promises in
-    let closes = weight-let_go (is_close i) p s.promises in
-    let aborts = weight-let_go (is_abort i) p s.promises in
-    record {
-      unmade = λ e. let u = k.unmade e in record { history = u.history; aborts = let n = u.aborts in omega arith };
-      held = record {
-        dropped = k.held.dropped;
-        fine = record {
-          shape = f.shape;
-          closing = f.closing;
-          told = f.told;
-          owed = record {
-            writes = let n = f.owed.writes in omega arith;
-            closes = let n = f.owed.closes in omega arith;
-            aborts = λ e. let n = f.owed.aborts e in omega arith;
-          };
-        };
-      };
-    }
-
-pub entry_kept : (i : StreamId) (x : Entry) (s : Slots) (h : Writes) → Rests i h s → Rests i (writes_then h (step_writes i s x)) (step s x)
-entry_kept i (Called c) s h k =
-    let d : SlotsDone = (begin c s).done in
-    let g : Writes = so_far i (record h { written = h.written ++ call_written i c s }) d.caused in
-    rw (called_writes i h (call_written i c s) d.caused)
-    (named-kept (begin c s).reply i (performed d) g (performed-kept i (record h { written = h.written ++ call_written i c s }) d (call_kept c i s h k)))
-entry_kept i Worked s h k =
-    rw (worked_writes i h (job_fulfilled i s (next_job s.promises)) (job_caused s (next_job s.promises))) (taken_kept (next_job s.promises) i s h refl k)
-entry_kept i Heard s h k = rw (writes-nothing h) k
-entry_kept i (Forgot p) s h k = rw (writes-nothing h) (forgotten_rests i p s h k)
+-- runs
 
 pub writes-assoc : (f g h : Writes) → writes_then (writes_then f g) h ≡ writes_then f (writes_then g h)
-writes-assoc f g h =
-    let m : (f.fulfilled + g.fulfilled) + h.fulfilled ≡ f.fulfilled + (g.fulfilled + h.fulfilled) = omega arith in
-    let n : (f.closes + g.closes) + h.closes ≡ f.closes + (g.closes + h.closes) = omega arith in
-    λ k. record {
-      written = append_assoc f.written g.written h.written k;
-      acted = append_assoc f.acted g.acted h.acted k;
-      fulfilled = m k;
-      closes = n k;
-    }
+writes-assoc f g h = grind (arith, append_assoc)
 
 pub nothing-writes : (h : Writes) → writes_then no_writes h ≡ h
-nothing-writes h =
-    let m : 0 + h.fulfilled ≡ h.fulfilled = omega arith in
-    let n : 0 + h.closes ≡ h.closes = omega arith in
-    λ k. record h { fulfilled = m k; closes = n k }
+nothing-writes h = grind arith
 
-pub run_kept : (i : StreamId) (xs : List Entry) (s : Slots) (h : Writes) → Rests i h s → Rests i (writes_then h (run_writes i xs s)) (run xs s)
-run_kept i [] s h k = rw (writes-nothing h) k
-run_kept i (x ∷ xs) s h k =
-    rw (← writes-assoc h (step_writes i s x) (run_writes i xs (step s x))) (run_kept i xs (step s x) (writes_then h (step_writes i s x)) (entry_kept i x s h k))
+pub is_history : IsHistory no_writes writes_then
+is_history = record { left = nothing-writes; right = writes-nothing; assoc = writes-assoc }
 
--- laws
-
-pub so_far-nothing : (i : StreamId) (h : Writes) → so_far i h [] ≡ h
-so_far-nothing i h = let n : h.closes + 0 ≡ h.closes = omega arith in λ k. record h { acted = append-nil h.acted k; closes = n k }
-
--- nothing is queued in a stream that is closed, and nothing was dropped
-pub closed_whole : (h : Writes) (d : List Value) (c : Core) (k : ℕ) → k ≡ h.closes → is_closed c.state ≡ true → Told h d c → (h.acted ≡ h.written) × (h.fulfilled ≡ length h.written)
-closed_whole h d c (suc k) e f t = (t.whole (omega arith), t.fulfilled (omega arith))
-closed_whole h d c zero e f t =
-    let none = t.closed f (sym e) in
-    let all : h.acted ++ (todo c.queue ++ d) ≡ [] = sym t.all ∙ none.0 in
-    let acted = append_none h.acted (todo c.queue ++ d) all in
-    let length_none : length h.written ≡ 0 = ap length none.0 in
-    let fulfilled : h.fulfilled ≡ 0 = none.1 in
-    (acted.0 ∙ sym none.0, omega arith)
-
-lawful-from : (h : Writes) (d : List Value) (w : writable.Slots) (k : ℕ) → k ≡ h.closes → Shape k (core_of w) → Told h d (core_of w) → IsLawfulWritable h w
-lawful-from h d w k e s t = record {
-  front = (todo w.queue ++ d, sym t.all);
-  alive = λ a. let o : d ≡ [] = t.live (rw a refl) in rw (o, append-nil) at t.all;
-  once = let n = s.once in omega arith;
-  whole = t.whole;
-  fulfilled = t.fulfilled;
-  closed = λ f. closed_whole h d (core_of w) h.closes refl (rw f refl) t;
+pub goes : (i : StreamId) → GoesUntold writes_then (effect_writes i) (Kept i)
+goes i = record {
+  row = row-kept i;
+  call = call-kept i;
+  job = job-kept i;
+  answered = λ h s p k. still-kept i h s (with_promises (watch p s.promises) s) [] refl (λ f. weigh-watch (of_reaction f) p s.promises) refl k;
+  older = λ h s k. still-kept i h s (older s) [] refl (same_weight s.promises) refl k;
 }
 
-lawful : (i : StreamId) (h : Writes) (s : Slots) → Rests i h s → IsLawfulWritable h (writable_at i s)
-lawful i h s k =
-    let f = k.held.fine in
-    let n : h.closes + 0 ≡ h.closes = omega arith in
-    lawful-from h k.held.dropped (writable_at i s) (h.closes + 0) n f.shape (rw (so_far-nothing i h) at f.told)
+pub rests : (i : StreamId) → RestsUntold (Kept i)
+unfolding weigh
+rests i = record {
+  heard = λ h s k. still-kept i h s (after_event s) [] refl (λ f. omega arith) refl k;
+  forgotten = λ h s p k. still-kept i h s (after_forgetting p s) [] refl (λ f. weigh-let_go (of_reaction f) p s.promises) refl k;
+}
 
-pub none_made : (i : StreamId) → Rests i no_writes empty
-unfolding weight weigh
+pub step-kept : (i : StreamId) (h : Writes) (s : Slots) (x : Entry) → Kept i h s [] → Kept i (writes_then h (step_writes i s x)) (step s x) []
+step-kept i h s x k = walker.step-goes_untold no_writes writes_then is_history (effect_writes i) (Kept i) (goes i) (rests i) h s x k
+
+pub none_made : (i : StreamId) → Kept i no_writes empty []
+unfolding weigh
 none_made i = record {
-  unmade = λ e. record { history = refl; aborts = refl };
-  held = record {
-    dropped = [];
-    fine = record {
-      shape = record { ended = λ e. refl; flying = λ o e. cc; requests = omega arith; last = refl; started = λ e. cc; marked = λ e m. cc; flight = λ e. cc; spent = λ e. refl; still = λ e. refl; once = omega arith };
-      closing = λ z e. cc;
-      told = record { all = refl; live = λ o. refl; counted = λ o. refl; whole = λ z. refl; fulfilled = λ z. refl; closed = λ e z. (refl, refl, refl) };
-      owed = record { writes = omega arith; closes = omega arith; aborts = λ e. refl };
-    };
-  };
+  unmade = λ e. record { closes = refl; starts = refl; aborts = refl };
+  held = record { behind = refl; dropped = []; fine = grind arith };
+}
+
+pub run-kept : (entries : List Entry) (i : StreamId) → Kept i (run_writes i entries empty) (run entries empty) []
+run-kept entries i = walker.run-holds no_writes writes_then is_history (effect_writes i) (Kept i) (goes i) (rests i) entries empty (none_made i)
+
+-- the law
+
+-- what holds of a stream between steps
+pub resting : (i : StreamId) (h : Writes) (s : Slots) (k : Kept i h s []) → Fine (with_effects i (among i s.promises) []) h k.held.dropped (core_of (writable_at i s))
+resting i h s k = rw (so_far-nothing i h (writable_at i s)) at k.held.fine
+
+-- nothing is queued in a stream that is closed, and nothing was dropped
+pub closed_whole : (h : Writes) (d : List Value) (c : Core) → is_closed c.state ≡ true → Told h d c → (h.acted ≡ h.written) × (h.fulfilled ≡ length h.written)
+closed_whole h d c e t = grind (arith, append_none)
+
+lawful : (h : Writes) (d : List Value) (w : writable.Slots) → Shape h.closes (core_of w) → Told h d (core_of w) → IsLawfulWritable h w
+lawful h d w s t = record {
+  front = (todo w.queue ++ d, sym t.all);
+  alive = λ a. let o : d ≡ [] = t.live (rw a refl) in rw (o, append-nil) at t.all;
+  once = s.once;
+  whole = t.whole;
+  fulfilled = t.fulfilled;
+  closed = λ f. closed_whole h d (core_of w) (rw f refl) t;
 }
 
 pub each_writable_is_lawful : EachWritableIsLawful
 each_writable_is_lawful entries i =
-    lawful i (run_writes i entries empty) (run entries empty) (rw (nothing-writes (run_writes i entries empty)) at (run_kept i entries empty no_writes (none_made i)))
+    let k = run-kept entries i in
+    let f = resting i (run_writes i entries empty) (run entries empty) k in
+    lawful (run_writes i entries empty) k.held.dropped (writable_at i (run entries empty)) f.shape f.told

@@ -1,15 +1,22 @@
--- What holds of a writable stream's queue, requests and flights, and how they go together with what was written.
-use Rattle.std.proofs.Common.{◌≡◌, ℕ, ◌+◌, ◌≤◌, ◌<◌, Bool, true, false, not, ◌||◌, is_some, if◌then◌else◌, List, [], ◌∷◌, ◌++◌, length, refl, arith}
+-- What holds of a writable stream's queue, requests and flights, and how they go together with what was written; and what of a stream is
+-- under way on the agenda: the steps that its effects lead to, and those that tell of the stream later.
+use Rattle.std.proofs.Common.{◌≡◌, ℕ, ◌+◌, ◌≤◌, ◌<◌, Bool, true, false, not, ◌||◌, is_some, if◌then◌else◌, Option, List, [], ◌∷◌, ◌++◌, length, refl, sym, ap, ◌∙◌, arith, append_assoc}
 use Rattle.ws_value.specs.declared.ids.PromiseId.{PromiseId}
 use Rattle.ws_value.specs.declared.value.Value.{Value}
-use Rattle.ws_steps.specs.declared.queue.Queued.{Queued}
-use Rattle.ws_steps.specs.declared.writable.WritableState.{WritableState}
-use Rattle.ws_steps.specs.declared.writable.WritableState.TheVariants.{Writable, Erroring, Errored, Closed}
-use Rattle.ws_steps.specs.declared.writable.WriteRecord.{WriteRecord}
+use Rattle.ws_value.specs.declared.ids.StreamId.{StreamId}
+use Rattle.ws_steps.specs.declared.{queue.Queued.{Queued}, writable.WritableState.{WritableState}, writable.WritableState.TheVariants.{Errored}, writable.WriteRecord.{WriteRecord}}
 use Rattle.ws_steps.specs.declared.writable.WriteRecord.TheVariants.{Chunk, InFlight, CloseMark}
 use Rattle.ws_steps.specs.Queues.{is_empty}
 use Rattle.ws_steps.specs.Writable.{Slots, has_ended, is_closed}
-use Rattle.ws_steps.specs.Histories.{Writes, todo}
+use Rattle.ws_steps.specs.WritableHistory.{Writes, todo, chunk_of}
+use Rattle.ws_steps.specs.declared.{effects.Effect.{Effect}, effects.Effect.TheVariants.{Writable, StartAlgorithm, WriteAlgorithm, CloseAlgorithm, AbortAlgorithm, Give, CallHost}}
+use Rattle.ws_steps.specs.declared.{effects.Use.{Use}, effects.Use.TheVariants.{React, Resolve}, promises.Reaction.{Reaction}, promises.Reaction.TheVariants.{Perform, Adopt}}
+use Rattle.ws_steps.specs.declared.{promises.Step.{Step}, promises.Step.TheVariants.{WritableStart, WritableWrite, WritableClose, WritableAbort}}
+use Rattle.ws_steps.specs.declared.writable.WritableOperation.{WritableOperation}
+use Rattle.ws_steps.specs.declared.writable.WritableOperation.TheVariants.{Close, HandOn, StartSettled, WriteSettled, CloseSettled, AbortSettled}
+use Rattle.ws_steps.specs.Histories.{is_same}
+use Rattle.ws_steps.specs.Promises.{Table}
+use Rattle.ws_laws.proofs.Weights.{weigh}
 
 abbrev pub one_if : Bool → ℕ
 one_if true = 1
@@ -20,6 +27,7 @@ pub record Core : Type 0 where
   pub state : WritableState
   pub queue : List (Queued WriteRecord)
   pub requests : List PromiseId
+  pub flying : Option PromiseId
   pub writing : Bool
   pub requested : Bool
   pub closing : Bool
@@ -31,6 +39,7 @@ core_of s =
       state = s.state;
       queue = s.queue;
       requests = s.write_requests;
+      flying = s.write_in_flight;
       writing = is_some s.write_in_flight;
       requested = is_some s.close_request;
       closing = is_some s.close_in_flight;
@@ -96,52 +105,98 @@ pub record Told (h : Writes) (dropped : List Value) (c : Core) : Type 0 where
 abbrev pub failed : Core → Core
 failed c = record c { state = Errored; queue = []; requests = [] }
 
-pub failed-shape : (k : ℕ) (c : Core) → Shape k c → Shape k (failed c)
-failed-shape k c s = grind arith
+-- one more entry
 
-pub failed-told : (h : Writes) (d : List Value) (c : Core) → Told h d c → Told h (todo c.queue ++ d) (failed c)
-failed-told h d c t = record { all = t.all; live = λ e. cc; counted = λ e. cc; whole = t.whole; fulfilled = t.fulfilled; closed = λ e. cc }
+pub todo-append : (xs ys : List (Queued WriteRecord)) → todo (xs ++ ys) ≡ todo xs ++ todo ys
+todo-append [] ys = refl
+todo-append (x ∷ xs) ys = ap (λ vs. chunk_of x.value ++ vs) (todo-append xs ys) ∙ sym (append_assoc (chunk_of x.value) (todo xs) (todo ys))
 
--- the stream starts to be erroring
-pub erroring-shape : (k : ℕ) (c : Core) → c.state ≡ Writable → Shape k c → Shape k (record c { state = Erroring })
-erroring-shape k c e s = grind arith
+pub leads-append : (xs ys : List (Queued WriteRecord)) → leads xs ≡ true → leads (xs ++ ys) ≡ true
+leads-append [] ys e = cc
+leads-append (x ∷ xs) ys e = e
 
-pub erroring-told : (h : Writes) (d : List Value) (c : Core) → c.state ≡ Writable → Told h d c → Told h d (record c { state = Erroring })
-erroring-told h d c e t = grind arith
+pub no_mark-append : (xs : List (Queued WriteRecord)) (q : Queued WriteRecord) → has_mark xs ≡ false → has_mark (xs ++ q ∷ []) ≡ is_mark q.value
+no_mark-append [] q e = grind arith
+no_mark-append (x ∷ xs) q e = let n = no_mark-append xs q in grind arith
 
--- the stream is closed
-pub closed-shape : (k : ℕ) (c : Core) → c.closing ≡ true → Shape k c → Shape k (record c { state = Closed; closing = false })
-closed-shape k c e s =
-    let spent : c.queue ≡ [] = s.spent (s.flight e) in
-    record {
-      ended = λ g. spent;
-      flying = λ o w. let n = s.still (s.flight e) in cc;
-      requests = s.requests;
-      last = s.last;
-      started = λ g. s.started (grind arith);
-      marked = λ g m. cc;
-      flight = λ g. cc;
-      spent = s.spent;
-      still = s.still;
-      once = s.once;
-    }
+pub last-append : (xs : List (Queued WriteRecord)) (q : Queued WriteRecord) → has_mark xs ≡ false → marks_last (xs ++ q ∷ []) ≡ true
+last-append [] q e = grind arith
+last-append (x ∷ xs) q e = let n = last-append xs q in grind arith
 
-pub closed-told : (h : Writes) (d : List Value) (c : Core) → 0 < h.closes → Shape h.closes c → Told h d c → Told h d (record c { state = Closed; closing = false })
-closed-told h d c z s t =
-    let spent : c.queue ≡ [] = s.spent z in
-    let closed : is_open (record c { state = Closed; closing = false }) ≡ false = rw spent refl in
-    record {
-      all = t.all;
-      live = λ o. cc;
-      counted = λ o. cc;
-      whole = t.whole;
-      fulfilled = t.fulfilled;
-      closed = λ e n. absurd (omega arith);
-    }
+-- the steps that go on after the start of stream i, after a write of it, after its close, and after its abort
+abbrev pub is_start : StreamId → Step → ℕ
+is_start i (WritableStart j) = one_if (is_same i j)
+is_start i _ = 0
 
--- the controller has started
-pub started-shape : (k : ℕ) (c : Core) → Shape k c → Shape k (record c { started = true })
-started-shape k c s = grind arith
+abbrev pub is_write : StreamId → Step → ℕ
+is_write i (WritableWrite j) = one_if (is_same i j)
+is_write i _ = 0
 
-pub started-told : (h : Writes) (d : List Value) (c : Core) → Told h d c → Told h d (record c { started = true })
-started-told h d c t = record { all = t.all; live = t.live; counted = t.counted; whole = t.whole; fulfilled = t.fulfilled; closed = t.closed }
+abbrev pub is_close : StreamId → Step → ℕ
+is_close i (WritableClose j) = one_if (is_same i j)
+is_close i _ = 0
+
+abbrev pub is_abort : StreamId → Step → ℕ
+is_abort i (WritableAbort j p) = one_if (is_same i j)
+is_abort i _ = 0
+
+-- the step that an effect leads to, weighed: the step of an algorithm's reaction, and the operation that goes on by it
+
+abbrev pub of_use : (Step → ℕ) → Use → ℕ
+of_use f (React step derived) = f step
+of_use f (Resolve p) = 0
+
+abbrev pub of_operation : (Step → ℕ) → StreamId → WritableOperation → ℕ
+of_operation f i HandOn = f (WritableWrite i)
+of_operation f i (StartSettled outcome) = f (WritableStart i)
+of_operation f i (WriteSettled outcome) = f (WritableWrite i)
+of_operation f i (CloseSettled outcome) = f (WritableClose i)
+of_operation f i (AbortSettled p outcome) = f (WritableAbort i p)
+of_operation f i _ = 0
+
+abbrev pub leads_to : (Step → ℕ) → Effect → ℕ
+leads_to f (Writable i operation) = of_operation f i operation
+leads_to f (StartAlgorithm i step start) = f step
+leads_to f (WriteAlgorithm i) = f (WritableWrite i)
+leads_to f (CloseAlgorithm i) = f (WritableClose i)
+leads_to f (AbortAlgorithm i r p) = f (WritableAbort i p)
+leads_to f (Give gift u) = of_use f u
+leads_to f (CallHost call u) = of_use f u
+leads_to f _ = 0
+
+-- an effect that hands a chunk of stream i on, one that performs its close algorithm, and one that asks to close it
+
+abbrev pub hands : StreamId → Effect → ℕ
+hands i (Writable j HandOn) = one_if (is_same i j)
+hands i (WriteAlgorithm j) = one_if (is_same i j)
+hands i _ = 0
+
+abbrev pub closes : StreamId → Effect → ℕ
+closes i (CloseAlgorithm j) = one_if (is_same i j)
+closes i _ = 0
+
+abbrev pub asks : StreamId → Effect → ℕ
+asks i (Writable j (Close p)) = one_if (is_same i j)
+asks i _ = 0
+
+-- so much of each effect
+abbrev pub all : (Effect → ℕ) → List Effect → ℕ
+all f [] = 0
+all f (e ∷ es) = f e + all f es
+
+pub all-append : (f : Effect → ℕ) (xs ys : List Effect) → all f (xs ++ ys) ≡ all f xs + all f ys
+all-append f [] ys = omega arith
+all-append f (x ∷ xs) ys = let n = all-append f xs ys in omega arith
+
+-- all that an effect weighs for stream i
+abbrev pub mass : StreamId → Effect → ℕ
+mass i e = leads_to (is_start i) e + (leads_to (is_write i) e + (leads_to (is_close i) e + (leads_to (is_abort i) e + (hands i e + (closes i e + asks i e)))))
+
+-- the steps of the reactions and jobs among the promises, weighed
+
+abbrev pub of_reaction : (Step → ℕ) → Reaction → ℕ
+of_reaction f (Perform step derived) = f step
+of_reaction f (Adopt p) = 0
+
+abbrev pub weight : (Step → ℕ) → Table → ℕ
+weight f t = weigh (of_reaction f) t

@@ -1,7 +1,5 @@
-pub mod Operations
 pub mod Rejecting
-pub mod Failing
+pub mod Lines
 pub mod Lined
-pub mod Ends
-pub mod Calls
 pub mod Runs
+pub mod Answered

@@ -1,25 +1,30 @@
 -- The promises of the writes of a stream: those that ended well are fulfilled, and the others stand in line while the stream lives, and
 -- are rejected once it has ended.
-use Rattle.std.proofs.Common.{◌≡◌, Bool, nat_eq, true, false, List, [], ◌∷◌, ◌++◌, length, get_or, Option, None, slice_get, refl, sym, ap, ◌∙◌, arith, append_assoc, length-append}
+use Rattle.std.proofs.Common.{◌≡◌, ℕ, zero, suc, ◌+◌, Bool, true, false, is_some, nat_eq, List, [], ◌∷◌, ◌++◌, length, get_or, Option, Some, None, Result, Ok, Err, refl, sym, ap, ◌∙◌, arith, append_assoc, append-nil, length-append}
+use Rattle.std.proofs.lemmas.List.Elements.{All-append}
 use Rattle.ws_value.specs.declared.ids.PromiseId.{PromiseId}
 use Rattle.ws_value.specs.declared.ids.StreamId.{StreamId}
 use Rattle.ws_value.specs.declared.value.Outcome.TheVariants.{Fulfilled}
+use Rattle.ws_value.specs.declared.value.Plain.{Plain}
 use Rattle.ws_value.specs.declared.value.Plain.TheVariants.{Undefined}
 use Rattle.ws_value.specs.declared.value.Value.{Value}
-use Rattle.ws_steps.specs.Promises.{Table, let_go}
-use Rattle.ws_steps.specs.Readable as readable
+use Rattle.ws_steps.specs.declared.writable.WritableOperation.{WritableOperation}
+use Rattle.ws_steps.specs.declared.writable.WritableOperation.TheVariants as names
+use Rattle.ws_steps.specs.Operations.{writable_operation}
+use Rattle.ws_steps.specs.Promises.{Table, outcome_at, let_go}
 use Rattle.ws_steps.specs.Writable as writable
-use Rattle.ws_steps.specs.Writable.{has_ended}
-use Rattle.ws_steps.specs.Slots.{Slots, Stream, nothing, on_readable, on_writable, has_writable, writable_at, as_writable}
-use Rattle.ws_steps.specs.Histories.{Writes, is_same}
+use Rattle.ws_steps.specs.Writable.{Acts, has_ended, write_refusal}
+use Rattle.ws_steps.specs.Slots.{Stream, WritableStream, as_writable}
+use Rattle.ws_steps.specs.WritableHistory.{Writes, no_writes, writes_then, written_unless, fulfilled_by, operation_writes, promised_by, operation_promised}
 use Rattle.ws_steps.specs.Laws.{is_rejected, AllFulfilled, AllRejected}
-use Rattle.ws_laws.proofs.Outcomes.{Keeps}
-use Rattle.ws_laws.proofs.Tables.{same_id, writable_acts, on_writable-same, on_writable-other, on_writable-none, on_readable-none, on_readable-writable}
-use Rattle.ws_laws.proofs.Truth.{false_true}
 use Rattle.ws_laws.proofs.LettingGo.{let_go-outcome}
-use Rattle.ws_promise_laws.proofs.Holds.{eq_promises}
-use Rattle.ws_write_laws.proofs.Operations.{line, Spent, KeepsLine, AppendsToLine}
-use Rattle.ws_write_laws.proofs.Rejecting.{EachRejected, rejected-keeps, FailsLine, fails-state}
+use Rattle.ws_laws.proofs.Outcomes.{Keeps}
+use Rattle.ws_laws.proofs.Tables.{eq_numbers}
+use Rattle.ws_laws.proofs.Truth.{false_true}
+use Rattle.ws_writable_laws.proofs.Shape.{core_of}
+use Rattle.ws_writable_laws.proofs.Operations.{Alone, not_refused}
+use Rattle.ws_write_laws.proofs.Rejecting.{rejected-keeps}
+use Rattle.ws_write_laws.proofs.Lines.{flight, line, Ready, Lines, plain-lines, joined, write-lines, start-lines, write_fulfilled-lines, write_fulfils, write_failed-lines, closed-lines, close_failed-lines}
 
 -- of the stream that stands in its place, by the history of its writes and their promises; some promises may be let go of
 pub record Lined (gone : PromiseId → Bool) (h : Writes) (promised : List PromiseId) (place : Option Stream) (t : Table) : Type 0 where
@@ -29,125 +34,181 @@ pub record Lined (gone : PromiseId → Bool) (h : Writes) (promised : List Promi
   pub split : first ++ rest ≡ promised
   pub counted : length first ≡ h.fulfilled
   pub fulfilled : AllFulfilled gone t first
-  pub alive : has_ended (as_writable place).state ≡ false → rest ≡ line (as_writable place)
-  pub spent : Spent (as_writable place)
+  pub alive : has_ended (as_writable place).state ≡ false → rest ≡ line (core_of (as_writable place))
+  pub spent : has_ended (as_writable place).state ≡ true → is_some (as_writable place).write_in_flight ≡ false
   pub unmade : place ≡ None → rest ≡ []
   pub ended : has_ended (as_writable place).state ≡ true → AllRejected gone t rest
 
--- a promise that may be let go of is no other
-kept_number : (gone : PromiseId → Bool) (p q : PromiseId) (same : Bool) → same ≡ nat_eq p.0 q.0 → gone p ≡ false → gone q ≡ true → same ≡ false
-kept_number gone p q false e g may = refl
-kept_number gone p q true e g may = let is : gone p ≡ gone q = ap gone (eq_promises p q (sym e)) in false_true (gone q) may (sym is ∙ g)
+-- settled promises keep their outcomes
 
-pub all_keep : (gone : PromiseId → Bool) (t z : Table) (ps : List PromiseId) → Keeps t z → AllFulfilled gone t ps → AllFulfilled gone z ps
+all_keep : (gone : PromiseId → Bool) (t z : Table) (ps : List PromiseId) → Keeps t z → AllFulfilled gone t ps → AllFulfilled gone z ps
 all_keep gone t z ps k a n d h g = k.outcome (get_or ps n d) (Fulfilled Undefined) refl (a n d h g)
 
--- a promise is let go of that may be
-pub all_released : (gone : PromiseId → Bool) (q : PromiseId) (t : Table) (ps : List PromiseId) → gone q ≡ true → AllFulfilled gone t ps → AllFulfilled gone (let_go q t) ps
-all_released gone q t ps may a n d h g = let_go-outcome (get_or ps n d) q t (kept_number gone (get_or ps n d) q (nat_eq (get_or ps n d).0 q.0) refl g may) ∙ a n d h g
-
-pub rejected_keep : (gone : PromiseId → Bool) (t z : Table) (ps : List PromiseId) → Keeps t z → AllRejected gone t ps → AllRejected gone z ps
+rejected_keep : (gone : PromiseId → Bool) (t z : Table) (ps : List PromiseId) → Keeps t z → AllRejected gone t ps → AllRejected gone z ps
 rejected_keep gone t z ps k a n d h g = rejected-keeps t z (get_or ps n d) k (a n d h g)
 
-pub rejected_released : (gone : PromiseId → Bool) (q : PromiseId) (t : Table) (ps : List PromiseId) → gone q ≡ true → AllRejected gone t ps → AllRejected gone (let_go q t) ps
-rejected_released gone q t ps may a n d h g = ap is_rejected (let_go-outcome (get_or ps n d) q t (kept_number gone (get_or ps n d) q (nat_eq (get_or ps n d).0 q.0) refl g may)) ∙ a n d h g
-
--- where each is rejected, so is each that the host didn't let go of
-pub rejected_all : (gone : PromiseId → Bool) (t : Table) (ps qs : List PromiseId) → ps ≡ qs → EachRejected t qs → AllRejected gone t ps
-rejected_all gone t ps qs e a = rw e (λ n d h g. a n d h)
-
--- settled promises keep their outcomes
-pub lined-later : (gone : PromiseId → Bool) (h : Writes) (q : List PromiseId) (place : Option Stream) (t z : Table) → Keeps t z → Lined gone h q place t → Lined gone h q place z
-lined-later gone h q place t z k l = record {
+pub lined-later : (gone : PromiseId → Bool) (h : Writes) (q : List PromiseId) (old new : Option Stream) (t z : Table) → as_writable new ≡ as_writable old → (new ≡ None → old ≡ None) → Keeps t z → Lined gone h q old t → Lined gone h q new z
+lined-later gone h q old new t z same there k l = record {
   answered = l.answered;
   first = l.first;
   rest = l.rest;
   split = l.split;
   counted = l.counted;
   fulfilled = all_keep gone t z l.first k l.fulfilled;
-  alive = l.alive;
-  spent = l.spent;
-  unmade = l.unmade;
-  ended = λ e. rejected_keep gone t z l.rest k (l.ended e);
+  alive = rw same l.alive;
+  spent = rw same l.spent;
+  unmade = λ e. l.unmade (there e);
+  ended = rw same (λ e. rejected_keep gone t z l.rest k (l.ended e));
 }
 
--- what is in line when the stream ends is rejected, and stays so
-ended_after : (gone : PromiseId → Bool) (rest : List PromiseId) (old new : writable.Slots) (t z : Table) (over : Bool) → over ≡ has_ended old.state → FailsLine old new z → Keeps t z → (has_ended old.state ≡ false → rest ≡ line old)
-    → (has_ended old.state ≡ true → AllRejected gone t rest) → has_ended new.state ≡ true → AllRejected gone z rest
-ended_after gone rest old new t z true e f k alive was ended = rejected_keep gone t z rest k (was (sym e))
-ended_after gone rest old new t z false e f k alive was ended = rejected_all gone z rest (line old) (alive (sym e)) (f (sym e) ended)
+-- a promise is let go of that may be
 
--- the stream keeps its line until it ends
-pub lined-line : (gone : PromiseId → Bool) (h : Writes) (q : List PromiseId) (old new : Option Stream) (t z : Table) → KeepsLine (as_writable old) (as_writable new) → FailsLine (as_writable old) (as_writable new) z → Keeps t z
-    → (new ≡ None → old ≡ None) → Lined gone h q old t → Lined gone h q new z
-lined-line gone h q old new t z k f keeps n l = record {
-  answered = l.answered;
-  first = l.first;
-  rest = l.rest;
-  split = l.split;
-  counted = l.counted;
-  fulfilled = all_keep gone t z l.first keeps l.fulfilled;
-  alive = λ e. let a = k.alive e in l.alive a.0 ∙ sym a.1;
-  spent = k.spent l.spent;
-  unmade = λ e. l.unmade (n e);
-  ended = ended_after gone l.rest (as_writable old) (as_writable new) t z (has_ended (as_writable old).state) refl f keeps l.alive l.ended;
-}
+-- a promise that may be let go of is no other
+kept_number : (gone : PromiseId → Bool) (p q : PromiseId) (same : Bool) → same ≡ nat_eq p.0 q.0 → gone p ≡ false → gone q ≡ true → same ≡ false
+kept_number gone p q false e g may = refl
+kept_number gone p q true e g may =
+    let is : gone p ≡ gone q = ap (λ (n : ℕ). gone (record { 0 = n })) (eq_numbers p.0 q.0 (sym e)) in
+    false_true (gone q) may (sym is ∙ g)
 
-line-same : (a : writable.Slots) → KeepsLine a a
-line-same a = record { alive = λ e. (e, refl); spent = λ e. e }
-
-line_after : (operation : writable.Acts → writable.Acts) (i j : StreamId) (s : Slots) (same there : Bool) → same ≡ is_same i j → there ≡ has_writable j s
-    → KeepsLine (writable_at j s) (operation (writable_acts j s)).slots → KeepsLine (writable_at i s) (writable_at i (on_writable operation j s).slots)
-line_after operation i j s same false e t k = let n : on_writable operation j s ≡ nothing s = rw (← t) refl in rw n (line-same (writable_at i s))
-line_after operation i j s false true e t k = rw (on_writable-other operation j s i (sym e)) (line-same (writable_at i s))
-line_after operation i j s true true e t k = rw (same_id i j (sym e), on_writable-same operation j s (sym t)) k
-
--- what an operation on stream j does to the line of stream i where it ends it
-abbrev FailsAt : (writable.Acts → writable.Acts) → StreamId → StreamId → Slots → Type 0
-FailsAt operation i j s = FailsLine (writable_at i s) (writable_at i (on_writable operation j s).slots) (on_writable operation j s).slots.promises
-
-fails_here : (operation : writable.Acts → writable.Acts) (j : StreamId) (s : Slots) → has_writable j s ≡ true → FailsLine (writable_at j s) (operation (writable_acts j s)).slots (operation (writable_acts j s)).out.promises → FailsAt operation j j s
-fails_here operation j s there f = rw (on_writable-same operation j s there, there) f
-
-fails_after : (operation : writable.Acts → writable.Acts) (i j : StreamId) (s : Slots) (same there : Bool) → same ≡ is_same i j → there ≡ has_writable j s
-    → (has_writable j s ≡ true → FailsLine (writable_at j s) (operation (writable_acts j s)).slots (operation (writable_acts j s)).out.promises) → FailsAt operation i j s
-fails_after operation i j s same false e t f = let n : on_writable operation j s ≡ nothing s = rw (← t) refl in rw n (fails-state (writable_at i s) (writable_at i s) s.promises refl)
-fails_after operation i j s false true e t f = rw (on_writable-other operation j s i (sym e)) (fails-state (writable_at i s) (writable_at i s) (on_writable operation j s).slots.promises refl)
-fails_after operation i j s true true e t f = rw (same_id i j (sym e)) (fails_here operation j s (sym t) (f (sym t)))
-
--- an operation on stream j that keeps its line
-pub lined-on_writable : (gone : PromiseId → Bool) (operation : writable.Acts → writable.Acts) (i j : StreamId) (s : Slots) (h : Writes) (q : List PromiseId) (t : Table)
-    → KeepsLine (writable_at j s) (operation (writable_acts j s)).slots
-    → (has_writable j s ≡ true → FailsLine (writable_at j s) (operation (writable_acts j s)).slots (operation (writable_acts j s)).out.promises)
-    → Keeps t (on_writable operation j s).slots.promises → Lined gone h q (slice_get s.streams i.0) t → Lined gone h q (slice_get (on_writable operation j s).slots.streams i.0) (on_writable operation j s).slots.promises
-lined-on_writable gone operation i j s h q t k f keeps l =
-    lined-line gone h q (slice_get s.streams i.0) (slice_get (on_writable operation j s).slots.streams i.0) t (on_writable operation j s).slots.promises
-    (line_after operation i j s (is_same i j) (has_writable j s) refl refl k) (fails_after operation i j s (is_same i j) (has_writable j s) refl refl f) keeps (on_writable-none operation j s i) l
-
-pub lined-on_readable : (gone : PromiseId → Bool) (operation : readable.Acts → readable.Acts) (i j : StreamId) (s : Slots) (h : Writes) (q : List PromiseId) (t : Table)
-    → Keeps t (on_readable operation j s).slots.promises → Lined gone h q (slice_get s.streams i.0) t → Lined gone h q (slice_get (on_readable operation j s).slots.streams i.0) (on_readable operation j s).slots.promises
-lined-on_readable gone operation i j s h q t keeps l =
-    let z : Table = (on_readable operation j s).slots.promises in
-    lined-line gone h q (slice_get s.streams i.0) (slice_get (on_readable operation j s).slots.streams i.0) t z
-    (rw (on_readable-writable operation j s i (is_same i j) refl) (line-same (writable_at i s)))
-    (fails-state (writable_at i s) (writable_at i (on_readable operation j s).slots) z (ap (λ (w : writable.Slots). w.state) (on_readable-writable operation j s i (is_same i j) refl)))
-    keeps (on_readable-none operation j s i) l
-
--- a write is appended
-pub lined-append : (gone : PromiseId → Bool) (h : Writes) (v : Value) (p : PromiseId) (q : List PromiseId) (old new : Option Stream) (t z : Table) → AppendsToLine p (as_writable old) (as_writable new)
-    → (has_ended (as_writable new).state ≡ true → EachRejected z (line (as_writable old) ++ p ∷ [])) → Keeps t z → (new ≡ None → old ≡ None)
-    → has_ended (as_writable old).state ≡ false → Lined gone h q old t → Lined gone (record h { written = h.written ++ v ∷ [] }) (q ++ p ∷ []) new z
-lined-append gone h v p q old new t z k f keeps n alive l =
-    let rest : l.rest ++ p ∷ [] ≡ line (as_writable old) ++ p ∷ [] = ap (λ (ps : List PromiseId). ps ++ p ∷ []) (l.alive alive) in
+pub lined-released : (gone : PromiseId → Bool) (h : Writes) (q : List PromiseId) (place : Option Stream) (p : PromiseId) (t : Table) → gone p ≡ true → Lined gone h q place t → Lined gone h q place (let_go p t)
+lined-released gone h q place p t may l =
+    let same : (x : PromiseId) → gone x ≡ false → outcome_at (let_go p t) x ≡ outcome_at t x = λ x g. let_go-outcome x p t (kept_number gone x p (nat_eq x.0 p.0) refl g may) in
     record {
-      answered = let a = l.answered in omega (arith, length-append q (p ∷ []), length-append h.written (v ∷ []));
+      answered = l.answered;
       first = l.first;
-      rest = l.rest ++ p ∷ [];
-      split = sym (append_assoc l.first l.rest (p ∷ [])) ∙ ap (λ (ps : List PromiseId). ps ++ p ∷ []) l.split;
+      rest = l.rest;
+      split = l.split;
       counted = l.counted;
-      fulfilled = all_keep gone t z l.first keeps l.fulfilled;
-      alive = λ e. rest ∙ sym (k.alive e).1;
-      spent = k.spent l.spent;
-      unmade = λ e. let none : true ≡ false = rw (n e) at alive in absurd (cc);
-      ended = λ e. rejected_all gone z (l.rest ++ p ∷ []) (line (as_writable old) ++ p ∷ []) rest (f e);
+      fulfilled = λ n d h g. same (get_or l.first n d) g ∙ l.fulfilled n d h g;
+      alive = l.alive;
+      spent = l.spent;
+      unmade = l.unmade;
+      ended = λ e n d h g. ap is_rejected (same (get_or l.rest n d) g) ∙ l.ended e n d h g;
     }
+
+-- an operation of the stream
+
+-- what is counted anew
+record Counted (h : Writes) (promised first rest : List PromiseId) : Type 0 where
+  pub answered : length promised ≡ length h.written
+  pub split : first ++ rest ≡ promised
+  pub counted : length first ≡ h.fulfilled
+
+some_none : {A : Type 0} {x : A} → ◌≡◌ {A = Option A} (Some x) None → ⊥
+some_none e = cc
+
+after_ended : (gone : PromiseId → Bool) (had : Bool) (rest : List PromiseId) (b : Acts) → Lines had rest b → b.out.promises.astray ≡ false → (had ≡ true → AllRejected gone b.out.promises rest) → has_ended b.slots.state ≡ true → AllRejected gone b.out.promises rest
+after_ended gone true rest b l straight was e = was refl
+after_ended gone false rest b l straight was e = λ n d h g. l.failed refl e straight n d h
+
+lined-next : (gone : PromiseId → Bool) (h : Writes) (q first rest : List PromiseId) (had : Bool) (b : Acts) → Counted h q first rest → AllFulfilled gone b.out.promises first → Lines had rest b → b.out.promises.astray ≡ false → (had ≡ true → AllRejected gone b.out.promises rest)
+    → Lined gone h q (Some (WritableStream b.slots)) b.out.promises
+lined-next gone h q first rest had b c fulfilled l straight was = let e = after_ended gone had rest b l straight was in grind arith
+
+-- nothing is written and no write ends well
+same_count : (h f : Writes) (q first rest : List PromiseId) → f.written ≡ [] → f.fulfilled ≡ 0 → Counted h q first rest → Counted (writes_then h f) (q ++ []) first rest
+same_count h f q first rest w n c = record {
+  answered = rw (append-nil q, w, append-nil h.written) c.answered;
+  split = rw (append-nil q) c.split;
+  counted = let a = c.counted in omega arith;
+}
+
+-- no write is left where as many ended well as there are
+pub none_left : (first rest promised : List PromiseId) → first ++ rest ≡ promised → length first ≡ length promised → rest ≡ []
+none_left first [] promised e n = refl
+none_left first (p ∷ rest) promised e n =
+    let m : length promised ≡ length first + suc (length rest) = ap length (sym e) ∙ length-append first (p ∷ rest) in
+    absurd (omega arith)
+
+all_one : (gone : PromiseId → Bool) (t : Table) (p : PromiseId) → outcome_at t p ≡ Some (Fulfilled Undefined) → AllFulfilled gone t (p ∷ [])
+all_one gone t p h zero d n g = h
+all_one gone t p h (suc k) d n g = absurd (omega arith)
+
+-- what is known where an operation is performed
+abbrev pub Knows : Writes → WritableOperation → writable.Slots → Type 0
+Knows h (names.StartSettled o) w = (is_some w.write_in_flight ≡ false) × (has_ended w.state ≡ true → w.queue ≡ [])
+Knows h (names.WriteSettled o) w = (is_some w.write_in_flight ≡ true) × Alone (record (core_of w) { flying = None; writing = false })
+Knows h (names.CloseSettled o) w = (is_some w.write_in_flight ≡ false) × (h.fulfilled ≡ length h.written)
+Knows h _ w = Unit {0}
+
+module _ (gone : PromiseId → Bool) (i : StreamId) (h : Writes) (q : List PromiseId) (a : Acts) (l : Lined gone h q (Some (WritableStream a.slots)) a.out.promises) where
+  abbrev had : Bool
+  had = has_ended a.slots.state
+
+  -- what is to be shown of an operation by which this happens
+  abbrev Next : Writes → List PromiseId → Acts → Type 0
+  Next f ps b = Lined gone (writes_then h f) (q ++ ps) (Some (WritableStream b.slots)) b.out.promises
+
+  stands : Ready had l.rest (core_of a.slots)
+  stands = record { same = refl; line = λ e. sym (l.alive e); spent = l.spent }
+
+  -- the same stand in line, or are rejected
+  still : (f : Writes) (b : Acts) → f.written ≡ [] → f.fulfilled ≡ 0 → Keeps a.out.promises b.out.promises → b.out.promises.astray ≡ false → Lines had l.rest b → Next f [] b
+  still f b w n k straight ls =
+      lined-next gone (writes_then h f) (q ++ []) l.first l.rest had b
+      (same_count h f q l.first l.rest w n (record { answered = l.answered; split = l.split; counted = l.counted })) (all_keep gone a.out.promises b.out.promises l.first k l.fulfilled) ls straight
+      (λ e. rejected_keep gone a.out.promises b.out.promises l.rest k (l.ended e))
+
+  wrote : (v : Value) (p : PromiseId) (b : Acts) (refusal : Option Plain) → refusal ≡ write_refusal a.slots → Keeps a.out.promises b.out.promises → b.out.promises.astray ≡ false → Lines had (joined l.rest p refusal) b
+      → Next (record no_writes { written = written_unless v refusal }) (promised_by (written_unless v refusal) p) b
+  wrote v p b (Some e) r k straight ls = still (record no_writes { written = [] }) b refl refl k straight ls
+  wrote v p b None r k straight ls =
+      let alive : had ≡ false = ap has_ended (not_refused a.slots r).0 in
+      lined-next gone (writes_then h (record no_writes { written = v ∷ [] })) (q ++ p ∷ []) l.first (l.rest ++ p ∷ []) had b
+      (record {
+        answered = let n = l.answered in omega (arith, length-append q (p ∷ []), length-append h.written (v ∷ []));
+        split = sym (append_assoc l.first l.rest (p ∷ [])) ∙ ap (λ (ps : List PromiseId). ps ++ p ∷ []) l.split;
+        counted = let n = l.counted in omega arith;
+      })
+      (all_keep gone a.out.promises b.out.promises l.first k l.fulfilled) ls straight (λ e. false_true had e alive)
+
+  -- the write in flight, of a stream that lives
+  flying : is_some a.slots.write_in_flight ≡ true → had ≡ false
+  flying e = by had refl
+    where
+      by : (b : Bool) → b ≡ had → had ≡ false
+      by false f = sym f
+      by true f = false_true (is_some a.slots.write_in_flight) e (l.spent (sym f))
+
+  first_in_line : (p : PromiseId) → had ≡ false → a.slots.write_in_flight ≡ Some p → l.rest ≡ p ∷ a.slots.write_requests
+  first_in_line p alive e = l.alive alive ∙ ap (λ (x : Option PromiseId). flight x ++ a.slots.write_requests) e
+
+  front : (p : PromiseId) → had ≡ false → a.slots.write_in_flight ≡ Some p → Ready false (p ∷ a.slots.write_requests) (core_of a.slots)
+  front p alive e = record { same = alive; line = λ f. ap (λ (x : Option PromiseId). flight x ++ a.slots.write_requests) e; spent = λ f. cc }
+
+  write_ended-lined : (p : PromiseId) (o : Result Plain Plain) → a.slots.write_in_flight ≡ Some p → Alone (record (core_of a.slots) { flying = None; writing = false }) → Keeps a.out.promises (writable.write_settled i o a).out.promises
+      → (writable.write_settled i o a).out.promises.astray ≡ false → Next (record no_writes { fulfilled = fulfilled_by o a.slots }) [] (writable.write_settled i o a)
+  write_ended-lined p (Ok v) e alone k straight =
+      let b : Acts = writable.write_settled i (Ok v) a in
+      let alive : had ≡ false = flying (rw e refl) in
+      let rest = first_in_line p alive e in
+      let one : fulfilled_by (Ok v) a.slots ≡ 1 = rw e refl in
+      lined-next gone (writes_then h (record no_writes { fulfilled = fulfilled_by (Ok v) a.slots })) (q ++ []) (l.first ++ p ∷ []) a.slots.write_requests false b
+      (record {
+        answered = rw (append-nil q, append-nil h.written) l.answered;
+        split = append_assoc l.first (p ∷ []) a.slots.write_requests ∙ (ap (λ (ps : List PromiseId). l.first ++ ps) (sym rest) ∙ (l.split ∙ sym (append-nil q)));
+        counted = let n = l.counted in omega (arith, length-append l.first (p ∷ []));
+      })
+      (All-append (λ p. gone p ≡ false → outcome_at b.out.promises p ≡ Some (Fulfilled Undefined)) l.first (p ∷ []) (all_keep gone a.out.promises b.out.promises l.first k l.fulfilled) (all_one gone b.out.promises p (write_fulfils i p v a e straight)))
+      (write_fulfilled-lines i a.slots.write_requests p v a e (front p alive e)) straight (λ f. cc)
+  write_ended-lined p (Err r) e alone k straight =
+      let b : Acts = writable.write_settled i (Err r) a in
+      let alive : had ≡ false = flying (rw e refl) in
+      still (record no_writes { fulfilled = 0 }) b refl refl k straight
+      (rw (alive, first_in_line p alive e) (write_failed-lines i a.slots.write_requests p r a e alone (front p alive e)))
+
+  some_there : (o : Option PromiseId) → is_some o ≡ true → (p : PromiseId) × (o ≡ Some p)
+  some_there None e = absurd (cc)
+  some_there (Some p) e = (p, refl)
+
+  close-lines : (o : Result Plain Plain) → is_some a.slots.write_in_flight ≡ false → h.fulfilled ≡ length h.written → Lines had l.rest (writable.close_settled i o a)
+  close-lines (Ok v) idle whole = closed-lines i had l.rest v a idle (none_left l.first l.rest q l.split (l.counted ∙ (whole ∙ sym l.answered)))
+  close-lines (Err e) idle whole = close_failed-lines i had l.rest e a idle stands
+
+  pub operation-lined : (operation : WritableOperation) → Knows h operation a.slots → Keeps a.out.promises (writable_operation i operation a).out.promises → (writable_operation i operation a).out.promises.astray ≡ false
+      → Next (operation_writes operation a.slots) (operation_promised operation a.slots) (writable_operation i operation a)
+  operation-lined (names.Write v p) n k straight = wrote v p (writable.writer_write i v p a) (write_refusal a.slots) refl k straight (write-lines i had l.rest v p a stands)
+  operation-lined (names.StartSettled o) n k straight = still no_writes (writable.start_settled i o a) refl refl k straight (start-lines i had l.rest o a n.0 n.1 stands)
+  operation-lined (names.WriteSettled o) n k straight = let p = some_there a.slots.write_in_flight n.0 in write_ended-lined p.0 o p.1 n.1 k straight
+  operation-lined (names.CloseSettled o) n k straight = still no_writes (writable.close_settled i o a) refl refl k straight (close-lines o n.0 n.1)
+  operation-lined operation n k straight = still _ (writable_operation i operation a) refl refl k straight (plain-lines i operation had l.rest a tt stands)

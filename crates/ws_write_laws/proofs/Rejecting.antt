@@ -1,28 +1,50 @@
--- The promises of the writes of a stream that ends are rejected.
-use Rattle.std.proofs.Common.{◌≡◌, ℕ, ◌+◌, true, false, List, [], ◌∷◌, ◌++◌, get_or, All, Option, Some, None, Err, refl, sym, ap, ◌∙◌, arith}
-use Rattle.std.proofs.lemmas.List.Elements.{All-nil, All-cons, All-same}
+-- A promise that is settled where nothing goes astray has the outcome with which it is settled, and keeps it.
+use Rattle.std.proofs.Common.{◌≡◌, Bool, true, false, List, [], ◌∷◌, ◌++◌, map, get_or, All, Option, Some, None, Result, Err, slice_get, slice_set, if◌then◌else◌, refl, sym, ap, ◌∙◌}
+use Rattle.std.proofs.lemmas.List.Elements.{All-nil, All-cons}
+use Rattle.std.specs.Option.{option_map}
 use Rattle.ws_value.specs.declared.ids.PromiseId.{PromiseId}
-use Rattle.ws_value.specs.declared.value.Plain.{Plain}
 use Rattle.ws_value.specs.declared.value.Outcome.{Outcome}
 use Rattle.ws_value.specs.declared.value.Outcome.TheVariants.{Pending, Fulfilled, Given, Finished, Rejected}
-use Rattle.ws_steps.specs.Promises.{Table, is_pending, is_open, outcome_at, settle}
-use Rattle.ws_steps.specs.Writable.{Slots, has_ended, reject_all}
+use Rattle.ws_value.specs.declared.value.Plain.{Plain}
+use Rattle.ws_steps.specs.Promises.{Entry, Table, live, entry_at, outcome_at, is_pending, is_open, is_open_entry, settled, settle, settle_entry, ended_as, noted, job_of, went_astray}
 use Rattle.ws_steps.specs.Laws.{is_rejected}
-use Rattle.ws_laws.proofs.Outcomes.{Keeps}
-use Rattle.ws_laws.proofs.Truth.{false_true}
-use Rattle.ws_laws.proofs.WritableApart.{reject_all-later}
-use Rattle.ws_promise_laws.proofs.Tokens.{Token, PromiseToken, names}
-use Rattle.ws_promise_laws.proofs.Holds.{Holds, named, open_when}
-use Rattle.ws_promise_laws.proofs.Settling.{settled-outcome, holds-settle}
-use Rattle.ws_promise_laws.proofs.Streams.{in_list}
-use Rattle.ws_write_laws.proofs.Operations.{line, Kept, kept, flight}
+use Rattle.ws_steps.specs.Writable.{reject_all}
+use Rattle.ws_steps.proofs.PromiseLaws.{entry_within, entry_at-with_entry_same}
+use Rattle.ws_laws.proofs.Outcomes.{Keeps, keeps-same, keeps-then, keeps-settle, entries_noted}
+
+-- what didn't go astray at the end did nowhere
+pub straight_before : (t z : Table) → Keeps t z → z.astray ≡ false → t.astray ≡ false
+straight_before t z k e = by t.astray refl
+  where
+    by : (b : Bool) → b ≡ t.astray → t.astray ≡ false
+    by false f = sym f
+    by true f = let n = k.mark (sym f) in cc
+
+outcome_put : (q : PromiseId) (o : Result Plain Plain) (t : Table) (x : Option Entry) → x ≡ entry_at t q → is_open_entry x ≡ true → outcome_at (settle_entry q o t x) q ≡ Some (settled o)
+outcome_put q o t None e h = cc
+outcome_put q o t (Some e) h k =
+    let d : Entry = ended_as (settled o) e in
+    let y : Table = record t { entries = slice_set t.entries q.0 (Some d); jobs = t.jobs ++ map (job_of o) e.reactions } in
+    let at : entry_at (noted q y e.rank) q ≡ Some d = ap (λ (es : List (Option Entry)). live (slice_get es q.0)) (entries_noted q y e.rank) ∙ entry_at-with_entry_same t q (Some d) (entry_within t q e (sym h)) in
+    ap (λ (x : Option Entry). option_map (λ (e : Entry). e.outcome) x) at
+
+settled_by : (q : PromiseId) (o : Result Plain Plain) (t : Table) (open_ : Bool) → open_ ≡ is_open q t → (settle q o t).astray ≡ false → outcome_at (settle q o t) q ≡ Some (settled o)
+unfolding settle
+settled_by q o t true e a = rw (← e) (outcome_put q o t (entry_at t q) refl (sym e))
+settled_by q o t false e a = let n : (if is_open q t then settle_entry q o t (entry_at t q) else went_astray t).astray ≡ true = rw (← e) refl in cc
+
+pub settled_straight : (q : PromiseId) (o : Result Plain Plain) (t : Table) → (settle q o t).astray ≡ false → outcome_at (settle q o t) q ≡ Some (settled o)
+settled_straight q o t a = settled_by q o t (is_open q t) refl a
 
 -- each of these promises is rejected
 abbrev pub EachRejected : Table → List PromiseId → Type 0
 EachRejected t ps = All (λ p. is_rejected (outcome_at t p) ≡ true) ps
 
-pub each_none : (t : Table) (ps : List PromiseId) → ps ≡ [] → EachRejected t ps
-each_none t ps e = All-same (λ p. is_rejected (outcome_at t p) ≡ true) ps [] e (All-nil (λ p. is_rejected (outcome_at t p) ≡ true))
+pub none_rejected : (t : Table) → EachRejected t []
+none_rejected t = All-nil (λ p. is_rejected (outcome_at t p) ≡ true)
+
+pub one_more : (t : Table) (p : PromiseId) (ps : List PromiseId) → is_rejected (outcome_at t p) ≡ true → EachRejected t ps → EachRejected t (p ∷ ps)
+one_more t p ps e a = All-cons (λ p. is_rejected (outcome_at t p) ≡ true) p ps e a
 
 -- a rejected promise stays rejected
 
@@ -40,38 +62,17 @@ rejected-keeps t z p k e = outcome_kept (outcome_at t p) (outcome_at z p) (λ o 
 pub each-keeps : (t z : Table) (ps : List PromiseId) → Keeps t z → EachRejected t ps → EachRejected z ps
 each-keeps t z ps k a n d h = rejected-keeps t z (get_or ps n d) k (a n d h)
 
--- a promise that stands where it is to be settled is rejected
+-- promises that are rejected in order
 
-pub settled-rejected : (p : PromiseId) (e : Plain) (t : Table) → is_open p t ≡ true → is_rejected (outcome_at (settle p (Err e) t) p) ≡ true
-settled-rejected p e t o = ap is_rejected (settled-outcome p (Err e) t o)
+keeps-reject_all : (e : Plain) (ps : List PromiseId) (t : Table) → Keeps t (reject_all e ps t)
+keeps-reject_all e [] t = keeps-same t
+keeps-reject_all e (p ∷ ps) t = keeps-then t (settle p (Err e) t) (reject_all e ps (settle p (Err e) t)) (keeps-settle p (Err e) t) (keeps-reject_all e ps (settle p (Err e) t))
 
-first_open : (f l : Token → ℕ) (p : PromiseId) (ps : List PromiseId) (t : Table) → Holds (λ x. f x + in_list x (p ∷ ps)) l t → is_open p t ≡ true
-first_open f l p ps t k =
-    let h = k.once (PromiseToken p) in
-    let one : names (PromiseToken p) p ≡ 1 = named p in
-    open_when (is_open p t) (omega arith)
+pub rejected_straight : (p : PromiseId) (e : Plain) (t z : Table) → Keeps (settle p (Err e) t) z → z.astray ≡ false → is_rejected (outcome_at z p) ≡ true
+rejected_straight p e t z k a = rejected-keeps (settle p (Err e) t) z p k (ap is_rejected (settled_straight p (Err e) t (straight_before (settle p (Err e) t) z k a)))
 
-pub reject_all-rejects : (f l : Token → ℕ) (e : Plain) (ps : List PromiseId) (t : Table) → Holds (λ x. f x + in_list x ps) l t → EachRejected (reject_all e ps t) ps
-reject_all-rejects f l e [] t k = All-nil (λ p. is_rejected (outcome_at t p) ≡ true)
-reject_all-rejects f l e (p ∷ ps) t k =
+pub all_rejected : (e : Plain) (ps : List PromiseId) (t : Table) → (reject_all e ps t).astray ≡ false → EachRejected (reject_all e ps t) ps
+all_rejected e [] t a = none_rejected t
+all_rejected e (p ∷ ps) t a =
     let u : Table = settle p (Err e) t in
-    let z : Table = reject_all e ps u in
-    All-cons (λ p. is_rejected (outcome_at z p) ≡ true) p ps
-    (rejected-keeps u z p (reject_all-later e ps u).keeps (settled-rejected p e t (first_open f l p ps t k)))
-    (reject_all-rejects f l e ps u (holds-settle (λ x. f x + in_list x (p ∷ ps)) l (λ x. f x + in_list x ps) l p (Err e) t k (λ x. omega arith) (λ x. omega arith)))
-
--- where the stream ends, each promise in its line is rejected
-abbrev pub FailsLine : Slots → Slots → Table → Type 0
-FailsLine a b t = has_ended a.state ≡ false → has_ended b.state ≡ true → EachRejected t (line a)
-
--- the stream doesn't end
-pub fails-state : (a b : Slots) (t : Table) → b.state ≡ a.state → FailsLine a b t
-fails-state a b t e alive ended = false_true (has_ended b.state) ended (ap has_ended e ∙ alive)
-
--- what comes before leaves the line
-pub fails-line : (a b c : Slots) (t : Table) → line a ≡ line b → has_ended b.state ≡ false → FailsLine b c t → FailsLine a c t
-fails-line a b c t e living f alive ended = All-same (λ p. is_rejected (outcome_at t p) ≡ true) (line a) (line b) e (f living ended)
-
-pub fails-kept : (a b c : Slots) (t : Table) → kept b ≡ kept a → FailsLine b c t → FailsLine a c t
-fails-kept a b c t e f alive ended =
-    fails-line a b c t (sym (ap (λ (k : Kept). flight k.flying ++ k.requests) e)) (ap (λ (k : Kept). has_ended k.state) e ∙ alive) f alive ended
+    one_more (reject_all e ps u) p ps (rejected_straight p e t (reject_all e ps u) (keeps-reject_all e ps u) a) (all_rejected e ps u a)

@@ -1,9 +1,14 @@
 //! Laws over every run of a realm: the promises of writes, in every list of calls, jobs, takings of events and lettings go of promises, performed one after another from the empty realm.
 #![tactic(auto)]
 
-ghost use Rattle.ws_steps.specs.Laws.{EachWriteIsSettled};
+ghost use Rattle.ws_steps.specs.Laws.{EachWriteIsSettled, WritesWereAnswered};
 
 /// In every run, of each writable stream: the promises that writes answered, where these were appended to its queue, are as many as the values that were written. The first of them, as many as writes ended well, are fulfilled with undefined, and where the close algorithm was performed, all are; and where the stream has ended, all others are rejected; but for those that the host let go of.
 pub fn each_write_is_settled()
     ensures { EachWriteIsSettled }
+{}
+
+/// In every run, of each writable stream: what was written to it is what the run's calls wrote, where the write was appended, in the order of these calls, and the promises of these writes are those that the calls answered.
+pub fn writes_were_answered()
+    ensures { WritesWereAnswered }
 {}

@@ -1,8 +1,7 @@
-use Rattle.std.proofs.Common.{◌≡◌, [], sym, ◌∙◌, ap}
+use Rattle.std.proofs.Common.{◌≡◌, sym, ◌∙◌, ap}
 use Rattle.ws_steps.specs.declared.calls.Answer.TheVariants.{Ok as AnswerOk}
 use Rattle.ws_steps.specs.declared.calls.Call.TheVariants.{Settle}
-use Rattle.ws_steps.specs.Run.{after_call, work}
-use Rattle.ws_steps.specs.Slots.{Slots}
+use Rattle.ws_steps.specs.Run.{after_call, work, heard}
 use Rattle.ws_cli.specs.Moments.{answered, jobs_of_a_turn}
 use Rattle.ws_cli.proofs.Moves.{heard-all}
 use Rattle.ws_cli.proofs.Oks.{on_ok}
@@ -20,5 +19,5 @@ returns-clause-slots g c =
     ∙ ap (after_call (Settle c.args.pull AnswerOk))
     (heard-all c.loop-heard.realm.slots c.next_event.new.self.slots (after_call c.args.call c.args.realm.now.slots)
     (sym c.next_event.ensures.event ∙ c.in_default.is) c.next_event.ensures.slots
-    (c.loop-heard.invariant ∙ ap (λ (x : Slots). record x { events = [] }) c.in_ok-call.ensures.slots))))
+    (c.loop-heard.invariant ∙ ap heard c.in_ok-call.ensures.slots))))
     c.work.ensures.slots

@@ -12,5 +12,5 @@ unfolding opened
 returns g c =
     subst IsResting
     (sym (c.in_ok-call-2.ensures.slots
-    ∙ ap (after_call (GetReader me)) (c.in_ok-work.ensures.slots ∙ ap (work jobs_of_a_turn) (c.in_ok-call.ensures.slots ∙ ap (after_call (MakeReadable 0 Count Now)) c.in_ok-realm.ensures.0))))
+    ∙ ap (after_call (GetReader me)) (c.in_ok-work.ensures.slots ∙ ap (work jobs_of_a_turn) (c.in_ok-call.ensures.slots ∙ ap (after_call (MakeReadable 0 Count Now)) c.in_ok-realm.ensures))))
     (opened-rests 99999)

@@ -1,15 +1,17 @@
-use Rattle.std.proofs.Common.{◌≡◌}
+use Rattle.std.proofs.Common.{◌≡◌, ◌+◌, ◌++◌, length}
 use Rattle.std.specs.VecDeque.{deque_len, deque_capacity}
-use Rattle.ws_promise.specs.Seen.{SeenAgenda, out_of}
+use Rattle.ws_promise.specs.Seen.{HasEffectRoom}
 use Rattle.ws_steps.specs.Readable.{close_all}
 use Rattle.ws_readable.proofs.requests.close_requests.Given as goal
 
--- what is left to do makes of what was done what all makes of the start
+-- the effects so far and those of the requests that are left are the effects of all
 abbrev pub invariant-loop-request : goal.invariant-loop-request
 invariant-loop-request l = record {
-  row : (fx : SeenAgenda) → close_all l.requests.items (out_of l.p fx) ≡ close_all l.fn.requests.items (out_of l.fn.p fx);
+  effects : l.fx.effects ++ close_all l.me l.requests.items ≡ l.fn.fx.effects ++ close_all l.me l.fn.requests.items;
+  caused : deque_len l.requests + length l.fx.effects ≡ deque_len l.fn.requests + length l.fn.fx.effects;
+  room : HasEffectRoom (deque_len l.requests) l.fx;
   capacity : deque_capacity l.requests ≡ deque_capacity l.fn.requests;
-  spare : l.p.spare ≡ l.fn.p.spare;
+  places : l.fx.capacity ≡ l.fn.fx.capacity;
 }
 
 abbrev pub decreases-loop-request : goal.decreases-loop-request

@@ -17,9 +17,9 @@ loop-line-init g c = record {
   printed =
       SoFar-start (record { faults = g.K.Sink.faults c.args.output.now; finished = g.K.Sink.finished c.args.output.now })
       (g.K.Sink.got c.args.output.now) (script_text c.args.lines.items) c.new-text.result.items (lines_text c.from-waiting.result.items c.in-Ok.realm.slots)
-      c.new-text.ensures.items (ap₂ lines_text c.from-waiting.ensures.0 c.in-Ok.ensures.0);
+      c.new-text.ensures.items (ap₂ lines_text c.from-waiting.ensures.0 c.in-Ok.ensures);
   room =
-      let new : c.in-Ok.realm.slots.age ≡ 0 = ap (λ (s : Slots). s.age) c.in-Ok.ensures.0 in
+      let new : c.in-Ok.realm.slots.age ≡ 0 = ap (λ (s : Slots). s.age) c.in-Ok.ensures in
       let all : length c.from-waiting.result.items ≡ length c.args.lines.items = ap length c.from-waiting.ensures.0 in
       let few = c.requires in
       omega arith;

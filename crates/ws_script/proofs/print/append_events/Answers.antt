@@ -9,7 +9,7 @@ loop-event-preserved c = record {
       (sym c.next_event.ensures.event ∙ c.in-Some.is) c.next_event.ensures.slots c.in_ok-append_event.ensures
       ∙ c.loop-event.invariant.text;
   partly = partly-then c.args.realm.now.slots c.loop-event.realm.slots c.next_event.new.self.slots c.loop-event.invariant.partly c.next_event.ensures.slots;
-  wanting = c.next_event.ensures.wanting ∙ c.loop-event.invariant.wanting;
+  prepared = c.next_event.ensures.prepared ∙ c.loop-event.invariant.prepared;
 }
 
 pub returns-in_err-append_event-clause-partly : goal.returns-in_err-append_event-clause-partly

@@ -5,10 +5,10 @@ use Rattle.ws_script.proofs.print.append_events.Given as goal
 
 abbrev pub invariant-loop-event : goal.invariant-loop-event
 invariant-loop-event l = record {
-  text : l.text.items ++ events_text l.realm.slots l.realm.slots.events ≡ l.fn.text.items ++ events_text l.fn.realm.slots l.fn.realm.slots.events;
+  text : l.text.items ++ events_text l.realm.slots l.realm.slots.promises.events ≡ l.fn.text.items ++ events_text l.fn.realm.slots l.fn.realm.slots.promises.events;
   partly : IsPartlyHeard l.fn.realm.slots l.realm.slots;
-  wanting : l.realm.wanting ≡ l.fn.realm.wanting;
+  prepared : l.realm.prepared ≡ l.fn.realm.prepared;
 }
 
 abbrev pub decreases-loop-event : goal.decreases-loop-event
-decreases-loop-event l = length l.realm.slots.events
+decreases-loop-event l = length l.realm.slots.promises.events

@@ -8,7 +8,7 @@ abbrev pub invariant-loop-request : goal.invariant-loop-request
 invariant-loop-request l = record {
   table : reject_all l.e l.requests.items l.p.table ≡ reject_all l.e l.fn.requests.items l.fn.p.table;
   capacity : deque_capacity l.requests ≡ deque_capacity l.fn.requests;
-  spare : l.p.spare ≡ l.fn.p.spare;
+  room : l.p.room ≡ l.fn.p.room;
 }
 
 abbrev pub decreases-loop-request : goal.decreases-loop-request

@@ -3,7 +3,15 @@ use Rattle.ws_promise.specs.Seen.{Seen}
 use Rattle.ws_steps.specs.Promises.{Table, rank_at, let_go}
 use Rattle.ws_realm.specs.View.{slots_of}
 use Rattle.ws_realm.proofs.LettingGo.{named-goes, unnamed-stays}
+use Rattle.ws_realm.proofs.Places.{released, rests-still, ready-still}
 use Rattle.ws_realm.proofs.realm.Realm.forget.Goals as goal
+
+pub invariant_of-self : goal.invariant_of-self
+invariant_of-self c =
+    let t = c.self.inside.tables in
+    let was = c.self.invariant in
+    rw (c.release.ensures)
+    (rests-still t _ was.0, was.1, λ ready. let h = was.2 ready in (ready-still t _ (released c.args.p t.promises h.0.promises) h.0, h.1))
 
 pub returns-then-is_some-clause-slots : goal.returns-then-is_some-clause-slots
 returns-then-is_some-clause-slots c =

@@ -1,15 +1,22 @@
-use Rattle.std.proofs.Common.{◌≡◌, ◌∙◌, ◌+◌, ℕ, ap, arith}
+use Rattle.std.proofs.Common.{◌∙◌, ◌+◌, ap, arith}
 use Rattle.ws_steps.specs.Slots.{Slots}
-use Rattle.ws_laws.proofs.Ages.{performed-age, begin-age, named-age}
+use Rattle.ws_laws.proofs.Ages.{begin-age}
+use Rattle.ws_realm.proofs.Beginning.{call-begins}
 use Rattle.ws_realm.proofs.tables.Tables.call.Goals as goal
+
+pub perform_effects-requires-clause-room : goal.perform_effects-requires-clause-room
+perform_effects-requires-clause-room c = (call-begins c.args.call c.begin-reply.result c.args.self.now c.begin-reply.new.self c.requires.prepared c.requires.resting c.begin-reply.ensures).room
+
+pub perform_effects-requires-clause-kept : goal.perform_effects-requires-clause-kept
+perform_effects-requires-clause-kept c = (call-begins c.args.call c.begin-reply.result c.args.self.now c.begin-reply.new.self c.requires.prepared c.requires.resting c.begin-reply.ensures).kept
 
 pub overflow_add-self : goal.overflow_add-self
 overflow_add-self c =
-    let same : c.name.new.self.age ≡ c.args.self.now.age =
-    ap (λ (s : Slots). s.age) c.in_ok-name.ensures.slots ∙ named-age _ _ ∙ ap (λ (s : Slots). s.age) c.in_ok-reply.ensures.slots ∙ performed-age _ ∙ begin-age c.args.call _ in
-    omega (arith, same, c.requires.young)
+    let begun = ap (λ (s : Slots). s.age) c.begin-reply.ensures.slots ∙ begin-age c.args.call _ in
+    let performed = c.perform_effects.ensures.age in
+    let named = c.name.ensures.rest.age in
+    omega (arith, begun, performed, named, c.requires.young)
 
 pub returns-clause-age : goal.returns-clause-age
 returns-clause-age c =
-    ap (λ (n : ℕ). n + 1)
-    (ap (λ (s : Slots). s.age) c.in_ok-name.ensures.slots ∙ named-age _ _ ∙ ap (λ (s : Slots). s.age) c.in_ok-reply.ensures.slots ∙ performed-age _ ∙ begin-age c.args.call _)
+    ap (λ n. n + 1) (c.name.ensures.rest.age ∙ (c.perform_effects.ensures.age ∙ (ap (λ (s : Slots). s.age) c.begin-reply.ensures.slots ∙ begin-age c.args.call _)))

@@ -1,22 +1,50 @@
-use Rattle.std.proofs.Common.{◌≡◌, ◌∙◌, ap, sym, arith}
-use Rattle.ws_steps.specs.Promises.{Table}
-use Rattle.ws_steps.specs.Slots.{Slots}
+use Rattle.std.proofs.Common.{◌≡◌, ◌∙◌, true, sym, ap, arith}
+use Rattle.ws_steps.specs.Run.{is_idle}
+use Rattle.ws_steps.specs.Slots.{Slots, Done}
+use Rattle.ws_laws.proofs.Ages.{begin_job-age}
 use Rattle.ws_realm.specs.View.{slots_of}
-use Rattle.ws_laws.proofs.Ages.{job-age}
-use Rattle.ws_realm.proofs.Working.{idle}
+use Rattle.ws_realm.proofs.Beginning.{job-begins}
+use Rattle.ws_realm.proofs.Places.{kept_by}
+use Rattle.ws_realm.proofs.Working.{idle-begins, not-false}
 use Rattle.ws_realm.proofs.tables.Tables.job.Goals as goal
+
+idle : (c : goal.Then-not-begin_job) → is_idle (slots_of c.args.self.now) ≡ true
+idle c = not-false (is_idle (slots_of c.args.self.now)) (sym c.if-not-begin_job.true ∙ c.begin_job.ensures.worked)
+
+pub returns-then-not-begin_job-clause-slots : goal.returns-then-not-begin_job-clause-slots
+returns-then-not-begin_job-clause-slots c =
+    let old = slots_of c.args.self.now in
+    rw (idle c) (c.begin_job.ensures.begins.slots ∙ ap (λ (d : Done). d.slots) (idle-begins old (idle c)))
+
+pub returns-then-not-begin_job-clause-resting : goal.returns-then-not-begin_job-clause-resting
+returns-then-not-begin_job-clause-resting c =
+    let did = c.begin_job.ensures.begins in
+    let rest = c.requires.resting in
+    record {
+      caused = did.caused ∙ ap (λ (d : Done). d.caused) (idle-begins (slots_of c.args.self.now) (idle c));
+      others = ap (λ v. v.items) did.others ∙ rest.others;
+      kept = kept_by c.args.self.now c.begin_job.new.self (record { streams = did.streams; grown = did.grown; waiting = did.waiting }) rest.kept;
+    }
+
+pub returns-then-not-begin_job-clause-age : goal.returns-then-not-begin_job-clause-age
+returns-then-not-begin_job-clause-age c =
+    let same = ap (λ (s : Slots). s.age) c.begin_job.ensures.begins.slots ∙ begin_job-age (slots_of c.args.self.now) in
+    omega (arith, same)
+
+pub perform_effects-requires-clause-room : goal.perform_effects-requires-clause-room
+perform_effects-requires-clause-room c = (job-begins c.args.self.now c.begin_job.new.self c.requires.prepared c.requires.resting c.begin_job.ensures.begins).room
+
+pub perform_effects-requires-clause-kept : goal.perform_effects-requires-clause-kept
+perform_effects-requires-clause-kept c = (job-begins c.args.self.now c.begin_job.new.self c.requires.prepared c.requires.resting c.begin_job.ensures.begins).kept
 
 pub overflow_add-self : goal.overflow_add-self
 overflow_add-self c =
-    let same : c.perform_job.new.self.age ≡ c.args.self.now.age = ap (λ (s : Slots). s.age) c.in_ok-perform_job-in-Some.ensures.slots ∙ job-age _ _ in
-    omega (arith, same, c.requires.young)
+    let begun = ap (λ (s : Slots). s.age) c.begin_job.ensures.begins.slots ∙ begin_job-age (slots_of c.args.self.now) in
+    let performed = c.perform_effects.ensures.age in
+    omega (arith, begun, performed, c.requires.young)
 
-pub returns-in-None-clause-slots : goal.returns-in-None-clause-slots
-returns-in-None-clause-slots c =
-    let quiet = idle c.args.self.now.promises.table (sym c.next_job.ensures.job ∙ c.in-None.is) in
-    rw (quiet.0) (ap (λ (t : Table). record (slots_of c.args.self.now) { promises = t }) (c.next_job.ensures.table ∙ quiet.1))
-
-pub returns-in_ok-perform_job-in-Some-clause-age : goal.returns-in_ok-perform_job-in-Some-clause-age
-returns-in_ok-perform_job-in-Some-clause-age c =
-    let same : c.perform_job.new.self.age ≡ c.args.self.now.age = ap (λ (s : Slots). s.age) c.in_ok-perform_job-in-Some.ensures.slots ∙ job-age _ _ in
-    omega (arith, same)
+pub returns-clause-age : goal.returns-clause-age
+returns-clause-age c =
+    let begun = ap (λ (s : Slots). s.age) c.begin_job.ensures.begins.slots ∙ begin_job-age (slots_of c.args.self.now) in
+    let performed = c.perform_effects.ensures.age in
+    omega (arith, begun, performed)

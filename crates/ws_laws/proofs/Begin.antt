@@ -1,0 +1,90 @@
+-- What calls and jobs begin with: what a call makes and takes before its effects are performed, and the first effects.
+use Rattle.std.proofs.Common.{arith, ◌≡◌, ℕ, Bool, true, false, List, Option}
+use Rattle.ws_value.specs.declared.ids.PromiseId.{PromiseId}
+use Rattle.ws_value.specs.declared.ids.StreamId.{StreamId}
+use Rattle.ws_value.specs.declared.value.Value.{Value}
+use Rattle.ws_steps.specs.declared.{calls.Call.{Call}, calls.Call.TheVariants.{Enqueue as EnqueueCall}, readable.ReadableOperation.TheVariants.{Enqueue}, effects.Effect.{Effect}}
+use Rattle.ws_steps.specs.declared.{effects.Effect.TheVariants.{Readable, Writable, StartAlgorithm, Settle}, locks.Lock.{Lock}, promises.Job.{Job}, readable.SizeBy.{SizeBy}}
+use Rattle.ws_steps.specs.declared.writable.WritableOperation.TheVariants.{HandOn}
+use Rattle.ws_steps.specs.Promises.{Table, fresh, is_pending_at}
+use Rattle.ws_steps.specs.Readable as readable
+use Rattle.ws_steps.specs.Writable as writable
+use Rattle.ws_steps.specs.Slots.{Slots, ReadableStream, WritableStream, with_promises, readable_at}
+use Rattle.ws_steps.specs.Jobs.{job_effects}
+use Rattle.ws_steps.specs.Calls.{Begun, begin, add_stream, with_renewed}
+use Rattle.ws_steps.specs.declared.effects.Owner.TheVariants.{Host}
+use Rattle.ws_laws.proofs.EachCall.{each_call}
+use Rattle.ws_laws.proofs.Lists.{Each, each-map}
+
+-- what goes on with what a call makes and takes
+pub record Makes (Q : Slots → Type 0) : Type 0 where
+  pub promise : (s : Slots) → Q s → Q (with_promises (fresh s.promises) s)
+  pub locks : (s : Slots) (locks : List Lock) → Q s → Q (record s { locks = locks })
+  pub hosts : (s : Slots) (hosts : List (Option PromiseId)) → Q s → Q (record s { hosts = hosts })
+  pub readable : (s : Slots) (mark : ℕ) (size : SizeBy) → Q s → Q (add_stream (ReadableStream (readable.set_up Host mark size)) s)
+  pub writable : (s : Slots) (mark : ℕ) (size : SizeBy) → Q s → Q (add_stream (WritableStream (writable.set_up Host mark size)) s)
+
+module _ (Q : Slots → Type 0) (makes : Makes Q) where
+  renewed-makes : (s : Slots) (kept : Bool) → Q s → Q (with_promises (with_renewed s.promises kept) s)
+  renewed-makes s true q = q
+  renewed-makes s false q = makes.promise s q
+
+  pub begin-makes : (c : Call) (s : Slots) → Q s → Q (begin c s).done.slots
+  begin-makes c s q = each_call (λ (b : Begun). Q b.done.slots) c s (record {
+    unchanged = λ reply. q;
+    rejected = makes.promise s q;
+    make_readable = λ mark size start. makes.readable s mark size q;
+    make_writable = λ mark size start. makes.writable s mark size q;
+    get_reader = λ i e. makes.locks _ _ (makes.promise s q);
+    get_writer = λ i e. makes.locks _ _ (makes.promise _ (makes.promise s q));
+    release_reader = λ l closed i e. makes.locks _ _ (renewed-makes s (readable.is_readable (readable_at i s).state) q);
+    release_writer = λ l i w e f.
+        let t : Table = with_renewed s.promises (is_pending_at w.ready s.promises) in
+        makes.locks _ _ (renewed-makes (with_promises t s) (is_pending_at w.closed t) (renewed-makes s (is_pending_at w.ready s.promises) q));
+    cancel = λ reason i. makes.promise s q;
+    read = λ i. makes.promise s q;
+    write = λ l v i e. makes.promise s q;
+    close = λ i e. makes.promise s q;
+    abort = λ reason i e. makes.promise s q;
+    enqueue = λ i v e can. q;
+    finish = λ i. q;
+    fail_readable = λ i reason. q;
+    fail_writable = λ i reason. q;
+    settle = λ h answer p e. makes.hosts s _ q;
+  })
+
+-- an effect that a call or a job begins with, where this holds of each enqueue
+abbrev pub IsFirst : (StreamId → Value → Type 0) → Effect → Type 0
+IsFirst E (Readable i (Enqueue v)) = E i v
+IsFirst E (Readable i operation) = Unit {0}
+IsFirst E (Writable i HandOn) = ⊥
+IsFirst E (Writable i operation) = Unit {0}
+IsFirst E (StartAlgorithm i step start) = Unit {0}
+IsFirst E (Settle p o) = Unit {0}
+IsFirst E _ = ⊥
+
+-- only a call that enqueues begins with it
+abbrev pub Enqueues : Call → StreamId → Value → Type 0
+Enqueues c i v = c ≡ EnqueueCall i v
+
+-- no job does
+abbrev pub Never : StreamId → Value → Type 0
+Never i v = ⊥
+
+pub begin-first : (c : Call) (s : Slots) → Each (IsFirst (Enqueues c)) (begin c s).done.caused
+begin-first c s = each_call (λ (b : Begun). Each (IsFirst (Enqueues c)) b.done.caused) c s (grind arith)
+
+pub job-first : (job : Job) → Each (IsFirst Never) (job_effects job)
+job-first job = grind arith
+
+-- whatever is enqueued
+
+abbrev pub Any : StreamId → Value → Type 0
+Any i v = Unit {0}
+
+first-any : (E : StreamId → Value → Type 0) (e : Effect) → IsFirst E e → IsFirst Any e
+first-any E (Readable i (Enqueue v)) f = tt
+first-any E _ f = f
+
+pub each-any : (E : StreamId → Value → Type 0) (es : List Effect) → Each (IsFirst E) es → Each (IsFirst Any) es
+each-any E es f = each-map (IsFirst E) (IsFirst Any) (first-any E) es f

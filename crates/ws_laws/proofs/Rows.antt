@@ -1,0 +1,182 @@
+-- What the row of an effect does beside the operations: what goes on with each change of promises goes on with each effect, other effects
+-- than operations leave the streams, and an effect causes few others.
+use Rattle.std.proofs.Common.{◌≡◌, [], ◌∷◌, Result, refl}
+use Rattle.ws_value.specs.declared.ids.PromiseId.{PromiseId}
+use Rattle.ws_value.specs.declared.ids.StreamId.{StreamId}
+use Rattle.ws_value.specs.declared.value.Outcome.{Outcome}
+use Rattle.ws_value.specs.declared.value.Outcome.TheVariants.{Given, Finished}
+use Rattle.ws_value.specs.declared.value.Plain.{Plain}
+use Rattle.ws_value.specs.declared.value.Plain.TheVariants.{Undefined}
+use Rattle.ws_value.specs.declared.value.Value.{Value}
+use Rattle.ws_value.specs.declared.value.Value.TheVariants.{Plain as PlainValue}
+use Rattle.std.specs.Prelude.{Err}
+use Rattle.ws_steps.specs.declared.{calls.Event.{Event}, calls.Event.TheVariants.{Signal}, calls.HostCall.{HostCall}, calls.StartBy.{StartBy}, calls.StartBy.TheVariants.{Now, Later}}
+use Rattle.ws_steps.specs.declared.effects.Effect.{Effect}
+use Rattle.ws_steps.specs.declared.effects.Effect.TheVariants.{Readable, Writable, StartAlgorithm, PullAlgorithm, CancelAlgorithm, WriteAlgorithm, CloseAlgorithm, AbortAlgorithm, ChunkSteps, CloseSteps, ErrorSteps, Give, Settle, CallHost}
+use Rattle.ws_steps.specs.declared.{effects.Gift.{Gift}, effects.Gift.TheVariants.{This, Fresh}, effects.Owner.{Owner}, effects.Owner.TheVariants.{Host}, effects.Use.{Use}}
+use Rattle.ws_steps.specs.declared.{effects.Use.TheVariants.{React, Resolve}, promises.Reaction.{Reaction}, promises.Reaction.TheVariants.{Perform}, promises.Step.{Step}}
+use Rattle.ws_steps.specs.declared.{readable.ReadRequest.{ReadRequest}, readable.ReadRequest.TheVariants.{Promise}, writable.WritableOperation.TheVariants.{HandOn}}
+use Rattle.ws_steps.specs.Effects.{Out, cause}
+use Rattle.ws_steps.specs.Promises.{Table, fresh, settle, answer, react, follow, tell, next_id, fresh_settled, use_this, use_gift}
+use Rattle.ws_steps.specs.Operations.{readable_operation, writable_operation}
+use Rattle.ws_steps.specs.Slots.{Slots, Done, nothing, has_readable, has_writable, owner_at, put_readable, put_writable}
+use Rattle.ws_steps.specs.Turns.{row, start_algorithm, pull_algorithm, cancel_algorithm, write_algorithm, close_algorithm, abort_algorithm, call_host}
+use Rattle.ws_steps.specs.Writable.{write_to_host}
+use Rattle.ws_laws.proofs.Lists.{Each, each-append}
+use Rattle.ws_laws.proofs.ReadableDoes.{readable-does}
+use Rattle.ws_laws.proofs.WritableDoes.{writable-does}
+use Rattle.ws_laws.proofs.Tables.{either, readable_acts, writable_acts}
+
+-- what goes on with each change of promises
+pub record Changes (T : Table → Type 0) : Type 0 where
+  pub fresh : (t : Table) → T t → T (fresh t)
+  pub settle : (t : Table) (p : PromiseId) (o : Result Plain Plain) → T t → T (settle p o t)
+  pub answer : (t : Table) (p : PromiseId) (o : Outcome) → T t → T (answer p o t)
+  pub react : (t : Table) (p : PromiseId) (r : Reaction) → T t → T (react p r t)
+  pub follow : (t : Table) (p q : PromiseId) → T t → T (follow p q t)
+  pub tell : (t : Table) (e : Event) → T t → T (tell e t)
+
+module _ (T : Table → Type 0) (changes : Changes T) where
+  use-changes : (p : PromiseId) (t : Table) (u : Use) → T t → T (use_this p t u)
+  use-changes p t (React step derived) h = changes.react t p (Perform step derived) h
+  use-changes p t (Resolve q) h = changes.follow t q p h
+
+  gift-changes : (gift : Gift) (u : Use) (t : Table) → T t → T (use_gift gift u t)
+  unfolding use_gift
+  gift-changes (This p) u t h = use-changes p t u h
+  gift-changes (Fresh o) u t h = use-changes (next_id t) (fresh_settled o t) u (changes.settle (fresh t) (next_id t) o (changes.fresh t h))
+
+  pub row-changes : (e : Effect) (s : Slots) → T s.promises → T (row e s).slots.promises
+  unfolding row call_host
+  row-changes (Readable i operation) s h =
+      either (λ (d : Done). T d.slots.promises) (has_readable i s) (put_readable i s (readable_operation i operation (readable_acts i s))) (nothing s)
+      (λ e. readable-does (λ (x : Out). T x.promises) i (record {
+        settle = λ x p o h. changes.settle x.promises p o h;
+        pull = λ x h. h;
+        cancel = λ x r p h. h;
+        chunk = λ x r v h. h;
+        close = λ x r h. h;
+        error = λ x r e h. h;
+      }) operation (readable_acts i s) h) (λ e. h)
+  row-changes (Writable i operation) s h =
+      either (λ (d : Done). T d.slots.promises) (has_writable i s) (put_writable i s (writable_operation i operation (writable_acts i s))) (nothing s)
+      (λ e. writable-does (λ (x : Out). T x.promises) i (record {
+        settle = λ x p o h. changes.settle x.promises p o h;
+        fresh = λ x h. changes.fresh x.promises h;
+        tell = λ x r h. changes.tell x.promises (Signal i r) h;
+        write = λ x h. h;
+        close = λ x h. h;
+        abort = λ x r p h. h;
+        hand_on = λ x v h. h;
+      }) operation (writable_acts i s) h) (λ e. h)
+  row-changes (StartAlgorithm i step Now) s h = h
+  row-changes (StartAlgorithm i step Later) s h = changes.fresh s.promises h
+  row-changes (ChunkSteps i (Promise p) v) s h = changes.answer s.promises p (Given v) h
+  row-changes (CloseSteps i (Promise p)) s h = changes.answer s.promises p (Finished (PlainValue Undefined)) h
+  row-changes (ErrorSteps i (Promise p) e) s h = changes.settle s.promises p (Err e) h
+  row-changes (Give gift u) s h = gift-changes gift u s.promises h
+  row-changes (Settle p o) s h = changes.settle s.promises p o h
+  row-changes (CallHost call u) s h = use-changes (next_id s.promises) _ u (changes.tell (fresh s.promises) _ (changes.fresh s.promises h))
+  row-changes _ s h = h
+
+-- other effects than operations leave all streams
+
+abbrev pub IsApart : Effect → Type 0
+IsApart (Readable i operation) = ⊥
+IsApart (Writable i operation) = ⊥
+IsApart _ = Unit {0}
+
+pub row-streams : (e : Effect) (s : Slots) → IsApart e → (row e s).slots.streams ≡ s.streams
+unfolding row call_host
+row-streams (Readable i operation) s apart = absurd apart
+row-streams (Writable i operation) s apart = absurd apart
+row-streams (StartAlgorithm i step Now) s apart = refl
+row-streams (StartAlgorithm i step Later) s apart = refl
+row-streams (ChunkSteps i (Promise p) v) s apart = refl
+row-streams (CloseSteps i (Promise p)) s apart = refl
+row-streams (ErrorSteps i (Promise p) e) s apart = refl
+row-streams _ s apart = refl
+
+-- what is to be shown of the effects that an operation of readable stream i may cause
+pub record ReadableCauses (P : Effect → Type 0) (i : StreamId) : Type 0 where
+  pub pull : P (PullAlgorithm i)
+  pub cancel : (r : Plain) (p : PromiseId) → P (CancelAlgorithm i r p)
+  pub chunk : (request : ReadRequest) (v : Value) → P (ChunkSteps i request v)
+  pub close : (request : ReadRequest) → P (CloseSteps i request)
+  pub error : (request : ReadRequest) (e : Plain) → P (ErrorSteps i request e)
+
+-- and one of writable stream i
+pub record WritableCauses (P : Effect → Type 0) (i : StreamId) : Type 0 where
+  pub write : P (WriteAlgorithm i)
+  pub close : P (CloseAlgorithm i)
+  pub abort : (r : Plain) (p : PromiseId) → P (AbortAlgorithm i r p)
+  pub hand_on : (v : Value) → P (write_to_host i v)
+
+-- and any effect
+abbrev pub Causes : (Effect → Type 0) → Effect → Type 0
+Causes P (Readable i operation) = ReadableCauses P i
+Causes P (Writable i operation) = WritableCauses P i
+Causes P (StartAlgorithm i step start) = ((gift : Gift) (u : Use) → P (Give gift u)) × ((call : HostCall) (u : Use) → P (CallHost call u))
+Causes P (PullAlgorithm i) = (call : HostCall) (u : Use) → P (CallHost call u)
+Causes P (CancelAlgorithm i r p) = (call : HostCall) (u : Use) → P (CallHost call u)
+Causes P (WriteAlgorithm i) = P (Writable i HandOn)
+Causes P (CloseAlgorithm i) = (call : HostCall) (u : Use) → P (CallHost call u)
+Causes P (AbortAlgorithm i r p) = (call : HostCall) (u : Use) → P (CallHost call u)
+Causes P _ = Unit {0}
+
+module _ (P : Effect → Type 0) where
+  each-cause : (e : Effect) → P e → (x : Out) → Each P x.effects → Each P (cause e x).effects
+  each-cause e p x h = each-append P x.effects (e ∷ []) h (p, tt)
+
+  started : (i : StreamId) (step : Step) (s : Slots) (start : StartBy) → Causes P (StartAlgorithm i step start) → Each P (start_algorithm i step s start).caused
+  started i step s Now c = (c.0 _ _, tt)
+  started i step s Later c = (c.1 _ _, (c.0 _ _, tt))
+
+  pulled : (i : StreamId) (u : Use) (owner : Owner) → Causes P (PullAlgorithm i) → Each P (pull_algorithm i u owner)
+  pulled i u Host c = (c _ _, tt)
+
+  cancelled : (i : StreamId) (r : Plain) (p : PromiseId) (u : Use) (owner : Owner) → Causes P (CancelAlgorithm i r p) → Each P (cancel_algorithm i r u owner)
+  cancelled i r p u Host c = (c _ _, tt)
+
+  written : (i : StreamId) (owner : Owner) → Causes P (WriteAlgorithm i) → Each P (write_algorithm i owner)
+  written i Host c = (c, tt)
+
+  closed : (i : StreamId) (u : Use) (owner : Owner) → Causes P (CloseAlgorithm i) → Each P (close_algorithm i u owner)
+  closed i u Host c = (c _ _, tt)
+
+  aborted : (i : StreamId) (r : Plain) (p : PromiseId) (u : Use) (owner : Owner) → Causes P (AbortAlgorithm i r p) → Each P (abort_algorithm i r u owner)
+  aborted i r p u Host c = (c _ _, tt)
+
+  pub row-causes : (e : Effect) (s : Slots) → Causes P e → Each P (row e s).caused
+  unfolding row
+  row-causes (Readable i operation) s c =
+      either (λ (d : Done). Each P d.caused) (has_readable i s) (put_readable i s (readable_operation i operation (readable_acts i s))) (nothing s)
+      (λ there. readable-does (λ (x : Out). Each P x.effects) i (record {
+        settle = λ x p o h. h;
+        pull = λ x h. each-cause (PullAlgorithm i) c.pull x h;
+        cancel = λ x r p h. each-cause (CancelAlgorithm i r p) (c.cancel r p) x h;
+        chunk = λ x r v h. each-cause (ChunkSteps i r v) (c.chunk r v) x h;
+        close = λ x r h. each-cause (CloseSteps i r) (c.close r) x h;
+        error = λ x r e h. each-cause (ErrorSteps i r e) (c.error r e) x h;
+      }) operation (readable_acts i s) tt) (λ absent. tt)
+  row-causes (Writable i operation) s c =
+      either (λ (d : Done). Each P d.caused) (has_writable i s) (put_writable i s (writable_operation i operation (writable_acts i s))) (nothing s)
+      (λ there. writable-does (λ (x : Out). Each P x.effects) i (record {
+        settle = λ x p o h. h;
+        fresh = λ x h. h;
+        tell = λ x r h. h;
+        write = λ x h. each-cause (WriteAlgorithm i) c.write x h;
+        close = λ x h. each-cause (CloseAlgorithm i) c.close x h;
+        abort = λ x r p h. each-cause (AbortAlgorithm i r p) (c.abort r p) x h;
+        hand_on = λ x v h. each-cause (write_to_host i v) (c.hand_on v) x h;
+      }) operation (writable_acts i s) tt) (λ absent. tt)
+  row-causes (StartAlgorithm i step start) s c = started i step s start c
+  row-causes (PullAlgorithm i) s c = pulled i _ (owner_at i s) c
+  row-causes (CancelAlgorithm i r p) s c = cancelled i r p _ (owner_at i s) c
+  row-causes (WriteAlgorithm i) s c = written i (owner_at i s) c
+  row-causes (CloseAlgorithm i) s c = closed i _ (owner_at i s) c
+  row-causes (AbortAlgorithm i r p) s c = aborted i r p _ (owner_at i s) c
+  row-causes (ChunkSteps i (Promise p) v) s c = tt
+  row-causes (CloseSteps i (Promise p)) s c = tt
+  row-causes (ErrorSteps i (Promise p) e) s c = tt
+  row-causes _ s c = tt

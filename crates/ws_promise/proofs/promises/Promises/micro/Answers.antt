@@ -1,0 +1,24 @@
+use Rattle.std.proofs.Common.{◌≤◌, ◌+◌, length, min, arith, refl, deque_capacity, vec_capacity}
+use Rattle.ws_steps.specs.Places.{reactions_in}
+use Rattle.ws_promise.specs.View.{entries_from}
+use Rattle.ws_promise.proofs.RoomLemmas.{jobs_fit}
+use Rattle.ws_steps.specs.Promises.{queue_micro}
+use Rattle.ws_promise.proofs.promises.Promises.micro.Goals as goal
+
+pub push_back_reserved-requires : goal.push_back_reserved-requires
+push_back_reserved-requires c =
+    let a = c.self.inside in
+    let room : 1 + (length a.jobs.items + reactions_in (entries_from 0 a.slots.items a.waiting.items)) ≤ min (deque_capacity a.jobs) (vec_capacity a.waiting) = rw (← c.self.view_is) at c.requires in
+    let fit = jobs_fit 1 (deque_capacity a.jobs) (vec_capacity a.waiting) a.slots.items a.waiting.items a.jobs.items c.self.invariant.2 room in
+    omega arith
+
+pub invariant_of-self : goal.invariant_of-self
+invariant_of-self c =
+    let a = c.self.inside in
+    let room : 1 + (length a.jobs.items + reactions_in (entries_from 0 a.slots.items a.waiting.items)) ≤ min (deque_capacity a.jobs) (vec_capacity a.waiting) = rw (← c.self.view_is) at c.requires in
+    let fit = jobs_fit 1 (deque_capacity a.jobs) (vec_capacity a.waiting) a.slots.items a.waiting.items a.jobs.items c.self.invariant.2 room in
+    (omega arith, omega arith, c.self.invariant.2, c.self.invariant.3, c.self.invariant.4, c.self.invariant.5)
+
+pub returns : goal.returns
+unfolding queue_micro
+returns c = rw (← c.self.view_is, c.push_back_reserved.ensures.items, c.push_back_reserved.ensures.capacity) refl

@@ -1,0 +1,19 @@
+use Rattle.std.proofs.Common.{◌≤◌, ◌+◌, length, arith, deque_capacity}
+use Rattle.ws_steps.specs.Places.{unnoted_in}
+use Rattle.ws_promise.specs.View.{entries_from}
+use Rattle.ws_promise.proofs.RoomLemmas.{events_fit}
+use Rattle.ws_promise.proofs.promises.Promises.tell.Goals as goal
+
+pub push_back_reserved-requires : goal.push_back_reserved-requires
+push_back_reserved-requires c =
+    let a = c.self.inside in
+    let room : 1 + (length a.events.items + unnoted_in (entries_from 0 a.slots.items a.waiting.items)) ≤ deque_capacity a.events = rw (← c.self.view_is) at c.requires in
+    let fit = events_fit 1 a.unnoted (deque_capacity a.events) a.slots.items a.waiting.items a.events.items c.self.invariant.4 room in
+    omega arith
+
+pub invariant_of-self : goal.invariant_of-self
+invariant_of-self c =
+    let a = c.self.inside in
+    let room : 1 + (length a.events.items + unnoted_in (entries_from 0 a.slots.items a.waiting.items)) ≤ deque_capacity a.events = rw (← c.self.view_is) at c.requires in
+    let fit = events_fit 1 a.unnoted (deque_capacity a.events) a.slots.items a.waiting.items a.events.items c.self.invariant.4 room in
+    (omega arith, omega arith, c.self.invariant.2, omega arith, omega arith, omega arith)

@@ -1,0 +1,167 @@
+-- What calls and jobs begin with: promises that they make stand in their first effects.
+use Rattle.std.proofs.Common.{◌≡◌, ℕ, ◌+◌, ◌≤◌, zero, suc, Bool, true, false, not, nat_eq, List, [], ◌∷◌, ◌++◌, length, Option, Some, None, Result, Err, slice_get, slice_set, refl, sym, ap, arith}
+use Rattle.ws_value.specs.declared.ids.HostId.{HostId}
+use Rattle.ws_value.specs.declared.ids.PromiseId.{PromiseId}
+use Rattle.ws_value.specs.declared.ids.StreamId.{StreamId}
+use Rattle.ws_value.specs.declared.value.Plain.{Plain}
+use Rattle.ws_steps.specs.declared.{calls.Answer.{Answer}, calls.Call.{Call}, effects.Effect.{Effect}, effects.Effect.TheVariants.{Settle as SettleEffect, Readable, Writable}}
+use Rattle.ws_steps.specs.declared.{promises.Job.{Job}, promises.Job.TheVariants.{Reaction as ReactionJob, Follow, Settle, Micro as MicroJob}, promises.Micro.TheVariants.{PipeLook}}
+use Rattle.ws_steps.specs.declared.promises.Step.{Step}
+use Rattle.ws_steps.specs.declared.promises.Step.TheVariants.{ReadableStart, ReadablePull, ReturnUndefined, WritableStart, WritableWrite, WritableClose, WritableAbort}
+use Rattle.ws_steps.specs.Calls as calls
+use Rattle.ws_steps.specs.Effects.{type_error}
+use Rattle.ws_steps.specs.Readable as readable
+use Rattle.ws_steps.specs.Writable as writable
+use Rattle.ws_steps.specs.declared.{effects.Owner.TheVariants.{Host}, readable.ReadRequest.TheVariants.{Promise}, locks.Lock.{Lock}}
+use Rattle.ws_steps.specs.declared.{readable.ReadableOperation.TheVariants.{ReleaseReader, Read, Cancel}, writable.WritableOperation.TheVariants.{ReleaseWriter, Write, Close, Abort}}
+use Rattle.ws_steps.specs.Calls.{Begun, begin, add_stream, promising, does, look}
+use Rattle.ws_steps.specs.Jobs.{job_effects, steps, resolved, returned}
+use Rattle.ws_steps.specs.Promises.{Table, fresh, next_id, next_job, after_next_job, is_pending_at}
+use Rattle.ws_steps.specs.Slots.{Slots, Stream, ReadableStream, WritableStream, with_promises, writable_at, readable_at, as_writable, host_at, pending_host}
+use Rattle.ws_laws.proofs.EachCall.{each_call}
+use Rattle.ws_laws.proofs.Tables.{eq_numbers, unequal_numbers, place_last, place_before}
+use Rattle.ws_promise_laws.proofs.Holds.{holds-less, when}
+use Rattle.ws_promise_laws.proofs.Settling.{holds-fresh}
+use Rattle.ws_promise_laws.proofs.Following.{holds-next}
+use Rattle.ws_promise_laws.proofs.Realm.{Sound, sound-less, in_stream, loose_in_stream, in_all, in_hosts, firm_in, loosely_in}
+use Rattle.ws_promise_laws.proofs.Rows.{sound-promises}
+use Rattle.ws_promise_laws.proofs.Streams.{Calm, is_awaited}
+use Rattle.ws_promise_laws.proofs.Tokens.{names, names_any, in_step, in_hand, in_effects, in_effects-append}
+
+abbrev none : PromiseId → ℕ
+none x = 0
+
+-- what a call leaves stands in its effects
+abbrev pub Begins : Begun → Type 0
+Begins b = Sound (λ x. in_effects x b.done.caused) b.done.slots
+
+-- a promise is made
+fresh-sound : (f : PromiseId → ℕ) (s : Slots) → Sound f s → Sound (λ x. f x + names x (next_id s.promises)) (with_promises (fresh s.promises) s)
+fresh-sound f s k =
+    sound-promises f (λ x. f x + names x (next_id s.promises)) s (fresh s.promises)
+    (λ h k. holds-fresh (λ x. f x + h x) (loosely_in s) (λ x. (f x + names x (next_id s.promises)) + h x) (loosely_in s) s.promises k (λ x. omega arith) (λ x. omega arith)) k
+
+promising-sound : (effects : PromiseId → List Effect) (s : Slots) → ((x p : PromiseId) → in_effects x (effects p) ≤ names x p) → Sound none s → Begins (promising effects s)
+promising-sound effects s n k =
+    sound-less (λ x. 0 + names x (next_id s.promises)) _ _ (λ x. let m = n x (next_id s.promises) in omega arith) (fresh-sound none s k)
+
+-- the host settles the promise of an algorithm, which stands in no other place
+
+in_hosts-set : (x : PromiseId) (n : ℕ) (hs : List (Option PromiseId)) (p : PromiseId) → pending_host (slice_get hs n) ≡ Some p → in_hosts x (slice_set hs n None) + names x p ≡ in_hosts x hs
+in_hosts-set x n [] p e = cc
+in_hosts-set x zero (h ∷ hs) p e = rw e (omega arith)
+in_hosts-set x (suc n) (h ∷ hs) p e = let rest = in_hosts-set x n hs p e in omega arith
+
+host-sound : (h : HostId) (answer : Answer) (p : PromiseId) (s : Slots) → host_at h s ≡ Some p → Sound none s → Begins (calls.settle_host h answer s (Some p))
+host-sound h answer p s e k = record {
+  holds =
+      holds-less (λ x. 0 + firm_in x s) (loosely_in s) _ (loosely_in s) s.promises k.holds
+      (λ x. let n = in_hosts-set x h.0 s.hosts p e in omega arith) (λ x. let n = in_hosts-set x h.0 s.hosts p e in omega arith);
+  calm = k.calm;
+}
+
+-- a stream is made
+
+in_all-append : (h : Stream → ℕ) (ss : List Stream) (y : Stream) → in_all h (ss ++ y ∷ []) ≡ in_all h ss + h y
+in_all-append h [] y = omega arith
+in_all-append h (s ∷ ss) y = let rest = in_all-append h ss y in omega arith
+
+added_calm : (y : Stream) (i : StreamId) (s : Slots) (last : Bool) → last ≡ nat_eq i.0 (length s.streams) → Calm (as_writable (Some y)) → Calm (writable_at i s) → Calm (writable_at i (add_stream y s))
+added_calm y i s true e new old =
+    let at_end : i.0 ≡ length s.streams = eq_numbers i.0 (length s.streams) (sym e) in
+    rw (at_end, place_last s.streams y) new
+added_calm y i s false e new old = rw (place_before s.streams y i.0 (unequal_numbers i.0 (length s.streams) (sym e))) old
+
+added-sound : (y : Stream) (s : Slots) → ((x : PromiseId) → in_stream x y ≡ 0) → ((x : PromiseId) → loose_in_stream x y ≡ 0) → Calm (as_writable (Some y)) → Sound none s → Sound none (add_stream y s)
+added-sound y s firm loose calm k = record {
+  holds =
+      holds-less (λ x. 0 + firm_in x s) (loosely_in s) (λ x. 0 + firm_in x (add_stream y s)) (loosely_in (add_stream y s)) s.promises k.holds
+      (λ x. let a = in_all-append (in_stream x) s.streams y in let b = firm x in omega arith)
+      (λ x. let a = in_all-append (in_stream x) s.streams y in let b = firm x in let c = in_all-append (loose_in_stream x) s.streams y in let d = loose x in omega arith);
+  calm = λ i. added_calm y i s (nat_eq i.0 (length s.streams)) refl calm (k.calm i);
+}
+
+when_none : (b : Bool) → when b 0 ≡ 0
+when_none true = refl
+when_none false = refl
+
+-- a reader or a writer is released
+
+renewed-sound : (f : PromiseId → ℕ) (s : Slots) (kept : Bool) → Sound f s → Sound (λ x. f x + in_effects x (calls.reject_renewed s.promises kept)) (with_promises (calls.with_renewed s.promises kept) s)
+renewed-sound f s true k = sound-less f (λ x. f x + 0) s (λ x. omega arith) k
+renewed-sound f s false k = sound-less (λ x. f x + names x (next_id s.promises)) _ _ (λ x. omega arith) (fresh-sound f s k)
+
+locked-sound : (f : PromiseId → ℕ) (s : Slots) (locks : List Lock) → Sound f s → Sound f (record s { locks = locks })
+locked-sound f s locks k = record { holds = k.holds; calm = k.calm }
+
+pub begin-sound : (c : Call) (s : Slots) → Sound none s → Begins (begin c s)
+begin-sound c s k = each_call Begins c s (record {
+  unchanged = λ reply. k;
+  rejected = promising-sound (λ p. SettleEffect p (Err type_error) ∷ []) s (λ x p. omega arith) k;
+  make_readable = λ mark size start. sound-less none _ _ (λ x. omega arith) (added-sound (ReadableStream (readable.set_up Host mark size)) s (λ x. refl) (λ x. refl) (λ e. refl) k);
+  make_writable = λ mark size start. sound-less none _ _ (λ x. omega arith) (added-sound (WritableStream (writable.set_up Host mark size)) s (λ x. let n = when_none (is_awaited (writable.set_up Host mark size)) in omega arith)
+      (λ x. let n = when_none (not (is_awaited (writable.set_up Host mark size))) in omega arith) (λ e. refl) k);
+  get_reader = λ i e. sound-less (λ x. 0 + names x (next_id s.promises)) _ _ (λ x. omega arith) (locked-sound _ _ _ (fresh-sound none s k));
+  get_writer = λ i e.
+      let t : Slots = with_promises (fresh s.promises) s in
+      sound-less (λ x. (0 + names x (next_id s.promises)) + names x (next_id t.promises)) _ _ (λ x. omega arith)
+      (locked-sound _ _ _ (fresh-sound (λ x. 0 + names x (next_id s.promises)) t (fresh-sound none s k)));
+  release_reader = λ l closed i e.
+      let kept : Bool = readable.is_readable (readable_at i s).state in
+      let first : List Effect = calls.reject_renewed s.promises kept in
+      sound-less (λ x. 0 + in_effects x first) _ _ (λ x. let n = in_effects-append x first (Readable i ReleaseReader ∷ []) in omega arith)
+      (locked-sound _ _ _ (renewed-sound none s kept k));
+  release_writer = λ l i w e f.
+      let ready : Bool = is_pending_at w.ready s.promises in
+      let t : Table = calls.with_renewed s.promises ready in
+      let closed : Bool = is_pending_at w.closed t in
+      let first : List Effect = calls.reject_renewed s.promises ready in
+      let second : List Effect = calls.reject_renewed t closed in
+      sound-less (λ x. (0 + in_effects x first) + in_effects x second) _ _
+      (λ x.
+      let m = in_effects-append x first (second ++ Writable i ReleaseWriter ∷ []) in
+      let n = in_effects-append x second (Writable i ReleaseWriter ∷ []) in
+      omega arith)
+      (locked-sound _ _ _ (renewed-sound (λ x. 0 + in_effects x first) (with_promises t s) closed (renewed-sound none s ready k)));
+  cancel = λ reason i. promising-sound (λ p. Readable i (Cancel reason p) ∷ []) s (λ x p. omega arith) k;
+  read = λ i. promising-sound (λ p. Readable i (Read (Promise p)) ∷ []) s (λ x p. omega arith) k;
+  write = λ l v i e. promising-sound (λ p. Writable i (Write v p) ∷ []) s (λ x p. omega arith) k;
+  close = λ i e. promising-sound (λ p. Writable i (Close p) ∷ []) s (λ x p. omega arith) k;
+  abort = λ reason i e. promising-sound (λ p. Writable i (Abort reason p) ∷ []) s (λ x p. omega arith) k;
+  enqueue = λ i v e can. sound-less none _ s (λ x. omega arith) k;
+  finish = λ i. sound-less none _ s (λ x. omega arith) k;
+  fail_readable = λ i reason. sound-less none _ s (λ x. omega arith) k;
+  fail_writable = λ i reason. sound-less none _ s (λ x. omega arith) k;
+  settle = λ h answer p e. host-sound h answer p s e k;
+})
+
+-- jobs
+
+in_steps : (x : PromiseId) (step : Step) (o : Result Plain Plain) → in_effects x (steps step o) ≡ in_step x step
+in_steps x (ReadableStart i) o = refl
+in_steps x (ReadablePull i) o = refl
+in_steps x ReturnUndefined o = refl
+in_steps x (WritableStart i) o = refl
+in_steps x (WritableWrite i) o = refl
+in_steps x (WritableClose i) o = refl
+in_steps x (WritableAbort i p) o = omega arith
+
+in_resolved : (x : PromiseId) (derived : Option PromiseId) (o : Result Plain Plain) → in_effects x (resolved derived o) ≡ names_any x derived
+in_resolved x None o = refl
+in_resolved x (Some p) o = omega arith
+
+in_job : (x : PromiseId) (job : Job) → in_effects x (job_effects job) ≡ in_hand x (Some job)
+in_job x (ReactionJob step o derived) =
+    let a = in_effects-append x (steps step o) (resolved derived (returned step o)) in let b = in_steps x step o in let c = in_resolved x derived (returned step o) in omega arith
+in_job x (Follow p q) = refl
+in_job x (Settle p o) = omega arith
+in_job x (MicroJob (PipeLook p)) = refl
+
+-- the first job hands over what it is to settle
+pub job-sound : (s : Slots) (job : Job) → next_job s.promises ≡ Some job → Sound none s → Sound (λ x. in_effects x (job_effects job)) (with_promises (after_next_job s.promises) s)
+job-sound s job e k =
+    sound-promises none (λ x. in_effects x (job_effects job)) s (after_next_job s.promises)
+    (λ h k.
+    holds-less (λ x. (0 + h x) + in_hand x (next_job s.promises)) (loosely_in s) (λ x. in_effects x (job_effects job) + h x) (loosely_in s) (after_next_job s.promises)
+    (holds-next (λ x. 0 + h x) (loosely_in s) s.promises k)
+    (λ x. let n = in_job x job in let m = ap (in_hand x) e in omega arith) (λ x. let n = in_job x job in let m = ap (in_hand x) e in omega arith)) k

@@ -1,0 +1,6 @@
+pub mod Tables
+pub mod Readables
+pub mod Writables
+pub mod Rows
+pub mod Turns
+pub mod Room

@@ -1,0 +1,322 @@
+-- What a call or a job takes, at each moment of it, is within the room that is told beforehand.
+use Rattle.std.proofs.Common.{◌≡◌, ◌≤◌, ℕ, zero, suc, ◌+◌, ◌*◌, Bool, true, false, if◌then◌else◌, List, [], ◌∷◌, ◌++◌, length, Option, Some, None, Result, Err, refl, ap, arith}
+use Rattle.std.specs.Prelude.{slice_get, nat_lt}
+use Rattle.ws_value.specs.declared.ids.HostId.{HostId}
+use Rattle.ws_value.specs.declared.ids.LockId.{LockId}
+use Rattle.ws_value.specs.declared.ids.PromiseId.{PromiseId}
+use Rattle.ws_value.specs.declared.ids.StreamId.{StreamId}
+use Rattle.ws_value.specs.declared.value.Plain.{Plain}
+use Rattle.ws_steps.specs.declared.{calls.Answer.{Answer}, calls.Call.{Call}}
+use Rattle.ws_steps.specs.declared.calls.Call.TheVariants as names
+use Rattle.ws_steps.specs.declared.{calls.Reply.{Reply}, calls.Reply.TheVariants.{Done as ReplyDone, Made, Lock as ReplyLock, Promise, Size, State as ReplyState, Throws, TooMany}}
+use Rattle.ws_steps.specs.declared.{calls.Thrown.TheVariants.{TypeError, Unsupported}, calls.StartBy.{StartBy}, calls.StartBy.TheVariants.{Now, Later}, effects.Effect.{Effect}}
+use Rattle.ws_steps.specs.declared.{effects.Effect.TheVariants.{Readable, Writable, StartAlgorithm, Settle as SettlePromise}, effects.Owner.TheVariants.{Host}}
+use Rattle.ws_steps.specs.declared.{readable.ReadRequest.TheVariants.{Promise as PromiseRequest}, readable.ReadableOperation.{ReadableOperation}}
+use Rattle.ws_steps.specs.declared.readable.ReadableOperation.TheVariants.{ReleaseReader, Read as ReadChunk, Cancel as CancelStream, Enqueue as EnqueueChunk, Close as CloseReadable, Error as ErrorReadable}
+use Rattle.ws_steps.specs.declared.writable.WritableOperation.TheVariants.{ReleaseWriter, Write as WriteChunk, Close as CloseStream, Abort as AbortStream, ErrorIfNeeded}
+use Rattle.ws_value.specs.declared.value.Value.{Value}
+use Rattle.ws_steps.specs.Effects.{type_error}
+use Rattle.ws_steps.specs.ReadableLooks as readable_looks
+use Rattle.ws_steps.specs.WritableLooks as writable_looks
+use Rattle.ws_steps.specs.declared.{locks.Lock.{Lock}, locks.Lock.TheVariants.{Reader as ReaderLock, Writer as WriterLock, ReleasedWriter}, promises.Job.{Job}}
+use Rattle.ws_steps.specs.declared.{promises.Job.TheVariants.{Reaction, Follow, Settle, Micro as MicroJob}, promises.Micro.TheVariants.{PipeLook}, promises.Step.{Step}}
+use Rattle.ws_steps.specs.declared.{promises.Step.TheVariants.{ReadableStart, WritableStart}, writable.Writer.{Writer}}
+use Rattle.ws_steps.specs.Promises.{Table, next_id, fresh, next_job, is_pending_at}
+use Rattle.ws_steps.specs.Readable as readable
+use Rattle.ws_steps.specs.Writable as writable
+use Rattle.ws_steps.specs.Slots.{Slots, Stream, ReadableStream, WritableStream, Done, causes, has_readable, has_writable, readable_at, writable_at, lock_at, host_at}
+use Rattle.ws_steps.specs.Places.{Prices, price, each, effect_price, prices_of, keeps, all_keep, need, measure, room, size, entries_of, table_size}
+use Rattle.ws_steps.specs.Turns.{row, turns, after_turns, performed, Agenda}
+use Rattle.ws_steps.specs.Jobs.{steps, returned, resolved, job_effects, job_begun, begin_job}
+use Rattle.ws_steps.specs.Calls as calls
+use Rattle.ws_steps.specs.Calls.{Begun, begin, named}
+use Rattle.ws_steps.specs.Laws.{Within, RoomIsEnough}
+use Rattle.ws_room_laws.proofs.Tables.{length-set, fresh-size, watch-size, after_job-size}
+use Rattle.ws_room_laws.proofs.Readables.{prices-append}
+use Rattle.ws_room_laws.proofs.Rows.{falls}
+
+-- what is taken, with what may still be taken, doesn't grow with turns
+turns-stand : (π : Prices) (i : StreamId) (n : ℕ) (s : Slots) (es : List Effect)
+    → let a : Agenda = turns n (record { slots = s; effects = es }) in size π i a.slots + need π a.slots a.effects ≤ size π i s + need π s es
+unfolding turns
+turns-stand π i zero s es = omega arith
+turns-stand π i (suc n) s [] = turns-stand π i n s []
+turns-stand π i (suc n) s (e ∷ es) =
+    let h = falls π i e es s in
+    let f = turns-stand π i n (row e s).slots ((row e s).caused ++ es) in omega (arith, h, f)
+
+-- each effect takes a turn
+effect-least : (π : Prices) (e : Effect) → π.turn ≤ effect_price π e
+effect-least π e = grind arith
+
+pub effects-stand : (π : Prices) (es : List Effect) → each π.turn es ≤ prices_of π es
+effects-stand π [] = omega arith
+effects-stand π (e ∷ es) = let h = effect-least π e in let g = effects-stand π es in omega (arith, h, g)
+
+-- what begins so stays within this room
+abbrev pub Begins : Prices → StreamId → ℕ → Slots → Done → Type 0
+Begins π i n s d = size π i d.slots + need π d.slots d.caused ≤ size π i s + n
+
+begun-within : (π : Prices) (i : StreamId) (n m : ℕ) (s : Slots) (d : Done) → Begins π i m s d → Within π i n s m d
+begun-within π i n m s d h =
+    let f = turns-stand π i n d.slots d.caused in
+    let g = effects-stand π (after_turns n d).effects in omega (arith, h, f, g)
+
+-- what a call takes before the promise that it answers is watched, or a job
+abbrev pub call_price : Prices → ℕ
+call_price π = price π 5 3 2 2 1 1 1
+
+module _ (π : Prices) (i : StreamId) (s : Slots) where
+  -- a call begins within the room
+  abbrev Fits : Begun → Type 0
+  Fits b = Begins π i (all_keep π s.streams + call_price π) s b.done
+
+  if-fits : (test : Bool) (a b : Begun) → Fits a → Fits b → Fits (if test then a else b)
+  if-fits true a b f g = f
+  if-fits false a b f g = g
+
+  replies-fits : (reply : Reply) → Fits (calls.replies reply s)
+  replies-fits reply = omega arith
+
+  does-fits : (es : List Effect) → prices_of π es ≤ call_price π → Fits (calls.does es s)
+  does-fits es h = omega (arith, h)
+
+  promising-fits : (es : PromiseId → List Effect) → prices_of π (es (next_id s.promises)) + π.promise ≤ call_price π → Fits (calls.promising es s)
+  promising-fits es h = let f = fresh-size π s.promises in omega (arith, h, f)
+
+  rejected-fits : Fits (calls.rejected s)
+  rejected-fits = promising-fits (λ p. SettlePromise p (Err type_error) ∷ []) (omega arith)
+
+  unsupported-fits : Fits (calls.unsupported s)
+  unsupported-fits = replies-fits (Throws Unsupported)
+
+  type_error-fits : Fits (calls.throws_type_error s)
+  type_error-fits = replies-fits (Throws TypeError)
+
+  for_readable-fits : (j : StreamId) (f : Slots → Begun) → Fits (f s) → Fits (calls.for_readable j f s)
+  for_readable-fits j f h = if-fits (has_readable j s) (f s) (calls.unsupported s) h unsupported-fits
+
+  for_writable-fits : (j : StreamId) (f : Slots → Begun) → Fits (f s) → Fits (calls.for_writable j f s)
+  for_writable-fits j f h = if-fits (has_writable j s) (f s) (calls.unsupported s) h unsupported-fits
+
+  unlocked_readable-fits : (j : StreamId) (locked : Slots → Begun) (free : StreamId → Slots → Begun) → Fits (locked s) → Fits (free j s) → Fits (calls.unlocked_readable j locked free s)
+  unlocked_readable-fits j locked free l f =
+      for_readable-fits j (λ z. if readable_looks.is_locked (readable_at j z) then locked z else free j z) (if-fits (readable_looks.is_locked (readable_at j s)) (locked s) (free j s) l f)
+
+  unlocked_writable-fits : (j : StreamId) (locked : Slots → Begun) (free : StreamId → Slots → Begun) → Fits (locked s) → Fits (free j s) → Fits (calls.unlocked_writable j locked free s)
+  unlocked_writable-fits j locked free l f =
+      for_writable-fits j (λ z. if writable_looks.is_locked (writable_at j z) then locked z else free j z) (if-fits (writable_looks.is_locked (writable_at j s)) (locked s) (free j s) l f)
+
+  by_reader-fits : (holding : StreamId → Slots → Begun) (free : Slots → Begun) → ((j : StreamId) → Fits (holding j s)) → Fits (free s) → (lock : Option Lock) → Fits (calls.by_reader holding free s lock)
+  by_reader-fits holding free h f None = unsupported-fits
+  by_reader-fits holding free h f (Some (ReaderLock (Some j) closed)) = for_readable-fits j (holding j) (h j)
+  by_reader-fits holding free h f (Some (ReaderLock None closed)) = f
+  by_reader-fits holding free h f (Some (WriterLock j)) = unsupported-fits
+  by_reader-fits holding free h f (Some (ReleasedWriter w)) = unsupported-fits
+
+  by_writer-fits : (holding : StreamId → Slots → Begun) (free : Slots → Begun) → ((j : StreamId) → Fits (holding j s)) → Fits (free s) → (lock : Option Lock) → Fits (calls.by_writer holding free s lock)
+  by_writer-fits holding free h f None = unsupported-fits
+  by_writer-fits holding free h f (Some (ReaderLock stream closed)) = unsupported-fits
+  by_writer-fits holding free h f (Some (WriterLock j)) = for_writable-fits j (holding j) (h j)
+  by_writer-fits holding free h f (Some (ReleasedWriter w)) = f
+
+  of_writer-fits : (f : Writer → Slots → Begun) → ((w : Writer) → Fits (f w s)) → (w : Option Writer) → Fits (calls.of_writer f s w)
+  of_writer-fits f h None = unsupported-fits
+  of_writer-fits f h (Some w) = h w
+
+  -- a new stream has no entries and keeps nothing
+
+  append-keep : (xs : List Stream) (x : Stream) → all_keep π (xs ++ x ∷ []) ≡ all_keep π xs + keeps π x
+  append-keep [] x = omega arith
+  append-keep (y ∷ ys) x = let h = append-keep ys x in omega (arith, h)
+
+  append-entries : (xs : List Stream) (x : Stream) (n : ℕ) → entries_of π (Some x) ≡ 0 → entries_of π (slice_get (xs ++ x ∷ []) n) ≤ entries_of π (slice_get xs n)
+  append-entries [] x zero e = omega (arith, e)
+  append-entries [] x (suc n) e = omega arith
+  append-entries (y ∷ ys) x zero e = omega arith
+  append-entries (y ∷ ys) x (suc n) e = append-entries ys x n e
+
+  stream-fits : (x : Stream) (reply : Reply) (j : StreamId) (step : Step) (start : StartBy) → entries_of π (Some x) ≡ 0 → keeps π x ≡ 0
+      → Fits (calls.begun reply (causes (StartAlgorithm j step start ∷ []) (calls.add_stream x s)))
+  stream-fits x reply j step Now e k =
+      let a = append-keep s.streams x in let b = append-entries s.streams x i.0 e in omega (arith, a, b, k)
+  stream-fits x reply j step Later e k =
+      let a = append-keep s.streams x in let b = append-entries s.streams x i.0 e in omega (arith, a, b, k)
+
+  make-fits : (make : StreamId → Slots → Begun) → Fits (make (record { 0 = length s.streams }) s) → Fits (calls.make_stream make s)
+  make-fits make h = if-fits (nat_lt (length s.streams) calls.most_streams) (make (record { 0 = length s.streams }) s) (calls.replies TooMany s) h (replies-fits TooMany)
+
+  -- readers and writers
+
+  reader-fits : (j : StreamId) → Fits (calls.get_reader j s)
+  reader-fits j = let f = fresh-size π s.promises in omega (arith, f)
+
+  writer-fits : (j : StreamId) → Fits (calls.get_writer j s)
+  writer-fits j = let f = fresh-size π s.promises in let g = fresh-size π (fresh s.promises) in omega (arith, f, g)
+
+  renewed-size : (t : Table) (kept : Bool) → table_size π (calls.with_renewed t kept) ≤ table_size π t + π.promise
+  renewed-size t true = omega arith
+  renewed-size t false = fresh-size π t
+
+  renewed-price : (t : Table) (kept : Bool) → prices_of π (calls.reject_renewed t kept) ≤ π.turn
+  renewed-price t true = omega arith
+  renewed-price t false = omega arith
+
+  release_reader-fits : (l : LockId) (closed : PromiseId) (j : StreamId) → Fits (calls.release_reader l closed j s)
+  release_reader-fits l closed j =
+      let kept : Bool = readable.is_readable (readable_at j s).state in
+      let f = renewed-size s.promises kept in
+      let g = renewed-price s.promises kept in
+      let h = prices-append π (calls.reject_renewed s.promises kept) (Readable j ReleaseReader ∷ []) in
+      omega (arith, f, g, h)
+
+  release_writer-fits : (l : LockId) (j : StreamId) (w : Writer) → Fits (calls.release_writer l j w s)
+  release_writer-fits l j w =
+      let first : Bool = is_pending_at w.ready s.promises in
+      let t : Table = calls.with_renewed s.promises first in
+      let second : Bool = is_pending_at w.closed t in
+      let last : List Effect = Writable j ReleaseWriter ∷ [] in
+      let a = renewed-size s.promises first in
+      let b = renewed-size t second in
+      let c = renewed-price s.promises first in
+      let d = renewed-price t second in
+      let e = prices-append π (calls.reject_renewed s.promises first) (calls.reject_renewed t second ++ last) in
+      let f = prices-append π (calls.reject_renewed t second) last in
+      omega (arith, a, b, c, d, e, f)
+
+  release-fits : (l : LockId) (lock : Option Lock) → Fits (calls.release l s lock)
+  release-fits l None = unsupported-fits
+  release-fits l (Some (ReaderLock (Some j) closed)) = for_readable-fits j (calls.release_reader l closed j) (release_reader-fits l closed j)
+  release-fits l (Some (ReaderLock None closed)) = replies-fits ReplyDone
+  release-fits l (Some (WriterLock j)) = of_writer-fits (calls.release_writer l j) (λ w. release_writer-fits l j w) (writable_at j s).writer
+  release-fits l (Some (ReleasedWriter w)) = replies-fits ReplyDone
+
+  closed-fits : (lock : Option Lock) → Fits (calls.closed_by s lock)
+  closed-fits None = unsupported-fits
+  closed-fits (Some (ReaderLock stream closed)) = replies-fits (Promise closed)
+  closed-fits (Some (WriterLock j)) = of_writer-fits (λ w. calls.replies (Promise w.closed)) (λ w. replies-fits (Promise w.closed)) (writable_at j s).writer
+  closed-fits (Some (ReleasedWriter w)) = replies-fits (Promise w.closed)
+
+  ready-fits : (lock : Option Lock) → Fits (calls.ready_by s lock)
+  ready-fits None = unsupported-fits
+  ready-fits (Some (ReaderLock stream closed)) = unsupported-fits
+  ready-fits (Some (WriterLock j)) = of_writer-fits (λ w. calls.replies (Promise w.ready)) (λ w. replies-fits (Promise w.ready)) (writable_at j s).writer
+  ready-fits (Some (ReleasedWriter w)) = replies-fits (Promise w.ready)
+
+  -- operations that answer a promise
+
+  cancel-fits : (r : Plain) (j : StreamId) → Fits (calls.cancel r j s)
+  cancel-fits r j = promising-fits (λ p. Readable j (CancelStream r p) ∷ []) (omega arith)
+
+  read-fits : (j : StreamId) → Fits (calls.read j s)
+  read-fits j = promising-fits (λ p. Readable j (ReadChunk (PromiseRequest p)) ∷ []) (omega arith)
+
+  write-fits : (v : Value) (j : StreamId) → Fits (calls.write v j s)
+  write-fits v j = promising-fits (λ p. Writable j (WriteChunk v p) ∷ []) (omega arith)
+
+  close-fits : (j : StreamId) → Fits (calls.close j s)
+  close-fits j =
+      if-fits (writable.is_closing (writable_at j s)) (calls.rejected s) (calls.promising (λ p. Writable j (CloseStream p) ∷ []) s)
+      rejected-fits (promising-fits (λ p. Writable j (CloseStream p) ∷ []) (omega arith))
+
+  abort-fits : (r : Plain) (j : StreamId) (p : Option PromiseId) → Fits (calls.abort_unless r j s p)
+  abort-fits r j None = promising-fits (λ p. Writable j (AbortStream r p) ∷ []) (omega arith)
+  abort-fits r j (Some p) = replies-fits (Promise p)
+
+  can-fits : (j : StreamId) (operation : ReadableOperation) → prices_of π (Readable j operation ∷ []) ≤ call_price π → Fits (calls.if_it_can j operation s)
+  can-fits j operation h =
+      if-fits (readable.can_close_or_enqueue (readable_at j s)) (calls.does (Readable j operation ∷ []) s) (calls.throws_type_error s)
+      (does-fits (Readable j operation ∷ []) h) type_error-fits
+
+  settle-fits : (h : HostId) (answer : Answer) (p : Option PromiseId) → Fits (calls.settle_host h answer s p)
+  settle-fits h answer None = unsupported-fits
+  settle-fits h answer (Some p) = let e = ap (λ n. π.host * n) (length-set s.hosts h.0 None) in omega (arith, e)
+
+  fail-fits : (r : Plain) (j : StreamId) → Fits (calls.fail r j s)
+  fail-fits r j =
+      let failed : Slots → Begun = calls.does (Writable j (ErrorIfNeeded r) ∷ []) in
+      if-fits (has_readable j s) (calls.does (Readable j (ErrorReadable r) ∷ []) s) (calls.for_writable j failed s)
+      (does-fits (Readable j (ErrorReadable r) ∷ []) (omega arith)) (for_writable-fits j failed (does-fits (Writable j (ErrorIfNeeded r) ∷ []) (omega arith)))
+
+  look-fits : (j : StreamId) → Fits (calls.look j s)
+  look-fits j =
+      let looked : Slots → Begun = λ z. calls.replies (ReplyState (writable_looks.state_of (writable_at j z))) z in
+      let reply : Reply = ReplyState (readable_looks.state_of (readable_at j s)) in
+      if-fits (has_readable j s) (calls.replies reply s) (calls.for_writable j looked s)
+      (replies-fits reply) (for_writable-fits j looked (replies-fits (ReplyState (writable_looks.state_of (writable_at j s)))))
+
+  pub begin-fits : (c : Call) → Fits (begin c s)
+  unfolding begin
+  begin-fits (names.MakeReadable mark size start) =
+      make-fits (calls.make_readable mark size start) (stream-fits (ReadableStream (readable.set_up Host mark size)) (Made (record { 0 = length s.streams })) (record { 0 = length s.streams }) (ReadableStart (record { 0 = length s.streams })) start refl refl)
+  begin-fits (names.MakeWritable mark size start) =
+      make-fits (calls.make_writable mark size start) (stream-fits (WritableStream (writable.set_up Host mark size)) (Made (record { 0 = length s.streams })) (record { 0 = length s.streams }) (WritableStart (record { 0 = length s.streams })) start refl refl)
+  begin-fits (names.GetReader j) = unlocked_readable-fits j calls.throws_type_error calls.get_reader type_error-fits (reader-fits j)
+  begin-fits (names.GetWriter j) = unlocked_writable-fits j calls.throws_type_error calls.get_writer type_error-fits (writer-fits j)
+  begin-fits (names.Cancel j r) = unlocked_readable-fits j calls.rejected (calls.cancel r) rejected-fits (cancel-fits r j)
+  begin-fits (names.CancelBy l r) = by_reader-fits (calls.cancel r) calls.rejected (cancel-fits r) rejected-fits (lock_at l s)
+  begin-fits (names.Read l) = by_reader-fits calls.read calls.rejected read-fits rejected-fits (lock_at l s)
+  begin-fits (names.Write l v) = by_writer-fits (calls.write v) calls.rejected (write-fits v) rejected-fits (lock_at l s)
+  begin-fits (names.Close j) = unlocked_writable-fits j calls.rejected calls.close rejected-fits (close-fits j)
+  begin-fits (names.CloseBy l) = by_writer-fits calls.close calls.rejected close-fits rejected-fits (lock_at l s)
+  begin-fits (names.Abort j r) = unlocked_writable-fits j calls.rejected (calls.abort r) rejected-fits (abort-fits r j (writable.answered_abort (writable_at j s)))
+  begin-fits (names.AbortBy l r) = by_writer-fits (calls.abort r) calls.rejected (λ j. abort-fits r j (writable.answered_abort (writable_at j s))) rejected-fits (lock_at l s)
+  begin-fits (names.Closed l) = closed-fits (lock_at l s)
+  begin-fits (names.Ready l) = ready-fits (lock_at l s)
+  begin-fits (names.Release l) = release-fits l (lock_at l s)
+  begin-fits (names.Enqueue j v) = for_readable-fits j (calls.if_it_can j (EnqueueChunk v)) (can-fits j (EnqueueChunk v) (omega arith))
+  begin-fits (names.Finish j) = for_readable-fits j (calls.if_it_can j CloseReadable) (can-fits j CloseReadable (omega arith))
+  begin-fits (names.Fail j r) = fail-fits r j
+  begin-fits (names.Desired j) = for_readable-fits j (calls.desired j) (replies-fits (calls.desired j s).reply)
+  begin-fits (names.DesiredBy l) = by_writer-fits calls.desired_of_writer calls.throws_type_error (λ j. replies-fits (calls.desired_of_writer j s).reply) type_error-fits (lock_at l s)
+  begin-fits (names.Settle h answer) = settle-fits h answer (host_at h s)
+  begin-fits (names.State j) = look-fits j
+  begin-fits names.Step = replies-fits ReplyDone
+
+  -- a job
+
+  steps-price : (step : Step) (outcome : Result Plain Plain) → prices_of π (steps step outcome) ≤ price π 4 2 1 1 1 0 0
+  steps-price step outcome = grind arith
+
+  resolved-price : (derived : Option PromiseId) (outcome : Result Plain Plain) → prices_of π (resolved derived outcome) ≤ π.turn
+  resolved-price None outcome = omega arith
+  resolved-price (Some p) outcome = omega arith
+
+  effects-price : (job : Job) → prices_of π (job_effects job) ≤ price π 5 2 1 1 1 0 0
+  effects-price (Reaction step outcome derived) =
+      let a = steps-price step outcome in
+      let b = resolved-price derived (returned step outcome) in
+      let c = prices-append π (steps step outcome) (resolved derived (returned step outcome)) in omega (arith, a, b, c)
+  effects-price (Follow p q) = omega arith
+  effects-price (Settle p outcome) = omega arith
+  effects-price (MicroJob (PipeLook p)) = omega arith
+
+  some_job-fits : (job : Option Job) → Begins π i (all_keep π s.streams + call_price π) s (job_begun s job)
+  some_job-fits None = omega arith
+  some_job-fits (Some job) = let a = after_job-size π s.promises in let b = effects-price job in omega (arith, a, b)
+
+  pub job-fits : Begins π i (all_keep π s.streams + call_price π) s (begin_job s)
+  unfolding begin_job
+  job-fits = some_job-fits (next_job s.promises)
+
+named-size : (π : Prices) (i : StreamId) (reply : Reply) (s : Slots) → size π i (named reply s) ≤ size π i s + π.event
+named-size π i (Promise p) s = let h = watch-size π p s.promises in omega (arith, h)
+named-size π i ReplyDone s = omega arith
+named-size π i (Made j) s = omega arith
+named-size π i (ReplyLock l) s = omega arith
+named-size π i (Size n) s = omega arith
+named-size π i (ReplyState looks) s = omega arith
+named-size π i (Throws t) s = omega arith
+named-size π i TooMany s = omega arith
+
+pub room_is_enough : RoomIsEnough
+unfolding performed
+room_is_enough = record {
+  call = λ π i n c s. let h = begin-fits π i s c in begun-within π i n (room π s) s (begin c s).done (omega (arith, h));
+  answered = λ π i c s.
+      let d : Done = (begin c s).done in
+      let h = begin-fits π i s c in
+      let f = turns-stand π i (measure d.slots d.caused) d.slots d.caused in
+      let g = named-size π i (begin c s).reply (performed d) in omega (arith, h, f, g);
+  job = λ π i n s. let h = job-fits π i s in begun-within π i n (room π s) s (begin_job s) (omega (arith, h));
+}

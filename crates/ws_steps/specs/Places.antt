@@ -1,0 +1,218 @@
+-- What an effect may take, with all that comes of it: so many turns, and so many places of each kind in memory. A price list says what
+-- one of each costs; what is said for every price list is said of each kind.
+use Rattle.std.specs.Prelude.{ℕ, ◌+◌, ◌*◌, List, [], ◌∷◌, length, Option, Some, None, slice_get}
+use Rattle.ws_value.specs.declared.ids.StreamId.{StreamId}
+use Rattle.ws_value.specs.declared.value.Outcome.{Outcome}
+use Rattle.ws_value.specs.declared.value.Outcome.TheVariants.{Pending, Fulfilled, Given, Finished, Rejected}
+use Rattle.ws_steps.specs.declared.calls.StartBy.{StartBy}
+use Rattle.ws_steps.specs.declared.calls.StartBy.TheVariants.{Now, Later}
+use Rattle.ws_steps.specs.declared.effects.Effect.{Effect}
+use Rattle.ws_steps.specs.declared.effects.Effect.TheVariants.{Readable, Writable, StartAlgorithm, PullAlgorithm, CancelAlgorithm, WriteAlgorithm, CloseAlgorithm, AbortAlgorithm, ChunkSteps, CloseSteps, ErrorSteps, Give, Settle, CallHost}
+use Rattle.ws_steps.specs.declared.effects.Gift.{Gift}
+use Rattle.ws_steps.specs.declared.effects.Gift.TheVariants.{This, Fresh}
+use Rattle.ws_steps.specs.declared.readable.ReadableOperation.{ReadableOperation}
+use Rattle.ws_steps.specs.declared.readable.ReadableOperation.TheVariants.{InitializeReader, ReleaseReader, Read, Cancel, Enqueue, Close, Error, StartSettled, PullSettled}
+use Rattle.ws_steps.specs.declared.writable.WritableOperation.{WritableOperation}
+use Rattle.ws_steps.specs.declared.writable.WritableOperation.TheVariants.{SetUpWriter, ReleaseWriter, Write, Close as CloseWritable, Abort, ErrorIfNeeded, HandOn, StartSettled as WritableStartSettled, WriteSettled, CloseSettled, AbortSettled}
+use Rattle.ws_steps.specs.Promises.{Entry, Table}
+use Rattle.ws_steps.specs.Slots.{Slots, Stream, ReadableStream, WritableStream}
+
+-- the prices of a turn, a promise, a job or a reaction, an event, a host's number, an entry in the queue of a stream, and one in the
+-- list of its read or write requests
+pub record Prices : Type 0 where
+  pub turn : ℕ
+  pub promise : ℕ
+  pub job : ℕ
+  pub event : ℕ
+  pub host : ℕ
+  pub queued : ℕ
+  pub request : ℕ
+
+-- the price of so many turns, promises, jobs, events, host's numbers, queued entries and requests
+abbrev pub price : Prices → ℕ → ℕ → ℕ → ℕ → ℕ → ℕ → ℕ → ℕ
+price π t p j e h q r = t * π.turn + p * π.promise + j * π.job + e * π.event + h * π.host + q * π.queued + r * π.request
+
+-- so much for each
+abbrev pub each : {A : Type 0} → ℕ → List A → ℕ
+each c [] = 0
+each c (x ∷ xs) = c + each c xs
+
+-- what an effect may take, with all that comes of it
+
+abbrev pub gift_price : Prices → Gift → ℕ
+gift_price π (This p) = price π 1 0 1 0 0 0 0
+gift_price π (Fresh outcome) = price π 1 1 1 0 0 0 0
+
+abbrev pub start_price : Prices → StartBy → ℕ
+start_price π Now = price π 2 1 1 0 0 0 0
+start_price π Later = price π 3 2 2 1 1 0 0
+
+abbrev pub readable_price : Prices → ReadableOperation → ℕ
+readable_price π (InitializeReader closed) = price π 1 0 0 0 0 0 0
+readable_price π ReleaseReader = price π 1 0 0 0 0 0 0
+readable_price π (Read request) = price π 4 1 1 1 1 0 1
+readable_price π (Cancel r p) = price π 3 1 1 1 1 0 0
+readable_price π (Enqueue v) = price π 3 1 1 1 1 1 0
+readable_price π Close = price π 1 0 0 0 0 0 0
+readable_price π (Error e) = price π 1 0 0 0 0 0 0
+readable_price π (StartSettled outcome) = price π 3 1 1 1 1 0 0
+readable_price π (PullSettled outcome) = price π 3 1 1 1 1 0 0
+
+abbrev pub writable_price : Prices → WritableOperation → ℕ
+writable_price π (SetUpWriter w) = price π 1 0 0 0 0 0 0
+writable_price π ReleaseWriter = price π 1 0 0 0 0 0 0
+writable_price π (Write v p) = price π 4 2 1 1 1 1 1
+writable_price π (CloseWritable p) = price π 4 1 1 1 1 1 0
+writable_price π (Abort r p) = price π 3 2 1 2 1 0 0
+writable_price π (ErrorIfNeeded e) = price π 3 2 1 1 1 0 0
+writable_price π HandOn = price π 2 1 1 1 1 0 0
+writable_price π (WritableStartSettled outcome) = price π 4 2 1 1 1 0 0
+writable_price π (WriteSettled outcome) = price π 4 2 1 1 1 0 0
+writable_price π (CloseSettled outcome) = price π 3 2 1 1 1 0 0
+writable_price π (AbortSettled p outcome) = price π 1 0 0 0 0 0 0
+
+abbrev pub effect_price : Prices → Effect → ℕ
+effect_price π (Readable i operation) = readable_price π operation
+effect_price π (Writable i operation) = writable_price π operation
+effect_price π (StartAlgorithm i step start) = start_price π start
+effect_price π (PullAlgorithm i) = price π 2 1 1 1 1 0 0
+effect_price π (CancelAlgorithm i r p) = price π 2 1 1 1 1 0 0
+effect_price π (WriteAlgorithm i) = price π 3 1 1 1 1 0 0
+effect_price π (CloseAlgorithm i) = price π 2 1 1 1 1 0 0
+effect_price π (AbortAlgorithm i r p) = price π 2 1 1 1 1 0 0
+effect_price π (ChunkSteps i request v) = price π 1 0 0 0 0 0 0
+effect_price π (CloseSteps i request) = price π 1 0 0 0 0 0 0
+effect_price π (ErrorSteps i request e) = price π 1 0 0 0 0 0 0
+effect_price π (Give gift u) = gift_price π gift
+effect_price π (Settle p outcome) = price π 1 0 0 0 0 0 0
+effect_price π (CallHost call u) = price π 1 1 1 1 1 0 0
+
+abbrev pub prices_of : Prices → List Effect → ℕ
+prices_of π [] = 0
+prices_of π (e ∷ es) = effect_price π e + prices_of π es
+
+-- what the records keep for later: the steps of each read request that waits, whose turn is paid for when it is asked
+
+abbrev pub keeps : Prices → Stream → ℕ
+keeps π (ReadableStream r) = each π.turn r.requests
+keeps π (WritableStream w) = 0
+
+abbrev pub all_keep : Prices → List Stream → ℕ
+all_keep π [] = 0
+all_keep π (x ∷ xs) = keeps π x + all_keep π xs
+
+-- what these effects and all that comes of them may take
+abbrev pub need : Prices → Slots → List Effect → ℕ
+need π s es = prices_of π es + all_keep π s.streams
+
+-- price lists with one price
+
+abbrev pub turns_alone : Prices
+turns_alone = record { turn = 1; promise = 0; job = 0; event = 0; host = 0; queued = 0; request = 0 }
+
+abbrev pub promises_alone : Prices
+promises_alone = record { turn = 0; promise = 1; job = 0; event = 0; host = 0; queued = 0; request = 0 }
+
+abbrev pub jobs_alone : Prices
+jobs_alone = record { turn = 0; promise = 0; job = 1; event = 0; host = 0; queued = 0; request = 0 }
+
+abbrev pub events_alone : Prices
+events_alone = record { turn = 0; promise = 0; job = 0; event = 1; host = 0; queued = 0; request = 0 }
+
+abbrev pub hosts_alone : Prices
+hosts_alone = record { turn = 0; promise = 0; job = 0; event = 0; host = 1; queued = 0; request = 0 }
+
+abbrev pub queued_alone : Prices
+queued_alone = record { turn = 0; promise = 0; job = 0; event = 0; host = 0; queued = 1; request = 0 }
+
+abbrev pub requests_alone : Prices
+requests_alone = record { turn = 0; promise = 0; job = 0; event = 0; host = 0; queued = 0; request = 1 }
+
+-- as many turns as effects may take, with all that comes of them
+abbrev pub measure : Slots → List Effect → ℕ
+measure s es = need turns_alone s es
+
+-- the places that are taken
+
+abbrev pub reactions_of : Option Entry → ℕ
+reactions_of None = 0
+reactions_of (Some e) = length e.reactions
+
+abbrev pub reactions_in : List (Option Entry) → ℕ
+reactions_in [] = 0
+reactions_in (e ∷ es) = reactions_of e + reactions_in es
+
+-- a promise that is watched and pending has an event to come
+abbrev pub unnoted_by : Outcome → Option ℕ → ℕ
+unnoted_by outcome None = 0
+unnoted_by Pending (Some rank) = 1
+unnoted_by (Fulfilled v) (Some rank) = 0
+unnoted_by (Given v) (Some rank) = 0
+unnoted_by (Finished v) (Some rank) = 0
+unnoted_by (Rejected r) (Some rank) = 0
+
+abbrev pub unnoted_of : Option Entry → ℕ
+unnoted_of None = 0
+unnoted_of (Some e) = unnoted_by e.outcome e.rank
+
+abbrev pub unnoted_in : List (Option Entry) → ℕ
+unnoted_in [] = 0
+unnoted_in (e ∷ es) = unnoted_of e + unnoted_in es
+
+-- the promises, of which a number keeps its place for good; the jobs and the reactions; the events, and those that are to come of
+-- watched promises. So a promise that settles takes no place
+unfoldable pub table_size : Prices → Table → ℕ
+table_size π t =
+    π.promise * length t.entries
+    + (π.job * (length t.jobs + reactions_in t.entries) + π.event * (length t.events + unnoted_in t.entries))
+
+-- the entries of the queue of a stream, and of its read or write requests
+abbrev pub entries_of : Prices → Option Stream → ℕ
+entries_of π None = 0
+entries_of π (Some (ReadableStream r)) = each π.queued r.queue + each π.request r.requests
+entries_of π (Some (WritableStream w)) = each π.queued w.queue + each π.request w.write_requests
+
+-- the places in the tables of promises, jobs, events and host's numbers, and in the lists of stream i
+abbrev pub size : Prices → StreamId → Slots → ℕ
+size π i s = table_size π s.promises + π.host * length s.hosts + entries_of π (slice_get s.streams i.0)
+
+-- what the row of an effect takes by itself
+
+abbrev pub own_gift : Prices → Gift → ℕ
+own_gift π (This p) = price π 0 0 1 0 0 0 0
+own_gift π (Fresh outcome) = price π 0 1 1 0 0 0 0
+
+abbrev pub own_start : Prices → StartBy → ℕ
+own_start π Now = 0
+own_start π Later = price π 0 1 0 0 0 0 0
+
+abbrev pub own_readable : Prices → ReadableOperation → ℕ
+own_readable π (Read request) = price π 0 0 0 0 0 0 1
+own_readable π (Enqueue v) = price π 0 0 0 0 0 1 0
+own_readable π _ = 0
+
+abbrev pub own_writable : Prices → WritableOperation → ℕ
+own_writable π (Write v p) = price π 0 1 0 0 0 1 1
+own_writable π (CloseWritable p) = price π 0 0 0 0 0 1 0
+own_writable π (Abort r p) = price π 0 1 0 1 0 0 0
+own_writable π (ErrorIfNeeded e) = price π 0 1 0 0 0 0 0
+own_writable π (WritableStartSettled outcome) = price π 0 1 0 0 0 0 0
+own_writable π (WriteSettled outcome) = price π 0 1 0 0 0 0 0
+own_writable π (CloseSettled outcome) = price π 0 1 0 0 0 0 0
+own_writable π _ = 0
+
+abbrev pub own : Prices → Effect → ℕ
+own π (Readable i operation) = own_readable π operation
+own π (Writable i operation) = own_writable π operation
+own π (StartAlgorithm i step start) = own_start π start
+own π (Give gift u) = own_gift π gift
+own π (CallHost call u) = price π 0 1 1 1 1 0 0
+own π _ = 0
+
+-- what any call or job may take besides what the records keep. The promise that a reply names takes an event, now or when it settles
+abbrev pub step_price : Prices → ℕ
+step_price π = price π 5 3 2 3 1 1 1
+
+-- what is to be prepared for the next call or job, whichever it is
+abbrev pub room : Prices → Slots → ℕ
+room π s = all_keep π s.streams + step_price π
