@@ -1,6 +1,8 @@
-//! Tests of `script`: worked scripts with all that they print, and how scripts are refused and fail.
+//! Tests of `script`: worked scripts with all that they print, and how scripts are refused and fail, where memory is wanting too.
 #![tactic(auto)]
 
+#[cfg(test)]
+mod memory;
 #[cfg(test)]
 mod script;
 #[cfg(test)]

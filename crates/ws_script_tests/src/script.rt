@@ -13,7 +13,7 @@ use ws_value::{NoMemory, Text};
 const ROOM: usize = 65_536;
 
 /// The top call on `script`: its status, its output and its notes.
-fn perform<R: Threads + Wait, S: Source>(
+pub(crate) fn perform<R: Threads + Wait, S: Source>(
     rt: &R,
     alloc: Global,
     input: &mut S,
