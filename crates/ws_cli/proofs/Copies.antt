@@ -1,4 +1,4 @@
--- A run that went on for some turns, and how it goes on and ends from there.
+-- A run that went on for some rounds, and how it goes on and ends from there.
 use Rattle.std.proofs.Common.{ℕ, ◌+◌, ◌-◌, List, [], ◌++◌, refl, sym, ◌∙◌, ap, append_assoc, length-append, arith}
 use Rattle.ws_io.specs.Gain.{KeepsTold}
 use Rattle.ws_io.specs.declared.status.Status.{Status}

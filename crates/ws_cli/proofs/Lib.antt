@@ -1,4 +1,4 @@
 pub mod Moves
 pub mod Oks
-pub mod Turns
+pub mod Rounds
 pub mod Copies

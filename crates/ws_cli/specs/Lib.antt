@@ -1,4 +1,4 @@
 pub mod Moments
 pub mod Run
-pub mod Turn
+pub mod Round
 pub mod Words

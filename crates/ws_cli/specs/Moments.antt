@@ -16,8 +16,8 @@ use Rattle.ws_steps.specs.declared.locks.Lock.TheVariants.{Reader as ReaderLock}
 use Rattle.ws_steps.specs.declared.promises.Step.TheVariants.{ReadablePull}
 use Rattle.ws_steps.specs.declared.promises.Reaction.TheVariants.{Perform}
 use Rattle.ws_steps.specs.declared.readable.ReadRequest.TheVariants.{Promise}
-use Rattle.ws_cli.specs.declared.turn.Turn.{Turn}
-use Rattle.ws_cli.specs.declared.turn.Turn.TheVariants.{Moved, Ended}
+use Rattle.ws_cli.specs.declared.round.Round.{Round}
+use Rattle.ws_cli.specs.declared.round.Round.TheVariants.{Moved, Ended}
 use Rattle.ws_steps.specs.Promises.{pending, ended_as, entry_at}
 use Rattle.ws_steps.specs.declared.effects.Owner.TheVariants.{Host}
 use Rattle.ws_steps.specs.Readable.{Slots as Readable, set_up}
@@ -85,11 +85,11 @@ RestsAfter (Fulfilled v) s = Unit {0}
 RestsAfter (Finished v) s = Unit {0}
 RestsAfter (Rejected e) s = Unit {0}
 
--- after a turn of a run that goes on the stream rests
-abbrev pub RestsOn : Turn → Slots → Type 0
+-- after a round of a run that goes on the stream rests
+abbrev pub RestsOn : Round → Slots → Type 0
 RestsOn (Moved count) s = IsResting s
 RestsOn (Ended status) s = Unit {0}
 
--- the most jobs of one turn
-abbrev pub jobs_of_a_turn : ℕ
-jobs_of_a_turn = 100000
+-- the most jobs of one round
+abbrev pub jobs_of_a_round : ℕ
+jobs_of_a_round = 100000

@@ -57,12 +57,15 @@ fn perform<R: Wait, S: Source, K: Sink>(
         (moment (S.faults input.old) (S.feed input.old) (K.faults output.old) (K.finished output.old))
         (moment (S.faults input.new) (S.feed input.new) (K.faults output.new) (K.finished output.new))
         (K.got output.old) (K.got output.new) }
-    ensures script_complete { IsScript words.now → (text : List ℕ) (found : List Line) → HasLeft (S.feed input.old) text → length text ≤ most_bytes → lines text ≡ Ok found
+    ensures script_complete { IsScript words.now → (text : List ℕ) (found : List Line)
+        → HasLeft (S.feed input.old) text → length text ≤ most_bytes → lines text ≡ Ok found
         → Calm (S.faults input.old) (S.faults input.new) → Calm (K.faults output.old) (K.faults output.new)
         → (result ≡ Status.Done) ⊎ (result ≡ Status.NoMemory) }
-    ensures script_outside { IsScript words.now → (text : List ℕ) (n : ℕ) → HasLeft (S.feed input.old) text → length text ≤ most_bytes → lines text ≡ Err n
+    ensures script_outside { IsScript words.now → (text : List ℕ) (n : ℕ) → HasLeft (S.feed input.old) text
+        → length text ≤ most_bytes → lines text ≡ Err n
         → Calm (S.faults input.old) (S.faults input.new) → (result ≡ Status.Script n) ⊎ (result ≡ Status.NoMemory) }
-    ensures script_too_long { IsScript words.now → (text : List ℕ) → HasLeft (S.feed input.old) text → most_bytes < length text
+    ensures script_too_long { IsScript words.now → (text : List ℕ) → HasLeft (S.feed input.old) text
+        → most_bytes < length text
         → Calm (S.faults input.old) (S.faults input.new) → (result ≡ Status.Script 0) ⊎ (result ≡ Status.NoMemory) }
 {
     if is_alone(words, b"run") {
@@ -100,7 +103,8 @@ pub fn top<R: Threads + Wait, F: Files, S: Source, K: Sink, E: Sink, G: Gate>(
         (K.got output.old) (K.got output.new) }
 
     // Where nothing fails and the input isn't too long, all of it is copied or memory is wanting.
-    ensures complete { IsRun words.now → Calm (S.faults input.old) (S.faults input.new) → Calm (K.faults output.old) (K.faults output.new)
+    ensures complete { IsRun words.now → Calm (S.faults input.old) (S.faults input.new)
+        → Calm (K.faults output.old) (K.faults output.new)
         → HasAtMost (S.feed input.old) (2 ^ 40) → (result ≡ Status.Done) ⊎ (result ≡ Status.NoMemory) }
 
     // What a script may end with.
@@ -110,18 +114,22 @@ pub fn top<R: Threads + Wait, F: Files, S: Source, K: Sink, E: Sink, G: Gate>(
         (K.got output.old) (K.got output.new) }
 
     // Where nothing fails, a script in the grammar that isn't too long is performed whole, or memory is wanting.
-    ensures script_complete { IsScript words.now → (text : List ℕ) (found : List Line) → HasLeft (S.feed input.old) text → length text ≤ most_bytes → lines text ≡ Ok found
+    ensures script_complete { IsScript words.now → (text : List ℕ) (found : List Line)
+        → HasLeft (S.feed input.old) text → length text ≤ most_bytes → lines text ≡ Ok found
         → Calm (S.faults input.old) (S.faults input.new) → Calm (K.faults output.old) (K.faults output.new)
         → (result ≡ Status.Done) ⊎ (result ≡ Status.NoMemory) }
 
     // Where no read fails, a script outside the grammar is refused at its first bad line, and one that is too long at line 0.
-    ensures script_outside { IsScript words.now → (text : List ℕ) (n : ℕ) → HasLeft (S.feed input.old) text → length text ≤ most_bytes → lines text ≡ Err n
+    ensures script_outside { IsScript words.now → (text : List ℕ) (n : ℕ) → HasLeft (S.feed input.old) text
+        → length text ≤ most_bytes → lines text ≡ Err n
         → Calm (S.faults input.old) (S.faults input.new) → (result ≡ Status.Script n) ⊎ (result ≡ Status.NoMemory) }
-    ensures script_too_long { IsScript words.now → (text : List ℕ) → HasLeft (S.feed input.old) text → most_bytes < length text
+    ensures script_too_long { IsScript words.now → (text : List ℕ) → HasLeft (S.feed input.old) text
+        → most_bytes < length text
         → Calm (S.faults input.old) (S.faults input.new) → (result ≡ Status.Script 0) ⊎ (result ≡ Status.NoMemory) }
 
     // Where the notes didn't fail, they gained the text of the status and nothing else. They are never finished.
-    ensures notes { Calm (E.faults notes.old) (E.faults notes.new) → Gains (E.got notes.old) (E.got notes.new) (text_of result) }
+    ensures notes { Calm (E.faults notes.old) (E.faults notes.new)
+        → Gains (E.got notes.old) (E.got notes.new) (text_of result) }
     ensures notes_end { KeepsTold (E.finished notes.old) (E.finished notes.new) }
 {
     let _ = files;

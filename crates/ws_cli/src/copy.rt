@@ -5,13 +5,13 @@ ghost use Rattle.ws_cli.specs.Run.{Ends};
 ghost use Rattle.ws_cli.specs.Moments.{IsResting};
 
 use crate::realm::open;
-use crate::turn::{Turn, take_turn};
+use crate::round::{Round, take_round};
 use std::alloc::Global;
 use std::sync::Wait;
 use ws_io::{Sink, Source, Status};
 use ws_realm::Realm;
 
-/// Takes turns until the run ends.
+/// Takes rounds until the run ends.
 fn copy<R: Wait, S: Source, K: Sink>(
     rt: &R,
     realm: &mut Realm,
@@ -28,10 +28,10 @@ fn copy<R: Wait, S: Source, K: Sink>(
         (K.got output.old) (K.got output.new) }
 {
     let mut taken: u64 = 0;
-    'turns: loop {
-        match take_turn(rt, realm, alloc, input, output, max_input - taken) {
-            Turn::Moved(count) => taken += count,
-            Turn::Ended(status) => return status,
+    'rounds: loop {
+        match take_round(rt, realm, alloc, input, output, max_input - taken) {
+            Round::Moved(count) => taken += count,
+            Round::Ended(status) => return status,
         }
     }
 }

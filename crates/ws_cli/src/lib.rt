@@ -5,7 +5,7 @@ mod ask;
 mod command;
 mod copy;
 mod realm;
-mod turn;
+mod round;
 
 pub use command::{MAX_INPUT, top};
 pub use copy::run;

@@ -1,7 +1,7 @@
 //! A realm of one readable stream with mark 0 and its reader: a read, and the host's answer to the pull that it causes.
 ghost use Rattle.std.specs.Prelude.{◌≡◌, ◌≢◌, true, Some, IsOk, IsSome, IfOk, OnOk, OnErr};
 ghost use Rattle.ws_realm.specs.Seen.{oldest, outcome_named};
-ghost use Rattle.ws_cli.specs.Moments.{IsResting, Awaits, answered, jobs_of_a_turn};
+ghost use Rattle.ws_cli.specs.Moments.{IsResting, Awaits, answered, jobs_of_a_round};
 
 use crate::ask;
 use std::alloc::Global;
@@ -16,7 +16,7 @@ pub const SOURCE: StreamId = StreamId(0);
 /// The number of its reader.
 const READER: LockId = LockId(0);
 
-/// The most jobs of one turn.
+/// The most jobs of one round.
 const JOBS_OF_A_TURN: u32 = 100_000;
 
 /// A read that waits, and the number by which the host settles the pull that it caused.
@@ -32,7 +32,7 @@ pub fn open<R: Wait>(rt: &R, alloc: Global) -> Result<Realm, NoMemory>
 {
     let mut realm = Realm::make(alloc)?;
     let source = Call::MakeReadable {
-        high_water_mark: 0,
+        hwm: 0,
         size: SizeBy::Count,
         start: StartBy::Now,
     };
@@ -63,7 +63,7 @@ pub fn read<R: Wait>(rt: &R, realm: &mut Realm) -> Result<Asked, NoMemory>
 
 /// The host answers a pull by a call on the stream, and settles it.
 pub fn answer<R: Wait>(rt: &R, realm: &mut Realm, pull: HostId, call: Call) -> Result<(), NoMemory>
-    ensures slots { OnOk result (realm.new.slots ≡ answered jobs_of_a_turn call pull realm.old.slots) }
+    ensures slots { OnOk result (realm.new.slots ≡ answered jobs_of_a_round call pull realm.old.slots) }
     ensures spent { OnErr result (realm.new.slots.age ≢ oldest) }
 {
     ask::call(rt, realm, call)?;

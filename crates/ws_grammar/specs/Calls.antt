@@ -39,13 +39,13 @@ start_named word =
 
 -- `readable HWM SIZE START`
 abbrev pub readable_call : List ℕ → List ℕ → List ℕ → Option Call
-readable_call high_water_mark size start =
-    all_three MakeReadable (number_below (2 ^ 64) high_water_mark) (size_named size) (start_named start)
+readable_call hwm size start =
+    all_three MakeReadable (number_below (2 ^ 64) hwm) (size_named size) (start_named start)
 
 -- `writable HWM SIZE START`
 abbrev pub writable_call : List ℕ → List ℕ → List ℕ → Option Call
-writable_call high_water_mark size start =
-    all_three MakeWritable (number_below (2 ^ 64) high_water_mark) (size_named size) (start_named start)
+writable_call hwm size start =
+    all_three MakeWritable (number_below (2 ^ 64) hwm) (size_named size) (start_named start)
 
 -- `desired S`, or `desired L`
 abbrev pub desired_call : List ℕ → Option Call

@@ -36,22 +36,22 @@ fn start_named(word: &[u8]) -> Option<StartBy>
 }
 
 /// A new readable stream.
-fn readable_call(high_water_mark: &[u8], size: &[u8], start: &[u8]) -> Option<Call>
-    ensures { result ≡ readable_call high_water_mark.now size.now start.now }
+fn readable_call(hwm: &[u8], size: &[u8], start: &[u8]) -> Option<Call>
+    ensures { result ≡ readable_call hwm.now size.now start.now }
 {
     Some(Call::MakeReadable {
-        high_water_mark: number_u64(high_water_mark)?,
+        hwm: number_u64(hwm)?,
         size: size_named(size)?,
         start: start_named(start)?,
     })
 }
 
 /// A new writable stream.
-fn writable_call(high_water_mark: &[u8], size: &[u8], start: &[u8]) -> Option<Call>
-    ensures { result ≡ writable_call high_water_mark.now size.now start.now }
+fn writable_call(hwm: &[u8], size: &[u8], start: &[u8]) -> Option<Call>
+    ensures { result ≡ writable_call hwm.now size.now start.now }
 {
     Some(Call::MakeWritable {
-        high_water_mark: number_u64(high_water_mark)?,
+        hwm: number_u64(hwm)?,
         size: size_named(size)?,
         start: start_named(start)?,
     })

@@ -27,7 +27,8 @@ fn add_line(
     number: u32,
     line: &[u8],
 ) -> Result<(), ScriptRefused>
-    ensures added { OnOk result (option_map (λ more. found.old.items ++ more) (added_by number line.now) ≡ Some found.new.items) }
+    ensures added { OnOk result (option_map (λ more. found.old.items ++ more) (added_by number line.now)
+        ≡ Some found.new.items) }
     ensures refused { IfErr result (λ refused. IsRefusalOf refused (added_by number line.now) number) }
 {
     if is_comment(line) {
@@ -69,9 +70,11 @@ pub fn read_script(alloc: Global, text: &[u8]) -> Result<Vec<Line>, ScriptRefuse
     ensures bad_line { (n : ℕ) → result ≡ Err (BadLine n) → (length text.now ≤ most_bytes) × (lines text.now ≡ Err n) }
     ensures too_long { (result ≡ Err TooLong) ↔ (most_bytes < length text.now) }
     // What is in the grammar and short enough is read, unless memory runs out.
-    ensures accepted { (found : List Line) → lines text.now ≡ Ok found → length text.now ≤ most_bytes → IsOkUnless result NoMemory }
+    ensures accepted { (found : List Line) → lines text.now ≡ Ok found → length text.now ≤ most_bytes
+        → IsOkUnless result NoMemory }
     // What is outside the grammar and short enough is refused at its first bad line, unless memory runs out.
-    ensures outside { (n : ℕ) → lines text.now ≡ Err n → length text.now ≤ most_bytes → IsErrAnd result (λ refused. (refused ≡ BadLine n) ⊎ (refused ≡ NoMemory)) }
+    ensures outside { (n : ℕ) → lines text.now ≡ Err n → length text.now ≤ most_bytes
+        → IsErrAnd result (λ refused. (refused ≡ BadLine n) ⊎ (refused ≡ NoMemory)) }
 {
     if text.len() > MOST_BYTES {
         return Err(ScriptRefused::TooLong);

@@ -9,15 +9,15 @@ fn each_word_is_read(rt: HostRuntime) -> Result<(), Fail> {
     for (text, call) in [
         (
             "readable 18446744073709551615 bytes later",
-            "MakeReadable { high_water_mark: 18446744073709551615, size: ByteLength, start: Later }",
+            "MakeReadable { hwm: 18446744073709551615, size: ByteLength, start: Later }",
         ),
         (
             "readable 0 count now",
-            "MakeReadable { high_water_mark: 0, size: Count, start: Now }",
+            "MakeReadable { hwm: 0, size: Count, start: Now }",
         ),
         (
             "writable 1 count now",
-            "MakeWritable { high_water_mark: 1, size: Count, start: Now }",
+            "MakeWritable { hwm: 1, size: Count, start: Now }",
         ),
         ("reader s4294967295", "GetReader(StreamId(4294967295))"),
         ("writer s1", "GetWriter(StreamId(1))"),

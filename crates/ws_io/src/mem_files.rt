@@ -16,7 +16,8 @@ struct Entry {
 
 /// The first entry of the name.
 fn find<'a>(entries: &'a [Entry], name: &Text) -> Option<&'a Entry>
-    ensures { MatchOption result (text_at (pairs entries.now) name.now ≡ None) (λ e. text_at (pairs entries.now) name.now ≡ Some e.now.text) }
+    ensures { MatchOption result (text_at (pairs entries.now) name.now
+        ≡ None) (λ e. text_at (pairs entries.now) name.now ≡ Some e.now.text) }
 {
     for entry in entries {
         if entry.name.as_slice() == name.as_slice() {
@@ -60,7 +61,8 @@ impl MemFiles {
     /// Adds a text under a name that there isn't yet, or changes nothing.
     pub fn add(&mut self, name: &Text, text: &[u8]) -> Result<(), NoMemory>
         requires { text_at self.old.entries name.now ≡ None }
-        ensures ok { OnOk result (self.new ≡ record self.old { entries = self.old.entries ++ (name.now, text.now) ∷ [] }) }
+        ensures ok { OnOk result (self.new
+            ≡ record self.old { entries = self.old.entries ++ (name.now, text.now) ∷ [] }) }
         ensures err { OnErr result (self.new ≡ self.old) }
     {
         let alloc = *self.entries.allocator();

@@ -41,7 +41,8 @@ impl Model for MemSink {
       count = s.count;
     } };
 
-    ghost invariant = { λ s. (vec_len s.bytes + s.room ≤ vec_capacity s.bytes) × (0 < length s.most.items) × All (λ n. 0 < n) s.most.items };
+    ghost invariant = { λ s. (vec_len s.bytes + s.room ≤ vec_capacity s.bytes) × (0 < length s.most.items)
+        × All (λ n. 0 < n) s.most.items };
 }
 
 impl MemSink {

@@ -42,7 +42,8 @@ impl Model for MemSource {
       count = s.count;
     } };
 
-    ghost invariant = { λ s. (s.given ≤ length s.bytes.items) × (0 < length s.most.items) × All (λ n. 0 < n) s.most.items };
+    ghost invariant = { λ s. (s.given ≤ length s.bytes.items) × (0 < length s.most.items)
+        × All (λ n. 0 < n) s.most.items };
 }
 
 impl MemSource {

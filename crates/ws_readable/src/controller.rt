@@ -24,7 +24,7 @@ impl Readable {
         self.can_close_or_enqueue()
             && self.started
             && (self.reader.is_some() && !self.requests.is_empty()
-                || self.queue.total() < u128::from(self.high_water_mark))
+                || self.queue.total() < u128::from(self.hwm))
     }
 
     /// ReadableStreamDefaultControllerCallPullIfNeeded.

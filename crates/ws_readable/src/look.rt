@@ -53,7 +53,7 @@ impl Readable {
         ensures { result ≡ looks.desired_by self.now.slots self.now.slots.state }
     {
         match self.state {
-            ReadableState::Readable => Some(self.queue.desired(self.high_water_mark)),
+            ReadableState::Readable => Some(self.queue.desired(self.hwm)),
             ReadableState::Closed => Some(0),
             ReadableState::Errored => None,
         }

@@ -24,7 +24,7 @@ pub struct Readable {
     pub(crate) reader: Option<PromiseId>,
     pub(crate) requests: VecDeque<ReadRequest>,
     pub(crate) queue: SizedQueue<Value>,
-    pub(crate) high_water_mark: u64,
+    pub(crate) hwm: u64,
     pub(crate) size_by: SizeBy,
     pub(crate) started: bool,
     pub(crate) pulling: bool,
@@ -47,7 +47,7 @@ impl Model for Readable {
         reader = r.reader;
         requests = r.requests.items;
         queue = r.queue.items;
-        high_water_mark = r.high_water_mark;
+        hwm = r.hwm;
         size_by = r.size_by;
         started = r.started;
         pulling = r.pulling;
@@ -60,8 +60,8 @@ impl Model for Readable {
 
 impl Readable {
     /// A new stream, whose controller is set up. Its start algorithm is still to be performed.
-    pub fn make(alloc: Global, owner: Owner, high_water_mark: u64, size_by: SizeBy) -> Readable
-        ensures { result.slots ≡ rows.set_up owner high_water_mark size_by }
+    pub fn make(alloc: Global, owner: Owner, hwm: u64, size_by: SizeBy) -> Readable
+        ensures { result.slots ≡ rows.set_up owner hwm size_by }
     {
         let queue = match SizedQueue::make(alloc) {
             Ok(queue) => queue,
@@ -75,7 +75,7 @@ impl Readable {
             reader: None,
             requests: VecDeque::new(alloc),
             queue,
-            high_water_mark,
+            hwm,
             size_by,
             started: false,
             pulling: false,

@@ -1,5 +1,5 @@
 -- One turn of the loops over effects.
-use Rattle.std.proofs.Common.{◌≡◌, ◌≤◌, ◌+◌, List, [], ◌∷◌, ◌++◌, length, reverse, refl, sym, ap, ◌∙◌, append_assoc, length-append, arith}
+use Rattle.std.proofs.Common.{◌≡◌, ◌≤◌, ◌+◌, List, [], ◌∷◌, ◌++◌, length, reverse, refl, ap, ◌∙◌, length-append, arith}
 use Rattle.std.proofs.lemmas.List.{reverse-append}
 use Rattle.std.specs.Prelude.{vec_len, vec_capacity}
 use Rattle.ws_steps.specs.declared.effects.Effect.{Effect}
@@ -22,10 +22,6 @@ pub record Putting (t s : Tables) : Type 0 where
 -- a stack is read from its top
 pub popped : (xs ys : List Effect) (e : Effect) → xs ≡ ys ++ e ∷ [] → reverse xs ≡ e ∷ reverse ys
 popped xs ys e h = ap reverse h ∙ reverse-append ys (e ∷ [])
-
--- the last of what was caused goes onto the stack
-pub put-one : (cs ds os ps : List Effect) (e : Effect) → cs ≡ ds ++ e ∷ [] → ps ≡ os ++ e ∷ [] → ds ++ reverse ps ≡ cs ++ reverse os
-put-one cs ds os ps e caused pushed = rw caused (ap (λ es. ds ++ es) (popped ps os e pushed) ∙ sym (append_assoc ds (e ∷ []) (reverse os)))
 
 pub one-fewer : (cs ds : List Effect) (e : Effect) → cs ≡ ds ++ e ∷ [] → length cs ≡ length ds + 1
 one-fewer cs ds e caused = ap length caused ∙ length-append ds (e ∷ [])

@@ -27,16 +27,8 @@ impl Tables {
         ensures { Answers (calls.begin call (slots_of self.old)) result self.old self.new }
     {
         match call {
-            Call::MakeReadable {
-                high_water_mark,
-                size,
-                start,
-            } => self.call_make_readable(high_water_mark, size, start),
-            Call::MakeWritable {
-                high_water_mark,
-                size,
-                start,
-            } => self.call_make_writable(high_water_mark, size, start),
+            Call::MakeReadable { hwm, size, start } => self.call_make_readable(hwm, size, start),
+            Call::MakeWritable { hwm, size, start } => self.call_make_writable(hwm, size, start),
             Call::GetReader(i) => self.call_get_reader(i),
             Call::GetWriter(i) => self.call_get_writer(i),
             Call::Cancel(i, reason) => self.call_cancel(i, reason),
@@ -102,7 +94,8 @@ impl Tables {
         requires resting { IsResting self.old }
         requires young { self.old.age < 2 ^ 62 }
         ensures worked { result ≡ not (run.is_idle (slots_of self.old)) }
-        ensures slots { slots_of self.new ≡ (if run.is_idle (slots_of self.old) then slots_of self.old else run.after_job (slots_of self.old)) }
+        ensures slots { slots_of self.new
+            ≡ (if run.is_idle (slots_of self.old) then slots_of self.old else run.after_job (slots_of self.old)) }
         ensures resting { IsResting self.new }
         ensures age { self.new.age ≤ self.old.age + 1 }
     {

@@ -52,7 +52,8 @@ impl Model for Realm {
     ghost view = { λ r. record { slots = slots_of r.tables; prepared = r.prepared } };
 
     // Between calls and jobs no effect waits.
-    ghost invariant = { λ r. IsResting r.tables × (r.tables.age ≤ 2 ^ 62) × (r.prepared ≡ true → IsPrepared r.tables × (r.tables.age < 2 ^ 62)) };
+    ghost invariant = { λ r. IsResting r.tables × (r.tables.age ≤ 2 ^ 62)
+        × (r.prepared ≡ true → IsPrepared r.tables × (r.tables.age < 2 ^ 62)) };
 }
 
 impl Realm {
@@ -123,7 +124,8 @@ impl Realm {
     /// Performs the first job with all that it causes. False says that no job is queued, and then no memory is taken. A refusal changes nothing.
     pub fn job(&mut self) -> Result<bool, Why>
         ensures worked { IfOk result (λ worked. worked ≡ not (run.is_idle self.old.slots)) }
-        ensures slots { OnOk result (self.new.slots ≡ (if run.is_idle self.old.slots then self.old.slots else run.after_job self.old.slots)) }
+        ensures slots { OnOk result (self.new.slots
+            ≡ (if run.is_idle self.old.slots then self.old.slots else run.after_job self.old.slots)) }
         ensures spent { (result ≡ Err why.Spent) ↔ (self.old.slots.age ≡ oldest) }
         ensures idle { self.old.slots.age < oldest → run.is_idle self.old.slots ≡ true → result ≡ Ok false }
         ensures untouched { OnErr result (self.new ≡ self.old) }

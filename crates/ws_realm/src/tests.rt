@@ -156,17 +156,17 @@ fn state(word: Word, flags: Flags) -> Reply {
     })
 }
 
-fn readable(high_water_mark: u64, start: StartBy) -> Call {
+fn readable(hwm: u64, start: StartBy) -> Call {
     Call::MakeReadable {
-        high_water_mark,
+        hwm,
         size: SizeBy::Count,
         start,
     }
 }
 
-fn writable(high_water_mark: u64) -> Call {
+fn writable(hwm: u64) -> Call {
     Call::MakeWritable {
-        high_water_mark,
+        hwm,
         size: SizeBy::Count,
         start: StartBy::Now,
     }

@@ -44,7 +44,8 @@ fn append_event(text: &mut Vec<u8>, realm: &Realm, event: Event) -> Result<(), N
 
 /// Takes the events of a realm, and appends their lines.
 fn append_events(text: &mut Vec<u8>, realm: &mut Realm) -> Result<(), NoMemory>
-    ensures text { OnOk result (text.new.items ≡ text.old.items ++ events_text realm.old.slots realm.old.slots.promises.events) }
+    ensures text { OnOk result (text.new.items
+        ≡ text.old.items ++ events_text realm.old.slots realm.old.slots.promises.events) }
     ensures slots { OnOk result (realm.new.slots ≡ heard realm.old.slots) }
     ensures prepared { realm.new.prepared ≡ realm.old.prepared }
     ensures partly { IsPartlyHeard realm.old.slots realm.new.slots }

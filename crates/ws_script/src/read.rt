@@ -14,8 +14,12 @@ const MOST_OF_A_READ: usize = 4096;
 /// Reads the input once, into the room, and appends what came. 0 says that the input has ended.
 fn read_more<S: Source>(input: &mut S, room: &mut [u8], text: &mut Vec<u8>) -> Result<usize, Status>
     requires { 0 < length room.old }
-    ensures more { IfOk result (λ count. ReadsMore (S.feed input.old) (S.feed input.new) (S.faults input.old) (S.faults input.new) (length room.old) count text.old.items text.new.items) }
-    ensures stopped { IfErr result (λ status. StopsReading status (length room.old) (S.feed input.old) (S.feed input.new) (S.faults input.old) (S.faults input.new)) }
+    ensures more { IfOk result (λ count.
+        ReadsMore (S.feed input.old) (S.feed input.new)
+        (S.faults input.old) (S.faults input.new) (length room.old) count text.old.items text.new.items) }
+    ensures stopped { IfErr result (λ status.
+        StopsReading status (length room.old) (S.feed input.old) (S.feed input.new)
+        (S.faults input.old) (S.faults input.new)) }
 {
     match input.read(room) {
         Ok(count) => {
@@ -30,8 +34,11 @@ fn read_more<S: Source>(input: &mut S, room: &mut [u8], text: &mut Vec<u8>) -> R
 
 /// Reads the input to its end, or until it is longer than a script may be.
 pub(crate) fn read_text<S: Source>(alloc: Global, input: &mut S) -> Result<Vec<u8>, Status>
-    ensures read { IfOk result (λ text. ReadsText (S.feed input.old) (S.feed input.new) (S.faults input.old) (S.faults input.new) text.items) }
-    ensures stopped { IfErr result (λ status. StopsReading status most_of_a_text (S.feed input.old) (S.feed input.new) (S.faults input.old) (S.faults input.new)) }
+    ensures read { IfOk result (λ text.
+        ReadsText (S.feed input.old) (S.feed input.new) (S.faults input.old) (S.faults input.new) text.items) }
+    ensures stopped { IfErr result (λ status.
+        StopsReading status most_of_a_text (S.feed input.old) (S.feed input.new)
+        (S.faults input.old) (S.faults input.new)) }
 {
     let mut room = [0; MOST_OF_A_READ];
     let mut text = Vec::new(alloc);

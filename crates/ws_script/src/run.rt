@@ -16,7 +16,8 @@ use ws_io::{Sink, Source, Status};
 
 /// Reads the lines of a text, which was the input, and performs them.
 fn run_text<K: Sink>(alloc: Global, text: &[u8], output: &mut K) -> Status
-    ensures { (before after : Option Feed) (count count' : ℕ) → ReadsText before after count count' text.now → ScriptEnds result
+    ensures { (before after : Option Feed) (count count' : ℕ) → ReadsText before after count count' text.now
+        → ScriptEnds result
         (moment count before (K.faults output.old) (K.finished output.old))
         (moment count' after (K.faults output.new) (K.finished output.new))
         (K.got output.old) (K.got output.new) }
@@ -41,12 +42,14 @@ pub fn run_script<S: Source, K: Sink>(alloc: Global, input: &mut S, output: &mut
         (K.got output.old) (K.got output.new) }
 
     // Where nothing fails, what is in the grammar and short enough is performed whole, or memory is wanting.
-    ensures complete { (text : List ℕ) (found : List Line) → HasLeft (S.feed input.old) text → length text ≤ most_bytes → lines text ≡ Ok found
+    ensures complete { (text : List ℕ) (found : List Line) → HasLeft (S.feed input.old) text
+        → length text ≤ most_bytes → lines text ≡ Ok found
         → Calm (S.faults input.old) (S.faults input.new) → Calm (K.faults output.old) (K.faults output.new)
         → (result ≡ Status.Done) ⊎ (result ≡ Status.NoMemory) }
 
     // Where no read fails, what is outside the grammar is refused at its first bad line, and what is too long at line 0.
-    ensures outside { (text : List ℕ) (n : ℕ) → HasLeft (S.feed input.old) text → length text ≤ most_bytes → lines text ≡ Err n
+    ensures outside { (text : List ℕ) (n : ℕ) → HasLeft (S.feed input.old) text → length text ≤ most_bytes
+        → lines text ≡ Err n
         → Calm (S.faults input.old) (S.faults input.new) → (result ≡ Status.Script n) ⊎ (result ≡ Status.NoMemory) }
     ensures too_long { (text : List ℕ) → HasLeft (S.feed input.old) text → most_bytes < length text
         → Calm (S.faults input.old) (S.faults input.new) → (result ≡ Status.Script 0) ⊎ (result ≡ Status.NoMemory) }

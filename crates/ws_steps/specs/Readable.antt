@@ -28,7 +28,7 @@ pub record Slots : Type 0 where
   pub reader : Option PromiseId
   pub requests : List ReadRequest
   pub queue : List (Queued Value)
-  pub high_water_mark : ℕ
+  pub hwm : ℕ
   pub size_by : SizeBy
   pub started : Bool
   pub pulling : Bool
@@ -52,7 +52,7 @@ set_up owner mark size =
       reader = None;
       requests = [];
       queue = [];
-      high_water_mark = mark;
+      hwm = mark;
       size_by = size;
       started = false;
       pulling = false;
@@ -91,7 +91,7 @@ can_close_or_enqueue s = not s.close_requested && is_readable s.state
 -- locked and a read request waits. Else whether the desired size is more than 0
 abbrev pub should_call_pull : Slots → Bool
 should_call_pull s =
-    can_close_or_enqueue s && s.started && (not (is_empty (waiting s)) || nat_lt (total_of s.queue) s.high_water_mark)
+    can_close_or_enqueue s && s.started && (not (is_empty (waiting s)) || nat_lt (total_of s.queue) s.hwm)
 
 abbrev pub call_pull : StreamId → Acts → Acts
 call_pull me a =

@@ -43,7 +43,7 @@ pub record Slots : Type 0 where
   pub pending_abort : Option PendingAbort
   -- a chunk that was handed on has left its place, with its size, at the front until its write ends
   pub queue : List (Queued WriteRecord)
-  pub high_water_mark : ℕ
+  pub hwm : ℕ
   pub size_by : SizeBy
   pub started : Bool
 
@@ -75,7 +75,7 @@ set_up owner mark size =
       close_in_flight = None;
       pending_abort = None;
       queue = [];
-      high_water_mark = mark;
+      hwm = mark;
       size_by = size;
       started = false;
     }
@@ -114,7 +114,7 @@ is_in_flight s = is_some s.write_in_flight || is_some s.close_in_flight
 
 -- WritableStreamDefaultControllerGetBackpressure: the desired size is at most 0
 abbrev pub has_backpressure : Slots → Bool
-has_backpressure s = nat_le s.high_water_mark (total_of s.queue)
+has_backpressure s = nat_le s.hwm (total_of s.queue)
 
 -- a promise is settled where there is one
 abbrev pub settle_request : Result Plain Plain → Table → Option PromiseId → Table

@@ -14,12 +14,13 @@ impl Writable {
     pub fn has_backpressure(&self) -> bool
         ensures { result ≡ rows.has_backpressure self.now.slots }
     {
-        self.queue.total() >= u128::from(self.high_water_mark)
+        self.queue.total() >= u128::from(self.hwm)
     }
 
     fn change_ready(&mut self, p: &mut Promises, writer: Writer, backpressure: bool)
         requires promise_room { HasPromiseRoom 1 p.old }
-        ensures row { (fx : SeenAgenda) → acts_of self.new p.new fx ≡ rows.change_ready writer (acts_of self.old p.old fx) backpressure }
+        ensures row { (fx : SeenAgenda) → acts_of self.new p.new fx
+            ≡ rows.change_ready writer (acts_of self.old p.old fx) backpressure }
         ensures room { self.new.room ≡ self.old.room }
         ensures promise_room { p.new.room ≡ p.old.room }
     {
@@ -33,7 +34,8 @@ impl Writable {
 
     fn ready_for(&mut self, p: &mut Promises, backpressure: bool)
         requires promise_room { HasPromiseRoom 1 p.old }
-        ensures row { (fx : SeenAgenda) → acts_of self.new p.new fx ≡ rows.ready_for backpressure (acts_of self.old p.old fx) self.old.slots.writer }
+        ensures row { (fx : SeenAgenda) → acts_of self.new p.new fx
+            ≡ rows.ready_for backpressure (acts_of self.old p.old fx) self.old.slots.writer }
         ensures room { self.new.room ≡ self.old.room }
         ensures promise_room { p.new.room ≡ p.old.room }
     {
@@ -48,7 +50,8 @@ impl Writable {
     #[tactic(auto, unfolding(ws_steps::specs::Writable::update_backpressure))]
     pub fn update_backpressure(&mut self, p: &mut Promises, backpressure: bool)
         requires promise_room { HasPromiseRoom 1 p.old }
-        ensures row { (fx : SeenAgenda) → acts_of self.new p.new fx ≡ rows.update_backpressure backpressure (acts_of self.old p.old fx) }
+        ensures row { (fx : SeenAgenda) → acts_of self.new p.new fx
+            ≡ rows.update_backpressure backpressure (acts_of self.old p.old fx) }
         ensures room { self.new.room ≡ self.old.room }
         ensures promise_room { p.new.room ≡ p.old.room }
     {
@@ -60,7 +63,8 @@ impl Writable {
     #[tactic(auto, unfolding(ws_steps::specs::Writable::refresh_backpressure))]
     pub(crate) fn refresh_backpressure(&mut self, p: &mut Promises)
         requires promise_room { HasPromiseRoom 1 p.old }
-        ensures row { (fx : SeenAgenda) → acts_of self.new p.new fx ≡ rows.refresh_backpressure (acts_of self.old p.old fx) }
+        ensures row { (fx : SeenAgenda) → acts_of self.new p.new fx
+            ≡ rows.refresh_backpressure (acts_of self.old p.old fx) }
         ensures room { self.new.room ≡ self.old.room }
         ensures promise_room { p.new.room ≡ p.old.room }
     {

@@ -38,7 +38,8 @@ impl Writable {
 
     fn process_first(&mut self, me: StreamId, fx: &mut Agenda)
         requires effect_room { HasEffectRoom 1 fx.old }
-        ensures row { (p : Seen) → acts_of self.new p fx.new ≡ rows.process_first me (acts_of self.old p fx.old) (first_value self.old.slots.queue) }
+        ensures row { (p : Seen) → acts_of self.new p fx.new
+            ≡ rows.process_first me (acts_of self.old p fx.old) (first_value self.old.slots.queue) }
         ensures room { self.new.room ≡ self.old.room }
         ensures effect_room { fx.new.capacity ≡ fx.old.capacity }
     {

@@ -12,7 +12,8 @@ use ws_value::{Plain, StreamId};
 
 impl Writable {
     fn reject_close(&mut self, p: &mut Promises)
-        ensures row { (fx : SeenAgenda) → acts_of self.new p.new fx ≡ rows.reject_close (acts_of self.old p.old fx) self.old.slots.close_request }
+        ensures row { (fx : SeenAgenda) → acts_of self.new p.new fx
+            ≡ rows.reject_close (acts_of self.old p.old fx) self.old.slots.close_request }
         ensures room { self.new.room ≡ self.old.room }
         ensures promise_room { p.new.room ≡ p.old.room }
     {
@@ -23,7 +24,8 @@ impl Writable {
     }
 
     fn reject_closed(&mut self, p: &mut Promises)
-        ensures row { (fx : SeenAgenda) → acts_of self.new p.new fx ≡ rows.reject_closed (acts_of self.old p.old fx) self.old.slots.writer }
+        ensures row { (fx : SeenAgenda) → acts_of self.new p.new fx
+            ≡ rows.reject_closed (acts_of self.old p.old fx) self.old.slots.writer }
         ensures room { self.new.room ≡ self.old.room }
         ensures promise_room { p.new.room ≡ p.old.room }
     {
@@ -35,7 +37,8 @@ impl Writable {
     /// WritableStreamRejectCloseAndClosedPromiseIfNeeded.
     #[tactic(auto, unfolding(ws_steps::specs::Writable::reject_close_and_closed))]
     pub fn reject_close_and_closed(&mut self, p: &mut Promises)
-        ensures row { (fx : SeenAgenda) → acts_of self.new p.new fx ≡ rows.reject_close_and_closed (acts_of self.old p.old fx) }
+        ensures row { (fx : SeenAgenda) → acts_of self.new p.new fx
+            ≡ rows.reject_close_and_closed (acts_of self.old p.old fx) }
         ensures room { self.new.room ≡ self.old.room }
         ensures promise_room { p.new.room ≡ p.old.room }
     {
@@ -45,7 +48,8 @@ impl Writable {
 
     fn abort_by(&mut self, me: StreamId, p: &mut Promises, fx: &mut Agenda, abort: PendingAbort)
         requires effect_room { HasEffectRoom 1 fx.old }
-        ensures row { acts_of self.new p.new fx.new ≡ rows.abort_by me abort (acts_of self.old p.old fx.old) abort.was_already_erroring }
+        ensures row { acts_of self.new p.new fx.new
+            ≡ rows.abort_by me abort (acts_of self.old p.old fx.old) abort.was_already_erroring }
         ensures room { self.new.room ≡ self.old.room }
         ensures promise_room { p.new.room ≡ p.old.room }
         ensures effect_room { fx.new.capacity ≡ fx.old.capacity }
@@ -60,7 +64,8 @@ impl Writable {
 
     fn finish_abort(&mut self, me: StreamId, p: &mut Promises, fx: &mut Agenda)
         requires effect_room { HasEffectRoom 1 fx.old }
-        ensures row { acts_of self.new p.new fx.new ≡ rows.finish_abort me (acts_of self.old p.old fx.old) self.old.slots.pending_abort }
+        ensures row { acts_of self.new p.new fx.new
+            ≡ rows.finish_abort me (acts_of self.old p.old fx.old) self.old.slots.pending_abort }
         ensures room { self.new.room ≡ self.old.room }
         ensures promise_room { p.new.room ≡ p.old.room }
         ensures effect_room { fx.new.capacity ≡ fx.old.capacity }
@@ -96,7 +101,8 @@ impl Writable {
 
     fn reject_ready(&mut self, p: &mut Promises, r: Plain)
         requires promise_room { HasPromiseRoom 1 p.old }
-        ensures row { (fx : SeenAgenda) → acts_of self.new p.new fx ≡ rows.reject_ready r (acts_of self.old p.old fx) self.old.slots.writer }
+        ensures row { (fx : SeenAgenda) → acts_of self.new p.new fx
+            ≡ rows.reject_ready r (acts_of self.old p.old fx) self.old.slots.writer }
         ensures room { self.new.room ≡ self.old.room }
         ensures promise_room { p.new.room ≡ p.old.room }
     {
@@ -152,7 +158,8 @@ impl Writable {
     )
         requires promise_room { HasPromiseRoom 1 p.old }
         requires effect_room { HasEffectRoom 1 fx.old }
-        ensures row { acts_of self.new p.new fx.new ≡ rows.controller_error_if_needed me e (acts_of self.old p.old fx.old) }
+        ensures row { acts_of self.new p.new fx.new
+            ≡ rows.controller_error_if_needed me e (acts_of self.old p.old fx.old) }
         ensures room { self.new.room ≡ self.old.room }
         ensures promise_room { p.new.room ≡ p.old.room }
         ensures effect_room { fx.new.capacity ≡ fx.old.capacity }

@@ -53,7 +53,7 @@ impl Writable {
         ensures { result ≡ looks.desired_by self.now.slots self.now.slots.state }
     {
         match self.state {
-            WritableState::Writable => Some(self.queue.desired(self.high_water_mark)),
+            WritableState::Writable => Some(self.queue.desired(self.hwm)),
             WritableState::Erroring => None,
             WritableState::Errored => None,
             WritableState::Closed => Some(0),

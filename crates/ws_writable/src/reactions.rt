@@ -35,7 +35,8 @@ impl Writable {
     }
 
     fn write_ended(&mut self, p: &mut Promises, outcome: Result<Plain, Plain>)
-        ensures row { (fx : SeenAgenda) → acts_of self.new p.new fx ≡ rows.write_ended outcome (acts_of self.old p.old fx) }
+        ensures row { (fx : SeenAgenda) → acts_of self.new p.new fx
+            ≡ rows.write_ended outcome (acts_of self.old p.old fx) }
         ensures room { self.new.room ≡ self.old.room }
         ensures promise_room { p.new.room ≡ p.old.room }
         ensures made { length p.new.table.entries ≡ length p.old.table.entries }
@@ -45,7 +46,8 @@ impl Writable {
     }
 
     fn drop_first(&mut self)
-        ensures row { (p : Seen) (fx : SeenAgenda) → acts_of self.new p fx ≡ rows.without_first (acts_of self.old p fx) }
+        ensures row { (p : Seen) (fx : SeenAgenda) → acts_of self.new p fx
+            ≡ rows.without_first (acts_of self.old p fx) }
         ensures room { self.new.room ≡ self.old.room }
     {
         self.queue.pop();
@@ -82,7 +84,8 @@ impl Writable {
     }
 
     fn close_ended(&mut self, p: &mut Promises, outcome: Result<Plain, Plain>)
-        ensures row { (fx : SeenAgenda) → acts_of self.new p.new fx ≡ rows.close_ended outcome (acts_of self.old p.old fx) }
+        ensures row { (fx : SeenAgenda) → acts_of self.new p.new fx
+            ≡ rows.close_ended outcome (acts_of self.old p.old fx) }
         ensures room { self.new.room ≡ self.old.room }
         ensures promise_room { p.new.room ≡ p.old.room }
         ensures made { length p.new.table.entries ≡ length p.old.table.entries }
@@ -92,7 +95,8 @@ impl Writable {
     }
 
     fn abort_ended(&mut self, p: &mut Promises, outcome: Result<Plain, Plain>)
-        ensures row { (fx : SeenAgenda) → acts_of self.new p.new fx ≡ rows.abort_ended outcome (acts_of self.old p.old fx) }
+        ensures row { (fx : SeenAgenda) → acts_of self.new p.new fx
+            ≡ rows.abort_ended outcome (acts_of self.old p.old fx) }
         ensures room { self.new.room ≡ self.old.room }
         ensures promise_room { p.new.room ≡ p.old.room }
         ensures made { length p.new.table.entries ≡ length p.old.table.entries }
@@ -115,7 +119,8 @@ impl Writable {
     }
 
     fn fulfil_closed(&mut self, p: &mut Promises)
-        ensures row { (fx : SeenAgenda) → acts_of self.new p.new fx ≡ rows.fulfil_closed (acts_of self.old p.old fx) self.old.slots.writer }
+        ensures row { (fx : SeenAgenda) → acts_of self.new p.new fx
+            ≡ rows.fulfil_closed (acts_of self.old p.old fx) self.old.slots.writer }
         ensures room { self.new.room ≡ self.old.room }
         ensures promise_room { p.new.room ≡ p.old.room }
     {
@@ -127,7 +132,8 @@ impl Writable {
     /// WritableStreamFinishInFlightClose.
     #[tactic(auto, unfolding(ws_steps::specs::Writable::finish_in_flight_close))]
     pub fn finish_in_flight_close(&mut self, p: &mut Promises)
-        ensures row { (fx : SeenAgenda) → acts_of self.new p.new fx ≡ rows.finish_in_flight_close (acts_of self.old p.old fx) }
+        ensures row { (fx : SeenAgenda) → acts_of self.new p.new fx
+            ≡ rows.finish_in_flight_close (acts_of self.old p.old fx) }
         ensures room { self.new.room ≡ self.old.room }
         ensures promise_room { p.new.room ≡ p.old.room }
     {
@@ -148,7 +154,8 @@ impl Writable {
     )
         requires promise_room { HasPromiseRoom 1 p.old }
         requires effect_room { HasEffectRoom 1 fx.old }
-        ensures row { acts_of self.new p.new fx.new ≡ rows.finish_in_flight_close_with_error me e (acts_of self.old p.old fx.old) }
+        ensures row { acts_of self.new p.new fx.new
+            ≡ rows.finish_in_flight_close_with_error me e (acts_of self.old p.old fx.old) }
         ensures room { self.new.room ≡ self.old.room }
         ensures promise_room { p.new.room ≡ p.old.room }
         ensures effect_room { fx.new.capacity ≡ fx.old.capacity }
@@ -188,7 +195,8 @@ impl Writable {
         promise: PromiseId,
         outcome: Result<Plain, Plain>,
     )
-        ensures row { (fx : SeenAgenda) → acts_of self.new p.new fx ≡ rows.abort_settled promise outcome (acts_of self.old p.old fx) }
+        ensures row { (fx : SeenAgenda) → acts_of self.new p.new fx
+            ≡ rows.abort_settled promise outcome (acts_of self.old p.old fx) }
         ensures room { self.new.room ≡ self.old.room }
         ensures promise_room { p.new.room ≡ p.old.room }
     {

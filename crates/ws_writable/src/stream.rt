@@ -43,7 +43,7 @@ pub struct Writable {
     pub(crate) close_in_flight: Option<PromiseId>,
     pub(crate) pending_abort: Option<PendingAbort>,
     pub(crate) queue: SizedQueue<WriteRecord>,
-    pub(crate) high_water_mark: u64,
+    pub(crate) hwm: u64,
     pub(crate) size_by: SizeBy,
     pub(crate) started: bool,
 }
@@ -67,7 +67,7 @@ impl Model for Writable {
         close_in_flight = w.close_in_flight;
         pending_abort = w.pending_abort;
         queue = w.queue.items;
-        high_water_mark = w.high_water_mark;
+        hwm = w.hwm;
         size_by = w.size_by;
         started = w.started;
       };
@@ -77,8 +77,8 @@ impl Model for Writable {
 
 impl Writable {
     /// InitializeWritableStream, and SetUpWritableStreamDefaultController: a new stream, whose start algorithm is still to be performed. It has no places in memory; `reserve` makes them.
-    pub fn make(alloc: Global, owner: Owner, high_water_mark: u64, size_by: SizeBy) -> Writable
-        ensures { result.slots ≡ rows.set_up owner high_water_mark size_by }
+    pub fn make(alloc: Global, owner: Owner, hwm: u64, size_by: SizeBy) -> Writable
+        ensures { result.slots ≡ rows.set_up owner hwm size_by }
     {
         let Ok(queue) = SizedQueue::make(alloc) else {
             unreachable!()
@@ -88,14 +88,14 @@ impl Writable {
             state: WritableState::Writable,
             stored_error: Plain::Undefined,
             writer: None,
-            backpressure: high_water_mark == 0,
+            backpressure: hwm == 0,
             write_requests: VecDeque::new(alloc),
             write_in_flight: None,
             close_request: None,
             close_in_flight: None,
             pending_abort: None,
             queue,
-            high_water_mark,
+            hwm,
             size_by,
             started: false,
         }
@@ -175,7 +175,8 @@ impl Writable {
     }
 
     fn add_close_request(&mut self, promise: PromiseId)
-        ensures row { (p : Seen) (fx : SeenAgenda) → acts_of self.new p fx ≡ rows.add_close_request promise (acts_of self.old p fx) }
+        ensures row { (p : Seen) (fx : SeenAgenda) → acts_of self.new p fx
+            ≡ rows.add_close_request promise (acts_of self.old p fx) }
         ensures room { self.new.room ≡ self.old.room }
         ensures queue { self.new.slots.queue ≡ self.old.slots.queue }
     {
@@ -183,7 +184,8 @@ impl Writable {
     }
 
     fn fulfil_ready(&self, p: &mut Promises)
-        ensures row { (fx : SeenAgenda) → acts_of self.now p.new fx ≡ rows.fulfil_ready (acts_of self.now p.old fx) self.now.slots.writer }
+        ensures row { (fx : SeenAgenda) → acts_of self.now p.new fx
+            ≡ rows.fulfil_ready (acts_of self.now p.old fx) self.now.slots.writer }
         ensures promise_room { p.new.room ≡ p.old.room }
     {
         if let Some(writer) = self.writer {
@@ -219,7 +221,8 @@ impl Writable {
     }
 
     fn add_pending_abort(&mut self, promise: PromiseId, reason: Plain)
-        ensures row { (p : Seen) (fx : SeenAgenda) → acts_of self.new p fx ≡ rows.add_pending_abort reason promise (acts_of self.old p fx) }
+        ensures row { (p : Seen) (fx : SeenAgenda) → acts_of self.new p fx
+            ≡ rows.add_pending_abort reason promise (acts_of self.old p fx) }
         ensures room { self.new.room ≡ self.old.room }
     {
         let was_already_erroring = self.is_erroring();
@@ -236,7 +239,8 @@ impl Writable {
     )
         requires promise_room { HasPromiseRoom 1 p.old }
         requires effect_room { HasEffectRoom 1 fx.old }
-        ensures row { acts_of self.new p.new fx.new ≡ rows.begin_abort me reason promise (acts_of self.old p.old fx.old) }
+        ensures row { acts_of self.new p.new fx.new
+            ≡ rows.begin_abort me reason promise (acts_of self.old p.old fx.old) }
         ensures room { self.new.room ≡ self.old.room }
         ensures promise_room { p.new.room ≡ p.old.room }
         ensures effect_room { fx.new.capacity ≡ fx.old.capacity }
@@ -252,7 +256,8 @@ impl Writable {
     /// The host's sink hears of its first abort by a signal.
     fn signal(&mut self, me: StreamId, p: &mut Promises, reason: Plain)
         requires event_room { HasEventRoom 1 p.old }
-        ensures row { (fx : SeenAgenda) → acts_of self.new p.new fx ≡ rows.signalled me reason (acts_of self.old p.old fx) self.old.slots.owner }
+        ensures row { (fx : SeenAgenda) → acts_of self.new p.new fx
+            ≡ rows.signalled me reason (acts_of self.old p.old fx) self.old.slots.owner }
         ensures room { self.new.room ≡ self.old.room }
         ensures promise_room { p.new.room ≡ p.old.room }
         ensures made { length p.new.table.entries ≡ length p.old.table.entries }
@@ -275,7 +280,8 @@ impl Writable {
         requires promise_room { HasPromiseRoom 1 p.old }
         requires event_room { HasEventRoom 1 p.old }
         requires effect_room { HasEffectRoom 1 fx.old }
-        ensures row { acts_of self.new p.new fx.new ≡ rows.stream_abort me reason promise (acts_of self.old p.old fx.old) }
+        ensures row { acts_of self.new p.new fx.new
+            ≡ rows.stream_abort me reason promise (acts_of self.old p.old fx.old) }
         ensures room { self.new.room ≡ self.old.room }
         ensures promise_room { p.new.room ≡ p.old.room }
         ensures effect_room { fx.new.capacity ≡ fx.old.capacity }

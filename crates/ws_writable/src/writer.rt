@@ -13,7 +13,8 @@ use ws_value::{Plain, PromiseId, StreamId, Value};
 
 impl Writable {
     fn settle_ready(&self, p: &mut Promises, ready: PromiseId)
-        ensures table { p.new ≡ record p.old { table = rows.ready_promise ready self.now.slots p.old.table self.now.slots.state } }
+        ensures table { p.new
+            ≡ record p.old { table = rows.ready_promise ready self.now.slots p.old.table self.now.slots.state } }
     {
         match self.state {
             WritableState::Writable => {
@@ -28,7 +29,8 @@ impl Writable {
     }
 
     fn settle_closed(&self, p: &mut Promises, closed: PromiseId)
-        ensures table { p.new ≡ record p.old { table = rows.closed_promise closed self.now.slots p.old.table self.now.slots.state } }
+        ensures table { p.new
+            ≡ record p.old { table = rows.closed_promise closed self.now.slots p.old.table self.now.slots.state } }
     {
         match self.state {
             WritableState::Writable => {}
@@ -41,7 +43,8 @@ impl Writable {
     /// SetUpWritableStreamDefaultWriter: a writer, with its promises, takes the stream.
     #[tactic(auto, unfolding(ws_steps::specs::Writable::set_up_writer))]
     pub fn set_up_writer(&mut self, p: &mut Promises, writer: Writer)
-        ensures row { (fx : SeenAgenda) → acts_of self.new p.new fx ≡ rows.set_up_writer writer (acts_of self.old p.old fx) }
+        ensures row { (fx : SeenAgenda) → acts_of self.new p.new fx
+            ≡ rows.set_up_writer writer (acts_of self.old p.old fx) }
         ensures room { self.new.room ≡ self.old.room }
         ensures promise_room { p.new.room ≡ p.old.room }
     {
@@ -69,7 +72,8 @@ impl Writable {
     /// WritableStreamAddWriteRequest.
     pub fn add_write_request(&mut self, promise: PromiseId)
         requires request_room { HasRequestRoom 1 self.old }
-        ensures row { (p : Seen) (fx : SeenAgenda) → acts_of self.new p fx ≡ rows.add_write_request promise (acts_of self.old p fx) }
+        ensures row { (p : Seen) (fx : SeenAgenda) → acts_of self.new p fx
+            ≡ rows.add_write_request promise (acts_of self.old p fx) }
         ensures room { self.new.room ≡ self.old.room }
         ensures queue { self.new.slots.queue ≡ self.old.slots.queue }
     {
@@ -78,7 +82,8 @@ impl Writable {
 
     fn enqueue_chunk(&mut self, chunk: Value)
         requires queue_room { HasQueueRoom 1 self.old }
-        ensures row { (p : Seen) (fx : SeenAgenda) → acts_of self.new p fx ≡ rows.enqueue_chunk chunk (acts_of self.old p fx) }
+        ensures row { (p : Seen) (fx : SeenAgenda) → acts_of self.new p fx
+            ≡ rows.enqueue_chunk chunk (acts_of self.old p fx) }
         ensures room { self.new.room ≡ self.old.room }
     {
         let size = self.size_by.size_of(&chunk);
@@ -121,7 +126,8 @@ impl Writable {
         requires request_room { HasRequestRoom 1 self.old }
         requires promise_room { HasPromiseRoom 1 p.old }
         requires effect_room { HasEffectRoom 1 fx.old }
-        ensures row { acts_of self.new p.new fx.new ≡ rows.writer_write me chunk promise (acts_of self.old p.old fx.old) }
+        ensures row { acts_of self.new p.new fx.new
+            ≡ rows.writer_write me chunk promise (acts_of self.old p.old fx.old) }
         ensures room { self.new.room ≡ self.old.room }
         ensures promise_room { p.new.room ≡ p.old.room }
         ensures effect_room { fx.new.capacity ≡ fx.old.capacity }
@@ -146,7 +152,8 @@ impl Writable {
     )
         requires queue_room { HasQueueRoom 1 self.old }
         requires effect_room { HasEffectRoom 1 fx.old }
-        ensures row { acts_of self.new p.new fx.new ≡ rows.close_with_error_propagation me promise (acts_of self.old p.old fx.old) }
+        ensures row { acts_of self.new p.new fx.new
+            ≡ rows.close_with_error_propagation me promise (acts_of self.old p.old fx.old) }
         ensures room { self.new.room ≡ self.old.room }
         ensures promise_room { p.new.room ≡ p.old.room }
         ensures effect_room { fx.new.capacity ≡ fx.old.capacity }

@@ -13,21 +13,17 @@ impl Tables {
     ghost use Rattle.ws_realm.specs.View.{slots_of};
 
     #[tactic(auto, unfolding(ws_steps::specs::Calls::begin))]
-    pub(crate) fn call_make_readable(
-        &mut self,
-        high_water_mark: u64,
-        size: SizeBy,
-        start: StartBy,
-    ) -> Reply
+    pub(crate) fn call_make_readable(&mut self, hwm: u64, size: SizeBy, start: StartBy) -> Reply
         requires ready { CanBegin self.old }
         requires room { CanMake self.old }
-        ensures { Answers (calls.begin (call.MakeReadable high_water_mark size start) (slots_of self.old)) result self.old self.new }
+        ensures { Answers (calls.begin (call.MakeReadable hwm size start) (slots_of self.old))
+            result self.old self.new }
     {
         if self.streams.len() >= MOST_STREAMS {
             return Reply::TooMany;
         }
         let i = StreamId(self.streams.len() as u32);
-        let stream = Readable::make(self.alloc, Owner::Host, high_water_mark, size);
+        let stream = Readable::make(self.alloc, Owner::Host, hwm, size);
         self.streams.push_reserved(Stream::Readable(stream));
         self.grown.push_reserved(i);
         self.caused
@@ -36,21 +32,17 @@ impl Tables {
     }
 
     #[tactic(auto, unfolding(ws_steps::specs::Calls::begin))]
-    pub(crate) fn call_make_writable(
-        &mut self,
-        high_water_mark: u64,
-        size: SizeBy,
-        start: StartBy,
-    ) -> Reply
+    pub(crate) fn call_make_writable(&mut self, hwm: u64, size: SizeBy, start: StartBy) -> Reply
         requires ready { CanBegin self.old }
         requires room { CanMake self.old }
-        ensures { Answers (calls.begin (call.MakeWritable high_water_mark size start) (slots_of self.old)) result self.old self.new }
+        ensures { Answers (calls.begin (call.MakeWritable hwm size start) (slots_of self.old))
+            result self.old self.new }
     {
         if self.streams.len() >= MOST_STREAMS {
             return Reply::TooMany;
         }
         let i = StreamId(self.streams.len() as u32);
-        let stream = Writable::make(self.alloc, Owner::Host, high_water_mark, size);
+        let stream = Writable::make(self.alloc, Owner::Host, hwm, size);
         self.streams.push_reserved(Stream::Writable(stream));
         self.grown.push_reserved(i);
         self.caused

@@ -1,5 +1,5 @@
 use Rattle.ws_io.specs.Moment.{moment}
-use Rattle.ws_cli.proofs.Turns.{Ends-at_once}
+use Rattle.ws_cli.proofs.Rounds.{Ends-at_once}
 use Rattle.ws_cli.proofs.copy.run.Goals as goal
 
 pub returns-in-Err : goal.returns-in-Err

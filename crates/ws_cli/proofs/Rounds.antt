@@ -1,4 +1,4 @@
--- How the ends of a turn are made of what its parts did.
+-- How the ends of a round are made of what its parts did.
 use Rattle.std.proofs.Common.{◌≡◌, ℕ, ◌+◌, ◌<◌, ◌≤◌, Bool, true, false, List, [], ◌∷◌, length, refl, sym, ◌∙◌, ap, length-append, arith, rules}
 use Rattle.std.specs.Option.{option_map}
 use Rattle.std.specs.Prelude.{Option, option_and_then, Some, IsSome, Result, Ok, Err, nat_lt, ◌==◌}
@@ -15,14 +15,14 @@ use Rattle.ws_io.specs.declared.outside.Failed.{Failed}
 use Rattle.ws_io.specs.declared.status.Status.{Status}
 use Rattle.ws_io.specs.declared.status.Status.TheVariants.{Done, WriteFault, NoMemory}
 use Rattle.ws_io.proofs.Flow.{Gains-nothing, Fed-nothing, IsEmpty-kept}
-use Rattle.ws_cli.specs.declared.turn.Turn.{Turn}
-use Rattle.ws_cli.specs.declared.turn.Turn.TheVariants.{Moved, Ended}
+use Rattle.ws_cli.specs.declared.round.Round.{Round}
+use Rattle.ws_cli.specs.declared.round.Round.TheVariants.{Moved, Ended}
 use Rattle.ws_steps.specs.Slots.{Slots}
 use Rattle.ws_realm.specs.Seen.{outcome_named, where_named}
 use Rattle.ws_cli.specs.Moments.{IsResting, HasEnded, RestsAfter, RestsOn}
 use Rattle.ws_io.specs.Moment.{Moment, moment}
 use Rattle.ws_cli.specs.Run.{Ends}
-use Rattle.ws_cli.specs.Turn.{IsPiece, GivesPiece, outcome_by, outcome_of, IsRunOutcome, Shown, EndsOutput, HandsOn, Turns}
+use Rattle.ws_cli.specs.Round.{IsPiece, GivesPiece, outcome_by, outcome_of, IsRunOutcome, Shown, EndsOutput, HandsOn, Rounds}
 
 -- a piece that isn't empty and not too long is given
 pub outcome-given : (most : ℕ) (piece : List ℕ) → (length piece == 0) ≡ false → length piece ≤ most → outcome_of most (Ok piece) ≡ Given (Bytes piece)
@@ -156,15 +156,15 @@ ends-end most want f g before now old new p q piece WriteFault h none e =
     }
 ends-end most want f g before now old new p q piece _ h none e = absurd e
 
-turns-piece : (most want : ℕ) (f g : Option Feed) (before now : ℕ) (old new : Shown) (p q : List ℕ → Type 0) (piece : List ℕ) (turn : Turn) (empty long : Bool)
+rounds-piece : (most want : ℕ) (f g : Option Feed) (before now : ℕ) (old new : Shown) (p q : List ℕ → Type 0) (piece : List ℕ) (round : Round) (empty long : Bool)
     → IsPiece f g before now want piece → want ≤ most + 1 → want ≤ 4096
     → empty ≡ (length piece == 0) → long ≡ nat_lt most (length piece)
-    → HandsOn (outcome_by empty long piece) turn old new p q
-    → Turns turn most (moment before f old.faults old.finished) (moment now g new.faults new.finished) p q
-turns-piece most want f g before now old new p q piece (Moved count) true long h limit room e l hands = absurd hands
-turns-piece most want f g before now old new p q piece (Ended status) true long h limit room e l hands =
+    → HandsOn (outcome_by empty long piece) round old new p q
+    → Rounds round most (moment before f old.faults old.finished) (moment now g new.faults new.finished) p q
+rounds-piece most want f g before now old new p q piece (Moved count) true long h limit room e l hands = absurd hands
+rounds-piece most want f g before now old new p q piece (Ended status) true long h limit room e l hands =
     ends-end most want f g before now old new p q piece status h (is_zero (length piece) e) hands
-turns-piece most want f g before now old new p q piece turn false true h limit room e l hands =
+rounds-piece most want f g before now old new p q piece round false true h limit room e l hands =
     let short = h.short in
     rw hands.told
     (record {
@@ -179,7 +179,7 @@ turns-piece most want f g before now old new p q piece turn false true h limit r
       allowed = is_above most (length piece) l;
       finish_kept = hands.kept;
     })
-turns-piece most want f g before now old new p q piece (Moved count) false false h limit room e l hands =
+rounds-piece most want f g before now old new p q piece (Moved count) false false h limit room e l hands =
     let some : 0 < length piece = isnt_zero (length piece) e in
     let few : length piece ≤ most = isnt_above most (length piece) l in
     let counted = hands.counted in
@@ -195,7 +195,7 @@ turns-piece most want f g before now old new p q piece (Moved count) false false
       };
       some = omega arith;
     }
-turns-piece most want f g before now old new p q piece (Ended status) false false h limit room e l hands =
+rounds-piece most want f g before now old new p q piece (Ended status) false false h limit room e l hands =
     let short = h.short in
     let split : length piece ≡ length hands.gain + length hands.rest = ap length hands.first ∙ length-append hands.gain hands.rest in
     rw hands.told
@@ -212,14 +212,14 @@ turns-piece most want f g before now old new p q piece (Ended status) false fals
       finish_kept = hands.kept;
     })
 
--- what was done with the outcome of a read, and the piece that it gave, are a turn
-pub turns-from : (most want : ℕ) (f g : Option Feed) (before now : ℕ) (old new : Shown) (p q : List ℕ → Type 0) (piece : Result (List ℕ) Failed) (turn : Turn)
+-- what was done with the outcome of a read, and the piece that it gave, are a round
+pub rounds-from : (most want : ℕ) (f g : Option Feed) (before now : ℕ) (old new : Shown) (p q : List ℕ → Type 0) (piece : Result (List ℕ) Failed) (round : Round)
     → GivesPiece f g before now want piece → want ≤ most + 1 → want ≤ 4096
-    → HandsOn (outcome_of most piece) turn old new p q
-    → Turns turn most (moment before f old.faults old.finished) (moment now g new.faults new.finished) p q
-turns-from most want f g before now old new p q (Ok piece) turn h limit room hands =
-    turns-piece most want f g before now old new p q piece turn (length piece == 0) (nat_lt most (length piece)) h limit room refl refl hands
-turns-from most want f g before now old new p q (Err failed) turn h limit room hands =
+    → HandsOn (outcome_of most piece) round old new p q
+    → Rounds round most (moment before f old.faults old.finished) (moment now g new.faults new.finished) p q
+rounds-from most want f g before now old new p q (Ok piece) round h limit room hands =
+    rounds-piece most want f g before now old new p q piece round (length piece == 0) (nat_lt most (length piece)) h limit room refl refl hands
+rounds-from most want f g before now old new p q (Err failed) round h limit room hands =
     rw hands.told
     (record {
       taken = [];
@@ -234,9 +234,9 @@ turns-from most want f g before now old new p q (Err failed) turn h limit room h
       finish_kept = hands.kept;
     })
 
--- the realm is at rest again after a turn of a run that goes on
-pub rests-from : (o : Outcome) (turn : Turn) (r r' : Slots) (old new : Shown) (p q : List ℕ → Type 0)
-    → HandsOn o turn old new p q → RestsAfter o r → (is_pending o ≡ false → IsResting r → IsResting r') → RestsOn turn r'
+-- the realm is at rest again after a round of a run that goes on
+pub rests-from : (o : Outcome) (round : Round) (r r' : Slots) (old new : Shown) (p q : List ℕ → Type 0)
+    → HandsOn o round old new p q → RestsAfter o r → (is_pending o ≡ false → IsResting r → IsResting r') → RestsOn round r'
 rests-from o (Ended status) r r' old new p q hands rests forget = tt
 rests-from (Given v) (Moved count) r r' old new p q hands rests forget = forget refl rests
 rests-from (Finished v) (Moved count) r r' old new p q hands rests forget = absurd hands

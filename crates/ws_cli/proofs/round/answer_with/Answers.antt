@@ -5,11 +5,11 @@ use Rattle.ws_value.specs.declared.value.Value.TheVariants.{Bytes}
 use Rattle.ws_value.specs.declared.value.Outcome.{Outcome}
 use Rattle.ws_steps.specs.Slots.{Slots}
 use Rattle.ws_cli.specs.Moments.{RestsAfter, IsResting}
-use Rattle.ws_cli.specs.Turn.{outcome_of}
+use Rattle.ws_cli.specs.Round.{outcome_of}
 use Rattle.ws_cli.proofs.Moves.{enqueue-rests, finish-finishes, fail-rejects}
 use Rattle.ws_cli.proofs.Oks.{on_ok}
-use Rattle.ws_cli.proofs.Turns.{outcome-given, outcome-finished, outcome-too_much, ended-so}
-use Rattle.ws_cli.proofs.turn.answer_with.Goals as goal
+use Rattle.ws_cli.proofs.Rounds.{outcome-given, outcome-finished, outcome-too_much, ended-so}
+use Rattle.ws_cli.proofs.round.answer_with.Goals as goal
 
 pub returns-then-is_empty-clause-outcome : goal.returns-then-is_empty-clause-outcome
 returns-then-is_empty-clause-outcome g c =

@@ -1,4 +1,4 @@
--- One turn of a run: a read of the stream, the host's answer to its pull, and what is done with the read's outcome.
+-- One round of a run: a read of the stream, the host's answer to its pull, and what is done with the read's outcome.
 use Rattle.std.specs.Prelude.{◌≡◌, ◌==◌, ◌<◌, ◌≤◌, nat_lt, ℕ, Bool, true, false, List, [], ◌++◌, length, Option, Result, Ok, Err}
 use Rattle.ws_value.specs.declared.fault.Fault.{Fault}
 use Rattle.ws_value.specs.declared.fault.Fault.TheVariants.{TypeError, RangeError, DataClone, User, Read, Write, Stage, TooMuch as TooMuchFault, Abort, NoMemory}
@@ -14,8 +14,8 @@ use Rattle.ws_io.specs.Gain.{Gains, Becomes, KeepsTold}
 use Rattle.ws_io.specs.declared.outside.Failed.{Failed}
 use Rattle.ws_io.specs.declared.status.Status.{Status}
 use Rattle.ws_io.specs.declared.status.Status.TheVariants.{Done, ReadFault, WriteFault, TooMuch}
-use Rattle.ws_cli.specs.declared.turn.Turn.{Turn}
-use Rattle.ws_cli.specs.declared.turn.Turn.TheVariants.{Moved, Ended}
+use Rattle.ws_cli.specs.declared.round.Round.{Round}
+use Rattle.ws_cli.specs.declared.round.Round.TheVariants.{Moved, Ended}
 use Rattle.ws_io.specs.Moment.{Moment}
 use Rattle.ws_cli.specs.Run.{Copied, Ends}
 
@@ -99,14 +99,14 @@ pub record WroteLess (piece : List ℕ) (status : Status) (old new : Shown) (got
   pub kept : KeepsTold old.finished new.finished
   pub rose : Rose old.faults new.faults
 
-abbrev pub HandsBytes : List ℕ → Turn → Shown → Shown → (List ℕ → Type 0) → (List ℕ → Type 0) → Type 0
+abbrev pub HandsBytes : List ℕ → Round → Shown → Shown → (List ℕ → Type 0) → (List ℕ → Type 0) → Type 0
 HandsBytes piece (Moved count) old new got got' = WroteAll piece count old new got got'
 HandsBytes piece (Ended status) old new got got' = WroteLess piece status old new got got'
 
 -- a given chunk is written
-abbrev pub HandsValue : Value → Turn → Shown → Shown → (List ℕ → Type 0) → (List ℕ → Type 0) → Type 0
-HandsValue (Bytes piece) turn old new got got' = HandsBytes piece turn old new got got'
-HandsValue (PlainValue v) turn old new got got' = ⊥
+abbrev pub HandsValue : Value → Round → Shown → Shown → (List ℕ → Type 0) → (List ℕ → Type 0) → Type 0
+HandsValue (Bytes piece) round old new got got' = HandsBytes piece round old new got got'
+HandsValue (PlainValue v) round old new got got' = ⊥
 
 -- the output is finished
 pub record FinishedWell (old new : Shown) (got got' : List ℕ → Type 0) : Type 0 where
@@ -125,7 +125,7 @@ EndsOutput WriteFault old new got got' = FinishedBadly old new got got'
 EndsOutput _ old new got got' = ⊥
 
 -- after the end of the stream the output is finished
-abbrev pub HandsEnd : Turn → Shown → Shown → (List ℕ → Type 0) → (List ℕ → Type 0) → Type 0
+abbrev pub HandsEnd : Round → Shown → Shown → (List ℕ → Type 0) → (List ℕ → Type 0) → Type 0
 HandsEnd (Moved count) old new got got' = ⊥
 HandsEnd (Ended status) old new got got' = EndsOutput status old new got got'
 
@@ -139,25 +139,25 @@ status_of (FaultReason fault) = status_of_fault fault
 status_of _ = ReadFault
 
 -- after an error nothing is written
-pub record HandsReason (reason : Plain) (turn : Turn) (old new : Shown) (got got' : List ℕ → Type 0) : Type 0 where
-  pub told : turn ≡ Ended (status_of reason)
+pub record HandsReason (reason : Plain) (round : Round) (old new : Shown) (got got' : List ℕ → Type 0) : Type 0 where
+  pub told : round ≡ Ended (status_of reason)
   pub gained : Gains got got' []
   pub kept : KeepsTold old.finished new.finished
   pub calm : new.faults ≡ old.faults
 
 -- what is done with the outcome of a read
-abbrev pub HandsOn : Outcome → Turn → Shown → Shown → (List ℕ → Type 0) → (List ℕ → Type 0) → Type 0
-HandsOn (Given value) turn old new got got' = HandsValue value turn old new got got'
-HandsOn (Finished value) turn old new got got' = HandsEnd turn old new got got'
-HandsOn (Rejected reason) turn old new got got' = HandsReason reason turn old new got got'
-HandsOn Pending turn old new got got' = ⊥
-HandsOn (Fulfilled value) turn old new got got' = ⊥
+abbrev pub HandsOn : Outcome → Round → Shown → Shown → (List ℕ → Type 0) → (List ℕ → Type 0) → Type 0
+HandsOn (Given value) round old new got got' = HandsValue value round old new got got'
+HandsOn (Finished value) round old new got got' = HandsEnd round old new got got'
+HandsOn (Rejected reason) round old new got got' = HandsReason reason round old new got got'
+HandsOn Pending round old new got got' = ⊥
+HandsOn (Fulfilled value) round old new got got' = ⊥
 
--- what a turn did of a run that may take `most` bytes more
+-- what a round did of a run that may take `most` bytes more
 pub record GoesOn (most count : ℕ) (old new : Moment) (got got' : List ℕ → Type 0) : Type 0 where
   pub copied : Copied most count old new got got'
   pub some : 0 < count
 
-abbrev pub Turns : Turn → ℕ → Moment → Moment → (List ℕ → Type 0) → (List ℕ → Type 0) → Type 0
-Turns (Moved count) most old new got got' = GoesOn most count old new got got'
-Turns (Ended status) most old new got got' = Ends status most 4096 old new got got'
+abbrev pub Rounds : Round → ℕ → Moment → Moment → (List ℕ → Type 0) → (List ℕ → Type 0) → Type 0
+Rounds (Moved count) most old new got got' = GoesOn most count old new got got'
+Rounds (Ended status) most old new got got' = Ends status most 4096 old new got got'

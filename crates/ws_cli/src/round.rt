@@ -1,8 +1,8 @@
-//! One turn of a run: the stream is read, its host answers the pull with one read of the input, and what the read gets goes to the output.
+//! One round of a run: the stream is read, its host answers the pull with one read of the input, and what the read gets goes to the output.
 ghost use Rattle.std.specs.Prelude.{◌≡◌, [], ◌<◌, ◌≤◌, ◌+◌, ◌^◌, min, IfOk, OnOk, OnErr, MatchResult};
 ghost use Rattle.ws_io.specs.Moment.{moment};
 ghost use Rattle.ws_cli.specs.Run.{Ends};
-ghost use Rattle.ws_cli.specs.Turn.{GivesPiece, outcome_of, IsRunOutcome, IsRunReason, status_of, HandsBytes, HandsEnd, HandsOn, Turns};
+ghost use Rattle.ws_cli.specs.Round.{GivesPiece, outcome_of, IsRunOutcome, IsRunReason, status_of, HandsBytes, HandsEnd, HandsOn, Rounds};
 ghost use Rattle.ws_cli.specs.Moments.{IsResting, Awaits, HasEnded, RestsAfter, RestsOn};
 
 use crate::realm::{Asked, SOURCE, answer, outcome, read};
@@ -16,9 +16,9 @@ use ws_value::{Chunk, Fault, NoMemory, Outcome, Plain, Room, Value};
 /// The most bytes of one read of the input.
 const MOST_OF_A_READ: u64 = 4096;
 
-/// How a turn ended.
+/// How a round ended.
 #[derive(Clone, Copy, Debug, PartialEq, Eq)]
-pub enum Turn {
+pub enum Round {
     /// So many bytes were read and written, and the run goes on.
     Moved(u64),
     /// The run has ended.
@@ -32,7 +32,8 @@ fn read_piece<S: Source>(
     want: usize,
 ) -> Result<Result<Chunk, Failed>, NoMemory>
     requires { 0 < want }
-    ensures piece { IfOk result (λ piece. GivesPiece (S.feed input.old) (S.feed input.new) (S.faults input.old) (S.faults input.new) want piece) }
+    ensures piece { IfOk result (λ piece.
+        GivesPiece (S.feed input.old) (S.feed input.new) (S.faults input.old) (S.faults input.new) want piece) }
     ensures none { OnErr result (input.new ≡ input.old) }
 {
     let mut room = Room::of(alloc, want)?;
@@ -77,27 +78,27 @@ fn answer_with<R: Wait>(
     }
 }
 
-fn write_chunk<K: Sink>(chunk: &Chunk, output: &mut K) -> Turn
+fn write_chunk<K: Sink>(chunk: &Chunk, output: &mut K) -> Round
     ensures { HandsBytes chunk.now result
         (record { faults = K.faults output.old; finished = K.finished output.old })
         (record { faults = K.faults output.new; finished = K.finished output.new })
         (K.got output.old) (K.got output.new) }
 {
     match write_whole(output, chunk.as_slice()) {
-        Ok(()) => Turn::Moved(chunk.len() as u64),
-        Err(Failed) => Turn::Ended(Status::WriteFault),
+        Ok(()) => Round::Moved(chunk.len() as u64),
+        Err(Failed) => Round::Ended(Status::WriteFault),
     }
 }
 
-fn finish<K: Sink>(output: &mut K) -> Turn
+fn finish<K: Sink>(output: &mut K) -> Round
     ensures { HandsEnd result
         (record { faults = K.faults output.old; finished = K.finished output.old })
         (record { faults = K.faults output.new; finished = K.finished output.new })
         (K.got output.old) (K.got output.new) }
 {
     match output.finish() {
-        Ok(()) => Turn::Ended(Status::Done),
-        Err(Failed) => Turn::Ended(Status::WriteFault),
+        Ok(()) => Round::Ended(Status::Done),
+        Err(Failed) => Round::Ended(Status::WriteFault),
     }
 }
 
@@ -114,7 +115,7 @@ fn status_of(reason: Plain) -> Status
 }
 
 /// Does what follows from the outcome of a read: writes the chunk, finishes the output, or ends.
-fn hand_on<K: Sink>(outcome: &Outcome, output: &mut K) -> Turn
+fn hand_on<K: Sink>(outcome: &Outcome, output: &mut K) -> Round
     requires { IsRunOutcome outcome.now }
     ensures { HandsOn outcome.now result
         (record { faults = K.faults output.old; finished = K.finished output.old })
@@ -124,41 +125,41 @@ fn hand_on<K: Sink>(outcome: &Outcome, output: &mut K) -> Turn
     match outcome {
         Outcome::Given(Value::Bytes(chunk)) => write_chunk(chunk, output),
         Outcome::Finished(_) => finish(output),
-        Outcome::Rejected(reason) => Turn::Ended(status_of(*reason)),
+        Outcome::Rejected(reason) => Round::Ended(status_of(*reason)),
         Outcome::Given(Value::Plain(_)) => unreachable!(),
         Outcome::Pending => unreachable!(),
         Outcome::Fulfilled(_) => unreachable!(),
     }
 }
 
-/// One turn of a run that may take `most` bytes more. Want of memory ends the run.
-pub fn take_turn<R: Wait, S: Source, K: Sink>(
+/// One round of a run that may take `most` bytes more. Want of memory ends the run.
+pub fn take_round<R: Wait, S: Source, K: Sink>(
     rt: &R,
     realm: &mut Realm,
     alloc: Global,
     input: &mut S,
     output: &mut K,
     most: u64,
-) -> Turn
+) -> Round
     requires rests { IsResting realm.old.slots }
     requires limit { most < 2 ^ 63 }
-    ensures turn { Turns result most
+    ensures round { Rounds result most
         (moment (S.faults input.old) (S.feed input.old) (K.faults output.old) (K.finished output.old))
         (moment (S.faults input.new) (S.feed input.new) (K.faults output.new) (K.finished output.new))
         (K.got output.old) (K.got output.new) }
     ensures rests { RestsOn result realm.new.slots }
 {
     let Ok(asked) = read(rt, realm) else {
-        return Turn::Ended(Status::NoMemory);
+        return Round::Ended(Status::NoMemory);
     };
     let want = (most + 1).min(MOST_OF_A_READ) as usize;
     let Ok(piece) = read_piece(alloc, input, want) else {
-        return Turn::Ended(Status::NoMemory);
+        return Round::Ended(Status::NoMemory);
     };
     if answer_with(rt, realm, asked, piece, most).is_err() {
-        return Turn::Ended(Status::NoMemory);
+        return Round::Ended(Status::NoMemory);
     }
-    let turn = hand_on(outcome(realm, asked.promise), output);
+    let round = hand_on(outcome(realm, asked.promise), output);
     realm.forget(asked.promise);
-    turn
+    round
 }
