@@ -1,7 +1,7 @@
 //! Asking a realm. One that is spent is asked again, for ever: it gives no other answer any more, and no status stands for it. So want of memory is answered only by a realm that isn't spent.
 ghost use Rattle.std.specs.Prelude.{◌≡◌, ◌≢◌, true, IsOk, IfOk, OnOk, OnErr};
 ghost use Rattle.ws_steps.specs.Run as steps;
-ghost use Rattle.ws_realm.specs.Seen.{WorksUntil, oldest};
+ghost use Rattle.ws_realm.specs.Seen.{StopsWithin, oldest};
 
 use std::sync::{Wait, WaitMethods};
 use ws_realm::{NoRoom, Realm, Why};
@@ -39,7 +39,7 @@ pub fn call<R: Wait>(rt: &R, realm: &mut Realm, call: Call) -> Result<Reply, NoM
 pub fn work<R: Wait>(rt: &R, realm: &mut Realm, most: u32) -> Result<(), NoMemory>
     ensures slots { OnOk result (realm.new.slots ≡ steps.work most realm.old.slots) }
     ensures spent { OnErr result (realm.new.slots.age ≢ oldest) }
-    ensures partly { OnErr result (WorksUntil most realm.old.slots realm.new.slots) }
+    ensures partly { OnErr result (StopsWithin most realm.old realm.new) }
 {
     match realm.work(most) {
         Ok(()) => Ok(()),

@@ -1,9 +1,3 @@
-pub mod Beginning
-pub mod Fits
 pub mod LettingGo
-pub mod Loops
-pub mod Places
-pub mod Preparing
-pub mod Streams
-pub mod Turns
+pub mod Resting
 pub mod Working

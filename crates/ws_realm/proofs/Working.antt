@@ -1,52 +1,56 @@
 -- Jobs one after another.
-use Rattle.std.proofs.Common.{◌≡◌, ◌∙◌, ◌≤◌, ◌+◌, ℕ, Bool, true, false, zero, suc, List, [], ◌∷◌, None, refl, arith}
-use Rattle.std.specs.Prelude.{not, if◌then◌else◌}
+use Rattle.std.proofs.Common.{◌≡◌, ◌≢◌, ◌∙◌, ◌≤◌, ◌+◌, ℕ, Bool, true, false, zero, suc, List, [], ◌∷◌, length, refl, sym, subst, arith}
+use Rattle.std.specs.Prelude.{if◌then◌else◌}
 use Rattle.ws_steps.specs.declared.calls.Call.{Call}
 use Rattle.ws_steps.specs.declared.promises.Job.{Job}
-use Rattle.ws_steps.specs.Promises.{Table, next_job, first_job, after_next_job}
 use Rattle.ws_steps.specs.Queues.{is_empty}
 use Rattle.ws_steps.specs.Run.{work, task, is_idle, after_call, after_job}
-use Rattle.ws_steps.specs.Jobs.{begin_job}
-use Rattle.ws_steps.specs.Slots.{Slots, nothing}
+use Rattle.ws_steps.specs.Slots.{Slots}
 use Rattle.ws_laws.proofs.Ages.{called-age, worked-age}
 use Rattle.ws_laws.proofs.Tables.{either}
 
-first-none : (js : List Job) → first_job js ≡ None → js ≡ []
-first-none [] none = refl
-first-none (job ∷ jobs) none = cc
+none-queued : (js : List Job) → length js ≡ 0 → is_empty js ≡ true
+none-queued [] none = refl
+none-queued (job ∷ jobs) none = absurd (omega arith)
 
--- where no job is queued, none is taken
-pub idle : (t : Table) → next_job t ≡ None → (is_empty t.jobs ≡ true) × (after_next_job t ≡ t)
-unfolding after_next_job
-idle t none = let empty : t.jobs ≡ [] = first-none t.jobs none in rw empty (refl, refl)
+some-queued : (js : List Job) → length js ≢ 0 → is_empty js ≡ false
+some-queued [] some = absurd (some refl)
+some-queued (job ∷ jobs) some = refl
+
+pub is-idle : (s : Slots) → length s.promises.jobs ≡ 0 → is_idle s ≡ true
+is-idle s none = none-queued s.promises.jobs none
+
+pub is-busy : (s : Slots) → length s.promises.jobs ≢ 0 → is_idle s ≡ false
+is-busy s some = some-queued s.promises.jobs some
 
 -- where no job is queued, none is performed
-pub work-idle : (n : ℕ) (s z : Slots) (worked : Bool) → worked ≡ not (is_idle s) → worked ≡ false → z ≡ (if is_idle s then s else after_job s) → work n s ≡ z
-work-idle zero s z worked asked none left = grind arith
-work-idle (suc n) s z worked asked none left = grind arith
+pub work-idle : (n : ℕ) (s : Slots) → is_idle s ≡ true → work n s ≡ s
+work-idle zero s idle = refl
+work-idle (suc n) s idle = rw idle refl
 
 -- where one is queued, it is performed, and then the others
-pub work-job : (m n : ℕ) (s z : Slots) (worked : Bool) → m ≡ suc n → worked ≡ not (is_idle s) → worked ≡ true → z ≡ (if is_idle s then s else after_job s) → work m s ≡ work n z
-work-job m n s z worked more asked some left = rw more (grind arith)
+pub work-job : (m n : ℕ) (s z : Slots) → m ≡ suc n → is_idle s ≡ false → z ≡ (if is_idle s then s else after_job s) → work m s ≡ work n z
+work-job m n s z one busy left = rw (one, left, busy) refl
 
-more-by : (idle : Bool) (n : ℕ) (s z x : Slots) (worked : Bool) → is_idle s ≡ idle → z ≡ work (suc n) s → worked ≡ not (is_idle z) → worked ≡ true
+more-by : (idle : Bool) (n : ℕ) (s z x : Slots) → is_idle s ≡ idle → z ≡ work (suc n) s → is_idle z ≡ false
     → (z ≡ work n (after_job s) → x ≡ work (suc n) (after_job s)) → x ≡ work (suc (suc n)) s
-more-by true n s z x worked is done asked some more = grind arith
-more-by false n s z x worked is done asked some more = more (done ∙ rw is refl) ∙ rw is refl
+more-by true n s z x is done busy more =
+    let same : z ≡ s = done ∙ work-idle (suc n) s is in
+    let no : true ≡ false = sym is ∙ (subst (λ y. is_idle y ≡ false) same busy) in
+    cc
+more-by false n s z x is done busy more = more (done ∙ rw is refl) ∙ rw is refl
 
 -- after so many jobs, one more is performed
-pub work-more : (n : ℕ) (s z x : Slots) (worked : Bool) → z ≡ work n s → worked ≡ not (is_idle z) → worked ≡ true → x ≡ (if is_idle z then z else after_job z) → x ≡ work (suc n) s
-work-more zero s z x worked done asked some left = rw (← done) (grind arith)
-work-more (suc n) s z x worked done asked some left =
-    more-by (is_idle s) n s z x worked refl done asked some (λ later. work-more n (after_job s) z x worked later asked some left)
+pub work-more : (n : ℕ) (s z x : Slots) → z ≡ work n s → is_idle z ≡ false → x ≡ (if is_idle z then z else after_job z) → x ≡ work (suc n) s
+work-more zero s z x done busy left = left ∙ rw (done) refl
+work-more (suc n) s z x done busy left = more-by (is_idle s) n s z x refl done busy (λ later. work-more n (after_job s) z x later busy left)
 
--- how old a realm is at most
+-- how old a realm is
 
-pub job_or_none-age : (s z : Slots) → z ≡ (if is_idle s then s else after_job s) → z.age ≤ s.age + 1
-job_or_none-age s z left =
-    rw left (either (λ (x : Slots). x.age ≤ s.age + 1) (is_idle s) s (after_job s) (λ e. omega arith) (λ e. let older = worked-age s in omega arith))
+pub job-age : (s z : Slots) → is_idle s ≡ false → z ≡ (if is_idle s then s else after_job s) → z.age ≡ s.age + 1
+job-age s z busy left = rw (left, busy) (worked-age s)
 
-pub work-age : (n : ℕ) (s : Slots) → (work n s).age ≤ s.age + n
+work-age : (n : ℕ) (s : Slots) → (work n s).age ≤ s.age + n
 work-age zero s = omega arith
 work-age (suc n) s =
     either (λ (x : Slots). x.age ≤ s.age + suc n) (is_idle s) s (work n (after_job s)) (λ e. omega arith)
@@ -54,23 +58,3 @@ work-age (suc n) s =
 
 pub task-age : (n : ℕ) (call : Call) (s : Slots) → (task n call s).age ≤ s.age + 1 + n
 task-age n call s = let jobs = work-age n (after_call call s) in let older = called-age call s in omega arith
-
--- a job begins, or none is queued
-
-first-is-none : (js : List Job) → is_empty js ≡ true → first_job js ≡ None
-first-is-none [] empty = refl
-first-is-none (job ∷ jobs) empty = cc
-
-idle-none : (t : Table) → is_empty t.jobs ≡ true → next_job t ≡ None
-idle-none t empty = first-is-none t.jobs empty
-
-pub begins-none : (s : Slots) → next_job s.promises ≡ None → begin_job s ≡ nothing s
-unfolding begin_job
-begins-none s none = rw none refl
-
-pub idle-begins : (s : Slots) → is_idle s ≡ true → begin_job s ≡ nothing s
-idle-begins s empty = begins-none s (idle-none s.promises empty)
-
-pub not-false : (b : Bool) → false ≡ not b → b ≡ true
-not-false true e = refl
-not-false false e = cc

@@ -5,14 +5,14 @@ ghost use Rattle.ws_steps.specs.declared.calls.Reply.TheVariants as reply;
 ghost use Rattle.ws_steps.specs.declared.calls.Thrown.{Thrown};
 ghost use Rattle.ws_steps.specs.Run as run;
 ghost use Rattle.ws_steps.specs.Slots.{empty};
-ghost use Rattle.ws_realm.specs.Seen.{WorksUntil, outcome_named, oldest};
+ghost use Rattle.ws_realm.specs.Seen.{StopsWithin, outcome_named, oldest};
 ghost use Rattle.ws_realm.specs.declared.realm.Why.TheVariants as why;
 
-use crate::tables::Tables;
 use std::alloc::Global;
 use std::marker::Model;
-use ws_promise::{Agenda, Promises};
+use ws_calls::{perform_call, perform_job};
 use ws_steps::{Call, Event, Reply};
+use ws_tables::Tables;
 use ws_value::{NoMemory, Outcome, PromiseId};
 
 /// The most calls and jobs of a realm.
@@ -43,9 +43,9 @@ pub struct Realm {
 
 impl Model for Realm {
     ghost use Rattle.std.specs.Prelude.{◌≡◌, ◌≤◌, ◌<◌, ◌^◌, true};
-    ghost use Rattle.ws_realm.specs.Room.{IsPrepared, IsResting};
+    ghost use Rattle.ws_tables.specs.Room.{IsPrepared, IsResting};
     ghost use Rattle.ws_realm.specs.Seen.{SeenRealm};
-    ghost use Rattle.ws_realm.specs.View.{slots_of};
+    ghost use Rattle.ws_tables.specs.View.{slots_of};
 
     ghost Value = { SeenRealm };
 
@@ -62,18 +62,7 @@ impl Realm {
         ensures { IfOk result (λ realm. realm.slots ≡ empty) }
     {
         Ok(Realm {
-            tables: Tables {
-                alloc,
-                streams: Vec::new(alloc),
-                locks: Vec::new(alloc),
-                promises: Promises::make(alloc)?,
-                hosts: Vec::new(alloc),
-                caused: Agenda::make(alloc)?,
-                others: Vec::new(alloc),
-                waiting: 0,
-                grown: Vec::new(alloc),
-                age: 0,
-            },
+            tables: Tables::make(alloc)?,
             prepared: false,
         })
     }
@@ -118,7 +107,7 @@ impl Realm {
             });
         }
         self.prepared = false;
-        Ok(self.tables.call(call))
+        Ok(perform_call(&mut self.tables, call))
     }
 
     /// Performs the first job with all that it causes. False says that no job is queued, and then no memory is taken. A refusal changes nothing.
@@ -139,22 +128,21 @@ impl Realm {
         }
         self.prepare()?;
         self.prepared = false;
-        Ok(self.tables.job())
+        Ok(perform_job(&mut self.tables))
     }
 
-    /// Performs jobs until none is queued, or `most` were. Where one is refused, those before it were performed.
+    /// Performs jobs until none is queued, or `most` were. One that is queued may be refused: then those before it were performed whole, and it changes nothing, so what the host hasn't heard of waits still.
     pub fn work(&mut self, most: u32) -> Result<(), Why>
         ensures slots { OnOk result (self.new.slots ≡ run.work most self.old.slots) }
-        ensures partly { OnErr result (WorksUntil most self.old.slots self.new.slots) }
+        ensures partly { OnErr result (StopsWithin most self.old self.new) }
         ensures spent { OnErr result ((result ≡ Err why.Spent) ↔ (self.new.slots.age ≡ oldest)) }
         ensures early { self.old.slots.age + most ≤ oldest → result ≢ Err why.Spent }
     {
         for _done in 0..most {
-            match self.job() {
-                Ok(true) => {}
-                Ok(false) => return Ok(()),
-                Err(why) => return Err(why),
+            if self.queued() == 0 {
+                return Ok(());
             }
+            self.job()?;
         }
         Ok(())
     }

@@ -1,9 +1,9 @@
 use Rattle.std.proofs.Common.{◌≡◌, true, false, is_some, sym, ap, ◌∙◌}
 use Rattle.ws_promise.specs.Seen.{Seen}
 use Rattle.ws_steps.specs.Promises.{Table, rank_at, let_go}
-use Rattle.ws_realm.specs.View.{slots_of}
+use Rattle.ws_tables.specs.View.{slots_of}
 use Rattle.ws_realm.proofs.LettingGo.{named-goes, unnamed-stays}
-use Rattle.ws_realm.proofs.Places.{released, rests-still, ready-still}
+use Rattle.ws_realm.proofs.Resting.{released, rests-still, ready-still}
 use Rattle.ws_realm.proofs.realm.Realm.forget.Goals as goal
 
 pub invariant_of-self : goal.invariant_of-self

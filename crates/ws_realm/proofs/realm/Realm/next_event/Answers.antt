@@ -1,4 +1,4 @@
-use Rattle.ws_realm.proofs.Places.{heard, rests-still, ready-still}
+use Rattle.ws_realm.proofs.Resting.{heard, rests-still, ready-still}
 use Rattle.ws_realm.proofs.realm.Realm.next_event.Goals as goal
 
 pub invariant_of-self : goal.invariant_of-self

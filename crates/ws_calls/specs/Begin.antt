@@ -1,0 +1,95 @@
+-- What calls and jobs begin with, in the places that there are.
+use Rattle.std.specs.Prelude.{◌≡◌, ◌+◌, ◌≤◌, ◌<◌, [], ◌∷◌, ◌++◌, length, Bool, vec_len, vec_capacity}
+use Rattle.ws_promise.specs.Seen.{HasPromiseRoom}
+use Rattle.ws_steps.specs.declared.calls.Reply.{Reply}
+use Rattle.ws_steps.specs.declared.calls.Reply.TheVariants.{Done as ReplyDone, Made, Lock as ReplyLock, Promise, Size, State as ReplyState, Throws, TooMany}
+use Rattle.ws_steps.specs.Places.{prices_of, queued_alone, requests_alone}
+use Rattle.ws_steps.specs.Slots.{Done}
+use Rattle.ws_steps.specs.Calls.{Begun, with_renewed, reject_renewed}
+use Rattle.ws_tables.specs.View.{slots_of}
+use Rattle.ws_tables.specs.Room.{places_of, queued_in, requested_in, HasRoomForAll, IsKept}
+use Rattle.ws_tables.specs.declared.tables.Stream.{Stream}
+use Rattle.ws_tables.specs.declared.tables.Tables.{Tables}
+
+-- a call or a job begins, in the places that there are. Its effects are caused
+pub record Begins (d : Done) (t t' : Tables) : Type 0 where
+  pub slots : slots_of t' ≡ d.slots
+  pub caused : t'.caused.effects ≡ d.caused
+  pub others : t'.others ≡ t.others
+  pub places : places_of t' ≡ places_of t
+  pub streams : t'.streams ≡ t.streams
+  pub grown : t'.grown ≡ t.grown
+  pub waiting : t'.waiting ≡ t.waiting
+
+-- a call can begin: nothing is caused yet, and there are places for the promises, the lock and the effects that it makes
+pub record CanBegin (t : Tables) : Type 0 where
+  pub quiet : t.caused.effects ≡ []
+  pub promises : HasPromiseRoom 2 t.promises
+  pub effects : 3 ≤ t.caused.capacity
+  pub locks : vec_len t.locks < vec_capacity t.locks
+
+-- there are places for one stream more
+pub record CanMake (t : Tables) : Type 0 where
+  pub streams : vec_len t.streams < vec_capacity t.streams
+  pub grown : vec_len t.grown < vec_capacity t.grown
+
+-- one stream is made, which has no entries, and what is caused makes none; places are to be made there
+pub record MakesOne (t t' : Tables) : Type 0 where
+  pub stream : Stream
+  pub empty : (queued_in stream ≡ 0) × (requested_in stream ≡ 0)
+  pub streams : t'.streams.items ≡ t.streams.items ++ stream ∷ []
+  pub grown : t'.grown.items ≡ t.grown.items ++ record { 0 = length t.streams.items } ∷ []
+  pub counted : vec_len t'.grown ≡ vec_len t.grown + 1
+  pub queued : prices_of queued_alone t'.caused.effects ≡ 0
+  pub requested : prices_of requests_alone t'.caused.effects ≡ 0
+
+pub record MakesNone (t t' : Tables) : Type 0 where
+  pub streams : t'.streams ≡ t.streams
+  pub grown : t'.grown ≡ t.grown
+
+-- a call that answers so makes a stream, or none
+abbrev pub StreamsAfter : Reply → Tables → Tables → Type 0
+StreamsAfter (Made i) t t' = MakesOne t t'
+StreamsAfter ReplyDone t t' = MakesNone t t'
+StreamsAfter (ReplyLock l) t t' = MakesNone t t'
+StreamsAfter (Promise p) t t' = MakesNone t t'
+StreamsAfter (Size n) t t' = MakesNone t t'
+StreamsAfter (ReplyState looks) t t' = MakesNone t t'
+StreamsAfter (Throws reason) t t' = MakesNone t t'
+StreamsAfter TooMany t t' = MakesNone t t'
+
+-- a call begins so, and answers this, in the places that there are
+pub record Answers (b : Begun) (answered : Reply) (t t' : Tables) : Type 0 where
+  pub reply : answered ≡ b.reply
+  pub slots : slots_of t' ≡ b.done.slots
+  pub caused : t'.caused.effects ≡ b.done.caused
+  pub others : t'.others ≡ t.others
+  pub places : places_of t' ≡ places_of t
+  pub waiting : t'.waiting ≡ t.waiting
+  pub streams : StreamsAfter answered t t'
+
+-- a call or a job has begun, and there are places for its effects and all that comes of them
+pub record IsBegun (t : Tables) : Type 0 where
+  pub others : t.others.items ≡ []
+  pub room : HasRoomForAll t.caused.effects t
+  pub kept : IsKept t
+
+-- a promise is renewed unless it is kept: a new one is rejected
+pub record Renews (kept : Bool) (t t' : Tables) : Type 0 where
+  pub slots : slots_of t' ≡ record (slots_of t) { promises = with_renewed t.promises.table kept }
+  pub caused : t'.caused.effects ≡ t.caused.effects ++ reject_renewed t.promises.table kept
+  pub others : t'.others ≡ t.others
+  pub places : places_of t' ≡ places_of t
+  pub streams : t'.streams ≡ t.streams
+  pub locks : t'.locks ≡ t.locks
+  pub grown : t'.grown ≡ t.grown
+  pub waiting : t'.waiting ≡ t.waiting
+
+-- only the promises changed
+pub record IsSameBeside (t t' : Tables) : Type 0 where
+  pub caused : t'.caused ≡ t.caused
+  pub others : t'.others ≡ t.others
+  pub streams : t'.streams ≡ t.streams
+  pub grown : t'.grown ≡ t.grown
+  pub waiting : t'.waiting ≡ t.waiting
+  pub age : t'.age ≡ t.age

@@ -1,0 +1,109 @@
+//! Calls and jobs whole: what they begin with, and all that comes of it.
+ghost use Rattle.std.specs.Prelude.{◌≡◌, ◌<◌, ◌≤◌, ◌+◌, ◌^◌, not, if◌then◌else◌};
+ghost use Rattle.ws_promise.specs.Seen.{HasEventRoom};
+ghost use Rattle.ws_steps.specs.Calls as calls;
+ghost use Rattle.ws_steps.specs.Run as run;
+ghost use Rattle.ws_steps.specs.declared.calls.Call.TheVariants as call;
+ghost use Rattle.ws_tables.specs.Room.{IsPrepared, IsResting};
+ghost use Rattle.ws_tables.specs.View.{slots_of};
+ghost use Rattle.ws_calls.specs.Begin.{Answers, CanBegin, CanMake, IsSameBeside};
+
+use crate::jobs::begin_job;
+use crate::{controllers, locks, readers, streams, writers};
+use ws_steps::{Call, Reply};
+use ws_tables::Tables;
+
+#[tactic(auto, unfolding(ws_steps::specs::Calls::begin))]
+fn step(tables: &mut Tables) -> Reply
+    requires ready { CanBegin tables.old }
+    ensures { Answers (calls.begin call.Step (slots_of tables.old)) result tables.old tables.new }
+{
+    Reply::Done
+}
+
+/// The checks of a call in their order, what it answers and makes, and the effects that it begins with.
+fn begin(tables: &mut Tables, call: Call) -> Reply
+    requires ready { CanBegin tables.old }
+    requires room { CanMake tables.old }
+    ensures { Answers (calls.begin call (slots_of tables.old)) result tables.old tables.new }
+{
+    match call {
+        Call::MakeReadable { hwm, size, start } => streams::make_readable(tables, hwm, size, start),
+        Call::MakeWritable { hwm, size, start } => streams::make_writable(tables, hwm, size, start),
+        Call::GetReader(i) => readers::get_reader(tables, i),
+        Call::GetWriter(i) => writers::get_writer(tables, i),
+        Call::Cancel(i, reason) => readers::cancel(tables, i, reason),
+        Call::CancelBy(l, reason) => readers::cancel_by(tables, l, reason),
+        Call::Read(l) => readers::read(tables, l),
+        Call::Write(l, chunk) => writers::write(tables, l, chunk),
+        Call::Close(i) => writers::close(tables, i),
+        Call::CloseBy(l) => writers::close_by(tables, l),
+        Call::Abort(i, reason) => writers::abort(tables, i, reason),
+        Call::AbortBy(l, reason) => writers::abort_by(tables, l, reason),
+        Call::Closed(l) => locks::closed(tables, l),
+        Call::Ready(l) => locks::ready(tables, l),
+        Call::Release(l) => locks::release(tables, l),
+        Call::Enqueue(i, chunk) => controllers::enqueue(tables, i, chunk),
+        Call::Finish(i) => controllers::finish(tables, i),
+        Call::Fail(i, reason) => controllers::fail(tables, i, reason),
+        Call::Desired(i) => controllers::desired(tables, i),
+        Call::DesiredBy(l) => writers::desired_by(tables, l),
+        Call::Settle(h, answer) => controllers::settle(tables, h, answer),
+        Call::State(i) => controllers::state(tables, i),
+        Call::Step => step(tables),
+    }
+}
+
+/// A promise that a reply names is watched from now on.
+fn name(tables: &mut Tables, reply: Reply)
+    requires room { HasEventRoom 1 tables.old.promises }
+    ensures slots { slots_of tables.new ≡ calls.named reply (slots_of tables.old) }
+    ensures rest { IsSameBeside tables.old tables.new }
+{
+    match reply {
+        Reply::Promise(promise) => tables.promises.watch(promise),
+        Reply::Done => {}
+        Reply::Made(_) => {}
+        Reply::Lock(_) => {}
+        Reply::Size(_) => {}
+        Reply::State(_) => {}
+        Reply::Throws(_) => {}
+        Reply::TooMany => {}
+    }
+}
+
+/// Performs a call with all that comes of it, in the places that there are.
+pub fn perform_call(tables: &mut Tables, call: Call) -> Reply
+    requires prepared { IsPrepared tables.old }
+    requires resting { IsResting tables.old }
+    requires young { tables.old.age < 2 ^ 62 }
+    ensures reply { result ≡ run.reply_to call (slots_of tables.old) }
+    ensures slots { slots_of tables.new ≡ run.after_call call (slots_of tables.old) }
+    ensures resting { IsResting tables.new }
+    ensures age { tables.new.age ≡ tables.old.age + 1 }
+{
+    let reply = begin(tables, call);
+    tables.perform_effects();
+    name(tables, reply);
+    tables.age += 1;
+    reply
+}
+
+/// Performs the first job with all that comes of it, where one is queued, in the places that there are.
+pub fn perform_job(tables: &mut Tables) -> bool
+    requires prepared { IsPrepared tables.old }
+    requires resting { IsResting tables.old }
+    requires young { tables.old.age < 2 ^ 62 }
+    ensures worked { result ≡ not (run.is_idle (slots_of tables.old)) }
+    ensures slots { slots_of tables.new
+        ≡ (if run.is_idle (slots_of tables.old) then slots_of tables.old else run.after_job (slots_of tables.old)) }
+    ensures resting { IsResting tables.new }
+    ensures age { tables.new.age ≤ tables.old.age + 1 }
+{
+    if !begin_job(tables) {
+        return false;
+    }
+    tables.perform_effects();
+    tables.age += 1;
+    true
+}

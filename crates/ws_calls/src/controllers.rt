@@ -1,0 +1,117 @@
+//! The calls on controllers, and the looks at a stream.
+ghost use Rattle.std.specs.Prelude.{◌≡◌, Result};
+ghost use Rattle.ws_steps.specs.Calls as calls;
+ghost use Rattle.ws_calls.specs.Begin.{Answers, CanBegin};
+ghost use Rattle.ws_steps.specs.declared.calls.Call.TheVariants as call;
+ghost use Rattle.ws_tables.specs.View.{slots_of};
+
+use crate::replies::{TYPE_ERROR, UNSUPPORTED};
+use ws_steps::{Answer, Effect, ReadableOperation, Reply, WritableOperation};
+use ws_tables::Tables;
+use ws_value::{HostId, Plain, StreamId, Value};
+
+/// What a host's answer settles a promise with.
+fn outcome_of(answer: Answer) -> Result<Plain, Plain>
+    ensures { result ≡ calls.outcome_of answer }
+{
+    match answer {
+        Answer::Ok => Ok(Plain::Undefined),
+        Answer::Fail(reason) => Err(reason),
+    }
+}
+
+#[tactic(auto, unfolding(ws_steps::specs::Calls::begin))]
+pub(crate) fn enqueue(tables: &mut Tables, i: StreamId, chunk: Value) -> Reply
+    requires ready { CanBegin tables.old }
+    ensures { Answers (calls.begin (call.Enqueue i chunk) (slots_of tables.old)) result tables.old tables.new }
+{
+    if !tables.has_readable(i) {
+        return UNSUPPORTED;
+    }
+    if !tables.readable(i).can_close_or_enqueue() {
+        return TYPE_ERROR;
+    }
+    tables
+        .caused
+        .push(Effect::Readable(i, ReadableOperation::Enqueue(chunk)));
+    Reply::Done
+}
+
+#[tactic(auto, unfolding(ws_steps::specs::Calls::begin))]
+pub(crate) fn finish(tables: &mut Tables, i: StreamId) -> Reply
+    requires ready { CanBegin tables.old }
+    ensures { Answers (calls.begin (call.Finish i) (slots_of tables.old)) result tables.old tables.new }
+{
+    if !tables.has_readable(i) {
+        return UNSUPPORTED;
+    }
+    if !tables.readable(i).can_close_or_enqueue() {
+        return TYPE_ERROR;
+    }
+    tables
+        .caused
+        .push(Effect::Readable(i, ReadableOperation::Close));
+    Reply::Done
+}
+
+#[tactic(auto, unfolding(ws_steps::specs::Calls::begin))]
+pub(crate) fn fail(tables: &mut Tables, i: StreamId, reason: Plain) -> Reply
+    requires ready { CanBegin tables.old }
+    ensures { Answers (calls.begin (call.Fail i reason) (slots_of tables.old)) result tables.old tables.new }
+{
+    if tables.has_readable(i) {
+        tables
+            .caused
+            .push(Effect::Readable(i, ReadableOperation::Error(reason)));
+        return Reply::Done;
+    }
+    if !tables.has_writable(i) {
+        return UNSUPPORTED;
+    }
+    tables.caused.push(Effect::Writable(i, WritableOperation::ErrorIfNeeded(reason)));
+    Reply::Done
+}
+
+#[tactic(auto, unfolding(ws_steps::specs::Calls::begin))]
+pub(crate) fn desired(tables: &mut Tables, i: StreamId) -> Reply
+    requires ready { CanBegin tables.old }
+    ensures { Answers (calls.begin (call.Desired i) (slots_of tables.old)) result tables.old tables.new }
+{
+    if !tables.has_readable(i) {
+        return UNSUPPORTED;
+    }
+    let size = tables.readable(i).desired_size();
+    Reply::Size(size)
+}
+
+#[tactic(auto, unfolding(ws_steps::specs::Calls::begin))]
+pub(crate) fn settle(tables: &mut Tables, h: HostId, answer: Answer) -> Reply
+    requires ready { CanBegin tables.old }
+    ensures { Answers (calls.begin (call.Settle h answer) (slots_of tables.old)) result tables.old tables.new }
+{
+    let Some(promise) = tables.host(h) else {
+        return UNSUPPORTED;
+    };
+    let _hosts = tables.hosts.len();
+    tables.hosts[h.0 as usize] = None;
+    tables
+        .caused
+        .push(Effect::Settle(promise, outcome_of(answer)));
+    Reply::Done
+}
+
+#[tactic(auto, unfolding(ws_steps::specs::Calls::begin))]
+pub(crate) fn state(tables: &mut Tables, i: StreamId) -> Reply
+    requires ready { CanBegin tables.old }
+    ensures { Answers (calls.begin (call.State i) (slots_of tables.old)) result tables.old tables.new }
+{
+    if tables.has_readable(i) {
+        let state = tables.readable(i).look();
+        return Reply::State(state);
+    }
+    if !tables.has_writable(i) {
+        return UNSUPPORTED;
+    }
+    let state = tables.writable(i).look();
+    Reply::State(state)
+}

@@ -1,0 +1,23 @@
+//! Replies that many calls give.
+ghost use Rattle.ws_steps.specs.Calls as calls;
+ghost use Rattle.ws_tables.specs.View.{slots_of};
+ghost use Rattle.ws_calls.specs.Begin.{Answers, CanBegin};
+
+use ws_steps::{Effect, Reply, Thrown};
+use ws_tables::Tables;
+use ws_value::{Fault, Plain};
+
+pub(crate) const UNSUPPORTED: Reply = Reply::Throws(Thrown::Unsupported);
+
+pub(crate) const TYPE_ERROR: Reply = Reply::Throws(Thrown::TypeError);
+
+/// Answers a promise that is rejected with a TypeError.
+pub(crate) fn rejected(tables: &mut Tables) -> Reply
+    requires ready { CanBegin tables.old }
+    ensures { Answers (calls.rejected (slots_of tables.old)) result tables.old tables.new }
+{
+    let promise = tables.promises.fresh();
+    let reason = Plain::Fault(Fault::TypeError);
+    tables.caused.push(Effect::Settle(promise, Err(reason)));
+    Reply::Promise(promise)
+}

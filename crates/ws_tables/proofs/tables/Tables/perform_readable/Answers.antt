@@ -1,0 +1,136 @@
+use Rattle.std.proofs.Common.{◌≡◌, ◌∙◌, ◌&&◌, not, true, false, Some, List, length, map, refl, sym, ap, subst, ◌<◌, ◌+◌, arith}
+use Rattle.std.specs.Prelude.{slice_get, slice_set, vec_len, nat_lt}
+use Rattle.ws_steps.specs.declared.effects.Effect.{Effect}
+use Rattle.ws_steps.specs.Turns.{row}
+use Rattle.ws_queue.specs.Seen.{Lists}
+use Rattle.ws_steps.specs.Places.{prices_of, all_keep, turns_alone, own_readable, queued_alone, requests_alone}
+use Rattle.ws_readable.specs.Seen.{acts_of}
+use Rattle.ws_steps.specs.Operations.{readable_operation}
+use Rattle.ws_steps.specs.Slots.{Done, on_readable}
+use Rattle.ws_steps.proofs.StreamLaws.{on_readable-at}
+use Rattle.ws_tables.specs.declared.tables.Stream.TheVariants.{Readable}
+use Rattle.ws_tables.specs.declared.tables.Tables.{Tables}
+use Rattle.ws_tables.specs.View.{slots_of, stream_of}
+use Rattle.ws_tables.specs.Room.{places_of, room_of}
+use Rattle.ws_tables.proofs.Streams.{readable-within, stands-at, each-one, keep-one, keep-put, map-put, ReadableTook, readable-took, readable-own, has-both, both-have, paid, cover, readable-absent, noted-grown, noted-length}
+use Rattle.ws_tables.proofs.tables.Tables.perform_readable.Goals as goal
+
+pub returns-then-not-has_readable-clause-performs : goal.returns-then-not-has_readable-clause-performs
+returns-then-not-has_readable-clause-performs c =
+    readable-absent c.args.i c.args.operation c.args.self.now (sym c.has_readable.ensures ∙ c.if-not-has_readable.true) c.requires.quiet
+
+pub index_mut-requires : goal.index_mut-requires
+index_mut-requires c =
+    let there = readable-within stream_of c.args.self.now.streams.items c.args.i.0 (sym c.has_readable.ensures ∙ c.if-not-has_readable.false) in
+    omega arith
+
+at : (c : goal.After-perform-arg-in-Readable-2-1) → slice_get c.args.self.now.streams.items c.args.i.0 ≡ Some (Readable c.in-Readable.stream)
+at c =
+    let there = readable-within stream_of c.args.self.now.streams.items c.args.i.0 (sym c.has_readable.ensures ∙ c.if-not-has_readable.false) in
+    stands-at c.args.self.now.streams.items c.args.i.0 c.index_mut.result.now c.index_mut.result.now there c.index_mut.ensures.value
+    ∙ ap (λ x. Some x) c.in-Readable.is
+
+pub perform-requires-clause-room : goal.perform-requires-clause-room
+perform-requires-clause-room c =
+    let lists = c.requires.room.lists c.args.i.0 (Readable c.in-Readable.stream) (at c) in
+    record { queue = lists.0; requests = lists.1 }
+
+pub perform-requires-clause-effect_room : goal.perform-requires-clause-effect_room
+perform-requires-clause-effect_room c =
+    let kept = keep-one c.args.self.now.streams.items c.args.i.0 (Readable c.in-Readable.stream) (at c) in
+    let counted = each-one c.in-Readable.stream.slots.requests in
+    let quiet = ap length c.requires.quiet in
+    omega (arith, kept, counted, c.requires.kept.waiting, quiet, c.requires.room.caused)
+
+pub overflow_sub-self : goal.overflow_sub-self
+overflow_sub-self c =
+    let kept = keep-one c.args.self.now.streams.items c.args.i.0 (Readable c.in-Readable.stream) (at c.before) in
+    let counted = each-one c.in-Readable.stream.slots.requests in
+    omega (arith, kept, counted, c.requires.kept.waiting)
+
+took : (c : goal.After-perform) → ReadableTook c.args.operation (acts_of c.in-Readable.stream c.args.self.now.promises c.args.self.now.caused) (acts_of c.perform.new.self c.perform.new.p c.perform.new.fx)
+took c =
+    subst (ReadableTook c.args.operation (acts_of c.in-Readable.stream c.args.self.now.promises c.args.self.now.caused)) (sym c.perform.ensures.row)
+    (readable-took c.args.i c.args.operation (acts_of c.in-Readable.stream c.args.self.now.promises c.args.self.now.caused) c.requires.quiet)
+
+pub overflow_add-self : goal.overflow_add-self
+overflow_add-self c =
+    let before = each-one c.in-Readable.stream.slots.requests in
+    let after = each-one c.perform.new.self.slots.requests in
+    let kept = keep-one c.args.self.now.streams.items c.args.i.0 (Readable c.in-Readable.stream) (at c.before.before) in
+    let turns = (took c.before).turns in
+    let small = c.args.self.now.others.small in
+    omega (arith, before, after, kept, turns, small, c.requires.room.others)
+
+paid_for : (c : goal.After-note_growth-arg-1) → c.has_room-had_room.result ≡ true → c.has_room-has_room.result ≡ false
+    → prices_of queued_alone c.perform.new.fx.effects + prices_of requests_alone c.perform.new.fx.effects < own_readable queued_alone c.args.operation + own_readable requests_alone c.args.operation
+paid_for c had has =
+    let t = took c.before.before.before.before in
+    let room = c.perform.ensures.room in
+    paid (length c.in-Readable.stream.slots.queue) (length c.perform.new.self.slots.queue) (length c.in-Readable.stream.slots.requests) (length c.perform.new.self.slots.requests)
+    (own_readable queued_alone c.args.operation) (own_readable requests_alone c.args.operation) (prices_of queued_alone c.perform.new.fx.effects) (prices_of requests_alone c.perform.new.fx.effects)
+    c.in-Readable.stream.room.queue c.in-Readable.stream.room.requests t.queued t.requested (sym c.has_room-had_room.ensures ∙ had)
+    (ap (λ (l : Lists). nat_lt (length c.perform.new.self.slots.queue) l.queue && nat_lt (length c.perform.new.self.slots.requests) l.requests) (sym room) ∙ (sym c.has_room-has_room.ensures ∙ has))
+
+pub note_growth-requires : goal.note_growth-requires
+note_growth-requires c = record {
+  room = λ had has. let less = paid_for c had has in let room = c.requires.room.grown in omega (arith, less, room);
+}
+
+-- what the operation leaves and causes
+left : (c : goal.After-note_growth) → on_readable (readable_operation c.args.i c.args.operation) c.args.i (slots_of c.args.self.now)
+    ≡ record {
+      slots = record (slots_of c.args.self.now) { streams = map stream_of (slice_set c.args.self.now.streams.items c.args.i.0 (Readable c.perform.new.self)); promises = c.perform.new.p.table };
+      caused = c.perform.new.fx.effects;
+    }
+left c =
+    let old = c.args.self.now in
+    let there = readable-within stream_of old.streams.items c.args.i.0 (sym c.has_readable.ensures ∙ c.if-not-has_readable.false) in
+    on_readable-at stream_of (readable_operation c.args.i c.args.operation) c.args.i (slots_of old) old.streams.items c.index_mut.result.now (Readable c.perform.new.self) c.in-Readable.stream.slots
+    (acts_of c.perform.new.self c.perform.new.p c.perform.new.fx) refl there c.index_mut.ensures.value (ap stream_of c.in-Readable.is)
+    (c.perform.ensures.row ∙ ap (λ (es : List Effect). readable_operation c.args.i c.args.operation (record { slots = c.in-Readable.stream.slots; out = record { promises = old.promises.table; effects = es } })) c.requires.quiet)
+    refl
+
+pub returns-clause-performs : goal.returns-clause-performs
+unfolding row
+returns-clause-performs c =
+    let old = c.args.self.now in
+    let same = c.note_growth.ensures.tables in
+    let t = took c.before.before.before.before.before in
+    let own = readable-own c.args.operation in
+    let caused : c.note_growth.new.self.caused.effects ≡ c.perform.new.fx.effects = ap (λ (t : Tables). t.caused.effects) same in
+    record {
+      slots = ap slots_of same ∙ ap (λ (d : Done). d.slots) (sym (left c));
+      caused = caused ∙ ap (λ (d : Done). d.caused) (sym (left c));
+      others = ap (λ (t : Tables). t.others) same;
+      places = ap places_of same ∙ rw (c.perform.ensures.promise_room, c.perform.ensures.effect_room, c.note_growth.ensures.capacity) refl;
+      lists = ap (λ (t : Tables). map room_of t.streams.items) same ∙ map-put room_of old.streams.items c.args.i.0 (Readable c.in-Readable.stream) (Readable c.perform.new.self) (at c.before.before.before.before.before.before) c.perform.ensures.room;
+      grown =
+          let g = noted-grown (vec_len old.grown) (vec_len c.note_growth.new.self.grown) (own_readable queued_alone c.args.operation) (own_readable requests_alone c.args.operation)
+          (prices_of queued_alone c.perform.new.fx.effects) (prices_of requests_alone c.perform.new.fx.effects) c.has_room-had_room.result c.has_room-has_room.result
+          t.queued.caused t.requested.caused (paid_for c.before) (rw (c.note_growth.new.self.grown.ok.0, old.grown.ok.0, c.note_growth.ensures.grown) (noted-length old.grown.items c.args.i (c.has_room-had_room.result && not c.has_room-has_room.result))) in
+          let q = ap (prices_of queued_alone) caused in
+          let r = ap (prices_of requests_alone) caused in
+          omega (arith, g, q, r, own.0, own.1);
+    }
+
+pub returns-clause-kept : goal.returns-clause-kept
+returns-clause-kept c =
+    let old = c.args.self.now in
+    let same = c.note_growth.ensures.tables in
+    let before = each-one c.in-Readable.stream.slots.requests in
+    let after = each-one c.perform.new.self.slots.requests in
+    let is = at c.before.before.before.before.before.before in
+    record {
+      waiting =
+          let put = keep-put old.streams.items c.args.i.0 (Readable c.in-Readable.stream) (Readable c.perform.new.self) is in
+          let kept = keep-one old.streams.items c.args.i.0 (Readable c.in-Readable.stream) is in
+          let waits = ap (λ (t : Tables). t.waiting) same in
+          let streams = ap (λ (t : Tables). all_keep turns_alone (map stream_of t.streams.items)) same in
+          omega (arith, put, kept, waits, streams, before, after, c.requires.kept.waiting);
+      covered =
+          rw (same, c.note_growth.ensures.grown)
+          (cover old.grown.items c.args.i (Readable c.perform.new.self) c.has_room-had_room.result c.has_room-has_room.result (Readable c.in-Readable.stream) old.streams.items c.requires.kept.covered is
+          (λ h. c.has_room-had_room.ensures ∙ both-have (length c.in-Readable.stream.slots.queue) c.in-Readable.stream.room.queue (length c.in-Readable.stream.slots.requests) c.in-Readable.stream.room.requests h.0 h.1)
+          (λ has. has-both (length c.perform.new.self.slots.queue) c.perform.new.self.room.queue (length c.perform.new.self.slots.requests) c.perform.new.self.room.requests (sym c.has_room-has_room.ensures ∙ has)));
+    }

@@ -1,0 +1,187 @@
+//! What one effect does.
+ghost use Rattle.std.specs.Prelude.{◌≡◌, []};
+ghost use Rattle.ws_steps.specs.declared.effects.Effect.TheVariants as effect;
+ghost use Rattle.ws_tables.specs.Room.{HasRoomFor, IsKept, KeepsStreams, Performs};
+
+use crate::tables::Tables;
+use ws_steps::{
+    Effect, Event, Gift, HostCall, Owner, ReadRequest, StartBy, Step, Use, WritableOperation,
+};
+use ws_value::{HostId, Plain, PromiseId, StreamId, Value};
+
+impl Tables {
+    /// The start algorithm's result is undefined, or the host's promise. The start promise is resolved with it, and the step reacts to that.
+    #[tactic(auto, unfolding(ws_steps::specs::Turns::row))]
+    fn start_algorithm(&mut self, i: StreamId, step: Step, start: StartBy)
+        requires quiet { self.old.caused.effects ≡ [] }
+        requires room { HasRoomFor (effect.StartAlgorithm i step start) self.old }
+        ensures performs { Performs (effect.StartAlgorithm i step start) self.old self.new }
+        ensures streams { KeepsStreams self.old self.new }
+    {
+        match start {
+            StartBy::Now => self.caused.push(Effect::Give(
+                Gift::Fresh(Ok(Plain::Undefined)),
+                Use::React(step, None),
+            )),
+            StartBy::Later => {
+                let promise = self.promises.fresh();
+                self.caused.push(Effect::CallHost(HostCall::Start(i), Use::Resolve(promise)));
+                self.caused
+                    .push(Effect::Give(Gift::This(promise), Use::React(step, None)));
+            }
+        }
+    }
+
+    /// The pull algorithm, by whose it is.
+    #[tactic(auto, unfolding(ws_steps::specs::Turns::row))]
+    fn pull_algorithm(&mut self, i: StreamId)
+        requires quiet { self.old.caused.effects ≡ [] }
+        requires room { HasRoomFor (effect.PullAlgorithm i) self.old }
+        ensures performs { Performs (effect.PullAlgorithm i) self.old self.new }
+        ensures streams { KeepsStreams self.old self.new }
+    {
+        let u = Use::React(Step::ReadablePull(i), None);
+        match self.owner(i) {
+            Owner::Host => self.caused.push(Effect::CallHost(HostCall::Pull(i), u)),
+        }
+    }
+
+    #[tactic(auto, unfolding(ws_steps::specs::Turns::row))]
+    fn cancel_algorithm(&mut self, i: StreamId, reason: Plain, promise: PromiseId)
+        requires quiet { self.old.caused.effects ≡ [] }
+        requires room { HasRoomFor (effect.CancelAlgorithm i reason promise) self.old }
+        ensures performs { Performs (effect.CancelAlgorithm i reason promise) self.old self.new }
+        ensures streams { KeepsStreams self.old self.new }
+    {
+        let u = Use::React(Step::ReturnUndefined, Some(promise));
+        match self.owner(i) {
+            Owner::Host => self
+                .caused
+                .push(Effect::CallHost(HostCall::Cancel(i, reason), u)),
+        }
+    }
+
+    /// The write algorithm gets the chunk once the stream hands it on.
+    #[tactic(auto, unfolding(ws_steps::specs::Turns::row))]
+    fn write_algorithm(&mut self, i: StreamId)
+        requires quiet { self.old.caused.effects ≡ [] }
+        requires room { HasRoomFor (effect.WriteAlgorithm i) self.old }
+        ensures performs { Performs (effect.WriteAlgorithm i) self.old self.new }
+        ensures streams { KeepsStreams self.old self.new }
+    {
+        match self.owner(i) {
+            Owner::Host => self
+                .caused
+                .push(Effect::Writable(i, WritableOperation::HandOn)),
+        }
+    }
+
+    #[tactic(auto, unfolding(ws_steps::specs::Turns::row))]
+    fn close_algorithm(&mut self, i: StreamId)
+        requires quiet { self.old.caused.effects ≡ [] }
+        requires room { HasRoomFor (effect.CloseAlgorithm i) self.old }
+        ensures performs { Performs (effect.CloseAlgorithm i) self.old self.new }
+        ensures streams { KeepsStreams self.old self.new }
+    {
+        let u = Use::React(Step::WritableClose(i), None);
+        match self.owner(i) {
+            Owner::Host => self.caused.push(Effect::CallHost(HostCall::Close(i), u)),
+        }
+    }
+
+    #[tactic(auto, unfolding(ws_steps::specs::Turns::row))]
+    fn abort_algorithm(&mut self, i: StreamId, reason: Plain, promise: PromiseId)
+        requires quiet { self.old.caused.effects ≡ [] }
+        requires room { HasRoomFor (effect.AbortAlgorithm i reason promise) self.old }
+        ensures performs { Performs (effect.AbortAlgorithm i reason promise) self.old self.new }
+        ensures streams { KeepsStreams self.old self.new }
+    {
+        let u = Use::React(Step::WritableAbort(i, promise), None);
+        match self.owner(i) {
+            Owner::Host => self
+                .caused
+                .push(Effect::CallHost(HostCall::Abort(i, reason), u)),
+        }
+    }
+
+    /// Calls a host's algorithm: a new promise with a new number, which the host hears of, and what is done with the promise.
+    #[tactic(auto, using(crate::proofs::Places::fresh_jobs, crate::proofs::Places::fresh_events), unfolding(ws_steps::specs::Turns::row, ws_steps::specs::Turns::call_host))]
+    fn call_host(&mut self, call: HostCall, u: Use)
+        requires quiet { self.old.caused.effects ≡ [] }
+        requires room { HasRoomFor (effect.CallHost call u) self.old }
+        ensures performs { Performs (effect.CallHost call u) self.old self.new }
+        ensures streams { KeepsStreams self.old self.new }
+    {
+        let id = HostId(self.hosts.len() as u128);
+        let promise = self.promises.fresh();
+        self.promises.tell(Event::Host { id, call });
+        self.promises.use_this(promise, u);
+        self.hosts.push_reserved(Some(promise));
+    }
+
+    /// The steps of a read request, by whom it answers.
+    #[tactic(auto, unfolding(ws_steps::specs::Turns::row))]
+    fn chunk_steps(&mut self, i: StreamId, request: ReadRequest, chunk: Value)
+        requires quiet { self.old.caused.effects ≡ [] }
+        ensures performs { Performs (effect.ChunkSteps i request chunk) self.old self.new }
+        ensures streams { KeepsStreams self.old self.new }
+    {
+        match request {
+            ReadRequest::Promise(promise) => self.promises.give(promise, chunk),
+        }
+    }
+
+    #[tactic(auto, unfolding(ws_steps::specs::Turns::row))]
+    fn close_steps(&mut self, i: StreamId, request: ReadRequest)
+        requires quiet { self.old.caused.effects ≡ [] }
+        ensures performs { Performs (effect.CloseSteps i request) self.old self.new }
+        ensures streams { KeepsStreams self.old self.new }
+    {
+        match request {
+            ReadRequest::Promise(promise) => {
+                self.promises
+                    .finish(promise, Value::Plain(Plain::Undefined))
+            }
+        }
+    }
+
+    #[tactic(auto, unfolding(ws_steps::specs::Turns::row))]
+    fn error_steps(&mut self, i: StreamId, request: ReadRequest, e: Plain)
+        requires quiet { self.old.caused.effects ≡ [] }
+        ensures performs { Performs (effect.ErrorSteps i request e) self.old self.new }
+        ensures streams { KeepsStreams self.old self.new }
+    {
+        match request {
+            ReadRequest::Promise(promise) => self.promises.reject(promise, e),
+        }
+    }
+
+    /// Performs an effect, and causes what comes of it.
+    #[tactic(auto, using(crate::proofs::Places::kept_by), unfolding(ws_steps::specs::Turns::row))]
+    pub(crate) fn perform(&mut self, effect: Effect)
+        requires quiet { self.old.caused.effects ≡ [] }
+        requires room { HasRoomFor effect self.old }
+        requires kept { IsKept self.old }
+        ensures performs { Performs effect self.old self.new }
+        ensures kept { IsKept self.new }
+    {
+        match effect {
+            Effect::Readable(i, operation) => self.perform_readable(i, operation),
+            Effect::Writable(i, operation) => self.perform_writable(i, operation),
+            Effect::StartAlgorithm(i, step, start) => self.start_algorithm(i, step, start),
+            Effect::PullAlgorithm(i) => self.pull_algorithm(i),
+            Effect::CancelAlgorithm(i, reason, promise) => {
+                self.cancel_algorithm(i, reason, promise)
+            }
+            Effect::WriteAlgorithm(i) => self.write_algorithm(i),
+            Effect::CloseAlgorithm(i) => self.close_algorithm(i),
+            Effect::AbortAlgorithm(i, reason, promise) => self.abort_algorithm(i, reason, promise),
+            Effect::ChunkSteps(i, request, chunk) => self.chunk_steps(i, request, chunk),
+            Effect::CloseSteps(i, request) => self.close_steps(i, request),
+            Effect::ErrorSteps(i, request, e) => self.error_steps(i, request, e),
+            Effect::Give(gift, u) => self.promises.use_gift(gift, u),
+            Effect::Settle(promise, outcome) => self.promises.settle(promise, outcome),
+            Effect::CallHost(call, u) => self.call_host(call, u),
+        }
+    }
+}

@@ -1,0 +1,15 @@
+//! The tables of a realm: its streams by number, its readers and writers, its promises and what its host is to answer; and what is done to them.
+//!
+//! `agenda` performs effects, one at a time, each with what it causes before the others; `effects` finds what an effect concerns, and `kinds` has, for each kind of record, its look-ups and the performing of its operations. `prepare` takes the memory that a call or job can need, so that performing takes none.
+//!
+//! A call or job is begun by the crate above, which checks, makes places their content and causes the first effects. So the fields are public; what holds of them is in `specs/`.
+#![tactic(auto)]
+
+mod agenda;
+mod effects;
+mod kinds;
+mod lookups;
+mod prepare;
+mod tables;
+
+pub use tables::{Stream, Tables};

@@ -1,0 +1,44 @@
+//! Objects of a realm by their numbers; the streams of a kind are in `kinds`.
+ghost use Rattle.std.specs.Prelude.{◌≡◌, ◌<◌, IfSome, vec_len};
+ghost use Rattle.ws_steps.specs.Slots.{lock_at, host_at, owner_at};
+
+use crate::tables::{Stream, Tables};
+use ws_steps::{Lock, Owner};
+use ws_value::{HostId, LockId, PromiseId, StreamId};
+
+impl Tables {
+    ghost use Rattle.ws_tables.specs.View.{slots_of};
+
+    /// Whose algorithms a stream performs.
+    pub(crate) fn owner(&self, i: StreamId) -> Owner
+        ensures { result ≡ owner_at i (slots_of self.now) }
+    {
+        match self.streams.get(i.0 as usize) {
+            Some(Stream::Readable(stream)) => stream.owner(),
+            Some(Stream::Writable(stream)) => stream.owner(),
+            None => Owner::Host,
+        }
+    }
+
+    /// A reader or a writer.
+    pub fn lock(&self, l: LockId) -> Option<Lock>
+        ensures lock { result ≡ lock_at l (slots_of self.now) }
+        ensures there { IfSome result (λ lock. l.0 < vec_len self.now.locks) }
+    {
+        if self.locks.len() as u128 <= l.0 {
+            return None;
+        }
+        Some(self.locks[l.0 as usize])
+    }
+
+    /// The promise of a call of a host's algorithm, where it isn't settled.
+    pub fn host(&self, h: HostId) -> Option<PromiseId>
+        ensures host { result ≡ host_at h (slots_of self.now) }
+        ensures there { IfSome result (λ promise. h.0 < vec_len self.now.hosts) }
+    {
+        if self.hosts.len() as u128 <= h.0 {
+            return None;
+        }
+        self.hosts[h.0 as usize]
+    }
+}

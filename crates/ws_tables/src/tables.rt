@@ -1,0 +1,62 @@
+//! The tables of a realm.
+ghost use Rattle.std.specs.Prelude.{◌≡◌, IfOk};
+ghost use Rattle.ws_steps.specs.Slots.{empty};
+
+use std::alloc::Global;
+use ws_promise::{Agenda, Promises};
+use ws_readable::Readable;
+use ws_steps::{Effect, Lock};
+use ws_value::{NoMemory, PromiseId, StreamId};
+use ws_writable::Writable;
+
+/// A stream of either kind.
+#[derive(Drop)]
+pub enum Stream {
+    Readable(Readable),
+    Writable(Writable),
+}
+
+/// What a realm has, and what it is about to do.
+#[derive(Drop)]
+pub struct Tables {
+    pub alloc: Global,
+    pub streams: Vec<Stream>,
+    pub locks: Vec<Lock>,
+    pub promises: Promises,
+    /// The promise of each call of a host's algorithm, until the host settles it.
+    pub hosts: Vec<Option<PromiseId>>,
+    /// What the effect under way has caused so far.
+    pub caused: Agenda,
+    /// The effects that wait, the next one last.
+    pub others: Vec<Effect>,
+    /// How many read requests wait, in all streams.
+    pub waiting: usize,
+    /// The streams in whose lists places are to be made before the next call or job.
+    pub grown: Vec<StreamId>,
+    /// How many calls and jobs were performed.
+    pub age: u64,
+}
+
+impl Tables {
+    ghost use Rattle.ws_tables.specs.Room.{IsResting};
+    ghost use Rattle.ws_tables.specs.View.{slots_of};
+
+    /// The tables of a new realm.
+    pub fn make(alloc: Global) -> Result<Tables, NoMemory>
+        ensures slots { IfOk result (λ tables. slots_of tables ≡ empty) }
+        ensures resting { IfOk result (λ tables. IsResting tables) }
+    {
+        Ok(Tables {
+            alloc,
+            streams: Vec::new(alloc),
+            locks: Vec::new(alloc),
+            promises: Promises::make(alloc)?,
+            hosts: Vec::new(alloc),
+            caused: Agenda::make(alloc)?,
+            others: Vec::new(alloc),
+            waiting: 0,
+            grown: Vec::new(alloc),
+            age: 0,
+        })
+    }
+}
