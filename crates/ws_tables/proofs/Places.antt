@@ -1,5 +1,5 @@
 -- What operations on promises leave of the places that are taken, and of what a realm keeps.
-use Rattle.std.proofs.Common.{◌≡◌, ℕ, ◌+◌, [], ◌∷◌, length, map, Some, sym, ap, ◌∙◌, arith}
+use Rattle.std.proofs.Common.{◌≡◌, ◌+◌, [], ◌∷◌, length, map, Some, sym, ap, ◌∙◌, arith}
 use Rattle.ws_steps.specs.Places.{all_keep, turns_alone}
 use Rattle.ws_steps.specs.Promises.{Table, pending, fresh}
 use Rattle.ws_promise.specs.Seen.{jobs_in, events_in}
