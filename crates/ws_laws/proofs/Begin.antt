@@ -42,7 +42,7 @@ module _ (Q : Slots → Type 0) (makes : Makes Q) where
         let t : Table = with_renewed s.promises (is_pending_at w.ready s.promises) in
         makes.locks _ _ (renewed-makes (with_promises t s) (is_pending_at w.closed t) (renewed-makes s (is_pending_at w.ready s.promises) q));
     cancel = λ reason i. makes.promise s q;
-    read = λ i. makes.promise s q;
+    read = λ l i closed e h. makes.promise s q;
     write = λ l v i e. makes.promise s q;
     close = λ i e. makes.promise s q;
     abort = λ reason i e. makes.promise s q;

@@ -34,7 +34,7 @@ pub record Beginnings (P : Begun → Type 0) (c : Call) (s : Slots) : Type 0 whe
   pub release_reader : (l : LockId) (closed : PromiseId) (i : StreamId) → lock_at l s ≡ Some (ReaderLock (Some i) closed) → P (calls.release_reader l closed i s)
   pub release_writer : (l : LockId) (i : StreamId) (w : Writer) → lock_at l s ≡ Some (WriterLock i) → (writable_at i s).writer ≡ Some w → P (calls.release_writer l i w s)
   pub cancel : (reason : Plain) (i : StreamId) → P (calls.cancel reason i s)
-  pub read : (i : StreamId) → P (calls.read i s)
+  pub read : (l : LockId) (i : StreamId) (closed : PromiseId) → c ≡ Read l → lock_at l s ≡ Some (ReaderLock (Some i) closed) → P (calls.read i s)
   pub write : (l : LockId) (v : Value) (i : StreamId) → c ≡ Write l v → P (calls.write v i s)
   pub close : (i : StreamId) → writable.is_closing (writable_at i s) ≡ false → P (calls.promising (λ p. OnWritable i (CloseStream p) ∷ []) s)
   pub abort : (reason : Plain) (i : StreamId) → writable.answered_abort (writable_at i s) ≡ None → P (calls.promising (λ p. OnWritable i (AbortStream reason p) ∷ []) s)
@@ -69,12 +69,13 @@ module _ (P : Begun → Type 0) (c : Call) (s : Slots) (o : Beginnings P c s) wh
       for_writable-each (λ s. if writable_looks.is_locked (writable_at i s) then locked s else free i s) i
       (either P (writable_looks.is_locked (writable_at i s)) (locked s) (free i s) (λ e. l) f)
 
-  by_reader-each : (holding : StreamId → Slots → Begun) (free : Slots → Begun) → ((i : StreamId) → P (holding i s)) → P (free s) → (lock : Option Lock) → P (by_reader holding free s lock)
-  by_reader-each holding free h f None = unsupported_each
-  by_reader-each holding free h f (Some (ReaderLock (Some i) closed)) = for_readable-each (holding i) i (h i)
-  by_reader-each holding free h f (Some (ReaderLock None closed)) = f
-  by_reader-each holding free h f (Some (WriterLock i)) = unsupported_each
-  by_reader-each holding free h f (Some (ReleasedWriter w)) = unsupported_each
+  by_reader-each : (holding : StreamId → Slots → Begun) (free : Slots → Begun) (lock : Option Lock) → ((i : StreamId) (closed : PromiseId) → lock ≡ Some (ReaderLock (Some i) closed) → P (holding i s)) → P (free s)
+      → P (by_reader holding free s lock)
+  by_reader-each holding free None h f = unsupported_each
+  by_reader-each holding free (Some (ReaderLock (Some i) closed)) h f = for_readable-each (holding i) i (h i closed refl)
+  by_reader-each holding free (Some (ReaderLock None closed)) h f = f
+  by_reader-each holding free (Some (WriterLock i)) h f = unsupported_each
+  by_reader-each holding free (Some (ReleasedWriter w)) h f = unsupported_each
 
   by_writer-each : (holding : StreamId → Slots → Begun) (free : Slots → Begun) → ((i : StreamId) → P (holding i s)) → P (free s) → (lock : Option Lock) → P (by_writer holding free s lock)
   by_writer-each holding free h f None = unsupported_each
@@ -129,8 +130,8 @@ each_call P (MakeWritable mark size start) s o = made_by P _ s o (calls.make_wri
 each_call P (GetReader i) s o = unlocked_readable-each P _ s o calls.throws_type_error calls.get_reader i (o.unchanged (Throws TypeError)) (λ e. o.get_reader i e)
 each_call P (GetWriter i) s o = unlocked_writable-each P _ s o calls.throws_type_error calls.get_writer i (o.unchanged (Throws TypeError)) (λ e. o.get_writer i e)
 each_call P (Cancel i reason) s o = unlocked_readable-each P _ s o calls.rejected (calls.cancel reason) i o.rejected (λ e. o.cancel reason i)
-each_call P (CancelBy l reason) s o = by_reader-each P _ s o (calls.cancel reason) calls.rejected (λ i. o.cancel reason i) o.rejected (lock_at l s)
-each_call P (Read l) s o = by_reader-each P _ s o calls.read calls.rejected (λ i. o.read i) o.rejected (lock_at l s)
+each_call P (CancelBy l reason) s o = by_reader-each P _ s o (calls.cancel reason) calls.rejected (lock_at l s) (λ i closed e. o.cancel reason i) o.rejected
+each_call P (Read l) s o = by_reader-each P _ s o calls.read calls.rejected (lock_at l s) (λ i closed e. o.read l i closed refl e) o.rejected
 each_call P (Write l v) s o = by_writer-each P _ s o (calls.write v) calls.rejected (λ i. o.write l v i refl) o.rejected (lock_at l s)
 each_call P (Close i) s o = unlocked_writable-each P _ s o calls.rejected calls.close i o.rejected (λ e. close-each P _ s o i)
 each_call P (CloseBy l) s o = by_writer-each P _ s o calls.close calls.rejected (close-each P _ s o) o.rejected (lock_at l s)

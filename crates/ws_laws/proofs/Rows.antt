@@ -97,6 +97,20 @@ row-streams (CloseSteps i (Promise p)) s apart = refl
 row-streams (ErrorSteps i (Promise p) e) s apart = refl
 row-streams _ s apart = refl
 
+-- each effect leaves all locks
+pub row-locks : (e : Effect) (s : Slots) → (row e s).slots.locks ≡ s.locks
+unfolding row call_host
+row-locks (Readable i operation) s =
+    either (λ (d : Done). d.slots.locks ≡ s.locks) (has_readable i s) (put_readable i s (readable_operation i operation (readable_acts i s))) (nothing s) (λ e. refl) (λ e. refl)
+row-locks (Writable i operation) s =
+    either (λ (d : Done). d.slots.locks ≡ s.locks) (has_writable i s) (put_writable i s (writable_operation i operation (writable_acts i s))) (nothing s) (λ e. refl) (λ e. refl)
+row-locks (StartAlgorithm i step Now) s = refl
+row-locks (StartAlgorithm i step Later) s = refl
+row-locks (ChunkSteps i (Promise p) v) s = refl
+row-locks (CloseSteps i (Promise p)) s = refl
+row-locks (ErrorSteps i (Promise p) e) s = refl
+row-locks _ s = refl
+
 -- what is to be shown of the effects that an operation of readable stream i may cause
 pub record ReadableCauses (P : Effect → Type 0) (i : StreamId) : Type 0 where
   pub pull : P (PullAlgorithm i)

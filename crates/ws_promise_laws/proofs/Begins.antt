@@ -124,7 +124,7 @@ begin-sound c s k = each_call Begins c s (record {
       omega arith)
       (locked-sound _ _ _ (renewed-sound (λ x. 0 + in_effects x first) (with_promises t s) closed (renewed-sound none s ready k)));
   cancel = λ reason i. promising-sound (λ p. Readable i (Cancel reason p) ∷ []) s (λ x p. omega arith) k;
-  read = λ i. promising-sound (λ p. Readable i (Read (Promise p)) ∷ []) s (λ x p. omega arith) k;
+  read = λ l i closed e f. promising-sound (λ p. Readable i (Read (Promise p)) ∷ []) s (λ x p. omega arith) k;
   write = λ l v i e. promising-sound (λ p. Writable i (Write v p) ∷ []) s (λ x p. omega arith) k;
   close = λ i e. promising-sound (λ p. Writable i (Close p) ∷ []) s (λ x p. omega arith) k;
   abort = λ reason i e. promising-sound (λ p. Writable i (Abort reason p) ∷ []) s (λ x p. omega arith) k;

@@ -1,8 +1,8 @@
 -- The order of a readable stream over every run.
-use Rattle.std.proofs.Common.{◌≡◌, ℕ, Bool, true, false, ◌||◌, if◌then◌else◌, List, [], ◌∷◌, ◌++◌, ◌⊎◌, inl, inr, refl, sym, ap, ◌∙◌, append_assoc, append-nil, add_assoc, zero-add, add-zero, arith}
+use Rattle.std.proofs.Common.{◌≡◌, ℕ, Bool, true, false, slice_get, ◌||◌, if◌then◌else◌, List, [], ◌∷◌, ◌++◌, ◌⊎◌, inl, inr, refl, sym, ap, ◌∙◌, append_assoc, append-nil, add_assoc, zero-add, add-zero, arith}
 use Rattle.ws_value.specs.declared.ids.StreamId.{StreamId}
 use Rattle.ws_value.specs.declared.value.Value.{Value}
-use Rattle.ws_steps.specs.declared.{effects.Effect.{Effect}, effects.Effect.TheVariants.{Readable as OnReadable, ChunkSteps}, effects.Owner.TheVariants.{Host}, queue.Queued.{Queued}}
+use Rattle.ws_steps.specs.declared.{effects.Effect.{Effect}, effects.Effect.TheVariants.{Readable as OnReadable, ChunkSteps, CloseSteps, ErrorSteps}, effects.Owner.TheVariants.{Host}, locks.Lock.{Lock}, queue.Queued.{Queued}}
 use Rattle.ws_steps.specs.declared.{readable.ReadRequest.{ReadRequest}, readable.ReadableOperation.{ReadableOperation}, readable.ReadableOperation.TheVariants.{Read, Cancel, Enqueue}}
 use Rattle.ws_steps.specs.declared.{readable.ReadableState.{ReadableState}, readable.ReadableState.TheVariants.{Readable, Closed, Errored}, readable.SizeBy.{SizeBy}}
 use Rattle.ws_steps.specs.Effects.{Out}
@@ -14,13 +14,13 @@ use Rattle.ws_steps.specs.Run.{Entry, step, run}
 use Rattle.ws_steps.specs.Histories.{is_same}
 use Rattle.ws_steps.specs.ReadableHistory.{Flow, no_flow, flow_then, values, operation_flow, effect_flow, step_flow, run_flow}
 use Rattle.ws_steps.specs.Laws.{IsLawfulReadable, EachReadableIsLawful}
-use Rattle.ws_laws.proofs.Tables.{either, is_same-refl, readable_acts}
+use Rattle.ws_laws.proofs.Tables.{either, is_same-refl, no_readable_there, readable_acts}
 use Rattle.ws_laws.proofs.Lists.{Each}
 use Rattle.ws_laws.proofs.ReadableDoes.{OfReadableEnds, is_taking, pull-does, take-does, ends-do}
-use Rattle.ws_laws.proofs.Begin.{IsFirst, Any}
+use Rattle.ws_laws.proofs.Begin.{IsFirst, Any, Enqueues, Never, each-any, begin-first, job-first}
 use Rattle.ws_laws.proofs.Walker.{IsHistory}
 use Rattle.ws_laws.proofs.OnReadable as on_readable
-use Rattle.ws_laws.proofs.OnReadable.{IsForeign, IsLaw, Kept, all_seen, all_seen-append}
+use Rattle.ws_laws.proofs.OnReadable.{IsForeign, AreSteps, IsLaw, Kept, all_seen, all_seen-append}
 use Rattle.ws_readable_laws.proofs.Operations.{Held, same_flow, or_false, due, with_due, given_to, first_given, operation_keeps}
 
 -- what is seen of the agenda: an operation that may give, and chunk steps of the stream
@@ -225,30 +225,50 @@ module _ (i : StreamId) where
   first_keeps : (es : List Effect) → Each (IsFirst Any) es → (h : Flow) (r : readable.Slots) → Ordered h r [] → Ordered h r (all_seen (mark i) es)
   first_keeps es f h r k = let m = first_marks es f in record { held = rw m.0 k.held; clear = m.1 }
 
-  law : IsLaw no_flow flow_then (effect_flow i) (mark i) i Ordered Unmade
+  steps_keep : (e : Effect) → AreSteps i e → (s : Slots) (h : Flow) (r : readable.Slots) (ms : List Mark) → Ordered h r (mark i e ++ ms) → Ordered (flow_then h (effect_flow i e s)) r ms
+  steps_keep (ChunkSteps j request v) same s h r ms k = rw same (chunk_keeps v h r ms (rw same at k))
+  steps_keep (CloseSteps j request) same s h r ms k = rw same_flow k
+  steps_keep (ErrorSteps j request e) same s h r ms k = rw same_flow k
+  steps_keep _ same s h r ms k = absurd same
+
+  not_cancelled : (e : Effect) → AreSteps i e → (s : Slots) (h : Flow) → Unmade h → Unmade (flow_then h (effect_flow i e s))
+  not_cancelled (ChunkSteps j request v) same s h n = rw same (rw (or_false h.cancelled) n)
+  not_cancelled (CloseSteps j request) same s h n = rw (or_false h.cancelled) n
+  not_cancelled (ErrorSteps j request e) same s h n = rw (or_false h.cancelled) n
+  not_cancelled _ same s h n = absurd same
+
+  -- whatever locks there are
+  abbrev OrderedIn : Flow → List Lock → readable.Slots → List Mark → Type 0
+  OrderedIn h locks r ms = Ordered h r ms
+
+  abbrev UnmadeIn : Flow → List Lock → Type 0
+  UnmadeIn h locks = Unmade h
+
+  law : IsLaw no_flow flow_then (effect_flow i) (mark i) i OrderedIn UnmadeIn
   law = record {
     history = is_history;
     unseen = unseen;
     untold = untold;
-    operation = λ operation s h ms k. rw (is_same-refl i) (taking_keeps operation s h ms (is_taking operation) refl (rw (is_same-refl i) at k));
-    idle = λ operation s e. rw (is_same-refl i, e) (idle_flow operation);
-    absent = λ operation h ms k. absent_keeps h ms (is_taking operation) (rw (is_same-refl i) at k);
-    chunk = λ request v s h r ms k. rw (is_same-refl i) (chunk_keeps v h r ms (rw (is_same-refl i) at k));
-    chunk_unmade = λ request v s h n. rw (is_same-refl i) (rw (or_false h.cancelled) n);
-    first = first_keeps;
-    made = made;
+    operation = λ operation s h ms there k. rw (is_same-refl i) (taking_keeps operation s h ms (is_taking operation) refl (rw (is_same-refl i) at k));
+    idle = λ operation s e. rw (is_same-refl i, no_readable_there (slice_get s.streams i.0) e) (idle_flow operation);
+    absent = λ operation h locks ms k. absent_keeps h ms (is_taking operation) (rw (is_same-refl i) at k);
+    steps = λ e same s h locks r ms k. steps_keep e same s h r ms k;
+    steps_unmade = λ e same s h locks n. not_cancelled e same s h n;
+    call = λ c s h k. record { unmade = k.unmade; held = first_keeps _ (each-any (Enqueues c) _ (begin-first c s)) h _ k.held };
+    job = λ job h locks r k. first_keeps _ (each-any Never _ (job-first job)) h r k;
+    made = λ hwm size h locks n k. made hwm size h n k;
     empty = record { held = record { dropped = []; balanced = record { all = refl; live = λ e. refl; whole = λ c e. refl; gone = λ e. refl; fit = λ e. refl; asked = omega arith } }; clear = tt };
     unmade = refl;
   }
 
   abbrev pub Keeps : Flow → Slots → Type 0
-  Keeps h s = Kept (mark i) i Ordered Unmade h s.streams []
+  Keeps h s = Kept (mark i) i OrderedIn UnmadeIn h s.locks s.streams []
 
   pub step-kept : (h : Flow) (s : Slots) (x : Entry) → Keeps h s → Keeps (flow_then h (step_flow i s x)) (step s x)
-  step-kept h s x k = on_readable.step-kept no_flow flow_then (effect_flow i) (mark i) i Ordered Unmade law h s x k
+  step-kept h s x k = on_readable.step-kept no_flow flow_then (effect_flow i) (mark i) i OrderedIn UnmadeIn law h s x k
 
   pub run-kept : (entries : List Entry) → Keeps (run_flow i entries empty) (run entries empty)
-  run-kept entries = on_readable.run-kept no_flow flow_then (effect_flow i) (mark i) i Ordered Unmade law entries
+  run-kept entries = on_readable.run-kept no_flow flow_then (effect_flow i) (mark i) i OrderedIn UnmadeIn law entries
 
 -- between steps nothing is still to be given
 pub between : (h : Flow) (r : readable.Slots) → Ordered h r [] → Held h r

@@ -1,18 +1,23 @@
 -- What went through a readable stream.
-use Rattle.std.specs.Prelude.{ℕ, ◌+◌, Bool, false, ◌||◌, if◌then◌else◌, List, [], ◌∷◌, ◌++◌}
+use Rattle.std.specs.Prelude.{ℕ, ◌+◌, Bool, false, ◌&&◌, ◌||◌, if◌then◌else◌, List, [], ◌∷◌, ◌++◌, Option, Some, None}
+use Rattle.ws_value.specs.declared.ids.PromiseId.{PromiseId}
 use Rattle.ws_value.specs.declared.ids.StreamId.{StreamId}
 use Rattle.ws_value.specs.declared.value.Value.{Value}
 use Rattle.ws_steps.specs.declared.calls.Call.{Call}
-use Rattle.ws_steps.specs.declared.calls.Call.TheVariants.{Enqueue as EnqueueCall}
+use Rattle.ws_steps.specs.declared.calls.Call.TheVariants.{Enqueue as EnqueueCall, Read as ReadCall}
 use Rattle.ws_steps.specs.declared.calls.Reply.{Reply}
-use Rattle.ws_steps.specs.declared.calls.Reply.TheVariants.{Done}
+use Rattle.ws_steps.specs.declared.calls.Reply.TheVariants.{Done, Promise as Named}
 use Rattle.ws_steps.specs.declared.effects.Effect.{Effect}
 use Rattle.ws_steps.specs.declared.effects.Effect.TheVariants.{Readable, ChunkSteps}
+use Rattle.ws_steps.specs.declared.locks.Lock.{Lock}
+use Rattle.ws_steps.specs.declared.locks.Lock.TheVariants.{Reader, Writer, ReleasedWriter}
 use Rattle.ws_steps.specs.declared.queue.Queued.{Queued}
+use Rattle.ws_steps.specs.declared.readable.ReadRequest.{ReadRequest}
+use Rattle.ws_steps.specs.declared.readable.ReadRequest.TheVariants.{Promise}
 use Rattle.ws_steps.specs.declared.readable.ReadableOperation.{ReadableOperation}
-use Rattle.ws_steps.specs.declared.readable.ReadableOperation.TheVariants.{Enqueue, Read, Cancel}
+use Rattle.ws_steps.specs.declared.readable.ReadableOperation.TheVariants.{ReleaseReader, Enqueue, Read, Cancel}
 use Rattle.ws_steps.specs.Readable as readable
-use Rattle.ws_steps.specs.Slots.{Slots, readable_at}
+use Rattle.ws_steps.specs.Slots.{Slots, has_readable, lock_at, readable_at}
 use Rattle.ws_steps.specs.Run.{Entry, Called, Worked, Heard, Forgot, reply_to, step}
 use Rattle.ws_steps.specs.Histories.{is_same, in_step, over}
 
@@ -79,3 +84,109 @@ accepted_in_step i s (Forgot p) = []
 abbrev pub accepted : StreamId → List Entry → Slots → List Value
 accepted i [] s = []
 accepted i (x ∷ xs) s = accepted_in_step i s x ++ accepted i xs (step s x)
+
+-- the reads of a readable stream
+
+-- the requests that ReadableStreamDefaultReaderRead was given, in every state of the stream, and those that waited where
+-- ReadableStreamReaderGenericRelease took their reader from the stream
+pub record Reads : Type 0 where
+  pub asked : List ReadRequest
+  pub released : List ReadRequest
+
+abbrev pub no_reads : Reads
+no_reads = record { asked = []; released = [] }
+
+-- first f, then g
+abbrev pub reads_then : Reads → Reads → Reads
+reads_then f g = record { asked = f.asked ++ g.asked; released = f.released ++ g.released }
+
+-- an operation of the stream
+abbrev pub operation_reads : ReadableOperation → readable.Slots → Reads
+operation_reads (Read request) s = record no_reads { asked = request ∷ [] }
+operation_reads ReleaseReader s = record no_reads { released = readable.waiting s }
+operation_reads _ s = no_reads
+
+-- what is asked of readable stream i, where there is one, by an effect
+abbrev pub effect_reads : StreamId → Effect → Slots → Reads
+effect_reads i (Readable j operation) s =
+    if is_same i j && has_readable j s then operation_reads operation (readable_at j s) else no_reads
+effect_reads i _ s = no_reads
+
+-- in a step
+abbrev pub step_reads : StreamId → Slots → Entry → Reads
+step_reads i s x = in_step no_reads reads_then (effect_reads i) s x
+
+-- in a run
+abbrev pub run_reads : StreamId → List Entry → Slots → Reads
+run_reads i xs s = over no_reads reads_then (step_reads i) xs s
+
+-- reads as calls tell them: the promises that are answered to calls that read
+
+-- the promises of requests that are for one
+abbrev pub promises_of : List ReadRequest → List PromiseId
+promises_of [] = []
+promises_of (Promise p ∷ rs) = p ∷ promises_of rs
+
+-- the promise that a reply names
+abbrev pub named_by : Reply → List PromiseId
+named_by (Named p) = p ∷ []
+named_by _ = []
+
+-- the promise of a read by this lock, where that is a reader which has stream i
+abbrev pub asked_with : StreamId → Reply → Option Lock → List PromiseId
+asked_with i reply None = []
+asked_with i reply (Some (Reader None closed)) = []
+asked_with i reply (Some (Reader (Some j) closed)) = if is_same i j then named_by reply else []
+asked_with i reply (Some (Writer j)) = []
+asked_with i reply (Some (ReleasedWriter w)) = []
+
+-- the promise of a call that reads from stream i
+abbrev pub call_asked : StreamId → Call → Slots → List PromiseId
+call_asked i (ReadCall l) s = asked_with i (reply_to (ReadCall l) s) (lock_at l s)
+call_asked i _ s = []
+
+-- in a step
+abbrev pub asked_in_step : StreamId → Slots → Entry → List PromiseId
+asked_in_step i s (Called c) = call_asked i c s
+asked_in_step i s Worked = []
+asked_in_step i s Heard = []
+asked_in_step i s (Forgot p) = []
+
+-- in a run
+abbrev pub asked_by_calls : StreamId → List Entry → Slots → List PromiseId
+asked_by_calls i [] s = []
+asked_by_calls i (x ∷ xs) s = asked_in_step i s x ++ asked_by_calls i xs (step s x)
+
+-- what became of a read: it got a chunk, the stream closed, the stream errored, or its reader was released while it waited
+pub data ReadAnswer : Type 0 where
+  Gets : Value → ReadAnswer
+  Ends : ReadAnswer
+  Fails : ReadAnswer
+  Released : ReadAnswer
+
+-- a read that was answered
+pub record Answered : Type 0 where
+  pub request : ReadRequest
+  pub answer : ReadAnswer
+
+abbrev pub requests_of : List Answered → List ReadRequest
+requests_of [] = []
+requests_of (a ∷ more) = a.request ∷ requests_of more
+
+abbrev pub chunk_got : ReadAnswer → List Value
+chunk_got (Gets v) = v ∷ []
+chunk_got _ = []
+
+-- the chunks that they got
+abbrev pub chunks_got : List Answered → List Value
+chunks_got [] = []
+chunks_got (a ∷ more) = chunk_got a.answer ++ chunks_got more
+
+abbrev pub if_released : ReadRequest → ReadAnswer → List ReadRequest
+if_released request Released = request ∷ []
+if_released request _ = []
+
+-- the requests of those whose reader was released
+abbrev pub released_of : List Answered → List ReadRequest
+released_of [] = []
+released_of (a ∷ more) = if_released a.request a.answer ++ released_of more

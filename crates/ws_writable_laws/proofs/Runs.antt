@@ -116,7 +116,7 @@ call-kept i h s c k =
           still-kept i h s _ _ refl (lightly s.promises t (calls.with_renewed t closed) (renewed-lightens s.promises ready) (renewed-lightens t closed))
           (renewed-clear i s.promises ready _ (renewed-clear i t closed (Writable j ReleaseWriter ∷ []) refl)) k;
       cancel = λ reason j. still-kept i h s _ _ refl (lightens-fresh s.promises) refl k;
-      read = λ j. still-kept i h s _ _ refl (lightens-fresh s.promises) refl k;
+      read = λ l j closed e f. still-kept i h s _ _ refl (lightens-fresh s.promises) refl k;
       write = λ l v j e. still-kept i h s _ _ refl (lightens-fresh s.promises) refl k;
       close = λ j n. asked-kept i j (next_id s.promises) h s (is_same i j) refl n k;
       abort = λ reason j e. still-kept i h s _ _ refl (lightens-fresh s.promises) refl k;
