@@ -1,0 +1,92 @@
+-- What is seen of the agenda: the operations of a readable stream, and the steps of its read requests, by which these are answered.
+use Rattle.std.proofs.Common.{◌≡◌, Bool, true, false, ℕ, ◌≤◌, List, [], ◌∷◌, ◌++◌, map, if◌then◌else◌, refl, sym, ap, ◌∙◌, append-nil}
+use Rattle.ws_value.specs.declared.ids.StreamId.{StreamId}
+use Rattle.ws_value.specs.declared.value.{Outcome.{Outcome}, Outcome.TheVariants.{Given, Finished, Rejected}, Plain.{Plain}, Plain.TheVariants.{Undefined}, Value.{Value}, Value.TheVariants.{Plain as PlainValue}}
+use Rattle.ws_steps.specs.declared.{effects.Effect.{Effect}, effects.Effect.TheVariants.{Readable, ChunkSteps, CloseSteps, ErrorSteps}, readable.ReadRequest.{ReadRequest}}
+use Rattle.ws_steps.specs.declared.{readable.ReadableOperation.{ReadableOperation}, readable.ReadableOperation.TheVariants.{InitializeReader, ReleaseReader, Read}}
+use Rattle.ws_steps.specs.Effects.{Out, cause, cause_all}
+use Rattle.ws_steps.specs.Histories.{is_same}
+use Rattle.ws_steps.specs.Readable.{close_all, error_all}
+use Rattle.ws_steps.specs.ReadableHistory.{ReadAnswer, Ends, Answered}
+use Rattle.ws_steps.specs.Laws.{outcome_of}
+use Rattle.ws_laws.proofs.OnReadable.{all_seen, all_seen-append}
+use Rattle.ws_laws.proofs.Tables.{is_same-refl}
+
+-- a request, with the outcome that its steps tell
+pub record Done : Type 0 where
+  pub request : ReadRequest
+  pub outcome : Outcome
+
+abbrev pub done_of : Plain → Answered → Done
+done_of e a = record { request = a.request; outcome = outcome_of e a.answer }
+
+-- by an effect that is the steps of a request of stream i
+abbrev pub effect_done : StreamId → Effect → List Done
+effect_done i (ChunkSteps j request v) = if is_same i j then record { request = request; outcome = Given v } ∷ [] else []
+effect_done i (CloseSteps j request) = if is_same i j then record { request = request; outcome = Finished (PlainValue Undefined) } ∷ [] else []
+effect_done i (ErrorSteps j request e) = if is_same i j then record { request = request; outcome = Rejected e } ∷ [] else []
+effect_done i _ = []
+
+-- a reader comes, a reader goes, a read is asked, another operation, or the steps of a request
+pub data Mark : Type 0 where
+  Comes : Mark
+  Goes : Mark
+  Asks : Mark
+  Other : Mark
+  Steps : Done → Mark
+
+abbrev pub mark_of : ReadableOperation → Mark
+mark_of (InitializeReader closed) = Comes
+mark_of ReleaseReader = Goes
+mark_of (Read request) = Asks
+mark_of _ = Other
+
+abbrev pub marks : StreamId → Effect → List Mark
+marks i (Readable j operation) = if is_same i j then mark_of operation ∷ [] else []
+marks i e = map Steps (effect_done i e)
+
+-- the steps that are still to be performed
+abbrev pub pending : List Mark → List Done
+pending [] = []
+pending (Steps d ∷ ms) = d ∷ pending ms
+pending (_ ∷ ms) = pending ms
+
+pub pending-append : (ms ns : List Mark) → pending (ms ++ ns) ≡ pending ms ++ pending ns
+pending-append [] ns = refl
+pending-append (Comes ∷ ms) ns = pending-append ms ns
+pending-append (Goes ∷ ms) ns = pending-append ms ns
+pending-append (Asks ∷ ms) ns = pending-append ms ns
+pending-append (Other ∷ ms) ns = pending-append ms ns
+pending-append (Steps d ∷ ms) ns = ap (λ (ds : List Done). d ∷ ds) (pending-append ms ns)
+
+-- those that an operation of stream i has caused so far
+abbrev pub shown : StreamId → Out → List Done
+shown i x = pending (all_seen (marks i) x.effects)
+
+pub shown-all : (i : StreamId) (es : List Effect) (x : Out) → shown i (cause_all es x) ≡ shown i x ++ pending (all_seen (marks i) es)
+shown-all i es x = ap pending (all_seen-append (marks i) x.effects es) ∙ pending-append (all_seen (marks i) x.effects) (all_seen (marks i) es)
+
+pub shown-cause : (i : StreamId) (e : Effect) (x : Out) → shown i (cause e x) ≡ shown i x ++ pending (marks i e)
+shown-cause i e x = shown-all i (e ∷ []) x ∙ ap (λ (ms : List Mark). shown i x ++ pending ms) (append-nil (marks i e))
+
+pub shown-chunk : (i : StreamId) (r : ReadRequest) (v : Value) (x : Out) → shown i (cause (ChunkSteps i r v) x) ≡ shown i x ++ record { request = r; outcome = Given v } ∷ []
+shown-chunk i r v x = rw (shown-cause, is_same-refl) refl
+
+pub shown-close : (i : StreamId) (r : ReadRequest) (x : Out) → shown i (cause (CloseSteps i r) x) ≡ shown i x ++ record { request = r; outcome = Finished (PlainValue Undefined) } ∷ []
+shown-close i r x = rw (shown-cause, is_same-refl) refl
+
+pub shown-error : (i : StreamId) (r : ReadRequest) (e : Plain) (x : Out) → shown i (cause (ErrorSteps i r e) x) ≡ shown i x ++ record { request = r; outcome = Rejected e } ∷ []
+shown-error i r e x = rw (shown-cause, is_same-refl) refl
+
+-- all these requests are answered so
+abbrev pub with_answer : ReadAnswer → List ReadRequest → List Answered
+with_answer w [] = []
+with_answer w (r ∷ rs) = record { request = r; answer = w } ∷ with_answer w rs
+
+pub close_all-shown : (i : StreamId) (e : Plain) (rs : List ReadRequest) → pending (all_seen (marks i) (close_all i rs)) ≡ map (done_of e) (with_answer Ends rs)
+close_all-shown i e [] = refl
+close_all-shown i e (r ∷ rs) = rw is_same-refl (ap (λ (ds : List Done). record { request = r; outcome = Finished (PlainValue Undefined) } ∷ ds) (close_all-shown i e rs))
+
+pub error_all-shown : (i : StreamId) (e f : Plain) (w : ReadAnswer) (rs : List ReadRequest) → outcome_of f w ≡ Rejected e → pending (all_seen (marks i) (error_all i e rs)) ≡ map (done_of f) (with_answer w rs)
+error_all-shown i e f w [] h = refl
+error_all-shown i e f w (r ∷ rs) h = rw (is_same-refl, h) (ap (λ (ds : List Done). record { request = r; outcome = Rejected e } ∷ ds) (error_all-shown i e f w rs h))
