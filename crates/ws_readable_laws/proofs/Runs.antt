@@ -9,7 +9,7 @@ use Rattle.ws_steps.specs.Effects.{Out}
 use Rattle.ws_steps.specs.Operations.{readable_operation}
 use Rattle.ws_steps.specs.Readable as readable
 use Rattle.ws_steps.specs.Readable.{Acts, is_readable, accept_for, accept, call_pull_if_needed, controller_enqueue, after_take, pull_from, pull_steps, read_by, default_reader_read, can_close_or_enqueue, waiting}
-use Rattle.ws_steps.specs.Slots.{Slots, empty, readable_at, no_readable}
+use Rattle.ws_steps.specs.Slots.{Slots, empty, has_readable, readable_at, no_readable}
 use Rattle.ws_steps.specs.Run.{Entry, step, run}
 use Rattle.ws_steps.specs.Histories.{is_same}
 use Rattle.ws_steps.specs.ReadableHistory.{Flow, no_flow, flow_then, values, operation_flow, effect_flow, step_flow, run_flow}
@@ -118,7 +118,7 @@ module _ (i : StreamId) where
   operation-shows (Read r) a h = read_by-shows r (record a { slots = record a.slots { disturbed = true } }) a.slots.state h
   operation-shows operation a h = ends-do (Shows []) i (shows []) operation a refl h
 
-no_gives : (operation : ReadableOperation) (r : readable.Slots) → (operation_flow operation r).given ≡ []
+pub no_gives : (operation : ReadableOperation) (r : readable.Slots) → (operation_flow operation r).given ≡ []
 no_gives (Enqueue v) r = either (λ (f : Flow). f.given ≡ []) (can_close_or_enqueue r) _ no_flow (λ e. refl) (λ e. refl)
 no_gives (Read request) r = refl
 no_gives (Cancel reason p) r = refl
@@ -171,6 +171,10 @@ idle_flow (Enqueue v) = refl
 idle_flow (Read request) = refl
 idle_flow (Cancel r p) = refl
 idle_flow _ = refl
+
+-- where there is no such stream, nothing flows
+pub nothing_there : (i : StreamId) (operation : ReadableOperation) (s : Slots) → has_readable i s ≡ false → effect_flow i (OnReadable i operation) s ≡ no_flow
+nothing_there i operation s none = rw (is_same-refl i, no_readable_there (slice_get s.streams i.0) none) (idle_flow operation)
 
 module _ (i : StreamId) where
   unseen : (e : Effect) → IsForeign i e → mark i e ≡ []
@@ -250,7 +254,7 @@ module _ (i : StreamId) where
     unseen = unseen;
     untold = untold;
     operation = λ operation s h ms there k. rw (is_same-refl i) (taking_keeps operation s h ms (is_taking operation) refl (rw (is_same-refl i) at k));
-    idle = λ operation s e. rw (is_same-refl i, no_readable_there (slice_get s.streams i.0) e) (idle_flow operation);
+    idle = nothing_there i;
     absent = λ operation h locks ms k. absent_keeps h ms (is_taking operation) (rw (is_same-refl i) at k);
     steps = λ e same s h locks r ms k. steps_keep e same s h r ms k;
     steps_unmade = λ e same s h locks n. not_cancelled e same s h n;
