@@ -84,5 +84,8 @@ run-straight entries =
     })
     entries empty (record { known = λ i. (no_writes, none_made i); sound = sound_empty })
 
+pub run-sound : (entries : List Entry) → Sound (λ x. 0) (run entries empty)
+run-sound entries = (run-straight entries).sound
+
 pub none_goes_astray : NoneGoesAstray
 none_goes_astray entries = (run-straight entries).sound.holds.straight

@@ -1,3 +1,9 @@
 pub mod Marks
 pub mod Line
 pub mod Runs
+pub mod Outcomes
+pub mod Waiting
+pub mod Asked
+pub mod Rising
+pub mod Answered
+pub mod Ended

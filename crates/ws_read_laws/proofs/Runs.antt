@@ -65,7 +65,7 @@ over-parts i (x ∷ xs) s = rw (along-parts i (moments_in s x), over-parts i xs 
 reads-left : (h : Reads) → reads_then no_reads h ≡ h
 reads-left h = refl
 
-reads-assoc : (f g h : Reads) → reads_then (reads_then f g) h ≡ reads_then f (reads_then g h)
+pub reads-assoc : (f g h : Reads) → reads_then (reads_then f g) h ≡ reads_then f (reads_then g h)
 reads-assoc f g h = λ i. record { asked = append_assoc f.asked g.asked h.asked i; released = append_assoc f.released g.released h.released i }
 
 is_history : IsHistory no_told told_then

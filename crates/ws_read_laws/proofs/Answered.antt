@@ -1,0 +1,62 @@
+-- What reads get, over every run.
+use Rattle.std.proofs.Common.{◌≡◌, List, [], ◌∷◌, ◌++◌, map, All, refl, sym, ap, subst, ◌∙◌, append-nil}
+use Rattle.std.proofs.lemmas.List.Elements.{All-nil, All-cons, All-head, All-tail, All-same}
+use Rattle.ws_value.specs.declared.{ids.PromiseId.{PromiseId}, ids.StreamId.{StreamId}}
+use Rattle.ws_value.specs.declared.value.{Plain.{Plain}, Value.{Value}}
+use Rattle.ws_steps.specs.Laws.{outcome_of, Tells, RiseFrom, AreAnswered, EachReadIsAnswered}
+use Rattle.ws_steps.specs.Promises.{Table}
+use Rattle.ws_steps.specs.ReadableHistory.{ReadAnswer, Gets, Ends, Fails, Released, Answered, chunk_got, chunks_got, run_reads, promises_of}
+use Rattle.ws_steps.specs.Readable as readable
+use Rattle.ws_steps.specs.Run.{Entry, run, is_forgotten}
+use Rattle.ws_steps.specs.Slots.{Slots, empty, readable_at}
+use Rattle.std.specs.Prelude.{Bool}
+use Rattle.ws_promise_laws.proofs.Runs.{none_goes_astray}
+use Rattle.ws_read_laws.proofs.Marks.{Done, done_of}
+use Rattle.ws_read_laws.proofs.Runs.{given_by, given_of, run_done, run-held}
+use Rattle.ws_read_laws.proofs.Outcomes.{run-told}
+use Rattle.ws_read_laws.proofs.Waiting.{run-waiting}
+use Rattle.ws_read_laws.proofs.Asked.{reads_were_answered}
+use Rattle.ws_read_laws.proofs.Rising.{run-rises}
+
+gives : (e : Plain) (answer : ReadAnswer) → given_by (outcome_of e answer) ≡ chunk_got answer
+gives e (Gets v) = refl
+gives e Ends = refl
+gives e Fails = refl
+gives e Released = refl
+
+all-give : (e : Plain) (xs : List Answered) → given_of (map (done_of e) xs) ≡ chunks_got xs
+all-give e [] = refl
+all-give e (x ∷ xs) = rw (gives e x.answer, all-give e xs) refl
+
+module _ (gone : PromiseId → Bool) (t : Table) (e : Plain) where
+  abbrev IsDone : Done → Type 0
+  IsDone d = Tells gone t d.request d.outcome
+
+  abbrev IsTold : Answered → Type 0
+  IsTold a = Tells gone t a.request (outcome_of e a.answer)
+
+  all-told : (xs : List Answered) → All IsDone (map (done_of e) xs) → All IsTold xs
+  all-told [] a = All-nil IsTold
+  all-told (x ∷ xs) a = All-cons IsTold x xs (All-head IsDone (done_of e x) (map (done_of e) xs) a) (all-told xs (All-tail IsDone (done_of e x) (map (done_of e) xs) a))
+
+pub each_read_is_answered : EachReadIsAnswered
+each_read_is_answered entries i =
+    let s : Slots = run entries empty in
+    let r : readable.Slots = readable_at i s in
+    let gone : PromiseId → Bool = λ p. is_forgotten p entries empty in
+    let k = run-held i entries in
+    let told : map (done_of r.stored_error) k.line.answered ≡ run_done i entries empty = k.line.told ∙ append-nil (run_done i entries empty) in
+    record {
+      answered = k.line.answered;
+      order = k.line.order;
+      told =
+          all-told gone s.promises r.stored_error k.line.answered
+          (All-same (IsDone gone s.promises r.stored_error) (map (done_of r.stored_error) k.line.answered) (run_done i entries empty) told (run-told i entries empty (none_goes_astray entries)));
+      waiting = run-waiting gone entries i;
+      given = sym (all-give r.stored_error k.line.answered) ∙ (ap given_of told ∙ k.given);
+      released = k.line.released;
+      allowed = k.line.allowed;
+      ended = k.line.ended;
+      served = k.line.served;
+      own = subst (λ (ps : List PromiseId). RiseFrom 0 ps) (sym (reads_were_answered entries i)) (run-rises i entries empty);
+    }

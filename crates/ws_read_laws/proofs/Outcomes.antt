@@ -1,0 +1,117 @@
+-- The steps of a request that were performed left its promise with their outcome, which it keeps.
+use Rattle.std.proofs.Common.{◌≡◌, Bool, true, false, ◌||◌, if◌then◌else◌, List, [], ◌∷◌, ◌++◌, All, Option, Some, None, Err, slice_get, slice_set, refl, sym, ap, ◌∙◌, append_assoc, append-nil}
+use Rattle.std.proofs.lemmas.List.Elements.{All-nil, All-cons, All-append, All-weaker}
+use Rattle.std.specs.Option.{option_map}
+use Rattle.ws_value.specs.declared.{ids.PromiseId.{PromiseId}, ids.StreamId.{StreamId}}
+use Rattle.ws_value.specs.declared.value.{Outcome.{Outcome}, Outcome.TheVariants.{Given, Finished, Rejected}, Plain.TheVariants.{Undefined}, Value.TheVariants.{Plain as PlainValue}}
+use Rattle.ws_steps.specs.declared.{calls.Reply.{Reply}, calls.Reply.TheVariants.{Promise as Named}, effects.Effect.{Effect}, effects.Effect.TheVariants.{ChunkSteps, CloseSteps, ErrorSteps}}
+use Rattle.ws_steps.specs.declared.{readable.ReadRequest.{ReadRequest}, readable.ReadRequest.TheVariants.{Promise}}
+use Rattle.ws_steps.specs.Calls.{begin, named}
+use Rattle.ws_steps.specs.Histories.{is_same, along}
+use Rattle.ws_steps.specs.Jobs.{begin_job}
+use Rattle.ws_steps.specs.Laws.{Tells}
+use Rattle.ws_steps.specs.Promises.{Entry, Table, live, entry_at, outcome_at, with_entry, is_pending, is_open, is_open_entry, ended_as, noted, settle, answer, answer_entry, went_astray, watch}
+use Rattle.ws_steps.specs.Run.{Entry as Step, Called, Worked, Heard, Forgot, step, run, lets_go, is_forgotten}
+use Rattle.ws_steps.specs.Slots.{Slots, Done as Begun, nothing}
+use Rattle.ws_steps.specs.Turns.{row, moments, performed}
+use Rattle.ws_steps.proofs.PromiseLaws.{entry_within, entry_at-with_entry_same}
+use Rattle.ws_laws.proofs.Outcomes.{Keeps, keeps-same, keeps-watch, entries_noted}
+use Rattle.ws_laws.proofs.Rows.{row-changes}
+use Rattle.ws_laws.proofs.Stays.{keeps-changes, each_outcome_stays, each_mark_stays}
+use Rattle.ws_laws.proofs.Tables.{either}
+use Rattle.ws_laws.proofs.Truth.{nor_right, refuted}
+use Rattle.ws_laws.proofs.Walker.{IsHistory, performed-goes, nothing-told}
+use Rattle.ws_write_laws.proofs.Rejecting.{straight_before, settled_straight}
+use Rattle.ws_read_laws.proofs.Marks.{Done, effect_done}
+use Rattle.ws_read_laws.proofs.Runs.{step_done, run_done}
+
+-- a read's promise that is fulfilled where nothing goes astray
+
+outcome_put : (q : PromiseId) (o : Outcome) (t : Table) (x : Option Entry) → x ≡ entry_at t q → is_open_entry x ≡ true → outcome_at (answer_entry q o t x) q ≡ Some o
+outcome_put q o t None e h = cc
+outcome_put q o t (Some e) h k =
+    let d : Entry = ended_as o e in
+    let at : entry_at (noted q (with_entry q (Some d) t) e.rank) q ≡ Some d =
+    ap (λ (es : List (Option Entry)). live (slice_get es q.0)) (entries_noted q (with_entry q (Some d) t) e.rank) ∙ entry_at-with_entry_same t q (Some d) (entry_within t q e (sym h)) in
+    ap (λ (x : Option Entry). option_map (λ (e : Entry). e.outcome) x) at
+
+answered_by : (q : PromiseId) (o : Outcome) (t : Table) (open_ : Bool) → open_ ≡ is_open q t → (answer q o t).astray ≡ false → outcome_at (answer q o t) q ≡ Some o
+unfolding answer
+answered_by q o t true e a = rw (← e) (outcome_put q o t (entry_at t q) refl (sym e))
+answered_by q o t false e a = let n : (if is_open q t then answer_entry q o t (entry_at t q) else went_astray t).astray ≡ true = rw (← e) refl in cc
+
+answered_straight : (q : PromiseId) (o : Outcome) (t : Table) → (answer q o t).astray ≡ false → outcome_at (answer q o t) q ≡ Some o
+answered_straight q o t a = answered_by q o t (is_open q t) refl a
+
+-- the promise of a request has settled so
+abbrev IsSettled : Table → Done → Type 0
+IsSettled t d = (is_pending d.outcome ≡ false) × Tells (λ p. false) t d.request d.outcome
+
+tells-later : (t z : Table) (r : ReadRequest) (o : Outcome) → Keeps t z → is_pending o ≡ false → Tells (λ p. false) t r o → Tells (λ p. false) z r o
+tells-later t z (Promise p) o k n h = λ g. k.outcome p o n (h g)
+
+settled-later : (t z : Table) (ds : List Done) → Keeps t z → All (IsSettled t) ds → All (IsSettled z) ds
+settled-later t z ds k a = All-weaker (IsSettled t) (IsSettled z) (λ d s. (s.0, tells-later t z d.request d.outcome k s.0 s.1)) ds a
+
+module _ (i : StreamId) where
+  one_settled : (same : Bool) (t : Table) (d : Done) → IsSettled t d → All (IsSettled t) (if same then d ∷ [] else [])
+  one_settled true t d s = All-cons (IsSettled t) d [] s (All-nil (IsSettled t))
+  one_settled false t d s = All-nil (IsSettled t)
+
+  row-settled : (e : Effect) (s : Slots) → (row e s).slots.promises.astray ≡ false → All (IsSettled (row e s).slots.promises) (effect_done i e)
+  unfolding row
+  row-settled (ChunkSteps j (Promise p) v) s a = one_settled (is_same i j) (answer p (Given v) s.promises) _ (refl, λ g. answered_straight p (Given v) s.promises a)
+  row-settled (CloseSteps j (Promise p)) s a =
+      one_settled (is_same i j) (answer p (Finished (PlainValue Undefined)) s.promises) _ (refl, λ g. answered_straight p (Finished (PlainValue Undefined)) s.promises a)
+  row-settled (ErrorSteps j (Promise p) e) s a = one_settled (is_same i j) (settle p (Err e) s.promises) _ (refl, λ g. settled_straight p (Err e) s.promises a)
+  row-settled e s a = All-nil (IsSettled (row e s).slots.promises)
+
+  abbrev SettledIn : List Done → Slots → List Effect → Type 0
+  SettledIn ds s es = s.promises.astray ≡ false → All (IsSettled s.promises) ds
+
+  lists : IsHistory {H = List Done} [] ◌++◌
+  lists = record { left = λ h. refl; right = append-nil; assoc = append_assoc }
+
+  row-keeps : (e : Effect) (s : Slots) → Keeps s.promises (row e s).slots.promises
+  row-keeps e s = row-changes (Keeps s.promises) (keeps-changes s.promises) e s (keeps-same s.promises)
+
+  row-settles : (ds : List Done) (s : Slots) (e : Effect) (es : List Effect) → SettledIn ds s (e ∷ es) → SettledIn (ds ++ effect_done i e) (row e s).slots ((row e s).caused ++ es)
+  row-settles ds s e es k a =
+      let z : Table = (row e s).slots.promises in
+      All-append (IsSettled z) ds (effect_done i e) (settled-later s.promises z ds (row-keeps e s) (k (straight_before s.promises z (row-keeps e s) a))) (row-settled e s a)
+
+  performed-settled : (d : Begun) → SettledIn (along [] ◌++◌ (λ e s. effect_done i e) (moments d)) (performed d) []
+  performed-settled d = performed-goes [] ◌++◌ lists (λ e s. effect_done i e) SettledIn row-settles [] d (λ a. All-nil (IsSettled d.slots.promises))
+
+  named-keeps : (reply : Reply) (s : Slots) → Keeps s.promises (named reply s).promises
+  named-keeps (Named p) s = keeps-watch p s.promises
+  named-keeps _ s = keeps-same s.promises
+
+  step-settled : (s : Slots) (x : Step) → (step s x).promises.astray ≡ false → All (IsSettled (step s x).promises) (step_done i s x)
+  step-settled s (Called c) a =
+      let z : Slots = performed (begin c s).done in
+      let k = named-keeps (begin c s).reply z in
+      settled-later z.promises (named (begin c s).reply z).promises (step_done i s (Called c)) k (performed-settled (begin c s).done (straight_before z.promises (named (begin c s).reply z).promises k a))
+  step-settled s Worked a = performed-settled (begin_job s) a
+  step-settled s Heard a = rw (nothing-told [] ◌++◌ lists (λ e s. effect_done i e) s) (All-nil (IsSettled (step s Heard).promises))
+  step-settled s (Forgot p) a = rw (nothing-told [] ◌++◌ lists (λ e s. effect_done i e) s) (All-nil (IsSettled (step s (Forgot p)).promises))
+
+  -- to the end of a run, unless the host lets go of it
+
+  abbrev IsTold : List Step → Slots → Done → Type 0
+  IsTold xs s d = Tells (λ p. is_forgotten p xs s) (run xs s).promises d.request d.outcome
+
+  stays-told : (x : Step) (xs : List Step) (s : Slots) (r : ReadRequest) (o : Outcome) → is_pending o ≡ false → Tells (λ p. false) (step s x).promises r o → Tells (λ p. is_forgotten p (x ∷ xs) s) (run (x ∷ xs) s).promises r o
+  stays-told x xs s (Promise p) o n h = λ g. each_outcome_stays (step s x) xs p o n (nor_right (lets_go p s x) (is_forgotten p xs (step s x)) g) (h refl)
+
+  later-told : (x : Step) (xs : List Step) (s : Slots) (r : ReadRequest) (o : Outcome) → Tells (λ p. is_forgotten p xs (step s x)) (run xs (step s x)).promises r o → Tells (λ p. is_forgotten p (x ∷ xs) s) (run (x ∷ xs) s).promises r o
+  later-told x xs s (Promise p) o h = λ g. h (nor_right (lets_go p s x) (is_forgotten p xs (step s x)) g)
+
+  pub run-told : (xs : List Step) (s : Slots) → (run xs s).promises.astray ≡ false → All (IsTold xs s) (run_done i xs s)
+  run-told [] s a = All-nil (IsTold [] s)
+  run-told (x ∷ xs) s a =
+      let z : Slots = step s x in
+      let straight : z.promises.astray ≡ false = refuted z.promises.astray (run xs z).promises.astray (each_mark_stays z xs) a in
+      All-append (IsTold (x ∷ xs) s) (step_done i s x) (run_done i xs z)
+      (All-weaker (IsSettled z.promises) (IsTold (x ∷ xs) s) (λ d h. stays-told x xs s d.request d.outcome h.0 h.1) (step_done i s x) (step-settled s x straight))
+      (All-weaker (IsTold xs z) (IsTold (x ∷ xs) s) (λ d h. later-told x xs s d.request d.outcome h) (run_done i xs z) (run-told xs z a))

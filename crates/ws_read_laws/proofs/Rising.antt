@@ -1,0 +1,146 @@
+-- Promises are made and never unmade, so the promise of each read has a higher number than those of the reads before it.
+use Rattle.std.proofs.Common.{◌≡◌, ℕ, ◌+◌, ◌≤◌, Bool, true, false, List, [], ◌∷◌, ◌++◌, length, Option, Some, None, Result, if◌then◌else◌, refl, ap, ◌∙◌, arith}
+use Rattle.ws_value.specs.declared.{ids.LockId.{LockId}, ids.PromiseId.{PromiseId}, ids.StreamId.{StreamId}}
+use Rattle.ws_steps.specs.declared.{calls.Call.{Call}, calls.Call.TheVariants.{Read as ReadCall}, calls.Reply.{Reply}, calls.Reply.TheVariants.{Promise as Named}}
+use Rattle.ws_steps.specs.declared.{locks.Lock.{Lock}, locks.Lock.TheVariants.{Reader, Writer, ReleasedWriter}, promises.Job.{Job}, promises.Job.TheVariants.{Reaction as ReactionJob, Follow, Settle, Micro as MicroJob}, promises.Reaction.TheVariants.{Adopt}}
+use Rattle.ws_steps.specs.Calls.{Begun, begin, unsupported, by_reader, named}
+use Rattle.ws_steps.specs.Calls as calls
+use Rattle.ws_steps.specs.Histories.{is_same}
+use Rattle.ws_steps.specs.Jobs.{job_begun, begin_job}
+use Rattle.ws_steps.specs.Laws.{RiseFrom}
+use Rattle.ws_steps.specs.Promises.{Entry, Table, next_id, fresh, react, taken, after_first, after_next_job, next_job, watch, let_go}
+use Rattle.ws_steps.specs.Slots.{Slots, Done, has_readable, lock_at}
+use Rattle.ws_steps.specs.Turns.{row, performed}
+use Rattle.ws_steps.specs.ReadableHistory.{named_by, asked_with, call_asked, asked_in_step, asked_by_calls}
+use Rattle.ws_steps.specs.Run.{Entry as Step, Called, Worked, Heard, Forgot, step, reply_to}
+use Rattle.ws_steps.proofs.PromiseLaws.{length-fresh, length-with_entry}
+use Rattle.ws_room_laws.proofs.Turns.{performed-kept}
+use Rattle.ws_laws.proofs.Begin.{begin-makes}
+use Rattle.ws_laws.proofs.Cases.{Puts, settle-cases, answer-cases, react-cases, follow-cases, unfollow-cases, watch-cases}
+use Rattle.ws_laws.proofs.LettingGo.{let_go-either}
+use Rattle.ws_laws.proofs.Rows.{Changes, row-changes}
+use Rattle.ws_laws.proofs.Tables.{either}
+
+-- so many promises were made at least
+module _ (n : ℕ) where
+  abbrev Made : Table → Type 0
+  Made t = n ≤ length t.entries
+
+  put-made : (q : PromiseId) (t z : Table) (e d : Entry) (more : List Job) → Puts q t z e d more → Made t → Made z
+  put-made q t z e d more w k =
+      let m : length z.entries ≡ length t.entries = ap length w.entries ∙ length-with_entry t q (Some d) in
+      omega arith
+
+  react-made : (t : Table) (p : PromiseId) (r : _) → Made t → Made (react p r t)
+  react-made t p r k = react-cases Made p t r k (λ o. k) (λ e z o w. put-made p t z e _ _ w k)
+
+  changes : Changes Made
+  changes = record {
+    fresh = λ t k. let m = length-fresh t in omega arith;
+    settle = λ t p o k. settle-cases Made p t o k (λ e z i w. put-made p t z e _ _ w k);
+    answer = λ t p o k. answer-cases Made p t o k (λ e z i w. put-made p t z e _ _ w k);
+    react = react-made;
+    follow = λ t p q k. follow-cases Made p t q k (λ e z i w. put-made p t z e _ _ w k);
+    tell = λ t e k. k;
+  }
+
+  taken-made : (job : Job) (t : Table) → Made t → Made (taken job t)
+  taken-made (ReactionJob step r derived) t k = k
+  taken-made (Follow p q) t k = react-made t q (Adopt p) k
+  taken-made (Settle p r) t k = unfollow-cases Made p t k (λ e z i w. put-made p t z e _ _ w k)
+  taken-made (MicroJob m) t k = k
+
+  next-made : (t : Table) (js : List Job) → Made t → Made (after_first t js)
+  next-made t [] k = k
+  next-made t (j ∷ js) k = taken-made j (record t { jobs = js }) k
+
+  job-made : (s : Slots) (job : Option Job) → Made s.promises → Made (job_begun s job).slots.promises
+  unfolding after_next_job
+  job-made s None k = k
+  job-made s (Some job) k = next-made s.promises s.promises.jobs k
+
+  performed-made : (d : Done) → Made d.slots.promises → Made (performed d).promises
+  performed-made d k = performed-kept (λ ms s es. Made s.promises) (λ ms s e es k. row-changes Made changes e s k) d k
+
+  watch-made : (p : PromiseId) (t : Table) → Made t → Made (watch p t)
+  watch-made p t k = watch-cases Made p t k (λ e z i w. put-made p t z e _ _ w k)
+
+  named-made : (reply : Reply) (s : Slots) → Made s.promises → Made (named reply s).promises
+  named-made (Named p) s k = watch-made p s.promises k
+  named-made _ s k = k
+
+  called-made : (c : Call) (s : Slots) → Made (begin c s).done.slots.promises → Made (step s (Called c)).promises
+  called-made c s k = named-made (begin c s).reply (performed (begin c s).done) (performed-made (begin c s).done k)
+
+  begin-made : (c : Call) (s : Slots) → Made s.promises → Made (begin c s).done.slots.promises
+  begin-made c s k = begin-makes (λ z. Made z.promises) (record {
+    promise = λ z k. changes.fresh z.promises k;
+    locks = λ z ls k. k;
+    hosts = λ z hs k. k;
+    readable = λ z mark size k. k;
+    writable = λ z mark size k. k;
+  }) c s k
+
+  step-made : (s : Slots) (x : Step) → Made s.promises → Made (step s x).promises
+  unfolding begin_job
+  step-made s (Called c) k = called-made c s (begin-made c s k)
+  step-made s Worked k = performed-made (begin_job s) (job-made s (next_job s.promises) k)
+  step-made s Heard k = k
+  step-made s (Forgot p) k = let_go-either Made p s.promises k (λ e h g. let m = length-with_entry s.promises p None in omega arith)
+
+-- numbers that rise from n on and are below m
+abbrev Between : ℕ → ℕ → List PromiseId → Type 0
+Between n m [] = n ≤ m
+Between n m (p ∷ ps) = (n ≤ p.0) × Between (p.0 + 1) m ps
+
+rise-later : (n m : ℕ) (ps : List PromiseId) → n ≤ m → RiseFrom m ps → RiseFrom n ps
+rise-later n m [] l r = tt
+rise-later n m (p ∷ ps) l r = (let k = r.0 in omega arith, r.1)
+
+rise-append : (n m : ℕ) (ps qs : List PromiseId) → Between n m ps → RiseFrom m qs → RiseFrom n (ps ++ qs)
+rise-append n m [] qs b r = rise-later n m qs b r
+rise-append n m (p ∷ ps) qs b r = (b.0, rise-append (p.0 + 1) m ps qs b.1 r)
+
+abbrev count : Slots → ℕ
+count s = length s.promises.entries
+
+self : (n : ℕ) → n ≤ n
+self n = omega arith
+
+more : (c : Call) (s : Slots) → count s ≤ count (step s (Called c))
+more c s = called-made (count s) c s (begin-made (count s) c s (self (count s)))
+
+-- the promise of a read is the next
+
+named-between : (l : LockId) (j : StreamId) (s : Slots) (there : Bool) → begin (ReadCall l) s ≡ (if there then calls.read j s else unsupported s) → Between (count s) (count (step s (Called (ReadCall l)))) (named_by (reply_to (ReadCall l) s))
+named-between l j s false e =
+    let none : named_by (reply_to (ReadCall l) s) ≡ [] = ap (λ (b : Begun). named_by b.reply) e in
+    rw none (more (ReadCall l) s)
+named-between l j s true e =
+    let one : named_by (reply_to (ReadCall l) s) ≡ next_id s.promises ∷ [] = ap (λ (b : Begun). named_by b.reply) e in
+    let made : count (begin (ReadCall l) s).done.slots ≡ count s + 1 = ap (λ (b : Begun). count b.done.slots) e ∙ length-fresh s.promises in
+    rw one (self (count s), called-made (count s + 1) (ReadCall l) s (omega arith))
+
+read-between : (i : StreamId) (l : LockId) (s : Slots) (o : Option Lock) → begin (ReadCall l) s ≡ by_reader calls.read calls.rejected s o → Between (count s) (count (step s (Called (ReadCall l)))) (asked_with i (reply_to (ReadCall l) s) o)
+read-between i l s None e = more (ReadCall l) s
+read-between i l s (Some (Reader None closed)) e = more (ReadCall l) s
+read-between i l s (Some (Reader (Some j) closed)) e =
+    either (Between (count s) (count (step s (Called (ReadCall l))))) (is_same i j) (named_by (reply_to (ReadCall l) s)) []
+    (λ same. named-between l j s (has_readable j s) e) (λ other. more (ReadCall l) s)
+read-between i l s (Some (Writer j)) e = more (ReadCall l) s
+read-between i l s (Some (ReleasedWriter w)) e = more (ReadCall l) s
+
+call-between : (i : StreamId) (c : Call) (s : Slots) → Between (count s) (count (step s (Called c))) (call_asked i c s)
+unfolding begin
+call-between i (ReadCall l) s = read-between i l s (lock_at l s) refl
+call-between i c s = more c s
+
+step-between : (i : StreamId) (s : Slots) (x : Step) → Between (count s) (count (step s x)) (asked_in_step i s x)
+step-between i s (Called c) = call-between i c s
+step-between i s Worked = step-made (count s) s Worked (self (count s))
+step-between i s Heard = step-made (count s) s Heard (self (count s))
+step-between i s (Forgot p) = step-made (count s) s (Forgot p) (self (count s))
+
+pub run-rises : (i : StreamId) (xs : List Step) (s : Slots) → RiseFrom (count s) (asked_by_calls i xs s)
+run-rises i [] s = tt
+run-rises i (x ∷ xs) s = rise-append (count s) (count (step s x)) (asked_in_step i s x) (asked_by_calls i xs (step s x)) (step-between i s x) (run-rises i xs (step s x))

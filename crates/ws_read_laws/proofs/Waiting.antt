@@ -1,0 +1,54 @@
+-- The promise of a read that waits is pending.
+use Rattle.std.proofs.Common.{◌≡◌, ℕ, ◌+◌, ◌≤◌, zero, suc, Bool, true, false, not, List, [], ◌∷◌, All, Option, Some, None, slice_get, refl, sym, ap, ◌∙◌, arith}
+use Rattle.std.proofs.lemmas.List.Elements.{All-nil, All-cons}
+use Rattle.std.specs.Option.{option_map}
+use Rattle.ws_value.specs.declared.{ids.PromiseId.{PromiseId}, ids.StreamId.{StreamId}}
+use Rattle.ws_value.specs.declared.value.{Outcome.{Outcome}, Outcome.TheVariants.{Pending, Fulfilled, Given, Finished, Rejected}}
+use Rattle.ws_steps.specs.declared.{readable.ReadRequest.{ReadRequest}, readable.ReadRequest.TheVariants.{Promise}}
+use Rattle.ws_steps.specs.Laws.{Tells}
+use Rattle.ws_steps.specs.Promises.{Entry, Table, live, entry_at, outcome_at, is_pending, is_open_entry}
+use Rattle.ws_steps.specs.Run.{Entry as Step, run}
+use Rattle.ws_steps.specs.Slots.{Slots, Stream, ReadableStream, WritableStream, empty, readable_at, as_readable}
+use Rattle.ws_laws.proofs.Weights.{weigh}
+use Rattle.ws_promise_laws.proofs.Holds.{named, shut, is_unsettled, when}
+use Rattle.ws_promise_laws.proofs.Realm.{in_stream, in_all, firm_in, loosely_in}
+use Rattle.ws_promise_laws.proofs.Runs.{run-sound}
+use Rattle.ws_promise_laws.proofs.Streams.{in_requests}
+use Rattle.ws_promise_laws.proofs.Tokens.{one_if, names, of_request, in_reaction}
+
+open-pending : (x : Option Entry) → one_if (not (is_open_entry x)) ≤ 0 → option_map (λ (e : Entry). e.outcome) x ≡ Some Pending
+open-pending None n = absurd (omega arith)
+open-pending (Some e) n = by e.outcome refl
+  where
+    by : (o : Outcome) → o ≡ e.outcome → Some e.outcome ≡ Some Pending
+    by Pending h = ap (λ (o : Outcome). Some o) (sym h)
+    by (Fulfilled v) h = let m : 1 ≤ 0 = rw (← h) at n in absurd (omega arith)
+    by (Given v) h = let m : 1 ≤ 0 = rw (← h) at n in absurd (omega arith)
+    by (Finished v) h = let m : 1 ≤ 0 = rw (← h) at n in absurd (omega arith)
+    by (Rejected r) h = let m : 1 ≤ 0 = rw (← h) at n in absurd (omega arith)
+
+in_all-there : (h : Stream → ℕ) (n : ℕ) (ss : List Stream) (y : Stream) → slice_get ss n ≡ Some y → h y ≤ in_all h ss
+in_all-there h n [] y e = cc
+in_all-there h zero (s ∷ ss) y e = let same : s ≡ y = cc in rw (← same) (omega arith)
+in_all-there h (suc n) (s ∷ ss) y e = let rest = in_all-there h n ss y e in omega arith
+
+-- the requests of a stream are some of those of the realm
+in_realm : (p : PromiseId) (s : Slots) (n : ℕ) (place : Option Stream) → slice_get s.streams n ≡ place → in_requests p (as_readable place).requests ≤ firm_in p s
+in_realm p s n None e = omega arith
+in_realm p s n (Some (ReadableStream r)) e = let m = in_all-there (in_stream p) n s.streams (ReadableStream r) e in omega arith
+in_realm p s n (Some (WritableStream w)) e = omega arith
+
+waits-pending : (entries : List Step) (i : StreamId) (p : PromiseId) → let s : Slots = run entries empty in 1 ≤ in_requests p (readable_at i s).requests → outcome_at s.promises p ≡ Some Pending
+waits-pending entries i p n =
+    let s : Slots = run entries empty in
+    let once = (run-sound entries).holds.once p in
+    let m = in_realm p s i.0 (slice_get s.streams i.0) refl in
+    open-pending (entry_at s.promises p) (omega arith)
+
+all-wait : (gone : PromiseId → Bool) (t : Table) (rs : List ReadRequest) → ((p : PromiseId) → 1 ≤ in_requests p rs → outcome_at t p ≡ Some Pending) → All (λ r. Tells gone t r Pending) rs
+all-wait gone t [] h = All-nil (λ r. Tells gone t r Pending)
+all-wait gone t (Promise p ∷ rs) h =
+    All-cons (λ r. Tells gone t r Pending) (Promise p) rs (λ g. h p (let n = named p in omega arith)) (all-wait gone t rs (λ q n. h q (omega arith)))
+
+pub run-waiting : (gone : PromiseId → Bool) (entries : List Step) (i : StreamId) → All (λ r. Tells gone (run entries empty).promises r Pending) (readable_at i (run entries empty)).requests
+run-waiting gone entries i = all-wait gone (run entries empty).promises (readable_at i (run entries empty)).requests (waits-pending entries i)
