@@ -9,13 +9,13 @@ use Rattle.ws_steps.specs.declared.{readable.ReadableOperation.{ReadableOperatio
 use Rattle.ws_steps.specs.Operations.{readable_operation, writable_operation}
 use Rattle.ws_steps.specs.Readable as readable
 use Rattle.ws_steps.specs.Writable as writable
-use Rattle.ws_steps.specs.Slots.{Slots, Stream, ReadableStream, WritableStream, Done, on_readable, has_readable, readable_at, as_readable, no_readable, empty}
+use Rattle.ws_steps.specs.Slots.{Slots, Stream, ReadableStream, WritableStream, Done, on_readable, has_readable, is_readable_stream, readable_at, as_readable, no_readable, empty}
 use Rattle.ws_steps.specs.Turns.{row}
 use Rattle.ws_steps.specs.Jobs.{job_effects}
 use Rattle.ws_steps.specs.Calls.{begin}
 use Rattle.ws_steps.specs.Run.{Entry, step, run}
 use Rattle.ws_steps.specs.Histories.{is_same, in_step, over}
-use Rattle.ws_laws.proofs.Tables.{same_id, eq_numbers, unequal_numbers, readable_acts, on_readable-same, on_readable-other, on_readable-none, on_writable-none, on_writable-readable, no_readable_there, no_stream, place_last, place_before}
+use Rattle.ws_laws.proofs.Tables.{same_id, eq_numbers, unequal_numbers, readable_acts, on_readable-same, on_readable-other, on_writable-there, on_writable-readable, no_readable_there, no_stream, place_last, place_before}
 use Rattle.ws_laws.proofs.Lists.{Each}
 use Rattle.ws_laws.proofs.Rows.{Causes, row-causes, row-locks, row-streams}
 use Rattle.ws_laws.proofs.Begin.{begin-makes}
@@ -59,11 +59,11 @@ foreign-causes i _ f = tt
 -- K and M at a moment
 pub record Kept {H V : Type 0} (seen : Effect → List V) (i : StreamId) (K : H → List Lock → readable.Slots → List V → Type 0) (M : H → List Lock → Type 0)
     (h : H) (locks : List Lock) (streams : List Stream) (es : List Effect) : Type 0 where
-  pub unmade : slice_get streams i.0 ≡ None → M h locks
+  pub unmade : is_readable_stream (slice_get streams i.0) ≡ false → M h locks
   pub held : K h locks (as_readable (slice_get streams i.0)) (all_seen seen es)
 
 -- what is to be shown of K, which is to hold of what has happened to stream i, of the locks, of its record, and of what is seen of the
--- effects that still stand; and of M, which is to hold of what has happened and of the locks until the stream is made
+-- effects that still stand; and of M, which is to hold of what has happened and of the locks where there is no such stream
 pub record IsLaw {H V : Type 0} (none : H) (after : H → H → H) (told : Effect → Slots → H) (seen : Effect → List V) (i : StreamId)
     (K : H → List Lock → readable.Slots → List V → Type 0) (M : H → List Lock → Type 0) : Type 0 where
   pub history : IsHistory none after
@@ -91,13 +91,13 @@ module _ {H V : Type 0} (none : H) (after : H → H → H) (told : Effect → Sl
   none_seen [] f = refl
   none_seen (e ∷ es) f = rw (law.unseen e f.0, none_seen es f.1) refl
 
-  foreign : (h : H) (s : Slots) (e : Effect) (es : List Effect) → IsForeign i e → (slice_get (row e s).slots.streams i.0 ≡ None → slice_get s.streams i.0 ≡ None)
+  foreign : (h : H) (s : Slots) (e : Effect) (es : List Effect) → IsForeign i e → has_readable i (row e s).slots ≡ has_readable i s
       → readable_at i (row e s).slots ≡ readable_at i s → Is h s (e ∷ es) → Is (after h (told e s)) (row e s).slots ((row e s).caused ++ es)
-  foreign h s e es f none_there same k =
+  foreign h s e es f there same k =
       let caused = none_seen (row e s).caused (row-causes (IsForeign i) e s (foreign-causes i e f)) in
       let held : K h s.locks (readable_at i s) (all_seen seen es) = rw (law.unseen e f) at k.held in
       rw (law.untold e s f, law.history.right h, row-locks e s)
-      (record { unmade = λ n. k.unmade (none_there n); held = rw (same, all_seen-append seen (row e s).caused es, caused) held })
+      (record { unmade = λ n. k.unmade (sym there ∙ n); held = rw (same, all_seen-append seen (row e s).caused es, caused) held })
 
   here : (operation : ReadableOperation) (h : H) (s : Slots) (es : List Effect) (there : Bool) → there ≡ has_readable i s → Is h s (Readable i operation ∷ es)
       → let d : Done = on_readable (readable_operation i operation) i s in Is (after h (told (Readable i operation) s)) d.slots (d.caused ++ es)
@@ -105,7 +105,7 @@ module _ {H V : Type 0} (none : H) (after : H → H → H) (told : Effect → Sl
       let now = on_readable-same (readable_operation i operation) i s (sym e) in
       let out : readable.Acts = readable_operation i operation (readable_acts i s) in
       record {
-        unmade = λ n. cc;
+        unmade = λ n. let none : is_readable_stream (Some (ReadableStream out.slots)) ≡ false = rw now at n in cc;
         held = rw (now, sym e, all_seen-append seen out.out.effects es) (law.operation operation s h (all_seen seen es) (sym e) k.held);
       }
   here operation h s es false e k =
@@ -117,7 +117,8 @@ module _ {H V : Type 0} (none : H) (after : H → H → H) (told : Effect → Sl
       → Is (after h (told (Readable j operation) s)) (row (Readable j operation) s).slots ((row (Readable j operation) s).caused ++ es)
   unfolding row
   by_place j operation h s es false e k =
-      foreign h s (Readable j operation) es (sym e) (on_readable-none (readable_operation j operation) j s i) (ap as_readable (on_readable-other (readable_operation j operation) j s i (sym e))) k
+      let other = on_readable-other (readable_operation j operation) j s i (sym e) in
+      foreign h s (Readable j operation) es (sym e) (ap is_readable_stream other) (ap as_readable other) k
   by_place j operation h s es true e k =
       let is : j ≡ i = sym (same_id i j (sym e)) in
       rw is (here operation h s es (has_readable i s) refl (rw is at k))
@@ -125,7 +126,7 @@ module _ {H V : Type 0} (none : H) (after : H → H → H) (told : Effect → Sl
   by_steps : (e : Effect) (h : H) (s : Slots) (es : List Effect) (same : Bool) → (same ≡ true → AreSteps i e) → (same ≡ false → IsForeign i e) → (row e s).caused ≡ [] → (row e s).slots.streams ≡ s.streams
       → Is h s (e ∷ es) → Is (after h (told e s)) (row e s).slots ((row e s).caused ++ es)
   by_steps e h s es false here there caused same k =
-      foreign h s e es (there refl) (λ n. rw (← same) n) (ap (λ (streams : List Stream). as_readable (slice_get streams i.0)) same) k
+      foreign h s e es (there refl) (ap (λ (streams : List Stream). is_readable_stream (slice_get streams i.0)) same) (ap (λ (streams : List Stream). as_readable (slice_get streams i.0)) same) k
   by_steps e h s es true here there caused same k =
       rw (row-locks e s, same, caused) (record {
         unmade = λ n. law.steps_unmade e (here refl) s h s.locks (k.unmade n);
@@ -136,13 +137,13 @@ module _ {H V : Type 0} (none : H) (after : H → H → H) (told : Effect → Sl
   unfolding row
   row-kept h s (Readable j operation) es k = by_place j operation h s es (is_same i j) refl k
   row-kept h s (Writable j operation) es k =
-      foreign h s (Writable j operation) es tt (on_writable-none (writable_operation j operation) j s i) (on_writable-readable (writable_operation j operation) j s i (is_same i j) refl) k
+      foreign h s (Writable j operation) es tt (on_writable-there (writable_operation j operation) j s i (is_same i j) refl) (on_writable-readable (writable_operation j operation) j s i (is_same i j) refl) k
   row-kept h s (ChunkSteps j (Promise p) v) es k = by_steps (ChunkSteps j (Promise p) v) h s es (is_same i j) (λ e. e) (λ e. e) refl refl k
   row-kept h s (CloseSteps j (Promise p)) es k = by_steps (CloseSteps j (Promise p)) h s es (is_same i j) (λ e. e) (λ e. e) refl refl k
   row-kept h s (ErrorSteps j (Promise p) r) es k = by_steps (ErrorSteps j (Promise p) r) h s es (is_same i j) (λ e. e) (λ e. e) refl refl k
   row-kept h s e es k =
       let same = row-streams e s tt in
-      foreign h s e es tt (λ n. rw (← same) n) (ap (λ (streams : List Stream). as_readable (slice_get streams i.0)) same) k
+      foreign h s e es tt (ap (λ (streams : List Stream). is_readable_stream (slice_get streams i.0)) same) (ap (λ (streams : List Stream). as_readable (slice_get streams i.0)) same) k
 
   -- a new stream
   appended : (x : Stream) (h : H) (locks : List Lock) (s : Slots) (here : Bool) → here ≡ nat_eq i.0 (length s.streams) → Kept seen i K M h locks s.streams []
@@ -154,7 +155,8 @@ module _ {H V : Type 0} (none : H) (after : H → H → H) (told : Effect → Sl
       let is = eq_numbers i.0 (length s.streams) (sym e) in
       let before = no_stream i s.streams is in
       let now : slice_get (s.streams ++ x ∷ []) i.0 ≡ Some x = rw is (place_last s.streams x) in
-      record { unmade = λ f. k.unmade before; held = rw now (made (k.unmade before) (rw before at k.held)) }
+      let none : is_readable_stream (slice_get s.streams i.0) ≡ false = rw before refl in
+      record { unmade = λ f. k.unmade none; held = rw now (made (k.unmade none) (rw before at k.held)) }
 
   goes : GoesUntold after told Is
   goes = record {

@@ -132,6 +132,15 @@ on_writable-readable operation j s i true e =
     (λ h. ap as_readable (place_same s.streams j.0 (WritableStream (writable_at j s)) _ (writable_there (slice_get s.streams j.0) h)) ∙ sym (ap as_readable (writable_there (slice_get s.streams j.0) h)))
     (λ h. refl))
 
+pub on_writable-there : (operation : writable.Acts → writable.Acts) (j : StreamId) (s : Slots) (i : StreamId) (same : Bool) → same ≡ is_same i j
+    → has_readable i (on_writable operation j s).slots ≡ has_readable i s
+on_writable-there operation j s i false n = ap is_readable_stream (on_writable-other operation j s i (sym n))
+on_writable-there operation j s i true e =
+    let is : i ≡ j = same_id i j (sym e) in
+    rw is (either (λ (d : Done). has_readable j d.slots ≡ has_readable j s) (has_writable j s) _ _
+    (λ h. ap is_readable_stream (place_same s.streams j.0 (WritableStream (writable_at j s)) _ (writable_there (slice_get s.streams j.0) h)) ∙ sym (ap is_readable_stream (writable_there (slice_get s.streams j.0) h)))
+    (λ h. refl))
+
 pub on_readable-writable : (operation : readable.Acts → readable.Acts) (j : StreamId) (s : Slots) (i : StreamId) (same : Bool) → same ≡ is_same i j
     → writable_at i (on_readable operation j s).slots ≡ writable_at i s
 on_readable-writable operation j s i false n = ap as_writable (on_readable-other operation j s i (sym n))

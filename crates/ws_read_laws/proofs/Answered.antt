@@ -12,10 +12,10 @@ use Rattle.ws_steps.specs.Slots.{Slots, empty, readable_at}
 use Rattle.std.specs.Prelude.{Bool}
 use Rattle.ws_promise_laws.proofs.Runs.{none_goes_astray}
 use Rattle.ws_read_laws.proofs.Marks.{Done, done_of}
-use Rattle.ws_read_laws.proofs.Runs.{given_by, given_of, run_done, run-held}
+use Rattle.ws_read_laws.proofs.Runs.{given_by, given_of, run_done, run-now}
 use Rattle.ws_read_laws.proofs.Outcomes.{run-told}
 use Rattle.ws_read_laws.proofs.Waiting.{run-waiting}
-use Rattle.ws_read_laws.proofs.Asked.{reads_were_answered}
+use Rattle.ws_read_laws.proofs.Asked.{run-asks}
 use Rattle.ws_read_laws.proofs.Rising.{run-rises}
 
 gives : (e : Plain) (answer : ReadAnswer) → given_by (outcome_of e answer) ≡ chunk_got answer
@@ -44,7 +44,7 @@ each_read_is_answered entries i =
     let s : Slots = run entries empty in
     let r : readable.Slots = readable_at i s in
     let gone : PromiseId → Bool = λ p. is_forgotten p entries empty in
-    let k = run-held i entries in
+    let k = (run-now i entries).held in
     let told : map (done_of r.stored_error) k.line.answered ≡ run_done i entries empty = k.line.told ∙ append-nil (run_done i entries empty) in
     record {
       answered = k.line.answered;
@@ -58,5 +58,5 @@ each_read_is_answered entries i =
       allowed = k.line.allowed;
       ended = k.line.ended;
       served = k.line.served;
-      own = subst (λ (ps : List PromiseId). RiseFrom 0 ps) (sym (reads_were_answered entries i)) (run-rises i entries empty);
+      own = subst (λ (ps : List PromiseId). RiseFrom 0 ps) (sym (run-asks i entries empty)) (run-rises i entries empty);
     }

@@ -1,18 +1,18 @@
 -- The reads that are asked of a stream for promises are those of the calls that read from it: no other call, no job and no effect asks one.
 use Rattle.std.proofs.Common.{◌≡◌, Bool, true, false, ◌&&◌, List, [], ◌∷◌, ◌++◌, Option, Some, None, if◌then◌else◌, refl, sym, ap, ◌∙◌, append-nil, arith}
 use Rattle.std.proofs.lemmas.Bool.{false≢true}
-use Rattle.ws_value.specs.declared.{ids.PromiseId.{PromiseId}, ids.StreamId.{StreamId}}
-use Rattle.ws_steps.specs.declared.{calls.Call.{Call}, calls.Call.TheVariants.{Read as ReadCall}, effects.Effect.{Effect}}
+use Rattle.ws_value.specs.declared.{ids.LockId.{LockId}, ids.PromiseId.{PromiseId}, ids.StreamId.{StreamId}}
+use Rattle.ws_steps.specs.declared.{calls.Call.{Call}, calls.Call.TheVariants.{Read as ReadCall}, calls.Reply.TheVariants.{Promise as Named}, effects.Effect.{Effect}}
 use Rattle.ws_steps.specs.declared.effects.Effect.TheVariants.{Readable, Writable, StartAlgorithm, PullAlgorithm, CancelAlgorithm, CloseAlgorithm, AbortAlgorithm}
 use Rattle.ws_steps.specs.declared.{locks.Lock.{Lock}, locks.Lock.TheVariants.{Reader, Writer, ReleasedWriter}, promises.Job.{Job}}
 use Rattle.ws_steps.specs.declared.{readable.ReadRequest.{ReadRequest}, readable.ReadRequest.TheVariants.{Promise}, readable.ReadableOperation.TheVariants.{Read}}
-use Rattle.ws_steps.specs.Promises.{next_job}
+use Rattle.ws_steps.specs.Promises.{next_id, next_job}
 use Rattle.ws_steps.specs.Slots.{Slots, Done, causes, empty, has_readable, readable_at, lock_at}
 use Rattle.ws_steps.specs.Turns.{row, moments}
 use Rattle.ws_steps.specs.Jobs.{job_effects, job_begun, begin_job}
 use Rattle.ws_steps.specs.Calls.{Begun, begin, unsupported, by_reader}
 use Rattle.ws_steps.specs.Calls as calls
-use Rattle.ws_steps.specs.Run.{Entry, Called, Worked, Heard, Forgot, step}
+use Rattle.ws_steps.specs.Run.{Entry, Called, Worked, Heard, Forgot, step, run, reply_to}
 use Rattle.ws_steps.specs.Histories.{is_same, along}
 use Rattle.ws_steps.specs.ReadableHistory.{Reads, no_reads, reads_then, operation_reads, effect_reads, step_reads, run_reads, promises_of, named_by, asked_with, call_asked, asked_in_step, asked_by_calls}
 use Rattle.ws_steps.specs.Laws.{ReadsWereAnswered}
@@ -23,7 +23,7 @@ use Rattle.ws_laws.proofs.Rows.{Causes, row-causes}
 use Rattle.ws_laws.proofs.EachCall.{each_call}
 use Rattle.ws_laws.proofs.Walker.{IsHistory, performed-goes}
 use Rattle.ws_read_laws.proofs.Line.{same_reads}
-use Rattle.ws_read_laws.proofs.Runs.{reads-assoc}
+use Rattle.ws_read_laws.proofs.Runs.{reads-assoc, reader-there}
 
 -- effects that ask no read
 abbrev Quiet : Effect → Type 0
@@ -124,11 +124,19 @@ promises-append : (rs qs : List ReadRequest) → promises_of (rs ++ qs) ≡ prom
 promises-append [] qs = refl
 promises-append (Promise p ∷ rs) qs = ap (λ (ps : List PromiseId). p ∷ ps) (promises-append rs qs)
 
-run-asks : (i : StreamId) (xs : List Entry) (s : Slots) → promises_of (run_reads i xs s).asked ≡ asked_by_calls i xs s
+pub run-asks : (i : StreamId) (xs : List Entry) (s : Slots) → promises_of (run_reads i xs s).asked ≡ asked_by_calls i xs s
 run-asks i [] s = refl
 run-asks i (x ∷ xs) s =
     let a = entry-asks i x s in let b = run-asks i xs (step s x) in
     promises-append (step_reads i s x).asked (run_reads i xs (step s x)).asked ∙ (rw (a, b) refl)
 
+-- a call that reads by a reader which has a stream
+pub begins-read : (s : Slots) (l : LockId) (i : StreamId) (p : PromiseId) → lock_at l s ≡ Some (Reader (Some i) p) → has_readable i s ≡ true → begin (ReadCall l) s ≡ calls.read i s
+unfolding begin
+begins-read s l i p e there = rw (e, there) refl
+
 pub reads_were_answered : ReadsWereAnswered
-reads_were_answered entries i = run-asks i entries empty
+reads_were_answered = record {
+  asked = λ entries i. run-asks i entries empty;
+  each = λ entries l i p e. ap (λ (b : Begun). b.reply) (begins-read (run entries empty) l i p e (reader-there i entries l p e));
+}

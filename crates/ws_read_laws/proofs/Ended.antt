@@ -11,12 +11,14 @@ use Rattle.ws_steps.specs.Effects.{type_error}
 use Rattle.ws_steps.specs.Laws.{IsAnswered, ReadsOfTheEnded}
 use Rattle.ws_steps.specs.Promises.{Entry, Table, next_id, fresh, pending, ended, with_entry, entry_at, outcome_at, is_pending, settle, answer, watch}
 use Rattle.ws_steps.specs.Readable.{default_reader_read}
-use Rattle.ws_steps.specs.Run.{older}
-use Rattle.ws_steps.specs.Slots.{Slots, ReadableStream, Done, causes, has_readable, readable_at, lock_at, with_promises}
+use Rattle.ws_steps.specs.Run.{older, run}
+use Rattle.ws_steps.specs.Slots.{Slots, ReadableStream, Done, causes, empty, has_readable, readable_at, lock_at, with_promises}
 use Rattle.ws_steps.specs.Turns.{row, performed}
 use Rattle.ws_steps.proofs.PromiseLaws.{settle-open, answer-open, entry_at-fresh_new, entry_at-with_entry_same, length-fresh}
 use Rattle.ws_room_laws.proofs.Turns.{performed_next, performed_none}
 use Rattle.ws_laws.proofs.Outcomes.{keeps-watch}
+use Rattle.ws_read_laws.proofs.Asked.{begins-read}
+use Rattle.ws_read_laws.proofs.Runs.{reader-there}
 
 -- an effect that causes nothing
 one_turn : (e : Effect) (s y : Slots) → row e s ≡ causes [] y → performed (causes (e ∷ []) s) ≡ y
@@ -86,28 +88,29 @@ asking i p = OnReadable i (ReadChunk (Promise p)) ∷ []
 abbrev refusing : PromiseId → List Effect
 refusing p = Settle p (Err type_error) ∷ []
 
-reads : (s : Slots) (l : LockId) (i : StreamId) (closed : PromiseId) → lock_at l s ≡ Some (Reader (Some i) closed) → has_readable i s ≡ true → begin (Read l) s ≡ promising (asking i) s
-unfolding begin
-reads s l i closed e there = rw (e, there) refl
-
 refused : (s : Slots) (l : LockId) (closed : PromiseId) → lock_at l s ≡ Some (Reader None closed) → begin (Read l) s ≡ promising refusing s
 unfolding begin
 refused s l closed e = rw e refl
 
 pub reads_of_the_ended : ReadsOfTheEnded
 reads_of_the_ended = record {
-  closed = λ s l i closed e there state.
+  closed = λ entries l i closed e state.
+      let s : Slots = run entries empty in
+      let there = reader-there i entries l closed e in
       let p : PromiseId = next_id s.promises in
       let z : Slots = disturbed i (with_new s) in
-      is_answered s _ l (asking i) (Finished (PlainValue Undefined)) (reads s l i closed e there)
+      is_answered s _ l (asking i) (Finished (PlainValue Undefined)) (begins-read s l i closed e there)
       (two_turns (OnReadable i (ReadChunk (Promise p))) (CloseSteps i (Promise p)) (with_new s) z _ (closed_row i p (with_new s) there state) (close_row i p z)) refl (new_answered (Finished (PlainValue Undefined)) s.promises);
-  errored = λ s l i closed e there state.
+  errored = λ entries l i closed e state.
+      let s : Slots = run entries empty in
+      let there = reader-there i entries l closed e in
       let p : PromiseId = next_id s.promises in
       let r : Plain = (readable_at i s).stored_error in
       let z : Slots = disturbed i (with_new s) in
-      is_answered s _ l (asking i) (Rejected r) (reads s l i closed e there)
+      is_answered s _ l (asking i) (Rejected r) (begins-read s l i closed e there)
       (two_turns (OnReadable i (ReadChunk (Promise p))) (ErrorSteps i (Promise p) r) (with_new s) z _ (errored_row i p (with_new s) there state) (error_row i p r z)) refl (new_rejected r s.promises);
-  released = λ s l closed e.
+  released = λ entries l closed e.
+      let s : Slots = run entries empty in
       let p : PromiseId = next_id s.promises in
       is_answered s _ l refusing (Rejected type_error) (refused s l closed e) (one_turn (Settle p (Err type_error)) (with_new s) _ (settle_row p (Err type_error) (with_new s))) refl (new_rejected type_error s.promises);
 }

@@ -156,6 +156,20 @@ asked_and_answered h done state e reader r rs queue w none a n l =
       locked = λ k. none;
     }
 
+-- what an operation finds: a reader comes where there is none, a reader goes with no effect behind, and a read is asked where there is a
+-- reader
+abbrev pub Finds : ReadableOperation → Bool → Bool → Type 0
+Finds (InitializeReader closed) locked alone = locked ≡ false
+Finds ReleaseReader locked alone = alone ≡ true
+Finds (Read request) locked alone = locked ≡ true
+Finds _ locked alone = Unit {0}
+
+-- whether there is a reader after it
+abbrev pub has_after : ReadableOperation → Bool → Bool
+has_after (InitializeReader closed) locked = true
+has_after ReleaseReader locked = false
+has_after _ locked = locked
+
 -- operations
 
 module _ (me : StreamId) where
@@ -333,32 +347,20 @@ module _ (me : StreamId) where
   pull_ended-line h ds a false l = l
   pull_ended-line h ds a true l = pull-line h ds (record a { slots = record a.slots { pull_again = false } }) l
 
-  -- what an operation finds: a reader comes where there is none, and a read is asked where there is one
-  abbrev pub Finds : ReadableOperation → Bool → Type 0
-  Finds (InitializeReader closed) locked = locked ≡ false
-  Finds (Read request) locked = locked ≡ true
-  Finds _ locked = Unit {0}
-
-  pub operation-line : (operation : ReadableOperation) (h : Reads) (ds : List Done) (a : Acts) → Finds operation (is_some a.slots.reader) → Lines h ds a
+  pub operation-line : (operation : ReadableOperation) (alone : Bool) (h : Reads) (ds : List Done) (a : Acts) → Finds operation (is_some a.slots.reader) alone → Lines h ds a
       → Lines (reads_then h (operation_reads operation a.slots)) ds (readable_operation me operation a)
   unfolding default_reader_read stream_cancel reader_release start_settled pull_settled
-  operation-line (InitializeReader closed) h ds a f l = rw same_reads (comes-line closed h ds a f l)
-  operation-line ReleaseReader h ds a f l = goes-line h ds a a.slots.reader refl l
-  operation-line (Read r) h ds a f l = read_by-line r h ds (record a { slots = record a.slots { disturbed = true } }) a.slots.state refl f l
-  operation-line (Cancel r p) h ds a f l = rw same_reads (cancel_by-line r p h ds (record a { slots = record a.slots { disturbed = true } }) a.slots.state refl l)
-  operation-line (Enqueue v) h ds a f l = rw same_reads (enqueue-line v h ds a l)
-  operation-line Close h ds a f l = rw same_reads (close-line h ds a l)
-  operation-line (Error e) h ds a f l = rw same_reads (error-line e h ds a l)
-  operation-line (StartSettled (Ok v)) h ds a f l = rw same_reads (pull-line h ds (record a { slots = record a.slots { started = true } }) l)
-  operation-line (StartSettled (Err e)) h ds a f l = rw same_reads (error-line e h ds a l)
-  operation-line (PullSettled (Ok v)) h ds a f l = rw same_reads (pull_ended-line h ds (record a { slots = record a.slots { pulling = false } }) a.slots.pull_again l)
-  operation-line (PullSettled (Err e)) h ds a f l = rw same_reads (error-line e h ds a l)
-
-  -- whether there is a reader after it
-  abbrev pub has_after : ReadableOperation → Bool → Bool
-  has_after (InitializeReader closed) locked = true
-  has_after ReleaseReader locked = false
-  has_after _ locked = locked
+  operation-line (InitializeReader closed) alone h ds a f l = rw same_reads (comes-line closed h ds a f l)
+  operation-line ReleaseReader alone h ds a f l = goes-line h ds a a.slots.reader refl l
+  operation-line (Read r) alone h ds a f l = read_by-line r h ds (record a { slots = record a.slots { disturbed = true } }) a.slots.state refl f l
+  operation-line (Cancel r p) alone h ds a f l = rw same_reads (cancel_by-line r p h ds (record a { slots = record a.slots { disturbed = true } }) a.slots.state refl l)
+  operation-line (Enqueue v) alone h ds a f l = rw same_reads (enqueue-line v h ds a l)
+  operation-line Close alone h ds a f l = rw same_reads (close-line h ds a l)
+  operation-line (Error e) alone h ds a f l = rw same_reads (error-line e h ds a l)
+  operation-line (StartSettled (Ok v)) alone h ds a f l = rw same_reads (pull-line h ds (record a { slots = record a.slots { started = true } }) l)
+  operation-line (StartSettled (Err e)) alone h ds a f l = rw same_reads (error-line e h ds a l)
+  operation-line (PullSettled (Ok v)) alone h ds a f l = rw same_reads (pull_ended-line h ds (record a { slots = record a.slots { pulling = false } }) a.slots.pull_again l)
+  operation-line (PullSettled (Err e)) alone h ds a f l = rw same_reads (error-line e h ds a l)
 
   pub operation-reader : (operation : ReadableOperation) (a : Acts) → is_some (readable_operation me operation a).slots.reader ≡ has_after operation (is_some a.slots.reader)
   unfolding call_pull_if_needed accept controller_enqueue stream_close stream_error close_if_empty controller_close controller_error after_take pull_steps default_reader_read reader_generic_initialize start_settled pull_settled cancel_steps stream_cancel reader_release

@@ -3,7 +3,7 @@ use Rattle.std.proofs.Common.{◌≡◌, Bool, true, false, ℕ, ◌≤◌, List
 use Rattle.ws_value.specs.declared.ids.StreamId.{StreamId}
 use Rattle.ws_value.specs.declared.value.{Outcome.{Outcome}, Outcome.TheVariants.{Given, Finished, Rejected}, Plain.{Plain}, Plain.TheVariants.{Undefined}, Value.{Value}, Value.TheVariants.{Plain as PlainValue}}
 use Rattle.ws_steps.specs.declared.{effects.Effect.{Effect}, effects.Effect.TheVariants.{Readable, ChunkSteps, CloseSteps, ErrorSteps}, readable.ReadRequest.{ReadRequest}}
-use Rattle.ws_steps.specs.declared.{readable.ReadableOperation.{ReadableOperation}, readable.ReadableOperation.TheVariants.{InitializeReader, ReleaseReader, Read}}
+use Rattle.ws_steps.specs.declared.readable.ReadableOperation.{ReadableOperation}
 use Rattle.ws_steps.specs.Effects.{Out, cause, cause_all}
 use Rattle.ws_steps.specs.Histories.{is_same}
 use Rattle.ws_steps.specs.Readable.{close_all, error_all}
@@ -27,36 +27,24 @@ effect_done i (CloseSteps j request) = if is_same i j then record { request = re
 effect_done i (ErrorSteps j request e) = if is_same i j then record { request = request; outcome = Rejected e } ∷ [] else []
 effect_done i _ = []
 
--- a reader comes, a reader goes, a read is asked, another operation, or the steps of a request
+-- an operation that stands, or the steps of a request
 pub data Mark : Type 0 where
-  Comes : Mark
-  Goes : Mark
-  Asks : Mark
-  Other : Mark
+  Stands : ReadableOperation → Mark
   Steps : Done → Mark
 
-abbrev pub mark_of : ReadableOperation → Mark
-mark_of (InitializeReader closed) = Comes
-mark_of ReleaseReader = Goes
-mark_of (Read request) = Asks
-mark_of _ = Other
-
 abbrev pub marks : StreamId → Effect → List Mark
-marks i (Readable j operation) = if is_same i j then mark_of operation ∷ [] else []
+marks i (Readable j operation) = if is_same i j then Stands operation ∷ [] else []
 marks i e = map Steps (effect_done i e)
 
 -- the steps that are still to be performed
 abbrev pub pending : List Mark → List Done
 pending [] = []
+pending (Stands operation ∷ ms) = pending ms
 pending (Steps d ∷ ms) = d ∷ pending ms
-pending (_ ∷ ms) = pending ms
 
 pub pending-append : (ms ns : List Mark) → pending (ms ++ ns) ≡ pending ms ++ pending ns
 pending-append [] ns = refl
-pending-append (Comes ∷ ms) ns = pending-append ms ns
-pending-append (Goes ∷ ms) ns = pending-append ms ns
-pending-append (Asks ∷ ms) ns = pending-append ms ns
-pending-append (Other ∷ ms) ns = pending-append ms ns
+pending-append (Stands operation ∷ ms) ns = pending-append ms ns
 pending-append (Steps d ∷ ms) ns = ap (λ (ds : List Done). d ∷ ds) (pending-append ms ns)
 
 -- those that an operation of stream i has caused so far

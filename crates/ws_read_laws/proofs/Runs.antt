@@ -13,6 +13,7 @@ use Rattle.ws_steps.specs.Jobs.{job_effects}
 use Rattle.ws_steps.specs.Calls.{Begun, begin, renewed, with_renewed, reject_renewed}
 use Rattle.ws_steps.specs.Operations.{readable_operation}
 use Rattle.ws_steps.specs.Promises.{Table, next_id, is_pending_at}
+use Rattle.ws_steps.specs.Queues.{is_empty}
 use Rattle.ws_steps.specs.Readable as readable
 use Rattle.ws_steps.specs.Slots.{Slots, Stream, empty, has_readable, lock_at, readable_at, as_readable, no_readable}
 use Rattle.ws_steps.specs.Turns.{Moment}
@@ -23,12 +24,12 @@ use Rattle.ws_laws.proofs.EachCall.{each_call}
 use Rattle.ws_laws.proofs.OnReadable as on_readable
 use Rattle.ws_laws.proofs.OnReadable.{IsForeign, AreSteps, IsLaw, Kept, all_seen, all_seen-append}
 use Rattle.ws_laws.proofs.ReadableDoes.{readable-does}
-use Rattle.ws_laws.proofs.Tables.{either, is_same-refl, readable_acts, same_id}
+use Rattle.ws_laws.proofs.Tables.{either, is_same-refl, no_readable_there, readable_acts, same_id}
 use Rattle.ws_laws.proofs.Walker.{IsHistory}
 use Rattle.ws_promise_laws.proofs.Tokens.{one_if}
 use Rattle.ws_readable_laws.proofs.Operations.{same_flow}
 use Rattle.ws_readable_laws.proofs.Runs as flows
-use Rattle.ws_read_laws.proofs.Marks.{Done, effect_done, Mark, Comes, Goes, Asks, Other, Steps, mark_of, marks, pending, pending-append, shown}
+use Rattle.ws_read_laws.proofs.Marks.{Done, effect_done, Mark, Stands, Steps, marks, pending, pending-append, shown}
 use Rattle.ws_read_laws.proofs.Line.{Line, same_reads, Finds, has_after, operation-line, operation-reader}
 
 -- what goes through the stream, what is asked of it, and the steps of requests that are performed
@@ -118,14 +119,10 @@ readers-there i zero (k ∷ ls) l e = rw (some_lock k l e) (omega arith)
 readers-there i (suc n) (k ∷ ls) l e = let rest = readers-there i n ls l e in omega arith
 
 -- What is seen of the agenda, where so many readers have the stream and it has a reader or hasn't. Behind an operation stand no steps of
--- requests; a reader comes where there is none and goes alone; and a read is asked where there is one. Where nothing stands, a reader that
--- has the stream is the stream's
+-- requests; and where nothing stands, a reader that has the stream is the stream's
 abbrev pub Clear : ℕ → Bool → List Mark → Type 0
 Clear n locked [] = n ≤ one_if locked
-Clear n locked (Comes ∷ ms) = (locked ≡ false) × ((ms ≡ []) × (n ≤ 1))
-Clear n locked (Goes ∷ ms) = (ms ≡ []) × (n ≤ 0)
-Clear n locked (Asks ∷ ms) = (locked ≡ true) × ((pending ms ≡ []) × Clear n locked ms)
-Clear n locked (Other ∷ ms) = (pending ms ≡ []) × Clear n locked ms
+Clear n locked (Stands operation ∷ ms) = Finds operation locked (is_empty ms) × ((pending ms ≡ []) × Clear n (has_after operation locked) ms)
 Clear n locked (Steps d ∷ ms) = Clear n locked ms
 
 pub record Held (i : StreamId) (h : Told) (locks : List Lock) (r : readable.Slots) (ms : List Mark) : Type 0 where
@@ -133,7 +130,7 @@ pub record Held (i : StreamId) (h : Told) (locks : List Lock) (r : readable.Slot
   pub given : given_of h.done ≡ h.flow.given
   pub clear : Clear (readers i locks) (is_some r.reader) ms
 
--- until it is made, no reader has it, and nothing was asked of it
+-- where there is none, no reader has it, and nothing was asked of it
 pub record Unmade (i : StreamId) (h : Told) (locks : List Lock) : Type 0 where
   pub free : readers i locks ≡ 0
   pub unasked : h.reads.asked ≡ []
@@ -143,31 +140,18 @@ pub record Unmade (i : StreamId) (h : Told) (locks : List Lock) : Type 0 where
 -- the steps of requests alone
 abbrev OnlySteps : List Mark → Type 0
 OnlySteps [] = Unit {0}
+OnlySteps (Stands operation ∷ ms) = ⊥
 OnlySteps (Steps d ∷ ms) = OnlySteps ms
-OnlySteps _ = ⊥
 
 only-append : (ms ns : List Mark) → OnlySteps ms → OnlySteps ns → OnlySteps (ms ++ ns)
 only-append [] ns a b = b
+only-append (Stands operation ∷ ms) ns a b = absurd a
 only-append (Steps d ∷ ms) ns a b = only-append ms ns a b
-only-append (Comes ∷ ms) ns a b = absurd a
-only-append (Goes ∷ ms) ns a b = absurd a
-only-append (Asks ∷ ms) ns a b = absurd a
-only-append (Other ∷ ms) ns a b = absurd a
 
 only-clear : (n : ℕ) (locked : Bool) (ms ns : List Mark) → OnlySteps ms → Clear n locked ns → Clear n locked (ms ++ ns)
 only-clear n locked [] ns a c = c
+only-clear n locked (Stands operation ∷ ms) ns a c = absurd a
 only-clear n locked (Steps d ∷ ms) ns a c = only-clear n locked ms ns a c
-only-clear n locked (Comes ∷ ms) ns a c = absurd a
-only-clear n locked (Goes ∷ ms) ns a c = absurd a
-only-clear n locked (Asks ∷ ms) ns a c = absurd a
-only-clear n locked (Other ∷ ms) ns a c = absurd a
-
-next-clear : (operation : ReadableOperation) (n : ℕ) (locked : Bool) (ms : List Mark) (i : StreamId) → Clear n locked (mark_of operation ∷ ms)
-    → (pending ms ≡ []) × (Clear n (has_after i operation locked) ms × Finds i operation locked)
-next-clear (InitializeReader closed) n locked ms i c = (ap pending c.1.0, (rw c.1.0 c.1.1, c.0))
-next-clear ReleaseReader n locked ms i c = (ap pending c.0, (rw c.0 c.1, tt))
-next-clear (Read r) n locked ms i c = (c.1.0, (c.1.1, c.0))
-next-clear operation n locked ms i c = (c.0, (c.1, tt))
 
 module _ (i : StreamId) where
   only-steps : (operation : ReadableOperation) (s : Slots) → OnlySteps (all_seen (marks i) (readable_operation i operation (readable_acts i s)).out.effects)
@@ -184,34 +168,25 @@ module _ (i : StreamId) where
       more : (x : Out) (e : Effect) → OnlySteps (marks i e) → OnlySteps (all_seen (marks i) x.effects) → OnlySteps (all_seen (marks i) (x.effects ++ e ∷ []))
       more x e o h = rw (all_seen-append, append-nil (marks i e)) (only-append (all_seen (marks i) x.effects) (marks i e) h o)
 
-  operation-held : (operation : ReadableOperation) (s : Slots) (h : Told) (ms : List Mark) → has_readable i s ≡ true → Held i h s.locks (readable_at i s) (mark_of operation ∷ ms)
+  operation-held : (operation : ReadableOperation) (s : Slots) (h : Told) (ms : List Mark) → has_readable i s ≡ true → Held i h s.locks (readable_at i s) (Stands operation ∷ ms)
       → let a : readable.Acts = readable_operation i operation (readable_acts i s) in
       Held i (told_then h (record { flow = operation_flow operation (readable_at i s); reads = operation_reads operation (readable_at i s); done = [] })) s.locks a.slots (all_seen (marks i) a.out.effects ++ ms)
   operation-held operation s h ms there k =
+      let r : readable.Slots = readable_at i s in
       let a : readable.Acts = readable_operation i operation (readable_acts i s) in
-      let b : Bool = is_some (readable_at i s).reader in
-      let next = next-clear operation (readers i s.locks) b ms i k.clear in
-      let hidden : pending (mark_of operation ∷ ms) ≡ [] = marked operation ms ∙ next.0 in
-      let before : Line h.reads (h.done ++ []) (readable_at i s).state (readable_at i s).stored_error (readable_at i s).reader (readable_at i s).requests (readable_at i s).queue = rw hidden at k.line in
-      let after = operation-line i operation h.reads h.done (readable_acts i s) next.1.1 before in
+      let before : Line h.reads (h.done ++ []) r.state r.stored_error r.reader r.requests r.queue = rw k.clear.1.0 at k.line in
       record {
-        line = rw (append-nil h.done, pending-append, next.0, append-nil (shown i a.out)) after;
-        given = rw (append-nil h.done, flows.no_gives operation (readable_at i s), append-nil h.flow.given) k.given;
-        clear = rw (operation-reader i operation (readable_acts i s)) (only-clear (readers i s.locks) (has_after i operation b) (all_seen (marks i) a.out.effects) ms (only-steps operation s) next.1.0);
+        line = rw (append-nil h.done, pending-append, k.clear.1.0, append-nil (shown i a.out)) (operation-line i operation (is_empty ms) h.reads h.done (readable_acts i s) k.clear.0 before);
+        given = rw (append-nil h.done, flows.no_gives operation r, append-nil h.flow.given) k.given;
+        clear = rw (operation-reader i operation (readable_acts i s)) (only-clear (readers i s.locks) (has_after operation (is_some r.reader)) (all_seen (marks i) a.out.effects) ms (only-steps operation s) k.clear.1.1);
       }
-    where
-      marked : (operation : ReadableOperation) (ms : List Mark) → pending (mark_of operation ∷ ms) ≡ pending ms
-      marked (InitializeReader closed) ms = refl
-      marked ReleaseReader ms = refl
-      marked (Read r) ms = refl
-      marked operation ms = refl
 
   -- there is no such stream
-  absent-held : (operation : ReadableOperation) (h : Told) (locks : List Lock) (ms : List Mark) → Held i h locks no_readable (mark_of operation ∷ ms) → Held i h locks no_readable ms
+  absent-held : (operation : ReadableOperation) (h : Told) (locks : List Lock) (ms : List Mark) → Held i h locks no_readable (Stands operation ∷ ms) → Held i h locks no_readable ms
   absent-held (InitializeReader closed) h locks ms k = let none = k.clear.0 in cc
-  absent-held ReleaseReader h locks ms k = record { line = k.line; given = k.given; clear = rw k.clear.0 (let n = k.clear.1 in omega arith) }
-  absent-held (Read r) h locks ms k = record { line = k.line; given = k.given; clear = k.clear.1.1 }
-  absent-held operation h locks ms k = record { line = k.line; given = k.given; clear = k.clear.1 }
+  absent-held ReleaseReader h locks [] k = record { line = k.line; given = k.given; clear = let n = k.clear.1.1 in omega arith }
+  absent-held ReleaseReader h locks (m ∷ ms) k = let none = k.clear.0 in cc
+  absent-held operation h locks ms k = record { line = k.line; given = k.given; clear = k.clear.1.1 }
 
   -- the steps of a request
 
@@ -264,33 +239,41 @@ module _ (i : StreamId) where
   abbrev Now : Told → List Lock → List Stream → List Effect → Type 0
   Now h locks streams es = Kept (marks i) i (Held i) (Unmade i) h locks streams es
 
-  -- operations that neither a reader nor a read is
+  -- operations by which no reader comes or goes and no read is asked
+  abbrev IsOther : ReadableOperation → Type 0
+  IsOther (InitializeReader closed) = ⊥
+  IsOther ReleaseReader = ⊥
+  IsOther (Read r) = ⊥
+  IsOther _ = Unit {0}
+
   abbrev AllOther : List Mark → Type 0
   AllOther [] = Unit {0}
-  AllOther (Other ∷ ms) = AllOther ms
-  AllOther _ = ⊥
+  AllOther (Stands operation ∷ ms) = IsOther operation × AllOther ms
+  AllOther (Steps d ∷ ms) = ⊥
 
   other-pending : (ms : List Mark) → AllOther ms → pending ms ≡ []
   other-pending [] o = refl
-  other-pending (Other ∷ ms) o = other-pending ms o
-  other-pending (Comes ∷ ms) o = absurd o
-  other-pending (Goes ∷ ms) o = absurd o
-  other-pending (Asks ∷ ms) o = absurd o
+  other-pending (Stands operation ∷ ms) o = other-pending ms o.1
   other-pending (Steps d ∷ ms) o = absurd o
+
+  other-finds : (operation : ReadableOperation) (locked alone : Bool) → IsOther operation → Finds operation locked alone × (has_after operation locked ≡ locked)
+  other-finds (InitializeReader closed) locked alone o = absurd o
+  other-finds ReleaseReader locked alone o = absurd o
+  other-finds (Read r) locked alone o = absurd o
+  other-finds operation locked alone o = (tt, refl)
 
   other-clear : (n : ℕ) (locked : Bool) (ms : List Mark) → AllOther ms → Clear n locked [] → Clear n locked ms
   other-clear n locked [] o c = c
-  other-clear n locked (Other ∷ ms) o c = (other-pending ms o, other-clear n locked ms o c)
-  other-clear n locked (Comes ∷ ms) o c = absurd o
-  other-clear n locked (Goes ∷ ms) o c = absurd o
-  other-clear n locked (Asks ∷ ms) o c = absurd o
+  other-clear n locked (Stands operation ∷ ms) o c =
+      let f = other-finds operation locked (is_empty ms) o.0 in
+      (f.0, (other-pending ms o.1, rw f.1 (other-clear n locked ms o.1 c)))
   other-clear n locked (Steps d ∷ ms) o c = absurd o
 
   other-held : (h : Told) (locks : List Lock) (r : readable.Slots) (ms : List Mark) → AllOther ms → Held i h locks r [] → Held i h locks r ms
   other-held h locks r ms o k = record { line = rw (other-pending ms o) k.line; given = k.given; clear = other-clear (readers i locks) (is_some r.reader) ms o k.clear }
 
-  one_other : (j : StreamId) (operation : ReadableOperation) → mark_of operation ≡ Other → AllOther (all_seen (marks i) (OnReadable j operation ∷ []))
-  one_other j operation e = either (λ (ms : List Mark). AllOther (ms ++ [])) (is_same i j) (mark_of operation ∷ []) [] (λ same. rw e tt) (λ other. tt)
+  one_other : (j : StreamId) (operation : ReadableOperation) → IsOther operation → AllOther (all_seen (marks i) (OnReadable j operation ∷ []))
+  one_other j operation o = either (λ (ms : List Mark). AllOther (ms ++ [])) (is_same i j) (Stands operation ∷ []) [] (λ same. (o, tt)) (λ other. tt)
 
   job-others : (job : Job) → AllOther (all_seen (marks i) (job_effects job))
   job-others job = grind arith
@@ -304,7 +287,7 @@ module _ (i : StreamId) where
         held = record { line = held.line; given = held.given; clear = rw same held.clear };
       }
 
-  alone : (j : StreamId) (operation : ReadableOperation) → is_same i j ≡ true → all_seen (marks i) (OnReadable j operation ∷ []) ≡ mark_of operation ∷ []
+  alone : (j : StreamId) (operation : ReadableOperation) → is_same i j ≡ true → all_seen (marks i) (OnReadable j operation ∷ []) ≡ Stands operation ∷ []
   alone j operation e = rw e refl
 
   elsewhere : (j : StreamId) (operation : ReadableOperation) → is_same i j ≡ false → AllOther (all_seen (marks i) (OnReadable j operation ∷ []))
@@ -333,7 +316,7 @@ module _ (i : StreamId) where
       let none : readers i s.locks ≤ one_if (is_some (readable_at i s).reader) = k.held.clear in
       let zero : readers i s.locks ≤ 0 = rw here at none in
       record {
-        unmade = λ f. let free : is_some (as_readable (slice_get s.streams i.0)).reader ≡ false = here in let there = rw f at free in cc;
+        unmade = λ f. let none : is_some no_readable.reader ≡ false = rw (no_readable_there (slice_get s.streams i.0) f) at here in cc;
         held = rw (alone j (InitializeReader closed) e) (record { line = k.held.line; given = k.held.given; clear = (here, (refl, omega arith)) });
       }
 
@@ -349,7 +332,7 @@ module _ (i : StreamId) where
       let most : readers i s.locks ≤ 1 = at_most_one (readers i s.locks) (is_some (readable_at i s).reader) k.held.clear in
       record {
         unmade = λ f. let u = k.unmade f in record { free = let z = u.free in omega arith; unasked = u.unasked };
-        held = rw (all_seen-append, none, alone j ReleaseReader e) (record { line = k.held.line; given = k.held.given; clear = (refl, omega arith) });
+        held = rw (all_seen-append, none, alone j ReleaseReader e) (record { line = k.held.line; given = k.held.given; clear = (refl, (refl, omega arith)) });
       }
 
   asked : (h : Told) (l : LockId) (j : StreamId) (s : Slots) (closed : PromiseId) (r : ReadRequest) (same : Bool) → is_same i j ≡ same → lock_at l s ≡ Some (Reader (Some j) closed) → Now h s.locks s.streams []
@@ -384,14 +367,14 @@ module _ (i : StreamId) where
         others h s.locks (slice_set s.locks l.0 released) s.streams (reject_renewed s.promises ready ++ (reject_renewed t closed ++ Writable j ReleaseWriter ∷ []))
         (let n = readers-set i l.0 s.locks (Writer j) released e in omega arith)
         (rw (all_seen-append, first, all_seen-append, second) tt) k;
-    cancel = λ reason j k. others h s.locks s.locks s.streams _ refl (one_other j (Cancel reason (next_id s.promises)) refl) k;
+    cancel = λ reason j k. others h s.locks s.locks s.streams _ refl (one_other j (Cancel reason (next_id s.promises)) tt) k;
     read = λ l j closed e f k. asked h l j s closed (Promise (next_id s.promises)) (is_same i j) refl f k;
     write = λ l v j e k. others h s.locks s.locks _ _ refl tt k;
     close = λ j e k. others h s.locks s.locks _ _ refl tt k;
     abort = λ reason j e k. others h s.locks s.locks _ _ refl tt k;
-    enqueue = λ j v e can k. others h s.locks s.locks s.streams _ refl (one_other j (Enqueue v) refl) k;
-    finish = λ j k. others h s.locks s.locks s.streams _ refl (one_other j Close refl) k;
-    fail_readable = λ j reason k. others h s.locks s.locks s.streams _ refl (one_other j (Error reason) refl) k;
+    enqueue = λ j v e can k. others h s.locks s.locks s.streams _ refl (one_other j (Enqueue v) tt) k;
+    finish = λ j k. others h s.locks s.locks s.streams _ refl (one_other j Close tt) k;
+    fail_readable = λ j reason k. others h s.locks s.locks s.streams _ refl (one_other j (Error reason) tt) k;
     fail_writable = λ j reason k. others h s.locks s.locks _ _ refl tt k;
     settle = λ host answer p e k. others h s.locks s.locks _ _ refl tt k;
   })
@@ -444,7 +427,21 @@ module _ (i : StreamId) where
     unmade = record { free = refl; unasked = refl };
   }
 
+  abbrev pub Ends : List Entry → Type 0
+  Ends entries = let s : Slots = run entries empty in Now (record { flow = run_flow i entries empty; reads = run_reads i entries empty; done = run_done i entries empty }) s.locks s.streams []
+
   -- between steps
-  pub run-held : (entries : List Entry) → let s : Slots = run entries empty in
-      Held i (record { flow = run_flow i entries empty; reads = run_reads i entries empty; done = run_done i entries empty }) s.locks (readable_at i s) []
-  run-held entries = rw over-parts at (on_readable.run-kept no_told told_then (told i) (marks i) i (Held i) (Unmade i) law entries).held
+  pub run-now : (entries : List Entry) → Ends entries
+  run-now entries = rw over-parts at (on_readable.run-kept no_told told_then (told i) (marks i) i (Held i) (Unmade i) law entries)
+
+  -- a reader's stream is there
+  pub reader-there : (entries : List Entry) (l : LockId) (p : PromiseId) → let s : Slots = run entries empty in lock_at l s ≡ Some (Reader (Some i) p) → has_readable i s ≡ true
+  reader-there entries l p e = by (has_readable i (run entries empty)) refl
+    where
+      by : (there : Bool) → has_readable i (run entries empty) ≡ there → has_readable i (run entries empty) ≡ true
+      by true f = f
+      by false f =
+          let n = readers-there i l.0 (run entries empty).locks (Reader (Some i) p) e in
+          let m = has-own i p true (is_same-refl i) in
+          let none = ((run-now entries).unmade f).free in
+          absurd (omega arith)

@@ -8,12 +8,12 @@ pub fn each_read_is_answered()
     ensures { EachReadIsAnswered }
 {}
 
-/// In every run, of each readable stream: the promises of the reads that were asked of it are those that its calls were answered that read from it, in the order of these calls.
+/// In every run, of each readable stream: the promises of the reads that were asked of it are those that its calls were answered that read from it, in the order of these calls; and each call that reads by a reader which has a stream is answered a new promise.
 pub fn reads_were_answered()
     ensures { ReadsWereAnswered }
 {}
 
-/// From any slots: a read by a reader whose stream is closed is finished with undefined once its call has ended; of one that is errored it is rejected with the stored error, and by a reader that was released with a TypeError.
+/// In every run: a read by a reader whose stream is closed is finished with undefined once its call has ended; of one that is errored it is rejected with the stored error, and by a reader that was released with a TypeError.
 pub fn reads_of_the_ended()
     ensures { ReadsOfTheEnded }
 {}
