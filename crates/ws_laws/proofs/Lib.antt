@@ -3,6 +3,7 @@ pub mod Tables
 pub mod Lists
 pub mod Cases
 pub mod Outcomes
+pub mod Straight
 pub mod LettingGo
 pub mod Weights
 pub mod ReadableDoes

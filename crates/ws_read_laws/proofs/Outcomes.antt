@@ -18,30 +18,11 @@ use Rattle.ws_steps.proofs.PromiseLaws.{entry_within, entry_at-with_entry_same}
 use Rattle.ws_laws.proofs.Outcomes.{Keeps, keeps-same, keeps-watch, entries_noted}
 use Rattle.ws_laws.proofs.Rows.{row-changes}
 use Rattle.ws_laws.proofs.Stays.{keeps-changes, each_outcome_stays, each_mark_stays}
-use Rattle.ws_laws.proofs.Tables.{either}
+use Rattle.ws_laws.proofs.Straight.{straight_before, settled_straight, answered_straight}
 use Rattle.ws_laws.proofs.Truth.{nor_right, refuted}
 use Rattle.ws_laws.proofs.Walker.{IsHistory, performed-goes, nothing-told}
-use Rattle.ws_write_laws.proofs.Rejecting.{straight_before, settled_straight}
 use Rattle.ws_read_laws.proofs.Marks.{Done, effect_done}
 use Rattle.ws_read_laws.proofs.Runs.{step_done, run_done}
-
--- a read's promise that is fulfilled where nothing goes astray
-
-outcome_put : (q : PromiseId) (o : Outcome) (t : Table) (x : Option Entry) → x ≡ entry_at t q → is_open_entry x ≡ true → outcome_at (answer_entry q o t x) q ≡ Some o
-outcome_put q o t None e h = cc
-outcome_put q o t (Some e) h k =
-    let d : Entry = ended_as o e in
-    let at : entry_at (noted q (with_entry q (Some d) t) e.rank) q ≡ Some d =
-    ap (λ (es : List (Option Entry)). live (slice_get es q.0)) (entries_noted q (with_entry q (Some d) t) e.rank) ∙ entry_at-with_entry_same t q (Some d) (entry_within t q e (sym h)) in
-    ap (λ (x : Option Entry). option_map (λ (e : Entry). e.outcome) x) at
-
-answered_by : (q : PromiseId) (o : Outcome) (t : Table) (open_ : Bool) → open_ ≡ is_open q t → (answer q o t).astray ≡ false → outcome_at (answer q o t) q ≡ Some o
-unfolding answer
-answered_by q o t true e a = rw (← e) (outcome_put q o t (entry_at t q) refl (sym e))
-answered_by q o t false e a = let n : (if is_open q t then answer_entry q o t (entry_at t q) else went_astray t).astray ≡ true = rw (← e) refl in cc
-
-answered_straight : (q : PromiseId) (o : Outcome) (t : Table) → (answer q o t).astray ≡ false → outcome_at (answer q o t) q ≡ Some o
-answered_straight q o t a = answered_by q o t (is_open q t) refl a
 
 -- the promise of a request has settled so
 abbrev IsSettled : Table → Done → Type 0

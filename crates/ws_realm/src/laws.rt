@@ -4,6 +4,7 @@ pub use ws_laws::{
     each_work_is_a_run,
 };
 pub use ws_promise_laws::none_goes_astray;
+pub use ws_read_laws::{each_read_is_answered, reads_of_the_ended, reads_were_answered};
 pub use ws_readable_laws::{each_readable_is_lawful, each_readable_step, entered_was_accepted};
 pub use ws_room_laws::{effects_end_once, room_is_enough};
 pub use ws_writable_laws::{

@@ -20,7 +20,8 @@ use Rattle.ws_laws.proofs.Truth.{false_true, and_right}
 use Rattle.ws_laws.proofs.WritableDoes.{OfAlgorithms, finish_abort-does, refresh-does, advance-does, rejection-does}
 use Rattle.ws_writable_laws.proofs.Shape.{Core, core_of}
 use Rattle.ws_writable_laws.proofs.Operations.{Same, Alone, reject_ready-same, is_writable-true, none_some, refresh-same, clear_error-same, fulfil_closed-same, not_refused, fulfil_ready-same, signalled-same, release-same}
-use Rattle.ws_write_laws.proofs.Rejecting.{EachRejected, none_rejected, one_more, each-keeps, straight_before, settled_straight, all_rejected, rejected_straight}
+use Rattle.ws_laws.proofs.Straight.{straight_before, settled_straight}
+use Rattle.ws_write_laws.proofs.Rejecting.{EachRejected, none_rejected, one_more, each-keeps, all_rejected, rejected_straight}
 
 abbrev pub flight : Option PromiseId → List PromiseId
 flight None = []

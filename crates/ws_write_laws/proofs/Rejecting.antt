@@ -1,4 +1,4 @@
--- A promise that is settled where nothing goes astray has the outcome with which it is settled, and keeps it.
+-- A promise that is rejected where nothing goes astray stays rejected.
 use Rattle.std.proofs.Common.{◌≡◌, Bool, true, false, List, [], ◌∷◌, ◌++◌, map, get_or, All, Option, Some, None, Result, Err, slice_get, slice_set, if◌then◌else◌, refl, sym, ap, ◌∙◌}
 use Rattle.std.proofs.lemmas.List.Elements.{All-nil, All-cons}
 use Rattle.std.specs.Option.{option_map}
@@ -10,31 +10,8 @@ use Rattle.ws_steps.specs.Promises.{Entry, Table, live, entry_at, outcome_at, is
 use Rattle.ws_steps.specs.Laws.{is_rejected}
 use Rattle.ws_steps.specs.Writable.{reject_all}
 use Rattle.ws_steps.proofs.PromiseLaws.{entry_within, entry_at-with_entry_same}
-use Rattle.ws_laws.proofs.Outcomes.{Keeps, keeps-same, keeps-then, keeps-settle, entries_noted}
-
--- what didn't go astray at the end did nowhere
-pub straight_before : (t z : Table) → Keeps t z → z.astray ≡ false → t.astray ≡ false
-straight_before t z k e = by t.astray refl
-  where
-    by : (b : Bool) → b ≡ t.astray → t.astray ≡ false
-    by false f = sym f
-    by true f = let n = k.mark (sym f) in cc
-
-outcome_put : (q : PromiseId) (o : Result Plain Plain) (t : Table) (x : Option Entry) → x ≡ entry_at t q → is_open_entry x ≡ true → outcome_at (settle_entry q o t x) q ≡ Some (settled o)
-outcome_put q o t None e h = cc
-outcome_put q o t (Some e) h k =
-    let d : Entry = ended_as (settled o) e in
-    let y : Table = record t { entries = slice_set t.entries q.0 (Some d); jobs = t.jobs ++ map (job_of o) e.reactions } in
-    let at : entry_at (noted q y e.rank) q ≡ Some d = ap (λ (es : List (Option Entry)). live (slice_get es q.0)) (entries_noted q y e.rank) ∙ entry_at-with_entry_same t q (Some d) (entry_within t q e (sym h)) in
-    ap (λ (x : Option Entry). option_map (λ (e : Entry). e.outcome) x) at
-
-settled_by : (q : PromiseId) (o : Result Plain Plain) (t : Table) (open_ : Bool) → open_ ≡ is_open q t → (settle q o t).astray ≡ false → outcome_at (settle q o t) q ≡ Some (settled o)
-unfolding settle
-settled_by q o t true e a = rw (← e) (outcome_put q o t (entry_at t q) refl (sym e))
-settled_by q o t false e a = let n : (if is_open q t then settle_entry q o t (entry_at t q) else went_astray t).astray ≡ true = rw (← e) refl in cc
-
-pub settled_straight : (q : PromiseId) (o : Result Plain Plain) (t : Table) → (settle q o t).astray ≡ false → outcome_at (settle q o t) q ≡ Some (settled o)
-settled_straight q o t a = settled_by q o t (is_open q t) refl a
+use Rattle.ws_laws.proofs.Outcomes.{Keeps, keeps-same, keeps-then, keeps-settle}
+use Rattle.ws_laws.proofs.Straight.{straight_before, settled_straight}
 
 -- each of these promises is rejected
 abbrev pub EachRejected : Table → List PromiseId → Type 0

@@ -32,7 +32,7 @@ use Rattle.ws_writable_laws.proofs.Operations.{writes-nothing, same_once}
 use Rattle.ws_writable_laws.proofs.Agenda.{Kept, found, idle, Elsewhere, row-leaves, elsewhere_told, same_or, row-kept}
 use Rattle.ws_writable_laws.proofs.Runs.{goes, rests, none_made, resting, writes-assoc, nothing-writes}
 use Rattle.ws_promise_laws.proofs.Runs.{none_goes_astray}
-use Rattle.ws_write_laws.proofs.Rejecting.{straight_before}
+use Rattle.ws_laws.proofs.Straight.{straight_before}
 use Rattle.ws_write_laws.proofs.Lines.{line}
 use Rattle.ws_write_laws.proofs.Lined.{Lined, lined-later, lined-released, Knows, operation-lined, none_left}
 
