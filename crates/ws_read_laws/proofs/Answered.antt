@@ -1,13 +1,13 @@
 -- What reads get, over every run.
-use Rattle.std.proofs.Common.{◌≡◌, List, [], ◌∷◌, ◌++◌, map, All, refl, sym, ap, subst, ◌∙◌, append-nil}
+use Rattle.std.proofs.Common.{◌≡◌, List, [], ◌∷◌, map, All, refl, sym, ap, subst, ◌∙◌, append-nil}
 use Rattle.std.proofs.lemmas.List.Elements.{All-nil, All-cons, All-head, All-tail, All-same}
-use Rattle.ws_value.specs.declared.{ids.PromiseId.{PromiseId}, ids.StreamId.{StreamId}}
-use Rattle.ws_value.specs.declared.value.{Plain.{Plain}, Value.{Value}}
-use Rattle.ws_steps.specs.Laws.{outcome_of, Tells, RiseFrom, AreAnswered, EachReadIsAnswered}
+use Rattle.ws_value.specs.declared.{ids.PromiseId.{PromiseId}}
+use Rattle.ws_value.specs.declared.value.{Plain.{Plain}}
+use Rattle.ws_steps.specs.Laws.{outcome_of, Tells, RiseFrom, EachReadIsAnswered}
 use Rattle.ws_steps.specs.Promises.{Table}
-use Rattle.ws_steps.specs.ReadableHistory.{ReadAnswer, Gets, Ends, Fails, Released, Answered, chunk_got, chunks_got, run_reads, promises_of}
+use Rattle.ws_steps.specs.ReadableHistory.{ReadAnswer, Gets, Ends, Fails, Released, Answered, chunk_got, chunks_got}
 use Rattle.ws_steps.specs.Readable as readable
-use Rattle.ws_steps.specs.Run.{Entry, run, is_forgotten}
+use Rattle.ws_steps.specs.Run.{run, is_forgotten}
 use Rattle.ws_steps.specs.Slots.{Slots, empty, readable_at}
 use Rattle.std.specs.Prelude.{Bool}
 use Rattle.ws_promise_laws.proofs.Runs.{none_goes_astray}
@@ -56,7 +56,7 @@ each_read_is_answered entries i =
       given = sym (all-give r.stored_error k.line.answered) ∙ (ap given_of told ∙ k.given);
       released = k.line.released;
       allowed = k.line.allowed;
-      ended = k.line.ended;
-      served = k.line.served;
+      ended = k.line.waits.ended;
+      served = k.line.waits.served;
       own = subst (λ (ps : List PromiseId). RiseFrom 0 ps) (sym (run-asks i entries empty)) (run-rises i entries empty);
     }

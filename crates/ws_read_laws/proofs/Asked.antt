@@ -2,19 +2,19 @@
 use Rattle.std.proofs.Common.{◌≡◌, Bool, true, false, ◌&&◌, List, [], ◌∷◌, ◌++◌, Option, Some, None, if◌then◌else◌, refl, sym, ap, ◌∙◌, append-nil, arith}
 use Rattle.std.proofs.lemmas.Bool.{false≢true}
 use Rattle.ws_value.specs.declared.{ids.LockId.{LockId}, ids.PromiseId.{PromiseId}, ids.StreamId.{StreamId}}
-use Rattle.ws_steps.specs.declared.{calls.Call.{Call}, calls.Call.TheVariants.{Read as ReadCall}, calls.Reply.TheVariants.{Promise as Named}, effects.Effect.{Effect}}
+use Rattle.ws_steps.specs.declared.{calls.Call.{Call}, calls.Call.TheVariants.{Read as ReadCall}, effects.Effect.{Effect}}
 use Rattle.ws_steps.specs.declared.effects.Effect.TheVariants.{Readable, Writable, StartAlgorithm, PullAlgorithm, CancelAlgorithm, CloseAlgorithm, AbortAlgorithm}
 use Rattle.ws_steps.specs.declared.{locks.Lock.{Lock}, locks.Lock.TheVariants.{Reader, Writer, ReleasedWriter}, promises.Job.{Job}}
 use Rattle.ws_steps.specs.declared.{readable.ReadRequest.{ReadRequest}, readable.ReadRequest.TheVariants.{Promise}, readable.ReadableOperation.TheVariants.{Read}}
-use Rattle.ws_steps.specs.Promises.{next_id, next_job}
+use Rattle.ws_steps.specs.Promises.{next_job}
 use Rattle.ws_steps.specs.Slots.{Slots, Done, causes, empty, has_readable, readable_at, lock_at}
 use Rattle.ws_steps.specs.Turns.{row, moments}
 use Rattle.ws_steps.specs.Jobs.{job_effects, job_begun, begin_job}
 use Rattle.ws_steps.specs.Calls.{Begun, begin, unsupported, by_reader}
 use Rattle.ws_steps.specs.Calls as calls
-use Rattle.ws_steps.specs.Run.{Entry, Called, Worked, Heard, Forgot, step, run, reply_to}
+use Rattle.ws_steps.specs.Run.{Entry, Called, Worked, Heard, Forgot, step, run}
 use Rattle.ws_steps.specs.Histories.{is_same, along}
-use Rattle.ws_steps.specs.ReadableHistory.{Reads, no_reads, reads_then, operation_reads, effect_reads, step_reads, run_reads, promises_of, named_by, asked_with, call_asked, asked_in_step, asked_by_calls}
+use Rattle.ws_steps.specs.ReadableHistory.{Reads, no_reads, reads_then, operation_reads, effect_reads, step_reads, run_reads, promises_of, asked_with, call_asked, asked_in_step, asked_by_calls}
 use Rattle.ws_steps.specs.Laws.{ReadsWereAnswered}
 use Rattle.ws_room_laws.proofs.Turns.{moments_next}
 use Rattle.ws_laws.proofs.Tables.{either}
@@ -64,7 +64,7 @@ one-asked i j p s there =
     let rest : Done = causes ((row e s).caused ++ []) (row e s).slots in
     ap (λ ms. promises_of (along no_reads reads_then (effect_reads i) ms).asked) (moments_next s e [])
     ∙ (ap (λ rs. promises_of ((effect_reads i e s).asked ++ rs)) (none-asked i rest (each-append Quiet (row e s).caused [] (row-causes Quiet e s (quiet-causes e)) tt))
-      ∙ (ap promises_of (append-nil (effect_reads i e s).asked) ∙ by (is_same i j) refl))
+    ∙ (ap promises_of (append-nil (effect_reads i e s).asked) ∙ by (is_same i j) refl))
   where
     by : (same : Bool) → is_same i j ≡ same → promises_of (effect_reads i (Readable j (Read (Promise p))) s).asked ≡ (if is_same i j then p ∷ [] else [])
     by true e = rw (e, there) refl

@@ -1,5 +1,5 @@
 -- A read of a stream that has ended, or by a reader that was released, is answered within its call.
-use Rattle.std.proofs.Common.{◌≡◌, ◌+◌, ◌<◌, true, false, List, [], ◌∷◌, ◌++◌, length, Some, None, Result, Ok, Err, slice_set, refl, ap, ◌∙◌, arith}
+use Rattle.std.proofs.Common.{◌≡◌, true, false, List, [], ◌∷◌, ◌++◌, Some, None, Result, Err, slice_set, refl, ap, ◌∙◌, arith}
 use Rattle.std.specs.Option.{option_map}
 use Rattle.ws_value.specs.declared.{ids.LockId.{LockId}, ids.PromiseId.{PromiseId}, ids.StreamId.{StreamId}}
 use Rattle.ws_value.specs.declared.value.{Outcome.{Outcome}, Outcome.TheVariants.{Finished, Rejected}, Plain.{Plain}, Plain.TheVariants.{Undefined}, Value.TheVariants.{Plain as PlainValue}}
@@ -9,7 +9,7 @@ use Rattle.ws_steps.specs.declared.readable.ReadableState.TheVariants.{Closed, E
 use Rattle.ws_steps.specs.Calls.{Begun, begin, named, promising}
 use Rattle.ws_steps.specs.Effects.{type_error}
 use Rattle.ws_steps.specs.Laws.{IsAnswered, ReadsOfTheEnded}
-use Rattle.ws_steps.specs.Promises.{Entry, Table, next_id, fresh, pending, ended, with_entry, entry_at, outcome_at, is_pending, settle, answer, watch}
+use Rattle.ws_steps.specs.Promises.{Entry, Table, next_id, fresh, ended, with_entry, outcome_at, is_pending, settle, answer, watch}
 use Rattle.ws_steps.specs.Readable.{default_reader_read}
 use Rattle.ws_steps.specs.Run.{older, run}
 use Rattle.ws_steps.specs.Slots.{Slots, ReadableStream, Done, causes, empty, has_readable, readable_at, lock_at, with_promises}
@@ -51,11 +51,13 @@ with_new s = with_promises (fresh s.promises) s
 is_answered : (s y : Slots) (l : LockId) (effects : PromiseId → List Effect) (o : Outcome) → begin (Read l) s ≡ promising effects s → performed (causes (effects (next_id s.promises)) (with_new s)) ≡ y
     → is_pending o ≡ false → outcome_at y.promises (next_id s.promises) ≡ Some o → IsAnswered (Read l) s o
 is_answered s y l effects o e f n h =
-    let p : PromiseId = next_id s.promises in
-    (p, (
-      ap (λ (b : Begun). b.reply) e,
-      ap (λ (b : Begun). outcome_at (older (named b.reply (performed b.done))).promises p) e ∙ (ap (λ (z : Slots). outcome_at (watch p z.promises) p) f ∙ (keeps-watch p y.promises).outcome p o n h),
-    ))
+    let p : PromiseId = next_id s.promises in (
+      p,
+      (
+        ap (λ (b : Begun). b.reply) e,
+        ap (λ (b : Begun). outcome_at (older (named b.reply (performed b.done))).promises p) e ∙ (ap (λ (z : Slots). outcome_at (watch p z.promises) p) f ∙ (keeps-watch p y.promises).outcome p o n h),
+      ),
+    )
 
 -- the stream is disturbed
 abbrev disturbed : StreamId → Slots → Slots

@@ -1,10 +1,10 @@
 -- What each operation of a readable stream does to its reads: those that were answered, and then those that wait.
-use Rattle.std.proofs.Common.{◌≡◌, Bool, true, false, is_some, not, ◌&&◌, if◌then◌else◌, List, [], ◌∷◌, ◌++◌, map, All, Option, Some, None, Result, Ok, Err, refl, sym, ap, subst, ◌∙◌, append_assoc, append-nil, arith}
+use Rattle.std.proofs.Common.{◌≡◌, Bool, true, false, is_some, ◌&&◌, if◌then◌else◌, List, [], ◌∷◌, ◌++◌, map, All, Option, Some, None, Ok, Err, refl, sym, ap, ◌∙◌, append_assoc, append-nil, arith}
 use Rattle.std.proofs.lemmas.List.{map-append}
 use Rattle.std.proofs.lemmas.List.Elements.{All-nil, All-cons, All-head, All-tail, All-append}
 use Rattle.ws_value.specs.declared.ids.PromiseId.{PromiseId}
 use Rattle.ws_value.specs.declared.ids.StreamId.{StreamId}
-use Rattle.ws_value.specs.declared.value.{Outcome.{Outcome}, Outcome.TheVariants.{Given}, Plain.{Plain}, Value.{Value}}
+use Rattle.ws_value.specs.declared.value.{Plain.{Plain}, Value.{Value}}
 use Rattle.ws_steps.specs.declared.{effects.Effect.{Effect}, effects.Effect.TheVariants.{PullAlgorithm, CancelAlgorithm, ChunkSteps, CloseSteps, ErrorSteps}, queue.Queued.{Queued}, readable.ReadRequest.{ReadRequest}}
 use Rattle.ws_steps.specs.declared.{readable.ReadableOperation.{ReadableOperation}, readable.ReadableOperation.TheVariants.{InitializeReader, ReleaseReader, Read, Cancel, Enqueue, Close, Error, StartSettled, PullSettled}}
 use Rattle.ws_steps.specs.declared.{readable.ReadableState.{ReadableState}, readable.ReadableState.TheVariants.{Readable, Closed, Errored}}
@@ -15,12 +15,18 @@ use Rattle.ws_steps.specs.Readable.{Slots, Acts, causing, is_readable, waiting, 
 use Rattle.ws_steps.specs.ReadableHistory.{Reads, no_reads, reads_then, operation_reads, ReadAnswer, Gets, Ends, Fails, Released, Answered, requests_of, if_released, released_of}
 use Rattle.ws_steps.specs.Laws.{outcome_of, Allows}
 use Rattle.ws_laws.proofs.Tables.{either}
-use Rattle.ws_laws.proofs.Truth.{false_true, and_right}
+use Rattle.ws_laws.proofs.Truth.{false_true}
 use Rattle.ws_readable_laws.proofs.Operations.{readable_by}
 use Rattle.ws_read_laws.proofs.Marks.{Done, done_of, shown, shown-all, shown-cause, shown-chunk, shown-close, shown-error, with_answer, close_all-shown, error_all-shown}
 
 abbrev pub AllAllowed : ReadableState → List Answered → Type 0
 AllAllowed state xs = All (λ a. Allows state a.answer) xs
+
+-- no read waits at a stream that has ended, beside a queue, or where there is no reader
+pub record MayWait (state : ReadableState) (reader : Option PromiseId) (requests : List ReadRequest) (queue : List (Queued Value)) : Type 0 where
+  pub ended : is_readable state ≡ false → requests ≡ []
+  pub served : is_empty queue ≡ false → requests ≡ []
+  pub locked : is_some reader ≡ false → requests ≡ []
 
 -- The reads of a stream with these slots, of which so many were answered or are about to be
 pub record Line (h : Reads) (done : List Done) (state : ReadableState) (e : Plain) (reader : Option PromiseId) (requests : List ReadRequest) (queue : List (Queued Value)) : Type 0 where
@@ -29,9 +35,7 @@ pub record Line (h : Reads) (done : List Done) (state : ReadableState) (e : Plai
   pub told : map (done_of e) answered ≡ done
   pub allowed : AllAllowed state answered
   pub released : released_of answered ≡ h.released
-  pub ended : is_readable state ≡ false → requests ≡ []
-  pub served : is_empty queue ≡ false → requests ≡ []
-  pub locked : is_some reader ≡ false → requests ≡ []
+  pub waits : MayWait state reader requests queue
 
 requests_of-append : (xs ys : List Answered) → requests_of (xs ++ ys) ≡ requests_of xs ++ requests_of ys
 requests_of-append [] ys = refl
@@ -82,79 +86,15 @@ from_readable z e f (x ∷ xs) a =
     (All-cons (λ a. Allows z a.answer) x xs first.0 rest.0, λ i. record { request = x.request; outcome = first.1 i } ∷ rest.1 i)
 
 -- none waits
-moved : (h : Reads) (done : List Done) (state z : ReadableState) (e f : Plain) (reader other : Option PromiseId) (requests : List ReadRequest) (queue qs : List (Queued Value)) → requests ≡ [] → Stay state z e f
-    → Line h done state e reader requests queue → Line h done z f other requests qs
-moved h done state z e f reader other requests queue qs none stay l = record {
-  answered = l.answered;
-  order = l.order;
-  told = (stay l.answered l.allowed).1 ∙ l.told;
-  allowed = (stay l.answered l.allowed).0;
-  released = l.released;
-  ended = λ g. none;
-  served = λ g. none;
-  locked = λ g. none;
-}
+none_waits : (state : ReadableState) (reader : Option PromiseId) (requests : List ReadRequest) (queue : List (Queued Value)) → requests ≡ [] → MayWait state reader requests queue
+none_waits state reader requests queue n = record { ended = λ e. n; served = λ e. n; locked = λ e. n }
 
--- all that wait are answered
-over : (h : Reads) (done more : List Done) (state z : ReadableState) (e f : Plain) (reader other : Option PromiseId) (requests : List ReadRequest) (queue qs : List (Queued Value)) (w : ReadAnswer) (gone : List ReadRequest)
-    → Allows z w → released_of (with_answer w requests) ≡ gone → more ≡ map (done_of f) (with_answer w requests) → Stay state z e f
-    → Line h done state e reader requests queue → Line (reads_then h (record no_reads { released = gone })) (done ++ more) z f other [] qs
-over h done more state z e f reader other requests queue qs w gone a g m stay l = record {
-  answered = l.answered ++ with_answer w requests;
-  order = ap (λ (rs : List ReadRequest). rs ++ []) (requests_of-append l.answered (with_answer w requests) ∙ (ap (λ (rs : List ReadRequest). requests_of l.answered ++ rs) (with_answer-requests w requests) ∙ l.order));
-  told = map-append (done_of f) l.answered (with_answer w requests) ∙ (rw ((stay l.answered l.allowed).1, l.told, m) refl);
-  allowed = All-append (λ a. Allows z a.answer) l.answered (with_answer w requests) (stay l.answered l.allowed).0 (with_answer-allowed w z requests a);
-  released = released_of-append l.answered (with_answer w requests) ∙ (rw (l.released, g) refl);
-  ended = λ k. refl;
-  served = λ k. refl;
-  locked = λ k. refl;
-}
+-- the first of those that wait is answered
+one_less : (state : ReadableState) (reader : Option PromiseId) (r : ReadRequest) (rs requests : List ReadRequest) (queue : List (Queued Value)) → r ∷ rs ≡ requests → MayWait state reader requests queue → MayWait state reader rs queue
+one_less state reader r rs requests queue e w = record { ended = λ k. let n = w.ended k in cc; served = λ k. let n = w.served k in cc; locked = λ k. let n = w.locked k in cc }
 
--- the first that waits gets a chunk
-got : (h : Reads) (done : List Done) (e : Plain) (reader : Option PromiseId) (r : ReadRequest) (rs : List ReadRequest) (queue : List (Queued Value)) (v : Value)
-    → Line h done Readable e reader (r ∷ rs) queue → Line h (done ++ record { request = r; outcome = Given v } ∷ []) Readable e reader rs queue
-got h done e reader r rs queue v l =
-    let x : Answered = record { request = r; answer = Gets v } in
-    record {
-      answered = l.answered ++ x ∷ [];
-      order = ap (λ (qs : List ReadRequest). qs ++ rs) (requests_of-append l.answered (x ∷ [])) ∙ (append_assoc (requests_of l.answered) (r ∷ []) rs ∙ l.order);
-      told = map-append (done_of e) l.answered (x ∷ []) ∙ ap (λ (ds : List Done). ds ++ done_of e x ∷ []) l.told;
-      allowed = All-append (λ a. Allows Readable a.answer) l.answered (x ∷ []) l.allowed (All-cons (λ a. Allows Readable a.answer) x [] tt (All-nil (λ a. Allows Readable a.answer)));
-      released = released_of-append l.answered (x ∷ []) ∙ (append-nil (released_of l.answered) ∙ l.released);
-      ended = λ k. cc;
-      served = λ k. let n = l.served k in cc;
-      locked = λ k. let n = l.locked k in cc;
-    }
-
--- a read is asked, and waits
-asks : (h : Reads) (done : List Done) (e : Plain) (reader : Option PromiseId) (r : ReadRequest) (rs : List ReadRequest) → is_some reader ≡ true
-    → Line h done Readable e reader rs [] → Line (reads_then h (record no_reads { asked = r ∷ [] })) done Readable e reader (rs ++ r ∷ []) []
-asks h done e reader r rs there l = record {
-  answered = l.answered;
-  order = sym (append_assoc (requests_of l.answered) rs (r ∷ [])) ∙ ap (λ (qs : List ReadRequest). qs ++ r ∷ []) l.order;
-  told = l.told;
-  allowed = l.allowed;
-  released = l.released ∙ sym (append-nil h.released);
-  ended = λ k. cc;
-  served = λ k. cc;
-  locked = λ k. false_true (is_some reader) there k;
-}
-
--- a read is asked, and answered
-asked_and_answered : (h : Reads) (done : List Done) (state : ReadableState) (e : Plain) (reader : Option PromiseId) (r : ReadRequest) (rs : List ReadRequest) (queue : List (Queued Value)) (w : ReadAnswer) → rs ≡ [] → Allows state w → if_released r w ≡ []
-    → Line h done state e reader rs queue → Line (reads_then h (record no_reads { asked = r ∷ [] })) (done ++ record { request = r; outcome = outcome_of e w } ∷ []) state e reader rs queue
-asked_and_answered h done state e reader r rs queue w none a n l =
-    let x : Answered = record { request = r; answer = w } in
-    record {
-      answered = l.answered ++ x ∷ [];
-      order = rw (none, append-nil (requests_of (l.answered ++ x ∷ []))) (requests_of-append l.answered (x ∷ []) ∙ ap (λ (qs : List ReadRequest). qs ++ r ∷ []) (sym (append-nil (requests_of l.answered)) ∙ rw none at l.order));
-      told = map-append (done_of e) l.answered (x ∷ []) ∙ ap (λ (ds : List Done). ds ++ done_of e x ∷ []) l.told;
-      allowed = All-append (λ a. Allows state a.answer) l.answered (x ∷ []) l.allowed (All-cons (λ a. Allows state a.answer) x [] a (All-nil (λ a. Allows state a.answer)));
-      released = released_of-append l.answered (x ∷ []) ∙ (rw (n, l.released) refl);
-      ended = λ k. none;
-      served = λ k. none;
-      locked = λ k. none;
-    }
+one_allowed : (state : ReadableState) (x : Answered) → Allows state x.answer → AllAllowed state (x ∷ [])
+one_allowed state x a = All-cons (λ a. Allows state a.answer) x [] a (All-nil (λ a. Allows state a.answer))
 
 -- what an operation finds: a reader comes where there is none, a reader goes with no effect behind, and a read is asked where there is a
 -- reader
@@ -176,35 +116,51 @@ module _ (me : StreamId) where
   abbrev pub Lines : Reads → List Done → Acts → Type 0
   Lines h ds a = Line h (ds ++ shown me a.out) a.slots.state a.slots.stored_error a.slots.reader a.slots.requests a.slots.queue
 
-  -- where nothing is answered
-  hidden : (h : Reads) (ds : List Done) (a b : Acts) → shown me b.out ≡ shown me a.out
-      → Line h (ds ++ shown me a.out) b.slots.state b.slots.stored_error b.slots.reader b.slots.requests b.slots.queue → Lines h ds b
-  hidden h ds a b e l = rw e l
+  -- these are answered, and these asked
+  answers : (h : Reads) (ds : List Done) (a b : Acts) (xs : List Answered) (asked gone : List ReadRequest) → requests_of xs ++ b.slots.requests ≡ a.slots.requests ++ asked → AllAllowed b.slots.state xs → released_of xs ≡ gone
+      → shown me b.out ≡ shown me a.out ++ map (done_of b.slots.stored_error) xs → Stay a.slots.state b.slots.state a.slots.stored_error b.slots.stored_error
+      → MayWait b.slots.state b.slots.reader b.slots.requests b.slots.queue → Lines h ds a → Lines (reads_then h (record { asked = asked; released = gone })) ds b
+  answers h ds a b xs asked gone o allowed g e stay w l =
+      let kept = stay l.answered l.allowed in
+      record {
+        answered = l.answered ++ xs;
+        order = rw (requests_of-append, append_assoc, o, ← append_assoc, l.order) refl;
+        told = rw (map-append, kept.1, l.told, e, append_assoc) refl;
+        allowed = All-append (λ a. Allows b.slots.state a.answer) l.answered xs kept.0 allowed;
+        released = rw (released_of-append, l.released, g) refl;
+        waits = w;
+      }
+
+  -- none is answered or asked
+  still : (h : Reads) (ds : List Done) (a b : Acts) → shown me b.out ≡ shown me a.out → b.slots.requests ≡ a.slots.requests → Stay a.slots.state b.slots.state a.slots.stored_error b.slots.stored_error
+      → MayWait b.slots.state b.slots.reader b.slots.requests b.slots.queue → Lines h ds a → Lines h ds b
+  still h ds a b e r stay w l =
+      let kept = stay l.answered l.allowed in
+      record { answered = l.answered; order = rw r l.order; told = rw e (kept.1 ∙ l.told); allowed = kept.0; released = l.released; waits = w }
 
   pull-line : (h : Reads) (ds : List Done) (a : Acts) → Lines h ds a → Lines h ds (call_pull_if_needed me a)
   unfolding call_pull_if_needed
   pull-line h ds a l =
       let b : Acts = record { slots = record a.slots { pulling = true }; out = cause (PullAlgorithm me) a.out } in
       either (Lines h ds) (should_call_pull a.slots) (call_pull me a) a
-      (λ e. either (Lines h ds) a.slots.pulling (record a { slots = record a.slots { pull_again = true } }) b (λ e. l) (λ e. hidden h ds a b (shown-cause me (PullAlgorithm me) a.out ∙ append-nil (shown me a.out)) l))
+      (λ e. either (Lines h ds) a.slots.pulling (record a { slots = record a.slots { pull_again = true } }) b (λ e. l) (λ e. still h ds a b (shown-cause me (PullAlgorithm me) a.out ∙ append-nil (shown me a.out)) refl (unchanged a.slots.state a.slots.stored_error) l.waits l))
       (λ e. l)
 
   -- the stream ends, and all that wait are answered
 
-  answers-all : (h : Reads) (ds : List Done) (a b : Acts) (w : ReadAnswer) (gone : List ReadRequest) → Allows b.slots.state w → released_of (with_answer w a.slots.requests) ≡ gone
+  all-answered : (h : Reads) (ds : List Done) (a b : Acts) (w : ReadAnswer) (gone : List ReadRequest) → Allows b.slots.state w → released_of (with_answer w a.slots.requests) ≡ gone
       → shown me b.out ≡ shown me a.out ++ map (done_of b.slots.stored_error) (with_answer w a.slots.requests) → Stay a.slots.state b.slots.state a.slots.stored_error b.slots.stored_error
       → b.slots.requests ≡ [] → Lines h ds a → Lines (reads_then h (record no_reads { released = gone })) ds b
-  answers-all h ds a b w gone allowed g e stay none l =
-      let more : List Done = map (done_of b.slots.stored_error) (with_answer w a.slots.requests) in
-      rw (none, e, ← append_assoc ds (shown me a.out) more)
-      (over h (ds ++ shown me a.out) more a.slots.state b.slots.state a.slots.stored_error b.slots.stored_error a.slots.reader b.slots.reader a.slots.requests a.slots.queue b.slots.queue w gone allowed g refl stay l)
+  all-answered h ds a b w gone allowed g e stay none l =
+      answers h ds a b (with_answer w a.slots.requests) [] gone (rw (none, with_answer-requests) refl) (with_answer-allowed w b.slots.state a.slots.requests allowed) g e stay
+      (none_waits b.slots.state b.slots.reader b.slots.requests b.slots.queue none) l
 
   close_reader-line : (h : Reads) (ds : List Done) (a : Acts) (reader : Option PromiseId) → reader ≡ a.slots.reader → a.slots.state ≡ Readable → Lines h ds a → Lines h ds (close_reader me (record a { slots = record a.slots { state = Closed } }) reader)
   close_reader-line h ds a None e s l =
-      moved h (ds ++ shown me a.out) a.slots.state Closed a.slots.stored_error a.slots.stored_error a.slots.reader a.slots.reader a.slots.requests a.slots.queue a.slots.queue (l.locked (rw (← e) refl)) (rw s (from_readable Closed a.slots.stored_error a.slots.stored_error)) l
+      still h ds a (record a { slots = record a.slots { state = Closed } }) refl refl (rw s (from_readable Closed a.slots.stored_error a.slots.stored_error))
+      (none_waits Closed a.slots.reader a.slots.requests a.slots.queue (l.waits.locked (rw (← e) refl))) l
   close_reader-line h ds a (Some closed) e s l =
-      let b : Acts = close_reader me (record a { slots = record a.slots { state = Closed } }) (Some closed) in
-      rw same_reads at (answers-all h ds a b Ends [] refl (none_released Ends a.slots.requests (λ r. refl))
+      rw same_reads at (all-answered h ds a (close_reader me (record a { slots = record a.slots { state = Closed } }) (Some closed)) Ends [] refl (none_released Ends a.slots.requests (λ r. refl))
       (shown-all me (close_all me a.slots.requests) a.out ∙ ap (λ (es : List Done). shown me a.out ++ es) (close_all-shown me a.slots.stored_error a.slots.requests))
       (rw s (from_readable Closed a.slots.stored_error a.slots.stored_error)) refl l)
 
@@ -215,10 +171,10 @@ module _ (me : StreamId) where
   error_reader-line : (e : Plain) (h : Reads) (ds : List Done) (a : Acts) (reader : Option PromiseId) → reader ≡ a.slots.reader → a.slots.state ≡ Readable → Lines h ds a
       → Lines h ds (error_reader me e (record a { slots = record a.slots { queue = []; state = Errored; stored_error = e } }) reader)
   error_reader-line e h ds a None r s l =
-      moved h (ds ++ shown me a.out) a.slots.state Errored a.slots.stored_error e a.slots.reader a.slots.reader a.slots.requests a.slots.queue [] (l.locked (rw (← r) refl)) (rw s (from_readable Errored a.slots.stored_error e)) l
+      still h ds a (record a { slots = record a.slots { queue = []; state = Errored; stored_error = e } }) refl refl (rw s (from_readable Errored a.slots.stored_error e))
+      (none_waits Errored a.slots.reader a.slots.requests [] (l.waits.locked (rw (← r) refl))) l
   error_reader-line e h ds a (Some closed) r s l =
-      let b : Acts = error_reader me e (record a { slots = record a.slots { queue = []; state = Errored; stored_error = e } }) (Some closed) in
-      rw same_reads at (answers-all h ds a b Fails [] refl (none_released Fails a.slots.requests (λ r. refl))
+      rw same_reads at (all-answered h ds a (error_reader me e (record a { slots = record a.slots { queue = []; state = Errored; stored_error = e } }) (Some closed)) Fails [] refl (none_released Fails a.slots.requests (λ r. refl))
       (shown-all me (error_all me e a.slots.requests) a.out ∙ ap (λ (es : List Done). shown me a.out ++ es) (error_all-shown me e e Fails a.slots.requests refl))
       (rw s (from_readable Errored a.slots.stored_error e)) refl l)
 
@@ -243,17 +199,17 @@ module _ (me : StreamId) where
   waits_all s none = either (λ (rs : List ReadRequest). rs ≡ s.requests) (is_some s.reader) s.requests [] (λ e. refl) (λ e. sym (none e))
 
   accept-line : (v : Value) (h : Reads) (ds : List Done) (a : Acts) (rs : List ReadRequest) → rs ≡ a.slots.requests → a.slots.state ≡ Readable → Lines h ds a → Lines h ds (accept_for me v a rs)
-  accept-line v h ds a [] e s l =
-      moved h (ds ++ shown me a.out) a.slots.state a.slots.state a.slots.stored_error a.slots.stored_error a.slots.reader a.slots.reader a.slots.requests a.slots.queue _ (sym e) (unchanged a.slots.state a.slots.stored_error) l
+  accept-line v h ds a [] e s l = still h ds a (accept_for me v a []) refl refl (unchanged a.slots.state a.slots.stored_error) (none_waits a.slots.state a.slots.reader a.slots.requests _ (sym e)) l
   accept-line v h ds a (r ∷ rs) e s l =
-      let first : Line h (ds ++ shown me a.out) Readable a.slots.stored_error a.slots.reader (r ∷ rs) a.slots.queue = rw (e, ← s) l in
-      rw (s, shown-chunk me r v a.out, ← append_assoc ds (shown me a.out) (record { request = r; outcome = Given v } ∷ [])) (got h (ds ++ shown me a.out) a.slots.stored_error a.slots.reader r rs a.slots.queue v first)
+      let x : Answered = record { request = r; answer = Gets v } in
+      rw same_reads at (answers h ds a (accept_for me v a (r ∷ rs)) (x ∷ []) [] [] (e ∙ sym (append-nil a.slots.requests)) (one_allowed a.slots.state x tt) refl (shown-chunk me r v a.out)
+      (unchanged a.slots.state a.slots.stored_error) (one_less a.slots.state a.slots.reader r rs a.slots.requests a.slots.queue e l.waits) l)
 
   enqueue-line : (v : Value) (h : Reads) (ds : List Done) (a : Acts) → Lines h ds a → Lines h ds (controller_enqueue me v a)
   unfolding controller_enqueue accept
   enqueue-line v h ds a l =
       either (Lines h ds) (can_close_or_enqueue a.slots) (call_pull_if_needed me (accept me v a)) a
-      (λ can. pull-line h ds (accept me v a) (accept-line v h ds a (waiting a.slots) (waits_all a.slots l.locked) (readable_by a.slots.close_requested a.slots.state can) l)) (λ cannot. l)
+      (λ can. pull-line h ds (accept me v a) (accept-line v h ds a (waiting a.slots) (waits_all a.slots l.waits.locked) (readable_by a.slots.close_requested a.slots.state can) l)) (λ cannot. l)
 
   -- reads
 
@@ -269,20 +225,23 @@ module _ (me : StreamId) where
   asked-line : (h : Reads) (ds : List Done) (a : Acts) (e : Effect) (r : ReadRequest) (w : ReadAnswer) → a.slots.requests ≡ [] → Allows a.slots.state w → if_released r w ≡ []
       → shown me (cause e a.out) ≡ shown me a.out ++ record { request = r; outcome = outcome_of a.slots.stored_error w } ∷ [] → Lines h ds a → Lines (reads_then h (record no_reads { asked = r ∷ [] })) ds (causing e a)
   asked-line h ds a e r w none allowed n s l =
-      rw (s, ← append_assoc ds (shown me a.out) (record { request = r; outcome = outcome_of a.slots.stored_error w } ∷ []))
-      (asked_and_answered h (ds ++ shown me a.out) a.slots.state a.slots.stored_error a.slots.reader r a.slots.requests a.slots.queue w none allowed n l)
+      let x : Answered = record { request = r; answer = w } in
+      answers h ds a (causing e a) (x ∷ []) (r ∷ []) [] (rw none refl) (one_allowed a.slots.state x allowed) (rw n refl) s (unchanged a.slots.state a.slots.stored_error)
+      (none_waits a.slots.state a.slots.reader a.slots.requests a.slots.queue none) l
 
   pull_from-line : (r : ReadRequest) (h : Reads) (ds : List Done) (a : Acts) (queue : List (Queued Value)) → queue ≡ a.slots.queue → a.slots.state ≡ Readable → is_some a.slots.reader ≡ true → Lines h ds a
       → Lines (reads_then h (record no_reads { asked = r ∷ [] })) ds (pull_from me r a queue)
   pull_from-line r h ds a [] q s there l =
-      let waits : Line h (ds ++ shown me a.out) Readable a.slots.stored_error a.slots.reader a.slots.requests [] = rw (q, ← s) l in
-      pull-line (reads_then h (record no_reads { asked = r ∷ [] })) ds (record a { slots = record a.slots { requests = a.slots.requests ++ r ∷ [] } })
-      (rw (s, ← q) (asks h (ds ++ shown me a.out) a.slots.stored_error a.slots.reader r a.slots.requests there waits))
+      let b : Acts = record a { slots = record a.slots { requests = a.slots.requests ++ r ∷ [] } } in
+      let readable : is_readable a.slots.state ≡ true = rw s refl in
+      let empty : is_empty a.slots.queue ≡ true = rw (← q) refl in
+      pull-line (reads_then h (record no_reads { asked = r ∷ [] })) ds b
+      (answers h ds a b [] (r ∷ []) [] refl (All-nil (λ a. Allows b.slots.state a.answer)) refl (sym (append-nil (shown me a.out))) (unchanged a.slots.state a.slots.stored_error)
+      (record { ended = λ k. false_true (is_readable a.slots.state) readable k; served = λ k. false_true (is_empty a.slots.queue) empty k; locked = λ k. false_true (is_some a.slots.reader) there k }) l)
   pull_from-line r h ds a (q ∷ qs) e s there l =
-      let none : a.slots.requests ≡ [] = l.served (rw (← e) refl) in
+      let none : a.slots.requests ≡ [] = l.waits.served (rw (← e) refl) in
       let b : Acts = record a { slots = record a.slots { queue = qs } } in
-      let taken : Lines h ds b =
-      moved h (ds ++ shown me a.out) a.slots.state a.slots.state a.slots.stored_error a.slots.stored_error a.slots.reader a.slots.reader a.slots.requests a.slots.queue qs none (unchanged a.slots.state a.slots.stored_error) l in
+      let taken : Lines h ds b = still h ds a b refl refl (unchanged a.slots.state a.slots.stored_error) (none_waits a.slots.state a.slots.reader a.slots.requests qs none) l in
       asked-line h ds (after_take me b) (ChunkSteps me r q.value) r (Gets q.value) (after_take-waits b none) tt refl (shown-chunk me r q.value (after_take me b).out) (after_take-line h ds b s taken)
 
   read_by-line : (r : ReadRequest) (h : Reads) (ds : List Done) (a : Acts) (state : ReadableState) → state ≡ a.slots.state → is_some a.slots.reader ≡ true → Lines h ds a
@@ -290,9 +249,9 @@ module _ (me : StreamId) where
   unfolding pull_steps
   read_by-line r h ds a Readable s there l = pull_from-line r h ds a a.slots.queue refl (sym s) there l
   read_by-line r h ds a Closed s there l =
-      asked-line h ds a (CloseSteps me r) r Ends (l.ended (rw (← s) refl)) (sym s) refl (shown-close me r a.out) l
+      asked-line h ds a (CloseSteps me r) r Ends (l.waits.ended (rw (← s) refl)) (sym s) refl (shown-close me r a.out) l
   read_by-line r h ds a Errored s there l =
-      asked-line h ds a (ErrorSteps me r a.slots.stored_error) r Fails (l.ended (rw (← s) refl)) (sym s) refl (shown-error me r a.slots.stored_error a.out) l
+      asked-line h ds a (ErrorSteps me r a.slots.stored_error) r Fails (l.waits.ended (rw (← s) refl)) (sym s) refl (shown-error me r a.slots.stored_error a.out) l
 
   -- readers
 
@@ -309,10 +268,8 @@ module _ (me : StreamId) where
   comes-line : (closed : PromiseId) (h : Reads) (ds : List Done) (a : Acts) → is_some a.slots.reader ≡ false → Lines h ds a → Lines h ds (reader_generic_initialize closed a)
   unfolding reader_generic_initialize
   comes-line closed h ds a free l =
-      let none : a.slots.requests ≡ [] = l.locked free in
-      let before : Line h (ds ++ shown me a.out) a.slots.state a.slots.stored_error a.slots.reader [] a.slots.queue = rw (← none) l in
-      rw (closed-shown closed a.slots.stored_error a.out a.slots.state)
-      (moved h (ds ++ shown me a.out) a.slots.state a.slots.state a.slots.stored_error a.slots.stored_error a.slots.reader (Some closed) [] a.slots.queue a.slots.queue refl (unchanged a.slots.state a.slots.stored_error) before)
+      still h ds a (reader_generic_initialize closed a) (closed-shown closed a.slots.stored_error a.out a.slots.state) (sym (l.waits.locked free)) (unchanged a.slots.state a.slots.stored_error)
+      (none_waits a.slots.state (Some closed) [] a.slots.queue refl) l
 
   goes-line : (h : Reads) (ds : List Done) (a : Acts) (reader : Option PromiseId) → reader ≡ a.slots.reader → Lines h ds a → Lines (reads_then h (record no_reads { released = waiting a.slots })) ds (release_by me a reader)
   goes-line h ds a None r l =
@@ -321,7 +278,7 @@ module _ (me : StreamId) where
   goes-line h ds a (Some closed) r l =
       let all : waiting a.slots ≡ a.slots.requests = rw (← r) refl in
       rw all
-      (answers-all h ds a (release_by me a (Some closed)) Released a.slots.requests tt (all_released a.slots.requests)
+      (all-answered h ds a (release_by me a (Some closed)) Released a.slots.requests tt (all_released a.slots.requests)
       (shown-all me (error_all me type_error a.slots.requests) (release_closed closed a.out a.slots.state)
       ∙ (rw (released-shown closed a.out a.slots.state, error_all-shown me type_error a.slots.stored_error Released a.slots.requests refl) refl))
       (unchanged a.slots.state a.slots.stored_error) refl l)
@@ -331,8 +288,8 @@ module _ (me : StreamId) where
   cancelled-line : (r : Plain) (p : PromiseId) (h : Reads) (ds : List Done) (a : Acts) → Lines h ds a → is_readable a.slots.state ≡ false → Lines h ds (cancel_steps me r p a)
   unfolding cancel_steps
   cancelled-line r p h ds a l over =
-      hidden h ds a (cancel_steps me r p a) (shown-cause me (CancelAlgorithm me r p) a.out ∙ append-nil (shown me a.out))
-      (moved h (ds ++ shown me a.out) a.slots.state a.slots.state a.slots.stored_error a.slots.stored_error a.slots.reader a.slots.reader a.slots.requests a.slots.queue [] (l.ended over) (unchanged a.slots.state a.slots.stored_error) l)
+      still h ds a (cancel_steps me r p a) (shown-cause me (CancelAlgorithm me r p) a.out ∙ append-nil (shown me a.out)) refl (unchanged a.slots.state a.slots.stored_error)
+      (none_waits a.slots.state a.slots.reader a.slots.requests [] (l.waits.ended over)) l
 
   closes : (a : Acts) → is_readable (stream_close me a).slots.state ≡ false
   unfolding stream_close

@@ -1,21 +1,19 @@
 -- The steps of a request that were performed left its promise with their outcome, which it keeps.
-use Rattle.std.proofs.Common.{◌≡◌, Bool, true, false, ◌||◌, if◌then◌else◌, List, [], ◌∷◌, ◌++◌, All, Option, Some, None, Err, slice_get, slice_set, refl, sym, ap, ◌∙◌, append_assoc, append-nil}
+use Rattle.std.proofs.Common.{◌≡◌, Bool, true, false, if◌then◌else◌, List, [], ◌∷◌, ◌++◌, All, Err, refl, append_assoc, append-nil}
 use Rattle.std.proofs.lemmas.List.Elements.{All-nil, All-cons, All-append, All-weaker}
-use Rattle.std.specs.Option.{option_map}
-use Rattle.ws_value.specs.declared.{ids.PromiseId.{PromiseId}, ids.StreamId.{StreamId}}
-use Rattle.ws_value.specs.declared.value.{Outcome.{Outcome}, Outcome.TheVariants.{Given, Finished, Rejected}, Plain.TheVariants.{Undefined}, Value.TheVariants.{Plain as PlainValue}}
+use Rattle.ws_value.specs.declared.{ids.StreamId.{StreamId}}
+use Rattle.ws_value.specs.declared.value.{Outcome.{Outcome}, Outcome.TheVariants.{Given, Finished}, Plain.TheVariants.{Undefined}, Value.TheVariants.{Plain as PlainValue}}
 use Rattle.ws_steps.specs.declared.{calls.Reply.{Reply}, calls.Reply.TheVariants.{Promise as Named}, effects.Effect.{Effect}, effects.Effect.TheVariants.{ChunkSteps, CloseSteps, ErrorSteps}}
 use Rattle.ws_steps.specs.declared.{readable.ReadRequest.{ReadRequest}, readable.ReadRequest.TheVariants.{Promise}}
 use Rattle.ws_steps.specs.Calls.{begin, named}
 use Rattle.ws_steps.specs.Histories.{is_same, along}
 use Rattle.ws_steps.specs.Jobs.{begin_job}
 use Rattle.ws_steps.specs.Laws.{Tells}
-use Rattle.ws_steps.specs.Promises.{Entry, Table, live, entry_at, outcome_at, with_entry, is_pending, is_open, is_open_entry, ended_as, noted, settle, answer, answer_entry, went_astray, watch}
+use Rattle.ws_steps.specs.Promises.{Table, is_pending, settle, answer}
 use Rattle.ws_steps.specs.Run.{Entry as Step, Called, Worked, Heard, Forgot, step, run, lets_go, is_forgotten}
-use Rattle.ws_steps.specs.Slots.{Slots, Done as Begun, nothing}
+use Rattle.ws_steps.specs.Slots.{Slots, Done as Begun}
 use Rattle.ws_steps.specs.Turns.{row, moments, performed}
-use Rattle.ws_steps.proofs.PromiseLaws.{entry_within, entry_at-with_entry_same}
-use Rattle.ws_laws.proofs.Outcomes.{Keeps, keeps-same, keeps-watch, entries_noted}
+use Rattle.ws_laws.proofs.Outcomes.{Keeps, keeps-same, keeps-watch}
 use Rattle.ws_laws.proofs.Rows.{row-changes}
 use Rattle.ws_laws.proofs.Stays.{keeps-changes, each_outcome_stays, each_mark_stays}
 use Rattle.ws_laws.proofs.Straight.{straight_before, settled_straight, answered_straight}

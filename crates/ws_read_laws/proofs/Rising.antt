@@ -1,5 +1,5 @@
 -- Promises are made and never unmade, so the promise of each read has a higher number than those of the reads before it.
-use Rattle.std.proofs.Common.{◌≡◌, ℕ, ◌+◌, ◌≤◌, Bool, true, false, List, [], ◌∷◌, ◌++◌, length, Option, Some, None, Result, if◌then◌else◌, refl, ap, ◌∙◌, arith}
+use Rattle.std.proofs.Common.{◌≡◌, ℕ, ◌+◌, ◌≤◌, Bool, true, false, List, [], ◌∷◌, ◌++◌, length, Option, Some, None, if◌then◌else◌, refl, ap, ◌∙◌, arith}
 use Rattle.ws_value.specs.declared.{ids.LockId.{LockId}, ids.PromiseId.{PromiseId}, ids.StreamId.{StreamId}}
 use Rattle.ws_steps.specs.declared.{calls.Call.{Call}, calls.Call.TheVariants.{Read as ReadCall}, calls.Reply.{Reply}, calls.Reply.TheVariants.{Promise as Named}}
 use Rattle.ws_steps.specs.declared.{locks.Lock.{Lock}, locks.Lock.TheVariants.{Reader, Writer, ReleasedWriter}, promises.Job.{Job}, promises.Job.TheVariants.{Reaction as ReactionJob, Follow, Settle, Micro as MicroJob}, promises.Reaction.TheVariants.{Adopt}}
@@ -8,9 +8,9 @@ use Rattle.ws_steps.specs.Calls as calls
 use Rattle.ws_steps.specs.Histories.{is_same}
 use Rattle.ws_steps.specs.Jobs.{job_begun, begin_job}
 use Rattle.ws_steps.specs.Laws.{RiseFrom}
-use Rattle.ws_steps.specs.Promises.{Entry, Table, next_id, fresh, react, taken, after_first, after_next_job, next_job, watch, let_go}
+use Rattle.ws_steps.specs.Promises.{Entry, Table, next_id, react, taken, after_first, after_next_job, next_job, watch}
 use Rattle.ws_steps.specs.Slots.{Slots, Done, has_readable, lock_at}
-use Rattle.ws_steps.specs.Turns.{row, performed}
+use Rattle.ws_steps.specs.Turns.{performed}
 use Rattle.ws_steps.specs.ReadableHistory.{named_by, asked_with, call_asked, asked_in_step, asked_by_calls}
 use Rattle.ws_steps.specs.Run.{Entry as Step, Called, Worked, Heard, Forgot, step, reply_to}
 use Rattle.ws_steps.proofs.PromiseLaws.{length-fresh, length-with_entry}

@@ -1,10 +1,10 @@
 -- The reads of a readable stream over every run: what is asked, and the steps of requests that are performed and that are still to be.
-use Rattle.std.proofs.Common.{◌≡◌, ℕ, ◌+◌, ◌≤◌, zero, suc, Bool, true, false, is_some, ◌&&◌, if◌then◌else◌, List, [], ◌∷◌, ◌++◌, map, Option, Some, None, slice_get, slice_set, refl, sym, ap, ◌∙◌, append_assoc, append-nil, arith}
+use Rattle.std.proofs.Common.{◌≡◌, ℕ, ◌+◌, ◌≤◌, zero, suc, Bool, true, false, is_some, List, [], ◌∷◌, ◌++◌, Option, Some, None, slice_get, slice_set, refl, sym, ap, ◌∙◌, append_assoc, append-nil, arith}
 use Rattle.std.proofs.lemmas.List.Elements.{All-nil}
 use Rattle.ws_value.specs.declared.{ids.PromiseId.{PromiseId}, ids.StreamId.{StreamId}, ids.LockId.{LockId}}
-use Rattle.ws_value.specs.declared.value.{Outcome.{Outcome}, Outcome.TheVariants.{Given}, Plain.TheVariants.{Undefined}, Value.{Value}}
+use Rattle.ws_value.specs.declared.value.{Outcome.{Outcome}, Outcome.TheVariants.{Given}, Value.{Value}}
 use Rattle.ws_steps.specs.declared.{calls.Call.{Call}, effects.Effect.{Effect}, effects.Effect.TheVariants.{Readable as OnReadable, Writable, ChunkSteps, CloseSteps, ErrorSteps}, effects.Owner.TheVariants.{Host}}
-use Rattle.ws_steps.specs.declared.{locks.Lock.{Lock}, locks.Lock.TheVariants.{Reader, Writer, ReleasedWriter}, promises.Job.{Job}, promises.Step.{Step}}
+use Rattle.ws_steps.specs.declared.{locks.Lock.{Lock}, locks.Lock.TheVariants.{Reader, Writer, ReleasedWriter}, promises.Job.{Job}}
 use Rattle.ws_steps.specs.declared.{readable.ReadRequest.{ReadRequest}, readable.ReadRequest.TheVariants.{Promise}, readable.ReadableOperation.{ReadableOperation}, readable.ReadableOperation.TheVariants.{InitializeReader, ReleaseReader, Read, Cancel, Enqueue, Close, Error}}
 use Rattle.ws_steps.specs.declared.{readable.ReadableState.TheVariants.{Closed}, readable.SizeBy.{SizeBy}, writable.WritableOperation.TheVariants.{ReleaseWriter}}
 use Rattle.ws_steps.specs.Effects.{Out}
@@ -27,7 +27,6 @@ use Rattle.ws_laws.proofs.ReadableDoes.{readable-does}
 use Rattle.ws_laws.proofs.Tables.{either, is_same-refl, no_readable_there, readable_acts, same_id}
 use Rattle.ws_laws.proofs.Walker.{IsHistory}
 use Rattle.ws_promise_laws.proofs.Tokens.{one_if}
-use Rattle.ws_readable_laws.proofs.Operations.{same_flow}
 use Rattle.ws_readable_laws.proofs.Runs as flows
 use Rattle.ws_read_laws.proofs.Marks.{Done, effect_done, Mark, Stands, Steps, marks, pending, pending-append, shown}
 use Rattle.ws_read_laws.proofs.Line.{Line, same_reads, Finds, has_after, operation-line, operation-reader}
@@ -226,9 +225,7 @@ module _ (i : StreamId) where
           told = rw none at k.line.told;
           allowed = All-nil (λ a. Allows (readable.set_up Host hwm size).state a.answer);
           released = rw none at k.line.released;
-          ended = λ e. refl;
-          served = λ e. refl;
-          locked = λ e. refl;
+          waits = record { ended = λ e. refl; served = λ e. refl; locked = λ e. refl };
         };
         given = k.given;
         clear = let n = u.free in omega arith;
@@ -417,9 +414,7 @@ module _ (i : StreamId) where
         told = refl;
         allowed = All-nil (λ a. Allows Closed a.answer);
         released = refl;
-        ended = λ e. refl;
-        served = λ e. refl;
-        locked = λ e. refl;
+        waits = record { ended = λ e. refl; served = λ e. refl; locked = λ e. refl };
       };
       given = refl;
       clear = omega arith;

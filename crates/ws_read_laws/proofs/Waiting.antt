@@ -1,20 +1,19 @@
 -- The promise of a read that waits is pending.
-use Rattle.std.proofs.Common.{◌≡◌, ℕ, ◌+◌, ◌≤◌, zero, suc, Bool, true, false, not, List, [], ◌∷◌, All, Option, Some, None, slice_get, refl, sym, ap, ◌∙◌, arith}
+use Rattle.std.proofs.Common.{◌≡◌, ℕ, ◌≤◌, zero, suc, Bool, not, List, [], ◌∷◌, All, Option, Some, None, slice_get, refl, sym, ap, arith}
 use Rattle.std.proofs.lemmas.List.Elements.{All-nil, All-cons}
 use Rattle.std.specs.Option.{option_map}
 use Rattle.ws_value.specs.declared.{ids.PromiseId.{PromiseId}, ids.StreamId.{StreamId}}
 use Rattle.ws_value.specs.declared.value.{Outcome.{Outcome}, Outcome.TheVariants.{Pending, Fulfilled, Given, Finished, Rejected}}
 use Rattle.ws_steps.specs.declared.{readable.ReadRequest.{ReadRequest}, readable.ReadRequest.TheVariants.{Promise}}
 use Rattle.ws_steps.specs.Laws.{Tells}
-use Rattle.ws_steps.specs.Promises.{Entry, Table, live, entry_at, outcome_at, is_pending, is_open_entry}
+use Rattle.ws_steps.specs.Promises.{Entry, Table, entry_at, outcome_at, is_open_entry}
 use Rattle.ws_steps.specs.Run.{Entry as Step, run}
 use Rattle.ws_steps.specs.Slots.{Slots, Stream, ReadableStream, WritableStream, empty, readable_at, as_readable}
-use Rattle.ws_laws.proofs.Weights.{weigh}
-use Rattle.ws_promise_laws.proofs.Holds.{named, shut, is_unsettled, when}
-use Rattle.ws_promise_laws.proofs.Realm.{in_stream, in_all, firm_in, loosely_in}
+use Rattle.ws_promise_laws.proofs.Holds.{named}
+use Rattle.ws_promise_laws.proofs.Realm.{in_stream, in_all, firm_in}
 use Rattle.ws_promise_laws.proofs.Runs.{run-sound}
 use Rattle.ws_promise_laws.proofs.Streams.{in_requests}
-use Rattle.ws_promise_laws.proofs.Tokens.{one_if, names, of_request, in_reaction}
+use Rattle.ws_promise_laws.proofs.Tokens.{one_if}
 
 open-pending : (x : Option Entry) → one_if (not (is_open_entry x)) ≤ 0 → option_map (λ (e : Entry). e.outcome) x ≡ Some Pending
 open-pending None n = absurd (omega arith)
