@@ -1,6 +1,6 @@
 -- A law of a readable stream's record, of what has happened to it, of the locks, and of what is seen of the agenda: what each operation
 -- keeps, each effect, each step and each run keeps.
-use Rattle.std.proofs.Common.{◌≡◌, ℕ, Bool, true, false, List, [], ◌∷◌, ◌++◌, length, Some, None, nat_eq, slice_get, refl, sym, ap, ◌∙◌, append_assoc}
+use Rattle.std.proofs.Common.{◌≡◌, ℕ, Bool, true, false, List, [], ◌∷◌, ◌++◌, length, Some, nat_eq, slice_get, refl, sym, ap, ◌∙◌, append_assoc}
 use Rattle.ws_value.specs.declared.ids.StreamId.{StreamId}
 use Rattle.ws_steps.specs.declared.{calls.Call.{Call}, effects.Effect.{Effect}}
 use Rattle.ws_steps.specs.declared.effects.Effect.TheVariants.{Readable, Writable, StartAlgorithm, PullAlgorithm, CancelAlgorithm, CloseAlgorithm, AbortAlgorithm, ChunkSteps, CloseSteps, ErrorSteps}

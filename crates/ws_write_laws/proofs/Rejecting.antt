@@ -1,15 +1,13 @@
 -- A promise that is rejected where nothing goes astray stays rejected.
-use Rattle.std.proofs.Common.{◌≡◌, Bool, true, false, List, [], ◌∷◌, ◌++◌, map, get_or, All, Option, Some, None, Result, Err, slice_get, slice_set, if◌then◌else◌, refl, sym, ap, ◌∙◌}
+use Rattle.std.proofs.Common.{◌≡◌, true, false, List, [], ◌∷◌, get_or, All, Option, Some, None, Err, refl, ap}
 use Rattle.std.proofs.lemmas.List.Elements.{All-nil, All-cons}
-use Rattle.std.specs.Option.{option_map}
 use Rattle.ws_value.specs.declared.ids.PromiseId.{PromiseId}
 use Rattle.ws_value.specs.declared.value.Outcome.{Outcome}
 use Rattle.ws_value.specs.declared.value.Outcome.TheVariants.{Pending, Fulfilled, Given, Finished, Rejected}
 use Rattle.ws_value.specs.declared.value.Plain.{Plain}
-use Rattle.ws_steps.specs.Promises.{Entry, Table, live, entry_at, outcome_at, is_pending, is_open, is_open_entry, settled, settle, settle_entry, ended_as, noted, job_of, went_astray}
+use Rattle.ws_steps.specs.Promises.{Table, outcome_at, is_pending, settle}
 use Rattle.ws_steps.specs.Laws.{is_rejected}
 use Rattle.ws_steps.specs.Writable.{reject_all}
-use Rattle.ws_steps.proofs.PromiseLaws.{entry_within, entry_at-with_entry_same}
 use Rattle.ws_laws.proofs.Outcomes.{Keeps, keeps-same, keeps-then, keeps-settle}
 use Rattle.ws_laws.proofs.Straight.{straight_before, settled_straight}
 
