@@ -3,7 +3,7 @@ use Rattle.std.proofs.Common.{◌≡◌, List, [], ◌∷◌, map, All, refl, sy
 use Rattle.std.proofs.lemmas.List.Elements.{All-nil, All-cons, All-head, All-tail, All-same}
 use Rattle.ws_value.specs.declared.{ids.PromiseId.{PromiseId}}
 use Rattle.ws_value.specs.declared.value.{Plain.{Plain}}
-use Rattle.ws_steps.specs.Laws.{outcome_of, Tells, RiseFrom, EachReadIsAnswered}
+use Rattle.ws_steps.specs.Laws.{read_outcome, HasOutcome, RiseFrom, EachReadIsAnswered}
 use Rattle.ws_steps.specs.Promises.{Table}
 use Rattle.ws_steps.specs.ReadableHistory.{ReadAnswer, Gets, Ends, Fails, Released, Answered, chunk_got, chunks_got}
 use Rattle.ws_steps.specs.Readable as readable
@@ -18,7 +18,7 @@ use Rattle.ws_read_laws.proofs.Waiting.{run-waiting}
 use Rattle.ws_read_laws.proofs.Asked.{run-asks}
 use Rattle.ws_read_laws.proofs.Rising.{run-rises}
 
-gives : (e : Plain) (answer : ReadAnswer) → given_by (outcome_of e answer) ≡ chunk_got answer
+gives : (e : Plain) (answer : ReadAnswer) → given_by (read_outcome e answer) ≡ chunk_got answer
 gives e (Gets v) = refl
 gives e Ends = refl
 gives e Fails = refl
@@ -30,10 +30,10 @@ all-give e (x ∷ xs) = rw (gives e x.answer, all-give e xs) refl
 
 module _ (gone : PromiseId → Bool) (t : Table) (e : Plain) where
   abbrev IsDone : Done → Type 0
-  IsDone d = Tells gone t d.request d.outcome
+  IsDone d = HasOutcome gone t d.request d.outcome
 
   abbrev IsTold : Answered → Type 0
-  IsTold a = Tells gone t a.request (outcome_of e a.answer)
+  IsTold a = HasOutcome gone t a.request (read_outcome e a.answer)
 
   all-told : (xs : List Answered) → All IsDone (map (done_of e) xs) → All IsTold xs
   all-told [] a = All-nil IsTold

@@ -13,7 +13,7 @@ use Rattle.ws_steps.specs.Operations.{readable_operation}
 use Rattle.ws_steps.specs.Queues.{is_empty}
 use Rattle.ws_steps.specs.Readable.{Slots, Acts, causing, is_readable, waiting, can_close_or_enqueue, should_call_pull, call_pull, call_pull_if_needed, accept_for, accept, controller_enqueue, close_reader, stream_close, error_reader, stream_error, close_if_empty, controller_close, controller_error, after_take, pull_from, pull_steps, read_by, default_reader_read, settle_closed, reader_generic_initialize, start_settled, pull_settled, pull_ended, cancel_steps, cancel_by, stream_cancel, release_closed, release_by, reader_release, close_all, error_all}
 use Rattle.ws_steps.specs.ReadableHistory.{Reads, no_reads, reads_then, operation_reads, ReadAnswer, Gets, Ends, Fails, Released, Answered, requests_of, if_released, released_of}
-use Rattle.ws_steps.specs.Laws.{outcome_of, Allows}
+use Rattle.ws_steps.specs.Laws.{read_outcome, Allows}
 use Rattle.ws_laws.proofs.Tables.{either}
 use Rattle.ws_laws.proofs.Truth.{false_true}
 use Rattle.ws_readable_laws.proofs.Operations.{readable_by}
@@ -72,7 +72,7 @@ unchanged : (state : ReadableState) (e : Plain) → Stay state state e e
 unchanged state e xs a = (a, refl)
 
 -- while it was readable
-one_stays : (z : ReadableState) (e f : Plain) (w : ReadAnswer) → Allows Readable w → Allows z w × (outcome_of f w ≡ outcome_of e w)
+one_stays : (z : ReadableState) (e f : Plain) (w : ReadAnswer) → Allows Readable w → Allows z w × (read_outcome f w ≡ read_outcome e w)
 one_stays z e f (Gets v) a = (tt, refl)
 one_stays z e f Ends a = cc
 one_stays z e f Fails a = cc
@@ -223,7 +223,7 @@ module _ (me : StreamId) where
   after_take-waits a none = grind arith
 
   asked-line : (h : Reads) (ds : List Done) (a : Acts) (e : Effect) (r : ReadRequest) (w : ReadAnswer) → a.slots.requests ≡ [] → Allows a.slots.state w → if_released r w ≡ []
-      → shown me (cause e a.out) ≡ shown me a.out ++ record { request = r; outcome = outcome_of a.slots.stored_error w } ∷ [] → Lines h ds a → Lines (reads_then h (record no_reads { asked = r ∷ [] })) ds (causing e a)
+      → shown me (cause e a.out) ≡ shown me a.out ++ record { request = r; outcome = read_outcome a.slots.stored_error w } ∷ [] → Lines h ds a → Lines (reads_then h (record no_reads { asked = r ∷ [] })) ds (causing e a)
   asked-line h ds a e r w none allowed n s l =
       let x : Answered = record { request = r; answer = w } in
       answers h ds a (causing e a) (x ∷ []) (r ∷ []) [] (rw none refl) (one_allowed a.slots.state x allowed) (rw n refl) s (unchanged a.slots.state a.slots.stored_error)

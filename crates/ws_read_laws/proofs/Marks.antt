@@ -8,7 +8,7 @@ use Rattle.ws_steps.specs.Effects.{Out, cause, cause_all}
 use Rattle.ws_steps.specs.Histories.{is_same}
 use Rattle.ws_steps.specs.Readable.{close_all, error_all}
 use Rattle.ws_steps.specs.ReadableHistory.{ReadAnswer, Ends, Answered}
-use Rattle.ws_steps.specs.Laws.{outcome_of}
+use Rattle.ws_steps.specs.Laws.{read_outcome}
 use Rattle.ws_laws.proofs.OnReadable.{all_seen, all_seen-append}
 use Rattle.ws_laws.proofs.Tables.{is_same-refl}
 
@@ -18,7 +18,7 @@ pub record Done : Type 0 where
   pub outcome : Outcome
 
 abbrev pub done_of : Plain → Answered → Done
-done_of e a = record { request = a.request; outcome = outcome_of e a.answer }
+done_of e a = record { request = a.request; outcome = read_outcome e a.answer }
 
 -- by an effect that is the steps of a request of stream i
 abbrev pub effect_done : StreamId → Effect → List Done
@@ -75,6 +75,6 @@ pub close_all-shown : (i : StreamId) (e : Plain) (rs : List ReadRequest) → pen
 close_all-shown i e [] = refl
 close_all-shown i e (r ∷ rs) = rw is_same-refl (ap (λ (ds : List Done). record { request = r; outcome = Finished (PlainValue Undefined) } ∷ ds) (close_all-shown i e rs))
 
-pub error_all-shown : (i : StreamId) (e f : Plain) (w : ReadAnswer) (rs : List ReadRequest) → outcome_of f w ≡ Rejected e → pending (all_seen (marks i) (error_all i e rs)) ≡ map (done_of f) (with_answer w rs)
+pub error_all-shown : (i : StreamId) (e f : Plain) (w : ReadAnswer) (rs : List ReadRequest) → read_outcome f w ≡ Rejected e → pending (all_seen (marks i) (error_all i e rs)) ≡ map (done_of f) (with_answer w rs)
 error_all-shown i e f w [] h = refl
 error_all-shown i e f w (r ∷ rs) h = rw (is_same-refl, h) (ap (λ (ds : List Done). record { request = r; outcome = Rejected e } ∷ ds) (error_all-shown i e f w rs h))

@@ -8,7 +8,7 @@ use Rattle.ws_steps.specs.declared.{readable.ReadRequest.{ReadRequest}, readable
 use Rattle.ws_steps.specs.Calls.{begin, named}
 use Rattle.ws_steps.specs.Histories.{is_same, along}
 use Rattle.ws_steps.specs.Jobs.{begin_job}
-use Rattle.ws_steps.specs.Laws.{Tells}
+use Rattle.ws_steps.specs.Laws.{HasOutcome}
 use Rattle.ws_steps.specs.Promises.{Table, is_pending, settle, answer}
 use Rattle.ws_steps.specs.Run.{Entry as Step, Called, Worked, Heard, Forgot, step, run, lets_go, is_forgotten}
 use Rattle.ws_steps.specs.Slots.{Slots, Done as Begun}
@@ -24,9 +24,9 @@ use Rattle.ws_read_laws.proofs.Runs.{step_done, run_done}
 
 -- the promise of a request has settled so
 abbrev IsSettled : Table → Done → Type 0
-IsSettled t d = (is_pending d.outcome ≡ false) × Tells (λ p. false) t d.request d.outcome
+IsSettled t d = (is_pending d.outcome ≡ false) × HasOutcome (λ p. false) t d.request d.outcome
 
-tells-later : (t z : Table) (r : ReadRequest) (o : Outcome) → Keeps t z → is_pending o ≡ false → Tells (λ p. false) t r o → Tells (λ p. false) z r o
+tells-later : (t z : Table) (r : ReadRequest) (o : Outcome) → Keeps t z → is_pending o ≡ false → HasOutcome (λ p. false) t r o → HasOutcome (λ p. false) z r o
 tells-later t z (Promise p) o k n h = λ g. k.outcome p o n (h g)
 
 settled-later : (t z : Table) (ds : List Done) → Keeps t z → All (IsSettled t) ds → All (IsSettled z) ds
@@ -78,12 +78,12 @@ module _ (i : StreamId) where
   -- to the end of a run, unless the host lets go of it
 
   abbrev IsTold : List Step → Slots → Done → Type 0
-  IsTold xs s d = Tells (λ p. is_forgotten p xs s) (run xs s).promises d.request d.outcome
+  IsTold xs s d = HasOutcome (λ p. is_forgotten p xs s) (run xs s).promises d.request d.outcome
 
-  stays-told : (x : Step) (xs : List Step) (s : Slots) (r : ReadRequest) (o : Outcome) → is_pending o ≡ false → Tells (λ p. false) (step s x).promises r o → Tells (λ p. is_forgotten p (x ∷ xs) s) (run (x ∷ xs) s).promises r o
+  stays-told : (x : Step) (xs : List Step) (s : Slots) (r : ReadRequest) (o : Outcome) → is_pending o ≡ false → HasOutcome (λ p. false) (step s x).promises r o → HasOutcome (λ p. is_forgotten p (x ∷ xs) s) (run (x ∷ xs) s).promises r o
   stays-told x xs s (Promise p) o n h = λ g. each_outcome_stays (step s x) xs p o n (nor_right (lets_go p s x) (is_forgotten p xs (step s x)) g) (h refl)
 
-  later-told : (x : Step) (xs : List Step) (s : Slots) (r : ReadRequest) (o : Outcome) → Tells (λ p. is_forgotten p xs (step s x)) (run xs (step s x)).promises r o → Tells (λ p. is_forgotten p (x ∷ xs) s) (run (x ∷ xs) s).promises r o
+  later-told : (x : Step) (xs : List Step) (s : Slots) (r : ReadRequest) (o : Outcome) → HasOutcome (λ p. is_forgotten p xs (step s x)) (run xs (step s x)).promises r o → HasOutcome (λ p. is_forgotten p (x ∷ xs) s) (run (x ∷ xs) s).promises r o
   later-told x xs s (Promise p) o h = λ g. h (nor_right (lets_go p s x) (is_forgotten p xs (step s x)) g)
 
   pub run-told : (xs : List Step) (s : Slots) → (run xs s).promises.astray ≡ false → All (IsTold xs s) (run_done i xs s)

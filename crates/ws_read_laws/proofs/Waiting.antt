@@ -5,7 +5,7 @@ use Rattle.std.specs.Option.{option_map}
 use Rattle.ws_value.specs.declared.{ids.PromiseId.{PromiseId}, ids.StreamId.{StreamId}}
 use Rattle.ws_value.specs.declared.value.{Outcome.{Outcome}, Outcome.TheVariants.{Pending, Fulfilled, Given, Finished, Rejected}}
 use Rattle.ws_steps.specs.declared.{readable.ReadRequest.{ReadRequest}, readable.ReadRequest.TheVariants.{Promise}}
-use Rattle.ws_steps.specs.Laws.{Tells}
+use Rattle.ws_steps.specs.Laws.{HasOutcome}
 use Rattle.ws_steps.specs.Promises.{Entry, Table, entry_at, outcome_at, is_open_entry}
 use Rattle.ws_steps.specs.Run.{Entry as Step, run}
 use Rattle.ws_steps.specs.Slots.{Slots, Stream, ReadableStream, WritableStream, empty, readable_at, as_readable}
@@ -44,10 +44,10 @@ waits-pending entries i p n =
     let m = in_realm p s i.0 (slice_get s.streams i.0) refl in
     open-pending (entry_at s.promises p) (omega arith)
 
-all-wait : (gone : PromiseId → Bool) (t : Table) (rs : List ReadRequest) → ((p : PromiseId) → 1 ≤ in_requests p rs → outcome_at t p ≡ Some Pending) → All (λ r. Tells gone t r Pending) rs
-all-wait gone t [] h = All-nil (λ r. Tells gone t r Pending)
+all-wait : (gone : PromiseId → Bool) (t : Table) (rs : List ReadRequest) → ((p : PromiseId) → 1 ≤ in_requests p rs → outcome_at t p ≡ Some Pending) → All (λ r. HasOutcome gone t r Pending) rs
+all-wait gone t [] h = All-nil (λ r. HasOutcome gone t r Pending)
 all-wait gone t (Promise p ∷ rs) h =
-    All-cons (λ r. Tells gone t r Pending) (Promise p) rs (λ g. h p (let n = named p in omega arith)) (all-wait gone t rs (λ q n. h q (omega arith)))
+    All-cons (λ r. HasOutcome gone t r Pending) (Promise p) rs (λ g. h p (let n = named p in omega arith)) (all-wait gone t rs (λ q n. h q (omega arith)))
 
-pub run-waiting : (gone : PromiseId → Bool) (entries : List Step) (i : StreamId) → All (λ r. Tells gone (run entries empty).promises r Pending) (readable_at i (run entries empty)).requests
+pub run-waiting : (gone : PromiseId → Bool) (entries : List Step) (i : StreamId) → All (λ r. HasOutcome gone (run entries empty).promises r Pending) (readable_at i (run entries empty)).requests
 run-waiting gone entries i = all-wait gone (run entries empty).promises (readable_at i (run entries empty)).requests (waits-pending entries i)
