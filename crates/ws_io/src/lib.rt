@@ -1,6 +1,7 @@
 //! The outside of a program: what it reads from and writes to, the files that it loads, and how a command ends.
 #![tactic(auto)]
 
+mod arguments;
 mod files;
 mod mem_files;
 mod mem_sink;
@@ -8,6 +9,7 @@ mod mem_source;
 mod numbers;
 mod outside;
 mod status;
+mod std_arguments;
 mod std_files;
 mod std_sink;
 mod std_source;
@@ -17,12 +19,14 @@ mod steady_source;
 mod tests;
 mod whole;
 
+pub use arguments::{Arguments, ArgumentsRefused};
 pub use files::{Files, LoadRefused};
 pub use mem_files::MemFiles;
 pub use mem_sink::MemSink;
 pub use mem_source::MemSource;
 pub use outside::{Failed, Gate, OpenGate, Sink, Source};
 pub use status::Status;
+pub use std_arguments::StdArguments;
 pub use std_files::StdFiles;
 pub use std_sink::StdSink;
 pub use std_source::StdSource;
