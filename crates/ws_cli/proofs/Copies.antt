@@ -52,7 +52,7 @@ Allows-after Done most a m₀ m₁ m₂ p q before taken gain h =
       finished = Becomes-then m₀.finished m₁.finished m₂.finished before.finish_kept h.finished;
     }
 Allows-after ReadFault most a m₀ m₁ m₂ p q before taken gain h =
-    rw (← before.no_fault.read) h
+    (ap (λ (xs : List ℕ). before.bytes ++ xs) h.0, (rw (← before.no_fault.read) h.1))
 Allows-after WriteFault most a m₀ m₁ m₂ p q before taken gain h = rw (← before.no_fault.write) h
 Allows-after NoMemory most a m₀ m₁ m₂ p q before taken gain h = tt
 Allows-after TooMuch most a m₀ m₁ m₂ p q before taken gain h =
@@ -63,7 +63,6 @@ Allows-after _ most a m₀ m₁ m₂ p q before taken gain h = absurd h
 
 Leaves-after : (status : Status) (m₀ m₁ m₂ : Moment) → KeepsTold m₀.finished m₁.finished → Leaves status m₁ m₂ → Leaves status m₀ m₂
 Leaves-after Done m₀ m₁ m₂ before h = tt
-Leaves-after NoMemory m₀ m₁ m₂ before h = tt
 Leaves-after _ m₀ m₁ m₂ before h = KeepsTold-then m₀.finished m₁.finished m₂.finished before h
 
 pub Ends-after : (status : Status) (most a ahead : ℕ) (m₀ m₁ m₂ : Moment) (p q r : List ℕ → Type 0)

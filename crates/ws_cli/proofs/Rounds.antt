@@ -14,7 +14,7 @@ use Rattle.ws_io.specs.Feed.{Feed}
 use Rattle.ws_io.specs.declared.outside.Failed.{Failed}
 use Rattle.ws_io.specs.declared.status.Status.{Status}
 use Rattle.ws_io.specs.declared.status.Status.TheVariants.{Done, WriteFault, NoMemory}
-use Rattle.ws_io.proofs.Flow.{Gains-nothing, Fed-nothing, IsEmpty-kept}
+use Rattle.ws_io.proofs.Flow.{Gains-nothing, Fed-nothing, IsEmpty-kept, KeepsTold-same}
 use Rattle.ws_cli.specs.declared.round.Round.{Round}
 use Rattle.ws_cli.specs.declared.round.Round.TheVariants.{Moved, Ended}
 use Rattle.ws_steps.specs.Slots.{Slots}
@@ -66,7 +66,7 @@ Ends-at_once most m p =
       bound = omega arith;
       ahead_by = omega arith;
       allowed = tt;
-      finish_kept = tt;
+      finish_kept = KeepsTold-same m.finished;
     }
 
 -- there was no memory after a piece was read
@@ -85,7 +85,7 @@ Ends-unwritten most want f g before now w finished p (Ok piece) h limit room =
       bound = omega arith;
       ahead_by = omega arith;
       allowed = tt;
-      finish_kept = tt;
+      finish_kept = KeepsTold-same finished;
     }
 Ends-unwritten most want f g before now w finished p (Err failed) h limit room =
     record {
@@ -98,7 +98,7 @@ Ends-unwritten most want f g before now w finished p (Err failed) h limit room =
       bound = omega arith;
       ahead_by = omega arith;
       allowed = tt;
-      finish_kept = tt;
+      finish_kept = KeepsTold-same finished;
     }
 
 is_zero : (n : ℕ) → true ≡ (n == 0) → n ≡ 0
@@ -230,7 +230,7 @@ rounds-from most want f g before now old new p q (Err failed) round h limit room
       first = refl;
       bound = omega arith;
       ahead_by = omega arith;
-      allowed = h.rose;
+      allowed = (refl, h.rose);
       finish_kept = hands.kept;
     })
 

@@ -1,3 +1,4 @@
+pub mod Commands
 pub mod Moments
 pub mod Run
 pub mod Round

@@ -17,13 +17,13 @@ pub record IsDone (most : ℕ) (old new : Moment) (taken gain : List ℕ) : Type
   pub whole : gain ≡ taken
   pub finished : Becomes old.finished new.finished
 
--- where a run may end with a status
+-- where a run may end with a status; after a failed read all that was taken was written
 abbrev pub Allows : Status → ℕ → Moment → Moment → List ℕ → List ℕ → Type 0
 Allows Done most old new taken gain = IsDone most old new taken gain
 Allows (Stage index code place) most old new taken gain = ⊥
 Allows Usage most old new taken gain = ⊥
 Allows (Plan n) most old new taken gain = ⊥
-Allows ReadFault most old new taken gain = Rose old.read_faults new.read_faults
+Allows ReadFault most old new taken gain = (gain ≡ taken) × Rose old.read_faults new.read_faults
 Allows WriteFault most old new taken gain = Rose old.write_faults new.write_faults
 Allows Aborted most old new taken gain = ⊥
 Allows NoMemory most old new taken gain = Unit {0}
@@ -31,7 +31,7 @@ Allows (Script n) most old new taken gain = ⊥
 Allows LoadFault most old new taken gain = ⊥
 Allows TooMuch most old new taken gain = most < length taken
 
--- with any other status than those of a complete run and of want of memory, the output's end is as before
+-- with any other status than that of a complete run, the output's end is as before
 abbrev pub Leaves : Status → Moment → Moment → Type 0
 Leaves Done old new = Unit {0}
 Leaves (Stage index code place) old new = KeepsTold old.finished new.finished
@@ -40,7 +40,7 @@ Leaves (Plan n) old new = KeepsTold old.finished new.finished
 Leaves ReadFault old new = KeepsTold old.finished new.finished
 Leaves WriteFault old new = KeepsTold old.finished new.finished
 Leaves Aborted old new = KeepsTold old.finished new.finished
-Leaves NoMemory old new = Unit {0}
+Leaves NoMemory old new = KeepsTold old.finished new.finished
 Leaves (Script n) old new = KeepsTold old.finished new.finished
 Leaves LoadFault old new = KeepsTold old.finished new.finished
 Leaves TooMuch old new = KeepsTold old.finished new.finished

@@ -4,9 +4,11 @@
 mod ask;
 mod command;
 mod copy;
+mod program;
 mod realm;
 mod round;
 
 pub use command::{MAX_INPUT, top};
 pub use copy::run;
+pub use program::process;
 pub use ws_script::{Line, ScriptRefused, print_step, read_script, run_script};

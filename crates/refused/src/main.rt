@@ -1,0 +1,19 @@
+//! The program once more, under another name, so that a second stored run is tried: a script that is refused.
+#![tactic(auto)]
+
+use std::process::ExitCode;
+use ws_cli::process;
+use ws_io::{OpenGate, StdArguments, StdFiles, StdSink, StdSource};
+
+fn main(rt: HostRuntime) -> ExitCode {
+    process(
+        &rt,
+        rt.alloc(),
+        &StdArguments::over(&rt),
+        &mut StdFiles::over(&rt),
+        &mut StdSource::over(rt.stdin()),
+        &mut StdSink::over(rt.stdout()),
+        &mut StdSink::over(rt.stderr()),
+        &OpenGate,
+    )
+}

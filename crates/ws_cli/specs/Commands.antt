@@ -1,0 +1,77 @@
+-- What the program does: by the words after its name it performs a command, and ends with the number of its status.
+use Rattle.std.specs.Prelude.{◌≡◌, ◌<◌, ◌≤◌, ◌^◌, ◌⊎◌, ℕ, List, drop, length, Option, Some, None, All, IsUtf8, Ok, Err}
+use Rattle.ws_io.specs.Arguments.{IsRefused}
+use Rattle.ws_io.specs.Faults.{Calm}
+use Rattle.ws_io.specs.Feed.{HasAtMost, HasLeft}
+use Rattle.ws_io.specs.Gain.{Gains}
+use Rattle.ws_io.specs.Moment.{Moment}
+use Rattle.ws_io.specs.Notes.{number_of, text_of}
+use Rattle.ws_io.specs.declared.arguments.ArgumentsRefused.TheVariants.{NotText}
+use Rattle.ws_io.specs.declared.status.Status.{Status}
+use Rattle.ws_io.specs.declared.status.Status.TheVariants.{Done, Usage, NoMemory, Script}
+use Rattle.ws_grammar.specs.declared.line.Line.{Line}
+use Rattle.ws_grammar.specs.Lines.{lines, most_bytes}
+use Rattle.ws_script.specs.Ends.{ScriptEnds}
+use Rattle.ws_cli.specs.Run.{Ends}
+use Rattle.ws_cli.specs.Words.{IsRun, IsScript}
+
+-- what these words have done to an input and an output, with the status that it ended with
+pub record Performs {S K : Type 0} (words : List (List ℕ)) (status : Status) (input input' : S) (output output' : K)
+    (old new : Moment) (got got' : List ℕ → Type 0) : Type 0 where
+  -- the usage is told exactly where the words have none of the forms, and then nothing is read or written
+  pub usage : status ≡ Usage → (IsRun words ⊎ IsScript words) → ⊥
+  pub other_words : ((IsRun words ⊎ IsScript words) → ⊥) → status ≡ Usage
+  pub untouched : status ≡ Usage → (input' ≡ input) × (output' ≡ output)
+  -- what a run may end with
+  pub run : IsRun words → Ends status (2 ^ 40) 4096 old new got got'
+  -- where nothing fails and the input isn't too long, all of it is copied or memory is wanting
+  pub complete : IsRun words → Calm old.read_faults new.read_faults → Calm old.write_faults new.write_faults
+      → HasAtMost old.feed (2 ^ 40) → (status ≡ Done) ⊎ (status ≡ NoMemory)
+  -- what a script may end with
+  pub script : IsScript words → ScriptEnds status old new got got'
+  -- where nothing fails, a script in the grammar that isn't too long is performed whole, or memory is wanting
+  pub script_complete : IsScript words → (text : List ℕ) (found : List Line)
+      → HasLeft old.feed text → length text ≤ most_bytes → lines text ≡ Ok found
+      → Calm old.read_faults new.read_faults → Calm old.write_faults new.write_faults
+      → (status ≡ Done) ⊎ (status ≡ NoMemory)
+  -- where no read fails, a script outside the grammar is refused at its first bad line, and one that is too long at line 0,
+  -- or memory is wanting
+  pub script_outside : IsScript words → (text : List ℕ) (n : ℕ)
+      → HasLeft old.feed text → length text ≤ most_bytes → lines text ≡ Err n
+      → Calm old.read_faults new.read_faults → (status ≡ Script n) ⊎ (status ≡ NoMemory)
+  pub script_too_long : IsScript words → (text : List ℕ)
+      → HasLeft old.feed text → most_bytes < length text
+      → Calm old.read_faults new.read_faults → (status ≡ Script 0) ⊎ (status ≡ NoMemory)
+
+-- where the arguments are told, these words stand after the program's name, and each argument is UTF-8
+abbrev pub AreWords : Option (List (List ℕ)) → List (List ℕ) → Type 0
+AreWords None words = Unit {0}
+AreWords (Some arguments) words = (words ≡ drop 1 arguments) × All IsUtf8 arguments
+
+-- the words of the arguments were performed
+pub record PerformsWords {S K : Type 0} (told : Option (List (List ℕ))) (status : Status) (input input' : S) (output output' : K)
+    (old new : Moment) (got got' : List ℕ → Type 0) : Type 0 where
+  pub words : List (List ℕ)
+  pub are : AreWords told words
+  pub performs : Performs words status input input' output output' old new got got'
+
+-- the status of arguments that can't be had
+abbrev pub TellsRefusal : Option (List (List ℕ)) → Status → Type 0
+TellsRefusal told Usage = IsRefused told NotText
+TellsRefusal told NoMemory = Unit {0}
+TellsRefusal told _ = ⊥
+
+-- the arguments couldn't be had, and nothing was read or written
+pub record LacksWords {S K : Type 0} (told : Option (List (List ℕ))) (status : Status) (input input' : S) (output output' : K) : Type 0 where
+  pub refused : TellsRefusal told status
+  pub unread : input' ≡ input
+  pub unwritten : output' ≡ output
+
+-- What the program did that ended with this number: it is that of a status, whose text the notes gained and nothing else
+-- where they didn't fail.
+pub record EndsWith {S K : Type 0} (told : Option (List (List ℕ))) (number : ℕ) (input input' : S) (output output' : K)
+    (old new : Moment) (got got' : List ℕ → Type 0) (failed failed' : ℕ) (notes notes' : List ℕ → Type 0) : Type 0 where
+  pub status : Status
+  pub numbered : number ≡ number_of status
+  pub did : PerformsWords told status input input' output output' old new got got' ⊎ LacksWords told status input input' output output'
+  pub noted : Calm failed failed' → Gains notes notes' (text_of status)
