@@ -1,9 +1,13 @@
-//! Tests of `script`: worked scripts with all that they print, and how scripts are refused and fail, where memory is wanting too.
+//! Tests of `script`: what worked scripts print, and how scripts are refused and fail, where they are long and where memory is wanting too.
 #![tactic(auto)]
 
 #[cfg(test)]
+mod cases;
+#[cfg(test)]
+mod long;
+#[cfg(test)]
 mod memory;
 #[cfg(test)]
-mod script;
+mod refused;
 #[cfg(test)]
 mod scripts;

@@ -1,7 +1,7 @@
 //! Scripts with all that they print.
 
 /// Scripts and what they print, by the Streams Standard and ECMAScript's order of jobs.
-pub const WORKED: [(&str, &str); 9] = [
+pub const WORKED: [(&str, &str); 15] = [
     (READ_BEFORE_ENQUEUE, READ_BEFORE_ENQUEUE_PRINTS),
     (
         TWO_READS_ONE_FURTHER_PULL,
@@ -17,6 +17,12 @@ pub const WORKED: [(&str, &str); 9] = [
     (ABORT_DURING_A_CLOSE, ABORT_DURING_A_CLOSE_PRINTS),
     (CLOSE_WAITS_FOR_THE_ABORT, CLOSE_WAITS_FOR_THE_ABORT_PRINTS),
     (FLAGS_OF_A_WRITABLE, FLAGS_OF_A_WRITABLE_PRINTS),
+    (CALLS_ON_A_WRITABLE, CALLS_ON_A_WRITABLE_PRINTS),
+    (ENDS_OF_RANGES, ENDS_OF_RANGES_PRINTS),
+    (SIZES_OF_CHUNKS, SIZES_OF_CHUNKS_PRINTS),
+    (CANCELS, CANCELS_PRINTS),
+    ("", ""),
+    ("# a comment\r\n\n \t", ""),
 ];
 
 /// The chunk goes to the request.
@@ -241,4 +247,151 @@ const FLAGS_OF_A_WRITABLE_PRINTS: &str = "\
 6 promise p2
   signal s0 e1
 7 state erroring sbwqal total 1 queue 2 requests 0
+";
+
+/// A released writer, and a stream that is closed and aborted without one.
+const CALLS_ON_A_WRITABLE: &str = "\
+writable 1 count now
+writer s0
+ready l0
+desired l0
+release l0
+write l0 n1
+close s0
+abort s0 e7
+fail s0 e9
+settle h0 fail e9
+state s0
+";
+
+const CALLS_ON_A_WRITABLE_PRINTS: &str = "\
+1 made s0
+2 lock l0
+3 promise p0
+  p0 fulfilled undefined
+4 size 1
+5 done
+6 promise p1
+  p1 rejected TypeError
+7 promise p2
+  host h0 close s0
+8 promise p3
+  signal s0 e7
+9 done
+10 done
+  p2 rejected e9
+  p3 rejected e9
+11 state errored s total 0 queue 0 requests 0
+";
+
+/// The greatest number of each kind, blanks round words, a line that is passed over, and one that ends in a carriage return.
+const ENDS_OF_RANGES: &str = "\
+readable 18446744073709551615 bytes later
+desired s0
+readable 2 count now
+writable 1 count now
+reader s4294967295
+read l340282366920938463463374607431768211455
+settle h340282366920938463463374607431768211455 ok
+\trelease  l10 
+# a comment
+
+step\r
+";
+
+const ENDS_OF_RANGES_PRINTS: &str = "\
+1 made s0
+  host h0 start s0
+2 size 18446744073709551615
+3 made s1
+  host h1 pull s1
+4 made s2
+5 throws Unsupported
+6 throws Unsupported
+7 throws Unsupported
+8 throws Unsupported
+11 done
+";
+
+/// Bytes in both cases and none, sizes by count and by bytes, and more in the queue than the mark.
+const SIZES_OF_CHUNKS: &str = "\
+readable 1 count now
+enqueue s0 x0aFf
+enqueue s0 x
+enqueue s0 n18446744073709551615
+desired s0
+reader s0
+read l0
+read l0
+read l0
+fail s0 k4294967295
+read l0
+readable 5 bytes now
+enqueue s1 x010203
+enqueue s1 n7
+desired s1
+state s1
+";
+
+const SIZES_OF_CHUNKS_PRINTS: &str = "\
+1 made s0
+  host h0 pull s0
+2 done
+3 done
+4 done
+5 size -2
+6 lock l0
+7 promise p0
+  p0 given x0aff
+8 promise p1
+  p1 given x
+9 promise p2
+  p2 given n18446744073709551615
+10 done
+11 promise p3
+  p3 rejected k4294967295
+12 made s1
+  host h1 pull s1
+13 done
+14 done
+15 size 2
+16 state readable spg total 3 queue 2 requests 0
+";
+
+/// Cancels of a stream and by its reader, whose algorithm fails and succeeds, and cancels that are refused.
+const CANCELS: &str = "\
+readable 0 count now
+cancel s0 e7
+settle h0 fail n1
+readable 0 count now
+reader s1
+closed l0
+cancel l0 undefined
+settle h1 ok
+state s1
+cancel s1 e1
+release l0
+cancel l0 e1
+";
+
+const CANCELS_PRINTS: &str = "\
+1 made s0
+2 promise p0
+  host h0 cancel s0 e7
+3 done
+  p0 rejected n1
+4 made s1
+5 lock l0
+6 promise p1
+7 promise p2
+  p1 fulfilled undefined
+  host h1 cancel s1 undefined
+8 done
+  p2 fulfilled undefined
+9 state closed sdl total 0 queue 0 requests 0
+10 promise p3
+  p3 rejected TypeError
+11 done
+12 promise p4
+  p4 rejected TypeError
 ";

@@ -1,0 +1,31 @@
+//! Scripts that are refused.
+
+/// A script, and its first line outside the grammar.
+pub const REFUSED: [(&str, u32); 26] = [
+    ("readable 0 count now\nnothing s0\n", 2),
+    ("# one\n\nread l01", 3),
+    ("nothing s0", 1),
+    ("step\n# a comment\n\n \t\r\nnothing s0\nnothing", 5),
+    ("step\nread l01", 2),
+    ("read l+1", 1),
+    ("read l", 1),
+    ("read s0", 1),
+    ("reader s4294967296", 1),
+    ("reader s0 s1", 1),
+    ("fail s0 n18446744073709551616", 1),
+    ("fail s0 k4294967296", 1),
+    ("fail s0 x00", 1),
+    ("enqueue s0 x123", 1),
+    ("enqueue s0 x1g", 1),
+    ("readable 0 words now", 1),
+    ("readable 0 count soon", 1),
+    ("settle h0 fine", 1),
+    ("write s0 n1", 1),
+    ("ready s0", 1),
+    ("read l340282366920938463463374607431768211456", 1),
+    ("@100001 step", 1),
+    ("@ 1 step", 1),
+    ("@1", 1),
+    (" # a comment", 1),
+    ("step\r\r", 1),
+];
