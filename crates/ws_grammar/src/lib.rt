@@ -6,8 +6,6 @@ mod line;
 mod numbers;
 mod refused;
 mod script;
-#[cfg(test)]
-mod tests;
 mod values;
 mod words;
 

@@ -15,8 +15,6 @@ mod std_sink;
 mod std_source;
 mod steady_sink;
 mod steady_source;
-#[cfg(test)]
-mod tests;
 mod whole;
 
 pub use arguments::{Arguments, ArgumentsRefused};

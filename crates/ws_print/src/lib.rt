@@ -4,8 +4,6 @@
 mod append;
 mod events;
 mod replies;
-#[cfg(test)]
-mod tests;
 mod values;
 
 pub use events::{print_again, print_host, print_reply, print_settled, print_signal};

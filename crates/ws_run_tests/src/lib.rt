@@ -1,11 +1,19 @@
-//! Tests of `run`: what the contracts leave open, and that they say what was meant; and of the values that every command moves.
+//! Tests of `run` and of the words: what the contracts leave open, and that they say what was meant; of the adapters over std; and of the values that every command moves.
 #![tactic(auto)]
 
 #[cfg(test)]
-mod copy;
+mod cases;
+#[cfg(test)]
+mod files;
+#[cfg(test)]
+mod listed;
 #[cfg(test)]
 mod memory;
 #[cfg(test)]
 mod pace;
+#[cfg(test)]
+mod slow;
+#[cfg(test)]
+mod statuses;
 #[cfg(test)]
 mod values;

@@ -1,56 +1,33 @@
 //! Each call on values that allocates, where memory is ample.
 use std::alloc::Global;
 use std::test::Fail;
-use ws_value::{Blob, Chunk, NoMemory, Plain, Room, Text, Value};
+use ws_value::{Chunk, NoMemory, Plain, Room, Value};
 
-/// The chunk `abc`, copied, cut and copied again.
-fn cut_and_copied(alloc: Global, chunk: &mut Chunk) -> Result<(Chunk, Chunk), NoMemory> {
-    let whole = chunk.copy(alloc)?;
-    if chunk.len() == 3 {
-        chunk.advance(2);
-    }
-    Ok((whole, chunk.copy(alloc)?))
+/// Whether a value's copy is equal to it.
+fn is_copied(alloc: Global, value: &Value) -> Result<bool, NoMemory> {
+    Ok(match (value.copy(alloc)?, value) {
+        (Value::Bytes(copy), Value::Bytes(chunk)) => copy.as_slice() == chunk.as_slice(),
+        (Value::Plain(copy), Value::Plain(plain)) => copy == *plain,
+        _ => false,
+    })
 }
 
-#[test]
-fn chunks_are_cut_and_copied(rt: HostRuntime) -> Result<(), Fail> {
-    let alloc = rt.alloc();
-    let mut room = Room::of(alloc, 4)?;
-    assert_eq!(rt; room.as_slice(), [0, 0, 0, 0].as_slice());
-    room.as_mut_slice().copy_from_slice(b"abcd");
-    let mut owned = room.into_chunk(3);
-    let (whole, cut) = cut_and_copied(alloc, &mut owned)?;
-    assert_eq!(rt; whole.as_slice(), b"abc".as_slice());
-    assert_eq!(rt; cut.as_slice(), b"c".as_slice());
-    let mut shared = Chunk::of(alloc, b"abc")?;
-    let (whole, cut) = cut_and_copied(alloc, &mut shared)?;
-    assert_eq!(rt; whole.as_slice(), b"abc".as_slice());
-    assert_eq!(rt; cut.as_slice(), b"c".as_slice());
-    Ok(())
-}
-
+/// Chunks that were cut, of which one shares its bytes and one owns them.
 #[test]
 fn values_are_copied(rt: HostRuntime) -> Result<(), Fail> {
     let alloc = rt.alloc();
-    let bytes = Value::Bytes(Chunk::of(alloc, b"xy")?);
-    assert!(rt; bytes.cloneable());
-    match bytes.copy(alloc)? {
-        Value::Bytes(chunk) => assert_eq!(rt; chunk.as_slice(), b"xy".as_slice()),
-        Value::Plain(_) => assert!(rt; false, "bytes stay bytes"),
+    let mut room = Room::of(alloc, 4)?;
+    room.as_mut_slice().copy_from_slice(b"abcd");
+    let mut owned = room.into_chunk(3);
+    owned.advance(2);
+    let mut shared = Chunk::of(alloc, b"abc")?;
+    shared.advance(2);
+    for value in [
+        Value::Bytes(owned),
+        Value::Bytes(shared),
+        Value::Plain(Plain::Local(7)),
+    ] {
+        assert!(rt; is_copied(alloc, &value)?);
     }
-    let local = Value::Plain(Plain::Local(7));
-    assert!(rt; !local.cloneable());
-    match local.copy(alloc)? {
-        Value::Plain(plain) => assert_eq!(rt; plain, Plain::Local(7)),
-        Value::Bytes(_) => assert!(rt; false, "a plain value stays plain"),
-    }
-    Ok(())
-}
-
-#[test]
-fn texts_are_made(rt: HostRuntime) -> Result<(), Fail> {
-    let alloc = rt.alloc();
-    assert_eq!(rt; Text::of(alloc, b"run")?.as_slice(), b"run".as_slice());
-    assert_eq!(rt; Blob::of(alloc, b"run")?.as_slice(), b"run".as_slice());
     Ok(())
 }
