@@ -1,0 +1,13 @@
+pub mod Told
+pub mod Through
+pub mod Chain
+pub mod Endings
+pub mod Nodes
+pub mod Cutting
+pub mod Headline
+pub mod Events
+pub mod Ends
+pub mod Tables
+pub mod Reach
+pub mod Members
+pub mod Whole

@@ -1,0 +1,88 @@
+-- What holds of every stage, every node and every run.
+use Rattle.std.specs.Prelude.{◌≡◌, ◌≢◌, ℕ, Bool, true, false, List, ◌++◌}
+use Rattle.ws_value.specs.declared.value.Message.{Message}
+use Rattle.ws_flow.specs.declared.plan.Ending.{Ending}
+use Rattle.ws_flow.specs.declared.plan.Ending.TheVariants.{Fine, Bad}
+use Rattle.ws_flow.specs.declared.plan.Stage.{Stage}
+use Rattle.ws_flow.specs.Told.{Mark, Open, Closed, Lost, Told, then_told, IsShortOf, IsBefore}
+use Rattle.ws_flow.specs.Machines.{Machine, Kept, through, keeps, verdict, all_through, ending}
+use Rattle.ws_flow.specs.Stages.{machines}
+use Rattle.ws_flow.specs.Plans.{bytes_of, as_one, reach, sees_known_chunks}
+use Rattle.ws_flow.specs.Parts.{Part, Goes, Flows, residual, found}
+use Rattle.ws_flow.specs.Rows.{Place, in_place, LinkKeeps, Turned, Relates}
+use Rattle.ws_flow.specs.Chains.{Member, Chained, all_stages, all_parts}
+
+-- what comes out of a joined list is what comes out of the first, and then what comes out of the second after it
+abbrev pub EachFlowGoesOn : Type 0
+EachFlowGoesOn =
+    (m : Machine) (k : Kept) (x y : Told (List ℕ)) →
+    through m k (then_told x y) ≡ then_told (through m k x) (through m (keeps m k x.items) y)
+
+-- what comes out of a first part is a first part of what comes out of all, and what is cut short gives what is cut short
+abbrev pub EachFirstPartStays : Type 0
+EachFirstPartStays =
+    (ms : List Machine) (x y : Told (List ℕ)) →
+    (IsBefore x y → IsBefore (all_through ms x) (all_through ms y)) × (IsShortOf x y → IsShortOf (all_through ms x) (all_through ms y))
+
+-- an ending that isn't fine stays, whatever more comes
+abbrev pub EachEndingStays : Type 0
+EachEndingStays =
+    (ms : List Machine) (j : ℕ) (x y : Told (List ℕ)) → IsBefore x y → ending ms j x ≢ Fine → ending ms j y ≡ ending ms j x
+
+-- where the last output closed, the input closed and each stage ended fine
+abbrev pub EachCloseIsWhole : Type 0
+EachCloseIsWhole =
+    (ms : List Machine) (x : Told (List ℕ)) → (all_through ms x).mark ≡ Closed → (x.mark ≡ Closed) × ((j : ℕ) → ending ms j x ≡ Fine)
+
+-- another cutting of the input changes neither the joined output nor an ending
+abbrev pub EachCuttingIsAlike : Type 0
+EachCuttingIsAlike =
+    (ss : List Stage) (x y : Told (List ℕ)) → sees_known_chunks false ss ≡ true → bytes_of x ≡ bytes_of y →
+    (bytes_of (all_through (machines ss) x) ≡ bytes_of (all_through (machines ss) y)) × ((j : ℕ) → ending (machines ss) j x ≡ ending (machines ss) j y)
+
+-- and what a first part of the bytes gives, joined, is a first part of what all of them give
+abbrev pub EachFirstBytesStay : Type 0
+EachFirstBytesStay =
+    (ss : List Stage) (a b : List ℕ) (e : Mark) → sees_known_chunks false ss ≡ true →
+    IsBefore (bytes_of (reach ss a Open)) (bytes_of (reach ss (a ++ b) e))
+
+-- what a node put out is a first part of what its stages make of what came in; while nothing was lost, that and what lies in the node
+-- is all of it; and one going on after another is one
+abbrev pub EachNodeFlows : Type 0
+EachNodeFlows =
+    (ms : List Machine) (x : Told (List ℕ)) (ps : List Part) (out : Told (List ℕ)) → Flows ms x ps out →
+    (IsBefore out (all_through ms x)) ×
+    ((then_told out (residual ms ps)).mark ≢ Lost → then_told out (residual ms ps) ≡ all_through ms x) ×
+    ((y : Told (List ℕ)) (qs : List Part) (new : Told (List ℕ)) → Goes ms y ps out qs new → Flows ms (then_told x y) qs new)
+
+-- a turn keeps the relation between a node and the lists of its rows
+abbrev pub EachTurnKeeps : Type 0
+EachTurnKeeps =
+    (ms : List Machine) (r0 r1 s0 s1 : List Message) (ps : List Part) (b0 : Told (List ℕ)) (qs : List Part) (b1 : Told (List ℕ)) →
+    Relates ms r0 s0 ps b0 → Turned ms r0 r1 s0 s1 ps b0 qs b1 → Relates ms r1 s1 qs b1
+
+-- a step of a realm leaves no more before a stage than lay there, where the realm keeps what it owes for that link
+abbrev pub EachPlaceKeeps : Type 0
+EachPlaceKeeps =
+    (p : Place) (handed new entered later : Told (List ℕ)) → LinkKeeps handed new p.link entered → p.coming ≡ then_told entered later →
+    IsShortOf (in_place (record { waiting = then_told p.waiting handed; link = new; coming = later })) (in_place p)
+
+-- a run over any number of nodes: what the output got is a first part of what the stages make of the bytes that were taken
+abbrev pub EachRunFlows : Type 0
+EachRunFlows =
+    (taken : Told ℕ) (ms : List Member) (got : Told ℕ) → sees_known_chunks false (all_stages ms) ≡ true → Chained taken ms got →
+    IsBefore got (bytes_of (reach (all_stages ms) taken.items taken.mark))
+
+-- what a stage of it found is that stage's ending over the bytes that were taken
+abbrev pub EachFaultIsFound : Type 0
+EachFaultIsFound =
+    (taken : Told ℕ) (ms : List Member) (got : Told ℕ) (j c p : ℕ) → sees_known_chunks false (all_stages ms) ≡ true → Chained taken ms got →
+    found (all_parts ms) j ≡ Bad c p → ending (machines (all_stages ms)) j (as_one taken.items taken.mark) ≡ Bad c p
+
+-- and an output that was finished has it all, the input was read to its end, and each stage ended fine
+abbrev pub EachFinishIsWhole : Type 0
+EachFinishIsWhole =
+    (taken : Told ℕ) (ms : List Member) (got : Told ℕ) → sees_known_chunks false (all_stages ms) ≡ true → Chained taken ms got →
+    got.mark ≡ Closed →
+    (bytes_of (reach (all_stages ms) taken.items taken.mark) ≡ got) × (taken.mark ≡ Closed) ×
+    ((j : ℕ) → ending (machines (all_stages ms)) j (as_one taken.items taken.mark) ≡ Fine)

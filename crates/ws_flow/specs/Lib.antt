@@ -1,0 +1,9 @@
+pub mod Told
+pub mod Machines
+pub mod Stages
+pub mod Plans
+pub mod Parts
+pub mod Rows
+pub mod Chains
+pub mod Outputs
+pub mod Laws

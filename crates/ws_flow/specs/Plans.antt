@@ -1,0 +1,101 @@
+-- What a plan puts out, how its stages end, and which plans are refused.
+use Rattle.std.specs.Prelude.{ℕ, zero, suc, ℤ, pos, ◌+◌, ◌≡◌, ◌-◌, ◌^◌, ◌&&◌, ◌||◌, ◌==◌, not, Bool, true, false, List, [], ◌∷◌, ◌++◌, Option, Some, None, length, map, if◌then◌else◌, nat_lt, nat_le, int_le, nat_abs}
+use Rattle.std.specs.List.{concat}
+use Rattle.ws_flow.specs.declared.plan.Stage.{Stage}
+use Rattle.ws_flow.specs.declared.plan.Stage.TheVariants.{Lines, Fixed, Hex, Unhex, Mask, Number, Frame, Unframe}
+use Rattle.ws_flow.specs.declared.plan.Placed.{Placed}
+use Rattle.ws_flow.specs.declared.plan.Plan.{Plan}
+use Rattle.ws_flow.specs.Told.{Mark, Told, told}
+use Rattle.ws_flow.specs.Machines.{all_through}
+use Rattle.ws_flow.specs.Stages.{machines, some_chunk}
+
+-- the bytes that were told
+abbrev pub bytes_of : Told (List ℕ) → Told ℕ
+bytes_of x = told (concat x.items) x.mark
+
+-- bytes as one chunk, or as none where there are none
+abbrev pub as_one : List ℕ → Mark → Told (List ℕ)
+as_one b m = told (some_chunk b) m
+
+-- what comes out of the last stage where these bytes came into the first, and closed where they are all
+abbrev pub reach : List Stage → List ℕ → Mark → Told (List ℕ)
+reach ss b m = all_through (machines ss) (as_one b m)
+
+abbrev pub stages_of : Plan → List Stage
+stages_of plan = map (λ p. p.stage) plan.stages.items
+
+-- whether no stage sees chunks whose cutting depends on how the input was cut
+abbrev pub sees_known_chunks : Bool → List Stage → Bool
+sees_known_chunks known [] = true
+sees_known_chunks known (Lines n ∷ ss) = sees_known_chunks true ss
+sees_known_chunks known (Fixed n ∷ ss) = sees_known_chunks true ss
+sees_known_chunks known (Unframe n ∷ ss) = sees_known_chunks true ss
+sees_known_chunks known (Unhex ∷ ss) = sees_known_chunks false ss
+sees_known_chunks known (Hex ∷ ss) = sees_known_chunks known ss
+sees_known_chunks known (Mask key ∷ ss) = sees_known_chunks known ss
+sees_known_chunks known (Number ∷ ss) = known && sees_known_chunks known ss
+sees_known_chunks known (Frame ∷ ss) = known && sees_known_chunks known ss
+
+abbrev pub is_within : ℕ → ℕ → ℤ → Bool
+is_within low high x = int_le (pos low) x && int_le x (pos high)
+
+-- whether a stage's number, or the length of its key, is in its range
+abbrev pub is_in_range : Stage → Bool
+is_in_range (Lines most) = is_within 1 1048576 most
+is_in_range (Fixed n) = is_within 1 65536 n
+is_in_range (Mask key) = nat_le 1 (length key) && nat_le (length key) 64
+is_in_range (Unframe most) = is_within 0 1048576 most
+is_in_range _ = true
+
+-- a worker is one of the plan's, or the caller where it has none
+abbrev pub is_placed_within : ℤ → Placed → Bool
+is_placed_within workers p =
+    is_in_range p.stage && (if int_le workers (pos 0) then is_within 0 0 p.worker else int_le (pos 1) p.worker && int_le p.worker workers)
+
+abbrev pub each_is_within : ℤ → List Placed → Bool
+each_is_within workers [] = true
+each_is_within workers (p ∷ ps) = is_placed_within workers p && each_is_within workers ps
+
+abbrev pub is_abort_within : Option ℤ → Bool
+is_abort_within None = true
+is_abort_within (Some n) = is_within 1 1099511627776 n
+
+abbrev pub are_numbers_within : Plan → Bool
+are_numbers_within plan =
+    int_le (pos 0) plan.workers && (is_abort_within plan.abort_after && (is_within 0 1099511627776 plan.max_input && each_is_within plan.workers plan.stages.items))
+
+abbrev pub is_hex : Stage → Bool
+is_hex Hex = true
+is_hex _ = false
+
+abbrev pub number_of_hex : List Stage → ℕ
+number_of_hex [] = 0
+number_of_hex (s ∷ ss) = (if is_hex s then 1 else 0) + number_of_hex ss
+
+-- whether no stage's worker is less than that of the one before
+abbrev pub are_in_order : ℤ → List Placed → Bool
+are_in_order before [] = true
+are_in_order before (p ∷ ps) = int_le before p.worker && are_in_order p.worker ps
+
+abbrev pub has_stage : ℕ → List Placed → Bool
+has_stage worker [] = false
+has_stage worker (p ∷ ps) = (nat_abs p.worker == worker) || has_stage worker ps
+
+-- whether each worker from 1 to this one has a stage
+abbrev pub each_has_stage : ℕ → List Placed → Bool
+each_has_stage zero ps = true
+each_has_stage (suc w) ps = each_has_stage w ps && has_stage (suc w) ps
+
+-- the number of the first refusal of a plan, if it is refused: 1, more than 16 stages; 2, a number that is out of its range; 7, more
+-- than 4 stages `hex`; 3, chunks that would depend on how the input was cut; 4, more than 8 workers; 6, a stage's worker is less than
+-- the one before; 5, a worker without a stage
+abbrev pub refusal : Plan → Option ℕ
+refusal plan =
+    if nat_lt 16 (length plan.stages.items) then Some 1
+    else if not (are_numbers_within plan) then Some 2
+    else if nat_lt 4 (number_of_hex (stages_of plan)) then Some 7
+    else if not (sees_known_chunks false (stages_of plan)) then Some 3
+    else if not (int_le plan.workers (pos 8)) then Some 4
+    else if not (are_in_order (pos 0) plan.stages.items) then Some 6
+    else if not (each_has_stage (nat_abs plan.workers) plan.stages.items) then Some 5
+    else None
