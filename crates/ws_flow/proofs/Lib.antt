@@ -11,3 +11,8 @@ pub mod Tables
 pub mod Reach
 pub mod Members
 pub mod Whole
+pub mod Frames
+pub mod Digits
+pub mod Maps
+pub mod Backwards
+pub mod Outputs

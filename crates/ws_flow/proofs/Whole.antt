@@ -8,7 +8,7 @@ use Rattle.ws_flow.proofs.Cutting.{joined_append}
 use Rattle.ws_flow.specs.declared.plan.Ending.TheVariants.{Fine, Bad}
 use Rattle.ws_flow.specs.declared.plan.Ending.{Ending}
 use Rattle.std.specs.List.{concat, All}
-use Rattle.std.proofs.lemmas.List.Elements.{All-nil, All-push}
+use Rattle.std.proofs.lemmas.List.Elements.{All-nil, All-head, All-tail, All-push}
 
 -- each of the bytes is so
 abbrev pub EachIs : (ℕ → Type 0) → List ℕ → Type 0
@@ -132,3 +132,17 @@ lines_begin most = record { whole = refl; lines = All-nil (IsLine most); begun =
 
 pub blocks_begin : (n : ℕ) → 0 < n → BlocksDone n [] [] []
 blocks_begin n h = record { whole = refl; blocks = All-nil (λ c. length c ≡ n); short = h }
+
+-- what says more says less
+pub says_less : (Done Less : List ℕ → List (List ℕ) → List ℕ → Type 0) (Wrong : List (List ℕ) → List ℕ → ℕ → ℕ → ℕ → ℕ → Type 0) → ((b : List ℕ) (cs : List (List ℕ)) (r : List ℕ) → Done b cs r → Less b cs r) →
+    (b : List ℕ) (cs : List (List ℕ)) (r : List ℕ) (e : Ending) → SaysBy Done Wrong b cs r e → SaysBy Less Wrong b cs r e
+says_less Done Less Wrong f b cs r Fine h = f b cs r h
+says_less Done Less Wrong f b cs r (Bad c p) (before, byte, after, left, e, d, w) = (before, byte, after, left, e, f before cs left d, w)
+
+pub counted_fine : (e : Ending) (k : Kept) (n : ℕ) → Counted e k n → e ≡ Fine → k.bytes ≡ n
+counted_fine Fine k n h e = h
+counted_fine (Bad c p) k n h e = cc
+
+pub each_is_all : (P : ℕ → Type 0) (bs : List ℕ) → All P bs → EachIs P bs
+each_is_all P [] h = tt
+each_is_all P (b ∷ bs) h = (All-head P b bs h, each_is_all P bs (All-tail P b bs h))

@@ -1,12 +1,15 @@
 -- What holds of every stage, every node and every run.
-use Rattle.std.specs.Prelude.{◌≡◌, ◌≢◌, ℕ, Bool, true, false, List, ◌++◌}
+use Rattle.std.specs.Prelude.{◌≡◌, ◌≢◌, ℕ, ℤ, ◌<◌, ◌≤◌, Bool, true, false, List, [], ◌∷◌, ◌++◌, length, map, nat_abs}
+use Rattle.std.specs.List.{concat, All}
 use Rattle.ws_value.specs.declared.value.Message.{Message}
 use Rattle.ws_flow.specs.declared.plan.Ending.{Ending}
 use Rattle.ws_flow.specs.declared.plan.Ending.TheVariants.{Fine, Bad}
 use Rattle.ws_flow.specs.declared.plan.Stage.{Stage}
-use Rattle.ws_flow.specs.Told.{Mark, Open, Closed, Lost, Told, then_told, IsShortOf, IsBefore}
-use Rattle.ws_flow.specs.Machines.{Machine, Kept, through, keeps, verdict, all_through, ending}
-use Rattle.ws_flow.specs.Stages.{machines}
+use Rattle.ws_flow.specs.declared.plan.Stage.TheVariants.{Hex, Unhex, Mask, Frame, Unframe}
+use Rattle.ws_flow.specs.Told.{Mark, Open, Closed, Lost, Told, told, then_told, IsShortOf, IsBefore}
+use Rattle.ws_flow.specs.Machines.{Machine, Kept, Pushed, piece, at_end, through, keeps, or_else, end_verdict, verdict, all_through, ending}
+use Rattle.ws_flow.specs.Stages.{nothing_kept, each_byte, Packing, AsCut, byte_machine, line_byte, block_byte, unframe_byte, unhex_byte, machine, machines}
+use Rattle.ws_flow.specs.Outputs.{Says, LinesDone, LineWrong, BlocksDone, NeverWrong, FramesDone, FrameWrong, DigitsDone, DigitWrong}
 use Rattle.ws_flow.specs.Plans.{bytes_of, as_one, reach, sees_known_chunks}
 use Rattle.ws_flow.specs.Parts.{Part, Goes, Flows, residual, found}
 use Rattle.ws_flow.specs.Rows.{Place, in_place, LinkKeeps, Turned, Relates}
@@ -86,3 +89,54 @@ EachFinishIsWhole =
     got.mark ≡ Closed →
     (bytes_of (reach (all_stages ms) taken.items taken.mark) ≡ got) × (taken.mark ≡ Closed) ×
     ((j : ℕ) → ending (machines (all_stages ms)) j (as_one taken.items taken.mark) ≡ Fine)
+
+-- A stage that sees bytes sees all its input's bytes at once: how they are cut shows only in how what comes out is packed
+abbrev pub EachInputIsOne : Type 0
+EachInputIsOne =
+    (w : Packing) (f : Kept → ℕ → Pushed) (g : Kept → Pushed) (x : Told (List ℕ)) →
+    let m = byte_machine w f g in
+    let p = each_byte f nothing_kept (concat x.items) in
+    (bytes_of (through m m.start x) ≡ bytes_of (then_told (piece p) (at_end m p.kept x.mark))) ×
+    (w ≡ AsCut → through m m.start x ≡ then_told (piece p) (at_end m p.kept x.mark)) ×
+    (verdict m m.start x.items x.mark ≡ or_else p.ending (end_verdict m p.kept x.mark))
+
+-- what comes of all the bytes of an input, and that they are counted where that is fine
+abbrev pub SaysAll : (List ℕ → List (List ℕ) → List ℕ → Type 0) → (List (List ℕ) → List ℕ → ℕ → ℕ → ℕ → ℕ → Type 0) → (Kept → ℕ → Pushed) → List ℕ → Type 0
+SaysAll Done Wrong f input =
+    let p = each_byte f nothing_kept input in
+    (Says Done Wrong input p) × (p.ending ≡ Fine → p.kept.bytes ≡ length input)
+
+abbrev pub EachLineIsCut : Type 0
+EachLineIsCut = (most : ℕ) (input : List ℕ) → SaysAll (LinesDone most) (LineWrong most) (line_byte most) input
+
+abbrev pub EachBlockIsCut : Type 0
+EachBlockIsCut = (n : ℕ) (input : List ℕ) → 0 < n → SaysAll (BlocksDone n) NeverWrong (block_byte n) input
+
+abbrev pub EachFrameIsRead : Type 0
+EachFrameIsRead =
+    (most : ℕ) (input : List ℕ) → All (λ b. b < 256) input → SaysAll (FramesDone most) (FrameWrong most) (unframe_byte most) input
+
+abbrev pub EachDigitIsRead : Type 0
+EachDigitIsRead = (input : List ℕ) → SaysAll DigitsDone DigitWrong unhex_byte input
+
+-- a stage that gives these chunks for the chunks that come, and is always fine
+abbrev pub Gives : Stage → (List (List ℕ) → List (List ℕ)) → Type 0
+Gives s f =
+    (x : Told (List ℕ)) →
+    (through (machine s) (machine s).start x ≡ told (f x.items) x.mark) × (verdict (machine s) (machine s).start x.items x.mark ≡ Fine)
+
+-- `unhex` of `hex` is the input
+abbrev pub EachTextReadsBack : Type 0
+EachTextReadsBack =
+    (x : Told (List ℕ)) → All (λ b. b < 256) (concat x.items) →
+    (bytes_of (all_through (machines (Hex ∷ Unhex ∷ [])) x) ≡ bytes_of x) × (ending (machines (Hex ∷ Unhex ∷ [])) 1 x ≡ Fine)
+
+-- `unframe` of `frame` is the chunks
+abbrev pub EachFrameReadsBack : Type 0
+EachFrameReadsBack =
+    (most : ℤ) (x : Told (List ℕ)) → nat_abs most < 4294967296 → All (λ c. length c ≤ nat_abs most) x.items →
+    (all_through (machines (Frame ∷ Unframe most ∷ [])) x ≡ x) × (ending (machines (Frame ∷ Unframe most ∷ [])) 1 x ≡ Fine)
+
+-- what is masked twice isn't masked
+abbrev pub EachMaskTwiceIsNone : Type 0
+EachMaskTwiceIsNone = (key : List ℕ) (x : Told (List ℕ)) → all_through (machines (Mask key ∷ Mask key ∷ [])) x ≡ x
