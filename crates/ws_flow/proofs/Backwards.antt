@@ -1,7 +1,7 @@
 -- `unhex` of `hex`, and `unframe` of `frame`.
 use Rattle.std.proofs.Common.{◌≡◌, ℕ, suc, ◌+◌, ◌-◌, ◌*◌, ◌/◌, ◌%◌, ◌<◌, ◌≤◌, Bool, true, false, List, [], ◌∷◌, ◌++◌, refl, sym, ap, ◌∙◌, append_assoc, append-nil, length-append, arith, Some, length, map, get_or, nat_eq, nat_lt, ◌||◌, add-zero}
 use Rattle.std.specs.Prelude.{if◌then◌else◌}
-use Rattle.ws_flow.specs.Machines.{Kept, Pushed, mark_of, end_mark, at_end, more, or_else, end_verdict, verdict, ending}
+use Rattle.ws_flow.specs.Machines.{Kept, Pushed, mark_of, end_mark, at_end, more, or_else, end_verdict, verdict}
 use Rattle.ws_flow.specs.Plans.{bytes_of}
 use Rattle.ws_flow.specs.Stages.{pushed, nothing_kept, added, each_byte, AsCut, SomeBytes, byte_machine, with_rest, digit_met, unhex_byte, odd_end, four_bytes, framed, frame_has, unframe_byte, inside_end}
 use Rattle.ws_flow.specs.Told.{Mark, Open, Closed, Lost, told, then_told}
@@ -24,11 +24,13 @@ not_passed b d h = by (nat_eq b 10) (nat_eq b 13) refl refl where
   by true y e f = absurd (no_value b d (is 10 e) h) where
     is : (n : ℕ) → nat_eq b n ≡ true → b ≡ n
     is n e = grind arith
+
     no_value : (b d : ℕ) → b ≡ 10 → hex_digit_value b ≡ Some d → ⊥
     no_value b d e h = let g = ap hex_digit_value (sym e) ∙ h in cc
   by false true e f = absurd (no_value b d (is 13 f) h) where
     is : (n : ℕ) → nat_eq b n ≡ true → b ≡ n
     is n e = grind arith
+
     no_value : (b d : ℕ) → b ≡ 13 → hex_digit_value b ≡ Some d → ⊥
     no_value b d e h = let g = ap hex_digit_value (sym e) ∙ h in cc
   by false false e f = refl
@@ -61,10 +63,11 @@ unhex_text y n (b ∷ bs) (w, h) =
     let r = unhex_text (y + 1 + 1) n bs h in
     let high : b / 16 < 16 = omega arith in
     let low : b % 16 < 16 = omega arith in
-    let e = unhex_pair y n (get_or lower_digits (b / 16) 0) (get_or lower_digits (b % 16) 0) (b / 16) (b % 16) (encode_lower bs) (IsDigits-lower_digits (b / 16) high) (IsDigits-lower_digits (b % 16) low) in
-    (ap (λ q. concat q.chunks) e ∙ ap (λ q. (16 * (b / 16) + b % 16) ∷ q) r.0 ∙ ap (λ q. q ∷ bs) (whole_byte b),
-     ap (λ q. q.ending) e ∙ r.1,
-     ap (λ q. q.kept.rest) e ∙ r.2)
+    let e = unhex_pair y n (get_or lower_digits (b / 16) 0) (get_or lower_digits (b % 16) 0) (b / 16) (b % 16) (encode_lower bs) (IsDigits-lower_digits (b / 16) high) (IsDigits-lower_digits (b % 16) low) in (
+      ap (λ q. concat q.chunks) e ∙ ap (λ q. (16 * (b / 16) + b % 16) ∷ q) r.0 ∙ ap (λ q. q ∷ bs) (whole_byte b),
+      ap (λ q. q.ending) e ∙ r.1,
+      ap (λ q. q.kept.rest) e ∙ r.2,
+    )
 
 pub encoded-append : (a b : List ℕ) → encode_lower (a ++ b) ≡ encode_lower a ++ encode_lower b
 unfolding encode_with
@@ -89,17 +92,18 @@ unhex_of_hex xs e h =
     let t = encode_lower (concat xs) in
     let p = each_byte unhex_byte nothing_kept t in
     let r = unhex_text 0 0 (concat xs) h in
-    let f = ended_fine e p.kept r.2 in
-    (more_bytes SomeBytes unhex_byte (λ k. odd_end k k.rest) nothing_kept (map encode_lower xs) e
-      ∙ ap (λ q. then_told (told (concat (each_byte unhex_byte nothing_kept q).chunks) (mark_of (each_byte unhex_byte nothing_kept q).ending)) (bytes_of (at_end m (each_byte unhex_byte nothing_kept q).kept e))) (concat_encoded xs)
-      ∙ ap (λ q. then_told (told (concat p.chunks) (mark_of q)) (bytes_of (at_end m p.kept e))) r.1
-      ∙ ap (λ q. then_told (told q Open) (bytes_of (at_end m p.kept e))) r.0
-      ∙ ap (λ q. then_told (told (concat xs) Open) q) f.0
-      ∙ ap (λ q. told q e) (append-nil (concat xs)),
-     verdict_bytes SomeBytes unhex_byte (λ k. odd_end k k.rest) nothing_kept (map encode_lower xs) e
-      ∙ ap (λ q. or_else (each_byte unhex_byte nothing_kept q).ending (end_verdict m (each_byte unhex_byte nothing_kept q).kept e)) (concat_encoded xs)
-      ∙ ap (λ q. or_else q (end_verdict m p.kept e)) r.1
-      ∙ f.1)
+    let f = ended_fine e p.kept r.2 in (
+      more_bytes SomeBytes unhex_byte (λ k. odd_end k k.rest) nothing_kept (map encode_lower xs) e
+          ∙ ap (λ q. then_told (told (concat (each_byte unhex_byte nothing_kept q).chunks) (mark_of (each_byte unhex_byte nothing_kept q).ending)) (bytes_of (at_end m (each_byte unhex_byte nothing_kept q).kept e))) (concat_encoded xs)
+          ∙ ap (λ q. then_told (told (concat p.chunks) (mark_of q)) (bytes_of (at_end m p.kept e))) r.1
+          ∙ ap (λ q. then_told (told q Open) (bytes_of (at_end m p.kept e))) r.0
+          ∙ ap (λ q. then_told (told (concat xs) Open) q) f.0
+          ∙ ap (λ q. told q e) (append-nil (concat xs)),
+      verdict_bytes SomeBytes unhex_byte (λ k. odd_end k k.rest) nothing_kept (map encode_lower xs) e
+          ∙ ap (λ q. or_else (each_byte unhex_byte nothing_kept q).ending (end_verdict m (each_byte unhex_byte nothing_kept q).kept e)) (concat_encoded xs)
+          ∙ ap (λ q. or_else q (end_verdict m p.kept e)) r.1
+          ∙ f.1,
+    )
 
 -- frames: what is found of their bytes
 abbrev gives : List (List ℕ) → Pushed → Pushed
@@ -131,19 +135,21 @@ in_frame : (most a b c d : ℕ) (r : List ℕ) (x : ℕ) (s : List ℕ) (bs : Li
     each_byte (unframe_byte most) (kept_of (a ∷ b ∷ c ∷ d ∷ r) y n) (x ∷ (s ++ bs)) ≡ gives ((r ++ x ∷ s) ∷ []) (each_byte (unframe_byte most) (kept_of [] (y + suc (length s)) n) bs)
 in_frame most a b c d r x [] bs y n h e =
     each_cons (unframe_byte most) (kept_of (a ∷ b ∷ c ∷ d ∷ r) y n) x bs (pushed (kept_of [] (y + 1) n) ((r ++ x ∷ []) ∷ []) Fine)
-      (has_full most (kept_of (a ∷ b ∷ c ∷ d ∷ (r ++ x ∷ [])) (y + 1) n) (four_bytes a b c d) (r ++ x ∷ []) h (length-append r (x ∷ []) ∙ e))
+    (has_full most (kept_of (a ∷ b ∷ c ∷ d ∷ (r ++ x ∷ [])) (y + 1) n) (four_bytes a b c d) (r ++ x ∷ []) h (length-append r (x ∷ []) ∙ e))
 in_frame most a b c d r x (z ∷ s) bs y n h e =
     each_cons (unframe_byte most) (kept_of (a ∷ b ∷ c ∷ d ∷ r) y n) x (z ∷ (s ++ bs)) (pushed (kept_of (a ∷ b ∷ c ∷ d ∷ (r ++ x ∷ [])) (y + 1) n) [] Fine)
-      (has_part most (kept_of (a ∷ b ∷ c ∷ d ∷ (r ++ x ∷ [])) (y + 1) n) (four_bytes a b c d) (r ++ x ∷ []) h (fewer (length (r ++ x ∷ [])) (length r) (length s) (four_bytes a b c d) (length-append r (x ∷ [])) e))
+    (has_part most (kept_of (a ∷ b ∷ c ∷ d ∷ (r ++ x ∷ [])) (y + 1) n) (four_bytes a b c d) (r ++ x ∷ []) h (fewer (length (r ++ x ∷ [])) (length r) (length s) (four_bytes a b c d) (length-append r (x ∷ [])) e))
     ∙ in_frame most a b c d (r ++ x ∷ []) z s bs (y + 1) n h (as_many (length (r ++ x ∷ [])) (length r) (length s) (four_bytes a b c d) (length-append r (x ∷ [])) e)
     ∙ ap (λ q. gives (q ∷ []) (each_byte (unframe_byte most) (kept_of [] (y + 1 + suc (length s)) n) bs)) (append_assoc r (x ∷ []) (z ∷ s))
     ∙ ap (λ q. gives ((r ++ x ∷ z ∷ s) ∷ []) (each_byte (unframe_byte most) (kept_of [] q n) bs)) (one_more_byte y (length s)) where
-  fewer : (l m s n : ℕ) → l ≡ m + 1 → m + suc (suc s) ≡ n → l < n
-  fewer l m s n e f = omega arith
-  as_many : (l m s n : ℕ) → l ≡ m + 1 → m + suc (suc s) ≡ n → l + suc s ≡ n
-  as_many l m s n e f = omega arith
-  one_more_byte : (y s : ℕ) → y + 1 + suc s ≡ y + suc (suc s)
-  one_more_byte y s = omega arith
+      fewer : (l m s n : ℕ) → l ≡ m + 1 → m + suc (suc s) ≡ n → l < n
+      fewer l m s n e f = omega arith
+
+      as_many : (l m s n : ℕ) → l ≡ m + 1 → m + suc (suc s) ≡ n → l + suc s ≡ n
+      as_many l m s n e f = omega arith
+
+      one_more_byte : (y s : ℕ) → y + 1 + suc s ≡ y + suc (suc s)
+      one_more_byte y s = omega arith
 
 four_of : (l : ℕ) → l < 4294967296 → four_bytes (l / 16777216 % 256) (l / 65536 % 256) (l / 256 % 256) (l % 256) ≡ l
 four_of l h = omega arith
@@ -153,16 +159,17 @@ frame_by : (most : ℕ) (a b c d : ℕ) (s : List ℕ) (bs : List ℕ) (y n : �
     each_byte (unframe_byte most) (kept_of [] y n) (a ∷ b ∷ c ∷ d ∷ (s ++ bs)) ≡ gives (s ∷ []) (each_byte (unframe_byte most) (kept_of [] (y + 1 + 1 + 1 + 1 + length s) n) bs)
 frame_by most a b c d [] bs y n h e =
     each_cons (unframe_byte most) (kept_of (a ∷ b ∷ c ∷ []) (y + 1 + 1 + 1) n) d bs (pushed (kept_of [] (y + 1 + 1 + 1 + 1) n) ([] ∷ []) Fine)
-      (has_full most (kept_of (a ∷ b ∷ c ∷ d ∷ []) (y + 1 + 1 + 1 + 1) n) (four_bytes a b c d) [] h e)
+    (has_full most (kept_of (a ∷ b ∷ c ∷ d ∷ []) (y + 1 + 1 + 1 + 1) n) (four_bytes a b c d) [] h e)
     ∙ ap (λ q. gives ([] ∷ []) (each_byte (unframe_byte most) (kept_of [] q n) bs)) (sym (add-zero (y + 1 + 1 + 1 + 1)))
 frame_by most a b c d (x ∷ s) bs y n h e =
     each_cons (unframe_byte most) (kept_of (a ∷ b ∷ c ∷ []) (y + 1 + 1 + 1) n) d (x ∷ (s ++ bs)) (pushed (kept_of (a ∷ b ∷ c ∷ d ∷ []) (y + 1 + 1 + 1 + 1) n) [] Fine)
-      (has_part most (kept_of (a ∷ b ∷ c ∷ d ∷ []) (y + 1 + 1 + 1 + 1) n) (four_bytes a b c d) [] h (some (length s) (four_bytes a b c d) e))
+    (has_part most (kept_of (a ∷ b ∷ c ∷ d ∷ []) (y + 1 + 1 + 1 + 1) n) (four_bytes a b c d) [] h (some (length s) (four_bytes a b c d) e))
     ∙ in_frame most a b c d [] x s bs (y + 1 + 1 + 1 + 1) n h (all (length s) (four_bytes a b c d) e) where
-  some : (l n : ℕ) → suc l ≡ n → 0 < n
-  some l n e = omega arith
-  all : (l n : ℕ) → suc l ≡ n → 0 + suc l ≡ n
-  all l n e = omega arith
+      some : (l n : ℕ) → suc l ≡ n → 0 < n
+      some l n e = omega arith
+
+      all : (l n : ℕ) → suc l ≡ n → 0 + suc l ≡ n
+      all l n e = omega arith
 
 -- each chunk is no longer than this
 abbrev pub EachShort : ℕ → List (List ℕ) → Type 0
@@ -178,10 +185,11 @@ frames_read most y n (c ∷ cs) w (h, g) =
     let e = frame_by most (l / 16777216 % 256) (l / 65536 % 256) (l / 256 % 256) (l % 256) c (concat (map framed cs)) y n (within l most (four_bytes (l / 16777216 % 256) (l / 65536 % 256) (l / 256 % 256) (l % 256)) f h) (sym f) in
     let r = frames_read most (y + 1 + 1 + 1 + 1 + l) n cs w g in
     (ap (λ q. q.chunks) e ∙ ap (λ q. c ∷ q) r.0, ap (λ q. q.ending) e ∙ r.1, ap (λ q. q.kept.rest) e ∙ r.2) where
-  below : (l most : ℕ) → most < 4294967296 → l ≤ most → l < 4294967296
-  below l most w h = omega arith
-  within : (l most n : ℕ) → n ≡ l → l ≤ most → n ≤ most
-  within l most n e h = omega arith
+      below : (l most : ℕ) → most < 4294967296 → l ≤ most → l < 4294967296
+      below l most w h = omega arith
+
+      within : (l most n : ℕ) → n ≡ l → l ≤ most → n ≤ most
+      within l most n e h = omega arith
 
 frames_end : (most : ℕ) (e : Mark) (k : Kept) → k.rest ≡ [] → (at_end (byte_machine AsCut (unframe_byte most) (λ k. inside_end k k.rest)) k e ≡ told [] e) × (end_verdict (byte_machine AsCut (unframe_byte most) (λ k. inside_end k k.rest)) k e ≡ Fine)
 frames_end most Open k h = (refl, refl)
@@ -195,12 +203,13 @@ unframe_of_frame most xs e w h =
     let m = byte_machine AsCut (unframe_byte most) (λ k. inside_end k k.rest) in
     let p = each_byte (unframe_byte most) nothing_kept (concat (map framed xs)) in
     let r = frames_read most 0 0 xs w h in
-    let f = frames_end most e p.kept r.2 in
-    (more_cut (unframe_byte most) (λ k. inside_end k k.rest) nothing_kept (map framed xs) e
-      ∙ ap (λ q. then_told (told p.chunks (mark_of q)) (at_end m p.kept e)) r.1
-      ∙ ap (λ q. then_told (told q Open) (at_end m p.kept e)) r.0
-      ∙ ap (λ q. then_told (told xs Open) q) f.0
-      ∙ ap (λ q. told q e) (append-nil xs),
-     verdict_bytes AsCut (unframe_byte most) (λ k. inside_end k k.rest) nothing_kept (map framed xs) e
-      ∙ ap (λ q. or_else q (end_verdict m p.kept e)) r.1
-      ∙ f.1)
+    let f = frames_end most e p.kept r.2 in (
+      more_cut (unframe_byte most) (λ k. inside_end k k.rest) nothing_kept (map framed xs) e
+          ∙ ap (λ q. then_told (told p.chunks (mark_of q)) (at_end m p.kept e)) r.1
+          ∙ ap (λ q. then_told (told q Open) (at_end m p.kept e)) r.0
+          ∙ ap (λ q. then_told (told xs Open) q) f.0
+          ∙ ap (λ q. told q e) (append-nil xs),
+      verdict_bytes AsCut (unframe_byte most) (λ k. inside_end k k.rest) nothing_kept (map framed xs) e
+          ∙ ap (λ q. or_else q (end_verdict m p.kept e)) r.1
+          ∙ f.1,
+    )

@@ -34,24 +34,24 @@ asked_then m (Over e) t v u x (a, b) h =
 -- one after the other
 pub goes_then : (ms : List Machine) (y z : Told (List ℕ)) (ps : List Part) (o : Told (List ℕ)) (qs : List Part) (o1 : Told (List ℕ)) (rs : List Part) (o2 : Told (List ℕ)) → Goes ms y ps o qs o1 → Goes ms z qs o1 rs o2 → Goes ms (then_told y z) ps o rs o2
 goes_then [] y z [] o [] o1 [] o2 h g = short_trans o2 (then_told o1 z) (then_told o (then_told y z)) g (short_as (then_told o1 z) (then_told (then_told o y) z) (then_told o (then_told y z)) (then_assoc o y z) (short_right o1 (then_told o y) z h))
-goes_then (m ∷ ms) y z (p ∷ ps) o (q ∷ qs) o1 (r ∷ rs) o2 (t, a, h, g) (u, b, i, j) =
-    (then_told t u,
-     asked_then m p.work t q.work u r.work a b,
-     short_same (then_told (then_told t u) r.before) (then_told t (then_told u r.before)) (then_told p.before (then_told y z)) (then_assoc t u r.before)
-       (short_trans (then_told t (then_told u r.before)) (then_told t (then_told q.before z)) (then_told p.before (then_told y z))
-         (short_left t (then_told u r.before) (then_told q.before z) i)
-         (short_same (then_told t (then_told q.before z)) (then_told (then_told t q.before) z) (then_told p.before (then_told y z)) (sym (then_assoc t q.before z))
-           (short_as (then_told (then_told t q.before) z) (then_told (then_told p.before y) z) (then_told p.before (then_told y z)) (then_assoc p.before y z)
-             (short_right (then_told t q.before) (then_told p.before y) z h)))),
-     subst (λ x. Goes ms x ps o rs o2) (sym (made_then m p.work t q.work u a))
-       (goes_then ms (made m p.work t) (made m q.work u) ps o qs o1 rs o2 g j))
+goes_then (m ∷ ms) y z (p ∷ ps) o (q ∷ qs) o1 (r ∷ rs) o2 (t, a, h, g) (u, b, i, j) = (
+  then_told t u,
+  asked_then m p.work t q.work u r.work a b,
+  short_same (then_told (then_told t u) r.before) (then_told t (then_told u r.before)) (then_told p.before (then_told y z)) (then_assoc t u r.before)
+      (short_trans (then_told t (then_told u r.before)) (then_told t (then_told q.before z)) (then_told p.before (then_told y z))
+      (short_left t (then_told u r.before) (then_told q.before z) i)
+      (short_same (then_told t (then_told q.before z)) (then_told (then_told t q.before) z) (then_told p.before (then_told y z)) (sym (then_assoc t q.before z))
+      (short_as (then_told (then_told t q.before) z) (then_told (then_told p.before y) z) (then_told p.before (then_told y z)) (then_assoc p.before y z)
+      (short_right (then_told t q.before) (then_told p.before y) z h)))),
+  subst (λ x. Goes ms x ps o rs o2) (sym (made_then m p.work t q.work u a))
+      (goes_then ms (made m p.work t) (made m q.work u) ps o qs o1 rs o2 g j),
+)
 goes_then [] y z [] o [] o1 (r ∷ rs) o2 h g = elim g [ ]
 goes_then [] y z [] o (q ∷ qs) o1 rs o2 h g = elim h [ ]
 goes_then [] y z (p ∷ ps) o qs o1 rs o2 h g = elim h [ ]
 goes_then (m ∷ ms) y z [] o qs o1 rs o2 h g = elim h [ ]
 goes_then (m ∷ ms) y z (p ∷ ps) o [] o1 rs o2 h g = elim h [ ]
 goes_then (m ∷ ms) y z (p ∷ ps) o (q ∷ qs) o1 [] o2 h g = elim g [ ]
-
 
 made_short : (m : Machine) (w : Work) (x y : Told (List ℕ)) → IsShortOf x y → IsShortOf (made m w x) (made m w y)
 made_short m (Live k) x y h = through_short m k x y h
@@ -70,14 +70,14 @@ goes_still (m ∷ ms) y (p ∷ ps) o (q ∷ qs) new (t, a, h, g) z =
     let v = then_told p.before (then_told y z) in
     let e = made_then m p.work t q.work u a in
     let s : IsShortOf (then_told t u) v = short_same (then_told t u) (then_told (then_told t q.before) z) v (sym (then_assoc t q.before z))
-           (short_as (then_told (then_told t q.before) z) (then_told (then_told p.before y) z) v (then_assoc p.before y z)
-             (short_right (then_told t q.before) (then_told p.before y) z h)) in
+    (short_as (then_told (then_told t q.before) z) (then_told (then_told p.before y) z) v (then_assoc p.before y z)
+    (short_right (then_told t q.before) (then_told p.before y) z h)) in
     short_trans (then_told new (still ms qs (made m q.work u))) (then_told o (still ms ps (then_told (made m p.work t) (made m q.work u)))) (then_told o (still ms ps (made m p.work v)))
-      (goes_still ms (made m p.work t) ps o qs new g (made m q.work u))
-      (short_left o (still ms ps (then_told (made m p.work t) (made m q.work u))) (still ms ps (made m p.work v))
-        (still_short ms ps (then_told (made m p.work t) (made m q.work u)) (made m p.work v)
-          (short_same (then_told (made m p.work t) (made m q.work u)) (made m p.work (then_told t u)) (made m p.work v) (sym e)
-            (made_short m p.work (then_told t u) v s))))
+    (goes_still ms (made m p.work t) ps o qs new g (made m q.work u))
+    (short_left o (still ms ps (then_told (made m p.work t) (made m q.work u))) (still ms ps (made m p.work v))
+    (still_short ms ps (then_told (made m p.work t) (made m q.work u)) (made m p.work v)
+    (short_same (then_told (made m p.work t) (made m q.work u)) (made m p.work (then_told t u)) (made m p.work v) (sym e)
+    (made_short m p.work (then_told t u) v s))))
 goes_still [] y [] o (q ∷ qs) new h z = elim h [ ]
 goes_still [] y (p ∷ ps) o qs new h z = elim h [ ]
 goes_still (m ∷ ms) y [] o qs new h z = elim h [ ]

@@ -1,7 +1,7 @@
 -- The steps of `unhex`.
 use Rattle.std.proofs.Common.{◌≡◌, ◌≢◌, ◌⊎◌, inl, inr, ℕ, suc, ◌+◌, ◌*◌, ◌/◌, ◌%◌, ◌<◌, ◌≤◌, Bool, true, false, List, [], ◌∷◌, ◌++◌, refl, sym, ap, ◌∙◌, append_assoc, append-nil, arith, Option, Some, None, length, nat_eq, ◌||◌}
 use Rattle.std.specs.Prelude.{if◌then◌else◌}
-use Rattle.ws_flow.specs.Machines.{Kept, ending}
+use Rattle.ws_flow.specs.Machines.{Kept}
 use Rattle.ws_flow.specs.Outputs.{digit_or_none, digits_in, digits_of, IsPassedOver, DigitsDone, DigitWrong}
 use Rattle.ws_flow.specs.Stages.{pushed, with_rest, digit_met, unhex_byte}
 use Rattle.ws_flow.proofs.Cutting.{joined_append}
@@ -60,40 +60,53 @@ digit_in b d h = ap (λ q. digit_or_none q ++ []) h
 digit_step : (before : List ℕ) (cs : List (List ℕ)) (rest : List ℕ) (y n b : ℕ) (o : Option ℕ) → hex_digit_value b ≡ o → (nat_eq b 10 || nat_eq b 13) ≡ false → DigitsHeld before cs rest →
     let k : Kept = record { rest = rest; bytes = y; chunks = n } in let p = digit_met k rest o in
     StepSays DigitsHeld DigitWrong before cs k b p.kept p.chunks p.ending
-digit_step before cs [] y n b (Some d) e z h =
-    (record {
-      done = record {
-        whole = more_digits cs [] before (d ∷ []) b h.done.whole (digit_in b d e);
-        digits = All-push (λ q. IsPassedOver q ⊎ (hex_digit_value q ≢ None)) before b h.done.digits (inr (some_not_none (hex_digit_value b) d e));
-        one = omega arith };
-      small = (value_small b d e, tt) }, refl)
-digit_step before cs (x ∷ []) y n b (Some d) e z h =
-    (record {
-      done = record {
-        whole = byte_digits cs before x d b h.small.0 (value_small b d e) h.done.whole (digit_in b d e);
-        digits = All-push (λ q. IsPassedOver q ⊎ (hex_digit_value q ≢ None)) before b h.done.digits (inr (some_not_none (hex_digit_value b) d e));
-        one = omega arith };
-      small = tt }, refl)
+digit_step before cs [] y n b (Some d) e z h = (
+  record {
+    done = record {
+      whole = more_digits cs [] before (d ∷ []) b h.done.whole (digit_in b d e);
+      digits = All-push (λ q. IsPassedOver q ⊎ (hex_digit_value q ≢ None)) before b h.done.digits (inr (some_not_none (hex_digit_value b) d e));
+      one = omega arith;
+    };
+    small = (value_small b d e, tt);
+  },
+  refl,
+)
+digit_step before cs (x ∷ []) y n b (Some d) e z h = (
+  record {
+    done = record {
+      whole = byte_digits cs before x d b h.small.0 (value_small b d e) h.done.whole (digit_in b d e);
+      digits = All-push (λ q. IsPassedOver q ⊎ (hex_digit_value q ≢ None)) before b h.done.digits (inr (some_not_none (hex_digit_value b) d e));
+      one = omega arith;
+    };
+    small = tt;
+  },
+  refl,
+)
 digit_step before cs (x ∷ w ∷ rest) y n b (Some d) e z h = absurd (too_long (length rest) h.done.one) where
   too_long : (m : ℕ) → suc (suc m) ≤ 1 → ⊥
   too_long m i = omega arith
 digit_step before cs rest y n b None e z h =
     (refl, record { no_feed = not_feed b z; no_return = not_return b z; no_digit = e; code = refl; at = refl }) where
-  not_feed : (b : ℕ) → (nat_eq b 10 || nat_eq b 13) ≡ false → b ≢ 10
-  not_feed b z = grind arith
-  not_return : (b : ℕ) → (nat_eq b 10 || nat_eq b 13) ≡ false → b ≢ 13
-  not_return b z = grind arith
+      not_feed : (b : ℕ) → (nat_eq b 10 || nat_eq b 13) ≡ false → b ≢ 10
+      not_feed b z = grind arith
+
+      not_return : (b : ℕ) → (nat_eq b 10 || nat_eq b 13) ≡ false → b ≢ 13
+      not_return b z = grind arith
 
 unhex_step : (before : List ℕ) (cs : List (List ℕ)) (rest : List ℕ) (y n b : ℕ) (z : Bool) → (nat_eq b 10 || nat_eq b 13) ≡ z → DigitsHeld before cs rest →
     let k : Kept = record { rest = rest; bytes = y; chunks = n } in let p = (if z then pushed (with_rest k rest) [] Fine else digit_met k rest (hex_digit_value b)) in
     StepSays DigitsHeld DigitWrong before cs k b p.kept p.chunks p.ending
-unhex_step before cs rest y n b true z h =
-    (record {
-      done = record {
-        whole = ap (λ q. digits_of (concat (cs ++ [])) ++ q) (sym (append-nil rest)) ∙ more_digits cs rest before [] b h.done.whole (passed_none b (passed b z));
-        digits = All-push (λ q. IsPassedOver q ⊎ (hex_digit_value q ≢ None)) before b h.done.digits (inl (passed b z));
-        one = h.done.one };
-      small = h.small }, refl)
+unhex_step before cs rest y n b true z h = (
+  record {
+    done = record {
+      whole = ap (λ q. digits_of (concat (cs ++ [])) ++ q) (sym (append-nil rest)) ∙ more_digits cs rest before [] b h.done.whole (passed_none b (passed b z));
+      digits = All-push (λ q. IsPassedOver q ⊎ (hex_digit_value q ≢ None)) before b h.done.digits (inl (passed b z));
+      one = h.done.one;
+    };
+    small = h.small;
+  },
+  refl,
+)
 unhex_step before cs rest y n b false z h = digit_step before cs rest y n b (hex_digit_value b) refl z h
 
 pub digits_stepwise : Stepwise (λ b. Unit {0}) DigitsHeld DigitWrong unhex_byte

@@ -46,7 +46,7 @@ found_by (m ∷ ms) y x (q ∷ qs) out zero e (t, a, h, g) b f n =
     verdict_stays m m.start t x e (before_trans t y x (before_trans t (then_told t q.before) y (before_then t q.before) (before_of_short (then_told t q.before) y h)) b) (work_said m t.items t.mark q.work e a f n) n
 found_by (m ∷ ms) y x (q ∷ qs) out (suc j) e (t, a, h, g) b f n =
     found_by ms (through m m.start t) (through m m.start x) qs out j e g
-      (through_before m m.start t x (before_trans t y x (before_trans t (then_told t q.before) y (before_then t q.before) (before_of_short (then_told t q.before) y h)) b)) f n
+    (through_before m m.start t x (before_trans t y x (before_trans t (then_told t q.before) y (before_then t q.before) (before_of_short (then_told t q.before) y h)) b)) f n
 
 -- what a Work of a node found is the ending of its stage over what the node received
 pub flows_found : (ms : List Machine) (x : Told (List ℕ)) (ps : List Part) (out : Told (List ℕ)) (j : ℕ) (e : Ending) → Flows ms x ps out → found ps j ≡ e → e ≢ Fine → ending ms j x ≡ e
@@ -76,6 +76,6 @@ closed_all (m ∷ ms) x h =
     let r = closed_all ms (through m m.start x) h in
     let s = closed_through m m.start x.items x.mark r.0 in
     (s.1, λ j. each j s.0 r.1) where
-  each : (j : ℕ) → verdict m m.start x.items x.mark ≡ Fine → ((i : ℕ) → ending ms i (through m m.start x) ≡ Fine) → ending (m ∷ ms) j x ≡ Fine
-  each zero a b = a
-  each (suc i) a b = b i
+      each : (j : ℕ) → verdict m m.start x.items x.mark ≡ Fine → ((i : ℕ) → ending ms i (through m m.start x) ≡ Fine) → ending (m ∷ ms) j x ≡ Fine
+      each zero a b = a
+      each (suc i) a b = b i

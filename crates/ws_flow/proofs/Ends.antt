@@ -37,15 +37,14 @@ turn_keeps ms r0 r1 s0 s1 ps b0 qs b1 f t =
     let g = goes_behind ms (told_by t.taken) ps b0 qs (then_told (told_by t.posted) b1) (told_by s0) t.goes in
     let h = goes_then ms (told_by r0) (told_by t.taken) (fresh ms) nothing_told ps (then_told (told_by s0) b0) qs (then_told (told_by s0) (then_told (told_by t.posted) b1)) f g in
     subst (λ x. Flows ms x qs (then_told (told_by s1) b1)) (sym (ap told_by t.received ∙ told_append r0 t.taken))
-      (subst (λ o. Flows ms (then_told (told_by r0) (told_by t.taken)) qs o) (sym (ap (λ q. then_told (told_by q) b1) t.sent ∙ ap (λ q. then_told q b1) (told_append s0 t.posted) ∙ then_assoc (told_by s0) (told_by t.posted) b1)) h)
+    (subst (λ o. Flows ms (then_told (told_by r0) (told_by t.taken)) qs o) (sym (ap (λ q. then_told (told_by q) b1) t.sent ∙ ap (λ q. then_told q b1) (told_append s0 t.posted) ∙ then_assoc (told_by s0) (told_by t.posted) b1)) h)
 
 -- A step of the realm leaves no more before a stage than lay there, if the realm keeps its law for that link.
 pub place_keeps : (p : Place) (handed new entered later : Told (List ℕ)) → LinkKeeps handed new p.link entered → p.coming ≡ then_told entered later → IsShortOf (in_place (record { waiting = then_told p.waiting handed; link = new; coming = later })) (in_place p)
 place_keeps p handed new entered later h e =
     short_same (then_told (then_told p.waiting handed) (then_told new later)) (then_told p.waiting (then_told handed (then_told new later))) (in_place p) (then_assoc p.waiting handed (then_told new later))
-      (short_left p.waiting (then_told handed (then_told new later)) (then_told p.link p.coming)
-        (short_same (then_told handed (then_told new later)) (then_told (then_told handed new) later) (then_told p.link p.coming) (sym (then_assoc handed new later))
-          (short_as (then_told (then_told handed new) later) (then_told (then_told p.link entered) later) (then_told p.link p.coming)
-            (then_assoc p.link entered later ∙ ap (λ q. then_told p.link q) (sym e))
-            (short_right (then_told handed new) (then_told p.link entered) later h))))
-
+    (short_left p.waiting (then_told handed (then_told new later)) (then_told p.link p.coming)
+    (short_same (then_told handed (then_told new later)) (then_told (then_told handed new) later) (then_told p.link p.coming) (sym (then_assoc handed new later))
+    (short_as (then_told (then_told handed new) later) (then_told (then_told p.link entered) later) (then_told p.link p.coming)
+    (then_assoc p.link entered later ∙ ap (λ q. then_told p.link q) (sym e))
+    (short_right (then_told handed new) (then_told p.link entered) later h))))

@@ -1,6 +1,6 @@
 -- Each event of a node lets the parts go on.
 use Rattle.std.proofs.Common.{◌≡◌, ◌≢◌, ℕ, List, [], ◌∷◌, refl, sym, ap, subst, arith}
-use Rattle.ws_flow.specs.Machines.{Kept, Machine, mark_of, end_mark, piece, or_else, ending}
+use Rattle.ws_flow.specs.Machines.{Kept, Machine, mark_of, end_mark, piece, or_else}
 use Rattle.ws_flow.specs.Parts.{Work, Live, Over, Part, nothing_told, Asked, made, Goes}
 use Rattle.ws_flow.specs.Told.{Open, Closed, Lost, Told, told, goes_on, then_told, IsShortOf}
 use Rattle.ws_flow.proofs.Told.{then_empty, short_as}
@@ -23,11 +23,12 @@ Rests _ _ _ = ⊥
 
 pub rests : (ms : List Machine) (ps qs : List Part) (out new : Told (List ℕ)) → Rests ms ps qs → IsShortOf new out → Goes ms nothing_told ps out qs new
 rests [] [] [] out new r s = short_as new out (then_told out nothing_told) (sym (then_empty out)) s
-rests (m ∷ ms) (p ∷ ps) (q ∷ qs) out new (w, b, r) s =
-    (nothing_told,
-     subst (λ v. Asked m p.work nothing_told v) (sym w) (not_asked m p.work),
-     short_as q.before p.before (then_told p.before nothing_told) (sym (then_empty p.before)) b,
-     subst (λ v. Goes ms v ps out qs new) (sym (nothing_made m p.work)) (rests ms ps qs out new r s))
+rests (m ∷ ms) (p ∷ ps) (q ∷ qs) out new (w, b, r) s = (
+  nothing_told,
+  subst (λ v. Asked m p.work nothing_told v) (sym w) (not_asked m p.work),
+  short_as q.before p.before (then_told p.before nothing_told) (sym (then_empty p.before)) b,
+  subst (λ v. Goes ms v ps out qs new) (sym (nothing_made m p.work)) (rests ms ps qs out new r s),
+)
 rests [] [] (q ∷ qs) out new r s = elim r [ ]
 rests [] (p ∷ ps) qs out new r s = elim r [ ]
 rests (m ∷ ms) [] qs out new r s = elim r [ ]

@@ -1,7 +1,7 @@
 -- The steps of `unframe`.
 use Rattle.std.proofs.Common.{◌≡◌, ℕ, suc, ◌+◌, ◌-◌, ◌/◌, ◌%◌, ◌<◌, ◌≤◌, Bool, true, false, List, [], ◌∷◌, ◌++◌, refl, sym, ap, ◌∙◌, subst, append_assoc, append-nil, length-append, arith, length, map, nat_eq, nat_lt}
 use Rattle.std.specs.Prelude.{if◌then◌else◌}
-use Rattle.ws_flow.specs.Machines.{Kept, more, ending}
+use Rattle.ws_flow.specs.Machines.{Kept}
 use Rattle.ws_flow.specs.Outputs.{IsPartOfFrame, FramesDone, TellsMore, FrameWrong}
 use Rattle.ws_flow.specs.Stages.{pushed, with_rest, four_bytes, framed, unframe_byte}
 use Rattle.ws_flow.proofs.Whole.{EachIs, StepSays, Stepwise}
@@ -52,35 +52,49 @@ has_step : (most : ℕ) (before : List ℕ) (cs : List (List ℕ)) (k : Kept) (x
     let j = with_rest k (k.rest ++ x ∷ []) in
     let p = (if m then pushed j [] (Bad 4 (j.bytes - 4)) else if f then pushed (record j { rest = [] }) (r ∷ []) Fine else pushed j [] Fine) in
     StepSays (FramesHeld most) (FrameWrong most) before cs k x p.kept p.chunks p.ending
-has_step most before cs k x a b c d r true f e m q h d0 u v z0 =
-    (refl, record {
-      more = subst (λ z. TellsMore most z) (sym e) (subst (λ z. TellsMore most (a ∷ b ∷ c ∷ d ∷ z)) (sym (u (lt_of most (four_bytes a b c d) m))) (lt_of most (four_bytes a b c d) m));
-      code = refl;
-      at = place (length k.rest) k.bytes (length (k.rest ++ x ∷ [])) (length r) (length-append k.rest (x ∷ [])) (ap length e) (ap length (u (lt_of most (four_bytes a b c d) m))) z0 }) where
+has_step most before cs k x a b c d r true f e m q h d0 u v z0 = (
+  refl,
+  record {
+    more = subst (λ z. TellsMore most z) (sym e) (subst (λ z. TellsMore most (a ∷ b ∷ c ∷ d ∷ z)) (sym (u (lt_of most (four_bytes a b c d) m))) (lt_of most (four_bytes a b c d) m));
+    code = refl;
+    at = place (length k.rest) k.bytes (length (k.rest ++ x ∷ [])) (length r) (length-append k.rest (x ∷ [])) (ap length e) (ap length (u (lt_of most (four_bytes a b c d) m))) z0;
+  },
+) where
   lt_of : (m n : ℕ) → nat_lt m n ≡ true → m < n
   lt_of m n h = grind arith
+
   place : (l y t s : ℕ) → t ≡ l + 1 → t ≡ suc (suc (suc (suc s))) → s ≡ 0 → l ≤ y → (y + 1 - 4) + l ≡ y
   place l y t s e f g i = omega arith
-has_step most before cs k x a b c d r false true e m q h d0 u v z0 =
-    (record {
-      done = record {
-        whole = full_whole cs k.rest before x r (framed_is a b c d r h.0 h.1.0 h.1.1.0 h.1.1.1.0 (eq_of (length r) (four_bytes a b c d) q) ∙ sym e) d0.done.whole;
-        short = All-push (λ c. length c ≤ most) cs r d0.done.short (le_of (length r) (four_bytes a b c d) most m q);
-        part = tt };
-      bytes = tt }, refl) where
+has_step most before cs k x a b c d r false true e m q h d0 u v z0 = (
+  record {
+    done = record {
+      whole = full_whole cs k.rest before x r (framed_is a b c d r h.0 h.1.0 h.1.1.0 h.1.1.1.0 (eq_of (length r) (four_bytes a b c d) q) ∙ sym e) d0.done.whole;
+      short = All-push (λ c. length c ≤ most) cs r d0.done.short (le_of (length r) (four_bytes a b c d) most m q);
+      part = tt;
+    };
+    bytes = tt;
+  },
+  refl,
+) where
   eq_of : (m n : ℕ) → nat_eq m n ≡ true → m ≡ n
   eq_of m n h = grind arith
+
   le_of : (l n most : ℕ) → nat_lt most n ≡ false → nat_eq l n ≡ true → l ≤ most
   le_of l n most h i = grind arith
-has_step most before cs k x a b c d r false false e m q h d0 u v z0 =
-    (record {
-      done = record {
-        whole = kept_whole cs k.rest before x d0.done.whole;
-        short = subst (λ z. All (λ c. length c ≤ most) z) (sym (append-nil cs)) d0.done.short;
-        part = subst (λ z. IsPartOfFrame most z) (sym e) (ge_of most (four_bytes a b c d) m, lt_of (length r) (four_bytes a b c d) q (v (ge_of most (four_bytes a b c d) m))) };
-      bytes = subst (λ z. EachIs (λ q. q < 256) z) (sym e) h }, refl) where
+has_step most before cs k x a b c d r false false e m q h d0 u v z0 = (
+  record {
+    done = record {
+      whole = kept_whole cs k.rest before x d0.done.whole;
+      short = subst (λ z. All (λ c. length c ≤ most) z) (sym (append-nil cs)) d0.done.short;
+      part = subst (λ z. IsPartOfFrame most z) (sym e) (ge_of most (four_bytes a b c d) m, lt_of (length r) (four_bytes a b c d) q (v (ge_of most (four_bytes a b c d) m)));
+    };
+    bytes = subst (λ z. EachIs (λ q. q < 256) z) (sym e) h;
+  },
+  refl,
+) where
   ge_of : (m n : ℕ) → nat_lt m n ≡ false → n ≤ m
   ge_of m n h = grind arith
+
   lt_of : (l n : ℕ) → nat_eq l n ≡ false → l ≤ n → l < n
   lt_of l n h i = grind arith
 
@@ -94,13 +108,17 @@ rest_within cs rest before y h e =
 -- fewer than four bytes of a length
 few : (most : ℕ) (before : List ℕ) (cs : List (List ℕ)) (k : Kept) (x : ℕ) → x < 256 → FramesHeld most before cs k.rest → IsPartOfFrame most (k.rest ++ x ∷ []) →
     StepSays (FramesHeld most) (FrameWrong most) before cs k x (with_rest k (k.rest ++ x ∷ [])) [] Fine
-few most before cs k x w h p =
-    (record {
-      done = record {
-        whole = kept_whole cs k.rest before x h.done.whole;
-        short = subst (λ z. All (λ c. length c ≤ most) z) (sym (append-nil cs)) h.done.short;
-        part = p };
-      bytes = each_push (λ q. q < 256) k.rest x h.bytes w }, refl)
+few most before cs k x w h p = (
+  record {
+    done = record {
+      whole = kept_whole cs k.rest before x h.done.whole;
+      short = subst (λ z. All (λ c. length c ≤ most) z) (sym (append-nil cs)) h.done.short;
+      part = p;
+    };
+    bytes = each_push (λ q. q < 256) k.rest x h.bytes w;
+  },
+  refl,
+)
 
 frame_step : (most : ℕ) (before : List ℕ) (cs : List (List ℕ)) (rest : List ℕ) (y n x : ℕ) → x < 256 → FramesHeld most before cs rest → y ≡ length before →
     let p = unframe_byte most (record { rest = rest; bytes = y; chunks = n }) x in
@@ -110,15 +128,15 @@ frame_step most before cs (a ∷ []) y n x w h e = few most before cs (record { 
 frame_step most before cs (a ∷ b ∷ []) y n x w h e = few most before cs (record { rest = a ∷ b ∷ []; bytes = y; chunks = n }) x w h tt
 frame_step most before cs (a ∷ b ∷ c ∷ []) y n x w h e =
     has_step most before cs (record { rest = a ∷ b ∷ c ∷ []; bytes = y; chunks = n }) x a b c x [] (nat_lt most (four_bytes a b c x)) (nat_eq 0 (four_bytes a b c x)) refl refl refl
-      (each_push (λ q. q < 256) (a ∷ b ∷ c ∷ []) x h.bytes w) h (λ i. refl) (λ i. omega arith) (rest_within cs (a ∷ b ∷ c ∷ []) before y h.done.whole e)
+    (each_push (λ q. q < 256) (a ∷ b ∷ c ∷ []) x h.bytes w) h (λ i. refl) (λ i. omega arith) (rest_within cs (a ∷ b ∷ c ∷ []) before y h.done.whole e)
 frame_step most before cs (a ∷ b ∷ c ∷ d ∷ r) y n x w h e =
     has_step most before cs (record { rest = a ∷ b ∷ c ∷ d ∷ r; bytes = y; chunks = n }) x a b c d (r ++ x ∷ []) (nat_lt most (four_bytes a b c d)) (nat_eq (length (r ++ x ∷ [])) (four_bytes a b c d)) refl refl refl
-      (each_push (λ q. q < 256) (a ∷ b ∷ c ∷ d ∷ r) x h.bytes w) h
-      (λ i. absurd (not_both most (four_bytes a b c d) i h.done.part.0))
-      (λ i. let l = length-append r (x ∷ []) in let g = h.done.part.1 in omega arith)
-      (rest_within cs (a ∷ b ∷ c ∷ d ∷ r) before y h.done.whole e) where
-  not_both : (m n : ℕ) → m < n → n ≤ m → ⊥
-  not_both m n i j = omega arith
+    (each_push (λ q. q < 256) (a ∷ b ∷ c ∷ d ∷ r) x h.bytes w) h
+    (λ i. absurd (not_both most (four_bytes a b c d) i h.done.part.0))
+    (λ i. let l = length-append r (x ∷ []) in let g = h.done.part.1 in omega arith)
+    (rest_within cs (a ∷ b ∷ c ∷ d ∷ r) before y h.done.whole e) where
+      not_both : (m n : ℕ) → m < n → n ≤ m → ⊥
+      not_both m n i j = omega arith
 
 pub frames_stepwise : (most : ℕ) → Stepwise (λ b. b < 256) (FramesHeld most) (FrameWrong most) (unframe_byte most)
 frames_stepwise most = record { step = λ before cs k b x d n. frame_step most before cs k.rest k.bytes k.chunks b x d n }

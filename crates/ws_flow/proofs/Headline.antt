@@ -36,8 +36,8 @@ cuts_same ss taken ns got a r = same_cut ss r.cuts (as_one taken.items taken.mar
 pub run_got : (ss : List Stage) (taken : Told ℕ) (ns : List Node) (got : Told ℕ) → sees_known_chunks false ss ≡ true → Run ss taken ns got → IsBefore got (bytes_of (reach ss taken.items taken.mark))
 run_got ss taken ns got a r =
     before_trans got (bytes_of r.sunk) (bytes_of (reach ss taken.items taken.mark)) r.written
-      (subst (λ q. IsBefore (bytes_of r.sunk) q) (ap (λ q. bytes_of (all_through q r.cuts)) r.stages ∙ (cuts_same ss taken ns got a r).bytes)
-        (bytes_before r.sunk (all_through (plan_of ns) r.cuts) (got_before r.cuts ns r.sunk r.linked)))
+    (subst (λ q. IsBefore (bytes_of r.sunk) q) (ap (λ q. bytes_of (all_through q r.cuts)) r.stages ∙ (cuts_same ss taken ns got a r).bytes)
+    (bytes_before r.sunk (all_through (plan_of ns) r.cuts) (got_before r.cuts ns r.sunk r.linked)))
 
 pub run_stage : (ss : List Stage) (taken : Told ℕ) (ns : List Node) (got : Told ℕ) (j c p : ℕ) → sees_known_chunks false ss ≡ true → Run ss taken ns got → found (parts_of ns) j ≡ Bad c p → ending (machines ss) j (as_one taken.items taken.mark) ≡ Bad c p
 run_stage ss taken ns got j c p a r f =
@@ -48,9 +48,10 @@ run_done ss taken ns got a r c =
     let e = closed_same got (bytes_of (reach ss taken.items taken.mark)) (run_got ss taken ns got a r) c in
     let d = closed_all (machines ss) (as_one taken.items taken.mark) (ap (λ q. q.mark) e ∙ c) in
     (e, d.0, d.1) where
-  same_by : (xs : List ℕ) (m : Mark) (y : Told ℕ) → Begins xs m y → m ≡ Closed → y ≡ told xs m
-  same_by xs Open y h c = grind arith
-  same_by xs Lost y h c = grind arith
-  same_by xs Closed y (a, b) c = grind arith
-  closed_same : (x y : Told ℕ) → IsBefore x y → x.mark ≡ Closed → y ≡ x
-  closed_same x y = same_by x.items x.mark y
+      same_by : (xs : List ℕ) (m : Mark) (y : Told ℕ) → Begins xs m y → m ≡ Closed → y ≡ told xs m
+      same_by xs Open y h c = grind arith
+      same_by xs Lost y h c = grind arith
+      same_by xs Closed y (a, b) c = grind arith
+
+      closed_same : (x y : Told ℕ) → IsBefore x y → x.mark ≡ Closed → y ≡ x
+      closed_same x y = same_by x.items x.mark y

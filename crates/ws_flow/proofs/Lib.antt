@@ -16,3 +16,4 @@ pub mod Digits
 pub mod Maps
 pub mod Backwards
 pub mod Outputs
+pub mod Examples

@@ -1,6 +1,6 @@
 -- The stages that give a chunk for each chunk.
 use Rattle.std.proofs.Common.{◌≡◌, ℕ, suc, ◌+◌, ◌%◌, List, [], ◌∷◌, ◌++◌, refl, sym, ap, ◌∙◌, arith, length, map, get_or, decimal, bit_xor, add-zero}
-use Rattle.ws_flow.specs.Machines.{mark_of, more, or_else, verdict, ending}
+use Rattle.ws_flow.specs.Machines.{mark_of, more, or_else, verdict}
 use Rattle.ws_flow.specs.Outputs.{masked, each_masked, each_numbered}
 use Rattle.ws_flow.specs.Stages.{each_byte, One, byte_machine, no_more, chunk_machine, mask_byte, hex_byte, framed, number_push, frame_push}
 use Rattle.ws_flow.specs.Told.{Mark, Open, Closed, Lost, told, then_told}
@@ -15,8 +15,8 @@ mask_bytes key y n [] = (refl, refl, ap (λ q. record { rest = []; bytes = q; ch
 mask_bytes key y n (b ∷ c) =
     let r = mask_bytes key (y + 1) n c in
     (ap (λ q. bit_xor b (get_or key (y % length key) 0) ∷ q) r.0, r.1, r.2 ∙ ap (λ q. record { rest = []; bytes = q; chunks = n }) (more_one y (length c))) where
-  more_one : (y l : ℕ) → y + 1 + l ≡ y + suc l
-  more_one y l = omega arith
+      more_one : (y l : ℕ) → y + 1 + l ≡ y + suc l
+      more_one y l = omega arith
 
 pub mask_through : (key : List ℕ) (y n : ℕ) (cs : List (List ℕ)) (e : Mark) →
     (more (byte_machine One (mask_byte key) no_more) (record { rest = []; bytes = y; chunks = n }) cs e ≡ told (each_masked key y cs) e) × (verdict (byte_machine One (mask_byte key) no_more) (record { rest = []; bytes = y; chunks = n }) cs e ≡ Fine)
@@ -27,12 +27,13 @@ mask_through key y n (c ∷ cs) e =
     let p = each_byte (mask_byte key) (record { rest = []; bytes = y; chunks = n }) c in
     let b = mask_bytes key y n c in
     let r = mask_through key (y + length c) n cs e in
-    let m = byte_machine One (mask_byte key) no_more in
-    (ap (λ q. then_told (told (concat p.chunks ∷ []) (mark_of q)) (more m p.kept cs e)) b.1
-      ∙ ap (λ q. then_told (told (q ∷ []) Open) (more m p.kept cs e)) b.0
-      ∙ ap (λ q. then_told (told (masked key y c ∷ []) Open) (more m q cs e)) b.2
-      ∙ ap (λ q. then_told (told (masked key y c ∷ []) Open) q) r.0,
-     ap (λ q. or_else q (verdict m p.kept cs e)) b.1 ∙ ap (λ q. verdict m q cs e) b.2 ∙ r.1)
+    let m = byte_machine One (mask_byte key) no_more in (
+      ap (λ q. then_told (told (concat p.chunks ∷ []) (mark_of q)) (more m p.kept cs e)) b.1
+          ∙ ap (λ q. then_told (told (q ∷ []) Open) (more m p.kept cs e)) b.0
+          ∙ ap (λ q. then_told (told (masked key y c ∷ []) Open) (more m q cs e)) b.2
+          ∙ ap (λ q. then_told (told (masked key y c ∷ []) Open) q) r.0,
+      ap (λ q. or_else q (verdict m p.kept cs e)) b.1 ∙ ap (λ q. verdict m q cs e) b.2 ∙ r.1,
+    )
 
 hex_bytes : (y n : ℕ) (c : List ℕ) → (concat (each_byte hex_byte (record { rest = []; bytes = y; chunks = n }) c).chunks ≡ encode_lower c) × ((each_byte hex_byte (record { rest = []; bytes = y; chunks = n }) c).ending ≡ Fine) × ((each_byte hex_byte (record { rest = []; bytes = y; chunks = n }) c).kept ≡ record { rest = []; bytes = y + length c; chunks = n })
 unfolding encode_with
@@ -40,8 +41,8 @@ hex_bytes y n [] = (refl, refl, ap (λ q. record { rest = []; bytes = q; chunks 
 hex_bytes y n (b ∷ c) =
     let r = hex_bytes (y + 1) n c in
     (ap (λ q. encode_lower (b ∷ []) ++ q) r.0, r.1, r.2 ∙ ap (λ q. record { rest = []; bytes = q; chunks = n }) (more_one y (length c))) where
-  more_one : (y l : ℕ) → y + 1 + l ≡ y + suc l
-  more_one y l = omega arith
+      more_one : (y l : ℕ) → y + 1 + l ≡ y + suc l
+      more_one y l = omega arith
 
 pub hex_through : (y n : ℕ) (cs : List (List ℕ)) (e : Mark) →
     (more (byte_machine One hex_byte no_more) (record { rest = []; bytes = y; chunks = n }) cs e ≡ told (map encode_lower cs) e) × (verdict (byte_machine One hex_byte no_more) (record { rest = []; bytes = y; chunks = n }) cs e ≡ Fine)
@@ -52,12 +53,13 @@ hex_through y n (c ∷ cs) e =
     let p = each_byte hex_byte (record { rest = []; bytes = y; chunks = n }) c in
     let b = hex_bytes y n c in
     let r = hex_through (y + length c) n cs e in
-    let m = byte_machine One hex_byte no_more in
-    (ap (λ q. then_told (told (concat p.chunks ∷ []) (mark_of q)) (more m p.kept cs e)) b.1
-      ∙ ap (λ q. then_told (told (q ∷ []) Open) (more m p.kept cs e)) b.0
-      ∙ ap (λ q. then_told (told (encode_lower c ∷ []) Open) (more m q cs e)) b.2
-      ∙ ap (λ q. then_told (told (encode_lower c ∷ []) Open) q) r.0,
-     ap (λ q. or_else q (verdict m p.kept cs e)) b.1 ∙ ap (λ q. verdict m q cs e) b.2 ∙ r.1)
+    let m = byte_machine One hex_byte no_more in (
+      ap (λ q. then_told (told (concat p.chunks ∷ []) (mark_of q)) (more m p.kept cs e)) b.1
+          ∙ ap (λ q. then_told (told (q ∷ []) Open) (more m p.kept cs e)) b.0
+          ∙ ap (λ q. then_told (told (encode_lower c ∷ []) Open) (more m q cs e)) b.2
+          ∙ ap (λ q. then_told (told (encode_lower c ∷ []) Open) q) r.0,
+      ap (λ q. or_else q (verdict m p.kept cs e)) b.1 ∙ ap (λ q. verdict m q cs e) b.2 ∙ r.1,
+    )
 
 pub number_through : (y n : ℕ) (cs : List (List ℕ)) (e : Mark) →
     (more (chunk_machine number_push) (record { rest = []; bytes = y; chunks = n }) cs e ≡ told (each_numbered (n + 1) cs) e) × (verdict (chunk_machine number_push) (record { rest = []; bytes = y; chunks = n }) cs e ≡ Fine)

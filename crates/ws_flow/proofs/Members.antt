@@ -32,14 +32,15 @@ with_node x m k ms got b l = record {
   plan = ap (λ q. machines m.stages ++ q) l.plan ∙ sym (machines-append m.stages (all_stages ms));
   parts = ap (λ q. m.parts ++ q) l.parts;
   linked = (b, k.flows, l.linked);
-  written = l.written }
+  written = l.written;
+}
 
 onward : (w : Way) (x : Told (List ℕ)) (ms : List Member) (got : Told ℕ) → Went w x → Onward w ms got → Links x ms got
 onward (Host b) x [] got h e = record { nodes = []; sunk = x; plan = refl; parts = refl; linked = before_refl x; written = subst (λ q. IsBefore q (bytes_of x)) e h }
 onward (Row s) x (m ∷ ms) got h (received, rest, e, f, k, o) =
     with_node x m k ms got
-      (subst (λ q. IsBefore k.came q) (ap told_by (sym e) ∙ sym h) (subst (λ q. IsBefore q (told_by (received ++ rest))) (sym (subst (λ q. Came q k.came) f k.is_came)) (edge_before received rest)))
-      (onward m.to k.went ms got k.is_went o)
+    (subst (λ q. IsBefore k.came q) (ap told_by (sym e) ∙ sym h) (subst (λ q. IsBefore q (told_by (received ++ rest))) (sym (subst (λ q. Came q k.came) f k.is_came)) (edge_before received rest)))
+    (onward m.to k.went ms got k.is_went o)
 onward (Host b) x (m ∷ ms) got h o = elim o [ ]
 onward (Row s) x [] got h o = elim o [ ]
 

@@ -1,7 +1,6 @@
 use Rattle.std.proofs.Common.{◌≡◌, ◌≢◌, ℕ, zero, suc, List, [], ◌∷◌, ◌++◌, sym, ap, ◌∙◌, subst, arith}
 use Rattle.ws_flow.specs.Machines.{Machine, through, all_through, ending}
 use Rattle.ws_flow.specs.Parts.{Part, nothing_told, fresh, Goes, Flows, found}
-use Rattle.ws_flow.specs.Stages.{machines}
 use Rattle.ws_flow.specs.Told.{Mark, Open, Closed, Lost, Told, told, then_told, Begins, IsBefore}
 use Rattle.ws_flow.proofs.Chain.{flows_before}
 use Rattle.ws_flow.proofs.Endings.{ending_stays, flows_found, closed_all}
@@ -40,7 +39,7 @@ linked_before : (x y : Told (List ℕ)) (ns : List Node) (got : Told (List ℕ))
 linked_before x y [] got b l = before_trans got x y l b
 linked_before x y (n ∷ ns) got b (h, f, l) =
     subst (λ q. IsBefore got q) (sym (all_append n.machines (plan_of ns) y))
-      (linked_before n.sent (all_through n.machines y) ns got (sent_before n y (before_trans n.received x y h b) f) l)
+    (linked_before n.sent (all_through n.machines y) ns got (sent_before n y (before_trans n.received x y h b) f) l)
 
 pub got_before : (x : Told (List ℕ)) (ns : List Node) (got : Told (List ℕ)) → Linked x ns got → IsBefore got (all_through (plan_of ns) x)
 got_before x ns got = linked_before x x ns got (before_refl x)
@@ -60,9 +59,9 @@ linked_found : (x y : Told (List ℕ)) (ns : List Node) (got : Told (List ℕ)) 
 linked_found x y [] got e b l w j f = f
 linked_found x y (n ∷ ns) got e b (h, f, l) w j g =
     ending_joined n.machines n.received y n.parts (fresh n.machines) nothing_told (then_told n.sent n.behind) (plan_of ns) (parts_of ns) e f
-      (λ i k. ending_stays n.machines i n.received y e (before_trans n.received x y h b) (flows_found n.machines n.received n.parts (then_told n.sent n.behind) i e f k w) w)
-      (linked_found n.sent (all_through n.machines y) ns got e (sent_before n y (before_trans n.received x y h b) f) l w)
-      j g
+    (λ i k. ending_stays n.machines i n.received y e (before_trans n.received x y h b) (flows_found n.machines n.received n.parts (then_told n.sent n.behind) i e f k w) w)
+    (linked_found n.sent (all_through n.machines y) ns got e (sent_before n y (before_trans n.received x y h b) f) l w)
+    j g
 
 -- the status: a Bad that a Work of any node found is the ending of its stage over what was taken
 pub status_stage : (x : Told (List ℕ)) (ns : List Node) (got : Told (List ℕ)) (j c p : ℕ) → Linked x ns got → found (parts_of ns) j ≡ Bad c p → ending (plan_of ns) j x ≡ Bad c p
@@ -74,9 +73,10 @@ status_done x ns got l c =
     let e = closed_same got (all_through (plan_of ns) x) (got_before x ns got l) c in
     let r = closed_all (plan_of ns) x (ap (λ q. q.mark) e ∙ c) in
     (e, r.0, r.1) where
-  same_by : (xs : List (List ℕ)) (m : Mark) (y : Told (List ℕ)) → Begins xs m y → m ≡ Closed → y ≡ told xs m
-  same_by xs Open y h c = grind arith
-  same_by xs Lost y h c = grind arith
-  same_by xs Closed y (a, b) c = grind arith
-  closed_same : (x y : Told (List ℕ)) → IsBefore x y → x.mark ≡ Closed → y ≡ x
-  closed_same x y = same_by x.items x.mark y
+      same_by : (xs : List (List ℕ)) (m : Mark) (y : Told (List ℕ)) → Begins xs m y → m ≡ Closed → y ≡ told xs m
+      same_by xs Open y h c = grind arith
+      same_by xs Lost y h c = grind arith
+      same_by xs Closed y (a, b) c = grind arith
+
+      closed_same : (x y : Told (List ℕ)) → IsBefore x y → x.mark ≡ Closed → y ≡ x
+      closed_same x y = same_by x.items x.mark y

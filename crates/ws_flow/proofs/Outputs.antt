@@ -1,7 +1,7 @@
 -- What each stage puts out.
 use Rattle.std.proofs.Common.{◌≡◌, ℕ, ◌<◌, ◌≤◌, List, [], ◌∷◌, sym, ap, ◌∙◌, subst, length, map, nat_abs}
 use Rattle.ws_flow.specs.Laws.{EachInputIsOne, SaysAll, EachLineIsCut, EachBlockIsCut, EachFrameIsRead, EachDigitIsRead, Gives, EachTextReadsBack, EachFrameReadsBack, EachMaskTwiceIsNone}
-use Rattle.ws_flow.specs.Machines.{Kept, Pushed, piece, at_end, through, verdict, ending}
+use Rattle.ws_flow.specs.Machines.{Kept, Pushed, piece, at_end, through, verdict}
 use Rattle.ws_flow.specs.Outputs.{LinesDone, LineWrong, BlocksDone, NeverWrong, FramesDone, FrameWrong, DigitsDone, DigitWrong, each_masked, each_numbered}
 use Rattle.ws_flow.specs.Plans.{bytes_of}
 use Rattle.ws_flow.specs.Stages.{nothing_kept, each_byte, Packing, AsCut, byte_machine, line_byte, block_byte, unhex_byte, framed, unframe_byte, machine}
@@ -20,12 +20,13 @@ use Rattle.std.proofs.lemmas.List.Elements.{All-head, All-tail}
 pub input_is_one : EachInputIsOne
 input_is_one w f g x =
     let m = byte_machine w f g in
-    let p = each_byte f nothing_kept (concat x.items) in
-    (more_bytes w f g nothing_kept x.items x.mark ∙ sym (bytes_then (piece p) (at_end m p.kept x.mark)),
-     λ e. as_cut w e,
-     verdict_bytes w f g nothing_kept x.items x.mark) where
-  as_cut : (w : Packing) → w ≡ AsCut → through (byte_machine w f g) nothing_kept x ≡ then_told (piece (each_byte f nothing_kept (concat x.items))) (at_end (byte_machine w f g) (each_byte f nothing_kept (concat x.items)).kept x.mark)
-  as_cut w e = subst (λ w. through (byte_machine w f g) nothing_kept x ≡ then_told (piece (each_byte f nothing_kept (concat x.items))) (at_end (byte_machine w f g) (each_byte f nothing_kept (concat x.items)).kept x.mark)) (sym e) (more_cut f g nothing_kept x.items x.mark)
+    let p = each_byte f nothing_kept (concat x.items) in (
+      more_bytes w f g nothing_kept x.items x.mark ∙ sym (bytes_then (piece p) (at_end m p.kept x.mark)),
+      λ e. as_cut w e,
+      verdict_bytes w f g nothing_kept x.items x.mark,
+    ) where
+      as_cut : (w : Packing) → w ≡ AsCut → through (byte_machine w f g) nothing_kept x ≡ then_told (piece (each_byte f nothing_kept (concat x.items))) (at_end (byte_machine w f g) (each_byte f nothing_kept (concat x.items)).kept x.mark)
+      as_cut w e = subst (λ w. through (byte_machine w f g) nothing_kept x ≡ then_told (piece (each_byte f nothing_kept (concat x.items))) (at_end (byte_machine w f g) (each_byte f nothing_kept (concat x.items)).kept x.mark)) (sym e) (more_cut f g nothing_kept x.items x.mark)
 
 says_all : (Done Held : List ℕ → List (List ℕ) → List ℕ → Type 0) (Wrong : List (List ℕ) → List ℕ → ℕ → ℕ → ℕ → ℕ → Type 0) (P : ℕ → Type 0) (f : Kept → ℕ → Pushed) → Stepwise P Held Wrong f → ((b : List ℕ) (cs : List (List ℕ)) (r : List ℕ) → Held b cs r → Done b cs r) → Held [] [] [] → (input : List ℕ) → EachIs P input → SaysAll Done Wrong f input
 says_all Done Held Wrong P f w less begin input h =

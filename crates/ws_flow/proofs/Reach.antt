@@ -15,4 +15,4 @@ reach_before ss a b e w =
     let two : Told (List ℕ) = told (some_chunk a ++ some_chunk b) e in
     let same = same_cut ss two (as_one (a ++ b) e) w (ap (λ q. told q e) (joined_append (some_chunk a) (some_chunk b) ∙ ap (λ q. q ++ concat (some_chunk b)) (some_joined a) ∙ ap (λ q. a ++ q) (some_joined b) ∙ sym (some_joined (a ++ b)))) in
     subst (λ q. IsBefore (bytes_of (reach ss a Open)) q) same.bytes
-      (bytes_before (reach ss a Open) (all_through (machines ss) two) (all_before (machines ss) (as_one a Open) two (some_chunk b, refl)))
+    (bytes_before (reach ss a Open) (all_through (machines ss) two) (all_before (machines ss) (as_one a Open) two (some_chunk b, refl)))

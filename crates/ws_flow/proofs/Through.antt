@@ -1,5 +1,5 @@
 use Rattle.std.proofs.Common.{◌≡◌, ℕ, List, [], ◌∷◌, ◌++◌, refl, sym, ap, ◌∙◌, subst}
-use Rattle.ws_flow.specs.Machines.{Kept, Machine, end_mark, piece, more, through, keeps, or_else, verdict, all_through, ending}
+use Rattle.ws_flow.specs.Machines.{Kept, Machine, end_mark, piece, more, through, keeps, or_else, verdict, all_through}
 use Rattle.ws_flow.specs.Told.{Mark, Open, Closed, Lost, Told, told, goes_on, then_told, IsFront, CutShort, IsShortOf, Begins, IsBefore}
 use Rattle.ws_flow.proofs.Told.{then_assoc, short_refl, short_left, before_of_short, before_refl, before_trans, before_then}
 use Rattle.ws_flow.specs.declared.plan.Ending.TheVariants.{Fine, Bad}
@@ -27,7 +27,6 @@ verdict_then m k (c ∷ cs) ds e = ap (λ q. or_else (m.push k c).ending q) (ver
 
 pub verdict_append : (m : Machine) (k : Kept) (cs ds : List (List ℕ)) (e : Mark) → verdict m k cs Open ≡ Fine → verdict m k (cs ++ ds) e ≡ verdict m (keeps m k cs) ds e
 verdict_append m k cs ds e f = verdict_then m k cs ds e ∙ ap (λ q. or_else q (verdict m (keeps m k cs) ds e)) f
-
 
 pub after_end : (m : Machine) (k : Kept) (cs : List (List ℕ)) (y : Told (List ℕ)) → then_told (more m k cs Lost) y ≡ more m k cs Lost
 after_end m k [] y = refl

@@ -1,7 +1,7 @@
 -- What holds of each byte's step holds of all the bytes; and the steps of `lines`, `fixed`, `unframe` and `unhex`.
 use Rattle.std.proofs.Common.{◌≡◌, ◌≢◌, ℕ, ◌+◌, ◌<◌, ◌≤◌, Bool, true, false, List, [], ◌∷◌, ◌++◌, refl, sym, ap, ◌∙◌, subst, append_assoc, append-nil, length-append, arith, length, nat_eq, nat_lt}
 use Rattle.std.specs.Prelude.{if◌then◌else◌}
-use Rattle.ws_flow.specs.Machines.{Kept, Pushed, ending}
+use Rattle.ws_flow.specs.Machines.{Kept, Pushed}
 use Rattle.ws_flow.specs.Outputs.{SaysBy, Says, IsLine, LinesDone, LineWrong, BlocksDone, NeverWrong}
 use Rattle.ws_flow.specs.Stages.{pushed, nothing_kept, added, each_byte, with_rest, line_byte, block_byte}
 use Rattle.ws_flow.proofs.Cutting.{joined_append}
@@ -38,11 +38,19 @@ says_added : (Done : List ℕ → List (List ℕ) → List ℕ → Type 0) (Wron
 says_added Done Wrong before cs k b bs j ds Fine r d n s h =
     let g = h s.0 (s.1 ∙ ap (λ q. q + 1) n ∙ sym (length-append before (b ∷ []))) in
     subst (λ q. SaysOn Done Wrong q cs (added ds Fine j r)) (append_assoc before (b ∷ []) bs)
-      (subst (λ q. SaysBy Done Wrong ((before ++ b ∷ []) ++ bs) q r.kept.rest r.ending) (append_assoc cs ds r.chunks) g.0, g.1)
-says_added Done Wrong before cs k b bs j ds (Bad c p) r d n s h =
-    ((before, b, bs, k.rest, refl,
-      subst (λ q. Done before q k.rest) (sym (append-nil cs) ∙ ap (λ q. cs ++ q) (sym s.0)) d,
-      subst (λ q. Wrong q k.rest b (length before) c p) (sym (append-nil cs) ∙ ap (λ q. cs ++ q) (sym s.0)) (subst (λ q. Wrong cs k.rest b q c p) n s.1)), tt)
+    (subst (λ q. SaysBy Done Wrong ((before ++ b ∷ []) ++ bs) q r.kept.rest r.ending) (append_assoc cs ds r.chunks) g.0, g.1)
+says_added Done Wrong before cs k b bs j ds (Bad c p) r d n s h = (
+  (
+    before,
+    b,
+    bs,
+    k.rest,
+    refl,
+    subst (λ q. Done before q k.rest) (sym (append-nil cs) ∙ ap (λ q. cs ++ q) (sym s.0)) d,
+    subst (λ q. Wrong q k.rest b (length before) c p) (sym (append-nil cs) ∙ ap (λ q. cs ++ q) (sym s.0)) (subst (λ q. Wrong cs k.rest b q c p) n s.1),
+  ),
+  tt,
+)
 
 each_says_on : (P : ℕ → Type 0) (Done : List ℕ → List (List ℕ) → List ℕ → Type 0) (Wrong : List (List ℕ) → List ℕ → ℕ → ℕ → ℕ → ℕ → Type 0) (f : Kept → ℕ → Pushed) → Stepwise P Done Wrong f →
     (before : List ℕ) (cs : List (List ℕ)) (k : Kept) (bs : List ℕ) → EachIs P bs → Done before cs k.rest → k.bytes ≡ length before → SaysOn Done Wrong (before ++ bs) cs (each_byte f k bs)
@@ -51,7 +59,7 @@ each_says_on P Done Wrong f w before cs k [] h d n =
 each_says_on P Done Wrong f w before cs k (b ∷ bs) (x, h) d n =
     let p = f k b in
     says_added Done Wrong before cs k b bs p.kept p.chunks p.ending (each_byte f p.kept bs) d n (w.step before cs k b x d n)
-      (λ e m. each_says_on P Done Wrong f w (before ++ b ∷ []) (cs ++ p.chunks) p.kept bs h e m)
+    (λ e m. each_says_on P Done Wrong f w (before ++ b ∷ []) (cs ++ p.chunks) p.kept bs h e m)
 
 -- of all the bytes of a stage's input
 pub each_says : (P : ℕ → Type 0) (Done : List ℕ → List (List ℕ) → List ℕ → Type 0) (Wrong : List (List ℕ) → List ℕ → ℕ → ℕ → ℕ → ℕ → Type 0) (f : Kept → ℕ → Pushed) → Stepwise P Done Wrong f →
@@ -72,27 +80,35 @@ whole_kept_here cs rest before b h =
 line_step : (most : ℕ) (before : List ℕ) (cs : List (List ℕ)) (k : Kept) (b : ℕ) (x y : Bool) → nat_eq b 10 ≡ x → nat_lt (length k.rest) most ≡ y → LinesDone most before cs k.rest →
     let p = (if x then pushed (with_rest k []) ((k.rest ++ b ∷ []) ∷ []) Fine else if y then pushed (with_rest k (k.rest ++ b ∷ [])) [] Fine else pushed k [] (Bad 1 k.bytes)) in
     StepSays (LinesDone most) (LineWrong most) before cs k b p.kept p.chunks p.ending
-line_step most before cs k b true y e f d =
-    (record {
-      whole = whole_cut_here cs k.rest before b d.whole;
-      lines = All-push (IsLine most) cs (k.rest ++ b ∷ []) d.lines (k.rest, ap (λ q. k.rest ++ q ∷ []) (is_feed b e), d.begun, d.short);
-      begun = All-nil (λ c. c ≢ 10);
-      short = omega arith }, refl) where
+line_step most before cs k b true y e f d = (
+  record {
+    whole = whole_cut_here cs k.rest before b d.whole;
+    lines = All-push (IsLine most) cs (k.rest ++ b ∷ []) d.lines (k.rest, ap (λ q. k.rest ++ q ∷ []) (is_feed b e), d.begun, d.short);
+    begun = All-nil (λ c. c ≢ 10);
+    short = omega arith;
+  },
+  refl,
+) where
   is_feed : (b : ℕ) → nat_eq b 10 ≡ true → b ≡ 10
   is_feed b e = grind arith
-line_step most before cs k b false true e f d =
-    (record {
-      whole = whole_kept_here cs k.rest before b d.whole;
-      lines = subst (λ q. All (IsLine most) q) (sym (append-nil cs)) d.lines;
-      begun = All-push (λ c. c ≢ 10) k.rest b d.begun (no_feed b e);
-      short = room (length k.rest) most (length (k.rest ++ b ∷ [])) f (length-append k.rest (b ∷ [])) }, refl) where
+line_step most before cs k b false true e f d = (
+  record {
+    whole = whole_kept_here cs k.rest before b d.whole;
+    lines = subst (λ q. All (IsLine most) q) (sym (append-nil cs)) d.lines;
+    begun = All-push (λ c. c ≢ 10) k.rest b d.begun (no_feed b e);
+    short = room (length k.rest) most (length (k.rest ++ b ∷ [])) f (length-append k.rest (b ∷ []));
+  },
+  refl,
+) where
   no_feed : (b : ℕ) → nat_eq b 10 ≡ false → b ≢ 10
   no_feed b e = grind arith
+
   room : (n most m : ℕ) → nat_lt n most ≡ true → m ≡ n + 1 → m ≤ most
   room n most m f e = grind arith
 line_step most before cs k b false false e f d = (refl, record { full = filled (length k.rest) most f d.short; no_feed = no_feed b e; code = refl; at = refl }) where
   no_feed : (b : ℕ) → nat_eq b 10 ≡ false → b ≢ 10
   no_feed b e = grind arith
+
   filled : (n most : ℕ) → nat_lt n most ≡ false → n ≤ most → n ≡ most
   filled n most f s = grind arith
 
@@ -103,20 +119,27 @@ lines_stepwise most = record { step = λ before cs k b x d n. line_step most bef
 block_step : (n : ℕ) (before : List ℕ) (cs : List (List ℕ)) (k : Kept) (b : ℕ) (x : Bool) → nat_eq (length k.rest + 1) n ≡ x → BlocksDone n before cs k.rest →
     let p = (if x then pushed (with_rest k []) ((k.rest ++ b ∷ []) ∷ []) Fine else pushed (with_rest k (k.rest ++ b ∷ [])) [] Fine) in
     StepSays (BlocksDone n) NeverWrong before cs k b p.kept p.chunks p.ending
-block_step n before cs k b true e d =
-    (record {
-      whole = whole_cut_here cs k.rest before b d.whole;
-      blocks = All-push (λ c. length c ≡ n) cs (k.rest ++ b ∷ []) d.blocks (full (length k.rest) n (length (k.rest ++ b ∷ [])) e (length-append k.rest (b ∷ [])));
-      short = some (length k.rest) n d.short }, refl) where
+block_step n before cs k b true e d = (
+  record {
+    whole = whole_cut_here cs k.rest before b d.whole;
+    blocks = All-push (λ c. length c ≡ n) cs (k.rest ++ b ∷ []) d.blocks (full (length k.rest) n (length (k.rest ++ b ∷ [])) e (length-append k.rest (b ∷ [])));
+    short = some (length k.rest) n d.short;
+  },
+  refl,
+) where
   full : (m n l : ℕ) → nat_eq (m + 1) n ≡ true → l ≡ m + 1 → l ≡ n
   full m n l e f = grind arith
+
   some : (m n : ℕ) → m < n → 0 < n
   some m n h = omega arith
-block_step n before cs k b false e d =
-    (record {
-      whole = whole_kept_here cs k.rest before b d.whole;
-      blocks = subst (λ q. All (λ c. length c ≡ n) q) (sym (append-nil cs)) d.blocks;
-      short = room (length k.rest) n (length (k.rest ++ b ∷ [])) e d.short (length-append k.rest (b ∷ [])) }, refl) where
+block_step n before cs k b false e d = (
+  record {
+    whole = whole_kept_here cs k.rest before b d.whole;
+    blocks = subst (λ q. All (λ c. length c ≡ n) q) (sym (append-nil cs)) d.blocks;
+    short = room (length k.rest) n (length (k.rest ++ b ∷ [])) e d.short (length-append k.rest (b ∷ []));
+  },
+  refl,
+) where
   room : (m n l : ℕ) → nat_eq (m + 1) n ≡ false → m < n → l ≡ m + 1 → l < n
   room m n l e h f = grind arith
 

@@ -1,8 +1,7 @@
 -- What holds of every stage, every node and every run.
-use Rattle.std.specs.Prelude.{◌≡◌, ◌≢◌, ℕ, ℤ, ◌<◌, ◌≤◌, Bool, true, false, List, [], ◌∷◌, ◌++◌, length, map, nat_abs}
+use Rattle.std.specs.Prelude.{◌≡◌, ◌≢◌, ℕ, ℤ, ◌<◌, ◌≤◌, true, false, List, [], ◌∷◌, ◌++◌, length, nat_abs}
 use Rattle.std.specs.List.{concat, All}
 use Rattle.ws_value.specs.declared.value.Message.{Message}
-use Rattle.ws_flow.specs.declared.plan.Ending.{Ending}
 use Rattle.ws_flow.specs.declared.plan.Ending.TheVariants.{Fine, Bad}
 use Rattle.ws_flow.specs.declared.plan.Stage.{Stage}
 use Rattle.ws_flow.specs.declared.plan.Stage.TheVariants.{Hex, Unhex, Mask, Frame, Unframe}

@@ -1,5 +1,5 @@
 -- What each stage puts out, said of whole lists and without its machine.
-use Rattle.std.specs.Prelude.{◌≡◌, ◌≢◌, ℕ, ◌+◌, ◌*◌, ◌/◌, ◌%◌, ◌<◌, ◌≤◌, ◌==◌, ◌||◌, ◌⊎◌, List, [], ◌∷◌, ◌++◌, Option, Some, None, length, map, get_or, bit_xor, decimal, if◌then◌else◌}
+use Rattle.std.specs.Prelude.{◌≡◌, ◌≢◌, ℕ, ◌+◌, ◌/◌, ◌%◌, ◌<◌, ◌≤◌, ◌⊎◌, List, [], ◌∷◌, ◌++◌, Option, Some, None, length, map, get_or, bit_xor, decimal}
 use Rattle.std.specs.List.{concat, All}
 use Rattle.hex.specs.Hex.{hex_digit_value}
 use Rattle.ws_flow.specs.declared.plan.Ending.{Ending}

@@ -1,9 +1,9 @@
 -- The stages of a node, and what lies between them.
 use Rattle.std.specs.Prelude.{◌≡◌, ℕ, zero, suc, List, [], ◌∷◌}
 use Rattle.ws_flow.specs.declared.plan.Ending.{Ending}
-use Rattle.ws_flow.specs.declared.plan.Ending.TheVariants.{Fine, Bad}
-use Rattle.ws_flow.specs.Told.{Mark, Open, Closed, Lost, Told, told, then_told, IsShortOf, IsBefore}
-use Rattle.ws_flow.specs.Machines.{Machine, Kept, through, keeps, verdict, all_through}
+use Rattle.ws_flow.specs.declared.plan.Ending.TheVariants.{Fine}
+use Rattle.ws_flow.specs.Told.{Mark, Open, Closed, Lost, Told, told, then_told, IsShortOf}
+use Rattle.ws_flow.specs.Machines.{Machine, Kept, through, keeps, verdict}
 
 -- a stage at work: it may be asked, or it ended and isn't asked again
 pub data Work : Type 0 where

@@ -1,5 +1,5 @@
 -- What each stage does: byte by byte where the cutting of its input into chunks doesn't show, else chunk by chunk.
-use Rattle.std.specs.Prelude.{ℕ, ◌+◌, ◌-◌, ◌*◌, ◌/◌, ◌%◌, ◌==◌, ◌||◌, Bool, List, [], ◌∷◌, ◌++◌, Option, Some, None, length, get_or, bit_xor, decimal, if◌then◌else◌, nat_lt, nat_abs}
+use Rattle.std.specs.Prelude.{ℕ, ◌+◌, ◌-◌, ◌*◌, ◌/◌, ◌%◌, ◌==◌, ◌||◌, List, [], ◌∷◌, ◌++◌, Option, Some, None, length, get_or, bit_xor, decimal, if◌then◌else◌, nat_lt, nat_abs}
 use Rattle.std.specs.List.{concat}
 use Rattle.hex.specs.Hex.{encode_lower, hex_digit_value}
 use Rattle.ws_flow.specs.declared.plan.Ending.{Ending}

@@ -7,4 +7,5 @@ pub returns : goal.returns
 returns c = record {
   node = λ ms x ps out f. (flows_before ms x ps out f, flows_whole ms x ps out f, λ y qs new g. goes_then ms x y (fresh ms) nothing_told ps out qs new f g);
   turn = turn_keeps;
-  place = place_keeps }
+  place = place_keeps;
+}

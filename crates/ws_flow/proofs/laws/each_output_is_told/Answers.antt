@@ -11,4 +11,5 @@ returns c = record {
   hex = hex_gives;
   mask = mask_gives;
   number = number_gives;
-  frame = frame_gives }
+  frame = frame_gives;
+}

@@ -9,4 +9,5 @@ returns c = record {
   goes_on = through_then;
   first_part = λ ms x y. (all_before ms x y, all_short ms x y);
   ending = λ ms j x y b n. ending_stays ms j x y (ending ms j x) b refl n;
-  close = closed_all }
+  close = closed_all;
+}
