@@ -1,6 +1,6 @@
 use Rattle.std.proofs.Common.{◌≡◌, ◌≢◌, ℕ, zero, suc, List, [], ◌∷◌, refl, sym, ap, ◌∙◌, arith}
 use Rattle.ws_flow.specs.Machines.{Kept, Machine, mark_of, end_mark, more, through, keeps, or_else, verdict, all_through, ending}
-use Rattle.ws_flow.specs.Parts.{Work, Part, nothing_told, fresh, LiveAsked, Goes, Flows, said, found}
+use Rattle.ws_flow.specs.Parts.{AtWork, Part, nothing_told, fresh, LiveAsked, Goes, Flows, said, found}
 use Rattle.ws_flow.specs.Told.{Mark, Open, Closed, Lost, Told, told, goes_on, then_told, IsFront, Begins, IsBefore}
 use Rattle.ws_flow.proofs.Through.{verdict_then, through_before}
 use Rattle.ws_flow.proofs.Told.{before_of_short, before_refl, before_trans, before_then}
@@ -32,8 +32,8 @@ ending_stays [] j x y e h f n = f
 ending_stays (m ∷ ms) zero x y e h f n = verdict_stays m m.start x y e h f n
 ending_stays (m ∷ ms) (suc j) x y e h f n = ending_stays ms j (through m m.start x) (through m m.start y) e (through_before m m.start x y h) f n
 
--- what a Work found is what its stage finds in what it was asked for
-work_said : (m : Machine) (xs : List (List ℕ)) (n : Mark) (w : Work) (e : Ending) → LiveAsked m m.start xs n w → said w ≡ e → e ≢ Fine → verdict m m.start xs n ≡ e
+-- what a AtWork found is what its stage finds in what it was asked for
+work_said : (m : Machine) (xs : List (List ℕ)) (n : Mark) (w : AtWork) (e : Ending) → LiveAsked m m.start xs n w → said w ≡ e → e ≢ Fine → verdict m m.start xs n ≡ e
 work_said m xs Open w e (a, b) f l = grind arith
 work_said m xs Closed w e a f l = sym (ap said a) ∙ f
 work_said m xs Lost w e a f l = sym (ap said a) ∙ f
@@ -48,7 +48,7 @@ found_by (m ∷ ms) y x (q ∷ qs) out (suc j) e (t, a, h, g) b f n =
     found_by ms (through m m.start t) (through m m.start x) qs out j e g
     (through_before m m.start t x (before_trans t y x (before_trans t (then_told t q.before) y (before_then t q.before) (before_of_short (then_told t q.before) y h)) b)) f n
 
--- what a Work of a node found is the ending of its stage over what the node received
+-- what a AtWork of a node found is the ending of its stage over what the node received
 pub flows_found : (ms : List Machine) (x : Told (List ℕ)) (ps : List Part) (out : Told (List ℕ)) (j : ℕ) (e : Ending) → Flows ms x ps out → found ps j ≡ e → e ≢ Fine → ending ms j x ≡ e
 flows_found ms x ps out j e h = found_by ms x x ps out j e h (before_refl x)
 

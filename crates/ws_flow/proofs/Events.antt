@@ -1,21 +1,21 @@
 -- Each event of a node lets the parts go on.
 use Rattle.std.proofs.Common.{◌≡◌, ◌≢◌, ℕ, List, [], ◌∷◌, refl, sym, ap, subst, arith}
 use Rattle.ws_flow.specs.Machines.{Kept, Machine, mark_of, end_mark, piece, or_else}
-use Rattle.ws_flow.specs.Parts.{Work, Live, Over, Part, nothing_told, Asked, made, Goes}
+use Rattle.ws_flow.specs.Parts.{AtWork, Live, Over, Part, nothing_told, Asked, made, Goes}
 use Rattle.ws_flow.specs.Told.{Open, Closed, Lost, Told, told, goes_on, then_told, IsShortOf}
 use Rattle.ws_flow.proofs.Told.{then_empty, short_as}
 use Rattle.ws_flow.specs.declared.plan.Ending.TheVariants.{Fine, Bad}
 use Rattle.ws_flow.specs.declared.plan.Ending.{Ending}
 
-pub not_asked : (m : Machine) (w : Work) → Asked m w nothing_told w
+pub not_asked : (m : Machine) (w : AtWork) → Asked m w nothing_told w
 not_asked m (Live k) = (refl, refl)
 not_asked m (Over e) = (refl, refl)
 
-nothing_made : (m : Machine) (w : Work) → made m w nothing_told ≡ nothing_told
+nothing_made : (m : Machine) (w : AtWork) → made m w nothing_told ≡ nothing_told
 nothing_made m (Live k) = refl
 nothing_made m (Over e) = refl
 
--- the same stages, each with its Work, and what lies before each is no more than what lay there
+-- the same stages, each with its AtWork, and what lies before each is no more than what lay there
 abbrev pub Rests : List Machine → List Part → List Part → Type 0
 Rests [] [] [] = Unit {0}
 Rests (m ∷ ms) (p ∷ ps) (q ∷ qs) = (q.work ≡ p.work) × (IsShortOf q.before p.before) × (Rests ms ps qs)
@@ -41,7 +41,7 @@ pushed_fine m k c e = (refl, ap (λ q. or_else q Fine) e)
 pub pushed_makes : (m : Machine) (k : Kept) (c : List ℕ) → made m (Live k) (told (c ∷ []) Open) ≡ piece (m.push k c)
 pushed_makes m k c = then_empty (piece (m.push k c))
 
--- one that didn't: nothing is asked of that Work again
+-- one that didn't: nothing is asked of that AtWork again
 pub pushed_over : (m : Machine) (k : Kept) (c : List ℕ) → (m.push k c).ending ≢ Fine → Asked m (Live k) (told (c ∷ []) Lost) (Over (m.push k c).ending)
 pushed_over m k c n = ap Over (not_fine (m.push k c).ending n) where
   not_fine : (e : Ending) → e ≢ Fine → e ≡ or_else e Fine

@@ -63,7 +63,7 @@ linked_found x y (n ∷ ns) got e b (h, f, l) w j g =
     (linked_found n.sent (all_through n.machines y) ns got e (sent_before n y (before_trans n.received x y h b) f) l w)
     j g
 
--- the status: a Bad that a Work of any node found is the ending of its stage over what was taken
+-- the status: a Bad that a AtWork of any node found is the ending of its stage over what was taken
 pub status_stage : (x : Told (List ℕ)) (ns : List Node) (got : Told (List ℕ)) (j c p : ℕ) → Linked x ns got → found (parts_of ns) j ≡ Bad c p → ending (plan_of ns) j x ≡ Bad c p
 status_stage x ns got j c p l f = linked_found x x ns got (Bad c p) (before_refl x) l (λ e. grind arith) j f
 

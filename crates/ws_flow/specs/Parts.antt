@@ -6,13 +6,13 @@ use Rattle.ws_flow.specs.Told.{Mark, Open, Closed, Lost, Told, told, then_told, 
 use Rattle.ws_flow.specs.Machines.{Machine, Kept, through, keeps, verdict}
 
 -- a stage at work: it may be asked, or it ended and isn't asked again
-pub data Work : Type 0 where
-  Live : Kept → Work
-  Over : Ending → Work
+pub data AtWork : Type 0 where
+  Live : Kept → AtWork
+  Over : Ending → AtWork
 
 -- of a stage: its work, and what lies before it, oldest first
 pub record Part : Type 0 where
-  pub work : Work
+  pub work : AtWork
   pub before : Told (List ℕ)
 
 abbrev pub nothing_told : Told (List ℕ)
@@ -23,17 +23,17 @@ fresh [] = []
 fresh (m ∷ ms) = record { work = Live m.start; before = nothing_told } ∷ fresh ms
 
 -- a work that was asked for these: it goes on only where each push ended fine, and not after the flush
-abbrev pub LiveAsked : Machine → Kept → List (List ℕ) → Mark → Work → Type 0
+abbrev pub LiveAsked : Machine → Kept → List (List ℕ) → Mark → AtWork → Type 0
 LiveAsked m k xs Open w = (w ≡ Live (keeps m k xs)) × (verdict m k xs Open ≡ Fine)
 LiveAsked m k xs Closed w = w ≡ Over (verdict m k xs Closed)
 LiveAsked m k xs Lost w = w ≡ Over (verdict m k xs Lost)
 
 -- an ended one isn't asked
-abbrev pub Asked : Machine → Work → Told (List ℕ) → Work → Type 0
+abbrev pub Asked : Machine → AtWork → Told (List ℕ) → AtWork → Type 0
 Asked m (Live k) t w = LiveAsked m k t.items t.mark w
 Asked m (Over e) t w = (t ≡ nothing_told) × (w ≡ Over e)
 
-abbrev pub made : Machine → Work → Told (List ℕ) → Told (List ℕ)
+abbrev pub made : Machine → AtWork → Told (List ℕ) → Told (List ℕ)
 made m (Live k) t = through m k t
 made m (Over e) t = nothing_told
 
@@ -62,7 +62,7 @@ still _ _ y = y
 abbrev pub residual : List Machine → List Part → Told (List ℕ)
 residual ms ps = still ms ps nothing_told
 
-abbrev pub said : Work → Ending
+abbrev pub said : AtWork → Ending
 said (Live k) = Fine
 said (Over e) = e
 

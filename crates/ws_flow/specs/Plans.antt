@@ -1,6 +1,6 @@
 -- What a plan puts out, how its stages end, and which plans are refused.
 use Rattle.std.specs.Prelude.{ℕ, zero, suc, ℤ, pos, ◌+◌, ◌&&◌, ◌||◌, ◌==◌, not, Bool, true, false, List, [], ◌∷◌, Option, Some, None, length, map, if◌then◌else◌, nat_lt, nat_le, int_le, nat_abs}
-use Rattle.std.specs.List.{concat}
+use Rattle.std.specs.List.{concat, count_by, list_all, list_any}
 use Rattle.ws_flow.specs.declared.plan.Stage.{Stage}
 use Rattle.ws_flow.specs.declared.plan.Stage.TheVariants.{Lines, Fixed, Hex, Unhex, Mask, Number, Frame, Unframe}
 use Rattle.ws_flow.specs.declared.plan.Placed.{Placed}
@@ -52,25 +52,17 @@ abbrev pub is_placed_within : ℤ → Placed → Bool
 is_placed_within workers p =
     is_in_range p.stage && (if int_le workers (pos 0) then is_within 0 0 p.worker else int_le (pos 1) p.worker && int_le p.worker workers)
 
-abbrev pub each_is_within : ℤ → List Placed → Bool
-each_is_within workers [] = true
-each_is_within workers (p ∷ ps) = is_placed_within workers p && each_is_within workers ps
-
 abbrev pub is_abort_within : Option ℤ → Bool
 is_abort_within None = true
 is_abort_within (Some n) = is_within 1 1099511627776 n
 
 abbrev pub are_numbers_within : Plan → Bool
 are_numbers_within plan =
-    int_le (pos 0) plan.workers && (is_abort_within plan.abort_after && (is_within 0 1099511627776 plan.max_input && each_is_within plan.workers plan.stages.items))
+    int_le (pos 0) plan.workers && (is_abort_within plan.abort_after && (is_within 0 1099511627776 plan.max_input && list_all (is_placed_within plan.workers) plan.stages.items))
 
 abbrev pub is_hex : Stage → Bool
 is_hex Hex = true
 is_hex _ = false
-
-abbrev pub number_of_hex : List Stage → ℕ
-number_of_hex [] = 0
-number_of_hex (s ∷ ss) = (if is_hex s then 1 else 0) + number_of_hex ss
 
 -- whether no stage's worker is less than that of the one before
 abbrev pub are_in_order : ℤ → List Placed → Bool
@@ -78,8 +70,7 @@ are_in_order before [] = true
 are_in_order before (p ∷ ps) = int_le before p.worker && are_in_order p.worker ps
 
 abbrev pub has_stage : ℕ → List Placed → Bool
-has_stage worker [] = false
-has_stage worker (p ∷ ps) = (nat_abs p.worker == worker) || has_stage worker ps
+has_stage worker ps = list_any (λ p. nat_abs p.worker == worker) ps
 
 -- whether each worker from 1 to this one has a stage
 abbrev pub each_has_stage : ℕ → List Placed → Bool
@@ -93,7 +84,7 @@ abbrev pub refusal : Plan → Option ℕ
 refusal plan =
     if nat_lt 16 (length plan.stages.items) then Some 1
     else if not (are_numbers_within plan) then Some 2
-    else if nat_lt 4 (number_of_hex (stages_of plan)) then Some 7
+    else if nat_lt 4 (count_by is_hex (stages_of plan)) then Some 7
     else if not (sees_known_chunks false (stages_of plan)) then Some 3
     else if not (int_le plan.workers (pos 8)) then Some 4
     else if not (are_in_order (pos 0) plan.stages.items) then Some 6
