@@ -84,7 +84,7 @@ abbrev pub refusal : Plan → Option ℕ
 refusal plan =
     if nat_lt 16 (length plan.stages.items) then Some 1
     else if not (are_numbers_within plan) then Some 2
-    else if nat_lt 4 (count_by is_hex (stages_of plan)) then Some 7
+    else if nat_lt 4 (count_by (λ p. is_hex p.stage) plan.stages.items) then Some 7
     else if not (sees_known_chunks false (stages_of plan)) then Some 3
     else if not (int_le plan.workers (pos 8)) then Some 4
     else if not (are_in_order (pos 0) plan.stages.items) then Some 6

@@ -1,0 +1,135 @@
+//! Stages that cut their input into chunks wherever it was cut before: `lines`, `fixed` and `unframe`, byte by byte.
+ghost use Rattle.std.specs.Prelude.{◌≡◌, ◌∷◌, ◌++◌, [], ◌+◌, ◌<◌, ◌≤◌, ◌^◌, OnOk, length, drop};
+ghost use Rattle.ws_flow.specs.declared.plan.Ending.TheVariants.{Fine};
+ghost use Rattle.ws_flow.specs.Stages.{each_byte};
+ghost use Rattle.ws_stages.specs.Cuts.{kept_of, seen, with_chunks};
+
+use std::alloc::Global;
+use std::mem;
+use ws_flow::Ending;
+use ws_value::{Chunk, NoMemory};
+
+/// What a stage has cut of its input's bytes so far: the chunks, and the bytes that no chunk has yet.
+#[derive(Drop)]
+pub struct Cut {
+    pub alloc: Global,
+    pub rest: Vec<u8>,
+    /// The bytes of the stage's input so far, of a stage that sees bytes.
+    pub bytes: u128,
+    /// The chunks of the stage's input so far, of a stage that sees chunks.
+    pub count: u64,
+    pub chunks: Vec<Chunk>,
+    pub ending: Ending,
+}
+
+impl Cut {
+    /// The bytes that are left over, but for the first `n`, become a chunk, without a copy.
+    pub fn close_from(&mut self, n: usize) -> Result<(), NoMemory>
+        requires { n ≤ length self.old.rest.items }
+        ensures rest { OnOk result (self.new.rest.items ≡ []) }
+        ensures chunks { OnOk result (self.new.chunks.items ≡ self.old.chunks.items ++ drop n self.old.rest.items ∷ []) }
+        ensures bytes { self.new.bytes ≡ self.old.bytes }
+        ensures count { self.new.count ≡ self.old.count }
+        ensures ending { self.new.ending ≡ self.old.ending }
+    {
+        let bytes = mem::replace(&mut self.rest, Vec::new(self.alloc));
+        let mut chunk = Chunk::from_vec(bytes);
+        chunk.advance(n);
+        self.chunks.push(chunk)?;
+        Ok(())
+    }
+}
+
+/// What a stage does with each byte.
+pub trait ByteStep {
+    ghost use Rattle.std.specs.Prelude.{ℕ};
+    ghost use Rattle.ws_flow.specs.Machines.{Kept, Pushed};
+
+    ghost step: { Self → Kept → ℕ → Pushed };
+
+    fn step(&self, cut: &mut Cut, byte: u8) -> Result<(), NoMemory>
+        requires room { cut.old.bytes + 1 < 2 ^ 128 }
+        requires fine { cut.old.ending ≡ Fine }
+        ensures seen { OnOk result (seen cut.new ≡ with_chunks cut.old.chunks.items (step self.now (kept_of cut.old) byte)) }
+        ensures bytes { OnOk result (cut.new.bytes ≤ cut.old.bytes + 1) };
+}
+
+/// `lines`: the most bytes of a line, without its feed.
+pub struct Lines(pub usize);
+
+/// `fixed`: the bytes of a block.
+pub struct Blocks(pub usize);
+
+/// `unframe`: the most bytes of a frame.
+pub struct Frames(pub usize);
+
+impl ByteStep for Lines {
+    ghost use Rattle.ws_flow.specs.Stages.{line_byte};
+
+    ghost step = { λ s. line_byte s.0 };
+
+    fn step(&self, cut: &mut Cut, byte: u8) -> Result<(), NoMemory> {
+        if byte != b'\n' && cut.rest.len() >= self.0 {
+            cut.ending = Ending::Bad { code: 1, place: cut.bytes };
+            return Ok(());
+        }
+        cut.rest.push(byte)?;
+        cut.bytes += 1;
+        if byte == b'\n' {
+            cut.close_from(0)?;
+        }
+        Ok(())
+    }
+}
+
+impl ByteStep for Blocks {
+    ghost use Rattle.ws_flow.specs.Stages.{block_byte};
+
+    ghost step = { λ s. block_byte s.0 };
+
+    fn step(&self, cut: &mut Cut, byte: u8) -> Result<(), NoMemory> {
+        cut.rest.push(byte)?;
+        cut.bytes += 1;
+        if cut.rest.len() == self.0 {
+            cut.close_from(0)?;
+        }
+        Ok(())
+    }
+}
+
+impl ByteStep for Frames {
+    ghost use Rattle.ws_flow.specs.Stages.{unframe_byte};
+
+    ghost step = { λ s. unframe_byte s.0 };
+
+    fn step(&self, cut: &mut Cut, byte: u8) -> Result<(), NoMemory> {
+        cut.rest.push(byte)?;
+        cut.bytes += 1;
+        let [a, b, c, d, body @ ..] = cut.rest.as_slice() else {
+            return Ok(());
+        };
+        let length = u32::from_be_bytes([*a, *b, *c, *d]) as usize;
+        if length > self.0 {
+            cut.ending = Ending::Bad { code: 4, place: cut.bytes.saturating_sub(4) };
+        } else if body.len() == length {
+            cut.close_from(4)?;
+        }
+        Ok(())
+    }
+}
+
+/// Cuts these bytes too, until one is bad.
+pub fn cut_bytes<S: ByteStep>(stage: &S, cut: &mut Cut, bytes: &[u8]) -> Result<(), NoMemory>
+    requires room { cut.old.bytes + length bytes.now < 2 ^ 128 }
+    requires fine { cut.old.ending ≡ Fine }
+    ensures seen { OnOk result (seen cut.new ≡ with_chunks cut.old.chunks.items (each_byte (S.step stage.now) (kept_of cut.old) bytes.now)) }
+    ensures bytes { OnOk result (cut.new.bytes ≤ cut.old.bytes + length bytes.now) }
+{
+    for byte in bytes {
+        stage.step(cut, *byte)?;
+        if let Ending::Bad { .. } = cut.ending {
+            return Ok(());
+        }
+    }
+    Ok(())
+}

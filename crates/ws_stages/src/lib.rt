@@ -1,0 +1,13 @@
+//! The stages of a pipeline at work, and the check of a plan. What each stage puts out is defined in `ws_flow`.
+#![tactic(auto)]
+
+
+
+mod cut;
+mod text;
+
+
+
+
+
+pub use ws_flow::{Ending, Placed, Plan, Stage};

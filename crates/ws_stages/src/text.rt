@@ -1,0 +1,123 @@
+//! What stages make of bytes: each one masked, their hexadecimal text, the bytes of such a text, and chunks with a number or a length before them.
+ghost use Rattle.std.specs.Prelude.{◌≡◌, ◌∷◌, ◌++◌, ◌+◌, ◌<◌, ◌≤◌, ◌^◌, IfOk, OnOk, [], decimal, length};
+ghost use Rattle.hex.specs.Hex.{encode_lower, hex_digit_value};
+ghost use Rattle.ws_flow.specs.declared.plan.Ending.TheVariants.{Fine};
+ghost use Rattle.ws_flow.specs.Stages.{each_byte, framed, unhex_byte};
+ghost use Rattle.ws_flow.specs.Outputs.{masked};
+ghost use Rattle.ws_stages.specs.Cuts.{IsHalf, kept_of, seen_text, with_text};
+
+use crate::cut::Cut;
+use itoa::Buffer;
+use std::alloc::Global;
+use ws_flow::Ending;
+use ws_value::{Chunk, NoMemory};
+
+/// These bytes, each xor the key's byte at its place, the key repeated.
+pub fn masked(alloc: Global, key: &[u8], place: u128, bytes: &[u8]) -> Result<Chunk, NoMemory>
+    requires { 0 < length key.now }
+    ensures { IfOk result (λ chunk. chunk ≡ masked key.now place bytes.now) }
+{
+    let mut text = Vec::with_capacity(alloc, bytes.len())?;
+    let mut at = (place % key.len() as u128) as usize;
+    for byte in bytes {
+        text.push(*byte ^ key[at])?;
+        at += 1;
+        if at == key.len() {
+            at = 0;
+        }
+    }
+    Ok(Chunk::from_vec(text))
+}
+
+/// The text of these bytes, in lower case.
+pub fn in_hex(alloc: Global, bytes: &[u8]) -> Result<Chunk, NoMemory>
+    ensures { IfOk result (λ chunk. chunk ≡ encode_lower bytes.now) }
+{
+    let text = hex::encode(alloc, bytes)?;
+    Ok(Chunk::from_vec(text.into_bytes()))
+}
+
+/// The value of a digit in either case.
+fn digit_value(byte: u8) -> Option<u8>
+    ensures { result ≡ hex_digit_value byte }
+{
+    match byte {
+        b'0'..=b'9' => Some(byte - b'0'),
+        b'a'..=b'f' => Some(byte - b'a' + 10),
+        b'A'..=b'F' => Some(byte - b'A' + 10),
+        _ => None,
+    }
+}
+
+/// Reads one byte of the text.
+fn read_digit(cut: &mut Cut, text: &mut Vec<u8>, byte: u8) -> Result<(), NoMemory>
+    requires room { cut.old.bytes + 1 < 2 ^ 128 }
+    requires fine { cut.old.ending ≡ Fine }
+    requires half { IsHalf cut.old.rest.items }
+    ensures seen { OnOk result
+        (seen_text cut.new text.new.items ≡ with_text text.old.items (unhex_byte (kept_of cut.old) byte)) }
+    ensures bytes { OnOk result (cut.new.bytes ≤ cut.old.bytes + 1) }
+    ensures half { OnOk result (IsHalf cut.new.rest.items) }
+{
+    if byte == b'\n' || byte == b'\r' {
+        cut.bytes += 1;
+        return Ok(());
+    }
+    let Some(digit) = digit_value(byte) else {
+        cut.ending = Ending::Bad {
+            code: 2,
+            place: cut.bytes,
+        };
+        return Ok(());
+    };
+    cut.bytes += 1;
+    if cut.rest.is_empty() {
+        cut.rest.push(digit)?;
+        return Ok(());
+    }
+    let high = cut.rest[0];
+    cut.rest.clear();
+    text.push(16 * high + digit)?;
+    Ok(())
+}
+
+/// The bytes of the digits of this text, until a byte is bad. A digit that is left over waits in the cut for the next.
+pub fn from_hex(cut: &mut Cut, bytes: &[u8]) -> Result<Vec<u8>, NoMemory>
+    requires room { cut.old.bytes + length bytes.now < 2 ^ 128 }
+    requires fine { cut.old.ending ≡ Fine }
+    requires half { IsHalf cut.old.rest.items }
+    ensures seen { IfOk result (λ text.
+        seen_text cut.new text.items ≡ with_text [] (each_byte unhex_byte (kept_of cut.old) bytes.now)) }
+    ensures bytes { OnOk result (cut.new.bytes ≤ cut.old.bytes + length bytes.now) }
+    ensures half { OnOk result (IsHalf cut.new.rest.items) }
+{
+    let mut text = Vec::new(cut.alloc);
+    for byte in bytes {
+        read_digit(cut, &mut text, *byte)?;
+        if let Ending::Bad { .. } = cut.ending {
+            return Ok(text);
+        }
+    }
+    Ok(text)
+}
+
+/// These bytes with a number and a blank before them.
+pub fn numbered(alloc: Global, number: u64, bytes: &[u8]) -> Result<Chunk, NoMemory>
+    ensures { IfOk result (λ chunk. chunk ≡ decimal number ++ 32 ∷ bytes.now) }
+{
+    let mut text = Vec::from_slice(alloc, Buffer::new().format(number).as_bytes())?;
+    text.push(b' ')?;
+    text.extend_from_slice(bytes)?;
+    Ok(Chunk::from_vec(text))
+}
+
+/// These bytes with their number before them, in four bytes.
+pub fn framed(alloc: Global, bytes: &[u8]) -> Result<Chunk, NoMemory>
+    requires { length bytes.now < 2 ^ 32 }
+    ensures { IfOk result (λ chunk. chunk ≡ framed bytes.now) }
+{
+    let length = bytes.len() as u32;
+    let mut frame = Vec::from_slice(alloc, &length.to_be_bytes())?;
+    frame.extend_from_slice(bytes)?;
+    Ok(Chunk::from_vec(frame))
+}
