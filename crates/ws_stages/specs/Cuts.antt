@@ -1,6 +1,9 @@
 -- What a cut shows of a stage's machine.
-use Rattle.std.specs.Prelude.{List, [], ◌∷◌, ℕ, ◌++◌, ◌<◌}
+use Rattle.std.specs.Prelude.{◌≡◌, List, [], ◌∷◌, ℕ, ◌+◌, ◌^◌, ◌++◌, ◌<◌}
 use Rattle.std.specs.List.{concat}
+use Rattle.ws_flow.specs.declared.plan.Ending.TheVariants.{Fine}
+use Rattle.ws_flow.specs.declared.plan.Stage.{Stage}
+use Rattle.ws_flow.specs.declared.plan.Stage.TheVariants.{Lines, Fixed, Hex, Unhex, Mask, Number, Frame, Unframe}
 use Rattle.ws_flow.specs.Machines.{Kept, Pushed}
 use Rattle.ws_stages.specs.declared.cut.Cut.{Cut}
 
@@ -29,3 +32,22 @@ abbrev pub IsHalf : List ℕ → Type 0
 IsHalf [] = Unit {0}
 IsHalf (d ∷ []) = d < 16
 IsHalf (d ∷ e ∷ r) = ⊥
+
+-- what a stage has left over: `unhex` no digit or one, and `hex` and `mask` nothing
+abbrev pub RestFits : Stage → List ℕ → Type 0
+RestFits Unhex rest = IsHalf rest
+RestFits Hex rest = rest ≡ []
+RestFits (Mask key) rest = rest ≡ []
+RestFits _ rest = Unit {0}
+
+-- a chunk of `frame` has a length that four bytes can tell
+abbrev pub HasLength : Stage → ℕ → Type 0
+HasLength Frame n = n < 2 ^ 32
+HasLength _ n = Unit {0}
+
+-- before a chunk of n bytes
+pub record CanTake (cut : Cut) (n : ℕ) : Type 0 where
+  pub bytes : cut.bytes + n < 2 ^ 128
+  pub count : cut.count + 1 < 2 ^ 64
+  pub chunks : cut.chunks.items ≡ []
+  pub fine : cut.ending ≡ Fine

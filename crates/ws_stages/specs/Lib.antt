@@ -1,1 +1,5 @@
 pub mod Cuts
+pub mod State
+pub mod Answers
+pub mod Shown
+pub mod Checks

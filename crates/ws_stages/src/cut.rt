@@ -51,16 +51,20 @@ pub trait ByteStep {
         requires room { cut.old.bytes + 1 < 2 ^ 128 }
         requires fine { cut.old.ending ≡ Fine }
         ensures seen { OnOk result (seen cut.new ≡ with_chunks cut.old.chunks.items (step self.now (kept_of cut.old) byte)) }
-        ensures bytes { OnOk result (cut.new.bytes ≤ cut.old.bytes + 1) };
+        ensures bytes { OnOk result (cut.new.bytes ≤ cut.old.bytes + 1) }
+        ensures count { OnOk result (cut.new.count ≡ cut.old.count) };
 }
 
 /// `lines`: the most bytes of a line, without its feed.
+#[derive(Clone, Copy)]
 pub struct Lines(pub usize);
 
 /// `fixed`: the bytes of a block.
+#[derive(Clone, Copy)]
 pub struct Blocks(pub usize);
 
 /// `unframe`: the most bytes of a frame.
+#[derive(Clone, Copy)]
 pub struct Frames(pub usize);
 
 impl ByteStep for Lines {
@@ -124,6 +128,7 @@ pub fn cut_bytes<S: ByteStep>(stage: &S, cut: &mut Cut, bytes: &[u8]) -> Result<
     requires fine { cut.old.ending ≡ Fine }
     ensures seen { OnOk result (seen cut.new ≡ with_chunks cut.old.chunks.items (each_byte (S.step stage.now) (kept_of cut.old) bytes.now)) }
     ensures bytes { OnOk result (cut.new.bytes ≤ cut.old.bytes + length bytes.now) }
+    ensures count { OnOk result (cut.new.count ≡ cut.old.count) }
 {
     for byte in bytes {
         stage.step(cut, *byte)?;

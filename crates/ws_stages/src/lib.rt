@@ -2,12 +2,11 @@
 #![tactic(auto)]
 
 
-
 mod cut;
+mod refusals;
 mod text;
+mod work;
 
-
-
-
-
+pub use refusals::check;
+pub use work::{Pushed, Work};
 pub use ws_flow::{Ending, Placed, Plan, Stage};

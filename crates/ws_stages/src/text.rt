@@ -57,6 +57,8 @@ fn read_digit(cut: &mut Cut, text: &mut Vec<u8>, byte: u8) -> Result<(), NoMemor
     ensures seen { OnOk result
         (seen_text cut.new text.new.items ≡ with_text text.old.items (unhex_byte (kept_of cut.old) byte)) }
     ensures bytes { OnOk result (cut.new.bytes ≤ cut.old.bytes + 1) }
+    ensures count { OnOk result (cut.new.count ≡ cut.old.count) }
+    ensures chunks { OnOk result (cut.new.chunks.items ≡ cut.old.chunks.items) }
     ensures half { OnOk result (IsHalf cut.new.rest.items) }
 {
     if byte == b'\n' || byte == b'\r' {
@@ -89,6 +91,8 @@ pub fn from_hex(cut: &mut Cut, bytes: &[u8]) -> Result<Vec<u8>, NoMemory>
     ensures seen { IfOk result (λ text.
         seen_text cut.new text.items ≡ with_text [] (each_byte unhex_byte (kept_of cut.old) bytes.now)) }
     ensures bytes { OnOk result (cut.new.bytes ≤ cut.old.bytes + length bytes.now) }
+    ensures count { OnOk result (cut.new.count ≡ cut.old.count) }
+    ensures chunks { OnOk result (cut.new.chunks.items ≡ cut.old.chunks.items) }
     ensures half { OnOk result (IsHalf cut.new.rest.items) }
 {
     let mut text = Vec::new(cut.alloc);

@@ -24,4 +24,5 @@ loop-byte-preserved g c = record {
     let lt : i < length bs = omega arith in
     let e = goes_on f (kept_of c.args.cut.now) c.args.cut.now.chunks.items (take i bs) (get_or bs i 0) (seen c.loop-byte.cut) (seen c.step.new.cut) c.loop-byte.invariant.seen c.loop-byte.invariant.fine c.in_ok-step.ensures.seen in
     e ∙ ap (λ q. with_chunks c.args.cut.now.chunks.items (each_byte f (kept_of c.args.cut.now) q)) (sym (take_more bs i 0 lt));
+  count = c.in_ok-step.ensures.count ∙ c.loop-byte.invariant.count;
   bytes = omega (arith, c.in_ok-step.ensures.bytes, c.loop-byte.invariant.bytes) }

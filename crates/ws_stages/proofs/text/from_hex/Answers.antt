@@ -26,4 +26,6 @@ loop-byte-preserved c = record {
     let e = text_goes_on unhex_byte k (take i bs) (get_or bs i 0) (seen c.loop-byte.cut) (seen_text c.read_digit.new.cut c.read_digit.new.text.items) c.loop-byte.text.items c.loop-byte.invariant.seen c.loop-byte.invariant.fine c.in_ok-read_digit.ensures.seen in
     e ∙ ap (λ q. with_text [] (each_byte unhex_byte k q)) (sym (take_more bs i 0 lt));
   half = c.in_ok-read_digit.ensures.half;
+  count = c.in_ok-read_digit.ensures.count ∙ c.loop-byte.invariant.count;
+  chunks = c.in_ok-read_digit.ensures.chunks ∙ c.loop-byte.invariant.chunks;
   bytes = omega (arith, c.in_ok-read_digit.ensures.bytes, c.loop-byte.invariant.bytes) }

@@ -9,5 +9,7 @@ invariant-loop-byte l = record {
   fine : l.cut.ending ≡ Fine;
   seen : seen_text l.cut l.text.items ≡ with_text [] (each_byte unhex_byte (kept_of l.initial.cut) (take l.byte-index l.bytes));
   half : IsHalf l.cut.rest.items;
+  count : l.cut.count ≡ l.initial.cut.count;
+  chunks : l.cut.chunks.items ≡ l.initial.cut.chunks.items;
   bytes : l.cut.bytes ≤ l.initial.cut.bytes + l.byte-index;
 }

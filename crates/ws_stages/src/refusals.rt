@@ -1,0 +1,135 @@
+//! Which plans are refused.
+ghost use Rattle.std.specs.Prelude.{◌≡◌, false, pos};
+ghost use Rattle.ws_flow.specs.Plans.{are_in_order, are_numbers_within, each_has_stage, is_in_range, is_placed_within, is_within, refusal, sees_known_chunks};
+ghost use Rattle.ws_stages.specs.Checks.{answer_of, stages_in};
+
+use ws_flow::{Placed, Plan, Stage};
+
+/// The most stages, workers and stages `hex` of a plan.
+const MOST_STAGES: usize = 16;
+const MOST_WORKERS: i64 = 8;
+const MOST_HEX: usize = 4;
+
+/// The most bytes of input, and the most bytes of output before an abort: 2^40.
+const MOST_BYTES: i64 = 1_099_511_627_776;
+
+/// The most bytes of a line or a frame, of a block, and of a key.
+const MOST_OF_A_CHUNK: i64 = 1_048_576;
+const MOST_OF_A_BLOCK: i64 = 65_536;
+const MOST_OF_A_KEY: usize = 64;
+
+/// Whether a stage's number, or the length of its key, is in its range.
+fn is_in_range(stage: &Stage) -> bool
+    ensures { result ≡ is_in_range stage.now }
+{
+    match stage {
+        Stage::Lines { max } => 1 <= *max && *max <= MOST_OF_A_CHUNK,
+        Stage::Fixed { n } => 1 <= *n && *n <= MOST_OF_A_BLOCK,
+        Stage::Mask { key } => 1 <= key.len() && key.len() <= MOST_OF_A_KEY,
+        Stage::Unframe { max } => 0 <= *max && *max <= MOST_OF_A_CHUNK,
+        Stage::Hex | Stage::Unhex | Stage::Number | Stage::Frame => true,
+    }
+}
+
+/// Whether a stage's numbers are in their range and its worker is one of so many, or the caller where there are none.
+fn is_placed_within(workers: i64, placed: &Placed) -> bool
+    ensures { result ≡ is_placed_within workers placed.now }
+{
+    is_in_range(&placed.stage)
+        && if workers <= 0 {
+            0 <= placed.worker && placed.worker <= 0
+        } else {
+            1 <= placed.worker && placed.worker <= workers
+        }
+}
+
+/// Whether each number of a plan is in its range.
+fn are_numbers_within(plan: &Plan) -> bool
+    ensures { result ≡ are_numbers_within plan.now }
+{
+    let aborts_within = match plan.abort_after {
+        None => true,
+        Some(after) => 1 <= after && after <= MOST_BYTES,
+    };
+    0 <= plan.workers
+        && aborts_within
+        && 0 <= plan.max_input
+        && plan.max_input <= MOST_BYTES
+        && plan.stages.iter().all(|placed| is_placed_within(plan.workers, placed))
+}
+
+/// Whether no stage sees chunks that depend on how the input was cut.
+fn sees_known_chunks(stages: &[Placed]) -> bool
+    ensures { result ≡ sees_known_chunks false (stages_in stages.now) }
+{
+    let mut known = false;
+    for placed in stages {
+        match placed.stage {
+            Stage::Lines { .. } | Stage::Fixed { .. } | Stage::Unframe { .. } => known = true,
+            Stage::Unhex => known = false,
+            Stage::Number | Stage::Frame => {
+                if !known {
+                    return false;
+                }
+            }
+            Stage::Hex | Stage::Mask { .. } => {}
+        }
+    }
+    true
+}
+
+/// Whether no stage's worker is less than that of the one before.
+fn are_in_order(stages: &[Placed]) -> bool
+    ensures { result ≡ are_in_order (pos 0) stages.now }
+{
+    let mut before = 0;
+    for placed in stages {
+        if placed.worker < before {
+            return false;
+        }
+        before = placed.worker;
+    }
+    true
+}
+
+/// Whether each worker has a stage.
+fn each_has_stage(workers: u64, stages: &[Placed]) -> bool
+    ensures { result ≡ each_has_stage workers stages.now }
+{
+    for worker in 0..workers {
+        if !stages.iter().any(|placed| placed.worker.unsigned_abs() == worker + 1) {
+            return false;
+        }
+    }
+    true
+}
+
+/// Whether a plan is one that can be run, or else the number of the first refusal.
+pub fn check(plan: &Plan) -> Result<(), u8>
+    ensures { result ≡ answer_of (refusal plan.now) }
+{
+    let stages = plan.stages.as_slice();
+    if stages.len() > MOST_STAGES {
+        return Err(1);
+    }
+    if !are_numbers_within(plan) {
+        return Err(2);
+    }
+    let of_hex = stages.iter().filter(|placed| matches!(placed.stage, Stage::Hex)).count();
+    if of_hex > MOST_HEX {
+        return Err(7);
+    }
+    if !sees_known_chunks(stages) {
+        return Err(3);
+    }
+    if plan.workers > MOST_WORKERS {
+        return Err(4);
+    }
+    if !are_in_order(stages) {
+        return Err(6);
+    }
+    if !each_has_stage(plan.workers.unsigned_abs(), stages) {
+        return Err(5);
+    }
+    Ok(())
+}
