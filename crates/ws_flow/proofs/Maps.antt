@@ -10,7 +10,7 @@ use Rattle.std.specs.List.{concat}
 use lib.Bits.{xor_self, xor_zero_r, xor_assoc}
 
 -- a byte stage that never ends and keeps no bytes gives each chunk's bytes, joined
-mask_bytes : (key : List ℕ) (y n : ℕ) (c : List ℕ) → (concat (each_byte (mask_byte key) (record { rest = []; bytes = y; chunks = n }) c).chunks ≡ masked key y c) × ((each_byte (mask_byte key) (record { rest = []; bytes = y; chunks = n }) c).ending ≡ Fine) × ((each_byte (mask_byte key) (record { rest = []; bytes = y; chunks = n }) c).kept ≡ record { rest = []; bytes = y + length c; chunks = n })
+pub mask_bytes : (key : List ℕ) (y n : ℕ) (c : List ℕ) → (concat (each_byte (mask_byte key) (record { rest = []; bytes = y; chunks = n }) c).chunks ≡ masked key y c) × ((each_byte (mask_byte key) (record { rest = []; bytes = y; chunks = n }) c).ending ≡ Fine) × ((each_byte (mask_byte key) (record { rest = []; bytes = y; chunks = n }) c).kept ≡ record { rest = []; bytes = y + length c; chunks = n })
 mask_bytes key y n [] = (refl, refl, ap (λ q. record { rest = []; bytes = q; chunks = n }) (sym (add-zero y)))
 mask_bytes key y n (b ∷ c) =
     let r = mask_bytes key (y + 1) n c in
@@ -35,7 +35,7 @@ mask_through key y n (c ∷ cs) e =
       ap (λ q. or_else q (verdict m p.kept cs e)) b.1 ∙ ap (λ q. verdict m q cs e) b.2 ∙ r.1,
     )
 
-hex_bytes : (y n : ℕ) (c : List ℕ) → (concat (each_byte hex_byte (record { rest = []; bytes = y; chunks = n }) c).chunks ≡ encode_lower c) × ((each_byte hex_byte (record { rest = []; bytes = y; chunks = n }) c).ending ≡ Fine) × ((each_byte hex_byte (record { rest = []; bytes = y; chunks = n }) c).kept ≡ record { rest = []; bytes = y + length c; chunks = n })
+pub hex_bytes : (y n : ℕ) (c : List ℕ) → (concat (each_byte hex_byte (record { rest = []; bytes = y; chunks = n }) c).chunks ≡ encode_lower c) × ((each_byte hex_byte (record { rest = []; bytes = y; chunks = n }) c).ending ≡ Fine) × ((each_byte hex_byte (record { rest = []; bytes = y; chunks = n }) c).kept ≡ record { rest = []; bytes = y + length c; chunks = n })
 unfolding encode_with
 hex_bytes y n [] = (refl, refl, ap (λ q. record { rest = []; bytes = q; chunks = n }) (sym (add-zero y)))
 hex_bytes y n (b ∷ c) =

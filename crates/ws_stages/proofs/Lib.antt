@@ -1,3 +1,4 @@
 pub mod Bytes
 pub mod Texts
 pub mod Pushes
+pub mod Workers

@@ -1,15 +1,14 @@
 -- A chunk at once, where a stage is defined byte by byte.
-use Rattle.std.proofs.Common.{◌≡◌, ℕ, ◌+◌, ◌<◌, List, [], ◌∷◌, ◌++◌, refl, sym, ap, ◌∙◌, length, arith}
+use Rattle.std.proofs.Common.{◌≡◌, ℕ, ◌+◌, ◌<◌, List, [], ◌∷◌, refl, sym, ap, ◌∙◌, length, arith}
 use Rattle.std.specs.List.{concat}
 use Rattle.hex.specs.Hex.{encode_lower}
 use Rattle.ws_flow.specs.declared.plan.Ending.{Ending}
 use Rattle.ws_flow.specs.declared.plan.Ending.TheVariants.{Fine}
-use Rattle.ws_flow.specs.Machines.{Kept, Pushed}
+use Rattle.ws_flow.specs.Machines.{Kept}
 use Rattle.ws_flow.specs.Stages.{pushed, each_byte, hex_byte, mask_byte, unhex_byte, byte_push, some_chunk, One, SomeBytes}
 use Rattle.ws_flow.specs.Outputs.{masked}
 use Rattle.ws_flow.proofs.Maps.{hex_bytes, mask_bytes}
 use Rattle.ws_stages.specs.Cuts.{with_text}
-
 
 pub hex_push : (rest c : List ℕ) (y n : ℕ) → rest ≡ [] → pushed (record { rest = rest; bytes = y + length c; chunks = n }) (encode_lower c ∷ []) Fine ≡ byte_push One hex_byte (record { rest = rest; bytes = y; chunks = n }) c
 hex_push rest c y n e =

@@ -1,11 +1,10 @@
 -- The bytes of a text, one after another.
-use Rattle.std.proofs.Common.{◌≡◌, ◌≢◌, ◌⊎◌, inl, inr, ℕ, suc, ◌+◌, ◌*◌, ◌%◌, ◌<◌, ◌||◌, Bool, true, false, List, [], ◌∷◌, ◌++◌, Option, Some, None, refl, sym, ap, ◌∙◌, subst, append_assoc, append-nil, length, take, drop, get_or, nat_eq, bit_xor, arith}
+use Rattle.std.proofs.Common.{◌≡◌, ◌≢◌, ◌⊎◌, ℕ, suc, ◌+◌, ◌*◌, ◌%◌, ◌<◌, ◌||◌, true, false, List, [], ◌∷◌, ◌++◌, Some, None, refl, sym, ap, ◌∙◌, append-nil, length, take, get_or, nat_eq, bit_xor, arith}
 use Rattle.std.specs.Prelude.{if◌then◌else◌}
 use Rattle.std.specs.List.{concat}
 use Rattle.std.proofs.Math.Nat.{suc-mod, mod_self, mod-eq_of_lt}
 use Rattle.std.proofs.lemmas.List.{take_more}
 use Rattle.hex.specs.Hex.{hex_digit_value}
-use Rattle.ws_flow.specs.declared.plan.Ending.{Ending}
 use Rattle.ws_flow.specs.declared.plan.Ending.TheVariants.{Fine, Bad}
 use Rattle.ws_flow.specs.Machines.{Kept, Pushed}
 use Rattle.ws_flow.specs.Stages.{pushed, added, each_byte, with_rest, unhex_byte, digit_met}
@@ -22,8 +21,8 @@ masked-append key p [] b = ap (λ q. masked key q b) (p_zero p) where
 masked-append key p (x ∷ a) b =
     ap (λ q. bit_xor x (get_or key (p % length key) 0) ∷ q) (masked-append key (p + 1) a b)
     ∙ ap (λ q. bit_xor x (get_or key (p % length key) 0) ∷ (masked key (p + 1) a ++ masked key q b)) (one_on p (length a)) where
-  one_on : (p l : ℕ) → p + 1 + l ≡ p + suc l
-  one_on p l = omega arith
+      one_on : (p l : ℕ) → p + 1 + l ≡ p + suc l
+      one_on p l = omega arith
 
 pub masked_more : (key : List ℕ) (p i at : ℕ) (bs text : List ℕ) → i < length bs → text ≡ masked key p (take i bs) → at ≡ (p + i) % length key → length (take i bs) ≡ i →
     text ++ bit_xor (get_or bs i 0) (get_or key at 0) ∷ [] ≡ masked key p (take (i + 1) bs)
@@ -39,6 +38,7 @@ next_place x n at h lt = sym (mod-eq_of_lt lt) ∙ ap (λ q. (q + 1) % n) h ∙ 
   suc_form a n = ap (λ q. q % n) (one a) where
     one : (a : ℕ) → a + 1 ≡ suc a
     one a = omega arith
+
   plus_form : (a n : ℕ) → suc a % n ≡ (a + 1) % n
   plus_form a n = sym (suc_form a n)
 
@@ -95,10 +95,11 @@ text_more f k front b rest old new text o e n one =
     ∙ ap (λ z. with_text z (each_byte f p.kept (b ∷ rest))) (text_is (ap (λ z. z.chunks) o))
     ∙ join p (each_byte f p.kept (b ∷ rest)) (sym (ap (λ z. z.ending) o) ∙ e)
     ∙ ap (λ z. with_text [] z) (sym (each_append f k front (b ∷ rest))) where
-  text_is : text ∷ [] ≡ concat (each_byte f k front).chunks ∷ [] → text ≡ concat (each_byte f k front).chunks
-  text_is h = cc
-  join : (p q : Pushed) → p.ending ≡ Fine → with_text (concat p.chunks) q ≡ with_text [] (added p.chunks p.ending p.kept q)
-  join p q e = ap (λ z. pushed q.kept (z ∷ []) q.ending) (sym (joined_append p.chunks q.chunks)) ∙ ap (λ z. with_text [] (added p.chunks z p.kept q)) (sym e)
+      text_is : text ∷ [] ≡ concat (each_byte f k front).chunks ∷ [] → text ≡ concat (each_byte f k front).chunks
+      text_is h = cc
+
+      join : (p q : Pushed) → p.ending ≡ Fine → with_text (concat p.chunks) q ≡ with_text [] (added p.chunks p.ending p.kept q)
+      join p q e = ap (λ z. pushed q.kept (z ∷ []) q.ending) (sym (joined_append p.chunks q.chunks)) ∙ ap (λ z. with_text [] (added p.chunks z p.kept q)) (sym e)
 
 pub text_goes_on : (f : Kept → ℕ → Pushed) (k : Kept) (front : List ℕ) (b : ℕ) (old new : Pushed) (text : List ℕ) →
     pushed old.kept (text ∷ []) old.ending ≡ with_text [] (each_byte f k front) → old.ending ≡ Fine → new ≡ with_text text (f old.kept b) → new ≡ with_text [] (each_byte f k (front ++ b ∷ []))

@@ -1,11 +1,10 @@
 -- What the fields of a stage at work show.
-use Rattle.std.specs.Prelude.{◌≡◌, ℕ, ◌*◌, ◌^◌, ◌≤◌, Bool, true, false, List, []}
+use Rattle.std.specs.Prelude.{◌≡◌, ◌*◌, ◌^◌, ◌≤◌, Bool, true, false, []}
 use Rattle.ws_flow.specs.declared.plan.Ending.{Ending}
-use Rattle.ws_flow.specs.declared.plan.Ending.TheVariants.{Fine, Bad}
+use Rattle.ws_flow.specs.declared.plan.Ending.TheVariants.{Fine}
 use Rattle.ws_flow.specs.Machines.{Kept}
 use Rattle.ws_flow.specs.Plans.{is_in_range}
 use Rattle.ws_flow.specs.Parts.{AtWork, Live, Over}
-use Rattle.ws_stages.specs.declared.cut.Cut.{Cut}
 use Rattle.ws_stages.specs.declared.work.Work.TheInside.{Inside}
 use Rattle.ws_stages.specs.Cuts.{RestFits, kept_of}
 use Rattle.ws_stages.specs.State.{State}

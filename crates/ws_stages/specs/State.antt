@@ -1,10 +1,10 @@
 -- A stage at work, as its caller sees it, and what it answers.
-use Rattle.std.specs.Prelude.{◌≡◌, ℕ}
+use Rattle.std.specs.Prelude.{ℕ}
 use Rattle.ws_flow.specs.declared.plan.Ending.{Ending}
 use Rattle.ws_flow.specs.declared.plan.Ending.TheVariants.{Fine, Bad}
 use Rattle.ws_flow.specs.declared.plan.Stage.{Stage}
-use Rattle.ws_flow.specs.Machines.{Kept, Pushed}
-use Rattle.ws_flow.specs.Stages.{nothing_kept, machine}
+use Rattle.ws_flow.specs.Machines.{Kept}
+use Rattle.ws_flow.specs.Stages.{nothing_kept}
 use Rattle.ws_flow.specs.Parts.{AtWork, Live, Over}
 
 pub record State : Type 0 where

@@ -74,7 +74,10 @@ impl ByteStep for Lines {
 
     fn step(&self, cut: &mut Cut, byte: u8) -> Result<(), NoMemory> {
         if byte != b'\n' && cut.rest.len() >= self.0 {
-            cut.ending = Ending::Bad { code: 1, place: cut.bytes };
+            cut.ending = Ending::Bad {
+                code: 1,
+                place: cut.bytes,
+            };
             return Ok(());
         }
         cut.rest.push(byte)?;
@@ -114,7 +117,10 @@ impl ByteStep for Frames {
         };
         let length = u32::from_be_bytes([*a, *b, *c, *d]) as usize;
         if length > self.0 {
-            cut.ending = Ending::Bad { code: 4, place: cut.bytes.saturating_sub(4) };
+            cut.ending = Ending::Bad {
+                code: 4,
+                place: cut.bytes.saturating_sub(4),
+            };
         } else if body.len() == length {
             cut.close_from(4)?;
         }

@@ -1,7 +1,6 @@
 //! The stages of a pipeline at work, and the check of a plan. What each stage puts out is defined in `ws_flow`.
 #![tactic(auto)]
 
-
 mod cut;
 mod refusals;
 mod text;

@@ -1,13 +1,16 @@
 //! Which plans are refused.
 ghost use Rattle.std.specs.Prelude.{◌≡◌, false, pos};
-ghost use Rattle.ws_flow.specs.Plans.{are_in_order, are_numbers_within, each_has_stage, is_in_range, is_placed_within, is_within, refusal, sees_known_chunks};
+ghost use Rattle.std.specs.List.{list_all};
+ghost use Rattle.ws_flow.specs.Plans.{are_in_order, are_numbers_within, each_has_stage, has_stage, is_abort_within, is_in_range, is_placed_within, is_within, refusal, sees_known_chunks};
 ghost use Rattle.ws_stages.specs.Checks.{answer_of, stages_in};
 
 use ws_flow::{Placed, Plan, Stage};
 
 /// The most stages, workers and stages `hex` of a plan.
 const MOST_STAGES: usize = 16;
+
 const MOST_WORKERS: i64 = 8;
+
 const MOST_HEX: usize = 4;
 
 /// The most bytes of input, and the most bytes of output before an abort: 2^40.
@@ -15,7 +18,9 @@ const MOST_BYTES: i64 = 1_099_511_627_776;
 
 /// The most bytes of a line or a frame, of a block, and of a key.
 const MOST_OF_A_CHUNK: i64 = 1_048_576;
+
 const MOST_OF_A_BLOCK: i64 = 65_536;
+
 const MOST_OF_A_KEY: usize = 64;
 
 /// Whether a stage's number, or the length of its key, is in its range.
@@ -43,19 +48,35 @@ fn is_placed_within(workers: i64, placed: &Placed) -> bool
         }
 }
 
+fn are_placed_within(workers: i64, stages: &[Placed]) -> bool
+    ensures { result ≡ list_all (is_placed_within workers) stages.now }
+{
+    stages
+        .iter()
+        .all(|placed| is_placed_within(workers, placed))
+}
+
+/// Whether the bytes of output before an abort are in their range, where there are any.
+fn is_abort_within(after: Option<i64>) -> bool
+    ensures { result ≡ is_abort_within after }
+{
+    match after {
+        None => true,
+        Some(bytes) => 1 <= bytes && bytes <= MOST_BYTES,
+    }
+}
+
 /// Whether each number of a plan is in its range.
 fn are_numbers_within(plan: &Plan) -> bool
     ensures { result ≡ are_numbers_within plan.now }
 {
-    let aborts_within = match plan.abort_after {
-        None => true,
-        Some(after) => 1 <= after && after <= MOST_BYTES,
-    };
-    0 <= plan.workers
-        && aborts_within
-        && 0 <= plan.max_input
-        && plan.max_input <= MOST_BYTES
-        && plan.stages.iter().all(|placed| is_placed_within(plan.workers, placed))
+    if plan.workers < 0 || !is_abort_within(plan.abort_after) {
+        return false;
+    }
+    if plan.max_input < 0 || plan.max_input > MOST_BYTES {
+        return false;
+    }
+    are_placed_within(plan.workers, &plan.stages)
 }
 
 /// Whether no stage sees chunks that depend on how the input was cut.
@@ -92,12 +113,20 @@ fn are_in_order(stages: &[Placed]) -> bool
     true
 }
 
+fn has_stage(worker: u64, stages: &[Placed]) -> bool
+    ensures { result ≡ has_stage worker stages.now }
+{
+    stages
+        .iter()
+        .any(|placed| placed.worker.unsigned_abs() == worker)
+}
+
 /// Whether each worker has a stage.
 fn each_has_stage(workers: u64, stages: &[Placed]) -> bool
     ensures { result ≡ each_has_stage workers stages.now }
 {
     for worker in 0..workers {
-        if !stages.iter().any(|placed| placed.worker.unsigned_abs() == worker + 1) {
+        if !has_stage(worker + 1, stages) {
             return false;
         }
     }
@@ -115,7 +144,10 @@ pub fn check(plan: &Plan) -> Result<(), u8>
     if !are_numbers_within(plan) {
         return Err(2);
     }
-    let of_hex = stages.iter().filter(|placed| matches!(placed.stage, Stage::Hex)).count();
+    let of_hex = stages
+        .iter()
+        .filter(|placed| matches!(placed.stage, Stage::Hex))
+        .count();
     if of_hex > MOST_HEX {
         return Err(7);
     }

@@ -91,7 +91,8 @@ fn take(stage: &Stage, cut: &mut Cut, chunk: &[u8]) -> Result<(), NoMemory>
         Stage::Mask { key } => {
             let place = cut.bytes;
             cut.bytes += chunk.len() as u128;
-            cut.chunks.push(masked(cut.alloc, key.as_slice(), place, chunk)?)?;
+            cut.chunks
+                .push(masked(cut.alloc, key.as_slice(), place, chunk)?)?;
             Ok(())
         }
         Stage::Number => {

@@ -1,4 +1,4 @@
-use Rattle.std.proofs.Common.{◌≡◌, ◌∷◌, ◌++◌, [], ◌+◌, ◌<◌, length, take, drop, get_or, sym, ap, ◌∙◌, arith}
+use Rattle.std.proofs.Common.{[], ◌+◌, ◌<◌, length, take, drop, get_or, sym, ap, ◌∙◌, arith}
 use Rattle.std.proofs.lemmas.List.{take_more}
 use Rattle.ws_flow.specs.Stages.{each_byte, unhex_byte}
 use Rattle.ws_stages.specs.Cuts.{kept_of, seen, seen_text, with_text}
@@ -19,13 +19,14 @@ pub loop-byte-preserved : goal.loop-byte-preserved
 loop-byte-preserved c = record {
   fine = c.in_default.is;
   seen =
-    let k = kept_of c.args.cut.now in
-    let bs = c.args.bytes.now in
-    let i = c.loop-byte.byte-index in
-    let lt : i < length bs = omega arith in
-    let e = text_goes_on unhex_byte k (take i bs) (get_or bs i 0) (seen c.loop-byte.cut) (seen_text c.read_digit.new.cut c.read_digit.new.text.items) c.loop-byte.text.items c.loop-byte.invariant.seen c.loop-byte.invariant.fine c.in_ok-read_digit.ensures.seen in
-    e ∙ ap (λ q. with_text [] (each_byte unhex_byte k q)) (sym (take_more bs i 0 lt));
+      let k = kept_of c.args.cut.now in
+      let bs = c.args.bytes.now in
+      let i = c.loop-byte.byte-index in
+      let lt : i < length bs = omega arith in
+      let e = text_goes_on unhex_byte k (take i bs) (get_or bs i 0) (seen c.loop-byte.cut) (seen_text c.read_digit.new.cut c.read_digit.new.text.items) c.loop-byte.text.items c.loop-byte.invariant.seen c.loop-byte.invariant.fine c.in_ok-read_digit.ensures.seen in
+      e ∙ ap (λ q. with_text [] (each_byte unhex_byte k q)) (sym (take_more bs i 0 lt));
   half = c.in_ok-read_digit.ensures.half;
   count = c.in_ok-read_digit.ensures.count ∙ c.loop-byte.invariant.count;
   chunks = c.in_ok-read_digit.ensures.chunks ∙ c.loop-byte.invariant.chunks;
-  bytes = omega (arith, c.in_ok-read_digit.ensures.bytes, c.loop-byte.invariant.bytes) }
+  bytes = omega (arith, c.in_ok-read_digit.ensures.bytes, c.loop-byte.invariant.bytes);
+}

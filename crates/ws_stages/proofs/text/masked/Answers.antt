@@ -1,4 +1,4 @@
-use Rattle.std.proofs.Common.{◌≡◌, ◌≢◌, ℕ, ◌%◌, subst, ◌∷◌, ◌++◌, [], ◌+◌, ◌<◌, length, take, drop, get_or, sym, ap, ◌∙◌, arith}
+use Rattle.std.proofs.Common.{◌≡◌, ◌≢◌, ℕ, ◌%◌, subst, ◌+◌, ◌<◌, length, sym, ap, ◌∙◌, arith}
 use Rattle.std.proofs.lemmas.List.{length-take-le}
 use Rattle.ws_stages.proofs.Texts.{masked_more, next_place, first_place}
 use Rattle.ws_stages.proofs.text.masked.Goals as goal
@@ -13,17 +13,20 @@ loop-byte-preserved c =
     let n = length c.args.key.now in
     elim c.if-at-key.branch [
       | then-at-key w ↦ record {
-          text = t;
-          at = w.at-is ∙ first_place (c.args.place + i) n c.loop-byte.at c.loop-byte.invariant.at w.if-at-key.true ∙ ap (λ q. q % n) (one_on c.args.place i);
-          within = subst (λ q. q < n) (sym w.at-is) c.requires }
+        text = t;
+        at = w.at-is ∙ first_place (c.args.place + i) n c.loop-byte.at c.loop-byte.invariant.at w.if-at-key.true ∙ ap (λ q. q % n) (one_on c.args.place i);
+        within = subst (λ q. q < n) (sym w.at-is) c.requires;
+      }
       | else-at-key w ↦
           let less : c.loop-byte.at + 1 < n = below c.loop-byte.at n c.loop-byte.invariant.within w.if-at-key.false in
           record {
             text = t;
             at = w.at-is ∙ next_place (c.args.place + i) n c.loop-byte.at c.loop-byte.invariant.at less ∙ ap (λ q. q % n) (one_on c.args.place i);
-            within = subst (λ q. q < n) (sym w.at-is) less }
+            within = subst (λ q. q < n) (sym w.at-is) less;
+          }
     ] where
-  one_on : (p i : ℕ) → p + i + 1 ≡ p + (i + 1)
-  one_on p i = omega arith
-  below : (a n : ℕ) → a < n → a + 1 ≢ n → a + 1 < n
-  below a n h e = omega arith
+      one_on : (p i : ℕ) → p + i + 1 ≡ p + (i + 1)
+      one_on p i = omega arith
+
+      below : (a n : ℕ) → a < n → a + 1 ≢ n → a + 1 < n
+      below a n h e = omega arith
