@@ -27,7 +27,8 @@ impl Cut {
     pub fn close_from(&mut self, n: usize) -> Result<(), NoMemory>
         requires { n ≤ length self.old.rest.items }
         ensures rest { OnOk result (self.new.rest.items ≡ []) }
-        ensures chunks { OnOk result (self.new.chunks.items ≡ self.old.chunks.items ++ drop n self.old.rest.items ∷ []) }
+        ensures chunks { OnOk result
+            (self.new.chunks.items ≡ self.old.chunks.items ++ drop n self.old.rest.items ∷ []) }
         ensures bytes { self.new.bytes ≡ self.old.bytes }
         ensures count { self.new.count ≡ self.old.count }
         ensures ending { self.new.ending ≡ self.old.ending }
@@ -50,7 +51,8 @@ pub trait ByteStep {
     fn step(&self, cut: &mut Cut, byte: u8) -> Result<(), NoMemory>
         requires room { cut.old.bytes + 1 < 2 ^ 128 }
         requires fine { cut.old.ending ≡ Fine }
-        ensures seen { OnOk result (seen cut.new ≡ with_chunks cut.old.chunks.items (step self.now (kept_of cut.old) byte)) }
+        ensures seen { OnOk result
+            (seen cut.new ≡ with_chunks cut.old.chunks.items (step self.now (kept_of cut.old) byte)) }
         ensures bytes { OnOk result (cut.new.bytes ≤ cut.old.bytes + 1) }
         ensures count { OnOk result (cut.new.count ≡ cut.old.count) };
 }
@@ -132,7 +134,8 @@ impl ByteStep for Frames {
 pub fn cut_bytes<S: ByteStep>(stage: &S, cut: &mut Cut, bytes: &[u8]) -> Result<(), NoMemory>
     requires room { cut.old.bytes + length bytes.now < 2 ^ 128 }
     requires fine { cut.old.ending ≡ Fine }
-    ensures seen { OnOk result (seen cut.new ≡ with_chunks cut.old.chunks.items (each_byte (S.step stage.now) (kept_of cut.old) bytes.now)) }
+    ensures seen { OnOk result (seen cut.new
+        ≡ with_chunks cut.old.chunks.items (each_byte (S.step stage.now) (kept_of cut.old) bytes.now)) }
     ensures bytes { OnOk result (cut.new.bytes ≤ cut.old.bytes + length bytes.now) }
     ensures count { OnOk result (cut.new.count ≡ cut.old.count) }
 {
