@@ -17,3 +17,4 @@ pub mod Maps
 pub mod Backwards
 pub mod Outputs
 pub mod Examples
+pub mod Lengths

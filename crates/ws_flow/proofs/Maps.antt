@@ -88,7 +88,7 @@ masked_twice key place [] = refl
 masked_twice key place (b ∷ bs) =
     ap (λ q. q ∷ masked key (place + 1) (masked key (place + 1) bs)) (xor_twice b (get_or key (place % length key) 0)) ∙ ap (λ q. b ∷ q) (masked_twice key (place + 1) bs)
 
-length-masked : (key : List ℕ) (place : ℕ) (bs : List ℕ) → length (masked key place bs) ≡ length bs
+pub length-masked : (key : List ℕ) (place : ℕ) (bs : List ℕ) → length (masked key place bs) ≡ length bs
 length-masked key place [] = refl
 length-masked key place (b ∷ bs) = ap suc (length-masked key (place + 1) bs)
 

@@ -1,15 +1,16 @@
 -- What holds of every stage, every node and every run.
-use Rattle.std.specs.Prelude.{◌≡◌, ◌≢◌, ℕ, ℤ, ◌<◌, ◌≤◌, true, false, List, [], ◌∷◌, ◌++◌, length, nat_abs}
-use Rattle.std.specs.List.{concat, All}
+use Rattle.std.specs.Prelude.{◌≡◌, ◌≢◌, ℕ, ℤ, ◌<◌, ◌≤◌, true, false, List, [], ◌∷◌, ◌++◌, length, None, pos, nat_abs, int_le}
+use Rattle.std.specs.List.{concat, All, count_by, list_all}
 use Rattle.ws_value.specs.declared.value.Message.{Message}
 use Rattle.ws_flow.specs.declared.plan.Ending.TheVariants.{Fine, Bad}
+use Rattle.ws_flow.specs.declared.plan.Plan.{Plan}
 use Rattle.ws_flow.specs.declared.plan.Stage.{Stage}
 use Rattle.ws_flow.specs.declared.plan.Stage.TheVariants.{Hex, Unhex, Mask, Frame, Unframe}
 use Rattle.ws_flow.specs.Told.{Mark, Open, Closed, Lost, Told, told, then_told, IsShortOf, IsBefore}
 use Rattle.ws_flow.specs.Machines.{Machine, Kept, Pushed, piece, at_end, through, keeps, or_else, end_verdict, verdict, all_through, ending}
 use Rattle.ws_flow.specs.Stages.{nothing_kept, each_byte, Packing, AsCut, byte_machine, line_byte, block_byte, unframe_byte, unhex_byte, machine, machines}
 use Rattle.ws_flow.specs.Outputs.{Says, LinesDone, LineWrong, BlocksDone, NeverWrong, FramesDone, FrameWrong, DigitsDone, DigitWrong}
-use Rattle.ws_flow.specs.Plans.{bytes_of, as_one, reach, sees_known_chunks}
+use Rattle.ws_flow.specs.Plans.{bytes_of, as_one, reach, sees_known_chunks, stages_of, is_hex, is_in_range, are_numbers_within, are_in_order, each_has_stage, refusal}
 use Rattle.ws_flow.specs.Parts.{Part, Goes, Flows, residual, found}
 use Rattle.ws_flow.specs.Rows.{Place, in_place, LinkKeeps, Turned, Relates}
 use Rattle.ws_flow.specs.Chains.{Member, Chained, all_stages, all_parts}
@@ -139,3 +140,24 @@ EachFrameReadsBack =
 -- what is masked twice isn't masked
 abbrev pub EachMaskTwiceIsNone : Type 0
 EachMaskTwiceIsNone = (key : List ℕ) (x : Told (List ℕ)) → all_through (machines (Mask key ∷ Mask key ∷ [])) x ≡ x
+
+-- No chunk that comes out reaches 2^25 bytes, where the pieces of the input have at most 4,096: of stages whose numbers are in their
+-- range, at most 16 of them and at most 4 `hex`
+abbrev pub EachChunkIsShort : Type 0
+EachChunkIsShort =
+    (ss : List Stage) (x : Told (List ℕ)) → list_all is_in_range ss ≡ true → count_by is_hex ss ≤ 4 → length ss ≤ 16 →
+    All (λ c. length c ≤ 4096) x.items → All (λ c. length c < 33554432) (all_through (machines ss) x).items
+
+-- what a plan has that isn't refused
+pub record IsAccepted (plan : Plan) : Type 0 where
+  pub stages : length (stages_of plan) ≤ 16
+  pub numbers : are_numbers_within plan ≡ true
+  pub range : list_all is_in_range (stages_of plan) ≡ true
+  pub hex : count_by is_hex (stages_of plan) ≤ 4
+  pub known : sees_known_chunks false (stages_of plan) ≡ true
+  pub workers : int_le plan.workers (pos 8) ≡ true
+  pub order : are_in_order (pos 0) plan.stages.items ≡ true
+  pub each : each_has_stage (nat_abs plan.workers) plan.stages.items ≡ true
+
+abbrev pub EachAcceptedPlan : Type 0
+EachAcceptedPlan = (plan : Plan) → refusal plan ≡ None → IsAccepted plan

@@ -1,0 +1,5 @@
+use Rattle.ws_flow.proofs.laws.each_accepted_plan.Goals as goal
+use Rattle.ws_flow.proofs.Lengths.{accepted, chunks_short}
+
+pub returns : goal.returns
+returns c = record { accepted = accepted; short = chunks_short }
