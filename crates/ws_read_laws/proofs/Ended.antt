@@ -52,11 +52,8 @@ is_answered : (s y : Slots) (l : LockId) (effects : PromiseId → List Effect) (
     → is_pending o ≡ false → outcome_at y.promises (next_id s.promises) ≡ Some o → IsAnswered (Read l) s o
 is_answered s y l effects o e f n h =
     let p : PromiseId = next_id s.promises in (
-      p,
-      (
-        ap (λ (b : Begun). b.reply) e,
-        ap (λ (b : Begun). outcome_at (older (named b.reply (performed b.done))).promises p) e ∙ (ap (λ (z : Slots). outcome_at (watch p z.promises) p) f ∙ (keeps-watch p y.promises).outcome p o n h),
-      ),
+      ap (λ (b : Begun). b.reply) e,
+      ap (λ (b : Begun). outcome_at (older (named b.reply (performed b.done))).promises p) e ∙ (ap (λ (z : Slots). outcome_at (watch p z.promises) p) f ∙ (keeps-watch p y.promises).outcome p o n h),
     )
 
 -- the stream is disturbed
