@@ -24,18 +24,18 @@ pub record Performs {S K : Type 0} (words : List (List ℕ)) (status : Status) (
   pub untouched : status ≡ Usage → (input' ≡ input) × (output' ≡ output)
   -- what a run may end with
   pub run : IsRun words → Ends status (2 ^ 40) 4096 old new got got'
-  -- where nothing fails and the input isn't too long, all of it is copied or memory is wanting
+  -- where nothing fails and the input isn't too long, all of it is copied or memory can't be had
   pub complete : IsRun words → Calm old.read_faults new.read_faults → Calm old.write_faults new.write_faults
       → HasAtMost old.feed (2 ^ 40) → (status ≡ Done) ⊎ (status ≡ NoMemory)
   -- what a script may end with
   pub script : IsScript words → ScriptEnds status old new got got'
-  -- where nothing fails, a script in the grammar that isn't too long is performed whole, or memory is wanting
+  -- where nothing fails, a script in the grammar that isn't too long is performed whole, or memory can't be had
   pub script_complete : IsScript words → (text : List ℕ) (found : List Line)
       → HasLeft old.feed text → length text ≤ most_bytes → lines text ≡ Ok found
       → Calm old.read_faults new.read_faults → Calm old.write_faults new.write_faults
       → (status ≡ Done) ⊎ (status ≡ NoMemory)
   -- where no read fails, a script outside the grammar is refused at its first bad line, and one that is too long at line 0,
-  -- or memory is wanting
+  -- or memory can't be had
   pub script_outside : IsScript words → (text : List ℕ) (n : ℕ)
       → HasLeft old.feed text → length text ≤ most_bytes → lines text ≡ Err n
       → Calm old.read_faults new.read_faults → (status ≡ Script n) ⊎ (status ≡ NoMemory)

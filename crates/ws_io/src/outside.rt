@@ -52,7 +52,7 @@ pub trait Sink {
         ensures cause { HasCause (faults self.old) (faults self.new) result };
 }
 
-/// A place at which a worker may be held. It tells nothing.
+/// A place at which a worker may be held. No contract says when.
 pub trait Gate: Sync {
     fn enter(&self, worker: u32, turn: u64);
 }

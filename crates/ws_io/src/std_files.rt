@@ -12,7 +12,7 @@ use ws_value::{Blob, Text};
 /// The most bytes of a text.
 const LIMIT: usize = 1_048_576;
 
-/// The files of a runtime, which tell no texts.
+/// The files of a runtime, whose texts no contract tells.
 #[derive(Drop)]
 pub struct StdFiles<'a, R> {
     rt: &'a R,

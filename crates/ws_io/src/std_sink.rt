@@ -35,7 +35,7 @@ fn flush_again<W: Write>(writer: &mut W) -> Result<(), Failed> {
     Err(Failed)
 }
 
-/// A sink over a writer of std, which tells no bytes: it stands for no list.
+/// A sink over a writer of std, whose bytes no contract tells: it stands for no list.
 #[derive(Drop)]
 pub struct StdSink<W> {
     inner: W,

@@ -23,7 +23,7 @@ pub(crate) fn read_again<R: Read>(reader: &mut R, room: &mut [u8]) -> Result<usi
     Err(ErrorKind::Interrupted)
 }
 
-/// A source over a reader of std, which tells no bytes.
+/// A source over a reader of std, whose bytes no contract tells.
 #[derive(Drop)]
 pub struct StdSource<R> {
     inner: R,

@@ -1,4 +1,4 @@
-//! Laws over every run of a realm: which promises are settled, in every list of calls, jobs, takings of events and lettings go of promises, performed one after another from the empty realm.
+//! Laws over every run of a realm: which promises are settled, over every list of calls and jobs, of events that the host takes and of promises that it lets go of, from the empty realm.
 #![tactic(auto)]
 
 ghost use Rattle.ws_steps.specs.Laws.{NoneGoesAstray};

@@ -17,7 +17,7 @@ pub record Prints (old new : Told) (got got' : List ℕ → Type 0) (text rest :
   pub first : text ≡ gain ++ rest
   pub finish_kept : KeepsTold old.finished new.finished
 
--- why printing stops: a write failed, or memory is wanting
+-- why printing stops: a write failed, or memory can't be had
 abbrev pub IsStop : Status → Told → Told → Type 0
 IsStop WriteFault old new = Rose old.faults new.faults
 IsStop NoMemory old new = Unit {0}

@@ -27,7 +27,7 @@ pub record ReadsText (old new : Option Feed) (before now : ℕ) (text : List ℕ
   pub calm : now ≡ before
   pub end : length text ≤ most_bytes → IsEnded new × IsEmpty new
 
--- why reading stops: a read failed, or memory is wanting
+-- why reading stops: a read failed, or memory can't be had
 abbrev pub IsReadStop : Status → ℕ → ℕ → Type 0
 IsReadStop ReadFault before now = Rose before now
 IsReadStop NoMemory before now = Unit {0}

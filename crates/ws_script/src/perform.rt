@@ -66,7 +66,7 @@ fn flush<K: Sink>(text: &mut Vec<u8>, output: &mut K) -> Result<(), Status>
     }
 }
 
-/// Writes the text of the lines before the one for which memory was wanting.
+/// Writes the text of the lines before the one for which memory couldn't be had.
 fn give_up<K: Sink>(text: &mut Vec<u8>, output: &mut K) -> Status
     ensures { StopsPrinting result
         (record { faults = K.faults output.old; finished = K.finished output.old })

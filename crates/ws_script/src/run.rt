@@ -41,7 +41,7 @@ pub fn run_script<S: Source, K: Sink>(alloc: Global, input: &mut S, output: &mut
         (moment (S.faults input.new) (S.feed input.new) (K.faults output.new) (K.finished output.new))
         (K.got output.old) (K.got output.new) }
 
-    // Where nothing fails, what is in the grammar and short enough is performed whole, or memory is wanting.
+    // Where nothing fails, what is in the grammar and short enough is performed whole, or memory can't be had.
     ensures complete { (text : List ℕ) (found : List Line) → HasLeft (S.feed input.old) text
         → length text ≤ most_bytes → lines text ≡ Ok found
         → Calm (S.faults input.old) (S.faults input.new) → Calm (K.faults output.old) (K.faults output.new)

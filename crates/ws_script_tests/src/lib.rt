@@ -1,4 +1,4 @@
-//! Tests of `script`: what worked scripts print, and how scripts are refused and fail, where they are long and where memory is wanting too.
+//! Tests of `script`: what worked scripts print, and how scripts are refused and fail, where they are long and where memory can't be had too.
 #![tactic(auto)]
 
 #[cfg(test)]

@@ -8,7 +8,7 @@ use std::thread::Threads;
 use ws_io::{MemSource, Status};
 use ws_value::NoMemory;
 
-/// Whether a script prints this, or a first part of it where memory is wanting.
+/// Whether a script prints this, or a first part of it where memory can't be had.
 fn prints<R: Threads + Wait>(
     rt: &R,
     alloc: Global,

@@ -19,6 +19,6 @@ pub enum Fault {
     TooMuch,
     /// The pipeline was aborted.
     Abort,
-    /// Memory was wanting.
+    /// Memory couldn't be had.
     NoMemory,
 }
