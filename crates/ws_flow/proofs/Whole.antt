@@ -1,4 +1,4 @@
--- What holds of each byte's step holds of all the bytes; and the steps of `lines`, `fixed`, `unframe` and `unhex`.
+-- What holds of each byte's step holds of all the bytes; and the steps of `lines` and `fixed`.
 use Rattle.std.proofs.Common.{◌≡◌, ◌≢◌, ℕ, ◌+◌, ◌<◌, ◌≤◌, Bool, true, false, List, [], ◌∷◌, ◌++◌, refl, sym, ap, ◌∙◌, subst, append_assoc, append-nil, length-append, arith, length, nat_eq, nat_lt}
 use Rattle.std.specs.Prelude.{if◌then◌else◌}
 use Rattle.ws_flow.specs.Machines.{Kept, Pushed}
