@@ -56,9 +56,13 @@ abbrev pub is_abort_within : Option ℤ → Bool
 is_abort_within None = true
 is_abort_within (Some n) = is_within 1 1099511627776 n
 
+-- whether each number of a plan is in its range
+abbrev pub are_within : ℤ → Option ℤ → ℤ → List Placed → Bool
+are_within workers after most ps =
+    int_le (pos 0) workers && (is_abort_within after && (is_within 0 1099511627776 most && list_all (is_placed_within workers) ps))
+
 abbrev pub are_numbers_within : Plan → Bool
-are_numbers_within plan =
-    int_le (pos 0) plan.workers && (is_abort_within plan.abort_after && (is_within 0 1099511627776 plan.max_input && list_all (is_placed_within plan.workers) plan.stages.items))
+are_numbers_within plan = are_within plan.workers plan.abort_after plan.max_input plan.stages.items
 
 abbrev pub is_hex : Stage → Bool
 is_hex Hex = true
@@ -77,16 +81,19 @@ abbrev pub each_has_stage : ℕ → List Placed → Bool
 each_has_stage zero ps = true
 each_has_stage (suc w) ps = each_has_stage w ps && has_stage (suc w) ps
 
--- the number of the first refusal of a plan, if it is refused: 1, more than 16 stages; 2, a number that is out of its range; 7, more
--- than 4 stages `hex`; 3, chunks that would depend on how the input was cut; 4, more than 8 workers; 6, a stage's worker is less than
--- the one before; 5, a worker without a stage
-abbrev pub refusal : Plan → Option ℕ
-refusal plan =
-    if nat_lt 16 (length plan.stages.items) then Some 1
-    else if not (are_numbers_within plan) then Some 2
-    else if nat_lt 4 (count_by (λ p. is_hex p.stage) plan.stages.items) then Some 7
-    else if not (sees_known_chunks false (stages_of plan)) then Some 3
-    else if not (int_le plan.workers (pos 8)) then Some 4
-    else if not (are_in_order (pos 0) plan.stages.items) then Some 6
-    else if not (each_has_stage (nat_abs plan.workers) plan.stages.items) then Some 5
+-- the number of the first refusal of a plan with so many workers, these bytes before an abort and of input, and these stages, if it is
+-- refused: 1, more than 16 stages; 2, a number that is out of its range; 7, more than 4 stages `hex`; 3, chunks that would depend on
+-- how the input was cut; 4, more than 8 workers; 6, a stage's worker is less than the one before; 5, a worker without a stage
+abbrev pub refusal_of : ℤ → Option ℤ → ℤ → List Placed → Option ℕ
+refusal_of workers after most ps =
+    if nat_lt 16 (length ps) then Some 1
+    else if not (are_within workers after most ps) then Some 2
+    else if nat_lt 4 (count_by (λ p. is_hex p.stage) ps) then Some 7
+    else if not (sees_known_chunks false (map (λ p. p.stage) ps)) then Some 3
+    else if not (int_le workers (pos 8)) then Some 4
+    else if not (are_in_order (pos 0) ps) then Some 6
+    else if not (each_has_stage (nat_abs workers) ps) then Some 5
     else None
+
+abbrev pub refusal : Plan → Option ℕ
+refusal plan = refusal_of plan.workers plan.abort_after plan.max_input plan.stages.items

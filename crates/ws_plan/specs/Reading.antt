@@ -1,8 +1,12 @@
--- What a pipeline file's table says: a plan, or the number of the first refusal before those of the plan itself.
-use Rattle.std.specs.Prelude.{ℕ, ℤ, pos, Bool, true, false, ◌&&◌, ◌||◌, List, [], ◌∷◌, codes, Option, Some, None, Result, Ok, Err, int_le, if◌then◌else◌}
+-- What a pipeline file says: a plan, or the number of its first refusal.
+use Rattle.std.specs.Prelude.{ℕ, ℤ, pos, Bool, true, false, ◌&&◌, not, nat_lt, List, [], ◌∷◌, length, map, codes, Option, Some, None, unwrap_or, ok_or, Result, Ok, Err, int_le, if◌then◌else◌}
+use Rattle.std.specs.List.{list_any}
+use Rattle.std.specs.Str.{bytes_eq, is_utf8}
 use Rattle.hex.specs.declared.error.FromHexError.{FromHexError}
 use Rattle.hex.specs.Hex.{decode_of}
-use Rattle.toml.specs.Data.{Data, string, integer, array, table, Items, no_items, item, Members, no_members, member, same_key, get_member}
+use Rattle.toml.specs.Data.{Data, string, integer, array, table, Items, no_items, item, Members, no_members, member, get_member}
+use Rattle.toml.specs.Parse.{parse_document}
+use Rattle.ws_flow.specs.Plans.{refusal_of}
 use Rattle.ws_flow.specs.declared.plan.Placed.{Placed}
 use Rattle.ws_flow.specs.declared.plan.Stage.{Stage}
 use Rattle.ws_flow.specs.declared.plan.Stage.TheVariants.{Lines, Fixed, Hex, Unhex, Mask, Number, Frame, Unframe}
@@ -14,63 +18,50 @@ pub record Planned : Type 0 where
   pub max_input : ℤ
   pub stages : List Placed
 
--- what stands at a key
-pub data Found (A : Type 0) : Type 0 where
-  Missing : Found A
-  -- of another type
-  Wrong : Found A
-  Is : A → Found A
-
-abbrev pub as_integer : Option Data → Found ℤ
-as_integer None = Missing
-as_integer (Some (integer z)) = Is z
-as_integer (Some _) = Wrong
-
-abbrev pub as_text : Option Data → Found (List ℕ)
-as_text None = Missing
-as_text (Some (string s)) = Is s
-as_text (Some _) = Wrong
-
--- an array of tables
-abbrev pub with_table : Members → Found (List Members) → Found (List Members)
-with_table ms (Is tables) = Is (ms ∷ tables)
-with_table ms _ = Wrong
-
-abbrev pub tables_in : Items → Found (List Members)
-tables_in no_items = Is []
-tables_in (item (table ms) ds) = with_table ms (tables_in ds)
-tables_in (item _ ds) = Wrong
-
-abbrev pub as_tables : Option Data → Found (List Members)
-as_tables None = Missing
-as_tables (Some (array ds)) = tables_in ds
-as_tables (Some _) = Wrong
-
--- a value, one for where it is missing, or a refusal
-abbrev pub or_missing : {A : Type 0} → A → Found A → Result A ℕ
-or_missing d Missing = Ok d
-or_missing d Wrong = Err 10
-or_missing d (Is x) = Ok x
-
-abbrev pub required : {A : Type 0} → Found A → Result A ℕ
-required Missing = Err 10
-required Wrong = Err 10
-required (Is x) = Ok x
-
 -- the first refusal of two steps
 infixl 10 ◌>>=◌
 abbrev pub ◌>>=◌ : {A B : Type 0} → Result A ℕ → (A → Result B ℕ) → Result B ℕ
 Ok x >>= f = f x
 Err n >>= f = Err n
 
--- whether each key is one of these
-abbrev pub is_one_of : List ℕ → List (List ℕ) → Bool
-is_one_of k [] = false
-is_one_of k (l ∷ ls) = same_key k l || is_one_of k ls
+-- what stands at a key, if anything does; 10 where it is of another type
+abbrev pub as_integer : Option Data → Result (Option ℤ) ℕ
+as_integer None = Ok None
+as_integer (Some (integer z)) = Ok (Some z)
+as_integer (Some _) = Err 10
 
+abbrev pub as_text : Option Data → Result (Option (List ℕ)) ℕ
+as_text None = Ok None
+as_text (Some (string s)) = Ok (Some s)
+as_text (Some _) = Err 10
+
+abbrev pub are_tables : Items → Bool
+are_tables no_items = true
+are_tables (item (table ms) ds) = are_tables ds
+are_tables (item _ ds) = false
+
+-- the tables of an array, none where nothing stands there
+abbrev pub as_tables : Option Data → Result Items ℕ
+as_tables None = Ok no_items
+as_tables (Some (array ds)) = if are_tables ds then Ok ds else Err 10
+as_tables (Some _) = Err 10
+
+abbrev pub integer_at : List ℕ → Members → Result (Option ℤ) ℕ
+integer_at key ms = as_integer (get_member key ms)
+
+abbrev pub integer_or : ℤ → List ℕ → Members → Result ℤ ℕ
+integer_or d key ms = integer_at key ms >>= λ o. Ok (unwrap_or o d)
+
+abbrev pub some_integer : List ℕ → Members → Result ℤ ℕ
+some_integer key ms = integer_at key ms >>= λ o. ok_or o 10
+
+abbrev pub some_text : List ℕ → Members → Result (List ℕ) ℕ
+some_text key ms = as_text (get_member key ms) >>= λ o. ok_or o 10
+
+-- whether each key is one of these
 abbrev pub has_only : List (List ℕ) → Members → Bool
 has_only keys no_members = true
-has_only keys (member k d ms) = is_one_of k keys && has_only keys ms
+has_only keys (member k d ms) = list_any (λ l. bytes_eq k l) keys && has_only keys ms
 
 abbrev pub only : List (List ℕ) → Members → Result (Unit {0}) ℕ
 only keys ms = if has_only keys ms then Ok tt else Err 10
@@ -79,89 +70,100 @@ only keys ms = if has_only keys ms then Ok tt else Err 10
 abbrev pub stage_keys : List (List ℕ) → List (List ℕ)
 stage_keys own = codes "kind" ∷ codes "worker" ∷ own
 
+-- a stage with no key of its own
+abbrev pub plain_of : Stage → Members → Result Stage ℕ
+plain_of stage ms = only (stage_keys []) ms >>= λ u. Ok stage
+
+-- the key `max`
+abbrev pub most_of : Members → Result ℤ ℕ
+most_of ms = only (stage_keys (codes "max" ∷ [])) ms >>= λ u. integer_or (pos 65536) (codes "max") ms
+
+abbrev pub lines_of : Members → Result Stage ℕ
+lines_of ms = most_of ms >>= λ most. Ok (Lines most)
+
+abbrev pub unframe_of : Members → Result Stage ℕ
+unframe_of ms = most_of ms >>= λ most. Ok (Unframe most)
+
+abbrev pub fixed_of : Members → Result Stage ℕ
+fixed_of ms = only (stage_keys (codes "n" ∷ [])) ms >>= λ u. (some_integer (codes "n") ms >>= λ n. Ok (Fixed n))
+
 -- the bytes of a mask's key
 abbrev pub key_of : Result (List ℕ) FromHexError → Result (List ℕ) ℕ
 key_of (Ok bytes) = Ok bytes
 key_of (Err e) = Err 10
 
--- a stage with no key of its own
-abbrev pub plain_of : Stage → Members → Result Stage ℕ
-plain_of stage ms = do
-  u ← only (stage_keys []) ms
-  Ok stage
-
-abbrev pub lines_of : Members → Result Stage ℕ
-lines_of ms = do
-  u ← only (stage_keys (codes "max" ∷ [])) ms
-  most ← or_missing (pos 65536) (as_integer (get_member (codes "max") ms))
-  Ok (Lines most)
-
-abbrev pub fixed_of : Members → Result Stage ℕ
-fixed_of ms = do
-  u ← only (stage_keys (codes "n" ∷ [])) ms
-  n ← required (as_integer (get_member (codes "n") ms))
-  Ok (Fixed n)
-
 abbrev pub mask_of : Members → Result Stage ℕ
-mask_of ms = do
-  u ← only (stage_keys (codes "key" ∷ [])) ms
-  digits ← required (as_text (get_member (codes "key") ms))
-  key ← key_of (decode_of digits)
-  Ok (Mask key)
-
-abbrev pub unframe_of : Members → Result Stage ℕ
-unframe_of ms = do
-  u ← only (stage_keys (codes "max" ∷ [])) ms
-  most ← or_missing (pos 65536) (as_integer (get_member (codes "max") ms))
-  Ok (Unframe most)
+mask_of ms =
+    only (stage_keys (codes "key" ∷ [])) ms >>= λ u. (some_text (codes "key") ms >>= λ digits. (key_of (decode_of digits) >>= λ key. Ok (Mask key)))
 
 -- a stage of this kind; 11 where there is none
 abbrev pub of_kind : List ℕ → Members → Result Stage ℕ
 of_kind kind ms =
-    if same_key kind (codes "lines") then lines_of ms
-    else if same_key kind (codes "fixed") then fixed_of ms
-    else if same_key kind (codes "hex") then plain_of Hex ms
-    else if same_key kind (codes "unhex") then plain_of Unhex ms
-    else if same_key kind (codes "mask") then mask_of ms
-    else if same_key kind (codes "number") then plain_of Number ms
-    else if same_key kind (codes "frame") then plain_of Frame ms
-    else if same_key kind (codes "unframe") then unframe_of ms
+    if bytes_eq kind (codes "lines") then lines_of ms
+    else if bytes_eq kind (codes "fixed") then fixed_of ms
+    else if bytes_eq kind (codes "hex") then plain_of Hex ms
+    else if bytes_eq kind (codes "unhex") then plain_of Unhex ms
+    else if bytes_eq kind (codes "mask") then mask_of ms
+    else if bytes_eq kind (codes "number") then plain_of Number ms
+    else if bytes_eq kind (codes "frame") then plain_of Frame ms
+    else if bytes_eq kind (codes "unframe") then unframe_of ms
     else Err 11
 
 -- a stage, on this worker where it names none
-abbrev pub placed_of : ℤ → Members → Result Placed ℕ
-placed_of before ms = do
-  kind ← required (as_text (get_member (codes "kind") ms))
-  stage ← of_kind kind ms
-  worker ← or_missing before (as_integer (get_member (codes "worker") ms))
-  Ok (record { stage = stage; worker = worker })
+abbrev pub placed_in : ℤ → Members → Result Placed ℕ
+placed_in before ms =
+    some_text (codes "kind") ms >>= λ kind. (of_kind kind ms >>= λ stage. (integer_or before (codes "worker") ms >>= λ worker.
+    Ok (record { stage = stage; worker = worker })))
+
+abbrev pub placed_of : ℤ → Data → Result Placed ℕ
+placed_of before (table ms) = placed_in before ms
+placed_of before _ = Err 10
 
 -- the stages in file order, each on the worker of the one before where it names none
-abbrev pub all_placed : ℤ → List Members → Result (List Placed) ℕ
-all_placed before [] = Ok []
-all_placed before (ms ∷ tables) = placed_of before ms >>= λ p. (all_placed p.worker tables >>= λ ps. Ok (p ∷ ps))
+abbrev pub all_placed : ℤ → Items → Result (List Placed) ℕ
+all_placed before no_items = Ok []
+all_placed before (item d ds) = placed_of before d >>= λ p. (all_placed p.worker ds >>= λ ps. Ok (p ∷ ps))
 
-abbrev pub only_some : Option ℤ → Found ℤ → Result (Option ℤ) ℕ
-only_some d Missing = Ok d
-only_some d Wrong = Err 10
-only_some d (Is z) = Ok (Some z)
-
--- the version is looked at before the other keys of the file, and these before any stage
-abbrev pub version_of : Found ℤ → Result (Unit {0}) ℕ
-version_of Missing = Err 10
-version_of Wrong = Err 10
-version_of (Is z) = if int_le (pos 1) z && int_le z (pos 1) then Ok tt else Err 12
+abbrev pub version_of : ℤ → Result (Unit {0}) ℕ
+version_of z = if int_le (pos 1) z && int_le z (pos 1) then Ok tt else Err 12
 
 abbrev pub top_keys : List (List ℕ)
 top_keys = codes "version" ∷ codes "workers" ∷ codes "abort_after" ∷ codes "max_input" ∷ codes "stage" ∷ []
 
+-- the worker of a first stage that names none
+abbrev pub first_worker : ℤ → ℤ
+first_worker workers = if int_le (pos 1) workers then pos 1 else pos 0
+
+-- the version is looked at before the other keys of the file, and these before any stage
 abbrev pub planned : Members → Result Planned ℕ
-planned ms = do
-  u ← version_of (as_integer (get_member (codes "version") ms))
-  v ← only top_keys ms
-  workers ← or_missing (pos 0) (as_integer (get_member (codes "workers") ms))
-  after ← only_some None (as_integer (get_member (codes "abort_after") ms))
-  most ← or_missing (pos 1099511627776) (as_integer (get_member (codes "max_input") ms))
-  tables ← or_missing [] (as_tables (get_member (codes "stage") ms))
-  stages ← all_placed (if int_le (pos 1) workers then pos 1 else pos 0) tables
-  Ok (record { workers = workers; abort_after = after; max_input = most; stages = stages })
+planned ms =
+    some_integer (codes "version") ms >>= λ version. (version_of version >>= λ u. (only top_keys ms >>= λ v.
+    (integer_or (pos 0) (codes "workers") ms >>= λ workers. (integer_at (codes "abort_after") ms >>= λ after.
+    (integer_or (pos 1099511627776) (codes "max_input") ms >>= λ most. (as_tables (get_member (codes "stage") ms) >>= λ tables.
+    (all_placed (first_worker workers) tables >>= λ stages.
+    Ok (record { workers = workers; abort_after = after; max_input = most; stages = stages }))))))))
+
+-- the table of a file; 9 where it isn't TOML, whose text is UTF-8
+abbrev pub table_of : Option Members → Result Members ℕ
+table_of None = Err 9
+table_of (Some ms) = Ok ms
+
+abbrev pub table_in : List ℕ → Result Members ℕ
+table_in text = if is_utf8 text then table_of (parse_document text) else Err 9
+
+-- a plan that isn't refused
+abbrev pub unless_refused : Planned → Option ℕ → Result Planned ℕ
+unless_refused p None = Ok p
+unless_refused p (Some n) = Err n
+
+abbrev pub accepted : Planned → Result Planned ℕ
+accepted p = unless_refused p (refusal_of p.workers p.abort_after p.max_input p.stages)
+
+-- the most bytes of a pipeline file
+abbrev pub most_of_a_file : ℕ
+most_of_a_file = 1048576
+
+-- what a file of this text says: 8 where it is too long
+abbrev pub reading : List ℕ → Result Planned ℕ
+reading text =
+    if nat_lt most_of_a_file (length text) then Err 8 else (table_in text >>= λ ms. (planned ms >>= accepted))

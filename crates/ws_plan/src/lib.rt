@@ -1,6 +1,12 @@
-//! The text of a plan, as `check` prints it.
+//! Pipeline files: their plans, and the text of a plan, as `check` prints it.
 #![tactic(auto)]
 
+mod keys;
+mod read;
+mod refused;
+mod stages;
 mod text;
 
+pub use read::read_plan;
+pub use refused::PlanRefused;
 pub use text::plan_text;
