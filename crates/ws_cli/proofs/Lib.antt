@@ -1,4 +1,6 @@
+pub mod Checking
 pub mod Moves
 pub mod Oks
+pub mod Performing
 pub mod Rounds
 pub mod Copies

@@ -12,16 +12,19 @@ use Rattle.ws_io.specs.declared.status.Status.TheVariants.{Done, Usage, NoMemory
 use Rattle.ws_grammar.specs.declared.line.Line.{Line}
 use Rattle.ws_grammar.specs.Lines.{lines, most_bytes}
 use Rattle.ws_script.specs.Ends.{ScriptEnds}
+use Rattle.ws_cli.specs.Check.{Shelf, PerformsCheck, heard_by}
 use Rattle.ws_cli.specs.Run.{Ends}
-use Rattle.ws_cli.specs.Words.{IsRun, IsScript}
+use Rattle.ws_cli.specs.Words.{IsRun, IsScript, IsCheck, IsNoCheck}
 
--- what these words have done to an input and an output, with the status that it ended with
-pub record Performs {S K : Type 0} (words : List (List ℕ)) (status : Status) (input input' : S) (output output' : K)
-    (old new : Moment) (got got' : List ℕ → Type 0) : Type 0 where
+-- what these words have done to files, an input and an output, with the status that it ended with
+pub record Performs {F S K : Type 0} (words : List (List ℕ)) (status : Status) (files files' : F) (input input' : S) (output output' : K)
+    (shelf shelf' : Shelf) (old new : Moment) (got got' : List ℕ → Type 0) : Type 0 where
   -- the usage is told exactly where the words have none of the forms, and then nothing is read or written
-  pub usage : status ≡ Usage → (IsRun words ⊎ IsScript words) → ⊥
-  pub other_words : ((IsRun words ⊎ IsScript words) → ⊥) → status ≡ Usage
+  pub usage : status ≡ Usage → (IsRun words ⊎ IsScript words → ⊥) × IsNoCheck words
+  pub other_words : (IsRun words ⊎ IsScript words → ⊥) → IsNoCheck words → status ≡ Usage
   pub untouched : status ≡ Usage → (input' ≡ input) × (output' ≡ output)
+  -- no other form than `check` loads a file
+  pub unloaded : IsNoCheck words → files' ≡ files
   -- what a run may end with
   pub run : IsRun words → Ends status (2 ^ 40) 4096 old new got got'
   -- where nothing fails and the input isn't too long, all of it is copied or memory can't be had
@@ -42,6 +45,10 @@ pub record Performs {S K : Type 0} (words : List (List ℕ)) (status : Status) (
   pub script_too_long : IsScript words → (text : List ℕ)
       → HasLeft old.feed text → most_bytes < length text
       → Calm old.read_faults new.read_faults → (status ≡ Script 0) ⊎ (status ≡ NoMemory)
+  -- what a check does. It reads no input
+  pub check : (name : List ℕ) → IsCheck words name
+      → PerformsCheck status name output output' shelf shelf' (heard_by old) (heard_by new) got got'
+  pub check_unread : (name : List ℕ) → IsCheck words name → input' ≡ input
 
 -- where the arguments are told, these words stand after the program's name, and each argument is UTF-8
 abbrev pub AreWords : Option (List (List ℕ)) → List (List ℕ) → Type 0
@@ -49,11 +56,11 @@ AreWords None words = Unit {0}
 AreWords (Some arguments) words = (words ≡ drop 1 arguments) × All IsUtf8 arguments
 
 -- the words of the arguments were performed
-pub record PerformsWords {S K : Type 0} (told : Option (List (List ℕ))) (status : Status) (input input' : S) (output output' : K)
-    (old new : Moment) (got got' : List ℕ → Type 0) : Type 0 where
+pub record PerformsWords {F S K : Type 0} (told : Option (List (List ℕ))) (status : Status) (files files' : F) (input input' : S)
+    (output output' : K) (shelf shelf' : Shelf) (old new : Moment) (got got' : List ℕ → Type 0) : Type 0 where
   pub words : List (List ℕ)
   pub are : AreWords told words
-  pub performs : Performs words status input input' output output' old new got got'
+  pub performs : Performs words status files files' input input' output output' shelf shelf' old new got got'
 
 -- the status of arguments that can't be had
 abbrev pub TellsRefusal : Option (List (List ℕ)) → Status → Type 0
@@ -61,17 +68,21 @@ TellsRefusal told Usage = IsRefused told NotText
 TellsRefusal told NoMemory = Unit {0}
 TellsRefusal told _ = ⊥
 
--- the arguments couldn't be had, and nothing was read or written
-pub record LacksWords {S K : Type 0} (told : Option (List (List ℕ))) (status : Status) (input input' : S) (output output' : K) : Type 0 where
+-- the arguments couldn't be had, and nothing was loaded, read or written
+pub record LacksWords {F S K : Type 0} (told : Option (List (List ℕ))) (status : Status) (files files' : F) (input input' : S)
+    (output output' : K) : Type 0 where
   pub refused : TellsRefusal told status
+  pub unloaded : files' ≡ files
   pub unread : input' ≡ input
   pub unwritten : output' ≡ output
 
 -- What the program did that ended with this number: it is that of a status, whose text the notes gained and nothing else
 -- where they didn't fail.
-pub record EndsWith {S K : Type 0} (told : Option (List (List ℕ))) (number : ℕ) (input input' : S) (output output' : K)
-    (old new : Moment) (got got' : List ℕ → Type 0) (failed failed' : ℕ) (notes notes' : List ℕ → Type 0) : Type 0 where
+pub record EndsWith {F S K : Type 0} (told : Option (List (List ℕ))) (number : ℕ) (files files' : F) (input input' : S) (output output' : K)
+    (shelf shelf' : Shelf) (old new : Moment) (got got' : List ℕ → Type 0) (failed failed' : ℕ) (notes notes' : List ℕ → Type 0) : Type 0 where
   pub status : Status
   pub numbered : number ≡ number_of status
-  pub did : PerformsWords told status input input' output output' old new got got' ⊎ LacksWords told status input input' output output'
+  pub did :
+      PerformsWords told status files files' input input' output output' shelf shelf' old new got got'
+      ⊎ LacksWords told status files files' input input' output output'
   pub noted : Calm failed failed' → Gains notes notes' (text_of status)

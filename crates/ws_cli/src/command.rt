@@ -1,11 +1,14 @@
 //! The words of the command line.
-ghost use Rattle.std.specs.Prelude.{◌≡◌, ◌<◌, ◌^◌, ◌↔◌, ◌∷◌, [], IsTrue};
+ghost use Rattle.std.specs.Prelude.{◌≡◌, ◌<◌, ◌^◌, ◌↔◌, ◌∷◌, [], ℕ, List, IsTrue, MatchOption};
 ghost use Rattle.ws_io.specs.Faults.{Calm};
 ghost use Rattle.ws_io.specs.Gain.{Gains, KeepsTold};
 ghost use Rattle.ws_io.specs.Moment.{moment};
 ghost use Rattle.ws_io.specs.Notes.{text_of};
+ghost use Rattle.ws_cli.specs.Check.{shelf};
 ghost use Rattle.ws_cli.specs.Commands.{Performs};
+ghost use Rattle.ws_cli.specs.Words.{IsNoCheck};
 
+use crate::check::run_check;
 use crate::copy::run;
 use std::alloc::Global;
 use std::sync::Wait;
@@ -33,18 +36,37 @@ fn is_alone(words: &[Text], name: &[u8]) -> bool
     }
 }
 
+/// What stands behind this word, where it is one word.
+fn file_after<'a>(words: &'a [Text], name: &[u8]) -> Option<&'a Text>
+    ensures { MatchOption result ((file : List ℕ) → words.now ≡ name.now ∷ file ∷ [] → ⊥) (λ file. words.now ≡ name.now ∷ file.now ∷ []) }
+{
+    match words {
+        [word, file] => {
+            if is_text(word, name) {
+                Some(file)
+            } else {
+                None
+            }
+        }
+        _ => None,
+    }
+}
+
 /// Does what the words after the program's name say.
-fn perform<R: Wait, S: Source, K: Sink>(
+fn perform<R: Wait, F: Files, S: Source, K: Sink>(
     rt: &R,
     alloc: Global,
     words: &[Text],
+    files: &mut F,
     input: &mut S,
     output: &mut K,
 ) -> Status
-    ensures { Performs words.now result input.old input.new output.old output.new
+    ensures performs { Performs words.now result files.old files.new input.old input.new output.old output.new
+        (shelf (F.texts files.old) (F.faults files.old)) (shelf (F.texts files.new) (F.faults files.new))
         (moment (S.faults input.old) (S.feed input.old) (K.faults output.old) (K.finished output.old))
         (moment (S.faults input.new) (S.feed input.new) (K.faults output.new) (K.finished output.new))
         (K.got output.old) (K.got output.new) }
+    ensures texts { F.texts files.new ≡ F.texts files.old }
 {
     if is_alone(words, b"run") {
         return run(rt, alloc, input, output, MAX_INPUT);
@@ -52,7 +74,10 @@ fn perform<R: Wait, S: Source, K: Sink>(
     if is_alone(words, b"script") {
         return run_script(alloc, input, output);
     }
-    Status::Usage
+    match file_after(words, b"check") {
+        Some(file) => run_check(alloc, files, file, output),
+        None => Status::Usage,
+    }
 }
 
 /// Does what the words after the program's name say, and writes the text of the status on the notes.
@@ -67,21 +92,22 @@ pub fn top<R: Threads + Wait, F: Files, S: Source, K: Sink, E: Sink, G: Gate>(
     _gate: &G,
 ) -> Status
     // What each command did, by its words.
-    ensures performs { Performs words.now result input.old input.new output.old output.new
+    ensures performs { Performs words.now result files.old files.new input.old input.new output.old output.new
+        (shelf (F.texts files.old) (F.faults files.old)) (shelf (F.texts files.new) (F.faults files.new))
         (moment (S.faults input.old) (S.feed input.old) (K.faults output.old) (K.finished output.old))
         (moment (S.faults input.new) (S.feed input.new) (K.faults output.new) (K.finished output.new))
         (K.got output.old) (K.got output.new) }
 
-    // No form loads a file.
-    ensures files { files.new ≡ files.old }
+    // No form but `check` loads a file, and no load changes what the files tell.
+    ensures files { IsNoCheck words.now → files.new ≡ files.old }
+    ensures texts { F.texts files.new ≡ F.texts files.old }
 
     // Where the notes didn't fail, they gained the text of the status and nothing else. They are never finished.
     ensures notes { Calm (E.faults notes.old) (E.faults notes.new)
         → Gains (E.got notes.old) (E.got notes.new) (text_of result) }
     ensures notes_end { KeepsTold (E.finished notes.old) (E.finished notes.new) }
 {
-    let _ = files;
-    let status = perform(rt, alloc, words, input, output);
+    let status = perform(rt, alloc, words, files, input, output);
     let _ = status.write_text(notes);
     status
 }

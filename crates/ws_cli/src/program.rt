@@ -5,6 +5,7 @@ ghost use Rattle.ws_io.specs.Faults.{Calm};
 ghost use Rattle.ws_io.specs.Gain.{Gains, KeepsTold};
 ghost use Rattle.ws_io.specs.Moment.{moment};
 ghost use Rattle.ws_io.specs.Notes.{number_of, text_of};
+ghost use Rattle.ws_cli.specs.Check.{shelf};
 ghost use Rattle.ws_cli.specs.Commands.{EndsWith};
 
 use crate::command::top;
@@ -47,12 +48,13 @@ pub fn process<R: Threads + Wait, A: Arguments, F: Files, S: Source, K: Sink, E:
     notes: &mut E,
     gate: &G,
 ) -> ExitCode
-    ensures ends { EndsWith (A.told arguments.now) (exit_status result) input.old input.new output.old output.new
+    ensures ends { EndsWith (A.told arguments.now) (exit_status result) files.old files.new input.old input.new output.old output.new
+        (shelf (F.texts files.old) (F.faults files.old)) (shelf (F.texts files.new) (F.faults files.new))
         (moment (S.faults input.old) (S.feed input.old) (K.faults output.old) (K.finished output.old))
         (moment (S.faults input.new) (S.feed input.new) (K.faults output.new) (K.finished output.new))
         (K.got output.old) (K.got output.new)
         (E.faults notes.old) (E.faults notes.new) (E.got notes.old) (E.got notes.new) }
-    ensures files { files.new ≡ files.old }
+    ensures texts { F.texts files.new ≡ F.texts files.old }
     ensures notes_end { KeepsTold (E.finished notes.old) (E.finished notes.new) }
 {
     let all = match arguments.all(alloc) {

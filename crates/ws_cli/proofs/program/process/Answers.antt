@@ -1,5 +1,6 @@
-use Rattle.std.proofs.Common.{inr, refl}
+use Rattle.std.proofs.Common.{inl, inr, refl, ap, drop, ◌∙◌, rules}
 use Rattle.ws_io.specs.declared.status.Status.TheVariants.{Usage, NoMemory}
+use Rattle.ws_cli.proofs.Performing.{are_words}
 use Rattle.ws_cli.proofs.program.process.Goals as goal
 
 -- the arguments weren't had
@@ -8,7 +9,7 @@ returns-in-Err-NotText-clause-ends g c =
     record {
       status = Usage;
       numbered = c.end.ensures.number;
-      did = inr (record { refused = rw (← c.in-Err-NotText.field-0-is) c.in-Err-NotText.ensures; unread = refl; unwritten = refl });
+      did = inr (record { refused = rw (← c.in-Err-NotText.field-0-is) c.in-Err-NotText.ensures; unloaded = refl; unread = refl; unwritten = refl });
       noted = c.end.ensures.notes;
     }
 
@@ -17,6 +18,21 @@ returns-in-Err-NoMemory-clause-ends g c =
     record {
       status = NoMemory;
       numbered = c.end-in-Err-NoMemory.ensures.number;
-      did = inr (record { refused = tt; unread = refl; unwritten = refl });
+      did = inr (record { refused = tt; unloaded = refl; unread = refl; unwritten = refl });
       noted = c.end-in-Err-NoMemory.ensures.notes;
+    }
+
+pub returns-clause-ends : goal.returns-clause-ends
+returns-clause-ends g c =
+    record {
+      status = c.top-status.result;
+      numbered = search rules;
+      did = inl (record {
+        words = c.after_name-words.result.now;
+        are =
+            are_words (g.A.Arguments.told c.args.arguments.now) c.in-Ok.all.items c.after_name-words.result.now c.in-Ok.ensures
+            (c.after_name-words.ensures ∙ ap (drop 1) c.deref.ensures.value);
+        performs = c.top-status.ensures.performs;
+      });
+      noted = c.top-status.ensures.notes;
     }
