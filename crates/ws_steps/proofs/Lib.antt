@@ -1,8 +1,9 @@
 pub mod PromiseLaws
 pub mod StreamLaws
 mod WorkedPromises
-mod WorkedWords
+pub mod WorkedWords
 mod WorkedReads
 mod WorkedAborts
 mod WorkedWrites
 mod WorkedHistories
+mod WorkedPipes

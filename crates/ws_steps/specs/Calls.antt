@@ -1,7 +1,9 @@
 -- The calls on a realm: their checks, what they answer, what they make, and the effects that they cause.
 use Rattle.std.specs.Prelude.{ℕ, Bool, true, false, nat_lt, if◌then◌else◌, List, [], ◌∷◌, ◌++◌, length, Option, Some, None, Result, Ok, Err, slice_set}
 use Rattle.ws_value.specs.declared.ids.LockId.{LockId}
+use Rattle.ws_value.specs.declared.ids.PipeId.{PipeId}
 use Rattle.ws_value.specs.declared.ids.PromiseId.{PromiseId}
+use Rattle.ws_value.specs.declared.ids.SignalId.{SignalId}
 use Rattle.ws_value.specs.declared.ids.StreamId.{StreamId}
 use Rattle.ws_value.specs.declared.ids.HostId.{HostId}
 use Rattle.ws_value.specs.declared.value.Plain.{Plain}
@@ -10,34 +12,35 @@ use Rattle.ws_value.specs.declared.value.Value.{Value}
 use Rattle.ws_steps.specs.declared.calls.Answer.{Answer}
 use Rattle.ws_steps.specs.declared.calls.Answer.TheVariants.{Ok as AnswerOk, Fail as AnswerFail}
 use Rattle.ws_steps.specs.declared.calls.Call.{Call}
-use Rattle.ws_steps.specs.declared.calls.Call.TheVariants.{MakeReadable, MakeWritable, GetReader, GetWriter, Cancel, CancelBy, Read, Write, Close, CloseBy, Abort, AbortBy, Closed, Ready, Release, Enqueue, Finish, Fail, Desired, DesiredBy, Settle, State, Step}
+use Rattle.ws_steps.specs.declared.calls.Call.TheVariants.{MakeReadable, MakeWritable, GetReader, GetWriter, Cancel, CancelBy, Read, Write, Close, CloseBy, Abort, AbortBy, Closed, Ready, Release, Enqueue, Finish, Fail, Desired, DesiredBy, Pipe, MakeSignal, Trigger, Settle, State, Step}
 use Rattle.ws_steps.specs.declared.calls.Reply.{Reply}
-use Rattle.ws_steps.specs.declared.calls.Reply.TheVariants.{Done as ReplyDone, Made, Lock as ReplyLock, Promise, Size, State as ReplyState, Throws, TooMany}
+use Rattle.ws_steps.specs.declared.calls.Reply.TheVariants.{Done as ReplyDone, Made, Lock as ReplyLock, Promise, Signal as ReplySignal, Size, State as ReplyState, Throws, TooMany}
 use Rattle.ws_steps.specs.declared.calls.StartBy.{StartBy}
 use Rattle.ws_steps.specs.declared.calls.Thrown.TheVariants.{TypeError, Unsupported}
 use Rattle.ws_steps.specs.declared.effects.Effect.{Effect}
-use Rattle.ws_steps.specs.declared.effects.Effect.TheVariants.{Readable, Writable, StartAlgorithm, Settle as SettlePromise}
+use Rattle.ws_steps.specs.declared.effects.Effect.TheVariants.{Readable, Writable, Pipe as OnPipe, Signal as OnSignal, StartAlgorithm, Settle as SettlePromise, Queue}
 use Rattle.ws_steps.specs.declared.effects.Owner.TheVariants.{Host}
 use Rattle.ws_steps.specs.declared.locks.Lock.{Lock}
-use Rattle.ws_steps.specs.declared.locks.Lock.TheVariants.{Reader as ReaderLock, Writer as WriterLock, ReleasedWriter}
+use Rattle.ws_steps.specs.declared.locks.Lock.TheVariants.{Reader as ReaderLock, Writer as WriterLock, ReleasedWriter, Inner}
 use Rattle.ws_steps.specs.declared.readable.ReadRequest.TheVariants.{Promise as PromiseRequest}
 use Rattle.ws_steps.specs.declared.readable.ReadableOperation.{ReadableOperation}
-use Rattle.ws_steps.specs.declared.readable.ReadableOperation.TheVariants.{InitializeReader, ReleaseReader, Read as ReadChunk, Cancel as CancelStream, Enqueue as EnqueueChunk, Close as CloseReadable, Error as ErrorReadable}
-use Rattle.ws_steps.specs.declared.promises.Step.TheVariants.{ReadableStart, WritableStart}
+use Rattle.ws_steps.specs.declared.readable.ReadableOperation.TheVariants.{InitializeReader, ReleaseReader, Disturb, Read as ReadChunk, Cancel as CancelStream, Enqueue as EnqueueChunk, Close as CloseReadable, Error as ErrorReadable}
+use Rattle.ws_steps.specs.declared.pipes.PipeOperation.TheVariants.{Abort as AbortPipe}
+use Rattle.ws_steps.specs.declared.pipes.Prevent.{Prevent}
+use Rattle.ws_steps.specs.declared.pipes.SignalOperation.TheVariants.{Add as AddPipe, Trigger as TriggerSignal}
+use Rattle.ws_steps.specs.declared.promises.Micro.TheVariants.{PipeLook}
+use Rattle.ws_steps.specs.declared.promises.Step.TheVariants.{ReadableStart, WritableStart, PipeEnds}
 use Rattle.ws_steps.specs.declared.readable.SizeBy.{SizeBy}
 use Rattle.ws_steps.specs.declared.writable.WritableOperation.TheVariants.{SetUpWriter, ReleaseWriter, Write as WriteChunk, Close as CloseStream, Abort as AbortStream, ErrorIfNeeded}
 use Rattle.ws_steps.specs.declared.writable.Writer.{Writer}
 use Rattle.ws_steps.specs.Promises.{Table, next_id, fresh, watch, is_pending_at}
 use Rattle.ws_steps.specs.Effects.{type_error}
+use Rattle.ws_steps.specs.Pipes as pipe
 use Rattle.ws_steps.specs.Readable as readable
 use Rattle.ws_steps.specs.ReadableLooks as readable_looks
 use Rattle.ws_steps.specs.Writable as writable
 use Rattle.ws_steps.specs.WritableLooks as writable_looks
-use Rattle.ws_steps.specs.Slots.{Slots, Stream, ReadableStream, WritableStream, Done, nothing, causes, with_promises, has_readable, has_writable, readable_at, writable_at, lock_at, host_at}
-
--- the most streams of a realm
-abbrev pub most_streams : ℕ
-most_streams = 1024
+use Rattle.ws_steps.specs.Slots.{Slots, most_streams, Stream, ReadableStream, WritableStream, Done, nothing, causes, with_promises, has_readable, has_writable, readable_at, writable_at, lock_at, host_at, signal_at, has_signal}
 
 -- a call's reply, and what it leaves and causes
 pub record Begun : Type 0 where
@@ -121,9 +124,8 @@ read i s = promising (λ p. Readable i (ReadChunk (PromiseRequest p)) ∷ []) s
 abbrev pub write : Value → StreamId → Slots → Begun
 write v i s = promising (λ p. Writable i (WriteChunk v p) ∷ []) s
 
--- a stream that is closing isn't closed again
 abbrev pub close : StreamId → Slots → Begun
-close i s = if writable.is_closing (writable_at i s) then rejected s else promising (λ p. Writable i (CloseStream p) ∷ []) s
+close i s = promising (λ p. Writable i (CloseStream p) ∷ []) s
 
 -- where an abort is pending, its promise is answered
 abbrev pub abort_unless : Plain → StreamId → Slots → Option PromiseId → Begun
@@ -142,6 +144,7 @@ by_reader holding free s (Some (ReaderLock (Some i) closed)) = for_readable i (h
 by_reader holding free s (Some (ReaderLock None closed)) = free s
 by_reader holding free s (Some (WriterLock i)) = unsupported s
 by_reader holding free s (Some (ReleasedWriter w)) = unsupported s
+by_reader holding free s (Some Inner) = unsupported s
 
 -- what a writer does while it has a stream, and what is answered once it is released; a reader has no such call
 abbrev pub by_writer : (StreamId → Slots → Begun) → (Slots → Begun) → Slots → Option Lock → Begun
@@ -149,6 +152,7 @@ by_writer holding free s None = unsupported s
 by_writer holding free s (Some (ReaderLock stream closed)) = unsupported s
 by_writer holding free s (Some (WriterLock i)) = for_writable i (holding i) s
 by_writer holding free s (Some (ReleasedWriter w)) = free s
+by_writer holding free s (Some Inner) = unsupported s
 
 -- what is answered of the promises of a stream's writer
 abbrev pub of_writer : (Writer → Slots → Begun) → Slots → Option Writer → Begun
@@ -160,12 +164,14 @@ closed_by s None = unsupported s
 closed_by s (Some (ReaderLock stream closed)) = replies (Promise closed) s
 closed_by s (Some (WriterLock i)) = of_writer (λ w. replies (Promise w.closed)) s (writable_at i s).writer
 closed_by s (Some (ReleasedWriter w)) = replies (Promise w.closed) s
+closed_by s (Some Inner) = unsupported s
 
 abbrev pub ready_by : Slots → Option Lock → Begun
 ready_by s None = unsupported s
 ready_by s (Some (ReaderLock stream closed)) = unsupported s
 ready_by s (Some (WriterLock i)) = of_writer (λ w. replies (Promise w.ready)) s (writable_at i s).writer
 ready_by s (Some (ReleasedWriter w)) = replies (Promise w.ready) s
+ready_by s (Some Inner) = unsupported s
 
 abbrev pub with_lock : LockId → Lock → Slots → Slots
 with_lock l lock s = record s { locks = slice_set s.locks l.0 lock }
@@ -209,6 +215,7 @@ release l s (Some (ReaderLock (Some i) closed)) = for_readable i (release_reader
 release l s (Some (ReaderLock None closed)) = replies ReplyDone s
 release l s (Some (WriterLock i)) = of_writer (release_writer l i) s (writable_at i s).writer
 release l s (Some (ReleasedWriter w)) = replies ReplyDone s
+release l s (Some Inner) = unsupported s
 
 -- calls on controllers
 
@@ -256,6 +263,68 @@ abbrev pub unlocked_writable : StreamId → (Slots → Begun) → (StreamId → 
 unlocked_writable i locked free s =
     for_writable i (λ s. if writable_looks.is_locked (writable_at i s) then locked s else free i s) s
 
+-- pipes and signals
+
+-- a call on a signal, where there is one of this number
+abbrev pub for_signal : SignalId → (Slots → Begun) → Slots → Begun
+for_signal a operation s = if has_signal a s then operation s else unsupported s
+
+abbrev pub for_signal_where : Option SignalId → (Slots → Begun) → Slots → Begun
+for_signal_where None operation s = operation s
+for_signal_where (Some a) operation s = for_signal a operation s
+
+-- the reason of the signal, where there is one that was triggered
+abbrev pub reason_of : Option SignalId → Slots → Option Plain
+reason_of None s = None
+reason_of (Some a) s = (signal_at a s).reason
+
+abbrev pub adding : PipeId → Option SignalId → List Effect
+adding me None = []
+adding me (Some a) = OnSignal a (AddPipe me) ∷ []
+
+-- a pipe whose signal was triggered is aborted at once. Else it is added to its signal, reacts to the closed promises of its reader and of
+-- its writer, and a microtask looks
+abbrev pub pipe_begins : PipeId → PromiseId → PromiseId → Option SignalId → Option Plain → List Effect
+pipe_begins me reader_closed writer_closed signal (Some r) = OnPipe me (AbortPipe r) ∷ []
+pipe_begins me reader_closed writer_closed signal None =
+    adding me signal
+    ++ (pipe.reacts reader_closed (PipeEnds me) ∷ pipe.reacts writer_closed (PipeEnds me) ∷ Queue (PipeLook me) ∷ [])
+
+-- ReadableStreamPipeTo: a reader and a writer of the pipe's own take the two streams, the source is disturbed, and the pipe begins. The
+-- promise that is answered is the pipe's
+abbrev pub pipe_to : StreamId → StreamId → Prevent → Option SignalId → Slots → Begun
+pipe_to source dest prevent signal s =
+    let t : Table = s.promises in
+    let closed : PromiseId = next_id t in
+    let w : Writer = record { ready = next_id (fresh t); closed = next_id (fresh (fresh t)) } in
+    let promise : PromiseId = next_id (fresh (fresh (fresh t))) in
+    let me : PipeId = record { 0 = length s.pipes } in
+    begun (Promise promise)
+    (causes
+    (Readable source (InitializeReader closed)
+    ∷ Writable dest (SetUpWriter w)
+    ∷ Readable source Disturb
+    ∷ pipe_begins me closed w.closed signal (reason_of signal s))
+    (record s {
+      pipes = s.pipes ++ pipe.set_up source dest prevent signal promise ∷ [];
+      locks = s.locks ++ Inner ∷ Inner ∷ [];
+      promises = fresh (fresh (fresh (fresh t)));
+    }))
+
+-- the ends are unlocked, the source first
+abbrev pub pipe_unlocked : StreamId → StreamId → Prevent → Option SignalId → Slots → Begun
+pipe_unlocked source dest prevent signal s =
+    if readable_looks.is_locked (readable_at source s) then rejected s
+    else if writable_looks.is_locked (writable_at dest s) then rejected s
+    else pipe_to source dest prevent signal s
+
+abbrev pub pipe_call : StreamId → StreamId → Prevent → Option SignalId → Slots → Begun
+pipe_call source dest prevent signal s =
+    for_readable source (for_writable dest (for_signal_where signal (pipe_unlocked source dest prevent signal))) s
+
+abbrev pub make_signal : Slots → Begun
+make_signal s = begun (ReplySignal (record { 0 = length s.signals })) (nothing (record s { signals = s.signals ++ pipe.new_signal ∷ [] }))
+
 -- the checks of a call in their order; what it answers and makes, and its effects
 unfoldable pub begin : Call → Slots → Begun
 begin (MakeReadable mark size start) s = make_stream (make_readable mark size start) s
@@ -278,6 +347,9 @@ begin (Finish i) s = for_readable i (if_it_can i CloseReadable) s
 begin (Fail i reason) s = fail reason i s
 begin (Desired i) s = for_readable i (desired i) s
 begin (DesiredBy l) s = by_writer desired_of_writer throws_type_error s (lock_at l s)
+begin (Pipe source dest prevent signal) s = pipe_call source dest prevent signal s
+begin MakeSignal s = make_signal s
+begin (Trigger a reason) s = for_signal a (does (OnSignal a (TriggerSignal reason) ∷ [])) s
 begin (Settle h answer) s = settle_host h answer s (host_at h s)
 begin (State i) s = look i s
 begin Step s = replies ReplyDone s

@@ -4,13 +4,14 @@ use Rattle.ws_value.specs.declared.ids.PromiseId.{PromiseId}
 use Rattle.ws_value.specs.declared.value.Plain.{Plain}
 use Rattle.ws_value.specs.declared.value.Plain.TheVariants.{Undefined}
 use Rattle.ws_steps.specs.declared.effects.Effect.{Effect}
-use Rattle.ws_steps.specs.declared.effects.Effect.TheVariants.{Readable, Writable, Settle as SettlePromise}
+use Rattle.ws_steps.specs.declared.effects.Effect.TheVariants.{Readable, Writable, Pipe, Settle as SettlePromise}
+use Rattle.ws_steps.specs.declared.pipes.PipeOperation.TheVariants.{Look, LookReady, WriteChunk, WriteEnded, ActionSettled, PartSettled, NoParts}
 use Rattle.ws_steps.specs.declared.promises.Job.{Job}
 use Rattle.ws_steps.specs.declared.promises.Job.TheVariants.{Reaction, Follow, Settle, Micro as MicroJob}
 use Rattle.ws_steps.specs.declared.promises.Micro.{Micro}
-use Rattle.ws_steps.specs.declared.promises.Micro.TheVariants.{PipeLook}
+use Rattle.ws_steps.specs.declared.promises.Micro.TheVariants.{PipeLook, PipeWrite, PipeNoParts}
 use Rattle.ws_steps.specs.declared.promises.Step.{Step}
-use Rattle.ws_steps.specs.declared.promises.Step.TheVariants.{ReadableStart, ReadablePull, ReturnUndefined, WritableStart, WritableWrite, WritableClose, WritableAbort}
+use Rattle.ws_steps.specs.declared.promises.Step.TheVariants.{ReadableStart, ReadablePull, ReturnUndefined, WritableStart, WritableWrite, WritableClose, WritableAbort, PipeEnds, PipeReady, PipeWrote, PipeActed, PipePart}
 use Rattle.ws_steps.specs.declared.readable.ReadableOperation.TheVariants.{StartSettled, PullSettled}
 use Rattle.ws_steps.specs.declared.writable.WritableOperation.TheVariants.{StartSettled as WritableStartSettled, WriteSettled, CloseSettled, AbortSettled}
 use Rattle.ws_steps.specs.Promises.{next_job, after_next_job}
@@ -25,6 +26,11 @@ steps (WritableStart i) outcome = Writable i (WritableStartSettled outcome) ∷ 
 steps (WritableWrite i) outcome = Writable i (WriteSettled outcome) ∷ []
 steps (WritableClose i) outcome = Writable i (CloseSettled outcome) ∷ []
 steps (WritableAbort i p) outcome = Writable i (AbortSettled p outcome) ∷ []
+steps (PipeEnds p) outcome = Pipe p Look ∷ []
+steps (PipeReady p) outcome = Pipe p LookReady ∷ []
+steps (PipeWrote p) outcome = Pipe p WriteEnded ∷ []
+steps (PipeActed p) outcome = Pipe p (ActionSettled outcome) ∷ []
+steps (PipePart p) outcome = Pipe p (PartSettled outcome) ∷ []
 
 -- what the steps return or throw; where there are none for the outcome, it goes on
 abbrev pub returned : Step → Result Plain Plain → Result Plain Plain
@@ -36,15 +42,22 @@ returned (WritableStart i) outcome = Ok Undefined
 returned (WritableWrite i) outcome = Ok Undefined
 returned (WritableClose i) outcome = Ok Undefined
 returned (WritableAbort i p) outcome = Ok Undefined
+returned (PipeEnds p) outcome = Ok Undefined
+returned (PipeReady p) outcome = Ok Undefined
+returned (PipeWrote p) outcome = Ok Undefined
+returned (PipeActed p) outcome = Ok Undefined
+returned (PipePart p) outcome = Ok Undefined
 
 -- the derived promise, where there is one, is resolved with what the steps return, once they are performed
 abbrev pub resolved : Option PromiseId → Result Plain Plain → List Effect
 resolved None outcome = []
 resolved (Some p) outcome = SettlePromise p outcome ∷ []
 
--- the steps of a microtask: there is no pipe yet
+-- the steps of a microtask
 abbrev pub micro_steps : Micro → List Effect
-micro_steps (PipeLook p) = []
+micro_steps (PipeLook p) = Pipe p Look ∷ []
+micro_steps (PipeWrite p) = Pipe p WriteChunk ∷ []
+micro_steps (PipeNoParts p) = Pipe p NoParts ∷ []
 
 abbrev pub job_effects : Job → List Effect
 job_effects (Reaction step outcome derived) = steps step outcome ++ resolved derived (returned step outcome)

@@ -5,6 +5,7 @@ pub mod Readable
 pub mod ReadableLooks
 pub mod Writable
 pub mod WritableLooks
+pub mod Pipes
 pub mod Operations
 pub mod Slots
 pub mod Places

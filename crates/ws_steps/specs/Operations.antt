@@ -1,17 +1,26 @@
 -- The operations of one record that stand on the agenda, by their names.
+use Rattle.ws_value.specs.declared.ids.PipeId.{PipeId}
 use Rattle.ws_value.specs.declared.ids.StreamId.{StreamId}
+use Rattle.ws_steps.specs.declared.pipes.Ends.{Ends}
+use Rattle.ws_steps.specs.declared.pipes.PipeOperation.{PipeOperation}
+use Rattle.ws_steps.specs.declared.pipes.PipeOperation.TheVariants.{Look, LookReady, KeepChunk, ReadEnded, WriteChunk, GoOn, WriteEnded, Abort as AbortPipe, ActionSettled, PartSettled, NoParts}
+use Rattle.ws_steps.specs.declared.pipes.SignalOperation.{SignalOperation}
+use Rattle.ws_steps.specs.declared.pipes.SignalOperation.TheVariants.{Add, Forget, Trigger}
 use Rattle.ws_steps.specs.declared.readable.ReadableOperation.{ReadableOperation}
-use Rattle.ws_steps.specs.declared.readable.ReadableOperation.TheVariants.{InitializeReader, ReleaseReader, Read, Cancel, Enqueue, Close, Error, StartSettled, PullSettled}
+use Rattle.ws_steps.specs.declared.readable.ReadableOperation.TheVariants.{InitializeReader, ReleaseReader, Disturb, Read, Cancel, CancelIfReadable, Enqueue, Close, Error, StartSettled, PullSettled}
 use Rattle.ws_steps.specs.declared.writable.WritableOperation.{WritableOperation}
-use Rattle.ws_steps.specs.declared.writable.WritableOperation.TheVariants.{SetUpWriter, ReleaseWriter, Write, Close as CloseWritable, Abort, ErrorIfNeeded, HandOn, StartSettled as WritableStartSettled, WriteSettled, CloseSettled, AbortSettled}
+use Rattle.ws_steps.specs.declared.writable.WritableOperation.TheVariants.{SetUpWriter, ReleaseWriter, Write, Close as CloseWritable, ClosePropagating, Abort, AbortIfWritable, ErrorIfNeeded, HandOn, StartSettled as WritableStartSettled, WriteSettled, CloseSettled, AbortSettled}
+use Rattle.ws_steps.specs.Pipes as pipe
 use Rattle.ws_steps.specs.Readable as readable
 use Rattle.ws_steps.specs.Writable as writable
 
 abbrev pub readable_operation : StreamId → ReadableOperation → readable.Acts → readable.Acts
 readable_operation i (InitializeReader closed) a = readable.reader_generic_initialize closed a
 readable_operation i ReleaseReader a = readable.reader_release i a
+readable_operation i Disturb a = readable.disturb a
 readable_operation i (Read request) a = readable.default_reader_read i request a
 readable_operation i (Cancel r p) a = readable.stream_cancel i r p a
+readable_operation i (CancelIfReadable r p) a = readable.cancel_if_readable i r p a
 readable_operation i (Enqueue v) a = readable.controller_enqueue i v a
 readable_operation i Close a = readable.controller_close i a
 readable_operation i (Error e) a = readable.controller_error i e a
@@ -23,10 +32,30 @@ writable_operation i (SetUpWriter w) a = writable.set_up_writer w a
 writable_operation i ReleaseWriter a = writable.writer_release a
 writable_operation i (Write v p) a = writable.writer_write i v p a
 writable_operation i (CloseWritable p) a = writable.stream_close i p a
+writable_operation i (ClosePropagating p) a = writable.close_with_error_propagation i p a
 writable_operation i (Abort r p) a = writable.stream_abort i r p a
+writable_operation i (AbortIfWritable r p) a = writable.abort_if_writable i r p a
 writable_operation i (ErrorIfNeeded e) a = writable.controller_error_if_needed i e a
 writable_operation i HandOn a = writable.hand_on i a
 writable_operation i (WritableStartSettled outcome) a = writable.start_settled i outcome a
 writable_operation i (WriteSettled outcome) a = writable.write_settled i outcome a
 writable_operation i (CloseSettled outcome) a = writable.close_settled i outcome a
 writable_operation i (AbortSettled p outcome) a = writable.abort_settled p outcome a
+
+abbrev pub pipe_operation : PipeId → Ends → PipeOperation → pipe.Acts → pipe.Acts
+pipe_operation me ends Look a = pipe.look me ends a
+pipe_operation me ends LookReady a = pipe.look_ready me ends a
+pipe_operation me ends (KeepChunk v) a = pipe.keep_chunk me v a
+pipe_operation me ends ReadEnded a = pipe.read_ended me a
+pipe_operation me ends WriteChunk a = pipe.write_chunk me a
+pipe_operation me ends GoOn a = pipe.go_on me ends a
+pipe_operation me ends WriteEnded a = pipe.write_ended me ends a
+pipe_operation me ends (AbortPipe r) a = pipe.abort me ends r a
+pipe_operation me ends (ActionSettled outcome) a = pipe.action_settled me outcome a
+pipe_operation me ends (PartSettled outcome) a = pipe.part_settled outcome a
+pipe_operation me ends NoParts a = pipe.no_parts a
+
+abbrev pub signal_operation : SignalOperation → pipe.Signal → pipe.Signalled
+signal_operation (Add p) x = pipe.add_pipe p x
+signal_operation (Forget p) x = pipe.forget_pipe p x
+signal_operation (Trigger r) x = pipe.trigger r x

@@ -1,24 +1,32 @@
 -- What an effect may take, with all that comes of it: so many turns, and so many places of each kind in memory. A price list says what
 -- one of each costs; what is said for every price list is said of each kind.
 use Rattle.std.specs.Prelude.{ℕ, ◌+◌, ◌*◌, List, [], ◌∷◌, length, Option, Some, None, slice_get}
+use Rattle.ws_value.specs.declared.ids.PipeId.{PipeId}
+use Rattle.ws_value.specs.declared.ids.SignalId.{SignalId}
 use Rattle.ws_value.specs.declared.ids.StreamId.{StreamId}
+use Rattle.ws_value.specs.declared.value.Plain.{Plain}
 use Rattle.ws_value.specs.declared.value.Outcome.{Outcome}
 use Rattle.ws_value.specs.declared.value.Outcome.TheVariants.{Pending, Fulfilled, Given, Finished, Rejected}
 use Rattle.ws_steps.specs.declared.calls.StartBy.{StartBy}
 use Rattle.ws_steps.specs.declared.calls.StartBy.TheVariants.{Now, Later}
 use Rattle.ws_steps.specs.declared.effects.Effect.{Effect}
-use Rattle.ws_steps.specs.declared.effects.Effect.TheVariants.{Readable, Writable, StartAlgorithm, PullAlgorithm, CancelAlgorithm, WriteAlgorithm, CloseAlgorithm, AbortAlgorithm, ChunkSteps, CloseSteps, ErrorSteps, Give, Settle, CallHost}
+use Rattle.ws_steps.specs.declared.effects.Effect.TheVariants.{Readable, Writable, Pipe, Signal, StartAlgorithm, PullAlgorithm, CancelAlgorithm, WriteAlgorithm, CloseAlgorithm, AbortAlgorithm, ChunkSteps, CloseSteps, ErrorSteps, Give, Settle, Queue, CallHost}
 use Rattle.ws_steps.specs.declared.effects.Gift.{Gift}
 use Rattle.ws_steps.specs.declared.effects.Gift.TheVariants.{This, Fresh}
+use Rattle.ws_steps.specs.declared.pipes.PipeOperation.{PipeOperation}
+use Rattle.ws_steps.specs.declared.pipes.PipeOperation.TheVariants.{Look, LookReady, KeepChunk, ReadEnded, WriteChunk, GoOn, WriteEnded, Abort as AbortPipe, ActionSettled, PartSettled, NoParts}
+use Rattle.ws_steps.specs.declared.pipes.SignalOperation.{SignalOperation}
+use Rattle.ws_steps.specs.declared.pipes.SignalOperation.TheVariants.{Add, Forget, Trigger}
 use Rattle.ws_steps.specs.declared.readable.ReadableOperation.{ReadableOperation}
-use Rattle.ws_steps.specs.declared.readable.ReadableOperation.TheVariants.{InitializeReader, ReleaseReader, Read, Cancel, Enqueue, Close, Error, StartSettled, PullSettled}
+use Rattle.ws_steps.specs.declared.readable.ReadableOperation.TheVariants.{InitializeReader, ReleaseReader, Disturb, Read, Cancel, CancelIfReadable, Enqueue, Close, Error, StartSettled, PullSettled}
 use Rattle.ws_steps.specs.declared.writable.WritableOperation.{WritableOperation}
-use Rattle.ws_steps.specs.declared.writable.WritableOperation.TheVariants.{SetUpWriter, ReleaseWriter, Write, Close as CloseWritable, Abort, ErrorIfNeeded, HandOn, StartSettled as WritableStartSettled, WriteSettled, CloseSettled, AbortSettled}
+use Rattle.ws_steps.specs.declared.writable.WritableOperation.TheVariants.{SetUpWriter, ReleaseWriter, Write, Close as CloseWritable, ClosePropagating, Abort, AbortIfWritable, ErrorIfNeeded, HandOn, StartSettled as WritableStartSettled, WriteSettled, CloseSettled, AbortSettled}
+use Rattle.ws_steps.specs.Pipes as pipe
 use Rattle.ws_steps.specs.Promises.{Entry, Table}
 use Rattle.ws_steps.specs.Slots.{Slots, Stream, ReadableStream, WritableStream}
 
--- the prices of a turn, a promise, a job or a reaction, an event, a host's number, an entry in the queue of a stream, and one in the
--- list of its read or write requests
+-- the prices of a turn, a promise, a job or a reaction, an event, a host's number, an entry in the queue of a stream, one in the list of
+-- its read or write requests, and a pipe in the list of a signal
 pub record Prices : Type 0 where
   pub turn : ℕ
   pub promise : ℕ
@@ -27,6 +35,7 @@ pub record Prices : Type 0 where
   pub host : ℕ
   pub queued : ℕ
   pub request : ℕ
+  pub member : ℕ
 
 -- the price of so many turns, promises, jobs, events, host's numbers, queued entries and requests
 abbrev pub price : Prices → ℕ → ℕ → ℕ → ℕ → ℕ → ℕ → ℕ → ℕ
@@ -50,8 +59,10 @@ start_price π Later = price π 3 2 2 1 1 0 0
 abbrev pub readable_price : Prices → ReadableOperation → ℕ
 readable_price π (InitializeReader closed) = price π 1 0 0 0 0 0 0
 readable_price π ReleaseReader = price π 1 0 0 0 0 0 0
-readable_price π (Read request) = price π 4 1 1 1 1 0 1
+readable_price π Disturb = price π 1 0 0 0 0 0 0
+readable_price π (Read request) = price π 5 1 2 1 1 0 1
 readable_price π (Cancel r p) = price π 3 1 1 1 1 0 0
+readable_price π (CancelIfReadable r p) = price π 3 1 1 1 1 0 0
 readable_price π (Enqueue v) = price π 3 1 1 1 1 1 0
 readable_price π Close = price π 1 0 0 0 0 0 0
 readable_price π (Error e) = price π 1 0 0 0 0 0 0
@@ -63,7 +74,9 @@ writable_price π (SetUpWriter w) = price π 1 0 0 0 0 0 0
 writable_price π ReleaseWriter = price π 1 0 0 0 0 0 0
 writable_price π (Write v p) = price π 4 2 1 1 1 1 1
 writable_price π (CloseWritable p) = price π 4 1 1 1 1 1 0
+writable_price π (ClosePropagating p) = price π 4 1 1 1 1 1 0
 writable_price π (Abort r p) = price π 3 2 1 2 1 0 0
+writable_price π (AbortIfWritable r p) = price π 3 2 1 2 1 0 0
 writable_price π (ErrorIfNeeded e) = price π 3 2 1 1 1 0 0
 writable_price π HandOn = price π 2 1 1 1 1 0 0
 writable_price π (WritableStartSettled outcome) = price π 4 2 1 1 1 0 0
@@ -71,62 +84,110 @@ writable_price π (WriteSettled outcome) = price π 4 2 1 1 1 0 0
 writable_price π (CloseSettled outcome) = price π 3 2 1 1 1 0 0
 writable_price π (AbortSettled p outcome) = price π 1 0 0 0 0 0 0
 
+-- a look of a pipe, which may read, wait, or shut down with all that its action does
+abbrev pub look_price : Prices → ℕ
+look_price π = price π 10 6 5 3 2 1 1
+
+-- the abort of a pipe by its signal, which neither reads nor closes
+abbrev pub abort_price : Prices → ℕ
+abort_price π = price π 10 6 5 3 2 0 0
+
+abbrev pub pipe_price : Prices → PipeOperation → ℕ
+pipe_price π Look = look_price π
+pipe_price π LookReady = look_price π
+pipe_price π (KeepChunk v) = price π 1 0 1 0 0 0 0
+pipe_price π ReadEnded = price π 1 0 1 0 0 0 0
+pipe_price π WriteChunk = look_price π + price π 6 3 2 1 1 1 1
+pipe_price π GoOn = look_price π
+pipe_price π WriteEnded = look_price π
+pipe_price π (AbortPipe r) = abort_price π
+pipe_price π (ActionSettled outcome) = price π 5 0 0 0 0 0 0
+pipe_price π (PartSettled outcome) = price π 1 0 0 0 0 0 0
+pipe_price π NoParts = price π 1 0 0 0 0 0 0
+
+-- a pipe that is added to a signal pays for its abort
+abbrev pub signal_price : Prices → SignalOperation → ℕ
+signal_price π (Add p) = price π 1 0 0 0 0 0 0 + (abort_price π + π.member)
+signal_price π (Forget p) = price π 1 0 0 0 0 0 0
+signal_price π (Trigger r) = price π 1 0 0 0 0 0 0
+
 abbrev pub effect_price : Prices → Effect → ℕ
 effect_price π (Readable i operation) = readable_price π operation
 effect_price π (Writable i operation) = writable_price π operation
+effect_price π (Pipe p operation) = pipe_price π operation
+effect_price π (Signal a operation) = signal_price π operation
 effect_price π (StartAlgorithm i step start) = start_price π start
 effect_price π (PullAlgorithm i) = price π 2 1 1 1 1 0 0
 effect_price π (CancelAlgorithm i r p) = price π 2 1 1 1 1 0 0
 effect_price π (WriteAlgorithm i) = price π 3 1 1 1 1 0 0
 effect_price π (CloseAlgorithm i) = price π 2 1 1 1 1 0 0
 effect_price π (AbortAlgorithm i r p) = price π 2 1 1 1 1 0 0
-effect_price π (ChunkSteps i request v) = price π 1 0 0 0 0 0 0
-effect_price π (CloseSteps i request) = price π 1 0 0 0 0 0 0
-effect_price π (ErrorSteps i request e) = price π 1 0 0 0 0 0 0
+effect_price π (ChunkSteps i request v) = price π 2 0 1 0 0 0 0
+effect_price π (CloseSteps i request) = price π 2 0 1 0 0 0 0
+effect_price π (ErrorSteps i request e) = price π 2 0 1 0 0 0 0
 effect_price π (Give gift u) = gift_price π gift
 effect_price π (Settle p outcome) = price π 1 0 0 0 0 0 0
+effect_price π (Queue m) = price π 1 0 1 0 0 0 0
 effect_price π (CallHost call u) = price π 1 1 1 1 1 0 0
 
 abbrev pub prices_of : Prices → List Effect → ℕ
 prices_of π [] = 0
 prices_of π (e ∷ es) = effect_price π e + prices_of π es
 
--- what the records keep for later: the steps of each read request that waits, whose turn is paid for when it is asked
+-- what the records keep for later: the steps of each read request that waits, which are paid for when it is asked; and the abort of each
+-- pipe of a signal that wasn't triggered, which is paid for when it is added
+
+abbrev pub steps_price : Prices → ℕ
+steps_price π = price π 2 0 1 0 0 0 0
 
 abbrev pub keeps : Prices → Stream → ℕ
-keeps π (ReadableStream r) = each π.turn r.requests
+keeps π (ReadableStream r) = each (steps_price π) r.requests
 keeps π (WritableStream w) = 0
 
 abbrev pub all_keep : Prices → List Stream → ℕ
 all_keep π [] = 0
 all_keep π (x ∷ xs) = keeps π x + all_keep π xs
 
+abbrev pub signal_keeps_by : Prices → List PipeId → Option Plain → ℕ
+signal_keeps_by π pipes (Some r) = 0
+signal_keeps_by π pipes None = each (abort_price π) pipes
+
+abbrev pub signal_keeps : Prices → pipe.Signal → ℕ
+signal_keeps π x = signal_keeps_by π x.pipes x.reason
+
+abbrev pub signals_keep : Prices → List pipe.Signal → ℕ
+signals_keep π [] = 0
+signals_keep π (x ∷ xs) = signal_keeps π x + signals_keep π xs
+
 -- what these effects and all that comes of them may take
 abbrev pub need : Prices → Slots → List Effect → ℕ
-need π s es = prices_of π es + all_keep π s.streams
+need π s es = prices_of π es + (all_keep π s.streams + signals_keep π s.signals)
 
 -- price lists with one price
 
 abbrev pub turns_alone : Prices
-turns_alone = record { turn = 1; promise = 0; job = 0; event = 0; host = 0; queued = 0; request = 0 }
+turns_alone = record { turn = 1; promise = 0; job = 0; event = 0; host = 0; queued = 0; request = 0; member = 0 }
 
 abbrev pub promises_alone : Prices
-promises_alone = record { turn = 0; promise = 1; job = 0; event = 0; host = 0; queued = 0; request = 0 }
+promises_alone = record { turn = 0; promise = 1; job = 0; event = 0; host = 0; queued = 0; request = 0; member = 0 }
 
 abbrev pub jobs_alone : Prices
-jobs_alone = record { turn = 0; promise = 0; job = 1; event = 0; host = 0; queued = 0; request = 0 }
+jobs_alone = record { turn = 0; promise = 0; job = 1; event = 0; host = 0; queued = 0; request = 0; member = 0 }
 
 abbrev pub events_alone : Prices
-events_alone = record { turn = 0; promise = 0; job = 0; event = 1; host = 0; queued = 0; request = 0 }
+events_alone = record { turn = 0; promise = 0; job = 0; event = 1; host = 0; queued = 0; request = 0; member = 0 }
 
 abbrev pub hosts_alone : Prices
-hosts_alone = record { turn = 0; promise = 0; job = 0; event = 0; host = 1; queued = 0; request = 0 }
+hosts_alone = record { turn = 0; promise = 0; job = 0; event = 0; host = 1; queued = 0; request = 0; member = 0 }
 
 abbrev pub queued_alone : Prices
-queued_alone = record { turn = 0; promise = 0; job = 0; event = 0; host = 0; queued = 1; request = 0 }
+queued_alone = record { turn = 0; promise = 0; job = 0; event = 0; host = 0; queued = 1; request = 0; member = 0 }
 
 abbrev pub requests_alone : Prices
-requests_alone = record { turn = 0; promise = 0; job = 0; event = 0; host = 0; queued = 0; request = 1 }
+requests_alone = record { turn = 0; promise = 0; job = 0; event = 0; host = 0; queued = 0; request = 1; member = 0 }
+
+abbrev pub members_alone : Prices
+members_alone = record { turn = 0; promise = 0; job = 0; event = 0; host = 0; queued = 0; request = 0; member = 1 }
 
 -- as many turns as effects may take, with all that comes of them
 abbrev pub measure : Slots → List Effect → ℕ
@@ -172,9 +233,15 @@ entries_of π None = 0
 entries_of π (Some (ReadableStream r)) = each π.queued r.queue + each π.request r.requests
 entries_of π (Some (WritableStream w)) = each π.queued w.queue + each π.request w.write_requests
 
--- the places in the tables of promises, jobs, events and host's numbers, and in the lists of stream i
-abbrev pub size : Prices → StreamId → Slots → ℕ
-size π i s = table_size π s.promises + π.host * length s.hosts + entries_of π (slice_get s.streams i.0)
+-- the pipes of a signal
+abbrev pub members_of : Prices → Option pipe.Signal → ℕ
+members_of π None = 0
+members_of π (Some x) = each π.member x.pipes
+
+-- the places in the tables of promises, jobs, events and host's numbers, in the lists of stream i, and in the list of signal a
+abbrev pub size : Prices → StreamId → SignalId → Slots → ℕ
+size π i a s =
+    table_size π s.promises + π.host * length s.hosts + entries_of π (slice_get s.streams i.0) + members_of π (slice_get s.signals a.0)
 
 -- what the row of an effect takes by itself
 
@@ -194,16 +261,35 @@ own_readable π _ = 0
 abbrev pub own_writable : Prices → WritableOperation → ℕ
 own_writable π (Write v p) = price π 0 1 0 0 0 1 1
 own_writable π (CloseWritable p) = price π 0 0 0 0 0 1 0
+own_writable π (ClosePropagating p) = price π 0 0 0 0 0 1 0
 own_writable π (Abort r p) = price π 0 1 0 1 0 0 0
+own_writable π (AbortIfWritable r p) = price π 0 1 0 1 0 0 0
 own_writable π (ErrorIfNeeded e) = price π 0 1 0 0 0 0 0
 own_writable π (WritableStartSettled outcome) = price π 0 1 0 0 0 0 0
 own_writable π (WriteSettled outcome) = price π 0 1 0 0 0 0 0
 own_writable π (CloseSettled outcome) = price π 0 1 0 0 0 0 0
 own_writable π _ = 0
 
+abbrev pub own_pipe : Prices → PipeOperation → ℕ
+own_pipe π (KeepChunk v) = price π 0 0 1 0 0 0 0
+own_pipe π ReadEnded = price π 0 0 1 0 0 0 0
+own_pipe π WriteChunk = price π 0 1 0 0 0 0 0
+own_pipe π (ActionSettled outcome) = 0
+own_pipe π (PartSettled outcome) = 0
+own_pipe π NoParts = 0
+own_pipe π _ = price π 0 3 0 0 0 0 0
+
+abbrev pub own_signal : Prices → SignalOperation → ℕ
+own_signal π (Add p) = π.member
+own_signal π (Forget p) = 0
+own_signal π (Trigger r) = 0
+
 abbrev pub own : Prices → Effect → ℕ
 own π (Readable i operation) = own_readable π operation
 own π (Writable i operation) = own_writable π operation
+own π (Pipe p operation) = own_pipe π operation
+own π (Signal a operation) = own_signal π operation
+own π (Queue m) = π.job
 own π (StartAlgorithm i step start) = own_start π start
 own π (Give gift u) = own_gift π gift
 own π (CallHost call u) = price π 0 1 1 1 1 0 0
@@ -211,8 +297,8 @@ own π _ = 0
 
 -- what any call or job may take besides what the records keep. The promise that a reply names takes an event, now or when it settles
 abbrev pub step_price : Prices → ℕ
-step_price π = price π 5 3 2 3 1 1 1
+step_price π = price π 17 10 8 4 3 2 2 + π.member
 
 -- what is to be prepared for the next call or job, whichever it is
 abbrev pub room : Prices → Slots → ℕ
-room π s = all_keep π s.streams + step_price π
+room π s = all_keep π s.streams + signals_keep π s.signals + step_price π

@@ -190,6 +190,10 @@ settle_closed closed e out Readable = out
 settle_closed closed e out Closed = settling closed (Ok Undefined) out
 settle_closed closed e out Errored = settling closed (Err e) out
 
+-- the stream is disturbed
+unfoldable pub disturb : Acts → Acts
+disturb a = record a { slots = record a.slots { disturbed = true } }
+
 -- ReadableStreamReaderGenericInitialize: the reader locks the stream. Its closed promise, which is new, is resolved with undefined
 -- where the stream is closed, and rejected with the stored error where it is errored
 unfoldable pub reader_generic_initialize : PromiseId → Acts → Acts
@@ -229,6 +233,15 @@ cancel_by me r p a Errored = record a { out = settling p (Err a.slots.stored_err
 unfoldable pub stream_cancel : StreamId → Plain → PromiseId → Acts → Acts
 stream_cancel me r p a = cancel_by me r p (record a { slots = record a.slots { disturbed = true } }) a.slots.state
 
+abbrev pub cancel_readable_by : StreamId → Plain → PromiseId → Acts → ReadableState → Acts
+cancel_readable_by me r p a Readable = stream_cancel me r p a
+cancel_readable_by me r p a Closed = record a { out = settling p (Ok Undefined) a.out }
+cancel_readable_by me r p a Errored = record a { out = settling p (Ok Undefined) a.out }
+
+-- ReadableStreamCancel where the stream is readable, and else a promise resolved with undefined
+unfoldable pub cancel_if_readable : StreamId → Plain → PromiseId → Acts → Acts
+cancel_if_readable me r p a = cancel_readable_by me r p a a.slots.state
+
 abbrev pub release_closed : PromiseId → Out → ReadableState → Out
 release_closed closed out Readable = settling closed (Err type_error) out
 release_closed closed out Closed = out
@@ -243,7 +256,7 @@ release_by me a (Some closed) =
     }
 
 -- ReadableStreamReaderGenericRelease, and ReadableStreamDefaultReaderErrorReadRequests: where the stream is readable, reject the
--- closed promise with a TypeError; else the reader gets a new one, which the call makes. The default controller has no
--- [[ReleaseSteps]]. The stream is unlocked. Perform the error steps of the reader's requests with a TypeError, in order
+-- closed promise with a TypeError; else a reader of the host's gets a new one, which the call makes. The default
+-- controller has no [[ReleaseSteps]]. The stream is unlocked. Perform the error steps of the reader's requests with a TypeError, in order
 unfoldable pub reader_release : StreamId → Acts → Acts
 reader_release me a = release_by me a a.slots.reader

@@ -10,12 +10,12 @@ use Rattle.ws_steps.specs.declared.calls.Reply.TheVariants.{Done, Promise as Nam
 use Rattle.ws_steps.specs.declared.effects.Effect.{Effect}
 use Rattle.ws_steps.specs.declared.effects.Effect.TheVariants.{Readable, ChunkSteps}
 use Rattle.ws_steps.specs.declared.locks.Lock.{Lock}
-use Rattle.ws_steps.specs.declared.locks.Lock.TheVariants.{Reader, Writer, ReleasedWriter}
+use Rattle.ws_steps.specs.declared.locks.Lock.TheVariants.{Reader, Writer, ReleasedWriter, Inner}
 use Rattle.ws_steps.specs.declared.queue.Queued.{Queued}
 use Rattle.ws_steps.specs.declared.readable.ReadRequest.{ReadRequest}
-use Rattle.ws_steps.specs.declared.readable.ReadRequest.TheVariants.{Promise}
+use Rattle.ws_steps.specs.declared.readable.ReadRequest.TheVariants.{Promise, Pipe}
 use Rattle.ws_steps.specs.declared.readable.ReadableOperation.{ReadableOperation}
-use Rattle.ws_steps.specs.declared.readable.ReadableOperation.TheVariants.{ReleaseReader, Enqueue, Read, Cancel}
+use Rattle.ws_steps.specs.declared.readable.ReadableOperation.TheVariants.{ReleaseReader, Enqueue, Read, Cancel, CancelIfReadable}
 use Rattle.ws_steps.specs.Readable as readable
 use Rattle.ws_steps.specs.Slots.{Slots, has_readable, lock_at, readable_at}
 use Rattle.ws_steps.specs.Run.{Entry, Called, Worked, Heard, Forgot, reply_to, step}
@@ -53,6 +53,7 @@ abbrev pub operation_flow : ReadableOperation → readable.Slots → Flow
 operation_flow (Enqueue v) s = if readable.can_close_or_enqueue s then record no_flow { entered = v ∷ [] } else no_flow
 operation_flow (Read request) s = record no_flow { asked = if readable.is_readable s.state then 1 else 0 }
 operation_flow (Cancel reason p) s = record no_flow { cancelled = readable.is_readable s.state }
+operation_flow (CancelIfReadable reason p) s = record no_flow { cancelled = readable.is_readable s.state }
 operation_flow _ s = no_flow
 
 -- what goes through readable stream i by an effect: an operation, or the chunk steps of a request of it
@@ -126,6 +127,7 @@ run_reads i xs s = over no_reads reads_then (step_reads i) xs s
 abbrev pub promises_of : List ReadRequest → List PromiseId
 promises_of [] = []
 promises_of (Promise p ∷ rs) = p ∷ promises_of rs
+promises_of (Pipe p ∷ rs) = promises_of rs
 
 -- the promise that a reply names
 abbrev pub named_by : Reply → List PromiseId
@@ -139,6 +141,7 @@ asked_with i reply (Some (Reader None closed)) = []
 asked_with i reply (Some (Reader (Some j) closed)) = if is_same i j then named_by reply else []
 asked_with i reply (Some (Writer j)) = []
 asked_with i reply (Some (ReleasedWriter w)) = []
+asked_with i reply (Some Inner) = []
 
 -- the promise of a call that reads from stream i
 abbrev pub call_asked : StreamId → Call → Slots → List PromiseId

@@ -1,18 +1,25 @@
 -- The slots of a realm: its records in tables by number, and its promises with their jobs and what the host hears of.
-use Rattle.std.specs.Prelude.{ℕ, Bool, true, false, if◌then◌else◌, List, [], Option, Some, None, slice_get, slice_set}
+use Rattle.std.specs.Prelude.{ℕ, nat_lt, Bool, true, false, ◌&&◌, is_some, if◌then◌else◌, List, [], Option, Some, None, slice_get, slice_set}
 use Rattle.ws_value.specs.declared.ids.HostId.{HostId}
 use Rattle.ws_value.specs.declared.ids.LockId.{LockId}
+use Rattle.ws_value.specs.declared.ids.PipeId.{PipeId}
 use Rattle.ws_value.specs.declared.ids.PromiseId.{PromiseId}
+use Rattle.ws_value.specs.declared.ids.SignalId.{SignalId}
 use Rattle.ws_value.specs.declared.ids.StreamId.{StreamId}
 use Rattle.ws_steps.specs.declared.effects.Effect.{Effect}
 use Rattle.ws_steps.specs.declared.effects.Owner.{Owner}
 use Rattle.ws_steps.specs.declared.effects.Owner.TheVariants.{Host}
 use Rattle.ws_steps.specs.declared.locks.Lock.{Lock}
+use Rattle.ws_steps.specs.declared.pipes.Ends.{Ends}
+use Rattle.ws_steps.specs.declared.pipes.Phase.TheVariants.{Over}
 use Rattle.ws_steps.specs.declared.readable.ReadableState.TheVariants.{Closed as ReadableClosed}
 use Rattle.ws_steps.specs.declared.readable.SizeBy.TheVariants.{Count}
 use Rattle.ws_steps.specs.declared.writable.WritableState.TheVariants.{Closed as WritableClosed}
+use Rattle.ws_steps.specs.declared.writable.Writer.{Writer}
 use Rattle.ws_steps.specs.Promises.{Table, no_promises}
 use Rattle.ws_steps.specs.Effects.{Out}
+use Rattle.ws_steps.specs.Pipes as pipe
+use Rattle.ws_steps.specs.Queues.{total_of}
 use Rattle.ws_steps.specs.Readable as readable
 use Rattle.ws_steps.specs.Writable as writable
 
@@ -23,6 +30,8 @@ pub data Stream : Type 0 where
 
 pub record Slots : Type 0 where
   pub streams : List Stream
+  pub pipes : List pipe.Slots
+  pub signals : List pipe.Signal
   pub locks : List Lock
   pub promises : Table
   -- the promise of each call of a host's algorithm, until the host settles it
@@ -32,7 +41,7 @@ pub record Slots : Type 0 where
 
 -- a new realm
 abbrev pub empty : Slots
-empty = record { streams = []; locks = []; promises = no_promises; hosts = []; age = 0 }
+empty = record { streams = []; pipes = []; signals = []; locks = []; promises = no_promises; hosts = []; age = 0 }
 
 -- what stands where there is no such stream: one that takes nothing, gives nothing, and has no writer
 abbrev pub no_readable : readable.Slots
@@ -40,6 +49,22 @@ no_readable = record (readable.set_up Host 0 Count) { state = ReadableClosed; re
 
 abbrev pub no_writable : writable.Slots
 no_writable = record (writable.set_up Host 0 Count) { state = WritableClosed }
+
+-- the most streams of a realm
+abbrev pub most_streams : ℕ
+most_streams = 1024
+
+-- what stands where there is no such pipe: one that is over, between streams that no realm has
+abbrev pub no_pipe : pipe.Slots
+no_pipe =
+    record
+    (pipe.set_up
+    (record { 0 = most_streams })
+    (record { 0 = most_streams })
+    (record { close = false; abort = false; cancel = false })
+    None
+    (record { 0 = 0 }))
+    { phase = Over }
 
 abbrev pub is_readable_stream : Option Stream → Bool
 is_readable_stream None = false
@@ -94,6 +119,49 @@ owner_of (Some (WritableStream w)) = w.owner
 abbrev pub owner_at : StreamId → Slots → Owner
 owner_at i s = owner_of (slice_get s.streams i.0)
 
+abbrev pub as_pipe : Option pipe.Slots → pipe.Slots
+as_pipe None = no_pipe
+as_pipe (Some x) = x
+
+abbrev pub pipe_at : PipeId → Slots → pipe.Slots
+pipe_at p s = as_pipe (slice_get s.pipes p.0)
+
+abbrev pub as_signal : Option pipe.Signal → pipe.Signal
+as_signal None = pipe.new_signal
+as_signal (Some x) = x
+
+abbrev pub signal_at : SignalId → Slots → pipe.Signal
+signal_at a s = as_signal (slice_get s.signals a.0)
+
+abbrev pub has_signal : SignalId → Slots → Bool
+has_signal a s = is_some (slice_get s.signals a.0)
+
+abbrev pub ready_of : Option Writer → Option PromiseId
+ready_of None = None
+ready_of (Some w) = Some w.ready
+
+-- whether the desired size of a writer of the stream is more than 0
+abbrev pub wants_chunk : writable.Slots → Bool
+wants_chunk w = writable.is_writable w.state && nat_lt (total_of w.queue) w.hwm
+
+-- what a pipe between these streams looks at
+abbrev pub ends_of : readable.Slots → writable.Slots → Ends
+ends_of r w =
+    record {
+      source_state = r.state;
+      source_error = r.stored_error;
+      dest_state = w.state;
+      dest_error = w.stored_error;
+      dest_closing = writable.is_closing w;
+      dest_wants = wants_chunk w;
+      dest_ready = ready_of w.writer;
+      dest_abort = writable.answered_abort w;
+    }
+
+-- what a pipe looks at
+abbrev pub ends_at : pipe.Slots → Slots → Ends
+ends_at x s = ends_of (readable_at x.source s) (writable_at x.dest s)
+
 -- what an operation leaves, and the effects that it caused
 pub record Done : Type 0 where
   pub slots : Slots
@@ -134,3 +202,25 @@ put_writable i s a = put_stream i s (WritableStream a.slots) a.out
 abbrev pub on_writable : (writable.Acts → writable.Acts) → StreamId → Slots → Done
 on_writable operation i s =
     if has_writable i s then put_writable i s (operation (record { slots = writable_at i s; out = found s })) else nothing s
+
+abbrev pub put_pipe : PipeId → Slots → pipe.Acts → Done
+put_pipe p s a = record { slots = record s { pipes = slice_set s.pipes p.0 a.slots; promises = a.out.promises }; caused = a.out.effects }
+
+abbrev pub on_pipe_at : (Ends → pipe.Acts → pipe.Acts) → PipeId → Slots → Option pipe.Slots → Done
+on_pipe_at operation p s None = nothing s
+on_pipe_at operation p s (Some x) = put_pipe p s (operation (ends_at x s) (record { slots = x; out = found s }))
+
+-- an operation of a pipe, where there is one of this number
+abbrev pub on_pipe : (Ends → pipe.Acts → pipe.Acts) → PipeId → Slots → Done
+on_pipe operation p s = on_pipe_at operation p s (slice_get s.pipes p.0)
+
+abbrev pub put_signal : SignalId → Slots → pipe.Signalled → Done
+put_signal a s x = record { slots = record s { signals = slice_set s.signals a.0 x.signal }; caused = x.effects }
+
+abbrev pub on_signal_at : (pipe.Signal → pipe.Signalled) → SignalId → Slots → Option pipe.Signal → Done
+on_signal_at operation a s None = nothing s
+on_signal_at operation a s (Some x) = put_signal a s (operation x)
+
+-- an operation of a signal, where there is one of this number
+abbrev pub on_signal : (pipe.Signal → pipe.Signalled) → SignalId → Slots → Done
+on_signal operation a s = on_signal_at operation a s (slice_get s.signals a.0)

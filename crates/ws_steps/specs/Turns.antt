@@ -14,21 +14,22 @@ use Rattle.ws_steps.specs.declared.calls.HostCall.TheVariants.{Start as HostStar
 use Rattle.ws_steps.specs.declared.calls.StartBy.{StartBy}
 use Rattle.ws_steps.specs.declared.calls.StartBy.TheVariants.{Now, Later}
 use Rattle.ws_steps.specs.declared.effects.Effect.{Effect}
-use Rattle.ws_steps.specs.declared.effects.Effect.TheVariants.{Readable, Writable, StartAlgorithm, PullAlgorithm, CancelAlgorithm, WriteAlgorithm, CloseAlgorithm, AbortAlgorithm, ChunkSteps, CloseSteps, ErrorSteps, Give, Settle, CallHost}
+use Rattle.ws_steps.specs.declared.effects.Effect.TheVariants.{Readable, Writable, Pipe, Signal, StartAlgorithm, PullAlgorithm, CancelAlgorithm, WriteAlgorithm, CloseAlgorithm, AbortAlgorithm, ChunkSteps, CloseSteps, ErrorSteps, Give, Settle, Queue, CallHost}
 use Rattle.ws_steps.specs.declared.effects.Gift.TheVariants.{This, Fresh}
 use Rattle.ws_steps.specs.declared.effects.Owner.{Owner}
 use Rattle.ws_steps.specs.declared.effects.Owner.TheVariants.{Host}
 use Rattle.ws_steps.specs.declared.effects.Use.{Use}
 use Rattle.ws_steps.specs.declared.effects.Use.TheVariants.{React, Resolve}
+use Rattle.ws_steps.specs.declared.pipes.PipeOperation.TheVariants.{KeepChunk, ReadEnded}
 use Rattle.ws_steps.specs.declared.promises.Step.{Step}
 use Rattle.ws_steps.specs.declared.promises.Step.TheVariants.{ReadablePull, ReturnUndefined, WritableClose, WritableAbort}
 use Rattle.ws_steps.specs.declared.readable.ReadRequest.{ReadRequest}
-use Rattle.ws_steps.specs.declared.readable.ReadRequest.TheVariants.{Promise}
+use Rattle.ws_steps.specs.declared.readable.ReadRequest.TheVariants.{Promise, Pipe as PipeRequest}
 use Rattle.ws_steps.specs.declared.writable.WritableOperation.TheVariants.{HandOn}
-use Rattle.ws_steps.specs.Promises.{next_id, fresh, settle, answer, tell, use_this, use_gift}
-use Rattle.ws_steps.specs.Operations.{readable_operation, writable_operation}
+use Rattle.ws_steps.specs.Promises.{next_id, fresh, settle, answer, tell, use_this, use_gift, queue_micro}
+use Rattle.ws_steps.specs.Operations.{readable_operation, writable_operation, pipe_operation, signal_operation}
 use Rattle.ws_steps.specs.Places.{measure}
-use Rattle.ws_steps.specs.Slots.{Slots, Done, nothing, causes, with_promises, owner_at, on_readable, on_writable}
+use Rattle.ws_steps.specs.Slots.{Slots, Done, nothing, causes, with_promises, owner_at, on_readable, on_writable, on_pipe, on_signal}
 
 -- the algorithms of a stream, by whose they are, and what is done with the promise that they give
 
@@ -59,12 +60,15 @@ abort_algorithm i r u Host = CallHost (HostAbort i r) u ∷ []
 
 abbrev pub chunk_steps : Value → Slots → ReadRequest → Done
 chunk_steps v s (Promise p) = nothing (with_promises (answer p (Given v) s.promises) s)
+chunk_steps v s (PipeRequest p) = causes (Pipe p (KeepChunk v) ∷ []) s
 
 abbrev pub close_steps : Slots → ReadRequest → Done
 close_steps s (Promise p) = nothing (with_promises (answer p (Finished (PlainValue Undefined)) s.promises) s)
+close_steps s (PipeRequest p) = causes (Pipe p ReadEnded ∷ []) s
 
 abbrev pub error_steps : Plain → Slots → ReadRequest → Done
 error_steps e s (Promise p) = nothing (with_promises (settle p (Err e) s.promises) s)
+error_steps e s (PipeRequest p) = causes (Pipe p ReadEnded ∷ []) s
 
 -- a call of a host's algorithm: a new promise with a new number, which the host hears of, and what is done with the promise
 unfoldable pub call_host : HostCall → Use → Slots → Slots
@@ -79,6 +83,8 @@ call_host call u s =
 unfoldable pub row : Effect → Slots → Done
 row (Readable i operation) s = on_readable (readable_operation i operation) i s
 row (Writable i operation) s = on_writable (writable_operation i operation) i s
+row (Pipe p operation) s = on_pipe (λ ends. pipe_operation p ends operation) p s
+row (Signal a operation) s = on_signal (signal_operation operation) a s
 row (StartAlgorithm i step start) s = start_algorithm i step s start
 row (PullAlgorithm i) s = causes (pull_algorithm i (React (ReadablePull i) None) (owner_at i s)) s
 row (CancelAlgorithm i r p) s = causes (cancel_algorithm i r (React ReturnUndefined (Some p)) (owner_at i s)) s
@@ -90,6 +96,7 @@ row (CloseSteps i request) s = close_steps s request
 row (ErrorSteps i request e) s = error_steps e s request
 row (Give gift u) s = nothing (with_promises (use_gift gift u s.promises) s)
 row (Settle p outcome) s = nothing (with_promises (settle p outcome s.promises) s)
+row (Queue m) s = nothing (with_promises (queue_micro m s.promises) s)
 row (CallHost call u) s = nothing (call_host call u s)
 
 -- the slots, and the effects that are still to be performed

@@ -405,12 +405,12 @@ has_ended Erroring = false
 has_ended Errored = true
 has_ended Closed = true
 
--- WritableStreamClose. The promise that is answered, which is new, is rejected with a TypeError where the stream is closed or
--- errored; else it is the close request. Where there is a writer, backpressure, and the stream is writable, fulfil its ready
--- promise. The controller closes
+-- WritableStreamClose, with the check that each of its callers makes first. The promise that is answered, which is new, is rejected with a
+-- TypeError where the stream is closed or errored, or is closing; else it is the close request. Where there is a writer, backpressure, and
+-- the stream is writable, fulfil its ready promise. The controller closes
 unfoldable pub stream_close : StreamId → PromiseId → Acts → Acts
 stream_close me p a =
-    if has_ended a.slots.state
+    if has_ended a.slots.state || is_closing a.slots
     then with_promises (settle p (Err type_error) a.out.promises) a
     else let b : Acts = add_close_request p a in controller_close me (fulfil_ready b b.slots.writer)
 
@@ -455,6 +455,12 @@ promise_of (Some abort) = Some abort.promise
 abbrev pub answered_abort : Slots → Option PromiseId
 answered_abort s = if has_ended s.state then None else promise_of s.pending_abort
 
+-- WritableStreamAbort where the stream is writable, and else a promise resolved with undefined. A stream that is writable has no abort
+-- pending
+unfoldable pub abort_if_writable : StreamId → Plain → PromiseId → Acts → Acts
+abort_if_writable me r p a =
+    if is_writable a.slots.state then stream_abort me r p a else with_promises (settle p (Ok Undefined) a.out.promises) a
+
 -- writers
 
 abbrev pub ready_promise : PromiseId → Slots → Table → WritableState → Table
@@ -485,6 +491,6 @@ release_by a (Some w) =
     (record a { slots = record a.slots { writer = None } })
 
 -- WritableStreamDefaultWriterRelease: the ready promise and then the closed promise are rejected with a TypeError where they are
--- pending; where not, the writer gets new ones, which the call makes. The stream is unlocked
+-- pending; where not, a writer of the host's gets new ones, which the call makes. The stream is unlocked
 unfoldable pub writer_release : Acts → Acts
 writer_release a = release_by a a.slots.writer

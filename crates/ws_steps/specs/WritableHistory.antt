@@ -1,5 +1,5 @@
 -- What went through a writable stream.
-use Rattle.std.specs.Prelude.{ℕ, ◌+◌, if◌then◌else◌, is_some, List, [], ◌∷◌, ◌++◌, Option, Some, None, Result, Ok, Err}
+use Rattle.std.specs.Prelude.{ℕ, ◌+◌, Bool, true, false, ◌&&◌, if◌then◌else◌, is_some, List, [], ◌∷◌, ◌++◌, Option, Some, None, Result, Ok, Err, slice_get}
 use Rattle.ws_value.specs.declared.ids.PromiseId.{PromiseId}
 use Rattle.ws_value.specs.declared.ids.StreamId.{StreamId}
 use Rattle.ws_value.specs.declared.value.Plain.{Plain}
@@ -12,14 +12,19 @@ use Rattle.ws_steps.specs.declared.calls.HostCall.TheVariants.{Write as HostWrit
 use Rattle.ws_steps.specs.declared.calls.Reply.{Reply}
 use Rattle.ws_steps.specs.declared.calls.Reply.TheVariants.{Promise}
 use Rattle.ws_steps.specs.declared.effects.Effect.{Effect}
-use Rattle.ws_steps.specs.declared.effects.Effect.TheVariants.{Writable, CloseAlgorithm}
+use Rattle.ws_steps.specs.declared.effects.Effect.TheVariants.{Writable, Pipe, CloseAlgorithm}
 use Rattle.ws_steps.specs.declared.locks.Lock.{Lock}
-use Rattle.ws_steps.specs.declared.locks.Lock.TheVariants.{Reader, Writer, ReleasedWriter}
+use Rattle.ws_steps.specs.declared.locks.Lock.TheVariants.{Reader, Writer, ReleasedWriter, Inner}
+use Rattle.ws_steps.specs.declared.pipes.Phase.{Phase}
+use Rattle.ws_steps.specs.declared.pipes.Phase.TheVariants.{Flowing, Waiting, Acting, Over}
+use Rattle.ws_steps.specs.declared.pipes.PipeOperation.TheVariants.{WriteChunk}
 use Rattle.ws_steps.specs.declared.queue.Queued.{Queued}
 use Rattle.ws_steps.specs.declared.writable.WritableOperation.{WritableOperation}
 use Rattle.ws_steps.specs.declared.writable.WritableOperation.TheVariants.{Write, HandOn, WriteSettled}
 use Rattle.ws_steps.specs.declared.writable.WriteRecord.{WriteRecord}
 use Rattle.ws_steps.specs.declared.writable.WriteRecord.TheVariants.{Chunk, InFlight, CloseMark}
+use Rattle.ws_steps.specs.Pipes as pipe
+use Rattle.ws_steps.specs.Promises.{next_id}
 use Rattle.ws_steps.specs.Writable as writable
 use Rattle.ws_steps.specs.Slots.{Slots, lock_at, writable_at}
 use Rattle.ws_steps.specs.Run.{Entry, Called, Worked, Heard, Forgot, step, reply_to}
@@ -128,6 +133,7 @@ written_with i v s None = []
 written_with i v s (Some (Reader stream closed)) = []
 written_with i v s (Some (Writer j)) = if is_same i j then written_by v (writable_at j s) else []
 written_with i v s (Some (ReleasedWriter w)) = []
+written_with i v s (Some Inner) = []
 
 -- what is written to stream i by a call
 abbrev pub call_written : StreamId → Call → Slots → List Value
@@ -154,15 +160,50 @@ answered_in_step i s Worked = []
 answered_in_step i s Heard = []
 answered_in_step i s (Forgot p) = []
 
--- in a run
+-- writes as pipes tell them: the chunk that a pipe holds where it writes, where it is appended to the queue, and the promise of that
+-- write, which is new
 
-abbrev pub written_by_calls : StreamId → List Entry → Slots → List Value
-written_by_calls i [] s = []
-written_by_calls i (x ∷ xs) s = written_in_step i s x ++ written_by_calls i xs (step s x)
+-- whether a pipe writes in this phase
+abbrev pub may_write : Phase → Bool
+may_write Flowing = true
+may_write Waiting = true
+may_write Acting = false
+may_write Over = false
 
-abbrev pub answered_by_calls : StreamId → List Entry → Slots → List PromiseId
-answered_by_calls i [] s = []
-answered_by_calls i (x ∷ xs) s = answered_in_step i s x ++ answered_by_calls i xs (step s x)
+abbrev pub written_from : StreamId → StreamId → Slots → Phase → Option Value → List Value
+written_from i dest s phase None = []
+written_from i dest s phase (Some v) = if may_write phase && is_same i dest then written_by v (writable_at dest s) else []
+
+abbrev pub piped_to : StreamId → Slots → Option pipe.Slots → List Value
+piped_to i s None = []
+piped_to i s (Some x) = written_from i x.dest s x.phase x.held
+
+-- what a pipe writes to stream i by an effect
+abbrev pub effect_piped : StreamId → Effect → Slots → List Value
+effect_piped i (Pipe p WriteChunk) s = piped_to i s (slice_get s.pipes p.0)
+effect_piped i _ s = []
+
+-- and the promise of this write
+abbrev pub effect_piped_promised : StreamId → Effect → Slots → List PromiseId
+effect_piped_promised i e s = promised_by (effect_piped i e s) (next_id s.promises)
+
+-- in a step
+
+abbrev pub step_piped : StreamId → Slots → Entry → List Value
+step_piped i s x = in_step [] ◌++◌ (effect_piped i) s x
+
+abbrev pub step_piped_promised : StreamId → Slots → Entry → List PromiseId
+step_piped_promised i s x = in_step [] ◌++◌ (effect_piped_promised i) s x
+
+-- in a run: in each step what its call wrote, and then what pipes wrote
+
+abbrev pub written_in_run : StreamId → List Entry → Slots → List Value
+written_in_run i [] s = []
+written_in_run i (x ∷ xs) s = (written_in_step i s x ++ step_piped i s x) ++ written_in_run i xs (step s x)
+
+abbrev pub answered_in_run : StreamId → List Entry → Slots → List PromiseId
+answered_in_run i [] s = []
+answered_in_run i (x ∷ xs) s = (answered_in_step i s x ++ step_piped_promised i s x) ++ answered_in_run i xs (step s x)
 
 -- what a host hears of these
 

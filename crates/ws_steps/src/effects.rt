@@ -1,6 +1,9 @@
 //! What stands on a realm's agenda.
-use crate::{HostCall, ReadRequest, ReadableOperation, StartBy, Step, WritableOperation};
-use ws_value::{Plain, PromiseId, StreamId, Value};
+use crate::{
+    HostCall, Micro, PipeOperation, ReadRequest, ReadableOperation, SignalOperation, StartBy, Step,
+    WritableOperation,
+};
+use ws_value::{PipeId, Plain, PromiseId, SignalId, StreamId, Value};
 
 /// Whose algorithms a stream performs.
 #[derive(Clone, Copy, Debug, PartialEq, Eq)]
@@ -34,6 +37,10 @@ pub enum Effect {
     Readable(StreamId, ReadableOperation),
     /// An operation of a writable stream.
     Writable(StreamId, WritableOperation),
+    /// An operation of a pipe.
+    Pipe(PipeId, PipeOperation),
+    /// An operation of a signal.
+    Signal(SignalId, SignalOperation),
     /// The start algorithm of a stream is performed, and the step reacts to its result.
     StartAlgorithm(StreamId, Step, StartBy),
     /// The pull algorithm of a readable stream is performed, and its controller reacts to the promise.
@@ -56,6 +63,8 @@ pub enum Effect {
     Give(Gift, Use),
     /// A promise is fulfilled with a value, or rejected with a reason.
     Settle(PromiseId, Result<Plain, Plain>),
+    /// A microtask is queued.
+    Queue(Micro),
     /// An algorithm of the host's is called, and the promise that the host will settle is used.
     CallHost(HostCall, Use),
 }

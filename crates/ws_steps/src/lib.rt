@@ -4,6 +4,7 @@
 mod calls;
 mod effects;
 mod locks;
+mod pipes;
 mod promises;
 mod queue;
 mod readable;
@@ -12,6 +13,7 @@ mod writable;
 pub use calls::{Answer, Call, Event, Flags, HostCall, Reply, StartBy, StateIs, Thrown, Word};
 pub use effects::{Effect, Gift, Owner, Use};
 pub use locks::Lock;
+pub use pipes::{Action, Ends, Phase, PipeOperation, Prevent, SignalOperation};
 pub use promises::{Job, Micro, Reaction, Step};
 pub use queue::Queued;
 pub use readable::{ReadRequest, ReadableOperation, ReadableState, SizeBy};

@@ -2,7 +2,7 @@
 ghost use Rattle.std.specs.Prelude.{◌≡◌};
 ghost use Rattle.ws_steps.specs.Queues.{size_of};
 
-use ws_value::{Plain, PromiseId, Value};
+use ws_value::{PipeId, Plain, PromiseId, Value};
 
 /// The state of a readable stream.
 #[derive(Clone, Copy, Debug, PartialEq, Eq)]
@@ -39,6 +39,8 @@ impl SizeBy {
 pub enum ReadRequest {
     /// The promise of a `read`.
     Promise(PromiseId),
+    /// A pipe.
+    Pipe(PipeId),
 }
 
 /// An operation of a readable stream, as it stands on the agenda. Promises that it answers are told to it.
@@ -48,10 +50,14 @@ pub enum ReadableOperation {
     InitializeReader(PromiseId),
     /// ReadableStreamReaderGenericRelease.
     ReleaseReader,
+    /// The stream is disturbed.
+    Disturb,
     /// ReadableStreamDefaultReaderRead.
     Read(ReadRequest),
     /// ReadableStreamCancel, with the promise that it answers.
     Cancel(Plain, PromiseId),
+    /// ReadableStreamCancel where the stream is readable; else the promise is resolved with undefined.
+    CancelIfReadable(Plain, PromiseId),
     /// ReadableStreamDefaultControllerEnqueue.
     Enqueue(Value),
     /// ReadableStreamDefaultControllerClose.

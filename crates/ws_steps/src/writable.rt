@@ -47,8 +47,12 @@ pub enum WritableOperation {
     Write(Value, PromiseId),
     /// WritableStreamClose, with the promise that it answers.
     Close(PromiseId),
+    /// WritableStreamDefaultWriterCloseWithErrorPropagation, with the promise that it answers.
+    ClosePropagating(PromiseId),
     /// WritableStreamAbort where no abort is pending, with the promise that it answers.
     Abort(Plain, PromiseId),
+    /// WritableStreamAbort where the stream is writable; else the promise is resolved with undefined.
+    AbortIfWritable(Plain, PromiseId),
     /// WritableStreamDefaultControllerErrorIfNeeded.
     ErrorIfNeeded(Plain),
     /// The chunk at the front of the queue is handed on to the write algorithm.
