@@ -1,6 +1,7 @@
 pub mod Tables
 pub mod Readables
 pub mod Writables
+pub mod Pipes
 pub mod Rows
 pub mod Turns
 pub mod Room

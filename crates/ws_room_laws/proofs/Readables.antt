@@ -2,6 +2,7 @@
 use Rattle.std.proofs.Common.{◌≡◌, ◌≤◌, ℕ, ◌+◌, true, false, List, [], ◌∷◌, ◌++◌, Ok, Err, refl, ap, arith}
 use Rattle.ws_value.specs.declared.ids.StreamId.{StreamId}
 use Rattle.ws_value.specs.declared.value.Plain.{Plain}
+use Rattle.ws_value.specs.declared.value.Plain.TheVariants.{Undefined}
 use Rattle.ws_steps.specs.declared.{effects.Effect.{Effect}, effects.Effect.TheVariants.{ChunkSteps, CancelAlgorithm}, queue.Queued.{Queued}}
 use Rattle.ws_value.specs.declared.ids.PromiseId.{PromiseId}
 use Rattle.ws_value.specs.declared.value.Value.{Value}
@@ -9,8 +10,8 @@ use Rattle.ws_steps.specs.declared.{readable.ReadRequest.{ReadRequest}, readable
 use Rattle.ws_steps.specs.declared.readable.ReadableOperation.TheVariants as names
 use Rattle.ws_steps.specs.declared.{readable.ReadableState.{ReadableState}, readable.ReadableState.TheVariants.{Readable, Closed, Errored}}
 use Rattle.ws_steps.specs.Operations.{readable_operation}
-use Rattle.ws_steps.specs.Readable.{Acts, close_all, error_all, waiting, call_pull_if_needed, accept_for, accept, controller_enqueue, stream_close, stream_error, close_if_empty, controller_close, controller_error, after_take, pull_from, pull_steps, read_by, default_reader_read, reader_generic_initialize, start_settled, pull_settled, cancel_steps, cancel_by, stream_cancel, reader_release}
-use Rattle.ws_steps.specs.Places.{Prices, price, each, prices_of, readable_price, table_size}
+use Rattle.ws_steps.specs.Readable.{Acts, close_all, error_all, waiting, call_pull_if_needed, accept_for, accept, controller_enqueue, stream_close, stream_error, close_if_empty, controller_close, controller_error, after_take, pull_from, pull_steps, read_by, default_reader_read, reader_generic_initialize, disturb, cancel_readable_by, cancel_if_readable, start_settled, pull_settled, cancel_steps, cancel_by, stream_cancel, reader_release}
+use Rattle.ws_steps.specs.Places.{Prices, price, each, steps_price, prices_of, readable_price, table_size}
 use Rattle.ws_room_laws.proofs.Tables.{settle-size}
 
 pub prices-append : (π : Prices) (xs ys : List Effect) → prices_of π (xs ++ ys) ≡ prices_of π xs + prices_of π ys
@@ -21,18 +22,18 @@ pub each-append : {A : Type 0} (c : ℕ) (xs ys : List A) → each c (xs ++ ys) 
 each-append c [] ys = omega arith
 each-append c (x ∷ xs) ys = let h = each-append c xs ys in omega (arith, h)
 
-pub prices-close : (π : Prices) (me : StreamId) (rs : List ReadRequest) → prices_of π (close_all me rs) ≡ each π.turn rs
+pub prices-close : (π : Prices) (me : StreamId) (rs : List ReadRequest) → prices_of π (close_all me rs) ≡ each (steps_price π) rs
 prices-close π me [] = refl
 prices-close π me (r ∷ rs) = let h = prices-close π me rs in omega (arith, h)
 
-pub prices-error : (π : Prices) (me : StreamId) (e : Plain) (rs : List ReadRequest) → prices_of π (error_all me e rs) ≡ each π.turn rs
+pub prices-error : (π : Prices) (me : StreamId) (e : Plain) (rs : List ReadRequest) → prices_of π (error_all me e rs) ≡ each (steps_price π) rs
 prices-error π me e [] = refl
 prices-error π me e (r ∷ rs) = let h = prices-error π me e rs in omega (arith, h)
 
 -- what is held, where an entry of the queue counts q and one of the requests r
 abbrev pub readable_holds : Prices → ℕ → ℕ → Acts → ℕ
 readable_holds π q r a =
-    prices_of π a.out.effects + each π.turn a.slots.requests + each q a.slots.queue + each r a.slots.requests + table_size π a.out.promises
+    prices_of π a.out.effects + each (steps_price π) a.slots.requests + each q a.slots.queue + each r a.slots.requests + table_size π a.out.promises
 
 module _ (π : Prices) (q r : ℕ) (me : StreamId) where
   -- b holds at most n more than a
@@ -72,19 +73,19 @@ module _ (π : Prices) (q r : ℕ) (me : StreamId) where
   unfolding after_take
   after-takes a = let h = close-takes a in let g = pull-takes a in grind (arith, h, g)
 
-  from-takes : (request : ReadRequest) (a : Acts) (queue : List (Queued Value)) → queue ≡ a.slots.queue → r ≤ π.request → Takes (price π 3 1 1 1 1 0 1) a (pull_from me request a queue)
+  from-takes : (request : ReadRequest) (a : Acts) (queue : List (Queued Value)) → queue ≡ a.slots.queue → r ≤ π.request → Takes (price π 4 1 2 1 1 0 1) a (pull_from me request a queue)
   from-takes request a [] is m =
       let b : Acts = record a { slots = record a.slots { requests = a.slots.requests ++ request ∷ [] } } in
       let h = pull-takes b in
       let e = each-append r a.slots.requests (request ∷ []) in
-      let f = each-append π.turn a.slots.requests (request ∷ []) in omega (arith, h, e, f, m)
+      let f = each-append (steps_price π) a.slots.requests (request ∷ []) in omega (arith, h, e, f, m)
   from-takes request a (x ∷ xs) is m =
       let b : Acts = record a { slots = record a.slots { queue = xs } } in
       let h = after-takes b in
       let e = ap (each q) is in
       let f = prices-append π (after_take me b).out.effects (ChunkSteps me request x.value ∷ []) in omega (arith, h, e, f)
 
-  read-takes : (request : ReadRequest) (a : Acts) (state : ReadableState) → r ≤ π.request → Takes (price π 3 1 1 1 1 0 1) a (read_by me request a state)
+  read-takes : (request : ReadRequest) (a : Acts) (state : ReadableState) → r ≤ π.request → Takes (price π 4 1 2 1 1 0 1) a (read_by me request a state)
   unfolding pull_steps
   read-takes request a Readable m = from-takes request a a.slots.queue refl m
   read-takes request a Closed m = grind (arith, prices-append)
@@ -104,13 +105,21 @@ module _ (π : Prices) (q r : ℕ) (me : StreamId) where
       let h = close-takes a in
       let f = prices-append π (stream_close me a).out.effects (CancelAlgorithm me e p ∷ []) in grind (arith, h, f, settle-size)
 
+  cancel_readable-takes : (e : Plain) (p : PromiseId) (a : Acts) (state : ReadableState) → Takes (price π 2 1 1 1 1 0 0) a (cancel_readable_by me e p a state)
+  unfolding stream_cancel
+  cancel_readable-takes e p a Readable = let h = cancel-takes e p (record a { slots = record a.slots { disturbed = true } }) a.slots.state in omega (arith, h)
+  cancel_readable-takes e p a Closed = let h = settle-size π p (Ok Undefined) a.out.promises in omega (arith, h)
+  cancel_readable-takes e p a Errored = let h = settle-size π p (Ok Undefined) a.out.promises in omega (arith, h)
+
 pub readable-takes : (π : Prices) (q r : ℕ) (me : StreamId) (operation : ReadableOperation) (a : Acts) → q ≤ π.queued → r ≤ π.request →
     readable_holds π q r (readable_operation me operation a) + π.turn ≤ readable_holds π q r a + readable_price π operation
-unfolding default_reader_read start_settled pull_settled stream_cancel
+unfolding disturb default_reader_read cancel_if_readable start_settled pull_settled stream_cancel
 readable-takes π q r me (names.InitializeReader closed) a l m = let h = initialize-takes π q r me closed a in omega (arith, h)
 readable-takes π q r me names.ReleaseReader a l m = let h = release-takes π q r me a in omega (arith, h)
+readable-takes π q r me names.Disturb a l m = omega arith
 readable-takes π q r me (names.Read request) a l m = let h = read-takes π q r me request (record a { slots = record a.slots { disturbed = true } }) a.slots.state m in omega (arith, h)
 readable-takes π q r me (names.Cancel e p) a l m = let h = cancel-takes π q r me e p (record a { slots = record a.slots { disturbed = true } }) a.slots.state in omega (arith, h)
+readable-takes π q r me (names.CancelIfReadable e p) a l m = let h = cancel_readable-takes π q r me e p a a.slots.state in omega (arith, h)
 readable-takes π q r me (names.Enqueue v) a l m = let h = enqueue-takes π q r me v a l in omega (arith, h)
 readable-takes π q r me names.Close a l m = let h = closing-takes π q r me a in omega (arith, h)
 readable-takes π q r me (names.Error e) a l m = let h = erring-takes π q r me e a in omega (arith, h)

@@ -3,14 +3,16 @@ use Rattle.std.proofs.Common.{◌≡◌, ◌≤◌, ℕ, zero, suc, ◌+◌, ◌
 use Rattle.std.specs.Prelude.{slice_get, nat_lt}
 use Rattle.ws_value.specs.declared.ids.HostId.{HostId}
 use Rattle.ws_value.specs.declared.ids.LockId.{LockId}
+use Rattle.ws_value.specs.declared.ids.PipeId.{PipeId}
 use Rattle.ws_value.specs.declared.ids.PromiseId.{PromiseId}
+use Rattle.ws_value.specs.declared.ids.SignalId.{SignalId}
 use Rattle.ws_value.specs.declared.ids.StreamId.{StreamId}
 use Rattle.ws_value.specs.declared.value.Plain.{Plain}
 use Rattle.ws_steps.specs.declared.{calls.Answer.{Answer}, calls.Call.{Call}}
 use Rattle.ws_steps.specs.declared.calls.Call.TheVariants as names
-use Rattle.ws_steps.specs.declared.{calls.Reply.{Reply}, calls.Reply.TheVariants.{Done as ReplyDone, Made, Lock as ReplyLock, Promise, Size, State as ReplyState, Throws, TooMany}}
+use Rattle.ws_steps.specs.declared.{calls.Reply.{Reply}, calls.Reply.TheVariants.{Done as ReplyDone, Made, Lock as ReplyLock, Promise, Signal as ReplySignal, Size, State as ReplyState, Throws, TooMany}}
 use Rattle.ws_steps.specs.declared.{calls.Thrown.TheVariants.{TypeError, Unsupported}, calls.StartBy.{StartBy}, calls.StartBy.TheVariants.{Now, Later}, effects.Effect.{Effect}}
-use Rattle.ws_steps.specs.declared.{effects.Effect.TheVariants.{Readable, Writable, StartAlgorithm, Settle as SettlePromise}, effects.Owner.TheVariants.{Host}}
+use Rattle.ws_steps.specs.declared.{effects.Effect.TheVariants.{Readable, Writable, Signal as OnSignal, StartAlgorithm, Settle as SettlePromise}, effects.Owner.TheVariants.{Host}}
 use Rattle.ws_steps.specs.declared.{readable.ReadRequest.TheVariants.{Promise as PromiseRequest}, readable.ReadableOperation.{ReadableOperation}}
 use Rattle.ws_steps.specs.declared.readable.ReadableOperation.TheVariants.{ReleaseReader, Read as ReadChunk, Cancel as CancelStream, Enqueue as EnqueueChunk, Close as CloseReadable, Error as ErrorReadable}
 use Rattle.ws_steps.specs.declared.writable.WritableOperation.TheVariants.{ReleaseWriter, Write as WriteChunk, Close as CloseStream, Abort as AbortStream, ErrorIfNeeded}
@@ -18,14 +20,15 @@ use Rattle.ws_value.specs.declared.value.Value.{Value}
 use Rattle.ws_steps.specs.Effects.{type_error}
 use Rattle.ws_steps.specs.ReadableLooks as readable_looks
 use Rattle.ws_steps.specs.WritableLooks as writable_looks
-use Rattle.ws_steps.specs.declared.{locks.Lock.{Lock}, locks.Lock.TheVariants.{Reader as ReaderLock, Writer as WriterLock, ReleasedWriter}, promises.Job.{Job}}
-use Rattle.ws_steps.specs.declared.{promises.Job.TheVariants.{Reaction, Follow, Settle, Micro as MicroJob}, promises.Micro.TheVariants.{PipeLook}, promises.Step.{Step}}
+use Rattle.ws_steps.specs.declared.{locks.Lock.{Lock}, locks.Lock.TheVariants.{Reader as ReaderLock, Writer as WriterLock, ReleasedWriter, Inner}, promises.Job.{Job}}
+use Rattle.ws_steps.specs.declared.{promises.Job.TheVariants.{Reaction, Follow, Settle, Micro as MicroJob}, promises.Micro.TheVariants.{PipeLook, PipeWrite, PipeNoParts}, pipes.Prevent.{Prevent}, pipes.SignalOperation.TheVariants.{Trigger as TriggerSignal}, promises.Step.{Step}}
 use Rattle.ws_steps.specs.declared.{promises.Step.TheVariants.{ReadableStart, WritableStart}, writable.Writer.{Writer}}
 use Rattle.ws_steps.specs.Promises.{Table, next_id, fresh, next_job, is_pending_at}
+use Rattle.ws_steps.specs.Pipes as pipe
 use Rattle.ws_steps.specs.Readable as readable
 use Rattle.ws_steps.specs.Writable as writable
-use Rattle.ws_steps.specs.Slots.{Slots, Stream, ReadableStream, WritableStream, Done, causes, has_readable, has_writable, readable_at, writable_at, lock_at, host_at}
-use Rattle.ws_steps.specs.Places.{Prices, price, each, effect_price, prices_of, keeps, all_keep, need, measure, room, size, entries_of, table_size}
+use Rattle.ws_steps.specs.Slots.{Slots, most_streams, Stream, ReadableStream, WritableStream, Done, causes, has_readable, has_writable, has_signal, readable_at, writable_at, lock_at, host_at}
+use Rattle.ws_steps.specs.Places.{Prices, price, each, effect_price, prices_of, keeps, all_keep, signals_keep, need, measure, step_price, room, size, entries_of, members_of, table_size}
 use Rattle.ws_steps.specs.Turns.{row, turns, after_turns, performed, Agenda}
 use Rattle.ws_steps.specs.Jobs.{steps, returned, resolved, job_effects, job_begun, begin_job}
 use Rattle.ws_steps.specs.Calls as calls
@@ -36,14 +39,14 @@ use Rattle.ws_room_laws.proofs.Readables.{prices-append}
 use Rattle.ws_room_laws.proofs.Rows.{falls}
 
 -- what is taken, with what may still be taken, doesn't grow with turns
-turns-stand : (π : Prices) (i : StreamId) (n : ℕ) (s : Slots) (es : List Effect)
-    → let a : Agenda = turns n (record { slots = s; effects = es }) in size π i a.slots + need π a.slots a.effects ≤ size π i s + need π s es
+turns-stand : (π : Prices) (i : StreamId) (g : SignalId) (n : ℕ) (s : Slots) (es : List Effect)
+    → let a : Agenda = turns n (record { slots = s; effects = es }) in size π i g a.slots + need π a.slots a.effects ≤ size π i g s + need π s es
 unfolding turns
-turns-stand π i zero s es = omega arith
-turns-stand π i (suc n) s [] = turns-stand π i n s []
-turns-stand π i (suc n) s (e ∷ es) =
-    let h = falls π i e es s in
-    let f = turns-stand π i n (row e s).slots ((row e s).caused ++ es) in omega (arith, h, f)
+turns-stand π i g zero s es = omega arith
+turns-stand π i g (suc n) s [] = turns-stand π i g n s []
+turns-stand π i g (suc n) s (e ∷ es) =
+    let h = falls π i g e es s in
+    let f = turns-stand π i g n (row e s).slots ((row e s).caused ++ es) in omega (arith, h, f)
 
 -- each effect takes a turn
 effect-least : (π : Prices) (e : Effect) → π.turn ≤ effect_price π e
@@ -54,22 +57,22 @@ effects-stand π [] = omega arith
 effects-stand π (e ∷ es) = let h = effect-least π e in let g = effects-stand π es in omega (arith, h, g)
 
 -- what begins so stays within this room
-abbrev pub Begins : Prices → StreamId → ℕ → Slots → Done → Type 0
-Begins π i n s d = size π i d.slots + need π d.slots d.caused ≤ size π i s + n
+abbrev pub Begins : Prices → StreamId → SignalId → ℕ → Slots → Done → Type 0
+Begins π i g n s d = size π i g d.slots + need π d.slots d.caused ≤ size π i g s + n
 
-begun-within : (π : Prices) (i : StreamId) (n m : ℕ) (s : Slots) (d : Done) → Begins π i m s d → Within π i n s m d
-begun-within π i n m s d h =
-    let f = turns-stand π i n d.slots d.caused in
-    let g = effects-stand π (after_turns n d).effects in omega (arith, h, f, g)
+begun-within : (π : Prices) (i : StreamId) (g : SignalId) (n m : ℕ) (s : Slots) (d : Done) → Begins π i g m s d → Within π i g n s m d
+begun-within π i g n m s d h =
+    let f = turns-stand π i g n d.slots d.caused in
+    let k = effects-stand π (after_turns n d).effects in omega (arith, h, f, k)
 
 -- what a call takes before the promise that it answers is watched, or a job
 abbrev pub call_price : Prices → ℕ
-call_price π = price π 5 3 2 2 1 1 1
+call_price π = price π 17 10 8 3 3 2 2 + π.member
 
-module _ (π : Prices) (i : StreamId) (s : Slots) where
+module _ (π : Prices) (i : StreamId) (g : SignalId) (s : Slots) where
   -- a call begins within the room
   abbrev Fits : Begun → Type 0
-  Fits b = Begins π i (all_keep π s.streams + call_price π) s b.done
+  Fits b = Begins π i g (all_keep π s.streams + signals_keep π s.signals + call_price π) s b.done
 
   if-fits : (test : Bool) (a b : Begun) → Fits a → Fits b → Fits (if test then a else b)
   if-fits true a b f g = f
@@ -113,12 +116,14 @@ module _ (π : Prices) (i : StreamId) (s : Slots) where
   by_reader-fits holding free h f (Some (ReaderLock None closed)) = f
   by_reader-fits holding free h f (Some (WriterLock j)) = unsupported-fits
   by_reader-fits holding free h f (Some (ReleasedWriter w)) = unsupported-fits
+  by_reader-fits holding free h f (Some Inner) = unsupported-fits
 
   by_writer-fits : (holding : StreamId → Slots → Begun) (free : Slots → Begun) → ((j : StreamId) → Fits (holding j s)) → Fits (free s) → (lock : Option Lock) → Fits (calls.by_writer holding free s lock)
   by_writer-fits holding free h f None = unsupported-fits
   by_writer-fits holding free h f (Some (ReaderLock stream closed)) = unsupported-fits
   by_writer-fits holding free h f (Some (WriterLock j)) = for_writable-fits j (holding j) (h j)
   by_writer-fits holding free h f (Some (ReleasedWriter w)) = f
+  by_writer-fits holding free h f (Some Inner) = unsupported-fits
 
   of_writer-fits : (f : Writer → Slots → Begun) → ((w : Writer) → Fits (f w s)) → (w : Option Writer) → Fits (calls.of_writer f s w)
   of_writer-fits f h None = unsupported-fits
@@ -144,7 +149,7 @@ module _ (π : Prices) (i : StreamId) (s : Slots) where
       let a = append-keep s.streams x in let b = append-entries s.streams x i.0 e in omega (arith, a, b, k)
 
   make-fits : (make : StreamId → Slots → Begun) → Fits (make (record { 0 = length s.streams }) s) → Fits (calls.make_stream make s)
-  make-fits make h = if-fits (nat_lt (length s.streams) calls.most_streams) (make (record { 0 = length s.streams }) s) (calls.replies TooMany s) h (replies-fits TooMany)
+  make-fits make h = if-fits (nat_lt (length s.streams) most_streams) (make (record { 0 = length s.streams }) s) (calls.replies TooMany s) h (replies-fits TooMany)
 
   -- readers and writers
 
@@ -190,18 +195,21 @@ module _ (π : Prices) (i : StreamId) (s : Slots) where
   release-fits l (Some (ReaderLock None closed)) = replies-fits ReplyDone
   release-fits l (Some (WriterLock j)) = of_writer-fits (calls.release_writer l j) (λ w. release_writer-fits l j w) (writable_at j s).writer
   release-fits l (Some (ReleasedWriter w)) = replies-fits ReplyDone
+  release-fits l (Some Inner) = unsupported-fits
 
   closed-fits : (lock : Option Lock) → Fits (calls.closed_by s lock)
   closed-fits None = unsupported-fits
   closed-fits (Some (ReaderLock stream closed)) = replies-fits (Promise closed)
   closed-fits (Some (WriterLock j)) = of_writer-fits (λ w. calls.replies (Promise w.closed)) (λ w. replies-fits (Promise w.closed)) (writable_at j s).writer
   closed-fits (Some (ReleasedWriter w)) = replies-fits (Promise w.closed)
+  closed-fits (Some Inner) = unsupported-fits
 
   ready-fits : (lock : Option Lock) → Fits (calls.ready_by s lock)
   ready-fits None = unsupported-fits
   ready-fits (Some (ReaderLock stream closed)) = unsupported-fits
   ready-fits (Some (WriterLock j)) = of_writer-fits (λ w. calls.replies (Promise w.ready)) (λ w. replies-fits (Promise w.ready)) (writable_at j s).writer
   ready-fits (Some (ReleasedWriter w)) = replies-fits (Promise w.ready)
+  ready-fits (Some Inner) = unsupported-fits
 
   -- operations that answer a promise
 
@@ -215,9 +223,7 @@ module _ (π : Prices) (i : StreamId) (s : Slots) where
   write-fits v j = promising-fits (λ p. Writable j (WriteChunk v p) ∷ []) (omega arith)
 
   close-fits : (j : StreamId) → Fits (calls.close j s)
-  close-fits j =
-      if-fits (writable.is_closing (writable_at j s)) (calls.rejected s) (calls.promising (λ p. Writable j (CloseStream p) ∷ []) s)
-      rejected-fits (promising-fits (λ p. Writable j (CloseStream p) ∷ []) (omega arith))
+  close-fits j = promising-fits (λ p. Writable j (CloseStream p) ∷ []) (omega arith)
 
   abort-fits : (r : Plain) (j : StreamId) (p : Option PromiseId) → Fits (calls.abort_unless r j s p)
   abort-fits r j None = promising-fits (λ p. Writable j (AbortStream r p) ∷ []) (omega arith)
@@ -245,6 +251,51 @@ module _ (π : Prices) (i : StreamId) (s : Slots) where
       if-fits (has_readable j s) (calls.replies reply s) (calls.for_writable j looked s)
       (replies-fits reply) (for_writable-fits j looked (replies-fits (ReplyState (writable_looks.state_of (writable_at j s)))))
 
+  -- pipes and signals
+
+  for_signal-fits : (b : SignalId) (f : Slots → Begun) → Fits (f s) → Fits (calls.for_signal b f s)
+  for_signal-fits b f h = if-fits (has_signal b s) (f s) (calls.unsupported s) h unsupported-fits
+
+  for_signal_where-fits : (signal : Option SignalId) (f : Slots → Begun) → Fits (f s) → Fits (calls.for_signal_where signal f s)
+  for_signal_where-fits None f h = h
+  for_signal_where-fits (Some b) f h = for_signal-fits b f h
+
+  begins-price : (me : PipeId) (p q : PromiseId) (signal : Option SignalId) (reason : Option Plain) → prices_of π (calls.pipe_begins me p q signal reason) ≤ price π 14 6 8 3 2 1 1 + π.member
+  begins-price me p q signal reason = grind arith
+
+  pipe_to-fits : (source dest : StreamId) (prevent : Prevent) (signal : Option SignalId) → Fits (calls.pipe_to source dest prevent signal s)
+  pipe_to-fits source dest prevent signal =
+      let t : Table = s.promises in
+      let a = fresh-size π t in
+      let b = fresh-size π (fresh t) in
+      let c = fresh-size π (fresh (fresh t)) in
+      let d = fresh-size π (fresh (fresh (fresh t))) in
+      let h = begins-price (record { 0 = length s.pipes }) (next_id t) (next_id (fresh (fresh t))) signal (calls.reason_of signal s) in
+      omega (arith, a, b, c, d, h)
+
+  pipe_call-fits : (source dest : StreamId) (prevent : Prevent) (signal : Option SignalId) → Fits (calls.pipe_call source dest prevent signal s)
+  pipe_call-fits source dest prevent signal =
+      let free : Slots → Begun = calls.pipe_unlocked source dest prevent signal in
+      let piped : Fits (free s) =
+      if-fits (readable_looks.is_locked (readable_at source s)) (calls.rejected s) (if writable_looks.is_locked (writable_at dest s) then calls.rejected s else calls.pipe_to source dest prevent signal s)
+      rejected-fits
+      (if-fits (writable_looks.is_locked (writable_at dest s)) (calls.rejected s) (calls.pipe_to source dest prevent signal s) rejected-fits (pipe_to-fits source dest prevent signal)) in
+      for_readable-fits source (calls.for_writable dest (calls.for_signal_where signal free))
+      (for_writable-fits dest (calls.for_signal_where signal free) (for_signal_where-fits signal free piped))
+
+  append-signals : (xs : List pipe.Signal) → signals_keep π (xs ++ pipe.new_signal ∷ []) ≡ signals_keep π xs
+  append-signals [] = refl
+  append-signals (x ∷ xs) = let h = append-signals xs in omega (arith, h)
+
+  append-members : (xs : List pipe.Signal) (n : ℕ) → members_of π (slice_get (xs ++ pipe.new_signal ∷ []) n) ≤ members_of π (slice_get xs n)
+  append-members [] zero = omega arith
+  append-members [] (suc n) = omega arith
+  append-members (x ∷ xs) zero = omega arith
+  append-members (x ∷ xs) (suc n) = append-members xs n
+
+  signal-fits : Fits (calls.make_signal s)
+  signal-fits = let h = append-signals s.signals in let f = append-members s.signals g.0 in omega (arith, h, f)
+
   pub begin-fits : (c : Call) → Fits (begin c s)
   unfolding begin
   begin-fits (names.MakeReadable mark size start) =
@@ -269,20 +320,23 @@ module _ (π : Prices) (i : StreamId) (s : Slots) where
   begin-fits (names.Fail j r) = fail-fits r j
   begin-fits (names.Desired j) = for_readable-fits j (calls.desired j) (replies-fits (calls.desired j s).reply)
   begin-fits (names.DesiredBy l) = by_writer-fits calls.desired_of_writer calls.throws_type_error (λ j. replies-fits (calls.desired_of_writer j s).reply) type_error-fits (lock_at l s)
+  begin-fits (names.Pipe source dest prevent signal) = pipe_call-fits source dest prevent signal
+  begin-fits names.MakeSignal = signal-fits
+  begin-fits (names.Trigger b r) = for_signal-fits b (calls.does (OnSignal b (TriggerSignal r) ∷ [])) (does-fits (OnSignal b (TriggerSignal r) ∷ []) (omega arith))
   begin-fits (names.Settle h answer) = settle-fits h answer (host_at h s)
   begin-fits (names.State j) = look-fits j
   begin-fits names.Step = replies-fits ReplyDone
 
   -- a job
 
-  steps-price : (step : Step) (outcome : Result Plain Plain) → prices_of π (steps step outcome) ≤ price π 4 2 1 1 1 0 0
+  steps-price : (step : Step) (outcome : Result Plain Plain) → prices_of π (steps step outcome) ≤ price π 10 6 5 3 2 1 1
   steps-price step outcome = grind arith
 
   resolved-price : (derived : Option PromiseId) (outcome : Result Plain Plain) → prices_of π (resolved derived outcome) ≤ π.turn
   resolved-price None outcome = omega arith
   resolved-price (Some p) outcome = omega arith
 
-  effects-price : (job : Job) → prices_of π (job_effects job) ≤ price π 5 2 1 1 1 0 0
+  effects-price : (job : Job) → prices_of π (job_effects job) ≤ price π 16 9 7 4 3 2 2
   effects-price (Reaction step outcome derived) =
       let a = steps-price step outcome in
       let b = resolved-price derived (returned step outcome) in
@@ -290,33 +344,36 @@ module _ (π : Prices) (i : StreamId) (s : Slots) where
   effects-price (Follow p q) = omega arith
   effects-price (Settle p outcome) = omega arith
   effects-price (MicroJob (PipeLook p)) = omega arith
+  effects-price (MicroJob (PipeWrite p)) = omega arith
+  effects-price (MicroJob (PipeNoParts p)) = omega arith
 
-  some_job-fits : (job : Option Job) → Begins π i (all_keep π s.streams + call_price π) s (job_begun s job)
+  some_job-fits : (job : Option Job) → Begins π i g (all_keep π s.streams + signals_keep π s.signals + step_price π) s (job_begun s job)
   some_job-fits None = omega arith
   some_job-fits (Some job) = let a = after_job-size π s.promises in let b = effects-price job in omega (arith, a, b)
 
-  pub job-fits : Begins π i (all_keep π s.streams + call_price π) s (begin_job s)
+  pub job-fits : Begins π i g (all_keep π s.streams + signals_keep π s.signals + step_price π) s (begin_job s)
   unfolding begin_job
   job-fits = some_job-fits (next_job s.promises)
 
-named-size : (π : Prices) (i : StreamId) (reply : Reply) (s : Slots) → size π i (named reply s) ≤ size π i s + π.event
-named-size π i (Promise p) s = let h = watch-size π p s.promises in omega (arith, h)
-named-size π i ReplyDone s = omega arith
-named-size π i (Made j) s = omega arith
-named-size π i (ReplyLock l) s = omega arith
-named-size π i (Size n) s = omega arith
-named-size π i (ReplyState looks) s = omega arith
-named-size π i (Throws t) s = omega arith
-named-size π i TooMany s = omega arith
+named-size : (π : Prices) (i : StreamId) (g : SignalId) (reply : Reply) (s : Slots) → size π i g (named reply s) ≤ size π i g s + π.event
+named-size π i g (Promise p) s = let h = watch-size π p s.promises in omega (arith, h)
+named-size π i g ReplyDone s = omega arith
+named-size π i g (Made j) s = omega arith
+named-size π i g (ReplyLock l) s = omega arith
+named-size π i g (ReplySignal b) s = omega arith
+named-size π i g (Size n) s = omega arith
+named-size π i g (ReplyState looks) s = omega arith
+named-size π i g (Throws t) s = omega arith
+named-size π i g TooMany s = omega arith
 
 pub room_is_enough : RoomIsEnough
 unfolding performed
 room_is_enough = record {
-  call = λ π i n c s. let h = begin-fits π i s c in begun-within π i n (room π s) s (begin c s).done (omega (arith, h));
-  answered = λ π i c s.
+  call = λ π i g n c s. let h = begin-fits π i g s c in begun-within π i g n (room π s) s (begin c s).done (omega (arith, h));
+  answered = λ π i g c s.
       let d : Done = (begin c s).done in
-      let h = begin-fits π i s c in
-      let f = turns-stand π i (measure d.slots d.caused) d.slots d.caused in
-      let g = named-size π i (begin c s).reply (performed d) in omega (arith, h, f, g);
-  job = λ π i n s. let h = job-fits π i s in begun-within π i n (room π s) s (begin_job s) (omega (arith, h));
+      let h = begin-fits π i g s c in
+      let f = turns-stand π i g (measure d.slots d.caused) d.slots d.caused in
+      let k = named-size π i g (begin c s).reply (performed d) in omega (arith, h, f, k);
+  job = λ π i g n s. let h = job-fits π i g s in begun-within π i g n (room π s) s (begin_job s) (omega (arith, h));
 }

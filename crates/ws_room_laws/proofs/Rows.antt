@@ -2,6 +2,8 @@
 -- before, less the price of a turn.
 use Rattle.std.proofs.Common.{◌≡◌, ◌≤◌, ◌<◌, ℕ, zero, suc, ◌+◌, ◌*◌, ◌⊎◌, inl, inr, ⊎_elim, ◌∙◌, List, [], ◌∷◌, ◌++◌, length, length-append, Option, Some, None, Err, refl, ap, arith}
 use Rattle.std.specs.Prelude.{slice_get, slice_set}
+use Rattle.ws_value.specs.declared.ids.PipeId.{PipeId}
+use Rattle.ws_value.specs.declared.ids.SignalId.{SignalId}
 use Rattle.ws_value.specs.declared.ids.StreamId.{StreamId}
 use Rattle.ws_value.specs.declared.ids.PromiseId.{PromiseId}
 use Rattle.ws_value.specs.declared.value.Plain.{Plain}
@@ -10,24 +12,28 @@ use Rattle.ws_value.specs.declared.value.Value.{Value}
 use Rattle.ws_value.specs.declared.value.Value.TheVariants.{Plain as PlainValue}
 use Rattle.ws_steps.specs.declared.{calls.Event.TheVariants.{Host as HostCalled}, calls.HostCall.{HostCall}, calls.StartBy.{StartBy}, calls.StartBy.TheVariants.{Now, Later}}
 use Rattle.ws_steps.specs.declared.effects.Effect.{Effect}
-use Rattle.ws_steps.specs.declared.effects.Effect.TheVariants.{Readable, Writable, StartAlgorithm, PullAlgorithm, CancelAlgorithm, WriteAlgorithm, CloseAlgorithm, AbortAlgorithm, ChunkSteps, CloseSteps, ErrorSteps, Give, Settle, CallHost}
+use Rattle.ws_steps.specs.declared.effects.Effect.TheVariants.{Readable, Writable, Pipe, Signal, StartAlgorithm, PullAlgorithm, CancelAlgorithm, WriteAlgorithm, CloseAlgorithm, AbortAlgorithm, ChunkSteps, CloseSteps, ErrorSteps, Give, Settle, Queue, CallHost}
 use Rattle.ws_steps.specs.declared.{effects.Owner.{Owner}, effects.Owner.TheVariants.{Host}, effects.Use.{Use}, effects.Use.TheVariants.{React}, promises.Step.{Step}}
 use Rattle.ws_steps.specs.declared.{promises.Step.TheVariants.{ReadablePull, ReturnUndefined, WritableClose, WritableAbort}, readable.ReadRequest.{ReadRequest}}
-use Rattle.ws_steps.specs.declared.{readable.ReadRequest.TheVariants.{Promise}, readable.ReadableOperation.{ReadableOperation}, writable.WritableOperation.{WritableOperation}}
+use Rattle.ws_steps.specs.declared.{readable.ReadRequest.TheVariants.{Promise, Pipe as PipeRequest}, pipes.PipeOperation.{PipeOperation}, pipes.SignalOperation.{SignalOperation}, readable.ReadableOperation.{ReadableOperation}, writable.WritableOperation.{WritableOperation}}
 use Rattle.ws_steps.specs.Promises.{Table, next_id, fresh, tell}
-use Rattle.ws_steps.specs.Operations.{readable_operation, writable_operation}
+use Rattle.ws_steps.specs.Operations.{readable_operation, writable_operation, pipe_operation, signal_operation}
+use Rattle.ws_steps.specs.Pipes as pipe
 use Rattle.ws_steps.specs.Readable as readable
 use Rattle.ws_steps.specs.Writable as writable
-use Rattle.ws_steps.specs.Slots.{Slots, Stream, ReadableStream, WritableStream, Done, nothing, owner_at, found, on_readable, on_writable}
-use Rattle.ws_steps.specs.Places.{Prices, price, each, effect_price, readable_price, writable_price, start_price, prices_of, keeps, all_keep, need, turns_alone, measure, table_size, entries_of, size}
+use Rattle.ws_steps.specs.Slots.{Slots, Stream, ReadableStream, WritableStream, Done, nothing, owner_at, found, ends_at, on_readable, on_writable, on_pipe, on_signal}
+use Rattle.ws_steps.specs.Places.{Prices, price, each, effect_price, readable_price, writable_price, start_price, prices_of, pipe_price, signal_price, keeps, all_keep, signal_keeps, signals_keep, need, turns_alone, measure, table_size, entries_of, members_of, size}
 use Rattle.ws_steps.specs.Turns.{start_algorithm, pull_algorithm, cancel_algorithm, write_algorithm, close_algorithm, abort_algorithm, chunk_steps, close_steps, error_steps, call_host, row}
-use Rattle.ws_room_laws.proofs.Tables.{settle-size, given-size, finished-size, fresh-size, tell-size, use-size, gift-size}
+use Rattle.ws_room_laws.proofs.Tables.{settle-size, given-size, finished-size, fresh-size, tell-size, use-size, gift-size, micro-size}
 use Rattle.ws_room_laws.proofs.Readables.{readable-takes, prices-append}
 use Rattle.ws_room_laws.proofs.Writables.{writable-takes}
+use Rattle.ws_room_laws.proofs.Pipes.{pipe-takes, signal-takes}
 
 -- what a row takes
-abbrev Takes : Prices → StreamId → ℕ → Slots → Done → Type 0
-Takes π i n s d = size π i d.slots + prices_of π d.caused + all_keep π d.slots.streams + π.turn ≤ size π i s + n + all_keep π s.streams
+abbrev Takes : Prices → StreamId → SignalId → ℕ → Slots → Done → Type 0
+Takes π i a n s d =
+    size π i a d.slots + prices_of π d.caused + (all_keep π d.slots.streams + signals_keep π d.slots.signals) + π.turn
+    ≤ size π i a s + n + (all_keep π s.streams + signals_keep π s.signals)
 
 -- the entries of an empty list, for nothing each
 pub each-none : {A : Type 0} (xs : List A) → each 0 xs ≡ 0
@@ -78,28 +84,28 @@ abbrev StreamTakes : Prices → ℕ → Table → Stream → Stream → Table �
 StreamTakes π n t x y u es = (q r : ℕ) → q ≤ π.queued → r ≤ π.request →
     prices_of π es + keeps π y + entries_by q r y + table_size π u + π.turn ≤ keeps π x + entries_by q r x + table_size π t + n
 
-put-takes : (π : Prices) (i j : StreamId) (s : Slots) (n : ℕ) (x y : Stream) (u : Table) (es : List Effect) → slice_get s.streams j.0 ≡ Some x → StreamTakes π n s.promises x y u es
-    → Takes π i n s (record { slots = record s { streams = slice_set s.streams j.0 y; promises = u }; caused = es })
-put-takes π i j s n x y u es is takes =
+put-takes : (π : Prices) (i j : StreamId) (a : SignalId) (s : Slots) (n : ℕ) (x y : Stream) (u : Table) (es : List Effect) → slice_get s.streams j.0 ≡ Some x → StreamTakes π n s.promises x y u es
+    → Takes π i a n s (record { slots = record s { streams = slice_set s.streams j.0 y; promises = u }; caused = es })
+put-takes π i j a s n x y u es is takes =
     let k = keep-set π s.streams j.0 x y is in
     ⊎_elim
     (λ (e : i.0 ≡ j.0).
     let h = takes π.queued π.request (omega arith) (omega arith) in
     let before = ap (entries_of π) (ap (slice_get s.streams) e ∙ is) in
     let after = ap (entries_of π) (ap (slice_get (slice_set s.streams j.0 y)) e ∙ get-same s.streams j.0 x y is) in
-    let a = entries-some π x in
-    let b = entries-some π y in
-    omega (arith, h, k, before, after, a, b))
+    let c = entries-some π x in
+    let d = entries-some π y in
+    omega (arith, h, k, before, after, c, d))
     (λ (f : i.0 ≡ j.0 → ⊥).
     let h = takes 0 0 (omega arith) (omega arith) in
     let same = ap (entries_of π) (get-other s.streams j.0 i.0 y f) in
-    let a = entries-none x in
-    let b = entries-none y in
-    omega (arith, h, k, same, a, b))
+    let c = entries-none x in
+    let d = entries-none y in
+    omega (arith, h, k, same, c, d))
     (same-or i.0 j.0)
 
-nothing-takes : (π : Prices) (i : StreamId) (s : Slots) (n : ℕ) → π.turn ≤ n → Takes π i n s (nothing s)
-nothing-takes π i s n least = omega (arith, least)
+nothing-takes : (π : Prices) (i : StreamId) (a : SignalId) (s : Slots) (n : ℕ) → π.turn ≤ n → Takes π i a n s (nothing s)
+nothing-takes π i a s n least = omega (arith, least)
 
 readable-least : (π : Prices) (operation : ReadableOperation) → π.turn ≤ readable_price π operation
 readable-least π operation = grind arith
@@ -107,31 +113,72 @@ readable-least π operation = grind arith
 writable-least : (π : Prices) (operation : WritableOperation) → π.turn ≤ writable_price π operation
 writable-least π operation = grind arith
 
-readable-row : (π : Prices) (i j : StreamId) (operation : ReadableOperation) (s : Slots) (o : Option Stream) → slice_get s.streams j.0 ≡ o
-    → Takes π i (readable_price π operation) s (on_readable (readable_operation j operation) j s)
-readable-row π i j operation s None is = rw is (nothing-takes π i s (readable_price π operation) (readable-least π operation))
-readable-row π i j operation s (Some (WritableStream x)) is = rw is (nothing-takes π i s (readable_price π operation) (readable-least π operation))
-readable-row π i j operation s (Some (ReadableStream x)) is =
-    let a : readable.Acts = record { slots = x; out = found s } in
-    let b : readable.Acts = readable_operation j operation a in
-    rw is (put-takes π i j s (readable_price π operation) (ReadableStream x) (ReadableStream b.slots) b.out.promises b.out.effects is
-    (λ q r l m. let h = readable-takes π q r j operation a l m in omega (arith, h)))
+readable-row : (π : Prices) (i j : StreamId) (a : SignalId) (operation : ReadableOperation) (s : Slots) (o : Option Stream) → slice_get s.streams j.0 ≡ o
+    → Takes π i a (readable_price π operation) s (on_readable (readable_operation j operation) j s)
+readable-row π i j a operation s None is = rw is (nothing-takes π i a s (readable_price π operation) (readable-least π operation))
+readable-row π i j a operation s (Some (WritableStream x)) is = rw is (nothing-takes π i a s (readable_price π operation) (readable-least π operation))
+readable-row π i j a operation s (Some (ReadableStream x)) is =
+    let z : readable.Acts = record { slots = x; out = found s } in
+    let b : readable.Acts = readable_operation j operation z in
+    rw is (put-takes π i j a s (readable_price π operation) (ReadableStream x) (ReadableStream b.slots) b.out.promises b.out.effects is
+    (λ q r l m. let h = readable-takes π q r j operation z l m in omega (arith, h)))
 
-writable-row : (π : Prices) (i j : StreamId) (operation : WritableOperation) (s : Slots) (o : Option Stream) → slice_get s.streams j.0 ≡ o
-    → Takes π i (writable_price π operation) s (on_writable (writable_operation j operation) j s)
-writable-row π i j operation s None is = rw is (nothing-takes π i s (writable_price π operation) (writable-least π operation))
-writable-row π i j operation s (Some (ReadableStream x)) is = rw is (nothing-takes π i s (writable_price π operation) (writable-least π operation))
-writable-row π i j operation s (Some (WritableStream x)) is =
-    let a : writable.Acts = record { slots = x; out = found s } in
-    let b : writable.Acts = writable_operation j operation a in
-    rw is (put-takes π i j s (writable_price π operation) (WritableStream x) (WritableStream b.slots) b.out.promises b.out.effects is
-    (λ q r l m. let h = writable-takes π q r j operation a l m in omega (arith, h)))
+writable-row : (π : Prices) (i j : StreamId) (a : SignalId) (operation : WritableOperation) (s : Slots) (o : Option Stream) → slice_get s.streams j.0 ≡ o
+    → Takes π i a (writable_price π operation) s (on_writable (writable_operation j operation) j s)
+writable-row π i j a operation s None is = rw is (nothing-takes π i a s (writable_price π operation) (writable-least π operation))
+writable-row π i j a operation s (Some (ReadableStream x)) is = rw is (nothing-takes π i a s (writable_price π operation) (writable-least π operation))
+writable-row π i j a operation s (Some (WritableStream x)) is =
+    let z : writable.Acts = record { slots = x; out = found s } in
+    let b : writable.Acts = writable_operation j operation z in
+    rw is (put-takes π i j a s (writable_price π operation) (WritableStream x) (WritableStream b.slots) b.out.promises b.out.effects is
+    (λ q r l m. let h = writable-takes π q r j operation z l m in omega (arith, h)))
+
+pipe-least : (π : Prices) (operation : PipeOperation) → π.turn ≤ pipe_price π operation
+pipe-least π operation = grind arith
+
+signal-least : (π : Prices) (operation : SignalOperation) → π.turn ≤ signal_price π operation
+signal-least π operation = grind arith
+
+pipe-row : (π : Prices) (i : StreamId) (a : SignalId) (p : PipeId) (operation : PipeOperation) (s : Slots) (o : Option pipe.Slots) → slice_get s.pipes p.0 ≡ o
+    → Takes π i a (pipe_price π operation) s (on_pipe (λ ends. pipe_operation p ends operation) p s)
+pipe-row π i a p operation s None is = rw is (nothing-takes π i a s (pipe_price π operation) (pipe-least π operation))
+pipe-row π i a p operation s (Some x) is =
+    rw is (let h = pipe-takes π p (ends_at x s) operation (record { slots = x; out = found s }) in omega (arith, h))
+
+-- the signals, where one is put in the place of another
+
+signals-set : (π : Prices) (xs : List pipe.Signal) (j : ℕ) (x y : pipe.Signal) → slice_get xs j ≡ Some x
+    → signals_keep π (slice_set xs j y) + signal_keeps π x ≡ signals_keep π xs + signal_keeps π y
+signals-set π [] j x y is = cc
+signals-set π (z ∷ zs) zero x y is = let h : z ≡ x = cc in let k = ap (signal_keeps π) h in omega (arith, k)
+signals-set π (z ∷ zs) (suc j) x y is = let h = signals-set π zs j x y is in omega (arith, h)
+
+signal-row : (π : Prices) (i : StreamId) (a b : SignalId) (operation : SignalOperation) (s : Slots) (o : Option pipe.Signal) → slice_get s.signals b.0 ≡ o
+    → Takes π i a (signal_price π operation) s (on_signal (signal_operation operation) b s)
+signal-row π i a b operation s None is = rw is (nothing-takes π i a s (signal_price π operation) (signal-least π operation))
+signal-row π i a b operation s (Some x) is =
+    let y : pipe.Signalled = signal_operation operation x in
+    let k = signals-set π s.signals b.0 x y.signal is in
+    rw is
+    (⊎_elim
+    (λ (e : a.0 ≡ b.0).
+    let h = signal-takes π π.member operation x (omega arith) in
+    let before = ap (members_of π) (ap (slice_get s.signals) e ∙ is) in
+    let after = ap (members_of π) (ap (slice_get (slice_set s.signals b.0 y.signal)) e ∙ get-same s.signals b.0 x y.signal is) in
+    omega (arith, h, k, before, after))
+    (λ (f : a.0 ≡ b.0 → ⊥).
+    let h = signal-takes π 0 operation x (omega arith) in
+    let same = ap (members_of π) (get-other s.signals b.0 a.0 y.signal f) in
+    let c = each-none x.pipes in
+    let d = each-none y.signal.pipes in
+    omega (arith, h, k, same, c, d))
+    (same-or a.0 b.0))
 
 -- algorithms
 
-start-row : (π : Prices) (i j : StreamId) (step : Step) (s : Slots) (start : StartBy) → Takes π i (start_price π start) s (start_algorithm j step s start)
-start-row π i j step s Now = omega arith
-start-row π i j step s Later = let h = fresh-size π s.promises in omega (arith, h)
+start-row : (π : Prices) (i j : StreamId) (a : SignalId) (step : Step) (s : Slots) (start : StartBy) → Takes π i a (start_price π start) s (start_algorithm j step s start)
+start-row π i j a step s Now = omega arith
+start-row π i j a step s Later = let h = fresh-size π s.promises in omega (arith, h)
 
 pull-row : (π : Prices) (j : StreamId) (u : Use) (o : Owner) → prices_of π (pull_algorithm j u o) ≡ price π 1 1 1 1 1 0 0
 pull-row π j u Host = omega arith
@@ -150,51 +197,57 @@ abort-row π j r u Host = omega arith
 
 -- the steps of read requests
 
-chunk-row : (π : Prices) (i : StreamId) (v : Value) (s : Slots) (request : ReadRequest) → Takes π i π.turn s (chunk_steps v s request)
-chunk-row π i v s (Promise p) = let h = given-size π p v s.promises in omega (arith, h)
+chunk-row : (π : Prices) (i : StreamId) (a : SignalId) (v : Value) (s : Slots) (request : ReadRequest) → Takes π i a (price π 2 0 1 0 0 0 0) s (chunk_steps v s request)
+chunk-row π i a v s (Promise p) = let h = given-size π p v s.promises in omega (arith, h)
+chunk-row π i a v s (PipeRequest p) = omega arith
 
-closing-row : (π : Prices) (i : StreamId) (s : Slots) (request : ReadRequest) → Takes π i π.turn s (close_steps s request)
-closing-row π i s (Promise p) = let h = finished-size π p (PlainValue Undefined) s.promises in omega (arith, h)
+closing-row : (π : Prices) (i : StreamId) (a : SignalId) (s : Slots) (request : ReadRequest) → Takes π i a (price π 2 0 1 0 0 0 0) s (close_steps s request)
+closing-row π i a s (Promise p) = let h = finished-size π p (PlainValue Undefined) s.promises in omega (arith, h)
+closing-row π i a s (PipeRequest p) = omega arith
 
-erring-row : (π : Prices) (i : StreamId) (e : Plain) (s : Slots) (request : ReadRequest) → Takes π i π.turn s (error_steps e s request)
-erring-row π i e s (Promise p) = let h = settle-size π p (Err e) s.promises in omega (arith, h)
+erring-row : (π : Prices) (i : StreamId) (a : SignalId) (e : Plain) (s : Slots) (request : ReadRequest) → Takes π i a (price π 2 0 1 0 0 0 0) s (error_steps e s request)
+erring-row π i a e s (Promise p) = let h = settle-size π p (Err e) s.promises in omega (arith, h)
+erring-row π i a e s (PipeRequest p) = omega arith
 
 times-more : (a : ℕ) (xs : List (Option PromiseId)) (p : Option PromiseId) → a * length (xs ++ p ∷ []) ≡ a * length xs + a
 times-more a xs p = let h = ap (λ n. a * n) (length-append xs (p ∷ [])) in omega (arith, h)
 
-call-row : (π : Prices) (i : StreamId) (call : HostCall) (u : Use) (s : Slots) → Takes π i (price π 1 1 1 1 1 0 0) s (nothing (call_host call u s))
+call-row : (π : Prices) (i : StreamId) (a : SignalId) (call : HostCall) (u : Use) (s : Slots) → Takes π i a (price π 1 1 1 1 1 0 0) s (nothing (call_host call u s))
 unfolding call_host
-call-row π i call u s =
+call-row π i a call u s =
     let p : PromiseId = next_id s.promises in
     let t : Table = tell (HostCalled (record { 0 = length s.hosts }) call) (fresh s.promises) in
-    let a = fresh-size π s.promises in
+    let e = fresh-size π s.promises in
     let b = tell-size π (HostCalled (record { 0 = length s.hosts }) call) (fresh s.promises) in
     let c = use-size π p t u in
     let d = times-more π.host s.hosts (Some p) in
-    omega (arith, a, b, c, d)
+    omega (arith, e, b, c, d)
 
-pub row-takes : (π : Prices) (i : StreamId) (e : Effect) (s : Slots) → Takes π i (effect_price π e) s (row e s)
+pub row-takes : (π : Prices) (i : StreamId) (a : SignalId) (e : Effect) (s : Slots) → Takes π i a (effect_price π e) s (row e s)
 unfolding row
-row-takes π i (Readable j operation) s = readable-row π i j operation s (slice_get s.streams j.0) refl
-row-takes π i (Writable j operation) s = writable-row π i j operation s (slice_get s.streams j.0) refl
-row-takes π i (StartAlgorithm j step start) s = start-row π i j step s start
-row-takes π i (PullAlgorithm j) s = let h = pull-row π j (React (ReadablePull j) None) (owner_at j s) in omega (arith, h)
-row-takes π i (CancelAlgorithm j r p) s = let h = cancel-row π j r (React ReturnUndefined (Some p)) (owner_at j s) in omega (arith, h)
-row-takes π i (WriteAlgorithm j) s = let h = write-row π j (owner_at j s) in omega (arith, h)
-row-takes π i (CloseAlgorithm j) s = let h = close-row π j (React (WritableClose j) None) (owner_at j s) in omega (arith, h)
-row-takes π i (AbortAlgorithm j r p) s = let h = abort-row π j r (React (WritableAbort j p) None) (owner_at j s) in omega (arith, h)
-row-takes π i (ChunkSteps j request v) s = let h = chunk-row π i v s request in omega (arith, h)
-row-takes π i (CloseSteps j request) s = let h = closing-row π i s request in omega (arith, h)
-row-takes π i (ErrorSteps j request e) s = let h = erring-row π i e s request in omega (arith, h)
-row-takes π i (Give gift u) s = let h = gift-size π s.promises u gift in omega (arith, h)
-row-takes π i (Settle p outcome) s = let h = settle-size π p outcome s.promises in omega (arith, h)
-row-takes π i (CallHost call u) s = call-row π i call u s
+row-takes π i a (Readable j operation) s = readable-row π i j a operation s (slice_get s.streams j.0) refl
+row-takes π i a (Writable j operation) s = writable-row π i j a operation s (slice_get s.streams j.0) refl
+row-takes π i a (Pipe p operation) s = pipe-row π i a p operation s (slice_get s.pipes p.0) refl
+row-takes π i a (Signal b operation) s = signal-row π i a b operation s (slice_get s.signals b.0) refl
+row-takes π i a (StartAlgorithm j step start) s = start-row π i j a step s start
+row-takes π i a (PullAlgorithm j) s = let h = pull-row π j (React (ReadablePull j) None) (owner_at j s) in omega (arith, h)
+row-takes π i a (CancelAlgorithm j r p) s = let h = cancel-row π j r (React ReturnUndefined (Some p)) (owner_at j s) in omega (arith, h)
+row-takes π i a (WriteAlgorithm j) s = let h = write-row π j (owner_at j s) in omega (arith, h)
+row-takes π i a (CloseAlgorithm j) s = let h = close-row π j (React (WritableClose j) None) (owner_at j s) in omega (arith, h)
+row-takes π i a (AbortAlgorithm j r p) s = let h = abort-row π j r (React (WritableAbort j p) None) (owner_at j s) in omega (arith, h)
+row-takes π i a (ChunkSteps j request v) s = let h = chunk-row π i a v s request in omega (arith, h)
+row-takes π i a (CloseSteps j request) s = let h = closing-row π i a s request in omega (arith, h)
+row-takes π i a (ErrorSteps j request e) s = let h = erring-row π i a e s request in omega (arith, h)
+row-takes π i a (Give gift u) s = let h = gift-size π s.promises u gift in omega (arith, h)
+row-takes π i a (Settle p outcome) s = let h = settle-size π p outcome s.promises in omega (arith, h)
+row-takes π i a (Queue m) s = let h = micro-size π m s.promises in omega (arith, h)
+row-takes π i a (CallHost call u) s = call-row π i a call u s
 
 -- what is taken, with what may still be taken, falls by the price of a turn
-pub falls : (π : Prices) (i : StreamId) (e : Effect) (es : List Effect) (s : Slots)
-    → size π i (row e s).slots + need π (row e s).slots ((row e s).caused ++ es) + π.turn ≤ size π i s + need π s (e ∷ es)
-falls π i e es s =
-    let h = row-takes π i e s in
+pub falls : (π : Prices) (i : StreamId) (a : SignalId) (e : Effect) (es : List Effect) (s : Slots)
+    → size π i a (row e s).slots + need π (row e s).slots ((row e s).caused ++ es) + π.turn ≤ size π i a s + need π s (e ∷ es)
+falls π i a e es s =
+    let h = row-takes π i a e s in
     let p = prices-append π (row e s).caused es in
     omega (arith, h, p)
 
@@ -204,14 +257,19 @@ entries-turns : (o : Option Stream) → entries_of turns_alone o ≡ 0
 entries-turns None = refl
 entries-turns (Some x) = entries-some turns_alone x ∙ entries-none x
 
-size-turns : (i : StreamId) (s : Slots) → size turns_alone i s ≡ 0
+members-turns : (o : Option pipe.Signal) → members_of turns_alone o ≡ 0
+members-turns None = refl
+members-turns (Some x) = each-none x.pipes
+
+size-turns : (i : StreamId) (a : SignalId) (s : Slots) → size turns_alone i a s ≡ 0
 unfolding table_size
-size-turns i s = let h = entries-turns (slice_get s.streams i.0) in omega (arith, h)
+size-turns i a s = let h = entries-turns (slice_get s.streams i.0) in let g = members-turns (slice_get s.signals a.0) in omega (arith, h, g)
 
 pub measure-fall : (e : Effect) (es : List Effect) (s : Slots) → measure (row e s).slots ((row e s).caused ++ es) < measure s (e ∷ es)
 measure-fall e es s =
     let first : StreamId = record { 0 = 0 } in
-    let h = falls turns_alone first e es s in
-    let a = size-turns first s in
-    let b = size-turns first (row e s).slots in
+    let signal : SignalId = record { 0 = 0 } in
+    let h = falls turns_alone first signal e es s in
+    let a = size-turns first signal s in
+    let b = size-turns first signal (row e s).slots in
     omega (arith, h, a, b)

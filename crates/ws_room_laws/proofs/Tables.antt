@@ -9,9 +9,9 @@ use Rattle.ws_value.specs.declared.value.Outcome.TheVariants.{Pending, Fulfilled
 use Rattle.ws_value.specs.declared.value.Plain.{Plain}
 use Rattle.ws_value.specs.declared.value.Value.{Value}
 use Rattle.ws_steps.specs.declared.{calls.Event.{Event}, calls.Event.TheVariants.{Settled}, effects.Gift.{Gift}, effects.Gift.TheVariants.{This, Fresh}, effects.Use.{Use}}
-use Rattle.ws_steps.specs.declared.{effects.Use.TheVariants.{React, Resolve}, promises.Job.{Job}, promises.Job.TheVariants.{Reaction as ReactionJob, Follow, Settle, Micro as MicroJob}}
+use Rattle.ws_steps.specs.declared.{effects.Use.TheVariants.{React, Resolve}, promises.Job.{Job}, promises.Job.TheVariants.{Reaction as ReactionJob, Follow, Settle, Micro as MicroJob}, promises.Micro.{Micro}}
 use Rattle.ws_steps.specs.declared.{promises.Reaction.{Reaction}, promises.Reaction.TheVariants.{Perform, Adopt}}
-use Rattle.ws_steps.specs.Promises.{Entry, Table, pending, live, entry_at, with_entry, next_id, fresh, is_pending, is_open_entry, is_open, is_following, settled, job_of, enqueue_job, ended_as, tell, noted, settle_entry, went_astray, settle, fresh_settled, answer_entry, answer, react_by, react_entry, react, follow_entry, follow, unfollow_entry, unfollow, use_this, use_gift, taken, after_first, after_next_job, watch_entry, watch_at, watch}
+use Rattle.ws_steps.specs.Promises.{Entry, Table, pending, live, entry_at, with_entry, next_id, fresh, is_pending, is_open_entry, is_open, is_following, settled, job_of, enqueue_job, ended_as, tell, noted, settle_entry, went_astray, settle, fresh_settled, answer_entry, answer, react_by, react_entry, react, follow_entry, follow, unfollow_entry, unfollow, queue_micro, use_this, use_gift, taken, after_first, after_next_job, watch_entry, watch_at, watch}
 use Rattle.ws_steps.specs.Places.{Prices, price, gift_price, reactions_of, reactions_in, unnoted_by, unnoted_of, unnoted_in, table_size}
 
 -- it takes so many promises, jobs or reactions, and events
@@ -213,6 +213,10 @@ unfolding unfollow
 unfollow-grow p t =
     either-grow 0 0 0 (is_following p t) t (unfollow_entry p t (entry_at t p)) (went_astray t) (λ follows. unfollow_entry-grow p t (entry_at t p) refl) (astray-grow 0 0 0 t)
 
+micro-grow : (m : Micro) (t : Table) → Grows 0 1 0 t (queue_micro m t)
+unfolding queue_micro
+micro-grow m t = let c = length-append t.jobs (MicroJob m ∷ []) in record { promises = omega arith; jobs = omega (arith, c); events = omega arith }
+
 -- a promise that is watched from now on
 
 told-if : (p : PromiseId) (o : Outcome) (events : List Event) (n : ℕ) → length (if is_pending o then events else events ++ Settled p ∷ []) + unnoted_by o (Some n) ≤ length events + 1
@@ -270,6 +274,9 @@ unfolding use_gift
 gift-size π t u (This p) = let h = use-size π p t u in omega (arith, h)
 gift-size π t u (Fresh outcome) =
     let f = fresh_settled-size π outcome t in let h = use-size π (next_id t) (fresh_settled outcome t) u in omega (arith, f, h)
+
+pub micro-size : (π : Prices) (m : Micro) (t : Table) → table_size π (queue_micro m t) ≤ table_size π t + π.job
+micro-size π m t = let h = size-grow π 0 1 0 t (queue_micro m t) (micro-grow m t) in omega (arith, h)
 
 pub watch-size : (π : Prices) (p : PromiseId) (t : Table) → table_size π (watch p t) ≤ table_size π t + π.event
 watch-size π p t = let h = size-grow π 0 0 1 t (watch p t) (watch-grow p t) in omega (arith, h)

@@ -14,7 +14,7 @@ use Rattle.ws_steps.specs.Effects.{type_error}
 use Rattle.ws_steps.specs.Operations.{writable_operation}
 use Rattle.ws_steps.specs.Promises.{Table, settle}
 use Rattle.ws_steps.specs.Queues.{rest_of, first_value, with_first_value, enqueued, size_of}
-use Rattle.ws_steps.specs.Writable.{Acts, with_promises, settle_request, reject_all, ensure_rejected, settle_pending, update_backpressure, refresh_backpressure, reject_close_and_closed, finish_abort, fail_writes, finish_erroring, reject_ready, start_erroring, deal_with_rejection, controller_error_if_needed, later_requests, process_write, process_close, process_first, advance_queue, hand_on_first, hand_on, write_ended, without_first, write_settled, close_ended, settle_abort, abort_ended, clear_error, fulfil_closed, finish_in_flight_close, finish_in_flight_close_with_error, close_settled, start_settled, abort_settled, enqueue_chunk, controller_write, add_write_request, write_refusal, write_by, writer_write, controller_close, add_close_request, fulfil_ready, stream_close, add_pending_abort, begin_abort, signalled, stream_abort, set_up_writer, release_by, writer_release}
+use Rattle.ws_steps.specs.Writable.{Acts, with_promises, settle_request, reject_all, ensure_rejected, settle_pending, update_backpressure, refresh_backpressure, reject_close_and_closed, finish_abort, fail_writes, finish_erroring, reject_ready, start_erroring, deal_with_rejection, controller_error_if_needed, later_requests, process_write, process_close, process_first, advance_queue, hand_on_first, hand_on, write_ended, without_first, write_settled, close_ended, settle_abort, abort_ended, clear_error, fulfil_closed, finish_in_flight_close, finish_in_flight_close_with_error, close_settled, start_settled, abort_settled, enqueue_chunk, controller_write, add_write_request, write_refusal, write_by, writer_write, controller_close, add_close_request, fulfil_ready, stream_close, close_with_error_propagation, add_pending_abort, begin_abort, signalled, stream_abort, abort_if_writable, set_up_writer, release_by, writer_release}
 use Rattle.ws_steps.specs.Places.{Prices, price, each, prices_of, writable_price, table_size}
 use Rattle.ws_room_laws.proofs.Tables.{settle-size, fresh-size, fresh_settled-size, tell-size}
 use Rattle.ws_room_laws.proofs.Readables.{prices-append, each-append}
@@ -169,6 +169,13 @@ module _ (π : Prices) (q r : ℕ) (me : StreamId) where
       let g = advance-takes (record z { slots = record z.slots { queue = enqueued CloseMark 0 z.slots.queue } }) in
       let s = settle-size π p (Err type_error) a.out.promises in grind (arith, s, h, f, g, l)
 
+  propagating-takes : (p : PromiseId) (a : Acts) → q ≤ π.queued → Takes (price π 3 1 1 1 1 1 0) a (close_with_error_propagation me p a)
+  unfolding close_with_error_propagation
+  propagating-takes p a l =
+      let h = close-takes p a l in
+      let f = settle-size π p (Ok Undefined) a.out.promises in
+      let g = settle-size π p (Err a.slots.stored_error) a.out.promises in grind (arith, h, f, g)
+
   signal-takes : (e : Plain) (a : Acts) (o : Owner) → Takes π.event a (signalled me e a o)
   signal-takes e a Host = let h = tell-size π (Signal me e) a.out.promises in omega (arith, h)
 
@@ -181,6 +188,12 @@ module _ (π : Prices) (q r : ℕ) (me : StreamId) where
       let f = signal-takes e a a.slots.owner in
       let h = begin-takes e p (signalled me e a a.slots.owner) in
       let g = settle-size π p (Ok Undefined) a.out.promises in grind (arith, f, g, h)
+
+  abort_writable-takes : (e : Plain) (p : PromiseId) (a : Acts) → Takes (price π 2 2 1 2 1 0 0) a (abort_if_writable me e p a)
+  unfolding abort_if_writable
+  abort_writable-takes e p a =
+      let h = abort-takes e p a in
+      let f = settle-size π p (Ok Undefined) a.out.promises in grind (arith, h, f)
 
   if_needed-takes : (e : Plain) (a : Acts) → Takes (price π 2 2 1 1 1 0 0) a (controller_error_if_needed me e a)
   unfolding controller_error_if_needed
@@ -215,7 +228,9 @@ writable-takes π q r me (names.SetUpWriter w) a l m = let h = set_up-takes π q
 writable-takes π q r me names.ReleaseWriter a l m = let h = release-takes π q r me a a.slots.writer in omega (arith, h)
 writable-takes π q r me (names.Write v p) a l m = let h = write-takes π q r me v p a (write_refusal a.slots) l m in omega (arith, h)
 writable-takes π q r me (names.Close p) a l m = let h = close-takes π q r me p a l in omega (arith, h)
+writable-takes π q r me (names.ClosePropagating p) a l m = let h = propagating-takes π q r me p a l in omega (arith, h)
 writable-takes π q r me (names.Abort e p) a l m = let h = abort-takes π q r me e p a in omega (arith, h)
+writable-takes π q r me (names.AbortIfWritable e p) a l m = let h = abort_writable-takes π q r me e p a in omega (arith, h)
 writable-takes π q r me (names.ErrorIfNeeded e) a l m = let h = if_needed-takes π q r me e a in omega (arith, h)
 writable-takes π q r me names.HandOn a l m = let h = hand_on-takes π q r me a (first_value a.slots.queue) in omega (arith, h)
 writable-takes π q r me (names.StartSettled outcome) a l m = let h = start_settled-takes π q r me a outcome in omega (arith, h)
