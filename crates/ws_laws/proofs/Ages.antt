@@ -1,11 +1,16 @@
 -- The age of a realm counts its calls and jobs, over every run.
 use Rattle.std.proofs.Common.{◌≡◌, ◌+◌, ℕ, [], ◌∷◌, refl, sym, ◌∙◌, add-zero, arith}
 use Rattle.ws_steps.specs.declared.{calls.Call.{Call}, calls.StartBy.TheVariants.{Now, Later}, calls.Reply.{Reply}, calls.Reply.TheVariants.{Promise}, effects.Effect.{Effect}}
-use Rattle.ws_steps.specs.declared.{effects.Effect.TheVariants.{Readable, Writable, StartAlgorithm, ChunkSteps, CloseSteps, ErrorSteps}, promises.Job.{Job}}
-use Rattle.ws_steps.specs.declared.readable.ReadRequest.TheVariants.{Promise as PromiseRequest}
-use Rattle.std.specs.Prelude.{Option, Some, None}
+use Rattle.ws_steps.specs.declared.{effects.Effect.TheVariants.{Readable, Writable, Pipe, Signal, StartAlgorithm, ChunkSteps, CloseSteps, ErrorSteps}, promises.Job.{Job}}
+use Rattle.ws_steps.specs.declared.readable.ReadRequest.TheVariants.{Promise as PromiseRequest, Pipe as PipeRequest}
+use Rattle.std.specs.Prelude.{Option, Some, None, slice_get}
+use Rattle.ws_value.specs.declared.ids.PipeId.{PipeId}
+use Rattle.ws_value.specs.declared.ids.SignalId.{SignalId}
+use Rattle.ws_steps.specs.declared.{pipes.PipeOperation.{PipeOperation}, pipes.SignalOperation.{SignalOperation}}
+use Rattle.ws_steps.specs.Operations.{pipe_operation, signal_operation}
+use Rattle.ws_steps.specs.Pipes as pipe
 use Rattle.ws_steps.specs.Promises.{next_job}
-use Rattle.ws_steps.specs.Slots.{Slots, Done, has_readable, has_writable}
+use Rattle.ws_steps.specs.Slots.{Slots, Done, has_readable, has_writable, on_pipe_at, on_signal_at}
 use Rattle.ws_steps.specs.Turns.{row, performed, call_host}
 use Rattle.ws_steps.specs.Jobs.{job_begun, begin_job}
 use Rattle.ws_steps.specs.Calls.{begin, named}
@@ -15,15 +20,28 @@ use Rattle.ws_laws.proofs.Tables.{either}
 use Rattle.ws_laws.proofs.Begin.{begin-makes}
 use Rattle.ws_laws.proofs.Walker.{untold, performed-goes}
 
+pipe-age : (p : PipeId) (operation : PipeOperation) (s : Slots) (o : Option pipe.Slots) → (on_pipe_at (λ ends. pipe_operation p ends operation) p s o).slots.age ≡ s.age
+pipe-age p operation s None = refl
+pipe-age p operation s (Some x) = refl
+
+signal-age : (a : SignalId) (operation : SignalOperation) (s : Slots) (o : Option pipe.Signal) → (on_signal_at (signal_operation operation) a s o).slots.age ≡ s.age
+signal-age a operation s None = refl
+signal-age a operation s (Some x) = refl
+
 row-age : (e : Effect) (s : Slots) → (row e s).slots.age ≡ s.age
 unfolding row call_host
 row-age (Readable i operation) s = either (λ (d : Done). d.slots.age ≡ s.age) (has_readable i s) _ _ (λ e. refl) (λ e. refl)
 row-age (Writable i operation) s = either (λ (d : Done). d.slots.age ≡ s.age) (has_writable i s) _ _ (λ e. refl) (λ e. refl)
+row-age (Pipe p operation) s = pipe-age p operation s (slice_get s.pipes p.0)
+row-age (Signal a operation) s = signal-age a operation s (slice_get s.signals a.0)
 row-age (StartAlgorithm i step Now) s = refl
 row-age (StartAlgorithm i step Later) s = refl
 row-age (ChunkSteps i (PromiseRequest p) v) s = refl
 row-age (CloseSteps i (PromiseRequest p)) s = refl
 row-age (ErrorSteps i (PromiseRequest p) e) s = refl
+row-age (ChunkSteps i (PipeRequest p) v) s = refl
+row-age (CloseSteps i (PipeRequest p)) s = refl
+row-age (ErrorSteps i (PipeRequest p) e) s = refl
 row-age _ s = refl
 
 pub performed-age : (d : Done) → (performed d).age ≡ d.slots.age
@@ -31,7 +49,7 @@ performed-age d = performed-goes tt (λ f g. tt) untold (λ e s. tt) (λ h s es.
 
 pub begin-age : (c : Call) (s : Slots) → (begin c s).done.slots.age ≡ s.age
 begin-age c s =
-    begin-makes (λ z. z.age ≡ s.age) (record { promise = λ z h. h; locks = λ z ls h. h; hosts = λ z hs h. h; readable = λ z m b h. h; writable = λ z m b h. h }) c s refl
+    begin-makes (λ z. z.age ≡ s.age) (record { promise = λ z h. h; locks = λ z ls h. h; hosts = λ z hs h. h; pipe = λ z i j p a q h. h; signal = λ z h. h; readable = λ z m b h. h; writable = λ z m b h. h }) c s refl
 
 pub named-age : (reply : Reply) (s : Slots) → (named reply s).age ≡ s.age
 named-age (Promise p) s = refl

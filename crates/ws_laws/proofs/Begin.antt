@@ -1,12 +1,14 @@
 -- What calls and jobs begin with: what a call makes and takes before its effects are performed, and the first effects.
-use Rattle.std.proofs.Common.{arith, ◌≡◌, ℕ, Bool, true, false, List, Option}
+use Rattle.std.proofs.Common.{arith, ◌≡◌, ℕ, Bool, true, false, List, [], ◌∷◌, ◌++◌, Option}
 use Rattle.ws_value.specs.declared.ids.PromiseId.{PromiseId}
+use Rattle.ws_value.specs.declared.ids.SignalId.{SignalId}
 use Rattle.ws_value.specs.declared.ids.StreamId.{StreamId}
 use Rattle.ws_value.specs.declared.value.Value.{Value}
 use Rattle.ws_steps.specs.declared.{calls.Call.{Call}, calls.Call.TheVariants.{Enqueue as EnqueueCall}, readable.ReadableOperation.TheVariants.{Enqueue}, effects.Effect.{Effect}}
-use Rattle.ws_steps.specs.declared.{effects.Effect.TheVariants.{Readable, Writable, StartAlgorithm, Settle}, locks.Lock.{Lock}, promises.Job.{Job}, readable.SizeBy.{SizeBy}}
+use Rattle.ws_steps.specs.declared.{effects.Effect.TheVariants.{Readable, Writable, Pipe, Signal, StartAlgorithm, Give, Settle, Queue}, pipes.Prevent.{Prevent}, locks.Lock.{Lock}, promises.Job.{Job}, readable.SizeBy.{SizeBy}}
 use Rattle.ws_steps.specs.declared.writable.WritableOperation.TheVariants.{HandOn}
 use Rattle.ws_steps.specs.Promises.{Table, fresh, is_pending_at}
+use Rattle.ws_steps.specs.Pipes as pipes
 use Rattle.ws_steps.specs.Readable as readable
 use Rattle.ws_steps.specs.Writable as writable
 use Rattle.ws_steps.specs.Slots.{Slots, ReadableStream, WritableStream, with_promises, readable_at}
@@ -21,6 +23,9 @@ pub record Makes (Q : Slots → Type 0) : Type 0 where
   pub promise : (s : Slots) → Q s → Q (with_promises (fresh s.promises) s)
   pub locks : (s : Slots) (locks : List Lock) → Q s → Q (record s { locks = locks })
   pub hosts : (s : Slots) (hosts : List (Option PromiseId)) → Q s → Q (record s { hosts = hosts })
+  pub pipe : (s : Slots) (source dest : StreamId) (prevent : Prevent) (signal : Option SignalId) (promise : PromiseId) → Q s
+      → Q (record s { pipes = s.pipes ++ pipes.set_up source dest prevent signal promise ∷ [] })
+  pub signal : (s : Slots) → Q s → Q (record s { signals = s.signals ++ pipes.new_signal ∷ [] })
   pub readable : (s : Slots) (mark : ℕ) (size : SizeBy) → Q s → Q (add_stream (ReadableStream (readable.set_up Host mark size)) s)
   pub writable : (s : Slots) (mark : ℕ) (size : SizeBy) → Q s → Q (add_stream (WritableStream (writable.set_up Host mark size)) s)
 
@@ -44,12 +49,16 @@ module _ (Q : Slots → Type 0) (makes : Makes Q) where
     cancel = λ reason i. makes.promise s q;
     read = λ l i closed e h. makes.promise s q;
     write = λ l v i e. makes.promise s q;
-    close = λ i e. makes.promise s q;
+    close = λ i. makes.promise s q;
     abort = λ reason i e. makes.promise s q;
     enqueue = λ i v e can. q;
     finish = λ i. q;
     fail_readable = λ i reason. q;
     fail_writable = λ i reason. q;
+    pipe = λ source dest prevent signal e f l m.
+        makes.locks _ _ (makes.pipe _ source dest prevent signal _ (makes.promise _ (makes.promise _ (makes.promise _ (makes.promise s q)))));
+    make_signal = makes.signal s q;
+    trigger = λ a reason. q;
     settle = λ h answer p e. makes.hosts s _ q;
   })
 
@@ -60,7 +69,11 @@ IsFirst E (Readable i operation) = Unit {0}
 IsFirst E (Writable i HandOn) = ⊥
 IsFirst E (Writable i operation) = Unit {0}
 IsFirst E (StartAlgorithm i step start) = Unit {0}
+IsFirst E (Pipe p operation) = Unit {0}
+IsFirst E (Signal a operation) = Unit {0}
+IsFirst E (Give gift u) = Unit {0}
 IsFirst E (Settle p o) = Unit {0}
+IsFirst E (Queue m) = Unit {0}
 IsFirst E _ = ⊥
 
 -- only a call that enqueues begins with it

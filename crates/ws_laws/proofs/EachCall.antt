@@ -3,22 +3,23 @@ use Rattle.std.proofs.Common.{◌≡◌, ℕ, [], ◌∷◌, length, Option, Som
 use Rattle.ws_value.specs.declared.ids.HostId.{HostId}
 use Rattle.ws_value.specs.declared.ids.LockId.{LockId}
 use Rattle.ws_value.specs.declared.ids.PromiseId.{PromiseId}
+use Rattle.ws_value.specs.declared.ids.SignalId.{SignalId}
 use Rattle.ws_value.specs.declared.ids.StreamId.{StreamId}
 use Rattle.ws_value.specs.declared.value.Plain.{Plain}
 use Rattle.ws_value.specs.declared.value.Value.{Value}
 use Rattle.ws_steps.specs.declared.{calls.Answer.{Answer}, calls.Call.{Call}}
-use Rattle.ws_steps.specs.declared.calls.Call.TheVariants.{MakeReadable, MakeWritable, GetReader, GetWriter, Cancel, CancelBy, Read, Write, Close, CloseBy, Abort, AbortBy, Closed, Ready, Release, Enqueue, Finish, Fail, Desired, DesiredBy, Settle, State, Step}
-use Rattle.ws_steps.specs.declared.{locks.Lock.{Lock}, locks.Lock.TheVariants.{Reader as ReaderLock, Writer as WriterLock, ReleasedWriter}, calls.Reply.{Reply}}
+use Rattle.ws_steps.specs.declared.calls.Call.TheVariants.{MakeReadable, MakeWritable, GetReader, GetWriter, Cancel, CancelBy, Read, Write, Close, CloseBy, Abort, AbortBy, Closed, Ready, Release, Enqueue, Finish, Fail, Desired, DesiredBy, Pipe, MakeSignal, Trigger, Settle, State, Step}
+use Rattle.ws_steps.specs.declared.{locks.Lock.{Lock}, locks.Lock.TheVariants.{Reader as ReaderLock, Writer as WriterLock, ReleasedWriter, Inner}, calls.Reply.{Reply}}
 use Rattle.ws_steps.specs.declared.{calls.Reply.TheVariants.{Done as ReplyDone, Promise, State as ReplyState, Throws, TooMany}, calls.StartBy.{StartBy}}
-use Rattle.ws_steps.specs.declared.{calls.Thrown.TheVariants.{TypeError, Unsupported}, effects.Effect.TheVariants.{Readable as OnReadable, Writable as OnWritable}}
+use Rattle.ws_steps.specs.declared.{calls.Thrown.TheVariants.{TypeError, Unsupported}, effects.Effect.TheVariants.{Readable as OnReadable, Writable as OnWritable, Signal as OnSignal}, pipes.Prevent.{Prevent}, pipes.SignalOperation.TheVariants.{Trigger as TriggerSignal}}
 use Rattle.ws_steps.specs.declared.readable.ReadableOperation.{ReadableOperation}
 use Rattle.ws_steps.specs.declared.{readable.ReadableOperation.TheVariants.{Enqueue as EnqueueChunk, Close as CloseReadable, Error as ErrorReadable}, readable.SizeBy.{SizeBy}}
-use Rattle.ws_steps.specs.declared.{writable.WritableOperation.TheVariants.{Close as CloseStream, Abort as AbortStream, ErrorIfNeeded}, writable.Writer.{Writer}}
+use Rattle.ws_steps.specs.declared.{writable.WritableOperation.TheVariants.{Abort as AbortStream, ErrorIfNeeded}, writable.Writer.{Writer}}
 use Rattle.ws_steps.specs.Readable as readable
 use Rattle.ws_steps.specs.ReadableLooks as readable_looks
 use Rattle.ws_steps.specs.Writable as writable
 use Rattle.ws_steps.specs.WritableLooks as writable_looks
-use Rattle.ws_steps.specs.Slots.{Slots, has_readable, has_writable, readable_at, writable_at, lock_at, host_at}
+use Rattle.ws_steps.specs.Slots.{Slots, most_streams, has_readable, has_writable, has_signal, readable_at, writable_at, lock_at, host_at}
 use Rattle.ws_steps.specs.Calls.{Begun, begin, replies, unsupported, by_reader, by_writer, of_writer}
 use Rattle.ws_steps.specs.Calls as calls
 use Rattle.ws_laws.proofs.Tables.{either}
@@ -36,12 +37,16 @@ pub record Beginnings (P : Begun → Type 0) (c : Call) (s : Slots) : Type 0 whe
   pub cancel : (reason : Plain) (i : StreamId) → P (calls.cancel reason i s)
   pub read : (l : LockId) (i : StreamId) (closed : PromiseId) → c ≡ Read l → lock_at l s ≡ Some (ReaderLock (Some i) closed) → P (calls.read i s)
   pub write : (l : LockId) (v : Value) (i : StreamId) → c ≡ Write l v → P (calls.write v i s)
-  pub close : (i : StreamId) → writable.is_closing (writable_at i s) ≡ false → P (calls.promising (λ p. OnWritable i (CloseStream p) ∷ []) s)
+  pub close : (i : StreamId) → P (calls.close i s)
   pub abort : (reason : Plain) (i : StreamId) → writable.answered_abort (writable_at i s) ≡ None → P (calls.promising (λ p. OnWritable i (AbortStream reason p) ∷ []) s)
   pub enqueue : (i : StreamId) (v : Value) → c ≡ Enqueue i v → readable.can_close_or_enqueue (readable_at i s) ≡ true → P (calls.does (OnReadable i (EnqueueChunk v) ∷ []) s)
   pub finish : (i : StreamId) → P (calls.does (OnReadable i CloseReadable ∷ []) s)
   pub fail_readable : (i : StreamId) (reason : Plain) → P (calls.does (OnReadable i (ErrorReadable reason) ∷ []) s)
   pub fail_writable : (i : StreamId) (reason : Plain) → P (calls.does (OnWritable i (ErrorIfNeeded reason) ∷ []) s)
+  pub pipe : (source dest : StreamId) (prevent : Prevent) (signal : Option SignalId) → has_readable source s ≡ true → has_writable dest s ≡ true
+      → readable_looks.is_locked (readable_at source s) ≡ false → writable_looks.is_locked (writable_at dest s) ≡ false → P (calls.pipe_to source dest prevent signal s)
+  pub make_signal : P (calls.make_signal s)
+  pub trigger : (a : SignalId) (reason : Plain) → P (calls.does (OnSignal a (TriggerSignal reason) ∷ []) s)
   pub settle : (h : HostId) (answer : Answer) (p : PromiseId) → host_at h s ≡ Some p → P (calls.settle_host h answer s (Some p))
 
 module _ (P : Begun → Type 0) (c : Call) (s : Slots) (o : Beginnings P c s) where
@@ -49,7 +54,7 @@ module _ (P : Begun → Type 0) (c : Call) (s : Slots) (o : Beginnings P c s) wh
   unsupported_each = o.unchanged (Throws Unsupported)
 
   made_by : (make : StreamId → Slots → Begun) → P (make (record { 0 = length s.streams }) s) → P (calls.make_stream make s)
-  made_by make m = either P (nat_lt (length s.streams) calls.most_streams) _ _ (λ e. m) (λ e. o.unchanged TooMany)
+  made_by make m = either P (nat_lt (length s.streams) most_streams) _ _ (λ e. m) (λ e. o.unchanged TooMany)
 
   for_readable-each : (operation : Slots → Begun) (i : StreamId) → P (operation s) → P (calls.for_readable i operation s)
   for_readable-each operation i done = either P (has_readable i s) (operation s) (unsupported s) (λ e. done) (λ e. unsupported_each)
@@ -76,19 +81,18 @@ module _ (P : Begun → Type 0) (c : Call) (s : Slots) (o : Beginnings P c s) wh
   by_reader-each holding free (Some (ReaderLock None closed)) h f = f
   by_reader-each holding free (Some (WriterLock i)) h f = unsupported_each
   by_reader-each holding free (Some (ReleasedWriter w)) h f = unsupported_each
+  by_reader-each holding free (Some Inner) h f = unsupported_each
 
   by_writer-each : (holding : StreamId → Slots → Begun) (free : Slots → Begun) → ((i : StreamId) → P (holding i s)) → P (free s) → (lock : Option Lock) → P (by_writer holding free s lock)
   by_writer-each holding free h f None = unsupported_each
   by_writer-each holding free h f (Some (ReaderLock stream closed)) = unsupported_each
   by_writer-each holding free h f (Some (WriterLock i)) = for_writable-each (holding i) i (h i)
   by_writer-each holding free h f (Some (ReleasedWriter w)) = f
+  by_writer-each holding free h f (Some Inner) = unsupported_each
 
   of_writer-each : (operation : Writer → Slots → Begun) (w : Option Writer) → ((v : Writer) → w ≡ Some v → P (operation v s)) → P (of_writer operation s w)
   of_writer-each operation None done = unsupported_each
   of_writer-each operation (Some w) done = done w refl
-
-  close-each : (i : StreamId) → P (calls.close i s)
-  close-each i = either P (writable.is_closing (writable_at i s)) _ _ (λ e. o.rejected) (λ e. o.close i e)
 
   abort-each : (reason : Plain) (i : StreamId) (p : Option PromiseId) → writable.answered_abort (writable_at i s) ≡ p → P (calls.abort_unless reason i s p)
   abort-each reason i None e = o.abort reason i e
@@ -99,12 +103,14 @@ module _ (P : Begun → Type 0) (c : Call) (s : Slots) (o : Beginnings P c s) wh
   closed-each (Some (ReaderLock stream closed)) = o.unchanged (Promise closed)
   closed-each (Some (WriterLock i)) = of_writer-each (λ w. replies (Promise w.closed)) (writable_at i s).writer (λ w e. o.unchanged (Promise w.closed))
   closed-each (Some (ReleasedWriter w)) = o.unchanged (Promise w.closed)
+  closed-each (Some Inner) = unsupported_each
 
   ready-each : (lock : Option Lock) → P (calls.ready_by s lock)
   ready-each None = unsupported_each
   ready-each (Some (ReaderLock stream closed)) = unsupported_each
   ready-each (Some (WriterLock i)) = of_writer-each (λ w. replies (Promise w.ready)) (writable_at i s).writer (λ w e. o.unchanged (Promise w.ready))
   ready-each (Some (ReleasedWriter w)) = o.unchanged (Promise w.ready)
+  ready-each (Some Inner) = unsupported_each
 
   release-each : (l : LockId) (lock : Option Lock) → lock_at l s ≡ lock → P (calls.release l s lock)
   release-each l None e = unsupported_each
@@ -112,6 +118,7 @@ module _ (P : Begun → Type 0) (c : Call) (s : Slots) (o : Beginnings P c s) wh
   release-each l (Some (ReaderLock None closed)) e = o.unchanged ReplyDone
   release-each l (Some (WriterLock i)) e = of_writer-each (calls.release_writer l i) (writable_at i s).writer (λ w f. o.release_writer l i w e f)
   release-each l (Some (ReleasedWriter w)) e = o.unchanged ReplyDone
+  release-each l (Some Inner) e = unsupported_each
 
   settle-each : (h : HostId) (answer : Answer) (p : Option PromiseId) → host_at h s ≡ p → P (calls.settle_host h answer s p)
   settle-each h answer None e = unsupported_each
@@ -123,6 +130,23 @@ module _ (P : Begun → Type 0) (c : Call) (s : Slots) (o : Beginnings P c s) wh
       for_readable-each (calls.if_it_can i operation) i
       (either P (readable.can_close_or_enqueue (readable_at i s)) (calls.does (OnReadable i operation ∷ []) s) (calls.throws_type_error s) done (λ e. o.unchanged (Throws TypeError)))
 
+  for_signal-each : (operation : Slots → Begun) (a : SignalId) → P (operation s) → P (calls.for_signal a operation s)
+  for_signal-each operation a done = either P (has_signal a s) (operation s) (unsupported s) (λ e. done) (λ e. unsupported_each)
+
+  for_signal_where-each : (operation : Slots → Begun) (signal : Option SignalId) → P (operation s) → P (calls.for_signal_where signal operation s)
+  for_signal_where-each operation None done = done
+  for_signal_where-each operation (Some a) done = for_signal-each operation a done
+
+  pipe-each : (source dest : StreamId) (prevent : Prevent) (signal : Option SignalId) → P (calls.pipe_call source dest prevent signal s)
+  pipe-each source dest prevent signal =
+      either P (has_readable source s) _ _
+      (λ e. either P (has_writable dest s) _ _
+      (λ f. for_signal_where-each (calls.pipe_unlocked source dest prevent signal) signal
+      (either P (readable_looks.is_locked (readable_at source s)) _ _ (λ l. o.rejected)
+      (λ l. either P (writable_looks.is_locked (writable_at dest s)) _ _ (λ m. o.rejected) (λ m. o.pipe source dest prevent signal e f l m))))
+      (λ f. unsupported_each))
+      (λ e. unsupported_each)
+
 pub each_call : (P : Begun → Type 0) (c : Call) (s : Slots) → Beginnings P c s → P (begin c s)
 unfolding begin
 each_call P (MakeReadable mark size start) s o = made_by P _ s o (calls.make_readable mark size start) (o.make_readable mark size start)
@@ -133,8 +157,8 @@ each_call P (Cancel i reason) s o = unlocked_readable-each P _ s o calls.rejecte
 each_call P (CancelBy l reason) s o = by_reader-each P _ s o (calls.cancel reason) calls.rejected (lock_at l s) (λ i closed e. o.cancel reason i) o.rejected
 each_call P (Read l) s o = by_reader-each P _ s o calls.read calls.rejected (lock_at l s) (λ i closed e. o.read l i closed refl e) o.rejected
 each_call P (Write l v) s o = by_writer-each P _ s o (calls.write v) calls.rejected (λ i. o.write l v i refl) o.rejected (lock_at l s)
-each_call P (Close i) s o = unlocked_writable-each P _ s o calls.rejected calls.close i o.rejected (λ e. close-each P _ s o i)
-each_call P (CloseBy l) s o = by_writer-each P _ s o calls.close calls.rejected (close-each P _ s o) o.rejected (lock_at l s)
+each_call P (Close i) s o = unlocked_writable-each P _ s o calls.rejected calls.close i o.rejected (λ e. o.close i)
+each_call P (CloseBy l) s o = by_writer-each P _ s o calls.close calls.rejected o.close o.rejected (lock_at l s)
 each_call P (Abort i reason) s o =
     unlocked_writable-each P _ s o calls.rejected (calls.abort reason) i o.rejected (λ e. abort-each P _ s o reason i (writable.answered_abort (writable_at i s)) refl)
 each_call P (AbortBy l reason) s o =
@@ -149,6 +173,9 @@ each_call P (Fail i reason) s o =
 each_call P (Desired i) s o = for_readable-each P _ s o (calls.desired i) i (o.unchanged (calls.desired i s).reply)
 each_call P (DesiredBy l) s o =
     by_writer-each P _ s o calls.desired_of_writer calls.throws_type_error (λ i. o.unchanged (calls.desired_of_writer i s).reply) (o.unchanged (Throws TypeError)) (lock_at l s)
+each_call P (Pipe source dest prevent signal) s o = pipe-each P _ s o source dest prevent signal
+each_call P MakeSignal s o = o.make_signal
+each_call P (Trigger a reason) s o = for_signal-each P _ s o (calls.does (OnSignal a (TriggerSignal reason) ∷ [])) a (o.trigger a reason)
 each_call P (Settle h answer) s o = settle-each P _ s o h answer (host_at h s) refl
 each_call P (State i) s o =
     either P (has_readable i s) _ _ (λ e. o.unchanged (ReplyState (readable_looks.state_of (readable_at i s))))

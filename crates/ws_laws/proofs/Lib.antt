@@ -8,6 +8,7 @@ pub mod LettingGo
 pub mod Weights
 pub mod ReadableDoes
 pub mod WritableDoes
+pub mod PipeDoes
 pub mod Rows
 pub mod EachCall
 pub mod Begin

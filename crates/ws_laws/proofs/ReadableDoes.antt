@@ -13,7 +13,7 @@ use Rattle.ws_steps.specs.declared.{readable.ReadableState.{ReadableState}, read
 use Rattle.ws_steps.specs.Effects.{Out, cause, cause_all, settling, type_error}
 use Rattle.ws_steps.specs.Queues.{is_empty}
 use Rattle.ws_steps.specs.Operations.{readable_operation}
-use Rattle.ws_steps.specs.Readable.{Acts, is_readable, waiting, can_close_or_enqueue, close_all, error_all, should_call_pull, call_pull, call_pull_if_needed, accept_for, accept, controller_enqueue, close_reader, stream_close, error_reader, stream_error, close_if_empty, controller_close, controller_error, after_take, pull_from, read_by, pull_steps, default_reader_read, settle_closed, reader_generic_initialize, start_settled, pull_ended, pull_settled, cancel_steps, cancel_by, stream_cancel, release_closed, release_by, reader_release}
+use Rattle.ws_steps.specs.Readable.{Acts, is_readable, waiting, can_close_or_enqueue, close_all, error_all, should_call_pull, call_pull, call_pull_if_needed, accept_for, accept, controller_enqueue, close_reader, stream_close, error_reader, stream_error, close_if_empty, controller_close, controller_error, after_take, pull_from, read_by, pull_steps, default_reader_read, settle_closed, reader_generic_initialize, disturb, cancel_readable_by, cancel_if_readable, start_settled, pull_ended, pull_settled, cancel_steps, cancel_by, stream_cancel, release_closed, release_by, reader_release}
 use Rattle.ws_laws.proofs.Tables.{either}
 
 -- what goes on with each settling, and with what an operation of readable stream i causes
@@ -114,13 +114,21 @@ module _ (Q : Out → Type 0) (i : StreamId) (of : OfReadableEnds Q i) where
   release_by-does a None h = h
   release_by-does a (Some closed) h = error_all-does type_error a.slots.requests _ (release_closed-does closed a.out a.slots.state h)
 
+  cancel_readable-does : (r : Plain) (p : PromiseId) (a : Acts) (state : ReadableState) → Does Q a (cancel_readable_by i r p a state)
+  unfolding stream_cancel
+  cancel_readable-does r p a Readable h = cancel_by-does r p (record a { slots = record a.slots { disturbed = true } }) a.slots.state h
+  cancel_readable-does r p a Closed h = of.settle a.out p (Ok Undefined) h
+  cancel_readable-does r p a Errored h = of.settle a.out p (Ok Undefined) h
+
   -- an operation that causes none
   pub ends-do : (operation : ReadableOperation) (a : Acts) → is_taking operation ≡ false → Does Q a (readable_operation i operation a)
-  unfolding reader_generic_initialize reader_release stream_cancel start_settled pull_settled
+  unfolding reader_generic_initialize reader_release disturb stream_cancel cancel_if_readable start_settled pull_settled
   ends-do (names.InitializeReader closed) a t h = settle_closed-does closed a.slots.stored_error a.out a.slots.state h
   ends-do names.ReleaseReader a t h = release_by-does a a.slots.reader h
+  ends-do names.Disturb a t h = h
   ends-do (names.Read request) a t h = cc
   ends-do (names.Cancel r p) a t h = cancel_by-does r p (record a { slots = record a.slots { disturbed = true } }) a.slots.state h
+  ends-do (names.CancelIfReadable r p) a t h = cancel_readable-does r p a a.slots.state h
   ends-do (names.Enqueue v) a t h = cc
   ends-do names.Close a t h = close-does a h
   ends-do (names.Error e) a t h = error-does e a h

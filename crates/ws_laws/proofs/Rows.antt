@@ -1,7 +1,9 @@
 -- What the row of an effect does beside the operations: what goes on with each change of promises goes on with each effect, other effects
 -- than operations leave the streams, and an effect causes few others.
-use Rattle.std.proofs.Common.{◌≡◌, [], ◌∷◌, Result, refl}
+use Rattle.std.proofs.Common.{◌≡◌, false, List, [], ◌∷◌, Option, Some, None, Result, refl, slice_get}
+use Rattle.ws_value.specs.declared.ids.PipeId.{PipeId}
 use Rattle.ws_value.specs.declared.ids.PromiseId.{PromiseId}
+use Rattle.ws_value.specs.declared.ids.SignalId.{SignalId}
 use Rattle.ws_value.specs.declared.ids.StreamId.{StreamId}
 use Rattle.ws_value.specs.declared.value.Outcome.{Outcome}
 use Rattle.ws_value.specs.declared.value.Outcome.TheVariants.{Given, Finished}
@@ -12,28 +14,32 @@ use Rattle.ws_value.specs.declared.value.Value.TheVariants.{Plain as PlainValue}
 use Rattle.std.specs.Prelude.{Err}
 use Rattle.ws_steps.specs.declared.{calls.Event.{Event}, calls.Event.TheVariants.{Signal}, calls.HostCall.{HostCall}, calls.StartBy.{StartBy}, calls.StartBy.TheVariants.{Now, Later}}
 use Rattle.ws_steps.specs.declared.effects.Effect.{Effect}
-use Rattle.ws_steps.specs.declared.effects.Effect.TheVariants.{Readable, Writable, StartAlgorithm, PullAlgorithm, CancelAlgorithm, WriteAlgorithm, CloseAlgorithm, AbortAlgorithm, ChunkSteps, CloseSteps, ErrorSteps, Give, Settle, CallHost}
+use Rattle.ws_steps.specs.declared.effects.Effect.TheVariants.{Readable, Writable, Pipe, Signal, StartAlgorithm, PullAlgorithm, CancelAlgorithm, WriteAlgorithm, CloseAlgorithm, AbortAlgorithm, ChunkSteps, CloseSteps, ErrorSteps, Give, Settle, Queue, CallHost}
 use Rattle.ws_steps.specs.declared.{effects.Gift.{Gift}, effects.Gift.TheVariants.{This, Fresh}, effects.Owner.{Owner}, effects.Owner.TheVariants.{Host}, effects.Use.{Use}}
 use Rattle.ws_steps.specs.declared.{effects.Use.TheVariants.{React, Resolve}, promises.Reaction.{Reaction}, promises.Reaction.TheVariants.{Perform}, promises.Step.{Step}}
-use Rattle.ws_steps.specs.declared.{readable.ReadRequest.{ReadRequest}, readable.ReadRequest.TheVariants.{Promise}, writable.WritableOperation.TheVariants.{HandOn}}
+use Rattle.ws_steps.specs.declared.{readable.ReadRequest.{ReadRequest}, readable.ReadRequest.TheVariants.{Promise, Pipe as PipeRequest}, pipes.PipeOperation.{PipeOperation}, pipes.PipeOperation.TheVariants.{KeepChunk, ReadEnded, Abort}, pipes.SignalOperation.{SignalOperation}, pipes.SignalOperation.TheVariants.{Add, Forget, Trigger}, promises.Micro.{Micro}, writable.WritableOperation.TheVariants.{HandOn}}
 use Rattle.ws_steps.specs.Effects.{Out, cause}
-use Rattle.ws_steps.specs.Promises.{Table, fresh, settle, answer, react, follow, tell, next_id, fresh_settled, use_this, use_gift}
-use Rattle.ws_steps.specs.Operations.{readable_operation, writable_operation}
-use Rattle.ws_steps.specs.Slots.{Slots, Done, nothing, has_readable, has_writable, owner_at, put_readable, put_writable}
+use Rattle.ws_steps.specs.Promises.{Table, is_pending, fresh, settle, answer, react, follow, queue_micro, tell, next_id, fresh_settled, use_this, use_gift}
+use Rattle.ws_steps.specs.Operations.{readable_operation, writable_operation, pipe_operation, signal_operation}
+use Rattle.ws_steps.specs.Slots.{Slots, Done, nothing, has_readable, has_writable, owner_at, found, ends_at, put_readable, put_writable, on_pipe_at, on_signal_at}
 use Rattle.ws_steps.specs.Turns.{row, start_algorithm, pull_algorithm, cancel_algorithm, write_algorithm, close_algorithm, abort_algorithm, call_host}
 use Rattle.ws_steps.specs.Writable.{write_to_host}
-use Rattle.ws_laws.proofs.Lists.{Each, each-append}
+use Rattle.ws_steps.specs.Pipes as pipe
+use Rattle.ws_steps.specs.Pipes.{abort_all, trigger_unless}
+use Rattle.ws_laws.proofs.Lists.{Each, each-append, each-map}
 use Rattle.ws_laws.proofs.ReadableDoes.{readable-does}
 use Rattle.ws_laws.proofs.WritableDoes.{writable-does}
+use Rattle.ws_laws.proofs.PipeDoes.{PipeCauses, pipe-causes, pipe-does}
 use Rattle.ws_laws.proofs.Tables.{either, readable_acts, writable_acts}
 
 -- what goes on with each change of promises
 pub record Changes (T : Table → Type 0) : Type 0 where
   pub fresh : (t : Table) → T t → T (fresh t)
   pub settle : (t : Table) (p : PromiseId) (o : Result Plain Plain) → T t → T (settle p o t)
-  pub answer : (t : Table) (p : PromiseId) (o : Outcome) → T t → T (answer p o t)
+  pub answer : (t : Table) (p : PromiseId) (o : Outcome) → is_pending o ≡ false → T t → T (answer p o t)
   pub react : (t : Table) (p : PromiseId) (r : Reaction) → T t → T (react p r t)
   pub follow : (t : Table) (p q : PromiseId) → T t → T (follow p q t)
+  pub micro : (t : Table) (m : Micro) → T t → T (queue_micro m t)
   pub tell : (t : Table) (e : Event) → T t → T (tell e t)
 
 module _ (T : Table → Type 0) (changes : Changes T) where
@@ -45,6 +51,17 @@ module _ (T : Table → Type 0) (changes : Changes T) where
   unfolding use_gift
   gift-changes (This p) u t h = use-changes p t u h
   gift-changes (Fresh o) u t h = use-changes (next_id t) (fresh_settled o t) u (changes.settle (fresh t) (next_id t) o (changes.fresh t h))
+
+  pipe-changes : (p : PipeId) (operation : PipeOperation) (s : Slots) (o : Option pipe.Slots) → T s.promises
+      → T (on_pipe_at (λ ends. pipe_operation p ends operation) p s o).slots.promises
+  pipe-changes p operation s None h = h
+  pipe-changes p operation s (Some x) h =
+      pipe-does T (record { fresh = changes.fresh; settle = changes.settle; micro = changes.micro }) p (ends_at x s) operation (record { slots = x; out = found s }) h
+
+  signal-changes : (a : SignalId) (operation : SignalOperation) (s : Slots) (o : Option pipe.Signal) → T s.promises
+      → T (on_signal_at (signal_operation operation) a s o).slots.promises
+  signal-changes a operation s None h = h
+  signal-changes a operation s (Some x) h = h
 
   pub row-changes : (e : Effect) (s : Slots) → T s.promises → T (row e s).slots.promises
   unfolding row call_host
@@ -69,11 +86,17 @@ module _ (T : Table → Type 0) (changes : Changes T) where
         abort = λ x r p h. h;
         hand_on = λ x v h. h;
       }) operation (writable_acts i s) h) (λ e. h)
+  row-changes (Pipe p operation) s h = pipe-changes p operation s (slice_get s.pipes p.0) h
+  row-changes (Signal a operation) s h = signal-changes a operation s (slice_get s.signals a.0) h
   row-changes (StartAlgorithm i step Now) s h = h
   row-changes (StartAlgorithm i step Later) s h = changes.fresh s.promises h
-  row-changes (ChunkSteps i (Promise p) v) s h = changes.answer s.promises p (Given v) h
-  row-changes (CloseSteps i (Promise p)) s h = changes.answer s.promises p (Finished (PlainValue Undefined)) h
+  row-changes (ChunkSteps i (Promise p) v) s h = changes.answer s.promises p (Given v) refl h
+  row-changes (CloseSteps i (Promise p)) s h = changes.answer s.promises p (Finished (PlainValue Undefined)) refl h
   row-changes (ErrorSteps i (Promise p) e) s h = changes.settle s.promises p (Err e) h
+  row-changes (ChunkSteps i (PipeRequest p) v) s h = h
+  row-changes (CloseSteps i (PipeRequest p)) s h = h
+  row-changes (ErrorSteps i (PipeRequest p) e) s h = h
+  row-changes (Queue m) s h = changes.micro s.promises m h
   row-changes (Give gift u) s h = gift-changes gift u s.promises h
   row-changes (Settle p o) s h = changes.settle s.promises p o h
   row-changes (CallHost call u) s h = use-changes (next_id s.promises) _ u (changes.tell (fresh s.promises) _ (changes.fresh s.promises h))
@@ -86,16 +109,41 @@ IsApart (Readable i operation) = ⊥
 IsApart (Writable i operation) = ⊥
 IsApart _ = Unit {0}
 
+pipe-streams : (p : PipeId) (operation : PipeOperation) (s : Slots) (o : Option pipe.Slots)
+    → (on_pipe_at (λ ends. pipe_operation p ends operation) p s o).slots.streams ≡ s.streams
+pipe-streams p operation s None = refl
+pipe-streams p operation s (Some x) = refl
+
+signal-streams : (a : SignalId) (operation : SignalOperation) (s : Slots) (o : Option pipe.Signal)
+    → (on_signal_at (signal_operation operation) a s o).slots.streams ≡ s.streams
+signal-streams a operation s None = refl
+signal-streams a operation s (Some x) = refl
+
 pub row-streams : (e : Effect) (s : Slots) → IsApart e → (row e s).slots.streams ≡ s.streams
 unfolding row call_host
 row-streams (Readable i operation) s apart = absurd apart
 row-streams (Writable i operation) s apart = absurd apart
+row-streams (Pipe p operation) s apart = pipe-streams p operation s (slice_get s.pipes p.0)
+row-streams (Signal a operation) s apart = signal-streams a operation s (slice_get s.signals a.0)
 row-streams (StartAlgorithm i step Now) s apart = refl
 row-streams (StartAlgorithm i step Later) s apart = refl
 row-streams (ChunkSteps i (Promise p) v) s apart = refl
 row-streams (CloseSteps i (Promise p)) s apart = refl
 row-streams (ErrorSteps i (Promise p) e) s apart = refl
+row-streams (ChunkSteps i (PipeRequest p) v) s apart = refl
+row-streams (CloseSteps i (PipeRequest p)) s apart = refl
+row-streams (ErrorSteps i (PipeRequest p) e) s apart = refl
 row-streams _ s apart = refl
+
+pipe-locks : (p : PipeId) (operation : PipeOperation) (s : Slots) (o : Option pipe.Slots)
+    → (on_pipe_at (λ ends. pipe_operation p ends operation) p s o).slots.locks ≡ s.locks
+pipe-locks p operation s None = refl
+pipe-locks p operation s (Some x) = refl
+
+signal-locks : (a : SignalId) (operation : SignalOperation) (s : Slots) (o : Option pipe.Signal)
+    → (on_signal_at (signal_operation operation) a s o).slots.locks ≡ s.locks
+signal-locks a operation s None = refl
+signal-locks a operation s (Some x) = refl
 
 -- each effect leaves all locks
 pub row-locks : (e : Effect) (s : Slots) → (row e s).slots.locks ≡ s.locks
@@ -104,12 +152,46 @@ row-locks (Readable i operation) s =
     either (λ (d : Done). d.slots.locks ≡ s.locks) (has_readable i s) (put_readable i s (readable_operation i operation (readable_acts i s))) (nothing s) (λ e. refl) (λ e. refl)
 row-locks (Writable i operation) s =
     either (λ (d : Done). d.slots.locks ≡ s.locks) (has_writable i s) (put_writable i s (writable_operation i operation (writable_acts i s))) (nothing s) (λ e. refl) (λ e. refl)
+row-locks (Pipe p operation) s = pipe-locks p operation s (slice_get s.pipes p.0)
+row-locks (Signal a operation) s = signal-locks a operation s (slice_get s.signals a.0)
 row-locks (StartAlgorithm i step Now) s = refl
 row-locks (StartAlgorithm i step Later) s = refl
 row-locks (ChunkSteps i (Promise p) v) s = refl
 row-locks (CloseSteps i (Promise p)) s = refl
 row-locks (ErrorSteps i (Promise p) e) s = refl
+row-locks (ChunkSteps i (PipeRequest p) v) s = refl
+row-locks (CloseSteps i (PipeRequest p)) s = refl
+row-locks (ErrorSteps i (PipeRequest p) e) s = refl
 row-locks _ s = refl
+
+-- other effects than operations of pipes leave the pipes
+
+abbrev pub IsNoPipe : Effect → Type 0
+IsNoPipe (Pipe p operation) = ⊥
+IsNoPipe _ = Unit {0}
+
+signal-pipes : (a : SignalId) (operation : SignalOperation) (s : Slots) (o : Option pipe.Signal)
+    → (on_signal_at (signal_operation operation) a s o).slots.pipes ≡ s.pipes
+signal-pipes a operation s None = refl
+signal-pipes a operation s (Some x) = refl
+
+pub row-pipes : (e : Effect) (s : Slots) → IsNoPipe e → (row e s).slots.pipes ≡ s.pipes
+unfolding row call_host
+row-pipes (Readable i operation) s n =
+    either (λ (d : Done). d.slots.pipes ≡ s.pipes) (has_readable i s) (put_readable i s (readable_operation i operation (readable_acts i s))) (nothing s) (λ e. refl) (λ e. refl)
+row-pipes (Writable i operation) s n =
+    either (λ (d : Done). d.slots.pipes ≡ s.pipes) (has_writable i s) (put_writable i s (writable_operation i operation (writable_acts i s))) (nothing s) (λ e. refl) (λ e. refl)
+row-pipes (Pipe p operation) s n = absurd n
+row-pipes (Signal a operation) s n = signal-pipes a operation s (slice_get s.signals a.0)
+row-pipes (StartAlgorithm i step Now) s n = refl
+row-pipes (StartAlgorithm i step Later) s n = refl
+row-pipes (ChunkSteps i (Promise p) v) s n = refl
+row-pipes (CloseSteps i (Promise p)) s n = refl
+row-pipes (ErrorSteps i (Promise p) e) s n = refl
+row-pipes (ChunkSteps i (PipeRequest p) v) s n = refl
+row-pipes (CloseSteps i (PipeRequest p)) s n = refl
+row-pipes (ErrorSteps i (PipeRequest p) e) s n = refl
+row-pipes _ s n = refl
 
 -- what is to be shown of the effects that an operation of readable stream i may cause
 pub record ReadableCauses (P : Effect → Type 0) (i : StreamId) : Type 0 where
@@ -126,16 +208,35 @@ pub record WritableCauses (P : Effect → Type 0) (i : StreamId) : Type 0 where
   pub abort : (r : Plain) (p : PromiseId) → P (AbortAlgorithm i r p)
   pub hand_on : (v : Value) → P (write_to_host i v)
 
+-- the steps of a read request
+abbrev pub ChunkCauses : (Effect → Type 0) → Value → ReadRequest → Type 0
+ChunkCauses P v (Promise p) = Unit {0}
+ChunkCauses P v (PipeRequest p) = P (Pipe p (KeepChunk v))
+
+abbrev pub EndCauses : (Effect → Type 0) → ReadRequest → Type 0
+EndCauses P (Promise p) = Unit {0}
+EndCauses P (PipeRequest p) = P (Pipe p ReadEnded)
+
+-- an operation of a signal
+abbrev pub SignalCauses : (Effect → Type 0) → SignalOperation → Type 0
+SignalCauses P (Trigger r) = (p : PipeId) → P (Pipe p (Abort r))
+SignalCauses P operation = Unit {0}
+
 -- and any effect
 abbrev pub Causes : (Effect → Type 0) → Effect → Type 0
 Causes P (Readable i operation) = ReadableCauses P i
 Causes P (Writable i operation) = WritableCauses P i
+Causes P (Pipe p operation) = (source dest : StreamId) (e : Effect) → PipeCauses p source dest e → P e
+Causes P (Signal a operation) = SignalCauses P operation
 Causes P (StartAlgorithm i step start) = ((gift : Gift) (u : Use) → P (Give gift u)) × ((call : HostCall) (u : Use) → P (CallHost call u))
 Causes P (PullAlgorithm i) = (call : HostCall) (u : Use) → P (CallHost call u)
 Causes P (CancelAlgorithm i r p) = (call : HostCall) (u : Use) → P (CallHost call u)
 Causes P (WriteAlgorithm i) = P (Writable i HandOn)
 Causes P (CloseAlgorithm i) = (call : HostCall) (u : Use) → P (CallHost call u)
 Causes P (AbortAlgorithm i r p) = (call : HostCall) (u : Use) → P (CallHost call u)
+Causes P (ChunkSteps i request v) = ChunkCauses P v request
+Causes P (CloseSteps i request) = EndCauses P request
+Causes P (ErrorSteps i request e) = EndCauses P request
 Causes P _ = Unit {0}
 
 module _ (P : Effect → Type 0) where
@@ -161,6 +262,28 @@ module _ (P : Effect → Type 0) where
   aborted : (i : StreamId) (r : Plain) (p : PromiseId) (u : Use) (owner : Owner) → Causes P (AbortAlgorithm i r p) → Each P (abort_algorithm i r u owner)
   aborted i r p u Host c = (c _ _, tt)
 
+  piped : (p : PipeId) (operation : PipeOperation) (s : Slots) (o : Option pipe.Slots) → Causes P (Pipe p operation)
+      → Each P (on_pipe_at (λ ends. pipe_operation p ends operation) p s o).caused
+  piped p operation s None c = tt
+  piped p operation s (Some x) c =
+      let a : pipe.Acts = record { slots = x; out = found s } in
+      each-map (PipeCauses p x.source x.dest) P (c x.source x.dest) _ (pipe-causes p (ends_at x s) operation a tt).1.1
+
+  aborting : (r : Plain) (ps : List PipeId) → Causes P (Signal (record { 0 = 0 }) (Trigger r)) → Each P (abort_all r ps)
+  aborting r [] c = tt
+  aborting r (p ∷ ps) c = (c p, aborting r ps c)
+
+  triggered : (r : Plain) (x : pipe.Signal) (reason : Option Plain) → SignalCauses P (Trigger r) → Each P (trigger_unless r x reason).effects
+  triggered r x (Some old) c = tt
+  triggered r x None c = aborting r x.pipes c
+
+  signalled : (a : SignalId) (operation : SignalOperation) (s : Slots) (o : Option pipe.Signal) → Causes P (Signal a operation)
+      → Each P (on_signal_at (signal_operation operation) a s o).caused
+  signalled a operation s None c = tt
+  signalled a (Add p) s (Some x) c = tt
+  signalled a (Forget p) s (Some x) c = tt
+  signalled a (Trigger r) s (Some x) c = triggered r x x.reason c
+
   pub row-causes : (e : Effect) (s : Slots) → Causes P e → Each P (row e s).caused
   unfolding row
   row-causes (Readable i operation) s c =
@@ -184,6 +307,8 @@ module _ (P : Effect → Type 0) where
         abort = λ x r p h. each-cause (AbortAlgorithm i r p) (c.abort r p) x h;
         hand_on = λ x v h. each-cause (write_to_host i v) (c.hand_on v) x h;
       }) operation (writable_acts i s) tt) (λ absent. tt)
+  row-causes (Pipe p operation) s c = piped p operation s (slice_get s.pipes p.0) c
+  row-causes (Signal a operation) s c = signalled a operation s (slice_get s.signals a.0) c
   row-causes (StartAlgorithm i step start) s c = started i step s start c
   row-causes (PullAlgorithm i) s c = pulled i _ (owner_at i s) c
   row-causes (CancelAlgorithm i r p) s c = cancelled i r p _ (owner_at i s) c
@@ -193,4 +318,7 @@ module _ (P : Effect → Type 0) where
   row-causes (ChunkSteps i (Promise p) v) s c = tt
   row-causes (CloseSteps i (Promise p)) s c = tt
   row-causes (ErrorSteps i (Promise p) e) s c = tt
+  row-causes (ChunkSteps i (PipeRequest p) v) s c = (c, tt)
+  row-causes (CloseSteps i (PipeRequest p)) s c = (c, tt)
+  row-causes (ErrorSteps i (PipeRequest p) e) s c = (c, tt)
   row-causes _ s c = tt

@@ -3,12 +3,12 @@ use Rattle.std.proofs.Common.{◌≡◌, Bool, true, false, ◌&&◌, nat_eq, Li
 use Rattle.ws_value.specs.declared.ids.PromiseId.{PromiseId}
 use Rattle.ws_value.specs.declared.value.Outcome.{Outcome}
 use Rattle.ws_steps.specs.declared.{calls.Call.{Call}, effects.Effect.{Effect}}
-use Rattle.ws_steps.specs.Promises.{Table, outcome_at, is_pending, fresh, settle, answer, react, follow, tell, watch, after_next_job, may_go, let_go}
+use Rattle.ws_steps.specs.Promises.{Table, outcome_at, is_pending, fresh, settle, answer, react, follow, queue_micro, tell, watch, after_next_job, may_go, let_go}
 use Rattle.ws_steps.specs.Slots.{Slots}
 use Rattle.ws_steps.specs.Run.{Entry, Called, Worked, Heard, Forgot, step, lets_go, is_forgotten}
 use Rattle.ws_steps.specs.Laws.{EachOutcomeStays, EachMarkStays}
 use Rattle.ws_laws.proofs.Tables.{eq_numbers}
-use Rattle.ws_laws.proofs.Outcomes.{Keeps, keeps-same, keeps-then, keeps-fresh, keeps-settle, keeps-answer, keeps-react, keeps-follow, keeps-next, keeps-watch, keeps-tell}
+use Rattle.ws_laws.proofs.Outcomes.{Keeps, keeps-same, keeps-then, keeps-fresh, keeps-settle, keeps-answer, keeps-react, keeps-follow, keeps-next, keeps-watch, keeps-micro, keeps-tell}
 use Rattle.ws_laws.proofs.Rows.{Changes, row-changes}
 use Rattle.ws_laws.proofs.Begin.{Makes, begin-makes}
 use Rattle.ws_laws.proofs.Walker.{Stays, called-stays, worked-stays}
@@ -20,9 +20,10 @@ module _ (before : Table) where
   keeps-changes = record {
     fresh = λ t k. keeps-then before t (fresh t) k (keeps-fresh t);
     settle = λ t p o k. keeps-then before t (settle p o t) k (keeps-settle p o t);
-    answer = λ t p o k. keeps-then before t (answer p o t) k (keeps-answer p o t);
+    answer = λ t p o n k. keeps-then before t (answer p o t) k (keeps-answer p o t);
     react = λ t p r k. keeps-then before t (react p r t) k (keeps-react p r t);
     follow = λ t p q k. keeps-then before t (follow p q t) k (keeps-follow p q t);
+    micro = λ t m k. keeps-then before t (queue_micro m t) k (keeps-micro m t);
     tell = λ t e k. keeps-then before t (tell e t) k (keeps-tell e t);
   }
 
@@ -34,6 +35,8 @@ module _ (before : Table) where
     promise = λ s k. keeps-changes.fresh s.promises k;
     locks = λ s ls k. k;
     hosts = λ s hs k. k;
+    pipe = λ s i j p a q k. k;
+    signal = λ s k. k;
     readable = λ s m b k. k;
     writable = λ s m b k. k;
   }

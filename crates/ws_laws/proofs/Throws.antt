@@ -26,12 +26,15 @@ throws_nothing c s = each_call (Idle s) c s (record {
   cancel = λ reason i t h. cc;
   read = λ l i closed e f t h. cc;
   write = λ l v i e t h. cc;
-  close = λ i e t h. cc;
+  close = λ i t h. cc;
   abort = λ reason i e t h. cc;
   enqueue = λ i v e can t h. cc;
   finish = λ i t h. cc;
   fail_readable = λ i reason t h. cc;
   fail_writable = λ i reason t h. cc;
+  pipe = λ source dest prevent signal e f l m t h. cc;
+  make_signal = λ t h. cc;
+  trigger = λ a reason t h. cc;
   settle = λ a answer p e t h. cc;
 })
 

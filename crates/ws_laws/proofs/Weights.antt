@@ -4,9 +4,9 @@ use Rattle.std.proofs.Common.{◌≡◌, ℕ, ◌+◌, ◌≤◌, zero, suc, Lis
 use Rattle.ws_value.specs.declared.ids.PromiseId.{PromiseId}
 use Rattle.ws_value.specs.declared.value.Plain.{Plain}
 use Rattle.ws_value.specs.declared.value.Outcome.{Outcome}
-use Rattle.ws_steps.specs.declared.{promises.Reaction.{Reaction}, promises.Reaction.TheVariants.{Perform, Adopt}, promises.Job.{Job}}
+use Rattle.ws_steps.specs.declared.{promises.Reaction.{Reaction}, promises.Reaction.TheVariants.{Perform, Adopt}, promises.Job.{Job}, promises.Micro.{Micro}}
 use Rattle.ws_steps.specs.declared.promises.Job.TheVariants.{Reaction as ReactionJob, Follow, Settle, Micro as MicroJob}
-use Rattle.ws_steps.specs.Promises.{Entry, Table, pending, live, fresh, settle, job_of, answer, react, enqueue_job, follow, unfollow, taken, next_job, first_job, after_first, after_next_job, watch, went_astray, let_go}
+use Rattle.ws_steps.specs.Promises.{Entry, Table, pending, live, fresh, settle, job_of, answer, react, enqueue_job, follow, queue_micro, unfollow, taken, next_job, first_job, after_first, after_next_job, watch, went_astray, let_go}
 use Rattle.ws_laws.proofs.Cases.{Puts, settle-cases, answer-cases, react-cases, follow-cases, unfollow-cases, watch-cases}
 use Rattle.ws_laws.proofs.LettingGo.{let_go-either}
 
@@ -105,6 +105,10 @@ pub weigh-react : (f : Reaction → ℕ) (p : PromiseId) (r : Reaction) (t : Tab
 weigh-react f p r t =
     react-cases (λ z. weigh f z ≤ weigh f t + f r) p t r (omega arith) (λ o. reacted_job f o r t)
     (λ e z is w. weigh-put f p t z e _ _ (f r) w (let b = of_reactions-append f e.reactions (r ∷ []) in omega arith))
+
+pub weigh-micro : (f : Reaction → ℕ) (m : Micro) (t : Table) → weigh f (queue_micro m t) ≤ weigh f t
+unfolding queue_micro weigh
+weigh-micro f m t = let n = of_jobs-append f t.jobs (MicroJob m ∷ []) in omega arith
 
 pub weigh-follow : (f : Reaction → ℕ) (p q : PromiseId) (t : Table) → weigh f (follow p q t) ≤ weigh f t + f (Adopt p)
 weigh-follow f p q t =

@@ -1,6 +1,6 @@
 -- What an operation of a writable stream does outside its record: it makes and settles promises, tells of a signal, and causes
 -- algorithms of this stream and the call of the host's write algorithm.
-use Rattle.std.proofs.Common.{Bool, true, false, not, ◌&&◌, is_none, List, [], ◌∷◌, Option, Some, None, Result, Ok, Err, if◌then◌else◌}
+use Rattle.std.proofs.Common.{Bool, true, false, not, ◌&&◌, ◌||◌, is_none, List, [], ◌∷◌, Option, Some, None, Result, Ok, Err, if◌then◌else◌}
 use Rattle.ws_value.specs.declared.ids.PromiseId.{PromiseId}
 use Rattle.ws_value.specs.declared.ids.StreamId.{StreamId}
 use Rattle.ws_value.specs.declared.value.Plain.{Plain}
@@ -15,7 +15,7 @@ use Rattle.ws_steps.specs.Effects.{Out, cause, settling, type_error}
 use Rattle.ws_steps.specs.Promises.{Table, next_id, is_pending_at, fresh, fresh_settled, tell, settle as settle_promise}
 use Rattle.ws_steps.specs.Queues.{first_value, enqueued}
 use Rattle.ws_steps.specs.Operations.{writable_operation}
-use Rattle.ws_steps.specs.Writable.{Slots, Acts, with_promises, settle_request, settle_pending, reject_all, ensure_rejected, settle_abort, ready_promise, closed_promise, add_write_request, is_writable, is_erroring, is_closing, is_in_flight, has_ended, differs, change_ready, ready_for, has_backpressure, update_backpressure, refresh_backpressure, reject_close, reject_closed, reject_close_and_closed, abort_by, finish_abort, fail_writes, finish_erroring, reject_ready, start_erroring, deal_with_rejection, controller_error_if_needed, process_write, process_close, process_first, advance_queue, write_to_host, hand_on_first, hand_on, write_ended, without_first, write_settled, close_ended, abort_ended, clear_error, fulfil_closed, finish_in_flight_close, finish_in_flight_close_with_error, close_settled, start_settled, abort_settled, enqueue_chunk, controller_write, write_refusal, write_by, writer_write, controller_close, add_close_request, fulfil_ready, stream_close, add_pending_abort, begin_abort, signalled, stream_abort, set_up_writer, release_by, writer_release}
+use Rattle.ws_steps.specs.Writable.{Slots, Acts, with_promises, settle_request, settle_pending, reject_all, ensure_rejected, settle_abort, ready_promise, closed_promise, add_write_request, is_writable, is_erroring, is_errored, is_closed, is_closing, is_in_flight, has_ended, differs, change_ready, ready_for, has_backpressure, update_backpressure, refresh_backpressure, reject_close, reject_closed, reject_close_and_closed, abort_by, finish_abort, fail_writes, finish_erroring, reject_ready, start_erroring, deal_with_rejection, controller_error_if_needed, process_write, process_close, process_first, advance_queue, write_to_host, hand_on_first, hand_on, write_ended, without_first, write_settled, close_ended, abort_ended, clear_error, fulfil_closed, finish_in_flight_close, finish_in_flight_close_with_error, close_settled, start_settled, abort_settled, enqueue_chunk, controller_write, write_refusal, write_by, writer_write, controller_close, add_close_request, fulfil_ready, stream_close, close_with_error_propagation, add_pending_abort, begin_abort, signalled, stream_abort, abort_if_writable, set_up_writer, release_by, writer_release}
 use Rattle.ws_laws.proofs.Tables.{either}
 
 -- what goes on with each settling and each new promise, with the telling of a signal, and with the algorithms of writable stream i
@@ -171,7 +171,7 @@ module _ (Q : Out → Type 0) (i : StreamId) (of : OfAlgorithms Q i) where
   close-does p a h =
       let b : Acts = add_close_request p a in
       let c : Acts = fulfil_ready b b.slots.writer in
-      either (λ (z : Acts). Q z.out) (has_ended a.slots.state) _ (controller_close i c) (λ e. of.settle a.out p (Err type_error) h)
+      either (λ (z : Acts). Q z.out) (has_ended a.slots.state || is_closing a.slots) _ (controller_close i c) (λ e. of.settle a.out p (Err type_error) h)
       (λ e. advance-does (record c { slots = record c.slots { queue = enqueued CloseMark 0 c.slots.queue } }) (fulfil_ready-does b b.slots.writer h))
 
   signalled-does : (r : Plain) (a : Acts) (owner : Owner) → Does a (signalled i r a owner)
@@ -217,6 +217,16 @@ module _ (Q : Out → Type 0) (i : StreamId) (of : OfAlgorithms Q i) where
       let b : Acts = close_ended (Err e) a in
       rejection-does e (abort_ended (Err e) b) (settle_abort-does b.out (Err e) a.slots.pending_abort (request-does a.out (Err e) a.slots.close_in_flight h))
 
+  propagating-does : (p : PromiseId) (a : Acts) → Does a (close_with_error_propagation i p a)
+  unfolding close_with_error_propagation
+  propagating-does p a h =
+      either (λ (z : Acts). Q z.out) (is_closing a.slots || is_closed a.slots.state) _ _ (λ e. of.settle a.out p (Ok Undefined) h)
+      (λ e. either (λ (z : Acts). Q z.out) (is_errored a.slots.state) _ _ (λ f. of.settle a.out p (Err a.slots.stored_error) h) (λ f. close-does p a h))
+
+  abort_writable-does : (r : Plain) (p : PromiseId) (a : Acts) → Does a (abort_if_writable i r p a)
+  unfolding abort_if_writable
+  abort_writable-does r p a h = either (λ (z : Acts). Q z.out) (is_writable a.slots.state) _ _ (λ e. stream_abort-does r p a h) (λ e. of.settle a.out p (Ok Undefined) h)
+
   -- all but the handing on of a chunk
   pub others-do : (operation : WritableOperation) (a : Acts) → (IsHandOn operation → ⊥) → Does a (writable_operation i operation a)
   unfolding set_up_writer writer_release writer_write start_settled write_settled abort_settled
@@ -226,7 +236,9 @@ module _ (Q : Out → Type 0) (i : StreamId) (of : OfAlgorithms Q i) where
   others-do names.ReleaseWriter a u h = release-does a a.slots.writer h
   others-do (names.Write v p) a u h = write_by-does v p a (write_refusal a.slots) h
   others-do (names.Close p) a u h = close-does p a h
+  others-do (names.ClosePropagating p) a u h = propagating-does p a h
   others-do (names.Abort r p) a u h = stream_abort-does r p a h
+  others-do (names.AbortIfWritable r p) a u h = abort_writable-does r p a h
   others-do (names.ErrorIfNeeded e) a u h = if_needed-does e a h
   others-do names.HandOn a u h = absurd (u tt)
   others-do (names.StartSettled (Ok v)) a u h = advance-does (record a { slots = record a.slots { started = true } }) h

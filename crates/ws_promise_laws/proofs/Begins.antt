@@ -1,15 +1,18 @@
 -- What calls and jobs begin with: promises that they make stand in their first effects.
 use Rattle.std.proofs.Common.{◌≡◌, ℕ, ◌+◌, ◌≤◌, zero, suc, Bool, true, false, not, nat_eq, List, [], ◌∷◌, ◌++◌, length, Option, Some, None, Result, Err, slice_get, slice_set, refl, sym, ap, arith}
 use Rattle.ws_value.specs.declared.ids.HostId.{HostId}
+use Rattle.ws_value.specs.declared.ids.PipeId.{PipeId}
 use Rattle.ws_value.specs.declared.ids.PromiseId.{PromiseId}
+use Rattle.ws_value.specs.declared.ids.SignalId.{SignalId}
 use Rattle.ws_value.specs.declared.ids.StreamId.{StreamId}
 use Rattle.ws_value.specs.declared.value.Plain.{Plain}
 use Rattle.ws_steps.specs.declared.{calls.Answer.{Answer}, calls.Call.{Call}, effects.Effect.{Effect}, effects.Effect.TheVariants.{Settle as SettleEffect, Readable, Writable}}
-use Rattle.ws_steps.specs.declared.{promises.Job.{Job}, promises.Job.TheVariants.{Reaction as ReactionJob, Follow, Settle, Micro as MicroJob}, promises.Micro.TheVariants.{PipeLook}}
+use Rattle.ws_steps.specs.declared.{promises.Job.{Job}, promises.Job.TheVariants.{Reaction as ReactionJob, Follow, Settle, Micro as MicroJob}, promises.Micro.TheVariants.{PipeLook, PipeWrite, PipeNoParts}, pipes.Prevent.{Prevent}}
 use Rattle.ws_steps.specs.declared.promises.Step.{Step}
-use Rattle.ws_steps.specs.declared.promises.Step.TheVariants.{ReadableStart, ReadablePull, ReturnUndefined, WritableStart, WritableWrite, WritableClose, WritableAbort}
+use Rattle.ws_steps.specs.declared.promises.Step.TheVariants.{ReadableStart, ReadablePull, ReturnUndefined, WritableStart, WritableWrite, WritableClose, WritableAbort, PipeEnds, PipeReady, PipeWrote, PipeActed, PipePart}
 use Rattle.ws_steps.specs.Calls as calls
 use Rattle.ws_steps.specs.Effects.{type_error}
+use Rattle.ws_steps.specs.Pipes as pipe
 use Rattle.ws_steps.specs.Readable as readable
 use Rattle.ws_steps.specs.Writable as writable
 use Rattle.ws_steps.specs.declared.{effects.Owner.TheVariants.{Host}, readable.ReadRequest.TheVariants.{Promise}, locks.Lock.{Lock}}
@@ -23,9 +26,9 @@ use Rattle.ws_laws.proofs.Tables.{eq_numbers, unequal_numbers, place_last, place
 use Rattle.ws_promise_laws.proofs.Holds.{holds-less, when}
 use Rattle.ws_promise_laws.proofs.Settling.{holds-fresh}
 use Rattle.ws_promise_laws.proofs.Following.{holds-next}
-use Rattle.ws_promise_laws.proofs.Realm.{Sound, sound-less, in_stream, loose_in_stream, in_all, in_hosts, firm_in, loosely_in}
+use Rattle.ws_promise_laws.proofs.Realm.{Sound, sound-less, in_stream, loose_in_stream, in_all, in_pipes, in_hosts, firm_in, loosely_in}
 use Rattle.ws_promise_laws.proofs.Rows.{sound-promises}
-use Rattle.ws_promise_laws.proofs.Streams.{Calm, is_awaited}
+use Rattle.ws_promise_laws.proofs.Streams.{Calm, is_awaited, in_pipe}
 use Rattle.ws_promise_laws.proofs.Tokens.{names, names_any, in_step, in_hand, in_effects, in_effects-append}
 
 abbrev none : PromiseId → ℕ
@@ -94,6 +97,38 @@ renewed-sound f s false k = sound-less (λ x. f x + names x (next_id s.promises)
 locked-sound : (f : PromiseId → ℕ) (s : Slots) (locks : List Lock) → Sound f s → Sound f (record s { locks = locks })
 locked-sound f s locks k = record { holds = k.holds; calm = k.calm }
 
+-- a pipe is made
+
+in_pipes-append : (x : PromiseId) (ps : List pipe.Slots) (p : pipe.Slots) → in_pipes x (ps ++ p ∷ []) ≡ in_pipes x ps + in_pipe x p
+in_pipes-append x [] p = omega arith
+in_pipes-append x (q ∷ ps) p = let n = in_pipes-append x ps p in omega (arith, n)
+
+in_begins : (x : PromiseId) (me : PipeId) (a b : PromiseId) (signal : Option SignalId) (reason : Option Plain) → in_effects x (calls.pipe_begins me a b signal reason) ≡ 0
+in_begins x me a b signal (Some r) = refl
+in_begins x me a b None None = refl
+in_begins x me a b (Some g) None = refl
+
+-- its promise stands in it, and those of its reader and its writer in its effects
+pipe_to-sound : (source dest : StreamId) (prevent : Prevent) (signal : Option SignalId) (s : Slots) → Sound none s → Begins (calls.pipe_to source dest prevent signal s)
+pipe_to-sound source dest prevent signal s k =
+    let a : Slots = with_promises (fresh s.promises) s in
+    let b : Slots = with_promises (fresh a.promises) a in
+    let c : Slots = with_promises (fresh b.promises) b in
+    let d : Slots = with_promises (fresh c.promises) c in
+    let fa : PromiseId → ℕ = λ x. none x + names x (next_id s.promises) in
+    let fb : PromiseId → ℕ = λ x. fa x + names x (next_id a.promises) in
+    let fc : PromiseId → ℕ = λ x. fb x + names x (next_id b.promises) in
+    let fd : PromiseId → ℕ = λ x. fc x + names x (next_id c.promises) in
+    let made : Sound fd d = fresh-sound fc c (fresh-sound fb b (fresh-sound fa a (fresh-sound none s k))) in
+    let new : pipe.Slots = pipe.set_up source dest prevent signal (next_id c.promises) in
+    record {
+      holds =
+          holds-less (λ x. fd x + firm_in x d) (loosely_in d) _ (loosely_in d) d.promises made.holds
+          (λ x. let n = in_pipes-append x s.pipes new in let m = in_begins x (record { 0 = length s.pipes }) (next_id s.promises) (next_id b.promises) signal (calls.reason_of signal s) in omega (arith, n, m))
+          (λ x. let n = in_pipes-append x s.pipes new in let m = in_begins x (record { 0 = length s.pipes }) (next_id s.promises) (next_id b.promises) signal (calls.reason_of signal s) in omega (arith, n, m));
+      calm = k.calm;
+    }
+
 pub begin-sound : (c : Call) (s : Slots) → Sound none s → Begins (begin c s)
 begin-sound c s k = each_call Begins c s (record {
   unchanged = λ reply. k;
@@ -126,12 +161,15 @@ begin-sound c s k = each_call Begins c s (record {
   cancel = λ reason i. promising-sound (λ p. Readable i (Cancel reason p) ∷ []) s (λ x p. omega arith) k;
   read = λ l i closed e f. promising-sound (λ p. Readable i (Read (Promise p)) ∷ []) s (λ x p. omega arith) k;
   write = λ l v i e. promising-sound (λ p. Writable i (Write v p) ∷ []) s (λ x p. omega arith) k;
-  close = λ i e. promising-sound (λ p. Writable i (Close p) ∷ []) s (λ x p. omega arith) k;
+  close = λ i. promising-sound (λ p. Writable i (Close p) ∷ []) s (λ x p. omega arith) k;
   abort = λ reason i e. promising-sound (λ p. Writable i (Abort reason p) ∷ []) s (λ x p. omega arith) k;
   enqueue = λ i v e can. sound-less none _ s (λ x. omega arith) k;
   finish = λ i. sound-less none _ s (λ x. omega arith) k;
   fail_readable = λ i reason. sound-less none _ s (λ x. omega arith) k;
   fail_writable = λ i reason. sound-less none _ s (λ x. omega arith) k;
+  pipe = λ source dest prevent signal e f l m. pipe_to-sound source dest prevent signal s k;
+  make_signal = record { holds = holds-less (λ x. 0 + firm_in x s) (loosely_in s) _ (loosely_in s) s.promises k.holds (λ x. omega arith) (λ x. omega arith); calm = k.calm };
+  trigger = λ a reason. sound-less none _ s (λ x. omega arith) k;
   settle = λ h answer p e. host-sound h answer p s e k;
 })
 
@@ -145,6 +183,11 @@ in_steps x (WritableStart i) o = refl
 in_steps x (WritableWrite i) o = refl
 in_steps x (WritableClose i) o = refl
 in_steps x (WritableAbort i p) o = omega arith
+in_steps x (PipeEnds p) o = refl
+in_steps x (PipeReady p) o = refl
+in_steps x (PipeWrote p) o = refl
+in_steps x (PipeActed p) o = refl
+in_steps x (PipePart p) o = refl
 
 in_resolved : (x : PromiseId) (derived : Option PromiseId) (o : Result Plain Plain) → in_effects x (resolved derived o) ≡ names_any x derived
 in_resolved x None o = refl
@@ -156,6 +199,8 @@ in_job x (ReactionJob step o derived) =
 in_job x (Follow p q) = refl
 in_job x (Settle p o) = omega arith
 in_job x (MicroJob (PipeLook p)) = refl
+in_job x (MicroJob (PipeWrite p)) = refl
+in_job x (MicroJob (PipeNoParts p)) = refl
 
 -- the first job hands over what it is to settle
 pub job-sound : (s : Slots) (job : Job) → next_job s.promises ≡ Some job → Sound none s → Sound (λ x. in_effects x (job_effects job)) (with_promises (after_next_job s.promises) s)

@@ -5,6 +5,9 @@ pub mod Reacting
 pub mod Following
 pub mod Streams
 pub mod Readables
+pub mod Piping
+pub mod PipeActs
+pub mod Acting
 pub mod WritableErroring
 pub mod WritableQueue
 pub mod WritableAsks

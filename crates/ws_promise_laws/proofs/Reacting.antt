@@ -3,10 +3,10 @@ use Rattle.std.proofs.Common.{◌≡◌, ℕ, ◌+◌, ◌≤◌, List, [], ◌�
 use Rattle.ws_value.specs.declared.ids.PromiseId.{PromiseId}
 use Rattle.ws_value.specs.declared.value.Outcome.{Outcome}
 use Rattle.ws_value.specs.declared.value.Outcome.TheVariants.{Pending, Fulfilled, Given, Finished, Rejected}
-use Rattle.ws_steps.specs.declared.{calls.Event.{Event}, promises.Reaction.{Reaction}, promises.Reaction.TheVariants.{Perform}, promises.Step.{Step}}
-use Rattle.ws_steps.specs.Promises.{Entry, Table, entry_at, with_entry, react, react_entry, react_by, watch, watch_at, watch_entry, let_go}
+use Rattle.ws_steps.specs.declared.{calls.Event.{Event}, promises.Micro.{Micro}, promises.Reaction.{Reaction}, promises.Reaction.TheVariants.{Perform}, promises.Step.{Step}}
+use Rattle.ws_steps.specs.Promises.{Entry, Table, entry_at, with_entry, react, react_entry, react_by, watch, watch_at, watch_entry, let_go, queue_micro}
 use Rattle.ws_laws.proofs.LettingGo.{let_go-either}
-use Rattle.ws_laws.proofs.Weights.{weigh, weigh-react, weigh-watch, weigh-let_go}
+use Rattle.ws_laws.proofs.Weights.{weigh, weigh-react, weigh-micro, weigh-watch, weigh-let_go}
 use Rattle.ws_promise_laws.proofs.Holds.{Holds, Alike, alike-same, alike-put, holds-alike}
 use Rattle.ws_promise_laws.proofs.Tokens.{names_any, in_step, in_reaction, adopts}
 
@@ -55,6 +55,12 @@ holds-let_go f l q t k =
     (let_go-either (Alike t) q t (alike-same t t refl refl) (λ e h n. alike-put q e None t (with_entry q None t) h refl refl (rw n refl) (rw n refl) (rw n refl)))
     (λ x. let w = weigh-let_go (in_reaction x) q t in omega arith)
     (λ p. weigh-let_go (adopts p) q t)
+
+-- a microtask is queued
+pub holds-micro : (f l : PromiseId → ℕ) (m : Micro) (t : Table) → Holds f l t → Holds f l (queue_micro m t)
+unfolding queue_micro
+holds-micro f l m t k =
+    holds-alike f l f t (queue_micro m t) k (alike-same t (queue_micro m t) refl refl) (λ x. let w = weigh-micro (in_reaction x) m t in omega (arith, w)) (λ p. weigh-micro (adopts p) m t)
 
 -- the host is to hear of something, or hears of it
 pub holds-told : (f l : PromiseId → ℕ) (events : List Event) (t : Table) → Holds f l t → Holds f l (record t { events = events })

@@ -7,13 +7,13 @@ use Rattle.ws_value.specs.declared.value.Plain.TheVariants.{Undefined}
 use Rattle.ws_value.specs.declared.value.Value.{Value}
 use Rattle.ws_steps.specs.declared.{effects.Effect.TheVariants.{ChunkSteps, CloseSteps, ErrorSteps, CancelAlgorithm}, queue.Queued.{Queued}, readable.ReadRequest.{ReadRequest}}
 use Rattle.ws_steps.specs.declared.readable.ReadableOperation.{ReadableOperation}
-use Rattle.ws_steps.specs.declared.readable.ReadableOperation.TheVariants.{InitializeReader, ReleaseReader, Read, Cancel, Enqueue, Close, Error, StartSettled, PullSettled}
+use Rattle.ws_steps.specs.declared.readable.ReadableOperation.TheVariants.{InitializeReader, ReleaseReader, Disturb, Read, Cancel, CancelIfReadable, Enqueue, Close, Error, StartSettled, PullSettled}
 use Rattle.ws_steps.specs.declared.{readable.ReadableState.{ReadableState}, readable.ReadableState.TheVariants.{Readable, Closed, Errored}}
 use Rattle.ws_steps.specs.Effects.{cause, type_error, cause_all}
 use Rattle.ws_steps.specs.Operations.{readable_operation}
 use Rattle.ws_steps.specs.Promises.{settle}
 use Rattle.ws_steps.specs.Queues.{is_empty}
-use Rattle.ws_steps.specs.Readable.{Acts, causing, close_all, error_all, is_readable, can_close_or_enqueue, call_pull_if_needed, accept, controller_enqueue, close_reader, stream_close, error_reader, stream_error, close_if_empty, controller_close, controller_error, after_take, pull_from, pull_steps, read_by, default_reader_read, settle_closed, reader_generic_initialize, start_settled, pull_settled, cancel_steps, cancel_by, stream_cancel, release_closed, release_by, reader_release, pull_ended}
+use Rattle.ws_steps.specs.Readable.{Acts, causing, close_all, error_all, is_readable, can_close_or_enqueue, call_pull_if_needed, accept, controller_enqueue, close_reader, stream_close, error_reader, stream_error, close_if_empty, controller_close, controller_error, after_take, pull_from, pull_steps, read_by, default_reader_read, settle_closed, reader_generic_initialize, start_settled, pull_settled, disturb, cancel_steps, cancel_by, stream_cancel, cancel_readable_by, cancel_if_readable, release_closed, release_by, reader_release, pull_ended}
 use Rattle.ws_laws.proofs.Tables.{either}
 use Rattle.ws_laws.proofs.Truth.{and_right}
 use Rattle.ws_promise_laws.proofs.Tokens.{names, of_request, of_readable, in_effects, in_effects-append}
@@ -210,13 +210,24 @@ cancelled-by f l me r p a Readable e k =
 cancelled-by f l me r p a Closed e k = reads-settle f l (λ x. names x p) p (Ok Undefined) a (cancel_by me r p a Closed) refl (λ x. omega arith) k
 cancelled-by f l me r p a Errored e k = reads-settle f l (λ x. names x p) p (Err a.slots.stored_error) a (cancel_by me r p a Errored) refl (λ x. omega arith) k
 
+stream_cancel-reads : (f l : PromiseId → ℕ) (me : StreamId) (r : Plain) (p : PromiseId) (a : Acts) → Reads (λ x. f x + names x p) l a → Reads f l (stream_cancel me r p a)
+unfolding stream_cancel
+stream_cancel-reads f l me r p a k = cancelled-by f l me r p (record a { slots = record a.slots { disturbed = true } }) a.slots.state refl k
+
+cancelled_readable-by : (f l : PromiseId → ℕ) (me : StreamId) (r : Plain) (p : PromiseId) (a : Acts) (state : ReadableState) → Reads (λ x. f x + names x p) l a → Reads f l (cancel_readable_by me r p a state)
+cancelled_readable-by f l me r p a Readable k = stream_cancel-reads f l me r p a k
+cancelled_readable-by f l me r p a Closed k = reads-settle f l (λ x. names x p) p (Ok Undefined) a (cancel_readable_by me r p a Closed) refl (λ x. omega arith) k
+cancelled_readable-by f l me r p a Errored k = reads-settle f l (λ x. names x p) p (Ok Undefined) a (cancel_readable_by me r p a Errored) refl (λ x. omega arith) k
+
 -- every operation, which is given the promises that it answers
 pub reads : (f l : PromiseId → ℕ) (i : StreamId) (operation : ReadableOperation) (a : Acts) → Reads (λ x. f x + of_readable x operation) l a → Reads f l (readable_operation i operation a)
-unfolding stream_cancel reader_release
+unfolding disturb cancel_if_readable reader_release
 reads f l i (InitializeReader c) a k = initialize-reads f l c a k
 reads f l i ReleaseReader a k = released-reads f l i a a.slots.reader refl (ungiven f l a k)
+reads f l i Disturb a k = reads-quiet f l a (disturb a) refl (λ x. omega arith) (ungiven f l a k)
 reads f l i (Read r) a k = read-reads f l i r a k
-reads f l i (Cancel r p) a k = cancelled-by f l i r p (record a { slots = record a.slots { disturbed = true } }) a.slots.state refl k
+reads f l i (Cancel r p) a k = stream_cancel-reads f l i r p a k
+reads f l i (CancelIfReadable r p) a k = cancelled_readable-by f l i r p a a.slots.state k
 reads f l i (Enqueue v) a k = enqueue-reads f l i v a (ungiven f l a k)
 reads f l i Close a k = close-reads f l i a (ungiven f l a k)
 reads f l i (Error r) a k = error-reads f l i r a (ungiven f l a k)

@@ -1,17 +1,20 @@
--- How often a promise stands in the slots of a realm, and what operations on its streams keep of that.
-use Rattle.std.proofs.Common.{◌≡◌, ℕ, ◌+◌, ◌≤◌, zero, suc, Bool, true, false, List, [], ◌∷◌, Option, Some, slice_get, slice_set, refl, sym, arith}
+-- How often a promise stands in the slots of a realm, and what operations on its streams and pipes keep of that.
+use Rattle.std.proofs.Common.{◌≡◌, ℕ, ◌+◌, ◌≤◌, zero, suc, Bool, true, false, List, [], ◌∷◌, Option, Some, None, slice_get, slice_set, refl, sym, arith}
+use Rattle.ws_value.specs.declared.ids.PipeId.{PipeId}
 use Rattle.ws_value.specs.declared.ids.PromiseId.{PromiseId}
 use Rattle.ws_value.specs.declared.ids.StreamId.{StreamId}
-use Rattle.ws_steps.specs.declared.{readable.ReadableOperation.{ReadableOperation}, writable.WritableOperation.{WritableOperation}}
+use Rattle.ws_steps.specs.declared.{pipes.Phase.TheVariants.{Over}, pipes.PipeOperation.{PipeOperation}, readable.ReadableOperation.{ReadableOperation}, writable.WritableOperation.{WritableOperation}}
 use Rattle.ws_steps.specs.Histories.{is_same}
-use Rattle.ws_steps.specs.Operations.{readable_operation, writable_operation}
+use Rattle.ws_steps.specs.Operations.{readable_operation, writable_operation, pipe_operation}
+use Rattle.ws_steps.specs.Pipes as pipe
 use Rattle.ws_steps.specs.Readable as readable
-use Rattle.ws_steps.specs.Slots.{Slots, Stream, ReadableStream, WritableStream, Done, nothing, no_readable, has_readable, has_writable, readable_at, writable_at, on_readable, on_writable, put_readable, put_writable}
+use Rattle.ws_steps.specs.Slots.{Slots, Stream, ReadableStream, WritableStream, Done, nothing, no_readable, has_readable, has_writable, readable_at, writable_at, on_readable, on_writable, put_readable, put_writable, found, ends_at, on_pipe_at}
 use Rattle.ws_steps.specs.Writable as writable
 use Rattle.ws_laws.proofs.Tables.{readable_there, writable_there, readable_acts, writable_acts, same_id, on_readable-writable, on_writable-same, on_writable-other}
 use Rattle.ws_promise_laws.proofs.Holds.{Holds, holds-less}
+use Rattle.ws_promise_laws.proofs.Piping.{pipes, PipeExpects}
 use Rattle.ws_promise_laws.proofs.Readables.{reads}
-use Rattle.ws_promise_laws.proofs.Streams.{in_readable, in_writable, loose_in, Calm, Reads, Writes}
+use Rattle.ws_promise_laws.proofs.Streams.{in_readable, in_writable, loose_in, in_pipe, Calm, Reads, Writes, Pipes}
 use Rattle.ws_promise_laws.proofs.Tokens.{names_any, of_readable, of_writable, in_effects}
 use Rattle.ws_promise_laws.proofs.WritableAsks.{Expects, writes}
 
@@ -33,8 +36,13 @@ abbrev pub in_hosts : PromiseId → List (Option PromiseId) → ℕ
 in_hosts x [] = 0
 in_hosts x (h ∷ hs) = names_any x h + in_hosts x hs
 
+-- so much for each pipe
+abbrev pub in_pipes : PromiseId → List pipe.Slots → ℕ
+in_pipes x [] = 0
+in_pipes x (p ∷ ps) = in_pipe x p + in_pipes x ps
+
 abbrev pub firm_in : PromiseId → Slots → ℕ
-firm_in x s = in_all (in_stream x) s.streams + in_hosts x s.hosts
+firm_in x s = in_all (in_stream x) s.streams + (in_pipes x s.pipes + in_hosts x s.hosts)
 
 abbrev pub loosely_in : Slots → PromiseId → ℕ
 loosely_in s x = in_all (loose_in_stream x) s.streams
@@ -71,7 +79,7 @@ blank = ReadableStream no_readable
 
 -- how often a promise stands outside stream i
 abbrev beside : (PromiseId → ℕ) → StreamId → Slots → PromiseId → ℕ
-beside f i s x = f x + (in_all (in_stream x) (slice_set s.streams i.0 blank) + in_hosts x s.hosts)
+beside f i s x = f x + (in_all (in_stream x) (slice_set s.streams i.0 blank) + (in_pipes x s.pipes + in_hosts x s.hosts))
 
 abbrev loosely_beside : StreamId → Slots → PromiseId → ℕ
 loosely_beside i s x = in_all (loose_in_stream x) (slice_set s.streams i.0 blank)
@@ -169,3 +177,35 @@ on_writable_by f i operation s false e expected k =
 pub on_writable-sound : (f : PromiseId → ℕ) (i : StreamId) (operation : WritableOperation) (s : Slots) → Expects operation (writable_at i s) → Sound (λ x. f x + of_writable x operation) s
     → Leaves f (on_writable (writable_operation i operation) i s)
 on_writable-sound f i operation s expected k = on_writable_by f i operation s (has_writable i s) refl expected k
+
+-- operations on pipes
+
+some_pipe : (p q : pipe.Slots) → ◌≡◌ {A = Option pipe.Slots} (Some p) (Some q) → p ≡ q
+some_pipe p q e = cc
+
+in_pipes-set : (x : PromiseId) (k : ℕ) (ps : List pipe.Slots) (old y : pipe.Slots) → slice_get ps k ≡ Some old → in_pipes x (slice_set ps k y) + in_pipe x old ≡ in_pipes x ps + in_pipe x y
+in_pipes-set x k [] old y e = cc
+in_pipes-set x zero (p ∷ ps) old y e = rw (some_pipe p old e) (omega arith)
+in_pipes-set x (suc k) (p ∷ ps) old y e = let rest = in_pipes-set x k ps old y e in omega arith
+
+-- a pipe in which no promise stands
+abbrev spent : pipe.Slots → pipe.Slots
+spent y = record y { phase = Over; whole = None }
+
+pub on_pipe-sound : (f : PromiseId → ℕ) (p : PipeId) (operation : PipeOperation) (s : Slots) (o : Option pipe.Slots) → slice_get s.pipes p.0 ≡ o → PipeExpects operation o
+    → Sound (λ x. f x + 0) s → Leaves f (on_pipe_at (λ ends. pipe_operation p ends operation) p s o)
+on_pipe-sound f p operation s None e expected k = k
+on_pipe-sound f p operation s (Some y) e expected k =
+    let a : pipe.Acts = record { slots = y; out = found s } in
+    let b : pipe.Acts = pipe_operation p (ends_at y s) operation a in
+    let beside_pipe : PromiseId → ℕ = λ x. f x + (in_all (in_stream x) s.streams + (in_pipes x (slice_set s.pipes p.0 (spent y)) + in_hosts x s.hosts)) in
+    let before : Pipes beside_pipe (loosely_in s) a =
+    holds-less _ (loosely_in s) (λ x. beside_pipe x + (in_pipe x y + 0)) (loosely_in s) s.promises k.holds
+    (λ x. let c = in_pipes-set x p.0 s.pipes y (spent y) e in omega arith) (λ x. let c = in_pipes-set x p.0 s.pipes y (spent y) e in omega arith) in
+    record {
+      holds =
+          holds-less (λ x. beside_pipe x + (in_pipe x b.slots + in_effects x b.out.effects)) (loosely_in s) _ _ b.out.promises (pipes p beside_pipe (loosely_in s) (ends_at y s) operation a expected before)
+          (λ x. let c = in_pipes-set x p.0 s.pipes y (spent y) e in let d = in_pipes-set x p.0 s.pipes y b.slots e in omega arith)
+          (λ x. let c = in_pipes-set x p.0 s.pipes y (spent y) e in let d = in_pipes-set x p.0 s.pipes y b.slots e in omega arith);
+      calm = k.calm;
+    }

@@ -1,7 +1,8 @@
--- How often a promise stands in the slots of a stream, and what an operation on a stream is to keep.
+-- How often a promise stands in the slots of a stream and of a pipe, and what an operation on one is to keep.
 use Rattle.std.proofs.Common.{◌≡◌, ℕ, ◌+◌, Bool, true, false, not, ◌&&◌, is_some, List, [], ◌∷◌, Option, Some, None}
 use Rattle.ws_value.specs.declared.ids.PromiseId.{PromiseId}
-use Rattle.ws_steps.specs.declared.{readable.ReadRequest.{ReadRequest}, writable.PendingAbort.{PendingAbort}, writable.Writer.{Writer}}
+use Rattle.ws_steps.specs.declared.{pipes.Phase.{Phase}, pipes.Phase.TheVariants.{Flowing, Waiting, Acting, Over}, readable.ReadRequest.{ReadRequest}, writable.PendingAbort.{PendingAbort}, writable.Writer.{Writer}}
+use Rattle.ws_steps.specs.Pipes as pipe
 use Rattle.ws_steps.specs.Readable as readable
 use Rattle.ws_steps.specs.Writable as writable
 use Rattle.ws_promise_laws.proofs.Tokens.{names, names_any, of_request, in_effects}
@@ -68,3 +69,20 @@ Calm w = writable.has_ended w.state ≡ true → is_some w.close_in_flight ≡ f
 pub record Writes (f l : PromiseId → ℕ) (a : writable.Acts) : Type 0 where
   pub holds : Holds (λ x. f x + (in_writable x a.slots + in_effects x a.out.effects)) (λ x. l x + loose_in x a.slots) a.out.promises
   pub calm : Calm a.slots
+
+-- pipes
+
+-- whether a pipe goes on
+abbrev pub goes_on : Phase → Bool
+goes_on Flowing = true
+goes_on Waiting = true
+goes_on Acting = true
+goes_on Over = false
+
+-- the promise of a pipe is to be settled until it is over, and that of all that its action waits for until it is told
+abbrev pub in_pipe : PromiseId → pipe.Slots → ℕ
+in_pipe x s = when (goes_on s.phase) (names x s.promise) + names_any x s.whole
+
+-- what an operation on a pipe keeps, where promises stand so often outside the pipe and its effects
+abbrev pub Pipes : (f l : PromiseId → ℕ) → pipe.Acts → Type 0
+Pipes f l a = Holds (λ x. f x + (in_pipe x a.slots + in_effects x a.out.effects)) l a.out.promises

@@ -2,13 +2,13 @@
 use Rattle.std.proofs.Common.{◌≡◌, ℕ, ◌+◌, Bool, true, false, nat_eq, List, [], ◌∷◌, ◌++◌, Option, Some, None, arith}
 use Rattle.ws_value.specs.declared.ids.PromiseId.{PromiseId}
 use Rattle.ws_steps.specs.declared.effects.Effect.{Effect}
-use Rattle.ws_steps.specs.declared.effects.Effect.TheVariants.{Readable, Writable, StartAlgorithm, PullAlgorithm, CancelAlgorithm, WriteAlgorithm, CloseAlgorithm, AbortAlgorithm, ChunkSteps, CloseSteps, ErrorSteps, Give, Settle as SettleEffect, CallHost}
+use Rattle.ws_steps.specs.declared.effects.Effect.TheVariants.{Readable, Writable, Pipe, Signal, StartAlgorithm, PullAlgorithm, CancelAlgorithm, WriteAlgorithm, CloseAlgorithm, AbortAlgorithm, ChunkSteps, CloseSteps, ErrorSteps, Give, Settle as SettleEffect, Queue, CallHost}
 use Rattle.ws_steps.specs.declared.{effects.Use.{Use}, effects.Use.TheVariants.{React, Resolve}, promises.Job.{Job}}
 use Rattle.ws_steps.specs.declared.{promises.Job.TheVariants.{Reaction as ReactionJob, Follow, Settle, Micro as MicroJob}, promises.Reaction.{Reaction}}
 use Rattle.ws_steps.specs.declared.{promises.Reaction.TheVariants.{Perform, Adopt}, promises.Step.{Step}, promises.Step.TheVariants.{WritableAbort}, readable.ReadRequest.{ReadRequest}}
-use Rattle.ws_steps.specs.declared.{readable.ReadRequest.TheVariants.{Promise}, readable.ReadableOperation.{ReadableOperation}}
-use Rattle.ws_steps.specs.declared.{readable.ReadableOperation.TheVariants.{InitializeReader, Read, Cancel}, writable.WritableOperation.{WritableOperation}}
-use Rattle.ws_steps.specs.declared.writable.WritableOperation.TheVariants.{SetUpWriter, Write, Close as CloseWritable, Abort, AbortSettled}
+use Rattle.ws_steps.specs.declared.{readable.ReadRequest.TheVariants.{Promise, Pipe as PipeRequest}, readable.ReadableOperation.{ReadableOperation}}
+use Rattle.ws_steps.specs.declared.{readable.ReadableOperation.TheVariants.{InitializeReader, Read, Cancel, CancelIfReadable}, writable.WritableOperation.{WritableOperation}}
+use Rattle.ws_steps.specs.declared.writable.WritableOperation.TheVariants.{SetUpWriter, Write, Close as CloseWritable, ClosePropagating, Abort, AbortIfWritable, AbortSettled}
 
 abbrev pub one_if : Bool → ℕ
 one_if true = 1
@@ -49,6 +49,7 @@ in_hand x (Some (MicroJob m)) = 0
 
 abbrev pub of_request : PromiseId → ReadRequest → ℕ
 of_request x (Promise p) = names x p
+of_request x (PipeRequest p) = 0
 
 abbrev pub of_use : PromiseId → Use → ℕ
 of_use x (React step derived) = in_step x step + names_any x derived
@@ -58,19 +59,24 @@ abbrev pub of_readable : PromiseId → ReadableOperation → ℕ
 of_readable x (InitializeReader closed) = names x closed
 of_readable x (Read request) = of_request x request
 of_readable x (Cancel r p) = names x p
+of_readable x (CancelIfReadable r p) = names x p
 of_readable x _ = 0
 
 abbrev pub of_writable : PromiseId → WritableOperation → ℕ
 of_writable x (SetUpWriter w) = names x w.ready + names x w.closed
 of_writable x (Write v p) = names x p
 of_writable x (CloseWritable p) = names x p
+of_writable x (ClosePropagating p) = names x p
 of_writable x (Abort r p) = names x p
+of_writable x (AbortIfWritable r p) = names x p
 of_writable x (AbortSettled p outcome) = names x p
 of_writable x _ = 0
 
 abbrev pub of_effect : PromiseId → Effect → ℕ
 of_effect x (Readable i operation) = of_readable x operation
 of_effect x (Writable i operation) = of_writable x operation
+of_effect x (Pipe p operation) = 0
+of_effect x (Signal a operation) = 0
 of_effect x (StartAlgorithm i step start) = in_step x step
 of_effect x (PullAlgorithm i) = 0
 of_effect x (CancelAlgorithm i r p) = names x p
@@ -82,6 +88,7 @@ of_effect x (CloseSteps i request) = of_request x request
 of_effect x (ErrorSteps i request e) = of_request x request
 of_effect x (Give gift u) = of_use x u
 of_effect x (SettleEffect p outcome) = names x p
+of_effect x (Queue m) = 0
 of_effect x (CallHost call u) = of_use x u
 
 abbrev pub in_effects : PromiseId → List Effect → ℕ

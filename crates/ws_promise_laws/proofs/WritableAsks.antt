@@ -2,10 +2,10 @@
 use Rattle.ws_writable_laws.proofs.Shape.{has_mark}
 use Rattle.ws_writable_laws.proofs.Expects.{Marked}
 use Rattle.ws_steps.specs.declared.writable.WritableOperation.{WritableOperation}
-use Rattle.ws_steps.specs.declared.writable.WritableOperation.TheVariants.{SetUpWriter, ReleaseWriter, Write, Close, Abort, ErrorIfNeeded, HandOn, StartSettled, WriteSettled, CloseSettled, AbortSettled}
+use Rattle.ws_steps.specs.declared.writable.WritableOperation.TheVariants.{SetUpWriter, ReleaseWriter, Write, Close, ClosePropagating, Abort, AbortIfWritable, ErrorIfNeeded, HandOn, StartSettled, WriteSettled, CloseSettled, AbortSettled}
 use Rattle.ws_steps.specs.Operations.{writable_operation}
 use Rattle.ws_steps.specs.declared.{effects.Owner.{Owner}, effects.Owner.TheVariants.{Host}}
-use Rattle.std.proofs.Common.{◌≡◌, ℕ, ◌+◌, Bool, true, false, not, ◌&&◌, is_some, List, [], ◌∷◌, ◌++◌, Option, Some, None, Result, Ok, Err, refl, sym, ap, subst, arith}
+use Rattle.std.proofs.Common.{◌≡◌, ℕ, ◌+◌, Bool, true, false, not, ◌&&◌, ◌||◌, if◌then◌else◌, is_some, List, [], ◌∷◌, ◌++◌, Option, Some, None, Result, Ok, Err, refl, sym, ap, subst, arith}
 use Rattle.ws_value.specs.declared.ids.PromiseId.{PromiseId}
 use Rattle.ws_value.specs.declared.ids.StreamId.{StreamId}
 use Rattle.ws_value.specs.declared.value.Plain.{Plain}
@@ -16,7 +16,7 @@ use Rattle.ws_steps.specs.declared.{writable.WriteRecord.{WriteRecord}, writable
 use Rattle.ws_steps.specs.Promises.{Table, settle}
 use Rattle.ws_steps.specs.Queues.{enqueued, size_of, first_value}
 use Rattle.ws_steps.specs.Effects.{type_error}
-use Rattle.ws_steps.specs.Writable.{Slots, Acts, with_promises, is_erroring, is_writable, is_closing, has_ended, refresh_backpressure, start_erroring, advance_queue, enqueue_chunk, controller_write, add_write_request, write_refusal, write_by, controller_close, add_close_request, fulfil_ready, stream_close, add_pending_abort, stream_abort, ready_promise, closed_promise, set_up_writer, release_by, signalled, begin_abort, settle_pending, hand_on_first, writer_release, writer_write, hand_on}
+use Rattle.ws_steps.specs.Writable.{Slots, Acts, with_promises, is_erroring, is_errored, is_closed, is_writable, is_closing, has_ended, refresh_backpressure, start_erroring, advance_queue, enqueue_chunk, controller_write, add_write_request, write_refusal, write_by, controller_close, add_close_request, fulfil_ready, stream_close, close_with_error_propagation, add_pending_abort, stream_abort, abort_if_writable, ready_promise, closed_promise, set_up_writer, release_by, signalled, begin_abort, settle_pending, hand_on_first, writer_release, writer_write, hand_on}
 use Rattle.ws_laws.proofs.Tables.{either}
 use Rattle.ws_promise_laws.proofs.Tokens.{in_effects-append, names, in_effects, of_writable}
 use Rattle.ws_promise_laws.proofs.Holds.{Holds, when, holds-less}
@@ -25,7 +25,7 @@ use Rattle.ws_promise_laws.proofs.Settling.{holds-settle, holds-settle_pending}
 use Rattle.ws_promise_laws.proofs.Streams.{of_closed, of_ready, in_list, is_alive, is_awaited, in_asked, Writes, Calm}
 use Rattle.ws_promise_laws.proofs.WritableErroring.{firm, loose, unready, refresh_backpressure-keeps, start_erroring-keeps, settle-keeps, writes-less, writes-quiet, controller_error_if_needed-keeps}
 use Rattle.ws_promise_laws.proofs.WritableQueue.{Grounded, advance_queue-keeps, refresh-grounded, refresh-marked, start_settled-keeps, write_settled-keeps, close_settled-keeps, abort_settled-keeps}
-use Rattle.ws_laws.proofs.Truth.{nor_right}
+use Rattle.ws_laws.proofs.Truth.{nor_left, nor_right}
 
 -- a write
 
@@ -79,20 +79,30 @@ fulfil_ready-slots a w = grind arith
 abbrev marked_slots : Slots → Slots
 marked_slots s = record s { queue = enqueued CloseMark 0 s.queue }
 
-stream_close-keeps : (me : StreamId) (f l : PromiseId → ℕ) (p : PromiseId) (a : Acts) → is_closing a.slots ≡ false → Writes (λ x. f x + names x p) l a → Writes f l (stream_close me p a)
+stream_close-keeps : (me : StreamId) (f l : PromiseId → ℕ) (p : PromiseId) (a : Acts) → Writes (λ x. f x + names x p) l a → Writes f l (stream_close me p a)
 unfolding stream_close controller_close
-stream_close-keeps me f l p a e k =
+stream_close-keeps me f l p a k =
     let b : Acts = add_close_request p a in
     let c : Acts = fulfil_ready b b.slots.writer in
+    either (Writes f l) (has_ended a.slots.state || is_closing a.slots) (with_promises (settle p (Err type_error) a.out.promises) a) (advance_queue me (record c { slots = marked_slots c.slots }))
+    (λ h. settle-keeps f l p (Err type_error) a k)
+    (λ takes.
+    let alive : has_ended a.slots.state ≡ false = nor_left (has_ended a.slots.state) (is_closing a.slots) takes in
+    let e : is_closing a.slots ≡ false = nor_right (has_ended a.slots.state) (is_closing a.slots) takes in
     let added : Requested f l b = holds-less _ _ _ _ a.out.promises k.holds (λ x. grind arith) (λ x. grind arith) in
     let requested : Writes f l c = fulfil_ready-keeps f l b b.slots.writer refl refl k.calm added in
     let same : marked_slots b.slots ≡ marked_slots c.slots = ap marked_slots (sym (fulfil_ready-slots b b.slots.writer)) in
-    either (Writes f l) (has_ended a.slots.state) (with_promises (settle p (Err type_error) a.out.promises) a) (advance_queue me (record c { slots = marked_slots c.slots }))
-    (λ h. settle-keeps f l p (Err type_error) a k)
-    (λ alive.
     let grounded : Grounded (marked_slots b.slots) = λ g. nor_right (is_some a.slots.close_request) (is_some a.slots.close_in_flight) e in
     let marked : Marked (marked_slots b.slots) = record { alive = λ g. alive; requested = λ g. refl } in
     advance_queue-keeps me f l (record c { slots = marked_slots c.slots }) (subst Grounded same grounded) (subst Marked same marked) (record { holds = requested.holds; calm = requested.calm }))
+
+close_propagating-keeps : (me : StreamId) (f l : PromiseId → ℕ) (p : PromiseId) (a : Acts) → Writes (λ x. f x + names x p) l a → Writes f l (close_with_error_propagation me p a)
+unfolding close_with_error_propagation
+close_propagating-keeps me f l p a k =
+    let errored : Acts = with_promises (settle p (Err a.slots.stored_error) a.out.promises) a in
+    either (Writes f l) (is_closing a.slots || is_closed a.slots.state) (with_promises (settle p (Ok Undefined) a.out.promises) a) (if is_errored a.slots.state then errored else stream_close me p a)
+    (λ e. settle-keeps f l p (Ok Undefined) a k)
+    (λ e. either (Writes f l) (is_errored a.slots.state) errored (stream_close me p a) (λ h. settle-keeps f l p (Err a.slots.stored_error) a k) (λ h. stream_close-keeps me f l p a k))
 
 -- an abort
 
@@ -113,6 +123,12 @@ stream_abort-keeps me f l r p a k =
     either (Writes f l) (has_ended a.slots.state) (with_promises (settle p (Ok Undefined) a.out.promises) a) (begin_abort me r p b)
     (λ e. settle-keeps f l p (Ok Undefined) a k)
     (λ alive. begin_abort-keeps me f l r p b (grind arith) (signalled-keeps me (λ x. f x + names x p) l r a a.slots.owner k))
+
+abort_if_writable-keeps : (me : StreamId) (f l : PromiseId → ℕ) (r : Plain) (p : PromiseId) (a : Acts) → Writes (λ x. f x + names x p) l a → Writes f l (abort_if_writable me r p a)
+unfolding abort_if_writable
+abort_if_writable-keeps me f l r p a k =
+    either (Writes f l) (is_writable a.slots.state) (stream_abort me r p a) (with_promises (settle p (Ok Undefined) a.out.promises) a)
+    (λ e. stream_abort-keeps me f l r p a k) (λ e. settle-keeps f l p (Ok Undefined) a k)
 
 -- writers
 
@@ -175,7 +191,6 @@ release_by-keeps f l a (Some w) e k =
 -- what is to be known of a stream's slots before an operation
 abbrev pub Expects : WritableOperation → Slots → Type 0
 Expects (Write v p) s = Marked s
-Expects (Close p) s = is_closing s ≡ false
 Expects (StartSettled o) s = Marked s × (is_some s.close_in_flight ≡ false)
 Expects (WriteSettled o) s = Marked s × (is_some s.close_in_flight ≡ false)
 Expects (CloseSettled o) s = is_some s.close_in_flight ≡ true
@@ -191,8 +206,10 @@ unfolding writer_release writer_write
 writes f l i (SetUpWriter w) a e k = set_up_writer-keeps f l w a k
 writes f l i ReleaseWriter a e k = release_by-keeps f l a a.slots.writer refl (ungiven f l a k)
 writes f l i (Write v p) a e k = write_by-keeps i f l v p a (write_refusal a.slots) refl e k
-writes f l i (Close p) a e k = stream_close-keeps i f l p a e k
+writes f l i (Close p) a e k = stream_close-keeps i f l p a k
+writes f l i (ClosePropagating p) a e k = close_propagating-keeps i f l p a k
 writes f l i (Abort r p) a e k = stream_abort-keeps i f l r p a k
+writes f l i (AbortIfWritable r p) a e k = abort_if_writable-keeps i f l r p a k
 writes f l i (ErrorIfNeeded r) a e k = controller_error_if_needed-keeps i f l r a (ungiven f l a k)
 writes f l i HandOn a e k = hand_on-keeps i f l a (ungiven f l a k)
 writes f l i (StartSettled o) a e k = start_settled-keeps i f l o a e.1 e.0 (ungiven f l a k)

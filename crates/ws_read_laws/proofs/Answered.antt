@@ -12,7 +12,8 @@ use Rattle.ws_steps.specs.Slots.{Slots, empty, readable_at}
 use Rattle.std.specs.Prelude.{Bool}
 use Rattle.ws_promise_laws.proofs.Runs.{none_goes_astray}
 use Rattle.ws_read_laws.proofs.Marks.{Done, done_of}
-use Rattle.ws_read_laws.proofs.Runs.{given_by, given_of, run_done, run-now}
+use Rattle.ws_read_laws.proofs.Told.{given_by, given_of, run_done}
+use Rattle.ws_read_laws.proofs.Runs.{run-now}
 use Rattle.ws_read_laws.proofs.Outcomes.{run-told}
 use Rattle.ws_read_laws.proofs.Waiting.{run-waiting}
 use Rattle.ws_read_laws.proofs.Asked.{run-asks}

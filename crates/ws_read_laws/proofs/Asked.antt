@@ -1,11 +1,13 @@
 -- The reads that are asked of a stream for promises are those of the calls that read from it: no other call, no job and no effect asks one.
+-- Those of pipes are for none.
 use Rattle.std.proofs.Common.{◌≡◌, Bool, true, false, ◌&&◌, List, [], ◌∷◌, ◌++◌, Option, Some, None, if◌then◌else◌, refl, sym, ap, ◌∙◌, append-nil, arith}
 use Rattle.std.proofs.lemmas.Bool.{false≢true}
-use Rattle.ws_value.specs.declared.{ids.LockId.{LockId}, ids.PromiseId.{PromiseId}, ids.StreamId.{StreamId}}
+use Rattle.ws_value.specs.declared.value.Value.{Value}
+use Rattle.ws_value.specs.declared.{ids.LockId.{LockId}, ids.PipeId.{PipeId}, ids.PromiseId.{PromiseId}, ids.StreamId.{StreamId}}
 use Rattle.ws_steps.specs.declared.{calls.Call.{Call}, calls.Call.TheVariants.{Read as ReadCall}, effects.Effect.{Effect}}
-use Rattle.ws_steps.specs.declared.effects.Effect.TheVariants.{Readable, Writable, StartAlgorithm, PullAlgorithm, CancelAlgorithm, CloseAlgorithm, AbortAlgorithm}
-use Rattle.ws_steps.specs.declared.{locks.Lock.{Lock}, locks.Lock.TheVariants.{Reader, Writer, ReleasedWriter}, promises.Job.{Job}}
-use Rattle.ws_steps.specs.declared.{readable.ReadRequest.{ReadRequest}, readable.ReadRequest.TheVariants.{Promise}, readable.ReadableOperation.TheVariants.{Read}}
+use Rattle.ws_steps.specs.declared.effects.Effect.TheVariants.{Readable, Writable, Pipe, Signal, StartAlgorithm, PullAlgorithm, CancelAlgorithm, CloseAlgorithm, AbortAlgorithm, ChunkSteps, CloseSteps, ErrorSteps}
+use Rattle.ws_steps.specs.declared.{locks.Lock.{Lock}, locks.Lock.TheVariants.{Reader, Writer, ReleasedWriter, Inner}, promises.Job.{Job}}
+use Rattle.ws_steps.specs.declared.{readable.ReadRequest.{ReadRequest}, readable.ReadRequest.TheVariants.{Promise, Pipe as PipeRequest}, pipes.SignalOperation.{SignalOperation}, pipes.SignalOperation.TheVariants.{Add, Forget, Trigger}, readable.ReadableOperation.{ReadableOperation}, readable.ReadableOperation.TheVariants.{Read}}
 use Rattle.ws_steps.specs.Promises.{next_job}
 use Rattle.ws_steps.specs.Slots.{Slots, Done, causes, empty, has_readable, readable_at, lock_at}
 use Rattle.ws_steps.specs.Turns.{row, moments}
@@ -19,30 +21,58 @@ use Rattle.ws_steps.specs.Laws.{ReadsWereAnswered}
 use Rattle.ws_room_laws.proofs.Turns.{moments_next}
 use Rattle.ws_laws.proofs.Tables.{either}
 use Rattle.ws_laws.proofs.Lists.{Each, each-append, each-map}
-use Rattle.ws_laws.proofs.Rows.{Causes, row-causes}
+use Rattle.ws_laws.proofs.PipeDoes.{PipeCauses}
+use Rattle.ws_laws.proofs.Rows.{Causes, ChunkCauses, EndCauses, SignalCauses, row-causes}
 use Rattle.ws_laws.proofs.EachCall.{each_call}
 use Rattle.ws_laws.proofs.Walker.{IsHistory, performed-goes}
 use Rattle.ws_read_laws.proofs.Line.{same_reads}
-use Rattle.ws_read_laws.proofs.Runs.{reads-assoc, reader-there}
+use Rattle.ws_read_laws.proofs.Told.{reads-assoc}
+use Rattle.ws_read_laws.proofs.Runs.{reader-there}
 
--- effects that ask no read
+-- effects that ask no read for a promise
 abbrev Quiet : Effect → Type 0
-Quiet (Readable i (Read r)) = ⊥
+Quiet (Readable i (Read (Promise p))) = ⊥
 Quiet _ = Unit {0}
+
+pipe-quiet : (p : PipeId) (source dest : StreamId) (e : Effect) → PipeCauses p source dest e → Quiet e
+pipe-quiet p source dest (Readable i (Read (Promise q))) c = let other = c.1 in absurd (cc)
+pipe-quiet p source dest _ c = tt
+
+chunk-quiet : (v : Value) (request : ReadRequest) → ChunkCauses Quiet v request
+chunk-quiet v (Promise p) = tt
+chunk-quiet v (PipeRequest p) = tt
+
+end-quiet : (request : ReadRequest) → EndCauses Quiet request
+end-quiet (Promise p) = tt
+end-quiet (PipeRequest p) = tt
+
+signal-quiet : (operation : SignalOperation) → SignalCauses Quiet operation
+signal-quiet (Trigger r) = λ p. tt
+signal-quiet (Add p) = tt
+signal-quiet (Forget p) = tt
 
 quiet-causes : (e : Effect) → Causes Quiet e
 quiet-causes (Readable j operation) = record { pull = tt; cancel = λ r p. tt; chunk = λ r v. tt; close = λ r. tt; error = λ r e. tt }
 quiet-causes (Writable j operation) = record { write = tt; close = tt; abort = λ r p. tt; hand_on = λ v. tt }
+quiet-causes (Pipe p operation) = pipe-quiet p
+quiet-causes (Signal a operation) = signal-quiet operation
 quiet-causes (StartAlgorithm j step start) = (λ g u. tt, λ c u. tt)
 quiet-causes (PullAlgorithm j) = λ c u. tt
 quiet-causes (CancelAlgorithm j r p) = λ c u. tt
 quiet-causes (CloseAlgorithm j) = λ c u. tt
 quiet-causes (AbortAlgorithm j r p) = λ c u. tt
+quiet-causes (ChunkSteps j request v) = chunk-quiet v request
+quiet-causes (CloseSteps j request) = end-quiet request
+quiet-causes (ErrorSteps j request e) = end-quiet request
 quiet-causes _ = tt
 
-quiet-told : (i : StreamId) (e : Effect) (s : Slots) → Quiet e → (effect_reads i e s).asked ≡ []
-quiet-told i (Readable j (Read r)) s quiet = absurd quiet
-quiet-told i (Readable j operation) s quiet = either (λ (f : Reads). f.asked ≡ []) (is_same i j && has_readable j s) (operation_reads operation (readable_at j s)) no_reads (λ e. refl) (λ e. refl)
+operation-asks : (i j : StreamId) (operation : ReadableOperation) (s : Slots) → promises_of (operation_reads operation (readable_at j s)).asked ≡ [] → promises_of (effect_reads i (Readable j operation) s).asked ≡ []
+operation-asks i j operation s e = either (λ (f : Reads). promises_of f.asked ≡ []) (is_same i j && has_readable j s) (operation_reads operation (readable_at j s)) no_reads (λ h. e) (λ h. refl)
+
+quiet-told : (i : StreamId) (e : Effect) (s : Slots) → Quiet e → promises_of (effect_reads i e s).asked ≡ []
+quiet-told i (Readable j (Read (Promise p))) s quiet = absurd quiet
+quiet-told i (Readable j (Read (PipeRequest p))) s quiet = operation-asks i j (Read (PipeRequest p)) s refl
+quiet-told i (Readable j operation) s quiet = operation-asks i j operation s refl
 quiet-told i _ s quiet = refl
 
 -- what is asked of stream i by the effects of a call or a job that begins so
@@ -52,34 +82,44 @@ asked i d = (along no_reads reads_then (effect_reads i) (moments d)).asked
 is_history : IsHistory no_reads reads_then
 is_history = record { left = λ h. refl; right = same_reads; assoc = reads-assoc }
 
-none-asked : (i : StreamId) (d : Done) → Each Quiet d.caused → asked i d ≡ []
+promises-append : (rs qs : List ReadRequest) → promises_of (rs ++ qs) ≡ promises_of rs ++ promises_of qs
+promises-append [] qs = refl
+promises-append (Promise p ∷ rs) qs = ap (λ (ps : List PromiseId). p ∷ ps) (promises-append rs qs)
+promises-append (PipeRequest p ∷ rs) qs = promises-append rs qs
+
+none-asked : (i : StreamId) (d : Done) → Each Quiet d.caused → promises_of (asked i d) ≡ []
 none-asked i d quiet =
-    (performed-goes no_reads reads_then is_history (effect_reads i) (λ h s es. (h.asked ≡ []) × Each Quiet es)
-    (λ h s e es k. (ap (λ rs. rs ++ (effect_reads i e s).asked) k.0 ∙ quiet-told i e s k.1.0, each-append Quiet (row e s).caused es (row-causes Quiet e s (quiet-causes e)) k.1.1))
+    (performed-goes no_reads reads_then is_history (effect_reads i) (λ h s es. (promises_of h.asked ≡ []) × Each Quiet es)
+    (λ h s e es k.
+    let more : promises_of (h.asked ++ (effect_reads i e s).asked) ≡ promises_of h.asked ++ promises_of (effect_reads i e s).asked = promises-append h.asked (effect_reads i e s).asked in
+    (more ∙ (ap (λ ps. ps ++ promises_of (effect_reads i e s).asked) k.0 ∙ quiet-told i e s k.1.0), each-append Quiet (row e s).caused es (row-causes Quiet e s (quiet-causes e)) k.1.1))
     no_reads d (refl, quiet)).0
 
 one-asked : (i j : StreamId) (p : PromiseId) (s : Slots) → has_readable j s ≡ true → promises_of (asked i (causes (Readable j (Read (Promise p)) ∷ []) s)) ≡ (if is_same i j then p ∷ [] else [])
 one-asked i j p s there =
     let e : Effect = Readable j (Read (Promise p)) in
     let rest : Done = causes ((row e s).caused ++ []) (row e s).slots in
+    let first : List ReadRequest = (effect_reads i e s).asked in
     ap (λ ms. promises_of (along no_reads reads_then (effect_reads i) ms).asked) (moments_next s e [])
-    ∙ (ap (λ rs. promises_of ((effect_reads i e s).asked ++ rs)) (none-asked i rest (each-append Quiet (row e s).caused [] (row-causes Quiet e s (quiet-causes e)) tt))
-    ∙ (ap promises_of (append-nil (effect_reads i e s).asked) ∙ by (is_same i j) refl))
+    ∙ (promises-append first (asked i rest)
+    ∙ (ap (λ ps. promises_of first ++ ps) (none-asked i rest (each-append Quiet (row e s).caused [] (row-causes Quiet e s (quiet-causes e)) tt))
+    ∙ (append-nil (promises_of first) ∙ by (is_same i j) refl)))
   where
     by : (same : Bool) → is_same i j ≡ same → promises_of (effect_reads i (Readable j (Read (Promise p))) s).asked ≡ (if is_same i j then p ∷ [] else [])
     by true e = rw (e, there) refl
     by false e = rw e refl
 
 read-asks : (i : StreamId) (s : Slots) (o : Option Lock) → let b : Begun = by_reader calls.read calls.rejected s o in promises_of (asked i b.done) ≡ asked_with i b.reply o
-read-asks i s None = ap promises_of (none-asked i (unsupported s).done tt)
-read-asks i s (Some (Reader None closed)) = ap promises_of (none-asked i (calls.rejected s).done (tt, tt))
+read-asks i s None = none-asked i (unsupported s).done tt
+read-asks i s (Some (Reader None closed)) = none-asked i (calls.rejected s).done (tt, tt)
 read-asks i s (Some (Reader (Some j) closed)) =
     let o : Option Lock = Some (Reader (Some j) closed) in
     either (λ (b : Begun). promises_of (asked i b.done) ≡ asked_with i b.reply o) (has_readable j s) (calls.read j s) (unsupported s)
     (λ there. one-asked i j _ (calls.read j s).done.slots there)
-    (λ none. ap promises_of (none-asked i (unsupported s).done tt) ∙ either (λ (ps : List PromiseId). [] ≡ ps) (is_same i j) [] [] (λ e. refl) (λ e. refl))
-read-asks i s (Some (Writer j)) = ap promises_of (none-asked i (unsupported s).done tt)
-read-asks i s (Some (ReleasedWriter w)) = ap promises_of (none-asked i (unsupported s).done tt)
+    (λ none. none-asked i (unsupported s).done tt ∙ either (λ (ps : List PromiseId). [] ≡ ps) (is_same i j) [] [] (λ e. refl) (λ e. refl))
+read-asks i s (Some (Writer j)) = none-asked i (unsupported s).done tt
+read-asks i s (Some (ReleasedWriter w)) = none-asked i (unsupported s).done tt
+read-asks i s (Some Inner) = none-asked i (unsupported s).done tt
 
 -- other calls, and jobs
 
@@ -89,20 +129,20 @@ reads_by _ = false
 
 -- an effect that a call begins with
 abbrev Begins : Call → Effect → Type 0
-Begins c (Readable i (Read r)) = reads_by c ≡ true
+Begins c (Readable i (Read (Promise p))) = reads_by c ≡ true
 Begins c _ = Unit {0}
 
 begin-reads : (c : Call) (s : Slots) → Each (Begins c) (begin c s).done.caused
 begin-reads c s = each_call (λ (b : Begun). Each (Begins c) b.done.caused) c s (grind arith)
 
 other_quiet : (c : Call) → reads_by c ≡ false → (e : Effect) → Begins c e → Quiet e
-other_quiet c other (Readable i (Read r)) reads = false≢true (sym other ∙ reads)
+other_quiet c other (Readable i (Read (Promise p))) reads = false≢true (sym other ∙ reads)
 other_quiet c other _ reads = tt
 
 call-asks : (i : StreamId) (c : Call) (s : Slots) → promises_of (asked i (begin c s).done) ≡ call_asked i c s
 unfolding begin
 call-asks i (ReadCall l) s = read-asks i s (lock_at l s)
-call-asks i c s = ap promises_of (none-asked i (begin c s).done (each-map (Begins c) Quiet (other_quiet c refl) (begin c s).done.caused (begin-reads c s)))
+call-asks i c s = none-asked i (begin c s).done (each-map (Begins c) Quiet (other_quiet c refl) (begin c s).done.caused (begin-reads c s))
 
 effects-quiet : (job : Job) → Each Quiet (job_effects job)
 effects-quiet job = grind arith
@@ -116,13 +156,9 @@ job_quiet s (Some job) = effects-quiet job
 entry-asks : (i : StreamId) (x : Entry) (s : Slots) → promises_of (step_reads i s x).asked ≡ asked_in_step i s x
 unfolding begin_job
 entry-asks i (Called c) s = call-asks i c s
-entry-asks i Worked s = ap promises_of (none-asked i (begin_job s) (job_quiet s (next_job s.promises)))
-entry-asks i Heard s = ap promises_of (none-asked i (causes [] s) tt)
-entry-asks i (Forgot p) s = ap promises_of (none-asked i (causes [] s) tt)
-
-promises-append : (rs qs : List ReadRequest) → promises_of (rs ++ qs) ≡ promises_of rs ++ promises_of qs
-promises-append [] qs = refl
-promises-append (Promise p ∷ rs) qs = ap (λ (ps : List PromiseId). p ∷ ps) (promises-append rs qs)
+entry-asks i Worked s = none-asked i (begin_job s) (job_quiet s (next_job s.promises))
+entry-asks i Heard s = none-asked i (causes [] s) tt
+entry-asks i (Forgot p) s = none-asked i (causes [] s) tt
 
 pub run-asks : (i : StreamId) (xs : List Entry) (s : Slots) → promises_of (run_reads i xs s).asked ≡ asked_by_calls i xs s
 run-asks i [] s = refl

@@ -1,5 +1,9 @@
 pub mod Marks
 pub mod Line
+pub mod Holding
+pub mod Piping
+pub mod Told
+pub mod Pipes
 pub mod Runs
 pub mod Outcomes
 pub mod Waiting

@@ -6,12 +6,12 @@ use Rattle.ws_value.specs.declared.ids.PromiseId.{PromiseId}
 use Rattle.ws_value.specs.declared.ids.StreamId.{StreamId}
 use Rattle.ws_value.specs.declared.value.{Plain.{Plain}, Value.{Value}}
 use Rattle.ws_steps.specs.declared.{effects.Effect.{Effect}, effects.Effect.TheVariants.{PullAlgorithm, CancelAlgorithm, ChunkSteps, CloseSteps, ErrorSteps}, queue.Queued.{Queued}, readable.ReadRequest.{ReadRequest}}
-use Rattle.ws_steps.specs.declared.{readable.ReadableOperation.{ReadableOperation}, readable.ReadableOperation.TheVariants.{InitializeReader, ReleaseReader, Read, Cancel, Enqueue, Close, Error, StartSettled, PullSettled}}
+use Rattle.ws_steps.specs.declared.{readable.ReadableOperation.{ReadableOperation}, readable.ReadableOperation.TheVariants.{InitializeReader, ReleaseReader, Disturb, Read, Cancel, CancelIfReadable, Enqueue, Close, Error, StartSettled, PullSettled}}
 use Rattle.ws_steps.specs.declared.{readable.ReadableState.{ReadableState}, readable.ReadableState.TheVariants.{Readable, Closed, Errored}}
 use Rattle.ws_steps.specs.Effects.{Out, cause, type_error}
 use Rattle.ws_steps.specs.Operations.{readable_operation}
 use Rattle.ws_steps.specs.Queues.{is_empty}
-use Rattle.ws_steps.specs.Readable.{Slots, Acts, causing, is_readable, waiting, can_close_or_enqueue, should_call_pull, call_pull, call_pull_if_needed, accept_for, accept, controller_enqueue, close_reader, stream_close, error_reader, stream_error, close_if_empty, controller_close, controller_error, after_take, pull_from, pull_steps, read_by, default_reader_read, settle_closed, reader_generic_initialize, start_settled, pull_settled, pull_ended, cancel_steps, cancel_by, stream_cancel, release_closed, release_by, reader_release, close_all, error_all}
+use Rattle.ws_steps.specs.Readable.{Slots, Acts, causing, is_readable, waiting, can_close_or_enqueue, should_call_pull, call_pull, call_pull_if_needed, accept_for, accept, controller_enqueue, close_reader, stream_close, error_reader, stream_error, close_if_empty, controller_close, controller_error, after_take, pull_from, pull_steps, read_by, default_reader_read, settle_closed, reader_generic_initialize, start_settled, pull_settled, pull_ended, disturb, cancel_steps, cancel_by, stream_cancel, cancel_readable_by, cancel_if_readable, release_closed, release_by, reader_release, close_all, error_all}
 use Rattle.ws_steps.specs.ReadableHistory.{Reads, no_reads, reads_then, operation_reads, ReadAnswer, Gets, Ends, Fails, Released, Answered, requests_of, if_released, released_of}
 use Rattle.ws_steps.specs.Laws.{read_outcome, Allows}
 use Rattle.ws_laws.proofs.Tables.{either}
@@ -300,17 +300,28 @@ module _ (me : StreamId) where
   cancel_by-line r p h ds a Closed s l = l
   cancel_by-line r p h ds a Errored s l = l
 
+  stream_cancel-line : (r : Plain) (p : PromiseId) (h : Reads) (ds : List Done) (a : Acts) → Lines h ds a → Lines h ds (stream_cancel me r p a)
+  unfolding stream_cancel
+  stream_cancel-line r p h ds a l = cancel_by-line r p h ds (record a { slots = record a.slots { disturbed = true } }) a.slots.state refl l
+
+  cancel_readable-line : (r : Plain) (p : PromiseId) (h : Reads) (ds : List Done) (a : Acts) (state : ReadableState) → Lines h ds a → Lines h ds (cancel_readable_by me r p a state)
+  cancel_readable-line r p h ds a Readable l = stream_cancel-line r p h ds a l
+  cancel_readable-line r p h ds a Closed l = l
+  cancel_readable-line r p h ds a Errored l = l
+
   pull_ended-line : (h : Reads) (ds : List Done) (a : Acts) (again : Bool) → Lines h ds a → Lines h ds (pull_ended me a again)
   pull_ended-line h ds a false l = l
   pull_ended-line h ds a true l = pull-line h ds (record a { slots = record a.slots { pull_again = false } }) l
 
   pub operation-line : (operation : ReadableOperation) (alone : Bool) (h : Reads) (ds : List Done) (a : Acts) → Finds operation (is_some a.slots.reader) alone → Lines h ds a
       → Lines (reads_then h (operation_reads operation a.slots)) ds (readable_operation me operation a)
-  unfolding default_reader_read stream_cancel reader_release start_settled pull_settled
+  unfolding default_reader_read disturb cancel_if_readable reader_release start_settled pull_settled
   operation-line (InitializeReader closed) alone h ds a f l = rw same_reads (comes-line closed h ds a f l)
   operation-line ReleaseReader alone h ds a f l = goes-line h ds a a.slots.reader refl l
   operation-line (Read r) alone h ds a f l = read_by-line r h ds (record a { slots = record a.slots { disturbed = true } }) a.slots.state refl f l
-  operation-line (Cancel r p) alone h ds a f l = rw same_reads (cancel_by-line r p h ds (record a { slots = record a.slots { disturbed = true } }) a.slots.state refl l)
+  operation-line Disturb alone h ds a f l = rw same_reads l
+  operation-line (Cancel r p) alone h ds a f l = rw same_reads (stream_cancel-line r p h ds a l)
+  operation-line (CancelIfReadable r p) alone h ds a f l = rw same_reads (cancel_readable-line r p h ds a a.slots.state l)
   operation-line (Enqueue v) alone h ds a f l = rw same_reads (enqueue-line v h ds a l)
   operation-line Close alone h ds a f l = rw same_reads (close-line h ds a l)
   operation-line (Error e) alone h ds a f l = rw same_reads (error-line e h ds a l)
@@ -320,5 +331,5 @@ module _ (me : StreamId) where
   operation-line (PullSettled (Err e)) alone h ds a f l = rw same_reads (error-line e h ds a l)
 
   pub operation-reader : (operation : ReadableOperation) (a : Acts) → is_some (readable_operation me operation a).slots.reader ≡ has_after operation (is_some a.slots.reader)
-  unfolding call_pull_if_needed accept controller_enqueue stream_close stream_error close_if_empty controller_close controller_error after_take pull_steps default_reader_read reader_generic_initialize start_settled pull_settled cancel_steps stream_cancel reader_release
+  unfolding call_pull_if_needed accept controller_enqueue stream_close stream_error close_if_empty controller_close controller_error after_take pull_steps default_reader_read reader_generic_initialize start_settled pull_settled cancel_steps stream_cancel disturb cancel_if_readable reader_release
   operation-reader operation a = grind arith

@@ -1,9 +1,11 @@
--- What is seen of the agenda: the operations of a readable stream, and the steps of its read requests, by which these are answered.
+-- What is seen of the agenda: the operations of a readable stream, the steps of its read requests, by which these are answered, and the
+-- operations of pipes that may cause an operation.
 use Rattle.std.proofs.Common.{◌≡◌, List, [], ◌∷◌, ◌++◌, map, if◌then◌else◌, refl, ap, ◌∙◌, append-nil}
 use Rattle.ws_value.specs.declared.ids.StreamId.{StreamId}
 use Rattle.ws_value.specs.declared.value.{Outcome.{Outcome}, Outcome.TheVariants.{Given, Finished, Rejected}, Plain.{Plain}, Plain.TheVariants.{Undefined}, Value.{Value}, Value.TheVariants.{Plain as PlainValue}}
-use Rattle.ws_steps.specs.declared.{effects.Effect.{Effect}, effects.Effect.TheVariants.{Readable, ChunkSteps, CloseSteps, ErrorSteps}, readable.ReadRequest.{ReadRequest}}
+use Rattle.ws_steps.specs.declared.{effects.Effect.{Effect}, effects.Effect.TheVariants.{Readable, Pipe, Signal, ChunkSteps, CloseSteps, ErrorSteps}, readable.ReadRequest.{ReadRequest}}
 use Rattle.ws_steps.specs.declared.readable.ReadableOperation.{ReadableOperation}
+use Rattle.ws_steps.specs.declared.{pipes.PipeOperation.{PipeOperation}, pipes.PipeOperation.TheVariants.{KeepChunk, ReadEnded, PartSettled, NoParts, Abort}, pipes.SignalOperation.{SignalOperation}, pipes.SignalOperation.TheVariants.{Trigger}}
 use Rattle.ws_steps.specs.Effects.{Out, cause, cause_all}
 use Rattle.ws_steps.specs.Histories.{is_same}
 use Rattle.ws_steps.specs.Readable.{close_all, error_all}
@@ -27,13 +29,30 @@ effect_done i (CloseSteps j request) = if is_same i j then record { request = re
 effect_done i (ErrorSteps j request e) = if is_same i j then record { request = request; outcome = Rejected e } ∷ [] else []
 effect_done i _ = []
 
--- an operation that stands, or the steps of a request
+-- an operation that stands, the steps of a request, the abort of a pipe or a signal that aborts pipes, or another operation of a pipe
 pub data Mark : Type 0 where
   Stands : ReadableOperation → Mark
   Steps : Done → Mark
+  Aborts : Mark
+  Looks : Mark
+
+-- some operations of a pipe cause nothing
+abbrev pub pipe_mark : PipeOperation → List Mark
+pipe_mark (KeepChunk v) = []
+pipe_mark ReadEnded = []
+pipe_mark (PartSettled o) = []
+pipe_mark NoParts = []
+pipe_mark (Abort r) = Aborts ∷ []
+pipe_mark _ = Looks ∷ []
+
+abbrev pub signal_mark : SignalOperation → List Mark
+signal_mark (Trigger r) = Aborts ∷ []
+signal_mark _ = []
 
 abbrev pub marks : StreamId → Effect → List Mark
 marks i (Readable j operation) = if is_same i j then Stands operation ∷ [] else []
+marks i (Pipe p operation) = pipe_mark operation
+marks i (Signal a operation) = signal_mark operation
 marks i e = map Steps (effect_done i e)
 
 -- the steps that are still to be performed
@@ -41,10 +60,14 @@ abbrev pub pending : List Mark → List Done
 pending [] = []
 pending (Stands operation ∷ ms) = pending ms
 pending (Steps d ∷ ms) = d ∷ pending ms
+pending (Aborts ∷ ms) = pending ms
+pending (Looks ∷ ms) = pending ms
 
 pub pending-append : (ms ns : List Mark) → pending (ms ++ ns) ≡ pending ms ++ pending ns
 pending-append [] ns = refl
 pending-append (Stands operation ∷ ms) ns = pending-append ms ns
+pending-append (Aborts ∷ ms) ns = pending-append ms ns
+pending-append (Looks ∷ ms) ns = pending-append ms ns
 pending-append (Steps d ∷ ms) ns = ap (λ (ds : List Done). d ∷ ds) (pending-append ms ns)
 
 -- those that an operation of stream i has caused so far

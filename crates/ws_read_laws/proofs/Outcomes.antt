@@ -4,7 +4,7 @@ use Rattle.std.proofs.lemmas.List.Elements.{All-nil, All-cons, All-append, All-w
 use Rattle.ws_value.specs.declared.{ids.StreamId.{StreamId}}
 use Rattle.ws_value.specs.declared.value.{Outcome.{Outcome}, Outcome.TheVariants.{Given, Finished}, Plain.TheVariants.{Undefined}, Value.TheVariants.{Plain as PlainValue}}
 use Rattle.ws_steps.specs.declared.{calls.Reply.{Reply}, calls.Reply.TheVariants.{Promise as Named}, effects.Effect.{Effect}, effects.Effect.TheVariants.{ChunkSteps, CloseSteps, ErrorSteps}}
-use Rattle.ws_steps.specs.declared.{readable.ReadRequest.{ReadRequest}, readable.ReadRequest.TheVariants.{Promise}}
+use Rattle.ws_steps.specs.declared.{readable.ReadRequest.{ReadRequest}, readable.ReadRequest.TheVariants.{Promise, Pipe}}
 use Rattle.ws_steps.specs.Calls.{begin, named}
 use Rattle.ws_steps.specs.Histories.{is_same, along}
 use Rattle.ws_steps.specs.Jobs.{begin_job}
@@ -20,7 +20,7 @@ use Rattle.ws_laws.proofs.Straight.{straight_before, settled_straight, answered_
 use Rattle.ws_laws.proofs.Truth.{nor_right, refuted}
 use Rattle.ws_laws.proofs.Walker.{IsHistory, performed-goes, nothing-told}
 use Rattle.ws_read_laws.proofs.Marks.{Done, effect_done}
-use Rattle.ws_read_laws.proofs.Runs.{step_done, run_done}
+use Rattle.ws_read_laws.proofs.Told.{step_done, run_done}
 
 -- the promise of a request has settled so
 abbrev IsSettled : Table → Done → Type 0
@@ -28,6 +28,7 @@ IsSettled t d = (is_pending d.outcome ≡ false) × HasOutcome (λ p. false) t d
 
 tells-later : (t z : Table) (r : ReadRequest) (o : Outcome) → Keeps t z → is_pending o ≡ false → HasOutcome (λ p. false) t r o → HasOutcome (λ p. false) z r o
 tells-later t z (Promise p) o k n h = λ g. k.outcome p o n (h g)
+tells-later t z (Pipe p) o k n h = tt
 
 settled-later : (t z : Table) (ds : List Done) → Keeps t z → All (IsSettled t) ds → All (IsSettled z) ds
 settled-later t z ds k a = All-weaker (IsSettled t) (IsSettled z) (λ d s. (s.0, tells-later t z d.request d.outcome k s.0 s.1)) ds a
@@ -43,6 +44,9 @@ module _ (i : StreamId) where
   row-settled (CloseSteps j (Promise p)) s a =
       one_settled (is_same i j) (answer p (Finished (PlainValue Undefined)) s.promises) _ (refl, λ g. answered_straight p (Finished (PlainValue Undefined)) s.promises a)
   row-settled (ErrorSteps j (Promise p) e) s a = one_settled (is_same i j) (settle p (Err e) s.promises) _ (refl, λ g. settled_straight p (Err e) s.promises a)
+  row-settled (ChunkSteps j (Pipe p) v) s a = one_settled (is_same i j) s.promises _ (refl, tt)
+  row-settled (CloseSteps j (Pipe p)) s a = one_settled (is_same i j) s.promises _ (refl, tt)
+  row-settled (ErrorSteps j (Pipe p) e) s a = one_settled (is_same i j) s.promises _ (refl, tt)
   row-settled e s a = All-nil (IsSettled (row e s).slots.promises)
 
   abbrev SettledIn : List Done → Slots → List Effect → Type 0
@@ -82,9 +86,11 @@ module _ (i : StreamId) where
 
   stays-told : (x : Step) (xs : List Step) (s : Slots) (r : ReadRequest) (o : Outcome) → is_pending o ≡ false → HasOutcome (λ p. false) (step s x).promises r o → HasOutcome (λ p. is_forgotten p (x ∷ xs) s) (run (x ∷ xs) s).promises r o
   stays-told x xs s (Promise p) o n h = λ g. each_outcome_stays (step s x) xs p o n (nor_right (lets_go p s x) (is_forgotten p xs (step s x)) g) (h refl)
+  stays-told x xs s (Pipe p) o n h = tt
 
   later-told : (x : Step) (xs : List Step) (s : Slots) (r : ReadRequest) (o : Outcome) → HasOutcome (λ p. is_forgotten p xs (step s x)) (run xs (step s x)).promises r o → HasOutcome (λ p. is_forgotten p (x ∷ xs) s) (run (x ∷ xs) s).promises r o
   later-told x xs s (Promise p) o h = λ g. h (nor_right (lets_go p s x) (is_forgotten p xs (step s x)) g)
+  later-told x xs s (Pipe p) o h = tt
 
   pub run-told : (xs : List Step) (s : Slots) → (run xs s).promises.astray ≡ false → All (IsTold xs s) (run_done i xs s)
   run-told [] s a = All-nil (IsTold [] s)

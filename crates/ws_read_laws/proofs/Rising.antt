@@ -2,13 +2,13 @@
 use Rattle.std.proofs.Common.{◌≡◌, ℕ, ◌+◌, ◌≤◌, Bool, true, false, List, [], ◌∷◌, ◌++◌, length, Option, Some, None, if◌then◌else◌, refl, ap, ◌∙◌, arith}
 use Rattle.ws_value.specs.declared.{ids.LockId.{LockId}, ids.PromiseId.{PromiseId}, ids.StreamId.{StreamId}}
 use Rattle.ws_steps.specs.declared.{calls.Call.{Call}, calls.Call.TheVariants.{Read as ReadCall}, calls.Reply.{Reply}, calls.Reply.TheVariants.{Promise as Named}}
-use Rattle.ws_steps.specs.declared.{locks.Lock.{Lock}, locks.Lock.TheVariants.{Reader, Writer, ReleasedWriter}, promises.Job.{Job}, promises.Job.TheVariants.{Reaction as ReactionJob, Follow, Settle, Micro as MicroJob}, promises.Reaction.TheVariants.{Adopt}}
+use Rattle.ws_steps.specs.declared.{locks.Lock.{Lock}, locks.Lock.TheVariants.{Reader, Writer, ReleasedWriter, Inner}, promises.Job.{Job}, promises.Job.TheVariants.{Reaction as ReactionJob, Follow, Settle, Micro as MicroJob}, promises.Reaction.TheVariants.{Adopt}, promises.Micro.{Micro}}
 use Rattle.ws_steps.specs.Calls.{Begun, begin, unsupported, by_reader, named}
 use Rattle.ws_steps.specs.Calls as calls
 use Rattle.ws_steps.specs.Histories.{is_same}
 use Rattle.ws_steps.specs.Jobs.{job_begun, begin_job}
 use Rattle.ws_steps.specs.Laws.{RiseFrom}
-use Rattle.ws_steps.specs.Promises.{Entry, Table, next_id, react, taken, after_first, after_next_job, next_job, watch}
+use Rattle.ws_steps.specs.Promises.{Entry, Table, next_id, react, taken, after_first, after_next_job, next_job, watch, queue_micro}
 use Rattle.ws_steps.specs.Slots.{Slots, Done, has_readable, lock_at}
 use Rattle.ws_steps.specs.Turns.{performed}
 use Rattle.ws_steps.specs.ReadableHistory.{named_by, asked_with, call_asked, asked_in_step, asked_by_calls}
@@ -34,13 +34,18 @@ module _ (n : ℕ) where
   react-made : (t : Table) (p : PromiseId) (r : _) → Made t → Made (react p r t)
   react-made t p r k = react-cases Made p t r k (λ o. k) (λ e z o w. put-made p t z e _ _ w k)
 
+  micro-made : (m : Micro) (t : Table) → Made t → Made (queue_micro m t)
+  unfolding queue_micro
+  micro-made m t k = k
+
   changes : Changes Made
   changes = record {
     fresh = λ t k. let m = length-fresh t in omega arith;
     settle = λ t p o k. settle-cases Made p t o k (λ e z i w. put-made p t z e _ _ w k);
-    answer = λ t p o k. answer-cases Made p t o k (λ e z i w. put-made p t z e _ _ w k);
+    answer = λ t p o n k. answer-cases Made p t o k (λ e z i w. put-made p t z e _ _ w k);
     react = react-made;
     follow = λ t p q k. follow-cases Made p t q k (λ e z i w. put-made p t z e _ _ w k);
+    micro = λ t m k. micro-made m t k;
     tell = λ t e k. k;
   }
 
@@ -77,6 +82,8 @@ module _ (n : ℕ) where
     promise = λ z k. changes.fresh z.promises k;
     locks = λ z ls k. k;
     hosts = λ z hs k. k;
+    pipe = λ z source dest prevent signal promise k. k;
+    signal = λ z k. k;
     readable = λ z mark size k. k;
     writable = λ z mark size k. k;
   }) c s k
@@ -129,6 +136,7 @@ read-between i l s (Some (Reader (Some j) closed)) e =
     (λ same. named-between l j s (has_readable j s) e) (λ other. more (ReadCall l) s)
 read-between i l s (Some (Writer j)) e = more (ReadCall l) s
 read-between i l s (Some (ReleasedWriter w)) e = more (ReadCall l) s
+read-between i l s (Some Inner) e = more (ReadCall l) s
 
 call-between : (i : StreamId) (c : Call) (s : Slots) → Between (count s) (count (step s (Called c))) (call_asked i c s)
 unfolding begin

@@ -4,7 +4,7 @@ use Rattle.std.proofs.lemmas.List.Elements.{All-nil, All-cons}
 use Rattle.std.specs.Option.{option_map}
 use Rattle.ws_value.specs.declared.{ids.PromiseId.{PromiseId}, ids.StreamId.{StreamId}}
 use Rattle.ws_value.specs.declared.value.{Outcome.{Outcome}, Outcome.TheVariants.{Pending, Fulfilled, Given, Finished, Rejected}}
-use Rattle.ws_steps.specs.declared.{readable.ReadRequest.{ReadRequest}, readable.ReadRequest.TheVariants.{Promise}}
+use Rattle.ws_steps.specs.declared.{readable.ReadRequest.{ReadRequest}, readable.ReadRequest.TheVariants.{Promise, Pipe}}
 use Rattle.ws_steps.specs.Laws.{HasOutcome}
 use Rattle.ws_steps.specs.Promises.{Entry, Table, entry_at, outcome_at, is_open_entry}
 use Rattle.ws_steps.specs.Run.{Entry as Step, run}
@@ -46,6 +46,7 @@ waits-pending entries i p n =
 
 all-wait : (gone : PromiseId → Bool) (t : Table) (rs : List ReadRequest) → ((p : PromiseId) → 1 ≤ in_requests p rs → outcome_at t p ≡ Some Pending) → All (λ r. HasOutcome gone t r Pending) rs
 all-wait gone t [] h = All-nil (λ r. HasOutcome gone t r Pending)
+all-wait gone t (Pipe p ∷ rs) h = All-cons (λ r. HasOutcome gone t r Pending) (Pipe p) rs tt (all-wait gone t rs (λ q n. h q (omega (arith, n))))
 all-wait gone t (Promise p ∷ rs) h =
     All-cons (λ r. HasOutcome gone t r Pending) (Promise p) rs (λ g. h p (let n = named p in omega arith)) (all-wait gone t rs (λ q n. h q (omega arith)))
 

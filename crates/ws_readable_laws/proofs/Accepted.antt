@@ -1,9 +1,12 @@
 -- What enters a readable stream is what calls that are answered Done enqueue: no other call, no job and no effect causes an enqueue.
 use Rattle.std.proofs.Common.{◌≡◌, ◌≢◌, true, List, [], ◌∷◌, ◌++◌, Option, Some, None, if◌then◌else◌, refl, sym, ap, ◌∙◌, append-nil}
+use Rattle.ws_value.specs.declared.ids.PipeId.{PipeId}
 use Rattle.ws_value.specs.declared.ids.StreamId.{StreamId}
+use Rattle.ws_steps.specs.declared.readable.ReadRequest.TheVariants.{Promise, Pipe as PipeRequest}
+use Rattle.ws_steps.specs.declared.pipes.SignalOperation.TheVariants.{Add, Forget, Trigger}
 use Rattle.ws_value.specs.declared.value.Value.{Value}
 use Rattle.ws_steps.specs.declared.{calls.Call.{Call}, calls.Call.TheVariants.{Enqueue as EnqueueCall}, effects.Effect.{Effect}}
-use Rattle.ws_steps.specs.declared.effects.Effect.TheVariants.{Readable, Writable, StartAlgorithm, PullAlgorithm, CancelAlgorithm, CloseAlgorithm, AbortAlgorithm, ChunkSteps}
+use Rattle.ws_steps.specs.declared.effects.Effect.TheVariants.{Readable, Writable, Pipe, Signal, StartAlgorithm, PullAlgorithm, CancelAlgorithm, CloseAlgorithm, AbortAlgorithm, ChunkSteps, CloseSteps, ErrorSteps}
 use Rattle.ws_steps.specs.declared.{promises.Job.{Job}, readable.ReadableOperation.TheVariants.{Enqueue}, readable.ReadableState.TheVariants.{Readable as IsReadable}}
 use Rattle.ws_steps.specs.Promises.{next_job}
 use Rattle.ws_steps.specs.Readable as readable
@@ -20,6 +23,7 @@ use Rattle.ws_room_laws.proofs.Turns.{moments_next, moments_none}
 use Rattle.ws_laws.proofs.Tables.{either, same_id}
 use Rattle.ws_laws.proofs.Lists.{Each, each-append, each-map}
 use Rattle.ws_laws.proofs.Rows.{Causes, row-causes}
+use Rattle.ws_laws.proofs.PipeDoes.{PipeCauses}
 use Rattle.ws_laws.proofs.Begin.{IsFirst, Enqueues, Never, begin-first, job-first}
 use Rattle.ws_laws.proofs.Walker.{performed-goes}
 use Rattle.ws_readable_laws.proofs.Operations.{readable_by}
@@ -30,6 +34,10 @@ abbrev Quiet : Effect → Type 0
 Quiet (Readable i (Enqueue v)) = ⊥
 Quiet _ = Unit {0}
 
+pipe-quiet : (p : PipeId) (source dest : StreamId) (e : Effect) → PipeCauses p source dest e → Quiet e
+pipe-quiet p source dest (Readable i (Enqueue v)) c = c
+pipe-quiet p source dest _ c = tt
+
 quiet-causes : (e : Effect) → Causes Quiet e
 quiet-causes (Readable j operation) = record { pull = tt; cancel = λ r p. tt; chunk = λ r v. tt; close = λ r. tt; error = λ r e. tt }
 quiet-causes (Writable j operation) = record { write = tt; close = tt; abort = λ r p. tt; hand_on = λ v. tt }
@@ -38,6 +46,16 @@ quiet-causes (PullAlgorithm j) = λ c u. tt
 quiet-causes (CancelAlgorithm j r p) = λ c u. tt
 quiet-causes (CloseAlgorithm j) = λ c u. tt
 quiet-causes (AbortAlgorithm j r p) = λ c u. tt
+quiet-causes (Pipe p operation) = pipe-quiet p
+quiet-causes (Signal a (Trigger r)) = λ p. tt
+quiet-causes (Signal a (Add p)) = tt
+quiet-causes (Signal a (Forget p)) = tt
+quiet-causes (ChunkSteps j (Promise p) v) = tt
+quiet-causes (ChunkSteps j (PipeRequest p) v) = tt
+quiet-causes (CloseSteps j (Promise p)) = tt
+quiet-causes (CloseSteps j (PipeRequest p)) = tt
+quiet-causes (ErrorSteps j (Promise p) e) = tt
+quiet-causes (ErrorSteps j (PipeRequest p) e) = tt
 quiet-causes _ = tt
 
 -- what enters stream i by the effects of a call or a job that begins so

@@ -1,15 +1,15 @@
 -- What each operation of a readable stream keeps of its order.
-use Rattle.std.proofs.Common.{◌≡◌, ◌+◌, ◌≤◌, Bool, true, false, not, ◌||◌, ◌&&◌, is_some, if◌then◌else◌, List, [], ◌∷◌, ◌++◌, length, Option, Some, None, Ok, Err, refl, sym, ap, arith, append_assoc, append-nil, length-append, add-zero}
+use Rattle.std.proofs.Common.{◌≡◌, ◌+◌, ◌≤◌, Bool, true, false, not, ◌||◌, ◌&&◌, is_some, if◌then◌else◌, List, [], ◌∷◌, ◌++◌, length, Option, Some, None, Ok, Err, refl, sym, subst, ap, arith, append_assoc, append-nil, length-append, add-zero}
 use Rattle.ws_value.specs.declared.ids.PromiseId.{PromiseId}
 use Rattle.ws_value.specs.declared.ids.StreamId.{StreamId}
 use Rattle.ws_value.specs.declared.value.Plain.{Plain}
 use Rattle.ws_value.specs.declared.value.Value.{Value}
 use Rattle.ws_steps.specs.declared.{queue.Queued.{Queued}, readable.ReadRequest.{ReadRequest}, readable.ReadableOperation.{ReadableOperation}}
-use Rattle.ws_steps.specs.declared.readable.ReadableOperation.TheVariants.{InitializeReader, ReleaseReader, Read, Cancel, Enqueue, Close, Error, StartSettled, PullSettled}
+use Rattle.ws_steps.specs.declared.readable.ReadableOperation.TheVariants.{InitializeReader, ReleaseReader, Disturb, Read, Cancel, CancelIfReadable, Enqueue, Close, Error, StartSettled, PullSettled}
 use Rattle.ws_steps.specs.declared.{readable.ReadableState.{ReadableState}, readable.ReadableState.TheVariants.{Readable, Closed, Errored}}
 use Rattle.ws_steps.specs.Operations.{readable_operation}
 use Rattle.ws_steps.specs.Queues.{is_empty}
-use Rattle.ws_steps.specs.Readable.{Slots, Acts, is_readable, waiting, can_close_or_enqueue, should_call_pull, call_pull, call_pull_if_needed, accept_for, accept, controller_enqueue, close_reader, stream_close, error_reader, stream_error, close_if_empty, controller_close, controller_error, after_take, pull_from, read_by, cancel_by, pull_ended, pull_steps, default_reader_read, reader_generic_initialize, start_settled, pull_settled, cancel_steps, stream_cancel, release_by, reader_release}
+use Rattle.ws_steps.specs.Readable.{Slots, Acts, is_readable, waiting, can_close_or_enqueue, should_call_pull, call_pull, call_pull_if_needed, accept_for, accept, controller_enqueue, close_reader, stream_close, error_reader, stream_error, close_if_empty, controller_close, controller_error, after_take, pull_from, read_by, cancel_by, pull_ended, pull_steps, default_reader_read, reader_generic_initialize, start_settled, pull_settled, cancel_steps, stream_cancel, release_by, reader_release, disturb, cancel_readable_by, cancel_if_readable}
 use Rattle.ws_steps.specs.ReadableHistory.{Flow, no_flow, flow_then, values, operation_flow}
 use Rattle.ws_laws.proofs.Tables.{either}
 use Rattle.ws_laws.proofs.Truth.{false_true, and_right, nor_left, nor_right}
@@ -252,6 +252,16 @@ module _ (me : StreamId) where
   cancel_by_keeps e p h d a Closed s b = record { dropped = d; balanced = rw same_flow b }
   cancel_by_keeps e p h d a Errored s b = record { dropped = d; balanced = rw same_flow b }
 
+  cancel_readable_keeps : (e : Plain) (p : PromiseId) (h : Flow) (a : Acts) (state : ReadableState) → state ≡ a.slots.state → Held h a.slots
+      → Held (flow_then h (record no_flow { cancelled = is_readable state })) (cancel_readable_by me e p a state).slots
+  unfolding stream_cancel
+  cancel_readable_keeps e p h a Readable s k =
+      let b : Acts = record a { slots = record a.slots { disturbed = true } } in
+      subst (λ (z : ReadableState). Held (flow_then h (record no_flow { cancelled = is_readable z })) (cancel_by me e p b b.slots.state).slots) (sym s)
+      (cancel_by_keeps e p h k.dropped b b.slots.state refl k.balanced)
+  cancel_readable_keeps e p h a Closed s k = rw same_flow k
+  cancel_readable_keeps e p h a Errored s k = rw same_flow k
+
   release_by_keeps : (h : Flow) (d : List Value) (a : Acts) (reader : Option PromiseId) → Is h d a.slots → Is h d (release_by me a reader).slots
   release_by_keeps h d a None b = b
   release_by_keeps h d a (Some closed) b = unlocked h d a.slots None b
@@ -261,11 +271,13 @@ module _ (me : StreamId) where
   pull_ended_keeps h d a false b = b
 
   pub operation_keeps : (operation : ReadableOperation) (h : Flow) (a : Acts) → Held h a.slots → Held (flow_then h (with_due operation a.slots)) (readable_operation me operation a).slots
-  unfolding controller_enqueue default_reader_read stream_cancel reader_generic_initialize reader_release start_settled pull_settled
+  unfolding controller_enqueue disturb default_reader_read stream_cancel cancel_if_readable reader_generic_initialize reader_release start_settled pull_settled
   operation_keeps (Enqueue v) h a k = record { dropped = k.dropped; balanced = enqueue_by v h k.dropped a (can_close_or_enqueue a.slots) refl k.balanced }
   operation_keeps (Read r) h a k =
       record { dropped = k.dropped; balanced = read_by_keeps r h k.dropped (record a { slots = record a.slots { disturbed = true } }) a.slots.state refl k.balanced }
   operation_keeps (Cancel e p) h a k = cancel_by_keeps e p h k.dropped (record a { slots = record a.slots { disturbed = true } }) a.slots.state refl k.balanced
+  operation_keeps (CancelIfReadable e p) h a k = cancel_readable_keeps e p h a a.slots.state refl k
+  operation_keeps Disturb h a k = record { dropped = k.dropped; balanced = rw same_flow k.balanced }
   operation_keeps (InitializeReader closed) h a k = record { dropped = k.dropped; balanced = rw same_flow (unlocked h k.dropped a.slots (Some closed) k.balanced) }
   operation_keeps ReleaseReader h a k = record { dropped = k.dropped; balanced = rw same_flow (release_by_keeps h k.dropped a a.slots.reader k.balanced) }
   operation_keeps Close h a k = record { dropped = k.dropped; balanced = rw same_flow (controller_close_keeps h k.dropped a k.balanced) }

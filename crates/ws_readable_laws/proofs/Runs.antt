@@ -1,15 +1,19 @@
 -- The order of a readable stream over every run.
-use Rattle.std.proofs.Common.{◌≡◌, ℕ, Bool, true, false, slice_get, ◌||◌, if◌then◌else◌, List, [], ◌∷◌, ◌++◌, ◌⊎◌, inl, inr, refl, sym, ap, ◌∙◌, append_assoc, append-nil, add_assoc, zero-add, add-zero, arith}
+use Rattle.std.proofs.Common.{◌≡◌, ℕ, Bool, true, false, slice_get, Option, Some, None, ◌||◌, if◌then◌else◌, List, [], ◌∷◌, ◌++◌, ◌⊎◌, inl, inr, refl, sym, ap, ◌∙◌, append_assoc, append-nil, add_assoc, zero-add, add-zero, arith}
+use Rattle.ws_value.specs.declared.ids.PipeId.{PipeId}
 use Rattle.ws_value.specs.declared.ids.StreamId.{StreamId}
+use Rattle.ws_value.specs.declared.value.Plain.{Plain}
 use Rattle.ws_value.specs.declared.value.Value.{Value}
-use Rattle.ws_steps.specs.declared.{effects.Effect.{Effect}, effects.Effect.TheVariants.{Readable as OnReadable, ChunkSteps, CloseSteps, ErrorSteps}, effects.Owner.TheVariants.{Host}, locks.Lock.{Lock}, queue.Queued.{Queued}}
-use Rattle.ws_steps.specs.declared.{readable.ReadRequest.{ReadRequest}, readable.ReadableOperation.{ReadableOperation}, readable.ReadableOperation.TheVariants.{Read, Cancel, Enqueue}}
+use Rattle.ws_steps.specs.declared.{effects.Effect.{Effect}, effects.Effect.TheVariants.{Readable as OnReadable, Pipe, Signal, ChunkSteps, CloseSteps, ErrorSteps}, effects.Owner.TheVariants.{Host}, pipes.PipeOperation.{PipeOperation}, pipes.SignalOperation.{SignalOperation}, pipes.SignalOperation.TheVariants.{Add, Forget, Trigger}, queue.Queued.{Queued}}
+use Rattle.ws_steps.specs.declared.{readable.ReadRequest.{ReadRequest}, readable.ReadableOperation.{ReadableOperation}, readable.ReadableOperation.TheVariants.{Read, Cancel, CancelIfReadable, Enqueue}}
 use Rattle.ws_steps.specs.declared.{readable.ReadableState.{ReadableState}, readable.ReadableState.TheVariants.{Readable, Closed, Errored}, readable.SizeBy.{SizeBy}}
 use Rattle.ws_steps.specs.Effects.{Out}
-use Rattle.ws_steps.specs.Operations.{readable_operation}
+use Rattle.ws_steps.specs.Operations.{readable_operation, signal_operation}
+use Rattle.ws_steps.specs.Pipes as pipe
+use Rattle.ws_steps.specs.Pipes.{abort_all, trigger_unless}
 use Rattle.ws_steps.specs.Readable as readable
 use Rattle.ws_steps.specs.Readable.{Acts, is_readable, accept_for, accept, call_pull_if_needed, controller_enqueue, after_take, pull_from, pull_steps, read_by, default_reader_read, can_close_or_enqueue, waiting}
-use Rattle.ws_steps.specs.Slots.{Slots, empty, has_readable, readable_at, no_readable}
+use Rattle.ws_steps.specs.Slots.{Slots, empty, found, ends_at, has_readable, readable_at, no_readable}
 use Rattle.ws_steps.specs.Run.{Entry, step, run}
 use Rattle.ws_steps.specs.Histories.{is_same}
 use Rattle.ws_steps.specs.ReadableHistory.{Flow, no_flow, flow_then, values, operation_flow, effect_flow, step_flow, run_flow}
@@ -18,12 +22,13 @@ use Rattle.ws_laws.proofs.Tables.{either, is_same-refl, no_readable_there, reada
 use Rattle.ws_laws.proofs.Lists.{Each}
 use Rattle.ws_laws.proofs.ReadableDoes.{OfReadableEnds, is_taking, pull-does, take-does, ends-do}
 use Rattle.ws_laws.proofs.Begin.{IsFirst, Any, Enqueues, Never, each-any, begin-first, job-first}
+use Rattle.ws_laws.proofs.PipeDoes.{PipeCauses, IsQuiet, is_looking, pipe-causes, pipe-quiet}
 use Rattle.ws_laws.proofs.Walker.{IsHistory}
 use Rattle.ws_laws.proofs.OnReadable as on_readable
-use Rattle.ws_laws.proofs.OnReadable.{IsForeign, AreSteps, IsLaw, Kept, all_seen, all_seen-append}
+use Rattle.ws_laws.proofs.OnReadable.{Holders, holders, IsForeign, AreSteps, IsLaw, Kept, Nothing, nothing-stays, is_still, piped, all_seen, all_seen-append}
 use Rattle.ws_readable_laws.proofs.Operations.{Held, same_flow, or_false, due, with_due, given_to, first_given, operation_keeps}
 
--- what is seen of the agenda: an operation that may give, and chunk steps of the stream
+-- what is seen of the agenda: an operation that may give, one of a pipe that may read, and chunk steps of the stream
 pub data Mark : Type 0 where
   Takes : Mark
   Gives : Value → Mark
@@ -34,6 +39,7 @@ takes false = []
 
 abbrev pub mark : StreamId → Effect → List Mark
 mark i (OnReadable j operation) = if is_same i j then takes (is_taking operation) else []
+mark i (Pipe p operation) = takes (is_looking operation)
 mark i (ChunkSteps j request v) = if is_same i j then Gives v ∷ [] else []
 mark i _ = []
 
@@ -122,6 +128,7 @@ pub no_gives : (operation : ReadableOperation) (r : readable.Slots) → (operati
 no_gives (Enqueue v) r = either (λ (f : Flow). f.given ≡ []) (can_close_or_enqueue r) _ no_flow (λ e. refl) (λ e. refl)
 no_gives (Read request) r = refl
 no_gives (Cancel reason p) r = refl
+no_gives (CancelIfReadable reason p) r = refl
 no_gives _ r = refl
 
 -- what an operation was about to give stands before all that is still to be given, of which there is none, or it gives none
@@ -170,21 +177,29 @@ idle_flow : (operation : ReadableOperation) → operation_flow operation no_read
 idle_flow (Enqueue v) = refl
 idle_flow (Read request) = refl
 idle_flow (Cancel r p) = refl
+idle_flow (CancelIfReadable r p) = refl
 idle_flow _ = refl
 
 -- where there is no such stream, nothing flows
 pub nothing_there : (i : StreamId) (operation : ReadableOperation) (s : Slots) → has_readable i s ≡ false → effect_flow i (OnReadable i operation) s ≡ no_flow
 nothing_there i operation s none = rw (is_same-refl i, no_readable_there (slice_get s.streams i.0) none) (idle_flow operation)
 
+-- an operation of a pipe that causes nothing doesn't look
+still_looks : (operation : PipeOperation) → is_still operation ≡ true → is_looking operation ≡ false
+still_looks operation e = grind arith
+
 module _ (i : StreamId) where
   unseen : (e : Effect) → IsForeign i e → mark i e ≡ []
   unseen (OnReadable j operation) f = rw f refl
   unseen (ChunkSteps j request v) f = rw f refl
+  unseen (Pipe p operation) f = ap takes (still_looks operation f)
+  unseen (Signal a operation) f = absurd f
   unseen _ f = refl
 
   untold : (e : Effect) (s : Slots) → IsForeign i e → effect_flow i e s ≡ no_flow
   untold (OnReadable j operation) s f = rw f refl
   untold (ChunkSteps j request v) s f = rw f refl
+  untold (Signal a operation) s f = absurd f
   untold _ s f = refl
 
   moved_keeps : (operation : ReadableOperation) (s : Slots) (h : Flow) (ms : List Mark) → (pending ms ≡ []) ⊎ (due operation (readable_at i s) ≡ []) → Held (with_pending ms h) (readable_at i s) → Clear ms
@@ -220,10 +235,45 @@ module _ (i : StreamId) where
   taken_first true false ms c = c
   taken_first false t ms c = c
 
+  -- what a pipe causes: none is chunk steps, and only where it looks one may read
+
+  pipe_marks : (p : PipeId) (source dest : StreamId) (es : List Effect) (ms : List Mark) → Each (PipeCauses p source dest) es → (pending ms ≡ []) × Clear ms
+      → let ns : List Mark = all_seen (mark i) es ++ ms in (pending ns ≡ []) × Clear ns
+  pipe_marks p source dest [] ms c k = k
+  pipe_marks p source dest (OnReadable j operation ∷ es) ms c k =
+      rw (append_assoc (mark i (OnReadable j operation)) (all_seen (mark i) es) ms) (taken_first (is_same i j) (is_taking operation) (all_seen (mark i) es ++ ms) (pipe_marks p source dest es ms c.1 k))
+  pipe_marks p source dest (Pipe q operation ∷ es) ms c k =
+      rw (append_assoc (mark i (Pipe q operation)) (all_seen (mark i) es) ms) (taken_first true (is_looking operation) (all_seen (mark i) es ++ ms) (pipe_marks p source dest es ms c.1 k))
+  pipe_marks p source dest (ChunkSteps j request v ∷ es) ms c k = absurd (c.0)
+  pipe_marks p source dest (e ∷ es) ms c k = pipe_marks p source dest es ms c.1 k
+
+  untaken : (p : PipeId) (source dest j : StreamId) (operation : ReadableOperation) → PipeCauses p source dest (OnReadable j operation) → IsQuiet (OnReadable j operation) → mark i (OnReadable j operation) ≡ []
+  untaken p source dest j (Read request) c q = absurd q
+  untaken p source dest j (Enqueue v) c q = absurd c
+  untaken p source dest j operation c q = either (λ (ms : List Mark). ms ≡ []) (is_same i j) _ [] (λ e. refl) (λ e. refl)
+
+  quiet_mark : (p : PipeId) (source dest : StreamId) (e : Effect) → PipeCauses p source dest e → IsQuiet e → mark i e ≡ []
+  quiet_mark p source dest (OnReadable j operation) c q = untaken p source dest j operation c q
+  quiet_mark p source dest (Pipe r operation) c q = absurd q
+  quiet_mark p source dest (ChunkSteps j request v) c q = absurd c
+  quiet_mark p source dest _ c q = refl
+
+  quiet_marks : (p : PipeId) (source dest : StreamId) (es : List Effect) → Each (PipeCauses p source dest) es → Each IsQuiet es → all_seen (mark i) es ≡ []
+  quiet_marks p source dest [] c q = refl
+  quiet_marks p source dest (e ∷ es) c q = rw (quiet_mark p source dest e c.0 q.0, quiet_marks p source dest es c.1 q.1) refl
+
+  pipe_keeps : (p : PipeId) (source dest : StreamId) (es : List Effect) (t : Bool) → Each (PipeCauses p source dest) es → (t ≡ false → Each IsQuiet es)
+      → (h : Flow) (r : readable.Slots) (ms : List Mark) → Ordered h r (takes t ++ ms) → Ordered h r (all_seen (mark i) es ++ ms)
+  pipe_keeps p source dest es true c q h r ms k =
+      let m = pipe_marks p source dest es ms c (k.clear.0, k.clear.1) in
+      record { held = rw (m.0, ← k.clear.0) k.held; clear = m.1 }
+  pipe_keeps p source dest es false c q h r ms k = rw (quiet_marks p source dest es c (q refl)) k
+
   first_marks : (es : List Effect) → Each (IsFirst Any) es → (pending (all_seen (mark i) es) ≡ []) × Clear (all_seen (mark i) es)
   first_marks [] f = (refl, tt)
   first_marks (OnReadable j operation ∷ es) f = taken_first (is_same i j) (is_taking operation) (all_seen (mark i) es) (first_marks es f.1)
   first_marks (ChunkSteps j request v ∷ es) f = absurd (f.0)
+  first_marks (Pipe p operation ∷ es) f = taken_first true (is_looking operation) (all_seen (mark i) es) (first_marks es f.1)
   first_marks (e ∷ es) f = first_marks es f.1
 
   first_keeps : (es : List Effect) → Each (IsFirst Any) es → (h : Flow) (r : readable.Slots) → Ordered h r [] → Ordered h r (all_seen (mark i) es)
@@ -241,14 +291,38 @@ module _ (i : StreamId) where
   not_cancelled (ErrorSteps j request e) same s h n = rw (or_false h.cancelled) n
   not_cancelled _ same s h n = absurd same
 
-  -- whatever locks there are
-  abbrev OrderedIn : Flow → List Lock → readable.Slots → List Mark → Type 0
-  OrderedIn h locks r ms = Ordered h r ms
+  -- a signal has pipes abort
+  none_aborts : (r : Plain) (ps : List PipeId) → all_seen (mark i) (abort_all r ps) ≡ []
+  none_aborts r [] = refl
+  none_aborts r (p ∷ ps) = none_aborts r ps
 
-  abbrev UnmadeIn : Flow → List Lock → Type 0
-  UnmadeIn h locks = Unmade h
+  signal_marks : (operation : SignalOperation) (x : pipe.Signal) → all_seen (mark i) (signal_operation operation x).effects ≡ []
+  signal_marks (Add p) x = refl
+  signal_marks (Forget p) x = refl
+  signal_marks (Trigger r) x = by x.reason
+    where
+      by : (reason : Option Plain) → all_seen (mark i) (trigger_unless r x reason).effects ≡ []
+      by (Some old) = refl
+      by None = none_aborts r x.pipes
 
-  law : IsLaw no_flow flow_then (effect_flow i) (mark i) i OrderedIn UnmadeIn
+  -- whoever may hold streams
+  abbrev OrderedIn : Flow → Holders → readable.Slots → List Mark → Type 0
+  OrderedIn h o r ms = Ordered h r ms
+
+  abbrev UnmadeIn : Flow → Holders → Type 0
+  UnmadeIn h o = Unmade h
+
+  looked : (t : Bool) (h : Flow) (r : readable.Slots) (ms : List Mark) → Ordered h r (takes t ++ ms) → Ordered h r ms
+  looked true h r ms k = record { held = k.held; clear = k.clear.1 }
+  looked false h r ms k = k
+
+  piped_keeps : (p : PipeId) (operation : PipeOperation) (s : Slots) (x : pipe.Slots) (h : Flow) (r : readable.Slots) (ms : List Mark) → Ordered h r (takes (is_looking operation) ++ ms)
+      → Ordered h r (all_seen (mark i) (piped p operation s x).out.effects ++ ms)
+  piped_keeps p operation s x h r ms k =
+      let a : pipe.Acts = record { slots = x; out = found s } in
+      pipe_keeps p x.source x.dest (piped p operation s x).out.effects (is_looking operation) (pipe-causes p (ends_at x s) operation a tt).1.1 (λ quiet. pipe-quiet p (ends_at x s) operation a quiet tt) h r ms k
+
+  law : IsLaw no_flow flow_then (effect_flow i) (mark i) i OrderedIn UnmadeIn Nothing
   law = record {
     history = is_history;
     unseen = unseen;
@@ -256,6 +330,13 @@ module _ (i : StreamId) where
     operation = λ operation s h ms there k. rw (is_same-refl i) (taking_keeps operation s h ms (is_taking operation) refl (rw (is_same-refl i) at k));
     idle = nothing_there i;
     absent = λ operation h locks ms k. absent_keeps h ms (is_taking operation) (rw (is_same-refl i) at k);
+    pipe = λ p operation s x es known e h k. piped_keeps p operation s x h (readable_at i s) (all_seen (mark i) es) k;
+    pipe_unmade = λ p operation s x e h n. n;
+    no_pipe = λ p operation h o r ms k. looked (is_looking operation) h r ms k;
+    pipe_untold = λ p operation s. refl;
+    signal = λ a operation x h o r ms k. rw (signal_marks operation x) k;
+    no_signal = λ a operation h o r ms k. k;
+    signal_untold = λ a operation s. refl;
     steps = λ e same s h locks r ms k. steps_keep e same s h r ms k;
     steps_unmade = λ e same s h locks n. not_cancelled e same s h n;
     call = λ c s h k. record { unmade = k.unmade; held = first_keeps _ (each-any (Enqueues c) _ (begin-first c s)) h _ k.held };
@@ -263,16 +344,20 @@ module _ (i : StreamId) where
     made = λ hwm size h locks n k. made hwm size h n k;
     empty = record { held = record { dropped = []; balanced = record { all = refl; live = λ e. refl; whole = λ c e. refl; gone = λ e. refl; fit = λ e. refl; asked = omega arith } }; clear = tt };
     unmade = refl;
+    known = nothing-stays;
+    known_heard = λ s k. tt;
+    known_forgotten = λ s p k. tt;
+    known_first = tt;
   }
 
   abbrev pub Keeps : Flow → Slots → Type 0
-  Keeps h s = Kept (mark i) i OrderedIn UnmadeIn h s.locks s.streams []
+  Keeps h s = Kept (mark i) i OrderedIn UnmadeIn h (holders s) s.streams []
 
   pub step-kept : (h : Flow) (s : Slots) (x : Entry) → Keeps h s → Keeps (flow_then h (step_flow i s x)) (step s x)
-  step-kept h s x k = on_readable.step-kept no_flow flow_then (effect_flow i) (mark i) i OrderedIn UnmadeIn law h s x k
+  step-kept h s x k = on_readable.step-kept no_flow flow_then (effect_flow i) (mark i) i OrderedIn UnmadeIn Nothing law h s x tt k
 
   pub run-kept : (entries : List Entry) → Keeps (run_flow i entries empty) (run entries empty)
-  run-kept entries = on_readable.run-kept no_flow flow_then (effect_flow i) (mark i) i OrderedIn UnmadeIn law entries
+  run-kept entries = on_readable.run-kept no_flow flow_then (effect_flow i) (mark i) i OrderedIn UnmadeIn Nothing law entries
 
 -- between steps nothing is still to be given
 pub between : (h : Flow) (r : readable.Slots) → Ordered h r [] → Held h r

@@ -1,36 +1,42 @@
 -- What holds of a writable stream at each moment of a run, with the effects that stand on the agenda; and what each effect keeps of it.
 use Rattle.std.proofs.Common.{◌≡◌, Option, ◌+◌, List, [], ◌∷◌, ◌++◌, None, slice_get, refl, ap, arith, ℕ, ◌≤◌, false, length, Result, append-nil, Bool, true, Some, sym, subst, ◌∙◌}
 use Rattle.ws_value.specs.declared.ids.StreamId.{StreamId}
+use Rattle.ws_value.specs.declared.ids.PipeId.{PipeId}
 use Rattle.ws_value.specs.declared.ids.PromiseId.{PromiseId}
+use Rattle.ws_value.specs.declared.ids.SignalId.{SignalId}
 use Rattle.ws_value.specs.declared.value.Plain.{Plain}
 use Rattle.ws_value.specs.declared.value.Value.{Value}
 use Rattle.ws_steps.specs.declared.effects.Effect.{Effect}
 use Rattle.ws_steps.specs.Promises.{Table, fresh, settle, tell, use_this, use_gift}
 use Rattle.ws_steps.specs.Writable as writable
-use Rattle.ws_steps.specs.Slots.{Slots, Done, writable_at, on_readable, on_writable, as_writable, WritableStream, nothing, put_writable, no_writable, has_writable}
+use Rattle.ws_steps.specs.Slots.{Slots, Done, found as found_outside, ends_at, on_pipe_at, on_signal_at, writable_at, on_readable, on_writable, as_writable, WritableStream, nothing, put_writable, no_writable, has_writable}
 use Rattle.ws_steps.specs.WritableHistory.{Writes, no_writes, writes_then, effect_writes, first_chunk, operation_writes}
 use Rattle.ws_steps.specs.declared.{calls.Event.{Event}, calls.Event.TheVariants.{Host as HostCalled, Signal}, calls.HostCall.{HostCall}}
-use Rattle.ws_steps.specs.declared.effects.Effect.TheVariants.{Readable, Writable, PullAlgorithm, CancelAlgorithm, WriteAlgorithm, CloseAlgorithm, AbortAlgorithm, ChunkSteps, CloseSteps, ErrorSteps, StartAlgorithm, Give, CallHost}
-use Rattle.ws_steps.specs.declared.{effects.Gift.{Gift}, effects.Use.{Use}, promises.Step.{Step}, readable.ReadableOperation.{ReadableOperation}}
+use Rattle.ws_steps.specs.declared.effects.Effect.TheVariants.{Readable, Writable, Pipe, Signal, Queue, PullAlgorithm, CancelAlgorithm, WriteAlgorithm, CloseAlgorithm, AbortAlgorithm, ChunkSteps, CloseSteps, ErrorSteps, StartAlgorithm, Give, CallHost}
+use Rattle.ws_steps.specs.declared.{effects.Gift.{Gift}, effects.Gift.TheVariants.{This}, effects.Use.{Use}, effects.Use.TheVariants.{React}, pipes.PipeOperation.{PipeOperation}, pipes.SignalOperation.{SignalOperation}, readable.ReadRequest.{ReadRequest}, readable.ReadRequest.TheVariants.{Promise, Pipe as PipeRequest}, promises.Step.{Step}, readable.ReadableOperation.{ReadableOperation}}
 use Rattle.ws_steps.specs.declared.writable.WritableOperation.{WritableOperation}
 use Rattle.ws_steps.specs.Effects.{Out, cause, settling}
-use Rattle.ws_steps.specs.Operations.{readable_operation, writable_operation}
+use Rattle.ws_steps.specs.Operations.{readable_operation, writable_operation, pipe_operation, signal_operation}
+use Rattle.ws_steps.specs.Pipes as pipe
+use Rattle.ws_steps.specs.Pipes.{abort_all}
 use Rattle.ws_steps.specs.Readable as readable
 use Rattle.ws_steps.specs.Writable.{write_to_host, Acts, hand_on_first, hand_on}
-use Rattle.ws_steps.specs.Turns.{call_host, row}
+use Rattle.ws_steps.specs.Turns.{call_host, chunk_steps, close_steps, error_steps, row}
 use Rattle.ws_steps.specs.Histories.{is_same}
 use Rattle.ws_steps.specs.declared.{writable.WritableOperation.TheVariants.{HandOn}, writable.WriteRecord.{WriteRecord}, writable.WriteRecord.TheVariants.{Chunk, InFlight, CloseMark}}
 use Rattle.ws_steps.specs.Queues.{first_value}
 use Rattle.ws_laws.proofs.Tables.{either, readable_acts, writable_acts, on_writable-other, on_writable-none, on_readable-none, on_readable-writable, is_same-refl, same_id, on_writable-same, no_writable_there}
+use Rattle.ws_laws.proofs.Lists.{Each}
+use Rattle.ws_laws.proofs.PipeDoes.{IsStepOf, PipeCauses, OfPipe, pipe-causes, pipe-does}
 use Rattle.ws_laws.proofs.ReadableDoes.{readable-does}
 use Rattle.ws_laws.proofs.WritableDoes.{writable-does, IsHandOn}
-use Rattle.ws_laws.proofs.Weights.{weigh, weigh-fresh, weigh-settle, weigh-react, weigh-follow, weigh-answer}
-use Rattle.ws_writable_laws.proofs.Shape.{is_start, is_write, is_close, is_abort, leads_to, hands, closes, asks, all, all-append, mass, weight, of_use, of_reaction, core_of}
+use Rattle.ws_laws.proofs.Weights.{weigh, weigh-micro, weigh-fresh, weigh-settle, weigh-react, weigh-follow, weigh-answer}
+use Rattle.ws_writable_laws.proofs.Shape.{is_start, is_write, is_close, is_abort, leads_to, hands, closes, all, all-append, mass, weight, of_use, of_reaction, core_of}
 use Rattle.ws_writable_laws.proofs.Operations.{Due, Held, Less, with_effects, so_far, later_effects, fine-less, Fine, handed, chunk_handed, so_far-nothing, quiet-held, writes-nothing, with_operation, operation-held}
 
 -- what is under way among the promises
 abbrev pub among : StreamId → Table → Due
-among i t = record { starts = weight (is_start i) t; writes = weight (is_write i) t; closes = weight (is_close i) t; aborts = weight (is_abort i) t; asks = 0 }
+among i t = record { starts = weight (is_start i) t; writes = weight (is_write i) t; closes = weight (is_close i) t; aborts = weight (is_abort i) t }
 
 -- nothing has happened of a stream that isn't made yet
 pub record Unmade (i : StreamId) (h : Writes) (s : Slots) (es : List Effect) : Type 0 where
@@ -79,11 +85,10 @@ pub record Clear (i : StreamId) (cs : List Effect) : Type 0 where
   pub aborts : all (leads_to (is_abort i)) cs ≡ 0
   pub hands : all (hands i) cs ≡ 0
   pub closes : all (closes i) cs ≡ 0
-  pub asks : all (asks i) cs ≡ 0
 
 pub massless : (i : StreamId) (cs : List Effect) → all (mass i) cs ≡ 0 → Clear i cs
-massless i [] z = record { starts = refl; writes = refl; closes_on = refl; aborts = refl; hands = refl; closes = refl; asks = refl }
-massless i (c ∷ cs) z = let n = massless i cs (omega arith) in record { starts = omega arith; writes = omega arith; closes_on = omega arith; aborts = omega arith; hands = omega arith; closes = omega arith; asks = omega arith }
+massless i [] z = record { starts = refl; writes = refl; closes_on = refl; aborts = refl; hands = refl; closes = refl }
+massless i (c ∷ cs) z = let n = massless i cs (omega arith) in record { starts = omega arith; writes = omega arith; closes_on = omega arith; aborts = omega arith; hands = omega arith; closes = omega arith }
 
 -- what an effect leaves and causes that is no operation of stream i
 pub record Leaves (i : StreamId) (e : Effect) (s z : Slots) (cs : List Effect) : Type 0 where
@@ -92,7 +97,6 @@ pub record Leaves (i : StreamId) (e : Effect) (s z : Slots) (cs : List Effect) :
   pub alone : all (hands i) (later_effects cs) ≡ 0
   pub hands : all (hands i) cs ≡ hands i e
   pub closes : all (closes i) cs ≡ 0
-  pub asks : all (asks i) cs ≡ 0
   pub starts : weight (is_start i) z.promises + all (leads_to (is_start i)) cs ≤ weight (is_start i) s.promises + leads_to (is_start i) e
   pub writes : weight (is_write i) z.promises + all (leads_to (is_write i)) cs ≤ weight (is_write i) s.promises + leads_to (is_write i) e
   pub closes_on : weight (is_close i) z.promises + all (leads_to (is_close i)) cs ≤ weight (is_close i) s.promises + leads_to (is_close i) e
@@ -312,10 +316,96 @@ abbrev pub Elsewhere : StreamId → Effect → Type 0
 Elsewhere i (Writable j operation) = is_same i j ≡ false
 Elsewhere i _ = Unit {0}
 
+-- what a pipe causes has no part in what is under way
+
+pipe_step-mass : (p : PipeId) (step : Step) (i : StreamId) → IsStepOf p step → mass i (Give (This (record { 0 = 0 })) (React step None)) ≡ 0
+pipe_step-mass p step i c = grind arith
+
+pipe_effect-mass : (i : StreamId) (p : PipeId) (source dest : StreamId) (e : Effect) → PipeCauses p source dest e → mass i e ≡ 0
+pipe_effect-mass i p source dest e c = grind (arith, pipe_step-mass)
+
+pipe-mass : (i : StreamId) (p : PipeId) (source dest : StreamId) (es : List Effect) → Each (PipeCauses p source dest) es → all (mass i) es ≡ 0
+pipe-mass i p source dest [] c = refl
+pipe-mass i p source dest (e ∷ es) c = let h = pipe_effect-mass i p source dest e c.0 in let k = pipe-mass i p source dest es c.1 in omega (arith, h, k)
+
+weight-pipe : (f : Step → ℕ) (t : Table) → OfPipe (λ z. weight f z ≤ weight f t)
+weight-pipe f t = record {
+  fresh = λ z h. let k = weigh-fresh (of_reaction f) z in omega (arith, h, k);
+  settle = λ z p o h. let k = weigh-settle (of_reaction f) p o z in omega (arith, h, k);
+  micro = λ z m h. let k = weigh-micro (of_reaction f) m z in omega (arith, h, k);
+}
+
+pipe-leaves : (i : StreamId) (p : PipeId) (operation : PipeOperation) (s : Slots) (o : Option pipe.Slots)
+    → let d : Done = on_pipe_at (λ ends. pipe_operation p ends operation) p s o in Leaves i (Pipe p operation) s d.slots d.caused
+pipe-leaves i p operation s None = grind arith
+pipe-leaves i p operation s (Some x) =
+    let a : pipe.Acts = record { slots = x; out = found_outside s } in
+    let b : pipe.Acts = pipe_operation p (ends_at x s) operation a in
+    let c = massless i b.out.effects (pipe-mass i p x.source x.dest b.out.effects (pipe-causes p (ends_at x s) operation a tt).1.1) in
+    let n = none_behind i b.out.effects c.hands in
+    let w : (f : Step → ℕ) → weight f b.out.promises ≤ weight f s.promises =
+    λ f. pipe-does (λ z. weight f z ≤ weight f s.promises) (weight-pipe f s.promises) p (ends_at x s) operation a (omega arith) in
+    let w1 = w (is_start i) in let w2 = w (is_write i) in let w3 = w (is_close i) in let w4 = w (is_abort i) in
+    record {
+      there = λ e. e;
+      place = refl;
+      alone = n;
+      hands = c.hands;
+      closes = c.closes;
+      starts = omega (arith, w1, c.starts);
+      writes = omega (arith, w2, c.writes);
+      closes_on = omega (arith, w3, c.closes_on);
+      aborts = omega (arith, w4, c.aborts);
+    }
+
+abort_all-mass : (i : StreamId) (r : Plain) (ps : List PipeId) → all (mass i) (abort_all r ps) ≡ 0
+abort_all-mass i r [] = refl
+abort_all-mass i r (p ∷ ps) = let h = abort_all-mass i r ps in omega (arith, h)
+
+signal-mass : (i : StreamId) (operation : SignalOperation) (x : pipe.Signal) → all (mass i) (signal_operation operation x).effects ≡ 0
+signal-mass i operation x = grind (arith, abort_all-mass)
+
+signal-leaves : (i : StreamId) (a : SignalId) (operation : SignalOperation) (s : Slots) (o : Option pipe.Signal)
+    → let d : Done = on_signal_at (signal_operation operation) a s o in Leaves i (Signal a operation) s d.slots d.caused
+signal-leaves i a operation s None = grind arith
+signal-leaves i a operation s (Some x) =
+    let es : List Effect = (signal_operation operation x).effects in
+    let c = massless i es (signal-mass i operation x) in
+    let n = none_behind i es c.hands in
+    record {
+      there = λ e. e;
+      place = refl;
+      alone = n;
+      hands = c.hands;
+      closes = c.closes;
+      starts = omega (arith, c.starts);
+      writes = omega (arith, c.writes);
+      closes_on = omega (arith, c.closes_on);
+      aborts = omega (arith, c.aborts);
+    }
+
+chunk-leaves : (i j : StreamId) (v : Value) (s : Slots) (request : ReadRequest) → Leaves i (ChunkSteps j request v) s (chunk_steps v s request).slots (chunk_steps v s request).caused
+chunk-leaves i j v s (Promise p) = grind (arith, weigh-answer)
+chunk-leaves i j v s (PipeRequest p) = grind arith
+
+closing-leaves : (i j : StreamId) (s : Slots) (request : ReadRequest) → Leaves i (CloseSteps j request) s (close_steps s request).slots (close_steps s request).caused
+closing-leaves i j s (Promise p) = grind (arith, weigh-answer)
+closing-leaves i j s (PipeRequest p) = grind arith
+
+erring-leaves : (i j : StreamId) (e : Plain) (s : Slots) (request : ReadRequest) → Leaves i (ErrorSteps j request e) s (error_steps e s request).slots (error_steps e s request).caused
+erring-leaves i j e s (Promise p) = grind (arith, weigh-settle)
+erring-leaves i j e s (PipeRequest p) = grind arith
+
 pub row-leaves : (i : StreamId) (e : Effect) (s : Slots) → Elsewhere i e → Leaves i e s (row e s).slots (row e s).caused
 unfolding row call_host
 row-leaves i (Readable j operation) s x = readable-leaves i j operation s
 row-leaves i (Writable j operation) s x = elsewhere-leaves i j operation s x
+row-leaves i (Pipe p operation) s x = pipe-leaves i p operation s (slice_get s.pipes p.0)
+row-leaves i (Signal a operation) s x = signal-leaves i a operation s (slice_get s.signals a.0)
+row-leaves i (ChunkSteps j request v) s x = chunk-leaves i j v s request
+row-leaves i (CloseSteps j request) s x = closing-leaves i j s request
+row-leaves i (ErrorSteps j request e) s x = erring-leaves i j e s request
+row-leaves i (Queue m) s x = grind (arith, weigh-micro)
 row-leaves i (StartAlgorithm j step start) s x = grind (arith, weigh-fresh)
 row-leaves i (Give gift u) s x = grind (arith, weight-gift)
 row-leaves i (CallHost call u) s x = grind (arith, weight-host)

@@ -1,13 +1,16 @@
 -- One step of a writable stream.
-use Rattle.std.proofs.Common.{◌≡◌, ◌⊎◌, Bool, true, false, List, [], ◌∷◌, ◌++◌, refl, sym, ◌∙◌, append_assoc, append-nil, arith}
+use Rattle.std.proofs.Common.{◌≡◌, ◌⊎◌, inl, inr, ⊎_elim, Option, Some, None, ap, Bool, true, false, List, [], ◌∷◌, ◌++◌, refl, sym, ◌∙◌, append_assoc, append-nil, arith}
 use Rattle.ws_value.specs.declared.ids.StreamId.{StreamId}
 use Rattle.ws_value.specs.declared.value.Value.{Value}
-use Rattle.ws_steps.specs.declared.{effects.Effect.{Effect}, effects.Effect.TheVariants.{Writable}, writable.WritableOperation.TheVariants.{Write}}
+use Rattle.ws_steps.specs.declared.{effects.Effect.{Effect}, effects.Effect.TheVariants.{Readable, Writable, StartAlgorithm, Give, CallHost}, writable.WritableOperation.{WritableOperation}, calls.Call.{Call}, promises.Job.{Job}}
 use Rattle.ws_steps.specs.Writable as writable
-use Rattle.ws_steps.specs.Writable.{has_ended, is_errored, is_closed}
-use Rattle.ws_steps.specs.Slots.{Slots, Done, nothing, empty, writable_at}
+use Rattle.ws_steps.specs.Writable.{Acts, has_ended, is_errored, is_closed, set_up_writer, writer_release, writer_write, stream_close, close_with_error_propagation, stream_abort, abort_if_writable, controller_error_if_needed, hand_on, start_settled, write_settled, close_settled, abort_settled, finish_in_flight_close, finish_in_flight_close_with_error, deal_with_rejection, finish_erroring, advance_queue, refresh_backpressure, update_backpressure, reject_close_and_closed, process_write, process_close, start_erroring, controller_write, controller_close}
+use Rattle.ws_steps.specs.Operations.{readable_operation, writable_operation}
+use Rattle.ws_steps.specs.Promises.{next_job}
+use Rattle.ws_steps.specs.Histories.{is_same}
+use Rattle.ws_steps.specs.Slots.{Slots, Done, nothing, empty, has_writable, put_writable, as_writable, writable_at}
 use Rattle.ws_steps.specs.Turns.{row, moments}
-use Rattle.ws_steps.specs.Jobs.{begin_job}
+use Rattle.ws_steps.specs.Jobs.{job_begun, begin_job}
 use Rattle.ws_steps.specs.Calls.{Begun, begin}
 use Rattle.ws_steps.specs.Run.{Entry, Called, Worked, Heard, Forgot, step, run}
 use Rattle.ws_steps.specs.Histories.{along}
@@ -15,12 +18,12 @@ use Rattle.ws_steps.specs.WritableHistory.{Writes, no_writes, writes_then, todo,
 use Rattle.ws_steps.specs.Laws.{IsWritableStep, EachWritableStep}
 use Rattle.ws_laws.proofs.EachCall.{each_call}
 use Rattle.ws_laws.proofs.Lists.{Each, each-append, append_cancel, append_none}
-use Rattle.ws_laws.proofs.Rows.{row-causes}
-use Rattle.ws_laws.proofs.Tables.{same_id}
+use Rattle.ws_laws.proofs.Rows.{Causes, row-causes, row-streams}
+use Rattle.ws_laws.proofs.Tables.{either, same_id, writable_acts, on_readable-writable, on_writable-other, on_writable-same}
 use Rattle.ws_laws.proofs.Walker.{performed-goes}
 use Rattle.ws_writable_laws.proofs.Shape.{Core, core_of, Told}
 use Rattle.ws_writable_laws.proofs.Operations.{so_far-nothing}
-use Rattle.ws_writable_laws.proofs.Agenda.{Kept}
+use Rattle.ws_writable_laws.proofs.Agenda.{Kept, same_or}
 use Rattle.ws_writable_laws.proofs.Runs.{is_history, step-kept, run-kept, resting, closed_whole}
 
 -- nothing is written to a stream that has ended
@@ -28,42 +31,91 @@ use Rattle.ws_writable_laws.proofs.Runs.{is_history, step-kept, run-kept, restin
 refuses : (v : Value) (w : writable.Slots) → has_ended w.state ≡ true → written_by v w ≡ []
 refuses v w e = grind arith
 
--- an effect that asks no stream to write
-abbrev IsNoWrite : Effect → Type 0
-IsNoWrite (Writable i (Write v p)) = ⊥
-IsNoWrite _ = Unit {0}
+-- an operation leaves a stream that has ended as ended as it was
+ended-operation : (i : StreamId) (operation : WritableOperation) (a : Acts) → has_ended a.slots.state ≡ true → has_ended (writable_operation i operation a).slots.state ≡ true
+unfolding set_up_writer writer_release writer_write stream_close close_with_error_propagation stream_abort abort_if_writable controller_error_if_needed hand_on start_settled write_settled close_settled abort_settled finish_in_flight_close finish_in_flight_close_with_error deal_with_rejection finish_erroring advance_queue refresh_backpressure update_backpressure reject_close_and_closed process_write process_close start_erroring controller_write controller_close
+ended-operation i operation a e = grind arith
 
--- a write stands only at the front, and there only where the stream has ended
-abbrev Blocked : StreamId → Slots → List Effect → Type 0
-Blocked i s [] = Unit {0}
-Blocked i s (e ∷ es) = (IsNoWrite e ⊎ (has_ended (writable_at i s).state ≡ true)) × Each IsNoWrite es
+pub row-ended : (i : StreamId) (e : Effect) (s : Slots) → has_ended (writable_at i s).state ≡ true → has_ended (writable_at i (row e s).slots).state ≡ true
+unfolding row
+row-ended i (Readable j operation) s ended = rw (on_readable-writable (readable_operation j operation) j s i (is_same i j) refl) ended
+row-ended i (Writable j operation) s ended =
+    same_or (λ l. has_ended (writable_at i (row (Writable l operation) s).slots).state ≡ true) i j (is_same i j) refl
+    (λ other. rw (ap as_writable (on_writable-other (writable_operation j operation) j s i other)) ended)
+    (either (λ (d : Done). has_ended (writable_at i d.slots).state ≡ true) (has_writable i s) (put_writable i s (writable_operation i operation (writable_acts i s))) (nothing s)
+    (λ t. rw (rw t at (on_writable-same (writable_operation i operation) i s t)) (ended-operation i operation (writable_acts i s) ended)) (λ t. ended))
+row-ended i e s ended = rw (row-streams e s tt) ended
 
-blocked : (i : StreamId) (s : Slots) (es : List Effect) → Each IsNoWrite es → Blocked i s es
-blocked i s es n = grind arith
+-- what a call that makes a stream begins with, and what comes of that
+abbrev IsMaking : Effect → Type 0
+IsMaking (StartAlgorithm j step start) = Unit {0}
+IsMaking (Give gift u) = Unit {0}
+IsMaking (CallHost call u) = Unit {0}
+IsMaking _ = ⊥
 
-effect_none : (i : StreamId) (e : Effect) (s : Slots) → IsNoWrite e ⊎ (has_ended (writable_at i s).state ≡ true) → (effect_writes i e s).written ≡ []
-effect_none i e s b = grind (arith, refuses, same_id)
+making-causes : (e : Effect) → IsMaking e → Causes IsMaking e
+making-causes e m = grind arith
+
+making_none : (i : StreamId) (e : Effect) (s : Slots) → IsMaking e → (effect_writes i e s).written ≡ []
+making_none i e s m = grind arith
+
+ended_none : (i : StreamId) (e : Effect) (s : Slots) → has_ended (writable_at i s).state ≡ true → (effect_writes i e s).written ≡ []
+ended_none i e s b = grind (arith, refuses, same_id)
 
 -- nothing was written yet, and nothing will be
 record Unwritten (i : StreamId) (h : Writes) (s : Slots) (es : List Effect) : Type 0 where
   pub none : h.written ≡ []
-  pub blocked : Blocked i s es
+  pub idle : Each IsMaking es ⊎ (has_ended (writable_at i s).state ≡ true)
 
 row_unwritten : (i : StreamId) (h : Writes) (s : Slots) (e : Effect) (es : List Effect) → Unwritten i h s (e ∷ es) → Unwritten i (writes_then h (effect_writes i e s)) (row e s).slots ((row e s).caused ++ es)
-row_unwritten i h s e es u = record {
-  none = rw (u.none, effect_none i e s u.blocked.0) refl;
-  blocked = blocked i (row e s).slots ((row e s).caused ++ es) (each-append IsNoWrite (row e s).caused es (row-causes IsNoWrite e s (grind arith)) u.blocked.1);
-}
+row_unwritten i h s e es u =
+    ⊎_elim
+    (λ m. record {
+      none = rw (u.none, making_none i e s m.0) refl;
+      idle = inl (each-append IsMaking (row e s).caused es (row-causes IsMaking e s (making-causes e m.0)) m.1);
+    })
+    (λ b. record { none = rw (u.none, ended_none i e s b) refl; idle = inr (row-ended i e s b) })
+    u.idle
 
-performed_none : (i : StreamId) (d : Done) → Blocked i d.slots d.caused → (along no_writes writes_then (effect_writes i) (moments d)).written ≡ []
-performed_none i d b = (performed-goes no_writes writes_then is_history (effect_writes i) (Unwritten i) (row_unwritten i) no_writes d (record { none = refl; blocked = b })).none
+performed_none : (i : StreamId) (d : Done) → Each IsMaking d.caused ⊎ (has_ended (writable_at i d.slots).state ≡ true) → (along no_writes writes_then (effect_writes i) (moments d)).written ≡ []
+performed_none i d b = (performed-goes no_writes writes_then is_history (effect_writes i) (Unwritten i) (row_unwritten i) no_writes d (record { none = refl; idle = b })).none
+
+job_ended : (i : StreamId) (s : Slots) (job : Option Job) → has_ended (writable_at i s).state ≡ true → has_ended (writable_at i (job_begun s job).slots).state ≡ true
+job_ended i s None e = e
+job_ended i s (Some job) e = e
+
+call_none : (i : StreamId) (s : Slots) (c : Call) → has_ended (writable_at i s).state ≡ true → Each IsMaking (begin c s).done.caused ⊎ (has_ended (writable_at i (begin c s).done.slots).state ≡ true)
+call_none i s c e =
+    each_call (λ (b : Begun). Each IsMaking b.done.caused ⊎ (has_ended (writable_at i b.done.slots).state ≡ true)) c s (record {
+      unchanged = λ reply. inr e;
+      rejected = inr e;
+      make_readable = λ mark size start. inl (tt, tt);
+      make_writable = λ mark size start. inl (tt, tt);
+      get_reader = λ j f. inr e;
+      get_writer = λ j f. inr e;
+      release_reader = λ l closed j f. inr e;
+      release_writer = λ l j w f g. inr e;
+      cancel = λ reason j. inr e;
+      read = λ l j closed f g. inr e;
+      write = λ l v j f. inr e;
+      close = λ j. inr e;
+      abort = λ reason j f. inr e;
+      enqueue = λ j v f can. inr e;
+      finish = λ j. inr e;
+      fail_readable = λ j reason. inr e;
+      fail_writable = λ j reason. inr e;
+      pipe = λ source dest prevent signal f g k l. inr e;
+      make_signal = inr e;
+      trigger = λ a reason. inr e;
+      settle = λ h answer p f. inr e;
+    })
 
 entry_none : (i : StreamId) (s : Slots) (x : Entry) → has_ended (writable_at i s).state ≡ true → (step_writes i s x).written ≡ []
 unfolding begin_job
-entry_none i s (Called c) e = performed_none i (begin c s).done (each_call (λ (b : Begun). Blocked i b.done.slots b.done.caused) c s (grind arith))
-entry_none i s Worked e = performed_none i (begin_job s) (grind arith)
-entry_none i s Heard e = performed_none i (nothing s) tt
-entry_none i s (Forgot p) e = performed_none i (nothing s) tt
+entry_none i s (Called c) e = performed_none i (begin c s).done (call_none i s c e)
+entry_none i s Worked e = performed_none i (begin_job s) (inr (job_ended i s (next_job s.promises) e))
+entry_none i s Heard e = performed_none i (nothing s) (inr e)
+entry_none i s (Forgot p) e = performed_none i (nothing s) (inr e)
 
 -- a stream that has ended acts on nothing: its past may be forgotten, but for its closing
 

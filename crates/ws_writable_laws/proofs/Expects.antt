@@ -5,7 +5,7 @@ use Rattle.ws_value.specs.declared.ids.StreamId.{StreamId}
 use Rattle.ws_value.specs.declared.value.Plain.{Plain}
 use Rattle.ws_value.specs.declared.value.Value.{Value}
 use Rattle.ws_steps.specs.declared.{effects.Effect.{Effect}, effects.Effect.TheVariants.{Writable}}
-use Rattle.ws_steps.specs.declared.writable.WritableOperation.TheVariants.{Write, Close, StartSettled, WriteSettled, CloseSettled, AbortSettled}
+use Rattle.ws_steps.specs.declared.writable.WritableOperation.TheVariants.{Write, StartSettled, WriteSettled, CloseSettled, AbortSettled}
 use Rattle.ws_steps.specs.Writable as writable
 use Rattle.ws_steps.specs.Writable.{has_ended, is_closing}
 use Rattle.ws_steps.specs.Slots.{Slots, writable_at}
@@ -40,6 +40,3 @@ module _ (i : StreamId) (h : Writes) (es : List Effect) (s : Slots) where
 
   pub abort_settled-expects : (p : PromiseId) (o : Result Plain Plain) → Kept i h s (Writable i (AbortSettled p o) ∷ es) → has_ended w.state ≡ true
   abort_settled-expects p o k = let f = found i (AbortSettled p o) h es s (λ u. u) k in let one = same_once i in ended_by _ w.state f.owed.aborts (omega arith)
-
-  pub close-expects : (p : PromiseId) → Kept i h s (Writable i (Close p) ∷ es) → is_closing w ≡ false
-  close-expects p k = let f = found i (Close p) h es s (λ u. u) k in let one = same_once i in grind arith

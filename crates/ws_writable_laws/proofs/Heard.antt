@@ -1,6 +1,8 @@
 -- The host hears of each performing of a write or close algorithm, in their order, and events are only added.
-use Rattle.std.proofs.Common.{◌≡◌, ℕ, ◌+◌, zero, suc, arith, length-append, List, [], ◌∷◌, ◌++◌, length, Result, if◌then◌else◌, refl, sym, ap, ◌∙◌, append_assoc, append-nil, zero-add}
+use Rattle.std.proofs.Common.{◌≡◌, ℕ, ◌+◌, zero, suc, arith, length-append, List, [], ◌∷◌, ◌++◌, length, Result, if◌then◌else◌, refl, sym, ap, ◌∙◌, append_assoc, append-nil, zero-add, Option, Some, None, slice_get}
+use Rattle.ws_value.specs.declared.ids.PipeId.{PipeId}
 use Rattle.ws_value.specs.declared.ids.PromiseId.{PromiseId}
+use Rattle.ws_value.specs.declared.ids.SignalId.{SignalId}
 use Rattle.ws_value.specs.declared.ids.StreamId.{StreamId}
 use Rattle.ws_value.specs.declared.value.Outcome.{Outcome}
 use Rattle.ws_value.specs.declared.value.Plain.{Plain}
@@ -9,15 +11,18 @@ use Rattle.ws_value.specs.declared.value.Value.{Value}
 use Rattle.ws_value.specs.declared.value.Value.TheVariants.{Plain as PlainValue}
 use Rattle.ws_steps.specs.declared.{calls.Call.{Call}, calls.Event.{Event}, calls.Event.TheVariants.{Host as HostCalled, Signal}, calls.HostCall.{HostCall}}
 use Rattle.ws_steps.specs.declared.{calls.HostCall.TheVariants.{Write as HostWrite, Close as HostClose}, effects.Effect.{Effect}}
-use Rattle.ws_steps.specs.declared.effects.Effect.TheVariants.{Readable, Writable, PullAlgorithm, CancelAlgorithm, WriteAlgorithm, CloseAlgorithm, AbortAlgorithm, ChunkSteps, CloseSteps, ErrorSteps, CallHost}
+use Rattle.ws_steps.specs.declared.effects.Effect.TheVariants.{Readable, Writable, Pipe, Signal as SignalEffect, Queue, PullAlgorithm, CancelAlgorithm, WriteAlgorithm, CloseAlgorithm, AbortAlgorithm, ChunkSteps, CloseSteps, ErrorSteps, CallHost}
 use Rattle.ws_steps.specs.declared.{effects.Gift.{Gift}, effects.Use.{Use}, promises.Job.{Job}, promises.Reaction.{Reaction}, readable.ReadableOperation.{ReadableOperation}}
 use Rattle.ws_steps.specs.declared.{writable.WritableOperation.{WritableOperation}, writable.WritableOperation.TheVariants.{HandOn}}
 use Rattle.ws_steps.specs.Effects.{Out, cause}
-use Rattle.ws_steps.specs.Operations.{readable_operation, writable_operation}
-use Rattle.ws_steps.specs.Promises.{Table, fresh, settle, answer, react, follow, unfollow, use_this, use_gift, tell, taken, after_next_job, watch, let_go}
+use Rattle.ws_steps.specs.Operations.{readable_operation, writable_operation, pipe_operation, signal_operation}
+use Rattle.ws_steps.specs.Promises.{Table, fresh, settle, answer, react, follow, unfollow, use_this, use_gift, queue_micro, tell, taken, after_next_job, watch, let_go}
+use Rattle.ws_steps.specs.declared.{pipes.PipeOperation.{PipeOperation}, pipes.SignalOperation.{SignalOperation}, promises.Micro.{Micro}, readable.ReadRequest.TheVariants.{Promise, Pipe as PipeRequest}}
+use Rattle.ws_steps.specs.Pipes as pipe
+use Rattle.ws_steps.specs.Pipes.{abort_all}
 use Rattle.ws_steps.specs.Writable as writable
 use Rattle.ws_steps.specs.Writable.{hand_on, hand_on_first}
-use Rattle.ws_steps.specs.Slots.{Slots, nothing, empty, with_promises, on_readable, on_writable, writable_at}
+use Rattle.ws_steps.specs.Slots.{Slots, Done, found, ends_at, on_pipe_at, on_signal_at, nothing, empty, with_promises, on_readable, on_writable, writable_at}
 use Rattle.ws_steps.specs.Turns.{row, call_host, moments}
 use Rattle.ws_steps.specs.Jobs.{job_effects}
 use Rattle.ws_steps.specs.Calls.{Begun, begin}
@@ -31,6 +36,8 @@ use Rattle.ws_laws.proofs.Walker as walker
 use Rattle.ws_laws.proofs.Walker.{GoesUntold, performed-goes}
 use Rattle.ws_writable_laws.proofs.Runs.{nothing-writes, is_history}
 use Rattle.ws_laws.proofs.Tables.{readable_acts, writable_acts}
+use Rattle.ws_laws.proofs.Lists.{Each}
+use Rattle.ws_laws.proofs.PipeDoes.{PipeCauses, pipe-causes, pipe-does}
 use Rattle.ws_laws.proofs.ReadableDoes.{readable-does}
 use Rattle.ws_laws.proofs.WritableDoes.{IsHandOn, others-do}
 use Rattle.ws_writable_laws.proofs.Operations.{later_effects}
@@ -185,11 +192,61 @@ module _ (i : StreamId) (ear : Ear) where
       }) operation (writable_acts j s) u (refl, refl) in
       let m = ear.none in let n = ear.quiet operation (writable_at j s) u in grind (arith, none_later, append-nil)
 
+  -- pipes and signals
+
+  micro-heard : (m : Micro) (t : Table) → heard (queue_micro m t) ≡ heard t
+  unfolding queue_micro
+  micro-heard m t = refl
+
+  pipe_effect-silent : (p : PipeId) (source dest : StreamId) (e : Effect) → PipeCauses p source dest e → of_effect e ≡ []
+  pipe_effect-silent p source dest (CallHost call u) c = absurd c
+  pipe_effect-silent p source dest _ c = refl
+
+  pipe-silent : (p : PipeId) (source dest : StreamId) (es : List Effect) → Each (PipeCauses p source dest) es → of_effects es ≡ []
+  pipe-silent p source dest [] c = refl
+  pipe-silent p source dest (e ∷ es) c = rw (pipe_effect-silent p source dest e c.0, pipe-silent p source dest es c.1) refl
+
+  pipe-hears : (p : PipeId) (operation : PipeOperation) (s : Slots) (o : Option pipe.Slots)
+      → let d : Done = on_pipe_at (λ ends. pipe_operation p ends operation) p s o in Hears (Pipe p operation) s d.slots d.caused
+  pipe-hears p operation s None = let m = ear.none in grind (arith, append-nil)
+  pipe-hears p operation s (Some x) =
+      let a : pipe.Acts = record { slots = x; out = found s } in
+      let b : pipe.Acts = pipe_operation p (ends_at x s) operation a in
+      let silent = pipe-silent p x.source x.dest b.out.effects (pipe-causes p (ends_at x s) operation a tt).1.1 in
+      let same : heard b.out.promises ≡ heard s.promises =
+      pipe-does (λ z. heard z ≡ heard s.promises)
+      (record { fresh = λ z h. fresh-heard z ∙ h; settle = λ z p o h. settle-heard p o z ∙ h; micro = λ z m h. micro-heard m z ∙ h })
+      p (ends_at x s) operation a refl in
+      record { events = same ∙ sym (append-nil (heard s.promises)); caused = silent ∙ sym ear.none; alone = none_later b.out.effects silent }
+
+  abort_all-silent : (r : Plain) (ps : List PipeId) → of_effects (abort_all r ps) ≡ []
+  abort_all-silent r [] = refl
+  abort_all-silent r (p ∷ ps) = abort_all-silent r ps
+
+  signal-silent : (operation : SignalOperation) (x : pipe.Signal) → of_effects (signal_operation operation x).effects ≡ []
+  signal-silent operation x = grind (arith, abort_all-silent)
+
+  signal-hears : (a : SignalId) (operation : SignalOperation) (s : Slots) (o : Option pipe.Signal)
+      → let d : Done = on_signal_at (signal_operation operation) a s o in Hears (SignalEffect a operation) s d.slots d.caused
+  signal-hears a operation s None = let m = ear.none in grind (arith, append-nil)
+  signal-hears a operation s (Some x) =
+      let silent = signal-silent operation x in
+      record { events = sym (append-nil (heard s.promises)); caused = silent ∙ sym ear.none; alone = none_later (signal_operation operation x).effects silent }
+
   row-hears : (e : Effect) (s : Slots) → Hears e s (row e s).slots (row e s).caused
   unfolding row hand_on
   row-hears (Readable j operation) s = readable-hears j operation s
   row-hears (Writable j HandOn) s = let m = ear.none in grind (arith, ear.acts, append-nil)
   row-hears (Writable j operation) s = others-hear j operation s (λ u. u)
+  row-hears (Pipe p operation) s = pipe-hears p operation s (slice_get s.pipes p.0)
+  row-hears (SignalEffect a operation) s = signal-hears a operation s (slice_get s.signals a.0)
+  row-hears (ChunkSteps j (Promise p) v) s = let m = ear.none in grind (arith, append-nil, answer-heard)
+  row-hears (ChunkSteps j (PipeRequest p) v) s = let m = ear.none in grind (arith, append-nil)
+  row-hears (CloseSteps j (Promise p)) s = let m = ear.none in grind (arith, append-nil, answer-heard)
+  row-hears (CloseSteps j (PipeRequest p)) s = let m = ear.none in grind (arith, append-nil)
+  row-hears (ErrorSteps j (Promise p) e) s = let m = ear.none in grind (arith, append-nil, settle-heard)
+  row-hears (ErrorSteps j (PipeRequest p) e) s = let m = ear.none in grind (arith, append-nil)
+  row-hears (Queue m) s = let n = ear.none in grind (arith, append-nil, micro-heard)
   row-hears (CloseAlgorithm j) s = let n = ear.closes in let m = ear.none in grind (arith, append-nil)
   row-hears (CallHost call u) s = let m = ear.none in grind (arith, host-heard)
   row-hears e s = let m = ear.none in grind (arith, append-nil, fresh-heard, answer-heard, settle-heard, gift-heard)

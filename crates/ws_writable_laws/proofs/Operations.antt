@@ -1,5 +1,5 @@
 -- What each operation of a writable stream keeps, where it ends well or fails.
-use Rattle.std.proofs.Common.{◌≡◌, ℕ, zero, suc, ◌+◌, ◌≤◌, Bool, true, false, not, ◌&&◌, is_some, is_none, if◌then◌else◌, List, [], ◌∷◌, ◌++◌, Option, Some, None, Err, refl, sym, subst, ◌∙◌, arith, append_assoc, append-nil, length-append, Ok, ap}
+use Rattle.std.proofs.Common.{◌≡◌, ℕ, zero, suc, ◌+◌, ◌≤◌, Bool, true, false, not, ◌&&◌, ◌||◌, is_some, is_none, if◌then◌else◌, List, [], ◌∷◌, ◌++◌, Option, Some, None, Err, refl, sym, subst, ◌∙◌, arith, append_assoc, append-nil, length-append, Ok, ap}
 use Rattle.ws_value.specs.declared.ids.PromiseId.{PromiseId}
 use Rattle.ws_value.specs.declared.ids.StreamId.{StreamId}
 use Rattle.ws_value.specs.declared.value.Plain.{Plain}
@@ -10,35 +10,34 @@ use Rattle.ws_steps.specs.declared.{writable.WritableState.TheVariants.{Writable
 use Rattle.ws_steps.specs.declared.{writable.WriteRecord.TheVariants.{Chunk, InFlight, CloseMark}, writable.Writer.{Writer}}
 use Rattle.ws_steps.specs.Promises.{settle}
 use Rattle.ws_steps.specs.Queues.{first_value, with_first_value, rest_of, enqueued, size_of}
-use Rattle.ws_steps.specs.Writable.{Slots, Acts, with_promises, is_writable, is_erroring, is_in_flight, reject_close_and_closed, abort_by, finish_abort, fail_writes, finish_erroring, reject_ready, start_erroring, deal_with_rejection, controller_error_if_needed, first_request, later_requests, process_write, process_close, process_first, advance_queue, has_ended, update_backpressure, refresh_backpressure, write_ended, without_first, write_settled, close_ended, abort_ended, clear_error, fulfil_closed, finish_in_flight_close, finish_in_flight_close_with_error, close_settled, start_settled, abort_settled, is_closing, enqueue_chunk, controller_write, add_write_request, write_refusal, write_by, writer_write, controller_close, add_close_request, fulfil_ready, stream_close, add_pending_abort, begin_abort, signalled, stream_abort, set_up_writer, release_by, writer_release}
+use Rattle.ws_steps.specs.Writable.{Slots, Acts, with_promises, is_writable, is_erroring, is_errored, is_closed, is_in_flight, reject_close_and_closed, abort_by, finish_abort, fail_writes, finish_erroring, reject_ready, start_erroring, deal_with_rejection, controller_error_if_needed, first_request, later_requests, process_write, process_close, process_first, advance_queue, has_ended, update_backpressure, refresh_backpressure, write_ended, without_first, write_settled, close_ended, abort_ended, clear_error, fulfil_closed, finish_in_flight_close, finish_in_flight_close_with_error, close_settled, start_settled, abort_settled, is_closing, enqueue_chunk, controller_write, add_write_request, write_refusal, write_by, writer_write, controller_close, add_close_request, fulfil_ready, stream_close, close_with_error_propagation, add_pending_abort, begin_abort, signalled, stream_abort, abort_if_writable, set_up_writer, release_by, writer_release}
 use Rattle.ws_steps.specs.WritableHistory.{Writes, todo, first_chunk, fulfilled_by, no_writes, writes_then, written_by, written_unless, operation_writes}
 use Rattle.ws_steps.specs.declared.{effects.Effect.TheVariants.{Writable as OnWritable}, effects.Owner.{Owner}, effects.Owner.TheVariants.{Host}}
 use Rattle.ws_steps.specs.declared.writable.WritableOperation.{WritableOperation}
-use Rattle.ws_steps.specs.declared.writable.WritableOperation.TheVariants.{SetUpWriter, ReleaseWriter, Write, Close, Abort, ErrorIfNeeded, HandOn, StartSettled, WriteSettled, CloseSettled, AbortSettled}
+use Rattle.ws_steps.specs.declared.writable.WritableOperation.TheVariants.{SetUpWriter, ReleaseWriter, Write, Close, ClosePropagating, Abort, AbortIfWritable, ErrorIfNeeded, HandOn, StartSettled, WriteSettled, CloseSettled, AbortSettled}
 use Rattle.ws_steps.specs.Effects.{type_error}
 use Rattle.ws_steps.specs.Operations.{writable_operation}
 use Rattle.ws_steps.specs.Histories.{is_same}
 use Rattle.ws_laws.proofs.Tables.{either, is_same-refl}
 use Rattle.ws_laws.proofs.Truth.{and_left, and_right, refuted, nor_left, nor_right}
 use Rattle.ws_laws.proofs.WritableDoes.{IsHandOn}
-use Rattle.ws_writable_laws.proofs.Shape.{one_if, Core, core_of, Shape, Closing, Told, failed, has_mark, todo-append, leads-append, no_mark-append, last-append, is_start, is_write, is_close, is_abort, leads_to, hands, closes, asks, all}
+use Rattle.ws_writable_laws.proofs.Shape.{one_if, Core, core_of, Shape, Closing, Told, failed, has_mark, todo-append, leads-append, no_mark-append, last-append, is_start, is_write, is_close, is_abort, leads_to, hands, closes, all}
 
--- how much is under way of a stream: of its start, its writes, its close and its abort, and how often it is asked to close
+-- how much is under way of a stream: of its start, its writes, its close and its abort
 pub record Due : Type 0 where
   pub starts : ℕ
   pub writes : ℕ
   pub closes : ℕ
   pub aborts : ℕ
-  pub asks : ℕ
 
 -- a start goes on once, and then the controller has started; a write or a close goes on only where one is in flight, an abort only where
--- the stream has ended; and only a stream that isn't closing is asked to close, once
+-- the stream has ended; and it closes once
 pub record Owed (n : Due) (c : Core) : Type 0 where
   pub starts : n.starts + one_if c.started ≤ 1
   pub writes : n.writes ≤ one_if c.writing
   pub closes : n.closes ≤ one_if c.closing
   pub aborts : has_ended c.state ≡ false → n.aborts ≡ 0
-  pub asks : n.asks + (one_if c.requested + one_if c.closing) ≤ 1
+  pub once : one_if c.requested + one_if c.closing ≤ 1
 
 -- what holds of a stream between its operations
 pub record Fine (n : Due) (h : Writes) (dropped : List Value) (c : Core) : Type 0 where
@@ -54,7 +53,6 @@ with_effects i n es = record {
   writes = n.writes + all (leads_to (is_write i)) es;
   closes = n.closes + all (leads_to (is_close i)) es;
   aborts = n.aborts + all (leads_to (is_abort i)) es;
-  asks = n.asks + all (asks i) es;
 }
 
 -- the queue once its first chunk is handed on
@@ -99,7 +97,6 @@ pub record Less (m n : Due) : Type 0 where
   pub writes : m.writes ≤ n.writes
   pub closes : m.closes ≤ n.closes
   pub aborts : m.aborts ≤ n.aborts
-  pub asks : m.asks ≤ n.asks
 
 pub fine-less : (m n : Due) (h : Writes) (d : List Value) (c : Core) → Less m n → Fine n h d c → Fine m h d c
 fine-less m n h d c l f = grind arith
@@ -204,12 +201,12 @@ fails-held i n h d e a q l f =
 -- the queue advances
 
 process-fine : (n : Due) (h : Writes) (d : List Value) (c : Core) (v : Value) → first_value c.queue ≡ Some (Chunk v) → c.writing ≡ false → c.started ≡ true → Fine n h d c
-    → Fine (record n { starts = n.starts + 0; writes = n.writes + 1; closes = n.closes + 0; aborts = n.aborts + 0; asks = n.asks + 0 }) (record h { acted = h.acted ++ first_chunk c.queue }) d
+    → Fine (record n { starts = n.starts + 0; writes = n.writes + 1; closes = n.closes + 0; aborts = n.aborts + 0 }) (record h { acted = h.acted ++ first_chunk c.queue }) d
     (record c { queue = handed_queue c.queue; requests = later_requests c.requests; flying = first_request c.requests; writing = is_some (first_request c.requests) })
 process-fine n h d c v e w b f = grind (arith, append_assoc, length-append)
 
 close-fine : (n : Due) (h : Writes) (d : List Value) (c : Core) → first_value c.queue ≡ Some CloseMark → c.writing ≡ false → c.started ≡ true → Fine n h d c
-    → Fine (record n { starts = n.starts + 0; writes = n.writes + 0; closes = n.closes + 1; aborts = n.aborts + 0; asks = n.asks + 0 }) (record h { closes = h.closes + 1 }) d (record c { queue = rest_of c.queue; requested = false; closing = c.requested })
+    → Fine (record n { starts = n.starts + 0; writes = n.writes + 0; closes = n.closes + 1; aborts = n.aborts + 0 }) (record h { closes = h.closes + 1 }) d (record c { queue = rest_of c.queue; requested = false; closing = c.requested })
 close-fine n h d c e w b f = grind (arith, append-nil)
 
 process_first-held : (i : StreamId) (n : Due) (h : Writes) (d : List Value) (a : Acts) (first : Option WriteRecord) → first_value a.slots.queue ≡ first → is_some a.slots.write_in_flight ≡ false → a.slots.started ≡ true → a.out.effects ≡ []
@@ -286,9 +283,9 @@ write_by-held i v p n h d a None r q f =
 abbrev mark_behind : Acts → Acts
 mark_behind a = record a { slots = record a.slots { queue = enqueued CloseMark 0 a.slots.queue } }
 
-marked-fine : (n : Due) (h : Writes) (d : List Value) (q : Queued WriteRecord) (c : Core) → q.value ≡ CloseMark → has_ended c.state ≡ false → Fine (record n { asks = n.asks + 1 }) h d c → Fine n h d (record c { queue = c.queue ++ q ∷ []; requested = true })
-marked-fine n h d q c x alive f =
-    let r : c.requested ≡ false = grind arith in
+marked-fine : (n : Due) (h : Writes) (d : List Value) (q : Queued WriteRecord) (c : Core) → q.value ≡ CloseMark → has_ended c.state ≡ false → c.requested ≡ false → c.closing ≡ false → Fine n h d c
+    → Fine n h d (record c { queue = c.queue ++ q ∷ []; requested = true })
+marked-fine n h d q c x alive r o f =
     let u = refuted (has_mark c.queue) c.requested (f.shape.marked alive) r in
     let a = todo-append c.queue (q ∷ []) in
     let b = no_mark-append c.queue q u in
@@ -299,16 +296,29 @@ marked-fine n h d q c x alive f =
 pub fulfil_ready-same : (a : Acts) (w : Option Writer) → Same a (fulfil_ready a w)
 fulfil_ready-same a w = grind arith
 
-close-held : (i : StreamId) (p : PromiseId) (n : Due) (h : Writes) (d : List Value) (a : Acts) → a.out.effects ≡ [] → Fine (record n { asks = n.asks + 1 }) h d (core_of a.slots) → Held i n h (stream_close i p a).out.effects (stream_close i p a).slots
+close-held : (i : StreamId) (p : PromiseId) (n : Due) (h : Writes) (d : List Value) (a : Acts) → a.out.effects ≡ [] → Fine n h d (core_of a.slots) → Held i n h (stream_close i p a).out.effects (stream_close i p a).slots
 unfolding stream_close controller_close
 close-held i p n h d a q f =
     let b : Acts = add_close_request p a in
     let c : Acts = fulfil_ready b b.slots.writer in
     let same = fulfil_ready-same b b.slots.writer in
     let marked : Same (mark_behind b) (mark_behind c) = record { core = ap (λ (x : Core). record x { queue = enqueued CloseMark 0 x.queue }) same.core; effects = same.effects } in
-    either (λ (z : Acts). Held i n h z.out.effects z.slots) (has_ended a.slots.state) (with_promises (settle p (Err type_error) a.out.promises) a) (advance_queue i (mark_behind c))
-    (λ g. quiet-held i n h d a.out.effects a.slots q (grind arith))
-    (λ g. advance-held i n h d (mark_behind c) (same.effects ∙ q) (same_fine n h d (mark_behind b) (mark_behind c) marked (marked-fine n h d (record { value = CloseMark; size = 0 }) (core_of a.slots) refl g f)))
+    either (λ (z : Acts). Held i n h z.out.effects z.slots) (has_ended a.slots.state || is_closing a.slots) (with_promises (settle p (Err type_error) a.out.promises) a) (advance_queue i (mark_behind c))
+    (λ g. quiet-held i n h d a.out.effects a.slots q f)
+    (λ g.
+    let alive = nor_left (has_ended a.slots.state) (is_closing a.slots) g in
+    let open_ = nor_right (has_ended a.slots.state) (is_closing a.slots) g in
+    let r = nor_left (is_some a.slots.close_request) (is_some a.slots.close_in_flight) open_ in
+    let o = nor_right (is_some a.slots.close_request) (is_some a.slots.close_in_flight) open_ in
+    advance-held i n h d (mark_behind c) (same.effects ∙ q)
+    (same_fine n h d (mark_behind b) (mark_behind c) marked (marked-fine n h d (record { value = CloseMark; size = 0 }) (core_of a.slots) refl alive r o f)))
+
+propagating-held : (i : StreamId) (p : PromiseId) (n : Due) (h : Writes) (d : List Value) (a : Acts) → a.out.effects ≡ [] → Fine n h d (core_of a.slots)
+    → Held i n h (close_with_error_propagation i p a).out.effects (close_with_error_propagation i p a).slots
+unfolding close_with_error_propagation
+propagating-held i p n h d a q f =
+    either (λ (z : Acts). Held i n h z.out.effects z.slots) (is_closing a.slots || is_closed a.slots.state) _ _ (λ g. quiet-held i n h d a.out.effects a.slots q f)
+    (λ g. either (λ (z : Acts). Held i n h z.out.effects z.slots) (is_errored a.slots.state) _ _ (λ e. quiet-held i n h d a.out.effects a.slots q f) (λ e. close-held i p n h d a q f))
 
 -- an abort
 
@@ -331,6 +341,12 @@ abort-held i r p n h d a q f =
     either (λ (z : Acts). Held i n h z.out.effects z.slots) (has_ended a.slots.state) (with_promises (settle p (Ok Undefined) a.out.promises) a) (begin_abort i r p b)
     (λ e. quiet-held i n h d a.out.effects a.slots q f)
     (λ e. begin_abort-held i r p n h d b (ap (λ (c : Core). has_ended c.state) same.core ∙ e) (same.effects ∙ q) (same_fine n h d a b same f))
+
+abort_writable-held : (i : StreamId) (r : Plain) (p : PromiseId) (n : Due) (h : Writes) (d : List Value) (a : Acts) → a.out.effects ≡ [] → Fine n h d (core_of a.slots)
+    → Held i n h (abort_if_writable i r p a).out.effects (abort_if_writable i r p a).slots
+unfolding abort_if_writable
+abort_writable-held i r p n h d a q f =
+    either (λ (z : Acts). Held i n h z.out.effects z.slots) (is_writable a.slots.state) _ _ (λ g. abort-held i r p n h d a q f) (λ g. quiet-held i n h d a.out.effects a.slots q f)
 
 -- writers
 
@@ -365,8 +381,10 @@ operation-held i (SetUpWriter w) n h d a u q f = rw (writes-nothing h) (quiet-he
 operation-held i ReleaseWriter n h d a u q f =
     let same = release-same a a.slots.writer in rw (writes-nothing h) (quiet-held i n h d (writer_release a).out.effects (writer_release a).slots (same.effects ∙ q) (same_fine n h d a (writer_release a) same (grind arith)))
 operation-held i (Write v p) n h d a u q f = rw (writes-written h (written_by v a.slots)) (write_by-held i v p n h d a (write_refusal a.slots) refl q (grind arith))
-operation-held i (Close p) n h d a u q f = let one = same_once i in rw (writes-nothing h) (close-held i p n h d a q (grind arith))
+operation-held i (Close p) n h d a u q f = rw (writes-nothing h) (close-held i p n h d a q (grind arith))
+operation-held i (ClosePropagating p) n h d a u q f = rw (writes-nothing h) (propagating-held i p n h d a q (grind arith))
 operation-held i (Abort r p) n h d a u q f = rw (writes-nothing h) (abort-held i r p n h d a q (grind arith))
+operation-held i (AbortIfWritable r p) n h d a u q f = rw (writes-nothing h) (abort_writable-held i r p n h d a q (grind arith))
 operation-held i (ErrorIfNeeded e) n h d a u q f = rw (writes-nothing h) (error_if_needed-held i n h d e a q (grind arith))
 operation-held i HandOn n h d a u q f = absurd (u tt)
 operation-held i (StartSettled (Ok v)) n h d a u q f = let one = same_once i in rw (writes-nothing h) (advance-held i n h d (record a { slots = record a.slots { started = true } }) q (grind arith))

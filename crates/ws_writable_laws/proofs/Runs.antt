@@ -1,12 +1,16 @@
 -- The order of a writable stream over every run.
-use Rattle.std.proofs.Common.{◌≡◌, ◌≢◌, ℕ, ◌+◌, ◌≤◌, Bool, true, false, nat_eq, List, [], ◌∷◌, ◌++◌, length, Some, None, slice_get, refl, sym, ap, subst, ◌∙◌, arith, append_assoc, append-nil}
+use Rattle.std.proofs.Common.{◌≡◌, ◌≢◌, ℕ, ◌+◌, ◌≤◌, Bool, true, false, nat_eq, List, [], ◌∷◌, ◌++◌, length, Option, Some, None, slice_get, refl, sym, ap, subst, ◌∙◌, arith, append_assoc, append-nil}
+use Rattle.ws_value.specs.declared.ids.PipeId.{PipeId}
 use Rattle.ws_value.specs.declared.ids.PromiseId.{PromiseId}
+use Rattle.ws_value.specs.declared.ids.SignalId.{SignalId}
 use Rattle.ws_value.specs.declared.ids.StreamId.{StreamId}
+use Rattle.ws_value.specs.declared.value.Plain.{Plain}
 use Rattle.ws_value.specs.declared.value.Value.{Value}
+use Rattle.ws_steps.specs.declared.pipes.Prevent.{Prevent}
 use Rattle.ws_steps.specs.declared.{calls.Call.{Call}, calls.StartBy.{StartBy}, effects.Effect.{Effect}, effects.Effect.TheVariants.{Writable, StartAlgorithm}}
 use Rattle.ws_steps.specs.declared.{effects.Owner.TheVariants.{Host}, promises.Job.{Job}, promises.Step.{Step}, promises.Step.TheVariants.{WritableStart}, readable.SizeBy.{SizeBy}}
-use Rattle.ws_steps.specs.declared.writable.WritableOperation.TheVariants.{ReleaseWriter, Close}
-use Rattle.ws_steps.specs.Promises.{Table, next_id, fresh, next_job, after_next_job, watch, is_pending_at}
+use Rattle.ws_steps.specs.declared.writable.WritableOperation.TheVariants.{ReleaseWriter}
+use Rattle.ws_steps.specs.Promises.{Table, fresh, next_job, after_next_job, watch, is_pending_at}
 use Rattle.ws_steps.specs.Readable as readable
 use Rattle.ws_steps.specs.Writable as writable
 use Rattle.ws_steps.specs.Writable.{is_closing, is_closed}
@@ -24,7 +28,7 @@ use Rattle.ws_laws.proofs.EachCall.{each_call}
 use Rattle.ws_laws.proofs.Walker as walker
 use Rattle.ws_laws.proofs.Walker.{IsHistory, GoesUntold, RestsUntold}
 use Rattle.ws_laws.proofs.Weights.{weigh, taken_off, weigh-fresh, weigh-next, weigh-watch, weigh-let_go}
-use Rattle.ws_writable_laws.proofs.Shape.{Core, core_of, Shape, Told, is_start, is_write, is_close, is_abort, leads_to, hands, closes, asks, all, mass, of_reaction, weight}
+use Rattle.ws_writable_laws.proofs.Shape.{Core, core_of, Shape, Told, is_start, is_write, is_close, is_abort, leads_to, hands, closes, all, mass, of_reaction, weight}
 use Rattle.ws_writable_laws.proofs.Operations.{Fine, with_effects, so_far, so_far-nothing, writes-nothing}
 use Rattle.ws_writable_laws.proofs.Agenda.{none_behind, among, Unmade, Kept, kept-lighter, massless, Lightens, lightly, same_weight, lightens-fresh, row-kept}
 
@@ -85,19 +89,20 @@ renewed-lightens t kept f = grind (arith, weigh-fresh)
 renewed-clear : (i : StreamId) (t : Table) (kept : Bool) (es : List Effect) → all (mass i) es ≡ 0 → all (mass i) (calls.reject_renewed t kept ++ es) ≡ 0
 renewed-clear i t kept es z = grind arith
 
--- a stream that isn't closing is asked to close
-asked-kept : (i j : StreamId) (p : PromiseId) (h : Writes) (s : Slots) (same : Bool) → same ≡ is_same i j → is_closing (writable_at j s) ≡ false → Kept i h s [] → Kept i h (with_promises (fresh s.promises) s) (Writable j (Close p) ∷ [])
-asked-kept i j p h s false e n k = still-kept i h s (with_promises (fresh s.promises) s) (Writable j (Close p) ∷ []) refl (lightens-fresh s.promises) (rw (← e) refl) k
-asked-kept i j p h s true e n k =
-    let is : j ≡ i = sym (same_id i j (sym e)) in
-    let open_ : is_closing (writable_at i s) ≡ false = subst (λ (l : StreamId). is_closing (writable_at l s) ≡ false) is n in
-    let z : Slots = with_promises (fresh s.promises) s in
-    let one = is_same-refl i in
-    let f = k.held.fine in
-    subst (λ (l : StreamId). Kept i h z (Writable l (Close p) ∷ [])) (sym is) (record {
-      unmade = λ e. let u = k.unmade e in grind (arith, weigh-fresh);
-      held = record { behind = refl; dropped = k.held.dropped; fine = record { shape = f.shape; closing = f.closing; told = f.told; owed = grind (arith, weigh-fresh) } };
-    })
+-- a pipe makes four promises, and begins with nothing that is under way
+
+fresh_four : (t : Table) → Lightens t (fresh (fresh (fresh (fresh t))))
+fresh_four t f =
+    let a = weigh-fresh (of_reaction f) t in
+    let b = weigh-fresh (of_reaction f) (fresh t) in
+    let c = weigh-fresh (of_reaction f) (fresh (fresh t)) in
+    let d = weigh-fresh (of_reaction f) (fresh (fresh (fresh t))) in omega (arith, a, b, c, d)
+
+begins-mass : (i : StreamId) (me : PipeId) (p q : PromiseId) (signal : Option SignalId) (reason : Option Plain) → all (mass i) (calls.pipe_begins me p q signal reason) ≡ 0
+begins-mass i me p q signal reason = grind arith
+
+pipe_to-mass : (i source dest : StreamId) (prevent : Prevent) (signal : Option SignalId) (s : Slots) → all (mass i) (calls.pipe_to source dest prevent signal s).done.caused ≡ 0
+pipe_to-mass i source dest prevent signal s = grind (arith, begins-mass)
 
 pub call-kept : (i : StreamId) (h : Writes) (s : Slots) (c : Call) → Kept i h s [] → Kept i h (begin c s).done.slots (begin c s).done.caused
 call-kept i h s c k =
@@ -118,12 +123,16 @@ call-kept i h s c k =
       cancel = λ reason j. still-kept i h s _ _ refl (lightens-fresh s.promises) refl k;
       read = λ l j closed e f. still-kept i h s _ _ refl (lightens-fresh s.promises) refl k;
       write = λ l v j e. still-kept i h s _ _ refl (lightens-fresh s.promises) refl k;
-      close = λ j n. asked-kept i j (next_id s.promises) h s (is_same i j) refl n k;
+      close = λ j. still-kept i h s _ _ refl (lightens-fresh s.promises) refl k;
       abort = λ reason j e. still-kept i h s _ _ refl (lightens-fresh s.promises) refl k;
       enqueue = λ j v e can. still-kept i h s s _ refl (same_weight s.promises) refl k;
       finish = λ j. still-kept i h s s _ refl (same_weight s.promises) refl k;
       fail_readable = λ j reason. still-kept i h s s _ refl (same_weight s.promises) refl k;
       fail_writable = λ j reason. still-kept i h s s _ refl (same_weight s.promises) refl k;
+      pipe = λ source dest prevent signal e f l m.
+          still-kept i h s _ _ refl (fresh_four s.promises) (pipe_to-mass i source dest prevent signal s) k;
+      make_signal = still-kept i h s _ _ refl (same_weight s.promises) refl k;
+      trigger = λ a reason. still-kept i h s s _ refl (same_weight s.promises) refl k;
       settle = λ a answer p e. still-kept i h s _ _ refl (same_weight s.promises) refl k;
     })
 
@@ -134,10 +143,9 @@ record Begins (i : StreamId) (job : Job) : Type 0 where
   pub leads : (f : Step → ℕ) → all (leads_to f) (job_effects job) ≤ taken_off (of_reaction f) job
   pub hands : all (hands i) (job_effects job) ≡ 0
   pub closes : all (closes i) (job_effects job) ≡ 0
-  pub asks : all (asks i) (job_effects job) ≡ 0
 
 job-begins : (i : StreamId) (job : Job) → Begins i job
-job-begins i job = record { leads = λ f. grind arith; hands = grind arith; closes = grind arith; asks = grind arith }
+job-begins i job = record { leads = λ f. grind arith; hands = grind arith; closes = grind arith }
 
 pub job-kept : (i : StreamId) (h : Writes) (s : Slots) (job : Job) → next_job s.promises ≡ Some job → Kept i h s [] → Kept i h (with_promises (after_next_job s.promises) s) (job_effects job)
 job-kept i h s job e k =

@@ -13,7 +13,7 @@ use Rattle.ws_steps.specs.declared.{effects.Effect.{Effect}, effects.Effect.TheV
 use Rattle.ws_steps.specs.declared.{effects.Use.{Use}, effects.Use.TheVariants.{React, Resolve}, promises.Reaction.{Reaction}, promises.Reaction.TheVariants.{Perform, Adopt}}
 use Rattle.ws_steps.specs.declared.{promises.Step.{Step}, promises.Step.TheVariants.{WritableStart, WritableWrite, WritableClose, WritableAbort}}
 use Rattle.ws_steps.specs.declared.writable.WritableOperation.{WritableOperation}
-use Rattle.ws_steps.specs.declared.writable.WritableOperation.TheVariants.{Close, HandOn, StartSettled, WriteSettled, CloseSettled, AbortSettled}
+use Rattle.ws_steps.specs.declared.writable.WritableOperation.TheVariants.{HandOn, StartSettled, WriteSettled, CloseSettled, AbortSettled}
 use Rattle.ws_steps.specs.Histories.{is_same}
 use Rattle.ws_steps.specs.Promises.{Table}
 use Rattle.ws_laws.proofs.Weights.{weigh}
@@ -164,7 +164,7 @@ leads_to f (Give gift u) = of_use f u
 leads_to f (CallHost call u) = of_use f u
 leads_to f _ = 0
 
--- an effect that hands a chunk of stream i on, one that performs its close algorithm, and one that asks to close it
+-- an effect that hands a chunk of stream i on, and one that performs its close algorithm
 
 abbrev pub hands : StreamId → Effect → ℕ
 hands i (Writable j HandOn) = one_if (is_same i j)
@@ -174,10 +174,6 @@ hands i _ = 0
 abbrev pub closes : StreamId → Effect → ℕ
 closes i (CloseAlgorithm j) = one_if (is_same i j)
 closes i _ = 0
-
-abbrev pub asks : StreamId → Effect → ℕ
-asks i (Writable j (Close p)) = one_if (is_same i j)
-asks i _ = 0
 
 -- so much of each effect
 abbrev pub all : (Effect → ℕ) → List Effect → ℕ
@@ -190,7 +186,7 @@ all-append f (x ∷ xs) ys = let n = all-append f xs ys in omega arith
 
 -- all that an effect weighs for stream i
 abbrev pub mass : StreamId → Effect → ℕ
-mass i e = leads_to (is_start i) e + (leads_to (is_write i) e + (leads_to (is_close i) e + (leads_to (is_abort i) e + (hands i e + (closes i e + asks i e)))))
+mass i e = leads_to (is_start i) e + (leads_to (is_write i) e + (leads_to (is_close i) e + (leads_to (is_abort i) e + (hands i e + closes i e))))
 
 -- the steps of the reactions and jobs among the promises, weighed
 

@@ -8,15 +8,15 @@ use Rattle.ws_value.specs.declared.value.Plain.TheVariants.{Undefined}
 use Rattle.ws_value.specs.declared.value.Value.{Value}
 use Rattle.ws_steps.specs.declared.{queue.Queued.{Queued}, writable.PendingAbort.{PendingAbort}, writable.WritableOperation.{WritableOperation}}
 use Rattle.ws_steps.specs.declared.writable.WritableOperation.TheVariants as names
-use Rattle.ws_steps.specs.declared.{writable.WritableState.{WritableState}, writable.WritableState.TheVariants.{Writable, Erroring, Errored, Closed}, writable.WriteRecord.{WriteRecord}}
-use Rattle.ws_steps.specs.Effects.{Out}
+use Rattle.ws_steps.specs.declared.{writable.WritableState.{WritableState}, writable.WritableState.TheVariants.{Writable, Erroring, Errored, Closed}, writable.WriteRecord.{WriteRecord}, writable.WriteRecord.TheVariants.{CloseMark}}
+use Rattle.ws_steps.specs.Effects.{Out, type_error}
 use Rattle.ws_steps.specs.Promises.{Table, outcome_at, settle}
 use Rattle.ws_steps.specs.Operations.{writable_operation}
-use Rattle.ws_steps.specs.Queues.{first_value}
-use Rattle.ws_steps.specs.Writable.{Acts, with_promises, is_writable, is_erroring, is_in_flight, has_ended, reject_close_and_closed, finish_abort, fail_writes, finish_erroring, reject_ready, start_erroring, deal_with_rejection, controller_error_if_needed, first_request, later_requests, process_write, process_close, process_first, advance_queue, hand_on_first, hand_on, settle_request, write_ended, without_first, refresh_backpressure, write_settled, close_ended, abort_ended, clear_error, finish_in_flight_close, finish_in_flight_close_with_error, close_settled, start_settled, abort_settled, enqueue_chunk, controller_write, add_write_request, write_refusal, write_by, writer_write, controller_close, add_close_request, stream_close, add_pending_abort, begin_abort, signalled, stream_abort, set_up_writer, writer_release}
+use Rattle.ws_steps.specs.Queues.{first_value, enqueued}
+use Rattle.ws_steps.specs.Writable.{Acts, with_promises, is_writable, is_erroring, is_in_flight, has_ended, reject_close_and_closed, finish_abort, fail_writes, finish_erroring, reject_ready, start_erroring, deal_with_rejection, controller_error_if_needed, first_request, later_requests, process_write, process_close, process_first, advance_queue, hand_on_first, hand_on, settle_request, write_ended, without_first, refresh_backpressure, write_settled, close_ended, abort_ended, clear_error, finish_in_flight_close, finish_in_flight_close_with_error, close_settled, start_settled, abort_settled, enqueue_chunk, controller_write, add_write_request, write_refusal, write_by, writer_write, controller_close, add_close_request, fulfil_ready, stream_close, close_with_error_propagation, add_pending_abort, begin_abort, signalled, stream_abort, abort_if_writable, is_closing, is_closed, is_errored, set_up_writer, writer_release}
 use Rattle.ws_laws.proofs.Outcomes.{Keeps, keeps-same, keeps-then, keeps-fresh, keeps-settle, keeps-tell}
 use Rattle.ws_laws.proofs.Tables.{either}
-use Rattle.ws_laws.proofs.Truth.{false_true, and_right}
+use Rattle.ws_laws.proofs.Truth.{false_true, and_right, nor_left}
 use Rattle.ws_laws.proofs.WritableDoes.{OfAlgorithms, finish_abort-does, refresh-does, advance-does, rejection-does}
 use Rattle.ws_writable_laws.proofs.Shape.{Core, core_of}
 use Rattle.ws_writable_laws.proofs.Operations.{Same, Alone, reject_ready-same, is_writable-true, none_some, refresh-same, clear_error-same, fulfil_closed-same, not_refused, fulfil_ready-same, signalled-same, release-same}
@@ -266,8 +266,24 @@ close-lines : (i : StreamId) (had : Bool) (ps : List PromiseId) (p : PromiseId) 
 unfolding stream_close controller_close
 close-lines i had ps p a r =
     let b : Acts = add_close_request p a in
-    let same = fulfil_ready-same b b.slots.writer in
-    grind (arith, advance-lines, rests)
+    let c : Acts = fulfil_ready b b.slots.writer in
+    let z : Acts = record c { slots = record c.slots { queue = enqueued CloseMark 0 c.slots.queue } } in
+    let refused : Acts = with_promises (settle p (Err type_error) a.out.promises) a in
+    either (Lines had ps) (has_ended a.slots.state || is_closing a.slots) refused (advance_queue i z)
+    (λ e. rests had ps refused r)
+    (λ e.
+    let alive : had ≡ false = sym r.same ∙ nor_left (has_ended a.slots.state) (is_closing a.slots) e in
+    let ready : Ready had ps (core_of c.slots) = ready-same had ps b c (fulfil_ready-same b b.slots.writer) (record { same = r.same; line = r.line; spent = r.spent }) in
+    advance-lines i had ps z (λ h. false_true had h alive) (record { same = ready.same; line = ready.line; spent = ready.spent }))
+
+propagating-lines : (i : StreamId) (had : Bool) (ps : List PromiseId) (p : PromiseId) (a : Acts) → Ready had ps (core_of a.slots) → Lines had ps (close_with_error_propagation i p a)
+unfolding close_with_error_propagation
+propagating-lines i had ps p a r =
+    let closed : Acts = with_promises (settle p (Ok Undefined) a.out.promises) a in
+    let errored : Acts = with_promises (settle p (Err a.slots.stored_error) a.out.promises) a in
+    either (Lines had ps) (is_closing a.slots || is_closed a.slots.state) closed (if is_errored a.slots.state then errored else stream_close i p a)
+    (λ e. rests had ps closed r)
+    (λ e. either (Lines had ps) (is_errored a.slots.state) errored (stream_close i p a) (λ h. rests had ps errored r) (λ h. close-lines i had ps p a r))
 
 alive_writable : (s : WritableState) → has_ended s ≡ false → is_erroring s ≡ false → s ≡ Writable
 alive_writable Writable e f = refl
@@ -289,6 +305,12 @@ abort-lines i had ps r p a f =
     (λ e. let s = alive_writable b.slots.state (ap (λ (x : Core). has_ended x.state) same.core ∙ alive) e in
     from_alive had ps (start_erroring i r c) (sym f.same ∙ alive) (start_erroring-lines i ps r c (writable_ready had ps (core_of c.slots) s ready))))
 
+abort_if_writable-lines : (i : StreamId) (had : Bool) (ps : List PromiseId) (r : Plain) (p : PromiseId) (a : Acts) → Ready had ps (core_of a.slots) → Lines had ps (abort_if_writable i r p a)
+unfolding abort_if_writable
+abort_if_writable-lines i had ps r p a f =
+    let idle : Acts = with_promises (settle p (Ok Undefined) a.out.promises) a in
+    either (Lines had ps) (is_writable a.slots.state) (stream_abort i r p a) idle (λ e. abort-lines i had ps r p a f) (λ e. rests had ps idle f)
+
 -- the handing on of a chunk
 
 hand_on-lines : (had : Bool) (ps : List PromiseId) (i : StreamId) (a : Acts) (first : Option WriteRecord) → Ready had ps (core_of a.slots) → Lines had ps (hand_on_first i a first)
@@ -307,7 +329,9 @@ unfolding set_up_writer writer_release hand_on
 plain-lines i (names.SetUpWriter w) had ps a u r = rests had ps (set_up_writer w a) (record { same = r.same; line = r.line; spent = r.spent })
 plain-lines i names.ReleaseWriter had ps a u r = rests had ps (writer_release a) (ready-same had ps a (writer_release a) (release-same a a.slots.writer) r)
 plain-lines i (names.Close p) had ps a u r = close-lines i had ps p a r
+plain-lines i (names.ClosePropagating p) had ps a u r = propagating-lines i had ps p a r
 plain-lines i (names.Abort e p) had ps a u r = abort-lines i had ps e p a r
+plain-lines i (names.AbortIfWritable e p) had ps a u r = abort_if_writable-lines i had ps e p a r
 plain-lines i (names.ErrorIfNeeded e) had ps a u r = if_needed-lines i had ps e a r
 plain-lines i names.HandOn had ps a u r = hand_on-lines had ps i a (first_value a.slots.queue) r
 plain-lines i (names.AbortSettled p o) had ps a u r = abort_settled-lines i had ps p o a r

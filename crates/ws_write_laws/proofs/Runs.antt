@@ -199,6 +199,8 @@ call-lined gone i h c s l =
       promise = λ z m. changed gone i h z (fresh z.promises) (keeps-fresh z.promises) m;
       locks = λ z locks m. m;
       hosts = λ z hosts m. m;
+      pipe = λ z source dest prevent signal promise m. m;
+      signal = λ z m. m;
       readable = λ z mark size m. added gone i h z (ReadableStream (readable.set_up Host mark size)) refl refl m;
       writable = λ z mark size m. added gone i h z (WritableStream (writable.set_up Host mark size)) refl refl m;
     }) c s l

@@ -8,7 +8,7 @@ pub fn each_write_is_settled()
     ensures { EachWriteIsSettled }
 {}
 
-/// In every run, of each writable stream: what was written to it is what the run's calls wrote, where the write was appended, in the order of these calls, and the promises of these writes are those that the calls answered.
+/// In every run, of each writable stream: what was written to it, where the write was appended, is in each step what the step's call wrote, and what a pipe wrote that held a chunk and may write, in the order of the steps. The promises of these writes are those that the calls answered, and those that the pipes made.
 pub fn writes_were_answered()
     ensures { WritesWereAnswered }
 {}
