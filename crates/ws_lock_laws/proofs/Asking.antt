@@ -1,0 +1,255 @@
+-- A stream without a reader has no read requests, and one that a pipe has none but the pipe's: each effect keeps that. A read stands first
+-- on the agenda, and is of who has the stream.
+use Rattle.std.proofs.Common.{◌≡◌, ℕ, ◌+◌, ◌≤◌, zero, suc, Bool, true, false, nat_eq, is_some, if◌then◌else◌, List, [], ◌∷◌, ◌++◌, Option, Some, None, slice_get, slice_set, refl, sym, ap, subst, ◌∙◌, arith}
+use Rattle.ws_value.specs.declared.{ids.PipeId.{PipeId}, ids.StreamId.{StreamId}}
+use Rattle.ws_steps.specs.declared.effects.{Effect.{Effect}, Effect.TheVariants.{Readable as OnReadable, Writable as OnWritable, Pipe as OnPipe}}
+use Rattle.ws_steps.specs.declared.pipes.{Phase.TheVariants.{Flowing}, PipeOperation.{PipeOperation}}
+use Rattle.ws_steps.specs.declared.readable.{ReadRequest.{ReadRequest}, ReadRequest.TheVariants.{Promise, Pipe as PipeRequest}, ReadableOperation.{ReadableOperation}, ReadableOperation.TheVariants.{InitializeReader, ReleaseReader, Read}}
+use Rattle.ws_steps.specs.declared.writable.WritableOperation.{WritableOperation}
+use Rattle.ws_steps.specs.Histories.{is_same}
+use Rattle.ws_steps.specs.Operations.{readable_operation, writable_operation, pipe_operation}
+use Rattle.ws_steps.specs.Pipes as pipe
+use Rattle.ws_steps.specs.Readable as readable
+use Rattle.ws_steps.specs.Slots.{Slots, Stream, ReadableStream, WritableStream, Done, ends_at, has_readable, has_writable, readable_at, on_readable, on_writable, on_pipe_at, as_pipe}
+use Rattle.ws_steps.specs.Turns.{row}
+use Rattle.ws_steps.proofs.PromiseLaws.{slice_get-set_other}
+use Rattle.ws_laws.proofs.Lists.{Each, each-append}
+use Rattle.ws_laws.proofs.PipeDoes.{pipe-causes}
+use Rattle.ws_laws.proofs.Rows.{Causes, IsApart, IsNoPipe, row-causes, row-pipes, row-streams}
+use Rattle.ws_laws.proofs.Tables.{is_same-refl, same_id, eq_numbers, unequal_numbers, readable_acts, readable_there, on_readable-same, on_readable-other, on_writable-same, on_writable-other}
+use Rattle.ws_read_laws.proofs.Line.{operation-reader}
+use Rattle.ws_pipe_laws.specs.PipeLaws.{starting}
+use Rattle.ws_pipe_laws.specs.PipeLaws.{one_if}
+use Rattle.ws_lock_laws.specs.Locks.{Reading, has_lock, holders, holds, in_pipes, is_locked}
+use Rattle.ws_lock_laws.proofs.Agenda.{IsNoTake, TakesFirst, takes_none, takes_none-all, takes_behind}
+use Rattle.ws_lock_laws.proofs.Holding.{pipes-there, pipes-two}
+use Rattle.ws_lock_laws.proofs.PipeReads.{IsNoRead, NoRead, OneRead, Reads, operation-reads}
+use Rattle.ws_lock_laws.proofs.Requests.{count, asked, operation-few, release-none}
+use Rattle.ws_lock_laws.proofs.Rows.{is_there, Balanced}
+
+-- the read requests of a stream
+abbrev pub requests_at : Option Stream → List ReadRequest
+requests_at None = []
+requests_at (Some (ReadableStream r)) = r.requests
+requests_at (Some (WritableStream w)) = []
+
+-- each request, and each that isn't the pipe's
+
+abbrev pub any : ReadRequest → ℕ
+any request = 1
+
+abbrev pub other : PipeId → ReadRequest → ℕ
+other p (Promise q) = 1
+other p (PipeRequest q) = if nat_eq p.0 q.0 then 0 else 1
+
+-- A stream without a reader has no requests, and one that a pipe has none but the pipe's
+pub record Queued (i : StreamId) (o : Option Stream) (pipes : List pipe.Slots) : Type 0 where
+  pub free : has_lock Reading o ≡ false → count any (requests_at o) ≤ 0
+  pub own : (p : PipeId) → holds Reading i (as_pipe (slice_get pipes p.0)) ≡ true → count (other p) (requests_at o) ≤ 0
+
+-- a read stands first
+abbrev pub ReadsFirst : List Effect → Type 0
+ReadsFirst [] = Unit {0}
+ReadsFirst (e ∷ es) = Each IsNoRead es
+
+-- where the stream is had, and where a pipe has it, it is the pipe's
+abbrev pub Asks : Slots → List Effect → Type 0
+Asks s [] = Unit {0}
+Asks s (OnReadable i (Read request) ∷ es) = (1 ≤ holders Reading i s) × ((p : PipeId) → holds Reading i (as_pipe (slice_get s.pipes p.0)) ≡ true → other p request ≡ 0)
+Asks s (e ∷ es) = Unit {0}
+
+-- where no read stands
+pub none-first : (es : List Effect) → Each IsNoRead es → ReadsFirst es
+none-first [] n = tt
+none-first (e ∷ es) n = n.1
+
+pub none-asks : (s : Slots) (es : List Effect) → Each IsNoRead es → Asks s es
+none-asks s [] n = tt
+none-asks s (e ∷ es) n = by e n.0
+  where
+    by : (e : Effect) → IsNoRead e → Asks s (e ∷ es)
+    by e k = grind (arith, k)
+
+-- who has a stream where no operation that takes one stands has locked it
+
+locked_by : (l : Bool) → 1 ≤ one_if l → l ≡ true
+locked_by true e = refl
+locked_by false e = absurd (omega (arith, e))
+
+pub has-locked : (i : StreamId) (s : Slots) (e : Effect) (es : List Effect) → IsNoTake e → TakesFirst (e ∷ es) → Balanced Reading i s (e ∷ es) → 1 ≤ holders Reading i s → is_locked Reading i s ≡ true
+has-locked i s e es n t k h =
+    let a = takes_none Reading i e n in
+    let b = takes_none-all Reading i es (takes_behind e es n t) in
+    let even = k.even in
+    locked_by (is_locked Reading i s) (omega (arith, a, b, even, h))
+
+pub locked-there : (o : Option Stream) → has_lock Reading o ≡ true → is_there Reading o ≡ true
+locked-there o e = grind (arith, e)
+
+-- an operation of the stream
+
+free-after : (i : StreamId) (operation : ReadableOperation) (a : readable.Acts) → ((request : ReadRequest) → operation ≡ Read request → is_some a.slots.reader ≡ true) → (is_some a.slots.reader ≡ false → count any a.slots.requests ≤ 0)
+    → is_some (readable_operation i operation a).slots.reader ≡ false → count any (readable_operation i operation a).slots.requests ≤ 0
+free-after i (InitializeReader closed) a asks free z = let now = operation-reader i (InitializeReader closed) a in absurd (cc)
+free-after i ReleaseReader a asks free z = by (is_some a.slots.reader) refl
+  where
+    by : (l : Bool) → l ≡ is_some a.slots.reader → count any (readable_operation i ReleaseReader a).slots.requests ≤ 0
+    by true e = let n = release-none any i a (sym e) in omega (arith, n)
+    by false e = let n = operation-few any i ReleaseReader a in let f = free (sym e) in omega (arith, n, f)
+free-after i (Read request) a asks free z = let now = operation-reader i (Read request) a in let there = asks request refl in absurd (cc)
+free-after i operation a asks free z =
+    let now = operation-reader i operation a in
+    let few = operation-few any i operation a in
+    let before = free (sym now ∙ z) in omega (arith, few, before)
+
+own-after : (i : StreamId) (operation : ReadableOperation) (a : readable.Acts) (p : PipeId) → asked (other p) operation ≡ 0 → count (other p) a.slots.requests ≤ 0 → count (other p) (readable_operation i operation a).slots.requests ≤ 0
+own-after i operation a p none few = let n = operation-few (other p) i operation a in omega (arith, n, none, few)
+
+-- of each operation
+
+asked-none : (s : Slots) (i : StreamId) (operation : ReadableOperation) (es : List Effect) (p : PipeId) → Asks s (OnReadable i operation ∷ es) → holds Reading i (as_pipe (slice_get s.pipes p.0)) ≡ true → asked (other p) operation ≡ 0
+asked-none s i (Read request) es p asks h = asks.1 p h
+asked-none s i _ es p asks h = refl
+
+read-has : (s : Slots) (i : StreamId) (operation : ReadableOperation) (es : List Effect) → Asks s (OnReadable i operation ∷ es) → (request : ReadRequest) → operation ≡ Read request → 1 ≤ holders Reading i s
+read-has s i operation es asks request e = (subst (λ (z : ReadableOperation). Asks s (OnReadable i z ∷ es)) e asks).0
+
+pub read-locked : (s : Slots) (i : StreamId) (operation : ReadableOperation) (es : List Effect) → TakesFirst (OnReadable i operation ∷ es) → Balanced Reading i s (OnReadable i operation ∷ es) → Asks s (OnReadable i operation ∷ es)
+    → (request : ReadRequest) → operation ≡ Read request → is_locked Reading i s ≡ true
+read-locked s i operation es t k asks request e =
+    has-locked i s (OnReadable i (Read request)) es tt (subst (λ (z : ReadableOperation). TakesFirst (OnReadable i z ∷ es)) e t) (subst (λ (z : ReadableOperation). Balanced Reading i s (OnReadable i z ∷ es)) e k)
+    (read-has s i operation es asks request e)
+
+here-queued : (s : Slots) (i : StreamId) (operation : ReadableOperation) (es : List Effect) → TakesFirst (OnReadable i operation ∷ es) → Balanced Reading i s (OnReadable i operation ∷ es) → Asks s (OnReadable i operation ∷ es)
+    → Queued i (slice_get s.streams i.0) s.pipes → Queued i (slice_get (on_readable (readable_operation i operation) i s).slots.streams i.0) s.pipes
+here-queued s i operation es t k asks q = by (has_readable i s) refl
+  where
+    by : (there : Bool) → there ≡ has_readable i s → Queued i (slice_get (on_readable (readable_operation i operation) i s).slots.streams i.0) s.pipes
+    by false e = rw (← e) q
+    by true e =
+        let now = on_readable-same (readable_operation i operation) i s (sym e) in
+        let before = readable_there (slice_get s.streams i.0) (sym e) in
+        let z : Queued i (Some (ReadableStream (readable_at i s))) s.pipes = subst (λ (o : Option Stream). Queued i o s.pipes) before q in
+        rw now (record {
+          free = λ f. free-after i operation (readable_acts i s) (λ request r. sym (ap (has_lock Reading) before) ∙ read-locked s i operation es t k asks request r) z.free f;
+          own = λ p h. own-after i operation (readable_acts i s) p (asked-none s i operation es p asks h) (z.own p h);
+        })
+
+readable-queued : (s : Slots) (i j : StreamId) (operation : ReadableOperation) (es : List Effect) (same : Bool) → same ≡ is_same i j → TakesFirst (OnReadable j operation ∷ es) → Balanced Reading i s (OnReadable j operation ∷ es) → Asks s (OnReadable j operation ∷ es)
+    → Queued i (slice_get s.streams i.0) s.pipes → Queued i (slice_get (on_readable (readable_operation j operation) j s).slots.streams i.0) s.pipes
+readable-queued s i j operation es false n t k asks q = rw (on_readable-other (readable_operation j operation) j s i (sym n)) q
+readable-queued s i j operation es true e t k asks q =
+    let is : i ≡ j = same_id i j (sym e) in
+    subst (λ (z : StreamId). TakesFirst (OnReadable z operation ∷ es) → Balanced Reading i s (OnReadable z operation ∷ es) → Asks s (OnReadable z operation ∷ es) → Queued i (slice_get (on_readable (readable_operation z operation) z s).slots.streams i.0) s.pipes) is
+    (λ t k asks. here-queued s i operation es t k asks q) t k asks
+
+writable-queued : (s : Slots) (i j : StreamId) (operation : WritableOperation) (same : Bool) → same ≡ is_same i j → Queued i (slice_get s.streams i.0) s.pipes
+    → Queued i (slice_get (on_writable (writable_operation j operation) j s).slots.streams i.0) s.pipes
+writable-queued s i j operation false n q = rw (on_writable-other (writable_operation j operation) j s i (sym n)) q
+writable-queued s i j operation true e q = by (has_writable i s) refl
+  where
+    is : i ≡ j
+    is = same_id i j (sym e)
+
+    by : (there : Bool) → there ≡ has_writable i s → Queued i (slice_get (on_writable (writable_operation j operation) j s).slots.streams i.0) s.pipes
+    by false n = rw (← is, ← n) q
+    by true n = rw (← is, on_writable-same (writable_operation i operation) i s (sym n)) (record { free = λ f. omega arith; own = λ p h. omega arith })
+
+-- an operation of a pipe
+
+pub holds_before : (b c : Bool) (n : ℕ) → one_if b + n ≡ one_if c → b ≡ true → c ≡ true
+holds_before true true n e h = refl
+holds_before true false n e h = absurd (omega (arith, e))
+holds_before false c n e h = absurd (cc)
+
+pub place_same : (ps : List pipe.Slots) (n : ℕ) (x y : pipe.Slots) → slice_get ps n ≡ Some x → slice_get (slice_set ps n y) n ≡ Some y
+place_same [] n x y e = cc
+place_same (z ∷ ps) zero x y e = refl
+place_same (z ∷ ps) (suc n) x y e = place_same ps n x y e
+
+pub pipe-queued : (i : StreamId) (o : Option Stream) (ps : List pipe.Slots) (p : PipeId) (x y : pipe.Slots) → slice_get ps p.0 ≡ Some x → (holds Reading i y ≡ true → holds Reading i x ≡ true) → Queued i o ps → Queued i o (slice_set ps p.0 y)
+pipe-queued i o ps p x y e before k = record { free = k.free; own = λ q h. k.own q (by q (nat_eq q.0 p.0) refl h) }
+  where
+    by : (q : PipeId) (same : Bool) → same ≡ nat_eq q.0 p.0 → holds Reading i (as_pipe (slice_get (slice_set ps p.0 y) q.0)) ≡ true → holds Reading i (as_pipe (slice_get ps q.0)) ≡ true
+    by q false n h = let same : slice_get (slice_set ps p.0 y) q.0 ≡ slice_get ps q.0 = slice_get-set_other ps p.0 q.0 y (λ i. unequal_numbers q.0 p.0 (sym n) (sym i)) in rw same at h
+    by q true n h =
+        let is = eq_numbers q.0 p.0 (sym n) in
+        let now : slice_get (slice_set ps p.0 y) q.0 ≡ Some y = rw is (place_same ps p.0 x y e) in
+        let there : slice_get ps q.0 ≡ Some x = rw is e in
+        rw there (before (rw now at h))
+
+-- where one pipe has the stream, no other does
+one_only : (i : StreamId) (ps : List pipe.Slots) (n : ℕ) (p : PipeId) (y : pipe.Slots) → in_pipes Reading i ps + n ≤ 1 → slice_get ps p.0 ≡ Some y → holds Reading i y ≡ true
+    → (q : PipeId) (o : Option pipe.Slots) → slice_get ps q.0 ≡ o → holds Reading i (as_pipe o) ≡ true → (same : Bool) → same ≡ nat_eq q.0 p.0 → other q (PipeRequest p) ≡ 0
+one_only i ps n p y few e own q o f h true s = rw (← s) refl
+one_only i ps n p y few e own q None f h false s = absurd (cc)
+one_only i ps n p y few e own q (Some x) f h false s =
+    let two = pipes-two Reading i q.0 p.0 ps x y (unequal_numbers q.0 p.0 (sym s)) f e in
+    let a = ap one_if h in
+    let b = ap one_if own in
+    absurd (omega (arith, two, a, b, few))
+
+pub one_at_most : (b : Bool) → one_if b ≤ 1
+one_at_most true = omega arith
+one_at_most false = omega arith
+
+flowing-holds : (i : StreamId) (y : pipe.Slots) → y.phase ≡ Flowing → y.source ≡ i → holds Reading i y ≡ true
+flowing-holds i y f e = let self = is_same-refl i in rw (f, e, self) refl
+
+pub pipe-asks : (p : PipeId) (operation : PipeOperation) (s : Slots) (es : List Effect) (o : Option pipe.Slots) → slice_get s.pipes p.0 ≡ o → Each IsNoRead es
+    → let d : Done = on_pipe_at (λ ends. pipe_operation p ends operation) p s o in ((i : StreamId) → Balanced Reading i d.slots (d.caused ++ es)) → ReadsFirst (d.caused ++ es) × Asks d.slots (d.caused ++ es)
+pipe-asks p operation s es None e none k = (none-first es none, none-asks s es none)
+pipe-asks p operation s es (Some x) e none k = by (operation-reads p (ends_at x s) operation x s.promises)
+  where
+    b : pipe.Acts
+    b = pipe_operation p (ends_at x s) operation (starting x s.promises)
+
+    z : Slots
+    z = (on_pipe_at (λ ends. pipe_operation p ends operation) p s (Some x)).slots
+
+    by : Reads p x.source b → ReadsFirst (b.out.effects ++ es) × Asks z (b.out.effects ++ es)
+    by (NoRead n) = let all = each-append IsNoRead b.out.effects es n none in (none-first (b.out.effects ++ es) all, none-asks z (b.out.effects ++ es) all)
+    by (OneRead f is) =
+        let source = (pipe-causes p (ends_at x s) operation (starting x s.promises) tt).0 in
+        let own = flowing-holds x.source b.slots f source in
+        let place : slice_get z.pipes p.0 ≡ Some b.slots = place_same s.pipes p.0 x b.slots e in
+        let there = pipes-there Reading x.source p.0 z.pipes b.slots place in
+        let one = ap one_if own in
+        let few = (k x.source).few in
+        let most = one_at_most (is_there Reading (slice_get z.streams x.source.0)) in
+        rw is (
+          none,
+          (
+            omega (arith, there, one),
+            (λ q h. one_only x.source z.pipes 0 p b.slots (omega (arith, few, most)) place own q (slice_get z.pipes q.0) refl h (nat_eq q.0 p.0) refl),
+          ),
+        )
+
+-- other effects cause no read
+
+read-causes : (e : Effect) → IsNoPipe e → Causes IsNoRead e
+read-causes e n = grind (arith, n)
+
+pub other-silent : (s : Slots) (e : Effect) (es : List Effect) → IsNoPipe e → ReadsFirst (e ∷ es) → Each IsNoRead ((row e s).caused ++ es)
+other-silent s e es n first = each-append IsNoRead (row e s).caused es (row-causes IsNoRead e s (read-causes e n)) first
+
+-- each effect
+
+abbrev pub EachQueued : Slots → Type 0
+EachQueued s = (i : StreamId) → Queued i (slice_get s.streams i.0) s.pipes
+
+apart-queued : (s : Slots) (e : Effect) → IsApart e → IsNoPipe e → EachQueued s → EachQueued (row e s).slots
+apart-queued s e a n k i = rw (row-streams e s a, row-pipes e s n) (k i)
+
+pub row-queued : (s : Slots) (e : Effect) (es : List Effect) → TakesFirst (e ∷ es) → ((i : StreamId) → Balanced Reading i s (e ∷ es)) → Asks s (e ∷ es)
+    → ((p : PipeId) (operation : PipeOperation) → e ≡ OnPipe p operation → (i : StreamId) (x : pipe.Slots) → slice_get s.pipes p.0 ≡ Some x → holds Reading i (pipe_operation p (ends_at x s) operation (starting x s.promises)).slots ≡ true → holds Reading i x ≡ true)
+    → EachQueued s → EachQueued (row e s).slots
+unfolding row
+row-queued s (OnReadable j operation) es t b asks before k i = rw (row-pipes (OnReadable j operation) s tt) (readable-queued s i j operation es (is_same i j) refl t (b i) asks (k i))
+row-queued s (OnWritable j operation) es t b asks before k i = rw (row-pipes (OnWritable j operation) s tt) (writable-queued s i j operation (is_same i j) refl (k i))
+row-queued s (OnPipe p operation) es t b asks before k i = by (slice_get s.pipes p.0) refl
+  where
+    by : (o : Option pipe.Slots) → slice_get s.pipes p.0 ≡ o → let d : Done = on_pipe_at (λ ends. pipe_operation p ends operation) p s o in Queued i (slice_get d.slots.streams i.0) d.slots.pipes
+    by None e = k i
+    by (Some x) e = pipe-queued i (slice_get s.streams i.0) s.pipes p x (pipe_operation p (ends_at x s) operation (starting x s.promises)).slots e (before p operation refl i x e) (k i)
+row-queued s e es t b asks before k i = apart-queued s e tt tt k i

@@ -1,0 +1,329 @@
+-- Who has the lock of a stream as calls and jobs begin.
+use Rattle.std.proofs.Common.{◌≡◌, ◌⊎◌, inl, inr, ⊎_elim, ℕ, ◌+◌, Bool, true, false, nat_eq, is_some, List, [], ◌∷◌, ◌++◌, length, Option, Some, None, slice_get, refl, sym, ap, arith}
+use Rattle.ws_value.specs.declared.{ids.LockId.{LockId}, ids.PipeId.{PipeId}, ids.PromiseId.{PromiseId}, ids.SignalId.{SignalId}, ids.StreamId.{StreamId}, value.Plain.{Plain}}
+use Rattle.ws_steps.specs.declared.calls.Call.{Call}
+use Rattle.ws_steps.specs.declared.calls.Call.TheVariants.{GetWriter}
+use Rattle.ws_steps.specs.declared.calls.{Reply.{Reply}, Reply.TheVariants.{Lock as ReplyLock}}
+use Rattle.ws_steps.specs.declared.effects.Effect.{Effect}
+use Rattle.ws_steps.specs.declared.effects.Effect.TheVariants.{Readable as OnReadable, Writable as OnWritable}
+use Rattle.ws_steps.specs.declared.{locks.Lock.{Lock}, locks.Lock.TheVariants.{Reader, Writer as WriterLock, ReleasedWriter, Inner}, promises.Job.{Job}, pipes.Prevent.{Prevent}}
+use Rattle.ws_steps.specs.declared.{effects.Owner.TheVariants.{Host}, readable.SizeBy.{SizeBy}}
+use Rattle.ws_steps.specs.declared.readable.ReadableOperation.TheVariants.{InitializeReader, ReleaseReader, Disturb}
+use Rattle.ws_steps.specs.declared.writable.{WritableOperation.TheVariants.{SetUpWriter, ReleaseWriter}, Writer.{Writer}}
+use Rattle.ws_steps.specs.Histories.{is_same}
+use Rattle.ws_steps.specs.Calls as calls
+use Rattle.ws_steps.specs.Calls.{Begun, begin, add_stream}
+use Rattle.ws_steps.specs.Jobs.{job_effects}
+use Rattle.ws_steps.specs.Pipes as pipe
+use Rattle.ws_steps.specs.Promises.{Table, next_id, fresh, is_pending_at}
+use Rattle.ws_steps.specs.Readable as readable
+use Rattle.ws_steps.specs.Slots.{Slots, Stream, ReadableStream, WritableStream, with_promises, has_writable, readable_at, writable_at, as_readable, as_writable, is_writable_stream, lock_at}
+use Rattle.ws_steps.specs.Writable as writable
+use Rattle.ws_laws.proofs.EachCall.{each_call}
+use Rattle.ws_laws.proofs.Lists.{Each, each-append, each-map}
+use Rattle.ws_laws.proofs.Tables.{either, eq_numbers, unequal_numbers, same_id, no_stream, place_last, place_before}
+use Rattle.ws_laws.proofs.Truth.{false_true}
+use Rattle.ws_writable_laws.proofs.Shape.{all, all-append}
+use Rattle.ws_pipe_laws.specs.PipeLaws.{one_if}
+use Rattle.ws_lock_laws.specs.Locks.{Side, Reading, Writing, end_of, has, has_lock, holders, in_locks, is_locked}
+use Rattle.ws_lock_laws.proofs.Agenda.{takes, goes, IsNoTake, IsCalm, calm_takes, takes_none-all, goes_none-all, TakesFirst, takes_first}
+use Rattle.ws_lock_laws.proofs.Holding.{locks-append, locks-set, pipes-append}
+use Rattle.ws_lock_laws.proofs.Rows.{is_there, Balanced}
+
+-- jobs take no lock, and let go of none
+
+pub job-calm : (job : Job) → Each IsCalm (job_effects job)
+job-calm job = grind arith
+
+-- a call that takes locks does that first
+
+renewed-calm : (t : Table) (kept : Bool) → Each IsCalm (calls.reject_renewed t kept)
+renewed-calm t kept = grind arith
+
+begins-calm : (me : PipeId) (a b : PromiseId) (signal : Option SignalId) (reason : Option Plain) → Each IsCalm (calls.pipe_begins me a b signal reason)
+begins-calm me a b signal (Some r) = (tt, tt)
+begins-calm me a b None None = grind arith
+begins-calm me a b (Some g) None = grind arith
+
+no_takes : (es : List Effect) → Each IsCalm es → Each IsNoTake es
+no_takes es c = each-map IsCalm IsNoTake calm_takes es c
+
+pub call-first : (c : Call) (s : Slots) → TakesFirst (begin c s).done.caused
+call-first c s = each_call (λ (b : Begun). TakesFirst b.done.caused) c s (record {
+  unchanged = λ reply. tt;
+  rejected = tt;
+  make_readable = λ mark size start. tt;
+  make_writable = λ mark size start. tt;
+  get_reader = λ i e. tt;
+  get_writer = λ i e. tt;
+  release_reader = λ l closed i e.
+      let kept : Bool = readable.is_readable (readable_at i s).state in
+      takes_first _ (each-append IsNoTake (calls.reject_renewed s.promises kept) (OnReadable i ReleaseReader ∷ []) (no_takes _ (renewed-calm s.promises kept)) (tt, tt));
+  release_writer = λ l i w e f.
+      let ready : Bool = is_pending_at w.ready s.promises in
+      let t : Table = calls.with_renewed s.promises ready in
+      let closed : Bool = is_pending_at w.closed t in
+      takes_first _ (each-append IsNoTake (calls.reject_renewed s.promises ready) _ (no_takes _ (renewed-calm s.promises ready))
+      (each-append IsNoTake (calls.reject_renewed t closed) (OnWritable i ReleaseWriter ∷ []) (no_takes _ (renewed-calm t closed)) (tt, tt)));
+  cancel = λ reason i. tt;
+  read = λ l i closed e f. tt;
+  write = λ l v i e. tt;
+  close = λ i. tt;
+  abort = λ reason i e. tt;
+  enqueue = λ i v e can. tt;
+  finish = λ i. tt;
+  fail_readable = λ i reason. tt;
+  fail_writable = λ i reason. tt;
+  pipe = λ source dest prevent signal e f l m.
+      no_takes _ (begins-calm (record { 0 = length s.pipes }) (next_id s.promises) (next_id (fresh (fresh s.promises))) signal (calls.reason_of signal s));
+  make_signal = tt;
+  trigger = λ a reason. tt;
+  settle = λ h answer q e. tt;
+})
+
+-- a stream that isn't locked
+
+pub free_reader : (o : Option Stream) → is_some (as_readable o).reader ≡ false → (has_lock Reading o ≡ false) × (is_there Reading o ≡ true)
+free_reader o e = grind (arith, e)
+
+free_writer : (o : Option Stream) → is_writable_stream o ≡ true → is_some (as_writable o).writer ≡ false → (has_lock Writing o ≡ false) × (is_there Writing o ≡ true)
+free_writer o t e = grind (arith, t, e)
+
+none_there : (d : Side) → is_there d None ≡ false
+none_there Reading = refl
+none_there Writing = refl
+
+module _ (d : Side) (i : StreamId) (s : Slots) (k : Balanced d i s []) where
+  -- some let go of the stream, and none takes it
+  leaves : (z : Slots) (es : List Effect) → in_locks d i z.locks + all (goes d i) es ≡ in_locks d i s.locks → z.pipes ≡ s.pipes → z.streams ≡ s.streams → Each IsNoTake es → Balanced d i z es
+  leaves z es locks pipes streams none =
+      let t = takes_none-all d i es none in
+      let even = k.even in
+      let few = k.few in
+      rw (pipes, streams) (record { even = omega (arith, t, locks, even); few = omega (arith, locks, few) })
+
+  others : (z : Slots) (es : List Effect) → in_locks d i z.locks ≡ in_locks d i s.locks → z.pipes ≡ s.pipes → z.streams ≡ s.streams → Each IsCalm es → Balanced d i z es
+  others z es locks pipes streams calm = let g = goes_none-all d i es calm in leaves z es (omega (arith, locks, g)) pipes streams (no_takes es calm)
+
+  -- one takes the stream where none had it
+  enters : (z : Slots) (es : List Effect) (b : Bool) → holders d i z ≡ holders d i s + one_if b → z.streams ≡ s.streams → all (takes d i) es ≡ one_if b → all (goes d i) es ≡ 0
+      → (b ≡ true → (is_locked d i s ≡ false) × (is_there d (slice_get s.streams i.0) ≡ true)) → Balanced d i z es
+  enters z es false more streams t g free = let even = k.even in let few = k.few in rw streams (record { even = omega (arith, more, t, g, even); few = omega (arith, more, g, few) })
+  enters z es true more streams t g free =
+      let f = free refl in
+      let lock = ap one_if f.0 in
+      let there = ap one_if f.1 in
+      let even = k.even in
+      let few = k.few in
+      rw streams (record { even = omega (arith, more, t, g, even); few = omega (arith, more, g, lock, there, even) })
+
+  -- a new stream
+  made : (x : Stream) (es : List Effect) → has_lock d (Some x) ≡ false → Each IsCalm es → Balanced d i (add_stream x s) es
+  made x es free calm = by (nat_eq i.0 (length s.streams)) refl
+    where
+      t : all (takes d i) es ≡ 0
+      t = takes_none-all d i es (no_takes es calm)
+
+      g : all (goes d i) es ≡ 0
+      g = goes_none-all d i es calm
+
+      by : (here : Bool) → here ≡ nat_eq i.0 (length s.streams) → Balanced d i (add_stream x s) es
+      by false n =
+          let before = place_before s.streams x i.0 (unequal_numbers i.0 (length s.streams) (sym n)) in
+          let even = k.even in
+          let few = k.few in
+          record { even = rw before (omega (arith, t, g, even)); few = rw before (omega (arith, g, few)) }
+      by true e =
+          let is = eq_numbers i.0 (length s.streams) (sym e) in
+          let before = no_stream i s.streams is in
+          let now : slice_get (s.streams ++ x ∷ []) i.0 ≡ Some x = rw is (place_last s.streams x) in
+          let none : one_if (is_there d (slice_get s.streams i.0)) ≡ 0 = rw (before, none_there d) refl in
+          let lock : one_if (has_lock d (slice_get (s.streams ++ x ∷ []) i.0)) ≡ 0 = rw (now, free) refl in
+          let few = k.few in
+          record { even = omega (arith, t, g, lock, none, few); few = omega (arith, g, none, few) }
+
+  -- a pipe takes its ends
+  inner : in_locks d i (s.locks ++ Inner ∷ Inner ∷ []) ≡ in_locks d i s.locks
+  inner = by d s.locks
+    where
+      by : (d : Side) (ls : List Lock) → in_locks d i (ls ++ Inner ∷ Inner ∷ []) ≡ in_locks d i ls
+      by Reading [] = refl
+      by Writing [] = refl
+      by d (l ∷ ls) = let n = by d ls in omega (arith, n)
+
+-- a call's part of one side
+
+no_has : (d : Side) (i : StreamId) (closed : PromiseId) → has d i (Reader None closed) ≡ false
+no_has Reading i closed = refl
+no_has Writing i closed = refl
+
+no_released : (d : Side) (i : StreamId) (w : Writer) → has d i (ReleasedWriter w) ≡ false
+no_released Reading i w = refl
+no_released Writing i w = refl
+
+new_readable : (d : Side) (mark : ℕ) (size : SizeBy) → has_lock d (Some (ReadableStream (readable.set_up Host mark size))) ≡ false
+new_readable Reading mark size = refl
+new_readable Writing mark size = refl
+
+new_writable : (d : Side) (mark : ℕ) (size : SizeBy) → has_lock d (Some (WritableStream (writable.set_up Host mark size))) ≡ false
+new_writable Reading mark size = refl
+new_writable Writing mark size = refl
+
+-- whether a call gets a writer
+abbrev gets_writer : Reply → List Effect → Bool
+gets_writer (ReplyLock l) (OnWritable i (SetUpWriter w) ∷ es) = true
+gets_writer _ _ = false
+
+-- no other call does
+
+abbrev IsOther : Call → Type 0
+IsOther (GetWriter i) = ⊥
+IsOther _ = Unit {0}
+
+gets_none : (c : Call) (s : Slots) → IsOther c → gets_writer (begin c s).reply (begin c s).done.caused ≡ false
+unfolding begin
+gets_none c s o = grind (arith, o)
+
+module _ (i : StreamId) where
+  get_reader-balanced : (d : Side) (j : StreamId) (s : Slots) → is_some (readable_at j s).reader ≡ false → Balanced d i s [] → Balanced d i (calls.get_reader j s).done.slots (calls.get_reader j s).done.caused
+  get_reader-balanced Reading j s free k =
+      let n = locks-append Reading i s.locks (Reader (Some j) (next_id s.promises)) in
+      enters Reading i s k (calls.get_reader j s).done.slots _ (is_same i j) (omega (arith, n)) refl (omega arith) refl
+      (λ e. let f = free_reader (slice_get s.streams j.0) free in rw (same_id i j e) f)
+  get_reader-balanced Writing j s free k =
+      let n = locks-append Writing i s.locks (Reader (Some j) (next_id s.promises)) in
+      enters Writing i s k (calls.get_reader j s).done.slots _ false (omega (arith, n)) refl refl refl (λ e. absurd (cc))
+
+  get_writer-balanced : (d : Side) (j : StreamId) (s : Slots) → has_writable j s ≡ true → is_some (writable_at j s).writer ≡ false → Balanced d i s [] → Balanced d i (calls.get_writer j s).done.slots (calls.get_writer j s).done.caused
+  get_writer-balanced Writing j s there free k =
+      let n = locks-append Writing i s.locks (WriterLock j) in
+      enters Writing i s k (calls.get_writer j s).done.slots _ (is_same i j) (omega (arith, n)) refl (omega arith) refl
+      (λ e. let f = free_writer (slice_get s.streams j.0) there free in rw (same_id i j e) f)
+  get_writer-balanced Reading j s there free k =
+      let n = locks-append Reading i s.locks (WriterLock j) in
+      enters Reading i s k (calls.get_writer j s).done.slots _ false (omega (arith, n)) refl refl refl (λ e. absurd (cc))
+
+  renewed-goes : (d : Side) (t : Table) (kept : Bool) (es : List Effect) → all (goes d i) (calls.reject_renewed t kept ++ es) ≡ all (goes d i) es
+  renewed-goes d t kept es =
+      let n = goes_none-all d i (calls.reject_renewed t kept) (renewed-calm t kept) in
+      let m = all-append (goes d i) (calls.reject_renewed t kept) es in omega (arith, n, m)
+
+  reader_leaves : (d : Side) (j : StreamId) (closed : PromiseId) → all (goes d i) (OnReadable j ReleaseReader ∷ []) ≡ one_if (has d i (Reader (Some j) closed))
+  reader_leaves Reading j closed = omega arith
+  reader_leaves Writing j closed = refl
+
+  writer_leaves : (d : Side) (j : StreamId) → all (goes d i) (OnWritable j ReleaseWriter ∷ []) ≡ one_if (has d i (WriterLock j))
+  writer_leaves Reading j = refl
+  writer_leaves Writing j = omega arith
+
+  release_reader-balanced : (d : Side) (l : LockId) (closed : PromiseId) (j : StreamId) (s : Slots) → lock_at l s ≡ Some (Reader (Some j) closed) → Balanced d i s []
+      → Balanced d i (calls.release_reader l closed j s).done.slots (calls.release_reader l closed j s).done.caused
+  release_reader-balanced d l closed j s e k =
+      let kept : Bool = readable.is_readable (readable_at j s).state in
+      let new : Lock = Reader None (calls.renewed closed s.promises kept) in
+      let set = locks-set d i l.0 s.locks (Reader (Some j) closed) new e in
+      let none = ap one_if (no_has d i (calls.renewed closed s.promises kept)) in
+      let gone = renewed-goes d s.promises kept (OnReadable j ReleaseReader ∷ []) in
+      let own = reader_leaves d j closed in
+      leaves d i s k (calls.release_reader l closed j s).done.slots (calls.release_reader l closed j s).done.caused (omega (arith, set, none, gone, own)) refl refl
+      (each-append IsNoTake (calls.reject_renewed s.promises kept) (OnReadable j ReleaseReader ∷ []) (no_takes _ (renewed-calm s.promises kept)) (tt, tt))
+
+  release_writer-balanced : (d : Side) (l : LockId) (j : StreamId) (w : Writer) (s : Slots) → lock_at l s ≡ Some (WriterLock j) → Balanced d i s []
+      → Balanced d i (calls.release_writer l j w s).done.slots (calls.release_writer l j w s).done.caused
+  release_writer-balanced d l j w s e k =
+      let ready : Bool = is_pending_at w.ready s.promises in
+      let t : Table = calls.with_renewed s.promises ready in
+      let closed : Bool = is_pending_at w.closed t in
+      let released : Writer = record { ready = calls.renewed w.ready s.promises ready; closed = calls.renewed w.closed t closed } in
+      let set = locks-set d i l.0 s.locks (WriterLock j) (ReleasedWriter released) e in
+      let none = ap one_if (no_released d i released) in
+      let gone = renewed-goes d t closed (OnWritable j ReleaseWriter ∷ []) in
+      let before = renewed-goes d s.promises ready (calls.reject_renewed t closed ++ OnWritable j ReleaseWriter ∷ []) in
+      let own = writer_leaves d j in
+      leaves d i s k (calls.release_writer l j w s).done.slots (calls.release_writer l j w s).done.caused (omega (arith, set, none, gone, before, own)) refl refl
+      (each-append IsNoTake (calls.reject_renewed s.promises ready) _ (no_takes _ (renewed-calm s.promises ready))
+      (each-append IsNoTake (calls.reject_renewed t closed) (OnWritable j ReleaseWriter ∷ []) (no_takes _ (renewed-calm t closed)) (tt, tt)))
+
+  -- a pipe takes its ends
+
+  first_takes : (d : Side) (source dest : StreamId) (closed : PromiseId) (w : Writer) (es : List Effect) (x : pipe.Slots) → x.source ≡ source → x.dest ≡ dest → all (takes d i) es ≡ 0
+      → all (takes d i) (OnReadable source (InitializeReader closed) ∷ OnWritable dest (SetUpWriter w) ∷ OnReadable source Disturb ∷ es) ≡ one_if (is_same i (end_of d x))
+  first_takes Reading source dest closed w es x e f n = rw e (omega (arith, n))
+  first_takes Writing source dest closed w es x e f n = rw f (omega (arith, n))
+
+  first_goes : (d : Side) (source dest : StreamId) (closed : PromiseId) (w : Writer) (es : List Effect) → all (goes d i) es ≡ 0
+      → all (goes d i) (OnReadable source (InitializeReader closed) ∷ OnWritable dest (SetUpWriter w) ∷ OnReadable source Disturb ∷ es) ≡ 0
+  first_goes Reading source dest closed w es n = omega (arith, n)
+  first_goes Writing source dest closed w es n = omega (arith, n)
+
+  end_free : (d : Side) (source dest : StreamId) (s : Slots) (x : pipe.Slots) → x.source ≡ source → x.dest ≡ dest → is_some (readable_at source s).reader ≡ false → has_writable dest s ≡ true → is_some (writable_at dest s).writer ≡ false
+      → is_same i (end_of d x) ≡ true → (is_locked d i s ≡ false) × (is_there d (slice_get s.streams i.0) ≡ true)
+  end_free Reading source dest s x e f free there writer same = let g = free_reader (slice_get s.streams source.0) free in rw (same_id i x.source same, e) g
+  end_free Writing source dest s x e f free there writer same = let g = free_writer (slice_get s.streams dest.0) there writer in rw (same_id i x.dest same, f) g
+
+  pipe-balanced : (d : Side) (source dest : StreamId) (prevent : Prevent) (signal : Option SignalId) (s : Slots) → is_some (readable_at source s).reader ≡ false → has_writable dest s ≡ true → is_some (writable_at dest s).writer ≡ false
+      → Balanced d i s [] → Balanced d i (calls.pipe_to source dest prevent signal s).done.slots (calls.pipe_to source dest prevent signal s).done.caused
+  pipe-balanced d source dest prevent signal s free there writer k =
+      let t : Table = s.promises in
+      let closed : PromiseId = next_id t in
+      let w : Writer = record { ready = next_id (fresh t); closed = next_id (fresh (fresh t)) } in
+      let x : pipe.Slots = pipe.set_up source dest prevent signal (next_id (fresh (fresh (fresh t)))) in
+      let me : PipeId = record { 0 = length s.pipes } in
+      let last : List Effect = calls.pipe_begins me closed w.closed signal (calls.reason_of signal s) in
+      let calm = begins-calm me closed w.closed signal (calls.reason_of signal s) in
+      let n = inner d i s k in
+      let m = pipes-append d i s.pipes x in
+      enters d i s k (calls.pipe_to source dest prevent signal s).done.slots (calls.pipe_to source dest prevent signal s).done.caused (is_same i (end_of d x)) (omega (arith, n, m)) refl
+      (first_takes d source dest closed w last x refl refl (takes_none-all d i last (no_takes last calm)))
+      (first_goes d source dest closed w last (goes_none-all d i last calm))
+      (end_free d source dest s x refl refl free there writer)
+
+  -- each call
+
+  abbrev Now : Side → Begun → Type 0
+  Now d b = Balanced d i b.done.slots b.done.caused
+
+  got-balanced : (d : Side) (j : StreamId) (s : Slots) → Balanced d i s [] → Now d (begin (GetWriter j) s)
+  unfolding begin
+  got-balanced d j s k =
+      either (Now d) (has_writable j s) _ _
+      (λ there. either (Now d) (is_some (writable_at j s).writer) _ _ (λ l. k) (λ free. get_writer-balanced d j s there free k))
+      (λ none. k)
+
+  abbrev Other : Side → Begun → Type 0
+  Other d b = Now d b ⊎ (gets_writer b.reply b.done.caused ≡ true)
+
+  other-balanced : (d : Side) (c : Call) (s : Slots) → Balanced d i s [] → Other d (begin c s)
+  other-balanced d c s k =
+      let quiet : (z : Slots) (es : List Effect) → in_locks d i z.locks ≡ in_locks d i s.locks → z.pipes ≡ s.pipes → z.streams ≡ s.streams → Each IsCalm es → Balanced d i z es = others d i s k in
+      each_call (Other d) c s (record {
+        unchanged = λ reply. inl k;
+        rejected = inl (quiet _ _ refl refl refl (tt, tt));
+        make_readable = λ mark size start. inl (made d i s k (ReadableStream (readable.set_up Host mark size)) _ (new_readable d mark size) (tt, tt));
+        make_writable = λ mark size start. inl (made d i s k (WritableStream (writable.set_up Host mark size)) _ (new_writable d mark size) (tt, tt));
+        get_reader = λ j e. inl (get_reader-balanced d j s e k);
+        get_writer = λ j e. inr refl;
+        release_reader = λ l closed j e. inl (release_reader-balanced d l closed j s e k);
+        release_writer = λ l j w e f. inl (release_writer-balanced d l j w s e k);
+        cancel = λ reason j. inl (quiet _ _ refl refl refl (tt, tt));
+        read = λ l j closed e f. inl (quiet _ _ refl refl refl (tt, tt));
+        write = λ l v j e. inl (quiet _ _ refl refl refl (tt, tt));
+        close = λ j. inl (quiet _ _ refl refl refl (tt, tt));
+        abort = λ reason j e. inl (quiet _ _ refl refl refl (tt, tt));
+        enqueue = λ j v e can. inl (quiet _ _ refl refl refl (tt, tt));
+        finish = λ j. inl (quiet _ _ refl refl refl (tt, tt));
+        fail_readable = λ j reason. inl (quiet _ _ refl refl refl (tt, tt));
+        fail_writable = λ j reason. inl (quiet _ _ refl refl refl (tt, tt));
+        pipe = λ source dest prevent signal e f free writer. inl (pipe-balanced d source dest prevent signal s free f writer k);
+        make_signal = inl (quiet _ _ refl refl refl tt);
+        trigger = λ a reason. inl (quiet _ _ refl refl refl (tt, tt));
+        settle = λ h answer q e. inl (quiet _ _ refl refl refl (tt, tt));
+      })
+
+  pub call-balanced : (d : Side) (c : Call) (s : Slots) → Balanced d i s [] → Now d (begin c s)
+  call-balanced d (GetWriter j) s k = got-balanced d j s k
+  call-balanced d c s k =
+      ⊎_elim (λ (n : Now d (begin c s)). n) (λ (g : gets_writer (begin c s).reply (begin c s).done.caused ≡ true). false_true (gets_writer (begin c s).reply (begin c s).done.caused) g (gets_none c s tt)) (other-balanced d c s k)
+
+  pub job-balanced : (d : Side) (job : Job) (s : Slots) (t : Table) → Balanced d i s [] → Balanced d i (with_promises t s) (job_effects job)
+  job-balanced d job s t k = others d i s k (with_promises t s) (job_effects job) refl refl refl (job-calm job)

@@ -1,0 +1,276 @@
+-- A pipe that isn't over has both its ends, and no call of the host has to do with them.
+use Rattle.std.proofs.Common.{◌≡◌, ◌≢◌, ℕ, ◌+◌, ◌≤◌, Bool, true, false, is_some, List, [], ◌∷◌, ◌++◌, length, Option, Some, None, slice_get, refl, sym, ap, ◌∙◌, arith}
+use Rattle.ws_value.specs.declared.{ids.LockId.{LockId}, ids.PipeId.{PipeId}, ids.PromiseId.{PromiseId}, ids.SignalId.{SignalId}, ids.StreamId.{StreamId}, value.Plain.{Plain}}
+use Rattle.ws_steps.specs.declared.calls.Call.{Call}
+use Rattle.ws_steps.specs.declared.calls.Call.TheVariants.{GetReader, GetWriter, Cancel, CancelBy, Read, Write, Close, CloseBy, Abort, AbortBy, Release, Pipe}
+use Rattle.ws_steps.specs.declared.effects.Effect.{Effect}
+use Rattle.ws_steps.specs.declared.effects.Effect.TheVariants.{Readable as OnReadable, Writable as OnWritable}
+use Rattle.ws_steps.specs.declared.{locks.Lock.{Lock}, locks.Lock.TheVariants.{Reader, Writer as WriterLock, ReleasedWriter, Inner}, pipes.Prevent.{Prevent}}
+use Rattle.ws_steps.specs.declared.readable.ReadableOperation.{ReadableOperation}
+use Rattle.ws_steps.specs.declared.readable.ReadableOperation.TheVariants.{InitializeReader, ReleaseReader, Read as ReadChunk, Cancel as CancelStream}
+use Rattle.ws_steps.specs.declared.readable.ReadRequest.TheVariants.{Promise}
+use Rattle.ws_steps.specs.declared.writable.{WritableOperation.{WritableOperation}, WritableOperation.TheVariants.{ReleaseWriter}, Writer.{Writer}}
+use Rattle.ws_steps.specs.declared.writable.WritableOperation.TheVariants as write
+use Rattle.ws_steps.specs.Calls as calls
+use Rattle.ws_steps.specs.Calls.{Begun, begin, by_reader, by_writer, for_readable, for_writable, unlocked_readable, unlocked_writable, abort_unless, for_signal_where, pipe_unlocked}
+use Rattle.ws_steps.specs.Histories.{is_same}
+use Rattle.ws_steps.specs.Pipes as pipe
+use Rattle.ws_steps.specs.Promises.{Table, next_id, fresh, is_pending_at}
+use Rattle.ws_steps.specs.Readable as readable
+use Rattle.ws_steps.specs.Run.{Entry, run}
+use Rattle.ws_steps.specs.Slots.{Slots, Stream, empty, has_readable, has_writable, has_signal, readable_at, writable_at, as_readable, as_writable, lock_at, as_pipe}
+use Rattle.ws_steps.specs.Writable as writable
+use Rattle.ws_laws.proofs.Tables.{either, is_same-refl, same_id}
+use Rattle.ws_laws.proofs.Truth.{false_true}
+use Rattle.ws_pipe_laws.specs.PipeHistory.{is_over}
+use Rattle.ws_pipe_laws.specs.PipeLaws.{one_if}
+use Rattle.ws_lock_laws.specs.Locks.{Side, Reading, Writing, end_of, has_lock, holds, in_locks, in_pipes, is_locked}
+use Rattle.ws_lock_laws.specs.LockLaws.{spares, all_spare, Owns, EachPipeOwnsItsEnds, NoTwoPipesShareAnEnd}
+use Rattle.ws_lock_laws.proofs.Holding.{locks-there, pipes-there, pipes-two}
+use Rattle.ws_lock_laws.proofs.Runs.{run-locked}
+
+-- a locked stream isn't one that isn't
+
+locked_reader : (o : Option Stream) → is_some (as_readable o).reader ≡ false → has_lock Reading o ≡ false
+locked_reader o e = grind (arith, e)
+
+locked_writer : (o : Option Stream) → is_some (as_writable o).writer ≡ false → has_lock Writing o ≡ false
+locked_writer o e = grind (arith, e)
+
+-- a stream that isn't the source, or the destination
+
+module _ (source dest : StreamId) where
+  abbrev Spares : Begun → Type 0
+  Spares b = all_spare source dest b.done.caused ≡ true
+
+  one_reader : (i : StreamId) (operation : ReadableOperation) → is_same i source ≡ false → spares source dest (OnReadable i operation) ≡ true
+  one_reader i operation n = grind (arith, n)
+
+  one_writer : (i : StreamId) (operation : WritableOperation) → is_same i dest ≡ false → spares source dest (OnWritable i operation) ≡ true
+  one_writer i operation n = grind (arith, n)
+
+  spares-append : (xs ys : List Effect) → all_spare source dest xs ≡ true → all_spare source dest ys ≡ true → all_spare source dest (xs ++ ys) ≡ true
+  spares-append [] ys a b = b
+  spares-append (x ∷ xs) ys a b = let n = spares-append xs ys in grind (arith, n, a, b)
+
+  renewed-spares : (t : Table) (kept : Bool) → all_spare source dest (calls.reject_renewed t kept) ≡ true
+  renewed-spares t kept = grind arith
+
+  begins-spares : (me : PipeId) (a b : PromiseId) (signal : Option SignalId) (reason : Option Plain) → all_spare source dest (calls.pipe_begins me a b signal reason) ≡ true
+  begins-spares me a b signal (Some r) = refl
+  begins-spares me a b None None = refl
+  begins-spares me a b (Some g) None = refl
+
+  module _ (s : Slots) (source_locked : is_locked Reading source s ≡ true) (dest_locked : is_locked Writing dest s ≡ true)
+      (no_reader : (l : LockId) (closed : PromiseId) → lock_at l s ≢ Some (Reader (Some source) closed)) (no_writer : (l : LockId) → lock_at l s ≢ Some (WriterLock dest)) where
+    free_source : (i : StreamId) (same : Bool) → same ≡ is_same i source → is_some (readable_at i s).reader ≡ false → is_same i source ≡ false
+    free_source i false n e = sym n
+    free_source i true n e =
+        let free : is_some (readable_at source s).reader ≡ false = rw (← same_id i source (sym n)) e in
+        false_true (is_locked Reading source s) source_locked (locked_reader (slice_get s.streams source.0) free)
+
+    free_dest : (i : StreamId) (same : Bool) → same ≡ is_same i dest → is_some (writable_at i s).writer ≡ false → is_same i dest ≡ false
+    free_dest i false n e = sym n
+    free_dest i true n e =
+        let free : is_some (writable_at dest s).writer ≡ false = rw (← same_id i dest (sym n)) e in
+        false_true (is_locked Writing dest s) dest_locked (locked_writer (slice_get s.streams dest.0) free)
+
+    read_apart : (l : LockId) (i : StreamId) (closed : PromiseId) (same : Bool) → same ≡ is_same i source → lock_at l s ≡ Some (Reader (Some i) closed) → is_same i source ≡ false
+    read_apart l i closed false n e = sym n
+    read_apart l i closed true n e = absurd (no_reader l closed (e ∙ ap (λ (j : StreamId). Some (Reader (Some j) closed)) (same_id i source (sym n))))
+
+    write_apart : (l : LockId) (i : StreamId) (same : Bool) → same ≡ is_same i dest → lock_at l s ≡ Some (WriterLock i) → is_same i dest ≡ false
+    write_apart l i false n e = sym n
+    write_apart l i true n e = absurd (no_writer l (e ∙ ap (λ (j : StreamId). Some (WriterLock j)) (same_id i dest (sym n))))
+
+    -- checks of calls
+
+    there_readable : (i : StreamId) (operation : Slots → Begun) → Spares (operation s) → Spares (for_readable i operation s)
+    there_readable i operation k = either Spares (has_readable i s) _ _ (λ h. k) (λ h. refl)
+
+    there_writable : (i : StreamId) (operation : Slots → Begun) → Spares (operation s) → Spares (for_writable i operation s)
+    there_writable i operation k = either Spares (has_writable i s) _ _ (λ h. k) (λ h. refl)
+
+    free_readable : (i : StreamId) (locked : Slots → Begun) (operation : StreamId → Slots → Begun) → Spares (locked s) → (is_same i source ≡ false → Spares (operation i s)) → Spares (unlocked_readable i locked operation s)
+    free_readable i locked operation l k =
+        either Spares (has_readable i s) _ _
+        (λ h. either Spares (is_some (readable_at i s).reader) _ _ (λ e. l) (λ e. k (free_source i (is_same i source) refl e))) (λ h. refl)
+
+    free_writable : (i : StreamId) (locked : Slots → Begun) (operation : StreamId → Slots → Begun) → Spares (locked s) → (is_same i dest ≡ false → Spares (operation i s)) → Spares (unlocked_writable i locked operation s)
+    free_writable i locked operation l k =
+        either Spares (has_writable i s) _ _
+        (λ h. either Spares (is_some (writable_at i s).writer) _ _ (λ e. l) (λ e. k (free_dest i (is_same i dest) refl e))) (λ h. refl)
+
+    with_reader : (holding : StreamId → Slots → Begun) (free : Slots → Begun) (l : LockId) (lock : Option Lock) → lock_at l s ≡ lock → ((i : StreamId) → is_same i source ≡ false → Spares (holding i s)) → Spares (free s)
+        → Spares (by_reader holding free s lock)
+    with_reader holding free l None e k f = refl
+    with_reader holding free l (Some (Reader (Some i) closed)) e k f = there_readable i (holding i) (k i (read_apart l i closed (is_same i source) refl e))
+    with_reader holding free l (Some (Reader None closed)) e k f = f
+    with_reader holding free l (Some (WriterLock i)) e k f = refl
+    with_reader holding free l (Some (ReleasedWriter w)) e k f = refl
+    with_reader holding free l (Some Inner) e k f = refl
+
+    with_writer : (holding : StreamId → Slots → Begun) (free : Slots → Begun) (l : LockId) (lock : Option Lock) → lock_at l s ≡ lock → ((i : StreamId) → is_same i dest ≡ false → Spares (holding i s)) → Spares (free s)
+        → Spares (by_writer holding free s lock)
+    with_writer holding free l None e k f = refl
+    with_writer holding free l (Some (Reader stream closed)) e k f = refl
+    with_writer holding free l (Some (WriterLock i)) e k f = there_writable i (holding i) (k i (write_apart l i (is_same i dest) refl e))
+    with_writer holding free l (Some (ReleasedWriter w)) e k f = f
+    with_writer holding free l (Some Inner) e k f = refl
+
+    alone_reader : (i : StreamId) (operation : ReadableOperation) → is_same i source ≡ false → all_spare source dest (OnReadable i operation ∷ []) ≡ true
+    alone_reader i operation n = rw (one_reader i operation n) refl
+
+    alone_writer : (i : StreamId) (operation : WritableOperation) → is_same i dest ≡ false → all_spare source dest (OnWritable i operation ∷ []) ≡ true
+    alone_writer i operation n = rw (one_writer i operation n) refl
+
+    aborts : (reason : Plain) (i : StreamId) (p : Option PromiseId) → is_same i dest ≡ false → Spares (abort_unless reason i s p)
+    aborts reason i None n = alone_writer i (write.Abort reason (next_id s.promises)) n
+    aborts reason i (Some p) n = refl
+
+    releases : (l : LockId) (lock : Option Lock) → lock_at l s ≡ lock → Spares (calls.release l s lock)
+    releases l None e = refl
+    releases l (Some (Reader (Some i) closed)) e =
+        there_readable i (calls.release_reader l closed i)
+        (spares-append (calls.reject_renewed s.promises (readable.is_readable (readable_at i s).state)) (OnReadable i ReleaseReader ∷ []) (renewed-spares s.promises (readable.is_readable (readable_at i s).state))
+        (alone_reader i ReleaseReader (read_apart l i closed (is_same i source) refl e)))
+    releases l (Some (Reader None closed)) e = refl
+    releases l (Some (WriterLock i)) e = by (writable_at i s).writer
+      where
+        by : (w : Option Writer) → Spares (calls.of_writer (calls.release_writer l i) s w)
+        by None = refl
+        by (Some w) =
+            let ready : Bool = is_pending_at w.ready s.promises in
+            let t : Table = calls.with_renewed s.promises ready in
+            let closed : Bool = is_pending_at w.closed t in
+            spares-append (calls.reject_renewed s.promises ready) (calls.reject_renewed t closed ++ OnWritable i ReleaseWriter ∷ []) (renewed-spares s.promises ready)
+            (spares-append (calls.reject_renewed t closed) (OnWritable i ReleaseWriter ∷ []) (renewed-spares t closed)
+            (alone_writer i ReleaseWriter (write_apart l i (is_same i dest) refl e)))
+    releases l (Some (ReleasedWriter w)) e = refl
+    releases l (Some Inner) e = refl
+
+    pipes_to : (from to : StreamId) (prevent : Prevent) (signal : Option SignalId) → is_same from source ≡ false → is_same to dest ≡ false → Spares (calls.pipe_to from to prevent signal s)
+    pipes_to from to prevent signal n m =
+        let last = begins-spares (record { 0 = length s.pipes }) (next_id s.promises) (next_id (fresh (fresh s.promises))) signal (calls.reason_of signal s) in
+        rw (n, m, last) refl
+
+    pipes : (from to : StreamId) (prevent : Prevent) (signal : Option SignalId) → Spares (calls.pipe_call from to prevent signal s)
+    pipes from to prevent signal =
+        there_readable from (for_writable to (for_signal_where signal (pipe_unlocked from to prevent signal)))
+        (there_writable to (for_signal_where signal (pipe_unlocked from to prevent signal)) (by signal))
+      where
+        unlocked : Spares (pipe_unlocked from to prevent signal s)
+        unlocked =
+            either Spares (is_some (readable_at from s).reader) _ _ (λ e. refl)
+            (λ e. either Spares (is_some (writable_at to s).writer) _ _ (λ f. refl)
+            (λ f. pipes_to from to prevent signal (free_source from (is_same from source) refl e) (free_dest to (is_same to dest) refl f)))
+
+        by : (where_signal : Option SignalId) → Spares (for_signal_where where_signal (pipe_unlocked from to prevent signal) s)
+        by None = unlocked
+        by (Some a) = either Spares (has_signal a s) _ _ (λ e. unlocked) (λ e. refl)
+
+    -- calls that have to do with no lock
+    abbrev IsApart : Call → Type 0
+    IsApart (GetReader i) = ⊥
+    IsApart (GetWriter i) = ⊥
+    IsApart (Cancel i reason) = ⊥
+    IsApart (CancelBy l reason) = ⊥
+    IsApart (Read l) = ⊥
+    IsApart (Write l v) = ⊥
+    IsApart (Close i) = ⊥
+    IsApart (CloseBy l) = ⊥
+    IsApart (Abort i reason) = ⊥
+    IsApart (AbortBy l reason) = ⊥
+    IsApart (Release l) = ⊥
+    IsApart (Pipe from to prevent signal) = ⊥
+    IsApart _ = Unit {0}
+
+    apart : (c : Call) → IsApart c → Spares (begin c s)
+    unfolding begin
+    apart c a = grind (arith, a)
+
+    each_call : (c : Call) → Spares (begin c s)
+    unfolding begin
+    each_call (GetReader i) = free_readable i calls.throws_type_error calls.get_reader refl (λ n. alone_reader i (InitializeReader (next_id s.promises)) n)
+    each_call (GetWriter i) = free_writable i calls.throws_type_error calls.get_writer refl (λ n. alone_writer i (write.SetUpWriter (record { ready = next_id s.promises; closed = next_id (fresh s.promises) })) n)
+    each_call (Cancel i reason) = free_readable i calls.rejected (calls.cancel reason) refl (λ n. alone_reader i (CancelStream reason (next_id s.promises)) n)
+    each_call (CancelBy l reason) = with_reader (calls.cancel reason) calls.rejected l (lock_at l s) refl (λ i n. alone_reader i (CancelStream reason (next_id s.promises)) n) refl
+    each_call (Read l) = with_reader calls.read calls.rejected l (lock_at l s) refl (λ i n. alone_reader i (ReadChunk (Promise (next_id s.promises))) n) refl
+    each_call (Write l v) = with_writer (calls.write v) calls.rejected l (lock_at l s) refl (λ i n. alone_writer i (write.Write v (next_id s.promises)) n) refl
+    each_call (Close i) = free_writable i calls.rejected calls.close refl (λ n. alone_writer i (write.Close (next_id s.promises)) n)
+    each_call (CloseBy l) = with_writer calls.close calls.rejected l (lock_at l s) refl (λ i n. alone_writer i (write.Close (next_id s.promises)) n) refl
+    each_call (Abort i reason) = free_writable i calls.rejected (calls.abort reason) refl (λ n. aborts reason i (writable.answered_abort (writable_at i s)) n)
+    each_call (AbortBy l reason) = with_writer (calls.abort reason) calls.rejected l (lock_at l s) refl (λ i n. aborts reason i (writable.answered_abort (writable_at i s)) n) refl
+    each_call (Release l) = releases l (lock_at l s) refl
+    each_call (Pipe from to prevent signal) = pipes from to prevent signal
+    each_call c = apart c tt
+
+-- of a pipe that isn't over
+
+holds-own : (d : Side) (x : pipe.Slots) → is_over x.phase ≡ false → one_if (holds d (end_of d x) x) ≡ 1
+holds-own d x e = let self = is_same-refl (end_of d x) in rw (e, self) refl
+
+locked_one : (locked : Bool) (m n : ℕ) → 1 ≤ n → one_if locked ≡ m + n → (locked ≡ true) × (m ≡ 0)
+locked_one true m n few e = (refl, omega (arith, few, e))
+locked_one false m n few e = absurd (omega (arith, few, e))
+
+end-owned : (entries : List Entry) (d : Side) (p : PipeId) (x : pipe.Slots) → let s : Slots = run entries empty in slice_get s.pipes p.0 ≡ Some x → is_over x.phase ≡ false
+    → (is_locked d (end_of d x) s ≡ true) × (in_locks d (end_of d x) s.locks ≡ 0)
+end-owned entries d p x e over =
+    let s : Slots = run entries empty in
+    let one = holds-own d x over in
+    let few = pipes-there d (end_of d x) p.0 s.pipes x e in
+    let even = ((run-locked entries).each d (end_of d x)).even in
+    locked_one (is_locked d (end_of d x) s) (in_locks d (end_of d x) s.locks) (in_pipes d (end_of d x) s.pipes) (omega (arith, one, few)) (omega (arith, even))
+
+owned : (entries : List Entry) (p : PipeId) (x : pipe.Slots) → let s : Slots = run entries empty in slice_get s.pipes p.0 ≡ Some x → is_over x.phase ≡ false → Owns s x
+owned entries p x e over =
+    let s : Slots = run entries empty in
+    let source = end-owned entries Reading p x e over in
+    let dest = end-owned entries Writing p x e over in
+    let no_reader : (l : LockId) (closed : PromiseId) → lock_at l s ≢ Some (Reader (Some x.source) closed) =
+    λ l closed f. let n = locks-there Reading x.source l.0 s.locks (Reader (Some x.source) closed) f in let self = ap one_if (is_same-refl x.source) in let none = source.1 in omega (arith, n, self, none) in
+    let no_writer : (l : LockId) → lock_at l s ≢ Some (WriterLock x.dest) =
+    λ l f. let n = locks-there Writing x.dest l.0 s.locks (WriterLock x.dest) f in let self = ap one_if (is_same-refl x.dest) in let none = dest.1 in omega (arith, n, self, none) in
+    record {
+      locked = λ d. (end-owned entries d p x e over).0;
+      no_reader = no_reader;
+      no_writer = no_writer;
+      calls = each_call x.source x.dest s source.0 dest.0 no_reader no_writer;
+    }
+
+pub each_pipe_owns_its_ends : EachPipeOwnsItsEnds
+each_pipe_owns_its_ends entries p = by (slice_get (run entries empty).pipes p.0) refl
+  where
+    by : (o : Option pipe.Slots) → slice_get (run entries empty).pipes p.0 ≡ o → is_over (as_pipe o).phase ≡ false → Owns (run entries empty) (as_pipe o)
+    by None e over = cc
+    by (Some x) e over = owned entries p x e over
+
+-- and of two
+
+both : (entries : List Entry) (p q : PipeId) (d : Side) (x y : pipe.Slots) → let s : Slots = run entries empty in slice_get s.pipes p.0 ≡ Some x → slice_get s.pipes q.0 ≡ Some y → p ≢ q → is_over x.phase ≡ false → is_over y.phase ≡ false
+    → end_of d x ≢ end_of d y
+both entries p q d x y e f n over out same =
+    let s : Slots = run entries empty in
+    let i : StreamId = end_of d x in
+    let one = holds-own d x over in
+    let other : one_if (holds d i y) ≡ 1 = rw same (holds-own d y out) in
+    let two = pipes-two d i p.0 q.0 s.pipes x y (λ m. n (ap (λ (k : ℕ). record { 0 = k }) m)) e f in
+    let locks = (end-owned entries d p x e over).1 in
+    let k = (run-locked entries).each d i in
+    let even = k.even in
+    let most = one_most (is_locked d i s) in
+    absurd (omega (arith, one, other, two, even, most))
+  where
+    one_most : (b : Bool) → one_if b ≤ 1
+    one_most true = omega arith
+    one_most false = omega arith
+
+pub no_two_pipes_share_an_end : NoTwoPipesShareAnEnd
+no_two_pipes_share_an_end entries p q n = by (slice_get (run entries empty).pipes p.0) (slice_get (run entries empty).pipes q.0) refl refl
+  where
+    by : (o r : Option pipe.Slots) → slice_get (run entries empty).pipes p.0 ≡ o → slice_get (run entries empty).pipes q.0 ≡ r → is_over (as_pipe o).phase ≡ false → is_over (as_pipe r).phase ≡ false
+        → (d : Side) → end_of d (as_pipe o) ≢ end_of d (as_pipe r)
+    by None r e f over out d = cc
+    by (Some x) None e f over out d = cc
+    by (Some x) (Some y) e f over out d = both entries p q d x y e f n over out

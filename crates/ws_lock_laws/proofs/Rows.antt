@@ -1,0 +1,324 @@
+-- The holders of the lock of a stream are as many as its lock says, where what stands on the agenda is counted: each effect keeps that.
+use Rattle.std.proofs.Common.{◌≡◌, ℕ, ◌+◌, ◌≤◌, Bool, true, false, if◌then◌else◌, List, [], ◌∷◌, ◌++◌, Option, Some, None, Result, slice_get, refl, sym, ap, subst, ◌∙◌, arith}
+use Rattle.ws_value.specs.declared.{ids.PipeId.{PipeId}, ids.PromiseId.{PromiseId}, ids.StreamId.{StreamId}, value.Plain.{Plain}}
+use Rattle.ws_steps.specs.declared.effects.Effect.{Effect}
+use Rattle.ws_steps.specs.declared.effects.Effect.TheVariants.{Readable as OnReadable, Writable as OnWritable, Pipe as OnPipe}
+use Rattle.ws_steps.specs.declared.pipes.{Phase.{Phase}, PipeOperation.{PipeOperation}, PipeOperation.TheVariants.{ActionSettled}}
+use Rattle.ws_steps.specs.declared.readable.{ReadableOperation.{ReadableOperation}, ReadableOperation.TheVariants.{InitializeReader, ReleaseReader}}
+use Rattle.ws_steps.specs.declared.writable.{WritableOperation.{WritableOperation}, WritableOperation.TheVariants.{SetUpWriter, ReleaseWriter}, Writer.{Writer}}
+use Rattle.ws_steps.specs.Histories.{is_same}
+use Rattle.ws_steps.specs.Operations.{readable_operation, writable_operation, pipe_operation}
+use Rattle.ws_steps.specs.Pipes as pipe
+use Rattle.ws_steps.specs.Readable as readable
+use Rattle.ws_steps.specs.Readable.{reader_generic_initialize}
+use Rattle.ws_steps.specs.Writable as writable
+use Rattle.ws_steps.specs.Writable.{set_up_writer}
+use Rattle.ws_steps.specs.Slots.{Slots, Stream, ReadableStream, WritableStream, Done, nothing, ends_at, is_readable_stream, is_writable_stream, has_readable, has_writable, put_readable, put_writable, on_readable, on_writable, on_pipe_at}
+use Rattle.ws_steps.specs.Turns.{row}
+use Rattle.ws_laws.proofs.Lists.{Each, each-append, each-map}
+use Rattle.ws_laws.proofs.PipeDoes.{pipe-causes}
+use Rattle.ws_laws.proofs.Rows.{Causes, IsApart, IsNoPipe, row-causes, row-locks, row-pipes, row-streams}
+use Rattle.ws_laws.proofs.Tables.{either, is_same-refl, same_id, readable_acts, writable_acts, readable_there, writable_there, on_readable-same, on_readable-other, on_writable-same, on_writable-other}
+use Rattle.ws_writable_laws.proofs.Shape.{all, all-append}
+use Rattle.ws_promise_laws.proofs.Acting.{EachWaits, waits-expects}
+use Rattle.ws_promise_laws.proofs.Streams.{goes_on}
+use Rattle.ws_read_laws.proofs.Line.{has_after, operation-reader}
+use Rattle.ws_pipe_laws.specs.PipeHistory.{is_over}
+use Rattle.ws_pipe_laws.specs.PipeLaws.{starting}
+use Rattle.ws_pipe_laws.specs.PipeLaws.{one_if}
+use Rattle.ws_lock_laws.specs.Locks.{Side, Reading, Writing, has_lock, holders, is_locked}
+use Rattle.ws_lock_laws.proofs.Agenda.{takes, goes, reader_takes, reader_goes, writer_takes, writer_goes, IsNoTake, IsCalm, calm_takes, takes_none-all, goes_none-all, TakesFirst, takes_first, takes_behind}
+use Rattle.ws_lock_laws.proofs.Holding.{pipes-set}
+use Rattle.ws_lock_laws.proofs.Piping.{pipe_takes, operation-goes}
+use Rattle.ws_lock_laws.proofs.Writers.{has_writer, operation-writer}
+
+-- what an effect causes
+
+-- none takes a lock
+take-causes : (e : Effect) → Causes IsNoTake e
+take-causes e = grind (arith, pipe_takes)
+
+-- and but for operations of pipes none lets go of one
+calm-causes : (e : Effect) → IsNoPipe e → Causes IsCalm e
+calm-causes e n = grind (arith, n)
+
+-- those that take a lock cause nothing
+
+initializes : (j : StreamId) (closed : PromiseId) (s : Slots) → (row (OnReadable j (InitializeReader closed)) s).caused ≡ []
+unfolding row reader_generic_initialize
+initializes j closed s = grind arith
+
+sets_up : (j : StreamId) (w : Writer) (s : Slots) → (row (OnWritable j (SetUpWriter w)) s).caused ≡ []
+unfolding row set_up_writer
+sets_up j w s = grind arith
+
+-- so these stand first
+
+pub first-row : (s : Slots) (e : Effect) (es : List Effect) → TakesFirst (e ∷ es) → TakesFirst ((row e s).caused ++ es)
+first-row s (OnReadable j (InitializeReader closed)) es t = rw (initializes j closed s) t
+first-row s (OnWritable j (SetUpWriter w)) es t = rw (sets_up j w s) t
+first-row s e es t = takes_first ((row e s).caused ++ es) (each-append IsNoTake (row e s).caused es (row-causes IsNoTake e s (take-causes e)) (takes_behind e es tt t))
+
+-- whether there is such a stream
+abbrev pub is_there : Side → Option Stream → Bool
+is_there Reading o = is_readable_stream o
+is_there Writing o = is_writable_stream o
+
+-- The holders, and those on the agenda that let go, are as many as the lock, and those on the agenda that take it; and these are one at
+-- most, and none where there is no such stream
+pub record Balanced (d : Side) (i : StreamId) (s : Slots) (es : List Effect) : Type 0 where
+  pub even : one_if (is_locked d i s) + all (takes d i) es ≡ holders d i s + all (goes d i) es
+  pub few : holders d i s + all (goes d i) es ≤ one_if (is_there d (slice_get s.streams i.0))
+
+-- of the lock of a stream, where these are what is counted before and after
+
+takes_one : (n x t : ℕ) (there l z : Bool) → t ≡ 1 → z ≡ (if there then true else l) → one_if l + (t + n) ≡ x → x ≤ one_if there → one_if z + 0 ≡ one_if l + t
+takes_one n x t true true z one e k few = absurd (omega (arith, one, k, few))
+takes_one n x t true false z one e k few = rw e (omega (arith, one))
+takes_one n x t false l z one e k few = absurd (omega (arith, one, k, few))
+
+goes_one : (n x g : ℕ) (there l z : Bool) → g ≡ 1 → z ≡ (if there then false else l) → one_if l + n ≡ x → x ≤ one_if there → g ≤ x → n ≡ 0 → one_if z + g ≡ one_if l + 0
+goes_one n x g true true z one e k few less none = rw e (omega (arith, one))
+goes_one n x g true false z one e k few less none = absurd (omega (arith, one, k, less, none))
+goes_one n x g false l z one e k few less none = absurd (omega (arith, one, few, less))
+
+stays : (there l z : Bool) → z ≡ (if there then l else l) → one_if z + 0 ≡ one_if l + 0
+stays true l z e = rw e refl
+stays false l z e = rw e refl
+
+module _ (d : Side) (i : StreamId) where
+  -- the lock goes on so, and nothing else that counts is changed
+  carried : (s z : Slots) (e : Effect) (es caused : List Effect) → one_if (is_locked d i z) + goes d i e ≡ one_if (is_locked d i s) + takes d i e → is_there d (slice_get z.streams i.0) ≡ is_there d (slice_get s.streams i.0)
+      → holders d i z ≡ holders d i s → Each IsCalm caused → Balanced d i s (e ∷ es) → Balanced d i z (caused ++ es)
+  carried s z e es caused lock there same calm k =
+      let t = takes_none-all d i caused (each-map IsCalm IsNoTake calm_takes caused calm) in
+      let g = goes_none-all d i caused calm in
+      let m = all-append (takes d i) caused es in
+      let n = all-append (goes d i) caused es in
+      let even = k.even in
+      let few = k.few in
+      record {
+        even = omega (arith, lock, same, t, g, m, n, even);
+        few = rw there (omega (arith, same, g, n, few));
+      }
+
+  -- an effect that leaves the streams, the locks and the pipes
+  apart : (s : Slots) (e : Effect) (es : List Effect) → takes d i e ≡ 0 → goes d i e ≡ 0 → IsApart e → IsNoPipe e → Balanced d i s (e ∷ es) → Balanced d i (row e s).slots ((row e s).caused ++ es)
+  apart s e es t g a n k =
+      let streams = row-streams e s a in
+      let locks = row-locks e s in
+      let pipes = row-pipes e s n in
+      carried s (row e s).slots e es (row e s).caused (rw streams (omega (arith, t, g))) (rw streams refl) (rw (locks, pipes) refl) (row-causes IsCalm e s (calm-causes e n)) k
+
+-- what is the same of every readable stream is the same after an operation of one
+pub readable-same : {A : Type 0} (f : Option Stream → A) (c : A) (i j : StreamId) (operation : readable.Acts → readable.Acts) (s : Slots) (same : Bool) → same ≡ is_same i j → ((r : readable.Slots) → f (Some (ReadableStream r)) ≡ c)
+    → f (slice_get (on_readable operation j s).slots.streams i.0) ≡ f (slice_get s.streams i.0)
+readable-same f c i j operation s false n is = ap f (on_readable-other operation j s i (sym n))
+readable-same f c i j operation s true e is =
+    rw (same_id i j (sym e)) (either (λ (d : Done). f (slice_get d.slots.streams j.0) ≡ f (slice_get s.streams j.0)) (has_readable j s) (put_readable j s (operation (readable_acts j s))) (nothing s)
+    (λ h.
+    let after : f (slice_get (put_readable j s (operation (readable_acts j s))).slots.streams j.0) ≡ c = ap f (rw h at (on_readable-same operation j s h)) ∙ is (operation (readable_acts j s)).slots in
+    after ∙ sym (ap f (readable_there (slice_get s.streams j.0) h) ∙ is _))
+    (λ h. refl))
+
+pub writable-same : {A : Type 0} (f : Option Stream → A) (c : A) (i j : StreamId) (operation : writable.Acts → writable.Acts) (s : Slots) (same : Bool) → same ≡ is_same i j → ((w : writable.Slots) → f (Some (WritableStream w)) ≡ c)
+    → f (slice_get (on_writable operation j s).slots.streams i.0) ≡ f (slice_get s.streams i.0)
+writable-same f c i j operation s false n is = ap f (on_writable-other operation j s i (sym n))
+writable-same f c i j operation s true e is =
+    rw (same_id i j (sym e)) (either (λ (d : Done). f (slice_get d.slots.streams j.0) ≡ f (slice_get s.streams j.0)) (has_writable j s) (put_writable j s (operation (writable_acts j s))) (nothing s)
+    (λ h.
+    let after : f (slice_get (put_writable j s (operation (writable_acts j s))).slots.streams j.0) ≡ c = ap f (rw h at (on_writable-same operation j s h)) ∙ is (operation (writable_acts j s)).slots in
+    after ∙ sym (ap f (writable_there (slice_get s.streams j.0) h) ∙ is _))
+    (λ h. refl))
+
+-- the reader of a stream after an operation of it
+reader-after : (i : StreamId) (operation : ReadableOperation) (s : Slots) → let l : Bool = is_locked Reading i s in
+    is_locked Reading i (on_readable (readable_operation i operation) i s).slots ≡ (if has_readable i s then has_after operation l else l)
+reader-after i operation s = by (has_readable i s) refl
+  where
+    by : (there : Bool) → there ≡ has_readable i s → let l : Bool = is_locked Reading i s in
+        is_locked Reading i (on_readable (readable_operation i operation) i s).slots ≡ (if there then has_after operation l else l)
+    by true e =
+        ap (has_lock Reading) (on_readable-same (readable_operation i operation) i s (sym e))
+        ∙ (operation-reader i operation (readable_acts i s) ∙ sym (ap (λ (o : Option Stream). has_after operation (has_lock Reading o)) (readable_there (slice_get s.streams i.0) (sym e))))
+    by false e = rw (← e) refl
+
+writer-after : (i : StreamId) (operation : WritableOperation) (s : Slots) → let l : Bool = is_locked Writing i s in
+    is_locked Writing i (on_writable (writable_operation i operation) i s).slots ≡ (if has_writable i s then has_writer operation l else l)
+writer-after i operation s = by (has_writable i s) refl
+  where
+    by : (there : Bool) → there ≡ has_writable i s → let l : Bool = is_locked Writing i s in
+        is_locked Writing i (on_writable (writable_operation i operation) i s).slots ≡ (if there then has_writer operation l else l)
+    by true e =
+        ap (has_lock Writing) (on_writable-same (writable_operation i operation) i s (sym e))
+        ∙ (operation-writer i operation (writable_acts i s) ∙ sym (ap (λ (o : Option Stream). has_writer operation (has_lock Writing o)) (writable_there (slice_get s.streams i.0) (sym e))))
+    by false e = rw (← e) refl
+
+-- an operation of a readable stream
+
+reader_turns : (i : StreamId) (operation : ReadableOperation) (n x : ℕ) (there l z : Bool) → z ≡ (if there then has_after operation l else l) → one_if l + (reader_takes i i operation + n) ≡ x → x ≤ one_if there
+    → reader_goes i i operation ≤ x → (operation ≡ ReleaseReader → n ≡ 0) → one_if z + reader_goes i i operation ≡ one_if l + reader_takes i i operation
+reader_turns i (InitializeReader closed) n x there l z e k few less none = takes_one n x (one_if (is_same i i)) there l z (ap one_if (is_same-refl i)) e k few
+reader_turns i ReleaseReader n x there l z e k few less none = goes_one n x (one_if (is_same i i)) there l z (ap one_if (is_same-refl i)) e (omega (arith, k)) few less (none refl)
+reader_turns i _ n x there l z e k few less none = stays there l z e
+
+writer_turns : (i : StreamId) (operation : WritableOperation) (n x : ℕ) (there l z : Bool) → z ≡ (if there then has_writer operation l else l) → one_if l + (writer_takes i i operation + n) ≡ x → x ≤ one_if there
+    → writer_goes i i operation ≤ x → (operation ≡ ReleaseWriter → n ≡ 0) → one_if z + writer_goes i i operation ≡ one_if l + writer_takes i i operation
+writer_turns i (SetUpWriter w) n x there l z e k few less none = takes_one n x (one_if (is_same i i)) there l z (ap one_if (is_same-refl i)) e k few
+writer_turns i ReleaseWriter n x there l z e k few less none = goes_one n x (one_if (is_same i i)) there l z (ap one_if (is_same-refl i)) e (omega (arith, k)) few less (none refl)
+writer_turns i _ n x there l z e k few less none = stays there l z e
+
+-- of another stream
+
+reader_elsewhere : (i j : StreamId) (operation : ReadableOperation) → is_same i j ≡ false → (reader_takes i j operation ≡ 0) × (reader_goes i j operation ≡ 0)
+reader_elsewhere i j operation n = grind (arith, n)
+
+writer_elsewhere : (i j : StreamId) (operation : WritableOperation) → is_same i j ≡ false → (writer_takes i j operation ≡ 0) × (writer_goes i j operation ≡ 0)
+writer_elsewhere i j operation n = grind (arith, n)
+
+released_first : (j : StreamId) (operation : ReadableOperation) (es : List Effect) (i : StreamId) → TakesFirst (OnReadable j operation ∷ es) → operation ≡ ReleaseReader → all (takes Reading i) es ≡ 0
+released_first j operation es i t e = takes_none-all Reading i es (subst (λ (o : ReadableOperation). TakesFirst (OnReadable j o ∷ es)) e t)
+
+writer_first : (j : StreamId) (operation : WritableOperation) (es : List Effect) (i : StreamId) → TakesFirst (OnWritable j operation ∷ es) → operation ≡ ReleaseWriter → all (takes Writing i) es ≡ 0
+writer_first j operation es i t e = takes_none-all Writing i es (subst (λ (o : WritableOperation). TakesFirst (OnWritable j o ∷ es)) e t)
+
+readable_calm : (j : StreamId) (operation : ReadableOperation) (s : Slots) → Each IsCalm (row (OnReadable j operation) s).caused
+readable_calm j operation s = row-causes IsCalm (OnReadable j operation) s (calm-causes (OnReadable j operation) tt)
+
+writable_calm : (j : StreamId) (operation : WritableOperation) (s : Slots) → Each IsCalm (row (OnWritable j operation) s).caused
+writable_calm j operation s = row-causes IsCalm (OnWritable j operation) s (calm-causes (OnWritable j operation) tt)
+
+-- each leaves who has a stream
+readable_holders : (d : Side) (i j : StreamId) (operation : ReadableOperation) (s : Slots) → holders d i (row (OnReadable j operation) s).slots ≡ holders d i s
+readable_holders d i j operation s = rw (row-locks (OnReadable j operation) s, row-pipes (OnReadable j operation) s tt) refl
+
+writable_holders : (d : Side) (i j : StreamId) (operation : WritableOperation) (s : Slots) → holders d i (row (OnWritable j operation) s).slots ≡ holders d i s
+writable_holders d i j operation s = rw (row-locks (OnWritable j operation) s, row-pipes (OnWritable j operation) s tt) refl
+
+readable_reading : (i j : StreamId) (operation : ReadableOperation) (s : Slots) (es : List Effect) (same : Bool) → same ≡ is_same i j → TakesFirst (OnReadable j operation ∷ es) → Balanced Reading i s (OnReadable j operation ∷ es)
+    → Balanced Reading i (row (OnReadable j operation) s).slots ((row (OnReadable j operation) s).caused ++ es)
+unfolding row
+readable_reading i j operation s es false n t k =
+    let other = on_readable-other (readable_operation j operation) j s i (sym n) in
+    let none = reader_elsewhere i j operation (sym n) in
+    let a = none.0 in
+    let b = none.1 in
+    let lock : one_if (is_locked Reading i (row (OnReadable j operation) s).slots) ≡ one_if (is_locked Reading i s) = ap (λ (o : Option Stream). one_if (has_lock Reading o)) other in
+    carried Reading i s (row (OnReadable j operation) s).slots (OnReadable j operation) es (row (OnReadable j operation) s).caused
+    (omega (arith, lock, a, b)) (ap (is_there Reading) other) (readable_holders Reading i j operation s) (readable_calm j operation s) k
+readable_reading i j operation s es true e t k =
+    let is : i ≡ j = same_id i j (sym e) in
+    let here : Balanced Reading i s (OnReadable i operation ∷ es) = rw (← is) at k in
+    let even = here.even in
+    let few = here.few in
+    let there = readable-same is_readable_stream true i i (readable_operation i operation) s true (sym (is_same-refl i)) (λ r. refl) in
+    rw (← is) (carried Reading i s (row (OnReadable i operation) s).slots (OnReadable i operation) es (row (OnReadable i operation) s).caused
+    (reader_turns i operation (all (takes Reading i) es) (holders Reading i s + (reader_goes i i operation + all (goes Reading i) es)) (has_readable i s) (is_locked Reading i s) (is_locked Reading i (row (OnReadable i operation) s).slots)
+    (reader-after i operation s) even few (omega arith) (released_first j operation es i t))
+    there (readable_holders Reading i i operation s) (readable_calm i operation s) here)
+
+writable_writing : (i j : StreamId) (operation : WritableOperation) (s : Slots) (es : List Effect) (same : Bool) → same ≡ is_same i j → TakesFirst (OnWritable j operation ∷ es) → Balanced Writing i s (OnWritable j operation ∷ es)
+    → Balanced Writing i (row (OnWritable j operation) s).slots ((row (OnWritable j operation) s).caused ++ es)
+unfolding row
+writable_writing i j operation s es false n t k =
+    let other = on_writable-other (writable_operation j operation) j s i (sym n) in
+    let none = writer_elsewhere i j operation (sym n) in
+    let a = none.0 in
+    let b = none.1 in
+    let lock : one_if (is_locked Writing i (row (OnWritable j operation) s).slots) ≡ one_if (is_locked Writing i s) = ap (λ (o : Option Stream). one_if (has_lock Writing o)) other in
+    carried Writing i s (row (OnWritable j operation) s).slots (OnWritable j operation) es (row (OnWritable j operation) s).caused
+    (omega (arith, lock, a, b)) (ap (is_there Writing) other) (writable_holders Writing i j operation s) (writable_calm j operation s) k
+writable_writing i j operation s es true e t k =
+    let is : i ≡ j = same_id i j (sym e) in
+    let here : Balanced Writing i s (OnWritable i operation ∷ es) = rw (← is) at k in
+    let even = here.even in
+    let few = here.few in
+    let there = writable-same is_writable_stream true i i (writable_operation i operation) s true (sym (is_same-refl i)) (λ r. refl) in
+    rw (← is) (carried Writing i s (row (OnWritable i operation) s).slots (OnWritable i operation) es (row (OnWritable i operation) s).caused
+    (writer_turns i operation (all (takes Writing i) es) (holders Writing i s + (writer_goes i i operation + all (goes Writing i) es)) (has_writable i s) (is_locked Writing i s) (is_locked Writing i (row (OnWritable i operation) s).slots)
+    (writer-after i operation s) even few (omega arith) (writer_first j operation es i t))
+    there (writable_holders Writing i i operation s) (writable_calm i operation s) here)
+
+readable_writing : (i j : StreamId) (operation : ReadableOperation) (s : Slots) (es : List Effect) → Balanced Writing i s (OnReadable j operation ∷ es)
+    → Balanced Writing i (row (OnReadable j operation) s).slots ((row (OnReadable j operation) s).caused ++ es)
+unfolding row
+readable_writing i j operation s es k =
+    let lock : is_locked Writing i (row (OnReadable j operation) s).slots ≡ is_locked Writing i s = readable-same (has_lock Writing) false i j (readable_operation j operation) s (is_same i j) refl (λ r. refl) in
+    let there = readable-same is_writable_stream false i j (readable_operation j operation) s (is_same i j) refl (λ r. refl) in
+    carried Writing i s (row (OnReadable j operation) s).slots (OnReadable j operation) es (row (OnReadable j operation) s).caused
+    (rw lock refl) there (readable_holders Writing i j operation s) (readable_calm j operation s) k
+
+writable_reading : (i j : StreamId) (operation : WritableOperation) (s : Slots) (es : List Effect) → Balanced Reading i s (OnWritable j operation ∷ es)
+    → Balanced Reading i (row (OnWritable j operation) s).slots ((row (OnWritable j operation) s).caused ++ es)
+unfolding row
+writable_reading i j operation s es k =
+    let lock : is_locked Reading i (row (OnWritable j operation) s).slots ≡ is_locked Reading i s = writable-same (has_lock Reading) false i j (writable_operation j operation) s (is_same i j) refl (λ r. refl) in
+    let there = writable-same is_readable_stream false i j (writable_operation j operation) s (is_same i j) refl (λ r. refl) in
+    carried Reading i s (row (OnWritable j operation) s).slots (OnWritable j operation) es (row (OnWritable j operation) s).caused
+    (rw lock refl) there (writable_holders Reading i j operation s) (writable_calm j operation s) k
+
+-- an operation of a pipe
+
+goes_over : (phase : Phase) → goes_on phase ≡ true → is_over phase ≡ false
+goes_over phase e = grind (arith, e)
+
+pub ending_over : (p : PipeId) (operation : PipeOperation) (s : Slots) (x : pipe.Slots) (es : List Effect) → slice_get s.pipes p.0 ≡ Some x → EachWaits s (OnPipe p operation ∷ es) → (o : Result Plain Plain) → operation ≡ ActionSettled o
+    → is_over x.phase ≡ false
+ending_over p operation s x es e waits o is = goes_over x.phase (rw e at (waits-expects p o s es (subst (λ (z : PipeOperation). EachWaits s (OnPipe p z ∷ es)) is waits p)))
+
+module _ (d : Side) (i : StreamId) where
+  pipe-none : (p : PipeId) (operation : PipeOperation) → (takes d i (OnPipe p operation) ≡ 0) × (goes d i (OnPipe p operation) ≡ 0)
+  pipe-none p operation = grind arith
+
+  pipe-place : (p : PipeId) (operation : PipeOperation) (s : Slots) (es : List Effect) (o : Option pipe.Slots) → slice_get s.pipes p.0 ≡ o → EachWaits s (OnPipe p operation ∷ es) → Balanced d i s (OnPipe p operation ∷ es)
+      → let r : Done = on_pipe_at (λ ends. pipe_operation p ends operation) p s o in Balanced d i r.slots (r.caused ++ es)
+  pipe-place p operation s es None e waits k =
+      let n = pipe-none p operation in
+      let t = n.0 in
+      let g = n.1 in
+      let even = k.even in
+      let few = k.few in
+      record { even = omega (arith, t, g, even); few = omega (arith, g, few) }
+  pipe-place p operation s es (Some x) e waits k =
+      let n = pipe-none p operation in
+      let t = n.0 in
+      let g = n.1 in
+      let b : pipe.Acts = pipe_operation p (ends_at x s) operation (starting x s.promises) in
+      let same = operation-goes d i p (ends_at x s) operation x s.promises (ending_over p operation s x es e waits) in
+      let set = pipes-set d i p.0 s.pipes x b.slots e in
+      let causes = (pipe-causes p (ends_at x s) operation (starting x s.promises) tt).1.1 in
+      let none = takes_none-all d i b.out.effects (each-map _ IsNoTake (pipe_takes p x.source x.dest) b.out.effects causes) in
+      let m = all-append (takes d i) b.out.effects es in
+      let l = all-append (goes d i) b.out.effects es in
+      let even = k.even in
+      let few = k.few in
+      record {
+        even = omega (arith, t, g, same, set, none, m, l, even);
+        few = omega (arith, t, g, same, set, l, few);
+      }
+
+  quiet-row : (s : Slots) (e : Effect) (es : List Effect) → IsApart e → IsNoPipe e → Balanced d i s (e ∷ es) → Balanced d i (row e s).slots ((row e s).caused ++ es)
+  quiet-row s e es a n k = apart d i s e es (none_takes e a) (none_goes e a) a n k
+    where
+      none_takes : (e : Effect) → IsApart e → takes d i e ≡ 0
+      none_takes e a = grind (arith, a)
+
+      none_goes : (e : Effect) → IsApart e → goes d i e ≡ 0
+      none_goes e a = grind (arith, a)
+
+readable-row : (d : Side) (i j : StreamId) (operation : ReadableOperation) (s : Slots) (es : List Effect) → TakesFirst (OnReadable j operation ∷ es) → Balanced d i s (OnReadable j operation ∷ es)
+    → Balanced d i (row (OnReadable j operation) s).slots ((row (OnReadable j operation) s).caused ++ es)
+readable-row Reading i j operation s es t k = readable_reading i j operation s es (is_same i j) refl t k
+readable-row Writing i j operation s es t k = readable_writing i j operation s es k
+
+writable-row : (d : Side) (i j : StreamId) (operation : WritableOperation) (s : Slots) (es : List Effect) → TakesFirst (OnWritable j operation ∷ es) → Balanced d i s (OnWritable j operation ∷ es)
+    → Balanced d i (row (OnWritable j operation) s).slots ((row (OnWritable j operation) s).caused ++ es)
+writable-row Reading i j operation s es t k = writable_reading i j operation s es k
+writable-row Writing i j operation s es t k = writable_writing i j operation s es (is_same i j) refl t k
+
+pub row-balanced : (d : Side) (i : StreamId) (s : Slots) (e : Effect) (es : List Effect) → TakesFirst (e ∷ es) → EachWaits s (e ∷ es) → Balanced d i s (e ∷ es) → Balanced d i (row e s).slots ((row e s).caused ++ es)
+unfolding row
+row-balanced d i s (OnReadable j operation) es t w k = readable-row d i j operation s es t k
+row-balanced d i s (OnWritable j operation) es t w k = writable-row d i j operation s es t k
+row-balanced d i s (OnPipe p operation) es t w k = pipe-place d i p operation s es (slice_get s.pipes p.0) refl w k
+row-balanced d i s e es t w k = quiet-row d i s e es tt tt k

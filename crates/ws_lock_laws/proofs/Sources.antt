@@ -1,0 +1,367 @@
+-- The reads that wait at streams over every run: none where there is no reader, and at the source of a pipe its own alone, one where it is
+-- reading.
+use Rattle.std.proofs.Common.{◌≡◌, ◌⊎◌, inl, inr, ⊎_elim, ℕ, zero, suc, ◌+◌, ◌≤◌, Bool, true, false, nat_eq, if◌then◌else◌, is_some, List, [], ◌∷◌, ◌++◌, length, All, Option, Some, None, slice_get, refl, sym, ap, subst, arith}
+use Rattle.std.proofs.lemmas.List.Elements.{All-nil, All-cons}
+use Rattle.ws_value.specs.declared.{ids.LockId.{LockId}, ids.PipeId.{PipeId}, ids.PromiseId.{PromiseId}, ids.SignalId.{SignalId}, ids.StreamId.{StreamId}, value.Plain.{Plain}}
+use Rattle.ws_steps.specs.declared.calls.Call.{Call}
+use Rattle.ws_steps.specs.declared.effects.Effect.{Effect}
+use Rattle.ws_steps.specs.declared.effects.Effect.TheVariants.{Readable as OnReadable, Writable as OnWritable, Pipe as OnPipe}
+use Rattle.ws_steps.specs.declared.{effects.Owner.TheVariants.{Host}, locks.Lock.TheVariants.{Reader}, promises.Job.{Job}, pipes.PipeOperation.{PipeOperation}, pipes.Prevent.{Prevent}}
+use Rattle.ws_steps.specs.declared.readable.{ReadRequest.{ReadRequest}, ReadRequest.TheVariants.{Promise, Pipe as PipeRequest}, ReadableOperation.{ReadableOperation}, ReadableOperation.TheVariants.{ReleaseReader, Read}}
+use Rattle.ws_steps.specs.declared.writable.WritableOperation.TheVariants.{ReleaseWriter}
+use Rattle.ws_steps.specs.Calls as calls
+use Rattle.ws_steps.specs.Calls.{Begun, begin}
+use Rattle.ws_steps.specs.Histories.{is_same}
+use Rattle.ws_steps.specs.Jobs.{job_effects}
+use Rattle.ws_steps.specs.Operations.{pipe_operation}
+use Rattle.ws_steps.specs.Pipes as pipe
+use Rattle.ws_steps.specs.Promises.{Table, next_id, fresh, is_pending_at, after_next_job}
+use Rattle.ws_steps.specs.Readable as readable
+use Rattle.ws_steps.specs.Run.{Entry, run}
+use Rattle.ws_steps.specs.Slots.{Slots, Stream, ReadableStream, WritableStream, empty, with_promises, ends_at, readable_at, as_readable, lock_at, as_pipe}
+use Rattle.ws_steps.specs.Turns.{row}
+use Rattle.ws_steps.specs.Writable as writable
+use Rattle.ws_laws.proofs.Begin.{begin-makes}
+use Rattle.ws_laws.proofs.EachCall.{each_call}
+use Rattle.ws_laws.proofs.Lists.{Each, each-append}
+use Rattle.ws_laws.proofs.Tables.{is_same-refl, same_id, eq_numbers, unequal_numbers, place_last, place_before}
+use Rattle.ws_laws.proofs.Walker.{Stays, run-stays}
+use Rattle.ws_writable_laws.proofs.Shape.{all, all-append}
+use Rattle.ws_promise_laws.proofs.Acting.{EachWaits, waits-heard, waits-forgotten}
+use Rattle.ws_pipe_laws.specs.PipeHistory.{is_over}
+use Rattle.ws_pipe_laws.specs.PipeLaws.{starting}
+use Rattle.ws_pipe_laws.specs.PipeLaws.{held_values, one_if, in_stream, in_streams}
+use Rattle.ws_pipe_laws.proofs.Reading.{of_effect, no_answer}
+use Rattle.ws_lock_laws.specs.Locks.{Reading, holds, is_locked}
+use Rattle.ws_lock_laws.specs.LockLaws.{EachSourceIsReadByItsPipe, EachReadingHasOneRead}
+use Rattle.ws_lock_laws.proofs.Agenda.{goes}
+use Rattle.ws_lock_laws.proofs.Asking.{requests_at, any, other, Queued, ReadsFirst, Asks, none-first, none-asks, EachQueued, row-queued, pipe-asks, other-silent, holds_before, one_at_most}
+use Rattle.ws_lock_laws.proofs.Begins.{free_reader}
+use Rattle.ws_lock_laws.proofs.Holding.{locks-there, pipes-there}
+use Rattle.ws_lock_laws.proofs.PipeReads.{IsNoRead}
+use Rattle.ws_lock_laws.proofs.Piping.{operation-goes}
+use Rattle.ws_lock_laws.proofs.Requests.{count}
+use Rattle.ws_lock_laws.proofs.Rows.{is_there, Balanced, ending_over}
+use Rattle.ws_lock_laws.proofs.Runs.{Locked, locked-stays, run-locked}
+use Rattle.ws_lock_laws.proofs.Underway.{Under, has_held, reads_now, Finds, finds, row-under}
+
+-- at each moment of a run
+record Known (s : Slots) (es : List Effect) : Type 0 where
+  locked : Locked s es
+  first : ReadsFirst es
+  asks : Asks s es
+  queued : EachQueued s
+  under : (p : PipeId) → Under p s es
+
+-- each effect
+
+before : (s : Slots) (e : Effect) (es : List Effect) → EachWaits s (e ∷ es) → (p : PipeId) (operation : PipeOperation) → e ≡ OnPipe p operation → (i : StreamId) (x : pipe.Slots) → slice_get s.pipes p.0 ≡ Some x
+    → holds Reading i (pipe_operation p (ends_at x s) operation (starting x s.promises)).slots ≡ true → holds Reading i x ≡ true
+before s e es w p operation is i x f h =
+    let waits : EachWaits s (OnPipe p operation ∷ es) = subst (λ (z : Effect). EachWaits s (z ∷ es)) is w in
+    let same = operation-goes Reading i p (ends_at x s) operation x s.promises (ending_over p operation s x es f waits) in
+    holds_before (holds Reading i (pipe_operation p (ends_at x s) operation (starting x s.promises)).slots) (holds Reading i x) (all (goes Reading i) (pipe_operation p (ends_at x s) operation (starting x s.promises)).out.effects) same h
+
+row-asks : (s : Slots) (e : Effect) (es : List Effect) → ReadsFirst (e ∷ es) → ((i : StreamId) → Balanced Reading i (row e s).slots ((row e s).caused ++ es)) → ReadsFirst ((row e s).caused ++ es) × Asks (row e s).slots ((row e s).caused ++ es)
+unfolding row
+row-asks s (OnPipe p operation) es first k = pipe-asks p operation s es (slice_get s.pipes p.0) refl first k
+row-asks s e es first k = let n = other-silent s e es tt first in (none-first ((row e s).caused ++ es) n, none-asks (row e s).slots ((row e s).caused ++ es) n)
+
+row-known : (s : Slots) (e : Effect) (es : List Effect) → Known s (e ∷ es) → Known (row e s).slots ((row e s).caused ++ es)
+row-known s e es k =
+    let locked = locked-stays.row s e es k.locked in
+    let asks = row-asks s e es k.first (λ i. locked.each Reading i) in
+    record {
+      locked = locked;
+      first = asks.0;
+      asks = asks.1;
+      queued = row-queued s e es k.locked.first (λ i. k.locked.each Reading i) k.asks (before s e es k.locked.waits) k.queued;
+      under = λ p. row-under p s e es (λ i operation is. by p i operation is) (k.under p);
+    }
+  where
+    by : (p : PipeId) (i : StreamId) (operation : ReadableOperation) → e ≡ OnReadable i operation → Finds p i operation s
+    by p i operation is = let l : Known s (OnReadable i operation ∷ es) = subst (λ (z : Effect). Known s (z ∷ es)) is k in finds p i operation s es l.locked.first (l.locked.each Reading i) l.asks l.queued
+
+-- calls and jobs
+
+silent : (z : Slots) (es : List Effect) → Each IsNoRead es → ReadsFirst es × Asks z es
+silent z es n = (none-first es n, none-asks z es n)
+
+renewed-silent : (t : Table) (kept : Bool) → Each IsNoRead (calls.reject_renewed t kept)
+renewed-silent t kept = grind arith
+
+begins-silent : (me : PipeId) (a b : PromiseId) (signal : Option SignalId) (reason : Option Plain) → Each IsNoRead (calls.pipe_begins me a b signal reason)
+begins-silent me a b signal (Some r) = (tt, tt)
+begins-silent me a b None None = grind arith
+begins-silent me a b (Some g) None = grind arith
+
+job-silent : (job : Job) → Each IsNoRead (job_effects job)
+job-silent job = grind arith
+
+-- a reader that has the stream asks, and no pipe has it
+reader-asks : (s : Slots) (l : LockId) (i : StreamId) (closed q : PromiseId) → lock_at l s ≡ Some (Reader (Some i) closed) → Balanced Reading i s [] → Asks s (OnReadable i (Read (Promise q)) ∷ [])
+reader-asks s l i closed q e b =
+    let n = locks-there Reading i l.0 s.locks (Reader (Some i) closed) e in
+    let self = ap one_if (is_same-refl i) in
+    (omega (arith, n, self), λ p h. by p (slice_get s.pipes p.0) refl h)
+  where
+    by : (p : PipeId) (o : Option pipe.Slots) → slice_get s.pipes p.0 ≡ o → holds Reading i (as_pipe o) ≡ true → other p (Promise q) ≡ 0
+    by p None f h = absurd (cc)
+    by p (Some x) f h =
+        let n = locks-there Reading i l.0 s.locks (Reader (Some i) closed) e in
+        let self = ap one_if (is_same-refl i) in
+        let m = pipes-there Reading i p.0 s.pipes x f in
+        let one = ap one_if h in
+        let few = b.few in
+        let most = one_at_most (is_there Reading (slice_get s.streams i.0)) in
+        absurd (omega (arith, n, self, m, one, few, most))
+
+call-asks : (c : Call) (s : Slots) → ((i : StreamId) → Balanced Reading i s []) → ReadsFirst (begin c s).done.caused × Asks (begin c s).done.slots (begin c s).done.caused
+call-asks c s k = each_call (λ (b : Begun). ReadsFirst b.done.caused × Asks b.done.slots b.done.caused) c s (record {
+  unchanged = λ reply. (tt, tt);
+  rejected = (tt, tt);
+  make_readable = λ mark size start. (tt, tt);
+  make_writable = λ mark size start. (tt, tt);
+  get_reader = λ i e. (tt, tt);
+  get_writer = λ i e. (tt, tt);
+  release_reader = λ l closed i e.
+      let kept : Bool = readable.is_readable (readable_at i s).state in
+      silent (calls.release_reader l closed i s).done.slots _ (each-append IsNoRead (calls.reject_renewed s.promises kept) (OnReadable i ReleaseReader ∷ []) (renewed-silent s.promises kept) (tt, tt));
+  release_writer = λ l i w e f.
+      let ready : Bool = is_pending_at w.ready s.promises in
+      let t : Table = calls.with_renewed s.promises ready in
+      let closed : Bool = is_pending_at w.closed t in
+      silent (calls.release_writer l i w s).done.slots _ (each-append IsNoRead (calls.reject_renewed s.promises ready) _ (renewed-silent s.promises ready)
+      (each-append IsNoRead (calls.reject_renewed t closed) (OnWritable i ReleaseWriter ∷ []) (renewed-silent t closed) (tt, tt)));
+  cancel = λ reason i. (tt, tt);
+  read = λ l i closed e f. (tt, reader-asks s l i closed (next_id s.promises) f (k i));
+  write = λ l v i e. (tt, tt);
+  close = λ i. (tt, tt);
+  abort = λ reason i e. (tt, tt);
+  enqueue = λ i v e can. (tt, tt);
+  finish = λ i. (tt, tt);
+  fail_readable = λ i reason. (tt, tt);
+  fail_writable = λ i reason. (tt, tt);
+  pipe = λ source dest prevent signal e f l m.
+      ((tt, (tt, begins-silent (record { 0 = length s.pipes }) (next_id s.promises) (next_id (fresh (fresh s.promises))) signal (calls.reason_of signal s))), tt);
+  make_signal = (tt, tt);
+  trigger = λ a reason. (tt, tt);
+  settle = λ h answer q e. (tt, tt);
+})
+
+-- a pipe takes a source without requests
+
+appended : (ps : List pipe.Slots) (y : pipe.Slots) (n : ℕ) → (slice_get (ps ++ y ∷ []) n ≡ slice_get ps n) ⊎ ((slice_get ps n ≡ None) × (slice_get (ps ++ y ∷ []) n ≡ Some y))
+appended [] y zero = inr (refl, refl)
+appended [] y (suc n) = inl refl
+appended (x ∷ ps) y zero = inl refl
+appended (x ∷ ps) y (suc n) = appended ps y n
+
+other_few : (p : PipeId) (rs : List ReadRequest) → count (other p) rs ≤ count any rs
+other_few p [] = omega arith
+other_few p (r ∷ rs) = let n = one r in let rest = other_few p rs in omega (arith, n, rest)
+  where
+    one : (r : ReadRequest) → other p r ≤ 1
+    one r = grind arith
+
+pipe-made : (i : StreamId) (source dest : StreamId) (prevent : Prevent) (signal : Option SignalId) (promise : PromiseId) (s : Slots) → is_some (readable_at source s).reader ≡ false → Queued i (slice_get s.streams i.0) s.pipes
+    → Queued i (slice_get s.streams i.0) (s.pipes ++ pipe.set_up source dest prevent signal promise ∷ [])
+pipe-made i source dest prevent signal promise s free k = record { free = k.free; own = λ p h. by p h (appended s.pipes y p.0) }
+  where
+    y : pipe.Slots
+    y = pipe.set_up source dest prevent signal promise
+
+    by : (p : PipeId) → holds Reading i (as_pipe (slice_get (s.pipes ++ y ∷ []) p.0)) ≡ true
+        → (slice_get (s.pipes ++ y ∷ []) p.0 ≡ slice_get s.pipes p.0) ⊎ ((slice_get s.pipes p.0 ≡ None) × (slice_get (s.pipes ++ y ∷ []) p.0 ≡ Some y)) → count (other p) (requests_at (slice_get s.streams i.0)) ≤ 0
+    by p h (inl e) = k.own p (rw e at h)
+    by p h (inr e) =
+        let same : is_same i source ≡ true = rw e.1 at h in
+        let f : is_locked Reading i s ≡ false = rw (same_id i source same) (free_reader (slice_get s.streams source.0) free).0 in
+        let none = k.free f in
+        let few = other_few p (requests_at (slice_get s.streams i.0)) in
+        omega (arith, none, few)
+
+-- a new stream has none
+stream-made : (i : StreamId) (x : Stream) (s : Slots) → requests_at (Some x) ≡ [] → Queued i (slice_get s.streams i.0) s.pipes → Queued i (slice_get (s.streams ++ x ∷ []) i.0) s.pipes
+stream-made i x s none k = by (nat_eq i.0 (length s.streams)) refl
+  where
+    by : (here : Bool) → here ≡ nat_eq i.0 (length s.streams) → Queued i (slice_get (s.streams ++ x ∷ []) i.0) s.pipes
+    by false n = rw (place_before s.streams x i.0 (unequal_numbers i.0 (length s.streams) (sym n))) k
+    by true e =
+        let now : slice_get (s.streams ++ x ∷ []) i.0 ≡ Some x = rw (eq_numbers i.0 (length s.streams) (sym e)) (place_last s.streams x) in
+        rw (now) (record { free = λ f. rw none (omega arith); own = λ p h. rw none (omega arith) })
+
+call-queued : (c : Call) (s : Slots) → EachQueued s → EachQueued (begin c s).done.slots
+call-queued c s k = each_call (λ (b : Begun). EachQueued b.done.slots) c s (record {
+  unchanged = λ reply. k;
+  rejected = k;
+  make_readable = λ mark size start i. stream-made i (ReadableStream (readable.set_up Host mark size)) s refl (k i);
+  make_writable = λ mark size start i. stream-made i (WritableStream (writable.set_up Host mark size)) s refl (k i);
+  get_reader = λ i e. k;
+  get_writer = λ i e. k;
+  release_reader = λ l closed i e. k;
+  release_writer = λ l i w e f. k;
+  cancel = λ reason i. k;
+  read = λ l i closed e f. k;
+  write = λ l v i e. k;
+  close = λ i. k;
+  abort = λ reason i e. k;
+  enqueue = λ i v e can. k;
+  finish = λ i. k;
+  fail_readable = λ i reason. k;
+  fail_writable = λ i reason. k;
+  pipe = λ source dest prevent signal e f free m i. pipe-made i source dest prevent signal (next_id (fresh (fresh (fresh s.promises)))) s free (k i);
+  make_signal = k;
+  trigger = λ a reason. k;
+  settle = λ h answer q e. k;
+})
+
+-- and no read of a pipe is under way by a call
+
+streams-append : (p : PipeId) (xs : List Stream) (x : Stream) → in_stream p x ≡ 0 → in_streams p (xs ++ x ∷ []) ≡ in_streams p xs
+streams-append p [] x e = omega (arith, e)
+streams-append p (z ∷ zs) x e = let h = streams-append p zs x e in omega (arith, h)
+
+module _ (p : PipeId) where
+  renewed-none : (t : Table) (kept : Bool) (es : List Effect) → all (of_effect p) es ≡ 0 → all (of_effect p) (calls.reject_renewed t kept ++ es) ≡ 0
+  renewed-none t true es n = n
+  renewed-none t false es n = omega (arith, n)
+
+  begins-none : (me : PipeId) (a b : PromiseId) (signal : Option SignalId) (reason : Option Plain) → all (of_effect p) (calls.pipe_begins me a b signal reason) ≡ 0
+  begins-none me a b signal (Some r) = let n = no_answer (nat_eq p.0 me.0) in omega (arith, n)
+  begins-none me a b None None = refl
+  begins-none me a b (Some g) None = refl
+
+  call-none : (c : Call) (s : Slots) → all (of_effect p) (begin c s).done.caused ≡ 0
+  call-none c s = each_call (λ (b : Begun). all (of_effect p) b.done.caused ≡ 0) c s (record {
+    unchanged = λ reply. refl;
+    rejected = refl;
+    make_readable = λ mark size start. refl;
+    make_writable = λ mark size start. refl;
+    get_reader = λ i e. refl;
+    get_writer = λ i e. refl;
+    release_reader = λ l closed i e. renewed-none s.promises (readable.is_readable (readable_at i s).state) _ refl;
+    release_writer = λ l i w e f.
+        let ready : Bool = is_pending_at w.ready s.promises in
+        let t : Table = calls.with_renewed s.promises ready in
+        renewed-none s.promises ready _ (renewed-none t (is_pending_at w.closed t) (OnWritable i ReleaseWriter ∷ []) refl);
+    cancel = λ reason i. refl;
+    read = λ l i closed e f. refl;
+    write = λ l v i e. refl;
+    close = λ i. refl;
+    abort = λ reason i e. refl;
+    enqueue = λ i v e can. refl;
+    finish = λ i. refl;
+    fail_readable = λ i reason. refl;
+    fail_writable = λ i reason. refl;
+    pipe = λ source dest prevent signal e f l m.
+        let n = begins-none (record { 0 = length s.pipes }) (next_id s.promises) (next_id (fresh (fresh s.promises))) signal (calls.reason_of signal s) in
+        omega (arith, n);
+    make_signal = refl;
+    trigger = λ a reason. refl;
+    settle = λ h answer q e. refl;
+  })
+
+  pipe-under : (s : Slots) (source dest : StreamId) (prevent : Prevent) (signal : Option SignalId) (promise : PromiseId) → Under p s [] → Under p (record s { pipes = s.pipes ++ pipe.set_up source dest prevent signal promise ∷ [] }) []
+  pipe-under s source dest prevent signal promise k =
+      let y : pipe.Slots = pipe.set_up source dest prevent signal promise in
+      ⊎_elim (λ (e : slice_get (s.pipes ++ y ∷ []) p.0 ≡ slice_get s.pipes p.0). rw e k)
+      (λ (e : (slice_get s.pipes p.0 ≡ None) × (slice_get (s.pipes ++ y ∷ []) p.0 ≡ Some y)).
+      let none : in_streams p s.streams + 0 + 0 ≡ 0 = rw e.0 at k in
+      rw e.1 (omega (arith, none)))
+      (appended s.pipes y p.0)
+
+  stream-under : (s : Slots) (x : Stream) → in_stream p x ≡ 0 → Under p s [] → Under p (record s { streams = s.streams ++ x ∷ [] }) []
+  stream-under s x n k = let m = streams-append p s.streams x n in omega (arith, k, m)
+
+  job-none : (job : Job) → all (of_effect p) (job_effects job) ≡ 0
+  job-none job = grind (arith, all-append, no_answer)
+
+  call-under : (s : Slots) (c : Call) → Under p s [] → Under p (begin c s).done.slots (begin c s).done.caused
+  call-under s c k =
+      let m = begin-makes (λ z. Under p z []) (record {
+        promise = λ z k. k;
+        locks = λ z ls k. k;
+        hosts = λ z hs k. k;
+        pipe = λ z source dest prevent signal promise k. pipe-under z source dest prevent signal promise k;
+        signal = λ z k. k;
+        readable = λ z mark size k. stream-under z _ refl k;
+        writable = λ z mark size k. stream-under z _ refl k;
+      }) c s k in
+      let n = call-none c s in
+      omega (arith, m, n)
+
+known-stays : Stays Known
+known-stays = record {
+  row = row-known;
+  call = λ s c k.
+      let asks = call-asks c s (λ i. k.locked.each Reading i) in
+      record { locked = locked-stays.call s c k.locked; first = asks.0; asks = asks.1; queued = call-queued c s k.queued; under = λ p. call-under p s c (k.under p) };
+  job = λ s job e k.
+      let asks = silent (with_promises (after_next_job s.promises) s) (job_effects job) (job-silent job) in
+      record {
+        locked = locked-stays.job s job e k.locked;
+        first = asks.0;
+        asks = asks.1;
+        queued = k.queued;
+        under = λ p. let w = k.under p in let n = job-none p job in omega (arith, w, n);
+      };
+  answered = λ s p k. record { locked = locked-stays.answered s p k.locked; first = tt; asks = tt; queued = k.queued; under = k.under };
+  older = λ s k. record { locked = locked-stays.older s k.locked; first = tt; asks = tt; queued = k.queued; under = k.under };
+}
+
+run-known : (entries : List Entry) → Known (run entries empty) []
+run-known entries =
+    run-stays Known known-stays
+    (λ s k. record {
+      locked = record { first = tt; each = λ d i. let b = k.locked.each d i in record { even = b.even; few = b.few }; waits = waits-heard s k.locked.waits };
+      first = tt;
+      asks = tt;
+      queued = k.queued;
+      under = k.under;
+    })
+    (λ s p k. record {
+      locked = record { first = tt; each = λ d i. let b = k.locked.each d i in record { even = b.even; few = b.few }; waits = waits-forgotten s p k.locked.waits };
+      first = tt;
+      asks = tt;
+      queued = k.queued;
+      under = k.under;
+    })
+    entries empty
+    (record { locked = run-locked []; first = tt; asks = tt; queued = λ i. record { free = λ f. omega arith; own = λ p h. omega arith }; under = λ p. refl })
+
+-- the laws
+
+own_all : (p : PipeId) (rs : List ReadRequest) → count (other p) rs ≤ 0 → All (λ r. r ≡ PipeRequest p) rs
+own_all p [] n = All-nil (λ r. r ≡ PipeRequest p)
+own_all p (r ∷ rs) n = All-cons (λ r. r ≡ PipeRequest p) r rs (one r (omega (arith, n))) (own_all p rs (omega (arith, n)))
+  where
+    number : (q : PipeId) (same : Bool) → same ≡ nat_eq p.0 q.0 → (if same then 0 else 1) ≤ 0 → PipeRequest q ≡ PipeRequest p
+    number q true e n = ap (λ (k : ℕ). PipeRequest (record { 0 = k })) (sym (eq_numbers p.0 q.0 (sym e)))
+    number q false e n = absurd (omega (arith, n))
+
+    one : (r : ReadRequest) → other p r ≤ 0 → r ≡ PipeRequest p
+    one (Promise q) n = absurd (omega (arith, n))
+    one (PipeRequest q) n = number q (nat_eq p.0 q.0) refl n
+
+same_requests : (o : Option Stream) → requests_at o ≡ (as_readable o).requests
+same_requests None = refl
+same_requests (Some (ReadableStream r)) = refl
+same_requests (Some (WritableStream w)) = refl
+
+holds-own : (x : pipe.Slots) → is_over x.phase ≡ false → holds Reading x.source x ≡ true
+holds-own x e = let self = is_same-refl x.source in rw (e, self) refl
+
+pub each_source_is_read_by_its_pipe : EachSourceIsReadByItsPipe
+each_source_is_read_by_its_pipe entries p over =
+    let s : Slots = run entries empty in
+    let x : pipe.Slots = as_pipe (slice_get s.pipes p.0) in
+    let few = ((run-known entries).queued x.source).own p (holds-own x over) in
+    rw (← same_requests (slice_get s.streams x.source.0)) (own_all p (requests_at (slice_get s.streams x.source.0)) few)
+
+under_of : (n : ℕ) (o : Option pipe.Slots) → n + 0 + has_held o ≡ one_if (reads_now o) → n + length (held_values (as_pipe o).held) ≡ one_if (as_pipe o).reading
+under_of n None w = omega (arith, w)
+under_of n (Some x) w = omega (arith, w)
+
+pub each_reading_has_one_read : EachReadingHasOneRead
+each_reading_has_one_read entries p = let s : Slots = run entries empty in under_of (in_streams p s.streams) (slice_get s.pipes p.0) ((run-known entries).under p)

@@ -1,0 +1,29 @@
+//! Laws over every run of a realm: who has the locks of streams, over every list of calls and jobs, of events that the host takes and of promises that it lets go of, from the empty realm.
+#![tactic(auto)]
+
+ghost use Rattle.ws_lock_laws.specs.LockLaws.{EachLockHasOneHolder, EachPipeOwnsItsEnds, NoTwoPipesShareAnEnd, EachReadingHasOneRead, EachSourceIsReadByItsPipe};
+
+/// In every run, of each stream: a readable stream has a reader where one reader or pipe has the stream, and it has none where none has it; and so a writable stream and its writer. Two never have it. A reader or a writer has its stream until it is released, and a pipe has its two streams until it is over.
+pub fn each_lock_has_one_holder()
+    ensures { EachLockHasOneHolder }
+{}
+
+/// In every run, of each pipe that isn't over: its source and its destination are locked, no reader has its source, and no writer has its destination. So no call of the host, whichever it is, reads from its source, cancels, releases or locks it, or writes to its destination, closes, aborts, releases or locks it.
+pub fn each_pipe_owns_its_ends()
+    ensures { EachPipeOwnsItsEnds }
+{}
+
+/// In every run, two pipes that aren't over have different sources and different destinations.
+pub fn no_two_pipes_share_an_end()
+    ensures { NoTwoPipesShareAnEnd }
+{}
+
+/// In every run, at the source of a pipe that isn't over no read waits but the pipe's own.
+pub fn each_source_is_read_by_its_pipe()
+    ensures { EachSourceIsReadByItsPipe }
+{}
+
+/// In every run, where a pipe is reading, one read of it waits at a stream, or it holds the chunk of one; and where it isn't, none waits, and it holds none.
+pub fn each_reading_has_one_read()
+    ensures { EachReadingHasOneRead }
+{}

@@ -1,0 +1,2 @@
+pub mod PipeHistory
+pub mod PipeLaws

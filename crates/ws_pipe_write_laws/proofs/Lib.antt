@@ -1,0 +1,6 @@
+pub mod Paying
+pub mod Owed
+pub mod Queued
+pub mod Orderly
+pub mod Settled
+pub mod WhileActing

@@ -1,0 +1,427 @@
+-- The reactions to a pipe's writes, with the jobs and the operations that they lead to, are at most its writes that haven't settled.
+use Rattle.std.proofs.Common.{◌≡◌, ℕ, zero, suc, ◌+◌, ◌≤◌, Bool, true, false, nat_eq, List, [], ◌∷◌, ◌++◌, length, Option, Some, None, Result, Err, slice_get, slice_set, refl, sym, ap, subst, if◌then◌else◌, arith}
+use Rattle.ws_value.specs.declared.ids.{PipeId.{PipeId}, PromiseId.{PromiseId}, SignalId.{SignalId}, StreamId.{StreamId}}
+use Rattle.ws_value.specs.declared.value.{Outcome.TheVariants.{Given, Finished}, Plain.{Plain}, Plain.TheVariants.{Undefined}, Value.{Value}, Value.TheVariants.{Plain as PlainValue}}
+use Rattle.ws_steps.specs.declared.{calls.Call.{Call}, calls.HostCall.{HostCall}, calls.Event.TheVariants.{Signal as SignalEvent}, calls.StartBy.{StartBy}, calls.StartBy.TheVariants.{Now, Later}}
+use Rattle.ws_steps.specs.declared.effects.Effect.{Effect}
+use Rattle.ws_steps.specs.declared.effects.Effect.TheVariants.{Readable as OnReadable, Writable as OnWritable, Pipe as OnPipe, Signal as OnSignal, StartAlgorithm, PullAlgorithm, CancelAlgorithm, WriteAlgorithm, CloseAlgorithm, AbortAlgorithm, ChunkSteps, CloseSteps, ErrorSteps, Give, Settle, Queue, CallHost}
+use Rattle.ws_steps.specs.declared.effects.{Owner.{Owner}, Owner.TheVariants.{Host}, Use.{Use}, Use.TheVariants.{React}}
+use Rattle.ws_steps.specs.declared.pipes.{Phase.{Phase}, Phase.TheVariants.{Flowing, Waiting, Acting, Over}}
+use Rattle.ws_steps.specs.declared.pipes.{PipeOperation.{PipeOperation}, SignalOperation.{SignalOperation}}
+use Rattle.ws_steps.specs.declared.promises.{Job.{Job}, Job.TheVariants.{Reaction as ReactionJob, Follow, Settle as SettleJob, Micro as MicroJob}, Micro.TheVariants.{PipeLook, PipeWrite, PipeNoParts}}
+use Rattle.ws_steps.specs.declared.promises.{Step.{Step}, Step.TheVariants.{ReadableStart, ReadablePull, ReturnUndefined, WritableStart, WritableWrite, WritableClose, WritableAbort, PipeEnds, PipeReady, PipeWrote, PipeActed, PipePart}}
+use Rattle.ws_steps.specs.declared.readable.{ReadRequest.{ReadRequest}, ReadRequest.TheVariants.{Promise, Pipe as PipeRequest}, ReadableOperation.{ReadableOperation}}
+use Rattle.ws_steps.specs.declared.writable.{WritableOperation.{WritableOperation}, WritableOperation.TheVariants.{ReleaseWriter}}
+use Rattle.ws_steps.specs.Calls as calls
+use Rattle.ws_steps.specs.Calls.{Begun, begin}
+use Rattle.ws_steps.specs.Effects.{Out, cause, settling}
+use Rattle.ws_steps.specs.Jobs.{job_effects, steps, resolved, returned}
+use Rattle.ws_steps.specs.Operations.{readable_operation, writable_operation, pipe_operation, signal_operation}
+use Rattle.ws_steps.specs.Pipes as pipe
+use Rattle.ws_steps.specs.Pipes.{Acts, causing, with_slots, reacts, forgetting, finalize, ending, act_with, abort_dest, abort_part, cancel_part, parts_of, reacts_to_all, waiting_for, wait_for_all, act_by_signal, act_by, act, proceed, is_flowing, shut_down, shutdown, unless, wait_for_ready, read_or_wait, look_by, look, look_ready, go_on_in, go_on, keep_chunk, read_ended, write, write_in, write_held, write_chunk, write_ended, action_settled, settle_whole, part_settled, no_parts, abort, abort_all}
+use Rattle.ws_steps.specs.Promises.{Table, next_id, fresh, next_job, after_next_job, is_pending_at, watch, let_go}
+use Rattle.ws_steps.specs.Run.{after_event, after_forgetting}
+use Rattle.ws_steps.specs.Readable as readable
+use Rattle.ws_steps.specs.Slots.{Slots, Done, nothing, causes, found, ends_at, empty, with_promises, has_readable, has_writable, readable_at, owner_at, on_readable, on_writable, put_readable, put_writable, on_pipe_at, on_signal_at}
+use Rattle.ws_steps.specs.Turns.{row, call_host, start_algorithm, pull_algorithm, cancel_algorithm, write_algorithm, close_algorithm, abort_algorithm, chunk_steps, close_steps, error_steps}
+use Rattle.ws_steps.specs.Writable.{write_to_host}
+use Rattle.ws_steps.proofs.PromiseLaws.{slice_get-set_other}
+use Rattle.ws_laws.proofs.Begin.{begin-makes}
+use Rattle.ws_laws.proofs.EachCall.{each_call}
+use Rattle.ws_laws.proofs.PipeDoes.{OfPipe, pipe-does}
+use Rattle.ws_laws.proofs.ReadableDoes.{readable-does}
+use Rattle.ws_laws.proofs.Tables.{either, eq_numbers, unequal_numbers, readable_acts, writable_acts}
+use Rattle.ws_laws.proofs.Walker.{Stays}
+use Rattle.ws_laws.proofs.Weights.{weigh, taken_off, weigh-fresh, weigh-settle, weigh-answer, weigh-micro, weigh-next, weigh-watch, weigh-let_go}
+use Rattle.ws_laws.proofs.WritableDoes.{writable-does}
+use Rattle.ws_writable_laws.proofs.Agenda.{weight-tell, weight-gift, weight-host}
+use Rattle.ws_writable_laws.proofs.Shape.{of_reaction, weight, all, all-append}
+use Rattle.ws_laws.proofs.Lists.{each-map}
+use Rattle.ws_laws.proofs.PipeDoes.{pipe-causes}
+use Rattle.ws_pipe_laws.specs.PipeHistory.{is_acting}
+use Rattle.ws_pipe_laws.specs.PipeLaws.{starting, one_if, in_reactions, in_entry, in_entries, in_jobs, outstanding, of_write, of_action, EachPipeIsOwed}
+use Rattle.ws_steps.specs.Promises as promises
+use Rattle.ws_steps.specs.Run.{Entry, run}
+use Rattle.ws_steps.specs.Slots.{as_pipe}
+use Rattle.ws_steps.specs.declared.promises.{Reaction.{Reaction}, Reaction.TheVariants.{Perform, Adopt}}
+use Rattle.ws_laws.proofs.Walker.{run-stays}
+use Rattle.ws_laws.proofs.Weights.{of_reactions, of_entry, of_entries, of_jobs}
+use Rattle.ws_promise_laws.proofs.Acting.{EachWaits, waits-stays, waits-heard, waits-forgotten, none-waits}
+use Rattle.ws_promise_laws.proofs.PipeActs as acts
+use Rattle.ws_promise_laws.proofs.Tokens as tokens
+use Rattle.ws_pipe_laws.proofs.Reading.{no_answer}
+use Rattle.ws_pipe_write_laws.proofs.Paying.{is_ended, pays, Covered, operation-covered, PaysNone, none-paid, other-paid}
+
+-- the writes of the pipe in a place that haven't settled
+abbrev pub unsettled_of : Option pipe.Slots → ℕ
+unsettled_of None = 0
+unsettled_of (Some x) = x.unsettled
+
+abbrev pub Owes : PipeId → Slots → List Effect → Type 0
+Owes p s es = weight (of_write p) s.promises + all (pays p) es ≤ unsettled_of (slice_get s.pipes p.0)
+
+place_same : (ps : List pipe.Slots) (n : ℕ) (x y : pipe.Slots) → slice_get ps n ≡ Some x → slice_get (slice_set ps n y) n ≡ Some y
+place_same [] n x y e = cc
+place_same (z ∷ ps) zero x y e = refl
+place_same (z ∷ ps) (suc n) x y e = place_same ps n x y e
+
+-- effects
+
+module _ (p : PipeId) where
+  abbrev under_way : Table → ℕ
+  under_way t = weight (of_write p) t
+
+  lighter : (t : Table) → OfPipe (λ z. under_way z ≤ under_way t)
+  lighter t = record {
+    fresh = λ z h. let k = weigh-fresh (of_reaction (of_write p)) z in omega (arith, h, k);
+    settle = λ z q o h. let k = weigh-settle (of_reaction (of_write p)) q o z in omega (arith, h, k);
+    micro = λ z m h. let k = weigh-micro (of_reaction (of_write p)) m z in omega (arith, h, k);
+  }
+
+  pipe_waits : (q : PipeId) (operation : PipeOperation) (s : Slots) (es : List Effect) (o : Option pipe.Slots) (same : Bool) → slice_get s.pipes q.0 ≡ o → same ≡ nat_eq p.0 q.0 → Owes p s (OnPipe q operation ∷ es)
+      → let d : Done = on_pipe_at (λ ends. pipe_operation q ends operation) q s o in Owes p d.slots (d.caused ++ es)
+  pipe_waits q operation s es None same e n w = omega (arith, w)
+  pipe_waits q operation s es (Some x) true e n w =
+      let b : Acts = pipe_operation q (ends_at x s) operation (starting x s.promises) in
+      let number : p.0 ≡ q.0 = eq_numbers p.0 q.0 (sym n) in
+      let is : p ≡ q = ap (λ (n : ℕ). record { 0 = n }) number in
+      let place : slice_get (slice_set s.pipes q.0 b.slots) p.0 ≡ Some b.slots = rw number (place_same s.pipes q.0 x b.slots e) in
+      let there : slice_get s.pipes p.0 ≡ Some x = rw number e in
+      let m : ℕ = under_way s.promises + all (pays p) es in
+      let before : under_way s.promises + (is_ended operation + all (pays p) es) ≤ x.unsettled = rw (there, ← n) at w in
+      let after : Covered m p b = subst (λ (r : PipeId). Covered m p (pipe_operation r (ends_at x s) operation (starting x s.promises))) is (operation-covered m p (ends_at x s) operation x s.promises (omega (arith, before))) in
+      let light : under_way b.out.promises ≤ under_way s.promises = pipe-does (λ z. under_way z ≤ under_way s.promises) (lighter s.promises) q (ends_at x s) operation (starting x s.promises) (omega arith) in
+      let c = all-append (pays p) b.out.effects es in
+      rw place (omega (arith, after, light, c))
+  pipe_waits q operation s es (Some x) false e n w =
+      let a : Acts = record { slots = x; out = found s } in
+      let b : Acts = pipe_operation q (ends_at x s) operation a in
+      let place : slice_get (slice_set s.pipes q.0 b.slots) p.0 ≡ slice_get s.pipes p.0 = slice_get-set_other s.pipes q.0 p.0 b.slots (λ i. unequal_numbers p.0 q.0 (sym n) (sym i)) in
+      let none : all (pays p) b.out.effects ≡ 0 = none-paid p b.out.effects (each-map _ (PaysNone p) (other-paid p q (sym n) x.source x.dest) b.out.effects (pipe-causes q (ends_at x s) operation a tt).1.1) in
+      let light : under_way b.out.promises ≤ under_way s.promises = pipe-does (λ z. under_way z ≤ under_way s.promises) (lighter s.promises) q (ends_at x s) operation a (omega arith) in
+      let c = all-append (pays p) b.out.effects es in
+      rw place (omega (arith, none, light, c, w))
+
+  -- every other effect leaves the pipes, and what it leads to it led to before
+  abbrev Carries : Slots → ℕ → Done → Type 0
+  Carries s n d = (d.slots.pipes ≡ s.pipes) × (under_way d.slots.promises + all (pays p) d.caused ≤ under_way s.promises + n)
+
+  carried : (s : Slots) (e : Effect) (es : List Effect) → Carries s (pays p e) (row e s) → Owes p s (e ∷ es) → Owes p (row e s).slots ((row e s).caused ++ es)
+  carried s e es k w = let l = k.1 in let c = all-append (pays p) (row e s).caused es in rw k.0 (omega (arith, l, c, w))
+
+  abbrev Light : Table → Out → Type 0
+  Light t x = under_way x.promises + all (pays p) x.effects ≤ under_way t
+
+  causes-light : (t : Table) (x : Out) (e : Effect) → pays p e ≡ 0 → Light t x → Light t (cause e x)
+  causes-light t x e n h = let c = all-append (pays p) x.effects (e ∷ []) in omega (arith, c, n, h)
+
+  settles-light : (t : Table) (x : Out) (q : PromiseId) (o : Result Plain Plain) → Light t x → Light t (settling q o x)
+  settles-light t x q o h = let k = weigh-settle (of_reaction (of_write p)) q o x.promises in omega (arith, h, k)
+
+  readable-carries : (i : StreamId) (operation : ReadableOperation) (s : Slots) → Carries s 0 (on_readable (readable_operation i operation) i s)
+  readable-carries i operation s =
+      let t : Table = s.promises in
+      let h : Light t (readable_operation i operation (readable_acts i s)).out = readable-does (Light t) i (record {
+        settle = λ x q o h. settles-light t x q o h;
+        pull = λ x h. causes-light t x (PullAlgorithm i) refl h;
+        cancel = λ x r q h. causes-light t x (CancelAlgorithm i r q) refl h;
+        chunk = λ x request v h. causes-light t x (ChunkSteps i request v) refl h;
+        close = λ x request h. causes-light t x (CloseSteps i request) refl h;
+        error = λ x request e h. causes-light t x (ErrorSteps i request e) refl h;
+      }) operation (readable_acts i s) (omega arith) in
+      either (Carries s 0) (has_readable i s) (put_readable i s (readable_operation i operation (readable_acts i s))) (nothing s) (λ e. (refl, omega (arith, h))) (λ e. (refl, omega arith))
+
+  writable-carries : (i : StreamId) (operation : WritableOperation) (s : Slots) → Carries s 0 (on_writable (writable_operation i operation) i s)
+  writable-carries i operation s =
+      let t : Table = s.promises in
+      let h : Light t (writable_operation i operation (writable_acts i s)).out = writable-does (Light t) i (record {
+        settle = λ x q o h. settles-light t x q o h;
+        fresh = λ x h. let k = weigh-fresh (of_reaction (of_write p)) x.promises in omega (arith, h, k);
+        tell = λ x r h. let k = weight-tell (of_write p) (SignalEvent i r) x.promises in omega (arith, h, k);
+        write = λ x h. causes-light t x (WriteAlgorithm i) refl h;
+        close = λ x h. causes-light t x (CloseAlgorithm i) refl h;
+        abort = λ x r q h. causes-light t x (AbortAlgorithm i r q) refl h;
+        hand_on = λ x v h. causes-light t x (write_to_host i v) refl h;
+      }) operation (writable_acts i s) (omega arith) in
+      either (Carries s 0) (has_writable i s) (put_writable i s (writable_operation i operation (writable_acts i s))) (nothing s) (λ e. (refl, omega (arith, h))) (λ e. (refl, omega arith))
+
+  aborts-none : (r : Plain) (ps : List PipeId) → all (pays p) (abort_all r ps) ≡ 0
+  aborts-none r [] = refl
+  aborts-none r (q ∷ ps) = let n = aborts-none r ps in let m = no_answer (nat_eq p.0 q.0) in omega (arith, n, m)
+
+  signal-none : (operation : SignalOperation) (x : pipe.Signal) → all (pays p) (signal_operation operation x).effects ≡ 0
+  signal-none operation x = grind (arith, aborts-none)
+
+  signal-carries : (a : SignalId) (operation : SignalOperation) (s : Slots) (o : Option pipe.Signal) → Carries s 0 (on_signal_at (signal_operation operation) a s o)
+  signal-carries a operation s None = (refl, omega arith)
+  signal-carries a operation s (Some x) = let n = signal-none operation x in (refl, omega (arith, n))
+
+  start-carries : (i : StreamId) (step : Step) (s : Slots) (start : StartBy) → Carries s (of_write p step) (start_algorithm i step s start)
+  start-carries i step s Now = (refl, omega arith)
+  start-carries i step s Later = let k = weigh-fresh (of_reaction (of_write p)) s.promises in (refl, omega (arith, k))
+
+  chunk-carries : (v : Value) (s : Slots) (request : ReadRequest) → Carries s 0 (chunk_steps v s request)
+  chunk-carries v s (Promise q) = let k = weigh-answer (of_reaction (of_write p)) q (Given v) s.promises in (refl, omega (arith, k))
+  chunk-carries v s (PipeRequest q) = let n = no_answer (nat_eq p.0 q.0) in (refl, omega (arith, n))
+
+  close-carries : (s : Slots) (request : ReadRequest) → Carries s 0 (close_steps s request)
+  close-carries s (Promise q) = let k = weigh-answer (of_reaction (of_write p)) q (Finished (PlainValue Undefined)) s.promises in (refl, omega (arith, k))
+  close-carries s (PipeRequest q) = let n = no_answer (nat_eq p.0 q.0) in (refl, omega (arith, n))
+
+  error-carries : (e : Plain) (s : Slots) (request : ReadRequest) → Carries s 0 (error_steps e s request)
+  error-carries e s (Promise q) = let k = weigh-settle (of_reaction (of_write p)) q (Err e) s.promises in (refl, omega (arith, k))
+  error-carries e s (PipeRequest q) = let n = no_answer (nat_eq p.0 q.0) in (refl, omega (arith, n))
+
+  -- the algorithms, by whose they are
+
+  pulls : (i : StreamId) (s : Slots) (owner : Owner) → Carries s 0 (causes (pull_algorithm i (React (ReadablePull i) None) owner) s)
+  pulls i s Host = (refl, omega arith)
+
+  cancels : (i : StreamId) (r : Plain) (q : PromiseId) (s : Slots) (owner : Owner) → Carries s 0 (causes (cancel_algorithm i r (React ReturnUndefined (Some q)) owner) s)
+  cancels i r q s Host = (refl, omega arith)
+
+  hands_on : (i : StreamId) (s : Slots) (owner : Owner) → Carries s 0 (causes (write_algorithm i owner) s)
+  hands_on i s Host = (refl, omega arith)
+
+  closes : (i : StreamId) (s : Slots) (owner : Owner) → Carries s 0 (causes (close_algorithm i (React (WritableClose i) None) owner) s)
+  closes i s Host = (refl, omega arith)
+
+  aborts-on : (i : StreamId) (r : Plain) (q : PromiseId) (s : Slots) (owner : Owner) → Carries s 0 (causes (abort_algorithm i r (React (WritableAbort i q) None) owner) s)
+  aborts-on i r q s Host = (refl, omega arith)
+
+  host-pipes : (call : HostCall) (u : Use) (s : Slots) → (call_host call u s).pipes ≡ s.pipes
+  unfolding call_host
+  host-pipes call u s = refl
+
+  pub row-owes : (s : Slots) (e : Effect) (es : List Effect) → Owes p s (e ∷ es) → Owes p (row e s).slots ((row e s).caused ++ es)
+  unfolding row
+  row-owes s (OnPipe q operation) es w = pipe_waits q operation s es (slice_get s.pipes q.0) (nat_eq p.0 q.0) refl refl w
+  row-owes s (OnReadable i operation) es w = carried s (OnReadable i operation) es (readable-carries i operation s) w
+  row-owes s (OnWritable i operation) es w = carried s (OnWritable i operation) es (writable-carries i operation s) w
+  row-owes s (OnSignal a operation) es w = carried s (OnSignal a operation) es (signal-carries a operation s (slice_get s.signals a.0)) w
+  row-owes s (StartAlgorithm i step start) es w = carried s (StartAlgorithm i step start) es (start-carries i step s start) w
+  row-owes s (PullAlgorithm i) es w = carried s (PullAlgorithm i) es (pulls i s (owner_at i s)) w
+  row-owes s (CancelAlgorithm i r q) es w = carried s (CancelAlgorithm i r q) es (cancels i r q s (owner_at i s)) w
+  row-owes s (WriteAlgorithm i) es w = carried s (WriteAlgorithm i) es (hands_on i s (owner_at i s)) w
+  row-owes s (CloseAlgorithm i) es w = carried s (CloseAlgorithm i) es (closes i s (owner_at i s)) w
+  row-owes s (AbortAlgorithm i r q) es w = carried s (AbortAlgorithm i r q) es (aborts-on i r q s (owner_at i s)) w
+  row-owes s (ChunkSteps i request v) es w = carried s (ChunkSteps i request v) es (chunk-carries v s request) w
+  row-owes s (CloseSteps i request) es w = carried s (CloseSteps i request) es (close-carries s request) w
+  row-owes s (ErrorSteps i request e) es w = carried s (ErrorSteps i request e) es (error-carries e s request) w
+  row-owes s (Give gift u) es w = let k = weight-gift (of_write p) gift u s.promises in omega (arith, k, w)
+  row-owes s (Settle q o) es w = let k = weigh-settle (of_reaction (of_write p)) q o s.promises in omega (arith, k, w)
+  row-owes s (Queue m) es w = let k = weigh-micro (of_reaction (of_write p)) m s.promises in omega (arith, k, w)
+  row-owes s (CallHost call u) es w = let k = weight-host (of_write p) call u s in rw (host-pipes call u s) (omega (arith, k, w))
+
+  -- calls
+
+  -- no pipe goes
+  grown : (ps : List pipe.Slots) (y : pipe.Slots) (n : ℕ) → unsettled_of (slice_get ps n) ≤ unsettled_of (slice_get (ps ++ y ∷ []) n)
+  grown [] y n = omega arith
+  grown (x ∷ ps) y zero = omega arith
+  grown (x ∷ ps) y (suc n) = grown ps y n
+
+  -- what is made leaves no less room and no more under way
+  abbrev Roomy : Slots → Slots → Type 0
+  Roomy s z = (unsettled_of (slice_get s.pipes p.0) ≤ unsettled_of (slice_get z.pipes p.0)) × (under_way z.promises ≤ under_way s.promises)
+
+  begin-roomy : (c : Call) (s : Slots) → Roomy s (begin c s).done.slots
+  begin-roomy c s = begin-makes (Roomy s) (record {
+    promise = λ z k. (k.0, let l = k.1 in let m = weigh-fresh (of_reaction (of_write p)) z.promises in omega (arith, l, m));
+    locks = λ z ls k. k;
+    hosts = λ z hs k. k;
+    pipe = λ z source dest prevent signal promise k. (let l = k.0 in let m = grown z.pipes (pipe.set_up source dest prevent signal promise) p.0 in omega (arith, l, m), k.1);
+    signal = λ z k. k;
+    readable = λ z mark size k. k;
+    writable = λ z mark size k. k;
+  }) c s (omega arith, omega arith)
+
+  renewed-none : (t : Table) (kept : Bool) (es : List Effect) → all (pays p) es ≡ 0 → all (pays p) (calls.reject_renewed t kept ++ es) ≡ 0
+  renewed-none t true es n = n
+  renewed-none t false es n = omega (arith, n)
+
+  begins-none : (me : PipeId) (a b : PromiseId) (signal : Option SignalId) (reason : Option Plain) → all (pays p) (calls.pipe_begins me a b signal reason) ≡ 0
+  begins-none me a b signal (Some r) = let n = no_answer (nat_eq p.0 me.0) in omega (arith, n)
+  begins-none me a b None None = refl
+  begins-none me a b (Some g) None = refl
+
+  call-none : (c : Call) (s : Slots) → all (pays p) (begin c s).done.caused ≡ 0
+  call-none c s = each_call (λ (b : Begun). all (pays p) b.done.caused ≡ 0) c s (record {
+    unchanged = λ reply. refl;
+    rejected = refl;
+    make_readable = λ mark size start. refl;
+    make_writable = λ mark size start. refl;
+    get_reader = λ i e. refl;
+    get_writer = λ i e. refl;
+    release_reader = λ l closed i e. renewed-none s.promises (readable.is_readable (readable_at i s).state) _ refl;
+    release_writer = λ l i w e f.
+        let ready : Bool = is_pending_at w.ready s.promises in
+        let t : Table = calls.with_renewed s.promises ready in
+        renewed-none s.promises ready _ (renewed-none t (is_pending_at w.closed t) (OnWritable i ReleaseWriter ∷ []) refl);
+    cancel = λ reason i. refl;
+    read = λ l i closed e f. refl;
+    write = λ l v i e. refl;
+    close = λ i. refl;
+    abort = λ reason i e. refl;
+    enqueue = λ i v e can. refl;
+    finish = λ i. refl;
+    fail_readable = λ i reason. refl;
+    fail_writable = λ i reason. refl;
+    pipe = λ source dest prevent signal e f l m.
+        let n = begins-none (record { 0 = length s.pipes }) (next_id s.promises) (next_id (fresh (fresh s.promises))) signal (calls.reason_of signal s) in
+        omega (arith, n);
+    make_signal = refl;
+    trigger = λ a reason. refl;
+    settle = λ h answer q e. refl;
+  })
+
+  pub call-owes : (s : Slots) (c : Call) → Owes p s [] → Owes p (begin c s).done.slots (begin c s).done.caused
+  call-owes s c w = let r = begin-roomy c s in let a = r.0 in let b = r.1 in let n = call-none c s in omega (arith, a, b, n, w)
+
+  -- jobs
+
+  if_one : (b : Bool) → (if b then 1 else 0) ≡ one_if b
+  if_one true = refl
+  if_one false = refl
+
+  in_steps : (step : Step) (o : Result Plain Plain) → all (pays p) (steps step o) ≡ of_write p step
+  in_steps (ReadableStart i) o = refl
+  in_steps (ReadablePull i) o = refl
+  in_steps ReturnUndefined o = refl
+  in_steps (WritableStart i) o = refl
+  in_steps (WritableWrite i) o = refl
+  in_steps (WritableClose i) o = refl
+  in_steps (WritableAbort i q) o = refl
+  in_steps (PipeEnds q) o = let n = no_answer (nat_eq p.0 q.0) in omega (arith, n)
+  in_steps (PipeReady q) o = let n = no_answer (nat_eq p.0 q.0) in omega (arith, n)
+  in_steps (PipeWrote q) o = let n = if_one (nat_eq p.0 q.0) in omega (arith, n)
+  in_steps (PipeActed q) o = let n = no_answer (nat_eq p.0 q.0) in omega (arith, n)
+  in_steps (PipePart q) o = let n = no_answer (nat_eq p.0 q.0) in omega (arith, n)
+
+  in_resolved : (derived : Option PromiseId) (o : Result Plain Plain) → all (pays p) (resolved derived o) ≡ 0
+  in_resolved None o = refl
+  in_resolved (Some q) o = refl
+
+  in_job : (job : Job) → all (pays p) (job_effects job) ≤ taken_off (of_reaction (of_write p)) job
+  in_job (ReactionJob step o derived) =
+      let a = all-append (pays p) (steps step o) (resolved derived (returned step o)) in let b = in_steps step o in let c = in_resolved derived (returned step o) in omega (arith, a, b, c)
+  in_job (Follow q r) = omega arith
+  in_job (SettleJob q o) = omega arith
+  in_job (MicroJob (PipeLook q)) = let n = no_answer (nat_eq p.0 q.0) in omega (arith, n)
+  in_job (MicroJob (PipeWrite q)) = let n = no_answer (nat_eq p.0 q.0) in omega (arith, n)
+  in_job (MicroJob (PipeNoParts q)) = let n = no_answer (nat_eq p.0 q.0) in omega (arith, n)
+
+  pub job-owes : (s : Slots) (job : Job) → next_job s.promises ≡ Some job → Owes p s [] → Owes p (with_promises (after_next_job s.promises) s) (job_effects job)
+  job-owes s job e w =
+      let n = in_job job in
+      let m : under_way (after_next_job s.promises) + taken_off (of_reaction (of_write p)) job ≤ under_way s.promises = rw e at (weigh-next (of_reaction (of_write p)) s.promises) in
+      omega (arith, n, m, w)
+
+  -- the promises alone change, and no more is under way
+  pub lighter-owes : (s : Slots) (t : Table) → weight (of_write p) t ≤ weight (of_write p) s.promises → Owes p s [] → Owes p (with_promises t s) []
+  lighter-owes s t l w = omega (arith, l, w)
+
+  pub none-owes : Owes p empty []
+  unfolding weigh
+  none-owes = omega arith
+
+-- of every pipe, over every run
+
+abbrev pub EachOwes : Slots → List Effect → Type 0
+EachOwes s es = (p : PipeId) → Owes p s es
+
+pub owes-stays : Stays EachOwes
+owes-stays = record {
+  row = λ s e es k p. row-owes p s e es (k p);
+  call = λ s c k p. call-owes p s c (k p);
+  job = λ s job e k p. job-owes p s job e (k p);
+  answered = λ s q k p. lighter-owes p s (watch q s.promises) (weigh-watch (of_reaction (of_write p)) q s.promises) (k p);
+  older = λ s k p. k p;
+}
+
+-- the host hears of what happened
+pub owes-heard : (s : Slots) → EachOwes s [] → EachOwes (after_event s) []
+unfolding weigh
+owes-heard s k p = k p
+
+pub owes-forgotten : (s : Slots) (q : PromiseId) → EachOwes s [] → EachOwes (after_forgetting q s) []
+owes-forgotten s q k p = lighter-owes p s (let_go q s.promises) (weigh-let_go (of_reaction (of_write p)) q s.promises) (k p)
+
+-- the count of the specification is the same
+
+same_reactions : (f : Step → ℕ) (rs : List Reaction) → in_reactions f rs ≡ of_reactions (of_reaction f) rs
+same_reactions f [] = refl
+same_reactions f (Perform step derived ∷ rs) = let n = same_reactions f rs in omega (arith, n)
+same_reactions f (Adopt q ∷ rs) = let n = same_reactions f rs in omega (arith, n)
+
+same_entry : (f : Step → ℕ) (e : Option promises.Entry) → in_entry f e ≡ of_entry (of_reaction f) e
+same_entry f None = refl
+same_entry f (Some e) = same_reactions f e.reactions
+
+same_entries : (f : Step → ℕ) (es : List (Option promises.Entry)) → in_entries f es ≡ of_entries (of_reaction f) es
+same_entries f [] = refl
+same_entries f (e ∷ es) = let n = same_entries f es in let m = same_entry f e in omega (arith, n, m)
+
+same_jobs : (f : Step → ℕ) (js : List Job) → in_jobs f js ≡ of_jobs (of_reaction f) js
+same_jobs f [] = refl
+same_jobs f (ReactionJob step o derived ∷ js) = let n = same_jobs f js in omega (arith, n)
+same_jobs f (Follow q r ∷ js) = let n = same_jobs f js in omega (arith, n)
+same_jobs f (SettleJob q o ∷ js) = let n = same_jobs f js in omega (arith, n)
+same_jobs f (MicroJob m ∷ js) = let n = same_jobs f js in omega (arith, n)
+
+pub same_weight : (f : Step → ℕ) (t : Table) → outstanding f t ≡ weight f t
+unfolding weigh
+same_weight f t = let n = same_entries f t.entries in let m = same_jobs f t.jobs in omega (arith, n, m)
+
+same_if : (b : Bool) → tokens.one_if b ≡ one_if b
+same_if true = refl
+same_if false = refl
+
+same_action : (p : PipeId) (step : Step) → of_action p step ≡ acts.ends_action p step
+same_action p (PipeActed q) = sym (same_if (nat_eq p.0 q.0))
+same_action p (ReadableStart i) = refl
+same_action p (ReadablePull i) = refl
+same_action p ReturnUndefined = refl
+same_action p (WritableStart i) = refl
+same_action p (WritableWrite i) = refl
+same_action p (WritableClose i) = refl
+same_action p (WritableAbort i q) = refl
+same_action p (PipeEnds q) = refl
+same_action p (PipeReady q) = refl
+same_action p (PipeWrote q) = refl
+same_action p (PipePart q) = refl
+
+acting_as : (phase : Phase) → tokens.one_if (acts.is_acting phase) ≡ one_if (is_acting phase)
+acting_as Flowing = refl
+acting_as Waiting = refl
+acting_as Acting = refl
+acting_as Over = refl
+
+acting_place : (n : ℕ) (o : Option pipe.Slots) → n ≤ tokens.one_if (acts.acts_now o) → n ≤ one_if (is_acting (as_pipe o).phase)
+acting_place n None w = w
+acting_place n (Some x) w = let e = acting_as x.phase in omega (arith, e, w)
+
+unsettled_place : (n : ℕ) (o : Option pipe.Slots) → n ≤ unsettled_of o → n ≤ (as_pipe o).unsettled
+unsettled_place n None w = w
+unsettled_place n (Some x) w = w
+
+-- over every run
+
+pub owes-run : (entries : List Entry) → EachOwes (run entries empty) []
+owes-run entries = run-stays EachOwes owes-stays owes-heard owes-forgotten entries empty (λ p. none-owes p)
+
+pub waits-run : (entries : List Entry) → EachWaits (run entries empty) []
+waits-run entries = run-stays EachWaits waits-stays waits-heard waits-forgotten entries empty (λ p. none-waits p)
+
+pub each_pipe_is_owed : EachPipeIsOwed
+each_pipe_is_owed entries p =
+    let s : Slots = run entries empty in
+    let o = owes-run entries p in
+    let a = waits-run entries p in
+    let m = same_weight (of_write p) s.promises in
+    let n = same_weight (of_action p) s.promises in
+    let k : weight (of_action p) s.promises ≡ weight (acts.ends_action p) s.promises = ap (λ (f : Step → ℕ). weight f s.promises) (λ i step. same_action p step i) in
+    record {
+      writes = unsettled_place (outstanding (of_write p) s.promises) (slice_get s.pipes p.0) (omega (arith, o, m));
+      action = acting_place (outstanding (of_action p) s.promises) (slice_get s.pipes p.0) (omega (arith, a, n, k));
+    }
