@@ -6,12 +6,20 @@ ghost use Rattle.ws_readable.specs.Seen.{has_room};
 
 use crate::Readable;
 use ws_steps::{Flags, Owner, ReadableState, StateIs, Word};
+use ws_value::Plain;
 
 impl Readable {
     pub fn state(&self) -> ReadableState
         ensures { result ≡ self.now.slots.state }
     {
         self.state
+    }
+
+    /// The error with which the stream errored; undefined where it didn't.
+    pub fn stored_error(&self) -> Plain
+        ensures { result ≡ self.now.slots.stored_error }
+    {
+        self.stored_error
     }
 
     /// Whose algorithms the stream performs.
@@ -27,11 +35,11 @@ impl Readable {
         self.state == ReadableState::Readable
     }
 
-    /// Whether there is a place for one more chunk and for one more read request.
-    pub fn has_room(&self) -> bool
-        ensures { result ≡ has_room self.now }
+    /// Whether there are places for `n` more chunks and for `n` more read requests.
+    pub fn has_room(&self, n: usize) -> bool
+        ensures { result ≡ has_room n self.now }
     {
-        self.queue.len() < self.queue.capacity() && self.requests.len() < self.requests.capacity()
+        n <= self.queue.free() && n <= self.requests.capacity() - self.requests.len()
     }
 
     /// How many read requests wait.

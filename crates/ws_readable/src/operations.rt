@@ -30,8 +30,12 @@ impl Readable {
                 p, closed,
             ),
             ReadableOperation::ReleaseReader => self.reader_release(me, p, fx),
+            ReadableOperation::Disturb => self.disturb(),
             ReadableOperation::Read(request) => self.default_reader_read(me, p, fx, request),
             ReadableOperation::Cancel(r, promise) => self.stream_cancel(me, p, fx, r, promise),
+            ReadableOperation::CancelIfReadable(r, promise) => {
+                self.cancel_if_readable(me, p, fx, r, promise)
+            }
             ReadableOperation::Enqueue(chunk) => self.controller_enqueue(me, fx, chunk),
             ReadableOperation::Close => self.controller_close(me, p, fx),
             ReadableOperation::Error(e) => self.controller_error(me, p, fx, e),

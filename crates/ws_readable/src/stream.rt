@@ -1,6 +1,6 @@
 //! The record of a readable stream, and the operations of the stream itself.
 ghost use Rattle.std.specs.Prelude.{◌≡◌, ◌≤◌, ◌+◌, length, IsOk, OnOk};
-ghost use Rattle.ws_promise.specs.Seen.{HasEffectRoom};
+ghost use Rattle.ws_promise.specs.Seen.{HasEffectRoom, Seen, SeenAgenda};
 ghost use Rattle.ws_steps.specs.Readable as rows;
 ghost use Rattle.ws_readable.specs.Seen.{HasRoom, acts_of, request_taken, after_request_taken};
 
@@ -99,6 +99,15 @@ impl Readable {
         Ok(())
     }
 
+    /// The stream is disturbed.
+    #[tactic(auto, unfolding(ws_steps::specs::Readable::disturb))]
+    pub fn disturb(&mut self)
+        ensures row { (p : Seen) (fx : SeenAgenda) → acts_of self.new p fx ≡ rows.disturb (acts_of self.old p fx) }
+        ensures room { self.new.room ≡ self.old.room }
+    {
+        self.disturbed = true;
+    }
+
     /// Takes the first read request that waits, where the stream is locked and there is one.
     pub(crate) fn take_request(&mut self) -> Option<ReadRequest>
         ensures request { result ≡ request_taken (rows.waiting self.old.slots) }
@@ -191,5 +200,29 @@ impl Readable {
     {
         self.disturbed = true;
         self.cancel_by(me, p, fx, reason, promise);
+    }
+
+    /// ReadableStreamCancel where the stream is readable; else the promise is resolved with undefined.
+    #[tactic(auto, unfolding(ws_steps::specs::Readable::cancel_if_readable))]
+    pub fn cancel_if_readable(
+        &mut self,
+        me: StreamId,
+        p: &mut Promises,
+        fx: &mut Agenda,
+        reason: Plain,
+        promise: PromiseId,
+    )
+        requires { HasEffectRoom (1 + length self.old.slots.requests) fx.old }
+        ensures row { acts_of self.new p.new fx.new
+            ≡ rows.cancel_if_readable me reason promise (acts_of self.old p.old fx.old) }
+        ensures room { self.new.room ≡ self.old.room }
+        ensures promise_room { p.new.room ≡ p.old.room }
+        ensures effect_room { fx.new.capacity ≡ fx.old.capacity }
+    {
+        match self.state {
+            ReadableState::Readable => self.stream_cancel(me, p, fx, reason, promise),
+            ReadableState::Closed => p.fulfil(promise, Plain::Undefined),
+            ReadableState::Errored => p.fulfil(promise, Plain::Undefined),
+        }
     }
 }

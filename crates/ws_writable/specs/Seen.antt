@@ -1,5 +1,5 @@
 -- What is seen of the record of a writable stream.
-use Rattle.std.specs.Prelude.{ℕ, ◌+◌, ◌≤◌, Bool, true, false, ◌&&◌, nat_lt, Option, Some, None, length}
+use Rattle.std.specs.Prelude.{ℕ, ◌+◌, ◌-◌, ◌≤◌, Bool, true, false, ◌&&◌, nat_le, Option, Some, None, length}
 use Rattle.ws_promise.specs.Seen.{Seen, SeenAgenda, out_of, HasPromiseRoom, HasEventRoom}
 use Rattle.ws_queue.specs.Seen.{Lists}
 use Rattle.ws_steps.specs.declared.writable.WritableOperation.{WritableOperation}
@@ -20,9 +20,9 @@ HasQueueRoom n w = n + length w.slots.queue ≤ w.room.queue
 abbrev pub HasRequestRoom : ℕ → SeenWritable → Type 0
 HasRequestRoom n w = n + length w.slots.write_requests ≤ w.room.requests
 
--- whether there is a place for one more of each
-abbrev pub has_room : SeenWritable → Bool
-has_room w = nat_lt (length w.slots.queue) w.room.queue && nat_lt (length w.slots.write_requests) w.room.requests
+-- whether there are places for n more of each
+abbrev pub has_room : ℕ → SeenWritable → Bool
+has_room n w = nat_le n (w.room.queue - length w.slots.queue) && nat_le n (w.room.requests - length w.slots.write_requests)
 
 -- a stream, the promises and the agenda, as an operation of the stream finds and leaves them
 abbrev pub acts_of : SeenWritable → Seen → SeenAgenda → Acts

@@ -1,17 +1,25 @@
 //! What a host may look at.
 ghost use Rattle.std.specs.Prelude.{◌≡◌};
+ghost use Rattle.ws_steps.specs.Slots.{ready_of, wants_chunk};
 ghost use Rattle.ws_steps.specs.Writable as rows;
 ghost use Rattle.ws_steps.specs.WritableLooks as looks;
 
 use crate::Writable;
 use ws_steps::{Flags, Owner, StateIs, Word, WritableState, Writer};
-use ws_value::PromiseId;
+use ws_value::{Plain, PromiseId};
 
 impl Writable {
     pub fn state(&self) -> WritableState
         ensures { result ≡ self.now.slots.state }
     {
         self.state
+    }
+
+    /// The error with which the stream errored, or is to be; undefined where there is none.
+    pub fn stored_error(&self) -> Plain
+        ensures { result ≡ self.now.slots.stored_error }
+    {
+        self.stored_error
     }
 
     /// Whose algorithms the stream performs.
@@ -44,6 +52,23 @@ impl Writable {
         }
         match self.pending_abort {
             Some(abort) => Some(abort.promise),
+            None => None,
+        }
+    }
+
+    /// Whether the desired size of a writer is more than 0.
+    pub fn wants_chunk(&self) -> bool
+        ensures { result ≡ wants_chunk self.now.slots }
+    {
+        self.is_writable() && self.queue.total() < u128::from(self.hwm)
+    }
+
+    /// The ready promise of the writer, where there is one.
+    pub fn ready(&self) -> Option<PromiseId>
+        ensures { result ≡ ready_of self.now.slots.writer }
+    {
+        match self.writer {
+            Some(writer) => Some(writer.ready),
             None => None,
         }
     }

@@ -33,8 +33,14 @@ impl Writable {
                 me, p, fx, chunk, promise,
             ),
             WritableOperation::Close(promise) => self.stream_close(me, p, fx, promise),
+            WritableOperation::ClosePropagating(promise) => {
+                self.close_with_error_propagation(me, p, fx, promise)
+            }
             WritableOperation::Abort(reason, promise) => {
                 self.stream_abort(me, p, fx, reason, promise)
+            }
+            WritableOperation::AbortIfWritable(reason, promise) => {
+                self.abort_if_writable(me, p, fx, reason, promise)
             }
             WritableOperation::ErrorIfNeeded(e) => self.controller_error_if_needed(me, p, fx, e),
             WritableOperation::HandOn => self.hand_on(me, fx),

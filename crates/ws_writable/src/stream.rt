@@ -1,5 +1,5 @@
 //! The record of a writable stream, and the operations of the stream itself.
-ghost use Rattle.std.specs.Prelude.{◌≡◌, ◌≤◌, IsOk, OnOk, length};
+ghost use Rattle.std.specs.Prelude.{◌≡◌, ◌≤◌, ◌||◌, IsOk, OnOk, length};
 ghost use Rattle.ws_promise.specs.Seen.{HasEffectRoom, HasEventRoom, HasPromiseRoom, Seen, SeenAgenda};
 ghost use Rattle.ws_steps.specs.Writable as rows;
 ghost use Rattle.ws_writable.specs.Seen.{HasQueueRoom, HasRequestRoom, acts_of, has_room};
@@ -117,12 +117,11 @@ impl Writable {
         Ok(())
     }
 
-    /// Whether there is a place for one more entry of the queue and for one more write request.
-    pub fn has_room(&self) -> bool
-        ensures { result ≡ has_room self.now }
+    /// Whether there are places for `n` more entries of the queue and for `n` more write requests.
+    pub fn has_room(&self, n: usize) -> bool
+        ensures { result ≡ has_room n self.now }
     {
-        self.queue.len() < self.queue.capacity()
-            && self.write_requests.len() < self.write_requests.capacity()
+        n <= self.queue.free() && n <= self.write_requests.capacity() - self.write_requests.len()
     }
 
     pub(crate) fn is_writable(&self) -> bool
@@ -174,6 +173,12 @@ impl Writable {
         self.write_in_flight.is_some() || self.close_in_flight.is_some()
     }
 
+    fn cannot_close(&self) -> bool
+        ensures { result ≡ (rows.has_ended self.now.slots.state || rows.is_closing self.now.slots) }
+    {
+        self.has_ended() || self.is_closing()
+    }
+
     fn add_close_request(&mut self, promise: PromiseId)
         ensures row { (p : Seen) (fx : SeenAgenda) → acts_of self.new p fx
             ≡ rows.add_close_request promise (acts_of self.old p fx) }
@@ -195,7 +200,7 @@ impl Writable {
         }
     }
 
-    /// WritableStreamClose, with the promise that it answers.
+    /// WritableStreamClose, with the check that each of its callers makes first, and with the promise that it answers.
     #[tactic(auto, unfolding(ws_steps::specs::Writable::stream_close))]
     pub fn stream_close(
         &mut self,
@@ -211,7 +216,7 @@ impl Writable {
         ensures promise_room { p.new.room ≡ p.old.room }
         ensures effect_room { fx.new.capacity ≡ fx.old.capacity }
     {
-        if self.has_ended() {
+        if self.cannot_close() {
             p.reject(promise, TYPE_ERROR);
             return;
         }
@@ -292,5 +297,31 @@ impl Writable {
         }
         self.signal(me, p, reason);
         self.begin_abort(me, p, fx, reason, promise);
+    }
+
+    /// WritableStreamAbort where the stream is writable, and so has no abort pending; else the promise is resolved with undefined.
+    #[tactic(auto, unfolding(ws_steps::specs::Writable::abort_if_writable))]
+    pub fn abort_if_writable(
+        &mut self,
+        me: StreamId,
+        p: &mut Promises,
+        fx: &mut Agenda,
+        reason: Plain,
+        promise: PromiseId,
+    )
+        requires promise_room { HasPromiseRoom 1 p.old }
+        requires event_room { HasEventRoom 1 p.old }
+        requires effect_room { HasEffectRoom 1 fx.old }
+        ensures row { acts_of self.new p.new fx.new
+            ≡ rows.abort_if_writable me reason promise (acts_of self.old p.old fx.old) }
+        ensures room { self.new.room ≡ self.old.room }
+        ensures promise_room { p.new.room ≡ p.old.room }
+        ensures effect_room { fx.new.capacity ≡ fx.old.capacity }
+    {
+        if self.is_writable() {
+            self.stream_abort(me, p, fx, reason, promise);
+        } else {
+            p.fulfil(promise, Plain::Undefined);
+        }
     }
 }
