@@ -1,0 +1,84 @@
+-- What is seen of the records of a pipe and of an abort signal.
+use Rattle.std.specs.Prelude.{ℕ, ◌+◌, ◌≤◌, Bool, false, ◌||◌, if◌then◌else◌, nat_lt, List, [], ◌∷◌, Option, Some, None, length}
+use Rattle.ws_value.specs.declared.ids.PipeId.{PipeId}
+use Rattle.ws_value.specs.declared.ids.PromiseId.{PromiseId}
+use Rattle.ws_value.specs.declared.value.Plain.{Plain}
+use Rattle.ws_value.specs.declared.value.Value.{Value}
+use Rattle.ws_promise.specs.Seen.{Seen, SeenAgenda, out_of, HasPromiseRoom, HasJobRoom}
+use Rattle.ws_steps.specs.declared.effects.Effect.TheVariants.{Readable as OnReadable, Writable as OnWritable}
+use Rattle.ws_steps.specs.declared.pipes.Action.TheVariants.{AbortDest, CancelSource, CloseDest}
+use Rattle.ws_steps.specs.declared.pipes.Ends.{Ends}
+use Rattle.ws_steps.specs.declared.pipes.PipeOperation.{PipeOperation}
+use Rattle.ws_steps.specs.declared.readable.ReadableOperation.TheVariants.{Cancel}
+use Rattle.ws_steps.specs.declared.writable.WritableOperation.TheVariants.{ClosePropagating}
+use Rattle.ws_steps.specs.Effects.{type_error}
+use Rattle.ws_steps.specs.Pipes.{Slots, Acts, Signal, act_with, shutdown, unless, read_or_wait}
+use Rattle.ws_steps.specs.Writable.{is_closed}
+use Rattle.ws_steps.specs.Places.{own_pipe, promises_alone, jobs_alone}
+
+-- a pipe, the promises and the agenda, as an operation of the pipe finds and leaves them
+abbrev pub acts_of : Slots → Seen → SeenAgenda → Acts
+acts_of s p fx = record { slots = s; out = out_of p fx }
+
+-- there are places for what an operation of a pipe takes by itself
+pub record HasRoomFor (operation : PipeOperation) (p : Seen) : Type 0 where
+  pub promises : HasPromiseRoom (own_pipe promises_alone operation) p
+  pub jobs : HasJobRoom (own_pipe jobs_alone operation) p
+
+-- the actions that are one operation of an end
+
+abbrev pub cancel_source : PipeId → Plain → Acts → Acts
+cancel_source me r a = act_with me (λ p. OnReadable a.slots.source (Cancel r p)) a
+
+abbrev pub close_dest : PipeId → Acts → Acts
+close_dest me a = act_with me (λ p. OnWritable a.slots.dest (ClosePropagating p)) a
+
+-- the parts of a look
+
+abbrev pub error_forward : PipeId → Ends → Acts → Acts
+error_forward me ends a = shutdown me ends (unless a.slots.prevent.abort (AbortDest ends.source_error)) (Some ends.source_error) a
+
+abbrev pub error_backward : PipeId → Ends → Acts → Acts
+error_backward me ends a = shutdown me ends (unless a.slots.prevent.cancel (CancelSource ends.dest_error)) (Some ends.dest_error) a
+
+abbrev pub close_forward : PipeId → Ends → Acts → Acts
+close_forward me ends a = shutdown me ends (unless a.slots.prevent.close CloseDest) None a
+
+-- closing is propagated backward; else the pipe reads or waits, where no read is under way
+abbrev pub flow : PipeId → Ends → Acts → Acts
+flow me ends a =
+    if ends.dest_closing || is_closed ends.dest_state
+    then shutdown me ends (unless a.slots.prevent.cancel (CancelSource type_error)) (Some type_error) a
+    else if a.slots.reading then a
+    else read_or_wait me ends a
+
+-- the chunk that is held is taken
+abbrev pub taken : Slots → Option Value → Slots
+taken s None = s
+taken s (Some v) = record s { held = None; reading = false }
+
+-- the promise that an action waits for, where there is one
+abbrev pub listed : Option PromiseId → List PromiseId
+listed None = []
+listed (Some p) = p ∷ []
+
+-- a signal, and the places in memory for its pipes
+pub record SeenSignal : Type 0 where
+  pub signal : Signal
+  pub room : ℕ
+
+-- there are places for n more pipes
+abbrev pub HasMemberRoom : ℕ → SeenSignal → Type 0
+HasMemberRoom n x = n + length x.signal.pipes ≤ x.room
+
+-- whether there is a place for one pipe more
+abbrev pub has_room : SeenSignal → Bool
+has_room x = nat_lt (length x.signal.pipes) x.room
+
+abbrev pub aborts_by : List PipeId → Option Plain → ℕ
+aborts_by pipes None = length pipes
+aborts_by pipes (Some r) = 0
+
+-- how many pipes a trigger aborts
+abbrev pub aborts_of : Signal → ℕ
+aborts_of x = aborts_by x.pipes x.reason

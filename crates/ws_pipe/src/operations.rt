@@ -1,0 +1,45 @@
+//! The operations of a pipe by their names.
+ghost use Rattle.std.specs.Prelude.{◌≡◌, ◌≤◌, length};
+ghost use Rattle.ws_pipe.specs.Seen.{HasRoomFor, acts_of};
+ghost use Rattle.ws_promise.specs.Seen.{HasEffectRoom};
+ghost use Rattle.ws_steps.specs.Operations.{pipe_operation};
+
+use crate::Pipe;
+use ws_promise::{Agenda, Promises};
+use ws_steps::{Ends, PipeOperation};
+use ws_value::PipeId;
+
+impl Pipe {
+    /// Performs an operation of the pipe, whose number is `me` and whose two ends are these. No more writes are unsettled than there are promises.
+    pub fn perform(
+        &mut self,
+        me: PipeId,
+        ends: &Ends,
+        p: &mut Promises,
+        fx: &mut Agenda,
+        operation: PipeOperation,
+    )
+        requires room { HasRoomFor operation p.old }
+        requires counted { self.old.unsettled ≤ length p.old.table.entries }
+        requires effect_room { HasEffectRoom 5 fx.old }
+        ensures row { acts_of self.new p.new fx.new
+            ≡ pipe_operation me ends.now operation (acts_of self.old p.old fx.old) }
+        ensures counted { self.new.unsettled ≤ length p.new.table.entries }
+        ensures promise_room { p.new.room ≡ p.old.room }
+        ensures effect_room { fx.new.capacity ≡ fx.old.capacity }
+    {
+        match operation {
+            PipeOperation::Look => self.look(me, ends, p, fx),
+            PipeOperation::LookReady => self.look_ready(me, ends, p, fx),
+            PipeOperation::KeepChunk(chunk) => self.keep_chunk(me, p, chunk),
+            PipeOperation::ReadEnded => self.read_ended(me, p),
+            PipeOperation::WriteChunk => self.write_chunk(me, p, fx),
+            PipeOperation::GoOn => self.go_on(me, ends, p, fx),
+            PipeOperation::WriteEnded => self.write_ended(me, ends, p, fx),
+            PipeOperation::Abort(reason) => self.abort(me, ends, p, fx, reason),
+            PipeOperation::ActionSettled(outcome) => self.action_settled(me, fx, outcome),
+            PipeOperation::PartSettled(outcome) => self.part_settled(p, outcome),
+            PipeOperation::NoParts => self.no_parts(p),
+        }
+    }
+}
