@@ -1,49 +1,54 @@
 -- A call or a job has begun: there are places for its effects and all that comes of them.
-use Rattle.std.proofs.Common.{◌≡◌, ℕ, zero, suc, ◌+◌, ◌⊎◌, inl, inr, ⊎_elim, List, [], ◌∷◌, ◌++◌, length, map, Some, refl, sym, ap, ◌∙◌, arith}
+use Rattle.std.proofs.Common.{◌≡◌, ◌≤◌, ℕ, zero, suc, ◌+◌, ◌⊎◌, inl, inr, ⊎_elim, List, [], ◌∷◌, ◌++◌, length, map, Option, Some, None, refl, sym, ap, subst, ◌∙◌, arith}
 use Rattle.std.specs.Prelude.{slice_get, vec_len}
 use Rattle.std.proofs.lemmas.List.Elements.{Contains-append_left, Contains-append_right}
+use Rattle.ws_value.specs.declared.ids.SignalId.{SignalId}
 use Rattle.ws_value.specs.declared.ids.StreamId.{StreamId}
+use Rattle.ws_pipe.specs.Seen.{SeenSignal, HasMemberRoom, aborts_of}
 use Rattle.ws_steps.specs.declared.calls.Call.{Call}
 use Rattle.ws_steps.specs.declared.calls.Reply.{Reply}
 use Rattle.ws_steps.specs.declared.calls.Reply.TheVariants as replies
+use Rattle.ws_steps.specs.declared.promises.Job.{Job}
 use Rattle.ws_steps.specs.Calls.{begin}
-use Rattle.ws_steps.specs.Jobs.{begin_job}
-use Rattle.ws_steps.specs.Places.{Prices, all_keep, prices_of, entries_of, turns_alone, queued_alone, requests_alone}
-use Rattle.ws_steps.specs.Slots.{Done}
-use Rattle.ws_room_laws.proofs.Room.{Begins as BeginsWithin, call_price, begin-fits, job-fits}
-use Rattle.ws_tables.specs.View.{slots_of, stream_of}
-use Rattle.ws_tables.specs.Room.{Places, places_of, queued_in, requested_in, HasLists, AllCovered, HasRoomForAll, IsPrepared, IsResting, IsKept}
-use Rattle.ws_calls.specs.Begin.{IsBegun, Answers, Begins, MakesNone, MakesOne, StreamsAfter}
+use Rattle.ws_steps.specs.Jobs.{job_begun, begin_job}
+use Rattle.ws_steps.specs.Pipes as pipe
+use Rattle.ws_steps.specs.Places.{Prices, all_keep, signals_keep, prices_of, step_price, entries_of, members_of, turns_alone, promises_alone, jobs_alone, events_alone, hosts_alone, queued_alone, requests_alone, members_alone}
+use Rattle.ws_steps.specs.Promises.{after_next_job, next_job}
+use Rattle.ws_steps.specs.Slots.{Slots, Done}
+use Rattle.ws_steps.proofs.PromiseLaws.{length-fresh}
+use Rattle.ws_room_laws.proofs.Room.{Begins as BeginsWithin, begin-fits, job-fits}
+use Rattle.ws_laws.proofs.Begin.{Makes, begin-makes}
+use Rattle.ws_tables.specs.View.{slots_of, stream_of, signal_of}
+use Rattle.ws_tables.specs.Room.{Places, places_of, queued_in, requested_in, waiting_in, aborts_in, HasLists, AllCovered, AllHaveMembers, AreCounted, IsCounted, HasRoomForAll, IsPrepared, IsResting, IsKept}
+use Rattle.ws_calls.specs.Begin.{IsBegun, Answers, Begins, MakesNone, MakesOne, MakesSignal, RecordsAfter}
 use Rattle.ws_tables.specs.declared.tables.Stream.{Stream as StreamRecord}
 use Rattle.ws_tables.specs.declared.tables.Stream.TheVariants.{Readable, Writable}
 use Rattle.ws_tables.specs.declared.tables.Tables.{Tables}
-use Rattle.ws_tables.proofs.Fits.{Takes, takes, queued-at, requested-at}
-use Rattle.ws_tables.proofs.Streams.{each-one}
+use Rattle.ws_tables.proofs.Counts.{counted-on, next-more}
+use Rattle.ws_tables.proofs.Fits.{Takes, takes, queued-at, requested-at, members-at}
+use Rattle.ws_tables.proofs.Keeps.{later-is}
 
--- what has begun leaves the places as they are, and makes one stream or none
+-- what has begun leaves the places as they are, and makes one stream, or one signal, or neither
 record Starts (d : Done) (t t' : Tables) : Type 0 where
   slots : slots_of t' ≡ d.slots
   caused : t'.caused.effects ≡ d.caused
   others : t'.others ≡ t.others
   places : places_of t' ≡ places_of t
   waiting : t'.waiting ≡ t.waiting
-  streams : MakesNone t t' ⊎ MakesOne t t'
+  aborts : t'.aborts ≡ t.aborts
+  counted : IsCounted d.slots
+  records : MakesNone t t' ⊎ (MakesOne t t' ⊎ MakesSignal t t')
 
-none-or-one : (reply : Reply) (t t' : Tables) → StreamsAfter reply t t' → MakesNone t t' ⊎ MakesOne t t'
-none-or-one replies.Done t t' h = inl h
-none-or-one (replies.Made i) t t' h = inr h
-none-or-one (replies.Lock l) t t' h = inl h
-none-or-one (replies.Promise p) t t' h = inl h
-none-or-one (replies.Size n) t t' h = inl h
-none-or-one (replies.State looks) t t' h = inl h
-none-or-one (replies.Throws reason) t t' h = inl h
-none-or-one replies.TooMany t t' h = inl h
-
--- a new stream has no requests
-keep-new : (xs : List StreamRecord) (x : StreamRecord) → requested_in x ≡ 0 → all_keep turns_alone (map stream_of (xs ++ x ∷ [])) ≡ all_keep turns_alone (map stream_of xs)
-keep-new [] (Readable r) none = let e = each-one r.slots.requests in omega (arith, e, none)
-keep-new [] (Writable w) none = refl
-keep-new (y ∷ ys) x none = let h = keep-new ys x none in omega (arith, h)
+which-made : (reply : Reply) (t t' : Tables) → RecordsAfter reply t t' → MakesNone t t' ⊎ (MakesOne t t' ⊎ MakesSignal t t')
+which-made replies.Done t t' h = inl h
+which-made (replies.Made i) t t' h = inr (inl h)
+which-made (replies.Signal a) t t' h = inr (inr h)
+which-made (replies.Lock l) t t' h = inl h
+which-made (replies.Promise p) t t' h = inl h
+which-made (replies.Size n) t t' h = inl h
+which-made (replies.State looks) t t' h = inl h
+which-made (replies.Throws reason) t t' h = inl h
+which-made replies.TooMany t t' h = inl h
 
 -- an entry of a list to which one is added is one of the list, or that one
 added : {X : Type 0} (xs : List X) (x y : X) (i : ℕ) → slice_get (xs ++ x ∷ []) i ≡ Some y → (slice_get xs i ≡ Some y) ⊎ ((i ≡ length xs) × (x ≡ y))
@@ -51,6 +56,12 @@ added [] x y zero is = inr (refl, cc)
 added [] x y (suc i) is = cc
 added (z ∷ zs) x y zero is = inl is
 added (z ∷ zs) x y (suc i) is = ⊎_elim (λ h. inl h) (λ h. inr (ap suc h.0, h.1)) (added zs x y i is)
+
+-- a new stream has no requests
+waits-new : (xs : List StreamRecord) (x : StreamRecord) → requested_in x ≡ 0 → waiting_in (map stream_of (xs ++ x ∷ [])) ≡ waiting_in (map stream_of xs)
+waits-new [] (Readable r) none = omega (arith, none)
+waits-new [] (Writable w) none = refl
+waits-new (y ∷ ys) x none = let h = waits-new ys x none in omega (arith, h)
 
 cover-new : (grown : List StreamId) (xs : List StreamRecord) (x : StreamRecord) → AllCovered grown xs → AllCovered (grown ++ record { 0 = length xs } ∷ []) (xs ++ x ∷ [])
 cover-new grown xs x covered i y is =
@@ -60,78 +71,169 @@ cover-new grown xs x covered i y is =
     (λ h. let number : i ≡ new = ap (λ n. record { 0 = n }) h.0 in inr (rw number (Contains-append_right grown (new ∷ []) new (0, omega arith, refl))))
     (added xs x y i.0 is)
 
+-- a new signal aborts no pipes
+aborts-new : (xs : List SeenSignal) (x : SeenSignal) → x.signal ≡ pipe.new_signal → aborts_in (map signal_of (xs ++ x ∷ [])) ≡ aborts_in (map signal_of xs)
+aborts-new [] x none = let h = ap aborts_of none in omega (arith, h)
+aborts-new (y ∷ ys) x none = let h = aborts-new ys x none in omega (arith, h)
+
+cover-signal : (full : List SignalId) (xs : List SeenSignal) (x : SeenSignal) → AllHaveMembers full xs → AllHaveMembers (full ++ record { 0 = length xs } ∷ []) (xs ++ x ∷ [])
+cover-signal full xs x covered i y is =
+    let new : SignalId = record { 0 = length xs } in
+    ⊎_elim
+    (λ h. ⊎_elim (λ l. inl l) (λ c. inr (Contains-append_left full (new ∷ []) i c)) (covered i y h))
+    (λ h. let number : i ≡ new = ap (λ n. record { 0 = n }) h.0 in inr (rw number (Contains-append_right full (new ∷ []) new (0, omega arith, refl))))
+    (added xs x y i.0 is)
+
 kept : (d : Done) (t t' : Tables) → Starts d t t' → IsKept t → IsKept t'
 kept d t t' start was =
+    let counted : IsCounted (slots_of t') = subst (λ (s : Slots). IsCounted s) (sym start.slots) start.counted in
     ⊎_elim
     (λ (none : MakesNone t t'). record {
-      waiting = start.waiting ∙ (was.waiting ∙ ap (λ v. all_keep turns_alone (map stream_of v.items)) (sym none.streams));
+      waiting = start.waiting ∙ (was.waiting ∙ ap (λ v. waiting_in (map stream_of v.items)) (sym none.streams));
       covered = rw (none.grown, none.streams) was.covered;
+      aborts = start.aborts ∙ (was.aborts ∙ ap (λ v. aborts_in (map signal_of v.items)) (sym none.signals));
+      members = rw (none.full, none.signals) was.members;
+      counted = counted;
     })
+    (λ made. ⊎_elim
     (λ (one : MakesOne t t'). record {
-      waiting = start.waiting ∙ (was.waiting ∙ (sym (keep-new t.streams.items one.stream one.empty.1) ∙ ap (λ xs. all_keep turns_alone (map stream_of xs)) (sym one.streams)));
+      waiting = start.waiting ∙ (was.waiting ∙ (sym (waits-new t.streams.items one.stream one.empty.1) ∙ ap (λ xs. waiting_in (map stream_of xs)) (sym one.streams)));
       covered = rw (one.grown, one.streams) (cover-new t.grown.items t.streams.items one.stream was.covered);
+      aborts = start.aborts ∙ (was.aborts ∙ ap (λ v. aborts_in (map signal_of v.items)) (sym one.signals));
+      members = rw (one.full, one.signals) was.members;
+      counted = counted;
     })
-    start.streams
+    (λ (one : MakesSignal t t'). record {
+      waiting = start.waiting ∙ (was.waiting ∙ ap (λ v. waiting_in (map stream_of v.items)) (sym one.streams));
+      covered = rw (one.grown, one.streams) was.covered;
+      aborts = start.aborts ∙ (was.aborts ∙ (sym (aborts-new t.signals.items one.signal one.empty) ∙ ap (λ xs. aborts_in (map signal_of xs)) (sym one.signals)));
+      members = rw (one.full, one.signals) (cover-signal t.full.items t.signals.items one.signal was.members);
+      counted = counted;
+    })
+    made)
+    start.records
 
 -- what is taken stays within what is prepared for any call or job
-fits : (d : Done) (t t' : Tables) → ((π : Prices) (i : StreamId) → BeginsWithin π i (all_keep π (slots_of t).streams + call_price π) (slots_of t) d)
-    → IsPrepared t → IsKept t → Starts d t t' → HasRoomForAll t'.caused.effects t'
-fits d t t' within ready was start =
-    let took : Takes call_price (slots_of t) (slots_of t') t'.caused.effects =
-    rw (start.slots, start.caused) (takes call_price (slots_of t) d.slots d.caused within) in
-    let caps = start.places in
-    let pr = ap (λ (p : Places). p.promises.promises) caps in
-    let jr = ap (λ (p : Places). p.promises.jobs) caps in
-    let er = ap (λ (p : Places). p.promises.events) caps in
-    let hc = ap (λ (p : Places). p.hosts) caps in
-    let ac = ap (λ (p : Places). p.caused) caps in
-    let oc = ap (λ (p : Places). p.others) caps in
-    let gc = ap (λ (p : Places). p.grown) caps in
-    let now = kept d t t' start was in
-    let w = was.waiting in let w' = now.waiting in
-    record {
-      promises = let h = ready.promises.promises in let a = took.promises in omega (arith, h, a, pr);
-      jobs = let h = ready.promises.jobs in let a = took.jobs in omega (arith, h, a, jr);
-      events = let h = ready.promises.events in let a = took.events in omega (arith, h, a, er);
-      hosts = let h = ready.hosts in let a = took.hosts in let l = t.hosts.ok.0 in let l' = t'.hosts.ok.0 in omega (arith, h, a, hc, l, l');
-      caused = let h = ready.caused in let a = took.turns in omega (arith, h, a, ac, w, w');
-      others = let h = ready.others in let a = took.turns in omega (arith, h, a, oc, w, w');
-      lists = λ i y is.
-          let a = took.queued (record { 0 = i }) in
-          let b = took.requested (record { 0 = i }) in
-          let qy = queued-at t'.streams.items i y is in
-          let ry = requested-at t'.streams.items i y is in
-          let there : slice_get t.streams.items i ≡ Some y → HasLists (prices_of queued_alone t'.caused.effects) (prices_of requests_alone t'.caused.effects) y =
-          λ before.
-          let h = ready.lists i y before in
-          let qx = queued-at t.streams.items i y before in
-          let rx = requested-at t.streams.items i y before in
-          (omega (arith, h.0, a, qx, qy), omega (arith, h.1, b, rx, ry)) in
-          ⊎_elim
-          (λ (none : MakesNone t t'). there (ap (λ v. slice_get v.items i) (sym none.streams) ∙ is))
-          (λ (one : MakesOne t t').
-          ⊎_elim there
-          (λ h.
-          let q = one.queued in let r = one.requested in
-          let qe = ap queued_in (sym h.1) ∙ one.empty.0 in let re = ap requested_in (sym h.1) ∙ one.empty.1 in
-          (omega (arith, q, qe), omega (arith, r, re)))
-          (added t.streams.items one.stream y i (ap (λ xs. slice_get xs i) (sym one.streams) ∙ is)))
-          start.streams;
-      grown =
-          let h = ready.grown in
-          let a = took.queued (record { 0 = 0 }) in
-          let b = took.requested (record { 0 = 0 }) in
-          ⊎_elim
-          (λ (none : MakesNone t t').
-          let q = ap (λ v. entries_of queued_alone (slice_get (map stream_of v.items) 0)) none.streams in
-          let r = ap (λ v. entries_of requests_alone (slice_get (map stream_of v.items) 0)) none.streams in
-          let l = ap vec_len none.grown in
-          omega (arith, h, a, b, q, r, l, gc))
-          (λ (one : MakesOne t t'). let q = one.queued in let r = one.requested in let l = one.counted in omega (arith, h, q, r, l, gc))
-          start.streams;
-    }
+module _ (d : Done) (t t' : Tables) (within : (π : Prices) (i : StreamId) (a : SignalId) → BeginsWithin π i a (all_keep π (slots_of t).streams + signals_keep π (slots_of t).signals + step_price π) (slots_of t) d)
+    (ready : IsPrepared t) (was : IsKept t) (start : Starts d t t') where
+  took : Takes step_price (slots_of t) (slots_of t') t'.caused.effects
+  took = rw (start.slots, start.caused) (takes step_price (slots_of t) d.slots d.caused (λ π i a. let h = within π i a in omega (arith, h)))
 
-starts : (d : Done) (t t' : Tables) → ((π : Prices) (i : StreamId) → BeginsWithin π i (all_keep π (slots_of t).streams + call_price π) (slots_of t) d)
+  -- what the effects make in lists
+
+  queued-few : t'.streams ≡ t.streams → prices_of queued_alone t'.caused.effects ≤ 2
+  queued-few same =
+      let a = took.queued (record { 0 = 0 }) in
+      let q = ap (λ v. entries_of queued_alone (slice_get (map stream_of v.items) 0)) same in
+      omega (arith, a, q)
+
+  requested-few : t'.streams ≡ t.streams → prices_of requests_alone t'.caused.effects ≤ 2
+  requested-few same =
+      let a = took.requested (record { 0 = 0 }) in
+      let q = ap (λ v. entries_of requests_alone (slice_get (map stream_of v.items) 0)) same in
+      omega (arith, a, q)
+
+  members-few : t'.signals ≡ t.signals → prices_of members_alone t'.caused.effects ≤ 1
+  members-few same =
+      let a = took.members (record { 0 = 0 }) in
+      let q = ap (λ v. members_of members_alone (slice_get (map signal_of v.items) 0)) same in
+      omega (arith, a, q)
+
+  -- there are places in the lists
+
+  lists-before : (i : ℕ) (y : StreamRecord) → slice_get t'.streams.items i ≡ Some y → slice_get t.streams.items i ≡ Some y
+      → HasLists (prices_of queued_alone t'.caused.effects) (prices_of requests_alone t'.caused.effects) y
+  lists-before i y is before =
+      let a = took.queued (record { 0 = i }) in
+      let b = took.requested (record { 0 = i }) in
+      let qy = queued-at t'.streams.items i y is in
+      let ry = requested-at t'.streams.items i y is in
+      let h = ready.lists i y before in
+      let qx = queued-at t.streams.items i y before in
+      let rx = requested-at t.streams.items i y before in
+      (omega (arith, h.0, a, qx, qy), omega (arith, h.1, b, rx, ry))
+
+  lists-same : (i : ℕ) (y : StreamRecord) → slice_get t'.streams.items i ≡ Some y → t'.streams ≡ t.streams
+      → HasLists (prices_of queued_alone t'.caused.effects) (prices_of requests_alone t'.caused.effects) y
+  lists-same i y is same = lists-before i y is (ap (λ v. slice_get v.items i) (sym same) ∙ is)
+
+  lists-made : (i : ℕ) (y : StreamRecord) → slice_get t'.streams.items i ≡ Some y → MakesOne t t'
+      → HasLists (prices_of queued_alone t'.caused.effects) (prices_of requests_alone t'.caused.effects) y
+  lists-made i y is one =
+      ⊎_elim (lists-before i y is)
+      (λ h.
+      let q = one.queued in let r = one.requested in
+      let qe = ap queued_in (sym h.1) ∙ one.empty.0 in let re = ap requested_in (sym h.1) ∙ one.empty.1 in
+      (omega (arith, q, qe), omega (arith, r, re)))
+      (added t.streams.items one.stream y i (ap (λ xs. slice_get xs i) (sym one.streams) ∙ is))
+
+  members-before : (i : ℕ) (y : SeenSignal) → slice_get t'.signals.items i ≡ Some y → slice_get t.signals.items i ≡ Some y → HasMemberRoom (prices_of members_alone t'.caused.effects) y
+  members-before i y is before =
+      let a = took.members (record { 0 = i }) in
+      let h = ready.members i y before in
+      let mx = members-at t.signals.items i y before in
+      let my = members-at t'.signals.items i y is in
+      omega (arith, h, a, mx, my)
+
+  members-same : (i : ℕ) (y : SeenSignal) → slice_get t'.signals.items i ≡ Some y → t'.signals ≡ t.signals → HasMemberRoom (prices_of members_alone t'.caused.effects) y
+  members-same i y is same = members-before i y is (ap (λ v. slice_get v.items i) (sym same) ∙ is)
+
+  members-made : (i : ℕ) (y : SeenSignal) → slice_get t'.signals.items i ≡ Some y → MakesSignal t t' → HasMemberRoom (prices_of members_alone t'.caused.effects) y
+  members-made i y is one =
+      ⊎_elim (members-before i y is)
+      (λ h. let m = one.members in let e = ap (λ (x : SeenSignal). length x.signal.pipes) (sym h.1) ∙ ap (λ (x : pipe.Signal). length x.pipes) one.empty in omega (arith, m, e))
+      (added t.signals.items one.signal y i (ap (λ xs. slice_get xs i) (sym one.signals) ∙ is))
+
+  fits : HasRoomForAll t'.caused.effects t'
+  fits =
+      let caps = start.places in
+      let pr = ap (λ (p : Places). p.promises.promises) caps in
+      let jr = ap (λ (p : Places). p.promises.jobs) caps in
+      let er = ap (λ (p : Places). p.promises.events) caps in
+      let hc = ap (λ (p : Places). p.hosts) caps in
+      let ac = ap (λ (p : Places). p.caused) caps in
+      let oc = ap (λ (p : Places). p.others) caps in
+      let gc = ap (λ (p : Places). p.grown) caps in
+      let fc = ap (λ (p : Places). p.full) caps in
+      let now = kept d t t' start was in
+      let turns = later-is turns_alone t was in let turns' = later-is turns_alone t' now in
+      record {
+        promises = let h = ready.promises.promises in let a = took.promises in let k = later-is promises_alone t was in let k' = later-is promises_alone t' now in omega (arith, h, a, pr, k, k');
+        jobs = let h = ready.jobs in let a = took.jobs in let k = later-is jobs_alone t was in let k' = later-is jobs_alone t' now in omega (arith, h, a, jr, k, k');
+        events = let h = ready.promises.events in let a = took.events in let k = later-is events_alone t was in let k' = later-is events_alone t' now in omega (arith, h, a, er, k, k');
+        hosts =
+            let h = ready.hosts in let a = took.hosts in let k = later-is hosts_alone t was in let k' = later-is hosts_alone t' now in
+            let l = t.hosts.ok.0 in let l' = t'.hosts.ok.0 in omega (arith, h, a, hc, l, l', k, k');
+        caused = let h = ready.caused in let a = took.turns in omega (arith, h, a, ac, turns, turns');
+        others = let h = ready.others in let a = took.turns in omega (arith, h, a, oc, turns, turns');
+        lists = λ i y is.
+            ⊎_elim (λ (none : MakesNone t t'). lists-same i y is none.streams)
+            (λ made. ⊎_elim (λ (one : MakesOne t t'). lists-made i y is one) (λ (one : MakesSignal t t'). lists-same i y is one.streams) made) start.records;
+        grown =
+            let h = ready.grown in
+            ⊎_elim
+            (λ (none : MakesNone t t'). let q = queued-few none.streams in let r = requested-few none.streams in let l = ap vec_len none.grown in omega (arith, h, q, r, l, gc))
+            (λ made. ⊎_elim
+            (λ (one : MakesOne t t'). let q = one.queued in let r = one.requested in let l = one.counted in omega (arith, h, q, r, l, gc))
+            (λ (one : MakesSignal t t'). let q = queued-few one.streams in let r = requested-few one.streams in let l = ap vec_len one.grown in omega (arith, h, q, r, l, gc))
+            made)
+            start.records;
+        members = λ i y is.
+            ⊎_elim (λ (none : MakesNone t t'). members-same i y is none.signals)
+            (λ made. ⊎_elim (λ (one : MakesOne t t'). members-same i y is one.signals) (λ (one : MakesSignal t t'). members-made i y is one) made) start.records;
+        full =
+            let h = ready.full in
+            ⊎_elim
+            (λ (none : MakesNone t t'). let m = members-few none.signals in let l = ap vec_len none.full in omega (arith, h, m, l, fc))
+            (λ made. ⊎_elim
+            (λ (one : MakesOne t t'). let m = members-few one.signals in let l = ap vec_len one.full in omega (arith, h, m, l, fc))
+            (λ (one : MakesSignal t t'). let m = one.members in let l = one.counted in omega (arith, h, m, l, fc))
+            made)
+            start.records;
+      }
+
+starts : (d : Done) (t t' : Tables)
+    → ((π : Prices) (i : StreamId) (a : SignalId) → BeginsWithin π i a (all_keep π (slots_of t).streams + signals_keep π (slots_of t).signals + step_price π) (slots_of t) d)
     → IsPrepared t → IsResting t → Starts d t t' → IsBegun t'
 starts d t t' within ready rest start = record {
   others = ap (λ v. v.items) start.others ∙ rest.others;
@@ -139,12 +241,55 @@ starts d t t' within ready rest start = record {
   kept = kept d t t' start rest.kept;
 }
 
+-- a new pipe has written nothing
+counted-new : (n : ℕ) (xs : List pipe.Slots) (x : pipe.Slots) → x.unsettled ≡ 0 → AreCounted n xs → AreCounted n (xs ++ x ∷ [])
+counted-new n xs x none h i y is =
+    ⊎_elim (λ before. h i y before) (λ new. let e = ap (λ (z : pipe.Slots). z.unsettled) (sym new.1) in omega (arith, e, none)) (added xs x y i is)
+
+counted-makes : Makes IsCounted
+counted-makes = record {
+  promise = λ s k. let h = length-fresh s.promises in counted-on _ _ s.pipes (omega (arith, h)) k;
+  locks = λ s ls k. k;
+  hosts = λ s hs k. k;
+  pipe = λ s i j p a q k. counted-new (length s.promises.entries) s.pipes (pipe.set_up i j p a q) refl k;
+  signal = λ s k. k;
+  readable = λ s m b k. k;
+  writable = λ s m b k. k;
+}
+
+begun-counted : (s : Slots) (job : Option Job) → IsCounted s → IsCounted (job_begun s job).slots
+begun-counted s None k = k
+begun-counted s (Some job) k = counted-on (length s.promises.entries) (length (after_next_job s.promises).entries) s.pipes (next-more s.promises) k
+
+job-counted : (s : Slots) → IsCounted s → IsCounted (begin_job s).slots
+unfolding begin_job
+job-counted s k = begun-counted s (next_job s.promises) k
+
 pub call-begins : (c : Call) (reply : Reply) (t t' : Tables) → IsPrepared t → IsResting t → Answers (begin c (slots_of t)) reply t t' → IsBegun t'
 call-begins c reply t t' ready rest did =
-    starts (begin c (slots_of t)).done t t' (λ π i. begin-fits π i (slots_of t) c) ready rest
-    (record { slots = did.slots; caused = did.caused; others = did.others; places = did.places; waiting = did.waiting; streams = none-or-one reply t t' did.streams })
+    starts (begin c (slots_of t)).done t t' (λ π i a. let h = begin-fits π i a (slots_of t) c in omega (arith, h)) ready rest
+    (record {
+      slots = did.slots;
+      caused = did.caused;
+      others = did.others;
+      places = did.places;
+      waiting = did.waiting;
+      aborts = did.aborts;
+      counted = begin-makes IsCounted counted-makes c (slots_of t) rest.kept.counted;
+      records = which-made reply t t' did.records;
+    })
 
 pub job-begins : (t t' : Tables) → IsPrepared t → IsResting t → Begins (begin_job (slots_of t)) t t' → IsBegun t'
 job-begins t t' ready rest did =
-    starts (begin_job (slots_of t)) t t' (λ π i. job-fits π i (slots_of t)) ready rest
-    (record { slots = did.slots; caused = did.caused; others = did.others; places = did.places; waiting = did.waiting; streams = inl (record { streams = did.streams; grown = did.grown }) })
+    let same = did.records in
+    starts (begin_job (slots_of t)) t t' (λ π i a. job-fits π i a (slots_of t)) ready rest
+    (record {
+      slots = did.slots;
+      caused = did.caused;
+      others = did.others;
+      places = did.places;
+      waiting = same.waiting;
+      aborts = same.aborts;
+      counted = job-counted (slots_of t) rest.kept.counted;
+      records = inl (record { streams = same.streams; grown = same.grown; signals = same.signals; full = same.full });
+    })

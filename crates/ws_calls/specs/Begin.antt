@@ -1,37 +1,40 @@
 -- What calls and jobs begin with, in the places that there are.
 use Rattle.std.specs.Prelude.{◌≡◌, ◌+◌, ◌≤◌, ◌<◌, [], ◌∷◌, ◌++◌, length, Bool, vec_len, vec_capacity}
+use Rattle.ws_pipe.specs.Seen.{SeenSignal}
 use Rattle.ws_promise.specs.Seen.{HasPromiseRoom}
 use Rattle.ws_steps.specs.declared.calls.Reply.{Reply}
-use Rattle.ws_steps.specs.declared.calls.Reply.TheVariants.{Done as ReplyDone, Made, Lock as ReplyLock, Promise, Size, State as ReplyState, Throws, TooMany}
-use Rattle.ws_steps.specs.Places.{prices_of, queued_alone, requests_alone}
+use Rattle.ws_steps.specs.declared.calls.Reply.TheVariants.{Done as ReplyDone, Made, Lock as ReplyLock, Promise, Signal as ReplySignal, Size, State as ReplyState, Throws, TooMany}
+use Rattle.ws_steps.specs.Pipes.{new_signal}
+use Rattle.ws_steps.specs.Places.{prices_of, queued_alone, requests_alone, members_alone}
 use Rattle.ws_steps.specs.Slots.{Done}
 use Rattle.ws_steps.specs.Calls.{Begun, with_renewed, reject_renewed}
 use Rattle.ws_tables.specs.View.{slots_of}
-use Rattle.ws_tables.specs.Room.{places_of, queued_in, requested_in, HasRoomForAll, IsKept}
+use Rattle.ws_tables.specs.Room.{places_of, queued_in, requested_in, HasRoomForAll, IsKept, KeepsRecords}
 use Rattle.ws_tables.specs.declared.tables.Stream.{Stream}
 use Rattle.ws_tables.specs.declared.tables.Tables.{Tables}
 
--- a call or a job begins, in the places that there are. Its effects are caused
+-- a job begins, in the places that there are. Its effects are caused
 pub record Begins (d : Done) (t t' : Tables) : Type 0 where
   pub slots : slots_of t' ≡ d.slots
   pub caused : t'.caused.effects ≡ d.caused
   pub others : t'.others ≡ t.others
   pub places : places_of t' ≡ places_of t
-  pub streams : t'.streams ≡ t.streams
-  pub grown : t'.grown ≡ t.grown
-  pub waiting : t'.waiting ≡ t.waiting
+  pub records : KeepsRecords t t'
 
--- a call can begin: nothing is caused yet, and there are places for the promises, the lock and the effects that it makes
+-- a call can begin: nothing is caused yet, and there are places for the promises, the locks and the effects that it makes
 pub record CanBegin (t : Tables) : Type 0 where
   pub quiet : t.caused.effects ≡ []
-  pub promises : HasPromiseRoom 2 t.promises
-  pub effects : 3 ≤ t.caused.capacity
-  pub locks : vec_len t.locks < vec_capacity t.locks
+  pub promises : HasPromiseRoom 4 t.promises
+  pub effects : 7 ≤ t.caused.capacity
+  pub locks : vec_len t.locks + 2 ≤ vec_capacity t.locks
 
--- there are places for one stream more
+-- there are places for one stream, one pipe and one signal more
 pub record CanMake (t : Tables) : Type 0 where
   pub streams : vec_len t.streams < vec_capacity t.streams
   pub grown : vec_len t.grown < vec_capacity t.grown
+  pub pipes : vec_len t.pipes < vec_capacity t.pipes
+  pub signals : vec_len t.signals < vec_capacity t.signals
+  pub full : vec_len t.full < vec_capacity t.full
 
 -- one stream is made, which has no entries, and what is caused makes none; places are to be made there
 pub record MakesOne (t t' : Tables) : Type 0 where
@@ -42,21 +45,37 @@ pub record MakesOne (t t' : Tables) : Type 0 where
   pub counted : vec_len t'.grown ≡ vec_len t.grown + 1
   pub queued : prices_of queued_alone t'.caused.effects ≡ 0
   pub requested : prices_of requests_alone t'.caused.effects ≡ 0
+  pub signals : t'.signals ≡ t.signals
+  pub full : t'.full ≡ t.full
+
+-- one signal is made, which has no pipes, and nothing is caused; places are to be made there
+pub record MakesSignal (t t' : Tables) : Type 0 where
+  pub signal : SeenSignal
+  pub empty : signal.signal ≡ new_signal
+  pub signals : t'.signals.items ≡ t.signals.items ++ signal ∷ []
+  pub full : t'.full.items ≡ t.full.items ++ record { 0 = length t.signals.items } ∷ []
+  pub counted : vec_len t'.full ≡ vec_len t.full + 1
+  pub members : prices_of members_alone t'.caused.effects ≡ 0
+  pub streams : t'.streams ≡ t.streams
+  pub grown : t'.grown ≡ t.grown
 
 pub record MakesNone (t t' : Tables) : Type 0 where
   pub streams : t'.streams ≡ t.streams
   pub grown : t'.grown ≡ t.grown
+  pub signals : t'.signals ≡ t.signals
+  pub full : t'.full ≡ t.full
 
--- a call that answers so makes a stream, or none
-abbrev pub StreamsAfter : Reply → Tables → Tables → Type 0
-StreamsAfter (Made i) t t' = MakesOne t t'
-StreamsAfter ReplyDone t t' = MakesNone t t'
-StreamsAfter (ReplyLock l) t t' = MakesNone t t'
-StreamsAfter (Promise p) t t' = MakesNone t t'
-StreamsAfter (Size n) t t' = MakesNone t t'
-StreamsAfter (ReplyState looks) t t' = MakesNone t t'
-StreamsAfter (Throws reason) t t' = MakesNone t t'
-StreamsAfter TooMany t t' = MakesNone t t'
+-- a call that answers so makes a stream, or a signal, or neither
+abbrev pub RecordsAfter : Reply → Tables → Tables → Type 0
+RecordsAfter (Made i) t t' = MakesOne t t'
+RecordsAfter (ReplySignal a) t t' = MakesSignal t t'
+RecordsAfter ReplyDone t t' = MakesNone t t'
+RecordsAfter (ReplyLock l) t t' = MakesNone t t'
+RecordsAfter (Promise p) t t' = MakesNone t t'
+RecordsAfter (Size n) t t' = MakesNone t t'
+RecordsAfter (ReplyState looks) t t' = MakesNone t t'
+RecordsAfter (Throws reason) t t' = MakesNone t t'
+RecordsAfter TooMany t t' = MakesNone t t'
 
 -- a call begins so, and answers this, in the places that there are
 pub record Answers (b : Begun) (answered : Reply) (t t' : Tables) : Type 0 where
@@ -66,7 +85,8 @@ pub record Answers (b : Begun) (answered : Reply) (t t' : Tables) : Type 0 where
   pub others : t'.others ≡ t.others
   pub places : places_of t' ≡ places_of t
   pub waiting : t'.waiting ≡ t.waiting
-  pub streams : StreamsAfter answered t t'
+  pub aborts : t'.aborts ≡ t.aborts
+  pub records : RecordsAfter answered t t'
 
 -- a call or a job has begun, and there are places for its effects and all that comes of them
 pub record IsBegun (t : Tables) : Type 0 where
@@ -80,16 +100,13 @@ pub record Renews (kept : Bool) (t t' : Tables) : Type 0 where
   pub caused : t'.caused.effects ≡ t.caused.effects ++ reject_renewed t.promises.table kept
   pub others : t'.others ≡ t.others
   pub places : places_of t' ≡ places_of t
-  pub streams : t'.streams ≡ t.streams
   pub locks : t'.locks ≡ t.locks
-  pub grown : t'.grown ≡ t.grown
-  pub waiting : t'.waiting ≡ t.waiting
+  pub records : KeepsRecords t t'
 
--- only the promises changed
+-- only the promises changed, and they got no fewer
 pub record IsSameBeside (t t' : Tables) : Type 0 where
   pub caused : t'.caused ≡ t.caused
   pub others : t'.others ≡ t.others
-  pub streams : t'.streams ≡ t.streams
-  pub grown : t'.grown ≡ t.grown
-  pub waiting : t'.waiting ≡ t.waiting
+  pub records : KeepsRecords t t'
   pub age : t'.age ≡ t.age
+  pub promises : length t.promises.table.entries ≤ length t'.promises.table.entries

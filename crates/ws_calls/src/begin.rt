@@ -9,7 +9,7 @@ ghost use Rattle.ws_tables.specs.View.{slots_of};
 ghost use Rattle.ws_calls.specs.Begin.{Answers, CanBegin, CanMake, IsSameBeside};
 
 use crate::jobs::begin_job;
-use crate::{controllers, locks, readers, streams, writers};
+use crate::{controllers, locks, pipes, readers, streams, writers};
 use ws_steps::{Call, Reply};
 use ws_tables::Tables;
 
@@ -48,6 +48,14 @@ fn begin(tables: &mut Tables, call: Call) -> Reply
         Call::Fail(i, reason) => controllers::fail(tables, i, reason),
         Call::Desired(i) => controllers::desired(tables, i),
         Call::DesiredBy(l) => writers::desired_by(tables, l),
+        Call::Pipe {
+            source,
+            dest,
+            prevent,
+            signal,
+        } => pipes::pipe(tables, source, dest, prevent, signal),
+        Call::MakeSignal => pipes::make_signal(tables),
+        Call::Trigger(a, reason) => pipes::trigger(tables, a, reason),
         Call::Settle(h, answer) => controllers::settle(tables, h, answer),
         Call::State(i) => controllers::state(tables, i),
         Call::Step => step(tables),
@@ -65,6 +73,7 @@ fn name(tables: &mut Tables, reply: Reply)
         Reply::Done => {}
         Reply::Made(_) => {}
         Reply::Lock(_) => {}
+        Reply::Signal(_) => {}
         Reply::Size(_) => {}
         Reply::State(_) => {}
         Reply::Throws(_) => {}

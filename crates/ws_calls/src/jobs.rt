@@ -6,7 +6,7 @@ ghost use Rattle.ws_steps.specs.Slots.{causes};
 ghost use Rattle.ws_tables.specs.View.{slots_of};
 ghost use Rattle.ws_calls.specs.Begin.{Begins};
 
-use ws_steps::{Effect, Job, Micro, ReadableOperation, Step, WritableOperation};
+use ws_steps::{Effect, Job, Micro, PipeOperation, ReadableOperation, Step, WritableOperation};
 use ws_tables::Tables;
 use ws_value::{Plain, PromiseId};
 
@@ -25,6 +25,11 @@ fn returned(step: Step, outcome: Result<Plain, Plain>) -> Result<Plain, Plain>
         Step::WritableWrite(_) => Ok(Plain::Undefined),
         Step::WritableClose(_) => Ok(Plain::Undefined),
         Step::WritableAbort(_, _) => Ok(Plain::Undefined),
+        Step::PipeEnds(_) => Ok(Plain::Undefined),
+        Step::PipeReady(_) => Ok(Plain::Undefined),
+        Step::PipeWrote(_) => Ok(Plain::Undefined),
+        Step::PipeActed(_) => Ok(Plain::Undefined),
+        Step::PipePart(_) => Ok(Plain::Undefined),
     }
 }
 
@@ -60,6 +65,36 @@ fn cause_steps(tables: &mut Tables, step: Step, outcome: Result<Plain, Plain>)
             let operation = WritableOperation::AbortSettled(promise, outcome);
             tables.caused.push(Effect::Writable(i, operation));
         }
+        Step::PipeEnds(p) => tables.caused.push(Effect::Pipe(p, PipeOperation::Look)),
+        Step::PipeReady(p) => tables
+            .caused
+            .push(Effect::Pipe(p, PipeOperation::LookReady)),
+        Step::PipeWrote(p) => tables
+            .caused
+            .push(Effect::Pipe(p, PipeOperation::WriteEnded)),
+        Step::PipeActed(p) => {
+            let operation = PipeOperation::ActionSettled(outcome);
+            tables.caused.push(Effect::Pipe(p, operation));
+        }
+        Step::PipePart(p) => {
+            let operation = PipeOperation::PartSettled(outcome);
+            tables.caused.push(Effect::Pipe(p, operation));
+        }
+    }
+}
+
+/// Causes the effects of a microtask.
+fn cause_micro(tables: &mut Tables, micro: Micro)
+    requires quiet { tables.old.caused.effects ≡ [] }
+    requires room { 2 ≤ tables.old.caused.capacity }
+    ensures { Begins (causes (jobs.micro_steps micro) (slots_of tables.old)) tables.old tables.new }
+{
+    match micro {
+        Micro::PipeLook(p) => tables.caused.push(Effect::Pipe(p, PipeOperation::Look)),
+        Micro::PipeWrite(p) => tables
+            .caused
+            .push(Effect::Pipe(p, PipeOperation::WriteChunk)),
+        Micro::PipeNoParts(p) => tables.caused.push(Effect::Pipe(p, PipeOperation::NoParts)),
     }
 }
 
@@ -84,7 +119,7 @@ fn cause_job(tables: &mut Tables, job: Job)
         }
         Job::Follow { p: _, q: _ } => {}
         Job::Settle { p, outcome } => tables.caused.push(Effect::Settle(p, outcome)),
-        Job::Micro(Micro::PipeLook(_)) => {}
+        Job::Micro(micro) => cause_micro(tables, micro),
     }
 }
 

@@ -80,7 +80,7 @@ pub(crate) fn closed(tables: &mut Tables, l: LockId) -> Reply
             None => UNSUPPORTED,
         },
         Some(Lock::ReleasedWriter(writer)) => Reply::Promise(writer.closed),
-        None => UNSUPPORTED,
+        Some(Lock::Inner) | None => UNSUPPORTED,
     }
 }
 
@@ -95,7 +95,7 @@ pub(crate) fn ready(tables: &mut Tables, l: LockId) -> Reply
             None => UNSUPPORTED,
         },
         Some(Lock::ReleasedWriter(writer)) => Reply::Promise(writer.ready),
-        Some(Lock::Reader { .. }) | None => UNSUPPORTED,
+        Some(Lock::Reader { .. } | Lock::Inner) | None => UNSUPPORTED,
     }
 }
 
@@ -122,6 +122,6 @@ pub(crate) fn release(tables: &mut Tables, l: LockId) -> Reply
             None => UNSUPPORTED,
         },
         Some(Lock::ReleasedWriter(_)) => Reply::Done,
-        None => UNSUPPORTED,
+        Some(Lock::Inner) | None => UNSUPPORTED,
     }
 }

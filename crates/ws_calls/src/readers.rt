@@ -72,7 +72,7 @@ pub(crate) fn cancel_by(tables: &mut Tables, l: LockId, reason: Plain) -> Reply
             cancel_stream(tables, i, reason)
         }
         Some(Lock::Reader { stream: None, .. }) => rejected(tables),
-        Some(Lock::Writer(_) | Lock::ReleasedWriter(_)) | None => UNSUPPORTED,
+        Some(Lock::Writer(_) | Lock::ReleasedWriter(_) | Lock::Inner) | None => UNSUPPORTED,
     }
 }
 
@@ -99,6 +99,6 @@ pub(crate) fn read(tables: &mut Tables, l: LockId) -> Reply
             Reply::Promise(promise)
         }
         Some(Lock::Reader { stream: None, .. }) => rejected(tables),
-        Some(Lock::Writer(_) | Lock::ReleasedWriter(_)) | None => UNSUPPORTED,
+        Some(Lock::Writer(_) | Lock::ReleasedWriter(_) | Lock::Inner) | None => UNSUPPORTED,
     }
 }

@@ -11,15 +11,10 @@ use ws_steps::{Effect, Lock, Reply, WritableOperation, Writer};
 use ws_tables::Tables;
 use ws_value::{LockId, Plain, StreamId, Value};
 
-/// A stream that is closing already isn't closed again.
 fn close_stream(tables: &mut Tables, i: StreamId) -> Reply
-    requires there { has_writable i (slots_of tables.old) ≡ true }
     requires ready { CanBegin tables.old }
     ensures { Answers (calls.close i (slots_of tables.old)) result tables.old tables.new }
 {
-    if tables.writable(i).is_closing() {
-        return rejected(tables);
-    }
     let promise = tables.promises.fresh();
     tables
         .caused
@@ -79,7 +74,7 @@ pub(crate) fn write(tables: &mut Tables, l: LockId, chunk: Value) -> Reply
             Reply::Promise(promise)
         }
         Some(Lock::ReleasedWriter(_)) => rejected(tables),
-        Some(Lock::Reader { .. }) | None => UNSUPPORTED,
+        Some(Lock::Reader { .. } | Lock::Inner) | None => UNSUPPORTED,
     }
 }
 
@@ -110,7 +105,7 @@ pub(crate) fn close_by(tables: &mut Tables, l: LockId) -> Reply
             close_stream(tables, i)
         }
         Some(Lock::ReleasedWriter(_)) => rejected(tables),
-        Some(Lock::Reader { .. }) | None => UNSUPPORTED,
+        Some(Lock::Reader { .. } | Lock::Inner) | None => UNSUPPORTED,
     }
 }
 
@@ -141,7 +136,7 @@ pub(crate) fn abort_by(tables: &mut Tables, l: LockId, reason: Plain) -> Reply
             abort_stream(tables, i, reason)
         }
         Some(Lock::ReleasedWriter(_)) => rejected(tables),
-        Some(Lock::Reader { .. }) | None => UNSUPPORTED,
+        Some(Lock::Reader { .. } | Lock::Inner) | None => UNSUPPORTED,
     }
 }
 
@@ -159,6 +154,6 @@ pub(crate) fn desired_by(tables: &mut Tables, l: LockId) -> Reply
             Reply::Size(size)
         }
         Some(Lock::ReleasedWriter(_)) => TYPE_ERROR,
-        Some(Lock::Reader { .. }) | None => UNSUPPORTED,
+        Some(Lock::Reader { .. } | Lock::Inner) | None => UNSUPPORTED,
     }
 }

@@ -6,15 +6,16 @@ use Rattle.ws_steps.specs.declared.calls.Event.{Event}
 use Rattle.ws_value.specs.declared.ids.PromiseId.{PromiseId}
 use Rattle.ws_promise.specs.Seen.{Seen, HasRoom, jobs_in, events_in}
 use Rattle.ws_room_laws.proofs.Tables.{length-set, reactions-set, unnoted-set}
-use Rattle.ws_tables.specs.Room.{IsPrepared, IsResting}
+use Rattle.ws_tables.specs.Room.{IsPrepared, IsResting, places_for}
 use Rattle.ws_tables.specs.declared.tables.Tables.{Tables}
+use Rattle.ws_tables.proofs.Places.{kept_promises}
 
 -- a promise that is let go of leaves places
 
-record Less (t u : Table) : Type 0 where
-  entries : length u.entries ≤ length t.entries
-  jobs : jobs_in u ≤ jobs_in t
-  events : events_in u ≤ events_in t
+pub record Less (t u : Table) : Type 0 where
+  pub entries : length u.entries ≤ length t.entries
+  pub jobs : jobs_in u ≤ jobs_in t
+  pub events : events_in u ≤ events_in t
 
 without-less : (p : PromiseId) (t : Table) → Less t (with_entry p None t)
 without-less p t =
@@ -31,7 +32,7 @@ entry-less : (p : PromiseId) (t : Table) (x : Option Entry) → Less t (release_
 entry-less p t None = record { entries = omega arith; jobs = omega arith; events = omega arith }
 entry-less p t (Some e) = unless-less p t (is_pending e.outcome)
 
-release-less : (p : PromiseId) (t : Table) → Less t (release p t)
+pub release-less : (p : PromiseId) (t : Table) → Less t (release p t)
 unfolding release
 release-less p t = entry-less p t (entry_at t p)
 
@@ -45,26 +46,32 @@ later-less : (es : List Event) → length (later_events es) ≤ length es
 later-less [] = omega arith
 later-less (e ∷ es) = omega arith
 
-pub released : (p : PromiseId) (s : Seen) → HasRoom 3 s → HasRoom 3 (record s { table = release p s.table })
-released p s room = less-room 3 s (release p s.table) (release-less p s.table) room
+-- the taking of an event leaves one, or none
+pub later-events-less : (t : Table) → Less t (record t { events = later_events t.events })
+later-events-less t = let h = later-less t.events in record { entries = omega arith; jobs = omega arith; events = omega (arith, h) }
 
-pub heard : (s : Seen) → HasRoom 3 s → HasRoom 3 (record s { table = record s.table { events = later_events s.table.events } })
-heard s room =
-    let h = later-less s.table.events in
-    less-room 3 s (record s.table { events = later_events s.table.events }) (record { entries = omega arith; jobs = omega arith; events = omega (arith, h) }) room
+-- a realm is between calls still, where promises get no fewer
+pub rests-still : (t : Tables) (u : Table) → length t.promises.table.entries ≤ length u.entries → IsResting t → IsResting (record t { promises = record t.promises { table = u } })
+rests-still t u more rest = record {
+  caused = rest.caused;
+  others = rest.others;
+  kept = kept_promises t (record t.promises { table = u }) more rest.kept;
+}
 
--- a realm is between calls still
-pub rests-still : (t : Tables) (p : Seen) → IsResting t → IsResting (record t { promises = p })
-rests-still t p rest = record { caused = rest.caused; others = rest.others; kept = record { waiting = rest.kept.waiting; covered = rest.kept.covered } }
-
-pub ready-still : (t : Tables) (p : Seen) → HasRoom 3 p → IsPrepared t → IsPrepared (record t { promises = p })
-ready-still t p room ready = record {
-  promises = room;
+-- and prepared still, where places are left
+pub ready-still : (t : Tables) (u : Table) → Less t.promises.table u → IsPrepared t → IsPrepared (record t { promises = record t.promises { table = u } })
+ready-still t u less ready = record {
+  promises = less-room (places_for 0 6 10 t) t.promises u less ready.promises;
+  jobs = let a = less.jobs in let h = ready.jobs in omega (arith, a, h);
   hosts = ready.hosts;
   caused = ready.caused;
   others = ready.others;
   grown = ready.grown;
   lists = ready.lists;
+  full = ready.full;
+  members = ready.members;
   locks = ready.locks;
   streams = ready.streams;
+  pipes = ready.pipes;
+  signals = ready.signals;
 }

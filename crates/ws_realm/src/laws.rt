@@ -1,7 +1,23 @@
-//! What holds of the streams and promises of a realm, whatever calls and jobs it performs, events its host takes and promises its host lets go of.
+//! What holds of the streams, pipes and promises of a realm, whatever calls and jobs it performs, events its host takes and promises its host lets go of.
 pub use ws_laws::{
     each_age_counts, each_mark_stays, each_outcome_stays, each_throw_changes_nothing,
     each_work_is_a_run,
+};
+pub use ws_lock_laws::{
+    each_lock_has_one_holder, each_pipe_owns_its_ends, each_reading_has_one_read,
+    each_source_is_read_by_its_pipe, no_two_pipes_share_an_end,
+};
+pub use ws_pipe_laws::{
+    each_action_is_heard, each_pass_is_a_write, each_pass_is_appended, each_pipe_begins_flowing,
+    each_pipe_has_a_course, each_pipe_keeps_its_ends, each_pipe_moves, each_pipe_passes,
+    each_pipe_passes_a_front, each_pipe_reads_its_source, each_pipe_stays, each_read_may_start,
+    each_reason_stays, each_signal_keeps_order, each_step_passes, each_trigger_aborts_in_order,
+    no_other_starts_a_read, no_read_starts_once_shut, none_begins_with_a_read,
+    none_passes_once_acting, one_read_waits_at_most,
+};
+pub use ws_pipe_write_laws::{
+    each_action_settles_while_acting, each_held_chunk_is_queued, each_pipe_acts_in_order,
+    each_pipe_is_owed, none_acts_while_a_write_is_open,
 };
 pub use ws_promise_laws::none_goes_astray;
 pub use ws_read_laws::{each_read_is_answered, reads_of_the_ended, reads_were_answered};

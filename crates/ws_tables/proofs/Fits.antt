@@ -1,27 +1,32 @@
 -- What is taken of each kind of place, when so much is taken whatever the prices.
 use Rattle.std.proofs.Common.{◌≡◌, ◌≤◌, ℕ, zero, suc, ◌+◌, List, [], ◌∷◌, length, map, Option, Some, None, refl, ap, ◌∙◌, arith}
 use Rattle.std.specs.Prelude.{slice_get}
+use Rattle.ws_value.specs.declared.ids.SignalId.{SignalId}
 use Rattle.ws_value.specs.declared.ids.StreamId.{StreamId}
+use Rattle.ws_pipe.specs.Seen.{SeenSignal}
 use Rattle.ws_promise.specs.Seen.{jobs_in, events_in}
 use Rattle.ws_steps.specs.declared.effects.Effect.{Effect}
-use Rattle.ws_steps.specs.Places.{Prices, each, effect_price, prices_of, all_keep, need, size, table_size, entries_of, own, turns_alone, promises_alone, jobs_alone, events_alone, hosts_alone, queued_alone, requests_alone}
+use Rattle.ws_steps.specs.Pipes as pipe
+use Rattle.ws_steps.specs.Places.{Prices, effect_price, prices_of, all_keep, signals_keep, need, size, table_size, entries_of, members_of, own, turns_alone, promises_alone, jobs_alone, events_alone, hosts_alone, queued_alone, requests_alone, members_alone}
 use Rattle.ws_steps.specs.Slots.{Slots, Stream, ReadableStream, WritableStream}
 use Rattle.ws_room_laws.proofs.Rows.{each-none}
-use Rattle.ws_tables.specs.View.{stream_of}
-use Rattle.ws_tables.specs.Room.{room_of, queued_in, requested_in}
+use Rattle.ws_tables.specs.View.{stream_of, signal_of}
+use Rattle.ws_tables.specs.Room.{queued_in, requested_in}
 use Rattle.ws_tables.specs.declared.tables.Stream.{Stream as StreamRecord}
 use Rattle.ws_tables.specs.declared.tables.Stream.TheVariants.{Readable, Writable}
+use Rattle.ws_tables.proofs.Keeps.{kept_in, streams-keep-is, signals-keep-is}
 use Rattle.ws_tables.proofs.Streams.{each-one, get-map}
 
--- the slots s' and the effects es take of each kind no more than s takes, and k beside what the records keep
+-- the slots s' and the effects es take of each kind, with what the records keep for later, no more than s takes and keeps, and k
 pub record Takes (k : Prices → ℕ) (s s' : Slots) (es : List Effect) : Type 0 where
-  pub promises : prices_of promises_alone es + length s'.promises.entries ≤ length s.promises.entries + k promises_alone
-  pub jobs : prices_of jobs_alone es + jobs_in s'.promises ≤ jobs_in s.promises + k jobs_alone
-  pub events : prices_of events_alone es + events_in s'.promises ≤ events_in s.promises + k events_alone
-  pub hosts : prices_of hosts_alone es + length s'.hosts ≤ length s.hosts + k hosts_alone
-  pub turns : prices_of turns_alone es + all_keep turns_alone s'.streams ≤ all_keep turns_alone s.streams + k turns_alone
+  pub promises : prices_of promises_alone es + kept_in promises_alone s' + length s'.promises.entries ≤ length s.promises.entries + (kept_in promises_alone s + k promises_alone)
+  pub jobs : prices_of jobs_alone es + kept_in jobs_alone s' + jobs_in s'.promises ≤ jobs_in s.promises + (kept_in jobs_alone s + k jobs_alone)
+  pub events : prices_of events_alone es + kept_in events_alone s' + events_in s'.promises ≤ events_in s.promises + (kept_in events_alone s + k events_alone)
+  pub hosts : prices_of hosts_alone es + kept_in hosts_alone s' + length s'.hosts ≤ length s.hosts + (kept_in hosts_alone s + k hosts_alone)
+  pub turns : prices_of turns_alone es + kept_in turns_alone s' ≤ kept_in turns_alone s + k turns_alone
   pub queued : (i : StreamId) → prices_of queued_alone es + entries_of queued_alone (slice_get s'.streams i.0) ≤ entries_of queued_alone (slice_get s.streams i.0) + k queued_alone
   pub requested : (i : StreamId) → prices_of requests_alone es + entries_of requests_alone (slice_get s'.streams i.0) ≤ entries_of requests_alone (slice_get s.streams i.0) + k requests_alone
+  pub members : (a : SignalId) → prices_of members_alone es + members_of members_alone (slice_get s'.signals a.0) ≤ members_of members_alone (slice_get s.signals a.0) + k members_alone
 
 module _ (π : Prices) where
   entries-free : π.queued ≡ 0 → π.request ≡ 0 → (o : Option Stream) → entries_of π o ≡ 0
@@ -29,46 +34,64 @@ module _ (π : Prices) where
   entries-free q r (Some (ReadableStream x)) = rw (q, r) (let a = each-none x.queue in let b = each-none x.requests in omega (arith, a, b))
   entries-free q r (Some (WritableStream x)) = rw (q, r) (let a = each-none x.queue in let b = each-none x.write_requests in omega (arith, a, b))
 
-  keep-free : π.turn ≡ 0 → (xs : List Stream) → all_keep π xs ≡ 0
-  keep-free t [] = refl
-  keep-free t (ReadableStream x ∷ xs) = let h = keep-free t xs in let k : each π.turn x.requests ≡ 0 = rw t (each-none x.requests) in omega (arith, h, k)
-  keep-free t (WritableStream x ∷ xs) = let h = keep-free t xs in omega (arith, h)
+  members-free : π.member ≡ 0 → (o : Option pipe.Signal) → members_of π o ≡ 0
+  members-free m None = refl
+  members-free m (Some x) = rw m (each-none x.pipes)
 
-pub takes : (k : Prices → ℕ) (s s' : Slots) (es : List Effect) → ((π : Prices) (i : StreamId) → size π i s' + need π s' es ≤ size π i s + (all_keep π s.streams + k π)) → Takes k s s' es
+  -- in the lists of stream 0 and signal 0 there is nothing that counts
+  lists-free : π.queued ≡ 0 → π.request ≡ 0 → π.member ≡ 0 → (s : Slots) → entries_of π (slice_get s.streams 0) + members_of π (slice_get s.signals 0) ≡ 0
+  lists-free q r m s = let a = entries-free q r (slice_get s.streams 0) in let b = members-free m (slice_get s.signals 0) in omega (arith, a, b)
+
+-- nothing is kept of entries, requests and pipes
+
+queued-kept : (s : Slots) → kept_in queued_alone s ≡ 0
+queued-kept s = let a = streams-keep-is queued_alone s.streams in let b = signals-keep-is queued_alone s.signals in omega (arith, a, b)
+
+requests-kept : (s : Slots) → kept_in requests_alone s ≡ 0
+requests-kept s = let a = streams-keep-is requests_alone s.streams in let b = signals-keep-is requests_alone s.signals in omega (arith, a, b)
+
+members-kept : (s : Slots) → kept_in members_alone s ≡ 0
+members-kept s = let a = streams-keep-is members_alone s.streams in let b = signals-keep-is members_alone s.signals in omega (arith, a, b)
+
+pub takes : (k : Prices → ℕ) (s s' : Slots) (es : List Effect)
+    → ((π : Prices) (i : StreamId) (a : SignalId) → size π i a s' + need π s' es ≤ size π i a s + (all_keep π s.streams + signals_keep π s.signals + k π)) → Takes k s s' es
 unfolding table_size
 takes k s s' es h = record {
   promises =
-      let a = h promises_alone (record { 0 = 0 }) in
-      let b = keep-free promises_alone refl s.streams in let c = keep-free promises_alone refl s'.streams in
-      let d = entries-free promises_alone refl refl (slice_get s.streams 0) in let e = entries-free promises_alone refl refl (slice_get s'.streams 0) in
-      omega (arith, a, b, c, d, e);
+      let a = h promises_alone (record { 0 = 0 }) (record { 0 = 0 }) in
+      let b = lists-free promises_alone refl refl refl s in let c = lists-free promises_alone refl refl refl s' in
+      omega (arith, a, b, c);
   jobs =
-      let a = h jobs_alone (record { 0 = 0 }) in
-      let b = keep-free jobs_alone refl s.streams in let c = keep-free jobs_alone refl s'.streams in
-      let d = entries-free jobs_alone refl refl (slice_get s.streams 0) in let e = entries-free jobs_alone refl refl (slice_get s'.streams 0) in
-      omega (arith, a, b, c, d, e);
+      let a = h jobs_alone (record { 0 = 0 }) (record { 0 = 0 }) in
+      let b = lists-free jobs_alone refl refl refl s in let c = lists-free jobs_alone refl refl refl s' in
+      omega (arith, a, b, c);
   events =
-      let a = h events_alone (record { 0 = 0 }) in
-      let b = keep-free events_alone refl s.streams in let c = keep-free events_alone refl s'.streams in
-      let d = entries-free events_alone refl refl (slice_get s.streams 0) in let e = entries-free events_alone refl refl (slice_get s'.streams 0) in
-      omega (arith, a, b, c, d, e);
+      let a = h events_alone (record { 0 = 0 }) (record { 0 = 0 }) in
+      let b = lists-free events_alone refl refl refl s in let c = lists-free events_alone refl refl refl s' in
+      omega (arith, a, b, c);
   hosts =
-      let a = h hosts_alone (record { 0 = 0 }) in
-      let b = keep-free hosts_alone refl s.streams in let c = keep-free hosts_alone refl s'.streams in
-      let d = entries-free hosts_alone refl refl (slice_get s.streams 0) in let e = entries-free hosts_alone refl refl (slice_get s'.streams 0) in
-      omega (arith, a, b, c, d, e);
+      let a = h hosts_alone (record { 0 = 0 }) (record { 0 = 0 }) in
+      let b = lists-free hosts_alone refl refl refl s in let c = lists-free hosts_alone refl refl refl s' in
+      omega (arith, a, b, c);
   turns =
-      let a = h turns_alone (record { 0 = 0 }) in
-      let d = entries-free turns_alone refl refl (slice_get s.streams 0) in let e = entries-free turns_alone refl refl (slice_get s'.streams 0) in
-      omega (arith, a, d, e);
+      let a = h turns_alone (record { 0 = 0 }) (record { 0 = 0 }) in
+      let b = lists-free turns_alone refl refl refl s in let c = lists-free turns_alone refl refl refl s' in
+      omega (arith, a, b, c);
   queued = λ i.
-      let a = h queued_alone i in
-      let b = keep-free queued_alone refl s.streams in let c = keep-free queued_alone refl s'.streams in
-      omega (arith, a, b, c);
+      let a = h queued_alone i (record { 0 = 0 }) in
+      let b = members-free queued_alone refl (slice_get s.signals 0) in let c = members-free queued_alone refl (slice_get s'.signals 0) in
+      let d = queued-kept s in
+      omega (arith, a, b, c, d);
   requested = λ i.
-      let a = h requests_alone i in
-      let b = keep-free requests_alone refl s.streams in let c = keep-free requests_alone refl s'.streams in
-      omega (arith, a, b, c);
+      let a = h requests_alone i (record { 0 = 0 }) in
+      let b = members-free requests_alone refl (slice_get s.signals 0) in let c = members-free requests_alone refl (slice_get s'.signals 0) in
+      let d = requests-kept s in
+      omega (arith, a, b, c, d);
+  members = λ g.
+      let a = h members_alone (record { 0 = 0 }) g in
+      let b = entries-free members_alone refl refl (slice_get s.streams 0) in let c = entries-free members_alone refl refl (slice_get s'.streams 0) in
+      let d = members-kept s in
+      omega (arith, a, b, c, d);
 }
 
 -- the entries of a stream, where its lists are counted
@@ -87,16 +110,19 @@ queued-at xs i x is = ap (entries_of queued_alone) (get-map stream_of xs i x is)
 pub requested-at : (xs : List StreamRecord) (i : ℕ) (x : StreamRecord) → slice_get xs i ≡ Some x → entries_of requests_alone (slice_get (map stream_of xs) i) ≡ requested_in x
 requested-at xs i x is = ap (entries_of requests_alone) (get-map stream_of xs i x is) ∙ requested-is x
 
--- where the lists of streams have the same places, so have those of the stream of a number
-pub same-room : (xs ys : List StreamRecord) (i : ℕ) (y : StreamRecord) → map room_of ys ≡ map room_of xs → slice_get ys i ≡ Some y → (x : StreamRecord) × ((slice_get xs i ≡ Some x) × (room_of y ≡ room_of x))
-same-room [] [] i y same is = cc
-same-room [] (z ∷ ys) i y same is = cc
-same-room (x ∷ xs) [] i y same is = cc
-same-room (x ∷ xs) (z ∷ ys) zero y same is = (x, (refl, cc))
-same-room (x ∷ xs) (z ∷ ys) (suc i) y same is = let tails : map room_of ys ≡ map room_of xs = cc in same-room xs ys i y tails is
+pub members-at : (xs : List SeenSignal) (i : ℕ) (x : SeenSignal) → slice_get xs i ≡ Some x → members_of members_alone (slice_get (map signal_of xs) i) ≡ length x.signal.pipes
+members-at xs i x is = ap (members_of members_alone) (get-map signal_of xs i x is) ∙ each-one x.signal.pipes
+
+-- where the lists of records have the same places, so have those of the record of a number
+pub same-room : {X R : Type 0} (room : X → R) (xs ys : List X) (i : ℕ) (y : X) → map room ys ≡ map room xs → slice_get ys i ≡ Some y → (x : X) × ((slice_get xs i ≡ Some x) × (room y ≡ room x))
+same-room room [] [] i y same is = cc
+same-room room [] (z ∷ ys) i y same is = cc
+same-room room (x ∷ xs) [] i y same is = cc
+same-room room (x ∷ xs) (z ∷ ys) zero y same is = (x, (refl, cc))
+same-room room (x ∷ xs) (z ∷ ys) (suc i) y same is = let tails : map room ys ≡ map room xs = cc in same-room room xs ys i y tails is
 
 -- what a row takes by itself is part of its price
 pub own-within : (e : Effect)
     → (own promises_alone e ≤ effect_price promises_alone e) × (own jobs_alone e ≤ effect_price jobs_alone e) × (own events_alone e ≤ effect_price events_alone e) × (own hosts_alone e ≤ effect_price hosts_alone e)
-    × (own queued_alone e ≤ effect_price queued_alone e) × (own requests_alone e ≤ effect_price requests_alone e)
+    × (own queued_alone e ≤ effect_price queued_alone e) × (own requests_alone e ≤ effect_price requests_alone e) × (own members_alone e ≤ effect_price members_alone e)
 own-within e = grind arith

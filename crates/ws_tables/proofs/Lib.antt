@@ -1,6 +1,9 @@
+pub mod Counts
 pub mod Fits
+pub mod Keeps
 pub mod Loops
 pub mod Places
 pub mod Preparing
+pub mod Records
 pub mod Streams
 pub mod Turns

@@ -4,7 +4,7 @@ use Rattle.std.proofs.lemmas.List.{reverse-append}
 use Rattle.std.specs.Prelude.{vec_len, vec_capacity}
 use Rattle.ws_steps.specs.declared.effects.Effect.{Effect}
 use Rattle.ws_tables.specs.View.{slots_of}
-use Rattle.ws_tables.specs.Room.{places_of}
+use Rattle.ws_tables.specs.Room.{places_of, KeepsRecords}
 use Rattle.ws_tables.specs.declared.tables.Tables.{Tables}
 
 -- some of what was caused was put before the effects that wait
@@ -15,9 +15,7 @@ pub record Putting (t s : Tables) : Type 0 where
   pub promises : s.promises ≡ t.promises
   pub hosts : s.hosts ≡ t.hosts
   pub places : places_of s ≡ places_of t
-  pub streams : s.streams ≡ t.streams
-  pub grown : s.grown ≡ t.grown
-  pub waiting : s.waiting ≡ t.waiting
+  pub records : KeepsRecords t s
 
 -- a stack is read from its top
 pub popped : (xs ys : List Effect) (e : Effect) → xs ≡ ys ++ e ∷ [] → reverse xs ≡ e ∷ reverse ys

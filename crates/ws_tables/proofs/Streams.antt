@@ -1,26 +1,28 @@
 -- What an operation of a stream takes of the places of a realm.
-use Rattle.std.proofs.Common.{◌≡◌, ◌≤◌, ◌<◌, ℕ, zero, suc, ◌+◌, ◌⊎◌, inl, inr, ⊎_elim, Bool, true, false, not, ◌&&◌, if◌then◌else◌, List, [], ◌∷◌, ◌++◌, length, length-append, map, Some, refl, sym, ap, ◌∙◌, subst, Contains, arith}
-use Rattle.std.specs.Prelude.{slice_get, slice_set, slice_index_or, nat_lt}
+use Rattle.std.proofs.Common.{◌≡◌, ◌≤◌, ◌<◌, ℕ, zero, suc, ◌+◌, ◌-◌, ◌*◌, ◌⊎◌, inl, inr, ⊎_elim, Bool, true, false, not, ◌&&◌, if◌then◌else◌, List, [], ◌∷◌, ◌++◌, length, length-append, map, Some, refl, sym, ap, ◌∙◌, subst, Contains, arith}
+use Rattle.std.specs.Prelude.{slice_get, slice_set, slice_index_or, nat_le}
 use Rattle.std.proofs.lemmas.Bool.{false≢true}
 use Rattle.std.proofs.lemmas.List.Elements.{Contains-append_left, Contains-append_right}
 use Rattle.ws_value.specs.declared.ids.StreamId.{StreamId}
 use Rattle.ws_steps.specs.declared.readable.ReadableOperation.{ReadableOperation}
 use Rattle.ws_steps.specs.declared.writable.WritableOperation.{WritableOperation}
 use Rattle.ws_steps.specs.Operations.{readable_operation, writable_operation}
-use Rattle.ws_steps.specs.Places.{each, keeps, all_keep, prices_of, table_size, turns_alone, queued_alone, requests_alone, readable_price, writable_price, own_readable, own_writable}
+use Rattle.ws_steps.specs.Places.{each, prices_of, table_size, turns_alone, queued_alone, requests_alone, members_alone, readable_price, writable_price, own_readable, own_writable}
 use Rattle.ws_steps.specs.Readable as readable
 use Rattle.ws_steps.specs.Writable as writable
+use Rattle.ws_steps.specs.declared.effects.Effect.{Effect}
 use Rattle.ws_steps.specs.declared.effects.Effect.TheVariants.{Readable, Writable}
 use Rattle.ws_steps.specs.Slots.{Stream, Done, nothing, is_readable_stream, is_writable_stream, has_readable, has_writable}
 use Rattle.ws_steps.specs.Turns.{row}
 use Rattle.ws_steps.proofs.StreamLaws.{map-set}
-use Rattle.ws_room_laws.proofs.Rows.{each-none, keep-set, get-other, same-or}
+use Rattle.ws_room_laws.proofs.Rows.{each-none, get-other, same-or}
 use Rattle.ws_room_laws.proofs.Readables.{readable-takes}
 use Rattle.ws_room_laws.proofs.Writables.{writable-takes}
 use Rattle.ws_tables.specs.View.{slots_of, stream_of}
-use Rattle.ws_tables.specs.Room.{HasLists, AllCovered, Performs}
+use Rattle.ws_tables.specs.Room.{HasLists, AllCovered, waits_of, waiting_in, Performs}
 use Rattle.ws_tables.specs.declared.tables.Tables.{Tables}
 use Rattle.ws_tables.specs.declared.tables.Stream.{Stream as StreamRecord}
+use Rattle.ws_tables.proofs.Keeps.{each-times, waits-one, waits-put}
 
 -- a stream's number is below the count of streams
 
@@ -49,18 +51,16 @@ put-is [] i y x is = cc
 put-is (z ∷ zs) zero y x is = cc
 put-is (z ∷ zs) (suc i) y x is = put-is zs i y x is
 
--- the read requests of a stream are among those of all
-pub keep-one : (xs : List StreamRecord) (i : ℕ) (x : StreamRecord) → slice_get xs i ≡ Some x → keeps turns_alone (stream_of x) ≤ all_keep turns_alone (map stream_of xs)
-keep-one [] i x is = cc
-keep-one (y ∷ ys) zero x is = let same : y ≡ x = cc in let k = ap (λ z. keeps turns_alone (stream_of z)) same in omega (arith, k)
-keep-one (y ∷ ys) (suc i) x is = let h = keep-one ys i x is in omega (arith, h)
-
 -- one stream is put in the place of another
-pub keep-put : (xs : List StreamRecord) (i : ℕ) (x y : StreamRecord) → slice_get xs i ≡ Some x
-    → all_keep turns_alone (map stream_of (slice_set xs i y)) + keeps turns_alone (stream_of x) ≡ all_keep turns_alone (map stream_of xs) + keeps turns_alone (stream_of y)
-keep-put xs i x y is =
-    ap (λ ys. all_keep turns_alone ys + keeps turns_alone (stream_of x)) (map-set stream_of xs i y)
-    ∙ keep-set turns_alone (map stream_of xs) i (stream_of x) (stream_of y) (get-map stream_of xs i x is)
+
+pub waits-among : (xs : List StreamRecord) (i : ℕ) (x : StreamRecord) → slice_get xs i ≡ Some x → waits_of (stream_of x) ≤ waiting_in (map stream_of xs)
+waits-among xs i x is = waits-one (map stream_of xs) i (stream_of x) (get-map stream_of xs i x is)
+
+pub waits-after : (xs : List StreamRecord) (i : ℕ) (x y : StreamRecord) → slice_get xs i ≡ Some x
+    → waiting_in (map stream_of (slice_set xs i y)) + waits_of (stream_of x) ≡ waiting_in (map stream_of xs) + waits_of (stream_of y)
+waits-after xs i x y is =
+    ap (λ ys. waiting_in ys + waits_of (stream_of x)) (map-set stream_of xs i y)
+    ∙ waits-put (map stream_of xs) i (stream_of x) (stream_of y) (get-map stream_of xs i x is)
 
 pub map-put : {X Y : Type 0} (f : X → Y) (xs : List X) (i : ℕ) (x y : X) → slice_get xs i ≡ Some x → f y ≡ f x → map f (slice_set xs i y) ≡ map f xs
 map-put f [] i x y is same = refl
@@ -79,25 +79,38 @@ each-one (x ∷ xs) = let h = each-one xs in omega (arith, h)
 pub readable-own : (operation : ReadableOperation) → (readable_price queued_alone operation ≡ own_readable queued_alone operation) × (readable_price requests_alone operation ≡ own_readable requests_alone operation)
 readable-own operation = grind arith
 
+readable-none : (operation : ReadableOperation) → readable_price members_alone operation ≡ 0
+readable-none operation = grind arith
+
+writable-none : (operation : WritableOperation) → writable_price members_alone operation ≡ 0
+writable-none operation = grind arith
+
 pub writable-own : (operation : WritableOperation) → (writable_price queued_alone operation ≡ own_writable queued_alone operation) × (writable_price requests_alone operation ≡ own_writable requests_alone operation)
 writable-own operation = grind arith
+
+-- what an operation takes of the lists of its stream
 
 pub record ReadableTook (operation : ReadableOperation) (a b : readable.Acts) : Type 0 where
   pub queued : Took (own_readable queued_alone operation) (length a.slots.queue) (length b.slots.queue) (prices_of queued_alone b.out.effects)
   pub requested : Took (own_readable requests_alone operation) (length a.slots.requests) (length b.slots.requests) (prices_of requests_alone b.out.effects)
-  pub turns : prices_of turns_alone b.out.effects + each 1 b.slots.requests + 1 ≤ each 1 a.slots.requests + readable_price turns_alone operation
+  pub turns : prices_of turns_alone b.out.effects + 2 * length b.slots.requests + 1 ≤ 2 * length a.slots.requests + readable_price turns_alone operation
+  pub members : prices_of members_alone b.out.effects ≤ 0
 
 pub readable-took : (me : StreamId) (operation : ReadableOperation) (a : readable.Acts) → a.out.effects ≡ [] → ReadableTook operation a (readable_operation me operation a)
 unfolding table_size
 readable-took me operation a quiet =
     let b : readable.Acts = readable_operation me operation a in
     let own = readable-own operation in
-    let none : (prices_of queued_alone a.out.effects ≡ 0) × (prices_of requests_alone a.out.effects ≡ 0) × (prices_of turns_alone a.out.effects ≡ 0) = rw quiet (refl, refl, refl) in
+    let none : (prices_of queued_alone a.out.effects ≡ 0) × (prices_of requests_alone a.out.effects ≡ 0) × (prices_of turns_alone a.out.effects ≡ 0) × (prices_of members_alone a.out.effects ≡ 0) = rw quiet (refl, refl, refl, refl) in
     let q = readable-takes queued_alone 1 0 me operation a (omega arith) (omega arith) in
     let r = readable-takes requests_alone 0 1 me operation a (omega arith) (omega arith) in
     let c = readable-takes queued_alone 0 0 me operation a (omega arith) (omega arith) in
     let d = readable-takes requests_alone 0 0 me operation a (omega arith) (omega arith) in
     let t = readable-takes turns_alone 0 0 me operation a (omega arith) (omega arith) in
+    let m = readable-takes members_alone 0 0 me operation a (omega arith) (omega arith) in
+    let price = readable-none operation in
+    let at = each-times 2 a.slots.requests in
+    let bt = each-times 2 b.slots.requests in
     let aq = each-one a.slots.queue in
     let bq = each-one b.slots.queue in
     let ar = each-one a.slots.requests in
@@ -115,23 +128,27 @@ readable-took me operation a quiet =
         list = omega (arith, own.1, none.1, r, ar, br, zaq, zbq);
         caused = omega (arith, own.1, none.1, d, zaq, zbq, zar, zbr);
       };
-      turns = omega (arith, none.2, t, zaq, zbq, zar, zbr);
+      turns = omega (arith, none.2, t, at, bt, zaq, zbq, zar, zbr);
+      members = omega (arith, none.3, m, price, zaq, zbq, zar, zbr);
     }
 
 pub record WritableTook (operation : WritableOperation) (a b : writable.Acts) : Type 0 where
   pub queued : Took (own_writable queued_alone operation) (length a.slots.queue) (length b.slots.queue) (prices_of queued_alone b.out.effects)
   pub requested : Took (own_writable requests_alone operation) (length a.slots.write_requests) (length b.slots.write_requests) (prices_of requests_alone b.out.effects)
+  pub members : prices_of members_alone b.out.effects ≤ 0
 
 pub writable-took : (me : StreamId) (operation : WritableOperation) (a : writable.Acts) → a.out.effects ≡ [] → WritableTook operation a (writable_operation me operation a)
 unfolding table_size
 writable-took me operation a quiet =
     let b : writable.Acts = writable_operation me operation a in
     let own = writable-own operation in
-    let none : (prices_of queued_alone a.out.effects ≡ 0) × (prices_of requests_alone a.out.effects ≡ 0) = rw quiet (refl, refl) in
+    let none : (prices_of queued_alone a.out.effects ≡ 0) × (prices_of requests_alone a.out.effects ≡ 0) × (prices_of members_alone a.out.effects ≡ 0) = rw quiet (refl, refl, refl) in
     let q = writable-takes queued_alone 1 0 me operation a (omega arith) (omega arith) in
     let r = writable-takes requests_alone 0 1 me operation a (omega arith) (omega arith) in
     let c = writable-takes queued_alone 0 0 me operation a (omega arith) (omega arith) in
     let d = writable-takes requests_alone 0 0 me operation a (omega arith) (omega arith) in
+    let m = writable-takes members_alone 0 0 me operation a (omega arith) (omega arith) in
+    let price = writable-none operation in
     let aq = each-one a.slots.queue in
     let bq = each-one b.slots.queue in
     let ar = each-one a.slots.write_requests in
@@ -149,28 +166,29 @@ writable-took me operation a quiet =
         list = omega (arith, own.1, none.1, r, ar, br, zaq, zbq);
         caused = omega (arith, own.1, none.1, d, zaq, zbq, zar, zbr);
       };
+      members = omega (arith, none.2, m, price, zaq, zbq, zar, zbr);
     }
 
--- whether there is a place in both lists
+-- whether there are two places in both lists
 
-pub has-both : (a b c d : ℕ) → (nat_lt a b && nat_lt c d) ≡ true → (1 + a ≤ b) × (1 + c ≤ d)
+pub has-both : (a b c d : ℕ) → (nat_le 2 (b - a) && nat_le 2 (d - c)) ≡ true → (2 + a ≤ b) × (2 + c ≤ d)
 has-both a b c d is = grind arith
 
-pub both-have : (a b c d : ℕ) → 1 + a ≤ b → 1 + c ≤ d → (nat_lt a b && nat_lt c d) ≡ true
+pub both-have : (a b c d : ℕ) → 2 + a ≤ b → 2 + c ≤ d → (nat_le 2 (b - a) && nat_le 2 (d - c)) ≡ true
 both-have a b c d x y = grind arith
 
-pub has-not : (a b c d : ℕ) → (nat_lt a b && nat_lt c d) ≡ false → a < b → c < d → ⊥
+pub has-not : (a b c d : ℕ) → (nat_le 2 (b - a) && nat_le 2 (d - c)) ≡ false → 2 + a ≤ b → 2 + c ≤ d → ⊥
 has-not a b c d is = grind arith
 
 -- an entry more than before was paid for
-pub paid : (q q' r r' n m c d Q R : ℕ) → Took n q q' c → Took m r r' d → (nat_lt q Q && nat_lt r R) ≡ true → (nat_lt q' Q && nat_lt r' R) ≡ false → c + d < n + m
+pub paid : (q q' r r' n m c d Q R : ℕ) → Took n q q' c → Took m r r' d → (nat_le 2 (Q - q) && nat_le 2 (R - r)) ≡ true → (nat_le 2 (Q - q') && nat_le 2 (R - r')) ≡ false → c + d < n + m
 paid q q' r r' n m c d Q R tq tr had has =
     let h = has-both q Q r R had in
     let a = tq.list in let b = tr.list in let e = tq.caused in let f = tr.caused in
     let out : (n + m ≤ c + d) → ⊥ = λ less. has-not q' Q r' R has (omega (arith, h.0, a, e, f, less)) (omega (arith, h.1, b, e, f, less)) in
     grind (arith, out)
 
--- places are to be made in each stream that has none, after one was put in the place of another
+-- places are to be made in each stream that has fewer, after one was put in the place of another
 
 module _ (grown : List StreamId) (i : StreamId) (y : StreamRecord) where
   -- the streams in which places are to be made, of which this may be one more
@@ -181,49 +199,43 @@ module _ (grown : List StreamId) (i : StreamId) (y : StreamRecord) where
   still true j h = Contains-append_left grown (i ∷ []) j h
   still false j h = h
 
-  covers : (b : Bool) (xs : List StreamRecord) → AllCovered grown xs → HasLists 1 1 y ⊎ Contains (noted b) i → AllCovered (noted b) (slice_set xs i.0 y)
+  covers : (b : Bool) (xs : List StreamRecord) → AllCovered grown xs → HasLists 2 2 y ⊎ Contains (noted b) i → AllCovered (noted b) (slice_set xs i.0 y)
   covers b xs covered this j x is =
       ⊎_elim
       (λ (same : j.0 ≡ i.0).
       let number : j ≡ i = ap (λ n. record { 0 = n }) same in
-      rw number (subst (λ z. HasLists 1 1 z ⊎ Contains (noted b) i) (put-is xs i.0 y x (ap (slice_get (slice_set xs i.0 y)) (sym same) ∙ is)) this))
+      rw number (subst (λ z. HasLists 2 2 z ⊎ Contains (noted b) i) (put-is xs i.0 y x (ap (slice_get (slice_set xs i.0 y)) (sym same) ∙ is)) this))
       (λ other. ⊎_elim (λ h. inl h) (λ h. inr (still b j h)) (covered j x (sym (get-other xs i.0 j.0 y other) ∙ is)))
       (same-or j.0 i.0)
 
-  pub cover : (had has : Bool) (x : StreamRecord) (xs : List StreamRecord) → AllCovered grown xs → slice_get xs i.0 ≡ Some x → (HasLists 1 1 x → had ≡ true) → (has ≡ true → HasLists 1 1 y)
+  pub cover : (had has : Bool) (x : StreamRecord) (xs : List StreamRecord) → AllCovered grown xs → slice_get xs i.0 ≡ Some x → (HasLists 2 2 x → had ≡ true) → (has ≡ true → HasLists 2 2 y)
       → AllCovered (noted (had && not has)) (slice_set xs i.0 y)
   cover true true x xs covered is before after = covers false xs covered (inl (after refl))
   cover true false x xs covered is before after = covers true xs covered (inr (Contains-append_right grown (i ∷ []) i (0, omega arith, refl)))
   cover false true x xs covered is before after = covers false xs covered (inl (after refl))
   cover false false x xs covered is before after = covers false xs covered (⊎_elim (λ h. absurd (false≢true (before h))) (λ h. inr h) (covered i x is))
 
--- there is no such stream of this number: nothing happens
+-- there is no such record of this number: nothing happens
+
+pub absent : (e : Effect) (t : Tables) → row e (slots_of t) ≡ nothing (slots_of t) → t.caused.effects ≡ [] → Performs e t t
+absent e t row_is quiet = record {
+  slots = ap (λ (d : Done). d.slots) (sym row_is);
+  caused = quiet ∙ ap (λ (d : Done). d.caused) (sym row_is);
+  others = refl;
+  places = refl;
+  lists = refl;
+  grown = rw quiet (omega arith);
+  members = refl;
+  full = rw quiet (omega arith);
+}
 
 pub readable-absent : (i : StreamId) (operation : ReadableOperation) (t : Tables) → has_readable i (slots_of t) ≡ false → t.caused.effects ≡ [] → Performs (Readable i operation) t t
 unfolding row
-readable-absent i operation t absent quiet =
-    let row_is : row (Readable i operation) (slots_of t) ≡ nothing (slots_of t) = rw absent refl in
-    record {
-      slots = ap (λ (d : Done). d.slots) (sym row_is);
-      caused = quiet ∙ ap (λ (d : Done). d.caused) (sym row_is);
-      others = refl;
-      places = refl;
-      lists = refl;
-      grown = rw quiet (omega arith);
-    }
+readable-absent i operation t none quiet = absent (Readable i operation) t (rw none refl) quiet
 
 pub writable-absent : (i : StreamId) (operation : WritableOperation) (t : Tables) → has_writable i (slots_of t) ≡ false → t.caused.effects ≡ [] → Performs (Writable i operation) t t
 unfolding row
-writable-absent i operation t absent quiet =
-    let row_is : row (Writable i operation) (slots_of t) ≡ nothing (slots_of t) = rw absent refl in
-    record {
-      slots = ap (λ (d : Done). d.slots) (sym row_is);
-      caused = quiet ∙ ap (λ (d : Done). d.caused) (sym row_is);
-      others = refl;
-      places = refl;
-      lists = refl;
-      grown = rw quiet (omega arith);
-    }
+writable-absent i operation t none quiet = absent (Writable i operation) t (rw none refl) quiet
 
 -- an effect is noted at a price
 pub noted-grown : (g g' n m c d : ℕ) (had has : Bool) → c ≤ n → d ≤ m → (had ≡ true → has ≡ false → c + d < n + m) → g' ≡ (if had && not has then g + 1 else g) → g' + c + d ≤ g + n + m

@@ -1,20 +1,21 @@
 -- One turn: the first effect is performed, and what it caused goes before the others.
-use Rattle.std.proofs.Common.{◌≡◌, ◌<◌, List, [], ◌∷◌, ◌++◌, length, reverse, map, sym, ap, subst, ◌∙◌, length-append, arith}
+use Rattle.std.proofs.Common.{◌≡◌, ◌<◌, List, [], ◌∷◌, ◌++◌, length, reverse, sym, ap, subst, ◌∙◌, length-append, arith}
 use Rattle.std.specs.Prelude.{vec_len, vec_capacity}
 use Rattle.ws_queue.specs.Seen.{Lists}
 use Rattle.ws_steps.specs.declared.effects.Effect.{Effect}
-use Rattle.ws_steps.specs.Places.{prices_of, all_keep, measure, turns_alone, queued_alone, requests_alone}
+use Rattle.ws_steps.specs.Places.{prices_of, measure, turns_alone, promises_alone, jobs_alone, events_alone, hosts_alone, queued_alone, requests_alone, members_alone}
 use Rattle.ws_steps.specs.Slots.{Slots, causes}
 use Rattle.ws_steps.specs.Turns.{row, performed}
 use Rattle.ws_room_laws.proofs.Readables.{prices-append}
 use Rattle.ws_room_laws.proofs.Rows.{falls, measure-fall}
 use Rattle.ws_room_laws.proofs.Room.{effects-stand}
 use Rattle.ws_room_laws.proofs.Turns.{performed_next, performed_none}
-use Rattle.ws_tables.specs.View.{slots_of, stream_of}
-use Rattle.ws_tables.specs.Room.{Places, CanPutFirst, HasRoomFor, HasRoomForAll, IsKept, Performs, PerformsAll, PutsFirst}
+use Rattle.ws_tables.specs.View.{slots_of}
+use Rattle.ws_tables.specs.Room.{Places, room_of, members_room, CanPutFirst, HasRoomFor, HasRoomForAll, IsKept, KeepsRecords, Performs, PerformsAll, PutsFirst}
 use Rattle.ws_tables.specs.declared.tables.Tables.{Tables}
-use Rattle.ws_tables.proofs.Fits.{Takes, takes, queued-at, requested-at, same-room, own-within}
-use Rattle.ws_tables.proofs.Places.{kept_by}
+use Rattle.ws_tables.proofs.Fits.{Takes, takes, queued-at, requested-at, members-at, same-room, own-within}
+use Rattle.ws_tables.proofs.Keeps.{later-is}
+use Rattle.ws_tables.proofs.Places.{kept_same}
 use Rattle.ws_tables.proofs.Streams.{each-one}
 use Rattle.std.proofs.lemmas.List.{length-reverse}
 use Rattle.std.proofs.lemmas.List.{append-nil}
@@ -33,16 +34,18 @@ put-room t s put room =
     let caps = put.places in
     let c = ap (λ (p : Places). p.caused) caps in
     let o = ap (λ (p : Places). p.others) caps in
-    let g = ap (λ (p : Places). p.grown) caps in
+    let same = put.records in
     rw (put.others) (record {
-      promises = rw (put.promises) room.promises;
-      jobs = rw (put.promises) room.jobs;
-      events = rw (put.promises) room.events;
-      hosts = rw (put.hosts) room.hosts;
-      caused = rw (c, put.waiting) room.caused;
-      others = rw (o, put.waiting) room.others;
-      lists = rw (put.streams) room.lists;
-      grown = rw (put.grown) room.grown;
+      promises = rw (put.promises, same.waiting, same.aborts) room.promises;
+      jobs = rw (put.promises, same.waiting, same.aborts) room.jobs;
+      events = rw (put.promises, same.waiting, same.aborts) room.events;
+      hosts = rw (put.hosts, same.waiting, same.aborts) room.hosts;
+      caused = rw (c, same.waiting, same.aborts) room.caused;
+      others = rw (o, same.waiting, same.aborts) room.others;
+      lists = rw (same.streams) room.lists;
+      grown = rw (same.grown) room.grown;
+      members = rw (same.signals) room.members;
+      full = rw (same.full) room.full;
     })
 
 -- an effect was taken out of those that wait
@@ -51,34 +54,33 @@ pub record Popped (s s' : Tables) : Type 0 where
   pub promises : s'.promises ≡ s.promises
   pub hosts : s'.hosts ≡ s.hosts
   pub caused : s'.caused ≡ s.caused
-  pub streams : s'.streams ≡ s.streams
-  pub grown : s'.grown ≡ s.grown
-  pub waiting : s'.waiting ≡ s.waiting
+  pub records : KeepsRecords s s'
   pub others : vec_capacity s'.others ≡ vec_capacity s.others
 
 pub popped-room : (es : List Effect) (s s' : Tables) → Popped s s' → HasRoomForAll es s → HasRoomForAll es s'
-popped-room es s s' same room = record {
-  promises = rw (same.promises) room.promises;
-  jobs = rw (same.promises) room.jobs;
-  events = rw (same.promises) room.events;
-  hosts = rw (same.hosts) room.hosts;
-  caused = rw (same.caused, same.waiting) room.caused;
-  others = rw (same.others, same.waiting) room.others;
-  lists = rw (same.streams) room.lists;
-  grown = rw (same.grown) room.grown;
-}
+popped-room es s s' pop room =
+    let same = pop.records in
+    record {
+      promises = rw (pop.promises, same.waiting, same.aborts) room.promises;
+      jobs = rw (pop.promises, same.waiting, same.aborts) room.jobs;
+      events = rw (pop.promises, same.waiting, same.aborts) room.events;
+      hosts = rw (pop.hosts, same.waiting, same.aborts) room.hosts;
+      caused = rw (pop.caused, same.waiting, same.aborts) room.caused;
+      others = rw (pop.others, same.waiting, same.aborts) room.others;
+      lists = rw (same.streams) room.lists;
+      grown = rw (same.grown) room.grown;
+      members = rw (same.signals) room.members;
+      full = rw (same.full) room.full;
+    }
 
 pub popped-kept : (s s' : Tables) → Popped s s' → IsKept s → IsKept s'
-popped-kept s s' same kept = record {
-  waiting = same.waiting ∙ (kept.waiting ∙ ap (λ v. all_keep turns_alone (map stream_of v.items)) (sym same.streams));
-  covered = rw (same.grown, same.streams) kept.covered;
-}
+popped-kept s s' pop kept = kept_same s s' pop.slots pop.records kept
 
 -- there are places for the first effect
 pub room-for : (e : Effect) (rest : List Effect) (t : Tables) → HasRoomForAll (e ∷ rest) t → HasRoomFor e t
 room-for e rest t room =
     let own = own-within e in
-    let a = own.0 in let b = own.1 in let c = own.2 in let d = own.3 in let q = own.4 in let r = own.5 in
+    let a = own.0 in let b = own.1 in let c = own.2 in let d = own.3 in let q = own.4 in let r = own.5 in let m = own.6 in
     record {
       promises = let h = room.promises in omega (arith, h, a);
       jobs = let h = room.jobs in omega (arith, h, b);
@@ -88,11 +90,13 @@ room-for e rest t room =
       others = let h = room.others in omega (arith, h);
       lists = λ i x is. let h = room.lists i x is in (omega (arith, h.0, q), omega (arith, h.1, r));
       grown = let h = room.grown in omega (arith, h, q, r);
+      members = λ i x is. let h = room.members i x is in omega (arith, h, m);
+      full = let h = room.full in omega (arith, h, m);
     }
 
 -- what the row takes with all that is left
 took : (e : Effect) (rest : List Effect) (s : Slots) → Takes (λ π. prices_of π (e ∷ rest)) s (row e s).slots ((row e s).caused ++ rest)
-took e rest s = takes (λ π. prices_of π (e ∷ rest)) s (row e s).slots ((row e s).caused ++ rest) (λ π i. let h = falls π i e rest s in omega (arith, h))
+took e rest s = takes (λ π. prices_of π (e ∷ rest)) s (row e s).slots ((row e s).caused ++ rest) (λ π i a. let h = falls π i a e rest s in omega (arith, h))
 
 left : (e : Effect) (rest : List Effect) (t t' : Tables) → Performs e t t' → Takes (λ π. prices_of π (e ∷ rest)) (slots_of t) (slots_of t') (t'.caused.effects ++ rest)
 left e rest t t' did = rw (did.slots, did.caused) (took e rest (slots_of t))
@@ -107,8 +111,8 @@ put-fits e rest t t' room kept did others =
     let cap = ap (λ (p : Places). p.others) did.places in
     let len = ap vec_len did.others in
     let places = room.others in
-    let waits = kept.waiting in
-    omega (arith, h, many, count, sum, cap, len, places, waits, others)
+    let keeps = later-is turns_alone t kept in
+    omega (arith, h, many, count, sum, cap, len, places, keeps, others)
 
 -- there are places for what is left
 pub next-room : (e : Effect) (rest : List Effect) (t t' : Tables) → HasRoomForAll (e ∷ rest) t → IsKept t → Performs e t t' → IsKept t' → HasRoomForAll (t'.caused.effects ++ rest) t'
@@ -122,18 +126,23 @@ next-room e rest t t' room kept did kept' =
     let cc' = ap (λ (p : Places). p.caused) caps in
     let oc = ap (λ (p : Places). p.others) caps in
     let gc = ap (λ (p : Places). p.grown) caps in
-    let w = kept.waiting in let w' = kept'.waiting in
+    let fc = ap (λ (p : Places). p.full) caps in
     let q = prices-append queued_alone t'.caused.effects rest in
     let r = prices-append requests_alone t'.caused.effects rest in
+    let m = prices-append members_alone t'.caused.effects rest in
+    let turns = later-is turns_alone t kept in
+    let turns' = later-is turns_alone t' kept' in
     record {
-      promises = let h = room.promises in let a = took.promises in omega (arith, h, a, pr);
-      jobs = let h = room.jobs in let a = took.jobs in omega (arith, h, a, jr);
-      events = let h = room.events in let a = took.events in omega (arith, h, a, er);
-      hosts = let h = room.hosts in let a = took.hosts in let l = t.hosts.ok.0 in let l' = t'.hosts.ok.0 in omega (arith, h, a, hc, l, l');
-      caused = let h = room.caused in let a = took.turns in omega (arith, h, a, cc', w, w');
-      others = let h = room.others in let a = took.turns in omega (arith, h, a, oc, w, w');
+      promises = let h = room.promises in let a = took.promises in let k = later-is promises_alone t kept in let k' = later-is promises_alone t' kept' in omega (arith, h, a, pr, k, k');
+      jobs = let h = room.jobs in let a = took.jobs in let k = later-is jobs_alone t kept in let k' = later-is jobs_alone t' kept' in omega (arith, h, a, jr, k, k');
+      events = let h = room.events in let a = took.events in let k = later-is events_alone t kept in let k' = later-is events_alone t' kept' in omega (arith, h, a, er, k, k');
+      hosts =
+          let h = room.hosts in let a = took.hosts in let k = later-is hosts_alone t kept in let k' = later-is hosts_alone t' kept' in
+          let l = t.hosts.ok.0 in let l' = t'.hosts.ok.0 in omega (arith, h, a, hc, l, l', k, k');
+      caused = let h = room.caused in let a = took.turns in omega (arith, h, a, cc', turns, turns');
+      others = let h = room.others in let a = took.turns in omega (arith, h, a, oc, turns, turns');
       lists = λ i y is.
-          let before = same-room t.streams.items t'.streams.items i y did.lists is in
+          let before = same-room room_of t.streams.items t'.streams.items i y did.lists is in
           let x = before.0 in
           let h = room.lists i x before.1.0 in
           let lists = before.1.1 in
@@ -147,6 +156,16 @@ next-room e rest t t' room kept did kept' =
           let ry = requested-at t'.streams.items i y is in
           (omega (arith, h.0, a, qx, qy, lq), omega (arith, h.1, b, rx, ry, lr));
       grown = let h = room.grown in let a = did.grown in omega (arith, h, a, gc, q, r);
+      members = λ i y is.
+          let before = same-room members_room t.signals.items t'.signals.items i y did.members is in
+          let x = before.0 in
+          let h = room.members i x before.1.0 in
+          let lists = before.1.1 in
+          let a = took.members (record { 0 = i }) in
+          let mx = members-at t.signals.items i x before.1.0 in
+          let my = members-at t'.signals.items i y is in
+          omega (arith, h, a, mx, my, lists);
+      full = let h = room.full in let a = did.full in omega (arith, h, a, fc, m);
     }
 
 -- where the first effect was taken out, there are places for it and the others
@@ -183,7 +202,7 @@ module _ (t s a b : Tables) (e : Effect) (rest : List Effect)
       slots = rw (left-is, slots-are) (sym (performed_next (slots_of s) e rest) ∙ (ap (λ es. performed (causes es (slots_of s))) (sym first) ∙ was.slots));
       quiet = put.caused;
       room = put-room b z put (rw (ap (λ v. reverse v.items) did.others, rest-is) (next-room e rest a b places (popped-kept s a pop was.kept) did kept));
-      kept = kept_by b z (record { streams = put.streams; grown = put.grown; waiting = put.waiting }) kept;
+      kept = kept_same b z put.slots put.records kept;
     }
 
 -- the loop begins
@@ -204,7 +223,7 @@ begins t z none room kept put =
       slots = rw (put.slots) (ap (λ es. performed (causes es (slots_of t))) (put.others ∙ all));
       quiet = put.caused;
       room = put-room t z put (rw all room);
-      kept = kept_by t z (record { streams = put.streams; grown = put.grown; waiting = put.waiting }) kept;
+      kept = kept_same t z put.slots put.records kept;
     }
 
 -- the loop ends

@@ -1,11 +1,14 @@
 -- The places in memory that a realm has, and those that it may come to need.
-use Rattle.std.specs.Prelude.{ℕ, ◌≡◌, ◌+◌, ◌≤◌, ◌<◌, ◌⊎◌, List, [], ◌∷◌, ◌++◌, length, map, reverse, Some, Bool, ◌&&◌, not, if◌then◌else◌, Contains, slice_get, vec_len, vec_capacity}
+use Rattle.std.specs.Prelude.{ℕ, ◌≡◌, ◌+◌, ◌*◌, ◌≤◌, ◌<◌, ◌⊎◌, List, [], ◌∷◌, ◌++◌, length, map, reverse, Some, Bool, ◌&&◌, not, if◌then◌else◌, Contains, slice_get, vec_len, vec_capacity}
+use Rattle.ws_value.specs.declared.ids.SignalId.{SignalId}
 use Rattle.ws_value.specs.declared.ids.StreamId.{StreamId}
+use Rattle.ws_pipe.specs.Seen.{SeenSignal, HasMemberRoom, aborts_of}
 use Rattle.ws_promise.specs.Seen.{Room, HasPromiseRoom, HasJobRoom, HasEventRoom, HasRoom}
 use Rattle.ws_queue.specs.Seen.{Lists}
 use Rattle.ws_steps.specs.declared.effects.Effect.{Effect}
-use Rattle.ws_steps.specs.Places.{own, effect_price, prices_of, all_keep, turns_alone, promises_alone, jobs_alone, events_alone, hosts_alone, queued_alone, requests_alone}
-use Rattle.ws_steps.specs.Slots.{causes}
+use Rattle.ws_steps.specs.Pipes as pipe
+use Rattle.ws_steps.specs.Places.{Prices, own, effect_price, prices_of, steps_price, abort_price, turns_alone, promises_alone, jobs_alone, events_alone, hosts_alone, queued_alone, requests_alone, members_alone}
+use Rattle.ws_steps.specs.Slots.{Slots, Stream as SeenStream, ReadableStream, WritableStream, causes}
 use Rattle.ws_steps.specs.Turns.{row, performed}
 use Rattle.ws_tables.specs.View.{slots_of}
 use Rattle.ws_tables.specs.declared.tables.Stream.{Stream}
@@ -34,20 +37,36 @@ HasLists q r x = (q + queued_in x ≤ (room_of x).queue) × (r + requested_in x 
 abbrev pub EachHasLists : ℕ → ℕ → List Stream → Type 0
 EachHasLists q r xs = (i : ℕ) (x : Stream) → slice_get xs i ≡ Some x → HasLists q r x
 
--- each stream has a place in either list, or places are to be made there
+-- each stream has two places in either list, or places are to be made there
 abbrev pub AllCovered : List StreamId → List Stream → Type 0
-AllCovered grown xs = (i : StreamId) (x : Stream) → slice_get xs i.0 ≡ Some x → HasLists 1 1 x ⊎ Contains grown i
+AllCovered grown xs = (i : StreamId) (x : Stream) → slice_get xs i.0 ≡ Some x → HasLists 2 2 x ⊎ Contains grown i
 
 abbrev pub IsCovered : Tables → Type 0
 IsCovered t = AllCovered t.grown.items t.streams.items
 
--- the places that the tables have, beside those in the lists of streams
+-- the places in the list of a signal
+abbrev pub members_room : SeenSignal → ℕ
+members_room x = x.room
+
+-- in the list of each signal there are places for m more pipes
+abbrev pub EachHasMembers : ℕ → List SeenSignal → Type 0
+EachHasMembers m xs = (i : ℕ) (x : SeenSignal) → slice_get xs i ≡ Some x → HasMemberRoom m x
+
+-- each signal has a place for one pipe more, or places are to be made there
+abbrev pub AllHaveMembers : List SignalId → List SeenSignal → Type 0
+AllHaveMembers full xs = (a : SignalId) (x : SeenSignal) → slice_get xs a.0 ≡ Some x → HasMemberRoom 1 x ⊎ Contains full a
+
+abbrev pub HaveMembers : Tables → Type 0
+HaveMembers t = AllHaveMembers t.full.items t.signals.items
+
+-- the places that the tables have, beside those in the lists of streams and signals
 pub record Places : Type 0 where
   pub promises : Room
   pub hosts : ℕ
   pub caused : ℕ
   pub others : ℕ
   pub grown : ℕ
+  pub full : ℕ
 
 abbrev pub places_of : Tables → Places
 places_of t =
@@ -57,12 +76,42 @@ places_of t =
       caused = t.caused.capacity;
       others = vec_capacity t.others;
       grown = vec_capacity t.grown;
+      full = vec_capacity t.full;
     }
 
--- what holds of the tables at each moment: how many read requests wait is known, and so is in which streams places are to be made
+-- what is kept for later: the read requests that wait, and the aborts of pipes by signals that weren't triggered
+
+abbrev pub waits_of : SeenStream → ℕ
+waits_of (ReadableStream r) = length r.requests
+waits_of (WritableStream w) = 0
+
+abbrev pub waiting_in : List SeenStream → ℕ
+waiting_in [] = 0
+waiting_in (x ∷ xs) = waits_of x + waiting_in xs
+
+abbrev pub aborts_in : List pipe.Signal → ℕ
+aborts_in [] = 0
+aborts_in (x ∷ xs) = aborts_of x + aborts_in xs
+
+-- and what that may take
+abbrev pub later : Prices → Tables → ℕ
+later π t = t.waiting * steps_price π + t.aborts * abort_price π
+
+-- each pipe made a promise for each of its writes that haven't settled
+abbrev pub AreCounted : ℕ → List pipe.Slots → Type 0
+AreCounted n xs = (i : ℕ) (x : pipe.Slots) → slice_get xs i ≡ Some x → x.unsettled ≤ n
+
+abbrev pub IsCounted : Slots → Type 0
+IsCounted s = AreCounted (length s.promises.entries) s.pipes
+
+-- what holds of the tables at each moment: how many read requests wait is known and how many pipes a trigger would abort, and in which
+-- streams and signals places are to be made
 pub record IsKept (t : Tables) : Type 0 where
-  pub waiting : t.waiting ≡ all_keep turns_alone (slots_of t).streams
+  pub waiting : t.waiting ≡ waiting_in (slots_of t).streams
   pub covered : IsCovered t
+  pub aborts : t.aborts ≡ aborts_in (slots_of t).signals
+  pub members : HaveMembers t
+  pub counted : IsCounted (slots_of t)
 
 -- there are places for what the row of an effect takes by itself
 pub record HasRoomFor (e : Effect) (t : Tables) : Type 0 where
@@ -70,32 +119,45 @@ pub record HasRoomFor (e : Effect) (t : Tables) : Type 0 where
   pub jobs : HasJobRoom (own jobs_alone e) t.promises
   pub events : HasEventRoom (own events_alone e) t.promises
   pub hosts : own hosts_alone e + vec_len t.hosts ≤ vec_capacity t.hosts
-  pub caused : effect_price turns_alone e + t.waiting + 2 ≤ t.caused.capacity
-  pub others : effect_price turns_alone e + t.waiting + 2 ≤ vec_capacity t.others
+  pub caused : effect_price turns_alone e + later turns_alone t + 6 ≤ t.caused.capacity
+  pub others : effect_price turns_alone e + later turns_alone t + 6 ≤ vec_capacity t.others
   pub lists : EachHasLists (own queued_alone e) (own requests_alone e) t.streams.items
   pub grown : own queued_alone e + own requests_alone e + vec_len t.grown ≤ vec_capacity t.grown
+  pub members : EachHasMembers (own members_alone e) t.signals.items
+  pub full : own members_alone e + vec_len t.full ≤ vec_capacity t.full
 
 -- there are places for these effects and all that comes of them, and for one more event
 pub record HasRoomForAll (es : List Effect) (t : Tables) : Type 0 where
-  pub promises : HasPromiseRoom (prices_of promises_alone es) t.promises
-  pub jobs : HasJobRoom (prices_of jobs_alone es) t.promises
-  pub events : HasEventRoom (prices_of events_alone es + 1) t.promises
-  pub hosts : prices_of hosts_alone es + vec_len t.hosts ≤ vec_capacity t.hosts
-  pub caused : prices_of turns_alone es + t.waiting + 2 ≤ t.caused.capacity
-  pub others : prices_of turns_alone es + t.waiting + 2 ≤ vec_capacity t.others
+  pub promises : HasPromiseRoom (prices_of promises_alone es + later promises_alone t) t.promises
+  pub jobs : HasJobRoom (prices_of jobs_alone es + later jobs_alone t) t.promises
+  pub events : HasEventRoom (prices_of events_alone es + later events_alone t + 1) t.promises
+  pub hosts : prices_of hosts_alone es + later hosts_alone t + vec_len t.hosts ≤ vec_capacity t.hosts
+  pub caused : prices_of turns_alone es + later turns_alone t + 6 ≤ t.caused.capacity
+  pub others : prices_of turns_alone es + later turns_alone t + 6 ≤ vec_capacity t.others
   pub lists : EachHasLists (prices_of queued_alone es) (prices_of requests_alone es) t.streams.items
   pub grown : prices_of queued_alone es + prices_of requests_alone es + vec_len t.grown ≤ vec_capacity t.grown
+  pub members : EachHasMembers (prices_of members_alone es) t.signals.items
+  pub full : prices_of members_alone es + vec_len t.full ≤ vec_capacity t.full
+
+-- so many for each read request that waits, so many for each pipe that a trigger would abort, and so many more
+abbrev pub places_for : ℕ → ℕ → ℕ → Tables → ℕ
+places_for a_wait an_abort more t = t.waiting * a_wait + t.aborts * an_abort + more
 
 -- there are places for the next call or job, whichever it is
 pub record IsPrepared (t : Tables) : Type 0 where
-  pub promises : HasRoom 3 t.promises
-  pub hosts : vec_len t.hosts < vec_capacity t.hosts
-  pub caused : t.waiting + 8 ≤ t.caused.capacity
-  pub others : t.waiting + 8 ≤ vec_capacity t.others
-  pub grown : vec_len t.grown + 2 ≤ vec_capacity t.grown
-  pub lists : EachHasLists 1 1 t.streams.items
-  pub locks : vec_len t.locks < vec_capacity t.locks
+  pub promises : HasRoom (places_for 0 6 10 t) t.promises
+  pub jobs : HasJobRoom (places_for 1 5 8 t) t.promises
+  pub hosts : places_for 0 2 3 t + vec_len t.hosts ≤ vec_capacity t.hosts
+  pub caused : places_for 2 10 23 t ≤ t.caused.capacity
+  pub others : places_for 2 10 23 t ≤ vec_capacity t.others
+  pub grown : vec_len t.grown + 4 ≤ vec_capacity t.grown
+  pub lists : EachHasLists 2 2 t.streams.items
+  pub full : vec_len t.full < vec_capacity t.full
+  pub members : EachHasMembers 1 t.signals.items
+  pub locks : vec_len t.locks + 2 ≤ vec_capacity t.locks
   pub streams : vec_len t.streams < vec_capacity t.streams
+  pub pipes : vec_len t.pipes < vec_capacity t.pipes
+  pub signals : vec_len t.signals < vec_capacity t.signals
 
 -- between calls and jobs: no effect waits
 pub record IsResting (t : Tables) : Type 0 where
@@ -103,11 +165,15 @@ pub record IsResting (t : Tables) : Type 0 where
   pub others : t.others.items ≡ []
   pub kept : IsKept t
 
--- nothing changed that concerns the lists of streams
-pub record KeepsStreams (t t' : Tables) : Type 0 where
+-- nothing changed that concerns the lists of streams and signals, and no pipe
+pub record KeepsRecords (t t' : Tables) : Type 0 where
   pub streams : t'.streams ≡ t.streams
   pub grown : t'.grown ≡ t.grown
   pub waiting : t'.waiting ≡ t.waiting
+  pub pipes : t'.pipes ≡ t.pipes
+  pub signals : t'.signals ≡ t.signals
+  pub full : t'.full ≡ t.full
+  pub aborts : t'.aborts ≡ t.aborts
 
 -- the row of an effect is performed, in the places that there are
 pub record Performs (e : Effect) (t t' : Tables) : Type 0 where
@@ -118,12 +184,20 @@ pub record Performs (e : Effect) (t t' : Tables) : Type 0 where
   pub lists : map room_of t'.streams.items ≡ map room_of t.streams.items
   pub grown : vec_len t'.grown + prices_of queued_alone t'.caused.effects + prices_of requests_alone t'.caused.effects
       ≤ vec_len t.grown + effect_price queued_alone e + effect_price requests_alone e
+  pub members : map members_room t'.signals.items ≡ map members_room t.signals.items
+  pub full : vec_len t'.full + prices_of members_alone t'.caused.effects ≤ vec_len t.full + effect_price members_alone e
 
--- a stream in which there was a place, and there is none any more, is noted
+-- a stream in which there were two places of each kind, and aren't any more, is noted
 pub record NotesGrowth (i : StreamId) (had_room has_room : Bool) (t t' : Tables) : Type 0 where
   pub tables : t' ≡ record t { grown = t'.grown }
   pub grown : t'.grown.items ≡ (if had_room && not has_room then t.grown.items ++ i ∷ [] else t.grown.items)
   pub capacity : vec_capacity t'.grown ≡ vec_capacity t.grown
+
+-- a signal in which there was a place, and there is none any more, is noted
+pub record NotesFull (a : SignalId) (had_room has_room : Bool) (t t' : Tables) : Type 0 where
+  pub tables : t' ≡ record t { full = t'.full }
+  pub full : t'.full.items ≡ (if had_room && not has_room then t.full.items ++ a ∷ [] else t.full.items)
+  pub capacity : vec_capacity t'.full ≡ vec_capacity t.full
 
 -- what was caused goes before the effects that wait, of which the next stands last
 
@@ -137,9 +211,7 @@ pub record PutsFirst (t t' : Tables) : Type 0 where
   pub promises : t'.promises ≡ t.promises
   pub hosts : t'.hosts ≡ t.hosts
   pub places : places_of t' ≡ places_of t
-  pub streams : t'.streams ≡ t.streams
-  pub grown : t'.grown ≡ t.grown
-  pub waiting : t'.waiting ≡ t.waiting
+  pub records : KeepsRecords t t'
 
 -- all that was caused is performed, with all that comes of it, in the places that there are; and there is a place for one more event
 pub record PerformsAll (t t' : Tables) : Type 0 where
@@ -150,9 +222,9 @@ pub record PerformsAll (t t' : Tables) : Type 0 where
 
 -- memory is taken
 
--- the stream of this number, where there is one, has a place in either list
+-- the stream of this number, where there is one, has two places in either list
 abbrev pub HasListsAt : StreamId → Tables → Type 0
-HasListsAt i t = (x : Stream) → slice_get t.streams.items i.0 ≡ Some x → HasLists 1 1 x
+HasListsAt i t = (x : Stream) → slice_get t.streams.items i.0 ≡ Some x → HasLists 2 2 x
 
 -- a stream has the same entries, and no fewer places
 pub record IsWider (x y : Stream) : Type 0 where
@@ -164,20 +236,26 @@ pub record IsWider (x y : Stream) : Type 0 where
 abbrev pub ListsGrow : List Stream → List Stream → Type 0
 ListsGrow xs ys = (i : ℕ) (y : Stream) → slice_get ys i ≡ Some y → (x : Stream) × ((slice_get xs i ≡ Some x) × IsWider x y)
 
-pub record StaysBesideStreams (t t' : Tables) : Type 0 where
-  pub locks : t'.locks ≡ t.locks
-  pub promises : t'.promises ≡ t.promises
-  pub hosts : t'.hosts ≡ t.hosts
-  pub caused : t'.caused ≡ t.caused
-  pub others : t'.others ≡ t.others
-  pub waiting : t'.waiting ≡ t.waiting
-  pub age : t'.age ≡ t.age
+-- the signal of this number, where there is one, has a place for one pipe more
+abbrev pub HasMembersAt : SignalId → Tables → Type 0
+HasMembersAt a t = (x : SeenSignal) → slice_get t.signals.items a.0 ≡ Some x → HasMemberRoom 1 x
 
+-- a signal has the same pipes, and no fewer places
+pub record IsRoomier (x y : SeenSignal) : Type 0 where
+  pub signal : y.signal ≡ x.signal
+  pub room : x.room ≤ y.room
+
+abbrev pub MembersGrow : List SeenSignal → List SeenSignal → Type 0
+MembersGrow xs ys = (i : ℕ) (y : SeenSignal) → slice_get ys i ≡ Some y → (x : SeenSignal) × ((slice_get xs i ≡ Some x) × IsRoomier x y)
+
+-- nothing changed beside the streams, and where places are to be made there
+pub record StaysBesideStreams (t t' : Tables) : Type 0 where
+  pub tables : t' ≡ record t { streams = t'.streams; grown = t'.grown }
+
+-- nothing changed beside the signals, and where places are to be made there
+pub record StaysBesideSignals (t t' : Tables) : Type 0 where
+  pub tables : t' ≡ record t { signals = t'.signals; full = t'.full }
+
+-- nothing changed beside the agenda
 pub record StaysBesideAgenda (t t' : Tables) : Type 0 where
-  pub streams : t'.streams ≡ t.streams
-  pub locks : t'.locks ≡ t.locks
-  pub promises : t'.promises ≡ t.promises
-  pub hosts : t'.hosts ≡ t.hosts
-  pub waiting : t'.waiting ≡ t.waiting
-  pub grown : t'.grown ≡ t.grown
-  pub age : t'.age ≡ t.age
+  pub tables : t' ≡ record t { caused = t'.caused; others = t'.others }

@@ -1,11 +1,12 @@
 //! What one effect does.
 ghost use Rattle.std.specs.Prelude.{◌≡◌, []};
 ghost use Rattle.ws_steps.specs.declared.effects.Effect.TheVariants as effect;
-ghost use Rattle.ws_tables.specs.Room.{HasRoomFor, IsKept, KeepsStreams, Performs};
+ghost use Rattle.ws_tables.specs.Room.{HasRoomFor, IsKept, KeepsRecords, Performs};
 
 use crate::tables::Tables;
 use ws_steps::{
-    Effect, Event, Gift, HostCall, Owner, ReadRequest, StartBy, Step, Use, WritableOperation,
+    Effect, Event, Gift, HostCall, Owner, PipeOperation, ReadRequest, StartBy, Step, Use,
+    WritableOperation,
 };
 use ws_value::{HostId, Plain, PromiseId, StreamId, Value};
 
@@ -16,7 +17,7 @@ impl Tables {
         requires quiet { self.old.caused.effects ≡ [] }
         requires room { HasRoomFor (effect.StartAlgorithm i step start) self.old }
         ensures performs { Performs (effect.StartAlgorithm i step start) self.old self.new }
-        ensures streams { KeepsStreams self.old self.new }
+        ensures records { KeepsRecords self.old self.new }
     {
         match start {
             StartBy::Now => self.caused.push(Effect::Give(
@@ -38,7 +39,7 @@ impl Tables {
         requires quiet { self.old.caused.effects ≡ [] }
         requires room { HasRoomFor (effect.PullAlgorithm i) self.old }
         ensures performs { Performs (effect.PullAlgorithm i) self.old self.new }
-        ensures streams { KeepsStreams self.old self.new }
+        ensures records { KeepsRecords self.old self.new }
     {
         let u = Use::React(Step::ReadablePull(i), None);
         match self.owner(i) {
@@ -51,7 +52,7 @@ impl Tables {
         requires quiet { self.old.caused.effects ≡ [] }
         requires room { HasRoomFor (effect.CancelAlgorithm i reason promise) self.old }
         ensures performs { Performs (effect.CancelAlgorithm i reason promise) self.old self.new }
-        ensures streams { KeepsStreams self.old self.new }
+        ensures records { KeepsRecords self.old self.new }
     {
         let u = Use::React(Step::ReturnUndefined, Some(promise));
         match self.owner(i) {
@@ -67,7 +68,7 @@ impl Tables {
         requires quiet { self.old.caused.effects ≡ [] }
         requires room { HasRoomFor (effect.WriteAlgorithm i) self.old }
         ensures performs { Performs (effect.WriteAlgorithm i) self.old self.new }
-        ensures streams { KeepsStreams self.old self.new }
+        ensures records { KeepsRecords self.old self.new }
     {
         match self.owner(i) {
             Owner::Host => self
@@ -81,7 +82,7 @@ impl Tables {
         requires quiet { self.old.caused.effects ≡ [] }
         requires room { HasRoomFor (effect.CloseAlgorithm i) self.old }
         ensures performs { Performs (effect.CloseAlgorithm i) self.old self.new }
-        ensures streams { KeepsStreams self.old self.new }
+        ensures records { KeepsRecords self.old self.new }
     {
         let u = Use::React(Step::WritableClose(i), None);
         match self.owner(i) {
@@ -94,7 +95,7 @@ impl Tables {
         requires quiet { self.old.caused.effects ≡ [] }
         requires room { HasRoomFor (effect.AbortAlgorithm i reason promise) self.old }
         ensures performs { Performs (effect.AbortAlgorithm i reason promise) self.old self.new }
-        ensures streams { KeepsStreams self.old self.new }
+        ensures records { KeepsRecords self.old self.new }
     {
         let u = Use::React(Step::WritableAbort(i, promise), None);
         match self.owner(i) {
@@ -110,7 +111,7 @@ impl Tables {
         requires quiet { self.old.caused.effects ≡ [] }
         requires room { HasRoomFor (effect.CallHost call u) self.old }
         ensures performs { Performs (effect.CallHost call u) self.old self.new }
-        ensures streams { KeepsStreams self.old self.new }
+        ensures records { KeepsRecords self.old self.new }
     {
         let id = HostId(self.hosts.len() as u128);
         let promise = self.promises.fresh();
@@ -123,36 +124,44 @@ impl Tables {
     #[tactic(auto, unfolding(ws_steps::specs::Turns::row))]
     fn chunk_steps(&mut self, i: StreamId, request: ReadRequest, chunk: Value)
         requires quiet { self.old.caused.effects ≡ [] }
+        requires room { HasRoomFor (effect.ChunkSteps i request chunk) self.old }
         ensures performs { Performs (effect.ChunkSteps i request chunk) self.old self.new }
-        ensures streams { KeepsStreams self.old self.new }
+        ensures records { KeepsRecords self.old self.new }
     {
         match request {
             ReadRequest::Promise(promise) => self.promises.give(promise, chunk),
+            ReadRequest::Pipe(p) => self
+                .caused
+                .push(Effect::Pipe(p, PipeOperation::KeepChunk(chunk))),
         }
     }
 
     #[tactic(auto, unfolding(ws_steps::specs::Turns::row))]
     fn close_steps(&mut self, i: StreamId, request: ReadRequest)
         requires quiet { self.old.caused.effects ≡ [] }
+        requires room { HasRoomFor (effect.CloseSteps i request) self.old }
         ensures performs { Performs (effect.CloseSteps i request) self.old self.new }
-        ensures streams { KeepsStreams self.old self.new }
+        ensures records { KeepsRecords self.old self.new }
     {
         match request {
             ReadRequest::Promise(promise) => {
                 self.promises
                     .finish(promise, Value::Plain(Plain::Undefined))
             }
+            ReadRequest::Pipe(p) => self.caused.push(Effect::Pipe(p, PipeOperation::ReadEnded)),
         }
     }
 
     #[tactic(auto, unfolding(ws_steps::specs::Turns::row))]
     fn error_steps(&mut self, i: StreamId, request: ReadRequest, e: Plain)
         requires quiet { self.old.caused.effects ≡ [] }
+        requires room { HasRoomFor (effect.ErrorSteps i request e) self.old }
         ensures performs { Performs (effect.ErrorSteps i request e) self.old self.new }
-        ensures streams { KeepsStreams self.old self.new }
+        ensures records { KeepsRecords self.old self.new }
     {
         match request {
             ReadRequest::Promise(promise) => self.promises.reject(promise, e),
+            ReadRequest::Pipe(p) => self.caused.push(Effect::Pipe(p, PipeOperation::ReadEnded)),
         }
     }
 
@@ -168,6 +177,8 @@ impl Tables {
         match effect {
             Effect::Readable(i, operation) => self.perform_readable(i, operation),
             Effect::Writable(i, operation) => self.perform_writable(i, operation),
+            Effect::Pipe(p, operation) => self.perform_pipe(p, operation),
+            Effect::Signal(a, operation) => self.perform_signal(a, operation),
             Effect::StartAlgorithm(i, step, start) => self.start_algorithm(i, step, start),
             Effect::PullAlgorithm(i) => self.pull_algorithm(i),
             Effect::CancelAlgorithm(i, reason, promise) => {
@@ -181,6 +192,7 @@ impl Tables {
             Effect::ErrorSteps(i, request, e) => self.error_steps(i, request, e),
             Effect::Give(gift, u) => self.promises.use_gift(gift, u),
             Effect::Settle(promise, outcome) => self.promises.settle(promise, outcome),
+            Effect::Queue(micro) => self.promises.micro(micro),
             Effect::CallHost(call, u) => self.call_host(call, u),
         }
     }

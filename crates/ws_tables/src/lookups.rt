@@ -1,4 +1,4 @@
-//! Objects of a realm by their numbers; the streams of a kind are in `kinds`.
+//! Objects of a realm by their numbers; the records of a kind are in `kinds`.
 ghost use Rattle.std.specs.Prelude.{◌≡◌, ◌<◌, IfSome, vec_len};
 ghost use Rattle.ws_steps.specs.Slots.{lock_at, host_at, owner_at};
 

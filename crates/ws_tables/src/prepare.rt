@@ -1,20 +1,28 @@
 //! The taking of memory before a call or a job.
-ghost use Rattle.std.specs.Prelude.{◌≡◌, ◌≤◌, ◌+◌, OnOk, vec_len, vec_capacity};
-ghost use Rattle.ws_tables.specs.Room.{EachHasLists, HasListsAt, IsCovered, IsPrepared, IsResting, ListsGrow, StaysBesideStreams, StaysBesideAgenda};
+ghost use Rattle.std.specs.Prelude.{◌≡◌, ◌≤◌, IfOk, OnOk, vec_len, vec_capacity};
+ghost use Rattle.ws_tables.specs.Room.{EachHasLists, EachHasMembers, HasListsAt, HasMembersAt, HaveMembers, IsCovered, IsPrepared, IsResting, ListsGrow, MembersGrow, StaysBesideAgenda, StaysBesideSignals, StaysBesideStreams, places_for};
 
+use crate::kinds::LIST_PLACES;
 use crate::tables::{Stream, Tables};
-use ws_value::{NoMemory, StreamId};
+use ws_value::{NoMemory, SignalId, StreamId};
 
-/// The promises, jobs and events for which there is to be a place each.
-const PLACES: usize = 3;
-
-/// The places on the agenda, beside one for each read request that waits.
-const EFFECTS: usize = 8;
+/// The streams that one call or job can leave with too few places.
+const GROWN: usize = 2 * LIST_PLACES;
 
 impl Tables {
     ghost use Rattle.ws_tables.specs.View.{slots_of};
 
-    /// Makes a place in either list of the stream of this number, where there is one.
+    /// So many places for each read request that waits, so many for each pipe that a signal would abort, and so many more.
+    fn places(&self, a_wait: usize, an_abort: usize, more: usize) -> Result<usize, NoMemory>
+        ensures { IfOk result (λ n. n ≡ places_for a_wait an_abort more self.now) }
+    {
+        let waits = self.waiting.checked_mul(a_wait).ok_or(NoMemory)?;
+        let aborts = self.aborts.checked_mul(an_abort).ok_or(NoMemory)?;
+        let both = waits.checked_add(aborts).ok_or(NoMemory)?;
+        both.checked_add(more).ok_or(NoMemory)
+    }
+
+    /// Makes two places in either list of the stream of this number, where there is one.
     fn prepare_stream(&mut self, i: StreamId) -> Result<(), NoMemory>
         ensures ok { OnOk result (HasListsAt i self.new) }
         ensures lists { ListsGrow self.old.streams.items self.new.streams.items }
@@ -26,15 +34,15 @@ impl Tables {
             return Ok(());
         }
         match &mut self.streams[i.0 as usize] {
-            Stream::Readable(stream) => stream.reserve(1),
-            Stream::Writable(stream) => stream.reserve(1),
+            Stream::Readable(stream) => stream.reserve(LIST_PLACES),
+            Stream::Writable(stream) => stream.reserve(LIST_PLACES),
         }
     }
 
-    /// Makes a place in either list of each stream that had none.
+    /// Makes two places in either list of each stream that had fewer.
     fn prepare_streams(&mut self) -> Result<(), NoMemory>
         requires covered { IsCovered self.old }
-        ensures ok { OnOk result (EachHasLists 1 1 self.new.streams.items) }
+        ensures ok { OnOk result (EachHasLists 2 2 self.new.streams.items) }
         ensures empty { OnOk result (vec_len self.new.grown ≡ 0) }
         ensures covered { IsCovered self.new }
         ensures slots { slots_of self.new ≡ slots_of self.old }
@@ -49,24 +57,54 @@ impl Tables {
         Ok(())
     }
 
+    /// Makes a place in the list of the signal of this number, where there is one.
+    fn prepare_signal(&mut self, a: SignalId) -> Result<(), NoMemory>
+        ensures ok { OnOk result (HasMembersAt a self.new) }
+        ensures members { MembersGrow self.old.signals.items self.new.signals.items }
+        ensures slots { slots_of self.new ≡ slots_of self.old }
+        ensures rest { StaysBesideSignals self.old self.new }
+        ensures full { self.new.full ≡ self.old.full }
+    {
+        if self.signals.len() as u128 <= a.0 {
+            return Ok(());
+        }
+        self.signals[a.0 as usize].reserve(1)
+    }
+
+    /// Makes a place in the list of each signal that had none.
+    fn prepare_signals(&mut self) -> Result<(), NoMemory>
+        requires members { HaveMembers self.old }
+        ensures ok { OnOk result (EachHasMembers 1 self.new.signals.items) }
+        ensures empty { OnOk result (vec_len self.new.full ≡ 0) }
+        ensures members { HaveMembers self.new }
+        ensures slots { slots_of self.new ≡ slots_of self.old }
+        ensures rest { StaysBesideSignals self.old self.new }
+    {
+        while let Some(a) = self.full.pop() {
+            if let Err(NoMemory) = self.prepare_signal(a) {
+                self.full.push_reserved(a);
+                return Err(NoMemory);
+            }
+        }
+        Ok(())
+    }
+
     /// Makes places on the agenda.
     fn prepare_agenda(&mut self) -> Result<(), NoMemory>
         requires resting { IsResting self.old }
-        ensures caused { OnOk result (self.old.waiting + 8 ≤ self.new.caused.capacity) }
-        ensures others { OnOk result (self.old.waiting + 8 ≤ vec_capacity self.new.others) }
+        ensures caused { OnOk result (places_for 2 10 23 self.old ≤ self.new.caused.capacity) }
+        ensures others { OnOk result (places_for 2 10 23 self.old ≤ vec_capacity self.new.others) }
         ensures slots { slots_of self.new ≡ slots_of self.old }
         ensures resting { IsResting self.new }
         ensures rest { StaysBesideAgenda self.old self.new }
     {
-        let Some(places) = self.waiting.checked_add(EFFECTS) else {
-            return Err(NoMemory);
-        };
+        let places = self.places(2, 10, 23)?;
         self.caused.reserve(places)?;
         self.others.reserve(places)?;
         Ok(())
     }
 
-    /// Takes all memory that the next call or job can need, whichever it is.
+    /// Takes all memory that the next call or job can need, whichever it is: what any takes by itself, the steps of each read request that waits, and the abort of each pipe by its signal. `room` of the definitions has the numbers.
     pub fn prepare(&mut self) -> Result<(), NoMemory>
         requires resting { IsResting self.old }
         ensures ok { OnOk result (IsPrepared self.new) }
@@ -74,12 +112,20 @@ impl Tables {
         ensures resting { IsResting self.new }
     {
         self.prepare_streams()?;
+        self.prepare_signals()?;
         self.prepare_agenda()?;
-        self.promises.reserve(PLACES)?;
-        self.hosts.reserve(1)?;
-        self.locks.reserve(1)?;
+        let promises = self.places(0, 6, 10)?;
+        self.promises.reserve(promises)?;
+        let jobs = self.places(1, 5, 8)?;
+        self.promises.reserve_jobs(jobs)?;
+        let hosts = self.places(0, 2, 3)?;
+        self.hosts.reserve(hosts)?;
+        self.locks.reserve(2)?;
         self.streams.reserve(1)?;
-        self.grown.reserve(2)?;
+        self.pipes.reserve(1)?;
+        self.signals.reserve(1)?;
+        self.grown.reserve(GROWN)?;
+        self.full.reserve(1)?;
         Ok(())
     }
 }

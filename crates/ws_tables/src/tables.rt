@@ -3,10 +3,11 @@ ghost use Rattle.std.specs.Prelude.{◌≡◌, IfOk};
 ghost use Rattle.ws_steps.specs.Slots.{empty};
 
 use std::alloc::Global;
+use ws_pipe::{Pipe, Signal};
 use ws_promise::{Agenda, Promises};
 use ws_readable::Readable;
 use ws_steps::{Effect, Lock};
-use ws_value::{NoMemory, PromiseId, StreamId};
+use ws_value::{NoMemory, PromiseId, SignalId, StreamId};
 use ws_writable::Writable;
 
 /// A stream of either kind.
@@ -21,6 +22,8 @@ pub enum Stream {
 pub struct Tables {
     pub alloc: Global,
     pub streams: Vec<Stream>,
+    pub pipes: Vec<Pipe>,
+    pub signals: Vec<Signal>,
     pub locks: Vec<Lock>,
     pub promises: Promises,
     /// The promise of each call of a host's algorithm, until the host settles it.
@@ -33,6 +36,10 @@ pub struct Tables {
     pub waiting: usize,
     /// The streams in whose lists places are to be made before the next call or job.
     pub grown: Vec<StreamId>,
+    /// How many pipes the signals would abort, if each were triggered.
+    pub aborts: usize,
+    /// The signals in whose lists places are to be made before the next call or job.
+    pub full: Vec<SignalId>,
     /// How many calls and jobs were performed.
     pub age: u64,
 }
@@ -49,6 +56,8 @@ impl Tables {
         Ok(Tables {
             alloc,
             streams: Vec::new(alloc),
+            pipes: Vec::new(alloc),
+            signals: Vec::new(alloc),
             locks: Vec::new(alloc),
             promises: Promises::make(alloc)?,
             hosts: Vec::new(alloc),
@@ -56,6 +65,8 @@ impl Tables {
             others: Vec::new(alloc),
             waiting: 0,
             grown: Vec::new(alloc),
+            aborts: 0,
+            full: Vec::new(alloc),
             age: 0,
         })
     }

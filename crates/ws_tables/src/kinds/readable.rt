@@ -4,6 +4,7 @@ ghost use Rattle.ws_steps.specs.Slots.{has_readable, readable_at};
 ghost use Rattle.ws_steps.specs.declared.effects.Effect.TheVariants as effect;
 ghost use Rattle.ws_tables.specs.Room.{HasRoomFor, IsKept, Performs};
 
+use super::LIST_PLACES;
 use crate::tables::{Stream, Tables};
 use ws_readable::Readable;
 use ws_steps::ReadableOperation;
@@ -43,11 +44,11 @@ impl Tables {
         }
         match &mut self.streams[i.0 as usize] {
             Stream::Readable(stream) => {
-                let had_room = stream.has_room();
+                let had_room = stream.has_room(LIST_PLACES);
                 let waited = stream.waiting_requests();
                 stream.perform(i, &mut self.promises, &mut self.caused, operation);
                 self.waiting = self.waiting - waited + stream.waiting_requests();
-                let has_room = stream.has_room();
+                let has_room = stream.has_room(LIST_PLACES);
                 self.note_growth(i, had_room, has_room);
             }
             Stream::Writable(_) => unreachable!(),

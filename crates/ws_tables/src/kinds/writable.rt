@@ -4,6 +4,7 @@ ghost use Rattle.ws_steps.specs.Slots.{has_writable, writable_at};
 ghost use Rattle.ws_steps.specs.declared.effects.Effect.TheVariants as effect;
 ghost use Rattle.ws_tables.specs.Room.{HasRoomFor, IsKept, Performs};
 
+use super::LIST_PLACES;
 use crate::tables::{Stream, Tables};
 use ws_steps::{WritableOperation, Writer};
 use ws_value::StreamId;
@@ -54,9 +55,9 @@ impl Tables {
         }
         match &mut self.streams[i.0 as usize] {
             Stream::Writable(stream) => {
-                let had_room = stream.has_room();
+                let had_room = stream.has_room(LIST_PLACES);
                 stream.perform(i, &mut self.promises, &mut self.caused, operation);
-                let has_room = stream.has_room();
+                let has_room = stream.has_room(LIST_PLACES);
                 self.note_growth(i, had_room, has_room);
             }
             Stream::Readable(_) => unreachable!(),

@@ -4,7 +4,7 @@ use Rattle.ws_steps.specs.Slots.{Slots, Done}
 use Rattle.ws_laws.proofs.Ages.{begin_job-age}
 use Rattle.ws_tables.specs.View.{slots_of}
 use Rattle.ws_calls.proofs.Beginning.{job-begins}
-use Rattle.ws_tables.proofs.Places.{kept_by}
+use Rattle.ws_tables.proofs.Places.{kept_same}
 use Rattle.ws_calls.proofs.Idle.{idle-begins, not-false}
 use Rattle.ws_calls.proofs.begin.perform_job.Goals as goal
 
@@ -23,7 +23,7 @@ returns-then-not-begin_job-clause-resting c =
     record {
       caused = did.caused ∙ ap (λ (d : Done). d.caused) (idle-begins (slots_of c.args.tables.now) (idle c));
       others = ap (λ v. v.items) did.others ∙ rest.others;
-      kept = kept_by c.args.tables.now c.begin_job.new.tables (record { streams = did.streams; grown = did.grown; waiting = did.waiting }) rest.kept;
+      kept = kept_same c.args.tables.now c.begin_job.new.tables (did.slots ∙ ap (λ (d : Done). d.slots) (idle-begins (slots_of c.args.tables.now) (idle c))) did.records rest.kept;
     }
 
 pub returns-then-not-begin_job-clause-age : goal.returns-then-not-begin_job-clause-age

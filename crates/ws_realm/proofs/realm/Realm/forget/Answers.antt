@@ -1,17 +1,19 @@
 use Rattle.std.proofs.Common.{◌≡◌, true, false, is_some, sym, ap, ◌∙◌}
 use Rattle.ws_promise.specs.Seen.{Seen}
-use Rattle.ws_steps.specs.Promises.{Table, rank_at, let_go}
+use Rattle.ws_steps.specs.Promises.{Table, rank_at, release, let_go}
 use Rattle.ws_tables.specs.View.{slots_of}
+use Rattle.ws_tables.proofs.Counts.{release-more}
 use Rattle.ws_realm.proofs.LettingGo.{named-goes, unnamed-stays}
-use Rattle.ws_realm.proofs.Resting.{released, rests-still, ready-still}
+use Rattle.ws_realm.proofs.Resting.{release-less, rests-still, ready-still}
 use Rattle.ws_realm.proofs.realm.Realm.forget.Goals as goal
 
 pub invariant_of-self : goal.invariant_of-self
 invariant_of-self c =
     let t = c.self.inside.tables in
     let was = c.self.invariant in
+    let u : Table = release c.args.p t.promises.table in
     rw (c.release.ensures)
-    (rests-still t _ was.0, was.1, λ ready. let h = was.2 ready in (ready-still t _ (released c.args.p t.promises h.0.promises) h.0, h.1))
+    (rests-still t u (release-more c.args.p t.promises.table) was.0, was.1, λ ready. let h = was.2 ready in (ready-still t u (release-less c.args.p t.promises.table) h.0, h.1))
 
 pub returns-then-is_some-clause-slots : goal.returns-then-is_some-clause-slots
 returns-then-is_some-clause-slots c =

@@ -13,14 +13,14 @@ pub perform-requires-clause-room : goal.perform-requires-clause-room
 perform-requires-clause-room c =
     room-for c.in-Some.effect (reverse c.pop.new.self.items) _
     (found _ c.loop-effect.self _ c.in-Some.effect (reverse c.pop.new.self.items) c.loop-effect.invariant
-    (popped c.loop-effect.self.others.items c.pop.new.self.items c.in-Some.effect c.in-Some.ensures.items) (record { slots = refl; promises = refl; hosts = refl; caused = refl; streams = refl; grown = refl; waiting = refl; others = c.pop.ensures.capacity }))
+    (popped c.loop-effect.self.others.items c.pop.new.self.items c.in-Some.effect c.in-Some.ensures.items) (record { slots = refl; promises = refl; hosts = refl; caused = refl; records = record { streams = refl; grown = refl; waiting = refl; pipes = refl; signals = refl; full = refl; aborts = refl }; others = c.pop.ensures.capacity }))
 
 pub put_first-requires-in-Some : goal.put_first-requires-in-Some
 put_first-requires-in-Some c = record {
   room =
       turn-puts _ c.loop-effect.self _ c.perform.new.self c.in-Some.effect (reverse c.pop.new.self.items) c.loop-effect.invariant
       (popped c.loop-effect.self.others.items c.pop.new.self.items c.in-Some.effect c.in-Some.ensures.items) refl
-      (record { slots = refl; promises = refl; hosts = refl; caused = refl; streams = refl; grown = refl; waiting = refl; others = c.pop.ensures.capacity })
+      (record { slots = refl; promises = refl; hosts = refl; caused = refl; records = record { streams = refl; grown = refl; waiting = refl; pipes = refl; signals = refl; full = refl; aborts = refl }; others = c.pop.ensures.capacity })
       c.perform.ensures.performs;
 }
 
@@ -28,18 +28,18 @@ pub loop-effect-smaller : goal.loop-effect-smaller
 loop-effect-smaller c =
     turn-fewer _ c.loop-effect.self _ c.perform.new.self c.in-Some.effect (reverse c.pop.new.self.items) c.loop-effect.invariant
     (popped c.loop-effect.self.others.items c.pop.new.self.items c.in-Some.effect c.in-Some.ensures.items) refl
-    (record { slots = refl; promises = refl; hosts = refl; caused = refl; streams = refl; grown = refl; waiting = refl; others = c.pop.ensures.capacity })
+    (record { slots = refl; promises = refl; hosts = refl; caused = refl; records = record { streams = refl; grown = refl; waiting = refl; pipes = refl; signals = refl; full = refl; aborts = refl }; others = c.pop.ensures.capacity })
     c.perform.ensures.performs c.put_first-in-Some.new.self c.put_first-in-Some.ensures
 
 pub loop-effect-preserved : goal.loop-effect-preserved
 loop-effect-preserved c =
     turn-kept _ c.loop-effect.self _ c.perform.new.self c.in-Some.effect (reverse c.pop.new.self.items) c.loop-effect.invariant
     (popped c.loop-effect.self.others.items c.pop.new.self.items c.in-Some.effect c.in-Some.ensures.items) refl
-    (record { slots = refl; promises = refl; hosts = refl; caused = refl; streams = refl; grown = refl; waiting = refl; others = c.pop.ensures.capacity })
+    (record { slots = refl; promises = refl; hosts = refl; caused = refl; records = record { streams = refl; grown = refl; waiting = refl; pipes = refl; signals = refl; full = refl; aborts = refl }; others = c.pop.ensures.capacity })
     c.perform.ensures.performs c.put_first-in-Some.new.self c.put_first-in-Some.ensures c.perform.ensures.kept
 
 pub returns : goal.returns
 returns c =
     let none = empty c.loop-effect.self.others.items (omega (arith, c.loop-effect.self.others.ok.0, c.in_default.ensures.cases.0)) in
     let none' : c.pop.new.self.items ≡ [] = sym (append-nil c.pop.new.self.items) ∙ (sym c.in_default.ensures.items ∙ none) in
-    ends _ c.loop-effect.self _ none none' (record { slots = refl; promises = refl; hosts = refl; caused = refl; streams = refl; grown = refl; waiting = refl; others = c.pop.ensures.capacity }) c.loop-effect.invariant
+    ends _ c.loop-effect.self _ none none' (record { slots = refl; promises = refl; hosts = refl; caused = refl; records = record { streams = refl; grown = refl; waiting = refl; pipes = refl; signals = refl; full = refl; aborts = refl }; others = c.pop.ensures.capacity }) c.loop-effect.invariant

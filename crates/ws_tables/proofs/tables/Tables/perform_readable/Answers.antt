@@ -1,9 +1,9 @@
-use Rattle.std.proofs.Common.{◌≡◌, ◌∙◌, ◌&&◌, not, true, false, Some, List, length, map, refl, sym, ap, subst, ◌<◌, ◌+◌, arith}
-use Rattle.std.specs.Prelude.{slice_get, slice_set, vec_len, nat_lt}
+use Rattle.std.proofs.Common.{◌≡◌, ◌∙◌, ◌&&◌, not, true, false, Some, List, length, map, refl, sym, ap, subst, ◌<◌, ◌+◌, ◌-◌, arith}
+use Rattle.std.specs.Prelude.{slice_get, slice_set, vec_len, nat_le}
 use Rattle.ws_steps.specs.declared.effects.Effect.{Effect}
 use Rattle.ws_steps.specs.Turns.{row}
 use Rattle.ws_queue.specs.Seen.{Lists}
-use Rattle.ws_steps.specs.Places.{prices_of, all_keep, turns_alone, own_readable, queued_alone, requests_alone}
+use Rattle.ws_steps.specs.Places.{prices_of, own_readable, queued_alone, requests_alone, members_alone}
 use Rattle.ws_readable.specs.Seen.{acts_of}
 use Rattle.ws_steps.specs.Operations.{readable_operation}
 use Rattle.ws_steps.specs.Slots.{Done, on_readable}
@@ -11,8 +11,9 @@ use Rattle.ws_steps.proofs.StreamLaws.{on_readable-at}
 use Rattle.ws_tables.specs.declared.tables.Stream.TheVariants.{Readable}
 use Rattle.ws_tables.specs.declared.tables.Tables.{Tables}
 use Rattle.ws_tables.specs.View.{slots_of, stream_of}
-use Rattle.ws_tables.specs.Room.{places_of, room_of}
-use Rattle.ws_tables.proofs.Streams.{readable-within, stands-at, each-one, keep-one, keep-put, map-put, ReadableTook, readable-took, readable-own, has-both, both-have, paid, cover, readable-absent, noted-grown, noted-length}
+use Rattle.ws_tables.specs.Room.{places_of, room_of, members_room, waiting_in, IsCounted}
+use Rattle.ws_tables.proofs.Streams.{readable-within, stands-at, waits-among, waits-after, map-put, ReadableTook, readable-took, readable-own, has-both, both-have, paid, cover, readable-absent, noted-grown, noted-length}
+use Rattle.ws_tables.proofs.Counts.{counted-on, readable-more}
 use Rattle.ws_tables.proofs.tables.Tables.perform_readable.Goals as goal
 
 pub returns-then-not-has_readable-clause-performs : goal.returns-then-not-has_readable-clause-performs
@@ -37,16 +38,14 @@ perform-requires-clause-room c =
 
 pub perform-requires-clause-effect_room : goal.perform-requires-clause-effect_room
 perform-requires-clause-effect_room c =
-    let kept = keep-one c.args.self.now.streams.items c.args.i.0 (Readable c.in-Readable.stream) (at c) in
-    let counted = each-one c.in-Readable.stream.slots.requests in
+    let kept = waits-among c.args.self.now.streams.items c.args.i.0 (Readable c.in-Readable.stream) (at c) in
     let quiet = ap length c.requires.quiet in
-    omega (arith, kept, counted, c.requires.kept.waiting, quiet, c.requires.room.caused)
+    omega (arith, kept, c.requires.kept.waiting, quiet, c.requires.room.caused)
 
 pub overflow_sub-self : goal.overflow_sub-self
 overflow_sub-self c =
-    let kept = keep-one c.args.self.now.streams.items c.args.i.0 (Readable c.in-Readable.stream) (at c.before) in
-    let counted = each-one c.in-Readable.stream.slots.requests in
-    omega (arith, kept, counted, c.requires.kept.waiting)
+    let kept = waits-among c.args.self.now.streams.items c.args.i.0 (Readable c.in-Readable.stream) (at c.before) in
+    omega (arith, kept, c.requires.kept.waiting)
 
 took : (c : goal.After-perform) → ReadableTook c.args.operation (acts_of c.in-Readable.stream c.args.self.now.promises c.args.self.now.caused) (acts_of c.perform.new.self c.perform.new.p c.perform.new.fx)
 took c =
@@ -55,12 +54,10 @@ took c =
 
 pub overflow_add-self : goal.overflow_add-self
 overflow_add-self c =
-    let before = each-one c.in-Readable.stream.slots.requests in
-    let after = each-one c.perform.new.self.slots.requests in
-    let kept = keep-one c.args.self.now.streams.items c.args.i.0 (Readable c.in-Readable.stream) (at c.before.before) in
+    let kept = waits-among c.args.self.now.streams.items c.args.i.0 (Readable c.in-Readable.stream) (at c.before.before) in
     let turns = (took c.before).turns in
     let small = c.args.self.now.others.small in
-    omega (arith, before, after, kept, turns, small, c.requires.room.others)
+    omega (arith, kept, turns, small, c.requires.kept.waiting, c.requires.room.others)
 
 paid_for : (c : goal.After-note_growth-arg-1) → c.has_room-had_room.result ≡ true → c.has_room-has_room.result ≡ false
     → prices_of queued_alone c.perform.new.fx.effects + prices_of requests_alone c.perform.new.fx.effects < own_readable queued_alone c.args.operation + own_readable requests_alone c.args.operation
@@ -70,7 +67,7 @@ paid_for c had has =
     paid (length c.in-Readable.stream.slots.queue) (length c.perform.new.self.slots.queue) (length c.in-Readable.stream.slots.requests) (length c.perform.new.self.slots.requests)
     (own_readable queued_alone c.args.operation) (own_readable requests_alone c.args.operation) (prices_of queued_alone c.perform.new.fx.effects) (prices_of requests_alone c.perform.new.fx.effects)
     c.in-Readable.stream.room.queue c.in-Readable.stream.room.requests t.queued t.requested (sym c.has_room-had_room.ensures ∙ had)
-    (ap (λ (l : Lists). nat_lt (length c.perform.new.self.slots.queue) l.queue && nat_lt (length c.perform.new.self.slots.requests) l.requests) (sym room) ∙ (sym c.has_room-has_room.ensures ∙ has))
+    (ap (λ (l : Lists). nat_le 2 (l.queue - length c.perform.new.self.slots.queue) && nat_le 2 (l.requests - length c.perform.new.self.slots.requests)) (sym room) ∙ (sym c.has_room-has_room.ensures ∙ has))
 
 pub note_growth-requires : goal.note_growth-requires
 note_growth-requires c = record {
@@ -112,25 +109,34 @@ returns-clause-performs c =
           let q = ap (prices_of queued_alone) caused in
           let r = ap (prices_of requests_alone) caused in
           omega (arith, g, q, r, own.0, own.1);
+      members = ap (λ (t : Tables). map members_room t.signals.items) same;
+      full =
+          let none = t.members in
+          let m = ap (prices_of members_alone) caused in
+          let l = ap (λ (t : Tables). vec_len t.full) same in
+          omega (arith, none, m, l);
     }
 
 pub returns-clause-kept : goal.returns-clause-kept
 returns-clause-kept c =
     let old = c.args.self.now in
     let same = c.note_growth.ensures.tables in
-    let before = each-one c.in-Readable.stream.slots.requests in
-    let after = each-one c.perform.new.self.slots.requests in
     let is = at c.before.before.before.before.before.before in
     record {
       waiting =
-          let put = keep-put old.streams.items c.args.i.0 (Readable c.in-Readable.stream) (Readable c.perform.new.self) is in
-          let kept = keep-one old.streams.items c.args.i.0 (Readable c.in-Readable.stream) is in
+          let put = waits-after old.streams.items c.args.i.0 (Readable c.in-Readable.stream) (Readable c.perform.new.self) is in
+          let kept = waits-among old.streams.items c.args.i.0 (Readable c.in-Readable.stream) is in
           let waits = ap (λ (t : Tables). t.waiting) same in
-          let streams = ap (λ (t : Tables). all_keep turns_alone (map stream_of t.streams.items)) same in
-          omega (arith, put, kept, waits, streams, before, after, c.requires.kept.waiting);
+          let streams = ap (λ (t : Tables). waiting_in (map stream_of t.streams.items)) same in
+          omega (arith, put, kept, waits, streams, c.requires.kept.waiting);
       covered =
           rw (same, c.note_growth.ensures.grown)
           (cover old.grown.items c.args.i (Readable c.perform.new.self) c.has_room-had_room.result c.has_room-has_room.result (Readable c.in-Readable.stream) old.streams.items c.requires.kept.covered is
           (λ h. c.has_room-had_room.ensures ∙ both-have (length c.in-Readable.stream.slots.queue) c.in-Readable.stream.room.queue (length c.in-Readable.stream.slots.requests) c.in-Readable.stream.room.requests h.0 h.1)
           (λ has. has-both (length c.perform.new.self.slots.queue) c.perform.new.self.room.queue (length c.perform.new.self.slots.requests) c.perform.new.self.room.requests (sym c.has_room-has_room.ensures ∙ has)));
+      aborts = rw same c.requires.kept.aborts;
+      members = rw same c.requires.kept.members;
+      counted =
+          subst (λ (t : Tables). IsCounted (slots_of t)) (sym same)
+          (counted-on (length old.promises.table.entries) (length c.perform.new.p.table.entries) old.pipes.items (readable-more c.args.i c.args.operation (slots_of old) _ (left c)) c.requires.kept.counted);
     }

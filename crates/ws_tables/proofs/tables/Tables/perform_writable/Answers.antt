@@ -1,9 +1,9 @@
-use Rattle.std.proofs.Common.{◌≡◌, ◌∙◌, ◌&&◌, not, true, false, Some, List, length, map, refl, sym, ap, subst, ◌<◌, ◌+◌, arith}
-use Rattle.std.specs.Prelude.{slice_get, slice_set, vec_len, nat_lt}
+use Rattle.std.proofs.Common.{◌≡◌, ◌∙◌, ◌&&◌, not, true, false, Some, List, length, map, refl, sym, ap, subst, ◌<◌, ◌+◌, ◌-◌, arith}
+use Rattle.std.specs.Prelude.{slice_get, slice_set, vec_len, nat_le}
 use Rattle.ws_steps.specs.declared.effects.Effect.{Effect}
 use Rattle.ws_steps.specs.Turns.{row}
 use Rattle.ws_queue.specs.Seen.{Lists}
-use Rattle.ws_steps.specs.Places.{prices_of, all_keep, turns_alone, own_writable, queued_alone, requests_alone}
+use Rattle.ws_steps.specs.Places.{prices_of, own_writable, queued_alone, requests_alone, members_alone}
 use Rattle.ws_writable.specs.Seen.{acts_of}
 use Rattle.ws_steps.specs.Operations.{writable_operation}
 use Rattle.ws_steps.specs.Slots.{Done, on_writable}
@@ -11,8 +11,9 @@ use Rattle.ws_steps.proofs.StreamLaws.{on_writable-at}
 use Rattle.ws_tables.specs.declared.tables.Stream.TheVariants.{Writable}
 use Rattle.ws_tables.specs.declared.tables.Tables.{Tables}
 use Rattle.ws_tables.specs.View.{slots_of, stream_of}
-use Rattle.ws_tables.specs.Room.{places_of, room_of}
-use Rattle.ws_tables.proofs.Streams.{writable-within, stands-at, keep-put, map-put, WritableTook, writable-took, writable-own, has-both, both-have, paid, cover, writable-absent, noted-grown, noted-length}
+use Rattle.ws_tables.specs.Room.{places_of, room_of, members_room, waiting_in, IsCounted}
+use Rattle.ws_tables.proofs.Streams.{writable-within, stands-at, waits-after, map-put, WritableTook, writable-took, writable-own, has-both, both-have, paid, cover, writable-absent, noted-grown, noted-length}
+use Rattle.ws_tables.proofs.Counts.{counted-on, writable-more}
 use Rattle.ws_tables.proofs.tables.Tables.perform_writable.Goals as goal
 
 pub returns-then-not-has_writable-clause-performs : goal.returns-then-not-has_writable-clause-performs
@@ -53,7 +54,7 @@ paid_for c had has =
     paid (length c.in-Writable.stream.slots.queue) (length c.perform.new.self.slots.queue) (length c.in-Writable.stream.slots.write_requests) (length c.perform.new.self.slots.write_requests)
     (own_writable queued_alone c.args.operation) (own_writable requests_alone c.args.operation) (prices_of queued_alone c.perform.new.fx.effects) (prices_of requests_alone c.perform.new.fx.effects)
     c.in-Writable.stream.room.queue c.in-Writable.stream.room.requests t.queued t.requested (sym c.has_room-had_room.ensures ∙ had)
-    (ap (λ (l : Lists). nat_lt (length c.perform.new.self.slots.queue) l.queue && nat_lt (length c.perform.new.self.slots.write_requests) l.requests) (sym room) ∙ (sym c.has_room-has_room.ensures ∙ has))
+    (ap (λ (l : Lists). nat_le 2 (l.queue - length c.perform.new.self.slots.queue) && nat_le 2 (l.requests - length c.perform.new.self.slots.write_requests)) (sym room) ∙ (sym c.has_room-has_room.ensures ∙ has))
 
 pub note_growth-requires : goal.note_growth-requires
 note_growth-requires c = record {
@@ -95,6 +96,12 @@ returns-clause-performs c =
           let q = ap (prices_of queued_alone) caused in
           let r = ap (prices_of requests_alone) caused in
           omega (arith, g, q, r, own.0, own.1);
+      members = ap (λ (t : Tables). map members_room t.signals.items) same;
+      full =
+          let none = t.members in
+          let m = ap (prices_of members_alone) caused in
+          let l = ap (λ (t : Tables). vec_len t.full) same in
+          omega (arith, none, m, l);
     }
 
 pub returns-clause-kept : goal.returns-clause-kept
@@ -104,13 +111,18 @@ returns-clause-kept c =
     let is = at c.before.before.before.before.before in
     record {
       waiting =
-          let put = keep-put old.streams.items c.args.i.0 (Writable c.in-Writable.stream) (Writable c.perform.new.self) is in
+          let put = waits-after old.streams.items c.args.i.0 (Writable c.in-Writable.stream) (Writable c.perform.new.self) is in
           let waits = ap (λ (t : Tables). t.waiting) same in
-          let streams = ap (λ (t : Tables). all_keep turns_alone (map stream_of t.streams.items)) same in
+          let streams = ap (λ (t : Tables). waiting_in (map stream_of t.streams.items)) same in
           omega (arith, put, waits, streams, c.requires.kept.waiting);
       covered =
           rw (same, c.note_growth.ensures.grown)
           (cover old.grown.items c.args.i (Writable c.perform.new.self) c.has_room-had_room.result c.has_room-has_room.result (Writable c.in-Writable.stream) old.streams.items c.requires.kept.covered is
           (λ h. c.has_room-had_room.ensures ∙ both-have (length c.in-Writable.stream.slots.queue) c.in-Writable.stream.room.queue (length c.in-Writable.stream.slots.write_requests) c.in-Writable.stream.room.requests h.0 h.1)
           (λ has. has-both (length c.perform.new.self.slots.queue) c.perform.new.self.room.queue (length c.perform.new.self.slots.write_requests) c.perform.new.self.room.requests (sym c.has_room-has_room.ensures ∙ has)));
+      aborts = rw same c.requires.kept.aborts;
+      members = rw same c.requires.kept.members;
+      counted =
+          subst (λ (t : Tables). IsCounted (slots_of t)) (sym same)
+          (counted-on (length old.promises.table.entries) (length c.perform.new.p.table.entries) old.pipes.items (writable-more c.args.i c.args.operation (slots_of old) _ (left c)) c.requires.kept.counted);
     }
