@@ -1,8 +1,8 @@
 -- The definitions computed on examples.
-use Rattle.std.proofs.Common.{◌≡◌, ℕ, ◌^◌, List, [], ◌∷◌, Some, None, Ok, Err, refl}
+use Rattle.std.proofs.Common.{◌≡◌, ℕ, ◌^◌, true, false, List, [], ◌∷◌, Some, None, Ok, Err, refl}
 use Rattle.std.specs.Prelude.{codes}
 use Rattle.ws_steps.specs.declared.calls.Call.{Call}
-use Rattle.ws_steps.specs.declared.calls.Call.TheVariants.{MakeReadable, MakeWritable, GetReader, GetWriter, Write, Close, CloseBy, Abort, AbortBy, Ready, Cancel, CancelBy, Read, Closed, Release, Enqueue, Finish, Fail, Desired, DesiredBy, Settle, State, Step}
+use Rattle.ws_steps.specs.declared.calls.Call.TheVariants.{MakeReadable, MakeWritable, GetReader, GetWriter, Write, Close, CloseBy, Abort, AbortBy, Ready, Cancel, CancelBy, Read, Closed, Release, Enqueue, Finish, Fail, Desired, DesiredBy, Pipe, MakeSignal, Trigger, Settle, State, Step}
 use Rattle.ws_steps.specs.declared.calls.StartBy.TheVariants.{Now, Later}
 use Rattle.ws_steps.specs.declared.calls.Answer.TheVariants.{Ok as AnswerOk, Fail as AnswerFail}
 use Rattle.ws_steps.specs.declared.readable.SizeBy.TheVariants.{Count, ByteLength}
@@ -107,6 +107,24 @@ spelled_desired = refl
 spelled_desired_by : AloneIs (codes "desired l0") (DesiredBy (record { 0 = 0 }))
 spelled_desired_by = refl
 
+spelled_pipe : AloneIs (codes "pipe s0 s1") (Pipe (record { 0 = 0 }) (record { 0 = 1 }) (record { close = false; abort = false; cancel = false }) None)
+spelled_pipe = refl
+
+spelled_pipe_one_option : AloneIs (codes "pipe s0 s1 prevent-abort") (Pipe (record { 0 = 0 }) (record { 0 = 1 }) (record { close = false; abort = true; cancel = false }) None)
+spelled_pipe_one_option = refl
+
+spelled_pipe_two_options : AloneIs (codes "pipe s0 s1 signal=a0 prevent-close") (Pipe (record { 0 = 0 }) (record { 0 = 1 }) (record { close = true; abort = false; cancel = false }) (Some (record { 0 = 0 })))
+spelled_pipe_two_options = refl
+
+spelled_pipe_every_option : AloneIs (codes "pipe s0 s1 prevent-cancel signal=a340282366920938463463374607431768211455 prevent-abort prevent-close") (Pipe (record { 0 = 0 }) (record { 0 = 1 }) (record { close = true; abort = true; cancel = true }) (Some (record { 0 = 340282366920938463463374607431768211455 })))
+spelled_pipe_every_option = refl
+
+spelled_signal : AloneIs (codes "signal") MakeSignal
+spelled_signal = refl
+
+spelled_trigger : AloneIs (codes "trigger a1 e5") (Trigger (record { 0 = 1 }) (Fault (User 5)))
+spelled_trigger = refl
+
 spelled_settle : AloneIs (codes "settle h0 ok") (Settle (record { 0 = 0 }) AnswerOk)
 spelled_settle = refl
 
@@ -150,6 +168,24 @@ refused_no_hexadecimal = refl
 
 refused_large_stream : lines (codes "reader s4294967296") ≡ Err 1
 refused_large_stream = refl
+
+refused_option_twice : lines (codes "pipe s0 s1 prevent-close prevent-close") ≡ Err 1
+refused_option_twice = refl
+
+refused_signal_twice : lines (codes "pipe s0 s1 signal=a0 prevent-abort signal=a1") ≡ Err 1
+refused_signal_twice = refl
+
+refused_another_option : lines (codes "pipe s0 s1 prevent") ≡ Err 1
+refused_another_option = refl
+
+refused_option_without_a_signal : lines (codes "pipe s0 s1 signal=s0") ≡ Err 1
+refused_option_without_a_signal = refl
+
+refused_large_signal : lines (codes "trigger a340282366920938463463374607431768211456 e1") ≡ Err 1
+refused_large_signal = refl
+
+refused_trigger_without_a_reason : lines (codes "trigger a0") ≡ Err 1
+refused_trigger_without_a_reason = refl
 
 refused_return_inside : lines (codes "step\r ") ≡ Err 1
 refused_return_inside = refl

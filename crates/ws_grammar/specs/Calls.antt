@@ -2,15 +2,18 @@
 use Rattle.std.specs.Prelude.{ℕ, ◌^◌, if◌then◌else◌, List, [], ◌∷◌, Option, Some, None, option_map, codes}
 use Rattle.std.specs.Option.{option_or}
 use Rattle.std.specs.Str.{bytes_eq}
+use Rattle.ws_value.specs.declared.ids.StreamId.{StreamId}
 use Rattle.ws_steps.specs.declared.calls.Call.{Call}
-use Rattle.ws_steps.specs.declared.calls.Call.TheVariants.{MakeReadable, MakeWritable, GetReader, GetWriter, Cancel, CancelBy, Read, Write, Close, CloseBy, Abort, AbortBy, Closed, Ready, Release, Enqueue, Finish, Fail, Desired, DesiredBy, Settle, State, Step}
+use Rattle.ws_steps.specs.declared.calls.Call.TheVariants.{MakeReadable, MakeWritable, GetReader, GetWriter, Cancel, CancelBy, Read, Write, Close, CloseBy, Abort, AbortBy, Closed, Ready, Release, Enqueue, Finish, Fail, Desired, DesiredBy, Pipe, MakeSignal, Trigger, Settle, State, Step}
 use Rattle.ws_steps.specs.declared.calls.StartBy.{StartBy}
 use Rattle.ws_steps.specs.declared.calls.StartBy.TheVariants.{Now, Later}
 use Rattle.ws_steps.specs.declared.calls.Answer.TheVariants.{Ok as AnswerOk, Fail as AnswerFail}
 use Rattle.ws_steps.specs.declared.readable.SizeBy.{SizeBy}
 use Rattle.ws_steps.specs.declared.readable.SizeBy.TheVariants.{Count, ByteLength}
 use Rattle.ws_grammar.specs.Numbers.{number_below}
-use Rattle.ws_grammar.specs.Values.{stream_named, lock_named, host_named, reason_of, value_of}
+use Rattle.ws_grammar.specs.declared.options.PipeOptions.{PipeOptions}
+use Rattle.ws_grammar.specs.Options.{options_of}
+use Rattle.ws_grammar.specs.Values.{stream_named, lock_named, host_named, signal_named, reason_of, value_of}
 
 -- what is made of two things, where both are there
 abbrev pub both : {A B C : Type 0} → (A → B → C) → Option A → Option B → Option C
@@ -88,9 +91,25 @@ settle_fail_call host answer reason =
     if bytes_eq answer (codes "fail") then both (λ id why. Settle id (AnswerFail why)) (host_named host) (reason_of reason)
     else None
 
--- a word alone: `step`
+-- a pipe with these options
+abbrev pub pipe_with : StreamId → StreamId → PipeOptions → Call
+pipe_with source dest options = Pipe source dest options.prevent options.signal
+
+-- `pipe S S`, and options
+abbrev pub pipe_call : List ℕ → List ℕ → List (List ℕ) → Option Call
+pipe_call source dest options =
+    all_three pipe_with (stream_named source) (stream_named dest) (options_of options)
+
+-- `trigger A R`
+abbrev pub trigger_call : List ℕ → List ℕ → Option Call
+trigger_call signal reason = both Trigger (signal_named signal) (reason_of reason)
+
+-- a word alone: `signal`, `step`
 abbrev pub call_alone : List ℕ → Option Call
-call_alone word = if bytes_eq word (codes "step") then Some Step else None
+call_alone word =
+    if bytes_eq word (codes "signal") then Some MakeSignal
+    else if bytes_eq word (codes "step") then Some Step
+    else None
 
 -- a word and one more: `reader S`, `writer S`, `read L`, `closed L`, `ready L`, `release L`, `close S` or `L`, `finish S`,
 -- `desired S` or `L`, `state S`
@@ -108,7 +127,7 @@ call_on_one word first =
     else if bytes_eq word (codes "state") then option_map State (stream_named first)
     else None
 
--- a word and two more: `cancel`, `abort`, `write`, `enqueue`, `fail`, `settle H ok`
+-- a word and two more: `cancel`, `abort`, `write`, `enqueue`, `fail`, `pipe`, `trigger`, `settle H ok`
 abbrev pub call_on_two : List ℕ → List ℕ → List ℕ → Option Call
 call_on_two word first second =
     if bytes_eq word (codes "cancel") then cancel_call first second
@@ -116,16 +135,23 @@ call_on_two word first second =
     else if bytes_eq word (codes "write") then write_call first second
     else if bytes_eq word (codes "enqueue") then enqueue_call first second
     else if bytes_eq word (codes "fail") then fail_call first second
+    else if bytes_eq word (codes "pipe") then pipe_call first second []
+    else if bytes_eq word (codes "trigger") then trigger_call first second
     else if bytes_eq word (codes "settle") then settle_ok_call first second
     else None
 
--- a word and three more: `readable`, `writable`, `settle H fail R`
+-- a word and three more: `readable`, `writable`, `settle H fail R`, `pipe` with one option
 abbrev pub call_on_three : List ℕ → List ℕ → List ℕ → List ℕ → Option Call
 call_on_three word first second third =
     if bytes_eq word (codes "readable") then readable_call first second third
     else if bytes_eq word (codes "writable") then writable_call first second third
     else if bytes_eq word (codes "settle") then settle_fail_call first second third
+    else if bytes_eq word (codes "pipe") then pipe_call first second (third ∷ [])
     else None
+
+-- a word and more than three: `pipe` with options
+abbrev pub call_on_more : List ℕ → List ℕ → List ℕ → List (List ℕ) → Option Call
+call_on_more word first second more = if bytes_eq word (codes "pipe") then pipe_call first second more else None
 
 -- the call of a line's words
 abbrev pub call_of : List (List ℕ) → Option Call
@@ -134,4 +160,4 @@ call_of (word ∷ []) = call_alone word
 call_of (word ∷ first ∷ []) = call_on_one word first
 call_of (word ∷ first ∷ second ∷ []) = call_on_two word first second
 call_of (word ∷ first ∷ second ∷ third ∷ []) = call_on_three word first second third
-call_of (word ∷ first ∷ second ∷ third ∷ fourth ∷ more) = None
+call_of (word ∷ first ∷ second ∷ third ∷ fourth ∷ more) = call_on_more word first second (third ∷ fourth ∷ more)

@@ -1,6 +1,7 @@
 pub mod Numbers
 pub mod Words
 pub mod Values
+pub mod Options
 pub mod Calls
 pub mod Lines
 pub mod Refusals

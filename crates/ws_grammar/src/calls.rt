@@ -1,10 +1,11 @@
 //! The call that a line's words spell.
 ghost use Rattle.std.specs.Prelude.{◌≡◌, IfOk, map};
-ghost use Rattle.ws_grammar.specs.Calls.{size_named, start_named, readable_call, writable_call, desired_call, cancel_call, close_call, abort_call, write_call, enqueue_call, fail_call, settle_ok_call, settle_fail_call};
-ghost use Rattle.ws_grammar.specs.Calls.{call_alone, call_on_one, call_on_two, call_on_three, call_of};
+ghost use Rattle.ws_grammar.specs.Calls.{size_named, start_named, readable_call, writable_call, desired_call, cancel_call, close_call, abort_call, write_call, enqueue_call, fail_call, settle_ok_call, settle_fail_call, pipe_call, trigger_call};
+ghost use Rattle.ws_grammar.specs.Calls.{call_alone, call_on_one, call_on_two, call_on_three, call_on_more, call_of};
 
 use crate::numbers::number_u64;
-use crate::values::{host_named, lock_named, reason_of, stream_named, value_of};
+use crate::options::{PipeOptions, options_of};
+use crate::values::{host_named, lock_named, reason_of, signal_named, stream_named, value_of};
 use std::alloc::Global;
 use ws_steps::{Answer, Call, SizeBy, StartBy};
 use ws_value::NoMemory;
@@ -150,11 +151,35 @@ fn settle_fail_call(host: &[u8], answer: &[u8], reason: &[u8]) -> Option<Call>
     }
 }
 
+/// A pipe from one stream to another, with options.
+fn pipe_call(source: &[u8], dest: &[u8], options: &[&[u8]]) -> Option<Call>
+    ensures { result ≡ pipe_call source.now dest.now (map (λ word. word.now) options.now) }
+{
+    let source = stream_named(source)?;
+    let dest = stream_named(dest)?;
+    let PipeOptions { prevent, signal } = options_of(options)?;
+    Some(Call::Pipe {
+        source,
+        dest,
+        prevent,
+        signal,
+    })
+}
+
+/// The trigger of a signal.
+fn trigger_call(signal: &[u8], reason: &[u8]) -> Option<Call>
+    ensures { result ≡ trigger_call signal.now reason.now }
+{
+    Some(Call::Trigger(signal_named(signal)?, reason_of(reason)?))
+}
+
 /// The call of a word alone.
 fn call_alone(word: &[u8]) -> Option<Call>
     ensures { result ≡ call_alone word.now }
 {
-    if word == b"step".as_slice() {
+    if word == b"signal".as_slice() {
+        Some(Call::MakeSignal)
+    } else if word == b"step".as_slice() {
         Some(Call::Step)
     } else {
         None
@@ -209,6 +234,10 @@ fn call_on_two(
         enqueue_call(alloc, first, second)
     } else if word == b"fail".as_slice() {
         Ok(fail_call(first, second))
+    } else if word == b"pipe".as_slice() {
+        Ok(pipe_call(first, second, &[]))
+    } else if word == b"trigger".as_slice() {
+        Ok(trigger_call(first, second))
     } else if word == b"settle".as_slice() {
         Ok(settle_ok_call(first, second))
     } else {
@@ -226,13 +255,25 @@ fn call_on_three(word: &[u8], first: &[u8], second: &[u8], third: &[u8]) -> Opti
         writable_call(first, second, third)
     } else if word == b"settle".as_slice() {
         settle_fail_call(first, second, third)
+    } else if word == b"pipe".as_slice() {
+        pipe_call(first, second, &[third])
+    } else {
+        None
+    }
+}
+
+/// The call of a word and more than three.
+fn call_on_more(word: &[u8], first: &[u8], second: &[u8], more: &[&[u8]]) -> Option<Call>
+    ensures { result ≡ call_on_more word.now first.now second.now (map (λ word. word.now) more.now) }
+{
+    if word == b"pipe".as_slice() {
+        pipe_call(first, second, more)
     } else {
         None
     }
 }
 
 /// The call that a line's words spell.
-#[tactic(auto, using(crate::proofs::CallLemmas::call_of_many))]
 pub fn call_of(alloc: Global, words: &[&[u8]]) -> Result<Option<Call>, NoMemory>
     ensures { IfOk result (λ call. call ≡ call_of (map (λ word. word.now) words.now)) }
 {
@@ -242,6 +283,6 @@ pub fn call_of(alloc: Global, words: &[&[u8]]) -> Result<Option<Call>, NoMemory>
         [word, first] => Ok(call_on_one(word, first)),
         [word, first, second] => call_on_two(alloc, word, first, second),
         [word, first, second, third] => Ok(call_on_three(word, first, second, third)),
-        [_, _, _, _, _, ..] => Ok(None),
+        [word, first, second, _, _, ..] => Ok(call_on_more(word, first, second, &words[3..])),
     }
 }

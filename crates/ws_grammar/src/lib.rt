@@ -4,6 +4,7 @@
 mod calls;
 mod line;
 mod numbers;
+mod options;
 mod refused;
 mod script;
 mod values;

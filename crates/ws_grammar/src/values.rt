@@ -1,11 +1,11 @@
 //! Names of objects, reasons and values.
 ghost use Rattle.std.specs.Prelude.{◌≡◌, IfOk};
-ghost use Rattle.ws_grammar.specs.Values.{stream_named, lock_named, host_named, lettered_reason, reason_of, hex_value, value_of};
+ghost use Rattle.ws_grammar.specs.Values.{stream_named, lock_named, host_named, signal_named, lettered_reason, reason_of, hex_value, value_of};
 
 use crate::numbers::{number_u32, number_u64, number_u128};
 use hex::FromHexError;
 use std::alloc::Global;
-use ws_value::{Chunk, Fault, HostId, LockId, NoMemory, Plain, StreamId, Value};
+use ws_value::{Chunk, Fault, HostId, LockId, NoMemory, Plain, SignalId, StreamId, Value};
 
 /// The stream that a word names.
 pub fn stream_named(word: &[u8]) -> Option<StreamId>
@@ -33,6 +33,16 @@ pub fn host_named(word: &[u8]) -> Option<HostId>
 {
     match word {
         [b'h', digits @ ..] => number_u128(digits).map(HostId),
+        _ => None,
+    }
+}
+
+/// The signal that a word names.
+pub fn signal_named(word: &[u8]) -> Option<SignalId>
+    ensures { result ≡ signal_named word.now }
+{
+    match word {
+        [b'a', digits @ ..] => number_u128(digits).map(SignalId),
         _ => None,
     }
 }

@@ -5,7 +5,7 @@ use Rattle.std.specs.Fmt.{digits}
 use Rattle.hex.specs.Hex.{encode_with}
 use Rattle.ws_steps.specs.declared.calls.Flags.{Flags}
 use Rattle.ws_steps.specs.declared.calls.HostCall.TheVariants.{Start, Pull, Cancel, Write, Close, Abort}
-use Rattle.ws_steps.specs.declared.calls.Reply.TheVariants.{Done, Made, Lock, Promise, Size, State, Throws, TooMany}
+use Rattle.ws_steps.specs.declared.calls.Reply.TheVariants.{Done, Made, Lock, Promise, Signal, Size, State, Throws, TooMany}
 use Rattle.ws_steps.specs.declared.calls.Thrown.TheVariants.{RangeError}
 use Rattle.ws_steps.specs.declared.calls.Word.TheVariants.{Readable, Erroring}
 use Rattle.ws_value.specs.declared.fault.Fault.TheVariants.{TypeError, User, Stage}
@@ -37,6 +37,10 @@ promise = refl
 promise_that_no_reply_named : reply_line 3 None (Promise (record { 0 = 12 })) ≡ codes "3 promise p?\n"
 unfolding digits
 promise_that_no_reply_named = refl
+
+signal_made : reply_line 3 None (Signal (record { 0 = 0 })) ≡ codes "3 signal a0\n"
+unfolding digits
+signal_made = refl
 
 size : reply_line 6 None (Size (Some (pos 18446744073709551615))) ≡ codes "6 size 18446744073709551615\n"
 unfolding digits

@@ -113,6 +113,7 @@ pub fn print_reply_text(out: &mut Vec<u8>, reply: &Reply, rank: Option<u64>) -> 
             append(out, b"promise ")?;
             print_promise(out, rank)
         }
+        Reply::Signal(signal) => append_numbered(out, b"signal a", signal.0),
         Reply::Size(size) => {
             append(out, b"size ")?;
             print_size(out, *size)

@@ -22,6 +22,7 @@ fn rank_named(reply: &Reply, realm: &Realm) -> Option<u64>
         Reply::Done => None,
         Reply::Made(_) => None,
         Reply::Lock(_) => None,
+        Reply::Signal(_) => None,
         Reply::Size(_) => None,
         Reply::State(_) => None,
         Reply::Throws(_) => None,
