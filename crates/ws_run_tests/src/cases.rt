@@ -223,17 +223,19 @@ fn whole_runs(rt: HostRuntime) -> Result<(), Fail> {
 #[test]
 fn steady_copies(rt: HostRuntime) -> Result<(), Fail> {
     let alloc = rt.alloc();
-    let mut input = SteadySource::make(alloc, b"abc", &[2])?;
-    let mut output = SteadySink::make(alloc, &[2])?;
-    let mut notes = SteadySink::make(alloc, &[1])?;
-    let code = perform(
-        &rt,
-        alloc,
-        &[b"streams", b"run"],
-        &mut input,
-        &mut output,
-        &mut notes,
-    )?;
-    assert!(rt; code == ExitCode::SUCCESS);
+    for bytes in [b"".as_slice(), b"abc".as_slice()] {
+        let mut input = SteadySource::make(alloc, bytes, &[2])?;
+        let mut output = SteadySink::make(alloc, &[2])?;
+        let mut notes = SteadySink::make(alloc, &[1])?;
+        let code = perform(
+            &rt,
+            alloc,
+            &[b"streams", b"run"],
+            &mut input,
+            &mut output,
+            &mut notes,
+        )?;
+        assert!(rt; code == ExitCode::SUCCESS, "{bytes:?}");
+    }
     Ok(())
 }

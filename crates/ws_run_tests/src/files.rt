@@ -6,10 +6,13 @@ use ws_cli::run;
 use ws_io::{Files, LoadRefused, MemFiles, Status, StdFiles, StdSink, StdSource};
 use ws_value::{NoMemory, Text};
 
+/// In more than one read and more than one write, where a read takes 4,096 bytes at most.
 #[test]
 fn files_are_copied(rt: HostRuntime) -> Result<(), Fail> {
     let alloc = rt.alloc();
-    fs::write(&rt, "in.txt", b"some bytes".as_slice())?;
+    let mut text = vec![in alloc; b'x'; 5000]?;
+    text[4096] = b'y';
+    fs::write(&rt, "in.txt", text.as_slice())?;
     for (name, want) in [("out.txt", Status::Done), ("in.txt", Status::WriteFault)] {
         let mut input = StdSource::over(fs::open(&rt, "in.txt")?);
         let file = if want == Status::Done {
@@ -21,7 +24,7 @@ fn files_are_copied(rt: HostRuntime) -> Result<(), Fail> {
         let status = run(&rt, alloc, &mut input, &mut output, 1 << 40);
         assert_eq!(rt; status, want, "{name}");
         let bytes = fs::read(&rt, name)?;
-        assert_eq!(rt; bytes.as_slice(), b"some bytes".as_slice(), "{name}");
+        assert!(rt; bytes.as_slice() == text.as_slice(), "{name}");
     }
     fs::remove_file(&rt, "in.txt")?;
     fs::remove_file(&rt, "out.txt")?;

@@ -6,6 +6,8 @@ mod cases;
 #[cfg(test)]
 mod files;
 #[cfg(test)]
+mod limits;
+#[cfg(test)]
 mod listed;
 #[cfg(test)]
 mod memory;

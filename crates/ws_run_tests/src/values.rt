@@ -12,7 +12,7 @@ fn is_copied(alloc: Global, value: &Value) -> Result<bool, NoMemory> {
     })
 }
 
-/// Chunks that were cut, of which one shares its bytes and one owns them.
+/// A whole chunk, and chunks that were cut, of which one shares its bytes and one owns them.
 #[test]
 fn values_are_copied(rt: HostRuntime) -> Result<(), Fail> {
     let alloc = rt.alloc();
@@ -23,6 +23,7 @@ fn values_are_copied(rt: HostRuntime) -> Result<(), Fail> {
     let mut shared = Chunk::of(alloc, b"abc")?;
     shared.advance(2);
     for value in [
+        Value::Bytes(Chunk::of(alloc, b"xy")?),
         Value::Bytes(owned),
         Value::Bytes(shared),
         Value::Plain(Plain::Local(7)),

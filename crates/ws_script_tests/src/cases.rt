@@ -1,4 +1,5 @@
 //! Scripts, with all that comes of each.
+use crate::pipes::PIPED;
 use crate::refused::REFUSED;
 use crate::scripts::WORKED;
 use std::alloc::Global;
@@ -77,7 +78,7 @@ fn holds<R: Threads + Wait>(rt: &R, alloc: Global, case: &Case) -> Result<bool, 
 
 #[test]
 fn worked_scripts(rt: HostRuntime) -> Result<(), Fail> {
-    for (text, printed) in WORKED {
+    for (text, printed) in WORKED.iter().chain(&PIPED) {
         let case = Case {
             text: text.as_bytes(),
             failed_reads: &[],

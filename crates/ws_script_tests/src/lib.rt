@@ -8,6 +8,8 @@ mod long;
 #[cfg(test)]
 mod memory;
 #[cfg(test)]
+mod pipes;
+#[cfg(test)]
 mod refused;
 #[cfg(test)]
 mod scripts;

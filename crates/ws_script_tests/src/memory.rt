@@ -1,5 +1,6 @@
 //! Scripts in which an allocation is refused: `rt try --test --fail-alloc N` refuses the Nth.
 use crate::cases::perform;
+use crate::pipes::PIPED;
 use crate::scripts::WORKED;
 use std::alloc::Global;
 use std::sync::Wait;
@@ -26,7 +27,7 @@ fn prints<R: Threads + Wait>(
 
 #[test]
 fn a_refused_allocation(rt: HostRuntime) -> Result<(), Fail> {
-    for (text, printed) in WORKED {
+    for (text, printed) in WORKED.iter().chain(&PIPED) {
         match prints(&rt, rt.alloc(), text, printed) {
             Ok(holds) => assert!(rt; holds, "{text}"),
             Err(NoMemory) => {}

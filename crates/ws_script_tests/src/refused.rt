@@ -1,7 +1,7 @@
 //! Scripts that are refused.
 
 /// A script, and its first line outside the grammar.
-pub const REFUSED: [(&str, u32); 26] = [
+pub const REFUSED: [(&str, u32); 39] = [
     ("readable 0 count now\nnothing s0\n", 2),
     ("# one\n\nread l01", 3),
     ("nothing s0", 1),
@@ -28,4 +28,20 @@ pub const REFUSED: [(&str, u32); 26] = [
     ("@1", 1),
     (" # a comment", 1),
     ("step\r\r", 1),
+    ("pipe s0 s1 prevent-close prevent-close", 1),
+    ("pipe s0 s1 prevent-abort prevent-cancel prevent-abort", 1),
+    (
+        "pipe s0 s1 prevent-cancel prevent-close prevent-abort signal=a0 prevent-cancel",
+        1,
+    ),
+    ("signal\npipe s0 s1 signal=a0 signal=a0", 2),
+    ("pipe s0 s1 prevent", 1),
+    ("pipe s0 s1 s2", 1),
+    ("pipe s0 s1 signal=", 1),
+    ("pipe s0 s1 signal=s0", 1),
+    ("pipe s0 s1 signal=a01", 1),
+    ("pipe s0 l0", 1),
+    ("pipe s0", 1),
+    ("signal\ntrigger a0", 2),
+    ("trigger a340282366920938463463374607431768211456 e1", 1),
 ];

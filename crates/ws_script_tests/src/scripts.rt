@@ -297,6 +297,7 @@ settle h340282366920938463463374607431768211455 ok
 # a comment
 
 step\r
+pipe s1 s2 signal=a340282366920938463463374607431768211455
 ";
 
 const ENDS_OF_RANGES_PRINTS: &str = "\
@@ -311,6 +312,7 @@ const ENDS_OF_RANGES_PRINTS: &str = "\
 7 throws Unsupported
 8 throws Unsupported
 11 done
+12 throws Unsupported
 ";
 
 /// Bytes in both cases and none, sizes by count and by bytes, and more in the queue than the mark.
