@@ -7,9 +7,10 @@ use ws_cli::top;
 use ws_io::{MemFiles, MemSink, MemSource, OpenGate, Status};
 use ws_value::{NoMemory, Text};
 
-/// What fails in a check.
+/// The file that a check is asked for, and what fails.
 #[derive(Clone, Copy)]
 struct Failing<'a> {
+    name: &'a [u8],
     loads: &'a [u64],
     writes: &'a [u64],
     finishes: &'a [u64],
@@ -41,7 +42,7 @@ fn holds<R: Threads + Wait>(
     let ended = top(
         rt,
         alloc,
-        &words(alloc, b"plan.toml")?,
+        &words(alloc, failing.name)?,
         &mut files,
         &mut input,
         &mut output,
@@ -67,6 +68,7 @@ pub(crate) fn ends<R: Threads + Wait>(
     told: &[u8],
 ) -> Result<bool, NoMemory> {
     let failing = Failing {
+        name: b"plan.toml",
         loads: &[2],
         writes: &[],
         finishes: &[2],
@@ -77,13 +79,23 @@ pub(crate) fn ends<R: Threads + Wait>(
 const FILE: &[u8] = b"version = 1\n";
 
 const NONE: Failing = Failing {
+    name: b"plan.toml",
     loads: &[],
     writes: &[],
     finishes: &[],
 };
 
-/// What fails, with the status, what is written and what is told.
-const FAILURES: [(Failing, Status, &[u8], &[u8]); 4] = [
+/// What is asked for and fails, with the status, what is written and what is told.
+const FAILURES: [(Failing, Status, &[u8], &[u8]); 5] = [
+    (
+        Failing {
+            name: b"plan",
+            ..NONE
+        },
+        Status::LoadFault,
+        b"",
+        b"load fault\n",
+    ),
     (
         Failing {
             loads: &[1],

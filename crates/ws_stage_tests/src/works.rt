@@ -78,7 +78,7 @@ fn through(alloc: Global, stage: &Stage, chunks: Vec<Chunk>) -> Result<Outcome, 
     })
 }
 
-/// Whether a stage puts this out, joined, and ends so, for the input in pieces of 1, 2, 3 and 7 bytes.
+/// Whether a stage puts this out, joined, and ends so, for the input in pieces of 1, 2, 3, 7 and 4,096 bytes.
 fn gives(
     alloc: Global,
     stage: &Stage,
@@ -89,7 +89,7 @@ fn gives(
     requires range { is_in_range stage.now ≡ true }
     requires length { (n : ℕ) → n ≤ 1000000 → HasLength stage.now n }
 {
-    for most in [1, 2, 3, 7] {
+    for most in [1, 2, 3, 7, 4_096] {
         let outcome = through(alloc, stage, pieces(alloc, input, most)?)?;
         let bytes = joined(alloc, &outcome.chunks)?;
         if bytes.as_slice() != output || outcome.ending != ending {
@@ -97,6 +97,55 @@ fn gives(
         }
     }
     Ok(true)
+}
+
+/// Whether a stage puts out these chunks for those.
+fn shows(alloc: Global, stage: &Stage, input: &[&[u8]], output: &[&[u8]]) -> Result<bool, NoMemory>
+    requires range { is_in_range stage.now ≡ true }
+    requires length { (n : ℕ) → n ≤ 1000000 → HasLength stage.now n }
+{
+    let mut chunks = Vec::new(alloc);
+    for bytes in input {
+        chunks.push(Chunk::of(alloc, bytes)?)?;
+    }
+    let outcome = through(alloc, stage, chunks)?;
+    if outcome.ending != Ending::Fine || outcome.chunks.len() != output.len() {
+        return Ok(false);
+    }
+    for (chunk, bytes) in outcome.chunks.iter().zip(output) {
+        if chunk.as_slice() != *bytes {
+            return Ok(false);
+        }
+    }
+    Ok(true)
+}
+
+/// The example of each stage in docs/PIPELINE.md.
+#[test]
+fn documented_examples(rt: HostRuntime) -> Result<(), Fail> {
+    let alloc = rt.alloc();
+    let lines = Stage::Lines { max: 65_536 };
+    assert!(rt; shows(alloc, &lines, &[b"ab\nc"], &[b"ab\n", b"c"])?);
+    let fixed = Stage::Fixed { n: 2 };
+    assert!(rt; shows(alloc, &fixed, &[b"abcde"], &[b"ab", b"cd", b"e"])?);
+    assert!(rt; shows(alloc, &Stage::Hex, &[b"ab\n"], &[b"61620a"])?);
+    assert!(rt; shows(alloc, &Stage::Unhex, &[b"6162"], &[b"ab"])?);
+    let mask = Stage::Mask {
+        key: Blob::of(alloc, b"\x01")?,
+    };
+    assert!(rt; shows(alloc, &mask, &[b"abc"], &[b"`cb"])?);
+    assert!(rt;
+        shows(
+            alloc,
+            &Stage::Number,
+            &[b"ab\n", b"c"],
+            &[b"1 ab\n", b"2 c"]
+        )?
+    );
+    assert!(rt; shows(alloc, &Stage::Frame, &[b"ab"], &[b"\x00\x00\x00\x02ab"])?);
+    let unframe = Stage::Unframe { max: 65_536 };
+    assert!(rt; shows(alloc, &unframe, &[b"\x00\x00\x00\x02ab"], &[b"ab"])?);
+    Ok(())
 }
 
 #[test]
@@ -123,7 +172,7 @@ fn unframe_too_long(rt: HostRuntime) -> Result<(), Fail> {
 #[test]
 fn fixed_frame_mask_hex(rt: HostRuntime) -> Result<(), Fail> {
     let alloc = rt.alloc();
-    for most in [1, 2, 3, 7] {
+    for most in [1, 2, 3, 7, 4_096] {
         let fixed = Stage::Fixed { n: 2 };
         let blocks = through(alloc, &fixed, pieces(alloc, b"abc", most)?)?;
         let framed = through(alloc, &Stage::Frame, blocks.chunks)?;
@@ -149,7 +198,7 @@ fn lines(alloc: Global, bytes: usize) -> Result<Vec<u8>, NoMemory> {
 #[test]
 fn numbered_lines_at_the_limit(rt: HostRuntime) -> Result<(), Fail> {
     let alloc = rt.alloc();
-    for most in [1, 2, 3, 7] {
+    for most in [1, 2, 3, 7, 4_096] {
         let stage = Stage::Lines { max: 65_536 };
         let input = lines(alloc, 65_536)?;
         let cut = through(alloc, &stage, pieces(alloc, &input, most)?)?;
