@@ -38,7 +38,9 @@ fn is_alone(words: &[Text], name: &[u8]) -> bool
 
 /// What stands behind this word, where it is one word.
 fn file_after<'a>(words: &'a [Text], name: &[u8]) -> Option<&'a Text>
-    ensures { MatchOption result ((file : List ℕ) → words.now ≡ name.now ∷ file ∷ [] → ⊥) (λ file. words.now ≡ name.now ∷ file.now ∷ []) }
+    ensures { MatchOption result
+        ((file : List ℕ) → words.now ≡ name.now ∷ file ∷ [] → ⊥)
+        (λ file. words.now ≡ name.now ∷ file.now ∷ []) }
 {
     match words {
         [word, file] => {
