@@ -6,15 +6,19 @@ performs an abstract operation. Each docstring gives what the call would be in a
 
 from __future__ import annotations
 
+from dataclasses import dataclass
 from typing import Callable
 
 import looks
+from pipe import Pipe, Prevent
 from promises import Promise, promise_rejected_with
 from readable import ReadableStream
 from readable_controller import ReadableStreamDefaultController, UnderlyingSource
-from readable_reader import ReadableStreamDefaultReader, ReadRequest
+from readable_reader import PromiseReadRequest, ReadableStreamDefaultReader
 from realm import Lock, Realm, Throw
-from replies import Done, Locked, Look, Made, Named, Reply, Size, Throws, TooMany
+from replies import (Done, Locked, Look, Made, Named, Reply, SignalMade, Size, Throws,
+                     TooMany)
+from signals import AbortSignal
 from values import TYPE_ERROR, UNDEFINED, Value
 from writable import WritableStream
 from writable_controller import (AbortController, UnderlyingSink,
@@ -25,6 +29,14 @@ MOST_STREAMS = 1024
 
 Call = Callable[..., Reply]
 SizeAlgorithm = Callable[[Value], int]
+
+
+@dataclass
+class PipeOptions:
+    """The options of a pipe, with the number of its signal where it has one."""
+
+    prevent: Prevent
+    signal: int | None
 
 
 def perform(realm: Realm, call: Call, arguments: tuple) -> Reply:
@@ -173,7 +185,7 @@ def read(realm: Realm, lock: int) -> Reply:
     if reader.stream is None:
         return rejected_with_type_error(realm)
     promise = Promise(realm.jobs)
-    reader.read(ReadRequest(promise))
+    reader.read(PromiseReadRequest(promise))
     return named(realm, promise)
 
 
@@ -220,6 +232,33 @@ def abort_by_writer(realm: Realm, lock: int, reason: Value) -> Reply:
     if writer.stream is None:
         return rejected_with_type_error(realm)
     return named(realm, writer.abort(reason))
+
+
+# Pipes and signals
+
+def pipe(realm: Realm, source: int, dest: int, options: PipeOptions) -> Reply:
+    """source.pipeTo(dest, options)"""
+    readable = realm.readable(source)
+    writable = realm.writable(dest)
+    signal = None if options.signal is None else realm.signal(options.signal)
+    if readable.is_locked() or writable.is_locked():
+        return rejected_with_type_error(realm)
+    made = Pipe(readable, writable, options.prevent, signal)
+    realm.locks += [None, None]
+    made.begin()
+    return named(realm, made.promise)
+
+
+def make_signal(realm: Realm) -> Reply:
+    """new AbortController()"""
+    realm.signals.append(AbortSignal())
+    return SignalMade(len(realm.signals) - 1)
+
+
+def trigger(realm: Realm, signal: int, reason: Value) -> Reply:
+    """abortController.abort(reason)"""
+    realm.signal(signal).signal_abort(reason)
+    return Done()
 
 
 # The host

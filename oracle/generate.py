@@ -14,7 +14,7 @@ from typing import Callable
 
 from language import task_in
 from readable import ReadableStream
-from realm import Lock, Realm, Stream
+from realm import Realm, Stream
 from script import perform_task
 from writable import WritableStream
 
@@ -26,7 +26,7 @@ COMMONNESS: dict[str, float] = {
     "writer": 1.2, "write": 9.0, "close stream": 1.0, "close writer": 2.0,
     "abort stream": 1.2, "abort writer": 2.2,
     "fail": 1.0, "release": 1.8, "closed": 2.5, "ready": 3.0, "desired stream": 1.0,
-    "desired writer": 1.2, "settle ok": 9.0, "settle fail": 2.0, "state": 3.0, "step": 2.0,
+    "desired writer": 1.2, "pipe": 2.0, "signal": 0.8, "trigger": 1.0, "settle ok": 9.0, "settle fail": 2.0, "state": 3.0, "step": 2.0,
 }
 
 REASONS = ("undefined", "n0", "n1", "n7", "n18446744073709551615", "e0", "e1", "e2", "e3",
@@ -35,7 +35,8 @@ CHUNKS = ("x", "x00", "x6162", "x616263", "xAbCdEf01", "n1", "n2", "n3", "e5", "
           "undefined")
 MARKS = ("0", "0", "1", "1", "1", "1", "2", "2", "3", "5") * 3 + ("18446744073709551615",)
 LIMITS = ("0", "0", "0", "1", "1", "1", "2", "2", "3", "4", "7", "100000")
-ALL_KINDS = (("readable",), ("writable",), ("writable",), ("readable", "writable"))
+PREVENTS = ("prevent-close", "prevent-abort", "prevent-cancel")
+ALL_KINDS = (("readable",), ("writable",)) + (("readable", "writable"),) * 3
 
 
 def is_alive(stream: Stream | None) -> bool:
@@ -58,7 +59,10 @@ class Author:
         self._eager = random.choice((0.1, 0.3, 0.5))
         self._start_later = random.choice((0.1, 0.3, 0.8))
         self._kinds = random.choice(ALL_KINDS)
-        self._most_alive = random.choice((1, 1, 2, 3))
+        self._pipes = random.choice((0.0, 0.4, 0.9, 0.9)) if len(self._kinds) > 1 else 0.0
+        self._prevents = random.choice((0.0, 0.2, 0.6))
+        self._signals = random.choice((0.1, 0.5, 0.9))
+        self._most_alive = random.choice((1, 1, 2, 3)) + len(self._kinds) - 1
         self._writers: dict[str, Callable[[], str | None]] = {
             "reader": lambda: self._of_stream("reader", ReadableStream),
             "read": lambda: self._of_lock("read", ReadableStream),
@@ -78,6 +82,9 @@ class Author:
             "ready": lambda: self._of_lock("ready", WritableStream),
             "desired stream": lambda: self._of_stream("desired", ReadableStream),
             "desired writer": lambda: self._of_lock("desired", WritableStream),
+            "pipe": self._pipe,
+            "signal": lambda: "signal",
+            "trigger": self._trigger,
             "settle ok": lambda: self._settle("ok"),
             "settle fail": lambda: self._settle("fail " + random.choice(REASONS)),
             "state": lambda: self._of_stream("state", object),
@@ -111,6 +118,9 @@ class Author:
         if len(alive) < self._most_alive and self._random.random() < self._eager:
             return self._new_stream()
         free = [number for number in alive if not self._realm.streams[number].is_locked()]
+        if len({type(self._realm.streams[number]) for number in free}) > 1 and \
+                self._random.random() < self._pipes:
+            return self._pipe()
         if free and self._random.random() < self._eager:
             return self._new_lock(self._random.choice(free))
         [call] = self._random.choices(self._calls, self._weights)
@@ -139,13 +149,46 @@ class Author:
 
     def _of_lock(self, word: str, kind: type, values: tuple[str, ...] = ()) -> str | None:
         """A call on a reader or writer of such a stream, mostly on one that isn't released,
-        and mostly of a stream that is alive."""
-        locks: list[Lock] = self._realm.locks
-        numbers = [number for number, lock in enumerate(locks)
-                   if lock.stream is None or isinstance(lock.stream, kind)]
-        numbers = self._narrowed(numbers, lambda number: locks[number].stream is not None)
-        numbers = self._narrowed(numbers, lambda number: is_alive(locks[number].stream))
+        and mostly of a stream that is alive. Now and then it is one of a pipe's own."""
+        locks = self._realm.locks
+        if None in locks and self._random.random() < self._careless:
+            return self._on(word, "l", [locks.index(None)], values)
+        streams = {number: lock.stream for number, lock in enumerate(locks) if lock is not None}
+        numbers = [number for number, stream in streams.items()
+                   if stream is None or isinstance(stream, kind)]
+        numbers = self._narrowed(numbers, lambda number: streams[number] is not None)
+        numbers = self._narrowed(numbers, lambda number: is_alive(streams[number]))
         return self._on(word, "l", numbers, values)
+
+    def _pipe(self) -> str | None:
+        """A pipe with any options, mostly between streams that aren't locked, and mostly
+        between streams that are alive."""
+        source = self._end_of_a_pipe(ReadableStream)
+        dest = self._end_of_a_pipe(WritableStream)
+        if source is None or dest is None:
+            return None
+        options = [option for option in PREVENTS if self._random.random() < self._prevents]
+        signals = list(range(len(self._realm.signals)))
+        if signals and self._random.random() < self._signals:
+            options.append(f"signal={self._name('a', signals[-2:])}")
+        self._random.shuffle(options)
+        return " ".join(["pipe", source, dest, *options])
+
+    def _end_of_a_pipe(self, kind: type) -> str | None:
+        """A stream for a pipe."""
+        streams = self._realm.streams
+        numbers = [number for number, stream in enumerate(streams) if isinstance(stream, kind)]
+        numbers = self._narrowed(numbers, lambda number: not streams[number].is_locked())
+        if self._random.random() < 0.8:
+            numbers = self._narrowed(numbers, lambda number: is_alive(streams[number]))
+        return self._name("s", numbers)
+
+    def _trigger(self) -> str | None:
+        """Triggers a signal, mostly one that wasn't triggered before."""
+        signals = self._realm.signals
+        numbers = self._narrowed(list(range(len(signals))),
+                                 lambda number: not signals[number].is_aborted)
+        return self._on("trigger", "a", numbers, REASONS)
 
     def _settle(self, answer: str) -> str | None:
         """Settles an algorithm's promise, mostly one of the last that are pending: earlier

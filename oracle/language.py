@@ -11,7 +11,8 @@ from dataclasses import dataclass
 from typing import Any, Callable
 
 import calls
-from calls import Call
+from calls import Call, PipeOptions
+from pipe import Prevent
 from values import (UNDEFINED, Bytes, HostError, HostValue, Number, Value, byte_length_size,
                     count_size)
 
@@ -74,6 +75,10 @@ def host_call(word: bytes) -> int:
     return number_after(b"h", word, 2**128)
 
 
+def signal(word: bytes) -> int:
+    return number_after(b"a", word, 2**128)
+
+
 def high_water_mark(word: bytes) -> int:
     return number_in(word, 2**64)
 
@@ -125,7 +130,31 @@ def fail(word: bytes) -> None:
 # Calls
 
 WordReader = Callable[[bytes], Any]
-Form = tuple[tuple[WordReader, ...], Call]
+
+
+@dataclass
+class Rest:
+    """Reads all words that are left, as one argument."""
+
+    reader: Callable[[list[bytes]], Any]
+
+
+Form = tuple[tuple[WordReader | Rest, ...], Call]
+
+
+def pipe_options(words: list[bytes]) -> PipeOptions:
+    """The options of a pipe, in any order, each at most once."""
+    names = [b"signal=" if word.startswith(b"signal=") else word for word in words]
+    if len(set(names)) < len(names):
+        raise Mismatch
+    if not set(names) <= {b"prevent-close", b"prevent-abort", b"prevent-cancel", b"signal="}:
+        raise Mismatch
+    prevent = Prevent(close=b"prevent-close" in names, abort=b"prevent-abort" in names,
+                      cancel=b"prevent-cancel" in names)
+    signals = [signal(word.removeprefix(b"signal=")) for word in words
+               if word.startswith(b"signal=")]
+    return PipeOptions(prevent, signals[0] if signals else None)
+
 
 # For each first word the forms of the words behind it, and what each form calls. What a word
 # is read as is an argument of the call, but for those that are read as nothing.
@@ -146,6 +175,9 @@ FORMS: dict[bytes, tuple[Form, ...]] = {
     b"finish": (((stream,), calls.finish),),
     b"fail": (((stream, reason), calls.fail),),
     b"desired": (((stream,), calls.desired), ((lock,), calls.desired_by_writer)),
+    b"pipe": (((stream, stream, Rest(pipe_options)), calls.pipe),),
+    b"signal": (((), calls.make_signal),),
+    b"trigger": (((signal, reason), calls.trigger),),
     b"settle": (((host_call, ok), calls.settle_ok),
                 ((host_call, fail, reason), calls.settle_fail)),
     b"state": (((stream,), calls.look),),
@@ -153,8 +185,13 @@ FORMS: dict[bytes, tuple[Form, ...]] = {
 }
 
 
-def arguments_in(words: list[bytes], readers: tuple[WordReader, ...]) -> tuple:
-    """The arguments that the words give, where there is one for each reader."""
+def arguments_in(words: list[bytes], readers: tuple[WordReader | Rest, ...]) -> tuple:
+    """The arguments that the words give, where there is one for each reader, or more where the
+    last reads the rest."""
+    *firsts, last = readers or (None,)
+    if isinstance(last, Rest):
+        count = len(firsts)
+        return (*arguments_in(words[:count], tuple(firsts)), last.reader(words[count:]))
     if len(words) != len(readers):
         raise Mismatch
     read = [reader(word) for reader, word in zip(readers, words)]

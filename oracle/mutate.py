@@ -10,7 +10,7 @@ from random import Random
 from language import LONGEST_SCRIPT
 
 BYTES = (b" ", b"\t", b"\r", b"\n", b"#", b"@", b"\0", b"\x0b", b"\x0c", b"\xa0", b"\xff",
-         b"-", b"+", b"_", b".", b"0", b"1", b"9", b"s", b"l", b"h", b"n", b"e", b"k", b"x",
+         b"-", b"+", b"_", b".", b"0", b"1", b"9", b"s", b"l", b"h", b"a", b"n", b"e", b"k", b"x",
          b"S", b"X", b"A", b"f", b"g")
 
 WORDS = (
@@ -21,13 +21,20 @@ WORDS = (
     b"l340282366920938463463374607431768211456",
     b"h0", b"h", b"h340282366920938463463374607431768211455",
     b"h340282366920938463463374607431768211456", b"h01",
+    b"a0", b"a", b"a00", b"a340282366920938463463374607431768211455",
+    b"a340282366920938463463374607431768211456", b"signal=a0", b"signal=a1", b"signal=",
+    b"signal=a", b"signal=s0", b"signal=0", b"signal==a0", b"Signal=a0", b"signal=a01",
+    b"signal=a340282366920938463463374607431768211455",
+    b"signal=a340282366920938463463374607431768211456",
+    b"prevent-close", b"prevent-abort", b"prevent-cancel", b"prevent", b"prevent-",
+    b"prevent-Close", b"preventclose", b"prevent-cancel=",
     b"undefined", b"Undefined", b"n", b"n18446744073709551615", b"n18446744073709551616",
     b"e4294967295", b"e4294967296", b"k4294967295", b"k4294967296", b"e01", b"k",
     b"x", b"x0", b"x0G", b"xaB", b"x\xc3\xa9", b"X00", b"TypeError",
     b"@0", b"@1", b"@", b"@00", b"@100000", b"@100001", b"@-1", b"@@1", b"@1step",
     b"readable", b"writable", b"reader", b"writer", b"read", b"write", b"cancel", b"close",
     b"abort", b"closed", b"ready", b"release", b"enqueue", b"finish", b"fail", b"desired",
-    b"settle", b"state", b"step", b"STEP", b"count", b"bytes", b"now", b"later", b"ok",
+    b"pipe", b"signal", b"trigger", b"settle", b"state", b"step", b"STEP", b"count", b"bytes", b"now", b"later", b"ok",
     b"#", b"#step", "٣".encode(), "step\u00a0".encode(),
 )
 
@@ -36,7 +43,12 @@ LINES = (
     b"step", b"step\r", b"step\r\r", b"\tstep \t\r", b"step\r ", b"@0 step", b"@0", b"@1 @1 step",
     b"step step", b"readable 1 count", b"readable 1 count now now", b"settle h0",
     b"settle h0 ok n1", b"settle h0 fail", b"settle h0 fail x00", b"cancel s0 x00",
-    b"abort l0", b"close h0", b"desired h0", b"write s0 n1", b"read s0", b"tee s0", b"bytes 0 0 now",
+    b"abort l0", b"close h0", b"desired h0", b"signal a0", b"trigger a0", b"trigger a0 x00",
+    b"trigger s0 e1", b"pipe s0", b"pipe s0 l0", b"pipe s0 s1 s2",
+    b"pipe s0 s1 prevent-close prevent-close", b"pipe s0 s1 signal=a0 signal=a1",
+    b"pipe s0 s1 prevent-cancel prevent-abort signal=a0 prevent-close",
+    b"pipe s0 s1 prevent-cancel prevent-abort signal=a0 prevent-close prevent-close",
+    b"write s0 n1", b"read s0", b"tee s0", b"bytes 0 0 now",
 )
 
 

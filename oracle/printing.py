@@ -3,7 +3,7 @@
 from promises import PromiseState
 from readable_reader import ReadResult
 from replies import (Done, Event, HostCalled, Locked, Look, Made, Named, Reply, Settled,
-                     Signalled, Size, Throws, TooMany)
+                     Signalled, SignalMade, Size, Throws, TooMany)
 from values import Bytes, Fault, HostError, HostValue, Number, Undefined, Value
 
 
@@ -34,6 +34,8 @@ def text_of_reply(reply: Reply) -> str:
             return f"made s{stream}"
         case Locked(lock):
             return f"lock l{lock}"
+        case SignalMade(signal):
+            return f"signal a{signal}"
         case Named(promise):
             return f"promise p{promise}"
         case Size(size):

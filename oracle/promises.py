@@ -148,3 +148,26 @@ def promise_rejected_with(jobs: JobQueue, reason: Any) -> Promise:
     promise = Promise(jobs)
     promise.reject(reason)
     return promise
+
+
+def wait_for_all(jobs: JobQueue, promises: list[Promise]) -> Promise:
+    """Web IDL's "get a promise to wait for all", without the list of results: its promise is
+    fulfilled with undefined. For no promises a microtask fulfils it."""
+    waiting = Promise(jobs)
+    missing = len(promises)
+
+    def on_fulfilled(_result: Any) -> None:
+        nonlocal missing
+        missing -= 1
+        if missing == 0:
+            waiting.resolve(UNDEFINED)
+
+    def on_rejected(reason: Any) -> None:
+        if waiting.is_pending:
+            waiting.reject(reason)
+
+    if missing == 0:
+        jobs.enqueue(lambda: waiting.resolve(UNDEFINED))
+    for promise in promises:
+        promise.then(on_fulfilled, on_rejected)
+    return waiting

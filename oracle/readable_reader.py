@@ -7,6 +7,7 @@ The methods are the Streams Standard's abstract operations, in the order of its 
 from __future__ import annotations
 
 from dataclasses import dataclass
+from typing import Protocol
 
 from promises import Promise, promise_rejected_with, promise_resolved_with
 from readable import ReadableStream
@@ -21,8 +22,18 @@ class ReadResult:
     done: bool
 
 
+class ReadRequest(Protocol):
+    """A read request, with its three items."""
+
+    def chunk_steps(self, chunk: Value) -> None: ...
+
+    def close_steps(self) -> None: ...
+
+    def error_steps(self, error: Value) -> None: ...
+
+
 @dataclass
-class ReadRequest:
+class PromiseReadRequest:
     """The read request that ReadableStreamDefaultReader's read() makes for its promise."""
 
     promise: Promise

@@ -1,4 +1,4 @@
-"""One realm: its streams, readers and writers by number, and what its host hears.
+"""One realm: its streams, readers, writers and signals by number, and what its host hears.
 
 Algorithms of sources and sinks belong to the host: a call of one is an event, and gives a
 promise that the host settles by a later call. A promise has a name once a reply told it, and
@@ -12,6 +12,7 @@ from typing import Callable
 from promises import JobQueue, Promise
 from readable import ReadableStream
 from readable_reader import ReadableStreamDefaultReader
+from signals import AbortSignal
 from replies import Event, HostCalled, Settled, Signalled
 from values import UNDEFINED, Value
 from writable import WritableStream
@@ -32,7 +33,9 @@ class Realm:
     def __init__(self) -> None:
         self.jobs = JobQueue()
         self.streams: list[Stream] = []
-        self.locks: list[Lock] = []
+        # A reader or a writer of a pipe's own has a number, and no call may name it.
+        self.locks: list[Lock | None] = []
+        self.signals: list[AbortSignal] = []
         self.host_promises: list[Promise] = []
         self._names: dict[Promise, int] = {}
         self._events: list[Event] = []
@@ -57,9 +60,10 @@ class Realm:
         return stream
 
     def lock(self, number: int) -> Lock:
-        if number >= len(self.locks):
+        lock = self.locks[number] if number < len(self.locks) else None
+        if lock is None:
             raise Throw("Unsupported")
-        return self.locks[number]
+        return lock
 
     def reader(self, number: int) -> ReadableStreamDefaultReader:
         lock = self.lock(number)
@@ -72,6 +76,11 @@ class Realm:
         if not isinstance(lock, WritableStreamDefaultWriter):
             raise Throw("Unsupported")
         return lock
+
+    def signal(self, number: int) -> AbortSignal:
+        if number >= len(self.signals):
+            raise Throw("Unsupported")
+        return self.signals[number]
 
     def host_promise(self, number: int) -> Promise:
         """The promise of a call of the host's, which the host settles once."""

@@ -28,6 +28,13 @@ class Locked:
 
 
 @dataclass
+class SignalMade:
+    """A signal was made."""
+
+    signal: int
+
+
+@dataclass
 class Named:
     """A promise, by its name."""
 
@@ -64,7 +71,7 @@ class Look:
     requests: int
 
 
-Reply = Done | Made | Locked | Named | Size | Throws | TooMany | Look
+Reply = Done | Made | Locked | SignalMade | Named | Size | Throws | TooMany | Look
 
 
 @dataclass

@@ -2,7 +2,7 @@
 
 Lines are left out: long stretches of them first, then one by one. A line that made something
 takes a number with it, so later names of its kind are lowered in a second attempt. Last, the
-limits of tasks are left out.
+limits of tasks and the options of pipes are left out.
 """
 
 from __future__ import annotations
@@ -14,7 +14,7 @@ from language import Refused, tasks_in
 from realm import Realm
 from script import perform_task
 
-NAME = re.compile(rb"(?<!\S)([slh])([0-9]+)(?!\S)")
+NAME = re.compile(rb"(?<!\S)(signal=)?([slha])([0-9]+)(?!\S)")
 
 Lines = list[bytes]
 # For each letter that begins names: how many there were before a line, and after it.
@@ -40,6 +40,7 @@ def attempts(lines: Lines) -> Iterator[Lines]:
         stretch //= 2
     yield from without_a_line_that_made_something(lines)
     yield from without_a_limit(lines)
+    yield from without_an_option(lines)
 
 
 def without_a_stretch(lines: Lines, length: int) -> Iterator[Lines]:
@@ -62,6 +63,16 @@ def without_a_limit(lines: Lines) -> Iterator[Lines]:
             yield lines[:index] + [line.partition(b" ")[2]] + lines[index + 1:]
 
 
+def without_an_option(lines: Lines) -> Iterator[Lines]:
+    """The lines with one option of a pipe less."""
+    for index, line in enumerate(lines):
+        words = line.split(b" ")
+        if b"pipe" in words:
+            for place in range(words.index(b"pipe") + 3, len(words)):
+                shorter = b" ".join(words[:place] + words[place + 1:])
+                yield lines[:index] + [shorter] + lines[index + 1:]
+
+
 def numbers_by_line(script: bytes) -> list[tuple[int, Numbers]]:
     """For each task of a script the index of its line, and what it numbered."""
     realm = Realm()
@@ -79,17 +90,19 @@ def numbers_by_line(script: bytes) -> list[tuple[int, Numbers]]:
 
 def counts_of(realm: Realm) -> dict[bytes, int]:
     """How many objects have a name, by its letter."""
-    return {b"s": len(realm.streams), b"l": len(realm.locks), b"h": len(realm.host_promises)}
+    return {b"s": len(realm.streams), b"l": len(realm.locks), b"h": len(realm.host_promises),
+            b"a": len(realm.signals)}
 
 
 def lowered(line: bytes, numbers: Numbers) -> bytes:
     """The line, where each name of what was made later has the number that is left to it."""
 
     def lower(name: re.Match[bytes]) -> bytes:
-        before, after = numbers[name[1]]
-        number = int(name[2])
+        option, letter, digits = name.groups(b"")
+        before, after = numbers[letter]
+        number = int(digits)
         if number >= after:
             number -= after - before
-        return name[1] + str(number).encode("ascii")
+        return option + letter + str(number).encode("ascii")
 
     return NAME.sub(lower, line)

@@ -50,6 +50,18 @@ class WritableStreamDefaultWriter:
         assert self.stream is not None
         return self.stream.close()
 
+    def close_with_error_propagation(self) -> Promise:
+        """WritableStreamDefaultWriterCloseWithErrorPropagation"""
+        stream = self.stream
+        assert stream is not None
+        if stream.close_queued_or_in_flight() or stream.state == "closed":
+            return promise_resolved_with(self.jobs, UNDEFINED)
+        if stream.state == "errored":
+            assert stream.stored_error is not None
+            return promise_rejected_with(self.jobs, stream.stored_error)
+        assert stream.state in ("writable", "erroring")
+        return self.close()
+
     def ensure_closed_promise_rejected(self, error: Value) -> None:
         """WritableStreamDefaultWriterEnsureClosedPromiseRejected"""
         if self.closed_promise.is_pending:
