@@ -1,50 +1,78 @@
-// Performs `readable`, `reader`, `enqueue` and `read` lines on Node's own Web Streams, and prints them as `./streams script`
-// does. Between two lines all jobs are performed.
+// Performs `readable`, `writable`, `reader`, `enqueue`, `finish`, `read`, `pipe` and `settle` lines on Node's own Web Streams, and
+// prints them as `./streams script` does. Between two lines all jobs are performed.
 import { readFileSync, writeSync } from 'node:fs';
 
 const streams = [];
 const readers = [];
+const settles = [];
 let printed = '';
 let events = '';
 let promises = 0;
-let pulls = 0;
 
 const show = (value) => (typeof value === 'number' ? `n${value}` : 'undefined');
 const jobs = () => new Promise((resolve) => setImmediate(resolve));
+const numbered = (name) => Number(name.slice(1));
+
+// A call of the host's: its promise is settled by its number.
+function host(call) {
+  events += `  host h${settles.length} ${call}\n`;
+  return new Promise((resolve) => settles.push(resolve));
+}
+
+// The name of a promise, whose settling is told.
+function named(promise, fulfilled) {
+  const name = `p${promises++}`;
+  promise.then((value) => {
+    events += `  ${name} ${fulfilled(value)}\n`;
+  });
+  return `promise ${name}`;
+}
+
+function readable(name, highWaterMark) {
+  const stream = {};
+  stream.readable = new ReadableStream(
+    {
+      start(controller) {
+        stream.controller = controller;
+      },
+      pull: () => host(`pull ${name}`),
+    },
+    { highWaterMark },
+  );
+  return stream;
+}
+
+function writable(name, highWaterMark) {
+  const sink = { write: (chunk) => host(`write ${name} ${show(chunk)}`), close: () => host(`close ${name}`) };
+  return { writable: new WritableStream(sink, { highWaterMark }) };
+}
 
 function perform([word, on, ...rest]) {
   switch (word) {
-    case 'readable': {
+    case 'readable':
+    case 'writable': {
       const name = `s${streams.length}`;
-      const stream = {};
-      stream.readable = new ReadableStream(
-        {
-          start(controller) {
-            stream.controller = controller;
-          },
-          pull() {
-            events += `  host h${pulls++} pull ${name}\n`;
-            return new Promise(() => {});
-          },
-        },
-        { highWaterMark: Number(on) },
-      );
-      streams.push(stream);
+      streams.push((word === 'readable' ? readable : writable)(name, Number(on)));
       return `made ${name}`;
     }
     case 'reader':
-      readers.push(streams[on.slice(1)].readable.getReader());
+      readers.push(streams[numbered(on)].readable.getReader());
       return `lock l${readers.length - 1}`;
     case 'enqueue':
-      streams[on.slice(1)].controller.enqueue(Number(rest[0].slice(1)));
+      streams[numbered(on)].controller.enqueue(numbered(rest[0]));
       return 'done';
-    case 'read': {
-      const name = `p${promises++}`;
-      readers[on.slice(1)].read().then(({ done, value }) => {
-        events += `  ${name} ${done ? 'finished' : 'given'} ${show(value)}\n`;
-      });
-      return `promise ${name}`;
+    case 'finish':
+      streams[numbered(on)].controller.close();
+      return 'done';
+    case 'read':
+      return named(readers[numbered(on)].read(), ({ done, value }) => `${done ? 'finished' : 'given'} ${show(value)}`);
+    case 'pipe': {
+      const { writable } = streams[numbered(rest[0])];
+      return named(streams[numbered(on)].readable.pipeTo(writable), (value) => `fulfilled ${show(value)}`);
     }
+    case 'settle':
+      settles[numbered(on)]();
+      return 'done';
   }
 }
 

@@ -1,6 +1,7 @@
 #!/bin/sh
-# Performs scripts of `enqueue` and `read` lines on one stream, 20,000, 40,000 and 80,000 lines long, by `./streams script`
-# and, where node is there, by the same calls on Node's own Web Streams. Prints each one's best of five times side by side.
+# Performs scripts of 20,000, 40,000 and 80,000 lines by `./streams script` and, where node is there, by the same calls on
+# Node's own Web Streams: of `enqueue` and `read` lines on one stream, and of pipes through each of which 65 chunks go. Prints
+# each one's best of five times side by side, and how many times Node's rate `./streams script` has.
 set -eu
 root=$(CDPATH='' cd -- "$(dirname -- "$0")/.." && pwd)
 work=$(mktemp -d)
@@ -8,11 +9,27 @@ trap 'rm -rf "$work"' EXIT
 printf 'x' | "$root/streams" run >/dev/null
 program=$root/crates/streams/out/streams
 
-# A script of so many lines.
-script() {
+# A script of so many lines: reads of one stream.
+reads() {
     awk -v lines="$1" 'BEGIN {
         print "readable 0 count now"; print "reader s0"
         for (line = 2; line < lines; line += 2) { print "enqueue s0 n" line; print "read l0" }
+    }'
+}
+
+# A script of so many lines: pipes one after another. Each calls the host's algorithms 132 times: a pull and a write for each
+# chunk, a last pull, and a close.
+pipes() {
+    awk -v lines="$1" 'BEGIN {
+        for (pipe = 0; 200 * pipe < lines; pipe += 1) {
+            source = "s" 2 * pipe; dest = "s" 2 * pipe + 1; host = 132 * pipe
+            print "readable 0 count now"; print "writable 1 count now"; print "pipe " source " " dest
+            for (chunk = 0; chunk < 65; chunk += 1) {
+                print "enqueue " source " n" chunk
+                print "settle h" host + 2 * chunk " ok"; print "settle h" host + 2 * chunk + 1 " ok"
+            }
+            print "finish " source; print "settle h" host + 131 " ok"
+        }
     }'
 }
 
@@ -29,15 +46,17 @@ best() {
 }
 
 echo "$(nproc) processors"
-for lines in 20000 40000 80000; do
-    script "$lines" >"$work/in"
-    streams=$(best "$program" script)
-    cp "$work/out" "$work/printed"
-    printf '%6s lines  streams %7s ms' "$lines" "$streams"
-    if command -v node >/dev/null 2>&1; then
-        node=$(best node "$root/bench/script.mjs")
-        cmp -s "$work/out" "$work/printed" || { echo; echo 'the texts differ' >&2; exit 1; }
-        printf '  node %7s ms' "$node"
-    fi
-    echo
+for kind in reads pipes; do
+    for lines in 20000 40000 80000; do
+        "$kind" "$lines" >"$work/in"
+        streams=$(best "$program" script)
+        cp "$work/out" "$work/printed"
+        printf '%s of %6s lines  streams %7s ms' "$kind" "$lines" "$streams"
+        if command -v node >/dev/null 2>&1; then
+            node=$(best node "$root/bench/script.mjs")
+            cmp -s "$work/out" "$work/printed" || { echo; echo 'the texts differ' >&2; exit 1; }
+            printf '  node %7s ms  %5s times' "$node" "$(echo "scale=1; $node / $streams" | bc)"
+        fi
+        echo
+    done
 done
