@@ -30,6 +30,20 @@ def needed_by(crate, used):
     return found
 
 
+def chain_lengths(crates, used):
+    """Of each crate the bytes of source in the longest chain of crates that begins with it and goes up: the proofs that must follow one another."""
+    users = {crate: [user for user in crates if crate in used[user]] for crate in crates}
+    lengths = {}
+
+    def length(crate):
+        if crate not in lengths:
+            own = sum(path.stat().st_size for path in (ROOT / "crates" / crate / "src").rglob("*.rt"))
+            lengths[crate] = own + max(map(length, users[crate]), default=0)
+        return lengths[crate]
+
+    return {crate: length(crate) for crate in crates}
+
+
 def proofs_at_once():
     """As many as there are processors, where the memory that is free holds their proofs."""
     memory = dict(line.split(":") for line in pathlib.Path("/proc/meminfo").read_text().splitlines())
@@ -56,6 +70,7 @@ def main():
         sys.exit("streams: the program isn't built yet, and the Rattle kit's command rt, which builds it, isn't found")
     used = libraries_of_crates()
     left = needed_by(PROGRAM, used)
+    lengths = chain_lengths(left, used)
     count, begun, proved, under_way = len(left), time.monotonic(), set(), {}
     most = proofs_at_once()
 
@@ -65,13 +80,18 @@ def main():
 
     with ThreadPoolExecutor(most) as pool:
         while left or under_way:
-            ready = sorted(crate for crate in left if proved.issuperset(used[crate]))[: most - len(under_way)]
-            for crate in ready:
+            free = most - sum(jobs for _, jobs in under_way.values())
+            ready = sorted((crate for crate in left if proved.issuperset(used[crate])), key=lengths.get, reverse=True)
+            while ready and free > 0:
+                # What most must follow gets a second processor; what is left over goes to the last.
+                jobs = min(2, free) if ready[1:] else free
+                crate = ready.pop(0)
+                free -= jobs
                 say(f"proving {crate}")
                 left.remove(crate)
-                under_way[pool.submit(prove, crate, most // (len(ready) + len(under_way)) or 1)] = crate
+                under_way[pool.submit(prove, crate, jobs)] = crate, jobs
             for ended in wait(under_way, return_when=FIRST_COMPLETED).done:
-                crate = under_way.pop(ended)
+                crate, _ = under_way.pop(ended)
                 if ended.result() is not None:
                     print(ended.result(), file=sys.stderr)
                     say(f"{crate} could not be proved")
