@@ -10,7 +10,7 @@ use Rattle.ws_steps.specs.declared.writable.WritableOperation.TheVariants.{SetUp
 use Rattle.ws_steps.specs.Histories.{is_same}
 use Rattle.ws_laws.proofs.Lists.{Each}
 use Rattle.ws_writable_laws.proofs.Shape.{all}
-use Rattle.ws_pipe_laws.specs.PipeLaws.{one_if}
+use Rattle.ws_pipe_laws.specs.PipeReads.{one_if}
 use Rattle.ws_lock_laws.specs.Locks.{Side, Reading, Writing}
 
 -- the lock of stream i is taken

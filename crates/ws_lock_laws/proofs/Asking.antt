@@ -18,8 +18,8 @@ use Rattle.ws_laws.proofs.PipeDoes.{pipe-causes}
 use Rattle.ws_laws.proofs.Rows.{Causes, IsApart, IsNoPipe, row-causes, row-pipes, row-streams}
 use Rattle.ws_laws.proofs.Tables.{is_same-refl, same_id, eq_numbers, unequal_numbers, readable_acts, readable_there, on_readable-same, on_readable-other, on_writable-same, on_writable-other}
 use Rattle.ws_read_laws.proofs.Line.{operation-reader}
-use Rattle.ws_pipe_laws.specs.PipeLaws.{starting}
-use Rattle.ws_pipe_laws.specs.PipeLaws.{one_if}
+use Rattle.ws_pipe_laws.specs.PipeMoves.{starting}
+use Rattle.ws_pipe_laws.specs.PipeReads.{one_if}
 use Rattle.ws_lock_laws.specs.Locks.{Reading, has_lock, holders, holds, in_pipes, is_locked}
 use Rattle.ws_lock_laws.proofs.Agenda.{IsNoTake, TakesFirst, takes_none, takes_none-all, takes_behind}
 use Rattle.ws_lock_laws.proofs.Holding.{pipes-there, pipes-two}

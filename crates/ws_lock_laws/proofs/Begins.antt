@@ -24,7 +24,7 @@ use Rattle.ws_laws.proofs.Lists.{Each, each-append, each-map}
 use Rattle.ws_laws.proofs.Tables.{either, eq_numbers, unequal_numbers, same_id, no_stream, place_last, place_before}
 use Rattle.ws_laws.proofs.Truth.{false_true}
 use Rattle.ws_writable_laws.proofs.Shape.{all, all-append}
-use Rattle.ws_pipe_laws.specs.PipeLaws.{one_if}
+use Rattle.ws_pipe_laws.specs.PipeReads.{one_if}
 use Rattle.ws_lock_laws.specs.Locks.{Side, Reading, Writing, end_of, has, has_lock, holders, in_locks, is_locked}
 use Rattle.ws_lock_laws.proofs.Agenda.{takes, goes, IsNoTake, IsCalm, calm_takes, takes_none-all, goes_none-all, TakesFirst, takes_first}
 use Rattle.ws_lock_laws.proofs.Holding.{locks-append, locks-set, pipes-append}

@@ -3,7 +3,7 @@ use Rattle.std.proofs.Common.{◌≡◌, ◌≢◌, ap, ℕ, ◌+◌, ◌≤◌,
 use Rattle.ws_value.specs.declared.ids.StreamId.{StreamId}
 use Rattle.ws_steps.specs.declared.locks.Lock.{Lock}
 use Rattle.ws_steps.specs.Pipes as pipe
-use Rattle.ws_pipe_laws.specs.PipeLaws.{one_if}
+use Rattle.ws_pipe_laws.specs.PipeReads.{one_if}
 use Rattle.ws_lock_laws.specs.Locks.{Side, has, holds, in_locks, in_pipes}
 
 some_lock : (k l : Lock) → ◌≡◌ {A = Option Lock} (Some k) (Some l) → k ≡ l

@@ -23,7 +23,7 @@ use Rattle.ws_steps.specs.Writable as writable
 use Rattle.ws_laws.proofs.Tables.{either, is_same-refl, same_id}
 use Rattle.ws_laws.proofs.Truth.{false_true}
 use Rattle.ws_pipe_laws.specs.PipeHistory.{is_over}
-use Rattle.ws_pipe_laws.specs.PipeLaws.{one_if}
+use Rattle.ws_pipe_laws.specs.PipeReads.{one_if}
 use Rattle.ws_lock_laws.specs.Locks.{Side, Reading, Writing, end_of, has_lock, holds, in_locks, in_pipes, is_locked}
 use Rattle.ws_lock_laws.specs.LockLaws.{spares, all_spare, Owns, EachPipeOwnsItsEnds, NoTwoPipesShareAnEnd}
 use Rattle.ws_lock_laws.proofs.Holding.{locks-there, pipes-there, pipes-two}

@@ -13,7 +13,7 @@ use Rattle.ws_steps.specs.Promises.{Table}
 use Rattle.ws_steps.specs.Writable.{is_writable, is_closed}
 use Rattle.ws_laws.proofs.Lists.{Each, each-append}
 use Rattle.ws_laws.proofs.Tables.{either}
-use Rattle.ws_pipe_laws.specs.PipeLaws.{starting}
+use Rattle.ws_pipe_laws.specs.PipeMoves.{starting}
 
 -- no read
 abbrev pub IsNoRead : Effect → Type 0

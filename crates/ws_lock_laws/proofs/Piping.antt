@@ -14,7 +14,8 @@ use Rattle.ws_laws.proofs.PipeDoes.{PipeCauses, pipe-causes}
 use Rattle.ws_laws.proofs.Truth.{and_left, and_right}
 use Rattle.ws_writable_laws.proofs.Shape.{all, all-append}
 use Rattle.ws_pipe_laws.specs.PipeHistory.{is_live, is_over}
-use Rattle.ws_pipe_laws.specs.PipeLaws.{one_if, starting, end_effects, result_by, signal_forgets, dest_aborted, signalled, acted, is_idle, are_idle, Move, MoveRests, MoveWaits, MoveActs, MoveEnds, MoveFinishes}
+use Rattle.ws_pipe_laws.specs.PipeMoves.{starting, end_effects, result_by, signal_forgets, dest_aborted, signalled, acted, is_idle, are_idle, Move, MoveRests, MoveWaits, MoveActs, MoveEnds, MoveFinishes}
+use Rattle.ws_pipe_laws.specs.PipeReads.{one_if}
 use Rattle.ws_pipe_laws.proofs.Moves.{each_pipe_moves}
 use Rattle.ws_lock_laws.specs.Locks.{Side, Reading, Writing, end_of, holds}
 use Rattle.ws_lock_laws.proofs.Agenda.{goes, IsNoTake, IsCalm, goes_none-all}

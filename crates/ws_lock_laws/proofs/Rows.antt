@@ -24,8 +24,8 @@ use Rattle.ws_promise_laws.proofs.Acting.{EachWaits, waits-expects}
 use Rattle.ws_promise_laws.proofs.Streams.{goes_on}
 use Rattle.ws_read_laws.proofs.Line.{has_after, operation-reader}
 use Rattle.ws_pipe_laws.specs.PipeHistory.{is_over}
-use Rattle.ws_pipe_laws.specs.PipeLaws.{starting}
-use Rattle.ws_pipe_laws.specs.PipeLaws.{one_if}
+use Rattle.ws_pipe_laws.specs.PipeMoves.{starting}
+use Rattle.ws_pipe_laws.specs.PipeReads.{one_if}
 use Rattle.ws_lock_laws.specs.Locks.{Side, Reading, Writing, has_lock, holders, is_locked}
 use Rattle.ws_lock_laws.proofs.Agenda.{takes, goes, reader_takes, reader_goes, writer_takes, writer_goes, IsNoTake, IsCalm, calm_takes, takes_none-all, goes_none-all, TakesFirst, takes_first, takes_behind}
 use Rattle.ws_lock_laws.proofs.Holding.{pipes-set}

@@ -29,8 +29,8 @@ use Rattle.ws_laws.proofs.Walker.{Stays, run-stays}
 use Rattle.ws_writable_laws.proofs.Shape.{all, all-append}
 use Rattle.ws_promise_laws.proofs.Acting.{EachWaits, waits-heard, waits-forgotten}
 use Rattle.ws_pipe_laws.specs.PipeHistory.{is_over}
-use Rattle.ws_pipe_laws.specs.PipeLaws.{starting}
-use Rattle.ws_pipe_laws.specs.PipeLaws.{held_values, one_if, in_stream, in_streams}
+use Rattle.ws_pipe_laws.specs.PipeMoves.{starting}
+use Rattle.ws_pipe_laws.specs.PipeReads.{held_values, one_if, in_stream, in_streams}
 use Rattle.ws_pipe_laws.proofs.Reading.{of_effect, no_answer}
 use Rattle.ws_lock_laws.specs.Locks.{Reading, holds, is_locked}
 use Rattle.ws_lock_laws.specs.LockLaws.{EachSourceIsReadByItsPipe, EachReadingHasOneRead}

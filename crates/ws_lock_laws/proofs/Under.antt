@@ -12,7 +12,8 @@ use Rattle.ws_steps.specs.declared.readable.ReadableOperation.TheVariants as nam
 use Rattle.ws_steps.specs.declared.writable.{WritableState.{WritableState}, WritableState.TheVariants.{Writable, Erroring, Errored as WritableErrored, Closed as WritableClosed}}
 use Rattle.ws_steps.specs.Effects.{type_error}
 use Rattle.ws_steps.specs.Operations.{readable_operation, pipe_operation}
-use Rattle.ws_pipe_laws.specs.PipeLaws.{starting, is_of}
+use Rattle.ws_pipe_laws.specs.PipeMoves.{starting}
+use Rattle.ws_pipe_laws.specs.PipeReads.{is_of}
 use Rattle.ws_steps.specs.Pipes.{Slots, Acts, finalize, proceed, is_flowing, shutdown, unless, read_or_wait, look_by, look, look_ready, go_on_in, go_on, keep_chunk, read_ended, write_held, write_chunk, write_ended, action_settled, part_settled, no_parts, abort}
 use Rattle.ws_steps.specs.Promises.{Table}
 use Rattle.ws_steps.specs.Readable as readable
@@ -20,7 +21,7 @@ use Rattle.ws_steps.specs.Readable.{close_all, error_all, waiting, call_pull_if_
 use Rattle.ws_steps.specs.Writable.{is_closed}
 use Rattle.ws_laws.proofs.Tables.{either}
 use Rattle.ws_writable_laws.proofs.Shape.{all, all-append}
-use Rattle.ws_pipe_laws.specs.PipeLaws.{held_values, one_if, in_requests}
+use Rattle.ws_pipe_laws.specs.PipeReads.{held_values, one_if, in_requests}
 use Rattle.ws_pipe_laws.proofs.Reading.{is_answer, of_readable, of_effect, reads, Steady, finalize-steady, proceed-steady, shutdown-steady}
 
 -- an operation of the pipe itself, where n of its reads are elsewhere

@@ -20,8 +20,9 @@ use Rattle.ws_laws.proofs.Rows.{Causes, IsApart, IsNoPipe, row-causes, row-pipes
 use Rattle.ws_laws.proofs.Tables.{either, is_same-refl, readable_acts, writable_acts, readable_there, writable_there, eq_numbers, unequal_numbers}
 use Rattle.ws_laws.proofs.Truth.{false_true}
 use Rattle.ws_writable_laws.proofs.Shape.{all, all-append}
-use Rattle.ws_pipe_laws.specs.PipeLaws.{held_values, one_if, in_requests, in_stream, in_streams}
-use Rattle.ws_pipe_laws.specs.PipeLaws.{starting, is_of}
+use Rattle.ws_pipe_laws.specs.PipeReads.{held_values, one_if, in_requests, in_stream, in_streams}
+use Rattle.ws_pipe_laws.specs.PipeMoves.{starting}
+use Rattle.ws_pipe_laws.specs.PipeReads.{is_of}
 use Rattle.ws_pipe_laws.proofs.Reading.{is_answer, of_readable, of_effect, IsNone, none-all, no_answer, other-none}
 use Rattle.ws_lock_laws.specs.Locks.{Reading, holders, is_locked}
 use Rattle.ws_lock_laws.proofs.Agenda.{takes, goes, TakesFirst}

@@ -14,7 +14,7 @@ use Rattle.ws_steps.specs.Jobs.{begin_job}
 use Rattle.ws_steps.specs.Calls.{begin}
 use Rattle.ws_steps.specs.Run.{Called, Worked, run}
 use Rattle.ws_steps.specs.Slots.{Slots, empty, pipe_at}
-use Rattle.ws_pipe_laws.specs.PipeLaws.{in_streams}
+use Rattle.ws_pipe_laws.specs.PipeReads.{in_streams}
 use Rattle.ws_lock_laws.specs.Locks.{Reading, Writing, holders}
 
 abbrev s0 : StreamId

@@ -19,7 +19,7 @@ use Rattle.ws_steps.specs.Pipes as pipe
 use Rattle.ws_steps.specs.Run.{Entry, run}
 use Rattle.ws_steps.specs.Slots.{Slots, empty, lock_at, pipe_at, readable_at}
 use Rattle.ws_pipe_laws.specs.PipeHistory.{is_over}
-use Rattle.ws_pipe_laws.specs.PipeLaws.{one_if, held_values, in_streams}
+use Rattle.ws_pipe_laws.specs.PipeReads.{one_if, held_values, in_streams}
 use Rattle.ws_lock_laws.specs.Locks.{Side, end_of, holders, is_locked}
 
 -- in every run, of each stream: where a readable stream has a reader, or a writable stream a writer, one holder names it; and else none does

@@ -7,7 +7,7 @@ use Rattle.ws_steps.specs.Histories.{is_same}
 use Rattle.ws_steps.specs.Pipes as pipe
 use Rattle.ws_steps.specs.Slots.{Slots, Stream, ReadableStream, WritableStream}
 use Rattle.ws_pipe_laws.specs.PipeHistory.{is_over}
-use Rattle.ws_pipe_laws.specs.PipeLaws.{one_if}
+use Rattle.ws_pipe_laws.specs.PipeReads.{one_if}
 
 -- a readable stream is locked by a reader, and a writable stream by a writer
 pub data Side : Type 0 where

@@ -8,7 +8,7 @@ use Rattle.ws_steps.specs.Slots.{Slots, as_pipe, writable_at}
 use Rattle.ws_steps.specs.Writable as writable
 use Rattle.ws_steps.specs.WritableHistory.{may_write, written_by, written_from, piped_to}
 use Rattle.ws_pipe_laws.specs.PipeHistory.{held_goes}
-use Rattle.ws_pipe_laws.specs.PipeLaws.{appended_by, EachPassIsAppended}
+use Rattle.ws_pipe_laws.specs.PipeReads.{appended_by, EachPassIsAppended}
 
 append-back : (xs : List Value) → xs ≡ xs ++ []
 append-back xs = sym (append-nil xs)

@@ -9,7 +9,7 @@ use Rattle.ws_steps.specs.declared.readable.{ReadRequest.{ReadRequest}, ReadRequ
 use Rattle.ws_steps.specs.declared.writable.WritableOperation.{WritableOperation}
 use Rattle.ws_steps.specs.Histories.{is_same}
 use Rattle.ws_steps.specs.Operations.{readable_operation, writable_operation}
-use Rattle.ws_pipe_laws.specs.PipeLaws.{is_of, in_stream, in_streams}
+use Rattle.ws_pipe_laws.specs.PipeReads.{is_of, in_stream, in_streams}
 use Rattle.ws_steps.specs.Pipes as pipe
 use Rattle.ws_steps.specs.Pipes.{Acts}
 use Rattle.ws_steps.specs.Readable as readable

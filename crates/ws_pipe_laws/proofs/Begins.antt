@@ -9,7 +9,8 @@ use Rattle.ws_steps.specs.declared.promises.{Job.{Job}, Job.TheVariants.{Reactio
 use Rattle.ws_steps.specs.declared.readable.{ReadRequest.TheVariants.{Promise, Pipe as PipeRequest}, ReadableOperation.TheVariants.{Read}}
 use Rattle.ws_steps.specs.Calls.{Begun, begin}
 use Rattle.ws_steps.specs.Jobs.{job_effects, job_begun, begin_job, resolved}
-use Rattle.ws_pipe_laws.specs.PipeLaws.{reads_started, tells_done, NoneBeginsWithARead, EachActionIsHeard}
+use Rattle.ws_pipe_laws.specs.PipeReads.{reads_started, NoneBeginsWithARead}
+use Rattle.ws_pipe_laws.specs.PipeWrites.{tells_done, EachActionIsHeard}
 use Rattle.ws_steps.specs.Promises.{next_job}
 use Rattle.ws_steps.specs.Slots.{Slots}
 use Rattle.ws_laws.proofs.EachCall.{each_call}

@@ -7,7 +7,8 @@ use Rattle.ws_steps.specs.declared.pipes.{Ends.{Ends}, Phase.{Phase}, Phase.TheV
 use Rattle.ws_steps.specs.declared.pipes.PipeOperation.TheVariants.{Look, LookReady, KeepChunk, ReadEnded, WriteChunk, GoOn, WriteEnded, Abort as AbortPipe, ActionSettled, PartSettled, NoParts}
 use Rattle.ws_steps.specs.Operations.{pipe_operation}
 use Rattle.ws_pipe_laws.specs.PipeHistory.{shutdown, is_live, error_after, Course, no_course, course_then, ended_by, operation_course, effect_course}
-use Rattle.ws_pipe_laws.specs.PipeLaws.{starting, Move, MoveRests, MoveWaits, MoveActs, MoveEnds, MoveFinishes, HasEnded, WithoutAction, AfterAction, IsCourse, IsCourseAt, EachPipeHasACourse}
+use Rattle.ws_pipe_laws.specs.PipeMoves.{starting, Move, MoveRests, MoveWaits, MoveActs, MoveEnds, MoveFinishes}
+use Rattle.ws_pipe_laws.specs.PipeReads.{HasEnded, WithoutAction, AfterAction, IsCourse, IsCourseAt, EachPipeHasACourse}
 use Rattle.ws_steps.specs.Pipes as pipe
 use Rattle.ws_steps.specs.Pipes.{Acts}
 use Rattle.ws_steps.specs.Promises.{Table}

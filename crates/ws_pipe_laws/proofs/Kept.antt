@@ -8,7 +8,7 @@ use Rattle.ws_steps.specs.declared.readable.ReadableState.{ReadableState}
 use Rattle.ws_steps.specs.declared.writable.WritableState.{WritableState}
 use Rattle.ws_steps.specs.Calls.{begin, named}
 use Rattle.ws_steps.specs.Operations.{pipe_operation}
-use Rattle.ws_pipe_laws.specs.PipeLaws.{starting, IsSamePipe, EachPipeKeepsItsEnds, IsThere, EachPipeStays}
+use Rattle.ws_pipe_laws.specs.PipeMoves.{starting, IsSamePipe, EachPipeKeepsItsEnds, IsThere, EachPipeStays}
 use Rattle.ws_steps.specs.Pipes as pipe
 use Rattle.ws_steps.specs.Pipes.{Acts, finalize, act_by_signal, act_by, act, proceed, shutdown, look_by, look, look_ready, go_on_in, go_on, keep_chunk, read_ended, write_held, write_in, write_chunk, write_ended, action_settled, part_settled, no_parts, abort}
 use Rattle.ws_steps.specs.Slots.{Slots, Done, ends_at, on_pipe_at}

@@ -1,11 +1,11 @@
 -- Only a pipeTo makes a pipe, and one that flows.
-use Rattle.std.proofs.Common.{◌≡◌, Option, Some, None, refl, arith}
+use Rattle.std.proofs.Common.{Option, Some, None, refl, arith}
 use Rattle.ws_value.specs.declared.{ids.SignalId.{SignalId}, ids.StreamId.{StreamId}}
 use Rattle.ws_steps.specs.declared.calls.Call.TheVariants.{MakeReadable, MakeWritable, GetReader, GetWriter, Cancel, CancelBy, Read, Write, Close, CloseBy, Abort, AbortBy, Closed, Ready, Release, Enqueue, Finish, Fail, Desired, DesiredBy, Pipe, MakeSignal, Trigger, Settle, State, Step}
 use Rattle.ws_steps.specs.declared.pipes.Prevent.{Prevent}
 use Rattle.ws_steps.specs.Calls as calls
 use Rattle.ws_steps.specs.Calls.{Begun, begin}
-use Rattle.ws_pipe_laws.specs.PipeLaws.{MakesPipes, MakesNone, MakesOne, EachPipeBeginsFlowing}
+use Rattle.ws_pipe_laws.specs.PipeMoves.{MakesPipes, MakesNone, MakesOne, EachPipeBeginsFlowing}
 use Rattle.ws_steps.specs.Pipes as pipe
 use Rattle.ws_steps.specs.Promises.{next_id, fresh}
 use Rattle.ws_steps.specs.ReadableLooks as readable_looks

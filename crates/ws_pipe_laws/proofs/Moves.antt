@@ -7,7 +7,7 @@ use Rattle.ws_steps.specs.declared.readable.{ReadableState.{ReadableState}, Read
 use Rattle.ws_steps.specs.declared.writable.{WritableState.{WritableState}, WritableState.TheVariants.{Writable, Erroring, Errored as WritableErrored, Closed as WritableClosed}}
 use Rattle.ws_steps.specs.Effects.{type_error}
 use Rattle.ws_pipe_laws.specs.PipeHistory.{Shutdown, shutdown, unless_prevented, first_condition, is_look, shutdown_by, is_live}
-use Rattle.ws_pipe_laws.specs.PipeLaws.{starting, writes_first, IsNamed, HasWritten, IsAlike, IsSamePipe, result_by, signal_forgets, end_effects, dest_aborted, signalled, acted, looked, shut_in, Move, MoveRests, MoveWaits, MoveActs, MoveEnds, MoveFinishes, EachPipeMoves}
+use Rattle.ws_pipe_laws.specs.PipeMoves.{starting, writes_first, IsNamed, HasWritten, IsAlike, IsSamePipe, result_by, signal_forgets, end_effects, dest_aborted, signalled, acted, looked, shut_in, Move, MoveRests, MoveWaits, MoveActs, MoveEnds, MoveFinishes, EachPipeMoves}
 use Rattle.ws_steps.specs.Pipes.{Slots, Acts, ending, forgetting, finalize, abort_dest, abort_part, cancel_part, part, wait_for_all, act_by_signal, act_by, act, proceed, is_flowing, shut_down, shutdown as shutting, unless, wait_for_ready, read_or_wait, look_by, look, look_ready, go_on_in, go_on, keep_chunk, read_ended, write_in, write_held, write_chunk, write_ended, action_settled, settle_whole, part_settled, no_parts, abort}
 use Rattle.ws_steps.specs.Promises.{Table, next_id}
 use Rattle.ws_steps.specs.Writable.{is_writable, is_closed, is_errored}

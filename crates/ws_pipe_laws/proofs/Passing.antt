@@ -8,7 +8,8 @@ use Rattle.ws_steps.specs.declared.readable.{ReadableState.{ReadableState}}
 use Rattle.ws_steps.specs.declared.writable.{WritableState.{WritableState}}
 use Rattle.ws_steps.specs.Operations.{pipe_operation}
 use Rattle.ws_pipe_laws.specs.PipeHistory.{is_live, Through, nothing_through, through_then, held_goes, operation_through}
-use Rattle.ws_pipe_laws.specs.PipeLaws.{starting, Move, MoveRests, MoveWaits, MoveActs, MoveEnds, MoveFinishes, held_values, one_if, IsPassing}
+use Rattle.ws_pipe_laws.specs.PipeMoves.{starting, Move, MoveRests, MoveWaits, MoveActs, MoveEnds, MoveFinishes}
+use Rattle.ws_pipe_laws.specs.PipeReads.{held_values, one_if, IsPassing}
 use Rattle.ws_steps.specs.Pipes.{Slots, Acts, proceed, is_flowing, shutdown, look_by, look, look_ready, go_on_in, go_on, keep_chunk, read_ended, write_in, write_held, write_chunk, write_ended, action_settled, part_settled, no_parts, abort}
 use Rattle.ws_steps.specs.Promises.{Table}
 use Rattle.ws_pipe_laws.proofs.Moves.{each_pipe_moves}

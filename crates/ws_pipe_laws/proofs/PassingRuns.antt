@@ -13,7 +13,8 @@ use Rattle.ws_steps.specs.Calls as calls
 use Rattle.ws_steps.specs.Calls.{Begun, begin}
 use Rattle.ws_steps.specs.Jobs.{job_effects}
 use Rattle.ws_steps.specs.Operations.{readable_operation, writable_operation, pipe_operation}
-use Rattle.ws_pipe_laws.specs.PipeLaws.{starting, is_of, held_values, one_if, IsPassing, EachPipePasses, IsShorterByOne, EachPipePassesAFront, in_stream, in_streams, OneReadWaitsAtMost}
+use Rattle.ws_pipe_laws.specs.PipeMoves.{starting}
+use Rattle.ws_pipe_laws.specs.PipeReads.{is_of, held_values, one_if, IsPassing, EachPipePasses, IsShorterByOne, EachPipePassesAFront, in_stream, in_streams, OneReadWaitsAtMost}
 use Rattle.ws_steps.specs.Pipes as pipe
 use Rattle.ws_steps.specs.Pipes.{Acts}
 use Rattle.ws_steps.specs.Promises.{Table, next_id, fresh, is_pending_at}

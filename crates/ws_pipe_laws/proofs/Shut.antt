@@ -17,7 +17,8 @@ use Rattle.ws_steps.specs.Jobs.{job_effects, job_begun, begin_job, steps, resolv
 use Rattle.ws_steps.specs.Histories.{along}
 use Rattle.ws_steps.specs.Operations.{pipe_operation}
 use Rattle.ws_pipe_laws.specs.PipeHistory.{is_look}
-use Rattle.ws_pipe_laws.specs.PipeLaws.{starting, reads_started, MayStart, effect_started, step_started, NoReadStartsOnceShut}
+use Rattle.ws_pipe_laws.specs.PipeMoves.{starting}
+use Rattle.ws_pipe_laws.specs.PipeReads.{reads_started, MayStart, effect_started, step_started, NoReadStartsOnceShut}
 use Rattle.ws_steps.specs.Pipes as pipe
 use Rattle.ws_steps.specs.Pipes.{Acts, finalize, act_by_signal, act_by, act, proceed, shutdown, look_by, look, look_ready, go_on_in, go_on, keep_chunk, read_ended, write_held, write_in, write_chunk, write_ended, action_settled, part_settled, no_parts, abort}
 use Rattle.ws_steps.specs.Promises.{Table, next_id, fresh, next_job, is_pending_at}

@@ -15,7 +15,7 @@ use Rattle.ws_laws.proofs.Begin.{begin-makes}
 use Rattle.ws_laws.proofs.Tables.{eq_numbers, unequal_numbers}
 use Rattle.ws_laws.proofs.Walker.{IsHistory, GoesUntold, RestsUntold, run-holds}
 use Rattle.ws_pipe_laws.specs.PipeHistory.{effect_signalled, run_signalled, all_but, standing}
-use Rattle.ws_pipe_laws.specs.PipeLaws.{EachSignalKeepsOrder}
+use Rattle.ws_pipe_laws.specs.SignalLaws.{EachSignalKeepsOrder}
 use Rattle.ws_pipe_laws.proofs.Signals.{IsNoSignal, row-signals, signal_same}
 
 in_order : IsHistory {H = List SignalOperation} [] ◌++◌

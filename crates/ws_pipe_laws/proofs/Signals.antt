@@ -14,7 +14,7 @@ use Rattle.ws_steps.specs.Turns.{row, call_host}
 use Rattle.ws_laws.proofs.Begin.{begin-makes}
 use Rattle.ws_laws.proofs.Tables.{either, readable_acts, writable_acts}
 use Rattle.ws_laws.proofs.Walker.{Stays, run-stays}
-use Rattle.ws_pipe_laws.specs.PipeLaws.{EachTriggerAbortsInOrder, EachReasonStays}
+use Rattle.ws_pipe_laws.specs.SignalLaws.{EachTriggerAbortsInOrder, EachReasonStays}
 
 aborts_map : (r : Plain) (ps : List PipeId) → abort_all r ps ≡ map (λ p. Pipe p (AbortPipe r)) ps
 aborts_map r [] = refl

@@ -23,7 +23,7 @@ use Rattle.ws_laws.proofs.PipeDoes.{PipeCauses}
 use Rattle.ws_laws.proofs.Rows.{Causes, ChunkCauses, EndCauses, SignalCauses, row-causes}
 use Rattle.ws_laws.proofs.Tables.{eq_numbers}
 use Rattle.ws_laws.proofs.Walker.{performed-goes, nothing-told, step-goes_untold}
-use Rattle.ws_pipe_laws.specs.PipeLaws.{held_values, EachStepPasses}
+use Rattle.ws_pipe_laws.specs.PipeReads.{held_values, EachStepPasses}
 use Rattle.ws_pipe_laws.proofs.PassingRuns.{through_history, Is, goes, rests, each_is, passing_of}
 
 module _ (p : PipeId) where

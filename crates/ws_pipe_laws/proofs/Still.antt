@@ -6,7 +6,8 @@ use Rattle.ws_steps.specs.declared.pipes.{Ends.{Ends}, Phase.{Phase}, Phase.TheV
 use Rattle.ws_steps.specs.declared.pipes.PipeOperation.TheVariants.{KeepChunk, WriteChunk}
 use Rattle.ws_steps.specs.Operations.{pipe_operation}
 use Rattle.ws_pipe_laws.specs.PipeHistory.{is_live, Through, nothing_through, through_then, held_goes, operation_through, effect_through, step_through}
-use Rattle.ws_pipe_laws.specs.PipeLaws.{starting, Move, MoveRests, MoveWaits, MoveActs, MoveEnds, MoveFinishes, NonePassesOnceActing}
+use Rattle.ws_pipe_laws.specs.PipeMoves.{starting, Move, MoveRests, MoveWaits, MoveActs, MoveEnds, MoveFinishes}
+use Rattle.ws_pipe_laws.specs.PipeReads.{NonePassesOnceActing}
 use Rattle.ws_steps.specs.Pipes as pipe
 use Rattle.ws_steps.specs.Pipes.{Acts}
 use Rattle.ws_steps.specs.Promises.{Table}

@@ -9,7 +9,8 @@ use Rattle.ws_steps.specs.declared.readable.ReadableState.{ReadableState}
 use Rattle.ws_steps.specs.declared.writable.{WritableOperation.TheVariants.{Write}, WritableState.{WritableState}}
 use Rattle.ws_steps.specs.Histories.{is_same}
 use Rattle.ws_steps.specs.Operations.{pipe_operation}
-use Rattle.ws_pipe_laws.specs.PipeLaws.{starting, chunks_written, promises_written, are_written_to, IsWritten, EachPassIsAWrite}
+use Rattle.ws_pipe_laws.specs.PipeMoves.{starting}
+use Rattle.ws_pipe_laws.specs.PipeReads.{chunks_written, promises_written, are_written_to, IsWritten, EachPassIsAWrite}
 use Rattle.ws_steps.specs.Pipes.{Slots, Acts, finalize, act_by_signal, act_by, act, proceed, shutdown, look_by, look, look_ready, go_on_in, go_on, keep_chunk, read_ended, write_in, write_held, write_chunk, write_ended, action_settled, part_settled, no_parts, abort}
 use Rattle.ws_steps.specs.Promises.{Table, next_id}
 use Rattle.ws_laws.proofs.Lists.{Each, each-append}

@@ -1,2 +1,5 @@
 pub mod PipeHistory
-pub mod PipeLaws
+pub mod PipeMoves
+pub mod PipeReads
+pub mod PipeWrites
+pub mod SignalLaws

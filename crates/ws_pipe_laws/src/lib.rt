@@ -1,7 +1,10 @@
 //! Laws of pipes and of signals: what each operation of a pipe does, whatever it finds; and, in every list of calls, jobs, takings of events and lettings go of promises, performed one after another from the empty realm, the course of a pipe, what goes through it, and in which order a signal aborts its pipes.
 #![tactic(auto)]
 
-ghost use Rattle.ws_pipe_laws.specs.PipeLaws.{EachActionIsHeard, EachPassIsAWrite, EachPassIsAppended, EachPipeBeginsFlowing, EachPipeHasACourse, EachPipeKeepsItsEnds, EachPipeMoves, EachPipePasses, EachPipePassesAFront, EachPipeReadsItsSource, EachPipeStays, EachReadMayStart, EachReasonStays, EachSignalKeepsOrder, EachStepPasses, EachTriggerAbortsInOrder, NoOtherStartsARead, NoReadStartsOnceShut, NoneBeginsWithARead, NonePassesOnceActing, OneReadWaitsAtMost};
+ghost use Rattle.ws_pipe_laws.specs.PipeMoves.{EachPipeBeginsFlowing, EachPipeKeepsItsEnds, EachPipeMoves, EachPipeStays};
+ghost use Rattle.ws_pipe_laws.specs.PipeReads.{EachPassIsAWrite, EachPassIsAppended, EachPipeHasACourse, EachPipePasses, EachPipePassesAFront, EachPipeReadsItsSource, EachReadMayStart, EachStepPasses, NoOtherStartsARead, NoReadStartsOnceShut, NoneBeginsWithARead, NonePassesOnceActing, OneReadWaitsAtMost};
+ghost use Rattle.ws_pipe_laws.specs.PipeWrites.{EachActionIsHeard};
+ghost use Rattle.ws_pipe_laws.specs.SignalLaws.{EachReasonStays, EachSignalKeepsOrder, EachTriggerAbortsInOrder};
 
 /// What an operation of a pipe does to its phase, whatever it finds. The phase stays, and neither an action nor an end comes; or the pipe leaves flowing with the shutdown of the first condition that holds, or of its signal, and waits; or it performs the action of its shutdown, or ends where there is none, once what was read is written and each write has settled, unless the destination wasn't writable or was closing as it left flowing; or its action has settled, and it ends.
 pub fn each_pipe_moves()

@@ -6,7 +6,8 @@ use Rattle.ws_steps.specs.declared.effects.Effect.TheVariants.{Pipe as OnPipe}
 use Rattle.ws_steps.specs.declared.pipes.{Ends.{Ends}, Phase.{Phase}, Phase.TheVariants.{Flowing, Waiting, Acting, Over}, PipeOperation.{PipeOperation}, PipeOperation.TheVariants.{ActionSettled}}
 use Rattle.ws_steps.specs.Operations.{pipe_operation}
 use Rattle.ws_pipe_laws.specs.PipeHistory.{is_live, effect_moment}
-use Rattle.ws_pipe_laws.specs.PipeLaws.{starting, writes_first, Move, MoveRests, MoveWaits, MoveActs, MoveEnds, MoveFinishes, of_write, AllMoments, leaves, BeginsToAct, HasNothingLeft, EachPipeActsInOrder}
+use Rattle.ws_pipe_laws.specs.PipeMoves.{starting, writes_first, Move, MoveRests, MoveWaits, MoveActs, MoveEnds, MoveFinishes}
+use Rattle.ws_pipe_laws.specs.PipeWrites.{of_write, AllMoments, leaves, BeginsToAct, HasNothingLeft, EachPipeActsInOrder}
 use Rattle.ws_steps.specs.Pipes as pipe
 use Rattle.ws_steps.specs.Pipes.{Acts}
 use Rattle.ws_steps.specs.Promises.{Table}

@@ -39,7 +39,9 @@ use Rattle.ws_writable_laws.proofs.Shape.{of_reaction, weight, all, all-append}
 use Rattle.ws_laws.proofs.Lists.{each-map}
 use Rattle.ws_laws.proofs.PipeDoes.{pipe-causes}
 use Rattle.ws_pipe_laws.specs.PipeHistory.{is_acting}
-use Rattle.ws_pipe_laws.specs.PipeLaws.{starting, one_if, in_reactions, in_entry, in_entries, in_jobs, outstanding, of_write, of_action, EachPipeIsOwed}
+use Rattle.ws_pipe_laws.specs.PipeMoves.{starting}
+use Rattle.ws_pipe_laws.specs.PipeReads.{one_if}
+use Rattle.ws_pipe_laws.specs.PipeWrites.{in_reactions, in_entry, in_entries, in_jobs, outstanding, of_write, of_action, EachPipeIsOwed}
 use Rattle.ws_steps.specs.Promises as promises
 use Rattle.ws_steps.specs.Run.{Entry, run}
 use Rattle.ws_steps.specs.Slots.{as_pipe}

@@ -12,7 +12,8 @@ use Rattle.ws_steps.specs.declared.readable.{ReadRequest.TheVariants.{Pipe as Pi
 use Rattle.ws_steps.specs.declared.writable.{WritableState.{WritableState}, WritableState.TheVariants.{Writable, Erroring, Errored as WritableErrored, Closed as WritableClosed}}
 use Rattle.ws_steps.specs.Effects.{type_error}
 use Rattle.ws_steps.specs.Operations.{pipe_operation}
-use Rattle.ws_pipe_laws.specs.PipeLaws.{starting, of_write}
+use Rattle.ws_pipe_laws.specs.PipeMoves.{starting}
+use Rattle.ws_pipe_laws.specs.PipeWrites.{of_write}
 use Rattle.ws_steps.specs.Pipes.{Slots, Acts, causing, with_slots, finalize, abort_dest, act_by_signal, act_by, act, proceed, is_flowing, shut_down, shutdown, unless, wait_for_ready, read_or_wait, look_by, look, look_ready, go_on_in, go_on, keep_chunk, read_ended, write_held, write_chunk, write_ended, action_settled, part_settled, no_parts, abort}
 use Rattle.ws_steps.specs.Promises.{Table}
 use Rattle.ws_steps.specs.Writable.{is_writable, is_closed}

@@ -10,7 +10,9 @@ use Rattle.ws_steps.specs.declared.promises.{Job.{Job}, Job.TheVariants.{Reactio
 use Rattle.ws_steps.specs.Calls.{begin}
 use Rattle.ws_steps.specs.Jobs.{job_effects}
 use Rattle.ws_steps.specs.Operations.{pipe_operation}
-use Rattle.ws_pipe_laws.specs.PipeLaws.{starting, one_if, has_write, EachHeldChunkIsQueued}
+use Rattle.ws_pipe_laws.specs.PipeMoves.{starting}
+use Rattle.ws_pipe_laws.specs.PipeReads.{one_if}
+use Rattle.ws_pipe_laws.specs.PipeWrites.{has_write, EachHeldChunkIsQueued}
 use Rattle.ws_steps.specs.Pipes as pipe
 use Rattle.ws_steps.specs.Pipes.{Acts, keep_chunk, write_held, write_chunk}
 use Rattle.ws_steps.specs.Promises.{Table, react, unfollow, queue_micro, watch, let_go, next_job, first_job, after_first, after_next_job, taken}

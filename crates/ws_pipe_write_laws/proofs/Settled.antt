@@ -13,7 +13,9 @@ use Rattle.ws_steps.specs.declared.promises.{Job.{Job}, Job.TheVariants.{Reactio
 use Rattle.ws_steps.specs.Calls.{begin}
 use Rattle.ws_steps.specs.Jobs.{job_effects}
 use Rattle.ws_steps.specs.Operations.{pipe_operation}
-use Rattle.ws_pipe_laws.specs.PipeLaws.{starting, one_if, of_write, AllSettled, AllSince, leaves, BeginsToAct, HasNothingLeft, NoneActsWhileAWriteIsOpen}
+use Rattle.ws_pipe_laws.specs.PipeMoves.{starting}
+use Rattle.ws_pipe_laws.specs.PipeReads.{one_if}
+use Rattle.ws_pipe_laws.specs.PipeWrites.{of_write, AllSettled, AllSince, leaves, BeginsToAct, HasNothingLeft, NoneActsWhileAWriteIsOpen}
 use Rattle.ws_steps.specs.Pipes as pipe
 use Rattle.ws_steps.specs.Pipes.{Acts, write_in, write_held, write_chunk}
 use Rattle.ws_steps.specs.Promises as promises

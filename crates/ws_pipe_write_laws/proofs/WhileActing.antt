@@ -5,7 +5,7 @@ use Rattle.ws_steps.specs.declared.effects.Effect.{Effect}
 use Rattle.ws_steps.specs.declared.effects.Effect.TheVariants.{Pipe as OnPipe}
 use Rattle.ws_steps.specs.declared.pipes.{Phase.{Phase}, Phase.TheVariants.{Flowing, Waiting, Acting, Over}, PipeOperation.TheVariants.{ActionSettled}}
 use Rattle.ws_pipe_laws.specs.PipeHistory.{effect_moment}
-use Rattle.ws_pipe_laws.specs.PipeLaws.{AllMoments, EachActionSettlesWhileActing}
+use Rattle.ws_pipe_laws.specs.PipeWrites.{AllMoments, EachActionSettlesWhileActing}
 use Rattle.ws_steps.specs.Pipes as pipe
 use Rattle.ws_steps.specs.Slots.{Slots, empty, as_pipe, pipe_at}
 use Rattle.ws_steps.specs.Turns.{Moment}

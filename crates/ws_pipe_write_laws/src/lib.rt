@@ -1,7 +1,7 @@
 //! Laws of what pipes write: the chunk that a pipe holds, the writes and the action that it waits for, and in which order they come, in every list of calls, jobs, takings of events and lettings go of promises, performed one after another from the empty realm.
 #![tactic(auto)]
 
-ghost use Rattle.ws_pipe_laws.specs.PipeLaws.{EachActionSettlesWhileActing, EachHeldChunkIsQueued, EachPipeActsInOrder, EachPipeIsOwed, NoneActsWhileAWriteIsOpen};
+ghost use Rattle.ws_pipe_laws.specs.PipeWrites.{EachActionSettlesWhileActing, EachHeldChunkIsQueued, EachPipeActsInOrder, EachPipeIsOwed, NoneActsWhileAWriteIsOpen};
 
 /// In every run, the reactions to a pipe's writes that are registered or queued are at most its writes that haven't settled; and the one to its action is at most one, and only while the action is under way.
 pub fn each_pipe_is_owed()
