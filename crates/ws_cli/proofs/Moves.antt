@@ -23,6 +23,7 @@ use Rattle.ws_steps.specs.declared.effects.Effect.{Effect}
 use Rattle.ws_steps.specs.declared.effects.Effect.TheVariants.{Readable as OnReadable, PullAlgorithm, ChunkSteps, CloseSteps, ErrorSteps, CallHost, Settle as SettlePromise}
 use Rattle.ws_steps.specs.declared.effects.Owner.TheVariants.{Host as HostOwner}
 use Rattle.ws_steps.specs.declared.effects.Use.TheVariants.{React}
+use Rattle.ws_steps.specs.Pipes as pipe
 use Rattle.ws_steps.specs.declared.locks.Lock.{Lock}
 use Rattle.ws_steps.specs.declared.locks.Lock.TheVariants.{Reader as ReaderLock}
 use Rattle.ws_steps.specs.declared.promises.Step.TheVariants.{ReadableStart, ReadablePull}
@@ -56,22 +57,33 @@ performs-then s y z e f h g = performed_next s e [] ∙ (ap (λ (d : Done). perf
 -- a realm whose one stream and its reader are so
 state : Readable → PromiseId → Table → List (Option PromiseId) → ℕ → Slots
 state stream closed t hosts age =
-    record { streams = ReadableStream stream ∷ []; locks = ReaderLock (Some me) closed ∷ []; promises = t; hosts = hosts; age = age }
+    record {
+      streams = ReadableStream stream ∷ [];
+      pipes = [];
+      signals = [];
+      locks = ReaderLock (Some me) closed ∷ [];
+      promises = t;
+      hosts = hosts;
+      age = age;
+    }
 
 -- a table without jobs, of which the host has heard all
 quiet : List (Option Entry) → ℕ → Bool → Table
 quiet entries watched astray = record { entries = entries; jobs = []; watched = watched; events = []; astray = astray }
 
 -- slots of which the parts are so
-as_state : (s : Slots) (stream : Readable) (closed : PromiseId) → s.streams ≡ ReadableStream stream ∷ [] → s.locks ≡ ReaderLock (Some me) closed ∷ []
+as_state : (s : Slots) (stream : Readable) (closed : PromiseId) → s.streams ≡ ReadableStream stream ∷ [] → s.pipes ≡ [] → s.signals ≡ []
+    → s.locks ≡ ReaderLock (Some me) closed ∷ []
     → s.promises.jobs ≡ [] → s.promises.events ≡ []
     → s ≡ state stream closed (quiet s.promises.entries s.promises.watched s.promises.astray) s.hosts s.age
 unfolding state quiet
-as_state s stream closed streams locks jobs heard =
+as_state s stream closed streams pipes signals locks jobs heard =
     ap (λ (x : List Stream). record s { streams = x }) streams
-    ∙ (ap (λ (x : List Lock). record s { streams = ReadableStream stream ∷ []; locks = x }) locks
-    ∙ (ap (λ (x : List Job). record s { streams = ReadableStream stream ∷ []; locks = ReaderLock (Some me) closed ∷ []; promises = record s.promises { jobs = x } }) jobs
-    ∙ ap (λ (x : List Event). record s { streams = ReadableStream stream ∷ []; locks = ReaderLock (Some me) closed ∷ []; promises = record s.promises { jobs = []; events = x } }) heard))
+    ∙ (ap (λ (x : List pipe.Slots). record s { streams = ReadableStream stream ∷ []; pipes = x }) pipes
+    ∙ (ap (λ (x : List pipe.Signal). record s { streams = ReadableStream stream ∷ []; pipes = []; signals = x }) signals
+    ∙ (ap (λ (x : List Lock). record s { streams = ReadableStream stream ∷ []; pipes = []; signals = []; locks = x }) locks
+    ∙ (ap (λ (x : List Job). record s { streams = ReadableStream stream ∷ []; pipes = []; signals = []; locks = ReaderLock (Some me) closed ∷ []; promises = record s.promises { jobs = x } }) jobs
+    ∙ ap (λ (x : List Event). record s { streams = ReadableStream stream ∷ []; pipes = []; signals = []; locks = ReaderLock (Some me) closed ∷ []; promises = record s.promises { jobs = []; events = x } }) heard))))
 
 -- a read of a stream at rest
 
@@ -150,7 +162,7 @@ read-awaits s z h is =
     let p : PromiseId = next_id t in
     let q : PromiseId = next_id (fresh t) in
     let c : PromiseId = h.closed in
-    let at = as_state s (resting h.disturbed c) c h.streams h.locks h.jobs h.heard in
+    let at = as_state s (resting h.disturbed c) c h.streams h.pipes h.signals h.locks h.jobs h.heard in
     let done : z ≡ heard (state (awaiting c p) c (asked es n b s.hosts) (s.hosts ++ Some q ∷ []) (s.age + 1)) =
     is ∙ ap heard (ap (after_call (Read reader)) at ∙ read-is h.disturbed c es n b s.hosts s.age) in
     let within : c.0 < length es = entry_within t c pending h.reader in
@@ -166,6 +178,8 @@ read-awaits s z h is =
       pull = q;
       rank = n;
       streams = refl;
+      pipes = refl;
+      signals = refl;
       locks = refl;
       jobs = refl;
       heard = refl;
@@ -182,7 +196,7 @@ pub read-tells : (s : Slots) → IsResting s → (after_call (Read reader) s).pr
 unfolding state asked pulling
 read-tells s h =
     ap (λ (x : Slots). x.promises.events)
-    (ap (after_call (Read reader)) (as_state s (resting h.disturbed h.closed) h.closed h.streams h.locks h.jobs h.heard)
+    (ap (after_call (Read reader)) (as_state s (resting h.disturbed h.closed) h.closed h.streams h.pipes h.signals h.locks h.jobs h.heard)
     ∙ read-is h.disturbed h.closed s.promises.entries s.promises.watched s.promises.astray s.hosts s.age)
 
 -- the host answers
@@ -316,13 +330,15 @@ enqueue-rests m v s p h a =
     let same : length t₁.entries ≡ length es = length-with_entry t p x in
     let host : entry_at t₁ q ≡ Some (record pending { reactions = reacting ∷ [] }) = entry_at-with_entry_other t p q x (omega arith) ∙ a.host in
     rw (answered-is m (Enqueue me v) s c p q es t₁.entries n b s.hosts s.age h (given_slots c) (resting true c)
-    (as_state s (awaiting c p) c a.streams a.locks a.jobs a.heard)
+    (as_state s (awaiting c p) c a.streams a.pipes a.signals a.locks a.jobs a.heard)
     (enqueue-is c p s.hosts s.age t v ∙ ap (λ (u : Table). state (given_slots c) c u s.hosts (s.age + 1)) (answer-watched t p (Given v) a.rank a.asked))
     a.under_way host (given_pulls c)) (
       record {
         disturbed = true;
         closed = c;
         streams = refl;
+        pipes = refl;
+        signals = refl;
         locks = refl;
         jobs = refl;
         heard = refl;
@@ -357,7 +373,7 @@ ended_last m call s p h a r r' closed outcome told pulls =
     let same₂ : length t₂.entries ≡ length t₁.entries = length-with_entry t₁ p x in
     let host : entry_at t₂ q ≡ Some (record pending { reactions = reacting ∷ [] }) =
     entry_at-with_entry_other t₁ p q x (omega arith) ∙ (entry_at-with_entry_other t c q z (omega arith) ∙ a.host) in
-    rw (answered-is m call s c p q es t₂.entries n b s.hosts s.age h r r' (as_state s (awaiting c p) c a.streams a.locks a.jobs a.heard) told a.under_way host pulls)
+    rw (answered-is m call s c p q es t₂.entries n b s.hosts s.age h r r' (as_state s (awaiting c p) c a.streams a.pipes a.signals a.locks a.jobs a.heard) told a.under_way host pulls)
     (record { rank = a.rank; entry = entry_at-with_entry_other t₂ q p y (omega arith) ∙ entry_at-with_entry_same t₁ p x (omega arith) })
 
 asked_still : (s : Slots) (p : PromiseId) (h : HostId) (a : Awaits s p h) (closed : Result Plain Plain)
@@ -406,6 +422,8 @@ just_made : Slots
 just_made =
     record {
       streams = ReadableStream (set_up HostOwner 0 Count) ∷ [];
+      pipes = [];
+      signals = [];
       locks = [];
       promises = record { entries = Some (ended (Fulfilled Undefined)) ∷ []; jobs = ReactionJob (ReadableStart me) (Ok Undefined) None ∷ []; watched = 0; events = []; astray = false };
       hosts = [];
@@ -416,6 +434,8 @@ just_started : Slots
 just_started =
     record {
       streams = ReadableStream (record (set_up HostOwner 0 Count) { started = true }) ∷ [];
+      pipes = [];
+      signals = [];
       locks = [];
       promises = record { entries = Some (ended (Fulfilled Undefined)) ∷ []; jobs = []; watched = 0; events = []; astray = false };
       hosts = [];
@@ -434,7 +454,7 @@ pub opened-rests : (m : ℕ) → IsResting (opened (suc m))
 unfolding opened just_started begin reader_generic_initialize fresh row turns performed
 opened-rests m =
     rw (started m)
-    (record { disturbed = false; closed = record { 0 = 1 }; streams = refl; locks = refl; jobs = refl; heard = refl; reader = refl })
+    (record { disturbed = false; closed = record { 0 = 1 }; streams = refl; pipes = refl; signals = refl; locks = refl; jobs = refl; heard = refl; reader = refl })
 
 -- the read's promise is let go of
 
@@ -458,6 +478,8 @@ forgotten-rests s p o over h r =
       disturbed = r.disturbed;
       closed = r.closed;
       streams = r.streams;
+      pipes = r.pipes;
+      signals = r.signals;
       locks = r.locks;
       jobs = r.jobs;
       heard = r.heard;
@@ -469,7 +491,7 @@ forgotten-rests s p o over h r =
 read_replies : (s : Slots) → IsResting s → reply_to (Read reader) s ≡ PromiseReply (next_id s.promises)
 unfolding state quiet begin
 read_replies s h =
-    ap (reply_to (Read reader)) (as_state s (resting h.disturbed h.closed) h.closed h.streams h.locks h.jobs h.heard)
+    ap (reply_to (Read reader)) (as_state s (resting h.disturbed h.closed) h.closed h.streams h.pipes h.signals h.locks h.jobs h.heard)
 
 pub read-promises : (s : Slots) (reply : Reply) → IsResting s → reply ≡ reply_to (Read reader) s → ((p : PromiseId) → reply ≡ PromiseReply p → ⊥) → ⊥
 read-promises s reply h is other = other (next_id s.promises) (is ∙ read_replies s h)

@@ -43,6 +43,8 @@ pub record IsResting (s : Slots) : Type 0 where
   pub disturbed : Bool
   pub closed : PromiseId
   pub streams : s.streams ≡ ReadableStream (resting disturbed closed) ∷ []
+  pub pipes : s.pipes ≡ []
+  pub signals : s.signals ≡ []
   pub locks : s.locks ≡ ReaderLock (Some me) closed ∷ []
   pub jobs : s.promises.jobs ≡ []
   pub heard : s.promises.events ≡ []
@@ -54,6 +56,8 @@ pub record Awaits (s : Slots) (p : PromiseId) (h : HostId) : Type 0 where
   pub pull : PromiseId
   pub rank : ℕ
   pub streams : s.streams ≡ ReadableStream (awaiting closed p) ∷ []
+  pub pipes : s.pipes ≡ []
+  pub signals : s.signals ≡ []
   pub locks : s.locks ≡ ReaderLock (Some me) closed ∷ []
   pub jobs : s.promises.jobs ≡ []
   pub heard : s.promises.events ≡ []
