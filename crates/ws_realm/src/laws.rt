@@ -27,3 +27,8 @@ pub use ws_writable_laws::{
     acted_was_heard, closes_were_heard, each_writable_is_lawful, each_writable_step,
 };
 pub use ws_write_laws::{each_write_is_settled, writes_were_answered};
+pub use ws_wrote_laws::{
+    each_destination_is_its_pipes, each_ended_source_is_passed_on, each_fulfilled_pipe_passed_all,
+    each_pipe_without_an_error_passed_all, each_pipe_wrote_a_front,
+    none_acts_while_a_chunk_is_left,
+};
