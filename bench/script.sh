@@ -46,8 +46,10 @@ best() {
 }
 
 echo "$(nproc) processors"
+# A script has at most 1,048,576 bytes.
 for kind in reads pipes; do
-    for lines in 20000 40000 80000; do
+    case $kind in reads) sizes='20000 40000 80000' ;; *) sizes='10000 20000 40000' ;; esac
+    for lines in $sizes; do
         "$kind" "$lines" >"$work/in"
         streams=$(best "$program" script)
         cp "$work/out" "$work/printed"
