@@ -4,7 +4,6 @@ pub mod Lists
 pub mod Cases
 pub mod Outcomes
 pub mod Straight
-pub mod LettingGo
 pub mod Weights
 pub mod ReadableDoes
 pub mod WritableDoes
@@ -15,6 +14,7 @@ pub mod Begin
 pub mod Walker
 pub mod OnReadable
 pub mod Stays
+pub mod Watched
 pub mod Throws
 pub mod Ages
 pub mod Works

@@ -2,7 +2,6 @@
 -- operation keeps, each effect, each step and each run keeps.
 use Rattle.std.proofs.Common.{◌≡◌, ℕ, Bool, true, false, List, [], ◌∷◌, ◌++◌, length, Option, Some, None, nat_eq, slice_get, slice_set, refl, sym, ap, ◌∙◌, append_assoc}
 use Rattle.ws_value.specs.declared.ids.PipeId.{PipeId}
-use Rattle.ws_value.specs.declared.ids.PromiseId.{PromiseId}
 use Rattle.ws_value.specs.declared.ids.SignalId.{SignalId}
 use Rattle.ws_value.specs.declared.ids.StreamId.{StreamId}
 use Rattle.ws_value.specs.declared.value.Value.{Value}
@@ -19,7 +18,7 @@ use Rattle.ws_steps.specs.Slots.{Slots, Stream, ReadableStream, WritableStream, 
 use Rattle.ws_steps.specs.Turns.{row}
 use Rattle.ws_steps.specs.Jobs.{job_effects}
 use Rattle.ws_steps.specs.Calls.{begin}
-use Rattle.ws_steps.specs.Run.{Entry, step, run, after_event, after_forgetting}
+use Rattle.ws_steps.specs.Run.{Entry, step, run, after_event}
 use Rattle.ws_steps.specs.Histories.{is_same, in_step, over}
 use Rattle.ws_laws.proofs.Tables.{same_id, eq_numbers, unequal_numbers, readable_acts, on_readable-same, on_readable-other, on_writable-there, on_writable-readable, no_readable_there, no_stream, place_last, place_before}
 use Rattle.ws_laws.proofs.Lists.{Each}
@@ -152,7 +151,6 @@ pub record IsLaw {H V : Type 0} (none : H) (after : H → H → H) (told : Effec
   pub unmade : M none no_holders
   pub known : Stays P
   pub known_heard : (s : Slots) → P s [] → P (after_event s) []
-  pub known_forgotten : (s : Slots) (p : PromiseId) → P s [] → P (after_forgetting p s) []
 
 module _ {H V : Type 0} (none : H) (after : H → H → H) (told : Effect → Slots → H) (seen : Effect → List V) (i : StreamId)
     (K : H → Holders → readable.Slots → List V → Type 0) (M : H → Holders → Type 0) (P : Slots → List Effect → Type 0) (law : IsLaw none after told seen i K M P) where
@@ -274,7 +272,7 @@ module _ {H V : Type 0} (none : H) (after : H → H → H) (told : Effect → Sl
   }
 
   rests : RestsUntold All
-  rests = record { heard = λ h s k. (k.0, law.known_heard s k.1); forgotten = λ h s p k. (k.0, law.known_forgotten s p k.1) }
+  rests = record { heard = λ h s k. (k.0, law.known_heard s k.1) }
 
   pub step-kept : (h : H) (s : Slots) (x : Entry) → P s [] → Is h s [] → Is (after h (in_step none after told s x)) (step s x) []
   step-kept h s x known k = (step-goes_untold none after law.history told All goes rests h s x (k, known)).0

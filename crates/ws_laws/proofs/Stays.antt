@@ -1,19 +1,16 @@
 -- A promise that has settled keeps its outcome over every run, and the mark of what went astray stays.
-use Rattle.std.proofs.Common.{◌≡◌, Bool, true, false, ◌&&◌, nat_eq, List, [], ◌∷◌, Some, ℕ, refl, sym, ap, ◌∙◌}
+use Rattle.std.proofs.Common.{◌≡◌, true, false, List, [], ◌∷◌, Some}
 use Rattle.ws_value.specs.declared.ids.PromiseId.{PromiseId}
 use Rattle.ws_value.specs.declared.value.Outcome.{Outcome}
 use Rattle.ws_steps.specs.declared.{calls.Call.{Call}, effects.Effect.{Effect}}
-use Rattle.ws_steps.specs.Promises.{Table, outcome_at, is_pending, fresh, settle, answer, react, follow, queue_micro, tell, watch, after_next_job, may_go, let_go}
+use Rattle.ws_steps.specs.Promises.{Table, outcome_at, is_pending, fresh, settle, answer, react, follow, queue_micro, tell, watch, after_next_job}
 use Rattle.ws_steps.specs.Slots.{Slots}
-use Rattle.ws_steps.specs.Run.{Entry, Called, Worked, Heard, Forgot, step, lets_go, is_forgotten}
+use Rattle.ws_steps.specs.Run.{Entry, Called, Worked, Heard, step}
 use Rattle.ws_steps.specs.Laws.{EachOutcomeStays, EachMarkStays}
-use Rattle.ws_laws.proofs.Tables.{eq_numbers}
 use Rattle.ws_laws.proofs.Outcomes.{Keeps, keeps-same, keeps-then, keeps-fresh, keeps-settle, keeps-answer, keeps-react, keeps-follow, keeps-next, keeps-watch, keeps-micro, keeps-tell}
 use Rattle.ws_laws.proofs.Rows.{Changes, row-changes}
 use Rattle.ws_laws.proofs.Begin.{Makes, begin-makes}
 use Rattle.ws_laws.proofs.Walker.{Stays, called-stays, worked-stays}
-use Rattle.ws_laws.proofs.LettingGo.{let_go-kept, let_go-outcome, let_go-mark}
-use Rattle.ws_laws.proofs.Truth.{nor_left, nor_right}
 
 module _ (before : Table) where
   pub keeps-changes : Changes (Keeps before)
@@ -56,32 +53,19 @@ called-keeps c s = called-stays (Kept s.promises) (keeps-stays s.promises) s c (
 pub worked-keeps : (s : Slots) → Keeps s.promises (step s Worked).promises
 worked-keeps s = worked-stays (Kept s.promises) (keeps-stays s.promises) s (keeps-same s.promises)
 
-forgotten_keeps : (p q : PromiseId) (t : Table) (same : Bool) → same ≡ nat_eq p.0 q.0 → same && may_go p t ≡ false → outcome_at (let_go q t) p ≡ outcome_at t p
-forgotten_keeps p q t false e g = let_go-outcome p q t (sym e)
-forgotten_keeps p q t true e g =
-    let is : p ≡ q = ap (λ (n : ℕ). record { 0 = n }) (eq_numbers p.0 q.0 (sym e)) in
-    ap (λ (z : Table). outcome_at z p) (let_go-kept q t (rw is at g))
-
--- a promise that the host doesn't let go of
-pub entry_keeps : (x : Entry) (s : Slots) (p : PromiseId) (o : Outcome) → is_pending o ≡ false → lets_go p s x ≡ false
-    → outcome_at s.promises p ≡ Some o → outcome_at (step s x).promises p ≡ Some o
-entry_keeps (Called c) s p o n g h = (called-keeps c s).outcome p o n h
-entry_keeps Worked s p o n g h = (worked-keeps s).outcome p o n h
-entry_keeps Heard s p o n g h = h
-entry_keeps (Forgot q) s p o n g h = forgotten_keeps p q s.promises (nat_eq p.0 q.0) refl g ∙ h
+pub entry_keeps : (x : Entry) (s : Slots) (p : PromiseId) (o : Outcome) → is_pending o ≡ false → outcome_at s.promises p ≡ Some o → outcome_at (step s x).promises p ≡ Some o
+entry_keeps (Called c) s p o n h = (called-keeps c s).outcome p o n h
+entry_keeps Worked s p o n h = (worked-keeps s).outcome p o n h
+entry_keeps Heard s p o n h = h
 
 pub each_outcome_stays : EachOutcomeStays
-each_outcome_stays s [] p o n g h = h
-each_outcome_stays s (x ∷ xs) p o n g h =
-    let here : lets_go p s x ≡ false = nor_left (lets_go p s x) (is_forgotten p xs (step s x)) g in
-    let later : is_forgotten p xs (step s x) ≡ false = nor_right (lets_go p s x) (is_forgotten p xs (step s x)) g in
-    each_outcome_stays (step s x) xs p o n later (entry_keeps x s p o n here h)
+each_outcome_stays s [] p o n h = h
+each_outcome_stays s (x ∷ xs) p o n h = each_outcome_stays (step s x) xs p o n (entry_keeps x s p o n h)
 
 mark_stays : (x : Entry) (s : Slots) → s.promises.astray ≡ true → (step s x).promises.astray ≡ true
 mark_stays (Called c) s m = (called-keeps c s).mark m
 mark_stays Worked s m = (worked-keeps s).mark m
 mark_stays Heard s m = m
-mark_stays (Forgot q) s m = let_go-mark q s.promises ∙ m
 
 pub each_mark_stays : EachMarkStays
 each_mark_stays s [] m = m

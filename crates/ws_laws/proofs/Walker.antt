@@ -8,7 +8,7 @@ use Rattle.ws_steps.specs.Slots.{Slots, Done, nothing, with_promises}
 use Rattle.ws_steps.specs.Turns.{Moment, moments, row, performed}
 use Rattle.ws_steps.specs.Jobs.{job_effects, job_begun, begin_job}
 use Rattle.ws_steps.specs.Calls.{begin, named}
-use Rattle.ws_steps.specs.Run.{Entry, Called, Worked, Heard, Forgot, step, run, older, after_event, after_forgetting}
+use Rattle.ws_steps.specs.Run.{Entry, Called, Worked, Heard, step, run, older, after_event}
 use Rattle.ws_steps.specs.Histories.{along, in_step, over}
 use Rattle.ws_room_laws.proofs.Turns.{performed-kept, moments_none}
 
@@ -33,10 +33,9 @@ pub record Goes {H : Type 0} (after : H → H → H) (told : Effect → Slots �
   pub answered : (h : H) (s : Slots) (p : PromiseId) → I h s [] → I h (with_promises (watch p s.promises) s) []
   pub older : (h : H) (s : Slots) → I h s [] → I h (older s) []
 
--- and where a host takes an event, or lets go of a promise
+-- and where a host takes an event
 pub record Rests {H : Type 0} (after : H → H → H) (said : Slots → Entry → H) (I : H → Slots → List Effect → Type 0) : Type 0 where
   pub heard : (h : H) (s : Slots) → I h s [] → I (after h (said s Heard)) (after_event s) []
-  pub forgotten : (h : H) (s : Slots) (p : PromiseId) → I h s [] → I (after h (said s (Forgot p))) (after_forgetting p s) []
 
 module _ {H : Type 0} (none : H) (after : H → H → H) (is : IsHistory none after) (told : Effect → Slots → H) where
   along-last : (ms : List Moment) (m : Moment) → along none after told (ms ++ m ∷ []) ≡ after (along none after told ms) (told m.effect m.found)
@@ -93,7 +92,6 @@ module _ {H : Type 0} (none : H) (after : H → H → H) (is : IsHistory none af
       step-goes h s (Called c) i = called-goes h s c i
       step-goes h s Worked i = worked-goes h s i
       step-goes h s Heard i = resting h (said s Heard) s (after_event s) (rests.heard h s i)
-      step-goes h s (Forgot p) i = resting h (said s (Forgot p)) s (after_forgetting p s) (rests.forgotten h s p i)
 
       -- what has happened before a run, and what happens in it
       pub run-goes : (xs : List Entry) (h : H) (s : Slots) → I h s [] → I (after h (over none after happens xs s)) (run xs s) []
@@ -112,7 +110,6 @@ pub record GoesUntold {H : Type 0} (after : H → H → H) (told : Effect → Sl
 
 pub record RestsUntold {H : Type 0} (I : H → Slots → List Effect → Type 0) : Type 0 where
   pub heard : (h : H) (s : Slots) → I h s [] → I h (after_event s) []
-  pub forgotten : (h : H) (s : Slots) (p : PromiseId) → I h s [] → I h (after_forgetting p s) []
 
 module _ {H : Type 0} (none : H) (after : H → H → H) (is : IsHistory none after) (told : Effect → Slots → H) (I : H → Slots → List Effect → Type 0)
     (goes : GoesUntold after told I) where
@@ -137,7 +134,7 @@ module _ {H : Type 0} (none : H) (after : H → H → H) (is : IsHistory none af
 
   module _ (rests : RestsUntold I) where
     unsaid-rests : Rests after unsaid I
-    unsaid-rests = record { heard = λ h s i. rw (is.right h) (rests.heard h s i); forgotten = λ h s p i. rw (is.right h) (rests.forgotten h s p i) }
+    unsaid-rests = record { heard = λ h s i. rw (is.right h) (rests.heard h s i) }
 
     pub step-goes_untold : (h : H) (s : Slots) (x : Entry) → I h s [] → I (after h (in_step none after told s x)) (step s x) []
     step-goes_untold h s x i = rw (is.left (in_step none after told s x)) at (step-goes none after is told unsaid I unsaid-goes unsaid-rests h s x i)
@@ -173,7 +170,5 @@ module _ (I : Slots → List Effect → Type 0) (stays : Stays I) where
   pub worked-stays : (s : Slots) → I s [] → I (step s Worked) []
   worked-stays s i = worked-goes_untold tt (λ f g. tt) untold (λ e s. tt) It stays-goes tt s i
 
-  pub run-stays : ((s : Slots) → I s [] → I (after_event s) []) → ((s : Slots) (p : PromiseId) → I s [] → I (after_forgetting p s) [])
-      → (xs : List Entry) (s : Slots) → I s [] → I (run xs s) []
-  run-stays heard forgotten xs s i =
-      run-goes_untold tt (λ f g. tt) untold (λ e s. tt) It stays-goes (record { heard = λ h. heard; forgotten = λ h. forgotten }) xs tt s i
+  pub run-stays : ((s : Slots) → I s [] → I (after_event s) []) → (xs : List Entry) (s : Slots) → I s [] → I (run xs s) []
+  run-stays heard xs s i = run-goes_untold tt (λ f g. tt) untold (λ e s. tt) It stays-goes (record { heard = λ h. heard }) xs tt s i

@@ -6,9 +6,8 @@ use Rattle.ws_value.specs.declared.value.Plain.{Plain}
 use Rattle.ws_value.specs.declared.value.Outcome.{Outcome}
 use Rattle.ws_steps.specs.declared.{promises.Reaction.{Reaction}, promises.Reaction.TheVariants.{Perform, Adopt}, promises.Job.{Job}, promises.Micro.{Micro}}
 use Rattle.ws_steps.specs.declared.promises.Job.TheVariants.{Reaction as ReactionJob, Follow, Settle, Micro as MicroJob}
-use Rattle.ws_steps.specs.Promises.{Entry, Table, pending, live, fresh, settle, job_of, answer, react, enqueue_job, follow, queue_micro, unfollow, taken, next_job, first_job, after_first, after_next_job, watch, went_astray, let_go}
+use Rattle.ws_steps.specs.Promises.{Entry, Table, pending, live, fresh, settle, job_of, answer, react, enqueue_job, follow, queue_micro, unfollow, taken, next_job, first_job, after_first, after_next_job, watch, went_astray}
 use Rattle.ws_laws.proofs.Cases.{Puts, settle-cases, answer-cases, react-cases, follow-cases, unfollow-cases, watch-cases}
-use Rattle.ws_laws.proofs.LettingGo.{let_go-either}
 
 abbrev pub of_reactions : (Reaction → ℕ) → List Reaction → ℕ
 of_reactions f [] = 0
@@ -145,9 +144,3 @@ weigh-next f t = after_one f t t.jobs refl
 
 pub weigh-watch : (f : Reaction → ℕ) (p : PromiseId) (t : Table) → weigh f (watch p t) ≤ weigh f t
 weigh-watch f p t = watch-cases (λ z. weigh f z ≤ weigh f t) p t (omega arith) (λ e z is w. weigh-put_same f p t z e _ _ w (omega arith))
-
-pub weigh-let_go : (f : Reaction → ℕ) (q : PromiseId) (t : Table) → weigh f (let_go q t) ≤ weigh f t
-unfolding weigh
-weigh-let_go f q t =
-    let_go-either (λ (z : Table). weigh f z ≤ weigh f t) q t (omega arith)
-    (λ e h k. let n = of_entries-set f t.entries q.0 None e h in omega arith)

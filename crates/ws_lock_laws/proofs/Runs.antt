@@ -8,7 +8,7 @@ use Rattle.ws_steps.specs.Run.{Entry, run}
 use Rattle.ws_steps.specs.Slots.{Slots, empty}
 use Rattle.ws_laws.proofs.Lists.{each-map}
 use Rattle.ws_laws.proofs.Walker.{Stays, run-stays}
-use Rattle.ws_promise_laws.proofs.Acting.{EachWaits, waits-stays, waits-heard, waits-forgotten, none-waits}
+use Rattle.ws_promise_laws.proofs.Acting.{EachWaits, waits-stays, waits-heard, none-waits}
 use Rattle.ws_lock_laws.specs.Locks.{Side}
 use Rattle.ws_lock_laws.specs.LockLaws.{EachLockHasOneHolder}
 use Rattle.ws_lock_laws.proofs.Agenda.{IsNoTake, IsCalm, calm_takes, TakesFirst, takes_first}
@@ -38,7 +38,6 @@ pub run-locked : (entries : List Entry) → Locked (run entries empty) []
 run-locked entries =
     run-stays Locked locked-stays
     (λ s k. record { first = tt; each = λ d i. let b = k.each d i in record { even = b.even; few = b.few }; waits = waits-heard s k.waits })
-    (λ s p k. record { first = tt; each = λ d i. let b = k.each d i in record { even = b.even; few = b.few }; waits = waits-forgotten s p k.waits })
     entries empty (record { first = tt; each = λ d i. record { even = refl; few = omega arith }; waits = λ p. none-waits p })
 
 pub each_lock_has_one_holder : EachLockHasOneHolder

@@ -27,7 +27,7 @@ use Rattle.ws_laws.proofs.Lists.{Each, each-append}
 use Rattle.ws_laws.proofs.Tables.{is_same-refl, same_id, eq_numbers, unequal_numbers, place_last, place_before}
 use Rattle.ws_laws.proofs.Walker.{Stays, run-stays}
 use Rattle.ws_writable_laws.proofs.Shape.{all, all-append}
-use Rattle.ws_promise_laws.proofs.Acting.{EachWaits, waits-heard, waits-forgotten}
+use Rattle.ws_promise_laws.proofs.Acting.{EachWaits, waits-heard}
 use Rattle.ws_pipe_laws.specs.PipeHistory.{is_over}
 use Rattle.ws_pipe_laws.specs.PipeMoves.{starting}
 use Rattle.ws_pipe_laws.specs.PipeReads.{held_values, one_if, in_stream, in_streams}
@@ -315,13 +315,6 @@ run-known entries =
     run-stays Known known-stays
     (λ s k. record {
       locked = record { first = tt; each = λ d i. let b = k.locked.each d i in record { even = b.even; few = b.few }; waits = waits-heard s k.locked.waits };
-      first = tt;
-      asks = tt;
-      queued = k.queued;
-      under = k.under;
-    })
-    (λ s p k. record {
-      locked = record { first = tt; each = λ d i. let b = k.locked.each d i in record { even = b.even; few = b.few }; waits = waits-forgotten s p k.locked.waits };
       first = tt;
       asks = tt;
       queued = k.queued;

@@ -1,4 +1,4 @@
-//! Laws over every run of a realm: who has the locks of streams, over every list of calls and jobs, of events that the host takes and of promises that it lets go of, from the empty realm.
+//! Laws over every run of a realm: who has the locks of streams, over every list of calls and jobs and of events that the host takes, from the empty realm.
 #![tactic(auto)]
 
 ghost use Rattle.ws_lock_laws.specs.LockLaws.{EachLockHasOneHolder, EachPipeOwnsItsEnds, NoTwoPipesShareAnEnd, EachReadingHasOneRead, EachSourceIsReadByItsPipe};

@@ -19,7 +19,7 @@ use Rattle.ws_laws.proofs.Begin.{begin-makes}
 use Rattle.ws_laws.proofs.Rows.{IsNoPipe, row-pipes}
 use Rattle.ws_laws.proofs.Tables.{eq_numbers, unequal_numbers}
 use Rattle.ws_laws.proofs.Walker.{IsHistory, GoesUntold, RestsUntold, run-holds}
-use Rattle.ws_promise_laws.proofs.Acting.{EachWaits, Waits, waits-stays, waits-heard, waits-forgotten, none-waits}
+use Rattle.ws_promise_laws.proofs.Acting.{EachWaits, Waits, waits-stays, waits-heard, none-waits}
 use Rattle.ws_promise_laws.proofs.PipeActs.{acts_now}
 use Rattle.ws_promise_laws.proofs.Tokens.{one_if}
 use Rattle.ws_pipe_laws.proofs.Moves.{each_pipe_moves}
@@ -244,7 +244,7 @@ module _ (p : PipeId) where
   }
 
   rests : RestsUntold Is
-  rests = record { heard = λ h s k. (k.0, waits-heard s k.1); forgotten = λ h s q k. (k.0, waits-forgotten s q k.1) }
+  rests = record { heard = λ h s k. (k.0, waits-heard s k.1) }
 
 pub each_pipe_has_a_course : EachPipeHasACourse
 each_pipe_has_a_course entries p =

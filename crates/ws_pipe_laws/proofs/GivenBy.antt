@@ -287,7 +287,7 @@ module _ (p : PipeId) (i : StreamId) where
   }
 
   both_rests : RestsUntold Known
-  both_rests = record { heard = λ h s k. k; forgotten = λ h s q k. k }
+  both_rests = record { heard = λ h s k. k }
 
   along-parts : (ms : List Moment) → along neither both_then both_told ms ≡ record { through = along nothing_through through_then (effect_through p) ms; given = along [] ◌++◌ (effect_given i p) ms }
   along-parts [] = refl

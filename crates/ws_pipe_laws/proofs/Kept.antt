@@ -173,5 +173,5 @@ each_pipe_stays p s = record {
       let d : Done = (begin c s).done in
       named-stays p x (begin c s).reply (performed d) (begun-stays p x d (first_there x (slice_get d.slots.pipes p.0) e));
   in_run = λ entries x e.
-      run-stays (λ s es. IsThere x (slice_get s.pipes p.0)) (pipe-stays p x) (λ s k. k) (λ s q k. k) entries s (first_there x (slice_get s.pipes p.0) e);
+      run-stays (λ s es. IsThere x (slice_get s.pipes p.0)) (pipe-stays p x) (λ s k. k) entries s (first_there x (slice_get s.pipes p.0) e);
 }

@@ -320,7 +320,7 @@ module _ (p : PipeId) where
   }
 
   pub rests : RestsUntold Is
-  rests = record { heard = λ h s k. k; forgotten = λ h s q k. k }
+  rests = record { heard = λ h s k. k }
 
 pub each_is : (entries : List Entry) (p : PipeId) → Is p (run_through p entries empty) (run entries empty) []
 each_is entries p = run-holds nothing_through through_then through_history (effect_through p) (Is p) (goes p) (rests p) entries empty (omega arith, refl)

@@ -23,7 +23,7 @@ use Rattle.ws_steps.specs.Pipes as pipe
 use Rattle.ws_steps.specs.Pipes.{Acts, finalize, act_by_signal, act_by, act, proceed, shutdown, look_by, look, look_ready, go_on_in, go_on, keep_chunk, read_ended, write_held, write_in, write_chunk, write_ended, action_settled, part_settled, no_parts, abort}
 use Rattle.ws_steps.specs.Promises.{Table, next_id, fresh, next_job, is_pending_at}
 use Rattle.ws_steps.specs.Readable as readable
-use Rattle.ws_steps.specs.Run.{Entry, Called, Worked, Heard, Forgot, step}
+use Rattle.ws_steps.specs.Run.{Entry, Called, Worked, Heard, step}
 use Rattle.ws_steps.specs.Slots.{Slots, Done, ends_at, readable_at, pipe_at, as_pipe, on_pipe_at}
 use Rattle.ws_steps.specs.Turns.{row, moments, performed}
 use Rattle.ws_steps.proofs.PromiseLaws.{slice_get-set_other}
@@ -486,7 +486,6 @@ module _ (p : PipeId) where
       ended-may _ (performed d) (done-may d (MayNone refl (call-look c s))) (λ g. f (rw same g))
   step-shut s Worked f = ended-may _ (performed (begin_job s)) (done-may (begin_job s) (begun-may s (next_job s.promises))) f
   step-shut s Heard f = nothing-told 0 ◌+◌ is_history (effect_started p) s
-  step-shut s (Forgot q) f = nothing-told 0 ◌+◌ is_history (effect_started p) s
 
 pub no_read_starts_once_shut : NoReadStartsOnceShut
 no_read_starts_once_shut s x p f = step-shut p s x f

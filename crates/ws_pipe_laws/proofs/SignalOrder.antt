@@ -134,7 +134,7 @@ module _ (a : SignalId) where
   }
 
   rests : RestsUntold Is
-  rests = record { heard = λ h s k. k; forgotten = λ h s q k. k }
+  rests = record { heard = λ h s k. k }
 
 -- where there is no signal, none stands
 stands_at : (h : List SignalOperation) (o : Option pipe.Signal) → Stands h o → (as_signal o).pipes ≡ standing [] h

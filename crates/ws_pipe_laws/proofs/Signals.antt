@@ -148,4 +148,4 @@ module _ (a : SignalId) (q : Plain) where
   }
 
 pub each_reason_stays : EachReasonStays
-each_reason_stays entries s a q h = run-stays (λ s es. (signal_at a s).reason ≡ Some q) (reason-stays a q) (λ s h. h) (λ s p h. h) entries s h
+each_reason_stays entries s a q h = run-stays (λ s es. (signal_at a s).reason ≡ Some q) (reason-stays a q) (λ s h. h) entries s h

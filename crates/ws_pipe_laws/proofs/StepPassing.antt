@@ -13,7 +13,7 @@ use Rattle.ws_steps.specs.Jobs.{job_effects, job_begun, begin_job}
 use Rattle.ws_pipe_laws.specs.PipeHistory.{is_live, Through, nothing_through, through_then, held_goes, operation_through, effect_through, step_through, run_through}
 use Rattle.ws_steps.specs.Pipes as pipe
 use Rattle.ws_steps.specs.Promises.{next_job}
-use Rattle.ws_steps.specs.Run.{Entry, Called, Worked, Heard, Forgot, run, step}
+use Rattle.ws_steps.specs.Run.{Entry, Called, Worked, Heard, run, step}
 use Rattle.ws_steps.specs.Slots.{Slots, Done, nothing, empty, pipe_at}
 use Rattle.ws_steps.specs.Histories.{along}
 use Rattle.ws_steps.specs.Turns.{row, moments}
@@ -151,7 +151,6 @@ module _ (p : PipeId) where
   step-dropped s (Called c) l = begun-keeps (begin c s).done (refl, inl (call-none c s))
   step-dropped s Worked l = begun-keeps (begin_job s) (job-keeps s (next_job s.promises) l)
   step-dropped s Heard l = none-told s
-  step-dropped s (Forgot q) l = none-told s
 
 equation : (r0 r p0 q d0 d h0 h1 : List Value) → r0 ≡ p0 ++ (d0 ++ h0) → r0 ++ r ≡ (p0 ++ q) ++ ((d0 ++ d) ++ h1) → d0 ≡ [] → d ≡ [] → h0 ++ r ≡ q ++ h1
 equation r0 r p0 q d0 d h0 h1 before after e f =

@@ -138,7 +138,7 @@ module _ (p : PipeId) where
   }
 
   rests : RestsUntold Is
-  rests = record { heard = λ h s k. k; forgotten = λ h s q k. k }
+  rests = record { heard = λ h s k. k }
 
   still-kept : (s : Slots) (x : Entry) → At s → Is (through_then nothing_through (step_through p s x)) (step s x) []
   still-kept s x k = step-goes_untold nothing_through through_then through_history (effect_through p) Is goes rests nothing_through s x (refl, k)

@@ -1,4 +1,4 @@
-//! Laws of pipes and of signals: what each operation of a pipe does, whatever it finds; and, in every list of calls, jobs, takings of events and lettings go of promises, performed one after another from the empty realm, the course of a pipe, what goes through it, and in which order a signal aborts its pipes.
+//! Laws of pipes and of signals: what each operation of a pipe does, whatever it finds; and, in every list of calls, jobs and takings of events, performed one after another from the empty realm, the course of a pipe, what goes through it, and in which order a signal aborts its pipes.
 #![tactic(auto)]
 
 ghost use Rattle.ws_pipe_laws.specs.PipeMoves.{EachPipeBeginsFlowing, EachPipeKeepsItsEnds, EachPipeMoves, EachPipeStays};

@@ -18,11 +18,11 @@ use Rattle.ws_laws.proofs.Rows.{IsNoPipe, row-pipes}
 use Rattle.ws_laws.proofs.Tables.{eq_numbers, unequal_numbers}
 use Rattle.ws_laws.proofs.Truth.{false_true}
 use Rattle.ws_laws.proofs.Walker.{IsHistory, GoesUntold, RestsUntold, run-holds}
-use Rattle.ws_promise_laws.proofs.Acting.{EachWaits, Waits, waits-stays, waits-heard, waits-forgotten, none-waits}
+use Rattle.ws_promise_laws.proofs.Acting.{EachWaits, Waits, waits-stays, waits-heard, none-waits}
 use Rattle.ws_promise_laws.proofs.PipeActs.{acts_now, is_acting}
 use Rattle.ws_promise_laws.proofs.Tokens.{one_if}
 use Rattle.ws_pipe_laws.proofs.Moves.{each_pipe_moves}
-use Rattle.ws_pipe_write_laws.proofs.Owed.{EachOwes, Owes, unsettled_of, owes-stays, owes-heard, owes-forgotten, none-owes, row-owes, same_weight}
+use Rattle.ws_pipe_write_laws.proofs.Owed.{EachOwes, Owes, unsettled_of, owes-stays, owes-heard, none-owes, row-owes, same_weight}
 
 abbrev pub moment : Effect → Slots → Moment
 moment e s = record { effect = e; found = s }
@@ -144,10 +144,7 @@ module _ (p : PipeId) where
   }
 
   rests : RestsUntold Is
-  rests = record {
-    heard = λ h s k. (k.0, (waits-heard s k.1.0, owes-heard s k.1.1));
-    forgotten = λ h s q k. (k.0, (waits-forgotten s q k.1.0, owes-forgotten s q k.1.1));
-  }
+  rests = record { heard = λ h s k. (k.0, (waits-heard s k.1.0, owes-heard s k.1.1)) }
 
 pub each_pipe_acts_in_order : EachPipeActsInOrder
 each_pipe_acts_in_order entries p =

@@ -19,8 +19,8 @@ use Rattle.ws_steps.specs.Jobs.{job_effects, steps, resolved, returned}
 use Rattle.ws_steps.specs.Operations.{readable_operation, writable_operation, pipe_operation, signal_operation}
 use Rattle.ws_steps.specs.Pipes as pipe
 use Rattle.ws_steps.specs.Pipes.{Acts, causing, with_slots, reacts, forgetting, finalize, ending, act_with, abort_dest, abort_part, cancel_part, parts_of, reacts_to_all, waiting_for, wait_for_all, act_by_signal, act_by, act, proceed, is_flowing, shut_down, shutdown, unless, wait_for_ready, read_or_wait, look_by, look, look_ready, go_on_in, go_on, keep_chunk, read_ended, write, write_in, write_held, write_chunk, write_ended, action_settled, settle_whole, part_settled, no_parts, abort, abort_all}
-use Rattle.ws_steps.specs.Promises.{Table, next_id, fresh, next_job, after_next_job, is_pending_at, watch, let_go}
-use Rattle.ws_steps.specs.Run.{after_event, after_forgetting}
+use Rattle.ws_steps.specs.Promises.{Table, next_id, fresh, next_job, after_next_job, is_pending_at, watch}
+use Rattle.ws_steps.specs.Run.{after_event}
 use Rattle.ws_steps.specs.Readable as readable
 use Rattle.ws_steps.specs.Slots.{Slots, Done, nothing, causes, found, ends_at, empty, with_promises, has_readable, has_writable, readable_at, owner_at, on_readable, on_writable, put_readable, put_writable, on_pipe_at, on_signal_at}
 use Rattle.ws_steps.specs.Turns.{row, call_host, start_algorithm, pull_algorithm, cancel_algorithm, write_algorithm, close_algorithm, abort_algorithm, chunk_steps, close_steps, error_steps}
@@ -32,7 +32,7 @@ use Rattle.ws_laws.proofs.PipeDoes.{OfPipe, pipe-does}
 use Rattle.ws_laws.proofs.ReadableDoes.{readable-does}
 use Rattle.ws_laws.proofs.Tables.{either, eq_numbers, unequal_numbers, readable_acts, writable_acts}
 use Rattle.ws_laws.proofs.Walker.{Stays}
-use Rattle.ws_laws.proofs.Weights.{weigh, taken_off, weigh-fresh, weigh-settle, weigh-answer, weigh-micro, weigh-next, weigh-watch, weigh-let_go}
+use Rattle.ws_laws.proofs.Weights.{weigh, taken_off, weigh-fresh, weigh-settle, weigh-answer, weigh-micro, weigh-next, weigh-watch}
 use Rattle.ws_laws.proofs.WritableDoes.{writable-does}
 use Rattle.ws_writable_laws.proofs.Agenda.{weight-tell, weight-gift, weight-host}
 use Rattle.ws_writable_laws.proofs.Shape.{of_reaction, weight, all, all-append}
@@ -48,7 +48,7 @@ use Rattle.ws_steps.specs.Slots.{as_pipe}
 use Rattle.ws_steps.specs.declared.promises.{Reaction.{Reaction}, Reaction.TheVariants.{Perform, Adopt}}
 use Rattle.ws_laws.proofs.Walker.{run-stays}
 use Rattle.ws_laws.proofs.Weights.{of_reactions, of_entry, of_entries, of_jobs}
-use Rattle.ws_promise_laws.proofs.Acting.{EachWaits, waits-stays, waits-heard, waits-forgotten, none-waits}
+use Rattle.ws_promise_laws.proofs.Acting.{EachWaits, waits-stays, waits-heard, none-waits}
 use Rattle.ws_promise_laws.proofs.PipeActs as acts
 use Rattle.ws_promise_laws.proofs.Tokens as tokens
 use Rattle.ws_pipe_laws.proofs.Reading.{no_answer}
@@ -346,9 +346,6 @@ pub owes-heard : (s : Slots) → EachOwes s [] → EachOwes (after_event s) []
 unfolding weigh
 owes-heard s k p = k p
 
-pub owes-forgotten : (s : Slots) (q : PromiseId) → EachOwes s [] → EachOwes (after_forgetting q s) []
-owes-forgotten s q k p = lighter-owes p s (let_go q s.promises) (weigh-let_go (of_reaction (of_write p)) q s.promises) (k p)
-
 -- the count of the specification is the same
 
 same_reactions : (f : Step → ℕ) (rs : List Reaction) → in_reactions f rs ≡ of_reactions (of_reaction f) rs
@@ -410,10 +407,10 @@ unsettled_place n (Some x) w = w
 -- over every run
 
 pub owes-run : (entries : List Entry) → EachOwes (run entries empty) []
-owes-run entries = run-stays EachOwes owes-stays owes-heard owes-forgotten entries empty (λ p. none-owes p)
+owes-run entries = run-stays EachOwes owes-stays owes-heard entries empty (λ p. none-owes p)
 
 pub waits-run : (entries : List Entry) → EachWaits (run entries empty) []
-waits-run entries = run-stays EachWaits waits-stays waits-heard waits-forgotten entries empty (λ p. none-waits p)
+waits-run entries = run-stays EachWaits waits-stays waits-heard entries empty (λ p. none-waits p)
 
 pub each_pipe_is_owed : EachPipeIsOwed
 each_pipe_is_owed entries p =

@@ -15,14 +15,13 @@ use Rattle.ws_pipe_laws.specs.PipeReads.{one_if}
 use Rattle.ws_pipe_laws.specs.PipeWrites.{has_write, EachHeldChunkIsQueued}
 use Rattle.ws_steps.specs.Pipes as pipe
 use Rattle.ws_steps.specs.Pipes.{Acts, keep_chunk, write_held, write_chunk}
-use Rattle.ws_steps.specs.Promises.{Table, react, unfollow, queue_micro, watch, let_go, next_job, first_job, after_first, after_next_job, taken}
-use Rattle.ws_steps.specs.Run.{run, after_forgetting}
+use Rattle.ws_steps.specs.Promises.{Table, react, unfollow, queue_micro, watch, next_job, first_job, after_first, after_next_job, taken}
+use Rattle.ws_steps.specs.Run.{run}
 use Rattle.ws_steps.specs.Slots.{Slots, Done, empty, ends_at, as_pipe, on_pipe_at, with_promises}
 use Rattle.ws_steps.specs.Turns.{row}
 use Rattle.ws_steps.proofs.PromiseLaws.{jobs-fresh, slice_get-set_other}
 use Rattle.ws_laws.proofs.Begin.{begin-makes}
 use Rattle.ws_laws.proofs.Cases.{settle-cases, answer-cases, react-cases, follow-cases, unfollow-cases, watch-cases}
-use Rattle.ws_laws.proofs.LettingGo.{let_go-either}
 use Rattle.ws_laws.proofs.PipeDoes.{pipe-does}
 use Rattle.ws_laws.proofs.Rows.{Changes, IsNoPipe, row-changes, row-pipes}
 use Rattle.ws_laws.proofs.Tables.{eq_numbers, unequal_numbers}
@@ -244,9 +243,6 @@ module _ (p : PipeId) where
     older = λ s k. k;
   }
 
-  forgotten : (s : Slots) (q : PromiseId) → IsQueued s [] → IsQueued (after_forgetting q s) []
-  forgotten s q k = rests-on s (let_go q s.promises) (λ h. let_go-either Queues q s.promises h (λ e f g. h)) k
-
   none-held_first : IsQueued empty []
   none-held_first h = absurd (cc)
 
@@ -257,4 +253,4 @@ module _ (p : PipeId) where
 pub each_held_chunk_is_queued : EachHeldChunkIsQueued
 each_held_chunk_is_queued entries p v e =
     let s : Slots = run entries empty in
-    at_rest p s (run-stays (IsQueued p) (queued-stays p) (λ s k. k) (forgotten p) entries empty (none-held_first p)) (is_there p (slice_get s.pipes p.0) v e)
+    at_rest p s (run-stays (IsQueued p) (queued-stays p) (λ s k. k) entries empty (none-held_first p)) (is_there p (slice_get s.pipes p.0) v e)

@@ -19,23 +19,22 @@ use Rattle.ws_pipe_laws.specs.PipeWrites.{of_write, AllSettled, AllSince, leaves
 use Rattle.ws_steps.specs.Pipes as pipe
 use Rattle.ws_steps.specs.Pipes.{Acts, write_in, write_held, write_chunk}
 use Rattle.ws_steps.specs.Promises as promises
-use Rattle.ws_steps.specs.Promises.{Table, live, entry_at, with_entry, next_id, fresh, is_pending, is_pending_outcome, is_pending_at, is_open_entry, settled, settle, answer, react, react_entry, react_by, enqueue_job, job_of, follow, unfollow, queue_micro, tell, use_gift, watch, let_go, next_job, first_job, after_first, after_next_job, taken, went_astray}
-use Rattle.ws_steps.specs.Run.{after_event, after_forgetting}
+use Rattle.ws_steps.specs.Promises.{Table, live, entry_at, with_entry, next_id, fresh, is_pending, is_pending_outcome, is_pending_at, is_open_entry, settled, settle, answer, react, react_entry, react_by, enqueue_job, job_of, follow, unfollow, queue_micro, tell, use_gift, watch, next_job, first_job, after_first, after_next_job, taken, went_astray}
+use Rattle.ws_steps.specs.Run.{after_event}
 use Rattle.ws_steps.specs.Slots.{Slots, Done, empty, ends_at, as_pipe, on_pipe_at}
 use Rattle.ws_steps.specs.Turns.{Moment, row}
 use Rattle.ws_steps.proofs.PromiseLaws.{entry_within, entry_at-with_entry_same, entry_at-with_entry_other, length-with_entry, entry_at-fresh, length-fresh}
 use Rattle.ws_laws.proofs.Begin.{begin-makes}
 use Rattle.ws_laws.proofs.Cases.{Puts, settle-cases, answer-cases, react-cases, follow-cases, unfollow-cases, watch-cases}
-use Rattle.ws_laws.proofs.LettingGo.{let_go-either}
 use Rattle.ws_laws.proofs.Rows.{Changes, row-changes}
 use Rattle.ws_laws.proofs.Tables.{eq_numbers, unequal_numbers}
 use Rattle.ws_laws.proofs.Walker.{GoesUntold, RestsUntold, run-holds}
 use Rattle.ws_laws.proofs.Weights.{of_reactions, of_entry, of_entries, weigh}
-use Rattle.ws_promise_laws.proofs.Acting.{EachWaits, waits-stays, waits-heard, waits-forgotten, none-waits}
+use Rattle.ws_promise_laws.proofs.Acting.{EachWaits, waits-stays, waits-heard, none-waits}
 use Rattle.ws_writable_laws.proofs.Shape.{of_reaction, weight, all, all-append}
 use Rattle.ws_pipe_laws.specs.PipeHistory.{held_promise, operation_promises, effect_moment, effect_promises, promises_made}
 use Rattle.ws_pipe_write_laws.proofs.Orderly.{moment, moments_history, row-orderly, unsettled_at}
-use Rattle.ws_pipe_write_laws.proofs.Owed.{EachOwes, Owes, owes-stays, owes-heard, owes-forgotten, none-owes}
+use Rattle.ws_pipe_write_laws.proofs.Owed.{EachOwes, Owes, owes-stays, owes-heard, none-owes}
 use Rattle.ws_pipe_write_laws.proofs.Paying.{pays}
 
 settled-over : (o : Result Plain Plain) → is_pending (settled o) ≡ false
@@ -117,18 +116,6 @@ module _ (p : PipeId) (d : PromiseId) where
 
   watch-has : (n : ℕ) (t : Table) (q : PromiseId) → Has n t → Has n (watch q t)
   watch-has n t q h = watch-cases (Has n) q t h (λ e z is w. put-has n q t z e _ _ (nat_eq q.0 d.0) refl w (inr (refl, omega arith)) h)
-
-  emptied : (n : ℕ) (t : Table) (q : PromiseId) (e : promises.Entry) (same : Bool) → same ≡ nat_eq q.0 d.0 → entry_at t q ≡ Some e → Has n t → Has n (with_entry q None t)
-  emptied n t q e true s h k =
-      let is : q ≡ d = ap (λ (n : ℕ). record { 0 = n }) (eq_numbers q.0 d.0 (sym s)) in
-      let long = length-with_entry t q None in
-      let now : entry_at (with_entry q None t) d ≡ None = subst (λ (x : PromiseId). entry_at (with_entry q None t) x ≡ None) is (entry_at-with_entry_same t q None (entry_within t q e h)) in
-      record { made = let m = k.made in omega (arith, m, long); good = rw now (inl refl) }
-  emptied n t q e false s h k =
-      let long = length-with_entry t q None in same_place n t (with_entry q None t) (omega (arith, long)) (entry_at-with_entry_other t q d None (unequal_numbers q.0 d.0 (sym s))) k
-
-  let_go-has : (n : ℕ) (t : Table) (q : PromiseId) → Has n t → Has n (let_go q t)
-  let_go-has n t q h = let_go-either (Has n) q t h (λ e f g. emptied n t q e (nat_eq q.0 d.0) refl f h)
 
   has-changes : (n : ℕ) → Changes (Has n)
   unfolding queue_micro
@@ -394,12 +381,8 @@ module _ (p : PipeId) where
   heard h s k =
       (k.0, (rested h s.promises (after_event s).promises [] (λ d g. record { made = g.made; good = g.good }) k.1.0, (waits-heard s k.1.1.0, owes-heard s k.1.1.1)))
 
-  forgotten : (h : List Moment) (s : Slots) (q : PromiseId) → Is h s [] → Is h (after_forgetting q s) []
-  forgotten h s q k =
-      (k.0, (rested h s.promises (let_go q s.promises) [] (λ d g. let_go-has p d 1 s.promises q g) k.1.0, (waits-forgotten s q k.1.1.0, owes-forgotten s q k.1.1.1)))
-
   rests : RestsUntold Is
-  rests = record { heard = heard; forgotten = forgotten }
+  rests = record { heard = heard }
 
 pub none_acts_while_a_write_is_open : NoneActsWhileAWriteIsOpen
 none_acts_while_a_write_is_open entries p =

@@ -10,7 +10,7 @@ use Rattle.ws_steps.specs.Pipes as pipe
 use Rattle.ws_steps.specs.Slots.{Slots, empty, as_pipe, pipe_at}
 use Rattle.ws_steps.specs.Turns.{Moment}
 use Rattle.ws_laws.proofs.Walker.{GoesUntold, RestsUntold, run-holds}
-use Rattle.ws_promise_laws.proofs.Acting.{EachWaits, Waits, waits-stays, waits-heard, waits-forgotten, none-waits}
+use Rattle.ws_promise_laws.proofs.Acting.{EachWaits, Waits, waits-stays, waits-heard, none-waits}
 use Rattle.ws_promise_laws.proofs.PipeActs.{acts_now, is_acting}
 use Rattle.ws_promise_laws.proofs.Tokens.{one_if}
 use Rattle.ws_pipe_write_laws.proofs.Orderly.{moment, moments_history, all_moments-append}
@@ -51,7 +51,7 @@ module _ (p : PipeId) where
   }
 
   rests : RestsUntold Is
-  rests = record { heard = λ h s k. (k.0, waits-heard s k.1); forgotten = λ h s q k. (k.0, waits-forgotten s q k.1) }
+  rests = record { heard = λ h s k. (k.0, waits-heard s k.1) }
 
 pub each_action_settles_while_acting : EachActionSettlesWhileActing
 each_action_settles_while_acting entries p =

@@ -1,4 +1,4 @@
-//! Laws of what pipes write: the chunk that a pipe holds, the writes and the action that it waits for, and in which order they come, in every list of calls, jobs, takings of events and lettings go of promises, performed one after another from the empty realm.
+//! Laws of what pipes write: the chunk that a pipe holds, the writes and the action that it waits for, and in which order they come, in every list of calls, jobs and takings of events, performed one after another from the empty realm.
 #![tactic(auto)]
 
 ghost use Rattle.ws_pipe_laws.specs.PipeWrites.{EachActionSettlesWhileActing, EachHeldChunkIsQueued, EachPipeActsInOrder, EachPipeIsOwed, NoneActsWhileAWriteIsOpen};

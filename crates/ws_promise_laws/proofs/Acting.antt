@@ -20,8 +20,8 @@ use Rattle.ws_steps.specs.Jobs.{job_effects, steps, resolved, returned}
 use Rattle.ws_steps.specs.Operations.{readable_operation, writable_operation, pipe_operation, signal_operation}
 use Rattle.ws_steps.specs.Pipes as pipe
 use Rattle.ws_steps.specs.Pipes.{Acts, causing, with_slots, reacts, forgetting, finalize, ending, act_with, abort_dest, abort_part, cancel_part, parts_of, reacts_to_all, waiting_for, wait_for_all, act_by_signal, act_by, act, proceed, is_flowing, shut_down, shutdown, unless, wait_for_ready, read_or_wait, look_by, look, look_ready, go_on_in, go_on, keep_chunk, read_ended, write, write_in, write_held, write_chunk, write_ended, action_settled, settle_whole, part_settled, no_parts, abort, abort_all}
-use Rattle.ws_steps.specs.Promises.{Table, next_id, fresh, next_job, after_next_job, is_pending_at, watch, let_go}
-use Rattle.ws_steps.specs.Run.{after_event, after_forgetting}
+use Rattle.ws_steps.specs.Promises.{Table, next_id, fresh, next_job, after_next_job, is_pending_at, watch}
+use Rattle.ws_steps.specs.Run.{after_event}
 use Rattle.ws_steps.specs.Readable as readable
 use Rattle.ws_steps.specs.Slots.{Slots, Done, nothing, causes, found, ends_at, empty, with_promises, has_readable, has_writable, readable_at, owner_at, on_readable, on_writable, put_readable, put_writable, on_pipe_at, on_signal_at}
 use Rattle.ws_steps.specs.Turns.{row, call_host, start_algorithm, pull_algorithm, cancel_algorithm, write_algorithm, close_algorithm, abort_algorithm, chunk_steps, close_steps, error_steps}
@@ -33,7 +33,7 @@ use Rattle.ws_laws.proofs.PipeDoes.{OfPipe, pipe-does}
 use Rattle.ws_laws.proofs.ReadableDoes.{readable-does}
 use Rattle.ws_laws.proofs.Tables.{either, eq_numbers, unequal_numbers, readable_acts, writable_acts}
 use Rattle.ws_laws.proofs.Walker.{Stays}
-use Rattle.ws_laws.proofs.Weights.{weigh, taken_off, weigh-fresh, weigh-settle, weigh-answer, weigh-micro, weigh-next, weigh-watch, weigh-let_go}
+use Rattle.ws_laws.proofs.Weights.{weigh, taken_off, weigh-fresh, weigh-settle, weigh-answer, weigh-micro, weigh-next, weigh-watch}
 use Rattle.ws_laws.proofs.WritableDoes.{writable-does}
 use Rattle.ws_promise_laws.proofs.Streams.{goes_on}
 use Rattle.ws_promise_laws.proofs.Holds.{when}
@@ -359,6 +359,3 @@ waits-stays = record {
 pub waits-heard : (s : Slots) → EachWaits s [] → EachWaits (after_event s) []
 unfolding weigh
 waits-heard s k p = k p
-
-pub waits-forgotten : (s : Slots) (q : PromiseId) → EachWaits s [] → EachWaits (after_forgetting q s) []
-waits-forgotten s q k p = lighter-waits p s (let_go q s.promises) (weigh-let_go (of_reaction (ends_action p)) q s.promises) (k p)

@@ -7,11 +7,11 @@ use Rattle.ws_laws.proofs.Tables.{eq_numbers, unequal_numbers}
 use Rattle.ws_laws.proofs.Weights.{weigh}
 use Rattle.ws_promise_laws.proofs.Tokens.{one_if, names, in_reaction, adopts}
 
--- the place of a promise: one that isn't made yet, one that was let go of, and one that is there
+-- the place of a promise: one that isn't made yet, one that was released, and one that is there
 abbrev pub place_at : Table → PromiseId → Option (Option Entry)
 place_at t p = slice_get t.entries p.0
 
--- it has settled, and may have been let go of since
+-- it has settled, and may have been released since
 abbrev pub is_over : Option (Option Entry) → Bool
 is_over None = false
 is_over (Some None) = true

@@ -15,3 +15,4 @@ pub mod Realm
 pub mod Rows
 pub mod Begins
 pub mod Runs
+pub mod Names

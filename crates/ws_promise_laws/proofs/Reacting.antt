@@ -1,12 +1,11 @@
--- Reactions are registered, promises are watched and let go of, and the host is told and hears: no place changes that matters here.
+-- Reactions are registered, promises are watched, and the host is told and hears: no place changes that matters here.
 use Rattle.std.proofs.Common.{◌≡◌, ℕ, ◌+◌, ◌≤◌, List, [], ◌∷◌, ◌++◌, Option, Some, None, refl, sym, arith}
 use Rattle.ws_value.specs.declared.ids.PromiseId.{PromiseId}
 use Rattle.ws_value.specs.declared.value.Outcome.{Outcome}
 use Rattle.ws_value.specs.declared.value.Outcome.TheVariants.{Pending, Fulfilled, Given, Finished, Rejected}
 use Rattle.ws_steps.specs.declared.{calls.Event.{Event}, promises.Micro.{Micro}, promises.Reaction.{Reaction}, promises.Reaction.TheVariants.{Perform}, promises.Step.{Step}}
-use Rattle.ws_steps.specs.Promises.{Entry, Table, entry_at, with_entry, react, react_entry, react_by, watch, watch_at, watch_entry, let_go, queue_micro}
-use Rattle.ws_laws.proofs.LettingGo.{let_go-either}
-use Rattle.ws_laws.proofs.Weights.{weigh, weigh-react, weigh-micro, weigh-watch, weigh-let_go}
+use Rattle.ws_steps.specs.Promises.{Entry, Table, entry_at, react, react_entry, react_by, watch, watch_at, watch_entry, queue_micro}
+use Rattle.ws_laws.proofs.Weights.{weigh, weigh-react, weigh-micro, weigh-watch}
 use Rattle.ws_promise_laws.proofs.Holds.{Holds, Alike, alike-same, alike-put, holds-alike}
 use Rattle.ws_promise_laws.proofs.Tokens.{names_any, in_step, in_reaction, adopts}
 
@@ -47,14 +46,6 @@ watch_alike p t = watch_at_alike p t (entry_at t p) refl
 
 pub holds-watch : (f l : PromiseId → ℕ) (p : PromiseId) (t : Table) → Holds f l t → Holds f l (watch p t)
 holds-watch f l p t k = holds-alike f l f t (watch p t) k (watch_alike p t) (λ x. let w = weigh-watch (in_reaction x) p t in omega arith) (λ q. weigh-watch (adopts q) p t)
-
--- a promise that has settled stands nowhere, and may be let go of
-pub holds-let_go : (f l : PromiseId → ℕ) (q : PromiseId) (t : Table) → Holds f l t → Holds f l (let_go q t)
-holds-let_go f l q t k =
-    holds-alike f l f t (let_go q t) k
-    (let_go-either (Alike t) q t (alike-same t t refl refl) (λ e h n. alike-put q e None t (with_entry q None t) h refl refl (rw n refl) (rw n refl) (rw n refl)))
-    (λ x. let w = weigh-let_go (in_reaction x) q t in omega arith)
-    (λ p. weigh-let_go (adopts p) q t)
 
 -- a microtask is queued
 pub holds-micro : (f l : PromiseId → ℕ) (m : Micro) (t : Table) → Holds f l t → Holds f l (queue_micro m t)

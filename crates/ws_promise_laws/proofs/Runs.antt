@@ -9,16 +9,15 @@ use Rattle.ws_writable_laws.proofs.Expects.{write-expects, start-expects, write_
 use Rattle.ws_writable_laws.proofs.Runs.{goes, rests, none_made}
 use Rattle.std.proofs.Common.{◌+◌, List, [], ◌∷◌, ◌++◌, refl, arith}
 use Rattle.ws_steps.specs.declared.effects.Effect.{Effect}
-use Rattle.ws_steps.specs.Promises.{watch, let_go}
+use Rattle.ws_steps.specs.Promises.{watch}
 use Rattle.ws_steps.specs.Slots.{Slots, empty}
 use Rattle.ws_steps.specs.Turns.{row}
-use Rattle.ws_steps.specs.Run.{Entry, run}
+use Rattle.ws_steps.specs.Run.{Entry, run, after_event}
 use Rattle.ws_steps.specs.Laws.{NoneGoesAstray}
 use Rattle.ws_laws.proofs.Walker.{Stays, run-stays}
 use Rattle.ws_laws.proofs.Weights.{weigh}
-use Rattle.ws_promise_laws.proofs.Acting.{EachWaits, waits-stays, waits-heard, waits-forgotten, none-waits, waits-expects}
+use Rattle.ws_promise_laws.proofs.Acting.{EachWaits, waits-stays, waits-heard, none-waits, waits-expects}
 use Rattle.ws_promise_laws.proofs.Begins.{begin-sound, job-sound}
-use Rattle.ws_promise_laws.proofs.Reacting.{holds-let_go}
 use Rattle.ws_promise_laws.proofs.Reacting.{holds-watch, holds-told}
 use Rattle.ws_promise_laws.proofs.Realm.{Sound, sound-less, firm_in, loosely_in}
 use Rattle.ws_promise_laws.proofs.Rows.{Expected, row-sound, sound-promises}
@@ -29,10 +28,10 @@ unfolding weigh
 sound_empty = record { holds = record { straight = refl; once = λ x. omega arith; led = λ p. omega arith }; calm = λ i e. refl }
 
 -- what is known of each pipe and of each writable stream, and that each promise stands at most once in all, effects too, and then is open
-record Straight (s : Slots) (es : List Effect) : Type 0 where
-  waits : EachWaits s es
-  known : (i : StreamId) → (h : History) × Kept i h s es
-  sound : Sound (λ x. in_effects x es) s
+pub record Straight (s : Slots) (es : List Effect) : Type 0 where
+  pub waits : EachWaits s es
+  pub known : (i : StreamId) → (h : History) × Kept i h s es
+  pub sound : Sound (λ x. in_effects x es) s
 
 -- what is known tells what an effect expects
 expected : (s : Slots) (e : Effect) (es : List Effect) → EachWaits s (e ∷ es) → ((i : StreamId) → (h : History) × Kept i h s (e ∷ es)) → Expected e s
@@ -73,7 +72,7 @@ row-straight s e es k = record {
       (sound-less (λ x. of_effect x e + in_effects x es) (λ x. in_effects x es + of_effect x e) s (λ x. omega arith) k.sound));
 }
 
-straight-stays : Stays Straight
+pub straight-stays : Stays Straight
 straight-stays = record {
   row = row-straight;
   call = λ s c k. record { waits = waits-stays.call s c k.waits; known = λ i. ((k.known i).0, (goes i).call (k.known i).0 s c (k.known i).1); sound = begin-sound c s k.sound };
@@ -90,20 +89,19 @@ straight-stays = record {
   };
 }
 
+-- the host hears of what happened
+pub straight-heard : (s : Slots) → Straight s [] → Straight (after_event s) []
+straight-heard s k = record {
+  waits = waits-heard s k.waits;
+  known = λ i. ((k.known i).0, (rests i).heard (k.known i).0 s (k.known i).1);
+  sound = record { holds = holds-told (λ x. 0 + firm_in x s) (loosely_in s) _ s.promises k.sound.holds; calm = k.sound.calm };
+}
+
+pub straight-empty : Straight empty []
+straight-empty = record { waits = none-waits; known = λ i. (no_writes, none_made i); sound = sound_empty }
+
 run-straight : (entries : List Entry) → Straight (run entries empty) []
-run-straight entries =
-    run-stays Straight straight-stays
-    (λ s k. record {
-      waits = waits-heard s k.waits;
-      known = λ i. ((k.known i).0, (rests i).heard (k.known i).0 s (k.known i).1);
-      sound = record { holds = holds-told (λ x. 0 + firm_in x s) (loosely_in s) _ s.promises k.sound.holds; calm = k.sound.calm };
-    })
-    (λ s p k. record {
-      waits = waits-forgotten s p k.waits;
-      known = λ i. ((k.known i).0, (rests i).forgotten (k.known i).0 s p (k.known i).1);
-      sound = sound-promises (λ x. 0) (λ x. 0) s (let_go p s.promises) (λ h l. holds-let_go (λ x. 0 + h x) (loosely_in s) p s.promises l) k.sound;
-    })
-    entries empty (record { waits = none-waits; known = λ i. (no_writes, none_made i); sound = sound_empty })
+run-straight entries = run-stays Straight straight-stays straight-heard entries empty straight-empty
 
 pub run-sound : (entries : List Entry) → Sound (λ x. 0) (run entries empty)
 run-sound entries = (run-straight entries).sound

@@ -7,9 +7,8 @@ use Rattle.ws_steps.specs.Laws.{read_outcome, HasOutcome, RiseFrom, EachReadIsAn
 use Rattle.ws_steps.specs.Promises.{Table}
 use Rattle.ws_steps.specs.ReadableHistory.{ReadAnswer, Gets, Ends, Fails, Released, Answered, chunk_got, chunks_got}
 use Rattle.ws_steps.specs.Readable as readable
-use Rattle.ws_steps.specs.Run.{run, is_forgotten}
+use Rattle.ws_steps.specs.Run.{run}
 use Rattle.ws_steps.specs.Slots.{Slots, empty, readable_at}
-use Rattle.std.specs.Prelude.{Bool}
 use Rattle.ws_promise_laws.proofs.Runs.{none_goes_astray}
 use Rattle.ws_read_laws.proofs.Marks.{Done, done_of}
 use Rattle.ws_read_laws.proofs.Told.{given_by, given_of, run_done}
@@ -29,12 +28,12 @@ all-give : (e : Plain) (xs : List Answered) → given_of (map (done_of e) xs) �
 all-give e [] = refl
 all-give e (x ∷ xs) = rw (gives e x.answer, all-give e xs) refl
 
-module _ (gone : PromiseId → Bool) (t : Table) (e : Plain) where
+module _ (t : Table) (e : Plain) where
   abbrev IsDone : Done → Type 0
-  IsDone d = HasOutcome gone t d.request d.outcome
+  IsDone d = HasOutcome t d.request d.outcome
 
   abbrev IsTold : Answered → Type 0
-  IsTold a = HasOutcome gone t a.request (read_outcome e a.answer)
+  IsTold a = HasOutcome t a.request (read_outcome e a.answer)
 
   all-told : (xs : List Answered) → All IsDone (map (done_of e) xs) → All IsTold xs
   all-told [] a = All-nil IsTold
@@ -44,16 +43,15 @@ pub each_read_is_answered : EachReadIsAnswered
 each_read_is_answered entries i =
     let s : Slots = run entries empty in
     let r : readable.Slots = readable_at i s in
-    let gone : PromiseId → Bool = λ p. is_forgotten p entries empty in
     let k = (run-now i entries).held in
     let told : map (done_of r.stored_error) k.line.answered ≡ run_done i entries empty = k.line.told ∙ append-nil (run_done i entries empty) in
     record {
       answered = k.line.answered;
       order = k.line.order;
       told =
-          all-told gone s.promises r.stored_error k.line.answered
-          (All-same (IsDone gone s.promises r.stored_error) (map (done_of r.stored_error) k.line.answered) (run_done i entries empty) told (run-told i entries empty (none_goes_astray entries)));
-      waiting = run-waiting gone entries i;
+          all-told s.promises r.stored_error k.line.answered
+          (All-same (IsDone s.promises r.stored_error) (map (done_of r.stored_error) k.line.answered) (run_done i entries empty) told (run-told i entries empty (none_goes_astray entries)));
+      waiting = run-waiting entries i;
       given = sym (all-give r.stored_error k.line.answered) ∙ (ap given_of told ∙ k.given);
       released = k.line.released;
       allowed = k.line.allowed;

@@ -14,7 +14,7 @@ use Rattle.ws_steps.specs.Turns.{row, moments}
 use Rattle.ws_steps.specs.Jobs.{job_effects, job_begun, begin_job}
 use Rattle.ws_steps.specs.Calls.{Begun, begin, unsupported, by_reader}
 use Rattle.ws_steps.specs.Calls as calls
-use Rattle.ws_steps.specs.Run.{Entry, Called, Worked, Heard, Forgot, step, run}
+use Rattle.ws_steps.specs.Run.{Entry, Called, Worked, Heard, step, run}
 use Rattle.ws_steps.specs.Histories.{is_same, along}
 use Rattle.ws_steps.specs.ReadableHistory.{Reads, no_reads, reads_then, operation_reads, effect_reads, step_reads, run_reads, promises_of, asked_with, call_asked, asked_in_step, asked_by_calls}
 use Rattle.ws_steps.specs.Laws.{ReadsWereAnswered}
@@ -158,7 +158,6 @@ unfolding begin_job
 entry-asks i (Called c) s = call-asks i c s
 entry-asks i Worked s = none-asked i (begin_job s) (job_quiet s (next_job s.promises))
 entry-asks i Heard s = none-asked i (causes [] s) tt
-entry-asks i (Forgot p) s = none-asked i (causes [] s) tt
 
 pub run-asks : (i : StreamId) (xs : List Entry) (s : Slots) → promises_of (run_reads i xs s).asked ≡ asked_by_calls i xs s
 run-asks i [] s = refl

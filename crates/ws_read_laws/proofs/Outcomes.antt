@@ -10,24 +10,24 @@ use Rattle.ws_steps.specs.Histories.{is_same, along}
 use Rattle.ws_steps.specs.Jobs.{begin_job}
 use Rattle.ws_steps.specs.Laws.{HasOutcome}
 use Rattle.ws_steps.specs.Promises.{Table, is_pending, settle, answer}
-use Rattle.ws_steps.specs.Run.{Entry as Step, Called, Worked, Heard, Forgot, step, run, lets_go, is_forgotten}
+use Rattle.ws_steps.specs.Run.{Entry as Step, Called, Worked, Heard, step, run}
 use Rattle.ws_steps.specs.Slots.{Slots, Done as Begun}
 use Rattle.ws_steps.specs.Turns.{row, moments, performed}
 use Rattle.ws_laws.proofs.Outcomes.{Keeps, keeps-same, keeps-watch}
 use Rattle.ws_laws.proofs.Rows.{row-changes}
 use Rattle.ws_laws.proofs.Stays.{keeps-changes, each_outcome_stays, each_mark_stays}
 use Rattle.ws_laws.proofs.Straight.{straight_before, settled_straight, answered_straight}
-use Rattle.ws_laws.proofs.Truth.{nor_right, refuted}
+use Rattle.ws_laws.proofs.Truth.{refuted}
 use Rattle.ws_laws.proofs.Walker.{IsHistory, performed-goes, nothing-told}
 use Rattle.ws_read_laws.proofs.Marks.{Done, effect_done}
 use Rattle.ws_read_laws.proofs.Told.{step_done, run_done}
 
 -- the promise of a request has settled so
 abbrev IsSettled : Table → Done → Type 0
-IsSettled t d = (is_pending d.outcome ≡ false) × HasOutcome (λ p. false) t d.request d.outcome
+IsSettled t d = (is_pending d.outcome ≡ false) × HasOutcome t d.request d.outcome
 
-tells-later : (t z : Table) (r : ReadRequest) (o : Outcome) → Keeps t z → is_pending o ≡ false → HasOutcome (λ p. false) t r o → HasOutcome (λ p. false) z r o
-tells-later t z (Promise p) o k n h = λ g. k.outcome p o n (h g)
+tells-later : (t z : Table) (r : ReadRequest) (o : Outcome) → Keeps t z → is_pending o ≡ false → HasOutcome t r o → HasOutcome z r o
+tells-later t z (Promise p) o k n h = k.outcome p o n h
 tells-later t z (Pipe p) o k n h = tt
 
 settled-later : (t z : Table) (ds : List Done) → Keeps t z → All (IsSettled t) ds → All (IsSettled z) ds
@@ -40,10 +40,10 @@ module _ (i : StreamId) where
 
   row-settled : (e : Effect) (s : Slots) → (row e s).slots.promises.astray ≡ false → All (IsSettled (row e s).slots.promises) (effect_done i e)
   unfolding row
-  row-settled (ChunkSteps j (Promise p) v) s a = one_settled (is_same i j) (answer p (Given v) s.promises) _ (refl, λ g. answered_straight p (Given v) s.promises a)
+  row-settled (ChunkSteps j (Promise p) v) s a = one_settled (is_same i j) (answer p (Given v) s.promises) _ (refl, answered_straight p (Given v) s.promises a)
   row-settled (CloseSteps j (Promise p)) s a =
-      one_settled (is_same i j) (answer p (Finished (PlainValue Undefined)) s.promises) _ (refl, λ g. answered_straight p (Finished (PlainValue Undefined)) s.promises a)
-  row-settled (ErrorSteps j (Promise p) e) s a = one_settled (is_same i j) (settle p (Err e) s.promises) _ (refl, λ g. settled_straight p (Err e) s.promises a)
+      one_settled (is_same i j) (answer p (Finished (PlainValue Undefined)) s.promises) _ (refl, answered_straight p (Finished (PlainValue Undefined)) s.promises a)
+  row-settled (ErrorSteps j (Promise p) e) s a = one_settled (is_same i j) (settle p (Err e) s.promises) _ (refl, settled_straight p (Err e) s.promises a)
   row-settled (ChunkSteps j (Pipe p) v) s a = one_settled (is_same i j) s.promises _ (refl, tt)
   row-settled (CloseSteps j (Pipe p)) s a = one_settled (is_same i j) s.promises _ (refl, tt)
   row-settled (ErrorSteps j (Pipe p) e) s a = one_settled (is_same i j) s.promises _ (refl, tt)
@@ -77,26 +77,22 @@ module _ (i : StreamId) where
       settled-later z.promises (named (begin c s).reply z).promises (step_done i s (Called c)) k (performed-settled (begin c s).done (straight_before z.promises (named (begin c s).reply z).promises k a))
   step-settled s Worked a = performed-settled (begin_job s) a
   step-settled s Heard a = rw (nothing-told [] ◌++◌ lists (λ e s. effect_done i e) s) (All-nil (IsSettled (step s Heard).promises))
-  step-settled s (Forgot p) a = rw (nothing-told [] ◌++◌ lists (λ e s. effect_done i e) s) (All-nil (IsSettled (step s (Forgot p)).promises))
 
-  -- to the end of a run, unless the host lets go of it
+  -- to the end of a run
 
-  abbrev IsTold : List Step → Slots → Done → Type 0
-  IsTold xs s d = HasOutcome (λ p. is_forgotten p xs s) (run xs s).promises d.request d.outcome
+  abbrev IsTold : Table → Done → Type 0
+  IsTold t d = HasOutcome t d.request d.outcome
 
-  stays-told : (x : Step) (xs : List Step) (s : Slots) (r : ReadRequest) (o : Outcome) → is_pending o ≡ false → HasOutcome (λ p. false) (step s x).promises r o → HasOutcome (λ p. is_forgotten p (x ∷ xs) s) (run (x ∷ xs) s).promises r o
-  stays-told x xs s (Promise p) o n h = λ g. each_outcome_stays (step s x) xs p o n (nor_right (lets_go p s x) (is_forgotten p xs (step s x)) g) (h refl)
-  stays-told x xs s (Pipe p) o n h = tt
+  stays-told : (xs : List Step) (s : Slots) (r : ReadRequest) (o : Outcome) → is_pending o ≡ false → HasOutcome s.promises r o → HasOutcome (run xs s).promises r o
+  stays-told xs s (Promise p) o n h = each_outcome_stays s xs p o n h
+  stays-told xs s (Pipe p) o n h = tt
 
-  later-told : (x : Step) (xs : List Step) (s : Slots) (r : ReadRequest) (o : Outcome) → HasOutcome (λ p. is_forgotten p xs (step s x)) (run xs (step s x)).promises r o → HasOutcome (λ p. is_forgotten p (x ∷ xs) s) (run (x ∷ xs) s).promises r o
-  later-told x xs s (Promise p) o h = λ g. h (nor_right (lets_go p s x) (is_forgotten p xs (step s x)) g)
-  later-told x xs s (Pipe p) o h = tt
-
-  pub run-told : (xs : List Step) (s : Slots) → (run xs s).promises.astray ≡ false → All (IsTold xs s) (run_done i xs s)
-  run-told [] s a = All-nil (IsTold [] s)
+  pub run-told : (xs : List Step) (s : Slots) → (run xs s).promises.astray ≡ false → All (IsTold (run xs s).promises) (run_done i xs s)
+  run-told [] s a = All-nil (IsTold s.promises)
   run-told (x ∷ xs) s a =
       let z : Slots = step s x in
-      let straight : z.promises.astray ≡ false = refuted z.promises.astray (run xs z).promises.astray (each_mark_stays z xs) a in
-      All-append (IsTold (x ∷ xs) s) (step_done i s x) (run_done i xs z)
-      (All-weaker (IsSettled z.promises) (IsTold (x ∷ xs) s) (λ d h. stays-told x xs s d.request d.outcome h.0 h.1) (step_done i s x) (step-settled s x straight))
-      (All-weaker (IsTold xs z) (IsTold (x ∷ xs) s) (λ d h. later-told x xs s d.request d.outcome h) (run_done i xs z) (run-told xs z a))
+      let t : Table = (run xs z).promises in
+      let straight : z.promises.astray ≡ false = refuted z.promises.astray t.astray (each_mark_stays z xs) a in
+      All-append (IsTold t) (step_done i s x) (run_done i xs z)
+      (All-weaker (IsSettled z.promises) (IsTold t) (λ d h. stays-told xs z d.request d.outcome h.0 h.1) (step_done i s x) (step-settled s x straight))
+      (run-told xs z a)

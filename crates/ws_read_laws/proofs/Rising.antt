@@ -12,12 +12,11 @@ use Rattle.ws_steps.specs.Promises.{Entry, Table, next_id, react, taken, after_f
 use Rattle.ws_steps.specs.Slots.{Slots, Done, has_readable, lock_at}
 use Rattle.ws_steps.specs.Turns.{performed}
 use Rattle.ws_steps.specs.ReadableHistory.{named_by, asked_with, call_asked, asked_in_step, asked_by_calls}
-use Rattle.ws_steps.specs.Run.{Entry as Step, Called, Worked, Heard, Forgot, step, reply_to}
+use Rattle.ws_steps.specs.Run.{Entry as Step, Called, Worked, Heard, step, reply_to}
 use Rattle.ws_steps.proofs.PromiseLaws.{length-fresh, length-with_entry}
 use Rattle.ws_room_laws.proofs.Turns.{performed-kept}
 use Rattle.ws_laws.proofs.Begin.{begin-makes}
 use Rattle.ws_laws.proofs.Cases.{Puts, settle-cases, answer-cases, react-cases, follow-cases, unfollow-cases, watch-cases}
-use Rattle.ws_laws.proofs.LettingGo.{let_go-either}
 use Rattle.ws_laws.proofs.Rows.{Changes, row-changes}
 use Rattle.ws_laws.proofs.Tables.{either}
 
@@ -93,7 +92,6 @@ module _ (n : ℕ) where
   step-made s (Called c) k = called-made c s (begin-made c s k)
   step-made s Worked k = performed-made (begin_job s) (job-made s (next_job s.promises) k)
   step-made s Heard k = k
-  step-made s (Forgot p) k = let_go-either Made p s.promises k (λ e h g. let m = length-with_entry s.promises p None in omega arith)
 
 -- numbers that rise from n on and are below m
 abbrev Between : ℕ → ℕ → List PromiseId → Type 0
@@ -147,7 +145,6 @@ step-between : (i : StreamId) (s : Slots) (x : Step) → Between (count s) (coun
 step-between i s (Called c) = call-between i c s
 step-between i s Worked = step-made (count s) s Worked (self (count s))
 step-between i s Heard = step-made (count s) s Heard (self (count s))
-step-between i s (Forgot p) = step-made (count s) s (Forgot p) (self (count s))
 
 pub run-rises : (i : StreamId) (xs : List Step) (s : Slots) → RiseFrom (count s) (asked_by_calls i xs s)
 run-rises i [] s = tt

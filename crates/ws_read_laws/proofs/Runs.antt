@@ -24,7 +24,7 @@ use Rattle.ws_laws.proofs.OnReadable as on_readable
 use Rattle.ws_laws.proofs.OnReadable.{Holders, holders, with_pipe, piped, is_still, IsForeign, AreSteps, IsLaw, Kept, all_seen, all_seen-append}
 use Rattle.ws_laws.proofs.Truth.{false_true}
 use Rattle.ws_laws.proofs.Tables.{either, is_same-refl, no_readable_there, same_id}
-use Rattle.ws_promise_laws.proofs.Acting.{EachWaits, waits-stays, waits-heard, waits-forgotten, none-waits}
+use Rattle.ws_promise_laws.proofs.Acting.{EachWaits, waits-stays, waits-heard, none-waits}
 use Rattle.ws_promise_laws.proofs.Tokens.{one_if}
 use Rattle.ws_read_laws.proofs.Holding.{has, readers, readers-append, readers-set, readers-there, sources, holding-append, sources-append, owners, Clear, IsOther, AllOther, other-pending, other-clear}
 use Rattle.ws_readable_laws.proofs.Runs as flows
@@ -260,7 +260,6 @@ module _ (i : StreamId) where
     signal_untold = λ a operation s. refl;
     known = waits-stays;
     known_heard = waits-heard;
-    known_forgotten = waits-forgotten;
     known_first = λ p. none-waits p;
     call = call-now;
     job = λ job h o r k. other-held h o r (all_seen (marks i) (job_effects job)) (job-others job) k;

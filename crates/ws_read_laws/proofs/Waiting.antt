@@ -1,5 +1,5 @@
 -- The promise of a read that waits is pending.
-use Rattle.std.proofs.Common.{◌≡◌, ℕ, ◌≤◌, zero, suc, Bool, not, List, [], ◌∷◌, All, Option, Some, None, slice_get, refl, sym, ap, arith}
+use Rattle.std.proofs.Common.{◌≡◌, ℕ, ◌≤◌, not, List, [], ◌∷◌, All, Option, Some, None, slice_get, refl, sym, ap, arith}
 use Rattle.std.proofs.lemmas.List.Elements.{All-nil, All-cons}
 use Rattle.std.specs.Option.{option_map}
 use Rattle.ws_value.specs.declared.{ids.PromiseId.{PromiseId}, ids.StreamId.{StreamId}}
@@ -10,7 +10,8 @@ use Rattle.ws_steps.specs.Promises.{Entry, Table, entry_at, outcome_at, is_open_
 use Rattle.ws_steps.specs.Run.{Entry as Step, run}
 use Rattle.ws_steps.specs.Slots.{Slots, Stream, ReadableStream, WritableStream, empty, readable_at, as_readable}
 use Rattle.ws_promise_laws.proofs.Holds.{named}
-use Rattle.ws_promise_laws.proofs.Realm.{in_stream, in_all, firm_in}
+use Rattle.ws_promise_laws.proofs.Names.{in_all-there}
+use Rattle.ws_promise_laws.proofs.Realm.{in_stream, firm_in}
 use Rattle.ws_promise_laws.proofs.Runs.{run-sound}
 use Rattle.ws_promise_laws.proofs.Streams.{in_requests}
 use Rattle.ws_promise_laws.proofs.Tokens.{one_if}
@@ -26,11 +27,6 @@ open-pending (Some e) n = by e.outcome refl
     by (Finished v) h = let m : 1 ≤ 0 = rw (← h) at n in absurd (omega arith)
     by (Rejected r) h = let m : 1 ≤ 0 = rw (← h) at n in absurd (omega arith)
 
-in_all-there : (h : Stream → ℕ) (n : ℕ) (ss : List Stream) (y : Stream) → slice_get ss n ≡ Some y → h y ≤ in_all h ss
-in_all-there h n [] y e = cc
-in_all-there h zero (s ∷ ss) y e = let same : s ≡ y = cc in rw (← same) (omega arith)
-in_all-there h (suc n) (s ∷ ss) y e = let rest = in_all-there h n ss y e in omega arith
-
 -- the requests of a stream are some of those of the realm
 in_realm : (p : PromiseId) (s : Slots) (n : ℕ) (place : Option Stream) → slice_get s.streams n ≡ place → in_requests p (as_readable place).requests ≤ firm_in p s
 in_realm p s n None e = omega arith
@@ -44,11 +40,11 @@ waits-pending entries i p n =
     let m = in_realm p s i.0 (slice_get s.streams i.0) refl in
     open-pending (entry_at s.promises p) (omega arith)
 
-all-wait : (gone : PromiseId → Bool) (t : Table) (rs : List ReadRequest) → ((p : PromiseId) → 1 ≤ in_requests p rs → outcome_at t p ≡ Some Pending) → All (λ r. HasOutcome gone t r Pending) rs
-all-wait gone t [] h = All-nil (λ r. HasOutcome gone t r Pending)
-all-wait gone t (Pipe p ∷ rs) h = All-cons (λ r. HasOutcome gone t r Pending) (Pipe p) rs tt (all-wait gone t rs (λ q n. h q (omega (arith, n))))
-all-wait gone t (Promise p ∷ rs) h =
-    All-cons (λ r. HasOutcome gone t r Pending) (Promise p) rs (λ g. h p (let n = named p in omega arith)) (all-wait gone t rs (λ q n. h q (omega arith)))
+all-wait : (t : Table) (rs : List ReadRequest) → ((p : PromiseId) → 1 ≤ in_requests p rs → outcome_at t p ≡ Some Pending) → All (λ r. HasOutcome t r Pending) rs
+all-wait t [] h = All-nil (λ r. HasOutcome t r Pending)
+all-wait t (Pipe p ∷ rs) h = All-cons (λ r. HasOutcome t r Pending) (Pipe p) rs tt (all-wait t rs (λ q n. h q (omega (arith, n))))
+all-wait t (Promise p ∷ rs) h =
+    All-cons (λ r. HasOutcome t r Pending) (Promise p) rs (h p (let n = named p in omega arith)) (all-wait t rs (λ q n. h q (omega arith)))
 
-pub run-waiting : (gone : PromiseId → Bool) (entries : List Step) (i : StreamId) → All (λ r. HasOutcome gone (run entries empty).promises r Pending) (readable_at i (run entries empty)).requests
-run-waiting gone entries i = all-wait gone (run entries empty).promises (readable_at i (run entries empty)).requests (waits-pending entries i)
+pub run-waiting : (entries : List Step) (i : StreamId) → All (λ r. HasOutcome (run entries empty).promises r Pending) (readable_at i (run entries empty)).requests
+run-waiting entries i = all-wait (run entries empty).promises (readable_at i (run entries empty)).requests (waits-pending entries i)

@@ -1,9 +1,9 @@
-//! Laws over every run of a realm: what reads get, over every list of calls and jobs, of events that the host takes and of promises that it lets go of, from the empty realm.
+//! Laws over every run of a realm: what reads get, over every list of calls and jobs and of events that the host takes, from the empty realm.
 #![tactic(auto)]
 
 ghost use Rattle.ws_steps.specs.Laws.{EachReadIsAnswered, ReadsOfTheEnded, ReadsWereAnswered};
 
-/// In every run, of each readable stream: the reads that were answered come first, in the order in which they were asked, and then those that wait, whose promises are pending. The chunks that were given are those that the answered reads got, in this order. Each other read that was answered is finished with undefined where the stream closed, rejected with the stored error where it errored, or rejected with a TypeError where it waited as its reader was released. The table of promises holds these outcomes, but for promises that the host let go of. No read waits at a stream that has ended, or beside a chunk that is queued, and each has a promise of its own.
+/// In every run, of each readable stream: the reads that were answered come first, in the order in which they were asked, and then those that wait, whose promises are pending. The chunks that were given are those that the answered reads got, in this order. Each other read that was answered is finished with undefined where the stream closed, rejected with the stored error where it errored, or rejected with a TypeError where it waited as its reader was released. The table of promises holds these outcomes. No read waits at a stream that has ended, or beside a chunk that is queued, and each has a promise of its own.
 pub fn each_read_is_answered()
     ensures { EachReadIsAnswered }
 {}

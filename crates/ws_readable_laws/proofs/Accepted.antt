@@ -15,7 +15,7 @@ use Rattle.ws_steps.specs.Turns.{row, moments}
 use Rattle.ws_steps.specs.Jobs.{job_effects, job_begun, begin_job}
 use Rattle.ws_steps.specs.Calls.{Begun, begin, unsupported, with_renewed, reject_renewed}
 use Rattle.ws_steps.specs.Calls as calls
-use Rattle.ws_steps.specs.Run.{Entry, Called, Worked, Heard, Forgot, step, reply_to}
+use Rattle.ws_steps.specs.Run.{Entry, Called, Worked, Heard, step, reply_to}
 use Rattle.ws_steps.specs.Histories.{is_same, along}
 use Rattle.ws_steps.specs.ReadableHistory.{Flow, no_flow, flow_then, operation_flow, effect_flow, step_flow, run_flow, accepted_by, accepted_in_step, accepted}
 use Rattle.ws_steps.specs.Laws.{EnteredWasAccepted}
@@ -113,7 +113,6 @@ unfolding begin_job
 entry_accepted i (Called c) s = call_accepted i c s
 entry_accepted i Worked s = none_enters i (begin_job s) (job_quiet s (next_job s.promises))
 entry_accepted i Heard s = none_enters i (causes [] s) tt
-entry_accepted i (Forgot p) s = none_enters i (causes [] s) tt
 
 run_accepted : (i : StreamId) (xs : List Entry) (s : Slots) → (run_flow i xs s).entered ≡ accepted i xs s
 run_accepted i [] s = refl
@@ -140,4 +139,3 @@ pub entry_ended : (i : StreamId) (x : Entry) (s : Slots) → (readable_at i s).s
 entry_ended i (Called c) s n = entry_accepted i (Called c) s ∙ call_ended i c s n
 entry_ended i Worked s n = entry_accepted i Worked s
 entry_ended i Heard s n = entry_accepted i Heard s
-entry_ended i (Forgot p) s n = entry_accepted i (Forgot p) s

@@ -346,7 +346,6 @@ module _ (i : StreamId) where
     unmade = refl;
     known = nothing-stays;
     known_heard = λ s k. tt;
-    known_forgotten = λ s p k. tt;
     known_first = tt;
   }
 

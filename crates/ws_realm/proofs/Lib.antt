@@ -1,3 +1,2 @@
-pub mod LettingGo
 pub mod Resting
 pub mod Working

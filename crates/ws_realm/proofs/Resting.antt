@@ -1,40 +1,18 @@
--- What the letting go of promises and the taking of events leave of the places.
-use Rattle.std.proofs.Common.{if◌then◌else◌, None, ◌≤◌, ℕ, Bool, true, false, List, [], ◌∷◌, length, Option, Some, arith}
-use Rattle.ws_steps.specs.Promises.{Entry, Table, with_entry, entry_at, is_pending, release, release_entry}
+-- What the taking of events leaves of the places.
+use Rattle.std.proofs.Common.{◌≤◌, ℕ, List, [], ◌∷◌, length, arith}
+use Rattle.ws_steps.specs.Promises.{Table}
 use Rattle.ws_steps.specs.Run.{later_events}
 use Rattle.ws_steps.specs.declared.calls.Event.{Event}
-use Rattle.ws_value.specs.declared.ids.PromiseId.{PromiseId}
 use Rattle.ws_promise.specs.Seen.{Seen, HasRoom, jobs_in, events_in}
-use Rattle.ws_room_laws.proofs.Tables.{length-set, reactions-set, unnoted-set}
 use Rattle.ws_tables.specs.Room.{IsPrepared, IsResting, places_for}
 use Rattle.ws_tables.specs.declared.tables.Tables.{Tables}
 use Rattle.ws_tables.proofs.Places.{kept_promises}
 
--- a promise that is let go of leaves places
-
+-- nothing takes more places
 pub record Less (t u : Table) : Type 0 where
   pub entries : length u.entries ≤ length t.entries
   pub jobs : jobs_in u ≤ jobs_in t
   pub events : events_in u ≤ events_in t
-
-without-less : (p : PromiseId) (t : Table) → Less t (with_entry p None t)
-without-less p t =
-    let a = length-set t.entries p.0 None in
-    let b = reactions-set t.entries p.0 None in
-    let c = unnoted-set t.entries p.0 None in
-    record { entries = omega (arith, a); jobs = omega (arith, b); events = omega (arith, c) }
-
-unless-less : (p : PromiseId) (t : Table) (pending : Bool) → Less t (if pending then t else with_entry p None t)
-unless-less p t true = record { entries = omega arith; jobs = omega arith; events = omega arith }
-unless-less p t false = without-less p t
-
-entry-less : (p : PromiseId) (t : Table) (x : Option Entry) → Less t (release_entry p t x)
-entry-less p t None = record { entries = omega arith; jobs = omega arith; events = omega arith }
-entry-less p t (Some e) = unless-less p t (is_pending e.outcome)
-
-pub release-less : (p : PromiseId) (t : Table) → Less t (release p t)
-unfolding release
-release-less p t = entry-less p t (entry_at t p)
 
 less-room : (n : ℕ) (s : Seen) (u : Table) → Less s.table u → HasRoom n s → HasRoom n (record s { table = u })
 less-room n s u less room =

@@ -1,4 +1,4 @@
-//! What holds of the streams, pipes and promises of a realm, whatever calls and jobs it performs, events its host takes and promises its host lets go of.
+//! What holds of the streams, pipes and promises of a realm, whatever calls and jobs it performs and events its host takes.
 pub use ws_laws::{
     each_age_counts, each_mark_stays, each_outcome_stays, each_throw_changes_nothing,
     each_work_is_a_run,
@@ -19,7 +19,7 @@ pub use ws_pipe_write_laws::{
     each_action_settles_while_acting, each_held_chunk_is_queued, each_pipe_acts_in_order,
     each_pipe_is_owed, none_acts_while_a_write_is_open,
 };
-pub use ws_promise_laws::none_goes_astray;
+pub use ws_promise_laws::{each_name_stays, none_goes_astray};
 pub use ws_read_laws::{each_read_is_answered, reads_of_the_ended, reads_were_answered};
 pub use ws_readable_laws::{each_readable_is_lawful, each_readable_step, entered_was_accepted};
 pub use ws_room_laws::{effects_end_once, room_is_enough};

@@ -3,6 +3,7 @@ ghost use Rattle.std.specs.Prelude.{◌≡◌, ◌+◌, ◌<◌, ◌≤◌, ◌�
 ghost use Rattle.ws_steps.specs.Promises as table;
 ghost use Rattle.ws_steps.specs.declared.calls.Reply.TheVariants as reply;
 ghost use Rattle.ws_steps.specs.declared.calls.Thrown.{Thrown};
+ghost use Rattle.ws_steps.specs.Queues.{is_empty};
 ghost use Rattle.ws_steps.specs.Run as run;
 ghost use Rattle.ws_steps.specs.Slots.{empty};
 ghost use Rattle.ws_realm.specs.Seen.{StopsWithin, outcome_named, oldest};
@@ -147,17 +148,7 @@ impl Realm {
         Ok(())
     }
 
-    /// The host lets go of `p`, where a reply named it and it has settled: nobody may ask for it any more, and what it holds is freed. Else nothing happens.
-    pub fn forget(&mut self, p: PromiseId)
-        ensures slots { self.new.slots ≡ run.after_forgetting p self.old.slots }
-        ensures prepared { self.new.prepared ≡ self.old.prepared }
-    {
-        if self.tables.promises.rank(p).is_some() {
-            self.tables.promises.release(p);
-        }
-    }
-
-    /// The state of `p` with its result: none says that no reply has named `p`, or that the host let go of it.
+    /// The state of `p` with its result: none says that no reply has named `p`. A promise stays as long as its realm.
     pub fn outcome(&self, p: PromiseId) -> Option<&Outcome>
         ensures { option_map (λ outcome. outcome.now) result ≡ outcome_named p self.now.slots }
     {
@@ -181,7 +172,14 @@ impl Realm {
         self.tables.promises.queued() as u64
     }
 
-    /// How many promises became watched before `p`: none says that no reply has named `p`, or that the host let go of it.
+    /// Whether there is something that the host hasn't heard of yet.
+    pub fn has_event(&self) -> bool
+        ensures { result ≡ not (is_empty self.now.slots.promises.events) }
+    {
+        self.tables.promises.has_event()
+    }
+
+    /// How many promises became watched before `p`: none says that no reply has named `p`.
     pub fn rank(&self, p: PromiseId) -> Option<u64>
         ensures { result ≡ table.rank_at self.now.slots.promises p }
     {

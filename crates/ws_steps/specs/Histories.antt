@@ -6,7 +6,7 @@ use Rattle.ws_steps.specs.declared.calls.Event.{Event}
 use Rattle.ws_steps.specs.declared.effects.Effect.{Effect}
 use Rattle.ws_steps.specs.Slots.{Slots}
 use Rattle.ws_steps.specs.Turns.{Moment}
-use Rattle.ws_steps.specs.Run.{Entry, Called, Worked, Heard, Forgot, moments_in, step}
+use Rattle.ws_steps.specs.Run.{Entry, Called, Worked, Heard, moments_in, step}
 
 abbrev pub is_same : StreamId → StreamId → Bool
 is_same i j = nat_eq i.0 j.0
@@ -36,7 +36,6 @@ abbrev pub taken_in_step : Slots → Entry → List Event
 taken_in_step s (Called c) = []
 taken_in_step s Worked = []
 taken_in_step s Heard = taken_event s.promises.events
-taken_in_step s (Forgot p) = []
 
 -- the events of a run, in their order: those that the host took, and then those that it hasn't taken
 abbrev pub run_events : List Entry → Slots → List Event

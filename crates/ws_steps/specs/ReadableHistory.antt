@@ -18,7 +18,7 @@ use Rattle.ws_steps.specs.declared.readable.ReadableOperation.{ReadableOperation
 use Rattle.ws_steps.specs.declared.readable.ReadableOperation.TheVariants.{ReleaseReader, Enqueue, Read, Cancel, CancelIfReadable}
 use Rattle.ws_steps.specs.Readable as readable
 use Rattle.ws_steps.specs.Slots.{Slots, has_readable, lock_at, readable_at}
-use Rattle.ws_steps.specs.Run.{Entry, Called, Worked, Heard, Forgot, reply_to, step}
+use Rattle.ws_steps.specs.Run.{Entry, Called, Worked, Heard, reply_to, step}
 use Rattle.ws_steps.specs.Histories.{is_same, in_step, over}
 
 -- what went through a readable stream: the values that ReadableStreamDefaultControllerEnqueue accepted, the values with which
@@ -79,7 +79,6 @@ abbrev pub accepted_in_step : StreamId → Slots → Entry → List Value
 accepted_in_step i s (Called c) = accepted_by i c (reply_to c s)
 accepted_in_step i s Worked = []
 accepted_in_step i s Heard = []
-accepted_in_step i s (Forgot p) = []
 
 -- the values of the calls of a run that enqueue into stream i and are answered Done, in their order
 abbrev pub accepted : StreamId → List Entry → Slots → List Value
@@ -153,7 +152,6 @@ abbrev pub asked_in_step : StreamId → Slots → Entry → List PromiseId
 asked_in_step i s (Called c) = call_asked i c s
 asked_in_step i s Worked = []
 asked_in_step i s Heard = []
-asked_in_step i s (Forgot p) = []
 
 -- in a run
 abbrev pub asked_by_calls : StreamId → List Entry → Slots → List PromiseId

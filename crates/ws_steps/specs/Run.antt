@@ -1,10 +1,10 @@
 -- Steps, runs and tasks.
-use Rattle.std.specs.Prelude.{ℕ, zero, suc, ◌+◌, nat_eq, Bool, false, ◌&&◌, ◌||◌, if◌then◌else◌, List, [], ◌∷◌, Option, Some, None}
+use Rattle.std.specs.Prelude.{ℕ, zero, suc, ◌+◌, nat_eq, Bool, false, ◌||◌, if◌then◌else◌, List, [], ◌∷◌, Option, Some, None}
 use Rattle.ws_value.specs.declared.ids.PromiseId.{PromiseId}
 use Rattle.ws_steps.specs.declared.calls.Call.{Call}
 use Rattle.ws_steps.specs.declared.calls.Event.{Event}
 use Rattle.ws_steps.specs.declared.calls.Reply.{Reply}
-use Rattle.ws_steps.specs.Promises.{may_go, let_go}
+use Rattle.ws_steps.specs.declared.calls.Reply.TheVariants.{Promise}
 use Rattle.ws_steps.specs.Queues.{is_empty}
 use Rattle.ws_steps.specs.Slots.{Slots, Done, nothing, with_promises}
 use Rattle.ws_steps.specs.Turns.{Moment, moments, performed}
@@ -38,29 +38,22 @@ later_events (event ∷ events) = events
 abbrev pub after_event : Slots → Slots
 after_event s = with_promises (record s.promises { events = later_events s.promises.events }) s
 
--- the host lets go of a promise, where a reply named it and it has settled
-abbrev pub after_forgetting : PromiseId → Slots → Slots
-after_forgetting p s = with_promises (let_go p s.promises) s
-
--- a call, a job, the taking of an event, or the letting go of a promise
+-- a call, a job, or the taking of an event
 pub data Entry : Type 0 where
   Called : Call → Entry
   Worked : Entry
   Heard : Entry
-  Forgot : PromiseId → Entry
 
 abbrev pub step : Slots → Entry → Slots
 step s (Called c) = after_call c s
 step s Worked = after_job s
 step s Heard = after_event s
-step s (Forgot p) = after_forgetting p s
 
 -- what an entry begins with, and the moments of its effects
 abbrev pub begun_by : Slots → Entry → Done
 begun_by s (Called c) = (begin c s).done
 begun_by s Worked = begin_job s
 begun_by s Heard = nothing s
-begun_by s (Forgot p) = nothing s
 
 abbrev pub moments_in : Slots → Entry → List Moment
 moments_in s x = moments (begun_by s x)
@@ -69,24 +62,28 @@ abbrev pub run : List Entry → Slots → Slots
 run [] s = s
 run (x ∷ xs) s = run xs (step s x)
 
--- whether an entry lets go of this promise
-abbrev pub lets_go : PromiseId → Slots → Entry → Bool
-lets_go p s (Called c) = false
-lets_go p s Worked = false
-lets_go p s Heard = false
-lets_go p s (Forgot q) = nat_eq p.0 q.0 && may_go p s.promises
+-- whether a reply names this promise
+abbrev pub is_named_by : PromiseId → Reply → Bool
+is_named_by p (Promise q) = nat_eq p.0 q.0
+is_named_by p _ = false
 
--- whether a run lets go of it
-abbrev pub is_forgotten : PromiseId → List Entry → Slots → Bool
-is_forgotten p [] s = false
-is_forgotten p (x ∷ xs) s = lets_go p s x || is_forgotten p xs (step s x)
+-- whether the call of a step is answered this promise
+abbrev pub names_in_step : PromiseId → Slots → Entry → Bool
+names_in_step p s (Called c) = is_named_by p (reply_to c s)
+names_in_step p s Worked = false
+names_in_step p s Heard = false
+
+-- whether a call of a run is
+abbrev pub is_named : PromiseId → List Entry → Slots → Bool
+is_named p [] s = false
+is_named p (x ∷ xs) s = names_in_step p s x || is_named p xs (step s x)
 
 -- how many calls and jobs a run performs; a job counts where none is queued too
 abbrev pub performed_in : List Entry → ℕ
 performed_in [] = 0
 performed_in (Called c ∷ entries) = 1 + performed_in entries
 performed_in (Worked ∷ entries) = 1 + performed_in entries
-performed_in (_ ∷ entries) = performed_in entries
+performed_in (Heard ∷ entries) = performed_in entries
 
 abbrev pub is_idle : Slots → Bool
 is_idle s = is_empty s.promises.jobs

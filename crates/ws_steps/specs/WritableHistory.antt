@@ -27,7 +27,7 @@ use Rattle.ws_steps.specs.Pipes as pipe
 use Rattle.ws_steps.specs.Promises.{next_id}
 use Rattle.ws_steps.specs.Writable as writable
 use Rattle.ws_steps.specs.Slots.{Slots, lock_at, writable_at}
-use Rattle.ws_steps.specs.Run.{Entry, Called, Worked, Heard, Forgot, step, reply_to}
+use Rattle.ws_steps.specs.Run.{Entry, Called, Worked, Heard, step, reply_to}
 use Rattle.ws_steps.specs.Histories.{is_same, in_step, over}
 
 -- what went through a writable stream: the values that WritableStreamDefaultWriterWrite appended, the values with which its write
@@ -152,13 +152,11 @@ abbrev pub written_in_step : StreamId → Slots → Entry → List Value
 written_in_step i s (Called c) = call_written i c s
 written_in_step i s Worked = []
 written_in_step i s Heard = []
-written_in_step i s (Forgot p) = []
 
 abbrev pub answered_in_step : StreamId → Slots → Entry → List PromiseId
 answered_in_step i s (Called c) = answered_by (call_written i c s) (reply_to c s)
 answered_in_step i s Worked = []
 answered_in_step i s Heard = []
-answered_in_step i s (Forgot p) = []
 
 -- writes as pipes tell them: the chunk that a pipe holds where it writes, where it is appended to the queue, and the promise of that
 -- write, which is new

@@ -1,5 +1,5 @@
 -- How many promises there are, and what pipes count of them.
-use Rattle.std.proofs.Common.{◌≡◌, ◌≤◌, ℕ, ⊎_elim, List, [], ◌∷◌, length, Option, Some, None, Result, sym, ap, subst, ◌∙◌, arith}
+use Rattle.std.proofs.Common.{◌≡◌, ◌≤◌, ℕ, ⊎_elim, List, [], ◌∷◌, length, Some, Result, sym, ap, subst, ◌∙◌, arith}
 use Rattle.std.specs.Prelude.{slice_get, slice_set}
 use Rattle.ws_value.specs.declared.ids.PromiseId.{PromiseId}
 use Rattle.ws_value.specs.declared.ids.StreamId.{StreamId}
@@ -15,7 +15,7 @@ use Rattle.ws_steps.specs.declared.promises.Job.TheVariants.{Reaction as Reactio
 use Rattle.ws_steps.specs.declared.promises.Reaction.TheVariants.{Adopt}
 use Rattle.ws_steps.specs.declared.promises.Micro.{Micro}
 use Rattle.ws_steps.specs.Pipes as pipe
-use Rattle.ws_steps.specs.Promises.{Entry, Table, entry_at, settle, use_gift, queue_micro, taken, after_first, after_next_job, watch, release, release_entry}
+use Rattle.ws_steps.specs.Promises.{Entry, Table, settle, use_gift, queue_micro, taken, after_first, after_next_job, watch}
 use Rattle.ws_steps.specs.Operations.{readable_operation, writable_operation}
 use Rattle.ws_steps.specs.Slots.{Slots, Done, on_readable, on_writable}
 use Rattle.ws_steps.specs.Turns.{row}
@@ -74,7 +74,7 @@ pub micro-more : (m : Micro) (s : Slots) → length s.promises.entries ≤ lengt
 unfolding row
 micro-more m s = entries-more (Queue m) s
 
--- nor does the taking of a job, the watching of a promise, or the letting go of one
+-- nor does the taking of a job, or the watching of a promise
 
 taken-has : (n : ℕ) (job : Job) (t : Table) → Has n t → Has n (taken job t)
 taken-has n (ReactionJob step outcome derived) t h = h
@@ -92,14 +92,6 @@ next-more t = first-has (length t.entries) t t.jobs (omega arith)
 
 pub watch-more : (p : PromiseId) (t : Table) → length t.entries ≤ length (watch p t).entries
 watch-more p t = watch-cases (Has (length t.entries)) p t (omega arith) (λ e z is w. put-has (length t.entries) p t z e _ _ w (omega arith))
-
-let_go-entry : (p : PromiseId) (t : Table) (x : Option Entry) → Has (length t.entries) (release_entry p t x)
-let_go-entry p t None = omega arith
-let_go-entry p t (Some e) = let h = length-set t.entries p.0 None in grind (arith, h)
-
-pub release-more : (p : PromiseId) (t : Table) → length t.entries ≤ length (release p t).entries
-unfolding release
-release-more p t = let_go-entry p t (entry_at t p)
 
 -- so what pipes count of them stays below
 

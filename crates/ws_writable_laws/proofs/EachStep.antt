@@ -12,7 +12,7 @@ use Rattle.ws_steps.specs.Slots.{Slots, Done, nothing, empty, has_writable, put_
 use Rattle.ws_steps.specs.Turns.{row, moments}
 use Rattle.ws_steps.specs.Jobs.{job_begun, begin_job}
 use Rattle.ws_steps.specs.Calls.{Begun, begin}
-use Rattle.ws_steps.specs.Run.{Entry, Called, Worked, Heard, Forgot, step, run}
+use Rattle.ws_steps.specs.Run.{Entry, Called, Worked, Heard, step, run}
 use Rattle.ws_steps.specs.Histories.{along}
 use Rattle.ws_steps.specs.WritableHistory.{Writes, no_writes, writes_then, todo, written_by, effect_writes, step_writes, run_writes}
 use Rattle.ws_steps.specs.Laws.{IsWritableStep, EachWritableStep}
@@ -115,7 +115,6 @@ unfolding begin_job
 entry_none i s (Called c) e = performed_none i (begin c s).done (call_none i s c e)
 entry_none i s Worked e = performed_none i (begin_job s) (inr (job_ended i s (next_job s.promises) e))
 entry_none i s Heard e = performed_none i (nothing s) (inr e)
-entry_none i s (Forgot p) e = performed_none i (nothing s) (inr e)
 
 -- a stream that has ended acts on nothing: its past may be forgotten, but for its closing
 

@@ -16,7 +16,7 @@ use Rattle.ws_steps.specs.declared.{effects.Gift.{Gift}, effects.Use.{Use}, prom
 use Rattle.ws_steps.specs.declared.{writable.WritableOperation.{WritableOperation}, writable.WritableOperation.TheVariants.{HandOn}}
 use Rattle.ws_steps.specs.Effects.{Out, cause}
 use Rattle.ws_steps.specs.Operations.{readable_operation, writable_operation, pipe_operation, signal_operation}
-use Rattle.ws_steps.specs.Promises.{Table, fresh, settle, answer, react, follow, unfollow, use_this, use_gift, queue_micro, tell, taken, after_next_job, watch, let_go}
+use Rattle.ws_steps.specs.Promises.{Table, fresh, settle, answer, react, follow, unfollow, use_this, use_gift, queue_micro, tell, taken, after_next_job, watch}
 use Rattle.ws_steps.specs.declared.{pipes.PipeOperation.{PipeOperation}, pipes.SignalOperation.{SignalOperation}, promises.Micro.{Micro}, readable.ReadRequest.TheVariants.{Promise, Pipe as PipeRequest}}
 use Rattle.ws_steps.specs.Pipes as pipe
 use Rattle.ws_steps.specs.Pipes.{abort_all}
@@ -26,7 +26,7 @@ use Rattle.ws_steps.specs.Slots.{Slots, Done, found, ends_at, on_pipe_at, on_sig
 use Rattle.ws_steps.specs.Turns.{row, call_host, moments}
 use Rattle.ws_steps.specs.Jobs.{job_effects}
 use Rattle.ws_steps.specs.Calls.{Begun, begin}
-use Rattle.ws_steps.specs.Run.{older, Entry as RunEntry, Called, Worked, Heard, Forgot, later_events, step}
+use Rattle.ws_steps.specs.Run.{older, Entry as RunEntry, Called, Worked, Heard, later_events, step}
 use Rattle.ws_steps.specs.Histories.{is_same, along, taken_event, taken_in_step, run_events}
 use Rattle.ws_steps.specs.WritableHistory.{Writes, no_writes, writes_then, operation_writes, effect_writes, step_writes, run_writes, heard_writes, heard_closes}
 use Rattle.ws_steps.specs.Laws.{ActedWasHeard, ClosesWereHeard}
@@ -129,10 +129,6 @@ module _ (i : StreamId) (ear : Ear) where
   watch-heard : (p : PromiseId) (t : Table) → heard (watch p t) ≡ heard t
   unfolding watch
   watch-heard p t = grind (arith, silent-heard)
-
-  let_go-heard : (p : PromiseId) (t : Table) → heard (let_go p t) ≡ heard t
-  unfolding let_go
-  let_go-heard p t = grind arith
 
   use-heard : (p : PromiseId) (t : Table) (u : Use) → heard (use_this p t u) ≡ heard t
   use-heard p t u = grind (arith, react-heard, follow-heard)
@@ -311,7 +307,6 @@ module _ (i : StreamId) (ear : Ear) where
   step-heard s Worked =
       step_told s (step_writes i s Worked) (step s Worked) (walker.worked-goes_untold no_writes writes_then is_history (effect_writes i) (Told (heard s.promises)) (told-goes (heard s.promises)) no_writes s (at_first s))
   step-heard s Heard = rw (nothing_told s, ear.none, append-nil) (taken_first s.promises.events)
-  step-heard s (Forgot p) = rw (nothing_told s, ear.none, append-nil) (let_go-heard p s.promises)
 
   run-heard : (xs : List RunEntry) (s : Slots) → of_events (run_events xs s) ≡ heard s.promises ++ ear.history (run_writes i xs s)
   run-heard [] s = sym (ap (λ vs. heard s.promises ++ vs) ear.none ∙ append-nil (heard s.promises))

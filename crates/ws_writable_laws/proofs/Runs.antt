@@ -18,7 +18,7 @@ use Rattle.ws_steps.specs.Slots.{Slots, Stream, ReadableStream, WritableStream, 
 use Rattle.ws_steps.specs.Jobs.{job_effects}
 use Rattle.ws_steps.specs.Calls.{Begun, begin}
 use Rattle.ws_steps.specs.Calls as calls
-use Rattle.ws_steps.specs.Run.{Entry, step, run, older, after_event, after_forgetting}
+use Rattle.ws_steps.specs.Run.{Entry, step, run, older, after_event}
 use Rattle.ws_steps.specs.Histories.{is_same}
 use Rattle.ws_steps.specs.WritableHistory.{Writes, no_writes, writes_then, todo, effect_writes, step_writes, run_writes}
 use Rattle.ws_steps.specs.Laws.{IsLawfulWritable, EachWritableIsLawful}
@@ -27,7 +27,7 @@ use Rattle.ws_laws.proofs.Tables.{is_same-refl, same_id, eq_numbers, unequal_num
 use Rattle.ws_laws.proofs.EachCall.{each_call}
 use Rattle.ws_laws.proofs.Walker as walker
 use Rattle.ws_laws.proofs.Walker.{IsHistory, GoesUntold, RestsUntold}
-use Rattle.ws_laws.proofs.Weights.{weigh, taken_off, weigh-fresh, weigh-next, weigh-watch, weigh-let_go}
+use Rattle.ws_laws.proofs.Weights.{weigh, taken_off, weigh-fresh, weigh-next, weigh-watch}
 use Rattle.ws_writable_laws.proofs.Shape.{Core, core_of, Shape, Told, is_start, is_write, is_close, is_abort, leads_to, hands, closes, all, mass, of_reaction, weight}
 use Rattle.ws_writable_laws.proofs.Operations.{Fine, with_effects, so_far, so_far-nothing, writes-nothing}
 use Rattle.ws_writable_laws.proofs.Agenda.{none_behind, among, Unmade, Kept, kept-lighter, massless, Lightens, lightly, same_weight, lightens-fresh, row-kept}
@@ -181,7 +181,6 @@ pub rests : (i : StreamId) → RestsUntold (Kept i)
 unfolding weigh
 rests i = record {
   heard = λ h s k. still-kept i h s (after_event s) [] refl (λ f. omega arith) refl k;
-  forgotten = λ h s p k. still-kept i h s (after_forgetting p s) [] refl (λ f. weigh-let_go (of_reaction f) p s.promises) refl k;
 }
 
 pub step-kept : (i : StreamId) (h : Writes) (s : Slots) (x : Entry) → Kept i h s [] → Kept i (writes_then h (step_writes i s x)) (step s x) []

@@ -1,4 +1,4 @@
-//! Laws over every run of a realm: what goes through its writable streams, over every list of calls and jobs, of events that the host takes and of promises that it lets go of, from the empty realm.
+//! Laws over every run of a realm: what goes through its writable streams, over every list of calls and jobs and of events that the host takes, from the empty realm.
 #![tactic(auto)]
 
 ghost use Rattle.ws_steps.specs.Laws.{ActedWasHeard, ClosesWereHeard, EachWritableIsLawful, EachWritableStep};

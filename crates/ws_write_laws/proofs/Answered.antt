@@ -22,7 +22,7 @@ use Rattle.ws_steps.specs.Turns.{row, moments, Moment, performed}
 use Rattle.ws_steps.specs.Jobs.{job_effects, job_begun, begin_job, steps, resolved, returned}
 use Rattle.ws_steps.specs.Calls.{Begun, begin, unsupported, by_writer}
 use Rattle.ws_steps.specs.Calls as calls
-use Rattle.ws_steps.specs.Run.{Entry, Called, Worked, Heard, Forgot, step, moments_in}
+use Rattle.ws_steps.specs.Run.{Entry, Called, Worked, Heard, step, moments_in}
 use Rattle.ws_steps.specs.Histories.{is_same, along}
 use Rattle.ws_steps.specs.WritableHistory.{Writes, no_writes, writes_then, effect_writes, written_by, operation_writes, promised_by, effect_promised, operation_promised, step_writes, step_promised, run_writes, run_promised, written_with, call_written, answered_by, written_in_step, answered_in_step, written_from, piped_to, effect_piped, effect_piped_promised, step_piped, step_piped_promised, written_in_run, answered_in_run}
 use Rattle.ws_steps.specs.Laws.{WritesWereAnswered}
@@ -344,7 +344,6 @@ unfolding begin_job
 entry-says i (Called c) s = all-told i (call_written i c s) (answered_by (call_written i c s) (begin c s).reply) (begin c s).done (call-begins i c s)
 entry-says i Worked s = all-told i [] [] (begin_job s) (begun-begins i s (next_job s.promises))
 entry-says i Heard s = all-told i [] [] (causes [] s) (quiet-begins i (causes [] s) tt)
-entry-says i (Forgot p) s = all-told i [] [] (causes [] s) (quiet-begins i (causes [] s) tt)
 
 entry-answered : (i : StreamId) (x : Entry) (s : Slots)
     → ((step_writes i s x).written ≡ written_in_step i s x ++ step_piped i s x) × (step_promised i s x ≡ answered_in_step i s x ++ step_piped_promised i s x)

@@ -1,6 +1,6 @@
 -- The promises of the writes of a stream: those that ended well are fulfilled, and the others stand in line while the stream lives, and
 -- are rejected once it has ended.
-use Rattle.std.proofs.Common.{◌≡◌, ℕ, zero, suc, ◌+◌, Bool, true, false, is_some, nat_eq, List, [], ◌∷◌, ◌++◌, length, get_or, Option, Some, None, Result, Ok, Err, refl, sym, ap, ◌∙◌, arith, append_assoc, append-nil, length-append}
+use Rattle.std.proofs.Common.{◌≡◌, zero, suc, ◌+◌, Bool, true, false, is_some, List, [], ◌∷◌, ◌++◌, length, get_or, Option, Some, None, Result, Ok, Err, refl, sym, ap, ◌∙◌, arith, append_assoc, append-nil, length-append}
 use Rattle.std.proofs.lemmas.List.Elements.{All-append}
 use Rattle.ws_value.specs.declared.ids.PromiseId.{PromiseId}
 use Rattle.ws_value.specs.declared.ids.StreamId.{StreamId}
@@ -11,80 +11,53 @@ use Rattle.ws_value.specs.declared.value.Value.{Value}
 use Rattle.ws_steps.specs.declared.writable.WritableOperation.{WritableOperation}
 use Rattle.ws_steps.specs.declared.writable.WritableOperation.TheVariants as names
 use Rattle.ws_steps.specs.Operations.{writable_operation}
-use Rattle.ws_steps.specs.Promises.{Table, outcome_at, let_go}
+use Rattle.ws_steps.specs.Promises.{Table, outcome_at}
 use Rattle.ws_steps.specs.Writable as writable
 use Rattle.ws_steps.specs.Writable.{Acts, has_ended, write_refusal}
 use Rattle.ws_steps.specs.Slots.{Stream, WritableStream, as_writable}
 use Rattle.ws_steps.specs.WritableHistory.{Writes, no_writes, writes_then, written_unless, fulfilled_by, operation_writes, promised_by, operation_promised}
-use Rattle.ws_steps.specs.Laws.{is_rejected, AllFulfilled, AllRejected}
-use Rattle.ws_laws.proofs.LettingGo.{let_go-outcome}
+use Rattle.ws_steps.specs.Laws.{AllFulfilled, AllRejected}
 use Rattle.ws_laws.proofs.Outcomes.{Keeps}
-use Rattle.ws_laws.proofs.Tables.{eq_numbers}
 use Rattle.ws_laws.proofs.Truth.{false_true}
 use Rattle.ws_writable_laws.proofs.Shape.{core_of}
 use Rattle.ws_writable_laws.proofs.Operations.{Alone, not_refused}
 use Rattle.ws_write_laws.proofs.Rejecting.{rejected-keeps}
 use Rattle.ws_write_laws.proofs.Lines.{flight, line, Ready, Lines, plain-lines, joined, write-lines, start-lines, write_fulfilled-lines, write_fulfils, write_failed-lines, closed-lines, close_failed-lines}
 
--- of the stream that stands in its place, by the history of its writes and their promises; some promises may be let go of
-pub record Lined (gone : PromiseId → Bool) (h : Writes) (promised : List PromiseId) (place : Option Stream) (t : Table) : Type 0 where
+-- of the stream that stands in its place, by the history of its writes and their promises
+pub record Lined (h : Writes) (promised : List PromiseId) (place : Option Stream) (t : Table) : Type 0 where
   pub answered : length promised ≡ length h.written
   pub first : List PromiseId
   pub rest : List PromiseId
   pub split : first ++ rest ≡ promised
   pub counted : length first ≡ h.fulfilled
-  pub fulfilled : AllFulfilled gone t first
+  pub fulfilled : AllFulfilled t first
   pub alive : has_ended (as_writable place).state ≡ false → rest ≡ line (core_of (as_writable place))
   pub spent : has_ended (as_writable place).state ≡ true → is_some (as_writable place).write_in_flight ≡ false
   pub unmade : place ≡ None → rest ≡ []
-  pub ended : has_ended (as_writable place).state ≡ true → AllRejected gone t rest
+  pub ended : has_ended (as_writable place).state ≡ true → AllRejected t rest
 
 -- settled promises keep their outcomes
 
-all_keep : (gone : PromiseId → Bool) (t z : Table) (ps : List PromiseId) → Keeps t z → AllFulfilled gone t ps → AllFulfilled gone z ps
-all_keep gone t z ps k a n d h g = k.outcome (get_or ps n d) (Fulfilled Undefined) refl (a n d h g)
+all_keep : (t z : Table) (ps : List PromiseId) → Keeps t z → AllFulfilled t ps → AllFulfilled z ps
+all_keep t z ps k a n d h = k.outcome (get_or ps n d) (Fulfilled Undefined) refl (a n d h)
 
-rejected_keep : (gone : PromiseId → Bool) (t z : Table) (ps : List PromiseId) → Keeps t z → AllRejected gone t ps → AllRejected gone z ps
-rejected_keep gone t z ps k a n d h g = rejected-keeps t z (get_or ps n d) k (a n d h g)
+rejected_keep : (t z : Table) (ps : List PromiseId) → Keeps t z → AllRejected t ps → AllRejected z ps
+rejected_keep t z ps k a n d h = rejected-keeps t z (get_or ps n d) k (a n d h)
 
-pub lined-later : (gone : PromiseId → Bool) (h : Writes) (q : List PromiseId) (old new : Option Stream) (t z : Table) → as_writable new ≡ as_writable old → (new ≡ None → old ≡ None) → Keeps t z → Lined gone h q old t → Lined gone h q new z
-lined-later gone h q old new t z same there k l = record {
+pub lined-later : (h : Writes) (q : List PromiseId) (old new : Option Stream) (t z : Table) → as_writable new ≡ as_writable old → (new ≡ None → old ≡ None) → Keeps t z → Lined h q old t → Lined h q new z
+lined-later h q old new t z same there k l = record {
   answered = l.answered;
   first = l.first;
   rest = l.rest;
   split = l.split;
   counted = l.counted;
-  fulfilled = all_keep gone t z l.first k l.fulfilled;
+  fulfilled = all_keep t z l.first k l.fulfilled;
   alive = rw same l.alive;
   spent = rw same l.spent;
   unmade = λ e. l.unmade (there e);
-  ended = rw same (λ e. rejected_keep gone t z l.rest k (l.ended e));
+  ended = rw same (λ e. rejected_keep t z l.rest k (l.ended e));
 }
-
--- a promise is let go of that may be
-
--- a promise that may be let go of is no other
-kept_number : (gone : PromiseId → Bool) (p q : PromiseId) (same : Bool) → same ≡ nat_eq p.0 q.0 → gone p ≡ false → gone q ≡ true → same ≡ false
-kept_number gone p q false e g may = refl
-kept_number gone p q true e g may =
-    let is : gone p ≡ gone q = ap (λ (n : ℕ). gone (record { 0 = n })) (eq_numbers p.0 q.0 (sym e)) in
-    false_true (gone q) may (sym is ∙ g)
-
-pub lined-released : (gone : PromiseId → Bool) (h : Writes) (q : List PromiseId) (place : Option Stream) (p : PromiseId) (t : Table) → gone p ≡ true → Lined gone h q place t → Lined gone h q place (let_go p t)
-lined-released gone h q place p t may l =
-    let same : (x : PromiseId) → gone x ≡ false → outcome_at (let_go p t) x ≡ outcome_at t x = λ x g. let_go-outcome x p t (kept_number gone x p (nat_eq x.0 p.0) refl g may) in
-    record {
-      answered = l.answered;
-      first = l.first;
-      rest = l.rest;
-      split = l.split;
-      counted = l.counted;
-      fulfilled = λ n d h g. same (get_or l.first n d) g ∙ l.fulfilled n d h g;
-      alive = l.alive;
-      spent = l.spent;
-      unmade = l.unmade;
-      ended = λ e n d h g. ap is_rejected (same (get_or l.rest n d) g) ∙ l.ended e n d h g;
-    }
 
 -- an operation of the stream
 
@@ -97,13 +70,13 @@ record Counted (h : Writes) (promised first rest : List PromiseId) : Type 0 wher
 some_none : {A : Type 0} {x : A} → ◌≡◌ {A = Option A} (Some x) None → ⊥
 some_none e = cc
 
-after_ended : (gone : PromiseId → Bool) (had : Bool) (rest : List PromiseId) (b : Acts) → Lines had rest b → b.out.promises.astray ≡ false → (had ≡ true → AllRejected gone b.out.promises rest) → has_ended b.slots.state ≡ true → AllRejected gone b.out.promises rest
-after_ended gone true rest b l straight was e = was refl
-after_ended gone false rest b l straight was e = λ n d h g. l.failed refl e straight n d h
+after_ended : (had : Bool) (rest : List PromiseId) (b : Acts) → Lines had rest b → b.out.promises.astray ≡ false → (had ≡ true → AllRejected b.out.promises rest) → has_ended b.slots.state ≡ true → AllRejected b.out.promises rest
+after_ended true rest b l straight was e = was refl
+after_ended false rest b l straight was e = l.failed refl e straight
 
-lined-next : (gone : PromiseId → Bool) (h : Writes) (q first rest : List PromiseId) (had : Bool) (b : Acts) → Counted h q first rest → AllFulfilled gone b.out.promises first → Lines had rest b → b.out.promises.astray ≡ false → (had ≡ true → AllRejected gone b.out.promises rest)
-    → Lined gone h q (Some (WritableStream b.slots)) b.out.promises
-lined-next gone h q first rest had b c fulfilled l straight was = let e = after_ended gone had rest b l straight was in grind arith
+lined-next : (h : Writes) (q first rest : List PromiseId) (had : Bool) (b : Acts) → Counted h q first rest → AllFulfilled b.out.promises first → Lines had rest b → b.out.promises.astray ≡ false → (had ≡ true → AllRejected b.out.promises rest)
+    → Lined h q (Some (WritableStream b.slots)) b.out.promises
+lined-next h q first rest had b c fulfilled l straight was = let e = after_ended had rest b l straight was in grind arith
 
 -- nothing is written and no write ends well
 same_count : (h f : Writes) (q first rest : List PromiseId) → f.written ≡ [] → f.fulfilled ≡ 0 → Counted h q first rest → Counted (writes_then h f) (q ++ []) first rest
@@ -120,9 +93,9 @@ none_left first (p ∷ rest) promised e n =
     let m : length promised ≡ length first + suc (length rest) = ap length (sym e) ∙ length-append first (p ∷ rest) in
     absurd (omega arith)
 
-all_one : (gone : PromiseId → Bool) (t : Table) (p : PromiseId) → outcome_at t p ≡ Some (Fulfilled Undefined) → AllFulfilled gone t (p ∷ [])
-all_one gone t p h zero d n g = h
-all_one gone t p h (suc k) d n g = absurd (omega arith)
+all_one : (t : Table) (p : PromiseId) → outcome_at t p ≡ Some (Fulfilled Undefined) → AllFulfilled t (p ∷ [])
+all_one t p h zero d n = h
+all_one t p h (suc k) d n = absurd (omega arith)
 
 -- what is known where an operation is performed
 abbrev pub Knows : Writes → WritableOperation → writable.Slots → Type 0
@@ -131,13 +104,13 @@ Knows h (names.WriteSettled o) w = (is_some w.write_in_flight ≡ true) × Alone
 Knows h (names.CloseSettled o) w = (is_some w.write_in_flight ≡ false) × (h.fulfilled ≡ length h.written)
 Knows h _ w = Unit {0}
 
-module _ (gone : PromiseId → Bool) (i : StreamId) (h : Writes) (q : List PromiseId) (a : Acts) (l : Lined gone h q (Some (WritableStream a.slots)) a.out.promises) where
+module _ (i : StreamId) (h : Writes) (q : List PromiseId) (a : Acts) (l : Lined h q (Some (WritableStream a.slots)) a.out.promises) where
   abbrev had : Bool
   had = has_ended a.slots.state
 
   -- what is to be shown of an operation by which this happens
   abbrev Next : Writes → List PromiseId → Acts → Type 0
-  Next f ps b = Lined gone (writes_then h f) (q ++ ps) (Some (WritableStream b.slots)) b.out.promises
+  Next f ps b = Lined (writes_then h f) (q ++ ps) (Some (WritableStream b.slots)) b.out.promises
 
   stands : Ready had l.rest (core_of a.slots)
   stands = record { same = refl; line = λ e. sym (l.alive e); spent = l.spent }
@@ -145,22 +118,22 @@ module _ (gone : PromiseId → Bool) (i : StreamId) (h : Writes) (q : List Promi
   -- the same stand in line, or are rejected
   still : (f : Writes) (b : Acts) → f.written ≡ [] → f.fulfilled ≡ 0 → Keeps a.out.promises b.out.promises → b.out.promises.astray ≡ false → Lines had l.rest b → Next f [] b
   still f b w n k straight ls =
-      lined-next gone (writes_then h f) (q ++ []) l.first l.rest had b
-      (same_count h f q l.first l.rest w n (record { answered = l.answered; split = l.split; counted = l.counted })) (all_keep gone a.out.promises b.out.promises l.first k l.fulfilled) ls straight
-      (λ e. rejected_keep gone a.out.promises b.out.promises l.rest k (l.ended e))
+      lined-next (writes_then h f) (q ++ []) l.first l.rest had b
+      (same_count h f q l.first l.rest w n (record { answered = l.answered; split = l.split; counted = l.counted })) (all_keep a.out.promises b.out.promises l.first k l.fulfilled) ls straight
+      (λ e. rejected_keep a.out.promises b.out.promises l.rest k (l.ended e))
 
   wrote : (v : Value) (p : PromiseId) (b : Acts) (refusal : Option Plain) → refusal ≡ write_refusal a.slots → Keeps a.out.promises b.out.promises → b.out.promises.astray ≡ false → Lines had (joined l.rest p refusal) b
       → Next (record no_writes { written = written_unless v refusal }) (promised_by (written_unless v refusal) p) b
   wrote v p b (Some e) r k straight ls = still (record no_writes { written = [] }) b refl refl k straight ls
   wrote v p b None r k straight ls =
       let alive : had ≡ false = ap has_ended (not_refused a.slots r).0 in
-      lined-next gone (writes_then h (record no_writes { written = v ∷ [] })) (q ++ p ∷ []) l.first (l.rest ++ p ∷ []) had b
+      lined-next (writes_then h (record no_writes { written = v ∷ [] })) (q ++ p ∷ []) l.first (l.rest ++ p ∷ []) had b
       (record {
         answered = let n = l.answered in omega (arith, length-append q (p ∷ []), length-append h.written (v ∷ []));
         split = sym (append_assoc l.first l.rest (p ∷ [])) ∙ ap (λ (ps : List PromiseId). ps ++ p ∷ []) l.split;
         counted = let n = l.counted in omega arith;
       })
-      (all_keep gone a.out.promises b.out.promises l.first k l.fulfilled) ls straight (λ e. false_true had e alive)
+      (all_keep a.out.promises b.out.promises l.first k l.fulfilled) ls straight (λ e. false_true had e alive)
 
   -- the write in flight, of a stream that lives
   flying : is_some a.slots.write_in_flight ≡ true → had ≡ false
@@ -183,13 +156,13 @@ module _ (gone : PromiseId → Bool) (i : StreamId) (h : Writes) (q : List Promi
       let alive : had ≡ false = flying (rw e refl) in
       let rest = first_in_line p alive e in
       let one : fulfilled_by (Ok v) a.slots ≡ 1 = rw e refl in
-      lined-next gone (writes_then h (record no_writes { fulfilled = fulfilled_by (Ok v) a.slots })) (q ++ []) (l.first ++ p ∷ []) a.slots.write_requests false b
+      lined-next (writes_then h (record no_writes { fulfilled = fulfilled_by (Ok v) a.slots })) (q ++ []) (l.first ++ p ∷ []) a.slots.write_requests false b
       (record {
         answered = rw (append-nil q, append-nil h.written) l.answered;
         split = append_assoc l.first (p ∷ []) a.slots.write_requests ∙ (ap (λ (ps : List PromiseId). l.first ++ ps) (sym rest) ∙ (l.split ∙ sym (append-nil q)));
         counted = let n = l.counted in omega (arith, length-append l.first (p ∷ []));
       })
-      (All-append (λ p. gone p ≡ false → outcome_at b.out.promises p ≡ Some (Fulfilled Undefined)) l.first (p ∷ []) (all_keep gone a.out.promises b.out.promises l.first k l.fulfilled) (all_one gone b.out.promises p (write_fulfils i p v a e straight)))
+      (All-append (λ p. outcome_at b.out.promises p ≡ Some (Fulfilled Undefined)) l.first (p ∷ []) (all_keep a.out.promises b.out.promises l.first k l.fulfilled) (all_one b.out.promises p (write_fulfils i p v a e straight)))
       (write_fulfilled-lines i a.slots.write_requests p v a e (front p alive e)) straight (λ f. cc)
   write_ended-lined p (Err r) e alone k straight =
       let b : Acts = writable.write_settled i (Err r) a in

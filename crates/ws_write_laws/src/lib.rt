@@ -1,9 +1,9 @@
-//! Laws over every run of a realm: the promises of writes, over every list of calls and jobs, of events that the host takes and of promises that it lets go of, from the empty realm.
+//! Laws over every run of a realm: the promises of writes, over every list of calls and jobs and of events that the host takes, from the empty realm.
 #![tactic(auto)]
 
 ghost use Rattle.ws_steps.specs.Laws.{EachWriteIsSettled, WritesWereAnswered};
 
-/// In every run, of each writable stream: the promises that writes answered, where these were appended to its queue, are as many as the values that were written. The first of them, as many as writes ended well, are fulfilled with undefined, and where the close algorithm was performed, all are; and where the stream has ended, all others are rejected; but for those that the host let go of.
+/// In every run, of each writable stream: the promises that writes answered, where these were appended to its queue, are as many as the values that were written. The first of them, as many as writes ended well, are fulfilled with undefined, and where the close algorithm was performed, all are; and where the stream has ended, all others are rejected.
 pub fn each_write_is_settled()
     ensures { EachWriteIsSettled }
 {}

@@ -14,7 +14,7 @@ use Rattle.ws_steps.specs.Pipes as pipe
 use Rattle.ws_steps.specs.Promises.{next_job}
 use Rattle.ws_steps.specs.Readable as readable
 use Rattle.ws_steps.specs.Readable.{is_readable, call_pull_if_needed, accept, controller_enqueue, stream_close, stream_error, close_if_empty, controller_close, controller_error, after_take, pull_steps, default_reader_read, reader_generic_initialize, disturb, cancel_if_readable, start_settled, pull_settled, cancel_steps, stream_cancel, reader_release}
-use Rattle.ws_steps.specs.Run.{Entry, Called, Worked, Heard, Forgot, run, step}
+use Rattle.ws_steps.specs.Run.{Entry, Called, Worked, Heard, run, step}
 use Rattle.ws_steps.specs.Slots.{Slots, ReadableStream, Done, nothing, empty, as_pipe, pipe_at, readable_at}
 use Rattle.ws_steps.specs.Turns.{Moment, row, moments, performed}
 use Rattle.ws_laws.proofs.Begin.{begin-makes}
@@ -98,7 +98,6 @@ module _ (p : PipeId) (i : StreamId) (r : readable.Slots) (C : Type 0) (closed :
   other-sure s (Called c) n w same k = absurd (n c refl)
   other-sure s Worked n w same k = job-sure s (next_job s.promises) refl w same k
   other-sure s Heard n w same k = (none-stepped s, k)
-  other-sure s (Forgot q) n w same k = (none-stepped s, k)
 
   -- where there is the pipe
   begins-sure : (c : Call) (s : Slots) (x : pipe.Slots) → slice_get s.pipes p.0 ≡ Some x → Sure p i r C closed (Some x) → SureAt (begin c s).done.slots
@@ -120,7 +119,6 @@ module _ (p : PipeId) (i : StreamId) (r : readable.Slots) (C : Type 0) (closed :
   there-sure s (Called c) x e w same k = call-sure s c w (begins-sure c s x e k)
   there-sure s Worked x e w same k = other-sure s Worked (λ c f. cc) w same (subst (Sure p i r C closed) (sym e) k)
   there-sure s Heard x e w same k = other-sure s Heard (λ c f. cc) w same (subst (Sure p i r C closed) (sym e) k)
-  there-sure s (Forgot q) x e w same k = other-sure s (Forgot q) (λ c f. cc) w same (subst (Sure p i r C closed) (sym e) k)
 
 -- runs
 
@@ -232,7 +230,6 @@ module _ (p : PipeId) where
       by None e (Called c) = call-whole before c e
       by None e Worked = none-whole before Worked e (λ c f. cc)
       by None e Heard = none-whole before Heard e (λ c f. cc)
-      by None e (Forgot q) = none-whole before (Forgot q) e (λ c f. cc)
 
   walk : (xs before : List Entry) (s : Slots) → run before empty ≡ s → Whole s → Whole (run xs s)
   walk [] before s e h = h

@@ -14,7 +14,7 @@ use Rattle.ws_steps.specs.Histories.{is_same, along}
 use Rattle.ws_steps.specs.Jobs.{job_effects, job_begun, begin_job}
 use Rattle.ws_steps.specs.Pipes as pipe
 use Rattle.ws_steps.specs.Promises.{Table, next_job, after_next_job}
-use Rattle.ws_steps.specs.Run.{Entry, Called, Worked, Heard, Forgot, run, step}
+use Rattle.ws_steps.specs.Run.{Entry, Called, Worked, Heard, run, step}
 use Rattle.ws_steps.specs.Slots.{Slots, Done, nothing, causes, empty, lock_at, pipe_at, writable_at, with_promises}
 use Rattle.ws_steps.specs.Turns.{row, moments}
 use Rattle.ws_steps.specs.Writable as writable
@@ -177,7 +177,6 @@ module _ (entries : List Entry) (p : PipeId) (over : is_over (pipe_at p (run ent
   no_call (Called c) = refl
   no_call Worked = refl
   no_call Heard = refl
-  no_call (Forgot q) = refl
 
   -- and no other pipe
 
@@ -256,7 +255,6 @@ module _ (entries : List Entry) (p : PipeId) (over : is_over (pipe_at p (run ent
   step-even (Called c) = none-even (begin c s).done (call-none c s)
   step-even Worked = begun-even (next_job s.promises)
   step-even Heard = none-even (nothing s) tt
-  step-even (Forgot q) = none-even (nothing s) tt
 
   written_is : (x : Entry) → (step_writes i s x).written ≡ appended_by w (step_through p s x).passed
   written_is x = written_said entries x i ∙ (ap (λ (vs : List Value). vs ++ step_piped i s x) (no_call x) ∙ step-even x)

@@ -11,7 +11,7 @@ use Rattle.ws_steps.specs.Jobs.{job_begun, begin_job}
 use Rattle.ws_steps.specs.Operations.{pipe_operation}
 use Rattle.ws_steps.specs.Pipes as pipe
 use Rattle.ws_steps.specs.Promises.{Table, next_job}
-use Rattle.ws_steps.specs.Run.{Entry, Called, Worked, Heard, Forgot, run, step}
+use Rattle.ws_steps.specs.Run.{Entry, Called, Worked, Heard, run, step}
 use Rattle.ws_steps.specs.Slots.{Slots, Done, nothing, empty, ends_at, as_pipe, pipe_at, readable_at, on_pipe_at}
 use Rattle.ws_steps.specs.Turns.{Moment, row, moments}
 use Rattle.ws_steps.proofs.PromiseLaws.{slice_get-set_other}
@@ -140,7 +140,7 @@ module _ (p : PipeId) where
   goes = record { row = λ h s e es k. row-known h s e k; call = λ h s c k. call-known h s c k; job = λ h s job e k. k; answered = λ h s q k. k; older = λ h s k. k }
 
   rests : RestsUntold Is
-  rests = record { heard = λ h s k. k; forgotten = λ h s q k. k }
+  rests = record { heard = λ h s k. k }
 
   run-known : (entries : List Entry) → Known (run_moments entries empty) (slice_get (run entries empty).pipes p.0)
   run-known entries = run-holds [] ◌++◌ moments_history effect_moment Is goes rests entries empty tt
@@ -212,7 +212,6 @@ module _ (p : PipeId) where
   step-over s (Called c) k = done-over (begin c s).done (call-in p Gone (over-operation p) s c k)
   step-over s Worked k = done-over (begin_job s) (job-over s (next_job s.promises) k)
   step-over s Heard k = done-over (nothing s) k
-  step-over s (Forgot q) k = done-over (nothing s) k
 
   over_live : (x : pipe.Slots) → is_over x.phase ≡ true → is_live x.phase ≡ false
   over_live x o = by x.phase o
@@ -272,7 +271,6 @@ module _ (p : PipeId) where
   not_called (Called c) = inl (c, refl)
   not_called Worked = inr (λ c e. cc)
   not_called Heard = inr (λ c e. cc)
-  not_called (Forgot q) = inr (λ c e. cc)
 
   was_there : (before : List Entry) (x : Entry) (first rest : List Moment) (m : Moment) → Acts p m → step_moments (run before empty) x ≡ first ++ m ∷ rest → is_over (pipe_at p (run before empty)).phase ≡ false
   was_there before x first rest m a split = by (slice_get (run before empty).pipes p.0) refl

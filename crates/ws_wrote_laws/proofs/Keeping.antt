@@ -96,7 +96,7 @@ module _ (p : PipeId) (P : pipe.Slots → Type 0) (keeps : (ends : Ends) (operat
   in-stays = record { row = λ s e es k. row-in s e k; call = λ s c k. call-in s c k; job = λ s job e k. k; answered = λ s q k. k; older = λ s k. k }
 
   run-in : (xs : List Entry) (s : Slots) → In s.pipes → In (run xs s).pipes
-  run-in xs s k = run-stays Has in-stays (λ s k. k) (λ s q k. k) xs s k
+  run-in xs s k = run-stays Has in-stays (λ s k. k) xs s k
 
   pub pipe-kept : (xs : List Entry) (s : Slots) (x : pipe.Slots) → slice_get s.pipes p.0 ≡ Some x → P x → P (pipe_at p (run xs s))
   pipe-kept xs s x e k =
@@ -209,7 +209,7 @@ module _ (i : StreamId) (W : writable.Slots → Type 0) (keeps : (operation : Wr
   }
 
   among-rests : RestsUntold Stands
-  among-rests = record { heard = λ h s k. ((writes.rests i).heard h s k.0, k.1); forgotten = λ h s q k. ((writes.rests i).forgotten h s q k.0, k.1) }
+  among-rests = record { heard = λ h s k. ((writes.rests i).heard h s k.0, k.1) }
 
   -- in the rest of a run, where so much of it has happened
   pub writable-kept : (before xs : List Entry) → let s : Slots = run before empty in slice_get s.streams i.0 ≡ Some (WritableStream (writable_at i s)) → W (writable_at i s) → W (writable_at i (run xs s))
@@ -287,5 +287,5 @@ module _ (i : StreamId) (R : readable.Slots → Type 0) (keeps : (operation : Re
 
   pub readable-kept : (xs : List Entry) (s : Slots) → IsReadable i R s → IsReadable i R (run xs s)
   readable-kept xs s k =
-      let r = run-stays Remains within-stays (λ s k. k) (λ s q k. k) xs s (record { slots = readable_at i s; there = k.0; is = k.1 }) in
+      let r = run-stays Remains within-stays (λ s k. k) xs s (record { slots = readable_at i s; there = k.0; is = k.1 }) in
       (r.there ∙ sym (ap (λ (o : Option Stream). Some (ReadableStream (as_readable o))) r.there), subst (λ (o : Option Stream). R (as_readable o)) (sym r.there) r.is)

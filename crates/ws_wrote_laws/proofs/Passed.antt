@@ -9,14 +9,14 @@ use Rattle.ws_steps.specs.Slots.{Slots, empty, pipe_at}
 use Rattle.ws_steps.specs.Turns.{Moment, row}
 use Rattle.ws_laws.proofs.Tables.{eq_numbers}
 use Rattle.ws_laws.proofs.Walker.{GoesUntold, RestsUntold, run-holds}
-use Rattle.ws_promise_laws.proofs.Acting.{EachWaits, waits-stays, waits-heard, waits-forgotten, none-waits}
+use Rattle.ws_promise_laws.proofs.Acting.{EachWaits, waits-stays, waits-heard, none-waits}
 use Rattle.ws_pipe_laws.specs.PipeHistory.{is_live, Through, through_then, held_goes, operation_through, effect_through, effect_moment}
 use Rattle.ws_pipe_laws.specs.PipeReads.{IsPassing}
 use Rattle.ws_pipe_laws.specs.PipeWrites.{AllSince, BeginsToAct, HasNothingLeft}
 use Rattle.ws_pipe_laws.proofs.PassingRuns as passing
 use Rattle.ws_pipe_laws.proofs.PassingRuns.{through_history, passing_of}
 use Rattle.ws_pipe_write_laws.proofs.Orderly.{moment, moments_history, row-orderly}
-use Rattle.ws_pipe_write_laws.proofs.Owed.{EachOwes, owes-stays, owes-heard, owes-forgotten, none-owes}
+use Rattle.ws_pipe_write_laws.proofs.Owed.{EachOwes, owes-stays, owes-heard, none-owes}
 use Rattle.ws_wrote_laws.specs.WroteLaws.{through_in, IsPassedOn, NoneActsWhileAChunkIsLeft}
 
 since-append : (P : List Moment → Moment → Type 0) (past ms : List Moment) (m : Moment) → AllSince P past ms → P (past ++ ms) m → AllSince P past (ms ++ m ∷ [])
@@ -90,10 +90,7 @@ module _ (p : PipeId) where
   }
 
   rests : RestsUntold Is
-  rests = record {
-    heard = λ h s k. (k.0, ((passing.rests p).heard (through_in p h) s k.1.0, (waits-heard s k.1.1.0, owes-heard s k.1.1.1)));
-    forgotten = λ h s q k. (k.0, ((passing.rests p).forgotten (through_in p h) s q k.1.0, (waits-forgotten s q k.1.1.0, owes-forgotten s q k.1.1.1)));
-  }
+  rests = record { heard = λ h s k. (k.0, ((passing.rests p).heard (through_in p h) s k.1.0, (waits-heard s k.1.1.0, owes-heard s k.1.1.1))) }
 
 pub none_acts_while_a_chunk_is_left : NoneActsWhileAChunkIsLeft
 none_acts_while_a_chunk_is_left entries p =

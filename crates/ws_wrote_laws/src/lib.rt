@@ -1,4 +1,4 @@
-//! Laws of what pipes wrote, in every list of calls, jobs, takings of events and lettings go of promises, performed one after another from the empty realm.
+//! Laws of what pipes wrote, in every list of calls, jobs and takings of events, performed one after another from the empty realm.
 #![tactic(auto)]
 
 ghost use Rattle.ws_wrote_laws.specs.WroteLaws.{EachDestinationIsItsPipes, EachEndedSourceIsPassedOn, EachFulfilledPipePassedAll, EachPipeWithoutAnErrorPassedAll, EachPipeWroteAFront, NoneActsWhileAChunkIsLeft};
