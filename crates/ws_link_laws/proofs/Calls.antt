@@ -1,0 +1,355 @@
+-- What calls begin with that leave a link alone.
+use Rattle.std.proofs.Common.{◌≡◌, ◌≢◌, ◌⊎◌, inl, inr, ℕ, zero, suc, Bool, true, false, not, nat_lt, if◌then◌else◌, List, [], ◌∷◌, ◌++◌, length, Option, Some, None, Err, slice_get, slice_set, refl, sym, ◌∙◌, arith}
+use Rattle.ws_value.specs.declared.ids.HostId.{HostId}
+use Rattle.ws_value.specs.declared.ids.LockId.{LockId}
+use Rattle.ws_value.specs.declared.ids.PipeId.{PipeId}
+use Rattle.ws_value.specs.declared.ids.PromiseId.{PromiseId}
+use Rattle.ws_value.specs.declared.ids.SignalId.{SignalId}
+use Rattle.ws_value.specs.declared.ids.StreamId.{StreamId}
+use Rattle.ws_value.specs.declared.value.Plain.{Plain}
+use Rattle.ws_value.specs.declared.value.Value.{Value}
+use Rattle.ws_steps.specs.declared.calls.Answer.{Answer}
+use Rattle.ws_steps.specs.declared.calls.Call.{Call}
+use Rattle.ws_steps.specs.declared.calls.Call.TheVariants.{MakeReadable, MakeWritable, GetReader, GetWriter, Cancel, CancelBy, Read, Write, Close, CloseBy, Abort, AbortBy, Closed, Ready, Release, Enqueue, Finish, Fail, Desired, DesiredBy, Pipe, MakeSignal, Trigger, Settle, State, Step}
+use Rattle.ws_steps.specs.declared.calls.Reply.{Reply}
+use Rattle.ws_steps.specs.declared.calls.Reply.TheVariants.{Done as ReplyDone, Promise, State as ReplyState, Throws, TooMany}
+use Rattle.ws_steps.specs.declared.calls.Thrown.TheVariants.{TypeError, Unsupported}
+use Rattle.ws_steps.specs.declared.effects.Effect.{Effect}
+use Rattle.ws_steps.specs.declared.effects.Effect.TheVariants.{Readable as OnReadable, Writable as OnWritable, Pipe as OnPipe, Signal as OnSignal, ChunkSteps, Settle as SettlePromise, CallHost}
+use Rattle.ws_steps.specs.declared.locks.Lock.{Lock}
+use Rattle.ws_steps.specs.declared.locks.Lock.TheVariants.{Reader as ReaderLock, Writer as WriterLock, ReleasedWriter, Inner}
+use Rattle.ws_steps.specs.declared.pipes.PipeOperation.TheVariants.{Abort as AbortPipe}
+use Rattle.ws_steps.specs.declared.pipes.Prevent.{Prevent}
+use Rattle.ws_steps.specs.declared.pipes.SignalOperation.TheVariants.{Trigger as TriggerSignal}
+use Rattle.ws_steps.specs.declared.readable.ReadRequest.TheVariants.{Promise as PromiseRequest}
+use Rattle.ws_steps.specs.declared.readable.ReadableOperation.{ReadableOperation}
+use Rattle.ws_steps.specs.declared.readable.ReadableOperation.TheVariants.{InitializeReader, Read as ReadChunk, Cancel as CancelStream, CancelIfReadable, Enqueue as EnqueueChunk, Close as CloseReadable, Error as ErrorReadable}
+use Rattle.ws_steps.specs.declared.writable.WritableOperation.TheVariants.{SetUpWriter, Write as WriteChunk, Close as CloseStream, ClosePropagating, Abort as AbortStream, ErrorIfNeeded}
+use Rattle.ws_steps.specs.declared.writable.Writer.{Writer}
+use Rattle.ws_steps.specs.Calls as calls
+use Rattle.ws_steps.specs.Calls.{Begun, begin}
+use Rattle.ws_steps.specs.Effects.{type_error}
+use Rattle.ws_steps.specs.Histories.{is_same}
+use Rattle.ws_steps.specs.Pipes as pipe
+use Rattle.ws_steps.specs.Promises.{Table, next_id, fresh, is_pending_at}
+use Rattle.ws_steps.specs.Readable as readable
+use Rattle.ws_steps.specs.Readable.{can_close_or_enqueue}
+use Rattle.ws_steps.specs.ReadableLooks as readable_looks
+use Rattle.ws_steps.specs.WritableLooks as writable_looks
+use Rattle.ws_steps.specs.Slots.{Slots, most_streams, has_readable, has_writable, has_signal, readable_at, writable_at, pipe_at, lock_at, host_at}
+use Rattle.ws_steps.specs.Writable as writable
+use Rattle.ws_flow.specs.Told.{Open, Told, then_told, IsShortOf}
+use Rattle.ws_flow.proofs.Told.{then_empty, short_refl}
+use Rattle.ws_laws.proofs.Lists.{Each, each-append}
+use Rattle.ws_laws.proofs.Tables.{either, same_id}
+use Rattle.ws_laws.proofs.Truth.{not_false, and_left, and_right}
+use Rattle.ws_link_laws.specs.Link.{silence, in_sink, in_source, in_pipe, unheard, behind, enters, leaves}
+use Rattle.ws_link_laws.specs.Sound.{spares, all_spare, AreApart, IsApart}
+use Rattle.ws_link_laws.proofs.Telling.{tells, IsSilent, silent-all, hands, writes, chunks, coming}
+use Rattle.ws_link_laws.proofs.Unheard.{fresh-unheard}
+use Rattle.ws_link_laws.proofs.Sinks.{shut}
+use Rattle.ws_link_laws.proofs.Standing.{IsInner, IsNotLast}
+use Rattle.ws_pipe_laws.proofs.PassingRuns.{appended}
+
+-- effects with which a call begins that leaves the link alone
+abbrev pub IsOuter : StreamId → StreamId → Effect → Type 0
+IsOuter i j (OnReadable k (InitializeReader closed)) = is_same i k ≡ false
+IsOuter i j (OnReadable k (ReadChunk request)) = is_same i k ≡ false
+IsOuter i j (OnReadable k (CancelStream r q)) = is_same i k ≡ false
+IsOuter i j (OnReadable k (CancelIfReadable r q)) = is_same i k ≡ false
+IsOuter i j (OnWritable k (SetUpWriter w)) = is_same j k ≡ false
+IsOuter i j (OnWritable k (WriteChunk v q)) = is_same j k ≡ false
+IsOuter i j (OnWritable k (CloseStream q)) = is_same j k ≡ false
+IsOuter i j (OnWritable k (ClosePropagating q)) = is_same j k ≡ false
+IsOuter i j (OnPipe q (AbortPipe r)) = Unit {0}
+IsOuter i j (OnPipe q operation) = ⊥
+IsOuter i j (ChunkSteps k request v) = ⊥
+IsOuter i j (CallHost call u) = ⊥
+IsOuter i j _ = Unit {0}
+
+pub if_same : (b : Bool) → (if b then silence else silence) ≡ silence
+if_same true = refl
+if_same false = refl
+
+pub outer-inner : (i j : StreamId) (p : PipeId) (n : ℕ) (e : Effect) → IsOuter i j e → IsInner i j p n e
+outer-inner i j p n e o = grind (arith, o)
+
+pub outer-last : (p : PipeId) (i j : StreamId) (e : Effect) → IsOuter i j e → IsNotLast p e
+outer-last p i j e o = grind (arith, o)
+
+pub outer-hands : (i j : StreamId) (e : Effect) → IsOuter i j e → IsSilent (hands j) e
+outer-hands i j e o = grind (arith, o)
+
+pub outer-writes : (i j : StreamId) (e : Effect) → IsOuter i j e → IsSilent (writes j) e
+outer-writes i j e o = grind (arith, o, if_same)
+
+pub outer-chunks : (p : PipeId) (i j : StreamId) (e : Effect) → IsOuter i j e → IsSilent (chunks p) e
+outer-chunks p i j e o = grind (arith, o)
+
+-- locks
+
+pub spare-at : (i j : StreamId) (n : ℕ) (ls : List Lock) (l : Lock) → all_spare i j ls ≡ true → slice_get ls n ≡ Some l → spares i j l ≡ true
+spare-at i j n [] l a e = cc
+spare-at i j zero (k ∷ ls) l a e = let s = and_left (spares i j k) (all_spare i j ls) a in let is : k ≡ l = cc in rw is at s
+spare-at i j (suc n) (k ∷ ls) l a e = spare-at i j n ls l (and_right (spares i j k) (all_spare i j ls) a) e
+
+spare-set : (i j : StreamId) (n : ℕ) (ls : List Lock) (l : Lock) → all_spare i j ls ≡ true → spares i j l ≡ true → all_spare i j (slice_set ls n l) ≡ true
+spare-set i j n [] l a s = a
+spare-set i j zero (k ∷ ls) l a s = let b = and_right (spares i j k) (all_spare i j ls) a in rw (s, b) refl
+spare-set i j (suc n) (k ∷ ls) l a s =
+    let b = and_left (spares i j k) (all_spare i j ls) a in
+    let c = spare-set i j n ls l (and_right (spares i j k) (all_spare i j ls) a) s in
+    rw (b, c) refl
+
+pub spare-append : (i j : StreamId) (ls ms : List Lock) → all_spare i j ls ≡ true → all_spare i j ms ≡ true → all_spare i j (ls ++ ms) ≡ true
+spare-append i j [] ms a b = b
+spare-append i j (k ∷ ls) ms a b =
+    let c = and_left (spares i j k) (all_spare i j ls) a in
+    let d = spare-append i j ls ms (and_right (spares i j k) (all_spare i j ls) a) b in
+    rw (c, d) refl
+
+-- where the source takes nothing, what is behind the host has come to an end
+
+then_shut : (x y : Told Value) → y.mark ≢ Open → (then_told x y).mark ≢ Open
+then_shut x y n = grind (arith, n)
+
+source_shut : (r : readable.Slots) → can_close_or_enqueue r ≡ false → (in_source r).mark ≢ Open
+source_shut r e = grind (arith, e)
+
+pipe_shut : (x : pipe.Slots) (y : Told Value) → y.mark ≢ Open → (in_pipe x y).mark ≢ Open
+pipe_shut x y n = grind (arith, n)
+
+behind-shut : (i j : StreamId) (p : PipeId) (s : Slots) → can_close_or_enqueue (readable_at i s) ≡ false → (behind i j p s).mark ≢ Open
+behind-shut i j p s e =
+    then_shut (unheard j s.promises.events) _ (then_shut (in_sink (writable_at j s)) _ (pipe_shut (pipe_at p s) (in_source (readable_at i s)) (source_shut (readable_at i s) e)))
+
+-- what a call begins with, that enters t
+
+pub record Begins (i j : StreamId) (p : PipeId) (s : Slots) (t : Told Value) (b : Begun) : Type 0 where
+  pub locks : all_spare i j b.done.slots.locks ≡ true
+  pub apart : AreApart i j p b.done.slots.pipes
+  pub heard : unheard j b.done.slots.promises.events ≡ unheard j s.promises.events
+  pub outer : Each (IsOuter i j) b.done.caused
+  pub comes : IsShortOf (then_told (behind i j p s) (tells (coming i) b.done.caused)) (then_told (behind i j p s) t)
+
+module _ (i j : StreamId) (p : PipeId) (s : Slots) (here : has_readable i s ≡ true) (locks : all_spare i j s.locks ≡ true) (apart : AreApart i j p s.pipes) where
+  abbrev P : Begun → Type 0
+  P b = Begins i j p s silence b
+
+  unchanged : (reply : Reply) → P (calls.replies reply s)
+  unchanged reply = record { locks = locks; apart = apart; heard = refl; outer = tt; comes = short_refl _ }
+
+  -- a call that causes effects of others, and changes no more than these
+  quietly : (b : Begun) → all_spare i j b.done.slots.locks ≡ true → AreApart i j p b.done.slots.pipes → unheard j b.done.slots.promises.events ≡ unheard j s.promises.events → Each (IsOuter i j) b.done.caused → Each (IsSilent (coming i)) b.done.caused → P b
+  quietly b l a h o c = record { locks = l; apart = a; heard = h; outer = o; comes = rw (silent-all (coming i) b.done.caused c) (short_refl _) }
+
+  promising : (f : PromiseId → List Effect) → Each (IsOuter i j) (f (next_id s.promises)) → Each (IsSilent (coming i)) (f (next_id s.promises)) → P (calls.promising f s)
+  promising f o c = quietly (calls.promising f s) locks apart (fresh-unheard j s.promises) o c
+
+  does : (es : List Effect) → Each (IsOuter i j) es → Each (IsSilent (coming i)) es → P (calls.does es s)
+  does es o c = quietly (calls.does es s) locks apart refl o c
+
+  rejected : P (calls.rejected s)
+  rejected = promising (λ q. SettlePromise q (Err type_error) ∷ []) (tt, tt) (refl, tt)
+
+  for_readable : (k : StreamId) (operation : Slots → Begun) → P (operation s) → P (calls.for_readable k operation s)
+  for_readable k operation h = either P (has_readable k s) (operation s) (calls.unsupported s) (λ e. h) (λ e. unchanged (Throws Unsupported))
+
+  for_writable : (k : StreamId) (operation : Slots → Begun) → P (operation s) → P (calls.for_writable k operation s)
+  for_writable k operation h = either P (has_writable k s) (operation s) (calls.unsupported s) (λ e. h) (λ e. unchanged (Throws Unsupported))
+
+  by_reader : (holding : StreamId → Slots → Begun) (free : Slots → Begun) → ((k : StreamId) → is_same i k ≡ false → P (holding k s)) → P (free s) → (n : ℕ) (o : Option Lock) → slice_get s.locks n ≡ o → P (calls.by_reader holding free s o)
+  by_reader holding free h f n None e = unchanged (Throws Unsupported)
+  by_reader holding free h f n (Some (ReaderLock (Some k) closed)) e = for_readable k (holding k) (h k (not_false (is_same i k) (spare-at i j n s.locks (ReaderLock (Some k) closed) locks e)))
+  by_reader holding free h f n (Some (ReaderLock None closed)) e = f
+  by_reader holding free h f n (Some (WriterLock k)) e = unchanged (Throws Unsupported)
+  by_reader holding free h f n (Some (ReleasedWriter w)) e = unchanged (Throws Unsupported)
+  by_reader holding free h f n (Some Inner) e = unchanged (Throws Unsupported)
+
+  by_writer : (holding : StreamId → Slots → Begun) (free : Slots → Begun) → ((k : StreamId) → is_same j k ≡ false → P (holding k s)) → P (free s) → (n : ℕ) (o : Option Lock) → slice_get s.locks n ≡ o → P (calls.by_writer holding free s o)
+  by_writer holding free h f n None e = unchanged (Throws Unsupported)
+  by_writer holding free h f n (Some (ReaderLock stream closed)) e = unchanged (Throws Unsupported)
+  by_writer holding free h f n (Some (WriterLock k)) e = for_writable k (holding k) (h k (not_false (is_same j k) (spare-at i j n s.locks (WriterLock k) locks e)))
+  by_writer holding free h f n (Some (ReleasedWriter w)) e = f
+  by_writer holding free h f n (Some Inner) e = unchanged (Throws Unsupported)
+
+  of_writer : (operation : Writer → Slots → Begun) (w : Option Writer) → ((v : Writer) → P (operation v s)) → P (calls.of_writer operation s w)
+  of_writer operation None h = unchanged (Throws Unsupported)
+  of_writer operation (Some w) h = h w
+
+  closed_by : (o : Option Lock) → P (calls.closed_by s o)
+  closed_by None = unchanged (Throws Unsupported)
+  closed_by (Some (ReaderLock stream closed)) = unchanged (Promise closed)
+  closed_by (Some (WriterLock k)) = of_writer (λ w. calls.replies (Promise w.closed)) (writable_at k s).writer (λ w. unchanged (Promise w.closed))
+  closed_by (Some (ReleasedWriter w)) = unchanged (Promise w.closed)
+  closed_by (Some Inner) = unchanged (Throws Unsupported)
+
+  ready_by : (o : Option Lock) → P (calls.ready_by s o)
+  ready_by None = unchanged (Throws Unsupported)
+  ready_by (Some (ReaderLock stream closed)) = unchanged (Throws Unsupported)
+  ready_by (Some (WriterLock k)) = of_writer (λ w. calls.replies (Promise w.ready)) (writable_at k s).writer (λ w. unchanged (Promise w.ready))
+  ready_by (Some (ReleasedWriter w)) = unchanged (Promise w.ready)
+  ready_by (Some Inner) = unchanged (Throws Unsupported)
+
+  -- a release
+
+  renewed-outer : (t : Table) (kept : Bool) → Each (IsOuter i j) (calls.reject_renewed t kept)
+  renewed-outer t true = tt
+  renewed-outer t false = (tt, tt)
+
+  renewed-coming : (t : Table) (kept : Bool) → Each (IsSilent (coming i)) (calls.reject_renewed t kept)
+  renewed-coming t true = tt
+  renewed-coming t false = (refl, tt)
+
+  renewed-heard : (t : Table) (kept : Bool) → unheard j (calls.with_renewed t kept).events ≡ unheard j t.events
+  renewed-heard t true = refl
+  renewed-heard t false = fresh-unheard j t
+
+  releases_reader : (l : LockId) (closed : PromiseId) (k : StreamId) → P (calls.release_reader l closed k s)
+  releases_reader l closed k =
+      let kept : Bool = readable.is_readable (readable_at k s).state in
+      quietly (calls.release_reader l closed k s) (spare-set i j l.0 s.locks _ locks refl) apart (renewed-heard s.promises kept)
+      (each-append (IsOuter i j) (calls.reject_renewed s.promises kept) _ (renewed-outer s.promises kept) (tt, tt))
+      (each-append (IsSilent (coming i)) (calls.reject_renewed s.promises kept) _ (renewed-coming s.promises kept) (if_same (is_same i k), tt))
+
+  releases_writer : (l : LockId) (k : StreamId) (w : Writer) → P (calls.release_writer l k w s)
+  releases_writer l k w =
+      let ready : Bool = is_pending_at w.ready s.promises in
+      let t : Table = calls.with_renewed s.promises ready in
+      let closed : Bool = is_pending_at w.closed t in
+      quietly (calls.release_writer l k w s) (spare-set i j l.0 s.locks _ locks refl) apart (renewed-heard t closed ∙ renewed-heard s.promises ready)
+      (each-append (IsOuter i j) (calls.reject_renewed s.promises ready) _ (renewed-outer s.promises ready) (each-append (IsOuter i j) (calls.reject_renewed t closed) _ (renewed-outer t closed) (tt, tt)))
+      (each-append (IsSilent (coming i)) (calls.reject_renewed s.promises ready) _ (renewed-coming s.promises ready) (each-append (IsSilent (coming i)) (calls.reject_renewed t closed) _ (renewed-coming t closed) (refl, tt)))
+
+  release : (l : LockId) (o : Option Lock) → P (calls.release l s o)
+  release l None = unchanged (Throws Unsupported)
+  release l (Some (ReaderLock (Some k) closed)) = for_readable k (calls.release_reader l closed k) (releases_reader l closed k)
+  release l (Some (ReaderLock None closed)) = unchanged ReplyDone
+  release l (Some (WriterLock k)) = of_writer (calls.release_writer l k) (writable_at k s).writer (λ w. releases_writer l k w)
+  release l (Some (ReleasedWriter w)) = unchanged ReplyDone
+  release l (Some Inner) = unchanged (Throws Unsupported)
+
+  -- calls on streams
+
+  abort_unless : (reason : Plain) (k : StreamId) (o : Option PromiseId) → P (calls.abort_unless reason k s o)
+  abort_unless reason k None = promising (λ q. OnWritable k (AbortStream reason q) ∷ []) (tt, tt) (refl, tt)
+  abort_unless reason k (Some q) = unchanged (Promise q)
+
+  settle_host : (h : HostId) (answer : Answer) (o : Option PromiseId) → P (calls.settle_host h answer s o)
+  settle_host h answer None = unchanged (Throws Unsupported)
+  settle_host h answer (Some q) = quietly (calls.settle_host h answer s (Some q)) locks apart refl (tt, tt) (refl, tt)
+
+  unlocked_readable : (k : StreamId) (locked : Slots → Begun) (free : StreamId → Slots → Begun) → P (locked s) → P (free k s) → P (calls.unlocked_readable k locked free s)
+  unlocked_readable k locked free l f =
+      for_readable k (λ s. if readable_looks.is_locked (readable_at k s) then locked s else free k s) (either P (readable_looks.is_locked (readable_at k s)) (locked s) (free k s) (λ e. l) (λ e. f))
+
+  unlocked_writable : (k : StreamId) (locked : Slots → Begun) (free : StreamId → Slots → Begun) → P (locked s) → P (free k s) → P (calls.unlocked_writable k locked free s)
+  unlocked_writable k locked free l f =
+      for_writable k (λ s. if writable_looks.is_locked (writable_at k s) then locked s else free k s) (either P (writable_looks.is_locked (writable_at k s)) (locked s) (free k s) (λ e. l) (λ e. f))
+
+  -- a pipe of other streams
+
+  begins-outer : (me : PipeId) (a b : PromiseId) (signal : Option SignalId) (reason : Option Plain) → Each (IsOuter i j) (calls.pipe_begins me a b signal reason)
+  begins-outer me a b signal (Some r) = (tt, tt)
+  begins-outer me a b None None = (tt, (tt, (tt, tt)))
+  begins-outer me a b (Some g) None = (tt, (tt, (tt, (tt, tt))))
+
+  begins-coming : (me : PipeId) (a b : PromiseId) (signal : Option SignalId) (reason : Option Plain) → Each (IsSilent (coming i)) (calls.pipe_begins me a b signal reason)
+  begins-coming me a b signal (Some r) = (refl, tt)
+  begins-coming me a b None None = (refl, (refl, (refl, tt)))
+  begins-coming me a b (Some g) None = (refl, (refl, (refl, (refl, tt))))
+
+  apart-append : (y : pipe.Slots) → IsApart i j y → AreApart i j p (s.pipes ++ y ∷ [])
+  apart-append y a n x e m = by (appended s.pipes y n)
+    where
+      by : (slice_get (s.pipes ++ y ∷ []) n ≡ slice_get s.pipes n) ⊎ ((slice_get s.pipes n ≡ None) × (slice_get (s.pipes ++ y ∷ []) n ≡ Some y)) → IsApart i j x
+      by (inl same) = apart n x (sym same ∙ e) m
+      by (inr last) = let is : x ≡ y = cc in rw is a
+
+  pipe_to : (source dest : StreamId) (prevent : Prevent) (signal : Option SignalId) → is_same i source ≡ false → is_same j dest ≡ false → P (calls.pipe_to source dest prevent signal s)
+  pipe_to source dest prevent signal a b =
+      let me : PipeId = record { 0 = length s.pipes } in
+      let t : Table = s.promises in
+      let closed : PromiseId = next_id t in
+      let w : PromiseId = next_id (fresh (fresh t)) in
+      quietly (calls.pipe_to source dest prevent signal s) (spare-append i j s.locks (Inner ∷ Inner ∷ []) locks refl) (apart-append _ (a, b))
+      (fresh-unheard j (fresh (fresh (fresh t))) ∙ (fresh-unheard j (fresh (fresh t)) ∙ (fresh-unheard j (fresh t) ∙ fresh-unheard j t)))
+      (a, (b, (tt, begins-outer me closed w signal (calls.reason_of signal s))))
+      (if_same (is_same i source), (refl, (if_same (is_same i source), begins-coming me closed w signal (calls.reason_of signal s))))
+
+  pipe_where : (source dest : StreamId) (prevent : Prevent) (signal : Option SignalId) → is_same i source ≡ false → is_same j dest ≡ false → P (calls.for_signal_where signal (calls.pipe_unlocked source dest prevent signal) s)
+  pipe_where source dest prevent signal a b = by signal
+    where
+      free : P (calls.pipe_unlocked source dest prevent signal s)
+      free =
+          either P (readable_looks.is_locked (readable_at source s)) (calls.rejected s) (if writable_looks.is_locked (writable_at dest s) then calls.rejected s else calls.pipe_to source dest prevent signal s) (λ e. rejected)
+          (λ e. either P (writable_looks.is_locked (writable_at dest s)) (calls.rejected s) (calls.pipe_to source dest prevent signal s) (λ f. rejected) (λ f. pipe_to source dest prevent signal a b))
+
+      by : (o : Option SignalId) → P (calls.for_signal_where o (calls.pipe_unlocked source dest prevent signal) s)
+      by None = free
+      by (Some g) = either P (has_signal g s) (calls.pipe_unlocked source dest prevent signal s) (calls.unsupported s) (λ e. free) (λ e. unchanged (Throws Unsupported))
+
+  -- what enters
+
+  refused : (t : Told Value) (reply : Reply) → (t ≡ silence) ⊎ ((behind i j p s).mark ≢ Open) → Begins i j p s t (calls.replies reply s)
+  refused t reply (inl e) = rw e (unchanged reply)
+  refused t reply (inr n) =
+      record { locks = locks; apart = apart; heard = refl; outer = tt; comes = rw (then_empty (behind i j p s)) (shut (behind i j p s) (behind i j p s) t n (short_refl (behind i j p s))) }
+
+  enters-begins : (k : StreamId) (operation : ReadableOperation) (t : Told Value) → (coming i (OnReadable k operation) ≡ t) → IsOuter i j (OnReadable k operation) → (is_same i k ≡ false → t ≡ silence)
+      → Begins i j p s t (calls.for_readable k (calls.if_it_can k operation) s)
+  enters-begins k operation t c o elsewhere =
+      either Q (has_readable k s) (calls.if_it_can k operation s) (calls.unsupported s)
+      (λ h. either Q (can_close_or_enqueue (readable_at k s)) (calls.does (OnReadable k operation ∷ []) s) (calls.throws_type_error s)
+      (λ e. record { locks = locks; apart = apart; heard = refl; outer = (o, tt); comes = rw (then_empty (coming i (OnReadable k operation)), c) (short_refl (then_told (behind i j p s) t)) })
+      (λ e. refused t (Throws TypeError) (by (is_same i k) refl (λ is. behind-shut i j p s (rw is e)))))
+      (λ h. refused t (Throws Unsupported) (by (is_same i k) refl (λ is. let there : has_readable k s ≡ true = rw is at here in absurd (cc))))
+    where
+      Q : Begun → Type 0
+      Q b = Begins i j p s t b
+
+      by : (same : Bool) → same ≡ is_same i k → (i ≡ k → (behind i j p s).mark ≢ Open) → (t ≡ silence) ⊎ ((behind i j p s).mark ≢ Open)
+      by false n f = inl (elsewhere (sym n))
+      by true n f = inr (f (same_id i k (sym n)))
+
+  -- each call
+  pub call-begins : (c : Call) → leaves i j c ≡ true → Begins i j p s (enters i c) (begin c s)
+  unfolding begin
+  call-begins (MakeReadable mark size start) l = either P (nat_lt (length s.streams) most_streams) _ _ (λ e. quietly (calls.make_readable mark size start (record { 0 = length s.streams }) s) locks apart refl (tt, tt) (refl, tt)) (λ e. unchanged TooMany)
+  call-begins (MakeWritable mark size start) l = either P (nat_lt (length s.streams) most_streams) _ _ (λ e. quietly (calls.make_writable mark size start (record { 0 = length s.streams }) s) locks apart refl (tt, tt) (refl, tt)) (λ e. unchanged TooMany)
+  call-begins (GetReader k) l =
+      unlocked_readable k calls.throws_type_error calls.get_reader (unchanged (Throws TypeError))
+      (quietly (calls.get_reader k s) (spare-append i j s.locks _ locks (rw l refl)) apart (fresh-unheard j s.promises) (not_false (is_same i k) l, tt) (if_same (is_same i k), tt))
+  call-begins (GetWriter k) l =
+      unlocked_writable k calls.throws_type_error calls.get_writer (unchanged (Throws TypeError))
+      (quietly (calls.get_writer k s) (spare-append i j s.locks _ locks (rw l refl)) apart (fresh-unheard j (fresh s.promises) ∙ fresh-unheard j s.promises) (not_false (is_same j k) l, tt) (refl, tt))
+  call-begins (Cancel k reason) l = unlocked_readable k calls.rejected (calls.cancel reason) rejected (promising (λ q. OnReadable k (CancelStream reason q) ∷ []) (not_false (is_same i k) l, tt) (if_same (is_same i k), tt))
+  call-begins (CancelBy n reason) l = by_reader (calls.cancel reason) calls.rejected (λ k d. promising (λ q. OnReadable k (CancelStream reason q) ∷ []) (d, tt) (if_same (is_same i k), tt)) rejected n.0 (lock_at n s) refl
+  call-begins (Read n) l = by_reader calls.read calls.rejected (λ k d. promising (λ q. OnReadable k (ReadChunk (PromiseRequest q)) ∷ []) (d, tt) (if_same (is_same i k), tt)) rejected n.0 (lock_at n s) refl
+  call-begins (Write n v) l = by_writer (calls.write v) calls.rejected (λ k d. promising (λ q. OnWritable k (WriteChunk v q) ∷ []) (d, tt) (refl, tt)) rejected n.0 (lock_at n s) refl
+  call-begins (Close k) l = unlocked_writable k calls.rejected calls.close rejected (promising (λ q. OnWritable k (CloseStream q) ∷ []) (not_false (is_same j k) l, tt) (refl, tt))
+  call-begins (CloseBy n) l = by_writer calls.close calls.rejected (λ k d. promising (λ q. OnWritable k (CloseStream q) ∷ []) (d, tt) (refl, tt)) rejected n.0 (lock_at n s) refl
+  call-begins (Abort k reason) l = unlocked_writable k calls.rejected (calls.abort reason) rejected (abort_unless reason k (writable.answered_abort (writable_at k s)))
+  call-begins (AbortBy n reason) l = by_writer (calls.abort reason) calls.rejected (λ k d. abort_unless reason k (writable.answered_abort (writable_at k s))) rejected n.0 (lock_at n s) refl
+  call-begins (Closed n) l = closed_by (lock_at n s)
+  call-begins (Ready n) l = ready_by (lock_at n s)
+  call-begins (Release n) l = release n (lock_at n s)
+  call-begins (Enqueue k v) l = enters-begins k (EnqueueChunk v) (enters i (Enqueue k v)) refl tt (λ d. rw d refl)
+  call-begins (Finish k) l = enters-begins k CloseReadable (enters i (Finish k)) refl tt (λ d. rw d refl)
+  call-begins (Fail k reason) l =
+      either P (has_readable k s) _ _ (λ e. does (OnReadable k (ErrorReadable reason) ∷ []) (tt, tt) (if_same (is_same i k), tt))
+      (λ e. for_writable k (calls.does (OnWritable k (ErrorIfNeeded reason) ∷ [])) (does (OnWritable k (ErrorIfNeeded reason) ∷ []) (tt, tt) (refl, tt)))
+  call-begins (Desired k) l = for_readable k (calls.desired k) (unchanged (calls.desired k s).reply)
+  call-begins (DesiredBy n) l = by_writer calls.desired_of_writer calls.throws_type_error (λ k d. unchanged (calls.desired_of_writer k s).reply) (unchanged (Throws TypeError)) n.0 (lock_at n s) refl
+  call-begins (Pipe source dest prevent signal) l =
+      let a = not_false (is_same i source) (and_left (not (is_same i source)) (not (is_same j dest)) l) in
+      let b = not_false (is_same j dest) (and_right (not (is_same i source)) (not (is_same j dest)) l) in
+      for_readable source (calls.for_writable dest (calls.for_signal_where signal (calls.pipe_unlocked source dest prevent signal)))
+      (for_writable dest (calls.for_signal_where signal (calls.pipe_unlocked source dest prevent signal)) (pipe_where source dest prevent signal a b))
+  call-begins MakeSignal l = quietly (calls.make_signal s) locks apart refl tt tt
+  call-begins (Trigger a reason) l = either P (has_signal a s) _ _ (λ e. does (OnSignal a (TriggerSignal reason) ∷ []) (tt, tt) (refl, tt)) (λ e. unchanged (Throws Unsupported))
+  call-begins (Settle h answer) l = settle_host h answer (host_at h s)
+  call-begins (State k) l =
+      either P (has_readable k s) _ _ (λ e. unchanged (ReplyState (readable_looks.state_of (readable_at k s))))
+      (λ e. for_writable k (λ s. calls.replies (ReplyState (writable_looks.state_of (writable_at k s))) s) (unchanged (ReplyState (writable_looks.state_of (writable_at k s)))))
+  call-begins Step l = unchanged ReplyDone

@@ -1,0 +1,400 @@
+-- A call, a job and the taking of an event keep a link.
+use Rattle.std.proofs.Common.{◌≡◌, ℕ, zero, suc, ◌≤◌, true, List, [], ◌∷◌, ◌++◌, Option, Some, None, slice_get, refl, sym, ap, ◌∙◌, arith}
+use Rattle.ws_value.specs.declared.ids.PipeId.{PipeId}
+use Rattle.ws_value.specs.declared.ids.PromiseId.{PromiseId}
+use Rattle.ws_value.specs.declared.ids.StreamId.{StreamId}
+use Rattle.ws_value.specs.declared.value.Value.{Value}
+use Rattle.ws_steps.specs.declared.calls.Call.{Call}
+use Rattle.ws_steps.specs.declared.calls.Event.{Event}
+use Rattle.ws_steps.specs.declared.calls.Reply.{Reply}
+use Rattle.ws_steps.specs.declared.calls.Reply.TheVariants.{Promise}
+use Rattle.ws_steps.specs.declared.effects.Effect.{Effect}
+use Rattle.ws_steps.specs.declared.effects.Owner.TheVariants.{Host}
+use Rattle.ws_steps.specs.declared.locks.Lock.{Lock}
+use Rattle.ws_steps.specs.declared.pipes.Phase.{Phase}
+use Rattle.ws_steps.specs.declared.pipes.Phase.TheVariants.{Flowing, Waiting, Acting, Over}
+use Rattle.ws_steps.specs.declared.promises.Job.{Job}
+use Rattle.ws_steps.specs.Calls.{begin, named, add_stream}
+use Rattle.ws_steps.specs.Jobs.{job_effects, job_begun, begin_job}
+use Rattle.ws_steps.specs.Pipes as pipe
+use Rattle.ws_steps.specs.Promises.{next_job, after_next_job, watch}
+use Rattle.ws_steps.specs.Readable as readable
+use Rattle.ws_steps.specs.Run.{Entry, Called, Worked, Heard, step, run, older, after_call, after_job, after_event, first_event, later_events}
+use Rattle.ws_steps.specs.Slots.{Slots, Stream, ReadableStream, WritableStream, Done, empty, with_promises, readable_at, writable_at, pipe_at, is_readable_stream, is_writable_stream, as_readable, as_writable, as_pipe}
+use Rattle.ws_steps.specs.Turns.{row, performed}
+use Rattle.ws_steps.specs.Writable as writable
+use Rattle.ws_steps.specs.WritableHistory.{Writes, run_writes}
+use Rattle.ws_flow.specs.Told.{Open, Lost, Told, told, then_told, IsShortOf}
+use Rattle.ws_flow.proofs.Told.{then_assoc, short_refl, short_trans, short_same}
+use Rattle.ws_laws.proofs.Begin.{begin-makes}
+use Rattle.ws_laws.proofs.Lists.{Each, each-map}
+use Rattle.ws_laws.proofs.Rows.{row-locks}
+use Rattle.ws_laws.proofs.Tables.{readable_there, writable_there}
+use Rattle.ws_room_laws.proofs.Turns.{performed-kept}
+use Rattle.ws_pipe_laws.specs.PipeHistory.{Through, run_through}
+use Rattle.ws_pipe_laws.specs.PipeReads.{in_stream}
+use Rattle.ws_pipe_laws.proofs.AtSource.{except, except-append, all_off}
+use Rattle.ws_pipe_laws.proofs.PassingRuns.{Few, Is, call-none, job-none, call-is, each_is}
+use Rattle.ws_writable_laws.proofs.Agenda.{Kept}
+use Rattle.ws_writable_laws.proofs.Runs.{call-kept, job-kept, goes, run-kept}
+use Rattle.ws_link_laws.specs.Link.{silence, in_sink, in_source, held_items, piped_by, in_pipe, lies, heard_of, unheard, behind, enters, leaves}
+use Rattle.ws_link_laws.specs.Sound.{IsReached, all_spare, elsewhere, AreApart, IsLink}
+use Rattle.ws_link_laws.proofs.Telling.{tells, IsSilent, silent-all, hands, writes, chunks, coming, behind_on, behind_on-nothing}
+use Rattle.ws_link_laws.proofs.Unheard.{next-unheard, watch-unheard}
+use Rattle.ws_link_laws.proofs.Pipes.{rank}
+use Rattle.ws_link_laws.proofs.Standing.{IsInner, IsNotLast, IsStill, AtEnd, State, state-same, Sound}
+use Rattle.ws_link_laws.proofs.Turns.{row-turned}
+use Rattle.ws_link_laws.proofs.Calls.{IsOuter, if_same, outer-inner, outer-last, outer-hands, outer-writes, outer-chunks, Begins, call-begins}
+
+-- where the realm came from
+
+run-last : (xs : List Entry) (x : Entry) (s : Slots) → run (xs ++ x ∷ []) s ≡ step (run xs s) x
+run-last [] x s = refl
+run-last (y ∷ xs) x s = run-last xs x (step s y)
+
+pub reached-step : (s : Slots) (x : Entry) → IsReached s → IsReached (step s x)
+reached-step s x (xs, e) = (xs ++ x ∷ [], ap (λ (z : Slots). step z x) e ∙ sym (run-last xs x empty))
+
+elsewhere-is : (p : PipeId) (n : ℕ) (xs : List Stream) → elsewhere p n xs ≡ except p n xs
+elsewhere-is p n [] = refl
+elsewhere-is p zero (x ∷ xs) = refl
+elsewhere-is p (suc n) (x ∷ xs) = let h = elsewhere-is p n xs in omega (arith, h)
+
+-- between steps, a link is what holds at each moment, with nothing on the agenda
+
+pub reached-kept : (s : Slots) (j : StreamId) → IsReached s → (h : Writes) × Kept j h s []
+reached-kept s j (xs, e) = (run_writes j xs empty, rw e (run-kept xs j))
+
+pub reached-few : (s : Slots) (p : PipeId) → IsReached s → Few p s []
+reached-few s p (xs, e) = rw e ((each_is xs p).0)
+
+pub link-sound : (i j : StreamId) (p : PipeId) (s : Slots) → IsLink i j p s → Sound i j p s []
+link-sound i j p s l =
+    let k = reached-kept s j l.reached in
+    let n = l.elsewhere in
+    let m = elsewhere-is p i.0 s.streams in
+    record {
+      state = record {
+        source = l.source;
+        sink = l.sink;
+        there = l.there;
+        from = l.from;
+        into = l.into;
+        apart = l.apart;
+        source_fits = l.source_fits;
+        sink_fits = l.sink_fits;
+        closes = l.closes;
+      };
+      few = reached-few s p l.reached;
+      only = omega (arith, n, m);
+      history = k.0;
+      kept = k.1;
+      inner = tt;
+      ends = tt;
+    }
+
+pub sound-link : (i j : StreamId) (p : PipeId) (s : Slots) → IsReached s → all_spare i j s.locks ≡ true → Sound i j p s [] → IsLink i j p s
+sound-link i j p s r a h =
+    let n = h.only in
+    let m = elsewhere-is p i.0 s.streams in
+    record {
+      reached = r;
+      source = h.state.source;
+      sink = h.state.sink;
+      there = h.state.there;
+      from = h.state.from;
+      into = h.state.into;
+      apart = h.state.apart;
+      locks = a;
+      elsewhere = omega (arith, n, m);
+      source_fits = h.state.source_fits;
+      sink_fits = h.state.sink_fits;
+      closes = h.state.closes;
+    }
+
+-- effects that are performed, from what is behind the host
+
+pub record From (i j : StreamId) (p : PipeId) (t : Told Value) (locks : List Lock) (s : Slots) (es : List Effect) : Type 0 where
+  pub sound : Sound i j p s es
+  pub short : IsShortOf (behind_on i j p s es) t
+  pub same : s.locks ≡ locks
+
+pub performed-from : (i j : StreamId) (p : PipeId) (t : Told Value) (locks : List Lock) (d : Done) → From i j p t locks d.slots d.caused → From i j p t locks (performed d) []
+performed-from i j p t locks d h =
+    performed-kept (λ ms s es. From i j p t locks s es)
+    (λ ms s e es k.
+    let n = row-turned i j p s e es k.sound in
+    record { sound = n.sound; short = short_trans (behind_on i j p (row e s).slots ((row e s).caused ++ es)) (behind_on i j p s (e ∷ es)) t n.short k.short; same = row-locks e s ∙ k.same }) d h
+
+-- it grows older, and a promise is watched
+
+pub older-from : (i j : StreamId) (p : PipeId) (t : Told Value) (locks : List Lock) (s : Slots) → From i j p t locks s [] → From i j p t locks (older s) []
+older-from i j p t locks s h = record {
+  sound = record {
+    state = state-same i j p s (older s) refl refl h.sound.state;
+    few = h.sound.few;
+    only = h.sound.only;
+    history = h.sound.history;
+    kept = (goes j).older h.sound.history s h.sound.kept;
+    inner = tt;
+    ends = tt;
+  };
+  short = h.short;
+  same = h.same;
+}
+
+watched-from : (i j : StreamId) (p : PipeId) (t : Told Value) (locks : List Lock) (s : Slots) (q : PromiseId) → From i j p t locks s [] → From i j p t locks (with_promises (watch q s.promises) s) []
+watched-from i j p t locks s q h = record {
+  sound = record {
+    state = state-same i j p s (with_promises (watch q s.promises) s) refl refl h.sound.state;
+    few = h.sound.few;
+    only = h.sound.only;
+    history = h.sound.history;
+    kept = (goes j).answered h.sound.history s q h.sound.kept;
+    inner = tt;
+    ends = tt;
+  };
+  short = rw (watch-unheard j q s.promises) h.short;
+  same = h.same;
+}
+
+pub named-from : (i j : StreamId) (p : PipeId) (t : Told Value) (locks : List Lock) (reply : Reply) (s : Slots) → From i j p t locks s [] → From i j p t locks (named reply s) []
+named-from i j p t locks (Promise q) s h = watched-from i j p t locks s q h
+named-from i j p t locks _ s h = h
+
+pub from-link : (i j : StreamId) (p : PipeId) (t : Told Value) (locks : List Lock) (z : Slots) → IsReached z → all_spare i j locks ≡ true → From i j p t locks z [] → IsLink i j p z × IsShortOf (behind i j p z) t
+from-link i j p t locks z r a h = (sound-link i j p z r (rw h.same a) h.sound, rw (behind_on-nothing i j p z) at h.short)
+
+-- jobs
+
+job-inner : (i j : StreamId) (p : PipeId) (n : ℕ) (job : Job) → Each (IsInner i j p n) (job_effects job)
+job-inner i j p n job = grind arith
+
+job-hands : (j : StreamId) (job : Job) → Each (IsSilent (hands j)) (job_effects job)
+job-hands j job = grind arith
+
+job-writes : (j : StreamId) (job : Job) → Each (IsSilent (writes j)) (job_effects job)
+job-writes j job = grind (arith, if_same)
+
+job-chunks : (p : PipeId) (job : Job) → Each (IsSilent (chunks p)) (job_effects job)
+job-chunks p job = grind arith
+
+job-coming : (i : StreamId) (job : Job) → Each (IsSilent (coming i)) (job_effects job)
+job-coming i job = grind (arith, if_same)
+
+still-none : (j : StreamId) (p : PipeId) → IsStill j p []
+still-none j p = record { writes = refl; chunks = refl }
+
+job-ends : (j : StreamId) (p : PipeId) (job : Job) → AtEnd j p (job_effects job)
+job-ends j p job = let n = still-none j p in grind (arith, n)
+
+pub begun-from : (i j : StreamId) (p : PipeId) (s : Slots) (o : Option Job) → o ≡ next_job s.promises → Sound i j p s [] → From i j p (behind i j p s) s.locks (job_begun s o).slots (job_begun s o).caused
+begun-from i j p s None e h = record { sound = h; short = rw (behind_on-nothing i j p s) (short_refl (behind i j p s)); same = refl }
+begun-from i j p s (Some job) e h =
+    let z : Slots = with_promises (after_next_job s.promises) s in
+    let few = h.few in
+    let none = job-none p job in
+    let only = h.only in
+    let o = all_off p i (job_effects job) in
+    record {
+      sound = record {
+        state = state-same i j p s z refl refl h.state;
+        few = omega (arith, few, none);
+        only = omega (arith, only, none, o);
+        history = h.history;
+        kept = job-kept j h.history s job (sym e) h.kept;
+        inner = job-inner i j p (rank (pipe_at p s).phase) job;
+        ends = job-ends j p job;
+      };
+      short = rw (
+        silent-all (hands j) (job_effects job) (job-hands j job),
+        silent-all (writes j) (job_effects job) (job-writes j job),
+        silent-all (chunks p) (job_effects job) (job-chunks p job),
+        silent-all (coming i) (job_effects job) (job-coming i job),
+        next-unheard j s.promises,
+      ) (rw (behind_on-nothing i j p s) (short_refl (behind i j p s)));
+      same = refl;
+    }
+
+-- a job, or none, keeps a link, and lets nothing in
+pub link-worked : (i j : StreamId) (p : PipeId) (s : Slots) → IsLink i j p s → IsLink i j p (after_job s) × IsShortOf (behind i j p (after_job s)) (behind i j p s)
+unfolding begin_job
+link-worked i j p s l =
+    let b = begun-from i j p s (next_job s.promises) refl (link-sound i j p s l) in
+    from-link i j p (behind i j p s) s.locks (after_job s) (reached-step s Worked l.reached) l.locks
+    (older-from i j p (behind i j p s) s.locks (performed (job_begun s (next_job s.promises))) (performed-from i j p (behind i j p s) s.locks (job_begun s (next_job s.promises)) b))
+
+-- calls
+
+pub place-append : {A : Type 0} (xs : List A) (y x : A) (n : ℕ) → slice_get xs n ≡ Some x → slice_get (xs ++ y ∷ []) n ≡ Some x
+place-append [] y x n e = cc
+place-append (z ∷ xs) y x zero e = e
+place-append (z ∷ xs) y x (suc n) e = place-append xs y x n e
+
+-- what a call makes leaves what there was
+pub record Grown (i j : StreamId) (p : PipeId) (s z : Slots) : Type 0 where
+  pub source : slice_get z.streams i.0 ≡ Some (ReadableStream (readable_at i s))
+  pub sink : slice_get z.streams j.0 ≡ Some (WritableStream (writable_at j s))
+  pub there : slice_get z.pipes p.0 ≡ Some (pipe_at p s)
+  pub only : except p i.0 z.streams ≤ 0
+
+stream-grown : (i j : StreamId) (p : PipeId) (s z : Slots) (y : Stream) → in_stream p y ≡ 0 → Grown i j p s z → Grown i j p s (add_stream y z)
+stream-grown i j p s z y n g = record {
+  source = place-append z.streams y (ReadableStream (readable_at i s)) i.0 g.source;
+  sink = place-append z.streams y (WritableStream (writable_at j s)) j.0 g.sink;
+  there = g.there;
+  only = let a = except-append p i.0 z.streams y n in let w = g.only in omega (arith, a, w);
+}
+
+call-grown : (i j : StreamId) (p : PipeId) (c : Call) (s z : Slots) → Grown i j p s z → Grown i j p s (begin c z).done.slots
+call-grown i j p c s z g = begin-makes (Grown i j p s) (record {
+  promise = λ z g. record { source = g.source; sink = g.sink; there = g.there; only = g.only };
+  locks = λ z ls g. record { source = g.source; sink = g.sink; there = g.there; only = g.only };
+  hosts = λ z hs g. record { source = g.source; sink = g.sink; there = g.there; only = g.only };
+  pipe = λ z source dest prevent signal promise g. record { source = g.source; sink = g.sink; there = place-append z.pipes _ (pipe_at p s) p.0 g.there; only = g.only };
+  signal = λ z g. record { source = g.source; sink = g.sink; there = g.there; only = g.only };
+  readable = λ z mark size g. stream-grown i j p s z (ReadableStream (readable.set_up Host mark size)) refl g;
+  writable = λ z mark size g. stream-grown i j p s z (WritableStream (writable.set_up Host mark size)) refl g;
+}) c z g
+
+link-grown : (i j : StreamId) (p : PipeId) (s : Slots) → Sound i j p s [] → Grown i j p s s
+link-grown i j p s h = record {
+  source = readable_there (slice_get s.streams i.0) h.state.source;
+  sink = writable_there (slice_get s.streams j.0) h.state.sink;
+  there = h.state.there;
+  only = let w = h.only in omega (arith, w);
+}
+
+grown-state : (i j : StreamId) (p : PipeId) (s z : Slots) → Grown i j p s z → AreApart i j p z.pipes → State i j p s → State i j p z
+grown-state i j p s z g a st = record {
+  source = ap is_readable_stream g.source;
+  sink = ap is_writable_stream g.sink;
+  there = rw (ap as_pipe g.there) g.there;
+  from = rw (ap as_pipe g.there) st.from;
+  into = rw (ap as_pipe g.there) st.into;
+  apart = a;
+  source_fits = rw (ap as_readable g.source) st.source_fits;
+  sink_fits = rw (ap as_writable g.sink) st.sink_fits;
+  closes = rw (ap as_pipe g.there, ap as_readable g.source) st.closes;
+}
+
+pub reached-is : (s : Slots) (p : PipeId) → IsReached s → (h : Through) × Is p h s []
+reached-is s p (xs, e) = (run_through p xs empty, rw e (each_is xs p))
+
+pub append_ends : (j : StreamId) (p : PipeId) (cs : List Effect) → Each (IsNotLast p) cs → AtEnd j p cs
+append_ends j p [] n = tt
+append_ends j p (c ∷ cs) n = (λ e. let f = n.0 in absurd (cc), append_ends j p cs n.1)
+
+-- what is about to enter is behind all else, unless the pipe lost it
+comes-last : (U K : Told Value) (x : pipe.Slots) (S M : Told Value) → then_told U (then_told K (in_pipe x (then_told S M))) ≡ then_told (then_told U (then_told K (in_pipe x S))) M
+comes-last U K x S M = by x.phase
+  where
+    by : (w : Phase) → then_told U (then_told K (piped_by w x.held (then_told S M))) ≡ then_told (then_told U (then_told K (piped_by w x.held S))) M
+    by Flowing = rw (then_assoc U (then_told K (then_told (told (held_items x.held) Open) S)) M, then_assoc K (then_told (told (held_items x.held) Open) S) M, then_assoc (told (held_items x.held) Open) S M) refl
+    by Waiting = rw (then_assoc U (then_told K (then_told (told (held_items x.held) Open) S)) M, then_assoc K (then_told (told (held_items x.held) Open) S) M, then_assoc (told (held_items x.held) Open) S M) refl
+    by Acting = rw (then_assoc U (then_told K (told [] Lost)) M, then_assoc K (told [] Lost) M) refl
+    by Over = rw (then_assoc U (then_told K (told [] Lost)) M, then_assoc K (told [] Lost) M) refl
+
+module _ (i j : StreamId) (p : PipeId) (s : Slots) (c : Call) (l : IsLink i j p s) (leave : leaves i j c ≡ true) where
+  abbrev pub d : Done
+  d = (begin c s).done
+
+  abbrev pub t : Told Value
+  t = then_told (behind i j p s) (enters i c)
+
+  before : Sound i j p s []
+  before = link-sound i j p s l
+
+  pub begins : Begins i j p s (enters i c) (begin c s)
+  begins = call-begins i j p s l.source l.locks l.apart c leave
+
+  pub grown : Grown i j p s d.slots
+  grown = call-grown i j p c s s (link-grown i j p s before)
+
+  -- the effects with which it begins
+
+  begun-inner : Each (IsInner i j p (rank (pipe_at p d.slots).phase)) d.caused
+  begun-inner = each-map (IsOuter i j) (IsInner i j p (rank (pipe_at p d.slots).phase)) (outer-inner i j p (rank (pipe_at p d.slots).phase)) d.caused begins.outer
+
+  begun-last : Each (IsNotLast p) d.caused
+  begun-last = each-map (IsOuter i j) (IsNotLast p) (outer-last p i j) d.caused begins.outer
+
+  begun-hands : tells (hands j) d.caused ≡ silence
+  begun-hands = silent-all (hands j) d.caused (each-map (IsOuter i j) (IsSilent (hands j)) (outer-hands i j) d.caused begins.outer)
+
+  begun-writes : tells (writes j) d.caused ≡ silence
+  begun-writes = silent-all (writes j) d.caused (each-map (IsOuter i j) (IsSilent (writes j)) (outer-writes i j) d.caused begins.outer)
+
+  begun-chunks : tells (chunks p) d.caused ≡ silence
+  begun-chunks = silent-all (chunks p) d.caused (each-map (IsOuter i j) (IsSilent (chunks p)) (outer-chunks p i j) d.caused begins.outer)
+
+  begun-sound : Sound i j p d.slots d.caused
+  begun-sound =
+      let few = (call-is p (reached-is s p l.reached).0 s c (reached-is s p l.reached).1).0 in
+      let w = grown.only in
+      let none = call-none p c s in
+      let o = all_off p i d.caused in
+      record {
+        state = grown-state i j p s d.slots grown begins.apart before.state;
+        few = few;
+        only = omega (arith, w, none, o);
+        history = before.history;
+        kept = call-kept j before.history s c before.kept;
+        inner = begun-inner;
+        ends = append_ends j p d.caused begun-last;
+      }
+
+  begun-told : behind_on i j p d.slots d.caused ≡ then_told (behind i j p s) (tells (coming i) d.caused)
+  begun-told =
+      rw (begun-hands, begun-writes, begun-chunks, begins.heard, ap as_pipe grown.there, ap as_readable grown.source, ap as_writable grown.sink)
+      (comes-last (unheard j s.promises.events) (in_sink (writable_at j s)) (pipe_at p s) (in_source (readable_at i s)) (tells (coming i) d.caused))
+
+  pub begun : From i j p t d.slots.locks d.slots d.caused
+  begun = record { sound = begun-sound; short = rw begun-told begins.comes; same = refl }
+
+  called : IsLink i j p (after_call c s) × IsShortOf (behind i j p (after_call c s)) t
+  called =
+      let z : Slots = named (begin c s).reply (performed d) in
+      from-link i j p t d.slots.locks (after_call c s) (reached-step s (Called c) l.reached) begins.locks
+      (older-from i j p t d.slots.locks z (named-from i j p t d.slots.locks (begin c s).reply (performed d) (performed-from i j p t d.slots.locks d begun)))
+
+-- a call that leaves the link alone keeps it, and brings what it enters
+pub link-called : (i j : StreamId) (p : PipeId) (s : Slots) (c : Call) → IsLink i j p s → leaves i j c ≡ true → IsLink i j p (after_call c s) × IsShortOf (behind i j p (after_call c s)) (then_told (behind i j p s) (enters i c))
+link-called i j p s c l leave = called i j p s c l leave
+
+-- what the host does between steps
+
+quiet-link : (i j : StreamId) (p : PipeId) (s z : Slots) → IsReached z → z.streams ≡ s.streams → z.pipes ≡ s.pipes → z.locks ≡ s.locks → IsLink i j p s → IsLink i j p z
+quiet-link i j p s z r e f g l = record {
+  reached = r;
+  source = rw e l.source;
+  sink = rw e l.sink;
+  there = rw f l.there;
+  from = rw f l.from;
+  into = rw f l.into;
+  apart = rw f l.apart;
+  locks = rw g l.locks;
+  elsewhere = rw e l.elsewhere;
+  source_fits = rw e l.source_fits;
+  sink_fits = rw e l.sink_fits;
+  closes = rw (e, f) l.closes;
+}
+
+heard_first : (j : StreamId) (events : List Event) (e : Event) → first_event events ≡ Some e → unheard j events ≡ then_told (heard_of j e) (unheard j (later_events events))
+heard_first j [] e f = cc
+heard_first j (x ∷ xs) e f = let is : x ≡ e = cc in rw is refl
+
+-- the taking of an event keeps it, and hands on what the event says
+pub link-heard : (i j : StreamId) (p : PipeId) (s : Slots) (e : Event) → first_event s.promises.events ≡ Some e → IsLink i j p s → IsLink i j p (after_event s) × IsShortOf (then_told (heard_of j e) (behind i j p (after_event s))) (behind i j p s)
+link-heard i j p s e f l = (
+  quiet-link i j p s (after_event s) (reached-step s Heard l.reached) refl refl refl l,
+  rw (heard_first j s.promises.events e f) (short_same _ _ _ (sym (then_assoc (heard_of j e) (unheard j (later_events s.promises.events)) (lies i j p s))) (short_refl _)),
+)
+
+-- where no event is left, the taking changes nothing
+pub link-unheard : (i j : StreamId) (p : PipeId) (s : Slots) → first_event s.promises.events ≡ None → IsLink i j p s → IsLink i j p (after_event s) × (behind i j p (after_event s) ≡ behind i j p s)
+link-unheard i j p s f l = (quiet-link i j p s (after_event s) (reached-step s Heard l.reached) refl refl refl l, by s.promises.events f)
+  where
+    by : (events : List Event) → first_event events ≡ None → then_told (unheard j (later_events events)) (lies i j p s) ≡ then_told (unheard j events) (lies i j p s)
+    by [] e = refl
+    by (x ∷ xs) e = cc

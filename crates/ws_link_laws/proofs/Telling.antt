@@ -1,0 +1,91 @@
+-- What effects on the agenda tell of a link, one after another.
+use Rattle.std.proofs.Common.{◌≡◌, if◌then◌else◌, nat_eq, List, [], ◌∷◌, ◌++◌, refl, sym}
+use Rattle.ws_value.specs.declared.ids.PipeId.{PipeId}
+use Rattle.ws_value.specs.declared.ids.StreamId.{StreamId}
+use Rattle.ws_value.specs.declared.value.Value.{Value}
+use Rattle.ws_steps.specs.declared.effects.Effect.{Effect}
+use Rattle.ws_steps.specs.declared.effects.Effect.TheVariants.{Readable as OnReadable, Writable as OnWritable, Pipe as OnPipe, ChunkSteps, CallHost}
+use Rattle.ws_steps.specs.declared.pipes.PipeOperation.TheVariants.{KeepChunk}
+use Rattle.ws_steps.specs.declared.readable.ReadRequest.{ReadRequest}
+use Rattle.ws_steps.specs.declared.readable.ReadRequest.TheVariants.{Promise, Pipe as PipeRequest}
+use Rattle.ws_steps.specs.declared.readable.ReadableOperation.{ReadableOperation}
+use Rattle.ws_steps.specs.declared.readable.ReadableOperation.TheVariants.{Enqueue, Close as CloseReadable}
+use Rattle.ws_steps.specs.declared.writable.WritableOperation.{WritableOperation}
+use Rattle.ws_steps.specs.declared.writable.WritableOperation.TheVariants.{Write, Close as CloseWritable, ClosePropagating}
+use Rattle.ws_steps.specs.Histories.{is_same}
+use Rattle.ws_steps.specs.Slots.{Slots, readable_at, writable_at, pipe_at}
+use Rattle.ws_flow.specs.Told.{Open, Closed, Lost, Told, told, then_told, IsShortOf}
+use Rattle.ws_flow.proofs.Told.{then_assoc, then_empty}
+use Rattle.ws_laws.proofs.Lists.{Each}
+use Rattle.ws_link_laws.specs.Link.{silence, in_sink, in_source, in_pipe, heard_call, unheard, behind}
+
+-- what effects tell, one after another
+abbrev pub tells : (Effect → Told Value) → List Effect → Told Value
+tells f [] = silence
+tells f (e ∷ es) = then_told (f e) (tells f es)
+
+pub tells-append : (f : Effect → Told Value) (xs ys : List Effect) → tells f (xs ++ ys) ≡ then_told (tells f xs) (tells f ys)
+tells-append f [] ys = refl
+tells-append f (x ∷ xs) ys = rw (tells-append f xs ys) (sym (then_assoc (f x) (tells f xs) (tells f ys)))
+
+abbrev pub IsSilent : (Effect → Told Value) → Effect → Type 0
+IsSilent f e = f e ≡ silence
+
+pub silent-all : (f : Effect → Told Value) (es : List Effect) → Each (IsSilent f) es → tells f es ≡ silence
+silent-all f [] n = refl
+silent-all f (e ∷ es) n = rw (n.0, silent-all f es n.1) refl
+
+-- what is lost is short of anything
+pub lost_short : (x y : Told Value) → x.items ≡ [] → x.mark ≡ Lost → IsShortOf x y
+lost_short x y e f = rw (f, e) (y.items, refl)
+
+-- what is called of the host is about to be heard
+abbrev pub hands : StreamId → Effect → Told Value
+hands j (CallHost call u) = heard_call j call
+hands j _ = silence
+
+-- what an operation writes to its stream
+abbrev pub written : WritableOperation → Told Value
+written (Write v p) = told (v ∷ []) Open
+written (CloseWritable p) = told [] Closed
+written (ClosePropagating p) = told [] Closed
+written _ = silence
+
+-- what is on its way to the destination
+abbrev pub writes : StreamId → Effect → Told Value
+writes j (OnWritable k operation) = if is_same j k then written operation else silence
+writes j _ = silence
+
+abbrev pub chunk_for : PipeId → Value → ReadRequest → Told Value
+chunk_for p v (Promise q) = silence
+chunk_for p v (PipeRequest q) = if nat_eq p.0 q.0 then told (v ∷ []) Open else silence
+
+-- the chunks that are on their way to the pipe
+abbrev pub chunks : PipeId → Effect → Told Value
+chunks p (ChunkSteps k request v) = chunk_for p v request
+chunks p (OnPipe q (KeepChunk v)) = if nat_eq p.0 q.0 then told (v ∷ []) Open else silence
+chunks p _ = silence
+
+-- what an operation lets into its stream
+abbrev pub entered : ReadableOperation → Told Value
+entered (Enqueue v) = told (v ∷ []) Open
+entered CloseReadable = told [] Closed
+entered _ = silence
+
+-- what is about to enter the source
+abbrev pub coming : StreamId → Effect → Told Value
+coming i (OnReadable k operation) = if is_same i k then entered operation else silence
+coming i _ = silence
+
+-- what is behind the host, with these effects on the agenda
+abbrev pub behind_on : StreamId → StreamId → PipeId → Slots → List Effect → Told Value
+behind_on i j p s es =
+    then_told (unheard j s.promises.events)
+    (then_told (tells (hands j) es)
+    (then_told (in_sink (writable_at j s))
+    (then_told (tells (writes j) es)
+    (in_pipe (pipe_at p s)
+    (then_told (tells (chunks p) es) (then_told (in_source (readable_at i s)) (tells (coming i) es)))))))
+
+pub behind_on-nothing : (i j : StreamId) (p : PipeId) (s : Slots) → behind_on i j p s [] ≡ behind i j p s
+behind_on-nothing i j p s = rw (then_empty (in_source (readable_at i s))) refl

@@ -1,0 +1,4 @@
+pub mod Link
+pub mod Sound
+pub mod Laws
+pub mod Room

@@ -1,0 +1,135 @@
+-- One link: a pipe from a readable stream to a writable stream of the host, and what lies on it, oldest first, told with a mark.
+use Rattle.std.specs.Prelude.{Bool, true, false, not, ◌&&◌, is_some, if◌then◌else◌, List, [], ◌∷◌, Option, Some, None}
+use Rattle.ws_value.specs.declared.ids.PipeId.{PipeId}
+use Rattle.ws_value.specs.declared.ids.StreamId.{StreamId}
+use Rattle.ws_value.specs.declared.value.Value.{Value}
+use Rattle.ws_steps.specs.declared.calls.Call.{Call}
+use Rattle.ws_steps.specs.declared.calls.Call.TheVariants.{GetReader, GetWriter, Cancel, Close, Abort, Enqueue, Finish, Fail, Pipe}
+use Rattle.ws_steps.specs.declared.calls.Event.{Event}
+use Rattle.ws_steps.specs.declared.calls.Event.TheVariants.{Host}
+use Rattle.ws_steps.specs.declared.calls.HostCall.{HostCall}
+use Rattle.ws_steps.specs.declared.calls.HostCall.TheVariants.{Write as HostWrite, Close as HostClose}
+use Rattle.ws_steps.specs.declared.pipes.Phase.{Phase}
+use Rattle.ws_steps.specs.declared.pipes.Phase.TheVariants.{Flowing, Waiting, Acting, Over}
+use Rattle.ws_steps.specs.declared.queue.Queued.{Queued}
+use Rattle.ws_steps.specs.declared.readable.ReadableState.{ReadableState}
+use Rattle.ws_steps.specs.declared.readable.ReadableState.TheVariants.{Readable, Closed as ReadableClosed, Errored as ReadableErrored}
+use Rattle.ws_steps.specs.declared.writable.WritableState.{WritableState}
+use Rattle.ws_steps.specs.declared.writable.WritableState.TheVariants.{Writable, Erroring, Errored as WritableErrored, Closed as WritableClosed}
+use Rattle.ws_steps.specs.declared.writable.WriteRecord.{WriteRecord}
+use Rattle.ws_steps.specs.declared.writable.WriteRecord.TheVariants.{Chunk, InFlight, CloseMark}
+use Rattle.ws_steps.specs.Histories.{is_same}
+use Rattle.ws_steps.specs.Pipes as pipe
+use Rattle.ws_steps.specs.Readable as readable
+use Rattle.ws_steps.specs.Writable as writable
+use Rattle.ws_steps.specs.Slots.{Slots, readable_at, writable_at, pipe_at}
+use Rattle.ws_flow.specs.Told.{Mark, Open, Closed, Lost, Told, told, then_told}
+
+-- nothing was told, and more may come
+abbrev pub silence : Told Value
+silence = told [] Open
+
+-- in the destination
+
+-- the queue from its first record on: a chunk is told, the place of one that was handed on isn't, and a close mark ends it
+abbrev pub before_todo : WriteRecord → Told Value → Told Value
+before_todo (Chunk v) t = told (v ∷ t.items) t.mark
+before_todo InFlight t = t
+before_todo CloseMark t = told [] Closed
+
+abbrev pub todo_of : List (Queued WriteRecord) → Told Value
+todo_of [] = silence
+todo_of (q ∷ qs) = before_todo q.value (todo_of qs)
+
+-- by the state, and by whether a close is in flight: one in flight ends all, and an erroring stream loses what isn't handed on
+abbrev pub sink_by : WritableState → Bool → Told Value → Told Value
+sink_by WritableClosed closing t = told [] Closed
+sink_by WritableErrored closing t = told [] Lost
+sink_by Writable true t = told [] Closed
+sink_by Erroring true t = told [] Closed
+sink_by Writable false t = t
+sink_by Erroring false t = told t.items Lost
+
+-- what is in a writable stream: the chunks that aren't handed on, and how they end
+abbrev pub in_sink : writable.Slots → Told Value
+in_sink w = sink_by w.state (is_some w.close_in_flight) (todo_of w.queue)
+
+-- in the source
+
+abbrev pub values : List (Queued Value) → List Value
+values [] = []
+values (q ∷ qs) = q.value ∷ values qs
+
+abbrev pub closing_mark : Bool → Mark
+closing_mark true = Closed
+closing_mark false = Open
+
+abbrev pub source_by : ReadableState → Bool → List Value → Told Value
+source_by Readable requested vs = told vs (closing_mark requested)
+source_by ReadableClosed requested vs = told [] Closed
+source_by ReadableErrored requested vs = told [] Lost
+
+-- what is in a readable stream: the chunks of its queue, all where a close was requested
+abbrev pub in_source : readable.Slots → Told Value
+in_source r = source_by r.state r.close_requested (values r.queue)
+
+-- in the pipe
+
+abbrev pub held_items : Option Value → List Value
+held_items None = []
+held_items (Some v) = v ∷ []
+
+-- first what the pipe holds, and then t; once it acts it passes nothing on
+abbrev pub piped_by : Phase → Option Value → Told Value → Told Value
+piped_by Flowing held t = then_told (told (held_items held) Open) t
+piped_by Waiting held t = then_told (told (held_items held) Open) t
+piped_by Acting held t = told [] Lost
+piped_by Over held t = told [] Lost
+
+abbrev pub in_pipe : pipe.Slots → Told Value → Told Value
+in_pipe x t = piped_by x.phase x.held t
+
+-- what lies on the link of pipe p from stream i to stream j, oldest first: in the destination, in the pipe, in the source
+abbrev pub lies : StreamId → StreamId → PipeId → Slots → Told Value
+lies i j p s = then_told (in_sink (writable_at j s)) (in_pipe (pipe_at p s) (in_source (readable_at i s)))
+
+-- what the host hears
+
+abbrev pub heard_call : StreamId → HostCall → Told Value
+heard_call j (HostWrite k v) = if is_same j k then told (v ∷ []) Open else silence
+heard_call j (HostClose k) = if is_same j k then told [] Closed else silence
+heard_call j _ = silence
+
+-- what an event tells of stream j: a chunk that is written, or the close
+abbrev pub heard_of : StreamId → Event → Told Value
+heard_of j (Host id call) = heard_call j call
+heard_of j _ = silence
+
+-- what the events tell that the host hasn't taken
+abbrev pub unheard : StreamId → List Event → Told Value
+unheard j [] = silence
+unheard j (e ∷ es) = then_told (heard_of j e) (unheard j es)
+
+-- what is behind the host: what it hasn't heard yet, and then what lies on the link
+abbrev pub behind : StreamId → StreamId → PipeId → Slots → Told Value
+behind i j p s = then_told (unheard j s.promises.events) (lies i j p s)
+
+-- calls
+
+-- what a call brings to stream i
+abbrev pub enters : StreamId → Call → Told Value
+enters i (Enqueue k v) = if is_same i k then told (v ∷ []) Open else silence
+enters i (Finish k) = if is_same i k then told [] Closed else silence
+enters i _ = silence
+
+-- whether a call leaves the link alone: all do but those by number that lock, cancel, close, abort or fail one of its ends, or pipe from
+-- or to one of them. What the host does to the source is its own: it enqueues, finishes and fails
+abbrev pub leaves : StreamId → StreamId → Call → Bool
+leaves i j (GetReader k) = not (is_same i k)
+leaves i j (Cancel k reason) = not (is_same i k)
+leaves i j (GetWriter k) = not (is_same j k)
+leaves i j (Close k) = not (is_same j k)
+leaves i j (Abort k reason) = not (is_same j k)
+leaves i j (Fail k reason) = not (is_same j k)
+leaves i j (Pipe source dest prevent signal) = not (is_same i source) && not (is_same j dest)
+leaves i j _ = true

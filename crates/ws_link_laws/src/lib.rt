@@ -1,0 +1,30 @@
+//! Laws of one link of a realm: a pipe from a readable stream to a writable stream of the host, and what lies on it, over every run that leaves its ends alone.
+#![tactic(auto)]
+
+ghost use Rattle.ws_link_laws.specs.Laws.{EachFreePairStays, EachLinkKeeps, EachLinkBegins};
+ghost use Rattle.ws_link_laws.specs.Room.{EachLinkHasRoom, EachLinkBeginsWithRoom};
+
+/// From any link on, in any run that leaves it alone, the link stays, and what the host heard of its destination, followed by what is behind it then, is what was behind it before, followed by what entered; or it is a first part of that, and says that it is cut short. A call that throws enters nothing, and then what was behind had come to an end, which nothing follows.
+pub fn each_link_keeps()
+    ensures { EachLinkKeeps }
+{}
+
+/// A pipe between two streams that nobody has makes them a link, whatever it is told not to do and whatever its signal. What is behind the host then is what was unheard, followed by what was in the two streams; or it is a first part of that, and says that it is cut short.
+pub fn each_link_begins()
+    ensures { EachLinkBegins }
+{}
+
+/// Where the destination of a link has the mark 1 and counts chunks, then over any run that leaves the link alone at most one chunk is in its queue or in flight, in the pipe, or asked of the source.
+pub fn each_link_has_room()
+    ensures { EachLinkHasRoom }
+{}
+
+/// A pipe between two streams that nobody has begins with that room, where the destination has the mark 1 and counts chunks.
+pub fn each_link_begins_with_room()
+    ensures { EachLinkBeginsWithRoom }
+{}
+
+/// Two streams that may be linked, since nobody has them, no pipe had, and nothing was written to the second, stay so in any run that leaves them alone, whatever is enqueued at the first and whatever others do.
+pub fn each_free_pair_stays()
+    ensures { EachFreePairStays }
+{}

@@ -1,0 +1,268 @@
+-- What calls begin with keeps that nothing bad stands anywhere, where the reasons that they give aren't bad.
+use Rattle.std.proofs.Common.{◌≡◌, ℕ, suc, ◌+◌, ◌≤◌, ◌<◌, Bool, true, false, nat_eq, nat_lt, ◌&&◌, if◌then◌else◌, List, [], ◌∷◌, ◌++◌, length, Option, Some, None, Result, Ok, Err, slice_get, refl, ap, subst, ◌∙◌, arith}
+use Rattle.ws_value.specs.declared.ids.PipeId.{PipeId}
+use Rattle.ws_value.specs.declared.ids.PromiseId.{PromiseId}
+use Rattle.ws_value.specs.declared.ids.SignalId.{SignalId}
+use Rattle.ws_value.specs.declared.ids.StreamId.{StreamId}
+use Rattle.ws_value.specs.declared.value.Plain.{Plain}
+use Rattle.ws_steps.specs.declared.calls.Call.{Call}
+use Rattle.ws_steps.specs.declared.calls.Reply.{Reply}
+use Rattle.ws_steps.specs.declared.calls.Reply.TheVariants as reply
+use Rattle.ws_steps.specs.declared.effects.Effect.{Effect}
+use Rattle.ws_steps.specs.declared.effects.Effect.TheVariants.{Readable, Writable, Signal, Settle}
+use Rattle.ws_steps.specs.declared.effects.Owner.TheVariants.{Host}
+use Rattle.ws_steps.specs.declared.locks.Lock.{Lock}
+use Rattle.ws_steps.specs.declared.pipes.Prevent.{Prevent}
+use Rattle.ws_steps.specs.declared.pipes.SignalOperation.TheVariants.{Trigger}
+use Rattle.ws_steps.specs.declared.readable.ReadableOperation.TheVariants.{Error, ReleaseReader, Read, Cancel}
+use Rattle.ws_steps.specs.declared.readable.ReadRequest.TheVariants.{Promise as PromiseRequest}
+use Rattle.ws_steps.specs.declared.writable.WritableOperation.TheVariants.{Abort, ErrorIfNeeded, ReleaseWriter, Write, Close}
+use Rattle.ws_steps.specs.Calls.{Begun, begin, promising, with_renewed, reject_renewed, pipe_begins, adding}
+use Rattle.ws_steps.specs.Calls as calls
+use Rattle.ws_steps.specs.Effects.{type_error}
+use Rattle.ws_steps.specs.Pipes as pipe
+use Rattle.ws_steps.specs.Promises.{Table, fresh, is_pending_at}
+use Rattle.ws_steps.specs.Readable as readable
+use Rattle.ws_steps.specs.Readable.{is_readable}
+use Rattle.ws_steps.specs.Slots.{Slots, Stream, ReadableStream, WritableStream, with_promises, readable_at, as_signal}
+use Rattle.ws_steps.specs.Writable as writable
+use Rattle.ws_laws.proofs.EachCall.{each_call}
+use Rattle.ws_reason_laws.proofs.InTable.{fresh-keeps, fresh-count}
+use Rattle.ws_reason_laws.proofs.Known.{class, Known, known-new, known-next, known-same}
+use Rattle.ws_reason_laws.proofs.Readables.{effects-append}
+use Rattle.ws_reason_laws.proofs.Rows.{in_signal, signal-there}
+use Rattle.ws_reason_laws.proofs.Weights.{Class, of_reason, soft, settles, in_effects, in_stream, in_streams, in_pipe, in_pipes, in_signals, in_slots, in_table, AllGood, count}
+
+-- what calls give: the reasons in their first effects
+
+abbrev pub bad_first : (Plain → ℕ) → Effect → ℕ
+bad_first bad (Readable i (Error r)) = bad r
+bad_first bad (Writable i (Abort r p)) = bad r
+bad_first bad (Writable i (ErrorIfNeeded r)) = bad r
+bad_first bad (Signal a (Trigger r)) = bad r
+bad_first bad _ = 0
+
+abbrev pub bad_all : (Plain → ℕ) → List Effect → ℕ
+bad_all bad [] = 0
+bad_all bad (e ∷ es) = bad_first bad e + bad_all bad es
+
+-- the answer of a host's algorithm
+abbrev pub bad_answer : (Plain → ℕ) → Result Plain Plain → ℕ
+bad_answer bad (Ok v) = 0
+bad_answer bad (Err r) = bad r
+
+abbrev pub bad_settling : (Plain → ℕ) → List Effect → ℕ
+bad_settling bad [] = 0
+bad_settling bad (Settle p o ∷ []) = bad_answer bad o
+bad_settling bad (e ∷ es) = 0
+
+abbrev pub bad_done : (Plain → ℕ) → Reply → List Effect → ℕ
+bad_done bad reply.Done es = bad_settling bad es
+bad_done bad _ es = 0
+
+abbrev pub bad_begun : (Plain → ℕ) → Begun → ℕ
+bad_begun bad b = bad_all bad b.done.caused + bad_done bad b.reply b.done.caused
+
+-- tables get one more
+
+streams-append : (k : Class) (xs : List Stream) (y : Stream) → in_streams k (xs ++ y ∷ []) ≡ in_streams k xs + in_stream k y
+streams-append k [] y = omega arith
+streams-append k (x ∷ xs) y = let h = streams-append k xs y in omega (arith, h)
+
+pipes-append : (k : Class) (n : ℕ) (xs : List pipe.Slots) (y : pipe.Slots) (at : ℕ) → at ≡ n + length xs → in_pipes k n xs ≡ 0 → in_pipe k at y ≡ 0 → in_pipes k n (xs ++ y ∷ []) ≡ 0
+pipes-append k n [] y at e h g =
+    let same : at ≡ n = omega (arith, e) in let f : in_pipe k n y ≡ 0 = subst (λ (m : ℕ). in_pipe k m y ≡ 0) same g in omega (arith, f)
+pipes-append k n (x ∷ xs) y at e h g = let f = pipes-append k (suc n) xs y at (omega (arith, e)) (omega (arith, h)) g in omega (arith, h, f)
+
+signals-append : (k : Class) (xs : List pipe.Signal) → in_signals k (xs ++ pipe.new_signal ∷ []) ≡ in_signals k xs
+signals-append k [] = refl
+signals-append k (x ∷ xs) = let h = signals-append k xs in omega (arith, h)
+
+module _ (bad : Plain → ℕ) (me : PipeId) (own : Option ℕ) (s : Slots) (known : Known bad me own s []) where
+  abbrev Begins : Begun → Type 0
+  Begins b = bad_begun bad b ≡ 0 → Known bad me own b.done.slots b.done.caused
+
+  -- a soft one and a loud one
+  soft_one : (f : ℕ → Bool) (n : ℕ) → f n ≡ false → soft (class bad me f) n ≡ 0
+  soft_one f n e = grind (arith, e)
+
+  settles_one : (f : ℕ → Bool) (n : ℕ) (r : Plain) → f n ≡ false → settles (class bad me f) n (Err r) ≡ 0
+  settles_one f n r e = grind (arith, e)
+
+  -- a call that answers a new promise
+  promising-known : (effects : PromiseId → List Effect) (b : Bool)
+      → ((f : ℕ → Bool) (p : PromiseId) → f p.0 ≡ b → in_effects (class bad me f) (effects p) ≡ 0) → Known bad me own (promising effects s).done.slots (promising effects s).done.caused
+  promising-known effects b good =
+      let c = fresh-count s.promises in
+      known-next bad me own s _ [] _ (λ i. b) known (omega (arith, c))
+      (λ f news g.
+      let one : f (count s.promises) ≡ b = news (count s.promises) (omega arith) (omega (arith, c)) in
+      let e = good f (record { 0 = count s.promises }) one in
+      let t = fresh-keeps (class bad me f) s.promises (omega (arith, g)) in
+      omega (arith, g, e, t))
+
+  -- a call that makes no promise
+  plain-known : (z : Slots) (cs : List Effect) → z.promises ≡ s.promises → ((f : ℕ → Bool) → in_slots (class bad me f) s ≡ 0 → AllGood (class bad me f) z cs) → Known bad me own z cs
+  plain-known z cs e good = known-same bad me own s z [] cs known (ap count e) (λ f g. good f (omega (arith, g)))
+
+  -- releases
+
+  renewed-count : (t : Table) (kept : Bool) → count t ≤ count (with_renewed t kept)
+  renewed-count t true = omega arith
+  renewed-count t false = let c = fresh-count t in omega (arith, c)
+
+  renewed-keeps : (k : Class) (t : Table) (kept : Bool) → in_table k t ≡ 0 → in_table k (with_renewed t kept) ≡ 0
+  renewed-keeps k t true h = h
+  renewed-keeps k t false h = fresh-keeps k t h
+
+  renewed-good : (f : ℕ → Bool) (t : Table) (kept : Bool) (m : ℕ) → ((i : ℕ) → count t ≤ i → i < m → f i ≡ false) → count (with_renewed t kept) ≤ m → in_effects (class bad me f) (reject_renewed t kept) ≡ 0
+  renewed-good f t true m news q = refl
+  renewed-good f t false m news q =
+      let c = fresh-count t in
+      let one : f (count t) ≡ false = news (count t) (omega arith) (omega (arith, c, q)) in
+      let z = settles_one f (count t) type_error one in omega (arith, z)
+
+  release_reader-known : (i : StreamId) (locks : List Lock) (kept : Bool)
+      → Known bad me own (record (with_promises (with_renewed s.promises kept) s) { locks = locks }) (reject_renewed s.promises kept ++ Readable i ReleaseReader ∷ [])
+  release_reader-known i locks kept =
+      known-next bad me own s _ [] _ (λ i. false) known (renewed-count s.promises kept)
+      (λ f news g.
+      let a = renewed-good f s.promises kept (count (with_renewed s.promises kept)) news (omega arith) in
+      let b = renewed-keeps (class bad me f) s.promises kept (omega (arith, g)) in
+      let c = effects-append (class bad me f) (reject_renewed s.promises kept) (Readable i ReleaseReader ∷ []) in
+      omega (arith, g, a, b, c))
+
+  release_writer-known : (i : StreamId) (locks : List Lock) (ready closed : Bool) → let t : Table = with_renewed s.promises ready in
+      Known bad me own (record (with_promises (with_renewed t closed) s) { locks = locks }) (reject_renewed s.promises ready ++ (reject_renewed t closed ++ Writable i ReleaseWriter ∷ []))
+  release_writer-known i locks ready closed =
+      let t : Table = with_renewed s.promises ready in
+      let m = renewed-count s.promises ready in
+      let n = renewed-count t closed in
+      known-next bad me own s _ [] _ (λ i. false) known (omega (arith, m, n))
+      (λ f news g.
+      let k : Class = class bad me f in
+      let a = renewed-good f s.promises ready (count (with_renewed t closed)) news (omega (arith, n)) in
+      let b = renewed-good f t closed (count (with_renewed t closed)) (λ i l h. news i (omega (arith, l, m)) h) (omega arith) in
+      let c = renewed-keeps k t closed (renewed-keeps k s.promises ready (omega (arith, g))) in
+      let d = effects-append k (reject_renewed s.promises ready) (reject_renewed t closed ++ Writable i ReleaseWriter ∷ []) in
+      let e = effects-append k (reject_renewed t closed) (Writable i ReleaseWriter ∷ []) in
+      omega (arith, g, a, b, c, d, e))
+
+  -- a pipe
+
+  adds : (k : Class) (p : PipeId) (signal : Option SignalId) → in_effects k (adding p signal) ≡ 0
+  adds k p None = refl
+  adds k p (Some a) = refl
+
+  begins-good : (k : Class) (p : PipeId) (x y : PromiseId) (signal : Option SignalId) (reason : Option Plain) → of_reason k reason ≡ 0 → in_effects k (pipe_begins p x y signal reason) ≡ 0
+  begins-good k p x y signal (Some r) h = omega (arith, h)
+  begins-good k p x y signal None h = let a = adds k p signal in grind (arith, a, effects-append)
+
+  triggered : (k : Class) (signal : Option SignalId) → in_slots k s ≡ 0 → of_reason k (calls.reason_of signal s) ≡ 0
+  triggered k None h = refl
+  triggered k (Some a) h = by (slice_get s.signals a.0) (signal-there k s.signals a.0 (omega (arith, h)))
+    where
+      by : (o : Option pipe.Signal) → in_signal k o ≡ 0 → of_reason k (as_signal o).reason ≡ 0
+      by None g = refl
+      by (Some x) g = g
+
+  -- of the four promises of a pipe only its own may hand on, where it is the pipe that is looked at
+  abbrev of_pipe : ℕ → Bool
+  of_pipe i = nat_eq (length s.pipes) me.0 && nat_eq i (count s.promises + 3)
+
+  pipe_own : (f : ℕ → Bool) (b : Bool) (n : ℕ) → f n ≡ (b && true) → (if b then 0 else soft (class bad me f) n) ≡ 0
+  pipe_own f true n e = refl
+  pipe_own f false n e = soft_one f n e
+
+  abbrev piped : StreamId → StreamId → Prevent → Option SignalId → Begun
+  piped source dest prevent signal = calls.pipe_to source dest prevent signal s
+
+  pipe-count : (source dest : StreamId) (prevent : Prevent) (signal : Option SignalId) → count (piped source dest prevent signal).done.slots.promises ≡ count s.promises + 4
+  pipe-count source dest prevent signal =
+      let t : Table = s.promises in
+      let c0 = fresh-count t in
+      let c1 = fresh-count (fresh t) in
+      let c2 = fresh-count (fresh (fresh t)) in
+      let c3 = fresh-count (fresh (fresh (fresh t))) in
+      omega (arith, c0, c1, c2, c3)
+
+  pipe-good : (source dest : StreamId) (prevent : Prevent) (signal : Option SignalId) (f : ℕ → Bool)
+      → ((i : ℕ) → count s.promises ≤ i → i < count (piped source dest prevent signal).done.slots.promises → f i ≡ of_pipe i) → in_slots (class bad me f) s + 0 ≡ 0
+      → AllGood (class bad me f) (piped source dest prevent signal).done.slots (piped source dest prevent signal).done.caused
+  pipe-good source dest prevent signal f news g =
+      let t : Table = s.promises in
+      let c0 = fresh-count t in
+      let c1 = fresh-count (fresh t) in
+      let c2 = fresh-count (fresh (fresh t)) in
+      let c3 = fresh-count (fresh (fresh (fresh t))) in
+      let k : Class = class bad me f in
+      let s0 = soft_one f (count t) (news (count t) (omega arith) (omega (arith, c0, c1, c2, c3)) ∙ not_own (count t) (omega arith)) in
+      let s1 = soft_one f (count (fresh t)) (news (count (fresh t)) (omega (arith, c0)) (omega (arith, c1, c2, c3)) ∙ not_own (count (fresh t)) (omega (arith, c0))) in
+      let s2 = soft_one f (count (fresh (fresh t))) (news (count (fresh (fresh t))) (omega (arith, c0, c1)) (omega (arith, c2, c3)) ∙ not_own (count (fresh (fresh t))) (omega (arith, c0, c1))) in
+      let o = pipe_own f (nat_eq (length s.pipes) me.0) (count (fresh (fresh (fresh t)))) (news (count (fresh (fresh (fresh t)))) (omega (arith, c0, c1, c2)) (omega (arith, c3)) ∙ own_one (count (fresh (fresh (fresh t)))) (omega (arith, c0, c1, c2))) in
+      let x : pipe.Slots = pipe.set_up source dest prevent signal (record { 0 = count (fresh (fresh (fresh t))) }) in
+      let p = pipes-append k 0 s.pipes x (length s.pipes) (omega arith) (omega (arith, g)) (omega (arith, o)) in
+      let e = begins-good k (record { 0 = length s.pipes }) (record { 0 = count t }) (record { 0 = count (fresh (fresh t)) }) signal (calls.reason_of signal s) (triggered k signal (omega (arith, g))) in
+      let r = fresh-keeps k (fresh (fresh (fresh t))) (fresh-keeps k (fresh (fresh t)) (fresh-keeps k (fresh t) (fresh-keeps k t (omega (arith, g))))) in
+      omega (arith, g, s0, s1, s2, p, e, r)
+    where
+      not_own : (i : ℕ) → i < count s.promises + 3 → of_pipe i ≡ false
+      not_own i h = grind (arith, h)
+
+      own_one : (i : ℕ) → i ≡ count s.promises + 3 → of_pipe i ≡ (nat_eq (length s.pipes) me.0 && true)
+      own_one i h = grind (arith, h)
+
+  pipe-known : (source dest : StreamId) (prevent : Prevent) (signal : Option SignalId)
+      → Known bad me own (piped source dest prevent signal).done.slots (piped source dest prevent signal).done.caused
+  pipe-known source dest prevent signal =
+      let c = pipe-count source dest prevent signal in
+      known-next bad me own s _ [] _ of_pipe known (omega (arith, c)) (pipe-good source dest prevent signal)
+
+  -- the pipe that is looked at: its promise hands on
+  pub own-known : (source dest : StreamId) (prevent : Prevent) (signal : Option SignalId) (q : ℕ) → me.0 ≡ length s.pipes → q ≡ count s.promises + 3
+      → Known bad me (Some q) (piped source dest prevent signal).done.slots (piped source dest prevent signal).done.caused
+  own-known source dest prevent signal q m e =
+      let c = pipe-count source dest prevent signal in
+      known-new bad me own (Some q) s (piped source dest prevent signal).done.slots [] (piped source dest prevent signal).done.caused of_pipe known
+      (omega (arith, c, e), new_one (known.hands q) q e) (omega (arith, c)) (pipe-good source dest prevent signal)
+    where
+      new_one : (b : Bool) (i : ℕ) → i ≡ count s.promises + 3 → (if nat_lt i (count s.promises) then b else of_pipe i) ≡ true
+      new_one b i h = grind (arith, h, m)
+
+  pub call-known : (c : Call) → Begins (begin c s)
+  call-known c =
+      each_call Begins c s (record {
+        unchanged = λ reply b. known;
+        rejected = λ b. promising-known (λ p. Settle p (Err type_error) ∷ []) false (λ f p e. let z = settles_one f p.0 type_error e in omega (arith, z));
+        make_readable = λ mark size start b. plain-known _ _ refl (λ f g. let a = streams-append (class bad me f) s.streams (ReadableStream (readable.set_up Host mark size)) in omega (arith, g, a));
+        make_writable = λ mark size start b. plain-known _ _ refl (λ f g. let a = streams-append (class bad me f) s.streams (WritableStream (writable.set_up Host mark size)) in omega (arith, g, a));
+        get_reader = λ i e b.
+            let c = fresh-count s.promises in
+            known-next bad me own s _ [] _ (λ i. false) known (omega (arith, c))
+            (λ f news g.
+            let one = soft_one f (count s.promises) (news (count s.promises) (omega arith) (omega (arith, c))) in
+            let t = fresh-keeps (class bad me f) s.promises (omega (arith, g)) in omega (arith, g, one, t));
+        get_writer = λ i e b.
+            let c = fresh-count s.promises in
+            let d = fresh-count (fresh s.promises) in
+            known-next bad me own s _ [] _ (λ i. false) known (omega (arith, c, d))
+            (λ f news g.
+            let one = soft_one f (count s.promises) (news (count s.promises) (omega arith) (omega (arith, c, d))) in
+            let two = soft_one f (count (fresh s.promises)) (news (count (fresh s.promises)) (omega (arith, c)) (omega (arith, d))) in
+            let t = fresh-keeps (class bad me f) (fresh s.promises) (fresh-keeps (class bad me f) s.promises (omega (arith, g))) in omega (arith, g, one, two, t));
+        release_reader = λ l closed i e b. release_reader-known i _ (is_readable (readable_at i s).state);
+        release_writer = λ l i w e h b. release_writer-known i _ (is_pending_at w.ready s.promises) (is_pending_at w.closed (with_renewed s.promises (is_pending_at w.ready s.promises)));
+        cancel = λ reason i b. promising-known (λ p. Readable i (Cancel reason p) ∷ []) false (λ f p e. refl);
+        read = λ l i closed e h b. promising-known (λ p. Readable i (Read (PromiseRequest p)) ∷ []) false (λ f p e. let z = soft_one f p.0 e in omega (arith, z));
+        write = λ l v i e b. promising-known (λ p. Writable i (Write v p) ∷ []) false (λ f p e. let z = soft_one f p.0 e in omega (arith, z));
+        close = λ i b. promising-known (λ p. Writable i (Close p) ∷ []) false (λ f p e. let z = soft_one f p.0 e in omega (arith, z));
+        abort = λ reason i e b. promising-known (λ p. Writable i (Abort reason p) ∷ []) true (λ f p e. grind (arith, b, e));
+        enqueue = λ i v e can b. plain-known s _ refl (λ f g. omega (arith, g));
+        finish = λ i b. plain-known s _ refl (λ f g. omega (arith, g));
+        fail_readable = λ i reason b. plain-known s _ refl (λ f g. omega (arith, g, b));
+        fail_writable = λ i reason b. plain-known s _ refl (λ f g. omega (arith, g, b));
+        pipe = λ source dest prevent signal e f l m b. pipe-known source dest prevent signal;
+        make_signal = λ b. plain-known _ _ refl (λ f g. let a = signals-append (class bad me f) s.signals in omega (arith, g, a));
+        trigger = λ a reason b. plain-known s _ refl (λ f g. omega (arith, g, b));
+        settle = λ h answer p e b. plain-known _ _ refl (λ f g. grind (arith, g, b));
+      })

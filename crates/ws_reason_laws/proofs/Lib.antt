@@ -1,0 +1,19 @@
+pub mod Weights
+pub mod InTable
+pub mod Readables
+pub mod Writables
+pub mod Pipes
+pub mod Rows
+pub mod Known
+pub mod Begins
+pub mod Closings
+pub mod Asking
+pub mod Answers
+pub mod Moments
+pub mod Opening
+pub mod Runs
+pub mod Among
+pub mod Given
+pub mod Stored
+pub mod FirstPipe
+mod Worked

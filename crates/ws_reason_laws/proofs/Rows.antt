@@ -1,0 +1,316 @@
+-- The row of each effect keeps that nothing bad stands anywhere, where the promises that it makes are of the right kind.
+use Rattle.std.proofs.Common.{◌≡◌, ℕ, zero, suc, ◌+◌, ◌≤◌, ◌<◌, Bool, true, false, nat_eq, if◌then◌else◌, List, [], ◌∷◌, ◌++◌, length, Option, Some, None, Result, Err, slice_get, slice_set, refl, subst, arith}
+use Rattle.ws_value.specs.declared.ids.PipeId.{PipeId}
+use Rattle.ws_value.specs.declared.ids.PromiseId.{PromiseId}
+use Rattle.ws_value.specs.declared.ids.SignalId.{SignalId}
+use Rattle.ws_value.specs.declared.ids.StreamId.{StreamId}
+use Rattle.ws_value.specs.declared.value.Outcome.TheVariants.{Given, Finished}
+use Rattle.ws_value.specs.declared.value.Plain.{Plain}
+use Rattle.ws_value.specs.declared.value.Plain.TheVariants.{Undefined}
+use Rattle.ws_value.specs.declared.value.Value.{Value}
+use Rattle.ws_value.specs.declared.value.Value.TheVariants.{Plain as PlainValue}
+use Rattle.ws_steps.specs.declared.calls.Event.TheVariants.{Host as HostCalled}
+use Rattle.ws_steps.specs.declared.calls.HostCall.{HostCall}
+use Rattle.ws_steps.specs.declared.calls.StartBy.{StartBy}
+use Rattle.ws_steps.specs.declared.calls.StartBy.TheVariants.{Now, Later}
+use Rattle.ws_steps.specs.declared.effects.Effect.{Effect}
+use Rattle.ws_steps.specs.declared.effects.Effect.TheVariants.{Readable, Writable, Pipe, Signal, StartAlgorithm, PullAlgorithm, CancelAlgorithm, WriteAlgorithm, CloseAlgorithm, AbortAlgorithm, ChunkSteps, CloseSteps, ErrorSteps, Give, Settle, Queue, CallHost}
+use Rattle.ws_steps.specs.declared.effects.Gift.{Gift}
+use Rattle.ws_steps.specs.declared.effects.Gift.TheVariants.{This, Fresh}
+use Rattle.ws_steps.specs.declared.effects.Owner.{Owner}
+use Rattle.ws_steps.specs.declared.effects.Owner.TheVariants.{Host}
+use Rattle.ws_steps.specs.declared.effects.Use.{Use}
+use Rattle.ws_steps.specs.declared.effects.Use.TheVariants.{React}
+use Rattle.ws_steps.specs.declared.pipes.PipeOperation.{PipeOperation}
+use Rattle.ws_steps.specs.declared.pipes.SignalOperation.{SignalOperation}
+use Rattle.ws_steps.specs.declared.pipes.SignalOperation.TheVariants.{Add, Forget, Trigger}
+use Rattle.ws_steps.specs.declared.promises.Step.{Step}
+use Rattle.ws_steps.specs.declared.promises.Step.TheVariants.{ReadablePull, ReturnUndefined, WritableClose, WritableAbort}
+use Rattle.ws_steps.specs.declared.readable.ReadRequest.{ReadRequest}
+use Rattle.ws_steps.specs.declared.readable.ReadRequest.TheVariants.{Promise, Pipe as PipeRequest}
+use Rattle.ws_steps.specs.declared.readable.ReadableOperation.{ReadableOperation}
+use Rattle.ws_steps.specs.declared.writable.WritableOperation.{WritableOperation}
+use Rattle.ws_steps.specs.Operations.{readable_operation, writable_operation, pipe_operation, signal_operation}
+use Rattle.ws_steps.specs.Pipes as pipe
+use Rattle.ws_steps.specs.Pipes.{abort_all, trigger_unless}
+use Rattle.ws_steps.specs.Promises.{Table, next_id, fresh, fresh_settled, settle, tell, use_gift, queue_micro}
+use Rattle.ws_steps.specs.Readable as readable
+use Rattle.ws_steps.specs.Writable as writable
+use Rattle.ws_steps.specs.Slots.{Slots, Stream, ReadableStream, WritableStream, Done, nothing, found, has_readable, has_writable, readable_at, writable_at, as_readable, as_writable, owner_at, put_readable, put_writable, on_readable, on_writable, on_pipe_at, on_signal_at, ends_at}
+use Rattle.ws_steps.specs.Turns.{row, start_algorithm, pull_algorithm, cancel_algorithm, write_algorithm, close_algorithm, abort_algorithm, chunk_steps, close_steps, error_steps, call_host}
+use Rattle.ws_laws.proofs.Rows.{Changes, row-changes}
+use Rattle.ws_laws.proofs.Tables.{either, readable_there, writable_there, readable_acts, writable_acts}
+use Rattle.ws_reason_laws.proofs.InTable.{settle-keeps, settle_soft, fresh-keeps, fresh_settled-keeps, tell-keeps, answer-keeps, micro-keeps, use-keeps, settle-count, answer-count, fresh-count, react-count, follow-count, micro-count, use-count}
+use Rattle.ws_reason_laws.proofs.Pipes.{Finds, hands_on, pipe-good}
+use Rattle.ws_reason_laws.proofs.Readables.{effects-append, readable-good}
+use Rattle.ws_reason_laws.proofs.Weights.{Class, of_result, of_reason, soft, loud, loud_one, settles, in_table, in_request, uses, gives, of_readable, of_writable, of_pipe, of_signal, in_effect, in_effects, is_errored, in_readable, has_error, in_writable, in_stream, in_streams, in_pipe, in_pipes, in_signals, in_ends, in_slots, AllGood, count}
+use Rattle.ws_reason_laws.proofs.Writables.{Expects, writable-good}
+
+-- places
+
+pub streams-set : (k : Class) (xs : List Stream) (i : ℕ) (y : Stream) → in_streams k xs ≡ 0 → in_stream k y ≡ 0 → in_streams k (slice_set xs i y) ≡ 0
+streams-set k [] i y h g = refl
+streams-set k (x ∷ xs) zero y h g = omega (arith, h, g)
+streams-set k (x ∷ xs) (suc i) y h g = let e = streams-set k xs i y (omega (arith, h)) g in omega (arith, h, e)
+
+abbrev pub in_place : Class → Option Stream → ℕ
+in_place k None = 0
+in_place k (Some x) = in_stream k x
+
+pub stream-there : (k : Class) (xs : List Stream) (i : ℕ) → in_streams k xs ≡ 0 → in_place k (slice_get xs i) ≡ 0
+stream-there k [] i h = refl
+stream-there k (x ∷ xs) zero h = omega (arith, h)
+stream-there k (x ∷ xs) (suc i) h = stream-there k xs i (omega (arith, h))
+
+pipes-set : (k : Class) (n : ℕ) (xs : List pipe.Slots) (i : ℕ) (y : pipe.Slots) (at : ℕ) → at ≡ n + i → in_pipes k n xs ≡ 0 → in_pipe k at y ≡ 0 → in_pipes k n (slice_set xs i y) ≡ 0
+pipes-set k n [] i y at e h g = refl
+pipes-set k n (x ∷ xs) zero y at e h g =
+    let same : at ≡ n = omega (arith, e) in let f : in_pipe k n y ≡ 0 = subst (λ (m : ℕ). in_pipe k m y ≡ 0) same g in omega (arith, h, f)
+pipes-set k n (x ∷ xs) (suc i) y at e h g = let f = pipes-set k (suc n) xs i y at (omega (arith, e)) (omega (arith, h)) g in omega (arith, h, f)
+
+pipe-there : (k : Class) (n : ℕ) (xs : List pipe.Slots) (i : ℕ) (x : pipe.Slots) (at : ℕ) → at ≡ n + i → slice_get xs i ≡ Some x → in_pipes k n xs ≡ 0 → in_pipe k at x ≡ 0
+pipe-there k n [] i x at e f h = cc
+pipe-there k n (y ∷ xs) zero x at e f h =
+    let same : n ≡ at = omega (arith, e) in
+    let z : in_pipe k n y ≡ 0 = omega (arith, h) in
+    let is : y ≡ x = some_pipe y x f in
+    subst (λ (m : ℕ). in_pipe k m x ≡ 0) same (subst (λ (v : pipe.Slots). in_pipe k n v ≡ 0) is z)
+  where
+    some_pipe : (v w : pipe.Slots) → ◌≡◌ {A = Option pipe.Slots} (Some v) (Some w) → v ≡ w
+    some_pipe v w e = cc
+pipe-there k n (y ∷ xs) (suc i) x at e f h = pipe-there k (suc n) xs i x at (omega (arith, e)) f (omega (arith, h))
+
+signals-set : (k : Class) (xs : List pipe.Signal) (i : ℕ) (y : pipe.Signal) → in_signals k xs ≡ 0 → of_reason k y.reason ≡ 0 → in_signals k (slice_set xs i y) ≡ 0
+signals-set k [] i y h g = refl
+signals-set k (x ∷ xs) zero y h g = omega (arith, h, g)
+signals-set k (x ∷ xs) (suc i) y h g = let e = signals-set k xs i y (omega (arith, h)) g in omega (arith, h, e)
+
+abbrev pub in_signal : Class → Option pipe.Signal → ℕ
+in_signal k None = 0
+in_signal k (Some x) = of_reason k x.reason
+
+pub signal-there : (k : Class) (xs : List pipe.Signal) (i : ℕ) → in_signals k xs ≡ 0 → in_signal k (slice_get xs i) ≡ 0
+signal-there k [] i h = refl
+signal-there k (x ∷ xs) zero h = omega (arith, h)
+signal-there k (x ∷ xs) (suc i) h = signal-there k xs i (omega (arith, h))
+
+-- what is to be known before an effect, where `me` is the pipe that is looked at
+
+abbrev pub Fits : PipeId → Effect → Slots → Type 0
+Fits me (Writable i operation) s = has_writable i s ≡ true → Expects operation (writable_at i s)
+Fits me (Pipe p operation) s = (x : pipe.Slots) → slice_get s.pipes p.0 ≡ Some x → Finds (nat_eq p.0 me.0) (ends_at x s) x
+Fits me _ s = Unit {0}
+
+-- whether the promises that an effect makes hand on
+abbrev pub kind : Effect → Bool
+kind (Writable i operation) = false
+kind (Pipe p operation) = hands_on operation
+kind _ = true
+
+-- what a pipe finds
+
+pub source-good : (k : Class) (o : Option Stream) → in_place k o ≡ 0 → (if is_errored (as_readable o).state then k.bad (as_readable o).stored_error else 0) ≡ 0
+source-good k None h = refl
+source-good k (Some (ReadableStream x)) h = omega (arith, h)
+source-good k (Some (WritableStream x)) h = refl
+
+pub dest-good : (k : Class) (o : Option Stream) → in_place k o ≡ 0
+    → (if has_error (as_writable o).state then k.bad (as_writable o).stored_error else 0) + loud_one k (writable.answered_abort (as_writable o)) ≡ 0
+dest-good k None h = refl
+dest-good k (Some (ReadableStream x)) h = refl
+dest-good k (Some (WritableStream x)) h = grind (arith, h)
+
+ends-good : (k : Class) (x : pipe.Slots) (s : Slots) → in_slots k s ≡ 0 → in_ends k (ends_at x s) ≡ 0
+ends-good k x s h =
+    let a = source-good k (slice_get s.streams x.source.0) (stream-there k s.streams x.source.0 (omega (arith, h))) in
+    let b = dest-good k (slice_get s.streams x.dest.0) (stream-there k s.streams x.dest.0 (omega (arith, h))) in
+    omega (arith, a, b)
+
+-- there are never fewer promises
+
+pub more : (n : ℕ) → Changes (λ (t : Table). n ≤ count t)
+more n = record {
+  fresh = λ t h. let c = fresh-count t in omega (arith, h, c);
+  settle = λ t p o h. let c = settle-count p o t in omega (arith, h, c);
+  answer = λ t p o f h. let c = answer-count p o t in omega (arith, h, c);
+  react = λ t p r h. let c = react-count p r t in omega (arith, h, c);
+  follow = λ t p q h. let c = follow-count p q t in omega (arith, h, c);
+  micro = λ t m h. let c = micro-count m t in omega (arith, h, c);
+  tell = λ t e h. h;
+}
+
+pub row-more : (e : Effect) (s : Slots) → count s.promises ≤ count (row e s).slots.promises
+row-more e s = row-changes (λ (t : Table). count s.promises ≤ count t) (more (count s.promises)) e s (omega arith)
+
+-- rows
+
+aborts-good : (k : Class) (r : Plain) (ps : List PipeId) → k.bad r ≡ 0 → in_effects k (abort_all r ps) ≡ 0
+aborts-good k r [] b = refl
+aborts-good k r (p ∷ ps) b = let h = aborts-good k r ps b in omega (arith, h, b)
+
+module _ (k : Class) (m : ℕ) where
+  abbrev pub Row : Done → Type 0
+  Row d = in_slots k d.slots + in_effects k d.caused ≡ 0
+
+  abbrev Until : Done → Type 0
+  Until d = count d.slots.promises ≤ m → Row d
+
+  -- the promises from the last one on are of this kind
+  abbrev pub News : Slots → Bool → Type 0
+  News s b = (i : ℕ) → count s.promises ≤ i → i < m → k.hands i ≡ b
+
+  new_loud : (s : Slots) → News s true → count s.promises < m → loud k (count s.promises) ≡ 0
+  new_loud s f l = let e = f (count s.promises) (omega arith) l in grind (arith, e)
+
+  new_soft : (s : Slots) → News s false → count s.promises < m → soft k (count s.promises) ≡ 0
+  new_soft s f l = let e = f (count s.promises) (omega arith) l in grind (arith, e)
+
+  readable-row : (i : StreamId) (operation : ReadableOperation) (s : Slots) → in_slots k s ≡ 0 → of_readable k operation ≡ 0 → Row (on_readable (readable_operation i operation) i s)
+  readable-row i operation s h f =
+      either Row (has_readable i s) (put_readable i s (readable_operation i operation (readable_acts i s))) (nothing s)
+      (λ e.
+      let there : in_readable k (readable_at i s) ≡ 0 = subst (λ (o : Option Stream). in_place k o ≡ 0) (readable_there (slice_get s.streams i.0) e) (stream-there k s.streams i.0 (omega (arith, h))) in
+      let y : readable.Acts = readable_operation i operation (readable_acts i s) in
+      let g = readable-good k i operation (readable_acts i s) f (omega (arith, h, there)) in
+      let z = streams-set k s.streams i.0 (ReadableStream y.slots) (omega (arith, h)) (omega (arith, g)) in
+      omega (arith, h, g, z))
+      (λ e. omega (arith, h))
+
+  writable-row : (i : StreamId) (operation : WritableOperation) (s : Slots) → in_slots k s ≡ 0 → of_writable k operation ≡ 0 → (has_writable i s ≡ true → Expects operation (writable_at i s)) → News s false → Until (on_writable (writable_operation i operation) i s)
+  writable-row i operation s h f x l =
+      either Until (has_writable i s) (put_writable i s (writable_operation i operation (writable_acts i s))) (nothing s)
+      (λ e q.
+      let there : in_writable k (writable_at i s) ≡ 0 = subst (λ (o : Option Stream). in_place k o ≡ 0) (writable_there (slice_get s.streams i.0) e) (stream-there k s.streams i.0 (omega (arith, h))) in
+      let y : writable.Acts = writable_operation i operation (writable_acts i s) in
+      let g = writable-good k i (count s.promises) m (new_soft s l) operation (writable_acts i s) f (x e) refl (omega (arith, h, there)) q in
+      let z = streams-set k s.streams i.0 (WritableStream y.slots) (omega (arith, h)) (omega (arith, g)) in
+      omega (arith, h, g, z))
+      (λ e q. omega (arith, h))
+
+  pipe-row : (p : PipeId) (operation : PipeOperation) (s : Slots) (o : Option pipe.Slots) → slice_get s.pipes p.0 ≡ o → in_slots k s ≡ 0 → of_pipe k operation ≡ 0
+      → ((x : pipe.Slots) → slice_get s.pipes p.0 ≡ Some x → Finds (nat_eq p.0 k.me.0) (ends_at x s) x) → News s (hands_on operation) → Until (on_pipe_at (λ ends. pipe_operation p ends operation) p s o)
+  pipe-row p operation s None e h f x l q = omega (arith, h)
+  pipe-row p operation s (Some y) e h f x l q =
+      let there = pipe-there k 0 s.pipes p.0 y p.0 (omega arith) e (omega (arith, h)) in
+      let a : pipe.Acts = record { slots = y; out = found s } in
+      let b : pipe.Acts = pipe_operation p (ends_at y s) operation a in
+      let g = pipe-good k p (ends_at y s) (ends-good k y s h) m operation a f (x y e) l (omega (arith, h, there)) q in
+      let z = pipes-set k 0 s.pipes p.0 b.slots p.0 (omega arith) (omega (arith, h)) (omega (arith, g)) in
+      omega (arith, h, g, z)
+
+  signal-row : (a : SignalId) (operation : SignalOperation) (s : Slots) (o : Option pipe.Signal) → slice_get s.signals a.0 ≡ o → in_slots k s ≡ 0 → of_signal k operation ≡ 0 → Row (on_signal_at (signal_operation operation) a s o)
+  signal-row a operation s None e h f = omega (arith, h)
+  signal-row a operation s (Some x) e h f = by operation f
+    where
+      there : of_reason k x.reason ≡ 0
+      there = subst (λ (o : Option pipe.Signal). in_signal k o ≡ 0) e (signal-there k s.signals a.0 (omega (arith, h)))
+
+      by : (operation : SignalOperation) → of_signal k operation ≡ 0 → Row (on_signal_at (signal_operation operation) a s (Some x))
+      by (Add p) f = let t = there in let z = signals-set k s.signals a.0 (record x { pipes = x.pipes ++ p ∷ [] }) (omega (arith, h)) t in omega (arith, h, z)
+      by (Forget p) f = let t = there in let z = signals-set k s.signals a.0 (record x { pipes = pipe.without p x.pipes }) (omega (arith, h)) t in omega (arith, h, z)
+      by (Trigger r) f = first x.reason refl
+        where
+          first : (old : Option Plain) → x.reason ≡ old
+              → in_slots k (record s { signals = slice_set s.signals a.0 (trigger_unless r x old).signal }) + in_effects k (trigger_unless r x old).effects ≡ 0
+          first None g =
+              let z = signals-set k s.signals a.0 (record x { reason = Some r }) (omega (arith, h)) f in let w = aborts-good k r x.pipes f in omega (arith, h, z, w)
+          first (Some old) g = let t = there in let z = signals-set k s.signals a.0 x (omega (arith, h)) t in omega (arith, h, z)
+
+  -- the promises alone change
+  promises-row : (s : Slots) (t : Table) (hosts : List (Option PromiseId)) (cs : List Effect) → in_slots k s ≡ 0 → in_table k t ≡ 0 → in_effects k cs ≡ 0 → Row (record { slots = record s { promises = t; hosts = hosts }; caused = cs })
+  promises-row s t hosts cs h g f = omega (arith, h, g, f)
+
+  start-row : (i : StreamId) (step : Step) (s : Slots) (start : StartBy) → in_slots k s ≡ 0 → News s true → Until (start_algorithm i step s start)
+  start-row i step s Now h l q = omega (arith, h)
+  start-row i step s Later h l q =
+      let c = fresh-count s.promises in
+      let one = new_loud s l (omega (arith, c, q)) in
+      let f = fresh-keeps k s.promises (omega (arith, h)) in
+      let u : uses k (count s.promises) (React step None) ≡ 0 = used step one in
+      omega (arith, h, f, u)
+    where
+      used : (step : Step) → loud k (count s.promises) ≡ 0 → uses k (count s.promises) (React step None) ≡ 0
+      used step o = grind (arith, o)
+
+  new_use : (n : ℕ) (u : Use) → loud k n ≡ 0 → uses k n u ≡ 0
+  new_use n u o = grind (arith, o)
+
+  good_settles : (n : ℕ) (o : Result Plain Plain) → of_result k o ≡ 0 → settles k n o ≡ 0
+  good_settles n o h = grind (arith, h)
+
+  give-row : (gift : Gift) (u : Use) (s : Slots) → in_slots k s ≡ 0 → gives k gift u ≡ 0 → News s true → count (use_gift gift u s.promises) ≤ m → in_table k (use_gift gift u s.promises) ≡ 0
+  unfolding use_gift
+  give-row (This p) u s h f l q = use-keeps k p s.promises u (omega (arith, h)) f
+  give-row (Fresh o) u s h f l q =
+      let t = fresh_settled o s.promises in
+      let a = use-count (next_id s.promises) t u in
+      let b = settle-count (next_id s.promises) o (fresh s.promises) in
+      let c = fresh-count s.promises in
+      let one = new_loud s l (omega (arith, a, b, c, q)) in
+      let g = fresh_settled-keeps k o s.promises (omega (arith, h)) (good_settles (count s.promises) o f) in
+      use-keeps k (next_id s.promises) t u g (new_use (count s.promises) u one)
+
+  call-row : (call : HostCall) (u : Use) (s : Slots) → in_slots k s ≡ 0 → News s true → count (call_host call u s).promises ≤ m → in_slots k (call_host call u s) + 0 ≡ 0
+  unfolding call_host
+  call-row call u s h l q =
+      let e = HostCalled (record { 0 = length s.hosts }) call in
+      let t = tell e (fresh s.promises) in
+      let a = use-count (next_id s.promises) t u in
+      let c = fresh-count s.promises in
+      let one = new_loud s l (omega (arith, a, c, q)) in
+      let g = tell-keeps k e (fresh s.promises) (fresh-keeps k s.promises (omega (arith, h))) in
+      let z = use-keeps k (next_id s.promises) t u g (new_use (count s.promises) u one) in
+      omega (arith, h, z)
+
+  pulls : (i : StreamId) (u : Use) (owner : Owner) → in_effects k (pull_algorithm i u owner) ≡ 0
+  pulls i u Host = refl
+
+  cancels : (i : StreamId) (r : Plain) (u : Use) (owner : Owner) → in_effects k (cancel_algorithm i r u owner) ≡ 0
+  cancels i r u Host = refl
+
+  hands : (i : StreamId) (owner : Owner) → in_effects k (write_algorithm i owner) ≡ 0
+  hands i Host = refl
+
+  closes : (i : StreamId) (u : Use) (owner : Owner) → in_effects k (close_algorithm i u owner) ≡ 0
+  closes i u Host = refl
+
+  aborts : (i : StreamId) (r : Plain) (u : Use) (owner : Owner) → in_effects k (abort_algorithm i r u owner) ≡ 0
+  aborts i r u Host = refl
+
+  chunk-row : (v : Value) (s : Slots) (request : ReadRequest) → in_slots k s ≡ 0 → Row (chunk_steps v s request)
+  chunk-row v s (Promise p) h = let a = answer-keeps k p (Given v) s.promises (omega (arith, h)) refl in omega (arith, h, a)
+  chunk-row v s (PipeRequest p) h = omega (arith, h)
+
+  close-row : (s : Slots) (request : ReadRequest) → in_slots k s ≡ 0 → Row (close_steps s request)
+  close-row s (Promise p) h = let a = answer-keeps k p (Finished (PlainValue Undefined)) s.promises (omega (arith, h)) refl in omega (arith, h, a)
+  close-row s (PipeRequest p) h = omega (arith, h)
+
+  error-row : (e : Plain) (s : Slots) (request : ReadRequest) → in_slots k s ≡ 0 → in_request k request ≡ 0 → Row (error_steps e s request)
+  error-row e s (Promise p) h f = let a = settle_soft k p (Err e) s.promises (omega (arith, h)) f in omega (arith, h, a)
+  error-row e s (PipeRequest p) h f = omega (arith, h)
+
+  pub row-good : (e : Effect) (s : Slots) → in_slots k s ≡ 0 → in_effect k e ≡ 0 → Fits k.me e s → News s (kind e) → Until (row e s)
+  unfolding row
+  row-good (Readable i operation) s h f x l q = readable-row i operation s h f
+  row-good (Writable i operation) s h f x l q = writable-row i operation s h f x l q
+  row-good (Pipe p operation) s h f x l q = pipe-row p operation s (slice_get s.pipes p.0) refl h f x l q
+  row-good (Signal a operation) s h f x l q = signal-row a operation s (slice_get s.signals a.0) refl h f
+  row-good (StartAlgorithm i step start) s h f x l q = start-row i step s start h l q
+  row-good (PullAlgorithm i) s h f x l q = promises-row s s.promises s.hosts _ h (omega (arith, h)) (pulls i (React (ReadablePull i) None) (owner_at i s))
+  row-good (CancelAlgorithm i r p) s h f x l q = promises-row s s.promises s.hosts _ h (omega (arith, h)) (cancels i r (React ReturnUndefined (Some p)) (owner_at i s))
+  row-good (WriteAlgorithm i) s h f x l q = promises-row s s.promises s.hosts _ h (omega (arith, h)) (hands i (owner_at i s))
+  row-good (CloseAlgorithm i) s h f x l q = promises-row s s.promises s.hosts _ h (omega (arith, h)) (closes i (React (WritableClose i) None) (owner_at i s))
+  row-good (AbortAlgorithm i r p) s h f x l q = promises-row s s.promises s.hosts _ h (omega (arith, h)) (aborts i r (React (WritableAbort i p) None) (owner_at i s))
+  row-good (ChunkSteps i request v) s h f x l q = chunk-row v s request h
+  row-good (CloseSteps i request) s h f x l q = close-row s request h
+  row-good (ErrorSteps i request e) s h f x l q = error-row e s request h f
+  row-good (Give gift u) s h f x l q = promises-row s (use_gift gift u s.promises) s.hosts [] h (give-row gift u s h f l q) refl
+  row-good (Settle p o) s h f x l q = promises-row s (settle p o s.promises) s.hosts [] h (settle-keeps k p o s.promises (omega (arith, h)) f) refl
+  row-good (Queue micro) s h f x l q = promises-row s (queue_micro micro s.promises) s.hosts [] h (micro-keeps k micro s.promises (omega (arith, h))) refl
+  row-good (CallHost call u) s h f x l q = call-row call u s h l q
+
+  pub turn-good : (e : Effect) (es : List Effect) (s : Slots) → AllGood k s (e ∷ es) → Fits k.me e s → News s (kind e) → count (row e s).slots.promises ≤ m → AllGood k (row e s).slots ((row e s).caused ++ es)
+  turn-good e es s h x l q =
+      let a = row-good e s (omega (arith, h)) (omega (arith, h)) x l q in
+      let b = effects-append k (row e s).caused es in
+      omega (arith, h, a, b)

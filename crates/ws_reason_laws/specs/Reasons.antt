@@ -1,0 +1,93 @@
+-- Where the reason comes from with which a pipe's promise is rejected.
+use Rattle.std.specs.Prelude.{◌≡◌, true, false, ◌||◌, List, [], ◌∷◌, ◌++◌, Option, Some, Contains}
+use Rattle.ws_value.specs.declared.ids.PromiseId.{PromiseId}
+use Rattle.ws_value.specs.declared.ids.SignalId.{SignalId}
+use Rattle.ws_value.specs.declared.ids.StreamId.{StreamId}
+use Rattle.ws_value.specs.declared.value.Outcome.TheVariants.{Rejected}
+use Rattle.ws_value.specs.declared.value.Plain.{Plain}
+use Rattle.ws_steps.specs.declared.calls.Answer.{Answer}
+use Rattle.ws_steps.specs.declared.calls.Answer.TheVariants.{Ok as AnswerOk, Fail as AnswerFail}
+use Rattle.ws_steps.specs.declared.calls.Call.{Call}
+use Rattle.ws_steps.specs.declared.calls.Call.TheVariants.{Cancel, CancelBy, Abort, AbortBy, Fail, Pipe, Trigger, Settle}
+use Rattle.ws_steps.specs.declared.calls.Reply.TheVariants.{Promise}
+use Rattle.ws_steps.specs.declared.pipes.Prevent.{Prevent}
+use Rattle.ws_steps.specs.declared.readable.ReadableState.TheVariants.{Errored}
+use Rattle.ws_steps.specs.Promises.{outcome_at}
+use Rattle.ws_steps.specs.ReadableLooks as readable_looks
+use Rattle.ws_steps.specs.Run.{Entry, Called, Worked, Heard, reply_to, run}
+use Rattle.ws_steps.specs.Slots.{Slots, empty, has_readable, has_writable, readable_at, writable_at}
+use Rattle.ws_steps.specs.Writable.{is_closed, is_closing, is_erroring, is_errored}
+use Rattle.ws_steps.specs.WritableLooks as writable_looks
+
+-- the reason of an answer by which a host's algorithm fails
+abbrev pub answered_reason : Answer → List Plain
+answered_reason AnswerOk = []
+answered_reason (AnswerFail reason) = reason ∷ []
+
+-- the reason that a call gives: of a cancel, an abort, an error of a controller, the trigger of a signal, or the failure of a host's algorithm
+abbrev pub reason_of : Call → List Plain
+reason_of (Cancel i reason) = reason ∷ []
+reason_of (CancelBy l reason) = reason ∷ []
+reason_of (Abort i reason) = reason ∷ []
+reason_of (AbortBy l reason) = reason ∷ []
+reason_of (Fail i reason) = reason ∷ []
+reason_of (Trigger a reason) = reason ∷ []
+reason_of (Settle h answer) = answered_reason answer
+reason_of _ = []
+
+-- the reasons that the calls of a run give, in their order
+abbrev pub given : List Entry → List Plain
+given [] = []
+given (Called c ∷ xs) = reason_of c ++ given xs
+given (Worked ∷ xs) = given xs
+given (Heard ∷ xs) = given xs
+
+-- the reason that a call gives by which something fails: all of these but that of a cancel, which is handed to the host alone
+abbrev pub failure_of : Call → List Plain
+failure_of (Abort i reason) = reason ∷ []
+failure_of (AbortBy l reason) = reason ∷ []
+failure_of (Fail i reason) = reason ∷ []
+failure_of (Trigger a reason) = reason ∷ []
+failure_of (Settle h answer) = answered_reason answer
+failure_of _ = []
+
+-- those of a run, in their order
+abbrev pub failures : List Entry → List Plain
+failures [] = []
+failures (Called c ∷ xs) = failure_of c ++ failures xs
+failures (Worked ∷ xs) = failures xs
+failures (Heard ∷ xs) = failures xs
+
+-- a pipe may be made from stream i to stream j: they are there and unlocked, and the destination is neither closing nor closed
+pub record IsFree (i j : StreamId) (s : Slots) : Type 0 where
+  pub source : has_readable i s ≡ true
+  pub dest : has_writable j s ≡ true
+  pub source_unlocked : readable_looks.is_locked (readable_at i s) ≡ false
+  pub dest_unlocked : writable_looks.is_locked (writable_at j s) ≡ false
+  pub not_closing : is_closing (writable_at j s) ≡ false
+  pub not_closed : is_closed (writable_at j s).state ≡ false
+
+-- In every run, whatever else the host does in it: a pipe that was made between two such ends rejects its promise only with a reason that a
+-- call of the run gave
+abbrev pub EachReasonWasGiven : Type 0
+EachReasonWasGiven =
+    (opening xs : List Entry) (i j : StreamId) (prevent : Prevent) (signal : Option SignalId) (q : PromiseId) (r : Plain)
+    → let s : Slots = run opening empty in let entries : List Entry = opening ++ Called (Pipe i j prevent signal) ∷ xs in
+    IsFree i j s → reply_to (Pipe i j prevent signal) s ≡ Promise q
+    → outcome_at (run entries empty).promises q ≡ Some (Rejected r) → Contains (given entries) r
+
+-- and never with that of a cancel alone
+abbrev pub EachReasonWasAFailure : Type 0
+EachReasonWasAFailure =
+    (opening xs : List Entry) (i j : StreamId) (prevent : Prevent) (signal : Option SignalId) (q : PromiseId) (r : Plain)
+    → let s : Slots = run opening empty in let entries : List Entry = opening ++ Called (Pipe i j prevent signal) ∷ xs in
+    IsFree i j s → reply_to (Pipe i j prevent signal) s ≡ Promise q
+    → outcome_at (run entries empty).promises q ≡ Some (Rejected r) → Contains (failures entries) r
+
+-- in every run, the error that a stream has stored is the reason of a failure: of a readable stream that is errored, and of a writable stream that
+-- is erroring or errored
+pub record EachStoredErrorWasAFailure : Type 0 where
+  pub readable : (entries : List Entry) (i : StreamId) → let s : Slots = run entries empty in
+      (readable_at i s).state ≡ Errored → Contains (failures entries) (readable_at i s).stored_error
+  pub writable : (entries : List Entry) (i : StreamId) → let s : Slots = run entries empty in
+      (is_erroring (writable_at i s).state || is_errored (writable_at i s).state) ≡ true → Contains (failures entries) (writable_at i s).stored_error
