@@ -1,7 +1,21 @@
 //! What holds of the streams, pipes and promises of a realm, whatever calls and jobs it performs and events its host takes.
+pub use ws_end_laws::{
+    each_fulfilled_pipe_passed_all_it_read, each_outcome_tells_the_end,
+    each_pipe_call_makes_a_pipe, each_pipe_counts_its_parts, each_pipe_that_closed_passed_all,
+    each_pipe_that_may_close_passed_all, each_pipe_waits_for_ready,
+    each_promise_is_open_until_the_end, each_unfailing_pipe_passed_all, each_whole_is_open,
+};
+pub use ws_host_laws::{
+    each_close_was_settled, each_event_is_its_call, each_fulfilled_pipe_closed_its_destination,
+    each_write_of_a_fulfilled_pipe_succeeded, each_write_was_settled,
+};
 pub use ws_laws::{
     each_age_counts, each_mark_stays, each_outcome_stays, each_throw_changes_nothing,
     each_work_is_a_run,
+};
+pub use ws_link_laws::{
+    each_free_pair_stays, each_link_begins, each_link_begins_with_room, each_link_has_room,
+    each_link_keeps,
 };
 pub use ws_lock_laws::{
     each_lock_has_one_holder, each_pipe_owns_its_ends, each_reading_has_one_read,
@@ -22,6 +36,9 @@ pub use ws_pipe_write_laws::{
 pub use ws_promise_laws::{each_name_stays, none_goes_astray};
 pub use ws_read_laws::{each_read_is_answered, reads_of_the_ended, reads_were_answered};
 pub use ws_readable_laws::{each_readable_is_lawful, each_readable_step, entered_was_accepted};
+pub use ws_reason_laws::{
+    each_reason_was_a_failure, each_reason_was_given, each_stored_error_was_a_failure,
+};
 pub use ws_room_laws::{effects_end_once, room_is_enough};
 pub use ws_writable_laws::{
     acted_was_heard, closes_were_heard, each_writable_is_lawful, each_writable_step,

@@ -67,7 +67,7 @@ along_both i [] = refl
 along_both i (m ∷ ms) = ap (both_then (both_told i m.effect m.found)) (along_both i ms)
 
 -- at each moment, where nothing went astray so far
-record Holds (i : StreamId) (h : Both) (s : Slots) (es : List Effect) : Type 0 where
+pub record Holds (i : StreamId) (h : Both) (s : Slots) (es : List Effect) : Type 0 where
   pub kept : Kept i h.writes s es
   pub lined : s.promises.astray ≡ false → Lined h.writes h.promised (slice_get s.streams i.0) s.promises
 
@@ -203,7 +203,7 @@ call-lined i h c s l =
       writable = λ z mark size m. added i h z (WritableStream (writable.set_up Host mark size)) refl refl m;
     }) c s l
 
-holds-goes : (i : StreamId) → GoesUntold both_then (both_told i) (Holds i)
+pub holds-goes : (i : StreamId) → GoesUntold both_then (both_told i) (Holds i)
 holds-goes i = record {
   row = row-holds i;
   call = λ h s c k. record { kept = (goes i).call h.writes s c k.kept; lined = call-lined i h c s k.lined };
@@ -214,7 +214,7 @@ holds-goes i = record {
 
 -- steps and runs
 
-holds-rests : (i : StreamId) → RestsUntold (Holds i)
+pub holds-rests : (i : StreamId) → RestsUntold (Holds i)
 holds-rests i = record {
   heard = λ h s k. record { kept = (rests i).heard h.writes s k.kept; lined = changed i h s (after_event s).promises (keeps-entries s.promises _ refl (λ m. m)) k.lined };
 }
@@ -229,7 +229,7 @@ over_both : (i : StreamId) (xs : List Entry) (s : Slots) → over no_both both_t
 over_both i [] s = refl
 over_both i (x ∷ xs) s = rw (in_step_both i s x, over_both i xs (step s x)) refl
 
-holds_empty : (i : StreamId) → Holds i no_both empty []
+pub holds_empty : (i : StreamId) → Holds i no_both empty []
 holds_empty i = record {
   kept = none_made i;
   lined = λ straight. record {

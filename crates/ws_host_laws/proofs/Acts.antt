@@ -1,0 +1,199 @@
+-- Which effects make a pipe react to its action: those of the operation by which it begins to act, and no other; and which tell it of the outcome.
+use Rattle.std.proofs.Common.{◌≡◌, Bool, true, false, nat_eq, List, [], ◌∷◌, Option, Some, None, Ok, Err, refl, ap, ◌∙◌, arith}
+use Rattle.ws_value.specs.declared.{ids.PipeId.{PipeId}, ids.PromiseId.{PromiseId}, ids.StreamId.{StreamId}, ids.SignalId.{SignalId}}
+use Rattle.ws_value.specs.declared.value.Plain.{Plain}
+use Rattle.ws_value.specs.declared.value.Value.{Value}
+use Rattle.ws_steps.specs.declared.{calls.Call.{Call}, calls.StartBy.{StartBy}, calls.StartBy.TheVariants.{Now, Later}}
+use Rattle.ws_steps.specs.declared.effects.Effect.{Effect}
+use Rattle.ws_steps.specs.declared.effects.Effect.TheVariants.{Readable, Writable, Pipe, Signal, StartAlgorithm, PullAlgorithm, CancelAlgorithm, WriteAlgorithm, CloseAlgorithm, AbortAlgorithm, ChunkSteps, CloseSteps, ErrorSteps, Give, Settle, CallHost}
+use Rattle.ws_steps.specs.declared.{effects.Gift.TheVariants.{This}, effects.Owner.{Owner}, effects.Owner.TheVariants.{Host}, effects.Use.{Use}, effects.Use.TheVariants.{React, Resolve}}
+use Rattle.ws_steps.specs.declared.{pipes.SignalOperation.{SignalOperation}, pipes.SignalOperation.TheVariants.{Add, Forget, Trigger}, promises.Job.{Job}, promises.Step.{Step}, promises.Step.TheVariants.{PipeReady, PipeWrote, PipeActed, PipePart}}
+use Rattle.ws_steps.specs.declared.pipes.PipeOperation.TheVariants.{ActionSettled}
+use Rattle.ws_steps.specs.declared.{readable.ReadRequest.{ReadRequest}, readable.ReadRequest.TheVariants.{Promise, Pipe as PipeRequest}}
+use Rattle.ws_steps.specs.Slots.{Slots, owner_at}
+use Rattle.ws_steps.specs.Turns.{row, pull_algorithm, cancel_algorithm, write_algorithm, close_algorithm, abort_algorithm, start_algorithm}
+use Rattle.ws_steps.specs.Jobs.{job_effects}
+use Rattle.ws_steps.specs.Calls.{Begun, begin}
+use Rattle.ws_steps.specs.Pipes as pipe
+use Rattle.ws_laws.proofs.EachCall.{each_call}
+use Rattle.ws_laws.proofs.Lists.{Each, each-append, each-map}
+use Rattle.ws_laws.proofs.PipeDoes.{IsStepOf, PipeCauses}
+use Rattle.ws_laws.proofs.Rows.{Causes, ChunkCauses, EndCauses, SignalCauses, row-causes}
+use Rattle.ws_pipe_laws.specs.PipeMoves.{is_idle, are_idle, end_effects, signal_forgets, result_by}
+use Rattle.ws_host_laws.proofs.Reactions.{JobFits}
+use Rattle.ws_host_laws.proofs.Dests.{NoClose}
+
+-- the reaction of pipe p to its action
+abbrev pub acts_on : PipeId → Step → Bool
+acts_on p (PipeActed q) = nat_eq p.0 q.0
+acts_on p _ = false
+
+abbrev pub NoUse : PipeId → Use → Type 0
+NoUse p (React step derived) = acts_on p step ≡ false
+NoUse p (Resolve q) = Unit {0}
+
+-- no such reaction is made, and the pipe is told of a fulfilment only where V holds
+abbrev pub Fits : PipeId → Type 0 → Effect → Type 0
+Fits p V (Give gift u) = NoUse p u
+Fits p V (CallHost call u) = NoUse p u
+Fits p V (StartAlgorithm i step start) = acts_on p step ≡ false
+Fits p V (Pipe q (ActionSettled (Ok v))) = nat_eq p.0 q.0 ≡ true → V
+Fits p V _ = Unit {0}
+
+-- an effect that isn't an operation of pipe p
+abbrev pub NotOf : PipeId → Effect → Type 0
+NotOf p (Pipe q operation) = nat_eq p.0 q.0 ≡ false
+NotOf p _ = Unit {0}
+
+module _ (p : PipeId) (V : Type 0) where
+  step-no : (q : PipeId) (step : Step) → nat_eq p.0 q.0 ≡ false → IsStepOf q step → acts_on p step ≡ false
+  step-no q (PipeReady r) n c = refl
+  step-no q (PipeWrote r) n c = refl
+  step-no q (PipeActed r) n c = ap (λ (k : PipeId). nat_eq p.0 k.0) c ∙ n
+  step-no q (PipePart r) n c = refl
+  step-no q _ n c = absurd c
+
+  pipe-fits : (q : PipeId) (source dest : StreamId) (e : Effect) → nat_eq p.0 q.0 ≡ false → PipeCauses q source dest e → Fits p V e
+  pipe-fits q source dest (Give (This d) (React step None)) n c = step-no q step n c
+  pipe-fits q source dest (Give gift u) n c = absurd c
+  pipe-fits q source dest (CallHost call u) n c = absurd c
+  pipe-fits q source dest (StartAlgorithm i step start) n c = absurd c
+  pipe-fits q source dest (Pipe r (ActionSettled o)) n c = absurd c
+  pipe-fits q source dest _ n c = tt
+
+  chunk-fits : (v : Value) (request : ReadRequest) → ChunkCauses (Fits p V) v request
+  chunk-fits v (Promise q) = tt
+  chunk-fits v (PipeRequest q) = tt
+
+  end-fits : (request : ReadRequest) → EndCauses (Fits p V) request
+  end-fits (Promise q) = tt
+  end-fits (PipeRequest q) = tt
+
+  signal-fits : (operation : SignalOperation) → SignalCauses (Fits p V) operation
+  signal-fits (Trigger r) = λ q. tt
+  signal-fits (Add q) = tt
+  signal-fits (Forget q) = tt
+
+  start-fits : (i : StreamId) (step : Step) (s : Slots) (start : StartBy) → acts_on p step ≡ false → Each (Fits p V) (start_algorithm i step s start).caused
+  start-fits i step s Now n = (n, tt)
+  start-fits i step s Later n = (tt, (n, tt))
+
+  pull-fits : (i : StreamId) (owner : Owner) (step : Step) (d : Option PromiseId) → acts_on p step ≡ false → Each (Fits p V) (pull_algorithm i (React step d) owner)
+  pull-fits i Host step d n = (n, tt)
+
+  cancel-fits : (i : StreamId) (r : Plain) (owner : Owner) (step : Step) (d : Option PromiseId) → acts_on p step ≡ false → Each (Fits p V) (cancel_algorithm i r (React step d) owner)
+  cancel-fits i r Host step d n = (n, tt)
+
+  abort-fits : (i : StreamId) (r : Plain) (owner : Owner) (step : Step) (d : Option PromiseId) → acts_on p step ≡ false → Each (Fits p V) (abort_algorithm i r (React step d) owner)
+  abort-fits i r Host step d n = (n, tt)
+
+  write-fits : (i : StreamId) (owner : Owner) → Each (Fits p V) (write_algorithm i owner)
+  write-fits i Host = (tt, tt)
+
+  close-fits : (i : StreamId) (owner : Owner) (step : Step) (d : Option PromiseId) → acts_on p step ≡ false → Each (Fits p V) (close_algorithm i (React step d) owner)
+  close-fits i Host step d n = (n, tt)
+
+  pub caused-fit : (e : Effect) (s : Slots) → NotOf p e → Fits p V e → Each (Fits p V) (row e s).caused
+  unfolding row
+  caused-fit (Readable i operation) s n f = row-causes (Fits p V) (Readable i operation) s (record { pull = tt; cancel = λ r q. tt; chunk = λ r v. tt; close = λ r. tt; error = λ r e. tt })
+  caused-fit (Writable i operation) s n f = row-causes (Fits p V) (Writable i operation) s (record { write = tt; close = tt; abort = λ r q. tt; hand_on = λ v. refl })
+  caused-fit (Pipe q operation) s n f = row-causes (Fits p V) (Pipe q operation) s (λ source dest e c. pipe-fits q source dest e n c)
+  caused-fit (Signal a operation) s n f = row-causes (Fits p V) (Signal a operation) s (signal-fits operation)
+  caused-fit (StartAlgorithm i step start) s n f = start-fits i step s start f
+  caused-fit (PullAlgorithm i) s n f = pull-fits i (owner_at i s) _ _ refl
+  caused-fit (CancelAlgorithm i r q) s n f = cancel-fits i r (owner_at i s) _ _ refl
+  caused-fit (WriteAlgorithm i) s n f = write-fits i (owner_at i s)
+  caused-fit (CloseAlgorithm i) s n f = close-fits i (owner_at i s) _ _ refl
+  caused-fit (AbortAlgorithm i r q) s n f = abort-fits i r (owner_at i s) _ _ refl
+  caused-fit (ChunkSteps i request v) s n f = row-causes (Fits p V) (ChunkSteps i request v) s (chunk-fits v request)
+  caused-fit (CloseSteps i request) s n f = row-causes (Fits p V) (CloseSteps i request) s (end-fits request)
+  caused-fit (ErrorSteps i request e) s n f = row-causes (Fits p V) (ErrorSteps i request e) s (end-fits request)
+  caused-fit _ s n f = tt
+
+  pub call-fits : (c : Call) (s : Slots) → Each (Fits p V) (begin c s).done.caused
+  call-fits c s = each_call (λ (b : Begun). Each (Fits p V) b.done.caused) c s (grind arith)
+
+  pub job-effects-fit : (job : Job) → JobFits (acts_on p) V job → Each (Fits p V) (job_effects job)
+  job-effects-fit job f = grind arith
+
+  -- what a pipe causes that rests, and at its end
+
+  idle-fits : (e : Effect) → is_idle e ≡ true → Fits p V e
+  idle-fits e n = grind (arith, n)
+
+  pub are_idle-fit : (es : List Effect) → are_idle es ≡ true → Each (Fits p V) es
+  are_idle-fit [] n = tt
+  are_idle-fit (e ∷ es) n = (idle-fits e (grind (arith, n)), are_idle-fit es (grind (arith, n)))
+
+  pub end-effects-fit : (q : PipeId) (x : pipe.Slots) (e : Option Plain) → Each (Fits p V) (end_effects q x e)
+  end-effects-fit q x e = (tt, (tt, each-append (Fits p V) (signal_forgets q x.signal) (Settle x.promise (result_by e) ∷ []) (forgets x.signal) (tt, tt)))
+    where
+      forgets : (a : Option SignalId) → Each (Fits p V) (signal_forgets q a)
+      forgets None = tt
+      forgets (Some a) = (tt, tt)
+
+pub fits-weaker : (p : PipeId) (V U : Type 0) → (V → U) → (e : Effect) → Fits p V e → Fits p U e
+fits-weaker p V U f (Pipe q (ActionSettled (Ok v))) k = λ e. f (k e)
+fits-weaker p V U f (Pipe q (ActionSettled (Err r))) k = tt
+fits-weaker p V U f e k = k
+
+pub each-weaker : (p : PipeId) (V U : Type 0) → (V → U) → (es : List Effect) → Each (Fits p V) es → Each (Fits p U) es
+each-weaker p V U f es k = each-map (Fits p V) (Fits p U) (fits-weaker p V U f) es k
+
+-- which effects close a stream
+
+module _ (i : StreamId) where
+  idle-closes : (e : Effect) → is_idle e ≡ true → NoClose i e
+  idle-closes e n = grind (arith, n)
+
+  pub are_idle-close : (es : List Effect) → are_idle es ≡ true → Each (NoClose i) es
+  are_idle-close [] n = tt
+  are_idle-close (e ∷ es) n = (idle-closes e (grind (arith, n)), are_idle-close es (grind (arith, n)))
+
+  pub end-effects-close : (q : PipeId) (x : pipe.Slots) (e : Option Plain) → Each (NoClose i) (end_effects q x e)
+  end-effects-close q x e = (tt, (tt, each-append (NoClose i) (signal_forgets q x.signal) (Settle x.promise (result_by e) ∷ []) (forgets x.signal) (tt, tt)))
+    where
+      forgets : (a : Option SignalId) → Each (NoClose i) (signal_forgets q a)
+      forgets None = tt
+      forgets (Some a) = (tt, tt)
+
+  pub job-closes : (job : Job) → Each (NoClose i) (job_effects job)
+  job-closes job = grind arith
+
+  -- no effect but an operation of a pipe causes a close
+
+  abbrev pub IsNoPipe : Effect → Type 0
+  IsNoPipe (Pipe q operation) = ⊥
+  IsNoPipe _ = Unit {0}
+
+  chunk-closes : (v : Value) (request : ReadRequest) → ChunkCauses (NoClose i) v request
+  chunk-closes v (Promise q) = tt
+  chunk-closes v (PipeRequest q) = tt
+
+  end-closes : (request : ReadRequest) → EndCauses (NoClose i) request
+  end-closes (Promise q) = tt
+  end-closes (PipeRequest q) = tt
+
+  signal-closes : (operation : SignalOperation) → SignalCauses (NoClose i) operation
+  signal-closes (Trigger r) = λ q. tt
+  signal-closes (Add q) = tt
+  signal-closes (Forget q) = tt
+
+  closes : (e : Effect) → IsNoPipe e → Causes (NoClose i) e
+  closes (Readable j operation) n = record { pull = tt; cancel = λ r q. tt; chunk = λ r v. tt; close = λ r. tt; error = λ r e. tt }
+  closes (Writable j operation) n = record { write = tt; close = tt; abort = λ r q. tt; hand_on = λ v. tt }
+  closes (Pipe q operation) n = absurd n
+  closes (Signal a operation) n = signal-closes operation
+  closes (StartAlgorithm j step start) n = (λ g u. tt, λ c u. tt)
+  closes (PullAlgorithm j) n = λ c u. tt
+  closes (CancelAlgorithm j r q) n = λ c u. tt
+  closes (WriteAlgorithm j) n = tt
+  closes (CloseAlgorithm j) n = λ c u. tt
+  closes (AbortAlgorithm j r q) n = λ c u. tt
+  closes (ChunkSteps j request v) n = chunk-closes v request
+  closes (CloseSteps j request) n = end-closes request
+  closes (ErrorSteps j request e) n = end-closes request
+  closes _ n = tt
+
+  pub caused-close : (e : Effect) (s : Slots) → IsNoPipe e → Each (NoClose i) (row e s).caused
+  caused-close e s n = row-causes (NoClose i) e s (closes e n)

@@ -1,0 +1,24 @@
+pub mod Plain
+pub mod Called
+pub mod Reactions
+pub mod Hosted
+pub mod Closing
+pub mod Fates
+pub mod Staying
+pub mod Dests
+pub mod Acts
+pub mod Piped
+pub mod PipedRows
+pub mod PipedMoves
+pub mod PipedRuns
+pub mod Ended
+pub mod Doomed
+pub mod Writing
+pub mod Succeeded
+pub mod WriteUses
+pub mod Wrote
+pub mod WroteRuns
+pub mod WroteSteps
+pub mod Uses
+pub mod Closed
+mod Worked

@@ -1,0 +1,130 @@
+-- Which reactions the effects of a realm make: that of a stream to its close algorithm is made by the host call to close it alone.
+use Rattle.std.proofs.Common.{◌≡◌, Bool, true, false, Option, None, Ok, Err, refl, ap, arith}
+use Rattle.ws_value.specs.declared.{ids.PipeId.{PipeId}, ids.PromiseId.{PromiseId}, ids.StreamId.{StreamId}}
+use Rattle.ws_value.specs.declared.value.Plain.{Plain}
+use Rattle.ws_value.specs.declared.value.Value.{Value}
+use Rattle.ws_steps.specs.declared.{calls.Call.{Call}}
+use Rattle.ws_steps.specs.declared.{calls.HostCall.{HostCall}, calls.HostCall.TheVariants.{Close as HostClose}, calls.StartBy.{StartBy}, calls.StartBy.TheVariants.{Now, Later}}
+use Rattle.ws_steps.specs.declared.effects.Effect.{Effect}
+use Rattle.ws_steps.specs.declared.effects.Effect.TheVariants.{Readable, Writable, Pipe, Signal, StartAlgorithm, PullAlgorithm, CancelAlgorithm, WriteAlgorithm, CloseAlgorithm, AbortAlgorithm, ChunkSteps, CloseSteps, ErrorSteps, Give, CallHost}
+use Rattle.ws_steps.specs.declared.{effects.Gift.TheVariants.{This}, effects.Owner.{Owner}, effects.Owner.TheVariants.{Host}, effects.Use.{Use}, effects.Use.TheVariants.{React, Resolve}}
+use Rattle.ws_steps.specs.declared.{pipes.SignalOperation.{SignalOperation}, pipes.SignalOperation.TheVariants.{Add, Forget, Trigger}, promises.Job.{Job}, promises.Step.{Step}, promises.Step.TheVariants.{WritableClose, PipeReady, PipeWrote, PipeActed, PipePart}}
+use Rattle.ws_steps.specs.declared.{readable.ReadRequest.{ReadRequest}, readable.ReadRequest.TheVariants.{Promise, Pipe as PipeRequest}}
+use Rattle.ws_steps.specs.declared.writable.WritableOperation.TheVariants.{CloseSettled}
+use Rattle.ws_steps.specs.Slots.{Slots, owner_at}
+use Rattle.ws_steps.specs.Turns.{row, pull_algorithm, cancel_algorithm, write_algorithm, close_algorithm, abort_algorithm, start_algorithm}
+use Rattle.ws_steps.specs.Jobs.{job_effects}
+use Rattle.ws_steps.specs.Calls.{Begun, begin}
+use Rattle.ws_steps.specs.Run.{step}
+use Rattle.ws_steps.specs.Histories.{is_same}
+use Rattle.ws_laws.proofs.EachCall.{each_call}
+use Rattle.ws_laws.proofs.Lists.{Each}
+use Rattle.ws_laws.proofs.PipeDoes.{IsStepOf, PipeCauses}
+use Rattle.ws_laws.proofs.Rows.{ChunkCauses, EndCauses, SignalCauses, row-causes}
+use Rattle.ws_laws.proofs.Tables.{same_id}
+use Rattle.ws_host_laws.proofs.Reactions.{JobFits}
+
+-- the reaction of stream j to its close algorithm
+abbrev pub closes_it : StreamId → Step → Bool
+closes_it j (WritableClose i) = is_same i j
+closes_it j _ = false
+
+-- what is known of an effect: no promise is used by that reaction, but that of the host call to close stream j; and where it tells that the close
+-- was fulfilled, V holds
+abbrev pub UseIs : StreamId → HostCall → Use → Type 0
+UseIs j call (React step derived) = closes_it j step ≡ true → call ≡ HostClose j
+UseIs j call (Resolve p) = Unit {0}
+
+abbrev pub NoUse : StreamId → Use → Type 0
+NoUse j (React step derived) = closes_it j step ≡ false
+NoUse j (Resolve p) = Unit {0}
+
+abbrev pub Fits : StreamId → Type 0 → Effect → Type 0
+Fits j V (Give gift u) = NoUse j u
+Fits j V (CallHost call u) = UseIs j call u
+Fits j V (StartAlgorithm i step start) = closes_it j step ≡ false
+Fits j V (Writable i (CloseSettled (Ok v))) = is_same i j ≡ true → V
+Fits j V _ = Unit {0}
+
+module _ (j : StreamId) where
+  -- what effects cause
+
+  no_true : {A : Type 0} → ◌≡◌ {A = Bool} false true → A
+  no_true e = absurd (cc)
+
+  module _ (V : Type 0) where
+    pipe_step-no : (p : PipeId) (step : Step) → IsStepOf p step → closes_it j step ≡ false
+    pipe_step-no p (PipeReady q) c = refl
+    pipe_step-no p (PipeWrote q) c = refl
+    pipe_step-no p (PipeActed q) c = refl
+    pipe_step-no p (PipePart q) c = refl
+    pipe_step-no p (WritableClose i) c = absurd c
+    pipe_step-no p _ c = refl
+
+    pipe-fits : (p : PipeId) (source dest : StreamId) (e : Effect) → PipeCauses p source dest e → Fits j V e
+    pipe-fits p source dest (Give (This q) (React step None)) c = pipe_step-no p step c
+    pipe-fits p source dest (Give gift u) c = absurd c
+    pipe-fits p source dest (CallHost call u) c = absurd c
+    pipe-fits p source dest (StartAlgorithm i step start) c = absurd c
+    pipe-fits p source dest (Writable i (CloseSettled o)) c = absurd c
+    pipe-fits p source dest _ c = tt
+
+    chunk-fits : (v : Value) (request : ReadRequest) → ChunkCauses (Fits j V) v request
+    chunk-fits v (Promise q) = tt
+    chunk-fits v (PipeRequest q) = tt
+
+    end-fits : (request : ReadRequest) → EndCauses (Fits j V) request
+    end-fits (Promise q) = tt
+    end-fits (PipeRequest q) = tt
+
+    signal-fits : (operation : SignalOperation) → SignalCauses (Fits j V) operation
+    signal-fits (Trigger r) = λ q. tt
+    signal-fits (Add q) = tt
+    signal-fits (Forget q) = tt
+
+    start-fits : (i : StreamId) (step : Step) (s : Slots) (start : StartBy) → closes_it j step ≡ false → Each (Fits j V) (start_algorithm i step s start).caused
+    start-fits i step s Now n = (n, tt)
+    start-fits i step s Later n = (tt, (n, tt))
+
+    pull-fits : (i : StreamId) (owner : Owner) (step : Step) (d : Option PromiseId) → closes_it j step ≡ false → Each (Fits j V) (pull_algorithm i (React step d) owner)
+    pull-fits i Host step d n = ((λ e. absurd (cc)), tt)
+
+    cancel-fits : (i : StreamId) (r : Plain) (owner : Owner) (step : Step) (d : Option PromiseId) → closes_it j step ≡ false → Each (Fits j V) (cancel_algorithm i r (React step d) owner)
+    cancel-fits i r Host step d n = ((λ e. absurd (cc)), tt)
+
+    abort-fits : (i : StreamId) (r : Plain) (owner : Owner) (step : Step) (d : Option PromiseId) → closes_it j step ≡ false → Each (Fits j V) (abort_algorithm i r (React step d) owner)
+    abort-fits i r Host step d n = ((λ e. absurd (cc)), tt)
+
+    write-fits : (i : StreamId) (owner : Owner) → Each (Fits j V) (write_algorithm i owner)
+    write-fits i Host = (tt, tt)
+
+    close-fits : (i : StreamId) (owner : Owner) → Each (Fits j V) (close_algorithm i (React (WritableClose i) None) owner)
+    close-fits i Host = ((λ e. ap (λ (k : StreamId). HostClose k) (same_id i j e)), tt)
+
+    pub caused-fit : (e : Effect) (s : Slots) → Fits j V e → Each (Fits j V) (row e s).caused
+    unfolding row
+    caused-fit (Readable i operation) s f = row-causes (Fits j V) (Readable i operation) s (record { pull = tt; cancel = λ r q. tt; chunk = λ r v. tt; close = λ r. tt; error = λ r e. tt })
+    caused-fit (Writable i operation) s f = row-causes (Fits j V) (Writable i operation) s (record { write = tt; close = tt; abort = λ r q. tt; hand_on = λ v e. no_true e })
+    caused-fit (Pipe p operation) s f = row-causes (Fits j V) (Pipe p operation) s (pipe-fits p)
+    caused-fit (Signal a operation) s f = row-causes (Fits j V) (Signal a operation) s (signal-fits operation)
+    caused-fit (StartAlgorithm i step start) s f = start-fits i step s start f
+    caused-fit (PullAlgorithm i) s f = pull-fits i (owner_at i s) _ _ refl
+    caused-fit (CancelAlgorithm i r p) s f = cancel-fits i r (owner_at i s) _ _ refl
+    caused-fit (WriteAlgorithm i) s f = write-fits i (owner_at i s)
+    caused-fit (CloseAlgorithm i) s f = close-fits i (owner_at i s)
+    caused-fit (AbortAlgorithm i r p) s f = abort-fits i r (owner_at i s) _ _ refl
+    caused-fit (ChunkSteps i request v) s f = row-causes (Fits j V) (ChunkSteps i request v) s (chunk-fits v request)
+    caused-fit (CloseSteps i request) s f = row-causes (Fits j V) (CloseSteps i request) s (end-fits request)
+    caused-fit (ErrorSteps i request e) s f = row-causes (Fits j V) (ErrorSteps i request e) s (end-fits request)
+    caused-fit _ s f = tt
+
+    pub call-fits : (c : Call) (s : Slots) → Each (Fits j V) (begin c s).done.caused
+    call-fits c s = each_call (λ (b : Begun). Each (Fits j V) b.done.caused) c s (grind arith)
+
+    pub job-effects-fit : (job : Job) → JobFits (closes_it j) V job → Each (Fits j V) (job_effects job)
+    job-effects-fit job f = grind arith
+
+  pub fits-weaker : (V U : Type 0) → (V → U) → (e : Effect) → Fits j V e → Fits j U e
+  fits-weaker V U f (Writable i (CloseSettled (Ok v))) k = λ e. f (k e)
+  fits-weaker V U f (Writable i (CloseSettled (Err r))) k = tt
+  fits-weaker V U f e k = k

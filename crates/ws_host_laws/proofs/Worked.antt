@@ -1,0 +1,53 @@
+-- A pipe whose source closes: it closes its destination, which the host is called for, and the host settles that well.
+use Rattle.std.proofs.Common.{◌≡◌, [], ◌∷◌, List, refl, false, None}
+use Rattle.ws_value.specs.declared.{ids.HostId.{HostId}, ids.PipeId.{PipeId}, ids.StreamId.{StreamId}}
+use Rattle.ws_steps.specs.declared.calls.Call.TheVariants.{MakeReadable, MakeWritable, Pipe, Finish}
+use Rattle.ws_steps.specs.declared.calls.HostCall.TheVariants.{Pull, Close}
+use Rattle.ws_steps.specs.declared.calls.StartBy.TheVariants.{Now}
+use Rattle.ws_steps.specs.declared.readable.SizeBy.TheVariants.{Count}
+use Rattle.ws_steps.specs.declared.writable.WritableState.TheVariants.{Closed}
+use Rattle.ws_steps.specs.Promises.{fresh, settle, answer, react, follow, unfollow, use_gift, queue_micro, after_next_job, watch}
+use Rattle.ws_steps.specs.Readable as readable
+use Rattle.ws_steps.specs.Writable as writable
+use Rattle.ws_steps.specs.Pipes as pipe
+use Rattle.ws_steps.specs.Turns.{call_host, row, turns, performed, moments, moments_of}
+use Rattle.ws_steps.specs.Jobs.{begin_job}
+use Rattle.ws_steps.specs.Calls.{begin}
+use Rattle.ws_steps.specs.Run.{Entry, Called, Worked, run}
+use Rattle.ws_steps.specs.Slots.{empty, writable_at}
+use Rattle.ws_pipe_laws.specs.PipeHistory.{run_course}
+use Rattle.ws_host_laws.specs.HostCalls.{called, settles_well}
+
+abbrev s0 : StreamId
+s0 = record { 0 = 0 }
+
+abbrev s1 : StreamId
+s1 = record { 0 = 1 }
+
+abbrev p0 : PipeId
+p0 = record { 0 = 0 }
+
+abbrev h1 : HostId
+h1 = record { 0 = 1 }
+
+abbrev piped : List Entry
+piped =
+    Called (MakeReadable 0 Count Now)
+    ∷ Called (MakeWritable 1 Count Now)
+    ∷ Called (Pipe s0 s1 (record { close = false; abort = false; cancel = false }) None)
+    ∷ Worked
+    ∷ Worked
+    ∷ Worked
+    ∷ Called (Finish s0)
+    ∷ Worked
+    ∷ Worked
+    ∷ Worked
+    ∷ Called (settles_well h1)
+    ∷ Worked
+    ∷ Worked
+    ∷ Worked
+    ∷ []
+
+works : (called piped ≡ Pull s0 ∷ Close s1 ∷ []) × (((run_course p0 piped empty).ended ≡ None ∷ []) × ((writable_at s1 (run piped empty)).state ≡ Closed))
+unfolding fresh settle answer react follow unfollow use_gift queue_micro after_next_job watch readable.call_pull_if_needed readable.accept readable.controller_enqueue readable.controller_close readable.close_if_empty readable.stream_close readable.after_take readable.pull_steps readable.default_reader_read readable.reader_generic_initialize readable.disturb readable.start_settled readable.pull_settled readable.stream_cancel readable.cancel_steps readable.cancel_if_readable readable.reader_release writable.ensure_rejected writable.settle_pending writable.update_backpressure writable.refresh_backpressure writable.reject_close_and_closed writable.finish_erroring writable.start_erroring writable.deal_with_rejection writable.controller_error_if_needed writable.process_write writable.process_close writable.advance_queue writable.hand_on writable.write_settled writable.finish_in_flight_close writable.finish_in_flight_close_with_error writable.close_settled writable.start_settled writable.abort_settled writable.controller_write writable.writer_write writable.controller_close writable.stream_close writable.close_with_error_propagation writable.stream_abort writable.abort_if_writable writable.set_up_writer writable.writer_release pipe.finalize pipe.act_by_signal pipe.act pipe.proceed pipe.shutdown pipe.look pipe.look_ready pipe.go_on pipe.keep_chunk pipe.read_ended pipe.write_chunk pipe.write_ended pipe.action_settled pipe.part_settled pipe.no_parts pipe.abort call_host row turns performed moments moments_of begin_job begin
+works = (refl, (refl, refl))

@@ -1,0 +1,78 @@
+-- Laws of what the host is called for and settles well.
+use Rattle.std.specs.Prelude.{ℕ, ◌≡◌, ◌<◌, false, true, is_some, List, [], ◌∷◌, ◌++◌, length, Option, None, slice_get}
+use Rattle.ws_value.specs.declared.ids.PipeId.{PipeId}
+use Rattle.ws_value.specs.declared.ids.SignalId.{SignalId}
+use Rattle.ws_value.specs.declared.ids.StreamId.{StreamId}
+use Rattle.ws_steps.specs.declared.calls.Call.TheVariants.{Pipe}
+use Rattle.ws_steps.specs.declared.calls.HostCall.{HostCall}
+use Rattle.ws_steps.specs.declared.calls.HostCall.TheVariants.{Close}
+use Rattle.ws_steps.specs.declared.writable.WritableState.TheVariants.{Closed}
+use Rattle.ws_steps.specs.declared.pipes.Prevent.{Prevent}
+use Rattle.ws_steps.specs.Calls.{begin}
+use Rattle.ws_steps.specs.Slots.{empty, has_writable, writable_at}
+use Rattle.ws_steps.specs.Run.{Entry, Called, run}
+use Rattle.ws_steps.specs.Histories.{run_events}
+use Rattle.ws_steps.specs.Laws.{AllFulfilled}
+use Rattle.ws_steps.specs.WritableHistory.{run_writes}
+use Rattle.ws_steps.specs.Writable.{is_closing, is_writable}
+use Rattle.ws_pipe_laws.specs.PipeHistory.{run_course, promises_made, run_moments}
+use Rattle.ws_host_laws.specs.HostCalls.{called, IsItsCall, AllEvents, WasSettledWell, WriteWasSettledWell}
+
+-- The host calls of a run are as many as their promises that the slots keep, so the next gets the number that comes next. Each event that tells of
+-- one, whether the host has taken it or not, has the number of this call. A longer run made the same calls first
+pub record HasItsCalls (entries : List Entry) : Type 0 where
+  pub numbered : length (run entries empty).hosts ≡ length (called entries)
+  pub told : AllEvents (IsItsCall (called entries)) (run_events entries empty)
+  pub untaken : AllEvents (IsItsCall (called entries)) (run entries empty).promises.events
+  pub grows : (more : List Entry) → (rest : List HostCall) × (called (entries ++ more) ≡ called entries ++ rest)
+
+-- in every run
+abbrev pub EachEventIsItsCall : Type 0
+EachEventIsItsCall = (entries : List Entry) → HasItsCalls entries
+
+-- in every run, the host settled the close algorithm of each writable stream well that is closed
+abbrev pub EachCloseWasSettled : Type 0
+EachCloseWasSettled =
+    (entries : List Entry) (j : StreamId) → has_writable j (run entries empty) ≡ true → (writable_at j (run entries empty)).state ≡ Closed → WasSettledWell entries (Close j)
+
+-- in every run, of each writable stream: the host settled each of its writes well that ended well. The writes that ended well are the first of the
+-- calls of its write algorithm
+abbrev pub EachWriteWasSettled : Type 0
+EachWriteWasSettled = (entries : List Entry) (j : StreamId) (n : ℕ) → n < (run_writes j entries empty).fulfilled → WriteWasSettledWell entries j n
+
+-- A pipeTo of these streams after these entries: it makes the pipe of the next number, which closes its destination; and the destination is writable
+-- and not closing
+pub record MakesAPipe (before : List Entry) (source dest : StreamId) (prevent : Prevent) (signal : Option SignalId) : Type 0 where
+  pub made : is_some (slice_get (begin (Pipe source dest prevent signal) (run before empty)).done.slots.pipes (length (run before empty).pipes)) ≡ true
+  pub closes : prevent.close ≡ false
+  pub writable : is_writable (writable_at dest (run before empty)).state ≡ true
+  pub not_closing : is_closing (writable_at dest (run before empty)) ≡ false
+
+-- the number of the next pipe
+abbrev pub next_pipe : List Entry → PipeId
+next_pipe before = record { 0 = length (run before empty).pipes }
+
+-- a run, and in it a pipeTo
+abbrev pub with_pipe : List Entry → StreamId → StreamId → Prevent → Option SignalId → List Entry → List Entry
+with_pipe before source dest prevent signal after = before ++ Called (Pipe source dest prevent signal) ∷ after
+
+-- the stream is closed, and the host settled its close algorithm well
+pub record IsClosedWell (entries : List Entry) (j : StreamId) : Type 0 where
+  pub closed : (writable_at j (run entries empty)).state ≡ Closed
+  pub settled : WasSettledWell entries (Close j)
+
+-- in every run, of a pipe without preventClose whose destination was writable and not closing when it began: where it ended without an error, its
+-- destination is closed, and the host settled that close well
+abbrev pub EachFulfilledPipeClosedItsDestination : Type 0
+EachFulfilledPipeClosedItsDestination =
+    (before after : List Entry) (source dest : StreamId) (prevent : Prevent) (signal : Option SignalId)
+    → let entries : List Entry = with_pipe before source dest prevent signal after in
+    MakesAPipe before source dest prevent signal → (run_course (next_pipe before) entries empty).ended ≡ None ∷ [] → IsClosedWell entries dest
+
+-- in every run, of such a pipe: the promise of each write that it made is fulfilled with undefined
+abbrev pub EachWriteOfAFulfilledPipeSucceeded : Type 0
+EachWriteOfAFulfilledPipeSucceeded =
+    (before after : List Entry) (source dest : StreamId) (prevent : Prevent) (signal : Option SignalId)
+    → let entries : List Entry = with_pipe before source dest prevent signal after in
+    MakesAPipe before source dest prevent signal → (run_course (next_pipe before) entries empty).ended ≡ None ∷ []
+    → AllFulfilled (run entries empty).promises (promises_made (next_pipe before) (run_moments entries empty))
