@@ -13,7 +13,7 @@ use Rattle.ws_grammar.specs.declared.line.Line.{Line}
 use Rattle.ws_grammar.specs.Lines.{lines, most_bytes}
 use Rattle.ws_script.specs.Ends.{ScriptEnds}
 use Rattle.ws_cli.specs.Check.{Shelf, PerformsCheck, heard_by}
-use Rattle.ws_cli.specs.Run.{Ends}
+use Rattle.ws_runner.specs.Ends.{Ends}
 use Rattle.ws_cli.specs.Words.{IsRun, IsScript, IsCheck, IsNoCheck}
 
 -- what these words have done to files, an input and an output, with the status that it ended with

@@ -9,11 +9,11 @@ ghost use Rattle.ws_cli.specs.Commands.{Performs};
 ghost use Rattle.ws_cli.specs.Words.{IsNoCheck};
 
 use crate::check::run_check;
-use crate::copy::run;
 use std::alloc::Global;
 use std::sync::Wait;
 use std::thread::Threads;
 use ws_io::{Files, Gate, Sink, Source, Status};
+use ws_runner::run_nodes;
 use ws_script::run_script;
 use ws_value::Text;
 
@@ -71,7 +71,7 @@ fn perform<R: Wait, F: Files, S: Source, K: Sink>(
     ensures texts { F.texts files.new ≡ F.texts files.old }
 {
     if is_alone(words, b"run") {
-        return run(rt, alloc, input, output, MAX_INPUT);
+        return run_nodes(rt, alloc, MAX_INPUT, input, output);
     }
     if is_alone(words, b"script") {
         return run_script(alloc, input, output);

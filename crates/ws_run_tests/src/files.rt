@@ -2,8 +2,8 @@
 use std::alloc::Global;
 use std::fs;
 use std::test::Fail;
-use ws_cli::run;
 use ws_io::{Files, LoadRefused, MemFiles, Status, StdFiles, StdSink, StdSource};
+use ws_runner::run_nodes;
 use ws_value::{NoMemory, Text};
 
 /// In more than one read and more than one write, where a read takes 4,096 bytes at most.
@@ -21,7 +21,7 @@ fn files_are_copied(rt: HostRuntime) -> Result<(), Fail> {
             fs::open(&rt, name)?
         };
         let mut output = StdSink::over(file);
-        let status = run(&rt, alloc, &mut input, &mut output, 1 << 40);
+        let status = run_nodes(&rt, alloc, 1 << 40, &mut input, &mut output);
         assert_eq!(rt; status, want, "{name}");
         let bytes = fs::read(&rt, name)?;
         assert!(rt; bytes.as_slice() == text.as_slice(), "{name}");

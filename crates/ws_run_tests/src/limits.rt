@@ -1,7 +1,7 @@
 //! Runs whose input is about as long as they may take.
 use std::test::Fail;
-use ws_cli::run;
 use ws_io::{MemSink, MemSource, Status};
+use ws_runner::run_nodes;
 
 #[test]
 fn small_limits(rt: HostRuntime) -> Result<(), Fail> {
@@ -14,7 +14,7 @@ fn small_limits(rt: HostRuntime) -> Result<(), Fail> {
     ] {
         let mut input = MemSource::make(alloc, b"abc", &[4096], &[])?;
         let mut output = MemSink::make(alloc, 16, &[4096], &[], &[])?;
-        let status = run(&rt, alloc, &mut input, &mut output, limit);
+        let status = run_nodes(&rt, alloc, limit, &mut input, &mut output);
         assert_eq!(rt; status, want, "limit {limit}");
         assert_eq!(rt; output.got(), written, "limit {limit}");
     }

@@ -2,8 +2,8 @@
 use std::alloc::Global;
 use std::sync::Wait;
 use std::test::Fail;
-use ws_cli::run;
 use ws_io::{MemSink, MemSource, Status};
+use ws_runner::run_nodes;
 use ws_value::NoMemory;
 
 const INPUT: &[u8] = b"abcdefghij";
@@ -12,7 +12,7 @@ const INPUT: &[u8] = b"abcdefghij";
 fn copied<R: Wait>(rt: &R, alloc: Global) -> Result<(Status, MemSink), NoMemory> {
     let mut input = MemSource::make(alloc, INPUT, &[3], &[])?;
     let mut output = MemSink::make(alloc, INPUT.len(), &[2], &[], &[])?;
-    let status = run(rt, alloc, &mut input, &mut output, 100);
+    let status = run_nodes(rt, alloc, 100, &mut input, &mut output);
     Ok((status, output))
 }
 

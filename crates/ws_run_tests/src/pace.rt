@@ -4,8 +4,8 @@ ghost use Rattle.std.specs.Prelude.{None};
 use std::alloc::Global;
 use std::cell::Cell;
 use std::sync::Wait;
-use ws_cli::run;
 use ws_io::{Failed, Sink, Source, Status};
+use ws_runner::run_nodes;
 
 /// Writes the input's bytes from a place on.
 fn fill(place: u64, room: &mut [u8]) {
@@ -108,7 +108,7 @@ fn paced<R: Wait>(
         most: most_written,
         count: 0,
     };
-    let status = run(rt, alloc, &mut input, &mut output, 1 << 40);
+    let status = run_nodes(rt, alloc, 1 << 40, &mut input, &mut output);
     (status, written.get())
 }
 

@@ -1,0 +1,12 @@
+pub mod Answering
+pub mod Asking
+pub mod Bytes
+pub mod Ending
+pub mod Entries
+pub mod Finish
+pub mod Going
+pub mod Hearing
+pub mod Opening
+pub mod Reading
+pub mod Since
+pub mod Working

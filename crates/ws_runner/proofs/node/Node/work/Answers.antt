@@ -1,0 +1,13 @@
+use Rattle.std.proofs.Common.{sym, ap, ◌∙◌, arith}
+use Rattle.std.specs.Prelude.{is_some}
+use Rattle.ws_steps.specs.Run.{is_idle}
+use Rattle.ws_runner.proofs.Asking.{works-more, job-performed}
+use Rattle.ws_runner.proofs.node.Node.work.Goals as goal
+
+pub loop-left-preserved : goal.loop-left-preserved
+loop-left-preserved c = (
+  works-more c.args.self.now c.loop-left.self c.job.new.self c.loop-left.invariant.0 (ap is_some c.loop-left.invariant.1)
+      (job-performed (is_idle c.loop-left.self.realm.slots) c.job.new.self.slots _ _ c.in-Ok-true.ensures.slots (sym c.in-Ok-true.field-0-test ∙ c.in-Ok-true.ensures.worked)),
+  c.loop-left.invariant.1,
+  omega arith,
+)

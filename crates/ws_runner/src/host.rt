@@ -1,0 +1,270 @@
+//! What the host of a node does as it is asked: a pull reads the input once, a write writes its chunk whole, a close finishes the output.
+ghost use Rattle.std.specs.Prelude.{◌≡◌, ◌<◌, ◌≤◌, ◌+◌, ◌^◌, length, IfOk, OnErr};
+ghost use Rattle.ws_io.specs.Moment.{moment};
+ghost use Rattle.ws_runner.specs.declared.node.Output.TheVariants as output_is;
+ghost use Rattle.ws_runner.specs.Host.{GivesPiece};
+ghost use Rattle.ws_steps.specs.Histories.{is_same};
+ghost use Rattle.ws_steps.specs.declared.calls.HostCall.TheVariants as host_call;
+ghost use Rattle.ws_runner.specs.Moves.{Answers, Asks, Fails, Finishes, Hears, MayAnswer, MayHear, MayTake, Reads, Takes, Writes, finishes_by, settles, takes_chunk, writes_by};
+ghost use Rattle.ws_runner.specs.Node.{sink};
+ghost use Rattle.ws_runner.specs.Past.{Driven, HasCounts};
+ghost use Rattle.ws_runner.specs.Went.{Went};
+
+use crate::node::{Input, Node, Output, SINK, SOURCE};
+use std::alloc::Global;
+use ws_io::{Failed, Sink, Source, write_whole};
+use ws_realm::{Answer, Call, Chunk, Event, Fault, HostId, NoMemory, Plain, StreamId, Value, Why};
+use ws_steps::HostCall;
+use ws_value::Room;
+
+/// The most jobs of one turn.
+const JOBS_OF_A_TURN: u32 = 100_000;
+
+/// The most events of one turn.
+const EVENTS_OF_A_TURN: u32 = 64;
+
+/// The most bytes of one read of the input.
+const MOST_OF_A_READ: u64 = 4096;
+
+/// Reads the input once. The piece is empty at the input's end.
+fn read_piece<S: Source>(
+    alloc: Global,
+    input: &mut S,
+    want: usize,
+) -> Result<Result<Chunk, Failed>, NoMemory>
+    requires { 0 < want }
+    ensures piece { IfOk result (λ piece.
+        GivesPiece (S.feed input.old) (S.feed input.new) (S.faults input.old) (S.faults input.new) want piece) }
+    ensures none { OnErr result (input.new ≡ input.old) }
+{
+    let mut room = Room::of(alloc, want)?;
+    match input.read(room.as_mut_slice()) {
+        Ok(count) => Ok(Ok(room.into_chunk(count))),
+        Err(Failed) => Ok(Err(Failed)),
+    }
+}
+
+fn is_sink(stream: StreamId) -> bool
+    ensures { result ≡ is_same sink stream }
+{
+    SINK.0 == stream.0
+}
+
+impl Node {
+    /// Performs jobs, and does at each event what it asks, until there is nothing to do, or a turn's share is done.
+    pub fn go_on<S: Source, K: Sink>(&mut self, alloc: Global, input: &mut S, output: &mut K)
+        requires { Driven self.old }
+        ensures driven { Driven self.new }
+        ensures went { Went self.old self.new
+            (moment (S.faults input.old) (S.feed input.old) (K.faults output.old) (K.finished output.old))
+            (moment (S.faults input.new) (S.feed input.new) (K.faults output.new) (K.finished output.new))
+            (K.got output.old) (K.got output.new) }
+    {
+        let mut jobs = JOBS_OF_A_TURN;
+        for _ in 0..EVENTS_OF_A_TURN {
+            jobs = self.work(jobs);
+            if !self.hear(alloc, input, output) {
+                return;
+            }
+        }
+    }
+
+    /// Takes what happened first of what the host hasn't heard of, and does what it asks. False says that there is none.
+    fn hear<S: Source, K: Sink>(&mut self, alloc: Global, input: &mut S, output: &mut K) -> bool
+        requires { Driven self.old }
+        ensures driven { Driven self.new }
+        ensures went { Went self.old self.new
+            (moment (S.faults input.old) (S.feed input.old) (K.faults output.old) (K.finished output.old))
+            (moment (S.faults input.new) (S.feed input.new) (K.faults output.new) (K.finished output.new))
+            (K.got output.old) (K.got output.new) }
+    {
+        if self.stopped.is_some() {
+            return false;
+        }
+        let Some(event) = self.realm.next_event() else {
+            return false;
+        };
+        self.hear_of(event, output);
+        self.read(alloc, input);
+        true
+    }
+
+    /// Does what an event asks.
+    fn hear_of<K: Sink>(&mut self, event: Event, output: &mut K)
+        requires { MayHear self.old event }
+        ensures { Hears event self.old self.new
+            (record { faults = K.faults output.old; finished = K.finished output.old })
+            (record { faults = K.faults output.new; finished = K.finished output.new })
+            (K.got output.old) (K.got output.new) }
+    {
+        match event {
+            Event::Host { id, call } => self.answer(id, call, output),
+            Event::Settled(_) => {}
+            Event::Signal { .. } => {}
+        }
+    }
+
+    /// Does what a call of the host asks.
+    fn answer<K: Sink>(&mut self, id: HostId, call: HostCall, output: &mut K)
+        requires { MayAnswer self.old call }
+        ensures { Answers id call self.old self.new
+            (record { faults = K.faults output.old; finished = K.finished output.old })
+            (record { faults = K.faults output.new; finished = K.finished output.new })
+            (K.got output.old) (K.got output.new) }
+    {
+        match call {
+            HostCall::Pull(_) => self.asked = Some(id),
+            HostCall::Write(stream, value) => self.write(id, stream, value, output),
+            HostCall::Close(stream) => self.close(id, stream, output),
+            HostCall::Start(_) => self.settle(id),
+            HostCall::Cancel(..) => self.settle(id),
+            HostCall::Abort(..) => self.settle(id),
+        }
+    }
+
+    /// What was asked is done.
+    fn settle(&mut self, id: HostId)
+        ensures { Asks (settles id) self.old self.new }
+    {
+        self.ask(Call::Settle(id, Answer::Ok))
+    }
+
+    /// Answers the pull that waits by one read of the input, once all that was read before is written. An input that ended or failed isn't read again.
+    fn read<S: Source>(&mut self, alloc: Global, input: &mut S)
+        requires { HasCounts self.old }
+        ensures { Reads self.old self.new (S.feed input.old) (S.feed input.new) (S.faults input.old) (S.faults input.new) }
+    {
+        if self.stopped.is_some() {
+            return;
+        }
+        if self.unwritten > 0 {
+            return;
+        }
+        if !self.input.is_open() {
+            return;
+        }
+        let Some(pull) = self.asked else {
+            return;
+        };
+        self.asked = None;
+        let want = (self.most - self.taken + 1).min(MOST_OF_A_READ) as usize;
+        match read_piece(alloc, input, want) {
+            Ok(piece) => {
+                self.take(piece);
+                self.settle(pull)
+            }
+            Err(NoMemory) => self.stopped = Some(Why::NoMemory),
+        }
+    }
+
+    /// Hands what a read gave to the stream that the input feeds.
+    fn take(&mut self, piece: Result<Chunk, Failed>)
+        requires { MayTake self.old piece }
+        ensures { Takes piece self.old self.new }
+    {
+        match piece {
+            Ok(chunk) => self.take_chunk(chunk),
+            Err(Failed) => {
+                self.input = Input::Failed;
+                self.ask(Call::Fail(SOURCE, Plain::Fault(Fault::Read)))
+            }
+        }
+    }
+
+    /// An empty piece is the end; one with which more is taken than may be fails the source.
+    fn take_chunk(&mut self, chunk: Chunk)
+        requires { self.old.taken + length chunk < 2 ^ 64 }
+        ensures { takes_chunk chunk self.old self.new }
+    {
+        if chunk.is_empty() {
+            self.input = Input::Ended;
+            return self.ask(Call::Finish(SOURCE));
+        }
+        let count = chunk.len() as u64;
+        self.taken += count;
+        self.unwritten = count;
+        if self.taken > self.most {
+            self.input = Input::TooLong;
+            return self.ask(Call::Fail(SOURCE, Plain::Fault(Fault::TooMuch)));
+        }
+        self.ask(Call::Enqueue(SOURCE, Value::Bytes(chunk)))
+    }
+
+    /// A chunk of the sink is written to the output.
+    fn write<K: Sink>(&mut self, id: HostId, stream: StreamId, value: Value, output: &mut K)
+        requires { MayAnswer self.old (host_call.Write stream value) }
+        ensures { writes_by id value self.old self.new
+            (record { faults = K.faults output.old; finished = K.finished output.old })
+            (record { faults = K.faults output.new; finished = K.finished output.new })
+            (K.got output.old) (K.got output.new) (is_same sink stream) }
+    {
+        if !is_sink(stream) {
+            return self.settle(id);
+        }
+        match value {
+            Value::Bytes(chunk) => self.write_chunk(id, &chunk, output),
+            Value::Plain(_) => self.settle(id),
+        }
+    }
+
+    /// Writes a chunk whole. An output that was finished or has failed takes no more.
+    fn write_chunk<K: Sink>(&mut self, id: HostId, chunk: &Chunk, output: &mut K)
+        requires { self.old.output ≡ output_is.Open → length chunk.now ≤ self.old.unwritten }
+        ensures { Writes id chunk.now self.old self.new
+            (record { faults = K.faults output.old; finished = K.finished output.old })
+            (record { faults = K.faults output.new; finished = K.finished output.new })
+            (K.got output.old) (K.got output.new) }
+    {
+        if !self.output.is_open() {
+            return self.fail(id);
+        }
+        match write_whole(output, chunk.as_slice()) {
+            Ok(()) => {
+                let count = chunk.len() as u64;
+                self.unwritten -= count;
+                self.settle(id)
+            }
+            Err(Failed) => self.fail(id),
+        }
+    }
+
+    /// The close of the sink finishes the output.
+    fn close<K: Sink>(&mut self, id: HostId, stream: StreamId, output: &mut K)
+        ensures { finishes_by id self.old self.new
+            (record { faults = K.faults output.old; finished = K.finished output.old })
+            (record { faults = K.faults output.new; finished = K.finished output.new })
+            (K.got output.old) (K.got output.new) (is_same sink stream) }
+    {
+        if !is_sink(stream) {
+            return self.settle(id);
+        }
+        self.finish(id, output)
+    }
+
+    /// Finishes the output, once.
+    fn finish<K: Sink>(&mut self, id: HostId, output: &mut K)
+        ensures { Finishes id self.old self.new
+            (record { faults = K.faults output.old; finished = K.finished output.old })
+            (record { faults = K.faults output.new; finished = K.finished output.new })
+            (K.got output.old) (K.got output.new) }
+    {
+        if !self.output.is_open() {
+            return self.fail(id);
+        }
+        match output.finish() {
+            Ok(()) => {
+                self.output = Output::Finished;
+                self.settle(id)
+            }
+            Err(Failed) => self.fail(id),
+        }
+    }
+
+    /// What the output was asked for has failed.
+    fn fail(&mut self, id: HostId)
+        ensures { Fails id self.old self.new }
+    {
+        self.output = self.output.shut();
+        self.ask(Call::Settle(id, Answer::Fail(Plain::Fault(Fault::Write))))
+    }
+}

@@ -1,0 +1,12 @@
+//! A run: the streams of one realm, whose host reads the input and writes the output.
+#![tactic(auto)]
+
+mod host;
+mod node;
+mod nodes;
+mod turn;
+mod whole;
+
+pub use nodes::run_nodes;
+pub use turn::Turn;
+pub use whole::Whole;

@@ -1,0 +1,39 @@
+ghost use Rattle.std.specs.Prelude.{◌<◌, ◌^◌};
+ghost use Rattle.ws_io.specs.Moment.{moment};
+ghost use Rattle.ws_runner.specs.Ends.{Ends};
+
+use crate::turn::Turn;
+use crate::whole::Whole;
+use std::alloc::Global;
+use std::sync::{Wait, WaitMethods};
+use ws_io::{Sink, Source, Status};
+
+/// Copies the input, of at most `most` bytes, to the output through a pipe, and finishes it. At most one piece of 4,096 bytes is read and not yet written. A turn that finds nothing to do is followed by another, and so is that of a realm that is spent, after 2^62 calls and jobs: no status stands for it, and the call doesn't return then.
+pub fn run_nodes<R: Wait, S: Source, K: Sink>(
+    rt: &R,
+    alloc: Global,
+    most: u64,
+    input: &mut S,
+    output: &mut K,
+) -> Status
+    requires { most < 2 ^ 63 }
+    ensures { Ends result most 4096
+        (moment (S.faults input.old) (S.feed input.old) (K.faults output.old) (K.finished output.old))
+        (moment (S.faults input.new) (S.feed input.new) (K.faults output.new) (K.finished output.new))
+        (K.got output.old) (K.got output.new) }
+{
+    let Ok(mut whole) = Whole::make(alloc, most) else {
+        return Status::NoMemory;
+    };
+    for _ in rt.forever() {
+        match whole.turn(alloc, input, output) {
+            Turn::Ended | Turn::NoMemory => {
+                if let Some(status) = whole.status() {
+                    return status;
+                }
+            }
+            Turn::Worked | Turn::Idle | Turn::Spent => {}
+        }
+    }
+    unreachable!()
+}

@@ -1,0 +1,75 @@
+//! The node of a run without workers.
+ghost use Rattle.std.specs.Prelude.{◌≡◌, ◌<◌, ◌^◌, IfOk};
+ghost use Rattle.ws_io.specs.Moment.{moment};
+ghost use Rattle.ws_runner.specs.Ends.{EndsAs};
+ghost use Rattle.ws_runner.specs.Past.{IsNew};
+ghost use Rattle.ws_runner.specs.Turns.{TurnIs};
+ghost use Rattle.ws_runner.specs.Went.{Went};
+
+use crate::node::Node;
+use crate::turn::Turn;
+use std::alloc::Global;
+use std::marker::Model;
+use ws_io::{Sink, Source, Status};
+use ws_realm::{NoMemory, Why};
+
+/// The node of a run without workers: one realm with a pipe from the input to the output. It holds neither; each turn is lent both.
+#[derive(Drop)]
+pub struct Whole {
+    node: Node,
+}
+
+impl Model for Whole {
+    ghost use Rattle.ws_runner.specs.declared.node.Node.{Node};
+    ghost use Rattle.ws_runner.specs.Past.{Driven};
+
+    ghost Value = { Node };
+
+    ghost view = { λ w. w.node };
+
+    ghost invariant = { λ w. Driven w.node };
+}
+
+impl Whole {
+    /// A node of a run that may take `most` bytes of its input.
+    pub fn make(alloc: Global, most: u64) -> Result<Whole, NoMemory>
+        requires { most < 2 ^ 63 }
+        ensures { IfOk result (IsNew most) }
+    {
+        Ok(Whole {
+            node: Node::make(alloc, most)?,
+        })
+    }
+
+    /// One turn: at most 100,000 jobs and 64 events, with what the host does at each.
+    pub fn turn<S: Source, K: Sink>(&mut self, alloc: Global, input: &mut S, output: &mut K) -> Turn
+        ensures went { Went self.old self.new
+            (moment (S.faults input.old) (S.feed input.old) (K.faults output.old) (K.finished output.old))
+            (moment (S.faults input.new) (S.feed input.new) (K.faults output.new) (K.finished output.new))
+            (K.got output.old) (K.got output.new) }
+        ensures turn { TurnIs result self.old self.new }
+    {
+        let busy = self.node.is_busy();
+        self.node.go_on(alloc, input, output);
+        match self.node.stopped {
+            Some(Why::NoMemory) => Turn::NoMemory,
+            Some(Why::Spent) => Turn::Spent,
+            None => {
+                if self.node.has_ended() {
+                    Turn::Ended
+                } else if busy {
+                    Turn::Worked
+                } else {
+                    Turn::Idle
+                }
+            }
+        }
+    }
+
+    /// How the run ends, by how its pipe settled: none says that it is pending, and that memory wasn't wanting. An output that was finished has all that was read, so that is the end whatever is wanting afterwards.
+    pub fn status(&self) -> Option<Status>
+        ensures { EndsAs result self.now }
+    {
+        self.node.status()
+    }
+}
