@@ -3,6 +3,7 @@ use Rattle.std.proofs.Common.{◌≡◌, ℕ, ◌+◌, ◌≤◌, suc, true, fal
 use Rattle.std.specs.Prelude.{slice_get, slice_set}
 use Rattle.std.proofs.lemmas.List.Sums.{sum_by-cons, sum_by-append}
 use Rattle.std.proofs.Math.ListN.{length-append}
+use Rattle.std.proofs.lemmas.Option.{slice_get_within}
 use Rattle.ws_steps.specs.declared.promises.Reaction.{Reaction}
 use Rattle.ws_steps.specs.Places as places
 use Rattle.ws_steps.specs.Places.{reactions_of, reactions_in}
@@ -12,7 +13,8 @@ use Rattle.ws_promise.specs.View.{AllWait, entries_from, entry_for, entry_with, 
 use Rattle.ws_promise.specs.declared.slots.Slot.{Slot}
 use Rattle.ws_promise.specs.declared.waiting.Waiting.{Waiting}
 use Rattle.ws_promise.proofs.CountLemmas.{sum_by-slice_set, unnoted_in-cons}
-use Rattle.ws_promise.proofs.EntryLemmas.{entries_from-push, entries_from-set, entries_from-settle, entries_from-react, entries_from-elsewhere, slice_get-entries_from}
+use Rattle.ws_promise.proofs.CountedLemmas.{Counted-push, Counted-settle, Counted-react, Counted-set, Counted-empty}
+use Rattle.ws_promise.proofs.EntryLemmas.{entries_from-push, entries_from-set, entries_from-settle, entries_from-react, entries_from-elsewhere, entries_from-waits, slice_get-entries_from}
 use Rattle.ws_promise.proofs.WaitingLemmas.{waiting_on-elsewhere_other, length-waiting_both}
 
 at_most : (b : Bool) (n : ℕ) → (if b then n else 0) ≤ n
@@ -44,7 +46,7 @@ pub reactions_in-le : (ss : List (Option Slot)) (ws : List Waiting) → reaction
 reactions_in-le ss ws = omega (arith, reactions_in-bound 0 (length ss) ss ws (omega arith))
 
 pub reactions_in-all_wait : (ss : List (Option Slot)) (ws : List Waiting) → AllWait ss ws → reactions_in (entries_from 0 ss ws) ≡ length ws
-reactions_in-all_wait ss ws h = omega (arith, reactions_in-le ss ws, waiting_in-bound (entries_from 0 ss ws))
+reactions_in-all_wait ss ws h = omega (arith, h.pending, reactions_in-le ss ws, waiting_in-bound (entries_from 0 ss ws))
 
 none_of_length : {A : Type 0} (xs : List A) → length xs ≡ 0 → xs ≡ []
 none_of_length {A} [] h = refl
@@ -53,7 +55,7 @@ none_of_length {A} (x ∷ xs) h = absurd (omega arith)
 -- nobody waits for a promise that isn't there yet
 pub waiting_on_none : (ss : List (Option Slot)) (ws : List Waiting) → AllWait ss ws → waiting_on (length ss) ws ≡ []
 waiting_on_none ss ws h =
-    none_of_length (waiting_on (length ss) ws) (omega (arith, reactions_in-bound 0 (length ss) ss ws (omega arith), waiting_in-bound (entries_from 0 ss ws)))
+    none_of_length (waiting_on (length ss) ws) (omega (arith, h.pending, reactions_in-bound 0 (length ss) ss ws (omega arith), waiting_in-bound (entries_from 0 ss ws)))
 
 waiting_of-pending : (rs : List Reaction) (s : Slot) → is_pending s.outcome ≡ true → waiting_of (Some (entry_with rs s)) ≡ length rs
 waiting_of-pending rs s h = rw h refl
@@ -61,35 +63,67 @@ waiting_of-pending rs s h = rw h refl
 waiting_of-none : (s : Slot) → waiting_of (Some (entry_with [] s)) ≡ 0
 waiting_of-none s = omega (arith, at_most (is_pending s.outcome) 0)
 
-pub AllWait-push : (ss : List (Option Slot)) (ws : List Waiting) (s : Slot) → AllWait ss ws → AllWait (ss ++ Some s ∷ []) ws
-AllWait-push ss ws s h =
+push-pending : (ss : List (Option Slot)) (ws : List Waiting) (s : Slot) → AllWait ss ws → length ws ≡ waiting_in (entries_from 0 (ss ++ Some s ∷ []) ws)
+push-pending ss ws s h =
+    let was = h.pending in
     rw (entries_from-push 0 (length ss) ss (Some s) ws (omega arith), waiting_on_none ss ws h)
     (omega (arith, sum_by-append waiting_of (entries_from 0 ss ws) (Some (entry_with [] s) ∷ []), sum_by-cons waiting_of (Some (entry_with [] s)) [], waiting_of-none s))
 
+-- a new promise
+pub AllWait-push : (ss : List (Option Slot)) (ws : List Waiting) (s : Slot) → s.waits ≡ 0 → AllWait ss ws → AllWait (ss ++ Some s ∷ []) ws
+AllWait-push ss ws s z h = record {
+  pending = push-pending ss ws s h;
+  counted = Counted-push ss ws s (waiting_on_none ss ws h) z h.counted;
+}
+
 -- a pending promise settles: its place is written, and nobody waits for it any more
-pub AllWait-settle : (ss : List (Option Slot)) (ws : List Waiting) (i : ℕ) (s t : Slot) → slice_get ss i ≡ Some (Some s) → is_pending s.outcome ≡ true → AllWait ss ws → AllWait (slice_set ss i (Some t)) (waiting_elsewhere i ws)
-AllWait-settle ss ws i s t g o h =
+settle-pending : (ss : List (Option Slot)) (ws : List Waiting) (i : ℕ) (s t : Slot) → slice_get ss i ≡ Some (Some s) → is_pending s.outcome ≡ true → AllWait ss ws → length (waiting_elsewhere i ws) ≡ waiting_in (entries_from 0 (slice_set ss i (Some t)) (waiting_elsewhere i ws))
+settle-pending ss ws i s t g o h =
+    let was = h.pending in
     let sum = sum_by-slice_set waiting_of (entries_from 0 ss ws) i (Some (entry_with (waiting_on i ws) s)) (Some (entry_with [] t)) (slice_get-entries_from 0 i i ss ws (Some s) (omega arith) g) in
     rw (entries_from-settle 0 i i ss t ws (omega arith))
     (omega (arith, sum, waiting_of-pending (waiting_on i ws) s o, waiting_of-none t, length-waiting_both i ws))
 
--- one more reaction waits for a pending promise
-pub AllWait-react : (ss : List (Option Slot)) (ws : List Waiting) (w : Waiting) (s : Slot) → slice_get ss w.on.0 ≡ Some (Some s) → is_pending s.outcome ≡ true → AllWait ss ws → AllWait ss (ws ++ w ∷ [])
-AllWait-react ss ws w s g o h =
+pub AllWait-settle : (ss : List (Option Slot)) (ws : List Waiting) (i : ℕ) (s t : Slot) → slice_get ss i ≡ Some (Some s) → is_pending s.outcome ≡ true → t.waits ≡ 0 → AllWait ss ws → AllWait (slice_set ss i (Some t)) (waiting_elsewhere i ws)
+AllWait-settle ss ws i s t g o z h = record {
+  pending = settle-pending ss ws i s t g o h;
+  counted = Counted-settle ss ws i t (slice_get_within ss i (Some s) g) z h.counted;
+}
+
+-- one more reaction waits for a pending promise, and is counted
+react-pending : (ss : List (Option Slot)) (ws : List Waiting) (w : Waiting) (s : Slot) → slice_get ss w.on.0 ≡ Some (Some s) → is_pending s.outcome ≡ true → AllWait ss ws → length (ws ++ w ∷ []) ≡ waiting_in (entries_from 0 ss (ws ++ w ∷ []))
+react-pending ss ws w s g o h =
+    let was = h.pending in
     let i = w.on.0 in
     let more = waiting_on i ws ++ w.reaction ∷ [] in
     let sum = sum_by-slice_set waiting_of (entries_from 0 ss ws) i (Some (entry_with (waiting_on i ws) s)) (Some (entry_with more s)) (slice_get-entries_from 0 i i ss ws (Some s) (omega arith) g) in
     rw (entries_from-react 0 i i ss ws w s (omega arith) refl g)
     (omega (arith, sum, waiting_of-pending (waiting_on i ws) s o, waiting_of-pending more s o, length-append (waiting_on i ws) (w.reaction ∷ []), length-append ws (w ∷ [])))
 
+pub AllWait-react : (ss : List (Option Slot)) (ws : List Waiting) (w : Waiting) (s : Slot) → slice_get ss w.on.0 ≡ Some (Some s) → is_pending s.outcome ≡ true → AllWait ss ws → AllWait (slice_set ss w.on.0 (Some (record s { waits = s.waits + 1 }))) (ws ++ w ∷ [])
+AllWait-react ss ws w s g o h = record {
+  pending = rw (entries_from-waits ss (ws ++ w ∷ []) w.on.0 s (s.waits + 1) g) (react-pending ss ws w s g o h);
+  counted = Counted-react ss ws w s g h.counted;
+}
+
 -- another change of a place, by which nobody waits for a settled promise
-pub AllWait-set : (ss : List (Option Slot)) (ws : List Waiting) (i : ℕ) (x y : Option Slot) → slice_get ss i ≡ Some x → waiting_of (entry_for (waiting_on i ws) y) ≡ waiting_of (entry_for (waiting_on i ws) x) → AllWait ss ws → AllWait (slice_set ss i y) ws
-AllWait-set ss ws i x y g e h =
+set-pending : (ss : List (Option Slot)) (ws : List Waiting) (i : ℕ) (x y : Option Slot) → slice_get ss i ≡ Some x → waiting_of (entry_for (waiting_on i ws) y) ≡ waiting_of (entry_for (waiting_on i ws) x) → AllWait ss ws → length ws ≡ waiting_in (entries_from 0 (slice_set ss i y) ws)
+set-pending ss ws i x y g e h =
+    let was = h.pending in
     let sum = sum_by-slice_set waiting_of (entries_from 0 ss ws) i (entry_for (waiting_on i ws) x) (entry_for (waiting_on i ws) y) (slice_get-entries_from 0 i i ss ws x (omega arith) g) in
     rw (entries_from-set 0 i i ss y ws (omega arith)) (omega (arith, sum))
 
+pub AllWait-set : (ss : List (Option Slot)) (ws : List Waiting) (i : ℕ) (s t : Slot) → slice_get ss i ≡ Some (Some s) → t.outcome ≡ s.outcome → t.waits ≡ s.waits → AllWait ss ws → AllWait (slice_set ss i (Some t)) ws
+AllWait-set ss ws i s t g o e h = record {
+  pending = set-pending ss ws i (Some s) (Some t) g (rw o refl) h;
+  counted = Counted-set ss ws i s t g e h.counted;
+}
+
 pub AllWait-release : (ss : List (Option Slot)) (ws : List Waiting) (i : ℕ) (s : Slot) → slice_get ss i ≡ Some (Some s) → is_pending s.outcome ≡ false → AllWait ss ws → AllWait (slice_set ss i None) ws
-AllWait-release ss ws i s g o h = AllWait-set ss ws i (Some s) None g (rw o refl) h
+AllWait-release ss ws i s g o h = record {
+  pending = set-pending ss ws i (Some s) None g (rw o refl) h;
+  counted = Counted-empty ss ws i (slice_get_within ss i (Some s) g) h.counted;
+}
 
 -- the watched promises that are pending, counted by the places
 pub unnoted_in-entries : (k : ℕ) (ss : List (Option Slot)) (ws : List Waiting) → places.unnoted_in (entries_from k ss ws) ≡ unnoted_in ss

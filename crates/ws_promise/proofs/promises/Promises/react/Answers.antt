@@ -16,4 +16,4 @@ invariant_of-self c =
     let a = c.self.inside in
     let room : 1 + (length a.jobs.items + reactions_in (entries_from 0 a.slots.items a.waiting.items)) ≤ min (deque_capacity a.jobs) (vec_capacity a.waiting) = rw (← c.self.view_is) at c.requires in
     let fit = jobs_fit 1 (deque_capacity a.jobs) (vec_capacity a.waiting) a.slots.items a.waiting.items a.jobs.items c.self.invariant.2 room in
-    (omega arith, omega arith, c.register.ensures.kept c.self.invariant.2, omega arith, omega arith, omega arith)
+    (omega arith, omega arith, c.register.ensures.kept, omega arith, omega arith, omega arith)
