@@ -1,6 +1,7 @@
 #!/bin/sh
-# Copies a 256 MiB file by `./streams run`, by `cat` and, where node is there, through Node's own Web Streams, in one run.
-# Prints each one's best of three times, its rate, its peak memory, and how many times Node's rate `./streams run` has.
+# Copies a 256 MiB file by `./streams run`, by `dd` with blocks of the same 4,096 bytes, by `cat` and, where node is there, through
+# Node's own Web Streams, in one run. Prints each one's best of three times, its rate, its peak memory, and how many times Node's
+# rate `./streams run` has. Words: the file's MiB, and another `streams` to be measured beside this one.
 set -eu
 root=$(CDPATH='' cd -- "$(dirname -- "$0")/.." && pwd)
 work=$(mktemp -d)
@@ -31,9 +32,11 @@ measure() {
 
 echo "$(nproc) processors, $mebibytes MiB"
 measure streams "$program" run
+if [ $# -ge 2 ]; then measure other "$2" run; fi
+measure dd dd bs=4096 status=none
 measure cat cat
 if command -v node >/dev/null 2>&1; then
     measure node node "$root/bench/copy.mjs"
     echo "streams has $(echo "scale=2; $best_node / $best_streams" | bc) times node's rate"
 fi
-echo "cat has $(echo "scale=2; $best_streams / $best_cat" | bc) times streams' rate"
+echo "streams takes $(echo "scale=2; $best_streams / $best_dd" | bc) times dd's time, and $(echo "scale=2; $best_streams / $best_cat" | bc) times cat's"
