@@ -15,6 +15,11 @@ pub mod Ended
 pub mod Doomed
 pub mod Writing
 pub mod Succeeded
+pub mod Spent
+pub mod Unread
+pub mod UnreadRuns
+pub mod Origins
+pub mod Fulfilled
 pub mod WriteUses
 pub mod Wrote
 pub mod WroteRuns

@@ -1,4 +1,5 @@
--- Each write of a pipe without preventClose that ended without an error is fulfilled.
+-- Each write of a pipe without preventClose that ended without an error is fulfilled, where its destination was writable and not closing as it was
+-- made.
 use Rattle.std.proofs.Common.{◌≡◌, ℕ, zero, suc, ◌<◌, Bool, true, false, ◌||◌, get_or, All, nat_eq, List, [], ◌∷◌, ◌++◌, length, Option, Some, None, slice_get, refl, sym, ap, subst, ◌∙◌, arith, append_assoc, append-nil, if◌then◌else◌}
 use Rattle.std.proofs.lemmas.List.Elements.{All-nil, All-cons}
 use Rattle.ws_value.specs.declared.{ids.PipeId.{PipeId}, ids.PromiseId.{PromiseId}, ids.SignalId.{SignalId}, ids.StreamId.{StreamId}}
@@ -23,9 +24,9 @@ use Rattle.ws_laws.proofs.Walker.{GoesUntold, RestsUntold, run-holds}
 use Rattle.ws_writable_laws.proofs.Runs.{each_writable_is_lawful}
 use Rattle.ws_write_laws.proofs.Lined.{none_left}
 use Rattle.ws_write_laws.proofs.Runs.{each_write_is_settled}
-use Rattle.ws_pipe_laws.specs.PipeHistory.{effect_promises, operation_promises, effect_moment, step_moments, run_moments, promises_made}
+use Rattle.ws_pipe_laws.specs.PipeHistory.{effect_promises, operation_promises, effect_moment, step_moments, run_course, run_moments, promises_made}
 use Rattle.ws_wrote_laws.proofs.Keeping.{row-stands}
-use Rattle.ws_host_laws.specs.HostLaws.{MakesAPipe, next_pipe, with_pipe, EachWriteOfAFulfilledPipeSucceeded}
+use Rattle.ws_host_laws.specs.HostLaws.{MakesAPipe, next_pipe, with_pipe}
 use Rattle.ws_host_laws.proofs.Called.{lists-history}
 use Rattle.ws_host_laws.proofs.Closing.{is_closed_in, closed_in}
 use Rattle.ws_host_laws.proofs.Ended.{begun, not_made, fulfilled-closed, state_closed, made_after}
@@ -77,7 +78,7 @@ module _ (p : PipeId) where
   unmade-rests : RestsUntold Unmade
   unmade-rests = record { heard = λ h s k n. k n }
 
-  run-unmade : (entries : List Entry) → slice_get (run entries empty).pipes p.0 ≡ None → over [] ◌++◌ (λ s x. in_step [] ◌++◌ (effect_promises p) s x) entries empty ≡ []
+  pub run-unmade : (entries : List Entry) → slice_get (run entries empty).pipes p.0 ≡ None → over [] ◌++◌ (λ s x. in_step [] ◌++◌ (effect_promises p) s x) entries empty ≡ []
   run-unmade entries n = run-holds [] ◌++◌ lists-history (effect_promises p) Unmade unmade-goes unmade-rests entries empty (λ n. refl) n
 
 -- the history of both is that of each
@@ -105,7 +106,7 @@ module _ (p : PipeId) (i : StreamId) where
   made_append (m ∷ ms) ns =
       ap (λ (ds : List PromiseId). effect_promises p m.effect m.found ++ ds) (made_append ms ns) ∙ sym (append_assoc (effect_promises p m.effect m.found) (promises_made p ms) (promises_made p ns))
 
-  over_made : (xs : List Entry) (s : Slots) → over [] ◌++◌ (λ s x. in_step [] ◌++◌ (effect_promises p) s x) xs s ≡ promises_made p (run_moments xs s)
+  pub over_made : (xs : List Entry) (s : Slots) → over [] ◌++◌ (λ s x. in_step [] ◌++◌ (effect_promises p) s x) xs s ≡ promises_made p (run_moments xs s)
   over_made [] s = refl
   over_made (x ∷ xs) s =
       ap (λ (ds : List PromiseId). ds ++ over [] ◌++◌ (λ s x. in_step [] ◌++◌ (effect_promises p) s x) xs (step s x)) (along_made (moments_in s x))
@@ -182,8 +183,11 @@ module _ (before : List Entry) (source dest : StreamId) (prevent : Prevent) (sig
   settled-writing after closed (Passed a) = a
   settled-writing after closed (About v d ms rest f g a o) = absurd (cc)
 
-pub each_write_of_a_fulfilled_pipe_succeeded : EachWriteOfAFulfilledPipeSucceeded
-each_write_of_a_fulfilled_pipe_succeeded before after source dest prevent signal m e =
+-- such a pipe, where its destination was writable and not closing as it was made
+pub open-succeeded : (before after : List Entry) (source dest : StreamId) (prevent : Prevent) (signal : Option SignalId) → let entries : List Entry = with_pipe before source dest prevent signal after in
+    MakesAPipe before source dest prevent signal → (run_course (next_pipe before) entries empty).ended ≡ None ∷ []
+    → AllFulfilled (run entries empty).promises (promises_made (next_pipe before) (run_moments entries empty))
+open-succeeded before after source dest prevent signal m e =
     let entries : List Entry = with_pipe before source dest prevent signal after in
     let p : PipeId = next_pipe before in
     let s : Slots = run entries empty in

@@ -1,12 +1,14 @@
--- A pipe whose source closes: it closes its destination, which the host is called for, and the host settles that well.
-use Rattle.std.proofs.Common.{◌≡◌, [], ◌∷◌, List, refl, false, None}
+-- A pipe whose source closes: it closes its destination, which the host is called for, and the host settles that well; and one whose destination is
+-- closing before it.
+use Rattle.std.proofs.Common.{◌≡◌, [], ◌∷◌, List, refl, false, true, Some, None}
 use Rattle.ws_value.specs.declared.{ids.HostId.{HostId}, ids.PipeId.{PipeId}, ids.StreamId.{StreamId}}
-use Rattle.ws_steps.specs.declared.calls.Call.TheVariants.{MakeReadable, MakeWritable, Pipe, Finish}
+use Rattle.ws_value.specs.declared.value.{Outcome.TheVariants.{Fulfilled}, Plain.TheVariants.{Undefined}}
+use Rattle.ws_steps.specs.declared.calls.Call.TheVariants.{MakeReadable, MakeWritable, Pipe, Finish, Close as CloseStream}
 use Rattle.ws_steps.specs.declared.calls.HostCall.TheVariants.{Pull, Close}
 use Rattle.ws_steps.specs.declared.calls.StartBy.TheVariants.{Now}
 use Rattle.ws_steps.specs.declared.readable.SizeBy.TheVariants.{Count}
 use Rattle.ws_steps.specs.declared.writable.WritableState.TheVariants.{Closed}
-use Rattle.ws_steps.specs.Promises.{fresh, settle, answer, react, follow, unfollow, use_gift, queue_micro, after_next_job, watch}
+use Rattle.ws_steps.specs.Promises.{outcome_at, fresh, settle, answer, react, follow, unfollow, use_gift, queue_micro, after_next_job, watch}
 use Rattle.ws_steps.specs.Readable as readable
 use Rattle.ws_steps.specs.Writable as writable
 use Rattle.ws_steps.specs.Pipes as pipe
@@ -14,8 +16,8 @@ use Rattle.ws_steps.specs.Turns.{call_host, row, turns, performed, moments, mome
 use Rattle.ws_steps.specs.Jobs.{begin_job}
 use Rattle.ws_steps.specs.Calls.{begin}
 use Rattle.ws_steps.specs.Run.{Entry, Called, Worked, run}
-use Rattle.ws_steps.specs.Slots.{empty, writable_at}
-use Rattle.ws_pipe_laws.specs.PipeHistory.{run_course}
+use Rattle.ws_steps.specs.Slots.{empty, pipe_at, writable_at}
+use Rattle.ws_pipe_laws.specs.PipeHistory.{run_course, run_moments, promises_made}
 use Rattle.ws_host_laws.specs.HostCalls.{called, settles_well}
 
 abbrev s0 : StreamId
@@ -51,3 +53,29 @@ piped =
 works : (called piped ≡ Pull s0 ∷ Close s1 ∷ []) × (((run_course p0 piped empty).ended ≡ None ∷ []) × ((writable_at s1 (run piped empty)).state ≡ Closed))
 unfolding fresh settle answer react follow unfollow use_gift queue_micro after_next_job watch readable.call_pull_if_needed readable.accept readable.controller_enqueue readable.controller_close readable.close_if_empty readable.stream_close readable.after_take readable.pull_steps readable.default_reader_read readable.reader_generic_initialize readable.disturb readable.start_settled readable.pull_settled readable.stream_cancel readable.cancel_steps readable.cancel_if_readable readable.reader_release writable.ensure_rejected writable.settle_pending writable.update_backpressure writable.refresh_backpressure writable.reject_close_and_closed writable.finish_erroring writable.start_erroring writable.deal_with_rejection writable.controller_error_if_needed writable.process_write writable.process_close writable.advance_queue writable.hand_on writable.write_settled writable.finish_in_flight_close writable.finish_in_flight_close_with_error writable.close_settled writable.start_settled writable.abort_settled writable.controller_write writable.writer_write writable.controller_close writable.stream_close writable.close_with_error_propagation writable.stream_abort writable.abort_if_writable writable.set_up_writer writable.writer_release pipe.finalize pipe.act_by_signal pipe.act pipe.proceed pipe.shutdown pipe.look pipe.look_ready pipe.go_on pipe.keep_chunk pipe.read_ended pipe.write_chunk pipe.write_ended pipe.action_settled pipe.part_settled pipe.no_parts pipe.abort call_host row turns performed moments moments_of begin_job begin
 works = (refl, (refl, refl))
+
+-- A pipe whose source is closed and whose destination is closing as it is made: it fulfils, and has made no write
+
+abbrev closing : List Entry
+closing =
+    Called (MakeReadable 0 Count Now) ∷ Called (MakeWritable 1 Count Now) ∷ Called (Finish s0) ∷ Called (CloseStream s1) ∷ []
+
+abbrev closing_piped : List Entry
+closing_piped =
+    Called (MakeReadable 0 Count Now)
+    ∷ Called (MakeWritable 1 Count Now)
+    ∷ Called (Finish s0)
+    ∷ Called (CloseStream s1)
+    ∷ Called (Pipe s0 s1 (record { close = false; abort = false; cancel = false }) None)
+    ∷ Worked
+    ∷ Worked
+    ∷ Worked
+    ∷ Worked
+    ∷ Worked
+    ∷ Worked
+    ∷ []
+
+closing-works : (writable.is_closing (writable_at s1 (run closing empty)) ≡ true)
+    × ((outcome_at (run closing_piped empty).promises (pipe_at p0 (run closing_piped empty)).promise ≡ Some (Fulfilled Undefined)) × (promises_made p0 (run_moments closing_piped empty) ≡ []))
+unfolding fresh settle answer react follow unfollow use_gift queue_micro after_next_job watch readable.call_pull_if_needed readable.accept readable.controller_enqueue readable.controller_close readable.close_if_empty readable.stream_close readable.after_take readable.pull_steps readable.default_reader_read readable.reader_generic_initialize readable.disturb readable.start_settled readable.pull_settled readable.stream_cancel readable.cancel_steps readable.cancel_if_readable readable.reader_release writable.ensure_rejected writable.settle_pending writable.update_backpressure writable.refresh_backpressure writable.reject_close_and_closed writable.finish_erroring writable.start_erroring writable.deal_with_rejection writable.controller_error_if_needed writable.process_write writable.process_close writable.advance_queue writable.hand_on writable.write_settled writable.finish_in_flight_close writable.finish_in_flight_close_with_error writable.close_settled writable.start_settled writable.abort_settled writable.controller_write writable.writer_write writable.controller_close writable.stream_close writable.close_with_error_propagation writable.stream_abort writable.abort_if_writable writable.set_up_writer writable.writer_release pipe.finalize pipe.act_by_signal pipe.act pipe.proceed pipe.shutdown pipe.look pipe.look_ready pipe.go_on pipe.keep_chunk pipe.read_ended pipe.write_chunk pipe.write_ended pipe.action_settled pipe.part_settled pipe.no_parts pipe.abort call_host row turns performed moments moments_of begin_job begin
+closing-works = (refl, (refl, refl))

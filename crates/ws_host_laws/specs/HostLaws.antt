@@ -1,14 +1,18 @@
 -- Laws of what the host is called for and settles well.
-use Rattle.std.specs.Prelude.{ℕ, ◌≡◌, ◌<◌, false, true, is_some, List, [], ◌∷◌, ◌++◌, length, Option, None, slice_get}
+use Rattle.std.specs.Prelude.{ℕ, ◌≡◌, ◌<◌, false, true, is_some, List, [], ◌∷◌, ◌++◌, length, Option, Some, None, slice_get}
 use Rattle.ws_value.specs.declared.ids.PipeId.{PipeId}
 use Rattle.ws_value.specs.declared.ids.SignalId.{SignalId}
 use Rattle.ws_value.specs.declared.ids.StreamId.{StreamId}
+use Rattle.ws_value.specs.declared.value.Outcome.TheVariants.{Fulfilled}
+use Rattle.ws_value.specs.declared.value.Plain.{Plain}
 use Rattle.ws_steps.specs.declared.calls.Call.TheVariants.{Pipe}
 use Rattle.ws_steps.specs.declared.calls.HostCall.{HostCall}
 use Rattle.ws_steps.specs.declared.calls.HostCall.TheVariants.{Close}
 use Rattle.ws_steps.specs.declared.writable.WritableState.TheVariants.{Closed}
 use Rattle.ws_steps.specs.declared.pipes.Prevent.{Prevent}
 use Rattle.ws_steps.specs.Calls.{begin}
+use Rattle.ws_steps.specs.Pipes as pipe
+use Rattle.ws_steps.specs.Promises.{outcome_at}
 use Rattle.ws_steps.specs.Slots.{empty, has_writable, writable_at}
 use Rattle.ws_steps.specs.Run.{Entry, Called, run}
 use Rattle.ws_steps.specs.Histories.{run_events}
@@ -69,10 +73,10 @@ EachFulfilledPipeClosedItsDestination =
     → let entries : List Entry = with_pipe before source dest prevent signal after in
     MakesAPipe before source dest prevent signal → (run_course (next_pipe before) entries empty).ended ≡ None ∷ [] → IsClosedWell entries dest
 
--- in every run, of such a pipe: the promise of each write that it made is fulfilled with undefined
+-- in every run, of a pipe without preventClose whose promise is fulfilled, whatever its destination was: the promise of each write that it made is
+-- fulfilled with undefined
 abbrev pub EachWriteOfAFulfilledPipeSucceeded : Type 0
 EachWriteOfAFulfilledPipeSucceeded =
-    (before after : List Entry) (source dest : StreamId) (prevent : Prevent) (signal : Option SignalId)
-    → let entries : List Entry = with_pipe before source dest prevent signal after in
-    MakesAPipe before source dest prevent signal → (run_course (next_pipe before) entries empty).ended ≡ None ∷ []
-    → AllFulfilled (run entries empty).promises (promises_made (next_pipe before) (run_moments entries empty))
+    (entries : List Entry) (p : PipeId) (x : pipe.Slots) (v : Plain) → slice_get (run entries empty).pipes p.0 ≡ Some x
+    → outcome_at (run entries empty).promises x.promise ≡ Some (Fulfilled v) → x.prevent.close ≡ false
+    → AllFulfilled (run entries empty).promises (promises_made p (run_moments entries empty))

@@ -18,7 +18,7 @@ pub fn each_fulfilled_pipe_closed_its_destination()
     ensures { EachFulfilledPipeClosedItsDestination }
 {}
 
-/// In every run, of such a pipe: the promise of each write that it made is fulfilled with undefined.
+/// In every run, of a pipe without `preventClose` whose promise is fulfilled, whatever its destination was when it began: the promise of each write that it made is fulfilled with undefined.
 pub fn each_write_of_a_fulfilled_pipe_succeeded()
     ensures { EachWriteOfAFulfilledPipeSucceeded }
 {}
