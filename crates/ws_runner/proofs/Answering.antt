@@ -40,7 +40,7 @@ use Rattle.ws_runner.specs.Node.{sink, behind_in, in_bytes, ended_by, lying_by, 
 use Rattle.ws_runner.specs.Past.{past_of, IsCause, IsPull, OneAtMost, Led, HasOne, Since, Driven}
 use Rattle.ws_runner.specs.Went.{OutputGoes, InputGoes, LeftAlone, WentFrom}
 use Rattle.ws_runner.proofs.Bytes.{in_bytes-then, in_bytes-short, ended-both, ended-then}
-use Rattle.ws_runner.proofs.Going.{went-rests}
+use Rattle.ws_runner.proofs.Going.{KeepsEnd-same, went-rests}
 use Rattle.ws_runner.proofs.Since.{one-short, MayAsk, After, since-asks}
 
 -- a node that was led on, and how it went there
@@ -61,7 +61,7 @@ pub record SameCounts (a b : Node) : Type 0 where
 pub asks-same : (c : Call) (a b : Node) → Asks c a b → SameCounts a b
 asks-same c a b (Performed realm slots goes is) =
     rw is (record { taken = refl; unwritten = refl; input = refl; output = refl; most = refl; pipe = refl })
-asks-same c a b (Refused why is) = rw is (record { taken = refl; unwritten = refl; input = refl; output = refl; most = refl; pipe = refl })
+asks-same c a b (Refused why stops is) = rw is (record { taken = refl; unwritten = refl; input = refl; output = refl; most = refl; pipe = refl })
 
 -- the settling of a host's call
 
@@ -174,6 +174,7 @@ led-written xs n k less s =
         piece = omega arith;
         failed = λ f. let none = s.counts.failed f in omega arith;
       };
+      spent = s.spent;
     }
 
 cause-stays : (i : Input) (o o' : Output) (r : Plain) → (o ≢ output.Open → o' ≡ o) → IsCause i o r → IsCause i o' r
@@ -197,6 +198,7 @@ led-output xs n o f s =
       closes = λ before after id e c. let g = s.closes before after id e c in f (λ h. cc) ∙ g;
       asked = s.asked;
       counts = s.counts;
+      spent = s.spent;
     }
 
 pub shut-stays : (o : Output) → o ≢ output.Open → shut o ≡ o
@@ -216,7 +218,7 @@ left-alone output.Failed m gain old new h k = (refl, k)
 
 pub pull-asked : (xs : List Entry) (n : Node) (id : HostId) → IsPull (past_of xs) (Some id) → Led xs n → Led xs (record n { asked = Some id })
 pull-asked xs n id pull s =
-    record { slots = s.slots; answered = s.answered; left = s.left; link = s.link; failed = s.failed; closes = s.closes; asked = pull; counts = s.counts }
+    record { slots = s.slots; answered = s.answered; left = s.left; link = s.link; failed = s.failed; closes = s.closes; asked = pull; counts = s.counts; spent = s.spent }
 
 -- a node that does nothing more
 pub rested : (xs : List Entry) (n : Node) → Led xs n → HasOne n → n.stopped ≡ None → After (in_bytes (behind_in n.realm.slots)) xs n
@@ -244,10 +246,10 @@ then_nothing lay x h = short_as x lay (then_told lay nothing_yet) (sym (then_emp
 
 -- an input that isn't touched
 pub input-calm : (i : Input) (rf : ℕ) (feed : Option Feed) (old new : Shown) → InputGoes i i nothing_yet (shows rf feed old) (shows rf feed new)
-input-calm input.Open rf feed old new = (refl, refl)
+input-calm input.Open rf feed old new = (refl, refl, KeepsEnd-same feed)
 input-calm input.Ended rf feed old new = (refl, refl, refl, refl)
-input-calm input.Failed rf feed old new = (refl, refl, refl)
-input-calm input.TooLong rf feed old new = (refl, refl, refl)
+input-calm input.Failed rf feed old new = (refl, refl, refl, refl)
+input-calm input.TooLong rf feed old new = (refl, refl, refl, refl)
 
 -- an output that was open
 

@@ -14,20 +14,21 @@ use Rattle.ws_steps.specs.declared.calls.Call.{Call}
 use Rattle.ws_steps.specs.declared.calls.Call.TheVariants.{Enqueue, Finish, Fail}
 use Rattle.ws_steps.specs.Run.{run, after_call, after_job, jobs_in_a_row}
 use Rattle.ws_steps.specs.Slots.{Slots}
-use Rattle.ws_realm.specs.Seen.{SeenRealm}
+use Rattle.ws_realm.specs.Seen.{SeenRealm, oldest}
 use Rattle.ws_realm.specs.declared.realm.Why.{Why}
+use Rattle.ws_realm.specs.declared.realm.Why.TheVariants.{NoMemory, Spent}
 use Rattle.ws_runner.specs.declared.node.Node.{Node}
 use Rattle.ws_runner.specs.declared.node.Input.{Input}
 use Rattle.ws_runner.specs.declared.node.Input.TheVariants.{Open as InputOpen, Ended, Failed as InputFailed, TooLong}
 use Rattle.ws_runner.specs.declared.node.Output.{Output}
 use Rattle.ws_runner.specs.declared.node.Output.TheVariants.{Open, Finished, Failed}
-use Rattle.ws_runner.specs.Moves.{Asks, Performed, Refused, Works, with_realm, Shown, Untouched, Settles, writes_by, takes_bytes, takes_chunk, is_readable, is_writable}
+use Rattle.ws_runner.specs.Moves.{Asks, Performed, Refused, Before, Wanting, IsSpent, Stops, Works, with_realm, Shown, Untouched, Settles, writes_by, takes_bytes, takes_chunk, is_readable, is_writable}
 use Rattle.ws_runner.specs.Node.{source}
 
 -- a realm that has stopped is asked nothing
 asks-stopped_by : (c : Call) (a : Node) (why : Option Why) → a.stopped ≡ why → is_some why ≡ true → Asks c a a
 asks-stopped_by c a None e some = absurd (cc)
-asks-stopped_by c a (Some why) e some = Refused why (ap (λ q. record a { stopped = q }) e)
+asks-stopped_by c a (Some why) e some = Refused why (Before e) (ap (λ q. record a { stopped = q }) e)
 
 pub asks-stopped : (c : Call) (a : Node) → is_some a.stopped ≡ true → Asks c a a
 asks-stopped c a some = asks-stopped_by c a a.stopped refl some
@@ -40,8 +41,13 @@ pub asks-performed : (c : Call) (a : Node) (realm : SeenRealm) → is_some a.sto
 asks-performed c a realm none slots = Performed realm slots (is_none_so a.stopped none) refl
 
 -- a realm that refuses a call is as it was
-pub asks-refused : (c : Call) (a : Node) (realm : SeenRealm) (why : Why) → realm ≡ a.realm → Asks c a (record a { realm = realm; stopped = Some why })
-asks-refused c a realm why same = Refused why (ap (λ q. record a { realm = q; stopped = Some why }) same)
+stops : (a : Node) (why : Why) → (why ≡ Spent → a.realm.slots.age ≡ oldest) → Stops why a
+stops a NoMemory spent = Wanting refl
+stops a Spent spent = IsSpent (spent refl)
+
+pub asks-refused : (c : Call) (a : Node) (realm : SeenRealm) (why : Why) → realm ≡ a.realm → (why ≡ Spent → a.realm.slots.age ≡ oldest)
+    → Asks c a (record a { realm = realm; stopped = Some why })
+asks-refused c a realm why same spent = Refused why (stops a why spent) (ap (λ q. record a { realm = q; stopped = Some why }) same)
 
 -- what a test tells
 
@@ -84,7 +90,7 @@ settles-plain id v false a b old new p q h = h
 -- no jobs, or one more, or a realm that stops
 
 pub works-none : (a : Node) → Works a a
-works-none a = record { jobs = 0; realm = a.realm; stopped = a.stopped; slots = refl; is = refl; stays = λ why e. refl }
+works-none a = record { jobs = 0; realm = a.realm; stopped = a.stopped; slots = refl; is = refl; stays = λ why e. refl; spent = λ n e. absurd (cc) }
 
 run-more : (n : ℕ) (s : Slots) → run (jobs_in_a_row (suc n)) s ≡ after_job (run (jobs_in_a_row n) s)
 run-more zero s = refl
@@ -92,6 +98,9 @@ run-more (suc n) s = run-more n (after_job s)
 
 stopped-same : (why : Why) (a b : Node) (w : Option Why) → Works a b → b.stopped ≡ None → a.stopped ≡ Some why → w ≡ w → ⊥
 stopped-same why a b w works none e f = let same = works.stays why e in cc
+
+not_spent : (a b : Node) (w : Works a b) → b.stopped ≡ None → w.stopped ≡ Some Spent → ⊥
+not_spent a b w none e = let is : b.stopped ≡ w.stopped = ap (λ (n : Node). n.stopped) w.is in cc
 
 pub works-more : (a b : Node) (realm : SeenRealm) → Works a b → is_some b.stopped ≡ false → realm.slots ≡ after_job b.realm.slots → Works a (with_realm realm b)
 works-more a b realm w none slots =
@@ -103,10 +112,12 @@ works-more a b realm w none slots =
       slots = slots ∙ (ap (λ (q : Node). after_job q.realm.slots) is ∙ (ap after_job w.slots ∙ sym (run-more w.jobs a.realm.slots)));
       is = ap (with_realm realm) is;
       stays = λ why e. absurd (stopped-same why a b None w (is_none_so b.stopped none) e refl);
+      spent = λ n e. absurd (not_spent a b w (is_none_so b.stopped none) e);
     }
 
-pub works-stops : (a b : Node) (realm : SeenRealm) (why : Why) → Works a b → is_some b.stopped ≡ false → realm ≡ b.realm → Works a (record b { realm = realm; stopped = Some why })
-works-stops a b realm why w none same =
+pub works-stops : (a b : Node) (realm : SeenRealm) (why : Why) → Works a b → is_some b.stopped ≡ false → realm ≡ b.realm → (why ≡ Spent → b.realm.slots.age ≡ oldest)
+    → Works a (record b { realm = realm; stopped = Some why })
+works-stops a b realm why w none same spent =
     let is = w.is in
     record {
       jobs = w.jobs;
@@ -115,6 +126,7 @@ works-stops a b realm why w none same =
       slots = ap (λ (q : SeenRealm). q.slots) same ∙ (ap (λ (q : Node). q.realm.slots) is ∙ w.slots);
       is = ap (λ (q : Node). record q { realm = realm; stopped = Some why }) is;
       stays = λ why e. absurd (stopped-same why a b None w (is_none_so b.stopped none) e refl);
+      spent = λ n e. ap (λ (q : SeenRealm). q.slots.age) same ∙ spent (cc);
     }
 
 pub works-idle : (a b : Node) (realm : SeenRealm) → Works a b → is_some b.stopped ≡ false → realm.slots ≡ b.realm.slots → Works a (with_realm realm b)
@@ -127,6 +139,7 @@ works-idle a b realm w none same =
       slots = same ∙ (ap (λ (q : Node). q.realm.slots) is ∙ w.slots);
       is = ap (with_realm realm) is;
       stays = λ why e. absurd (stopped-same why a b None w (is_none_so b.stopped none) e refl);
+      spent = λ n e. absurd (not_spent a b w (is_none_so b.stopped none) e);
     }
 
 pub may_read : (i : Input) (t : Bool) → t ≡ is_readable i → t ≡ true → i ≡ InputOpen

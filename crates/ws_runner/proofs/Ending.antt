@@ -140,16 +140,30 @@ pending-unsettled n o e f = rw (e, f) refl
 
 pub ends-not : (n : Node) (o : Outcome) → Driven n → outcome_of_pipe n ≡ Some o → o ≡ Pending → (n.stopped ≡ Some why.NoMemory → ⊥) → EndsAs None n
 ends-not n o d e f going =
-    record { none = ((λ h. (pending-unsettled n o e f, going)), (λ h. refl)); by = tt; counts = d.since.led.counts }
+    record {
+      none = ((λ h. (pending-unsettled n o e f, going)), (λ h. refl));
+      fulfilled = λ v g. absurd (cc);
+      rejected = λ r g. absurd (cc);
+      wanting = λ g w. absurd (going w);
+      by = tt;
+      counts = d.since.led.counts;
+    }
 
 by-wanting : (n : Node) (o : Output) → n.output ≡ o → EndsBy (unless_finished o NoMemory) n
 by-wanting n output.Open e = λ f. cc
 by-wanting n output.Finished e = e
 by-wanting n output.Failed e = λ f. cc
 
-pub ends-wanting : (n : Node) → Driven n → n.stopped ≡ Some why.NoMemory → EndsAs (Some (unless_finished n.output NoMemory)) n
-ends-wanting n d wanting =
-    record { none = ((λ h. absurd (cc)), (λ h. absurd (h.1 wanting))); by = by-wanting n n.output refl; counts = d.since.led.counts }
+pub ends-wanting : (n : Node) (o : Outcome) → Driven n → outcome_of_pipe n ≡ Some o → o ≡ Pending → n.stopped ≡ Some why.NoMemory → EndsAs (Some (unless_finished n.output NoMemory)) n
+ends-wanting n o d e f wanting =
+    record {
+      none = ((λ h. absurd (cc)), (λ h. absurd (h.1 wanting)));
+      fulfilled = λ v g. absurd (cc);
+      rejected = λ r g. absurd (cc);
+      wanting = λ g w. refl;
+      by = by-wanting n n.output refl;
+      counts = d.since.led.counts;
+    }
 
 finished-so : (n : Node) (o : Outcome) (v : Plain) → o ≡ Fulfilled v → Answered n o → n.output ≡ output.Finished
 finished-so n o v e (StillPending f) = absurd (cc)
@@ -163,6 +177,9 @@ pub ends-well : (n : Node) (o : Outcome) (v : Plain) → Driven n → outcome_of
 ends-well n o v d e f =
     record {
       none = ((λ h. absurd (cc)), (λ h. absurd (settled-so n o e true (rw f refl) h.0)));
+      fulfilled = λ w g. refl;
+      rejected = λ r g. absurd (cc);
+      wanting = λ g w. absurd (cc);
       by = finished-so n o v f (answered n o d e);
       counts = d.since.led.counts;
     }
@@ -204,6 +221,9 @@ ends-badly n o r status d e f is =
     rw is
     (record {
       none = ((λ h. absurd (cc)), (λ h. absurd (settled-so n o e true (rw f refl) h.0)));
+      fulfilled = λ v g. absurd (cc);
+      rejected = λ q g. let same : r ≡ q = cc in subst (λ (x : Plain). IsNamed x × (Some (unless_finished n.output (status_of r)) ≡ Some (unless_finished n.output (status_of x)))) same (rejected-named n o r d e f, refl);
+      wanting = λ g w. absurd (cc);
       by = by-rejected n r n.output refl (rejected-so n o r f (answered n o d e));
       counts = d.since.led.counts;
     })

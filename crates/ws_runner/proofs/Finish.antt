@@ -58,15 +58,15 @@ closed_bytes gain Lost y e h = absurd (cc)
 input-ended : (i o : Input) (read : Told (List ℕ)) (m₀ m₁ : Moment) → i ≡ input.Open → read.mark ≡ Closed → InputGoes i o read m₀ m₁
     → (m₁.read_faults ≡ m₀.read_faults) × (IsEnded m₁.feed) × (IsEmpty m₁.feed) × (o ≡ input.Ended)
 input-ended input.Open input.Ended read m₀ m₁ e f (g, h, k, l) = (h, k, l, refl)
-input-ended input.Open input.Open read m₀ m₁ e f (g, h) = absurd (cc)
-input-ended input.Open input.Failed read m₀ m₁ e f (g, h) = absurd (cc)
-input-ended input.Open input.TooLong read m₀ m₁ e f (g, h) = absurd (cc)
+input-ended input.Open input.Open read m₀ m₁ e f (g, h, k) = absurd (cc)
+input-ended input.Open input.Failed read m₀ m₁ e f (g, h, k) = absurd (cc)
+input-ended input.Open input.TooLong read m₀ m₁ e f (g, h, k) = absurd (cc)
 input-ended input.Ended o read m₀ m₁ e f h = absurd (cc)
 input-ended input.Failed o read m₀ m₁ e f h = absurd (cc)
 input-ended input.TooLong o read m₀ m₁ e f h = absurd (cc)
 
 input-failed : (i o : Input) (read : Told (List ℕ)) (m₀ m₁ : Moment) → i ≡ input.Open → o ≡ input.Failed → InputGoes i o read m₀ m₁ → Rose m₀.read_faults m₁.read_faults
-input-failed input.Open input.Failed read m₀ m₁ e f (g, h) = h
+input-failed input.Open input.Failed read m₀ m₁ e f (g, h, k) = h
 input-failed input.Open input.Open read m₀ m₁ e f h = absurd (cc)
 input-failed input.Open input.Ended read m₀ m₁ e f h = absurd (cc)
 input-failed input.Open input.TooLong read m₀ m₁ e f h = absurd (cc)

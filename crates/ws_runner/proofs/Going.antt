@@ -1,12 +1,12 @@
 -- A node that goes on, and goes on again, goes on.
-use Rattle.std.proofs.Common.{◌≡◌, ◌≢◌, ◌+◌, ℕ, List, [], ◌++◌, length, refl, sym, ap, ◌∙◌, subst, append-nil, length-append, arith}
+use Rattle.std.proofs.Common.{◌≡◌, ◌≢◌, ◌+◌, ℕ, List, [], ◌++◌, Option, Some, None, length, refl, sym, ap, ◌∙◌, subst, append-nil, length-append, arith}
 use Rattle.std.specs.List.{concat}
 use Rattle.ws_flow.proofs.Cutting.{joined_append, bytes_then}
 use Rattle.ws_flow.proofs.Told.{then_assoc, then_empty, short_refl, short_trans, short_same, short_as, short_left, short_right}
 use Rattle.ws_flow.specs.Plans.{bytes_of}
 use Rattle.ws_flow.specs.Told.{Mark, Open as MayCome, Closed, Lost, Told, told, then_told, IsShortOf}
 use Rattle.ws_io.proofs.Flow.{Gains-nothing, Gains-then, Fed-nothing, Fed-then, KeepsTold-same, KeepsTold-then, Becomes-then}
-use Rattle.ws_io.specs.Feed.{IsEmpty, IsEnded}
+use Rattle.ws_io.specs.Feed.{Feed, IsEmpty, IsEnded, KeepsEnd}
 use Rattle.ws_io.specs.Gain.{Gains, KeepsTold, Becomes}
 use Rattle.ws_io.specs.Moment.{Moment}
 use Rattle.ws_runner.specs.declared.node.Input.{Input}
@@ -19,11 +19,23 @@ use Rattle.ws_runner.specs.Went.{InputGoes, LeftAlone, OutputGoes, WentFrom, Wen
 
 -- nothing is read
 
+pub KeepsEnd-same : (f : Option Feed) → KeepsEnd f f
+KeepsEnd-same None = tt
+KeepsEnd-same (Some f) = refl
+
+KeepsEnd-then : (f g h : Option Feed) → KeepsEnd f g → KeepsEnd g h → KeepsEnd f h
+KeepsEnd-then None None None p q = tt
+KeepsEnd-then None None (Some h) p q = absurd q
+KeepsEnd-then None (Some g) h p q = absurd p
+KeepsEnd-then (Some f) None h p q = absurd p
+KeepsEnd-then (Some f) (Some g) None p q = absurd q
+KeepsEnd-then (Some f) (Some g) (Some h) p q = q ∙ p
+
 pub input-same : (a : Input) (m : Moment) → InputGoes a a nothing_yet m m
-input-same input.Open m = (refl, refl)
+input-same input.Open m = (refl, refl, KeepsEnd-same m.feed)
 input-same input.Ended m = (refl, refl, refl, refl)
-input-same input.Failed m = (refl, refl, refl)
-input-same input.TooLong m = (refl, refl, refl)
+input-same input.Failed m = (refl, refl, refl, refl)
+input-same input.TooLong m = (refl, refl, refl, refl)
 
 pub output-same : (a : Output) (m : Moment) → OutputGoes a a [] MayCome m m
 output-same output.Open m = (refl, refl, KeepsTold-same m.finished)
@@ -74,18 +86,23 @@ nothing_then : (x y : Told (List ℕ)) → x ≡ nothing_yet → y ≡ nothing_y
 nothing_then x y m n = grind arith
 
 input-then : (a b c : Input) (x y : Told (List ℕ)) (m₀ m₁ m₂ : Moment) → InputGoes a b x m₀ m₁ → InputGoes b c y m₁ m₂ → ReadsThen a c x y m₀ m₂
-input-then input.Open input.Open input.Open x y m₀ m₁ m₂ (e, f) (g, h) = let t = open_then x y e in record { goes = (t.0 ∙ g, h ∙ f); joined = t.1 }
-input-then input.Open input.Open input.Ended x y m₀ m₁ m₂ (e, f) (g, h, i, j) = let t = open_then x y e in record { goes = (t.0 ∙ g, h ∙ f, i, j); joined = t.1 }
-input-then input.Open input.Open input.Failed x y m₀ m₁ m₂ (e, f) (g, h) = let t = open_then x y e in record { goes = (t.0 ∙ g, rw (← f) h); joined = t.1 }
-input-then input.Open input.Open input.TooLong x y m₀ m₁ m₂ (e, f) (g, h) = let t = open_then x y e in record { goes = (t.0 ∙ g, h ∙ f); joined = t.1 }
+input-then input.Open input.Open input.Open x y m₀ m₁ m₂ (e, f, k) (g, h, l) =
+    let t = open_then x y e in record { goes = (t.0 ∙ g, h ∙ f, KeepsEnd-then m₀.feed m₁.feed m₂.feed k l); joined = t.1 }
+input-then input.Open input.Open input.Ended x y m₀ m₁ m₂ (e, f, k) (g, h, i, j) = let t = open_then x y e in record { goes = (t.0 ∙ g, h ∙ f, i, j); joined = t.1 }
+input-then input.Open input.Open input.Failed x y m₀ m₁ m₂ (e, f, k) (g, h, l) =
+    let t = open_then x y e in record { goes = (t.0 ∙ g, rw (← f) h, KeepsEnd-then m₀.feed m₁.feed m₂.feed k l); joined = t.1 }
+input-then input.Open input.Open input.TooLong x y m₀ m₁ m₂ (e, f, k) (g, h, l) =
+    let t = open_then x y e in record { goes = (t.0 ∙ g, h ∙ f, KeepsEnd-then m₀.feed m₁.feed m₂.feed k l); joined = t.1 }
 input-then input.Open input.Ended c x y m₀ m₁ m₂ (e, f, g, h) (i, j, k, l) =
     let t = closed_then x y e j in
     rw i (record { goes = (ap (λ q. q.mark) t.0 ∙ e, l ∙ f, subst (λ q. IsEnded q) (sym k) g, subst (λ q. IsEmpty q) (sym k) h); joined = t.1 })
-input-then input.Open input.Failed c x y m₀ m₁ m₂ (e, f) (i, j, l) = let t = lost_then x y e j in rw i (record { goes = (ap (λ q. q.mark) t.0 ∙ e, rw l f); joined = t.1 })
-input-then input.Open input.TooLong c x y m₀ m₁ m₂ (e, f) (i, j, l) = let t = lost_then x y e j in rw i (record { goes = (ap (λ q. q.mark) t.0 ∙ e, l ∙ f); joined = t.1 })
+input-then input.Open input.Failed c x y m₀ m₁ m₂ (e, f, h) (i, j, k, l) =
+    let t = lost_then x y e j in rw i (record { goes = (ap (λ q. q.mark) t.0 ∙ e, rw l f, subst (λ q. KeepsEnd m₀.feed q) (sym k) h); joined = t.1 })
+input-then input.Open input.TooLong c x y m₀ m₁ m₂ (e, f, h) (i, j, k, l) =
+    let t = lost_then x y e j in rw i (record { goes = (ap (λ q. q.mark) t.0 ∙ e, l ∙ f, subst (λ q. KeepsEnd m₀.feed q) (sym k) h); joined = t.1 })
 input-then input.Ended input.Ended c x y m₀ m₁ m₂ (e, f, g, h) (i, j, k, l) = let t = nothing_then x y f j in record { goes = (i, t.0, k ∙ g, l ∙ h); joined = t.1 }
-input-then input.Failed input.Failed c x y m₀ m₁ m₂ (e, f, h) (i, j, l) = let t = nothing_then x y f j in record { goes = (i, t.0, l ∙ h); joined = t.1 }
-input-then input.TooLong input.TooLong c x y m₀ m₁ m₂ (e, f, h) (i, j, l) = let t = nothing_then x y f j in record { goes = (i, t.0, l ∙ h); joined = t.1 }
+input-then input.Failed input.Failed c x y m₀ m₁ m₂ (e, f, g, h) (i, j, k, l) = let t = nothing_then x y f j in record { goes = (i, t.0, k ∙ g, l ∙ h); joined = t.1 }
+input-then input.TooLong input.TooLong c x y m₀ m₁ m₂ (e, f, g, h) (i, j, k, l) = let t = nothing_then x y f j in record { goes = (i, t.0, k ∙ g, l ∙ h); joined = t.1 }
 input-then input.Ended input.Open c x y m₀ m₁ m₂ first second = let e = first.0 in absurd (cc)
 input-then input.Ended input.Failed c x y m₀ m₁ m₂ first second = let e = first.0 in absurd (cc)
 input-then input.Ended input.TooLong c x y m₀ m₁ m₂ first second = let e = first.0 in absurd (cc)

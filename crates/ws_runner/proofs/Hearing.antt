@@ -184,7 +184,7 @@ pub hears : (rf : ℕ) (feed : Option Feed) (p q : List ℕ → Type 0) (xs : Li
     → a.stopped ≡ None → first_event a.realm.slots.promises.events ≡ Some e → realm.slots ≡ after_event a.realm.slots → Hears e (with_realm realm a) b old new p q
     → Handled (lying a) a b (shows rf feed old) (shows rf feed new) p q
 hears rf feed p q xs a realm e b old new since goes first slots h =
-    let s = since-hears xs a realm e since.led first slots in
+    let s = since-hears xs a realm e since.led goes first slots in
     heard_event rf feed p q (xs ++ Heard ∷ []) a realm goes s.0 since.one b old new e s.2 s.1 h
 
 -- a node whose host has heard of everything

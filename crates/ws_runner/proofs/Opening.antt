@@ -81,6 +81,7 @@ fresh-driven limit n small f =
           closes = nothing-closed n.output;
           asked = rw f.asked tt;
           counts = record { limited = omega arith; bound = omega arith; within = λ e. omega arith; beyond = λ e. absurd (cc); piece = omega arith; failed = λ e. absurd (cc) };
+          spent = λ e. let f₁ = f.stopped in absurd (cc);
         };
         one = λ o. subst (λ (s : Slots). OneAtMost n.unwritten (behind_in s).items) (sym f.slots) (subst (λ (x : Told _). OneAtMost n.unwritten x.items) (sym nothing-behind) tt);
       };

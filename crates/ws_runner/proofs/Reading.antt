@@ -14,7 +14,7 @@ use Rattle.ws_value.specs.declared.value.Value.TheVariants.{Bytes, Plain as Plai
 use Rattle.ws_flow.specs.Told.{Mark, Open as MayCome, Closed, Lost, Told, told, goes_on, then_told, IsShortOf}
 use Rattle.ws_flow.proofs.Told.{short_trans, short_same, short_as, short_left, then_empty}
 use Rattle.ws_io.specs.Faults.{Rose}
-use Rattle.ws_io.specs.Feed.{Feed, Fed}
+use Rattle.ws_io.specs.Feed.{Feed, Fed, KeepsEnd}
 use Rattle.ws_io.specs.Moment.{Moment, moment}
 use Rattle.ws_io.specs.declared.outside.Failed.{Failed}
 use Rattle.ws_io.proofs.Flow.{Gains-nothing, IsEmpty-kept, KeepsTold-same}
@@ -71,6 +71,7 @@ led-input xs n taken unwritten i open_before counts s =
       closes = s.closes;
       asked = tt;
       counts = counts;
+      spent = s.spent;
     }
 
 -- where all that was read is written, nothing is behind the host while the output is open
@@ -109,7 +110,7 @@ through mid b id x (Performed realm slots goes is) first second same =
     let y : Told (List ℕ) = ended_by mid.input (in_bytes (behind_in mid.realm.slots)) in
     short_trans _ _ _ (subst (λ (i : Input). IsShortOf (lying b) (ended_by i (in_bytes (behind_in mid.realm.slots)))) same second)
     (subst (λ (w : Option Why). IsShortOf (lying_by w y) (ended_by mid.input x)) goes first)
-through mid b id x (Refused why is) first second same = rw is ((ended_by mid.input x).items, refl)
+through mid b id x (Refused why stops is) first second same = rw is ((ended_by mid.input x).items, refl)
 
 -- the call that hands on what was read, and then the settling of the pull
 
@@ -221,9 +222,9 @@ module _ (wf : ℕ) (finished : Option Bool) (p : List ℕ → Type 0) (xs : Lis
         }
 
     -- a failed read
-    failed : (c : Node) → Fed old new [] → Rose before now → Asks (Fail source (FaultReason ReadFault)) (answering a.taken a.unwritten input.Failed a) c → Asks (settles id) c b
+    failed : (c : Node) → Fed old new [] → KeepsEnd old new → Rose before now → Asks (Fail source (FaultReason ReadFault)) (answering a.taken a.unwritten input.Failed a) c → Asks (settles id) c b
         → Handled (lying a) a b m₀ m₁ p p
-    failed c fed rose asks settles_it =
+    failed c fed kept rose asks settles_it =
         let counts = s.led.counts in
         let limited = counts.limited in
         let bound = counts.bound in
@@ -240,7 +241,7 @@ module _ (wf : ℕ) (finished : Option Bool) (p : List ℕ → Type 0) (xs : Lis
           driven = done.0;
           went = read-went a b (told [] Lost) m₀ m₁ p fed
               (short_as _ _ _ (ap (λ q. then_told q (told [] Lost)) (then_empty (in_bytes (behind_in a.realm.slots)) ∙ sym lies)) done.1)
-              (omega arith) (omega arith) (rw (was_open, same.input) (refl, rose)) same.output same.most same.pipe (output-calm a.output wf finished before now old new);
+              (omega arith) (omega arith) (rw (was_open, same.input) (refl, rose, kept)) same.output same.most same.pipe (output-calm a.output wf finished before now old new);
         }
 
     -- bytes
@@ -278,7 +279,7 @@ module _ (wf : ℕ) (finished : Option Bool) (p : List ℕ → Type 0) (xs : Lis
                 (short_trans _ _ _ done.1
                 (short_same _ _ _ (ap (λ q. then_told q (told [] Lost)) (then_empty (in_bytes (behind_in a.realm.slots)) ∙ sym lies))
                 (short_left (lying a) (told [] Lost) (told ((x ∷ rest) ∷ []) Lost) ((x ∷ rest) ∷ [], refl))))
-                (omega arith) (omega arith) (rw (was_open, same.input) (refl, piece.calm)) same.output same.most same.pipe (output-calm a.output wf finished before now old new);
+                (omega arith) (omega arith) (rw (was_open, same.input) (refl, piece.calm, piece.before_end (omega arith))) same.output same.most same.pipe (output-calm a.output wf finished before now old new);
           }
 
       some : (c : Node) → a.taken + length (x ∷ rest) ≤ a.most → Asks (Enqueue source (Bytes (x ∷ rest))) (answering (a.taken + length (x ∷ rest)) (length (x ∷ rest)) a.input a) c
@@ -300,7 +301,7 @@ module _ (wf : ℕ) (finished : Option Bool) (p : List ℕ → Type 0) (xs : Lis
             driven = done.0;
             went = read-went a b (told ((x ∷ rest) ∷ []) MayCome) m₀ m₁ p fed
                 (short_as _ _ _ (ap (λ (i : Input). ended_by i lay) was_open ∙ (then_empty lay ∙ ap (λ q. then_told q (told ((x ∷ rest) ∷ []) MayCome)) (sym lies))) done.1)
-                (omega arith) (omega arith) (rw (was_open, same.input ∙ was_open) (refl, piece.calm)) same.output same.most same.pipe (output-calm a.output wf finished before now old new);
+                (omega arith) (omega arith) (rw (was_open, same.input ∙ was_open) (refl, piece.calm, piece.before_end (omega arith))) same.output same.most same.pipe (output-calm a.output wf finished before now old new);
           }
 
       taken_by : (c : Node) (t : Bool) → nat_lt a.most (a.taken + length (x ∷ rest)) ≡ t → takes_bytes (x ∷ rest) (record a { asked = None }) c t → Asks (settles id) c b
@@ -312,7 +313,7 @@ module _ (wf : ℕ) (finished : Option Bool) (p : List ℕ → Type 0) (xs : Lis
         → Handled (lying a) a b m₀ m₁ p p
     once (Ok []) c gives takes settles_it = ended c gives takes settles_it
     once (Ok (x ∷ rest)) c gives takes settles_it = taken_by x rest gives c (nat_lt a.most (a.taken + length (x ∷ rest))) refl takes settles_it
-    once (Err failure) c gives takes settles_it = failed c gives.moved gives.rose takes settles_it
+    once (Err failure) c gives takes settles_it = failed c gives.moved gives.before_end gives.rose takes settles_it
 
   -- a node reads its input, or doesn't
   pub reads : Reads a b old new before now → Handled (lying a) a b m₀ m₁ p p
@@ -333,6 +334,7 @@ module _ (wf : ℕ) (finished : Option Bool) (p : List ℕ → Type 0) (xs : Lis
               closes = s.led.closes;
               asked = tt;
               counts = s.led.counts;
+              spent = λ e. absurd (cc);
             };
             one = s.one;
           };

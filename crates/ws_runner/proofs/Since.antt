@@ -13,19 +13,20 @@ use Rattle.ws_steps.specs.declared.calls.Event.TheVariants.{Host, Settled, Signa
 use Rattle.ws_steps.specs.declared.calls.HostCall.{HostCall}
 use Rattle.ws_steps.specs.declared.calls.HostCall.TheVariants.{Close}
 use Rattle.ws_steps.specs.Run.{Entry, Called, Worked, Heard, run, step, after_job, after_event, first_event, jobs_in_a_row}
-use Rattle.ws_steps.specs.Slots.{empty}
+use Rattle.ws_steps.specs.Slots.{Slots, empty}
 use Rattle.ws_host_laws.specs.HostCalls.{called, settles_well, AllEvents, IsItsCall}
 use Rattle.ws_link_laws.proofs.Steps.{link-called, link-worked, link-heard}
 use Rattle.ws_host_laws.proofs.Called.{each_event_is_its_call}
 use Rattle.ws_link_laws.specs.Link.{enters, heard_of, leaves}
 use Rattle.ws_link_laws.specs.Laws.{entry_leaves}
 use Rattle.ws_link_laws.specs.Sound.{IsLink}
-use Rattle.ws_realm.specs.Seen.{SeenRealm}
+use Rattle.ws_realm.specs.Seen.{SeenRealm, oldest}
 use Rattle.ws_realm.specs.declared.realm.Why.{Why}
+use Rattle.ws_realm.specs.declared.realm.Why.TheVariants.{Spent}
 use Rattle.ws_reason_laws.specs.Reasons.{failures, failure_of}
 use Rattle.ws_runner.specs.declared.node.Node.{Node}
 use Rattle.ws_runner.specs.declared.node.Output.TheVariants as output
-use Rattle.ws_runner.specs.Moves.{Asks, Performed, Refused, Works, with_realm, stopped_by}
+use Rattle.ws_runner.specs.Moves.{Asks, Performed, Refused, Before, Wanting, IsSpent, Stops, Works, with_realm, stopped_by}
 use Rattle.ws_runner.specs.Node.{source, sink, link, behind_in, in_bytes, ended_by, lying_by, lying}
 use Rattle.ws_runner.specs.Past.{past_of, IsCause, IsPull, OneAtMost, IsOne, Led, Since}
 use Rattle.ws_runner.proofs.Bytes.{in_bytes-then, in_bytes-short, lying-both}
@@ -93,9 +94,9 @@ pub record After (before : Told (List ℕ)) (xs : List Entry) (n : Node) : Type 
   pub short : IsShortOf (lying n) (ended_by n.input before)
 
 -- the past is longer by one entry
-pub longer : (xs : List Entry) (x : Entry) (n : Node) (realm : SeenRealm) → Led xs n → realm.slots ≡ step n.realm.slots x → IsLink source sink link realm.slots
+pub longer : (xs : List Entry) (x : Entry) (n : Node) (realm : SeenRealm) → Led xs n → n.stopped ≡ None → realm.slots ≡ step n.realm.slots x → IsLink source sink link realm.slots
     → entry_leaves source sink x ≡ true → All (IsCause n.input n.output) (failures (x ∷ [])) → MayClose (past_of xs) x n.output → Led (xs ++ x ∷ []) (with_realm realm n)
-longer xs x n realm s is linked leave reasons may =
+longer xs x n realm s goes is linked leave reasons may =
     record {
       slots = is ∙ (ap (λ q. step q x) s.slots ∙ sym (run-snoc (past_of xs) x empty));
       answered = s.answered;
@@ -105,12 +106,28 @@ longer xs x n realm s is linked leave reasons may =
       closes = closes-snoc (past_of xs) x n.output s.closes may;
       asked = pull-longer (past_of xs) (x ∷ []) n.asked s.asked;
       counts = s.counts;
+      spent = λ e. absurd (cc);
     }
 
+stops-spent : (n : Node) (why : Why) → Stops why n → (n.stopped ≡ Some Spent → n.realm.slots.age ≡ oldest) → Some why ≡ Some Spent → n.realm.slots.age ≡ oldest
+stops-spent n why (Before f) g e = g (f ∙ e)
+stops-spent n why (Wanting f) g e = absurd (cc)
+stops-spent n why (IsSpent f) g e = f
+
 -- a realm that stops changes nothing of what led to it
-stopping : (xs : List Entry) (n : Node) (why : Why) → Led xs n → Led xs (stopped_by why n)
-stopping xs n why s =
-    record { slots = s.slots; answered = s.answered; left = s.left; link = s.link; failed = s.failed; closes = s.closes; asked = s.asked; counts = s.counts }
+stopping : (xs : List Entry) (n : Node) (why : Why) → Stops why n → Led xs n → Led xs (stopped_by why n)
+stopping xs n why stops s =
+    record {
+      slots = s.slots;
+      answered = s.answered;
+      left = s.left;
+      link = s.link;
+      failed = s.failed;
+      closes = s.closes;
+      asked = s.asked;
+      counts = s.counts;
+      spent = stops-spent n why stops s.spent;
+    }
 
 -- a call
 pub since-asks : (xs : List Entry) (a b : Node) (c : Call) → Led xs a → MayAsk xs a c
@@ -126,18 +143,18 @@ since-asks xs a b c s may one (Performed realm slots goes is) =
     (record {
       more = Called c ∷ [];
       since = record {
-        led = longer xs (Called c) a realm s slots (subst (IsLink source sink link) (sym slots) went.0) may.leaves
+        led = longer xs (Called c) a realm s goes slots (subst (IsLink source sink link) (sym slots) went.0) may.leaves
             (subst (All (IsCause a.input a.output)) (sym (append-nil (failure_of c))) may.failed)
             (λ id e. may.closes id (same_call c (settles_well id) e));
         one = λ o. one-short a.unwritten _ _ short (one o);
       };
       short = lying-both a.stopped a.input _ _ all;
     })
-since-asks xs a b c s may one (Refused why is) =
+since-asks xs a b c s may one (Refused why stops is) =
     subst (After _ xs) (sym is)
     (record {
       more = [];
-      since = subst (λ q. Since q (stopped_by why a)) (sym (append-nil xs)) (record { led = stopping xs a why s; one = λ o. one-before a.unwritten (behind_in a.realm.slots) (enters source c) (one o) });
+      since = subst (λ q. Since q (stopped_by why a)) (sym (append-nil xs)) (record { led = stopping xs a why stops s; one = λ o. one-before a.unwritten (behind_in a.realm.slots) (enters source c) (one o) });
       short = (_, refl);
     })
 
@@ -155,28 +172,29 @@ same-slots xs a realm e s =
         closes = s.led.closes;
         asked = s.led.asked;
         counts = s.led.counts;
+        spent = λ f. ap (λ (q : Slots). q.age) e ∙ s.led.spent f;
       };
       one = λ o. subst (λ q. OneAtMost a.unwritten (behind_in q).items) (sym e) (s.one o);
     }
 
-jobs-go : (n : ℕ) (xs : List Entry) (a : Node) (realm : SeenRealm) → Since xs a → realm.slots ≡ run (jobs_in_a_row n) a.realm.slots
+jobs-go : (n : ℕ) (xs : List Entry) (a : Node) (realm : SeenRealm) → a.stopped ≡ None → Since xs a → realm.slots ≡ run (jobs_in_a_row n) a.realm.slots
     → (more : List Entry) × (Since (xs ++ more) (with_realm realm a)) × (IsShortOf (behind_in realm.slots) (behind_in a.realm.slots))
-jobs-go zero xs a realm s e =
+jobs-go zero xs a realm goes s e =
     ([], subst (λ q. Since q (with_realm realm a)) (sym (append-nil xs)) (same-slots xs a realm e s), subst (λ q. IsShortOf (behind_in q) (behind_in a.realm.slots)) (sym e) (short_refl (behind_in a.realm.slots)))
-jobs-go (suc n) xs a realm s e =
+jobs-go (suc n) xs a realm goes s e =
     let went = link-worked source sink link a.realm.slots s.led.link in
     let mid : SeenRealm = record { slots = after_job a.realm.slots; prepared = a.realm.prepared } in
     let since : Since (xs ++ Worked ∷ []) (with_realm mid a) =
     record {
-      led = longer xs Worked a mid s.led refl went.0 refl (All-nil (IsCause a.input a.output)) (λ id f. cc);
+      led = longer xs Worked a mid s.led goes refl went.0 refl (All-nil (IsCause a.input a.output)) (λ id f. cc);
       one = λ o. one-short a.unwritten _ _ went.1 (s.one o);
     } in
-    let rest = jobs-go n (xs ++ Worked ∷ []) (with_realm mid a) realm since e in
+    let rest = jobs-go n (xs ++ Worked ∷ []) (with_realm mid a) realm goes since e in
     (Worked ∷ rest.0, subst (λ q. Since q (with_realm realm a)) (append_assoc xs (Worked ∷ []) rest.0) rest.1, short_trans _ _ _ rest.2 went.1)
 
 -- a node whose realm may have stopped
-stopped : (xs : List Entry) (a : Node) (realm : SeenRealm) (why : Option Why) → Since xs (with_realm realm a) → Since xs (record a { realm = realm; stopped = why })
-stopped xs a realm why s =
+stopped : (xs : List Entry) (a : Node) (realm : SeenRealm) (why : Option Why) → (why ≡ Some Spent → realm.slots.age ≡ oldest) → Since xs (with_realm realm a) → Since xs (record a { realm = realm; stopped = why })
+stopped xs a realm why spent s =
     record {
       led = record {
         slots = s.led.slots;
@@ -187,6 +205,7 @@ stopped xs a realm why s =
         closes = s.led.closes;
         asked = s.led.asked;
         counts = s.led.counts;
+        spent = spent;
       };
       one = s.one;
     }
@@ -196,11 +215,11 @@ works-by xs a b s w (Some why) e =
     subst (After (in_bytes (behind_in a.realm.slots)) xs) (sym (w.stays why e))
     (record { more = []; since = subst (λ q. Since q a) (sym (append-nil xs)) s; short = subst (λ q. IsShortOf (lying_by q (ended_by a.input (in_bytes (behind_in a.realm.slots)))) (ended_by a.input (in_bytes (behind_in a.realm.slots)))) (sym e) ((ended_by a.input (in_bytes (behind_in a.realm.slots))).items, refl) })
 works-by xs a b s w None e =
-    let went = jobs-go w.jobs xs a w.realm s w.slots in
+    let went = jobs-go w.jobs xs a w.realm e s w.slots in
     subst (After (in_bytes (behind_in a.realm.slots)) xs) (sym w.is)
     (record {
       more = went.0;
-      since = stopped (xs ++ went.0) a w.realm w.stopped went.1;
+      since = stopped (xs ++ went.0) a w.realm w.stopped (w.spent e) went.1;
       short = lying-both w.stopped a.input _ _ (in_bytes-short _ _ went.2);
     })
 
@@ -209,13 +228,13 @@ pub since-works : (xs : List Entry) (a b : Node) → Since xs a → Works a b �
 since-works xs a b s w = works-by xs a b s w a.stopped refl
 
 -- an event, which is a call of the number that it tells
-pub since-hears : (xs : List Entry) (a : Node) (realm : SeenRealm) (e : Event) → Led xs a → first_event a.realm.slots.promises.events ≡ Some e
+pub since-hears : (xs : List Entry) (a : Node) (realm : SeenRealm) (e : Event) → Led xs a → a.stopped ≡ None → first_event a.realm.slots.promises.events ≡ Some e
     → realm.slots ≡ after_event a.realm.slots
     → (Led (xs ++ Heard ∷ []) (with_realm realm a)) × (IsShortOf (then_told (heard_of sink e) (behind_in realm.slots)) (behind_in a.realm.slots))
     × (IsItsCall (called (past_of (xs ++ Heard ∷ []))) e)
-since-hears xs a realm e s first slots =
+since-hears xs a realm e s goes first slots =
     let went = link-heard source sink link a.realm.slots e first s.link in (
-      longer xs Heard a realm s slots (subst (IsLink source sink link) (sym slots) went.0) refl (All-nil (IsCause a.input a.output)) (λ id f. cc),
+      longer xs Heard a realm s goes slots (subst (IsLink source sink link) (sym slots) went.0) refl (All-nil (IsCause a.input a.output)) (λ id f. cc),
       subst (λ q. IsShortOf (then_told (heard_of sink e) (behind_in q)) (behind_in a.realm.slots)) (sym slots) went.1,
       call-longer (past_of xs) (Heard ∷ []) e
           (first-event (called (past_of xs)) a.realm.slots.promises.events e first

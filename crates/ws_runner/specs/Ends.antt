@@ -1,6 +1,7 @@
 -- What a run from an input to an output may end with.
 use Rattle.std.specs.Prelude.{◌≡◌, ◌≢◌, ◌+◌, ◌<◌, ◌≤◌, ℕ, List, ◌++◌, length, Option, Some, None, MatchOption, ◌↔◌, false}
 use Rattle.ws_value.specs.declared.fault.Fault.TheVariants.{Read, Write, TooMuch as TooMuchFault}
+use Rattle.ws_value.specs.declared.value.Outcome.TheVariants.{Pending, Fulfilled, Rejected}
 use Rattle.ws_value.specs.declared.value.Plain.{Plain}
 use Rattle.ws_value.specs.declared.value.Plain.TheVariants.{Fault as FaultReason}
 use Rattle.ws_io.specs.Faults.{Rose}
@@ -97,8 +98,12 @@ EndsBy NoMemory n = n.output ≢ output.Finished
 EndsBy TooMuch n = (n.output ≢ output.Finished) × (n.input ≡ input.TooLong)
 EndsBy _ n = ⊥
 
--- The end of a node: none while its pipe is pending and memory wasn't wanting. The output was finished with 0 and with no other
+-- The end of a node: none while its pipe is pending and memory wasn't wanting; else by how the pipe settled, and 0 wherever the output
+-- was finished. Each status has its cause
 pub record EndsAs (status : Option Status) (n : Node) : Type 0 where
   pub none : status ≡ None ↔ (has_settled (outcome_of_pipe n) ≡ false) × (n.stopped ≢ Some why.NoMemory)
+  pub fulfilled : (v : Plain) → outcome_of_pipe n ≡ Some (Fulfilled v) → status ≡ Some Done
+  pub rejected : (r : Plain) → outcome_of_pipe n ≡ Some (Rejected r) → IsNamed r × (status ≡ Some (unless_finished n.output (status_of r)))
+  pub wanting : outcome_of_pipe n ≡ Some Pending → n.stopped ≡ Some why.NoMemory → status ≡ Some (unless_finished n.output NoMemory)
   pub by : MatchOption status (Unit {0}) (λ s. EndsBy s n)
   pub counts : HasCounts n

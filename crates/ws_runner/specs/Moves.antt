@@ -18,9 +18,9 @@ use Rattle.ws_steps.specs.declared.calls.HostCall.{HostCall}
 use Rattle.ws_steps.specs.declared.calls.HostCall.TheVariants.{Pull as HostPull, Write as HostWrite, Close as HostClose}
 use Rattle.ws_steps.specs.Histories.{is_same}
 use Rattle.ws_steps.specs.Run.{after_call, run, jobs_in_a_row}
-use Rattle.ws_realm.specs.Seen.{SeenRealm}
+use Rattle.ws_realm.specs.Seen.{SeenRealm, oldest}
 use Rattle.ws_realm.specs.declared.realm.Why.{Why}
-use Rattle.ws_realm.specs.declared.realm.Why.TheVariants.{NoMemory}
+use Rattle.ws_realm.specs.declared.realm.Why.TheVariants.{NoMemory, Spent}
 use Rattle.ws_runner.specs.declared.node.Input.{Input}
 use Rattle.ws_runner.specs.declared.node.Input.TheVariants.{Open as InputOpen, Ended, Failed as InputFailed, TooLong}
 use Rattle.ws_runner.specs.declared.node.Node.{Node}
@@ -36,10 +36,16 @@ with_realm realm n = record n { realm = realm }
 abbrev pub stopped_by : Why → Node → Node
 stopped_by why n = record n { stopped = Some why }
 
+-- why a realm stops: it had stopped for that before; or memory was wanting; or it is spent
+pub data Stops (why : Why) (a : Node) : Type 0 where
+  Before : a.stopped ≡ Some why → Stops why a
+  Wanting : why ≡ NoMemory → Stops why a
+  IsSpent : a.realm.slots.age ≡ oldest → Stops why a
+
 -- a call was performed; or it wasn't, since the realm has stopped
 pub data Asks (c : Call) (a b : Node) : Type 0 where
   Performed : (realm : SeenRealm) → realm.slots ≡ after_call c a.realm.slots → a.stopped ≡ None → b ≡ with_realm realm a → Asks c a b
-  Refused : (why : Why) → b ≡ stopped_by why a → Asks c a b
+  Refused : (why : Why) → Stops why a → b ≡ stopped_by why a → Asks c a b
 
 -- some jobs were performed, one after another, and then the realm may have stopped
 pub record Works (a b : Node) : Type 0 where
@@ -50,6 +56,7 @@ pub record Works (a b : Node) : Type 0 where
   pub is : b ≡ record a { realm = realm; stopped = stopped }
   -- a realm that has stopped doesn't go on
   pub stays : (why : Why) → a.stopped ≡ Some why → b ≡ a
+  pub spent : a.stopped ≡ None → stopped ≡ Some Spent → realm.slots.age ≡ oldest
 
 -- a piece that was read is counted, and waits to be written
 abbrev pub with_piece : List ℕ → Input → Node → Node

@@ -20,6 +20,8 @@ use Rattle.ws_steps.specs.Slots.{empty}
 use Rattle.ws_host_laws.specs.HostCalls.{called, settles_well}
 use Rattle.ws_link_laws.specs.Laws.{all_leave}
 use Rattle.ws_link_laws.specs.Sound.{IsLink}
+use Rattle.ws_realm.specs.Seen.{oldest}
+use Rattle.ws_realm.specs.declared.realm.Why.TheVariants.{Spent}
 use Rattle.ws_reason_laws.specs.Reasons.{failures}
 use Rattle.ws_runner.specs.declared.node.Input.{Input}
 use Rattle.ws_runner.specs.declared.node.Input.TheVariants as input
@@ -111,6 +113,8 @@ pub record Led (xs : List Entry) (n : Node) : Type 0 where
   pub closes : ClosesFinished (past_of xs) n.output
   pub asked : IsPull (past_of xs) n.asked
   pub counts : HasCounts n
+  -- the realm has stopped as one that is spent only where it is
+  pub spent : n.stopped ≡ Some Spent → n.realm.slots.age ≡ oldest
 
 -- while the output may be written, what is behind the host is one chunk at most, of the bytes that aren't written
 abbrev pub HasOne : Node → Type 0

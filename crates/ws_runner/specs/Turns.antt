@@ -1,5 +1,6 @@
 -- What a turn of a node answers.
 use Rattle.std.specs.Prelude.{◌≡◌, true, false, Some, None}
+use Rattle.ws_realm.specs.Seen.{oldest}
 use Rattle.ws_realm.specs.declared.realm.Why.TheVariants as why
 use Rattle.ws_runner.specs.declared.node.Node.{Node}
 use Rattle.ws_runner.specs.declared.turn.Turn.{Turn}
@@ -12,4 +13,4 @@ TurnIs Worked a b = (b.stopped ≡ None) × (has_ended b ≡ false) × (is_busy 
 TurnIs Idle a b = (b.stopped ≡ None) × (has_ended b ≡ false) × (is_busy a ≡ false)
 TurnIs Ended a b = (b.stopped ≡ None) × (has_ended b ≡ true)
 TurnIs NoMemory a b = b.stopped ≡ Some why.NoMemory
-TurnIs Spent a b = b.stopped ≡ Some why.Spent
+TurnIs Spent a b = (b.stopped ≡ Some why.Spent) × (b.realm.slots.age ≡ oldest)

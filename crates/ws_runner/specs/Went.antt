@@ -4,7 +4,7 @@ use Rattle.std.specs.List.{concat}
 use Rattle.ws_flow.specs.Plans.{bytes_of}
 use Rattle.ws_flow.specs.Told.{Mark, Open as MayCome, Closed, Lost, Told, told, then_told, IsShortOf}
 use Rattle.ws_io.specs.Faults.{Rose}
-use Rattle.ws_io.specs.Feed.{Fed, IsEmpty, IsEnded}
+use Rattle.ws_io.specs.Feed.{Fed, IsEmpty, IsEnded, KeepsEnd}
 use Rattle.ws_io.specs.Gain.{Gains, Becomes, KeepsTold}
 use Rattle.ws_io.specs.Moment.{Moment}
 use Rattle.ws_runner.specs.declared.node.Input.{Input}
@@ -19,15 +19,15 @@ abbrev pub CalmRead : Moment → Moment → Type 0
 CalmRead old new = new.read_faults ≡ old.read_faults
 
 -- What was read of an input: while it may be read, pieces; then its end, or one failed read, or more than the run may take; and after
--- that it is left alone
+-- that it is left alone. Where its end was met, no read failed
 abbrev pub InputGoes : Input → Input → Told (List ℕ) → Moment → Moment → Type 0
-InputGoes input.Open input.Open read old new = (read.mark ≡ MayCome) × (CalmRead old new)
+InputGoes input.Open input.Open read old new = (read.mark ≡ MayCome) × (CalmRead old new) × (KeepsEnd old.feed new.feed)
 InputGoes input.Open input.Ended read old new = (read.mark ≡ Closed) × (CalmRead old new) × (IsEnded new.feed) × (IsEmpty new.feed)
-InputGoes input.Open input.Failed read old new = (read.mark ≡ Lost) × (Rose old.read_faults new.read_faults)
-InputGoes input.Open input.TooLong read old new = (read.mark ≡ Lost) × (CalmRead old new)
+InputGoes input.Open input.Failed read old new = (read.mark ≡ Lost) × (Rose old.read_faults new.read_faults) × (KeepsEnd old.feed new.feed)
+InputGoes input.Open input.TooLong read old new = (read.mark ≡ Lost) × (CalmRead old new) × (KeepsEnd old.feed new.feed)
 InputGoes input.Ended b read old new = (b ≡ input.Ended) × (read ≡ nothing_yet) × (new.feed ≡ old.feed) × (CalmRead old new)
-InputGoes input.Failed b read old new = (b ≡ input.Failed) × (read ≡ nothing_yet) × (CalmRead old new)
-InputGoes input.TooLong b read old new = (b ≡ input.TooLong) × (read ≡ nothing_yet) × (CalmRead old new)
+InputGoes input.Failed b read old new = (b ≡ input.Failed) × (read ≡ nothing_yet) × (new.feed ≡ old.feed) × (CalmRead old new)
+InputGoes input.TooLong b read old new = (b ≡ input.TooLong) × (read ≡ nothing_yet) × (new.feed ≡ old.feed) × (CalmRead old new)
 
 -- an output that is left alone: no write was made, none failed, and its end is as it was
 pub record LeftAlone (gain : List ℕ) (old new : Moment) : Type 0 where

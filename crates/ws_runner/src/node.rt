@@ -1,5 +1,7 @@
 //! A node without stages: the realm of one pipe, from a source that the input feeds to a sink that feeds the output, and what its host knows of both.
-ghost use Rattle.std.specs.Prelude.{◌≡◌, ◌≤◌, IfOk, OnErr, OnOk, Some};
+ghost use Rattle.std.specs.Prelude.{◌≡◌, ◌≤◌, Err, IfOk, OnErr, OnOk, Some};
+ghost use Rattle.ws_realm.specs.Seen.{oldest};
+ghost use Rattle.ws_realm.specs.declared.realm.Why.TheVariants as why;
 ghost use Rattle.ws_steps.specs.Run as steps;
 ghost use Rattle.ws_runner.specs.Ends.{EndsAs, IsNamed, status_of, unless_finished};
 ghost use Rattle.ws_runner.specs.Moves.{Asks, Works, is_readable, is_writable, shut};
@@ -264,6 +266,7 @@ fn perform(realm: &mut Realm, call: Call) -> Result<Reply, Why>
     ensures reply { IfOk result (λ reply. reply ≡ steps.reply_to call realm.old.slots) }
     ensures slots { OnOk result (realm.new.slots ≡ steps.after_call call realm.old.slots) }
     ensures refused { OnErr result (realm.new ≡ realm.old) }
+    ensures spent { result ≡ Err why.Spent → realm.old.slots.age ≡ oldest }
 {
     match realm.call(call) {
         Ok(reply) => Ok(reply),

@@ -2,7 +2,7 @@
 ghost use Rattle.std.specs.Prelude.{◌≡◌, ◌<◌, ◌^◌, IfOk};
 ghost use Rattle.ws_io.specs.Moment.{moment};
 ghost use Rattle.ws_runner.specs.Ends.{EndsAs};
-ghost use Rattle.ws_runner.specs.Past.{IsNew};
+ghost use Rattle.ws_runner.specs.Past.{HasCounts, IsNew};
 ghost use Rattle.ws_runner.specs.Turns.{TurnIs};
 ghost use Rattle.ws_runner.specs.Went.{Went};
 
@@ -48,6 +48,7 @@ impl Whole {
             (moment (S.faults input.new) (S.feed input.new) (K.faults output.new) (K.finished output.new))
             (K.got output.old) (K.got output.new) }
         ensures turn { TurnIs result self.old self.new }
+        ensures counts { HasCounts self.new }
     {
         let busy = self.node.is_busy();
         self.node.go_on(alloc, input, output);
