@@ -1,5 +1,6 @@
 pub mod Answering
 pub mod Asking
+pub mod Begun
 pub mod Bytes
 pub mod Ending
 pub mod Entries

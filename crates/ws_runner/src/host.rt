@@ -1,13 +1,14 @@
 //! What the host of a node does as it is asked: a pull reads the input once, a write writes its chunk whole, a close finishes the output.
-ghost use Rattle.std.specs.Prelude.{◌≡◌, ◌<◌, ◌≤◌, ◌+◌, ◌^◌, length, IfOk, OnErr};
+ghost use Rattle.std.specs.Prelude.{◌≡◌, ◌<◌, ◌≤◌, ◌+◌, ◌^◌, false, length, true, IfOk, None, OnErr};
 ghost use Rattle.ws_io.specs.Moment.{moment};
 ghost use Rattle.ws_runner.specs.declared.node.Output.TheVariants as output_is;
 ghost use Rattle.ws_runner.specs.Host.{GivesPiece};
 ghost use Rattle.ws_steps.specs.Histories.{is_same};
 ghost use Rattle.ws_steps.specs.declared.calls.HostCall.TheVariants as host_call;
 ghost use Rattle.ws_runner.specs.Moves.{Answers, Asks, Fails, Finishes, Hears, MayAnswer, MayHear, MayTake, Reads, Takes, Writes, finishes_by, settles, takes_chunk, writes_by};
-ghost use Rattle.ws_runner.specs.Node.{sink};
+ghost use Rattle.ws_runner.specs.Node.{is_busy, sink};
 ghost use Rattle.ws_runner.specs.Past.{Driven, HasCounts};
+ghost use Rattle.ws_runner.specs.Turns.{Follows, HasHeard, IsBegun, NoneHeard};
 ghost use Rattle.ws_runner.specs.Went.{Went};
 
 use crate::node::{Input, Node, Output, SINK, SOURCE};
@@ -59,9 +60,14 @@ impl Node {
             (moment (S.faults input.old) (S.feed input.old) (K.faults output.old) (K.finished output.old))
             (moment (S.faults input.new) (S.feed input.new) (K.faults output.new) (K.finished output.new))
             (K.got output.old) (K.got output.new) }
+        ensures begun { is_busy self.old ≡ true → self.new.stopped ≡ None → IsBegun self.old self.new }
     {
-        let mut jobs = JOBS_OF_A_TURN;
-        for _ in 0..EVENTS_OF_A_TURN {
+        // the first round stands apart, since it tells what the turn began with
+        let mut jobs = self.work(JOBS_OF_A_TURN);
+        if !self.hear(alloc, input, output) {
+            return;
+        }
+        for _ in 1..EVENTS_OF_A_TURN {
             jobs = self.work(jobs);
             if !self.hear(alloc, input, output) {
                 return;
@@ -77,6 +83,9 @@ impl Node {
             (moment (S.faults input.old) (S.feed input.old) (K.faults output.old) (K.finished output.old))
             (moment (S.faults input.new) (S.feed input.new) (K.faults output.new) (K.finished output.new))
             (K.got output.old) (K.got output.new) }
+        ensures follows { Follows self.old self.new }
+        ensures heard { result ≡ true → HasHeard self.old self.new }
+        ensures none { result ≡ false → self.new.stopped ≡ None → NoneHeard self.old }
     {
         if self.stopped.is_some() {
             return false;

@@ -1,5 +1,5 @@
 //! A node without stages: the realm of one pipe, from a source that the input feeds to a sink that feeds the output, and what its host knows of both.
-ghost use Rattle.std.specs.Prelude.{◌≡◌, ◌≤◌, Err, IfOk, OnErr, OnOk, Some};
+ghost use Rattle.std.specs.Prelude.{◌≡◌, ◌≤◌, ◌<◌, Err, IfOk, OnErr, OnOk, None, Some};
 ghost use Rattle.ws_realm.specs.Seen.{oldest};
 ghost use Rattle.ws_realm.specs.declared.realm.Why.TheVariants as why;
 ghost use Rattle.ws_steps.specs.Run as steps;
@@ -7,6 +7,7 @@ ghost use Rattle.ws_runner.specs.Ends.{EndsAs, IsNamed, status_of, unless_finish
 ghost use Rattle.ws_runner.specs.Moves.{Asks, Works, is_readable, is_writable, shut};
 ghost use Rattle.ws_runner.specs.Node.{has_ended, is_busy, outcome_of_pipe};
 ghost use Rattle.ws_runner.specs.Past.{Driven, IsFresh};
+ghost use Rattle.ws_runner.specs.Turns.{HasWorked};
 
 use std::alloc::Global;
 use ws_io::Status;
@@ -131,6 +132,7 @@ impl Node {
     /// The realm performs jobs until none is queued, or `most` were; how many more there might have been is answered. A refusal stops it.
     pub fn work(&mut self, most: u32) -> u32
         ensures works { Works self.old self.new }
+        ensures worked { 0 < most → self.new.stopped ≡ None → HasWorked self.old self.new }
         ensures within { result ≤ most }
     {
         if self.stopped.is_some() {

@@ -1,5 +1,6 @@
 use Rattle.ws_io.specs.Moment.{moment}
 use Rattle.ws_runner.specs.Past.{Driven}
+use Rattle.ws_runner.specs.Turns.{IsBegun}
 use Rattle.ws_runner.specs.Went.{Went}
 use Rattle.ws_runner.proofs.node.Node.go_on.Given as goal
 
@@ -10,3 +11,4 @@ invariant-loop g l =
     (moment (g.S.Source.faults l.fn.input) (g.S.Source.feed l.fn.input) (g.K.Sink.faults l.fn.output) (g.K.Sink.finished l.fn.output))
     (moment (g.S.Source.faults l.input) (g.S.Source.feed l.input) (g.K.Sink.faults l.output) (g.K.Sink.finished l.output))
     (g.K.Sink.got l.fn.output) (g.K.Sink.got l.output))
+    × IsBegun l.fn.self l.self

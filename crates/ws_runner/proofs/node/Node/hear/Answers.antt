@@ -4,6 +4,8 @@ use Rattle.ws_runner.proofs.Asking.{is_none_so}
 use Rattle.ws_runner.proofs.Going.{went-same, went-then}
 use Rattle.ws_runner.proofs.Hearing.{hears, hears-none}
 use Rattle.ws_runner.proofs.Reading.{reads}
+use Rattle.ws_runner.proofs.Begun.{heard, goes-follows}
+use Rattle.ws_steps.specs.Run.{Heard}
 use Rattle.ws_runner.proofs.node.Node.hear.Goals as goal
 
 pub returns-then-is_some-clause-went : goal.returns-then-is_some-clause-went
@@ -34,3 +36,18 @@ returns-clause-went g c =
     let r = reads (g.K.Sink.faults c.hear_of.new.output) (g.K.Sink.finished c.hear_of.new.output) (g.K.Sink.got c.hear_of.new.output) h.driven.xs c.hear_of.new.self c.read.new.self
     (g.S.Source.feed c.args.input.now) (g.S.Source.feed c.read.new.input) (g.S.Source.faults c.args.input.now) (g.S.Source.faults c.read.new.input) h.driven.since c.read.ensures in
     went-then _ c.args.self.now c.hear_of.new.self c.read.new.self _ _ _ _ _ _ h.went r.went
+
+pub returns-clause-heard : goal.returns-clause-heard
+returns-clause-heard g c e =
+    heard c.args.self.now c.next_event.new.self c.hear_of.new.self c.read.new.self c.in-Some.event (record { faults = g.K.Sink.faults c.args.output.now; finished = g.K.Sink.finished c.args.output.now })
+    (record { faults = g.K.Sink.faults c.hear_of.new.output; finished = g.K.Sink.finished c.hear_of.new.output }) (g.K.Sink.got c.args.output.now) (g.K.Sink.got c.hear_of.new.output)
+    (g.S.Source.feed c.args.input.now) (g.S.Source.feed c.read.new.input) (g.S.Source.faults c.args.input.now) (g.S.Source.faults c.read.new.input)
+    (is_none_so c.args.self.now.stopped (sym c.is_some.ensures ∙ c.if-is_some.false)) (sym c.in-Some.ensures.event) c.next_event.ensures.slots c.hear_of.ensures c.read.ensures
+
+pub returns-clause-follows : goal.returns-clause-follows
+returns-clause-follows g c =
+    goes-follows Heard c.args.self.now c.read.new.self (
+    heard c.args.self.now c.next_event.new.self c.hear_of.new.self c.read.new.self c.in-Some.event (record { faults = g.K.Sink.faults c.args.output.now; finished = g.K.Sink.finished c.args.output.now })
+    (record { faults = g.K.Sink.faults c.hear_of.new.output; finished = g.K.Sink.finished c.hear_of.new.output }) (g.K.Sink.got c.args.output.now) (g.K.Sink.got c.hear_of.new.output)
+    (g.S.Source.feed c.args.input.now) (g.S.Source.feed c.read.new.input) (g.S.Source.faults c.args.input.now) (g.S.Source.faults c.read.new.input)
+    (is_none_so c.args.self.now.stopped (sym c.is_some.ensures ∙ c.if-is_some.false)) (sym c.in-Some.ensures.event) c.next_event.ensures.slots c.hear_of.ensures c.read.ensures).goes

@@ -2,6 +2,7 @@ use Rattle.std.proofs.Common.{sym, ap, ◌∙◌, arith}
 use Rattle.std.specs.Prelude.{is_some}
 use Rattle.ws_steps.specs.Run.{is_idle}
 use Rattle.ws_runner.proofs.Asking.{works-more, job-performed}
+use Rattle.ws_runner.proofs.Begun.{working-more, not_idle}
 use Rattle.ws_runner.proofs.node.Node.work.Goals as goal
 
 pub loop-left-preserved : goal.loop-left-preserved
@@ -10,4 +11,7 @@ loop-left-preserved c = (
       (job-performed (is_idle c.loop-left.self.realm.slots) c.job.new.self.slots _ _ c.in-Ok-true.ensures.slots (sym c.in-Ok-true.field-0-test ∙ c.in-Ok-true.ensures.worked)),
   c.loop-left.invariant.1,
   omega arith,
+  working-more c.args.self.now c.loop-left.self c.job.new.self _ _ _ (not_idle (is_idle c.loop-left.self.realm.slots) (sym c.in-Ok-true.field-0-test ∙ c.in-Ok-true.ensures.worked))
+      c.loop-left.invariant.3
+      (job-performed (is_idle c.loop-left.self.realm.slots) c.job.new.self.slots _ _ c.in-Ok-true.ensures.slots (sym c.in-Ok-true.field-0-test ∙ c.in-Ok-true.ensures.worked)),
 )

@@ -1,9 +1,10 @@
 use Rattle.std.proofs.Common.{◌≡◌, ◌≤◌, None}
 use Rattle.ws_runner.specs.Moves.{Works}
+use Rattle.ws_runner.specs.Turns.{IsWorking}
 use Rattle.ws_runner.proofs.node.Node.work.Given as goal
 
 abbrev pub invariant-loop-left : goal.invariant-loop-left
-invariant-loop-left l = Works l.fn.self l.self × (l.self.stopped ≡ None) × (l.left ≤ l.fn.most)
+invariant-loop-left l = Works l.fn.self l.self × (l.self.stopped ≡ None) × (l.left ≤ l.fn.most) × IsWorking l.left l.fn.most l.fn.self l.self
 
 abbrev pub decreases-loop-left : goal.decreases-loop-left
 decreases-loop-left l = l.left

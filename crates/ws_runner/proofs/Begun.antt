@@ -1,0 +1,181 @@
+-- What a turn does first: a job, or an event of which the host hears.
+use Rattle.std.proofs.Common.{◌≡◌, ◌<◌, ℕ, Bool, true, false, List, [], ◌∷◌, ◌++◌, Option, Some, None, Result, Ok, Err, refl, sym, ap, ◌∙◌, arith}
+use Rattle.std.specs.Prelude.{not, ◌||◌}
+use Rattle.ws_value.specs.declared.ids.HostId.{HostId}
+use Rattle.ws_value.specs.declared.value.Value.{Value}
+use Rattle.ws_value.specs.declared.value.Value.TheVariants.{Bytes, Plain}
+use Rattle.ws_io.specs.Feed.{Feed}
+use Rattle.ws_io.specs.declared.outside.Failed.{Failed}
+use Rattle.ws_steps.specs.declared.calls.Call.{Call}
+use Rattle.ws_steps.specs.declared.calls.Event.{Event}
+use Rattle.ws_steps.specs.declared.calls.Event.TheVariants.{Host, Settled, Signal}
+use Rattle.ws_steps.specs.declared.calls.HostCall.{HostCall}
+use Rattle.ws_steps.specs.declared.calls.HostCall.TheVariants.{Pull, Write, Close, Start, Cancel, Abort}
+use Rattle.ws_steps.specs.Histories.{is_same}
+use Rattle.ws_steps.specs.Queues.{is_empty}
+use Rattle.ws_steps.specs.Run.{Entry, Called, Worked, Heard, run, step, after_job, after_event, first_event, is_idle, jobs_in_a_row}
+use Rattle.ws_steps.specs.Slots.{Slots}
+use Rattle.ws_realm.specs.Seen.{SeenRealm}
+use Rattle.ws_runner.specs.declared.node.Node.{Node}
+use Rattle.ws_runner.specs.Moves.{Asks, Performed, Refused, Works, Shown, Writes, WroteAll, WroteLess, WroteNone, Finishes, FinishedWell, FinishedBadly, FinishedNot, writes_by, finishes_by, Answers, Hears, Reads, ReadNot, Wanted, ReadOnce, takes_bytes, Takes, with_realm}
+use Rattle.ws_runner.specs.Node.{sink, is_busy}
+use Rattle.ws_runner.specs.Turns.{Follows, GoesBy, IsBegun, JobFirst, EventFirst, IsWorking, SomeJob, NoJob, HasWorked, AnyJob, NoneQueued, HasHeard, NoneHeard}
+
+run-both : (xs ys : List Entry) (s : Slots) → run (xs ++ ys) s ≡ run ys (run xs s)
+run-both [] ys s = refl
+run-both (x ∷ xs) ys s = run-both xs ys (step s x)
+
+pub follows-same : (a b : Node) → b.realm.slots ≡ a.realm.slots → Follows a b
+follows-same a b e = record { entries = []; slots = e }
+
+pub follows-then : (a b c : Node) → Follows a b → Follows b c → Follows a c
+follows-then a b c f g =
+    record { entries = f.entries ++ g.entries; slots = g.slots ∙ (ap (run g.entries) f.slots ∙ sym (run-both f.entries g.entries a.realm.slots)) }
+
+goes-then : (x : Entry) (a b c : Node) → GoesBy x a b → Follows b c → GoesBy x a c
+goes-then x a b c f g =
+    record { rest = f.rest ++ g.entries; slots = g.slots ∙ (ap (run g.entries) f.slots ∙ sym (run-both (x ∷ f.rest) g.entries a.realm.slots)) }
+
+pub goes-follows : (x : Entry) (a b : Node) → GoesBy x a b → Follows a b
+goes-follows x a b g = record { entries = x ∷ g.rest; slots = g.slots }
+
+pub begun-then : (a b c : Node) → IsBegun a b → Follows b c → IsBegun a c
+begun-then a b c (JobFirst idle g) f = JobFirst idle (goes-then Worked a b c g f)
+begun-then a b c (EventFirst some g) f = EventFirst some (goes-then Heard a b c g f)
+
+-- what a node does follows
+
+asks-follow : (c : Call) (a b : Node) → Asks c a b → Follows a b
+asks-follow c a b (Performed realm slots goes is) = record { entries = Called c ∷ []; slots = ap (λ (n : Node). n.realm.slots) is ∙ slots }
+asks-follow c a b (Refused why stops is) = record { entries = []; slots = ap (λ (n : Node). n.realm.slots) is }
+
+module _ (id : HostId) (a b : Node) (old new : Shown) (p q : List ℕ → Type 0) where
+  writes-follow : (piece : List ℕ) → Writes id piece a b old new p q → Follows a b
+  writes-follow piece (WroteAll was_open gained calm kept asks) = let f = asks-follow _ _ b asks in record { entries = f.entries; slots = f.slots }
+  writes-follow piece (WroteLess was_open gain rest split gained rose kept fails) = let f = asks-follow _ _ b fails in record { entries = f.entries; slots = f.slots }
+  writes-follow piece (WroteNone was_shut untouched fails) = let f = asks-follow _ _ b fails in record { entries = f.entries; slots = f.slots }
+
+  finishes-follow : Finishes id a b old new p q → Follows a b
+  finishes-follow (FinishedWell was_open gained calm done asks) = let f = asks-follow _ _ b asks in record { entries = f.entries; slots = f.slots }
+  finishes-follow (FinishedBadly was_open gained rose kept fails) = let f = asks-follow _ _ b fails in record { entries = f.entries; slots = f.slots }
+  finishes-follow (FinishedNot was_shut untouched fails) = let f = asks-follow _ _ b fails in record { entries = f.entries; slots = f.slots }
+
+  writes_by-follow : (v : Value) (t : Bool) → writes_by id v a b old new p q t → Follows a b
+  writes_by-follow (Bytes piece) true h = writes-follow piece h
+  writes_by-follow (Bytes piece) false h = asks-follow _ a b h.0
+  writes_by-follow (Plain v) true h = asks-follow _ a b h.0
+  writes_by-follow (Plain v) false h = asks-follow _ a b h.0
+
+  finishes_by-follow : (t : Bool) → finishes_by id a b old new p q t → Follows a b
+  finishes_by-follow true h = finishes-follow h
+  finishes_by-follow false h = asks-follow _ a b h.0
+
+  answers-follow : (call : HostCall) → Answers id call a b old new p q → Follows a b
+  answers-follow (Pull i) h = follows-same a b (ap (λ (n : Node). n.realm.slots) h.0)
+  answers-follow (Write i v) h = writes_by-follow v (is_same sink i) h
+  answers-follow (Close i) h = finishes_by-follow (is_same sink i) h
+  answers-follow (Start i) h = asks-follow _ a b h.0
+  answers-follow (Cancel i r) h = asks-follow _ a b h.0
+  answers-follow (Abort i r) h = asks-follow _ a b h.0
+
+hears-follow : (e : Event) (a b : Node) (old new : Shown) (p q : List ℕ → Type 0) → Hears e a b old new p q → Follows a b
+hears-follow (Host id call) a b old new p q h = answers-follow id a b old new p q call h
+hears-follow (Settled r) a b old new p q h = follows-same a b (ap (λ (n : Node). n.realm.slots) h.0)
+hears-follow (Signal i r) a b old new p q h = follows-same a b (ap (λ (n : Node). n.realm.slots) h.0)
+
+takes_bytes-follow : (piece : List ℕ) (a b : Node) (t : Bool) → takes_bytes piece a b t → Follows a b
+takes_bytes-follow piece a b true h = let f = asks-follow _ _ b h in record { entries = f.entries; slots = f.slots }
+takes_bytes-follow piece a b false h = let f = asks-follow _ _ b h in record { entries = f.entries; slots = f.slots }
+
+takes-follow : (piece : Result (List ℕ) Failed) (a b : Node) → Takes piece a b → Follows a b
+takes-follow (Ok []) a b h = let f = asks-follow _ _ b h in record { entries = f.entries; slots = f.slots }
+takes-follow (Ok (x ∷ xs)) a b h = takes_bytes-follow (x ∷ xs) a b _ h
+takes-follow (Err failed) a b h = let f = asks-follow _ _ b h in record { entries = f.entries; slots = f.slots }
+
+reads-follow : (a b : Node) (old new : Option Feed) (before now : ℕ) → Reads a b old new before now → Follows a b
+reads-follow a b old new before now (ReadNot same unread) = follows-same a b (ap (λ (n : Node). n.realm.slots) same)
+reads-follow a b old new before now (Wanted goes unread id asked same) = follows-same a b (ap (λ (n : Node). n.realm.slots) same)
+reads-follow a b old new before now (ReadOnce goes written was_open id asked want most limit piece gives c takes settles_it) =
+    let f = takes-follow piece (record a { asked = None }) c takes in
+    let g = asks-follow _ c b settles_it in
+    record { entries = f.entries ++ g.entries; slots = g.slots ∙ (ap (run g.entries) f.slots ∙ sym (run-both f.entries g.entries a.realm.slots)) }
+
+-- the host hears of an event, does what it asks and reads
+
+some-event : (es : List Event) (e : Event) → first_event es ≡ Some e → is_empty es ≡ false
+some-event [] e h = absurd (cc)
+some-event (x ∷ es) e h = refl
+
+no-event : (es : List Event) → first_event es ≡ None → is_empty es ≡ true
+no-event [] h = refl
+no-event (x ∷ es) h = absurd (cc)
+
+pub heard : (a : Node) (realm : SeenRealm) (b c : Node) (e : Event) (old new : Shown) (p q : List ℕ → Type 0) (feed feed' : Option Feed) (before now : ℕ) → a.stopped ≡ None
+    → first_event a.realm.slots.promises.events ≡ Some e → realm.slots ≡ after_event a.realm.slots → Hears e (with_realm realm a) b old new p q → Reads b c feed feed' before now
+    → HasHeard a c
+heard a realm b c e old new p q feed feed' before now going first slots hears reads =
+    let f = hears-follow e (with_realm realm a) b old new p q hears in
+    record {
+      going = going;
+      some = some-event a.realm.slots.promises.events e first;
+      goes = goes-then Heard a b c (record { rest = f.entries; slots = f.slots ∙ ap (run f.entries) slots }) (reads-follow b c feed feed' before now reads);
+    }
+
+pub none-heard : (a : Node) → a.stopped ≡ None → first_event a.realm.slots.promises.events ≡ None → NoneHeard a
+none-heard a going first = record { going = going; none = no-event a.realm.slots.promises.events first }
+
+pub heard-none : (a : Node) (realm : SeenRealm) → realm.slots ≡ after_event a.realm.slots → Follows a (with_realm realm a)
+heard-none a realm slots = record { entries = Heard ∷ []; slots = slots }
+
+-- jobs
+
+job-more : (idle : Bool) (a b : Node) (realm : SeenRealm) (left most : ℕ) → is_idle b.realm.slots ≡ idle → idle ≡ false → IsWorking left most a b
+    → realm.slots ≡ after_job b.realm.slots → (is_idle a.realm.slots ≡ false) × (GoesBy Worked a (with_realm realm b))
+job-more idle a b realm left most e f (SomeJob some g) slots =
+    (some, goes-then Worked a b (with_realm realm b) g (record { entries = Worked ∷ []; slots = slots }))
+job-more idle a b realm left most e f (NoJob same slots_same) slots =
+    (ap (λ (s : Slots). is_idle s) (sym slots_same) ∙ (e ∙ f), record { rest = []; slots = slots ∙ ap after_job slots_same })
+
+pub working-more : (a b : Node) (realm : SeenRealm) (left fewer most : ℕ) → is_idle b.realm.slots ≡ false → IsWorking left most a b → realm.slots ≡ after_job b.realm.slots
+    → IsWorking fewer most a (with_realm realm b)
+working-more a b realm left fewer most idle w slots = let m = job-more false a b realm left most idle refl w slots in SomeJob m.0 m.1
+
+pub not_idle : (idle : Bool) → true ≡ not idle → idle ≡ false
+not_idle true e = absurd (cc)
+not_idle false e = refl
+
+-- no job is queued any more
+pub worked-idle : (a b : Node) (realm : SeenRealm) (left most : ℕ) → is_idle b.realm.slots ≡ true → realm.slots ≡ b.realm.slots → IsWorking left most a b → HasWorked a (with_realm realm b)
+worked-idle a b realm left most idle same (SomeJob some g) = AnyJob some (goes-then Worked a b (with_realm realm b) g (record { entries = []; slots = same }))
+worked-idle a b realm left most idle same (NoJob e slots) = NoneQueued (ap (λ (s : Slots). is_idle s) same ∙ idle) (same ∙ slots)
+
+-- as many were performed as may be
+pub worked-all : (a b : Node) (left most : ℕ) → left ≡ 0 → 0 < most → IsWorking left most a b → HasWorked a b
+worked-all a b left most none some (SomeJob job g) = AnyJob job g
+worked-all a b left most none some (NoJob e slots) = absurd (omega arith)
+
+-- a turn
+
+begun-by : (a b c : Node) → HasWorked a b → HasHeard b c → IsBegun a c
+begun-by a b c (AnyJob some g) h = JobFirst some (goes-then Worked a b c g (goes-follows Heard b c h.goes))
+begun-by a b c (NoneQueued idle same) h =
+    EventFirst (ap (λ (s : Slots). is_empty s.promises.events) (sym same) ∙ h.some)
+    (record { rest = h.goes.rest; slots = h.goes.slots ∙ ap (run (Heard ∷ h.goes.rest)) same })
+
+pub begun : (a b c : Node) → (b.stopped ≡ None → HasWorked a b) → HasHeard b c → IsBegun a c
+begun a b c w h = begun-by a b c (w h.going) h
+
+busy-not : (s : Slots) → is_idle s ≡ true → is_empty s.promises.events ≡ true → (not (is_idle s) || not (is_empty s.promises.events)) ≡ true → ⊥
+busy-not s e f g = absurd (cc)
+
+first-by : (a b c : Node) → HasWorked a b → Follows b c → NoneHeard b → is_busy a ≡ true → IsBegun a c
+first-by a b c (AnyJob some g) f n busy = JobFirst some (goes-then Worked a b c g f)
+first-by a b c (NoneQueued idle same) f n busy =
+    absurd (busy-not a.realm.slots (ap (λ (s : Slots). is_idle s) (sym same) ∙ idle) (ap (λ (s : Slots). is_empty s.promises.events) (sym same) ∙ n.none) busy)
+
+-- the host heard of nothing
+pub first : (a b c : Node) → (b.stopped ≡ None → HasWorked a b) → Follows b c → NoneHeard b → is_busy a ≡ true → IsBegun a c
+first a b c w f n busy = first-by a b c (w n.going) f n busy
+
+pub works-follow : (a b : Node) → Works a b → Follows a b
+works-follow a b w = record { entries = jobs_in_a_row w.jobs; slots = ap (λ (n : Node). n.realm.slots) w.is ∙ w.slots }
