@@ -7,3 +7,4 @@ mod WorkedAborts
 mod WorkedWrites
 mod WorkedHistories
 mod WorkedPipes
+mod WorkedTransforms

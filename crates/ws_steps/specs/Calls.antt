@@ -1,5 +1,5 @@
 -- The calls on a realm: their checks, what they answer, what they make, and the effects that they cause.
-use Rattle.std.specs.Prelude.{ℕ, Bool, true, false, nat_lt, if◌then◌else◌, List, [], ◌∷◌, ◌++◌, length, Option, Some, None, Result, Ok, Err, slice_set}
+use Rattle.std.specs.Prelude.{ℕ, ◌+◌, Bool, true, false, nat_lt, if◌then◌else◌, List, [], ◌∷◌, ◌++◌, length, Option, Some, None, Result, Ok, Err, slice_set}
 use Rattle.ws_value.specs.declared.ids.LockId.{LockId}
 use Rattle.ws_value.specs.declared.ids.PipeId.{PipeId}
 use Rattle.ws_value.specs.declared.ids.PromiseId.{PromiseId}
@@ -12,14 +12,19 @@ use Rattle.ws_value.specs.declared.value.Value.{Value}
 use Rattle.ws_steps.specs.declared.calls.Answer.{Answer}
 use Rattle.ws_steps.specs.declared.calls.Answer.TheVariants.{Ok as AnswerOk, Fail as AnswerFail}
 use Rattle.ws_steps.specs.declared.calls.Call.{Call}
-use Rattle.ws_steps.specs.declared.calls.Call.TheVariants.{MakeReadable, MakeWritable, GetReader, GetWriter, Cancel, CancelBy, Read, Write, Close, CloseBy, Abort, AbortBy, Closed, Ready, Release, Enqueue, Finish, Fail, Desired, DesiredBy, Pipe, MakeSignal, Trigger, Settle, State, Step}
+use Rattle.ws_steps.specs.declared.calls.Call.TheVariants.{MakeReadable, MakeWritable, MakeTransform, GetReader, GetWriter, Cancel, CancelBy, Read, Write, Close, CloseBy, Abort, AbortBy, Closed, Ready, Release, Enqueue, Finish, Fail, Terminate, Desired, DesiredBy, Pipe, MakeSignal, Trigger, Settle, State, Step}
 use Rattle.ws_steps.specs.declared.calls.Reply.{Reply}
-use Rattle.ws_steps.specs.declared.calls.Reply.TheVariants.{Done as ReplyDone, Made, Lock as ReplyLock, Promise, Signal as ReplySignal, Size, State as ReplyState, Throws, TooMany}
+use Rattle.ws_steps.specs.declared.calls.Reply.TheVariants.{Done as ReplyDone, Made, MadeTwo, Lock as ReplyLock, Promise, Signal as ReplySignal, Size, State as ReplyState, Throws, TooMany}
+use Rattle.ws_steps.specs.declared.calls.HostCall.TheVariants.{Start as HostStart}
 use Rattle.ws_steps.specs.declared.calls.StartBy.{StartBy}
+use Rattle.ws_steps.specs.declared.calls.StartBy.TheVariants.{Now, Later}
 use Rattle.ws_steps.specs.declared.calls.Thrown.TheVariants.{TypeError, Unsupported}
 use Rattle.ws_steps.specs.declared.effects.Effect.{Effect}
-use Rattle.ws_steps.specs.declared.effects.Effect.TheVariants.{Readable, Writable, Pipe as OnPipe, Signal as OnSignal, StartAlgorithm, Settle as SettlePromise, Queue}
-use Rattle.ws_steps.specs.declared.effects.Owner.TheVariants.{Host}
+use Rattle.ws_steps.specs.declared.effects.Effect.TheVariants.{Readable, Writable, Pipe as OnPipe, Signal as OnSignal, Transform as OnTransform, StartAlgorithm, Give, Settle as SettlePromise, Queue, CallHost}
+use Rattle.ws_steps.specs.declared.effects.Gift.TheVariants.{This}
+use Rattle.ws_steps.specs.declared.effects.Owner.{Owner}
+use Rattle.ws_steps.specs.declared.effects.Owner.TheVariants.{Host, HalfOf}
+use Rattle.ws_steps.specs.declared.effects.Use.TheVariants.{React, Resolve}
 use Rattle.ws_steps.specs.declared.locks.Lock.{Lock}
 use Rattle.ws_steps.specs.declared.locks.Lock.TheVariants.{Reader as ReaderLock, Writer as WriterLock, ReleasedWriter, Inner}
 use Rattle.ws_steps.specs.declared.readable.ReadRequest.TheVariants.{Promise as PromiseRequest}
@@ -31,6 +36,10 @@ use Rattle.ws_steps.specs.declared.pipes.SignalOperation.TheVariants.{Add as Add
 use Rattle.ws_steps.specs.declared.promises.Micro.TheVariants.{PipeLook}
 use Rattle.ws_steps.specs.declared.promises.Step.TheVariants.{ReadableStart, WritableStart, PipeEnds}
 use Rattle.ws_steps.specs.declared.readable.SizeBy.{SizeBy}
+use Rattle.ws_steps.specs.declared.readable.SizeBy.TheVariants.{Count}
+use Rattle.ws_steps.specs.declared.transform.Kind.{Kind}
+use Rattle.ws_steps.specs.declared.transform.TransformId.{TransformId}
+use Rattle.ws_steps.specs.declared.transform.TransformOperation.TheVariants.{Enqueue as EnqueueByTransform, Error as ErrorTransform, Terminate as TerminateTransform}
 use Rattle.ws_steps.specs.declared.writable.WritableOperation.TheVariants.{SetUpWriter, ReleaseWriter, Write as WriteChunk, Close as CloseStream, Abort as AbortStream, ErrorIfNeeded}
 use Rattle.ws_steps.specs.declared.writable.Writer.{Writer}
 use Rattle.ws_steps.specs.Promises.{Table, next_id, fresh, watch, is_pending_at}
@@ -38,6 +47,7 @@ use Rattle.ws_steps.specs.Effects.{type_error}
 use Rattle.ws_steps.specs.Pipes as pipe
 use Rattle.ws_steps.specs.Readable as readable
 use Rattle.ws_steps.specs.ReadableLooks as readable_looks
+use Rattle.ws_steps.specs.Transform as transform
 use Rattle.ws_steps.specs.Writable as writable
 use Rattle.ws_steps.specs.WritableLooks as writable_looks
 use Rattle.ws_steps.specs.Slots.{Slots, most_streams, Stream, ReadableStream, WritableStream, Done, nothing, causes, with_promises, has_readable, has_writable, readable_at, writable_at, lock_at, host_at, signal_at, has_signal}
@@ -96,6 +106,42 @@ make_writable mark size start i s =
 -- a stream is made where there may be one more
 abbrev pub make_stream : (StreamId → Slots → Begun) → Slots → Begun
 make_stream make s = if nat_lt (length s.streams) most_streams then make (record { 0 = length s.streams }) s else replies TooMany s
+
+-- two streams are made where there may be two more
+abbrev pub make_two : (StreamId → StreamId → Slots → Begun) → Slots → Begun
+make_two make s =
+    if nat_lt (length s.streams + 1) most_streams
+    then make (record { 0 = length s.streams }) (record { 0 = length s.streams + 1 }) s
+    else replies TooMany s
+
+-- the start promise of a transform stream is resolved with the result of its start algorithm: undefined, or the host's promise
+abbrev pub start_transform : PromiseId → StreamId → StartBy → Effect
+start_transform p j Now = SettlePromise p (Ok Undefined)
+start_transform p j Later = CallHost (HostStart j) (Resolve p)
+
+-- InitializeTransformStream, and SetUpTransformStreamDefaultController: the writable half i and the readable half j, which count their
+-- chunks. The start algorithms of both give the start promise of the transform stream; the controller of each reacts to a promise that is
+-- resolved with it
+abbrev pub make_transform : Kind → ℕ → ℕ → StartBy → StreamId → StreamId → Slots → Begun
+make_transform kind writable_mark readable_mark start i j s =
+    let me : TransformId = record { 0 = length s.transforms } in
+    let t : Table = s.promises in
+    let change : PromiseId = next_id t in
+    let started : PromiseId = next_id (fresh t) in
+    let writable_started : PromiseId = next_id (fresh (fresh t)) in
+    let readable_started : PromiseId = next_id (fresh (fresh (fresh t))) in
+    begun (MadeTwo i j)
+    (causes
+    (Give (This started) (Resolve writable_started)
+    ∷ Give (This writable_started) (React (WritableStart i) None)
+    ∷ Give (This started) (Resolve readable_started)
+    ∷ Give (This readable_started) (React (ReadableStart j) None)
+    ∷ start_transform started j start
+    ∷ [])
+    (record
+    (add_stream (ReadableStream (readable.set_up (HalfOf me) readable_mark Count))
+    (add_stream (WritableStream (writable.set_up (HalfOf me) writable_mark Count)) s))
+    { transforms = s.transforms ++ transform.set_up kind i j change ∷ []; promises = fresh (fresh (fresh (fresh t))) }))
 
 -- a new reader, which takes the stream
 abbrev pub get_reader : StreamId → Slots → Begun
@@ -227,11 +273,46 @@ abbrev pub if_it_can : StreamId → ReadableOperation → Slots → Begun
 if_it_can i operation s =
     if readable.can_close_or_enqueue (readable_at i s) then does (Readable i operation ∷ []) s else throws_type_error s
 
+-- enqueue() of the controller of a readable stream, by whose it is: that of the host's source, or that of a transform stream
+abbrev pub enqueue_by : Value → StreamId → Slots → Owner → Begun
+enqueue_by v i s Host = if_it_can i (EnqueueChunk v) s
+enqueue_by v i s (HalfOf t) =
+    if readable.can_close_or_enqueue (readable_at i s) then does (OnTransform t (EnqueueByTransform v) ∷ []) s else throws_type_error s
+
+abbrev pub enqueue : Value → StreamId → Slots → Begun
+enqueue v i s = enqueue_by v i s (readable_at i s).owner
+
+-- close() of the controller of a host's source; that of a transform stream has none
+abbrev pub finish_by : StreamId → Slots → Owner → Begun
+finish_by i s Host = if_it_can i CloseReadable s
+finish_by i s (HalfOf t) = unsupported s
+
+abbrev pub finish : StreamId → Slots → Begun
+finish i s = finish_by i s (readable_at i s).owner
+
+-- error() of the controller of a readable stream, by whose it is
+abbrev pub fail_readable_by : Plain → StreamId → Slots → Owner → Begun
+fail_readable_by reason i s Host = does (Readable i (ErrorReadable reason) ∷ []) s
+fail_readable_by reason i s (HalfOf t) = does (OnTransform t (ErrorTransform reason) ∷ []) s
+
+-- error() of the controller of a host's sink; the host has no controller of the writable half of a transform stream
+abbrev pub fail_writable_by : Plain → StreamId → Slots → Owner → Begun
+fail_writable_by reason i s Host = does (Writable i (ErrorIfNeeded reason) ∷ []) s
+fail_writable_by reason i s (HalfOf t) = unsupported s
+
 -- the controller of a stream of either kind
 abbrev pub fail : Plain → StreamId → Slots → Begun
 fail reason i s =
-    if has_readable i s then does (Readable i (ErrorReadable reason) ∷ []) s
-    else for_writable i (does (Writable i (ErrorIfNeeded reason) ∷ [])) s
+    if has_readable i s then fail_readable_by reason i s (readable_at i s).owner
+    else for_writable i (λ s. fail_writable_by reason i s (writable_at i s).owner) s
+
+-- terminate() of the controller of a transform stream, by its readable half
+abbrev pub terminate_by : Slots → Owner → Begun
+terminate_by s Host = unsupported s
+terminate_by s (HalfOf t) = does (OnTransform t TerminateTransform ∷ []) s
+
+abbrev pub terminate : StreamId → Slots → Begun
+terminate i s = terminate_by s (readable_at i s).owner
 
 abbrev pub desired : StreamId → Slots → Begun
 desired i s = replies (Size (readable_looks.desired_by (readable_at i s) (readable_at i s).state)) s
@@ -329,6 +410,7 @@ make_signal s = begun (ReplySignal (record { 0 = length s.signals })) (nothing (
 unfoldable pub begin : Call → Slots → Begun
 begin (MakeReadable mark size start) s = make_stream (make_readable mark size start) s
 begin (MakeWritable mark size start) s = make_stream (make_writable mark size start) s
+begin (MakeTransform kind writable_mark readable_mark start) s = make_two (make_transform kind writable_mark readable_mark start) s
 begin (GetReader i) s = unlocked_readable i throws_type_error get_reader s
 begin (GetWriter i) s = unlocked_writable i throws_type_error get_writer s
 begin (Cancel i reason) s = unlocked_readable i rejected (cancel reason) s
@@ -342,9 +424,10 @@ begin (AbortBy l reason) s = by_writer (abort reason) rejected s (lock_at l s)
 begin (Closed l) s = closed_by s (lock_at l s)
 begin (Ready l) s = ready_by s (lock_at l s)
 begin (Release l) s = release l s (lock_at l s)
-begin (Enqueue i v) s = for_readable i (if_it_can i (EnqueueChunk v)) s
-begin (Finish i) s = for_readable i (if_it_can i CloseReadable) s
+begin (Enqueue i v) s = for_readable i (enqueue v i) s
+begin (Finish i) s = for_readable i (finish i) s
 begin (Fail i reason) s = fail reason i s
+begin (Terminate i) s = for_readable i (terminate i) s
 begin (Desired i) s = for_readable i (desired i) s
 begin (DesiredBy l) s = by_writer desired_of_writer throws_type_error s (lock_at l s)
 begin (Pipe source dest prevent signal) s = pipe_call source dest prevent signal s

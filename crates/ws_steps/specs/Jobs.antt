@@ -4,18 +4,30 @@ use Rattle.ws_value.specs.declared.ids.PromiseId.{PromiseId}
 use Rattle.ws_value.specs.declared.value.Plain.{Plain}
 use Rattle.ws_value.specs.declared.value.Plain.TheVariants.{Undefined}
 use Rattle.ws_steps.specs.declared.effects.Effect.{Effect}
-use Rattle.ws_steps.specs.declared.effects.Effect.TheVariants.{Readable, Writable, Pipe, Settle as SettlePromise}
+use Rattle.ws_steps.specs.declared.effects.Effect.TheVariants.{Readable, Writable, Pipe, Transform, Settle as SettlePromise}
 use Rattle.ws_steps.specs.declared.pipes.PipeOperation.TheVariants.{Look, LookReady, WriteChunk, WriteEnded, ActionSettled, PartSettled, NoParts}
 use Rattle.ws_steps.specs.declared.promises.Job.{Job}
 use Rattle.ws_steps.specs.declared.promises.Job.TheVariants.{Reaction, Follow, Settle, Micro as MicroJob}
 use Rattle.ws_steps.specs.declared.promises.Micro.{Micro}
 use Rattle.ws_steps.specs.declared.promises.Micro.TheVariants.{PipeLook, PipeWrite, PipeNoParts}
 use Rattle.ws_steps.specs.declared.promises.Step.{Step}
-use Rattle.ws_steps.specs.declared.promises.Step.TheVariants.{ReadableStart, ReadablePull, ReturnUndefined, WritableStart, WritableWrite, WritableClose, WritableAbort, PipeEnds, PipeReady, PipeWrote, PipeActed, PipePart}
+use Rattle.ws_steps.specs.declared.promises.Step.TheVariants.{ReadableStart, ReadablePull, ReturnUndefined, WritableStart, WritableWrite, WritableClose, WritableAbort, PipeEnds, PipeReady, PipeWrote, PipeActed, PipePart, TransformChanged, Transformed, TransformFlushed, TransformAborted, TransformCancelled}
 use Rattle.ws_steps.specs.declared.readable.ReadableOperation.TheVariants.{StartSettled, PullSettled}
+use Rattle.ws_steps.specs.declared.transform.TransformId.{TransformId}
+use Rattle.ws_steps.specs.declared.transform.TransformOperation.TheVariants.{WriteGoesOn, Error as ErrorTransform, FlushSettled, AbortSettled as SinkAbortSettled, CancelSettled}
 use Rattle.ws_steps.specs.declared.writable.WritableOperation.TheVariants.{StartSettled as WritableStartSettled, WriteSettled, CloseSettled, AbortSettled}
 use Rattle.ws_steps.specs.Promises.{next_job, after_next_job}
 use Rattle.ws_steps.specs.Slots.{Slots, Done, nothing, causes, with_promises}
+
+-- the write that waited for a change promise goes on; on rejection there are no steps
+abbrev pub changed : TransformId → PromiseId → Result Plain Plain → List Effect
+changed t d (Ok v) = Transform t (WriteGoesOn d) ∷ []
+changed t d (Err r) = SettlePromise d (Err r) ∷ []
+
+-- where the transform algorithm failed, the transform stream is errored
+abbrev pub transformed : TransformId → Result Plain Plain → List Effect
+transformed t (Ok v) = []
+transformed t (Err r) = Transform t (ErrorTransform r) ∷ []
 
 -- the steps of a reaction
 abbrev pub steps : Step → Result Plain Plain → List Effect
@@ -31,6 +43,11 @@ steps (PipeReady p) outcome = Pipe p LookReady ∷ []
 steps (PipeWrote p) outcome = Pipe p WriteEnded ∷ []
 steps (PipeActed p) outcome = Pipe p (ActionSettled outcome) ∷ []
 steps (PipePart p) outcome = Pipe p (PartSettled outcome) ∷ []
+steps (TransformChanged t d) outcome = changed t d outcome
+steps (Transformed t) outcome = transformed t outcome
+steps (TransformFlushed t p) outcome = Transform t (FlushSettled p outcome) ∷ []
+steps (TransformAborted t p r) outcome = Transform t (SinkAbortSettled p r outcome) ∷ []
+steps (TransformCancelled t p r) outcome = Transform t (CancelSettled p r outcome) ∷ []
 
 -- what the steps return or throw; where there are none for the outcome, it goes on
 abbrev pub returned : Step → Result Plain Plain → Result Plain Plain
@@ -47,6 +64,11 @@ returned (PipeReady p) outcome = Ok Undefined
 returned (PipeWrote p) outcome = Ok Undefined
 returned (PipeActed p) outcome = Ok Undefined
 returned (PipePart p) outcome = Ok Undefined
+returned (TransformChanged t d) outcome = Ok Undefined
+returned (Transformed t) outcome = outcome
+returned (TransformFlushed t p) outcome = Ok Undefined
+returned (TransformAborted t p r) outcome = Ok Undefined
+returned (TransformCancelled t p r) outcome = Ok Undefined
 
 -- the derived promise, where there is one, is resolved with what the steps return, once they are performed
 abbrev pub resolved : Option PromiseId → Result Plain Plain → List Effect

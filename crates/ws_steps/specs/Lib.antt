@@ -6,6 +6,7 @@ pub mod ReadableLooks
 pub mod Writable
 pub mod WritableLooks
 pub mod Pipes
+pub mod Transform
 pub mod Operations
 pub mod Slots
 pub mod Places

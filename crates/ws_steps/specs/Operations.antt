@@ -8,10 +8,15 @@ use Rattle.ws_steps.specs.declared.pipes.SignalOperation.{SignalOperation}
 use Rattle.ws_steps.specs.declared.pipes.SignalOperation.TheVariants.{Add, Forget, Trigger}
 use Rattle.ws_steps.specs.declared.readable.ReadableOperation.{ReadableOperation}
 use Rattle.ws_steps.specs.declared.readable.ReadableOperation.TheVariants.{InitializeReader, ReleaseReader, Disturb, Read, Cancel, CancelIfReadable, Enqueue, Close, Error, StartSettled, PullSettled}
+use Rattle.ws_steps.specs.declared.transform.Halves.{Halves}
+use Rattle.ws_steps.specs.declared.transform.TransformId.{TransformId}
+use Rattle.ws_steps.specs.declared.transform.TransformOperation.{TransformOperation}
+use Rattle.ws_steps.specs.declared.transform.TransformOperation.TheVariants.{SinkWrite, WriteGoesOn, TransformChunk, Enqueue as EnqueueByTransform, Enqueued, Error as ErrorTransform, Unblock, Terminate, SourcePull, SinkClose, SinkAbort, SourceCancel, FlushSettled, AbortSettled as SinkAbortSettled, CancelSettled}
 use Rattle.ws_steps.specs.declared.writable.WritableOperation.{WritableOperation}
 use Rattle.ws_steps.specs.declared.writable.WritableOperation.TheVariants.{SetUpWriter, ReleaseWriter, Write, Close as CloseWritable, ClosePropagating, Abort, AbortIfWritable, ErrorIfNeeded, HandOn, StartSettled as WritableStartSettled, WriteSettled, CloseSettled, AbortSettled}
 use Rattle.ws_steps.specs.Pipes as pipe
 use Rattle.ws_steps.specs.Readable as readable
+use Rattle.ws_steps.specs.Transform as transform
 use Rattle.ws_steps.specs.Writable as writable
 
 abbrev pub readable_operation : StreamId → ReadableOperation → readable.Acts → readable.Acts
@@ -36,7 +41,7 @@ writable_operation i (ClosePropagating p) a = writable.close_with_error_propagat
 writable_operation i (Abort r p) a = writable.stream_abort i r p a
 writable_operation i (AbortIfWritable r p) a = writable.abort_if_writable i r p a
 writable_operation i (ErrorIfNeeded e) a = writable.controller_error_if_needed i e a
-writable_operation i HandOn a = writable.hand_on i a
+writable_operation i (HandOn taker) a = writable.hand_on i taker a
 writable_operation i (WritableStartSettled outcome) a = writable.start_settled i outcome a
 writable_operation i (WriteSettled outcome) a = writable.write_settled i outcome a
 writable_operation i (CloseSettled outcome) a = writable.close_settled i outcome a
@@ -59,3 +64,20 @@ abbrev pub signal_operation : SignalOperation → pipe.Signal → pipe.Signalled
 signal_operation (Add p) x = pipe.add_pipe p x
 signal_operation (Forget p) x = pipe.forget_pipe p x
 signal_operation (Trigger r) x = pipe.trigger r x
+
+abbrev pub transform_operation : TransformId → Halves → TransformOperation → transform.Acts → transform.Acts
+transform_operation me halves (SinkWrite u) a = transform.sink_write me u a
+transform_operation me halves (WriteGoesOn d) a = transform.write_goes_on me halves d a
+transform_operation me halves (TransformChunk v d) a = transform.transform_chunk me halves v d a
+transform_operation me halves (EnqueueByTransform v) a = transform.enqueue me v a
+transform_operation me halves Enqueued a = transform.enqueued halves a
+transform_operation me halves (ErrorTransform e) a = transform.transform_error me e a
+transform_operation me halves Unblock a = transform.unblock a
+transform_operation me halves Terminate a = transform.terminate me a
+transform_operation me halves (SourcePull u) a = transform.source_pull u a
+transform_operation me halves (SinkClose u) a = transform.sink_close me u a
+transform_operation me halves (SinkAbort r u) a = transform.sink_abort me r u a
+transform_operation me halves (SourceCancel r u) a = transform.source_cancel me r u a
+transform_operation me halves (FlushSettled p outcome) a = transform.flush_settled p halves outcome a
+transform_operation me halves (SinkAbortSettled p r outcome) a = transform.abort_settled p halves r outcome a
+transform_operation me halves (CancelSettled p r outcome) a = transform.cancel_settled me p halves r outcome a

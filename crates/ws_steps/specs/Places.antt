@@ -10,7 +10,7 @@ use Rattle.ws_value.specs.declared.value.Outcome.TheVariants.{Pending, Fulfilled
 use Rattle.ws_steps.specs.declared.calls.StartBy.{StartBy}
 use Rattle.ws_steps.specs.declared.calls.StartBy.TheVariants.{Now, Later}
 use Rattle.ws_steps.specs.declared.effects.Effect.{Effect}
-use Rattle.ws_steps.specs.declared.effects.Effect.TheVariants.{Readable, Writable, Pipe, Signal, StartAlgorithm, PullAlgorithm, CancelAlgorithm, WriteAlgorithm, CloseAlgorithm, AbortAlgorithm, ChunkSteps, CloseSteps, ErrorSteps, Give, Settle, Queue, CallHost}
+use Rattle.ws_steps.specs.declared.effects.Effect.TheVariants.{Readable, Writable, Pipe, Signal, Transform, StartAlgorithm, PullAlgorithm, CancelAlgorithm, WriteAlgorithm, CloseAlgorithm, AbortAlgorithm, ChunkSteps, CloseSteps, ErrorSteps, Give, Settle, Queue, CallHost}
 use Rattle.ws_steps.specs.declared.effects.Gift.{Gift}
 use Rattle.ws_steps.specs.declared.effects.Gift.TheVariants.{This, Fresh}
 use Rattle.ws_steps.specs.declared.pipes.PipeOperation.{PipeOperation}
@@ -19,6 +19,10 @@ use Rattle.ws_steps.specs.declared.pipes.SignalOperation.{SignalOperation}
 use Rattle.ws_steps.specs.declared.pipes.SignalOperation.TheVariants.{Add, Forget, Trigger}
 use Rattle.ws_steps.specs.declared.readable.ReadableOperation.{ReadableOperation}
 use Rattle.ws_steps.specs.declared.readable.ReadableOperation.TheVariants.{InitializeReader, ReleaseReader, Disturb, Read, Cancel, CancelIfReadable, Enqueue, Close, Error, StartSettled, PullSettled}
+use Rattle.ws_steps.specs.declared.transform.Taker.{Taker}
+use Rattle.ws_steps.specs.declared.transform.Taker.TheVariants.{ToHost, ToTransform}
+use Rattle.ws_steps.specs.declared.transform.TransformOperation.{TransformOperation}
+use Rattle.ws_steps.specs.declared.transform.TransformOperation.TheVariants.{SinkWrite, WriteGoesOn, TransformChunk, Enqueue as EnqueueByTransform, Enqueued, Error as ErrorTransform, Unblock, Terminate, SourcePull, SinkClose, SinkAbort, SourceCancel, FlushSettled, AbortSettled as SinkAbortSettled, CancelSettled}
 use Rattle.ws_steps.specs.declared.writable.WritableOperation.{WritableOperation}
 use Rattle.ws_steps.specs.declared.writable.WritableOperation.TheVariants.{SetUpWriter, ReleaseWriter, Write, Close as CloseWritable, ClosePropagating, Abort, AbortIfWritable, ErrorIfNeeded, HandOn, StartSettled as WritableStartSettled, WriteSettled, CloseSettled, AbortSettled}
 use Rattle.ws_steps.specs.Pipes as pipe
@@ -60,44 +64,49 @@ abbrev pub readable_price : Prices → ReadableOperation → ℕ
 readable_price π (InitializeReader closed) = price π 1 0 0 0 0 0 0
 readable_price π ReleaseReader = price π 1 0 0 0 0 0 0
 readable_price π Disturb = price π 1 0 0 0 0 0 0
-readable_price π (Read request) = price π 5 1 2 1 1 0 1
-readable_price π (Cancel r p) = price π 3 1 1 1 1 0 0
-readable_price π (CancelIfReadable r p) = price π 3 1 1 1 1 0 0
-readable_price π (Enqueue v) = price π 3 1 1 1 1 1 0
+readable_price π (Read request) = price π 6 1 2 1 1 0 1
+readable_price π (Cancel r p) = price π 5 2 2 1 1 0 0
+readable_price π (CancelIfReadable r p) = price π 5 2 2 1 1 0 0
+readable_price π (Enqueue v) = price π 4 1 1 1 1 1 0
 readable_price π Close = price π 1 0 0 0 0 0 0
 readable_price π (Error e) = price π 1 0 0 0 0 0 0
-readable_price π (StartSettled outcome) = price π 3 1 1 1 1 0 0
-readable_price π (PullSettled outcome) = price π 3 1 1 1 1 0 0
+readable_price π (StartSettled outcome) = price π 4 1 1 1 1 0 0
+readable_price π (PullSettled outcome) = price π 4 1 1 1 1 0 0
+
+-- of who takes a chunk that is handed on: a call of the host's algorithm, or a transform, which may enqueue into its readable half
+abbrev pub taker_price : Prices → Taker → ℕ
+taker_price π ToHost = price π 1 1 1 1 1 0 0
+taker_price π (ToTransform t d) = price π 7 3 2 1 1 1 0
 
 abbrev pub writable_price : Prices → WritableOperation → ℕ
 writable_price π (SetUpWriter w) = price π 1 0 0 0 0 0 0
 writable_price π ReleaseWriter = price π 1 0 0 0 0 0 0
-writable_price π (Write v p) = price π 4 2 1 1 1 1 1
-writable_price π (CloseWritable p) = price π 4 1 1 1 1 1 0
-writable_price π (ClosePropagating p) = price π 4 1 1 1 1 1 0
-writable_price π (Abort r p) = price π 3 2 1 2 1 0 0
-writable_price π (AbortIfWritable r p) = price π 3 2 1 2 1 0 0
-writable_price π (ErrorIfNeeded e) = price π 3 2 1 1 1 0 0
-writable_price π HandOn = price π 2 1 1 1 1 0 0
-writable_price π (WritableStartSettled outcome) = price π 4 2 1 1 1 0 0
-writable_price π (WriteSettled outcome) = price π 4 2 1 1 1 0 0
-writable_price π (CloseSettled outcome) = price π 3 2 1 1 1 0 0
+writable_price π (Write v p) = price π 12 5 3 1 1 2 1
+writable_price π (CloseWritable p) = price π 12 4 3 1 1 2 0
+writable_price π (ClosePropagating p) = price π 12 4 3 1 1 2 0
+writable_price π (Abort r p) = price π 5 3 2 2 1 0 0
+writable_price π (AbortIfWritable r p) = price π 5 3 2 2 1 0 0
+writable_price π (ErrorIfNeeded e) = price π 5 3 2 1 1 0 0
+writable_price π (HandOn taker) = price π 1 0 0 0 0 0 0 + taker_price π taker
+writable_price π (WritableStartSettled outcome) = price π 12 5 3 1 1 1 0
+writable_price π (WriteSettled outcome) = price π 12 5 3 1 1 1 0
+writable_price π (CloseSettled outcome) = price π 5 3 2 1 1 0 0
 writable_price π (AbortSettled p outcome) = price π 1 0 0 0 0 0 0
 
 -- a look of a pipe, which may read, wait, or shut down with all that its action does
 abbrev pub look_price : Prices → ℕ
-look_price π = price π 10 6 5 3 2 1 1
+look_price π = price π 14 8 7 3 2 2 1
 
 -- the abort of a pipe by its signal, which neither reads nor closes
 abbrev pub abort_price : Prices → ℕ
-abort_price π = price π 10 6 5 3 2 0 0
+abort_price π = price π 14 8 7 3 2 0 0
 
 abbrev pub pipe_price : Prices → PipeOperation → ℕ
 pipe_price π Look = look_price π
 pipe_price π LookReady = look_price π
 pipe_price π (KeepChunk v) = price π 1 0 1 0 0 0 0
 pipe_price π ReadEnded = price π 1 0 1 0 0 0 0
-pipe_price π WriteChunk = look_price π + price π 6 3 2 1 1 1 1
+pipe_price π WriteChunk = look_price π + price π 14 6 4 1 1 2 1
 pipe_price π GoOn = look_price π
 pipe_price π WriteEnded = look_price π
 pipe_price π (AbortPipe r) = abort_price π
@@ -111,17 +120,36 @@ signal_price π (Add p) = price π 1 0 0 0 0 0 0 + (abort_price π + π.member)
 signal_price π (Forget p) = price π 1 0 0 0 0 0 0
 signal_price π (Trigger r) = price π 1 0 0 0 0 0 0
 
+-- an operation of a transform stream; what it does to its halves is counted in
+abbrev pub transform_price : Prices → TransformOperation → ℕ
+transform_price π (SinkWrite u) = price π 10 4 3 1 1 1 0
+transform_price π (WriteGoesOn d) = price π 10 4 3 1 1 1 0
+transform_price π (TransformChunk v d) = price π 7 3 2 1 1 1 0
+transform_price π (EnqueueByTransform v) = price π 6 2 1 1 1 1 0
+transform_price π Enqueued = price π 1 1 0 0 0 0 0
+transform_price π (ErrorTransform e) = price π 8 4 2 1 1 0 0
+transform_price π Unblock = price π 1 1 0 0 0 0 0
+transform_price π Terminate = price π 8 4 2 1 1 0 0
+transform_price π (SourcePull u) = price π 2 1 1 0 0 0 0
+transform_price π (SinkClose u) = price π 3 2 2 1 1 0 0
+transform_price π (SinkAbort r u) = price π 3 2 2 1 1 0 0
+transform_price π (SourceCancel r u) = price π 3 2 2 1 1 0 0
+transform_price π (FlushSettled p outcome) = price π 3 0 0 0 0 0 0
+transform_price π (SinkAbortSettled p r outcome) = price π 3 0 0 0 0 0 0
+transform_price π (CancelSettled p r outcome) = price π 8 4 2 1 1 0 0
+
 abbrev pub effect_price : Prices → Effect → ℕ
 effect_price π (Readable i operation) = readable_price π operation
 effect_price π (Writable i operation) = writable_price π operation
 effect_price π (Pipe p operation) = pipe_price π operation
 effect_price π (Signal a operation) = signal_price π operation
+effect_price π (Transform t operation) = transform_price π operation
 effect_price π (StartAlgorithm i step start) = start_price π start
-effect_price π (PullAlgorithm i) = price π 2 1 1 1 1 0 0
-effect_price π (CancelAlgorithm i r p) = price π 2 1 1 1 1 0 0
-effect_price π (WriteAlgorithm i) = price π 3 1 1 1 1 0 0
-effect_price π (CloseAlgorithm i) = price π 2 1 1 1 1 0 0
-effect_price π (AbortAlgorithm i r p) = price π 2 1 1 1 1 0 0
+effect_price π (PullAlgorithm i) = price π 3 1 1 1 1 0 0
+effect_price π (CancelAlgorithm i r p) = price π 4 2 2 1 1 0 0
+effect_price π (WriteAlgorithm i) = price π 11 4 3 1 1 1 0
+effect_price π (CloseAlgorithm i) = price π 4 2 2 1 1 0 0
+effect_price π (AbortAlgorithm i r p) = price π 4 2 2 1 1 0 0
 effect_price π (ChunkSteps i request v) = price π 2 0 1 0 0 0 0
 effect_price π (CloseSteps i request) = price π 2 0 1 0 0 0 0
 effect_price π (ErrorSteps i request e) = price π 2 0 1 0 0 0 0
@@ -284,11 +312,23 @@ own_signal π (Add p) = π.member
 own_signal π (Forget p) = 0
 own_signal π (Trigger r) = 0
 
+abbrev pub own_transform : Prices → TransformOperation → ℕ
+own_transform π (SinkWrite u) = π.promise
+own_transform π (WriteGoesOn d) = π.promise
+own_transform π Enqueued = π.promise
+own_transform π Unblock = π.promise
+own_transform π (SourcePull u) = π.promise
+own_transform π (SinkClose u) = π.promise
+own_transform π (SinkAbort r u) = π.promise
+own_transform π (SourceCancel r u) = π.promise
+own_transform π _ = 0
+
 abbrev pub own : Prices → Effect → ℕ
 own π (Readable i operation) = own_readable π operation
 own π (Writable i operation) = own_writable π operation
 own π (Pipe p operation) = own_pipe π operation
 own π (Signal a operation) = own_signal π operation
+own π (Transform t operation) = own_transform π operation
 own π (Queue m) = π.job
 own π (StartAlgorithm i step start) = own_start π start
 own π (Give gift u) = own_gift π gift
@@ -297,7 +337,7 @@ own π _ = 0
 
 -- what any call or job may take besides what the records keep. The promise that a reply names takes an event, now or when it settles
 abbrev pub step_price : Prices → ℕ
-step_price π = price π 17 10 8 4 3 2 2 + π.member
+step_price π = price π 28 14 11 4 3 4 2 + π.member
 
 -- what is to be prepared for the next call or job, whichever it is
 abbrev pub room : Prices → Slots → ℕ

@@ -14,6 +14,9 @@ use Rattle.ws_steps.specs.declared.pipes.Ends.{Ends}
 use Rattle.ws_steps.specs.declared.pipes.Phase.TheVariants.{Over}
 use Rattle.ws_steps.specs.declared.readable.ReadableState.TheVariants.{Closed as ReadableClosed}
 use Rattle.ws_steps.specs.declared.readable.SizeBy.TheVariants.{Count}
+use Rattle.ws_steps.specs.declared.transform.Halves.{Halves}
+use Rattle.ws_steps.specs.declared.transform.Kind.TheVariants.{Identity}
+use Rattle.ws_steps.specs.declared.transform.TransformId.{TransformId}
 use Rattle.ws_steps.specs.declared.writable.WritableState.TheVariants.{Closed as WritableClosed}
 use Rattle.ws_steps.specs.declared.writable.Writer.{Writer}
 use Rattle.ws_steps.specs.Promises.{Table, no_promises}
@@ -21,6 +24,7 @@ use Rattle.ws_steps.specs.Effects.{Out}
 use Rattle.ws_steps.specs.Pipes as pipe
 use Rattle.ws_steps.specs.Queues.{total_of}
 use Rattle.ws_steps.specs.Readable as readable
+use Rattle.ws_steps.specs.Transform as transform
 use Rattle.ws_steps.specs.Writable as writable
 
 -- a stream of either kind
@@ -30,6 +34,7 @@ pub data Stream : Type 0 where
 
 pub record Slots : Type 0 where
   pub streams : List Stream
+  pub transforms : List transform.Slots
   pub pipes : List pipe.Slots
   pub signals : List pipe.Signal
   pub locks : List Lock
@@ -41,7 +46,7 @@ pub record Slots : Type 0 where
 
 -- a new realm
 abbrev pub empty : Slots
-empty = record { streams = []; pipes = []; signals = []; locks = []; promises = no_promises; hosts = []; age = 0 }
+empty = record { streams = []; transforms = []; pipes = []; signals = []; locks = []; promises = no_promises; hosts = []; age = 0 }
 
 -- what stands where there is no such stream: one that takes nothing, gives nothing, and has no writer
 abbrev pub no_readable : readable.Slots
@@ -53,6 +58,10 @@ no_writable = record (writable.set_up Host 0 Count) { state = WritableClosed }
 -- the most streams of a realm
 abbrev pub most_streams : ℕ
 most_streams = 1024
+
+-- what stands where there is no such transform stream: one between streams that no realm has
+abbrev pub no_transform : transform.Slots
+no_transform = transform.set_up Identity (record { 0 = most_streams }) (record { 0 = most_streams }) (record { 0 = 0 })
 
 -- what stands where there is no such pipe: one that is over, between streams that no realm has
 abbrev pub no_pipe : pipe.Slots
@@ -126,6 +135,13 @@ as_pipe (Some x) = x
 abbrev pub pipe_at : PipeId → Slots → pipe.Slots
 pipe_at p s = as_pipe (slice_get s.pipes p.0)
 
+abbrev pub as_transform : Option transform.Slots → transform.Slots
+as_transform None = no_transform
+as_transform (Some x) = x
+
+abbrev pub transform_at : TransformId → Slots → transform.Slots
+transform_at t s = as_transform (slice_get s.transforms t.0)
+
 abbrev pub as_signal : Option pipe.Signal → pipe.Signal
 as_signal None = pipe.new_signal
 as_signal (Some x) = x
@@ -161,6 +177,22 @@ ends_of r w =
 -- what a pipe looks at
 abbrev pub ends_at : pipe.Slots → Slots → Ends
 ends_at x s = ends_of (readable_at x.source s) (writable_at x.dest s)
+
+-- what a transform stream with these halves looks at
+abbrev pub halves_of : readable.Slots → writable.Slots → Halves
+halves_of r w =
+    record {
+      can_enqueue = readable.can_close_or_enqueue r;
+      should_pull = readable.should_call_pull r;
+      readable_state = r.state;
+      readable_error = r.stored_error;
+      writable_state = w.state;
+      writable_error = w.stored_error;
+    }
+
+-- what a transform stream looks at
+abbrev pub halves_at : transform.Slots → Slots → Halves
+halves_at x s = halves_of (readable_at x.readable s) (writable_at x.writable s)
 
 -- what an operation leaves, and the effects that it caused
 pub record Done : Type 0 where
@@ -224,3 +256,15 @@ on_signal_at operation a s (Some x) = put_signal a s (operation x)
 -- an operation of a signal, where there is one of this number
 abbrev pub on_signal : (pipe.Signal → pipe.Signalled) → SignalId → Slots → Done
 on_signal operation a s = on_signal_at operation a s (slice_get s.signals a.0)
+
+abbrev pub put_transform : TransformId → Slots → transform.Acts → Done
+put_transform t s a =
+    record { slots = record s { transforms = slice_set s.transforms t.0 a.slots; promises = a.out.promises }; caused = a.out.effects }
+
+abbrev pub on_transform_at : (Halves → transform.Acts → transform.Acts) → TransformId → Slots → Option transform.Slots → Done
+on_transform_at operation t s None = nothing s
+on_transform_at operation t s (Some x) = put_transform t s (operation (halves_at x s) (record { slots = x; out = found s }))
+
+-- an operation of a transform stream, where there is one of this number
+abbrev pub on_transform : (Halves → transform.Acts → transform.Acts) → TransformId → Slots → Done
+on_transform operation t s = on_transform_at operation t s (slice_get s.transforms t.0)

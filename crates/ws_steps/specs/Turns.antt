@@ -14,22 +14,24 @@ use Rattle.ws_steps.specs.declared.calls.HostCall.TheVariants.{Start as HostStar
 use Rattle.ws_steps.specs.declared.calls.StartBy.{StartBy}
 use Rattle.ws_steps.specs.declared.calls.StartBy.TheVariants.{Now, Later}
 use Rattle.ws_steps.specs.declared.effects.Effect.{Effect}
-use Rattle.ws_steps.specs.declared.effects.Effect.TheVariants.{Readable, Writable, Pipe, Signal, StartAlgorithm, PullAlgorithm, CancelAlgorithm, WriteAlgorithm, CloseAlgorithm, AbortAlgorithm, ChunkSteps, CloseSteps, ErrorSteps, Give, Settle, Queue, CallHost}
+use Rattle.ws_steps.specs.declared.effects.Effect.TheVariants.{Readable, Writable, Pipe, Signal, Transform, StartAlgorithm, PullAlgorithm, CancelAlgorithm, WriteAlgorithm, CloseAlgorithm, AbortAlgorithm, ChunkSteps, CloseSteps, ErrorSteps, Give, Settle, Queue, CallHost}
 use Rattle.ws_steps.specs.declared.effects.Gift.TheVariants.{This, Fresh}
 use Rattle.ws_steps.specs.declared.effects.Owner.{Owner}
-use Rattle.ws_steps.specs.declared.effects.Owner.TheVariants.{Host}
+use Rattle.ws_steps.specs.declared.effects.Owner.TheVariants.{Host, HalfOf}
 use Rattle.ws_steps.specs.declared.effects.Use.{Use}
 use Rattle.ws_steps.specs.declared.effects.Use.TheVariants.{React, Resolve}
 use Rattle.ws_steps.specs.declared.pipes.PipeOperation.TheVariants.{KeepChunk, ReadEnded}
 use Rattle.ws_steps.specs.declared.promises.Step.{Step}
-use Rattle.ws_steps.specs.declared.promises.Step.TheVariants.{ReadablePull, ReturnUndefined, WritableClose, WritableAbort}
+use Rattle.ws_steps.specs.declared.promises.Step.TheVariants.{ReadablePull, ReturnUndefined, WritableWrite, WritableClose, WritableAbort}
 use Rattle.ws_steps.specs.declared.readable.ReadRequest.{ReadRequest}
 use Rattle.ws_steps.specs.declared.readable.ReadRequest.TheVariants.{Promise, Pipe as PipeRequest}
+use Rattle.ws_steps.specs.declared.transform.Taker.TheVariants.{ToHost}
+use Rattle.ws_steps.specs.declared.transform.TransformOperation.TheVariants.{SinkWrite, SourcePull, SinkClose, SinkAbort, SourceCancel}
 use Rattle.ws_steps.specs.declared.writable.WritableOperation.TheVariants.{HandOn}
 use Rattle.ws_steps.specs.Promises.{next_id, fresh, settle, answer, tell, use_this, use_gift, queue_micro}
-use Rattle.ws_steps.specs.Operations.{readable_operation, writable_operation, pipe_operation, signal_operation}
+use Rattle.ws_steps.specs.Operations.{readable_operation, writable_operation, pipe_operation, signal_operation, transform_operation}
 use Rattle.ws_steps.specs.Places.{measure}
-use Rattle.ws_steps.specs.Slots.{Slots, Done, nothing, causes, with_promises, owner_at, on_readable, on_writable, on_pipe, on_signal}
+use Rattle.ws_steps.specs.Slots.{Slots, Done, nothing, causes, with_promises, owner_at, on_readable, on_writable, on_pipe, on_signal, on_transform}
 
 -- the algorithms of a stream, by whose they are, and what is done with the promise that they give
 
@@ -42,19 +44,24 @@ start_algorithm i step s Later =
 
 abbrev pub pull_algorithm : StreamId → Use → Owner → List Effect
 pull_algorithm i u Host = CallHost (HostPull i) u ∷ []
+pull_algorithm i u (HalfOf t) = Transform t (SourcePull u) ∷ []
 
 abbrev pub cancel_algorithm : StreamId → Plain → Use → Owner → List Effect
 cancel_algorithm i r u Host = CallHost (HostCancel i r) u ∷ []
+cancel_algorithm i r u (HalfOf t) = Transform t (SourceCancel r u) ∷ []
 
--- the chunk at the front of the queue is handed on
+-- the chunk at the front of the queue is handed on: to the host at once, and to a transform stream once it has no backpressure
 abbrev pub write_algorithm : StreamId → Owner → List Effect
-write_algorithm i Host = Writable i HandOn ∷ []
+write_algorithm i Host = Writable i (HandOn ToHost) ∷ []
+write_algorithm i (HalfOf t) = Transform t (SinkWrite (React (WritableWrite i) None)) ∷ []
 
 abbrev pub close_algorithm : StreamId → Use → Owner → List Effect
 close_algorithm i u Host = CallHost (HostClose i) u ∷ []
+close_algorithm i u (HalfOf t) = Transform t (SinkClose u) ∷ []
 
 abbrev pub abort_algorithm : StreamId → Plain → Use → Owner → List Effect
 abort_algorithm i r u Host = CallHost (HostAbort i r) u ∷ []
+abort_algorithm i r u (HalfOf t) = Transform t (SinkAbort r u) ∷ []
 
 -- the steps of a read request, by whom it answers
 
@@ -85,6 +92,7 @@ row (Readable i operation) s = on_readable (readable_operation i operation) i s
 row (Writable i operation) s = on_writable (writable_operation i operation) i s
 row (Pipe p operation) s = on_pipe (λ ends. pipe_operation p ends operation) p s
 row (Signal a operation) s = on_signal (signal_operation operation) a s
+row (Transform t operation) s = on_transform (λ halves. transform_operation t halves operation) t s
 row (StartAlgorithm i step start) s = start_algorithm i step s start
 row (PullAlgorithm i) s = causes (pull_algorithm i (React (ReadablePull i) None) (owner_at i s)) s
 row (CancelAlgorithm i r p) s = causes (cancel_algorithm i r (React ReturnUndefined (Some p)) (owner_at i s)) s

@@ -31,7 +31,7 @@ use Rattle.ws_steps.specs.Run.{Entry, Called, Worked, Heard, step, reply_to}
 use Rattle.ws_steps.specs.Histories.{is_same, in_step, over}
 
 -- what went through a writable stream: the values that WritableStreamDefaultWriterWrite appended, the values with which its write
--- algorithm was performed, each as it is handed on, how many of these writes were fulfilled, and how often its close algorithm was performed
+-- algorithm was performed, each as it is handed on, to the host's algorithm or to that of a transform stream, how many of these writes were fulfilled, and how often its close algorithm was performed
 pub record Writes : Type 0 where
   pub written : List Value
   pub acted : List Value
@@ -83,7 +83,7 @@ fulfilled_by (Err e) s = 0
 -- an operation of the stream
 abbrev pub operation_writes : WritableOperation → writable.Slots → Writes
 operation_writes (Write v p) s = record no_writes { written = written_by v s }
-operation_writes HandOn s = record no_writes { acted = first_chunk s.queue }
+operation_writes (HandOn taker) s = record no_writes { acted = first_chunk s.queue }
 operation_writes (WriteSettled outcome) s = record no_writes { fulfilled = fulfilled_by outcome s }
 operation_writes _ s = no_writes
 

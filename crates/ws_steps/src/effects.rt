@@ -1,7 +1,7 @@
 //! What stands on a realm's agenda.
 use crate::{
     HostCall, Micro, PipeOperation, ReadRequest, ReadableOperation, SignalOperation, StartBy, Step,
-    WritableOperation,
+    TransformId, TransformOperation, WritableOperation,
 };
 use ws_value::{PipeId, Plain, PromiseId, SignalId, StreamId, Value};
 
@@ -10,6 +10,8 @@ use ws_value::{PipeId, Plain, PromiseId, SignalId, StreamId, Value};
 pub enum Owner {
     /// Those of the host's underlying source or sink.
     Host,
+    /// Those of a transform stream, of which it is a half.
+    HalfOf(TransformId),
 }
 
 /// The promise that an algorithm gives.
@@ -41,6 +43,8 @@ pub enum Effect {
     Pipe(PipeId, PipeOperation),
     /// An operation of a signal.
     Signal(SignalId, SignalOperation),
+    /// An operation of a transform stream.
+    Transform(TransformId, TransformOperation),
     /// The start algorithm of a stream is performed, and the step reacts to its result.
     StartAlgorithm(StreamId, Step, StartBy),
     /// The pull algorithm of a readable stream is performed, and its controller reacts to the promise.

@@ -8,6 +8,7 @@ mod pipes;
 mod promises;
 mod queue;
 mod readable;
+mod transform;
 mod writable;
 
 pub use calls::{Answer, Call, Event, Flags, HostCall, Reply, StartBy, StateIs, Thrown, Word};
@@ -17,4 +18,5 @@ pub use pipes::{Action, Ends, Phase, PipeOperation, Prevent, SignalOperation};
 pub use promises::{Job, Micro, Reaction, Step};
 pub use queue::Queued;
 pub use readable::{ReadRequest, ReadableOperation, ReadableState, SizeBy};
+pub use transform::{Halves, Kind, Taker, TransformId, TransformOperation};
 pub use writable::{PendingAbort, WritableOperation, WritableState, WriteRecord, Writer};

@@ -1,4 +1,5 @@
 //! The parts of a writable stream with a default controller.
+use crate::Taker;
 use ws_value::{Plain, PromiseId, Value};
 
 /// The state of a writable stream.
@@ -56,7 +57,7 @@ pub enum WritableOperation {
     /// WritableStreamDefaultControllerErrorIfNeeded.
     ErrorIfNeeded(Plain),
     /// The chunk at the front of the queue is handed on to the write algorithm.
-    HandOn,
+    HandOn(Taker),
     /// The controller's reaction to its start algorithm.
     StartSettled(Result<Plain, Plain>),
     /// The controller's reaction to its write algorithm.

@@ -1,0 +1,13 @@
+//! Transform streams: the record of one, with a method for each of its operations. Its two halves are streams with records of their own.
+#![tactic(auto)]
+
+mod algorithms;
+mod backpressure;
+mod chunks;
+mod controller;
+mod finish;
+mod operations;
+mod transform;
+
+pub use transform::Transform;
+pub use ws_steps::{Halves, Kind, Taker, TransformId, TransformOperation};
