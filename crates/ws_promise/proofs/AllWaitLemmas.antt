@@ -15,7 +15,7 @@ use Rattle.ws_promise.specs.declared.waiting.Waiting.{Waiting}
 use Rattle.ws_promise.proofs.CountLemmas.{sum_by-slice_set, unnoted_in-cons}
 use Rattle.ws_promise.proofs.CountedLemmas.{Counted-push, Counted-settle, Counted-react, Counted-set, Counted-empty}
 use Rattle.ws_promise.proofs.EntryLemmas.{entries_from-push, entries_from-set, entries_from-settle, entries_from-react, entries_from-elsewhere, entries_from-waits, slice_get-entries_from}
-use Rattle.ws_promise.proofs.WaitingLemmas.{waiting_on-elsewhere_other, length-waiting_both}
+use Rattle.ws_promise.proofs.WaitingLemmas.{waiting_on-elsewhere_other, waiting_on-nobody, length-waiting_both}
 
 at_most : (b : Bool) (n : ℕ) → (if b then n else 0) ≤ n
 at_most true n = omega arith
@@ -48,14 +48,10 @@ reactions_in-le ss ws = omega (arith, reactions_in-bound 0 (length ss) ss ws (om
 pub reactions_in-all_wait : (ss : List (Option Slot)) (ws : List Waiting) → AllWait ss ws → reactions_in (entries_from 0 ss ws) ≡ length ws
 reactions_in-all_wait ss ws h = omega (arith, h.pending, reactions_in-le ss ws, waiting_in-bound (entries_from 0 ss ws))
 
-none_of_length : {A : Type 0} (xs : List A) → length xs ≡ 0 → xs ≡ []
-none_of_length {A} [] h = refl
-none_of_length {A} (x ∷ xs) h = absurd (omega arith)
-
 -- nobody waits for a promise that isn't there yet
 pub waiting_on_none : (ss : List (Option Slot)) (ws : List Waiting) → AllWait ss ws → waiting_on (length ss) ws ≡ []
 waiting_on_none ss ws h =
-    none_of_length (waiting_on (length ss) ws) (omega (arith, h.pending, reactions_in-bound 0 (length ss) ss ws (omega arith), waiting_in-bound (entries_from 0 ss ws)))
+    waiting_on-nobody (length ss) ws (omega (arith, h.pending, reactions_in-bound 0 (length ss) ss ws (omega arith), waiting_in-bound (entries_from 0 ss ws)))
 
 waiting_of-pending : (rs : List Reaction) (s : Slot) → is_pending s.outcome ≡ true → waiting_of (Some (entry_with rs s)) ≡ length rs
 waiting_of-pending rs s h = rw h refl
@@ -63,13 +59,13 @@ waiting_of-pending rs s h = rw h refl
 waiting_of-none : (s : Slot) → waiting_of (Some (entry_with [] s)) ≡ 0
 waiting_of-none s = omega (arith, at_most (is_pending s.outcome) 0)
 
+-- a new promise. In this lemma and in each below, that all wait for pending promises comes first
 push-pending : (ss : List (Option Slot)) (ws : List Waiting) (s : Slot) → AllWait ss ws → length ws ≡ waiting_in (entries_from 0 (ss ++ Some s ∷ []) ws)
 push-pending ss ws s h =
     let was = h.pending in
     rw (entries_from-push 0 (length ss) ss (Some s) ws (omega arith), waiting_on_none ss ws h)
     (omega (arith, sum_by-append waiting_of (entries_from 0 ss ws) (Some (entry_with [] s) ∷ []), sum_by-cons waiting_of (Some (entry_with [] s)) [], waiting_of-none s))
 
--- a new promise
 pub AllWait-push : (ss : List (Option Slot)) (ws : List Waiting) (s : Slot) → s.waits ≡ 0 → AllWait ss ws → AllWait (ss ++ Some s ∷ []) ws
 AllWait-push ss ws s z h = record {
   pending = push-pending ss ws s h;
