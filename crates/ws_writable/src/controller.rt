@@ -7,8 +7,23 @@ ghost use Rattle.ws_writable.specs.Seen.{HasQueueRoom, acts_of, is_chunk};
 
 use crate::Writable;
 use ws_promise::{Agenda, Promises};
-use ws_steps::{Effect, HostCall, Step, Use, WriteRecord};
-use ws_value::StreamId;
+use ws_steps::{Effect, HostCall, Step, Taker, TransformOperation, Use, WriteRecord};
+use ws_value::{StreamId, Value};
+
+/// A chunk is taken: the host's write algorithm is called with it, or a transform algorithm is performed.
+fn taken_by(me: StreamId, chunk: Value, taker: Taker) -> Effect
+    ensures { result ≡ rows.taken_by me chunk taker }
+{
+    match taker {
+        Taker::ToHost => Effect::CallHost(
+            HostCall::Write(me, chunk),
+            Use::React(Step::WritableWrite(me), None),
+        ),
+        Taker::ToTransform(t, promise) => {
+            Effect::Transform(t, TransformOperation::TransformChunk(chunk, promise))
+        }
+    }
+}
 
 impl Writable {
     /// WritableStreamDefaultControllerProcessWrite.
@@ -57,11 +72,11 @@ impl Writable {
         matches!(self.queue.first(), Some(WriteRecord::Chunk(_)))
     }
 
-    /// The chunk at the front of the queue is handed on to the host. Its place, with its size, stays.
+    /// The chunk at the front of the queue is handed on. Its place, with its size, stays.
     #[tactic(auto, unfolding(ws_steps::specs::Writable::hand_on))]
-    pub fn hand_on(&mut self, me: StreamId, fx: &mut Agenda)
+    pub fn hand_on(&mut self, me: StreamId, taker: Taker, fx: &mut Agenda)
         requires effect_room { HasEffectRoom 1 fx.old }
-        ensures row { (p : Seen) → acts_of self.new p fx.new ≡ rows.hand_on me (acts_of self.old p fx.old) }
+        ensures row { (p : Seen) → acts_of self.new p fx.new ≡ rows.hand_on me taker (acts_of self.old p fx.old) }
         ensures room { self.new.room ≡ self.old.room }
         ensures effect_room { fx.new.capacity ≡ fx.old.capacity }
     {
@@ -69,8 +84,7 @@ impl Writable {
             return;
         }
         if let Some(WriteRecord::Chunk(chunk)) = self.queue.take_first(WriteRecord::InFlight) {
-            let u = Use::React(Step::WritableWrite(me), None);
-            fx.push(Effect::CallHost(HostCall::Write(me, chunk), u));
+            fx.push(taken_by(me, chunk, taker));
         }
     }
 

@@ -43,7 +43,7 @@ impl Writable {
                 self.abort_if_writable(me, p, fx, reason, promise)
             }
             WritableOperation::ErrorIfNeeded(e) => self.controller_error_if_needed(me, p, fx, e),
-            WritableOperation::HandOn => self.hand_on(me, fx),
+            WritableOperation::HandOn(taker) => self.hand_on(me, taker, fx),
             WritableOperation::StartSettled(outcome) => self.start_settled(me, p, fx, outcome),
             WritableOperation::WriteSettled(outcome) => self.write_settled(me, p, fx, outcome),
             WritableOperation::CloseSettled(outcome) => self.close_settled(me, p, fx, outcome),

@@ -258,7 +258,7 @@ impl Writable {
         self.start_erroring(me, p, fx, reason);
     }
 
-    /// The host's sink hears of its first abort by a signal.
+    /// The host's sink hears of its first abort by a signal; nobody does for the half of a transform stream.
     fn signal(&mut self, me: StreamId, p: &mut Promises, reason: Plain)
         requires event_room { HasEventRoom 1 p.old }
         ensures row { (fx : SeenAgenda) → acts_of self.new p.new fx
@@ -269,6 +269,7 @@ impl Writable {
     {
         match self.owner {
             Owner::Host => p.tell(Event::Signal { stream: me, reason }),
+            Owner::HalfOf(_) => {}
         }
     }
 
