@@ -1,16 +1,17 @@
 -- The age of a realm counts its calls and jobs, over every run.
 use Rattle.std.proofs.Common.{◌≡◌, ◌+◌, ℕ, [], ◌∷◌, refl, sym, ◌∙◌, add-zero, arith}
 use Rattle.ws_steps.specs.declared.{calls.Call.{Call}, calls.StartBy.TheVariants.{Now, Later}, calls.Reply.{Reply}, calls.Reply.TheVariants.{Promise}, effects.Effect.{Effect}}
-use Rattle.ws_steps.specs.declared.{effects.Effect.TheVariants.{Readable, Writable, Pipe, Signal, StartAlgorithm, ChunkSteps, CloseSteps, ErrorSteps}, promises.Job.{Job}}
+use Rattle.ws_steps.specs.declared.{effects.Effect.TheVariants.{Readable, Writable, Pipe, Signal, Transform, StartAlgorithm, ChunkSteps, CloseSteps, ErrorSteps}, promises.Job.{Job}}
 use Rattle.ws_steps.specs.declared.readable.ReadRequest.TheVariants.{Promise as PromiseRequest, Pipe as PipeRequest}
 use Rattle.std.specs.Prelude.{Option, Some, None, slice_get}
 use Rattle.ws_value.specs.declared.ids.PipeId.{PipeId}
 use Rattle.ws_value.specs.declared.ids.SignalId.{SignalId}
-use Rattle.ws_steps.specs.declared.{pipes.PipeOperation.{PipeOperation}, pipes.SignalOperation.{SignalOperation}}
-use Rattle.ws_steps.specs.Operations.{pipe_operation, signal_operation}
+use Rattle.ws_steps.specs.declared.{pipes.PipeOperation.{PipeOperation}, pipes.SignalOperation.{SignalOperation}, transform.TransformId.{TransformId}, transform.TransformOperation.{TransformOperation}}
+use Rattle.ws_steps.specs.Operations.{pipe_operation, signal_operation, transform_operation}
 use Rattle.ws_steps.specs.Pipes as pipe
+use Rattle.ws_steps.specs.Transform as transform
 use Rattle.ws_steps.specs.Promises.{next_job}
-use Rattle.ws_steps.specs.Slots.{Slots, Done, has_readable, has_writable, on_pipe_at, on_signal_at}
+use Rattle.ws_steps.specs.Slots.{Slots, Done, has_readable, has_writable, on_pipe_at, on_signal_at, on_transform_at}
 use Rattle.ws_steps.specs.Turns.{row, performed, call_host}
 use Rattle.ws_steps.specs.Jobs.{job_begun, begin_job}
 use Rattle.ws_steps.specs.Calls.{begin, named}
@@ -28,12 +29,17 @@ signal-age : (a : SignalId) (operation : SignalOperation) (s : Slots) (o : Optio
 signal-age a operation s None = refl
 signal-age a operation s (Some x) = refl
 
+transform-age : (t : TransformId) (operation : TransformOperation) (s : Slots) (o : Option transform.Slots) → (on_transform_at (λ halves. transform_operation t halves operation) t s o).slots.age ≡ s.age
+transform-age t operation s None = refl
+transform-age t operation s (Some x) = refl
+
 row-age : (e : Effect) (s : Slots) → (row e s).slots.age ≡ s.age
 unfolding row call_host
 row-age (Readable i operation) s = either (λ (d : Done). d.slots.age ≡ s.age) (has_readable i s) _ _ (λ e. refl) (λ e. refl)
 row-age (Writable i operation) s = either (λ (d : Done). d.slots.age ≡ s.age) (has_writable i s) _ _ (λ e. refl) (λ e. refl)
 row-age (Pipe p operation) s = pipe-age p operation s (slice_get s.pipes p.0)
 row-age (Signal a operation) s = signal-age a operation s (slice_get s.signals a.0)
+row-age (Transform t operation) s = transform-age t operation s (slice_get s.transforms t.0)
 row-age (StartAlgorithm i step Now) s = refl
 row-age (StartAlgorithm i step Later) s = refl
 row-age (ChunkSteps i (PromiseRequest p) v) s = refl
@@ -49,7 +55,7 @@ performed-age d = performed-goes tt (λ f g. tt) untold (λ e s. tt) (λ h s es.
 
 pub begin-age : (c : Call) (s : Slots) → (begin c s).done.slots.age ≡ s.age
 begin-age c s =
-    begin-makes (λ z. z.age ≡ s.age) (record { promise = λ z h. h; locks = λ z ls h. h; hosts = λ z hs h. h; pipe = λ z i j p a q h. h; signal = λ z h. h; readable = λ z m b h. h; writable = λ z m b h. h }) c s refl
+    begin-makes (λ z. z.age ≡ s.age) (record { promise = λ z h. h; locks = λ z ls h. h; hosts = λ z hs h. h; pipe = λ z i j p a q h. h; signal = λ z h. h; transform = λ z k i j p h. h; readable = λ z o m b h. h; writable = λ z o m b h. h }) c s refl
 
 pub named-age : (reply : Reply) (s : Slots) → (named reply s).age ≡ s.age
 named-age (Promise p) s = refl

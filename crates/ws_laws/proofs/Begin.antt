@@ -5,16 +5,17 @@ use Rattle.ws_value.specs.declared.ids.SignalId.{SignalId}
 use Rattle.ws_value.specs.declared.ids.StreamId.{StreamId}
 use Rattle.ws_value.specs.declared.value.Value.{Value}
 use Rattle.ws_steps.specs.declared.{calls.Call.{Call}, calls.Call.TheVariants.{Enqueue as EnqueueCall}, readable.ReadableOperation.TheVariants.{Enqueue}, effects.Effect.{Effect}}
-use Rattle.ws_steps.specs.declared.{effects.Effect.TheVariants.{Readable, Writable, Pipe, Signal, StartAlgorithm, Give, Settle, Queue}, pipes.Prevent.{Prevent}, locks.Lock.{Lock}, promises.Job.{Job}, readable.SizeBy.{SizeBy}}
+use Rattle.ws_steps.specs.declared.{effects.Effect.TheVariants.{Readable, Writable, Pipe, Signal, Transform, StartAlgorithm, Give, Settle, Queue, CallHost}, pipes.Prevent.{Prevent}, locks.Lock.{Lock}, promises.Job.{Job}, readable.SizeBy.{SizeBy}}
 use Rattle.ws_steps.specs.declared.writable.WritableOperation.TheVariants.{HandOn}
 use Rattle.ws_steps.specs.Promises.{Table, fresh, is_pending_at}
 use Rattle.ws_steps.specs.Pipes as pipes
 use Rattle.ws_steps.specs.Readable as readable
+use Rattle.ws_steps.specs.Transform as transforms
 use Rattle.ws_steps.specs.Writable as writable
 use Rattle.ws_steps.specs.Slots.{Slots, ReadableStream, WritableStream, with_promises, readable_at}
 use Rattle.ws_steps.specs.Jobs.{job_effects}
 use Rattle.ws_steps.specs.Calls.{Begun, begin, add_stream, with_renewed}
-use Rattle.ws_steps.specs.declared.effects.Owner.TheVariants.{Host}
+use Rattle.ws_steps.specs.declared.{calls.HostCall.TheVariants.{Start as HostStart}, effects.Owner.{Owner}, transform.Kind.{Kind}, transform.TransformOperation.TheVariants.{Enqueue as EnqueueByTransform, TransformChunk}}
 use Rattle.ws_laws.proofs.EachCall.{each_call}
 use Rattle.ws_laws.proofs.Lists.{Each, each-map}
 
@@ -26,8 +27,10 @@ pub record Makes (Q : Slots → Type 0) : Type 0 where
   pub pipe : (s : Slots) (source dest : StreamId) (prevent : Prevent) (signal : Option SignalId) (promise : PromiseId) → Q s
       → Q (record s { pipes = s.pipes ++ pipes.set_up source dest prevent signal promise ∷ [] })
   pub signal : (s : Slots) → Q s → Q (record s { signals = s.signals ++ pipes.new_signal ∷ [] })
-  pub readable : (s : Slots) (mark : ℕ) (size : SizeBy) → Q s → Q (add_stream (ReadableStream (readable.set_up Host mark size)) s)
-  pub writable : (s : Slots) (mark : ℕ) (size : SizeBy) → Q s → Q (add_stream (WritableStream (writable.set_up Host mark size)) s)
+  pub transform : (s : Slots) (kind : Kind) (writable readable : StreamId) (change : PromiseId) → Q s
+      → Q (record s { transforms = s.transforms ++ transforms.set_up kind writable readable change ∷ [] })
+  pub readable : (s : Slots) (owner : Owner) (mark : ℕ) (size : SizeBy) → Q s → Q (add_stream (ReadableStream (readable.set_up owner mark size)) s)
+  pub writable : (s : Slots) (owner : Owner) (mark : ℕ) (size : SizeBy) → Q s → Q (add_stream (WritableStream (writable.set_up owner mark size)) s)
 
 module _ (Q : Slots → Type 0) (makes : Makes Q) where
   renewed-makes : (s : Slots) (kept : Bool) → Q s → Q (with_promises (with_renewed s.promises kept) s)
@@ -38,8 +41,10 @@ module _ (Q : Slots → Type 0) (makes : Makes Q) where
   begin-makes c s q = each_call (λ (b : Begun). Q b.done.slots) c s (record {
     unchanged = λ reply. q;
     rejected = makes.promise s q;
-    make_readable = λ mark size start. makes.readable s mark size q;
-    make_writable = λ mark size start. makes.writable s mark size q;
+    make_readable = λ mark size start. makes.readable s _ mark size q;
+    make_writable = λ mark size start. makes.writable s _ mark size q;
+    make_transform = λ kind m n start.
+        makes.promise _ (makes.promise _ (makes.promise _ (makes.promise _ (makes.transform _ kind _ _ _ (makes.readable _ _ n _ (makes.writable s _ m _ q))))));
     get_reader = λ i e. makes.locks _ _ (makes.promise s q);
     get_writer = λ i e. makes.locks _ _ (makes.promise _ (makes.promise s q));
     release_reader = λ l closed i e. makes.locks _ _ (renewed-makes s (readable.is_readable (readable_at i s).state) q);
@@ -51,8 +56,11 @@ module _ (Q : Slots → Type 0) (makes : Makes Q) where
     write = λ l v i e. makes.promise s q;
     close = λ i. makes.promise s q;
     abort = λ reason i e. makes.promise s q;
-    enqueue = λ i v e can. q;
+    enqueue = λ i v e o can. q;
     finish = λ i. q;
+    enqueue_half = λ i t v e o can. q;
+    fail_half = λ t reason. q;
+    terminate = λ t. q;
     fail_readable = λ i reason. q;
     fail_writable = λ i reason. q;
     pipe = λ source dest prevent signal e f l m.
@@ -66,14 +74,18 @@ module _ (Q : Slots → Type 0) (makes : Makes Q) where
 abbrev pub IsFirst : (StreamId → Value → Type 0) → Effect → Type 0
 IsFirst E (Readable i (Enqueue v)) = E i v
 IsFirst E (Readable i operation) = Unit {0}
-IsFirst E (Writable i HandOn) = ⊥
+IsFirst E (Writable i (HandOn taker)) = ⊥
 IsFirst E (Writable i operation) = Unit {0}
 IsFirst E (StartAlgorithm i step start) = Unit {0}
 IsFirst E (Pipe p operation) = Unit {0}
 IsFirst E (Signal a operation) = Unit {0}
+IsFirst E (Transform t (EnqueueByTransform v)) = (i : StreamId) × E i v
+IsFirst E (Transform t (TransformChunk v d)) = ⊥
+IsFirst E (Transform t operation) = Unit {0}
 IsFirst E (Give gift u) = Unit {0}
 IsFirst E (Settle p o) = Unit {0}
 IsFirst E (Queue m) = Unit {0}
+IsFirst E (CallHost (HostStart i) u) = Unit {0}
 IsFirst E _ = ⊥
 
 -- only a call that enqueues begins with it
@@ -97,6 +109,7 @@ Any i v = Unit {0}
 
 first-any : (E : StreamId → Value → Type 0) (e : Effect) → IsFirst E e → IsFirst Any e
 first-any E (Readable i (Enqueue v)) f = tt
+first-any E (Transform t (EnqueueByTransform v)) f = (f.0, tt)
 first-any E _ f = f
 
 pub each-any : (E : StreamId → Value → Type 0) (es : List Effect) → Each (IsFirst E) es → Each (IsFirst Any) es

@@ -1,5 +1,5 @@
 -- What holds of each beginning of a call holds of each call.
-use Rattle.std.proofs.Common.{◌≡◌, ℕ, [], ◌∷◌, length, Option, Some, None, if◌then◌else◌, nat_lt, true, false, refl}
+use Rattle.std.proofs.Common.{◌≡◌, ℕ, ◌+◌, [], ◌∷◌, length, Option, Some, None, if◌then◌else◌, nat_lt, true, false, refl}
 use Rattle.ws_value.specs.declared.ids.HostId.{HostId}
 use Rattle.ws_value.specs.declared.ids.LockId.{LockId}
 use Rattle.ws_value.specs.declared.ids.PromiseId.{PromiseId}
@@ -8,12 +8,13 @@ use Rattle.ws_value.specs.declared.ids.StreamId.{StreamId}
 use Rattle.ws_value.specs.declared.value.Plain.{Plain}
 use Rattle.ws_value.specs.declared.value.Value.{Value}
 use Rattle.ws_steps.specs.declared.{calls.Answer.{Answer}, calls.Call.{Call}}
-use Rattle.ws_steps.specs.declared.calls.Call.TheVariants.{MakeReadable, MakeWritable, GetReader, GetWriter, Cancel, CancelBy, Read, Write, Close, CloseBy, Abort, AbortBy, Closed, Ready, Release, Enqueue, Finish, Fail, Desired, DesiredBy, Pipe, MakeSignal, Trigger, Settle, State, Step}
+use Rattle.ws_steps.specs.declared.calls.Call.TheVariants.{MakeReadable, MakeWritable, MakeTransform, GetReader, GetWriter, Cancel, CancelBy, Read, Write, Close, CloseBy, Abort, AbortBy, Closed, Ready, Release, Enqueue, Finish, Fail, Terminate, Desired, DesiredBy, Pipe, MakeSignal, Trigger, Settle, State, Step}
 use Rattle.ws_steps.specs.declared.{locks.Lock.{Lock}, locks.Lock.TheVariants.{Reader as ReaderLock, Writer as WriterLock, ReleasedWriter, Inner}, calls.Reply.{Reply}}
 use Rattle.ws_steps.specs.declared.{calls.Reply.TheVariants.{Done as ReplyDone, Promise, State as ReplyState, Throws, TooMany}, calls.StartBy.{StartBy}}
-use Rattle.ws_steps.specs.declared.{calls.Thrown.TheVariants.{TypeError, Unsupported}, effects.Effect.TheVariants.{Readable as OnReadable, Writable as OnWritable, Signal as OnSignal}, pipes.Prevent.{Prevent}, pipes.SignalOperation.TheVariants.{Trigger as TriggerSignal}}
+use Rattle.ws_steps.specs.declared.{calls.Thrown.TheVariants.{TypeError, Unsupported}, effects.Effect.TheVariants.{Readable as OnReadable, Writable as OnWritable, Signal as OnSignal, Transform as OnTransform}, effects.Owner.{Owner}, effects.Owner.TheVariants.{Host, HalfOf}, pipes.Prevent.{Prevent}, pipes.SignalOperation.TheVariants.{Trigger as TriggerSignal}}
 use Rattle.ws_steps.specs.declared.readable.ReadableOperation.{ReadableOperation}
 use Rattle.ws_steps.specs.declared.{readable.ReadableOperation.TheVariants.{Enqueue as EnqueueChunk, Close as CloseReadable, Error as ErrorReadable}, readable.SizeBy.{SizeBy}}
+use Rattle.ws_steps.specs.declared.{transform.Kind.{Kind}, transform.TransformId.{TransformId}, transform.TransformOperation.TheVariants.{Enqueue as EnqueueByTransform, Error as ErrorTransform, Terminate as TerminateTransform}}
 use Rattle.ws_steps.specs.declared.{writable.WritableOperation.TheVariants.{Abort as AbortStream, ErrorIfNeeded}, writable.Writer.{Writer}}
 use Rattle.ws_steps.specs.Readable as readable
 use Rattle.ws_steps.specs.ReadableLooks as readable_looks
@@ -30,6 +31,7 @@ pub record Beginnings (P : Begun → Type 0) (c : Call) (s : Slots) : Type 0 whe
   pub rejected : P (calls.rejected s)
   pub make_readable : (mark : ℕ) (size : SizeBy) (start : StartBy) → P (calls.make_readable mark size start (record { 0 = length s.streams }) s)
   pub make_writable : (mark : ℕ) (size : SizeBy) (start : StartBy) → P (calls.make_writable mark size start (record { 0 = length s.streams }) s)
+  pub make_transform : (kind : Kind) (m n : ℕ) (start : StartBy) → P (calls.make_transform kind m n start (record { 0 = length s.streams }) (record { 0 = length s.streams + 1 }) s)
   pub get_reader : (i : StreamId) → readable_looks.is_locked (readable_at i s) ≡ false → P (calls.get_reader i s)
   pub get_writer : (i : StreamId) → writable_looks.is_locked (writable_at i s) ≡ false → P (calls.get_writer i s)
   pub release_reader : (l : LockId) (closed : PromiseId) (i : StreamId) → lock_at l s ≡ Some (ReaderLock (Some i) closed) → P (calls.release_reader l closed i s)
@@ -39,10 +41,13 @@ pub record Beginnings (P : Begun → Type 0) (c : Call) (s : Slots) : Type 0 whe
   pub write : (l : LockId) (v : Value) (i : StreamId) → c ≡ Write l v → P (calls.write v i s)
   pub close : (i : StreamId) → P (calls.close i s)
   pub abort : (reason : Plain) (i : StreamId) → writable.answered_abort (writable_at i s) ≡ None → P (calls.promising (λ p. OnWritable i (AbortStream reason p) ∷ []) s)
-  pub enqueue : (i : StreamId) (v : Value) → c ≡ Enqueue i v → readable.can_close_or_enqueue (readable_at i s) ≡ true → P (calls.does (OnReadable i (EnqueueChunk v) ∷ []) s)
+  pub enqueue : (i : StreamId) (v : Value) → c ≡ Enqueue i v → (readable_at i s).owner ≡ Host → readable.can_close_or_enqueue (readable_at i s) ≡ true → P (calls.does (OnReadable i (EnqueueChunk v) ∷ []) s)
+  pub enqueue_half : (i : StreamId) (t : TransformId) (v : Value) → c ≡ Enqueue i v → (readable_at i s).owner ≡ HalfOf t → readable.can_close_or_enqueue (readable_at i s) ≡ true → P (calls.does (OnTransform t (EnqueueByTransform v) ∷ []) s)
   pub finish : (i : StreamId) → P (calls.does (OnReadable i CloseReadable ∷ []) s)
   pub fail_readable : (i : StreamId) (reason : Plain) → P (calls.does (OnReadable i (ErrorReadable reason) ∷ []) s)
   pub fail_writable : (i : StreamId) (reason : Plain) → P (calls.does (OnWritable i (ErrorIfNeeded reason) ∷ []) s)
+  pub fail_half : (t : TransformId) (reason : Plain) → P (calls.does (OnTransform t (ErrorTransform reason) ∷ []) s)
+  pub terminate : (t : TransformId) → P (calls.does (OnTransform t TerminateTransform ∷ []) s)
   pub pipe : (source dest : StreamId) (prevent : Prevent) (signal : Option SignalId) → has_readable source s ≡ true → has_writable dest s ≡ true
       → readable_looks.is_locked (readable_at source s) ≡ false → writable_looks.is_locked (writable_at dest s) ≡ false → P (calls.pipe_to source dest prevent signal s)
   pub make_signal : P (calls.make_signal s)
@@ -55,6 +60,9 @@ module _ (P : Begun → Type 0) (c : Call) (s : Slots) (o : Beginnings P c s) wh
 
   made_by : (make : StreamId → Slots → Begun) → P (make (record { 0 = length s.streams }) s) → P (calls.make_stream make s)
   made_by make m = either P (nat_lt (length s.streams) most_streams) _ _ (λ e. m) (λ e. o.unchanged TooMany)
+
+  two_by : (make : StreamId → StreamId → Slots → Begun) → P (make (record { 0 = length s.streams }) (record { 0 = length s.streams + 1 }) s) → P (calls.make_two make s)
+  two_by make m = either P (nat_lt (length s.streams + 1) most_streams) _ _ (λ e. m) (λ e. o.unchanged TooMany)
 
   for_readable-each : (operation : Slots → Begun) (i : StreamId) → P (operation s) → P (calls.for_readable i operation s)
   for_readable-each operation i done = either P (has_readable i s) (operation s) (unsupported s) (λ e. done) (λ e. unsupported_each)
@@ -125,10 +133,31 @@ module _ (P : Begun → Type 0) (c : Call) (s : Slots) (o : Beginnings P c s) wh
   settle-each h answer (Some p) e = o.settle h answer p e
 
   if_it_can-each : (i : StreamId) (operation : ReadableOperation)
-      → (readable.can_close_or_enqueue (readable_at i s) ≡ true → P (calls.does (OnReadable i operation ∷ []) s)) → P (calls.for_readable i (calls.if_it_can i operation) s)
+      → (readable.can_close_or_enqueue (readable_at i s) ≡ true → P (calls.does (OnReadable i operation ∷ []) s)) → P (calls.if_it_can i operation s)
   if_it_can-each i operation done =
-      for_readable-each (calls.if_it_can i operation) i
-      (either P (readable.can_close_or_enqueue (readable_at i s)) (calls.does (OnReadable i operation ∷ []) s) (calls.throws_type_error s) done (λ e. o.unchanged (Throws TypeError)))
+      either P (readable.can_close_or_enqueue (readable_at i s)) (calls.does (OnReadable i operation ∷ []) s) (calls.throws_type_error s) done (λ e. o.unchanged (Throws TypeError))
+
+  enqueue-each : (i : StreamId) (v : Value) (owner : Owner) → c ≡ Enqueue i v → (readable_at i s).owner ≡ owner → P (calls.enqueue_by v i s owner)
+  enqueue-each i v Host e is = if_it_can-each i (EnqueueChunk v) (λ can. o.enqueue i v e is can)
+  enqueue-each i v (HalfOf t) e is =
+      either P (readable.can_close_or_enqueue (readable_at i s)) (calls.does (OnTransform t (EnqueueByTransform v) ∷ []) s) (calls.throws_type_error s)
+      (λ can. o.enqueue_half i t v e is can) (λ e. o.unchanged (Throws TypeError))
+
+  finish-each : (i : StreamId) (owner : Owner) → P (calls.finish_by i s owner)
+  finish-each i Host = if_it_can-each i CloseReadable (λ e. o.finish i)
+  finish-each i (HalfOf t) = unsupported_each
+
+  fail_readable-each : (i : StreamId) (reason : Plain) (owner : Owner) → P (calls.fail_readable_by reason i s owner)
+  fail_readable-each i reason Host = o.fail_readable i reason
+  fail_readable-each i reason (HalfOf t) = o.fail_half t reason
+
+  fail_writable-each : (i : StreamId) (reason : Plain) (owner : Owner) → P (calls.fail_writable_by reason i s owner)
+  fail_writable-each i reason Host = o.fail_writable i reason
+  fail_writable-each i reason (HalfOf t) = unsupported_each
+
+  terminate-each : (owner : Owner) → P (calls.terminate_by s owner)
+  terminate-each Host = unsupported_each
+  terminate-each (HalfOf t) = o.terminate t
 
   for_signal-each : (operation : Slots → Begun) (a : SignalId) → P (operation s) → P (calls.for_signal a operation s)
   for_signal-each operation a done = either P (has_signal a s) (operation s) (unsupported s) (λ e. done) (λ e. unsupported_each)
@@ -151,6 +180,7 @@ pub each_call : (P : Begun → Type 0) (c : Call) (s : Slots) → Beginnings P c
 unfolding begin
 each_call P (MakeReadable mark size start) s o = made_by P _ s o (calls.make_readable mark size start) (o.make_readable mark size start)
 each_call P (MakeWritable mark size start) s o = made_by P _ s o (calls.make_writable mark size start) (o.make_writable mark size start)
+each_call P (MakeTransform kind m n start) s o = two_by P _ s o (calls.make_transform kind m n start) (o.make_transform kind m n start)
 each_call P (GetReader i) s o = unlocked_readable-each P _ s o calls.throws_type_error calls.get_reader i (o.unchanged (Throws TypeError)) (λ e. o.get_reader i e)
 each_call P (GetWriter i) s o = unlocked_writable-each P _ s o calls.throws_type_error calls.get_writer i (o.unchanged (Throws TypeError)) (λ e. o.get_writer i e)
 each_call P (Cancel i reason) s o = unlocked_readable-each P _ s o calls.rejected (calls.cancel reason) i o.rejected (λ e. o.cancel reason i)
@@ -166,10 +196,12 @@ each_call P (AbortBy l reason) s o =
 each_call P (Closed l) s o = closed-each P _ s o (lock_at l s)
 each_call P (Ready l) s o = ready-each P _ s o (lock_at l s)
 each_call P (Release l) s o = release-each P _ s o l (lock_at l s) refl
-each_call P (Enqueue i v) s o = if_it_can-each P _ s o i (EnqueueChunk v) (λ e. o.enqueue i v refl e)
-each_call P (Finish i) s o = if_it_can-each P _ s o i CloseReadable (λ e. o.finish i)
+each_call P (Enqueue i v) s o = for_readable-each P _ s o (calls.enqueue v i) i (enqueue-each P _ s o i v (readable_at i s).owner refl refl)
+each_call P (Finish i) s o = for_readable-each P _ s o (calls.finish i) i (finish-each P _ s o i (readable_at i s).owner)
 each_call P (Fail i reason) s o =
-    either P (has_readable i s) _ _ (λ e. o.fail_readable i reason) (λ e. for_writable-each P _ s o (calls.does (OnWritable i (ErrorIfNeeded reason) ∷ [])) i (o.fail_writable i reason))
+    either P (has_readable i s) _ _ (λ e. fail_readable-each P _ s o i reason (readable_at i s).owner)
+    (λ e. for_writable-each P _ s o (λ s. calls.fail_writable_by reason i s (writable_at i s).owner) i (fail_writable-each P _ s o i reason (writable_at i s).owner))
+each_call P (Terminate i) s o = for_readable-each P _ s o (calls.terminate i) i (terminate-each P _ s o (readable_at i s).owner)
 each_call P (Desired i) s o = for_readable-each P _ s o (calls.desired i) i (o.unchanged (calls.desired i s).reply)
 each_call P (DesiredBy l) s o =
     by_writer-each P _ s o calls.desired_of_writer calls.throws_type_error (λ i. o.unchanged (calls.desired_of_writer i s).reply) (o.unchanged (Throws TypeError)) (lock_at l s)

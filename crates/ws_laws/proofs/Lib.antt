@@ -8,11 +8,15 @@ pub mod Weights
 pub mod ReadableDoes
 pub mod WritableDoes
 pub mod PipeDoes
+pub mod TransformDoes
 pub mod Rows
 pub mod EachCall
 pub mod Begin
 pub mod Walker
 pub mod OnReadable
+pub mod Order
+pub mod Shapes
+pub mod Halves
 pub mod Stays
 pub mod Watched
 pub mod Throws

@@ -6,15 +6,16 @@ use Rattle.ws_value.specs.declared.ids.SignalId.{SignalId}
 use Rattle.ws_value.specs.declared.ids.StreamId.{StreamId}
 use Rattle.ws_value.specs.declared.value.Value.{Value}
 use Rattle.ws_steps.specs.declared.{calls.Call.{Call}, effects.Effect.{Effect}}
-use Rattle.ws_steps.specs.declared.effects.Effect.TheVariants.{Readable, Writable, Pipe, Signal, StartAlgorithm, PullAlgorithm, CancelAlgorithm, CloseAlgorithm, AbortAlgorithm, ChunkSteps, CloseSteps, ErrorSteps}
-use Rattle.ws_steps.specs.declared.{effects.Owner.TheVariants.{Host}, locks.Lock.{Lock}, promises.Job.{Job}, readable.ReadRequest.{ReadRequest}, readable.ReadRequest.TheVariants.{Promise, Pipe as PipeRequest}}
+use Rattle.ws_steps.specs.declared.effects.Effect.TheVariants.{Readable, Writable, Pipe, Signal, Transform, StartAlgorithm, PullAlgorithm, CancelAlgorithm, WriteAlgorithm, CloseAlgorithm, AbortAlgorithm, ChunkSteps, CloseSteps, ErrorSteps}
+use Rattle.ws_steps.specs.declared.{effects.Owner.{Owner}, locks.Lock.{Lock}, promises.Job.{Job}, readable.ReadRequest.{ReadRequest}, readable.ReadRequest.TheVariants.{Promise, Pipe as PipeRequest}}
 use Rattle.ws_steps.specs.declared.{pipes.PipeOperation.{PipeOperation}, pipes.PipeOperation.TheVariants.{KeepChunk, ReadEnded, PartSettled, NoParts}, pipes.SignalOperation.{SignalOperation}}
-use Rattle.ws_steps.specs.declared.{readable.ReadableOperation.{ReadableOperation}, readable.SizeBy.{SizeBy}}
-use Rattle.ws_steps.specs.Operations.{readable_operation, writable_operation, pipe_operation, signal_operation}
+use Rattle.ws_steps.specs.declared.{readable.ReadableOperation.{ReadableOperation}, readable.SizeBy.{SizeBy}, transform.TransformId.{TransformId}, transform.TransformOperation.{TransformOperation}}
+use Rattle.ws_steps.specs.Operations.{readable_operation, writable_operation, pipe_operation, signal_operation, transform_operation}
 use Rattle.ws_steps.specs.Pipes as piping
 use Rattle.ws_steps.specs.Readable as readable
+use Rattle.ws_steps.specs.Transform as transforms
 use Rattle.ws_steps.specs.Writable as writable
-use Rattle.ws_steps.specs.Slots.{Slots, Stream, ReadableStream, WritableStream, Done, found, ends_at, on_pipe_at, on_signal_at, on_readable, has_readable, is_readable_stream, readable_at, as_readable, no_readable, empty}
+use Rattle.ws_steps.specs.Slots.{Slots, Stream, ReadableStream, WritableStream, Done, found, ends_at, halves_at, on_pipe_at, on_signal_at, on_transform_at, on_readable, has_readable, is_readable_stream, readable_at, as_readable, no_readable, empty}
 use Rattle.ws_steps.specs.Turns.{row}
 use Rattle.ws_steps.specs.Jobs.{job_effects}
 use Rattle.ws_steps.specs.Calls.{begin}
@@ -45,7 +46,7 @@ is_still NoParts = true
 is_still _ = false
 
 -- effects that are neither an operation nor a request's steps of readable stream i, nor an operation of a pipe that causes another, nor
--- one of a signal
+-- one of a signal. One of a transform stream is among them, though it may cause an operation of the stream
 abbrev pub IsForeign : StreamId → Effect → Type 0
 IsForeign i (Readable j operation) = is_same i j ≡ false
 IsForeign i (ChunkSteps j request v) = is_same i j ≡ false
@@ -70,20 +71,27 @@ end-foreign : (i : StreamId) (request : ReadRequest) → EndCauses (IsForeign i)
 end-foreign i (Promise p) = tt
 end-foreign i (PipeRequest p) = refl
 
-foreign-causes : (i : StreamId) (e : Effect) → IsNoPipe e → IsForeign i e → Causes (IsForeign i) e
-foreign-causes i (Readable j operation) n f = record { pull = tt; cancel = λ r p. tt; chunk = λ r v. f; close = λ r. f; error = λ r e. f }
-foreign-causes i (Writable j operation) n f = record { write = tt; close = tt; abort = λ r p. tt; hand_on = λ v. tt }
-foreign-causes i (StartAlgorithm j step start) n f = (λ g u. tt, λ c u. tt)
-foreign-causes i (PullAlgorithm j) n f = λ c u. tt
-foreign-causes i (CancelAlgorithm j r p) n f = λ c u. tt
-foreign-causes i (CloseAlgorithm j) n f = λ c u. tt
-foreign-causes i (AbortAlgorithm j r p) n f = λ c u. tt
-foreign-causes i (Pipe p operation) n f = absurd n
-foreign-causes i (Signal a operation) n f = absurd f
-foreign-causes i (ChunkSteps j request v) n f = chunk-foreign i v request
-foreign-causes i (CloseSteps j request) n f = end-foreign i request
-foreign-causes i (ErrorSteps j request e) n f = end-foreign i request
-foreign-causes i _ n f = tt
+-- other effects than operations of transform streams
+abbrev pub IsNoTransform : Effect → Type 0
+IsNoTransform (Transform t operation) = ⊥
+IsNoTransform _ = Unit {0}
+
+foreign-causes : (i : StreamId) (e : Effect) → IsNoPipe e → IsNoTransform e → IsForeign i e → Causes (IsForeign i) e
+foreign-causes i (Readable j operation) n m f = record { pull = tt; cancel = λ r p. tt; chunk = λ r v. f; close = λ r. f; error = λ r e. f }
+foreign-causes i (Writable j operation) n m f = record { write = tt; close = tt; abort = λ r p. tt; hand_on = λ v. tt; take = λ v t d. tt }
+foreign-causes i (StartAlgorithm j step start) n m f = (λ g u. tt, λ c u. tt)
+foreign-causes i (PullAlgorithm j) n m f = (λ c u. tt, λ t u. tt)
+foreign-causes i (CancelAlgorithm j r p) n m f = (λ c u. tt, λ t u. tt)
+foreign-causes i (WriteAlgorithm j) n m f = (tt, λ t u. tt)
+foreign-causes i (CloseAlgorithm j) n m f = (λ c u. tt, λ t u. tt)
+foreign-causes i (AbortAlgorithm j r p) n m f = (λ c u. tt, λ t u. tt)
+foreign-causes i (Pipe p operation) n m f = absurd n
+foreign-causes i (Transform t operation) n m f = absurd m
+foreign-causes i (Signal a operation) n m f = absurd f
+foreign-causes i (ChunkSteps j request v) n m f = chunk-foreign i v request
+foreign-causes i (CloseSteps j request) n m f = end-foreign i request
+foreign-causes i (ErrorSteps j request e) n m f = end-foreign i request
+foreign-causes i _ n m f = tt
 
 steps-foreign : (i : StreamId) (e : Effect) → AreSteps i e → Causes (IsForeign i) e
 steps-foreign i (ChunkSteps j request v) are = chunk-foreign i v request
@@ -109,6 +117,10 @@ with_pipe p x s = record { locks = s.locks; pipes = slice_set s.pipes p.0 x }
 -- what an operation of a pipe leaves
 abbrev pub piped : PipeId → PipeOperation → Slots → piping.Slots → piping.Acts
 piped p operation s x = pipe_operation p (ends_at x s) operation (record { slots = x; out = found s })
+
+-- what an operation of a transform stream leaves
+abbrev pub transformed : TransformId → TransformOperation → Slots → transforms.Slots → transforms.Acts
+transformed t operation s x = transform_operation t (halves_at x s) operation (record { slots = x; out = found s })
 
 -- K and M at a moment
 pub record Kept {H V : Type 0} (seen : Effect → List V) (i : StreamId) (K : H → Holders → readable.Slots → List V → Type 0) (M : H → Holders → Type 0)
@@ -142,10 +154,13 @@ pub record IsLaw {H V : Type 0} (none : H) (after : H → H → H) (told : Effec
       → K h o r (all_seen seen (signal_operation operation x).effects ++ vs)
   pub no_signal : (a : SignalId) (operation : SignalOperation) (h : H) (o : Holders) (r : readable.Slots) (vs : List V) → K h o r (seen (Signal a operation) ++ vs) → K h o r vs
   pub signal_untold : (a : SignalId) (operation : SignalOperation) (s : Slots) → told (Signal a operation) s ≡ none
+  -- and one of a transform stream
+  pub transform : (t : TransformId) (operation : TransformOperation) (s : Slots) (x : transforms.Slots) (es : List Effect) → P s (Transform t operation ∷ es) → slice_get s.transforms t.0 ≡ Some x
+      → (h : H) → K h (holders s) (readable_at i s) (all_seen seen es) → K h (holders s) (readable_at i s) (all_seen seen (transformed t operation s x).out.effects ++ all_seen seen es)
   -- a call makes pipes, takes and lets go of locks, and begins with its effects
   pub call : (c : Call) (s : Slots) (h : H) → let z : Slots = (begin c s).done.slots in Kept seen i K M h (holders s) z.streams [] → Kept seen i K M h (holders z) z.streams (begin c s).done.caused
   pub job : (job : Job) (h : H) (o : Holders) (r : readable.Slots) → K h o r [] → K h o r (all_seen seen (job_effects job))
-  pub made : (mark : ℕ) (size : SizeBy) (h : H) (o : Holders) → M h o → K h o no_readable [] → K h o (readable.set_up Host mark size) []
+  pub made : (owner : Owner) (mark : ℕ) (size : SizeBy) (h : H) (o : Holders) → M h o → K h o no_readable [] → K h o (readable.set_up owner mark size) []
   pub known_first : P empty []
   pub empty : K none no_holders no_readable []
   pub unmade : M none no_holders
@@ -161,10 +176,10 @@ module _ {H V : Type 0} (none : H) (after : H → H → H) (told : Effect → Sl
   none_seen [] f = refl
   none_seen (e ∷ es) f = rw (law.unseen e f.0, none_seen es f.1) refl
 
-  foreign : (h : H) (s : Slots) (e : Effect) (es : List Effect) → IsNoPipe e → IsForeign i e → has_readable i (row e s).slots ≡ has_readable i s
+  foreign : (h : H) (s : Slots) (e : Effect) (es : List Effect) → IsNoPipe e → IsNoTransform e → IsForeign i e → has_readable i (row e s).slots ≡ has_readable i s
       → readable_at i (row e s).slots ≡ readable_at i s → Is h s (e ∷ es) → Is (after h (told e s)) (row e s).slots ((row e s).caused ++ es)
-  foreign h s e es n f there same k =
-      let caused = none_seen (row e s).caused (row-causes (IsForeign i) e s (foreign-causes i e n f)) in
+  foreign h s e es n m f there same k =
+      let caused = none_seen (row e s).caused (row-causes (IsForeign i) e s (foreign-causes i e n m f)) in
       let held : K h (holders s) (readable_at i s) (all_seen seen es) = rw (law.unseen e f) at k.held in
       rw (law.untold e s f, law.history.right h, row-locks e s, row-pipes e s n)
       (record { unmade = λ n. k.unmade (sym there ∙ n); held = rw (same, all_seen-append seen (row e s).caused es, caused) held })
@@ -188,16 +203,16 @@ module _ {H V : Type 0} (none : H) (after : H → H → H) (told : Effect → Sl
   unfolding row
   by_place j operation h s es false e k =
       let other = on_readable-other (readable_operation j operation) j s i (sym e) in
-      foreign h s (Readable j operation) es tt (sym e) (ap is_readable_stream other) (ap as_readable other) k
+      foreign h s (Readable j operation) es tt tt (sym e) (ap is_readable_stream other) (ap as_readable other) k
   by_place j operation h s es true e k =
       let is : j ≡ i = sym (same_id i j (sym e)) in
       rw is (here operation h s es (has_readable i s) refl (rw is at k))
 
-  by_steps : (e : Effect) (h : H) (s : Slots) (es : List Effect) (same : Bool) → IsNoPipe e → (same ≡ true → AreSteps i e) → (same ≡ false → IsForeign i e) → (row e s).slots.streams ≡ s.streams
+  by_steps : (e : Effect) (h : H) (s : Slots) (es : List Effect) (same : Bool) → IsNoPipe e → IsNoTransform e → (same ≡ true → AreSteps i e) → (same ≡ false → IsForeign i e) → (row e s).slots.streams ≡ s.streams
       → Is h s (e ∷ es) → Is (after h (told e s)) (row e s).slots ((row e s).caused ++ es)
-  by_steps e h s es false n here there same k =
-      foreign h s e es n (there refl) (ap (λ (streams : List Stream). is_readable_stream (slice_get streams i.0)) same) (ap (λ (streams : List Stream). as_readable (slice_get streams i.0)) same) k
-  by_steps e h s es true n here there same k =
+  by_steps e h s es false n m here there same k =
+      foreign h s e es n m (there refl) (ap (λ (streams : List Stream). is_readable_stream (slice_get streams i.0)) same) (ap (λ (streams : List Stream). as_readable (slice_get streams i.0)) same) k
+  by_steps e h s es true n m here there same k =
       let caused = none_seen (row e s).caused (row-causes (IsForeign i) e s (steps-foreign i e (here refl))) in
       rw (row-locks e s, row-pipes e s n) (record {
         unmade = λ n. law.steps_unmade e (here refl) s h (holders s) (k.unmade (rw (← same) n));
@@ -220,19 +235,30 @@ module _ {H V : Type 0} (none : H) (after : H → H → H) (told : Effect → Sl
     held = rw (all_seen-append seen (signal_operation operation x).effects es) (law.signal a operation x h (holders s) (readable_at i s) (all_seen seen es) k.held);
   }
 
+  transform_place : (t : TransformId) (operation : TransformOperation) (h : H) (s : Slots) (es : List Effect) (o : Option transforms.Slots) → slice_get s.transforms t.0 ≡ o
+      → P s (Transform t operation ∷ es) → Is h s (Transform t operation ∷ es)
+      → let d : Done = on_transform_at (λ halves. transform_operation t halves operation) t s o in Is h d.slots (d.caused ++ es)
+  transform_place t operation h s es None e known k = record { unmade = k.unmade; held = rw (law.unseen (Transform t operation) tt) at k.held }
+  transform_place t operation h s es (Some x) e known k = record {
+    unmade = k.unmade;
+    held = rw (all_seen-append seen (transformed t operation s x).out.effects es) (law.transform t operation s x es known e h (rw (law.unseen (Transform t operation) tt) at k.held));
+  }
+
   row-kept : (h : H) (s : Slots) (e : Effect) (es : List Effect) → P s (e ∷ es) → Is h s (e ∷ es) → Is (after h (told e s)) (row e s).slots ((row e s).caused ++ es)
   unfolding row
   row-kept h s (Readable j operation) es known k = by_place j operation h s es (is_same i j) refl k
   row-kept h s (Writable j operation) es known k =
-      foreign h s (Writable j operation) es tt tt (on_writable-there (writable_operation j operation) j s i (is_same i j) refl) (on_writable-readable (writable_operation j operation) j s i (is_same i j) refl) k
-  row-kept h s (ChunkSteps j request v) es known k = by_steps (ChunkSteps j request v) h s es (is_same i j) tt (λ e. e) (λ e. e) (row-streams (ChunkSteps j request v) s tt) k
-  row-kept h s (CloseSteps j request) es known k = by_steps (CloseSteps j request) h s es (is_same i j) tt (λ e. e) (λ e. e) (row-streams (CloseSteps j request) s tt) k
-  row-kept h s (ErrorSteps j request r) es known k = by_steps (ErrorSteps j request r) h s es (is_same i j) tt (λ e. e) (λ e. e) (row-streams (ErrorSteps j request r) s tt) k
+      foreign h s (Writable j operation) es tt tt tt (on_writable-there (writable_operation j operation) j s i (is_same i j) refl) (on_writable-readable (writable_operation j operation) j s i (is_same i j) refl) k
+  row-kept h s (ChunkSteps j request v) es known k = by_steps (ChunkSteps j request v) h s es (is_same i j) tt tt (λ e. e) (λ e. e) (row-streams (ChunkSteps j request v) s tt) k
+  row-kept h s (CloseSteps j request) es known k = by_steps (CloseSteps j request) h s es (is_same i j) tt tt (λ e. e) (λ e. e) (row-streams (CloseSteps j request) s tt) k
+  row-kept h s (ErrorSteps j request r) es known k = by_steps (ErrorSteps j request r) h s es (is_same i j) tt tt (λ e. e) (λ e. e) (row-streams (ErrorSteps j request r) s tt) k
   row-kept h s (Pipe p operation) es known k = rw (law.pipe_untold p operation s, law.history.right h) (pipe_place p operation h s es (slice_get s.pipes p.0) refl known k)
   row-kept h s (Signal a operation) es known k = rw (law.signal_untold a operation s, law.history.right h) (signal_place a operation h s es (slice_get s.signals a.0) k)
+  row-kept h s (Transform t operation) es known k =
+      rw (law.untold (Transform t operation) s tt, law.history.right h) (transform_place t operation h s es (slice_get s.transforms t.0) refl known k)
   row-kept h s e es known k =
       let same = row-streams e s tt in
-      foreign h s e es tt tt (ap (λ (streams : List Stream). is_readable_stream (slice_get streams i.0)) same) (ap (λ (streams : List Stream). as_readable (slice_get streams i.0)) same) k
+      foreign h s e es tt tt tt (ap (λ (streams : List Stream). is_readable_stream (slice_get streams i.0)) same) (ap (λ (streams : List Stream). as_readable (slice_get streams i.0)) same) k
 
   -- a new stream
   appended : (x : Stream) (h : H) (o : Holders) (s : Slots) (here : Bool) → here ≡ nat_eq i.0 (length s.streams) → Kept seen i K M h o s.streams []
@@ -261,8 +287,9 @@ module _ {H V : Type 0} (none : H) (after : H → H → H) (told : Effect → Sl
         hosts = λ z hs k. k;
         pipe = λ z source dest prevent signal promise k. k;
         signal = λ z k. k;
-        readable = λ z mark size k. appended (ReadableStream (readable.set_up Host mark size)) h (holders s) z (nat_eq i.0 (length z.streams)) refl k (law.made mark size h (holders s));
-        writable = λ z mark size k. appended (WritableStream (writable.set_up Host mark size)) h (holders s) z (nat_eq i.0 (length z.streams)) refl k (λ m k. k);
+        transform = λ z kind writable readable change k. k;
+        readable = λ z owner mark size k. appended (ReadableStream (readable.set_up owner mark size)) h (holders s) z (nat_eq i.0 (length z.streams)) refl k (law.made owner mark size h (holders s));
+        writable = λ z owner mark size k. appended (WritableStream (writable.set_up owner mark size)) h (holders s) z (nat_eq i.0 (length z.streams)) refl k (λ m k. k);
       }) c s k.0),
       law.known.call s c k.1,
     );

@@ -14,22 +14,25 @@ use Rattle.ws_value.specs.declared.value.Value.TheVariants.{Plain as PlainValue}
 use Rattle.std.specs.Prelude.{Err}
 use Rattle.ws_steps.specs.declared.{calls.Event.{Event}, calls.Event.TheVariants.{Signal}, calls.HostCall.{HostCall}, calls.StartBy.{StartBy}, calls.StartBy.TheVariants.{Now, Later}}
 use Rattle.ws_steps.specs.declared.effects.Effect.{Effect}
-use Rattle.ws_steps.specs.declared.effects.Effect.TheVariants.{Readable, Writable, Pipe, Signal, StartAlgorithm, PullAlgorithm, CancelAlgorithm, WriteAlgorithm, CloseAlgorithm, AbortAlgorithm, ChunkSteps, CloseSteps, ErrorSteps, Give, Settle, Queue, CallHost}
-use Rattle.ws_steps.specs.declared.{effects.Gift.{Gift}, effects.Gift.TheVariants.{This, Fresh}, effects.Owner.{Owner}, effects.Owner.TheVariants.{Host}, effects.Use.{Use}}
+use Rattle.ws_steps.specs.declared.effects.Effect.TheVariants.{Readable, Writable, Pipe, Signal, Transform, StartAlgorithm, PullAlgorithm, CancelAlgorithm, WriteAlgorithm, CloseAlgorithm, AbortAlgorithm, ChunkSteps, CloseSteps, ErrorSteps, Give, Settle, Queue, CallHost}
+use Rattle.ws_steps.specs.declared.{effects.Gift.{Gift}, effects.Gift.TheVariants.{This, Fresh}, effects.Owner.{Owner}, effects.Owner.TheVariants.{Host, HalfOf}, effects.Use.{Use}}
 use Rattle.ws_steps.specs.declared.{effects.Use.TheVariants.{React, Resolve}, promises.Reaction.{Reaction}, promises.Reaction.TheVariants.{Perform}, promises.Step.{Step}}
-use Rattle.ws_steps.specs.declared.{readable.ReadRequest.{ReadRequest}, readable.ReadRequest.TheVariants.{Promise, Pipe as PipeRequest}, pipes.PipeOperation.{PipeOperation}, pipes.PipeOperation.TheVariants.{KeepChunk, ReadEnded, Abort}, pipes.SignalOperation.{SignalOperation}, pipes.SignalOperation.TheVariants.{Add, Forget, Trigger}, promises.Micro.{Micro}, writable.WritableOperation.TheVariants.{HandOn}}
+use Rattle.ws_steps.specs.declared.{readable.ReadRequest.{ReadRequest}, readable.ReadRequest.TheVariants.{Promise, Pipe as PipeRequest}, pipes.PipeOperation.{PipeOperation}, pipes.PipeOperation.TheVariants.{KeepChunk, ReadEnded, Abort}, pipes.SignalOperation.{SignalOperation}, pipes.SignalOperation.TheVariants.{Add, Forget, Trigger}, promises.Micro.{Micro}, transform.Taker.TheVariants.{ToHost}, transform.TransformId.{TransformId}, transform.TransformOperation.{TransformOperation}, writable.WritableOperation.TheVariants.{HandOn}}
+use Rattle.ws_steps.specs.declared.transform.TransformOperation.TheVariants as transforms
 use Rattle.ws_steps.specs.Effects.{Out, cause}
 use Rattle.ws_steps.specs.Promises.{Table, is_pending, fresh, settle, answer, react, follow, queue_micro, tell, next_id, fresh_settled, use_this, use_gift}
-use Rattle.ws_steps.specs.Operations.{readable_operation, writable_operation, pipe_operation, signal_operation}
-use Rattle.ws_steps.specs.Slots.{Slots, Done, nothing, has_readable, has_writable, owner_at, found, ends_at, put_readable, put_writable, on_pipe_at, on_signal_at}
+use Rattle.ws_steps.specs.Operations.{readable_operation, writable_operation, pipe_operation, signal_operation, transform_operation}
+use Rattle.ws_steps.specs.Slots.{Slots, Done, nothing, has_readable, has_writable, owner_at, found, ends_at, halves_at, put_readable, put_writable, on_pipe_at, on_signal_at, on_transform_at}
 use Rattle.ws_steps.specs.Turns.{row, start_algorithm, pull_algorithm, cancel_algorithm, write_algorithm, close_algorithm, abort_algorithm, call_host}
 use Rattle.ws_steps.specs.Writable.{write_to_host}
 use Rattle.ws_steps.specs.Pipes as pipe
+use Rattle.ws_steps.specs.Transform as transform
 use Rattle.ws_steps.specs.Pipes.{abort_all, trigger_unless}
 use Rattle.ws_laws.proofs.Lists.{Each, each-append, each-map}
 use Rattle.ws_laws.proofs.ReadableDoes.{readable-does}
 use Rattle.ws_laws.proofs.WritableDoes.{writable-does}
 use Rattle.ws_laws.proofs.PipeDoes.{PipeCauses, pipe-causes, pipe-does}
+use Rattle.ws_laws.proofs.TransformDoes.{TransformCauses, transform-causes, transform-does}
 use Rattle.ws_laws.proofs.Tables.{either, readable_acts, writable_acts}
 
 -- what goes on with each change of promises
@@ -63,6 +66,12 @@ module _ (T : Table → Type 0) (changes : Changes T) where
   signal-changes a operation s None h = h
   signal-changes a operation s (Some x) h = h
 
+  transform-changes : (t : TransformId) (operation : TransformOperation) (s : Slots) (o : Option transform.Slots) → T s.promises
+      → T (on_transform_at (λ halves. transform_operation t halves operation) t s o).slots.promises
+  transform-changes t operation s None h = h
+  transform-changes t operation s (Some x) h =
+      transform-does T (record { fresh = changes.fresh; settle = changes.settle }) t (halves_at x s) operation (record { slots = x; out = found s }) h
+
   pub row-changes : (e : Effect) (s : Slots) → T s.promises → T (row e s).slots.promises
   unfolding row call_host
   row-changes (Readable i operation) s h =
@@ -85,9 +94,11 @@ module _ (T : Table → Type 0) (changes : Changes T) where
         close = λ x h. h;
         abort = λ x r p h. h;
         hand_on = λ x v h. h;
+        take = λ x v t d h. h;
       }) operation (writable_acts i s) h) (λ e. h)
   row-changes (Pipe p operation) s h = pipe-changes p operation s (slice_get s.pipes p.0) h
   row-changes (Signal a operation) s h = signal-changes a operation s (slice_get s.signals a.0) h
+  row-changes (Transform t operation) s h = transform-changes t operation s (slice_get s.transforms t.0) h
   row-changes (StartAlgorithm i step Now) s h = h
   row-changes (StartAlgorithm i step Later) s h = changes.fresh s.promises h
   row-changes (ChunkSteps i (Promise p) v) s h = changes.answer s.promises p (Given v) refl h
@@ -119,12 +130,18 @@ signal-streams : (a : SignalId) (operation : SignalOperation) (s : Slots) (o : O
 signal-streams a operation s None = refl
 signal-streams a operation s (Some x) = refl
 
+transform-streams : (t : TransformId) (operation : TransformOperation) (s : Slots) (o : Option transform.Slots)
+    → (on_transform_at (λ halves. transform_operation t halves operation) t s o).slots.streams ≡ s.streams
+transform-streams t operation s None = refl
+transform-streams t operation s (Some x) = refl
+
 pub row-streams : (e : Effect) (s : Slots) → IsApart e → (row e s).slots.streams ≡ s.streams
 unfolding row call_host
 row-streams (Readable i operation) s apart = absurd apart
 row-streams (Writable i operation) s apart = absurd apart
 row-streams (Pipe p operation) s apart = pipe-streams p operation s (slice_get s.pipes p.0)
 row-streams (Signal a operation) s apart = signal-streams a operation s (slice_get s.signals a.0)
+row-streams (Transform t operation) s apart = transform-streams t operation s (slice_get s.transforms t.0)
 row-streams (StartAlgorithm i step Now) s apart = refl
 row-streams (StartAlgorithm i step Later) s apart = refl
 row-streams (ChunkSteps i (Promise p) v) s apart = refl
@@ -145,6 +162,11 @@ signal-locks : (a : SignalId) (operation : SignalOperation) (s : Slots) (o : Opt
 signal-locks a operation s None = refl
 signal-locks a operation s (Some x) = refl
 
+transform-locks : (t : TransformId) (operation : TransformOperation) (s : Slots) (o : Option transform.Slots)
+    → (on_transform_at (λ halves. transform_operation t halves operation) t s o).slots.locks ≡ s.locks
+transform-locks t operation s None = refl
+transform-locks t operation s (Some x) = refl
+
 -- each effect leaves all locks
 pub row-locks : (e : Effect) (s : Slots) → (row e s).slots.locks ≡ s.locks
 unfolding row call_host
@@ -154,6 +176,7 @@ row-locks (Writable i operation) s =
     either (λ (d : Done). d.slots.locks ≡ s.locks) (has_writable i s) (put_writable i s (writable_operation i operation (writable_acts i s))) (nothing s) (λ e. refl) (λ e. refl)
 row-locks (Pipe p operation) s = pipe-locks p operation s (slice_get s.pipes p.0)
 row-locks (Signal a operation) s = signal-locks a operation s (slice_get s.signals a.0)
+row-locks (Transform t operation) s = transform-locks t operation s (slice_get s.transforms t.0)
 row-locks (StartAlgorithm i step Now) s = refl
 row-locks (StartAlgorithm i step Later) s = refl
 row-locks (ChunkSteps i (Promise p) v) s = refl
@@ -175,6 +198,11 @@ signal-pipes : (a : SignalId) (operation : SignalOperation) (s : Slots) (o : Opt
 signal-pipes a operation s None = refl
 signal-pipes a operation s (Some x) = refl
 
+transform-pipes : (t : TransformId) (operation : TransformOperation) (s : Slots) (o : Option transform.Slots)
+    → (on_transform_at (λ halves. transform_operation t halves operation) t s o).slots.pipes ≡ s.pipes
+transform-pipes t operation s None = refl
+transform-pipes t operation s (Some x) = refl
+
 pub row-pipes : (e : Effect) (s : Slots) → IsNoPipe e → (row e s).slots.pipes ≡ s.pipes
 unfolding row call_host
 row-pipes (Readable i operation) s n =
@@ -183,6 +211,7 @@ row-pipes (Writable i operation) s n =
     either (λ (d : Done). d.slots.pipes ≡ s.pipes) (has_writable i s) (put_writable i s (writable_operation i operation (writable_acts i s))) (nothing s) (λ e. refl) (λ e. refl)
 row-pipes (Pipe p operation) s n = absurd n
 row-pipes (Signal a operation) s n = signal-pipes a operation s (slice_get s.signals a.0)
+row-pipes (Transform t operation) s n = transform-pipes t operation s (slice_get s.transforms t.0)
 row-pipes (StartAlgorithm i step Now) s n = refl
 row-pipes (StartAlgorithm i step Later) s n = refl
 row-pipes (ChunkSteps i (Promise p) v) s n = refl
@@ -207,6 +236,7 @@ pub record WritableCauses (P : Effect → Type 0) (i : StreamId) : Type 0 where
   pub close : P (CloseAlgorithm i)
   pub abort : (r : Plain) (p : PromiseId) → P (AbortAlgorithm i r p)
   pub hand_on : (v : Value) → P (write_to_host i v)
+  pub take : (v : Value) (t : TransformId) (d : PromiseId) → P (Transform t (transforms.TransformChunk v d))
 
 -- the steps of a read request
 abbrev pub ChunkCauses : (Effect → Type 0) → Value → ReadRequest → Type 0
@@ -222,18 +252,23 @@ abbrev pub SignalCauses : (Effect → Type 0) → SignalOperation → Type 0
 SignalCauses P (Trigger r) = (p : PipeId) → P (Pipe p (Abort r))
 SignalCauses P operation = Unit {0}
 
+-- an algorithm is the host's, or that of a half of a transform stream
+abbrev pub AlgorithmCauses : (Effect → Type 0) → (Use → TransformOperation) → Type 0
+AlgorithmCauses P half = ((call : HostCall) (u : Use) → P (CallHost call u)) × ((t : TransformId) (u : Use) → P (Transform t (half u)))
+
 -- and any effect
 abbrev pub Causes : (Effect → Type 0) → Effect → Type 0
 Causes P (Readable i operation) = ReadableCauses P i
 Causes P (Writable i operation) = WritableCauses P i
 Causes P (Pipe p operation) = (source dest : StreamId) (e : Effect) → PipeCauses p source dest e → P e
 Causes P (Signal a operation) = SignalCauses P operation
+Causes P (Transform t operation) = (writable readable : StreamId) (e : Effect) → TransformCauses t writable readable e → P e
 Causes P (StartAlgorithm i step start) = ((gift : Gift) (u : Use) → P (Give gift u)) × ((call : HostCall) (u : Use) → P (CallHost call u))
-Causes P (PullAlgorithm i) = (call : HostCall) (u : Use) → P (CallHost call u)
-Causes P (CancelAlgorithm i r p) = (call : HostCall) (u : Use) → P (CallHost call u)
-Causes P (WriteAlgorithm i) = P (Writable i HandOn)
-Causes P (CloseAlgorithm i) = (call : HostCall) (u : Use) → P (CallHost call u)
-Causes P (AbortAlgorithm i r p) = (call : HostCall) (u : Use) → P (CallHost call u)
+Causes P (PullAlgorithm i) = AlgorithmCauses P (λ u. transforms.SourcePull u)
+Causes P (CancelAlgorithm i r p) = AlgorithmCauses P (λ u. transforms.SourceCancel r u)
+Causes P (WriteAlgorithm i) = P (Writable i (HandOn ToHost)) × ((t : TransformId) (u : Use) → P (Transform t (transforms.SinkWrite u)))
+Causes P (CloseAlgorithm i) = AlgorithmCauses P (λ u. transforms.SinkClose u)
+Causes P (AbortAlgorithm i r p) = AlgorithmCauses P (λ u. transforms.SinkAbort r u)
 Causes P (ChunkSteps i request v) = ChunkCauses P v request
 Causes P (CloseSteps i request) = EndCauses P request
 Causes P (ErrorSteps i request e) = EndCauses P request
@@ -248,19 +283,24 @@ module _ (P : Effect → Type 0) where
   started i step s Later c = (c.1 _ _, (c.0 _ _, tt))
 
   pulled : (i : StreamId) (u : Use) (owner : Owner) → Causes P (PullAlgorithm i) → Each P (pull_algorithm i u owner)
-  pulled i u Host c = (c _ _, tt)
+  pulled i u Host c = (c.0 _ _, tt)
+  pulled i u (HalfOf t) c = (c.1 t _, tt)
 
   cancelled : (i : StreamId) (r : Plain) (p : PromiseId) (u : Use) (owner : Owner) → Causes P (CancelAlgorithm i r p) → Each P (cancel_algorithm i r u owner)
-  cancelled i r p u Host c = (c _ _, tt)
+  cancelled i r p u Host c = (c.0 _ _, tt)
+  cancelled i r p u (HalfOf t) c = (c.1 t _, tt)
 
   written : (i : StreamId) (owner : Owner) → Causes P (WriteAlgorithm i) → Each P (write_algorithm i owner)
-  written i Host c = (c, tt)
+  written i Host c = (c.0, tt)
+  written i (HalfOf t) c = (c.1 t _, tt)
 
   closed : (i : StreamId) (u : Use) (owner : Owner) → Causes P (CloseAlgorithm i) → Each P (close_algorithm i u owner)
-  closed i u Host c = (c _ _, tt)
+  closed i u Host c = (c.0 _ _, tt)
+  closed i u (HalfOf t) c = (c.1 t _, tt)
 
   aborted : (i : StreamId) (r : Plain) (p : PromiseId) (u : Use) (owner : Owner) → Causes P (AbortAlgorithm i r p) → Each P (abort_algorithm i r u owner)
-  aborted i r p u Host c = (c _ _, tt)
+  aborted i r p u Host c = (c.0 _ _, tt)
+  aborted i r p u (HalfOf t) c = (c.1 t _, tt)
 
   piped : (p : PipeId) (operation : PipeOperation) (s : Slots) (o : Option pipe.Slots) → Causes P (Pipe p operation)
       → Each P (on_pipe_at (λ ends. pipe_operation p ends operation) p s o).caused
@@ -268,6 +308,13 @@ module _ (P : Effect → Type 0) where
   piped p operation s (Some x) c =
       let a : pipe.Acts = record { slots = x; out = found s } in
       each-map (PipeCauses p x.source x.dest) P (c x.source x.dest) _ (pipe-causes p (ends_at x s) operation a tt).1.1
+
+  transformed : (t : TransformId) (operation : TransformOperation) (s : Slots) (o : Option transform.Slots) → Causes P (Transform t operation)
+      → Each P (on_transform_at (λ halves. transform_operation t halves operation) t s o).caused
+  transformed t operation s None c = tt
+  transformed t operation s (Some x) c =
+      let a : transform.Acts = record { slots = x; out = found s } in
+      each-map (TransformCauses t x.writable x.readable) P (c x.writable x.readable) _ (transform-causes t (halves_at x s) operation a tt).1.1.1
 
   aborting : (r : Plain) (ps : List PipeId) → Causes P (Signal (record { 0 = 0 }) (Trigger r)) → Each P (abort_all r ps)
   aborting r [] c = tt
@@ -306,9 +353,11 @@ module _ (P : Effect → Type 0) where
         close = λ x h. each-cause (CloseAlgorithm i) c.close x h;
         abort = λ x r p h. each-cause (AbortAlgorithm i r p) (c.abort r p) x h;
         hand_on = λ x v h. each-cause (write_to_host i v) (c.hand_on v) x h;
+        take = λ x v t d h. each-cause (Transform t (transforms.TransformChunk v d)) (c.take v t d) x h;
       }) operation (writable_acts i s) tt) (λ absent. tt)
   row-causes (Pipe p operation) s c = piped p operation s (slice_get s.pipes p.0) c
   row-causes (Signal a operation) s c = signalled a operation s (slice_get s.signals a.0) c
+  row-causes (Transform t operation) s c = transformed t operation s (slice_get s.transforms t.0) c
   row-causes (StartAlgorithm i step start) s c = started i step s start c
   row-causes (PullAlgorithm i) s c = pulled i _ (owner_at i s) c
   row-causes (CancelAlgorithm i r p) s c = cancelled i r p _ (owner_at i s) c

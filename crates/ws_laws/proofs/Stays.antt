@@ -34,8 +34,9 @@ module _ (before : Table) where
     hosts = λ s hs k. k;
     pipe = λ s i j p a q k. k;
     signal = λ s k. k;
-    readable = λ s m b k. k;
-    writable = λ s m b k. k;
+    transform = λ s x i j p k. k;
+    readable = λ s o m b k. k;
+    writable = λ s o m b k. k;
   }
 
   pub keeps-stays : Stays Kept

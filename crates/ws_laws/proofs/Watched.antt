@@ -173,8 +173,9 @@ begin-grows c s = begin-makes (λ z. Grows s.promises z.promises) (record {
   hosts = λ z hs k. k;
   pipe = λ z source dest prevent signal promise k. k;
   signal = λ z k. k;
-  readable = λ z mark size k. k;
-  writable = λ z mark size k. k;
+  transform = λ z kind i j p k. k;
+  readable = λ z owner mark size k. k;
+  writable = λ z owner mark size k. k;
 }) c s (grows-same s.promises)
 
 pub performed-grows : (d : Done) → Grows d.slots.promises (performed d).promises

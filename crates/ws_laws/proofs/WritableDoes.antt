@@ -6,8 +6,9 @@ use Rattle.ws_value.specs.declared.ids.StreamId.{StreamId}
 use Rattle.ws_value.specs.declared.value.Plain.{Plain}
 use Rattle.ws_value.specs.declared.value.Plain.TheVariants.{Undefined}
 use Rattle.ws_value.specs.declared.value.Value.{Value}
-use Rattle.ws_steps.specs.declared.{calls.Event.TheVariants.{Signal}, effects.Effect.TheVariants.{WriteAlgorithm, CloseAlgorithm, AbortAlgorithm}, effects.Owner.{Owner}}
-use Rattle.ws_steps.specs.declared.{effects.Owner.TheVariants.{Host}, writable.PendingAbort.{PendingAbort}, writable.WritableOperation.{WritableOperation}}
+use Rattle.ws_steps.specs.declared.{calls.Event.TheVariants.{Signal}, effects.Effect.TheVariants.{Transform as OnTransform, WriteAlgorithm, CloseAlgorithm, AbortAlgorithm}, effects.Owner.{Owner}}
+use Rattle.ws_steps.specs.declared.{effects.Owner.TheVariants.{Host, HalfOf}, writable.PendingAbort.{PendingAbort}, writable.WritableOperation.{WritableOperation}}
+use Rattle.ws_steps.specs.declared.{transform.Taker.{Taker}, transform.Taker.TheVariants.{ToHost, ToTransform}, transform.TransformId.{TransformId}, transform.TransformOperation.TheVariants.{TransformChunk}}
 use Rattle.ws_steps.specs.declared.writable.WritableOperation.TheVariants as names
 use Rattle.ws_steps.specs.declared.{writable.WritableState.{WritableState}, writable.WritableState.TheVariants.{Writable, Erroring, Errored, Closed}, writable.WriteRecord.{WriteRecord}}
 use Rattle.ws_steps.specs.declared.{writable.WriteRecord.TheVariants.{Chunk, InFlight, CloseMark}, writable.Writer.{Writer}}
@@ -27,7 +28,7 @@ pub record OfAlgorithms (Q : Out → Type 0) (i : StreamId) : Type 0 where
   pub close : (x : Out) → Q x → Q (cause (CloseAlgorithm i) x)
   pub abort : (x : Out) (r : Plain) (p : PromiseId) → Q x → Q (cause (AbortAlgorithm i r p) x)
 
--- and with the handing on of a chunk
+-- and with the handing on of a chunk, to the host or to a transform stream
 pub record OfWritable (Q : Out → Type 0) (i : StreamId) : Type 0 where
   pub settle : (x : Out) (p : PromiseId) (o : Result Plain Plain) → Q x → Q (settling p o x)
   pub fresh : (x : Out) → Q x → Q (record x { promises = fresh x.promises })
@@ -36,9 +37,10 @@ pub record OfWritable (Q : Out → Type 0) (i : StreamId) : Type 0 where
   pub close : (x : Out) → Q x → Q (cause (CloseAlgorithm i) x)
   pub abort : (x : Out) (r : Plain) (p : PromiseId) → Q x → Q (cause (AbortAlgorithm i r p) x)
   pub hand_on : (x : Out) (v : Value) → Q x → Q (cause (write_to_host i v) x)
+  pub take : (x : Out) (v : Value) (t : TransformId) (d : PromiseId) → Q x → Q (cause (OnTransform t (TransformChunk v d)) x)
 
 abbrev pub IsHandOn : WritableOperation → Type 0
-IsHandOn names.HandOn = Unit {0}
+IsHandOn (names.HandOn taker) = Unit {0}
 IsHandOn _ = ⊥
 
 module _ (Q : Out → Type 0) (i : StreamId) (of : OfAlgorithms Q i) where
@@ -176,6 +178,7 @@ module _ (Q : Out → Type 0) (i : StreamId) (of : OfAlgorithms Q i) where
 
   signalled-does : (r : Plain) (a : Acts) (owner : Owner) → Does a (signalled i r a owner)
   signalled-does r a Host h = of.tell a.out r h
+  signalled-does r a (HalfOf t) h = h
 
   abort-does : (r : Plain) (p : PromiseId) (a : Acts) → Does a (begin_abort i r p a)
   abort-does r p a h =
@@ -240,7 +243,7 @@ module _ (Q : Out → Type 0) (i : StreamId) (of : OfAlgorithms Q i) where
   others-do (names.Abort r p) a u h = stream_abort-does r p a h
   others-do (names.AbortIfWritable r p) a u h = abort_writable-does r p a h
   others-do (names.ErrorIfNeeded e) a u h = if_needed-does e a h
-  others-do names.HandOn a u h = absurd (u tt)
+  others-do (names.HandOn taker) a u h = absurd (u tt)
   others-do (names.StartSettled (Ok v)) a u h = advance-does (record a { slots = record a.slots { started = true } }) h
   others-do (names.StartSettled (Err e)) a u h = rejection-does e (record a { slots = record a.slots { started = true } }) h
   others-do (names.WriteSettled (Ok v)) a u h =
@@ -254,14 +257,15 @@ module _ (Q : Out → Type 0) (i : StreamId) (of : OfAlgorithms Q i) where
       let t : Table = settle_promise p (Err e) a.out.promises in reject_both-does (with_promises t a) (of.settle a.out p (Err e) h)
 
 module _ (Q : Out → Type 0) (i : StreamId) (of : OfWritable Q i) where
-  hand_on-does : (a : Acts) (first : Option WriteRecord) → Q a.out → Q (hand_on_first i a first).out
-  hand_on-does a None h = h
-  hand_on-does a (Some (Chunk v)) h = of.hand_on a.out v h
-  hand_on-does a (Some InFlight) h = h
-  hand_on-does a (Some CloseMark) h = h
+  hand_on-does : (taker : Taker) (a : Acts) (first : Option WriteRecord) → Q a.out → Q (hand_on_first i taker a first).out
+  hand_on-does taker a None h = h
+  hand_on-does ToHost a (Some (Chunk v)) h = of.hand_on a.out v h
+  hand_on-does (ToTransform t d) a (Some (Chunk v)) h = of.take a.out v t d h
+  hand_on-does taker a (Some InFlight) h = h
+  hand_on-does taker a (Some CloseMark) h = h
 
   pub writable-does : (operation : WritableOperation) (a : Acts) → Q a.out → Q (writable_operation i operation a).out
   unfolding hand_on
-  writable-does names.HandOn a h = hand_on-does a (first_value a.slots.queue) h
+  writable-does (names.HandOn taker) a h = hand_on-does taker a (first_value a.slots.queue) h
   writable-does operation a h =
       others-do Q i (record { settle = of.settle; fresh = of.fresh; tell = of.tell; write = of.write; close = of.close; abort = of.abort }) operation a (λ u. u) h

@@ -37,40 +37,40 @@ module _ (π : Prices) (me : PipeId) where
   unfolding finalize
   finalize-takes error a = let h = forget-price a.slots.signal in grind (arith, prices-append, h)
 
-  by_signal-takes : (r : Plain) (a : Acts) → Takes (price π 9 6 5 3 2 0 0) a (act_by_signal me r a)
+  by_signal-takes : (r : Plain) (a : Acts) → Takes (price π 13 8 7 3 2 0 0) a (act_by_signal me r a)
   unfolding act_by_signal
   by_signal-takes r a = grind (arith, prices-append, fresh-size)
 
-  act_by-takes : (ends : Ends) (a : Acts) (action : Option Action) → Takes (price π 9 6 5 3 2 1 0) a (act_by me ends a action)
+  act_by-takes : (ends : Ends) (a : Acts) (action : Option Action) → Takes (price π 13 8 7 3 2 2 0) a (act_by me ends a action)
   act_by-takes ends a action = grind (arith, prices-append, fresh-size, finalize-takes, by_signal-takes)
 
-  act-takes : (ends : Ends) (a : Acts) → Takes (price π 9 6 5 3 2 1 0) a (act me ends a)
+  act-takes : (ends : Ends) (a : Acts) → Takes (price π 13 8 7 3 2 2 0) a (act me ends a)
   unfolding act
   act-takes ends a = grind (arith, act_by-takes)
 
-  proceed-takes : (ends : Ends) (a : Acts) → Takes (price π 9 6 5 3 2 1 0) a (proceed me ends a)
+  proceed-takes : (ends : Ends) (a : Acts) → Takes (price π 13 8 7 3 2 2 0) a (proceed me ends a)
   unfolding proceed
   proceed-takes ends a = let h = act-takes ends a in grind (arith, h)
 
-  shutdown-takes : (ends : Ends) (action : Option Action) (error : Option Plain) (a : Acts) → Takes (price π 9 6 5 3 2 1 0) a (shutdown me ends action error a)
+  shutdown-takes : (ends : Ends) (action : Option Action) (error : Option Plain) (a : Acts) → Takes (price π 13 8 7 3 2 2 0) a (shutdown me ends action error a)
   unfolding shutdown
   shutdown-takes ends action error a = grind (arith, proceed-takes, act-takes)
 
   -- an abort by a signal neither reads nor closes
 
-  signal_act_by-takes : (ends : Ends) (a : Acts) (r : Plain) (action : Option Action) → action ≡ Some (BySignal r) → Takes (price π 9 6 5 3 2 0 0) a (act_by me ends a action)
+  signal_act_by-takes : (ends : Ends) (a : Acts) (r : Plain) (action : Option Action) → action ≡ Some (BySignal r) → Takes (price π 13 8 7 3 2 0 0) a (act_by me ends a action)
   signal_act_by-takes ends a r None is = cc
   signal_act_by-takes ends a r (Some action) is = grind (arith, by_signal-takes, is)
 
-  signal_act-takes : (ends : Ends) (a : Acts) (r : Plain) → a.slots.action ≡ Some (BySignal r) → Takes (price π 9 6 5 3 2 0 0) a (act me ends a)
+  signal_act-takes : (ends : Ends) (a : Acts) (r : Plain) → a.slots.action ≡ Some (BySignal r) → Takes (price π 13 8 7 3 2 0 0) a (act me ends a)
   unfolding act
   signal_act-takes ends a r is = signal_act_by-takes ends (record a { slots = record a.slots { phase = Acting } }) r a.slots.action is
 
-  signal_proceed-takes : (ends : Ends) (a : Acts) (r : Plain) → a.slots.action ≡ Some (BySignal r) → Takes (price π 9 6 5 3 2 0 0) a (proceed me ends a)
+  signal_proceed-takes : (ends : Ends) (a : Acts) (r : Plain) → a.slots.action ≡ Some (BySignal r) → Takes (price π 13 8 7 3 2 0 0) a (proceed me ends a)
   unfolding proceed
   signal_proceed-takes ends a r is = let h = signal_act-takes ends a r is in grind (arith, h)
 
-  abort-takes : (ends : Ends) (r : Plain) (a : Acts) → Takes (price π 9 6 5 3 2 0 0) a (abort me ends r a)
+  abort-takes : (ends : Ends) (r : Plain) (a : Acts) → Takes (price π 13 8 7 3 2 0 0) a (abort me ends r a)
   unfolding abort shutdown
   abort-takes ends r a =
       let b : Acts = record a { slots = record a.slots { action = Some (BySignal r); error = Some r } } in
@@ -78,17 +78,17 @@ module _ (π : Prices) (me : PipeId) where
       let g = signal_act-takes ends b r refl in
       grind (arith, h, g)
 
-  look_by-takes : (ends : Ends) (a : Acts) (s : ReadableState) (d : WritableState) → Takes (price π 9 6 5 3 2 1 1) a (look_by me ends a s d)
+  look_by-takes : (ends : Ends) (a : Acts) (s : ReadableState) (d : WritableState) → Takes (price π 13 8 7 3 2 2 1) a (look_by me ends a s d)
   look_by-takes ends a s d = grind (arith, prices-append, shutdown-takes)
 
-  look-takes : (ends : Ends) (a : Acts) → Takes (price π 9 6 5 3 2 1 1) a (look me ends a)
+  look-takes : (ends : Ends) (a : Acts) → Takes (price π 13 8 7 3 2 2 1) a (look me ends a)
   unfolding look
   look-takes ends a = let h = look_by-takes ends a ends.source_state ends.dest_state in grind (arith, h)
 
-  go_on-takes : (ends : Ends) (a : Acts) (phase : Phase) → Takes (price π 9 6 5 3 2 1 1) a (go_on_in me ends a phase)
+  go_on-takes : (ends : Ends) (a : Acts) (phase : Phase) → Takes (price π 13 8 7 3 2 2 1) a (go_on_in me ends a phase)
   go_on-takes ends a phase = let h = look-takes ends a in let g = proceed-takes ends a in grind (arith, h, g)
 
-  write-takes : (a : Acts) (held : Option Value) → Takes (look_price π + price π 5 3 2 1 1 1 1) a (write_held me a held)
+  write-takes : (a : Acts) (held : Option Value) → Takes (look_price π + price π 13 6 4 1 1 2 1) a (write_held me a held)
   write-takes a held = grind (arith, prices-append, fresh-size)
 
 pub pipe-takes : (π : Prices) (me : PipeId) (ends : Ends) (operation : PipeOperation) (a : Acts)

@@ -40,7 +40,7 @@ module _ (π : Prices) (q r : ℕ) (me : StreamId) where
   abbrev Takes : ℕ → Acts → Acts → Type 0
   Takes n a b = readable_holds π q r b ≤ readable_holds π q r a + n
 
-  pull-takes : (a : Acts) → Takes (price π 2 1 1 1 1 0 0) a (call_pull_if_needed me a)
+  pull-takes : (a : Acts) → Takes (price π 3 1 1 1 1 0 0) a (call_pull_if_needed me a)
   unfolding call_pull_if_needed
   pull-takes a = grind (arith, prices-append)
 
@@ -59,7 +59,7 @@ module _ (π : Prices) (q r : ℕ) (me : StreamId) where
   accept-takes : (v : Value) (a : Acts) (rs : List ReadRequest) → rs ≡ waiting a.slots → q ≤ π.queued → Takes (price π 0 0 0 0 0 1 0) a (accept_for me v a rs)
   accept-takes v a rs is l = grind (arith, is, prices-append, each-append, l)
 
-  enqueue-takes : (v : Value) (a : Acts) → q ≤ π.queued → Takes (price π 2 1 1 1 1 1 0) a (controller_enqueue me v a)
+  enqueue-takes : (v : Value) (a : Acts) → q ≤ π.queued → Takes (price π 3 1 1 1 1 1 0) a (controller_enqueue me v a)
   unfolding controller_enqueue accept
   enqueue-takes v a l =
       let h = accept-takes v a (waiting a.slots) refl l in
@@ -69,11 +69,11 @@ module _ (π : Prices) (q r : ℕ) (me : StreamId) where
   unfolding controller_close close_if_empty
   closing-takes a = let h = close-takes (record a { slots = record a.slots { close_requested = true } }) in grind (arith, h)
 
-  after-takes : (a : Acts) → Takes (price π 2 1 1 1 1 0 0) a (after_take me a)
+  after-takes : (a : Acts) → Takes (price π 3 1 1 1 1 0 0) a (after_take me a)
   unfolding after_take
   after-takes a = let h = close-takes a in let g = pull-takes a in grind (arith, h, g)
 
-  from-takes : (request : ReadRequest) (a : Acts) (queue : List (Queued Value)) → queue ≡ a.slots.queue → r ≤ π.request → Takes (price π 4 1 2 1 1 0 1) a (pull_from me request a queue)
+  from-takes : (request : ReadRequest) (a : Acts) (queue : List (Queued Value)) → queue ≡ a.slots.queue → r ≤ π.request → Takes (price π 5 1 2 1 1 0 1) a (pull_from me request a queue)
   from-takes request a [] is m =
       let b : Acts = record a { slots = record a.slots { requests = a.slots.requests ++ request ∷ [] } } in
       let h = pull-takes b in
@@ -85,7 +85,7 @@ module _ (π : Prices) (q r : ℕ) (me : StreamId) where
       let e = ap (each q) is in
       let f = prices-append π (after_take me b).out.effects (ChunkSteps me request x.value ∷ []) in omega (arith, h, e, f)
 
-  read-takes : (request : ReadRequest) (a : Acts) (state : ReadableState) → r ≤ π.request → Takes (price π 4 1 2 1 1 0 1) a (read_by me request a state)
+  read-takes : (request : ReadRequest) (a : Acts) (state : ReadableState) → r ≤ π.request → Takes (price π 5 1 2 1 1 0 1) a (read_by me request a state)
   unfolding pull_steps
   read-takes request a Readable m = from-takes request a a.slots.queue refl m
   read-takes request a Closed m = grind (arith, prices-append)
@@ -99,13 +99,13 @@ module _ (π : Prices) (q r : ℕ) (me : StreamId) where
   unfolding reader_release
   release-takes a = grind (arith, prices-append, prices-error, settle-size)
 
-  cancel-takes : (e : Plain) (p : PromiseId) (a : Acts) (state : ReadableState) → Takes (price π 2 1 1 1 1 0 0) a (cancel_by me e p a state)
+  cancel-takes : (e : Plain) (p : PromiseId) (a : Acts) (state : ReadableState) → Takes (price π 4 2 2 1 1 0 0) a (cancel_by me e p a state)
   unfolding cancel_steps
   cancel-takes e p a state =
       let h = close-takes a in
       let f = prices-append π (stream_close me a).out.effects (CancelAlgorithm me e p ∷ []) in grind (arith, h, f, settle-size)
 
-  cancel_readable-takes : (e : Plain) (p : PromiseId) (a : Acts) (state : ReadableState) → Takes (price π 2 1 1 1 1 0 0) a (cancel_readable_by me e p a state)
+  cancel_readable-takes : (e : Plain) (p : PromiseId) (a : Acts) (state : ReadableState) → Takes (price π 4 2 2 1 1 0 0) a (cancel_readable_by me e p a state)
   unfolding stream_cancel
   cancel_readable-takes e p a Readable = let h = cancel-takes e p (record a { slots = record a.slots { disturbed = true } }) a.slots.state in omega (arith, h)
   cancel_readable-takes e p a Closed = let h = settle-size π p (Ok Undefined) a.out.promises in omega (arith, h)

@@ -10,11 +10,13 @@ use Rattle.ws_value.specs.declared.ids.StreamId.{StreamId}
 use Rattle.ws_value.specs.declared.value.Plain.{Plain}
 use Rattle.ws_steps.specs.declared.{calls.Answer.{Answer}, calls.Call.{Call}}
 use Rattle.ws_steps.specs.declared.calls.Call.TheVariants as names
-use Rattle.ws_steps.specs.declared.{calls.Reply.{Reply}, calls.Reply.TheVariants.{Done as ReplyDone, Made, Lock as ReplyLock, Promise, Signal as ReplySignal, Size, State as ReplyState, Throws, TooMany}}
+use Rattle.ws_steps.specs.declared.{calls.Reply.{Reply}, calls.Reply.TheVariants.{Done as ReplyDone, Made, MadeTwo, Lock as ReplyLock, Promise, Signal as ReplySignal, Size, State as ReplyState, Throws, TooMany}}
 use Rattle.ws_steps.specs.declared.{calls.Thrown.TheVariants.{TypeError, Unsupported}, calls.StartBy.{StartBy}, calls.StartBy.TheVariants.{Now, Later}, effects.Effect.{Effect}}
-use Rattle.ws_steps.specs.declared.{effects.Effect.TheVariants.{Readable, Writable, Signal as OnSignal, StartAlgorithm, Settle as SettlePromise}, effects.Owner.TheVariants.{Host}}
+use Rattle.ws_steps.specs.declared.{effects.Effect.TheVariants.{Readable, Writable, Signal as OnSignal, Transform as OnTransform, StartAlgorithm, Settle as SettlePromise}, effects.Owner.{Owner}, effects.Owner.TheVariants.{Host, HalfOf}}
 use Rattle.ws_steps.specs.declared.{readable.ReadRequest.TheVariants.{Promise as PromiseRequest}, readable.ReadableOperation.{ReadableOperation}}
 use Rattle.ws_steps.specs.declared.readable.ReadableOperation.TheVariants.{ReleaseReader, Read as ReadChunk, Cancel as CancelStream, Enqueue as EnqueueChunk, Close as CloseReadable, Error as ErrorReadable}
+use Rattle.ws_steps.specs.declared.transform.Kind.{Kind}
+use Rattle.ws_steps.specs.declared.transform.TransformOperation.TheVariants.{Enqueue as EnqueueByTransform, Error as ErrorTransform, Terminate as TerminateTransform}
 use Rattle.ws_steps.specs.declared.writable.WritableOperation.TheVariants.{ReleaseWriter, Write as WriteChunk, Close as CloseStream, Abort as AbortStream, ErrorIfNeeded}
 use Rattle.ws_value.specs.declared.value.Value.{Value}
 use Rattle.ws_steps.specs.Effects.{type_error}
@@ -22,7 +24,7 @@ use Rattle.ws_steps.specs.ReadableLooks as readable_looks
 use Rattle.ws_steps.specs.WritableLooks as writable_looks
 use Rattle.ws_steps.specs.declared.{locks.Lock.{Lock}, locks.Lock.TheVariants.{Reader as ReaderLock, Writer as WriterLock, ReleasedWriter, Inner}, promises.Job.{Job}}
 use Rattle.ws_steps.specs.declared.{promises.Job.TheVariants.{Reaction, Follow, Settle, Micro as MicroJob}, promises.Micro.TheVariants.{PipeLook, PipeWrite, PipeNoParts}, pipes.Prevent.{Prevent}, pipes.SignalOperation.TheVariants.{Trigger as TriggerSignal}, promises.Step.{Step}}
-use Rattle.ws_steps.specs.declared.{promises.Step.TheVariants.{ReadableStart, WritableStart}, writable.Writer.{Writer}}
+use Rattle.ws_steps.specs.declared.{promises.Step.TheVariants.{ReadableStart, WritableStart}, readable.SizeBy.TheVariants.{Count}, writable.Writer.{Writer}}
 use Rattle.ws_steps.specs.Promises.{Table, next_id, fresh, next_job, is_pending_at}
 use Rattle.ws_steps.specs.Pipes as pipe
 use Rattle.ws_steps.specs.Readable as readable
@@ -67,7 +69,7 @@ begun-within π i g n m s d h =
 
 -- what a call takes before the promise that it answers is watched, or a job
 abbrev pub call_price : Prices → ℕ
-call_price π = price π 17 10 8 3 3 2 2 + π.member
+call_price π = price π 28 14 11 3 3 4 2 + π.member
 
 module _ (π : Prices) (i : StreamId) (g : SignalId) (s : Slots) where
   -- a call begins within the room
@@ -150,6 +152,29 @@ module _ (π : Prices) (i : StreamId) (g : SignalId) (s : Slots) where
 
   make-fits : (make : StreamId → Slots → Begun) → Fits (make (record { 0 = length s.streams }) s) → Fits (calls.make_stream make s)
   make-fits make h = if-fits (nat_lt (length s.streams) most_streams) (make (record { 0 = length s.streams }) s) (calls.replies TooMany s) h (replies-fits TooMany)
+
+  start_transform-price : (p : PromiseId) (j : StreamId) (start : StartBy) → prices_of π (calls.start_transform p j start ∷ []) ≤ price π 1 1 1 1 1 0 0
+  start_transform-price p j Now = omega arith
+  start_transform-price p j Later = omega arith
+
+  transform-fits : (kind : Kind) (m n : ℕ) (start : StartBy) (j k : StreamId) → Fits (calls.make_transform kind m n start j k s)
+  transform-fits kind m n start j k =
+      let w : Stream = WritableStream (writable.set_up (HalfOf (record { 0 = length s.transforms })) m Count) in
+      let r : Stream = ReadableStream (readable.set_up (HalfOf (record { 0 = length s.transforms })) n Count) in
+      let t : Table = s.promises in
+      let a = fresh-size π t in
+      let b = fresh-size π (fresh t) in
+      let c = fresh-size π (fresh (fresh t)) in
+      let d = fresh-size π (fresh (fresh (fresh t))) in
+      let e = append-keep s.streams w in
+      let f = append-keep (s.streams ++ w ∷ []) r in
+      let x = append-entries s.streams w i.0 refl in
+      let y = append-entries (s.streams ++ w ∷ []) r i.0 refl in
+      let h = start_transform-price (next_id (fresh t)) k start in
+      omega (arith, a, b, c, d, e, f, x, y, h)
+
+  two-fits : (make : StreamId → StreamId → Slots → Begun) → Fits (make (record { 0 = length s.streams }) (record { 0 = length s.streams + 1 }) s) → Fits (calls.make_two make s)
+  two-fits make h = if-fits (nat_lt (length s.streams + 1) most_streams) (make (record { 0 = length s.streams }) (record { 0 = length s.streams + 1 }) s) (calls.replies TooMany s) h (replies-fits TooMany)
 
   -- readers and writers
 
@@ -238,11 +263,33 @@ module _ (π : Prices) (i : StreamId) (g : SignalId) (s : Slots) where
   settle-fits h answer None = unsupported-fits
   settle-fits h answer (Some p) = let e = ap (λ n. π.host * n) (length-set s.hosts h.0 None) in omega (arith, e)
 
+  enqueue-fits : (v : Value) (j : StreamId) (o : Owner) → Fits (calls.enqueue_by v j s o)
+  enqueue-fits v j Host = can-fits j (EnqueueChunk v) (omega arith)
+  enqueue-fits v j (HalfOf t) =
+      if-fits (readable.can_close_or_enqueue (readable_at j s)) (calls.does (OnTransform t (EnqueueByTransform v) ∷ []) s) (calls.throws_type_error s)
+      (does-fits (OnTransform t (EnqueueByTransform v) ∷ []) (omega arith)) type_error-fits
+
+  finish-fits : (j : StreamId) (o : Owner) → Fits (calls.finish_by j s o)
+  finish-fits j Host = can-fits j CloseReadable (omega arith)
+  finish-fits j (HalfOf t) = unsupported-fits
+
+  fail_readable-fits : (r : Plain) (j : StreamId) (o : Owner) → Fits (calls.fail_readable_by r j s o)
+  fail_readable-fits r j Host = does-fits (Readable j (ErrorReadable r) ∷ []) (omega arith)
+  fail_readable-fits r j (HalfOf t) = does-fits (OnTransform t (ErrorTransform r) ∷ []) (omega arith)
+
+  fail_writable-fits : (r : Plain) (j : StreamId) (o : Owner) → Fits (calls.fail_writable_by r j s o)
+  fail_writable-fits r j Host = does-fits (Writable j (ErrorIfNeeded r) ∷ []) (omega arith)
+  fail_writable-fits r j (HalfOf t) = unsupported-fits
+
   fail-fits : (r : Plain) (j : StreamId) → Fits (calls.fail r j s)
   fail-fits r j =
-      let failed : Slots → Begun = calls.does (Writable j (ErrorIfNeeded r) ∷ []) in
-      if-fits (has_readable j s) (calls.does (Readable j (ErrorReadable r) ∷ []) s) (calls.for_writable j failed s)
-      (does-fits (Readable j (ErrorReadable r) ∷ []) (omega arith)) (for_writable-fits j failed (does-fits (Writable j (ErrorIfNeeded r) ∷ []) (omega arith)))
+      let failed : Slots → Begun = λ z. calls.fail_writable_by r j z (writable_at j z).owner in
+      if-fits (has_readable j s) (calls.fail_readable_by r j s (readable_at j s).owner) (calls.for_writable j failed s)
+      (fail_readable-fits r j (readable_at j s).owner) (for_writable-fits j failed (fail_writable-fits r j (writable_at j s).owner))
+
+  terminate-fits : (o : Owner) → Fits (calls.terminate_by s o)
+  terminate-fits Host = unsupported-fits
+  terminate-fits (HalfOf t) = does-fits (OnTransform t TerminateTransform ∷ []) (omega arith)
 
   look-fits : (j : StreamId) → Fits (calls.look j s)
   look-fits j =
@@ -260,7 +307,7 @@ module _ (π : Prices) (i : StreamId) (g : SignalId) (s : Slots) where
   for_signal_where-fits None f h = h
   for_signal_where-fits (Some b) f h = for_signal-fits b f h
 
-  begins-price : (me : PipeId) (p q : PromiseId) (signal : Option SignalId) (reason : Option Plain) → prices_of π (calls.pipe_begins me p q signal reason) ≤ price π 14 6 8 3 2 1 1 + π.member
+  begins-price : (me : PipeId) (p q : PromiseId) (signal : Option SignalId) (reason : Option Plain) → prices_of π (calls.pipe_begins me p q signal reason) ≤ price π 18 8 10 3 2 0 0 + π.member
   begins-price me p q signal reason = grind arith
 
   pipe_to-fits : (source dest : StreamId) (prevent : Prevent) (signal : Option SignalId) → Fits (calls.pipe_to source dest prevent signal s)
@@ -302,6 +349,8 @@ module _ (π : Prices) (i : StreamId) (g : SignalId) (s : Slots) where
       make-fits (calls.make_readable mark size start) (stream-fits (ReadableStream (readable.set_up Host mark size)) (Made (record { 0 = length s.streams })) (record { 0 = length s.streams }) (ReadableStart (record { 0 = length s.streams })) start refl refl)
   begin-fits (names.MakeWritable mark size start) =
       make-fits (calls.make_writable mark size start) (stream-fits (WritableStream (writable.set_up Host mark size)) (Made (record { 0 = length s.streams })) (record { 0 = length s.streams }) (WritableStart (record { 0 = length s.streams })) start refl refl)
+  begin-fits (names.MakeTransform kind m n start) =
+      two-fits (calls.make_transform kind m n start) (transform-fits kind m n start (record { 0 = length s.streams }) (record { 0 = length s.streams + 1 }))
   begin-fits (names.GetReader j) = unlocked_readable-fits j calls.throws_type_error calls.get_reader type_error-fits (reader-fits j)
   begin-fits (names.GetWriter j) = unlocked_writable-fits j calls.throws_type_error calls.get_writer type_error-fits (writer-fits j)
   begin-fits (names.Cancel j r) = unlocked_readable-fits j calls.rejected (calls.cancel r) rejected-fits (cancel-fits r j)
@@ -315,9 +364,10 @@ module _ (π : Prices) (i : StreamId) (g : SignalId) (s : Slots) where
   begin-fits (names.Closed l) = closed-fits (lock_at l s)
   begin-fits (names.Ready l) = ready-fits (lock_at l s)
   begin-fits (names.Release l) = release-fits l (lock_at l s)
-  begin-fits (names.Enqueue j v) = for_readable-fits j (calls.if_it_can j (EnqueueChunk v)) (can-fits j (EnqueueChunk v) (omega arith))
-  begin-fits (names.Finish j) = for_readable-fits j (calls.if_it_can j CloseReadable) (can-fits j CloseReadable (omega arith))
+  begin-fits (names.Enqueue j v) = for_readable-fits j (calls.enqueue v j) (enqueue-fits v j (readable_at j s).owner)
+  begin-fits (names.Finish j) = for_readable-fits j (calls.finish j) (finish-fits j (readable_at j s).owner)
   begin-fits (names.Fail j r) = fail-fits r j
+  begin-fits (names.Terminate j) = for_readable-fits j (calls.terminate j) (terminate-fits (readable_at j s).owner)
   begin-fits (names.Desired j) = for_readable-fits j (calls.desired j) (replies-fits (calls.desired j s).reply)
   begin-fits (names.DesiredBy l) = by_writer-fits calls.desired_of_writer calls.throws_type_error (λ j. replies-fits (calls.desired_of_writer j s).reply) type_error-fits (lock_at l s)
   begin-fits (names.Pipe source dest prevent signal) = pipe_call-fits source dest prevent signal
@@ -329,14 +379,14 @@ module _ (π : Prices) (i : StreamId) (g : SignalId) (s : Slots) where
 
   -- a job
 
-  steps-price : (step : Step) (outcome : Result Plain Plain) → prices_of π (steps step outcome) ≤ price π 10 6 5 3 2 1 1
+  steps-price : (step : Step) (outcome : Result Plain Plain) → prices_of π (steps step outcome) ≤ price π 14 8 7 3 2 2 1
   steps-price step outcome = grind arith
 
   resolved-price : (derived : Option PromiseId) (outcome : Result Plain Plain) → prices_of π (resolved derived outcome) ≤ π.turn
   resolved-price None outcome = omega arith
   resolved-price (Some p) outcome = omega arith
 
-  effects-price : (job : Job) → prices_of π (job_effects job) ≤ price π 16 9 7 4 3 2 2
+  effects-price : (job : Job) → prices_of π (job_effects job) ≤ price π 28 14 11 4 3 4 2
   effects-price (Reaction step outcome derived) =
       let a = steps-price step outcome in
       let b = resolved-price derived (returned step outcome) in
@@ -359,6 +409,7 @@ named-size : (π : Prices) (i : StreamId) (g : SignalId) (reply : Reply) (s : Sl
 named-size π i g (Promise p) s = let h = watch-size π p s.promises in omega (arith, h)
 named-size π i g ReplyDone s = omega arith
 named-size π i g (Made j) s = omega arith
+named-size π i g (MadeTwo j k) s = omega arith
 named-size π i g (ReplyLock l) s = omega arith
 named-size π i g (ReplySignal b) s = omega arith
 named-size π i g (Size n) s = omega arith

@@ -12,22 +12,24 @@ use Rattle.ws_value.specs.declared.value.Value.{Value}
 use Rattle.ws_value.specs.declared.value.Value.TheVariants.{Plain as PlainValue}
 use Rattle.ws_steps.specs.declared.{calls.Event.TheVariants.{Host as HostCalled}, calls.HostCall.{HostCall}, calls.StartBy.{StartBy}, calls.StartBy.TheVariants.{Now, Later}}
 use Rattle.ws_steps.specs.declared.effects.Effect.{Effect}
-use Rattle.ws_steps.specs.declared.effects.Effect.TheVariants.{Readable, Writable, Pipe, Signal, StartAlgorithm, PullAlgorithm, CancelAlgorithm, WriteAlgorithm, CloseAlgorithm, AbortAlgorithm, ChunkSteps, CloseSteps, ErrorSteps, Give, Settle, Queue, CallHost}
-use Rattle.ws_steps.specs.declared.{effects.Owner.{Owner}, effects.Owner.TheVariants.{Host}, effects.Use.{Use}, effects.Use.TheVariants.{React}, promises.Step.{Step}}
+use Rattle.ws_steps.specs.declared.effects.Effect.TheVariants.{Readable, Writable, Pipe, Signal, Transform, StartAlgorithm, PullAlgorithm, CancelAlgorithm, WriteAlgorithm, CloseAlgorithm, AbortAlgorithm, ChunkSteps, CloseSteps, ErrorSteps, Give, Settle, Queue, CallHost}
+use Rattle.ws_steps.specs.declared.{effects.Owner.{Owner}, effects.Owner.TheVariants.{Host, HalfOf}, effects.Use.{Use}, effects.Use.TheVariants.{React}, promises.Step.{Step}}
 use Rattle.ws_steps.specs.declared.{promises.Step.TheVariants.{ReadablePull, ReturnUndefined, WritableClose, WritableAbort}, readable.ReadRequest.{ReadRequest}}
-use Rattle.ws_steps.specs.declared.{readable.ReadRequest.TheVariants.{Promise, Pipe as PipeRequest}, pipes.PipeOperation.{PipeOperation}, pipes.SignalOperation.{SignalOperation}, readable.ReadableOperation.{ReadableOperation}, writable.WritableOperation.{WritableOperation}}
+use Rattle.ws_steps.specs.declared.{readable.ReadRequest.TheVariants.{Promise, Pipe as PipeRequest}, pipes.PipeOperation.{PipeOperation}, pipes.SignalOperation.{SignalOperation}, readable.ReadableOperation.{ReadableOperation}, transform.TransformId.{TransformId}, transform.TransformOperation.{TransformOperation}, writable.WritableOperation.{WritableOperation}}
 use Rattle.ws_steps.specs.Promises.{Table, next_id, fresh, tell}
-use Rattle.ws_steps.specs.Operations.{readable_operation, writable_operation, pipe_operation, signal_operation}
+use Rattle.ws_steps.specs.Operations.{readable_operation, writable_operation, pipe_operation, signal_operation, transform_operation}
 use Rattle.ws_steps.specs.Pipes as pipe
 use Rattle.ws_steps.specs.Readable as readable
+use Rattle.ws_steps.specs.Transform as transform
 use Rattle.ws_steps.specs.Writable as writable
-use Rattle.ws_steps.specs.Slots.{Slots, Stream, ReadableStream, WritableStream, Done, nothing, owner_at, found, ends_at, on_readable, on_writable, on_pipe, on_signal}
-use Rattle.ws_steps.specs.Places.{Prices, price, each, effect_price, readable_price, writable_price, start_price, prices_of, pipe_price, signal_price, keeps, all_keep, signal_keeps, signals_keep, need, turns_alone, measure, table_size, entries_of, members_of, size}
+use Rattle.ws_steps.specs.Slots.{Slots, Stream, ReadableStream, WritableStream, Done, nothing, owner_at, found, ends_at, halves_at, on_readable, on_writable, on_pipe, on_signal, on_transform}
+use Rattle.ws_steps.specs.Places.{Prices, price, each, effect_price, readable_price, writable_price, start_price, prices_of, pipe_price, signal_price, transform_price, keeps, all_keep, signal_keeps, signals_keep, need, turns_alone, measure, table_size, entries_of, members_of, size}
 use Rattle.ws_steps.specs.Turns.{start_algorithm, pull_algorithm, cancel_algorithm, write_algorithm, close_algorithm, abort_algorithm, chunk_steps, close_steps, error_steps, call_host, row}
 use Rattle.ws_room_laws.proofs.Tables.{settle-size, given-size, finished-size, fresh-size, tell-size, use-size, gift-size, micro-size}
 use Rattle.ws_room_laws.proofs.Readables.{readable-takes, prices-append}
 use Rattle.ws_room_laws.proofs.Writables.{writable-takes}
 use Rattle.ws_room_laws.proofs.Pipes.{pipe-takes, signal-takes}
+use Rattle.ws_room_laws.proofs.Transforms.{transform-takes}
 
 -- what a row takes
 abbrev Takes : Prices → StreamId → SignalId → ℕ → Slots → Done → Type 0
@@ -174,26 +176,42 @@ signal-row π i a b operation s (Some x) is =
     omega (arith, h, k, same, c, d))
     (same-or a.0 b.0))
 
+-- transform streams
+
+transform-least : (π : Prices) (operation : TransformOperation) → π.turn ≤ transform_price π operation
+transform-least π operation = grind arith
+
+transform-row : (π : Prices) (i : StreamId) (a : SignalId) (t : TransformId) (operation : TransformOperation) (s : Slots) (o : Option transform.Slots) → slice_get s.transforms t.0 ≡ o
+    → Takes π i a (transform_price π operation) s (on_transform (λ halves. transform_operation t halves operation) t s)
+transform-row π i a t operation s None is = rw is (nothing-takes π i a s (transform_price π operation) (transform-least π operation))
+transform-row π i a t operation s (Some x) is =
+    rw is (let h = transform-takes π t (halves_at x s) operation (record { slots = x; out = found s }) in omega (arith, h))
+
 -- algorithms
 
 start-row : (π : Prices) (i j : StreamId) (a : SignalId) (step : Step) (s : Slots) (start : StartBy) → Takes π i a (start_price π start) s (start_algorithm j step s start)
 start-row π i j a step s Now = omega arith
 start-row π i j a step s Later = let h = fresh-size π s.promises in omega (arith, h)
 
-pull-row : (π : Prices) (j : StreamId) (u : Use) (o : Owner) → prices_of π (pull_algorithm j u o) ≡ price π 1 1 1 1 1 0 0
+pull-row : (π : Prices) (j : StreamId) (u : Use) (o : Owner) → prices_of π (pull_algorithm j u o) ≤ price π 2 1 1 1 1 0 0
 pull-row π j u Host = omega arith
+pull-row π j u (HalfOf t) = omega arith
 
-cancel-row : (π : Prices) (j : StreamId) (r : Plain) (u : Use) (o : Owner) → prices_of π (cancel_algorithm j r u o) ≡ price π 1 1 1 1 1 0 0
+cancel-row : (π : Prices) (j : StreamId) (r : Plain) (u : Use) (o : Owner) → prices_of π (cancel_algorithm j r u o) ≤ price π 3 2 2 1 1 0 0
 cancel-row π j r u Host = omega arith
+cancel-row π j r u (HalfOf t) = omega arith
 
-write-row : (π : Prices) (j : StreamId) (o : Owner) → prices_of π (write_algorithm j o) ≡ price π 2 1 1 1 1 0 0
+write-row : (π : Prices) (j : StreamId) (o : Owner) → prices_of π (write_algorithm j o) ≤ price π 10 4 3 1 1 1 0
 write-row π j Host = omega arith
+write-row π j (HalfOf t) = omega arith
 
-close-row : (π : Prices) (j : StreamId) (u : Use) (o : Owner) → prices_of π (close_algorithm j u o) ≡ price π 1 1 1 1 1 0 0
+close-row : (π : Prices) (j : StreamId) (u : Use) (o : Owner) → prices_of π (close_algorithm j u o) ≤ price π 3 2 2 1 1 0 0
 close-row π j u Host = omega arith
+close-row π j u (HalfOf t) = omega arith
 
-abort-row : (π : Prices) (j : StreamId) (r : Plain) (u : Use) (o : Owner) → prices_of π (abort_algorithm j r u o) ≡ price π 1 1 1 1 1 0 0
+abort-row : (π : Prices) (j : StreamId) (r : Plain) (u : Use) (o : Owner) → prices_of π (abort_algorithm j r u o) ≤ price π 3 2 2 1 1 0 0
 abort-row π j r u Host = omega arith
+abort-row π j r u (HalfOf t) = omega arith
 
 -- the steps of read requests
 
@@ -229,6 +247,7 @@ row-takes π i a (Readable j operation) s = readable-row π i j a operation s (s
 row-takes π i a (Writable j operation) s = writable-row π i j a operation s (slice_get s.streams j.0) refl
 row-takes π i a (Pipe p operation) s = pipe-row π i a p operation s (slice_get s.pipes p.0) refl
 row-takes π i a (Signal b operation) s = signal-row π i a b operation s (slice_get s.signals b.0) refl
+row-takes π i a (Transform t operation) s = transform-row π i a t operation s (slice_get s.transforms t.0) refl
 row-takes π i a (StartAlgorithm j step start) s = start-row π i j a step s start
 row-takes π i a (PullAlgorithm j) s = let h = pull-row π j (React (ReadablePull j) None) (owner_at j s) in omega (arith, h)
 row-takes π i a (CancelAlgorithm j r p) s = let h = cancel-row π j r (React ReturnUndefined (Some p)) (owner_at j s) in omega (arith, h)

@@ -5,17 +5,18 @@ use Rattle.ws_value.specs.declared.ids.StreamId.{StreamId}
 use Rattle.ws_value.specs.declared.value.Plain.{Plain}
 use Rattle.ws_value.specs.declared.value.Plain.TheVariants.{Undefined}
 use Rattle.ws_value.specs.declared.value.Value.{Value}
-use Rattle.ws_steps.specs.declared.{calls.Event.TheVariants.{Signal}, effects.Owner.{Owner}, effects.Owner.TheVariants.{Host}, queue.Queued.{Queued}, writable.PendingAbort.{PendingAbort}}
+use Rattle.ws_steps.specs.declared.{calls.Event.TheVariants.{Signal}, effects.Owner.{Owner}, effects.Owner.TheVariants.{Host, HalfOf}, queue.Queued.{Queued}, writable.PendingAbort.{PendingAbort}}
 use Rattle.ws_steps.specs.declared.writable.WritableOperation.{WritableOperation}
 use Rattle.ws_steps.specs.declared.writable.WritableOperation.TheVariants as names
 use Rattle.ws_steps.specs.declared.{writable.WritableState.TheVariants.{Erroring, Closed}, writable.WriteRecord.{WriteRecord}, writable.WriteRecord.TheVariants.{Chunk, CloseMark}}
+use Rattle.ws_steps.specs.declared.transform.Taker.{Taker}
 use Rattle.ws_steps.specs.declared.writable.Writer.{Writer}
 use Rattle.ws_steps.specs.Effects.{type_error}
 use Rattle.ws_steps.specs.Operations.{writable_operation}
 use Rattle.ws_steps.specs.Promises.{Table, settle}
 use Rattle.ws_steps.specs.Queues.{rest_of, first_value, with_first_value, enqueued, size_of}
 use Rattle.ws_steps.specs.Writable.{Acts, with_promises, settle_request, reject_all, ensure_rejected, settle_pending, update_backpressure, refresh_backpressure, reject_close_and_closed, finish_abort, fail_writes, finish_erroring, reject_ready, start_erroring, deal_with_rejection, controller_error_if_needed, later_requests, process_write, process_close, process_first, advance_queue, hand_on_first, hand_on, write_ended, without_first, write_settled, close_ended, settle_abort, abort_ended, clear_error, fulfil_closed, finish_in_flight_close, finish_in_flight_close_with_error, close_settled, start_settled, abort_settled, enqueue_chunk, controller_write, add_write_request, write_refusal, write_by, writer_write, controller_close, add_close_request, fulfil_ready, stream_close, close_with_error_propagation, add_pending_abort, begin_abort, signalled, stream_abort, abort_if_writable, set_up_writer, release_by, writer_release}
-use Rattle.ws_steps.specs.Places.{Prices, price, each, prices_of, writable_price, table_size}
+use Rattle.ws_steps.specs.Places.{Prices, price, each, prices_of, taker_price, writable_price, table_size}
 use Rattle.ws_room_laws.proofs.Tables.{settle-size, fresh-size, fresh_settled-size, tell-size}
 use Rattle.ws_room_laws.proofs.Readables.{prices-append, each-append}
 
@@ -69,10 +70,10 @@ module _ (π : Prices) (q r : ℕ) (me : StreamId) where
   unfolding reject_close_and_closed
   reject_close-takes a = grind (arith, settle-size, settle_pending-size)
 
-  finish_abort-takes : (a : Acts) (x : Option PendingAbort) → Takes (price π 2 1 1 1 1 0 0) a (finish_abort me a x)
+  finish_abort-takes : (a : Acts) (x : Option PendingAbort) → Takes (price π 4 2 2 1 1 0 0) a (finish_abort me a x)
   finish_abort-takes a x = grind (arith, prices-append, settle-size, reject_close-takes)
 
-  finish-takes : (a : Acts) → Takes (price π 2 1 1 1 1 0 0) a (finish_erroring me a)
+  finish-takes : (a : Acts) → Takes (price π 4 2 2 1 1 0 0) a (finish_erroring me a)
   unfolding finish_erroring
   finish-takes a =
       let b : Acts = fail_writes a in
@@ -82,7 +83,7 @@ module _ (π : Prices) (q r : ℕ) (me : StreamId) where
   reject_ready-takes e a None = omega arith
   reject_ready-takes e a (Some w) = let h = ensure-size π w.ready e a.out.promises in omega (arith, h)
 
-  erring-takes : (e : Plain) (a : Acts) → Takes (price π 2 2 1 1 1 0 0) a (start_erroring me e a)
+  erring-takes : (e : Plain) (a : Acts) → Takes (price π 4 3 2 1 1 0 0) a (start_erroring me e a)
   unfolding start_erroring
   erring-takes e a =
       let z : Acts = record a { slots = record a.slots { state = Erroring; stored_error = e } } in
@@ -90,17 +91,17 @@ module _ (π : Prices) (q r : ℕ) (me : StreamId) where
       let f = reject_ready-takes e z a.slots.writer in
       let h = finish-takes b in grind (arith, f, h)
 
-  rejection-takes : (e : Plain) (a : Acts) → Takes (price π 2 2 1 1 1 0 0) a (deal_with_rejection me e a)
+  rejection-takes : (e : Plain) (a : Acts) → Takes (price π 4 3 2 1 1 0 0) a (deal_with_rejection me e a)
   unfolding deal_with_rejection
   rejection-takes e a = let h = finish-takes a in let g = erring-takes e a in grind (arith, h, g)
 
-  first-takes : (a : Acts) (first : Option WriteRecord) → Takes (price π 3 1 1 1 1 0 0) a (process_first me a first)
+  first-takes : (a : Acts) (first : Option WriteRecord) → Takes (price π 11 4 3 1 1 1 0) a (process_first me a first)
   unfolding process_write process_close
   first-takes a first =
       let g = later-each r a.slots.write_requests in
       let h = rest-each q a.slots.queue in grind (arith, prices-append, g, h)
 
-  advance-takes : (a : Acts) → Takes (price π 3 1 1 1 1 0 0) a (advance_queue me a)
+  advance-takes : (a : Acts) → Takes (price π 11 4 3 1 1 1 0) a (advance_queue me a)
   unfolding advance_queue
   advance-takes a = let f = finish-takes a in let h = first-takes a (first_value a.slots.queue) in grind (arith, f, h)
 
@@ -108,7 +109,7 @@ module _ (π : Prices) (q r : ℕ) (me : StreamId) where
   unfolding refresh_backpressure update_backpressure
   refresh-takes a = grind (arith, settle-size, fresh-size)
 
-  write_settled-takes : (a : Acts) (outcome : Result Plain Plain) → Takes (price π 3 2 1 1 1 0 0) a (write_settled me outcome a)
+  write_settled-takes : (a : Acts) (outcome : Result Plain Plain) → Takes (price π 11 5 3 1 1 1 0) a (write_settled me outcome a)
   unfolding write_settled
   write_settled-takes a (Ok v) =
       let e = request-size π (Ok Undefined) a.out.promises a.slots.write_in_flight in
@@ -127,7 +128,7 @@ module _ (π : Prices) (q r : ℕ) (me : StreamId) where
   fulfil_closed-takes a None = omega arith
   fulfil_closed-takes a (Some w) = let h = settle-size π w.closed (Ok Undefined) a.out.promises in omega (arith, h)
 
-  close_settled-takes : (a : Acts) (outcome : Result Plain Plain) → Takes (price π 2 2 1 1 1 0 0) a (close_settled me outcome a)
+  close_settled-takes : (a : Acts) (outcome : Result Plain Plain) → Takes (price π 4 3 2 1 1 0 0) a (close_settled me outcome a)
   unfolding close_settled finish_in_flight_close finish_in_flight_close_with_error
   close_settled-takes a (Ok v) =
       let e = request-size π (Ok Undefined) a.out.promises a.slots.close_in_flight in
@@ -141,12 +142,12 @@ module _ (π : Prices) (q r : ℕ) (me : StreamId) where
       let g = abort-size π (Err e) z.out.promises z.slots.pending_abort in
       let h = rejection-takes e (abort_ended (Err e) z) in omega (arith, f, g, h)
 
-  start_settled-takes : (a : Acts) (outcome : Result Plain Plain) → Takes (price π 3 2 1 1 1 0 0) a (start_settled me outcome a)
+  start_settled-takes : (a : Acts) (outcome : Result Plain Plain) → Takes (price π 11 5 3 1 1 1 0) a (start_settled me outcome a)
   unfolding start_settled
   start_settled-takes a (Ok v) = let h = advance-takes (record a { slots = record a.slots { started = true } }) in omega (arith, h)
   start_settled-takes a (Err e) = let h = rejection-takes e (record a { slots = record a.slots { started = true } }) in omega (arith, h)
 
-  write-takes : (v : Value) (p : PromiseId) (a : Acts) (refusal : Option Plain) → q ≤ π.queued → r ≤ π.request → Takes (price π 3 2 1 1 1 1 1) a (write_by me v p a refusal)
+  write-takes : (v : Value) (p : PromiseId) (a : Acts) (refusal : Option Plain) → q ≤ π.queued → r ≤ π.request → Takes (price π 11 5 3 1 1 2 1) a (write_by me v p a refusal)
   unfolding controller_write
   write-takes v p a (Some e) l m = let h = settle-size π p (Err e) a.out.promises in omega (arith, h)
   write-takes v p a None l m =
@@ -159,7 +160,7 @@ module _ (π : Prices) (q r : ℕ) (me : StreamId) where
   fulfil_ready-takes : (a : Acts) (w : Option Writer) → Takes 0 a (fulfil_ready a w)
   fulfil_ready-takes a w = grind (arith, settle-size)
 
-  close-takes : (p : PromiseId) (a : Acts) → q ≤ π.queued → Takes (price π 3 1 1 1 1 1 0) a (stream_close me p a)
+  close-takes : (p : PromiseId) (a : Acts) → q ≤ π.queued → Takes (price π 11 4 3 1 1 2 0) a (stream_close me p a)
   unfolding stream_close controller_close
   close-takes p a l =
       let b : Acts = add_close_request p a in
@@ -169,7 +170,7 @@ module _ (π : Prices) (q r : ℕ) (me : StreamId) where
       let g = advance-takes (record z { slots = record z.slots { queue = enqueued CloseMark 0 z.slots.queue } }) in
       let s = settle-size π p (Err type_error) a.out.promises in grind (arith, s, h, f, g, l)
 
-  propagating-takes : (p : PromiseId) (a : Acts) → q ≤ π.queued → Takes (price π 3 1 1 1 1 1 0) a (close_with_error_propagation me p a)
+  propagating-takes : (p : PromiseId) (a : Acts) → q ≤ π.queued → Takes (price π 11 4 3 1 1 2 0) a (close_with_error_propagation me p a)
   unfolding close_with_error_propagation
   propagating-takes p a l =
       let h = close-takes p a l in
@@ -178,24 +179,25 @@ module _ (π : Prices) (q r : ℕ) (me : StreamId) where
 
   signal-takes : (e : Plain) (a : Acts) (o : Owner) → Takes π.event a (signalled me e a o)
   signal-takes e a Host = let h = tell-size π (Signal me e) a.out.promises in omega (arith, h)
+  signal-takes e a (HalfOf t) = omega arith
 
-  begin-takes : (e : Plain) (p : PromiseId) (a : Acts) → Takes (price π 2 2 1 1 1 0 0) a (begin_abort me e p a)
+  begin-takes : (e : Plain) (p : PromiseId) (a : Acts) → Takes (price π 4 3 2 1 1 0 0) a (begin_abort me e p a)
   begin-takes e p a = let h = erring-takes e (add_pending_abort e p a) in grind (arith, h)
 
-  abort-takes : (e : Plain) (p : PromiseId) (a : Acts) → Takes (price π 2 2 1 2 1 0 0) a (stream_abort me e p a)
+  abort-takes : (e : Plain) (p : PromiseId) (a : Acts) → Takes (price π 4 3 2 2 1 0 0) a (stream_abort me e p a)
   unfolding stream_abort
   abort-takes e p a =
       let f = signal-takes e a a.slots.owner in
       let h = begin-takes e p (signalled me e a a.slots.owner) in
       let g = settle-size π p (Ok Undefined) a.out.promises in grind (arith, f, g, h)
 
-  abort_writable-takes : (e : Plain) (p : PromiseId) (a : Acts) → Takes (price π 2 2 1 2 1 0 0) a (abort_if_writable me e p a)
+  abort_writable-takes : (e : Plain) (p : PromiseId) (a : Acts) → Takes (price π 4 3 2 2 1 0 0) a (abort_if_writable me e p a)
   unfolding abort_if_writable
   abort_writable-takes e p a =
       let h = abort-takes e p a in
       let f = settle-size π p (Ok Undefined) a.out.promises in grind (arith, h, f)
 
-  if_needed-takes : (e : Plain) (a : Acts) → Takes (price π 2 2 1 1 1 0 0) a (controller_error_if_needed me e a)
+  if_needed-takes : (e : Plain) (a : Acts) → Takes (price π 4 3 2 1 1 0 0) a (controller_error_if_needed me e a)
   unfolding controller_error_if_needed
   if_needed-takes e a = let h = erring-takes e a in grind (arith, h)
 
@@ -218,8 +220,8 @@ module _ (π : Prices) (q r : ℕ) (me : StreamId) where
       let f = settle_pending-size π w.ready (Err type_error) a.out.promises in
       let g = settle_pending-size π w.closed (Err type_error) (settle_pending w.ready (Err type_error) a.out.promises) in omega (arith, f, g)
 
-  hand_on-takes : (a : Acts) (first : Option WriteRecord) → Takes (price π 1 1 1 1 1 0 0) a (hand_on_first me a first)
-  hand_on-takes a first = grind (arith, prices-append, put-each)
+  hand_on-takes : (taker : Taker) (a : Acts) (first : Option WriteRecord) → Takes (taker_price π taker) a (hand_on_first me taker a first)
+  hand_on-takes taker a first = grind (arith, prices-append, put-each)
 
 pub writable-takes : (π : Prices) (q r : ℕ) (me : StreamId) (operation : WritableOperation) (a : Acts) → q ≤ π.queued → r ≤ π.request →
     writable_holds π q r (writable_operation me operation a) + π.turn ≤ writable_holds π q r a + writable_price π operation
@@ -232,7 +234,7 @@ writable-takes π q r me (names.ClosePropagating p) a l m = let h = propagating-
 writable-takes π q r me (names.Abort e p) a l m = let h = abort-takes π q r me e p a in omega (arith, h)
 writable-takes π q r me (names.AbortIfWritable e p) a l m = let h = abort_writable-takes π q r me e p a in omega (arith, h)
 writable-takes π q r me (names.ErrorIfNeeded e) a l m = let h = if_needed-takes π q r me e a in omega (arith, h)
-writable-takes π q r me names.HandOn a l m = let h = hand_on-takes π q r me a (first_value a.slots.queue) in omega (arith, h)
+writable-takes π q r me (names.HandOn taker) a l m = let h = hand_on-takes π q r me taker a (first_value a.slots.queue) in omega (arith, h)
 writable-takes π q r me (names.StartSettled outcome) a l m = let h = start_settled-takes π q r me a outcome in omega (arith, h)
 writable-takes π q r me (names.WriteSettled outcome) a l m = let h = write_settled-takes π q r me a outcome in omega (arith, h)
 writable-takes π q r me (names.CloseSettled outcome) a l m = let h = close_settled-takes π q r me a outcome in omega (arith, h)

@@ -1,0 +1,210 @@
+-- In which order effects stand on the agenda: behind one that may yet lead to a read or to an enqueue stand no chunk steps of a read request.
+-- So a stream gives its chunks in their order.
+use Rattle.std.proofs.Common.{◌≡◌, Bool, true, false, List, [], ◌∷◌, ◌++◌, Option, Some, None, slice_get, refl, sym, subst, arith}
+use Rattle.ws_value.specs.declared.ids.PipeId.{PipeId}
+use Rattle.ws_value.specs.declared.ids.StreamId.{StreamId}
+use Rattle.ws_value.specs.declared.value.Value.{Value}
+use Rattle.ws_steps.specs.declared.calls.Call.{Call}
+use Rattle.ws_steps.specs.declared.effects.Effect.{Effect}
+use Rattle.ws_steps.specs.declared.effects.Effect.TheVariants.{Readable, Writable, Pipe, Signal, Transform, StartAlgorithm, PullAlgorithm, CancelAlgorithm, WriteAlgorithm, CloseAlgorithm, AbortAlgorithm, ChunkSteps, CloseSteps, ErrorSteps}
+use Rattle.ws_steps.specs.declared.pipes.PipeOperation.{PipeOperation}
+use Rattle.ws_steps.specs.declared.pipes.SignalOperation.{SignalOperation}
+use Rattle.ws_steps.specs.declared.pipes.SignalOperation.TheVariants.{Add, Forget, Trigger}
+use Rattle.ws_steps.specs.declared.promises.Job.{Job}
+use Rattle.ws_steps.specs.declared.readable.ReadRequest.{ReadRequest}
+use Rattle.ws_steps.specs.declared.readable.ReadRequest.TheVariants.{Promise, Pipe as PipeRequest}
+use Rattle.ws_steps.specs.declared.transform.TransformId.{TransformId}
+use Rattle.ws_steps.specs.declared.transform.TransformOperation.{TransformOperation}
+use Rattle.ws_steps.specs.declared.transform.TransformOperation.TheVariants as transforms
+use Rattle.ws_steps.specs.Operations.{pipe_operation, transform_operation}
+use Rattle.ws_steps.specs.Pipes as pipe
+use Rattle.ws_steps.specs.Transform as transform
+use Rattle.ws_steps.specs.Slots.{Slots, on_pipe_at, on_transform_at}
+use Rattle.ws_steps.specs.Turns.{row}
+use Rattle.ws_steps.specs.Jobs.{job_effects}
+use Rattle.ws_steps.specs.Calls.{begin}
+use Rattle.ws_laws.proofs.Lists.{Each, each-append, each-map}
+use Rattle.ws_laws.proofs.PipeDoes.{PipeCauses}
+use Rattle.ws_laws.proofs.ReadableDoes.{is_taking}
+use Rattle.ws_laws.proofs.TransformDoes.{TransformCauses}
+use Rattle.ws_laws.proofs.Rows.{ChunkCauses, EndCauses, SignalCauses, row-causes}
+use Rattle.ws_laws.proofs.Begin.{IsFirst, Enqueues, Never, begin-first, job-first}
+use Rattle.ws_laws.proofs.OnReadable.{is_still}
+use Rattle.ws_laws.proofs.Walker.{Stays}
+
+-- operations of a transform stream that lead to no operation of a stream
+abbrev pub is_resting : TransformOperation → Bool
+is_resting transforms.Enqueued = true
+is_resting transforms.Unblock = true
+is_resting (transforms.SourcePull u) = true
+is_resting (transforms.SinkClose u) = true
+is_resting (transforms.SinkAbort r u) = true
+is_resting (transforms.SourceCancel r u) = true
+is_resting _ = false
+
+abbrev not_true : Bool → Bool
+not_true true = false
+not_true false = true
+
+-- whether an effect may yet lead to a read or to an enqueue
+abbrev pub may_take : Effect → Bool
+may_take (Readable i operation) = is_taking operation
+may_take (Writable i operation) = true
+may_take (WriteAlgorithm i) = true
+may_take (Pipe p operation) = not_true (is_still operation)
+may_take (Signal a operation) = true
+may_take (Transform t operation) = not_true (is_resting operation)
+may_take _ = false
+
+-- a read, and an enqueue
+abbrev pub is_stream_take : Effect → Bool
+is_stream_take (Readable i operation) = is_taking operation
+is_stream_take _ = false
+
+abbrev pub IsQuiet : Effect → Type 0
+IsQuiet e = may_take e ≡ false
+
+abbrev pub IsNoChunk : Effect → Type 0
+IsNoChunk (ChunkSteps i request v) = ⊥
+IsNoChunk _ = Unit {0}
+
+abbrev pub Calm : List Effect → Type 0
+Calm es = Each IsNoChunk es
+
+abbrev pub Behind : Bool → List Effect → Type 0
+Behind true es = Calm es
+Behind false es = Unit {0}
+
+abbrev pub AreOrdered : List Effect → Type 0
+AreOrdered [] = Unit {0}
+AreOrdered (e ∷ es) = Behind (may_take e) es × AreOrdered es
+
+-- an operation that doesn't rest stands before no chunk steps
+pub behind-active : (t : TransformId) (operation : TransformOperation) (es : List Effect) → is_resting operation ≡ false → AreOrdered (Transform t operation ∷ es) → Calm es
+behind-active t operation es n o = subst (λ b. Behind (not_true b) es) n o.0
+
+behind-quiet : (b : Bool) (es : List Effect) → b ≡ false → Behind b es
+behind-quiet true es n = cc
+behind-quiet false es n = tt
+
+behind-calm : (b : Bool) (es : List Effect) → Calm es → Behind b es
+behind-calm true es c = c
+behind-calm false es c = tt
+
+calm-ordered : (es : List Effect) → Calm es → AreOrdered es
+calm-ordered [] c = tt
+calm-ordered (e ∷ es) c = (behind-calm (may_take e) es c.1, calm-ordered es c.1)
+
+quiet-ordered : (cs es : List Effect) → Each IsQuiet cs → AreOrdered es → AreOrdered (cs ++ es)
+quiet-ordered [] es q o = o
+quiet-ordered (c ∷ cs) es q o = (behind-quiet (may_take c) (cs ++ es) q.0, quiet-ordered cs es q.1 o)
+
+true_of : (b : Bool) → not_true b ≡ false → b ≡ true
+true_of true e = refl
+true_of false e = cc
+
+-- what quiet effects cause is quiet
+
+chunk-quiet : (v : Value) (request : ReadRequest) → ChunkCauses IsQuiet v request
+chunk-quiet v (Promise p) = tt
+chunk-quiet v (PipeRequest p) = refl
+
+end-quiet : (request : ReadRequest) → EndCauses IsQuiet request
+end-quiet (Promise p) = tt
+end-quiet (PipeRequest p) = refl
+
+-- what an operation of a pipe that is still causes, and one of a transform stream that rests
+
+pipe-quiet : (p : PipeId) (operation : PipeOperation) (s : Slots) (o : Option pipe.Slots) → is_still operation ≡ true → Each IsQuiet (on_pipe_at (λ ends. pipe_operation p ends operation) p s o).caused
+unfolding pipe.keep_chunk pipe.read_ended pipe.part_settled pipe.no_parts
+pipe-quiet p operation s None n = tt
+pipe-quiet p operation s (Some x) n = grind arith
+
+pub transform-quiet : (t : TransformId) (operation : TransformOperation) (s : Slots) (o : Option transform.Slots) → is_resting operation ≡ true
+    → Each IsQuiet (on_transform_at (λ halves. transform_operation t halves operation) t s o).caused
+unfolding transform.enqueued transform.unblock transform.source_pull transform.sink_close transform.sink_abort transform.source_cancel transform.set_backpressure
+transform-quiet t operation s None n = tt
+transform-quiet t operation s (Some x) n = grind arith
+
+row-quiet : (e : Effect) (s : Slots) → may_take e ≡ false → Each IsQuiet (row e s).caused
+unfolding row
+row-quiet (Readable i operation) s n = row-causes IsQuiet (Readable i operation) s (record { pull = refl; cancel = λ r p. refl; chunk = λ r v. refl; close = λ r. refl; error = λ r e. refl })
+row-quiet (Pipe p operation) s n = pipe-quiet p operation s (slice_get s.pipes p.0) (true_of (is_still operation) n)
+row-quiet (Transform t operation) s n = transform-quiet t operation s (slice_get s.transforms t.0) (true_of (is_resting operation) n)
+row-quiet (PullAlgorithm i) s n = row-causes IsQuiet (PullAlgorithm i) s (λ call u. refl, λ t u. refl)
+row-quiet (CancelAlgorithm i r p) s n = row-causes IsQuiet (CancelAlgorithm i r p) s (λ call u. refl, λ t u. refl)
+row-quiet (CloseAlgorithm i) s n = row-causes IsQuiet (CloseAlgorithm i) s (λ call u. refl, λ t u. refl)
+row-quiet (AbortAlgorithm i r p) s n = row-causes IsQuiet (AbortAlgorithm i r p) s (λ call u. refl, λ t u. refl)
+row-quiet (StartAlgorithm i step start) s n = row-causes IsQuiet (StartAlgorithm i step start) s (λ g u. refl, λ c u. refl)
+row-quiet (ChunkSteps i request v) s n = row-causes IsQuiet (ChunkSteps i request v) s (chunk-quiet v request)
+row-quiet (CloseSteps i request) s n = row-causes IsQuiet (CloseSteps i request) s (end-quiet request)
+row-quiet (ErrorSteps i request e) s n = row-causes IsQuiet (ErrorSteps i request e) s (end-quiet request)
+row-quiet (Writable i operation) s n = cc
+row-quiet (WriteAlgorithm i) s n = cc
+row-quiet (Signal a operation) s n = cc
+row-quiet _ s n = tt
+
+-- of those that aren't, only a read and an enqueue cause chunk steps, and nothing but what is quiet
+
+pipe-calm : (p : PipeId) (source dest : StreamId) (e : Effect) → PipeCauses p source dest e → IsNoChunk e
+pipe-calm p source dest (ChunkSteps i request v) c = absurd c
+pipe-calm p source dest _ c = tt
+
+transform-calm : (t : TransformId) (writable readable : StreamId) (e : Effect) → TransformCauses t writable readable e → IsNoChunk e
+transform-calm t writable readable (ChunkSteps i request v) c = absurd c
+transform-calm t writable readable _ c = tt
+
+signal-calm : (operation : SignalOperation) → SignalCauses IsNoChunk operation
+signal-calm (Add p) = tt
+signal-calm (Forget p) = tt
+signal-calm (Trigger r) = λ p. tt
+
+-- a read and an enqueue cause nothing but what is quiet
+take-quiet : (e : Effect) (s : Slots) → is_stream_take e ≡ true → Each IsQuiet (row e s).caused
+take-quiet (Readable i operation) s m = row-causes IsQuiet (Readable i operation) s (record { pull = refl; cancel = λ r p. refl; chunk = λ r v. refl; close = λ r. refl; error = λ r e. refl })
+take-quiet _ s m = cc
+
+row-calm : (e : Effect) (s : Slots) → may_take e ≡ true → is_stream_take e ≡ false → Calm (row e s).caused
+row-calm (Readable i operation) s m n = cc
+row-calm (Writable i operation) s m n = row-causes IsNoChunk (Writable i operation) s (record { write = tt; close = tt; abort = λ r p. tt; hand_on = λ v. tt; take = λ v t d. tt })
+row-calm (WriteAlgorithm i) s m n = row-causes IsNoChunk (WriteAlgorithm i) s (tt, λ t u. tt)
+row-calm (Pipe p operation) s m n = row-causes IsNoChunk (Pipe p operation) s (pipe-calm p)
+row-calm (Signal a operation) s m n = row-causes IsNoChunk (Signal a operation) s (signal-calm operation)
+row-calm (Transform t operation) s m n = row-causes IsNoChunk (Transform t operation) s (transform-calm t)
+row-calm _ s m n = cc
+
+-- each effect keeps the order
+row-by : (s : Slots) (e : Effect) (es : List Effect) (take stream : Bool) → take ≡ may_take e → stream ≡ is_stream_take e → AreOrdered (e ∷ es) → AreOrdered ((row e s).caused ++ es)
+row-by s e es false stream t d o = quiet-ordered (row e s).caused es (row-quiet e s (sym t)) o.1
+row-by s e es true false t d o =
+    let behind : Calm es = subst (λ b. Behind b es) (sym t) o.0 in
+    calm-ordered ((row e s).caused ++ es) (each-append IsNoChunk (row e s).caused es (row-calm e s (sym t) (sym d)) behind)
+row-by s e es true true t d o = quiet-ordered (row e s).caused es (take-quiet e s (sym d)) o.1
+
+pub row-ordered : (s : Slots) (e : Effect) (es : List Effect) → AreOrdered (e ∷ es) → AreOrdered ((row e s).caused ++ es)
+row-ordered s e es o = row-by s e es (may_take e) (is_stream_take e) refl refl o
+
+-- what calls and jobs begin with has no chunk steps
+
+first-calm : (E : StreamId → Value → Type 0) (e : Effect) → IsFirst E e → IsNoChunk e
+first-calm E (ChunkSteps i request v) f = absurd f
+first-calm E _ f = tt
+
+pub call-calm : (c : Call) (s : Slots) → Calm (begin c s).done.caused
+call-calm c s = each-map (IsFirst (Enqueues c)) IsNoChunk (first-calm (Enqueues c)) (begin c s).done.caused (begin-first c s)
+
+pub job-calm : (job : Job) → Calm (job_effects job)
+job-calm job = each-map (IsFirst Never) IsNoChunk (first-calm Never) (job_effects job) (job-first job)
+
+-- behind an effect that may take stand no chunk steps, at each moment of each run
+abbrev pub Orderly : Slots → List Effect → Type 0
+Orderly s es = AreOrdered es
+
+pub orderly-stays : Stays Orderly
+orderly-stays = record {
+  row = row-ordered;
+  call = λ s c o. calm-ordered (begin c s).done.caused (call-calm c s);
+  job = λ s job e o. calm-ordered (job_effects job) (job-calm job);
+  answered = λ s p o. tt;
+  older = λ s o. tt;
+}
