@@ -1,141 +1,276 @@
--- What enters a readable stream is what calls that are answered Done enqueue: no other call, no job and no effect causes an enqueue.
-use Rattle.std.proofs.Common.{◌≡◌, ◌≢◌, true, List, [], ◌∷◌, ◌++◌, Option, Some, None, if◌then◌else◌, refl, sym, ap, ◌∙◌, append-nil}
+-- What enters a readable stream that isn't a half of an identity transform is what calls that are answered Done enqueue: no other call, no
+-- job and no effect causes an enqueue into it.
+use Rattle.std.proofs.Common.{◌≡◌, Bool, true, false, List, [], ◌∷◌, ◌++◌, map, Option, Some, None, ℕ, zero, suc, if◌then◌else◌, slice_get, refl, sym, ap, ◌∙◌, append-nil, subst, arith}
 use Rattle.ws_value.specs.declared.ids.PipeId.{PipeId}
+use Rattle.ws_value.specs.declared.ids.PromiseId.{PromiseId}
 use Rattle.ws_value.specs.declared.ids.StreamId.{StreamId}
+use Rattle.ws_value.specs.declared.value.Value.{Value}
 use Rattle.ws_steps.specs.declared.readable.ReadRequest.TheVariants.{Promise, Pipe as PipeRequest}
 use Rattle.ws_steps.specs.declared.pipes.SignalOperation.TheVariants.{Add, Forget, Trigger}
-use Rattle.ws_value.specs.declared.value.Value.{Value}
 use Rattle.ws_steps.specs.declared.{calls.Call.{Call}, calls.Call.TheVariants.{Enqueue as EnqueueCall}, effects.Effect.{Effect}}
-use Rattle.ws_steps.specs.declared.effects.Effect.TheVariants.{Readable, Writable, Pipe, Signal, StartAlgorithm, PullAlgorithm, CancelAlgorithm, CloseAlgorithm, AbortAlgorithm, ChunkSteps, CloseSteps, ErrorSteps}
-use Rattle.ws_steps.specs.declared.{promises.Job.{Job}, readable.ReadableOperation.TheVariants.{Enqueue}, readable.ReadableState.TheVariants.{Readable as IsReadable}}
+use Rattle.ws_steps.specs.declared.effects.Effect.TheVariants.{Readable, Writable, Pipe, Signal, Transform, StartAlgorithm, PullAlgorithm, CancelAlgorithm, WriteAlgorithm, CloseAlgorithm, AbortAlgorithm, ChunkSteps, CloseSteps, ErrorSteps}
+use Rattle.ws_steps.specs.declared.{effects.Owner.{Owner}, effects.Owner.TheVariants.{Host, HalfOf}, promises.Job.{Job}, readable.ReadableOperation.TheVariants.{Enqueue}}
+use Rattle.ws_steps.specs.declared.transform.Halves.{Halves}
+use Rattle.ws_steps.specs.declared.transform.Kind.{Kind}
+use Rattle.ws_steps.specs.declared.transform.Kind.TheVariants.{Identity, Host as HostKind}
+use Rattle.ws_steps.specs.declared.transform.TransformId.{TransformId}
+use Rattle.ws_steps.specs.declared.transform.TransformOperation.{TransformOperation}
+use Rattle.ws_steps.specs.declared.transform.TransformOperation.TheVariants as names
+use Rattle.ws_steps.specs.Operations.{transform_operation}
 use Rattle.ws_steps.specs.Promises.{next_job}
 use Rattle.ws_steps.specs.Readable as readable
-use Rattle.ws_steps.specs.Slots.{Slots, Done, causes, empty, has_readable, readable_at}
+use Rattle.ws_steps.specs.Transform as transform
+use Rattle.ws_steps.specs.Transform.{Acts}
+use Rattle.ws_steps.specs.Slots.{Slots, Stream, ReadableStream, WritableStream, Done, causes, empty, found, halves_at, on_transform_at, as_readable, as_transform, has_readable, readable_at, transform_at}
 use Rattle.ws_steps.specs.Turns.{row, moments}
 use Rattle.ws_steps.specs.Jobs.{job_effects, job_begun, begin_job}
-use Rattle.ws_steps.specs.Calls.{Begun, begin, unsupported, with_renewed, reject_renewed}
+use Rattle.ws_steps.specs.Calls.{Begun, begin, unsupported}
 use Rattle.ws_steps.specs.Calls as calls
-use Rattle.ws_steps.specs.Run.{Entry, Called, Worked, Heard, step, reply_to}
+use Rattle.ws_steps.specs.Run.{Entry, Called, Worked, Heard, step, run}
 use Rattle.ws_steps.specs.Histories.{is_same, along}
 use Rattle.ws_steps.specs.ReadableHistory.{Flow, no_flow, flow_then, operation_flow, effect_flow, step_flow, run_flow, accepted_by, accepted_in_step, accepted}
-use Rattle.ws_steps.specs.Laws.{EnteredWasAccepted}
+use Rattle.ws_steps.specs.Laws.{enqueued_by_host, EnteredWasAccepted}
 use Rattle.ws_room_laws.proofs.Turns.{moments_next, moments_none}
-use Rattle.ws_laws.proofs.Tables.{either, same_id}
+use Rattle.ws_laws.proofs.Tables.{either, same_id, readable_there}
 use Rattle.ws_laws.proofs.Lists.{Each, each-append, each-map}
-use Rattle.ws_laws.proofs.Rows.{Causes, row-causes}
+use Rattle.ws_laws.proofs.Rows.{Causes, row-causes, row-streams}
 use Rattle.ws_laws.proofs.PipeDoes.{PipeCauses}
 use Rattle.ws_laws.proofs.Begin.{IsFirst, Enqueues, Never, begin-first, job-first}
+use Rattle.ws_laws.proofs.Shapes.{ReadableOf, TransformShape, stream_shape, stream_shapes, transform_shape, transform_shapes, map-there, row-transform_shapes}
+use Rattle.ws_laws.proofs.Halves.{Among, Halved, step-among, step-shapes, step-halved, run-halved, run-among, halved-empty}
 use Rattle.ws_laws.proofs.Walker.{performed-goes}
-use Rattle.ws_readable_laws.proofs.Operations.{readable_by}
 use Rattle.ws_readable_laws.proofs.Runs.{is_history, nothing_flows}
 
--- effects that don't enqueue
-abbrev Quiet : Effect → Type 0
-Quiet (Readable i (Enqueue v)) = ⊥
-Quiet _ = Unit {0}
+-- other effects than operations of transform streams
+abbrev IsOther : Effect → Type 0
+IsOther (Transform t operation) = ⊥
+IsOther _ = Unit {0}
 
-pipe-quiet : (p : PipeId) (source dest : StreamId) (e : Effect) → PipeCauses p source dest e → Quiet e
-pipe-quiet p source dest (Readable i (Enqueue v)) c = c
-pipe-quiet p source dest _ c = tt
+none-there : (xs : List transform.Slots) (n : ℕ) (x : TransformShape) → slice_get xs n ≡ None → slice_get (map transform_shape xs) n ≡ Some x → ⊥
+none-there [] n x is there = cc
+none-there (y ∷ ys) zero x is there = cc
+none-there (y ∷ ys) (suc n) x is there = none-there ys n x is there
 
-quiet-causes : (e : Effect) → Causes Quiet e
-quiet-causes (Readable j operation) = record { pull = tt; cancel = λ r p. tt; chunk = λ r v. tt; close = λ r. tt; error = λ r e. tt }
-quiet-causes (Writable j operation) = record { write = tt; close = tt; abort = λ r p. tt; hand_on = λ v. tt }
-quiet-causes (StartAlgorithm j step start) = (λ g u. tt, λ c u. tt)
-quiet-causes (PullAlgorithm j) = λ c u. tt
-quiet-causes (CancelAlgorithm j r p) = λ c u. tt
-quiet-causes (CloseAlgorithm j) = λ c u. tt
-quiet-causes (AbortAlgorithm j r p) = λ c u. tt
-quiet-causes (Pipe p operation) = pipe-quiet p
-quiet-causes (Signal a (Trigger r)) = λ p. tt
-quiet-causes (Signal a (Add p)) = tt
-quiet-causes (Signal a (Forget p)) = tt
-quiet-causes (ChunkSteps j (Promise p) v) = tt
-quiet-causes (ChunkSteps j (PipeRequest p) v) = tt
-quiet-causes (CloseSteps j (Promise p)) = tt
-quiet-causes (CloseSteps j (PipeRequest p)) = tt
-quiet-causes (ErrorSteps j (Promise p) e) = tt
-quiet-causes (ErrorSteps j (PipeRequest p) e) = tt
-quiet-causes _ = tt
+some-same : {x y : TransformShape} → Some x ≡ Some y → x ≡ y
+some-same e = cc
 
--- what enters stream i by the effects of a call or a job that begins so
-abbrev enters : StreamId → Done → List Value
-enters i d = (along no_flow flow_then (effect_flow i) (moments d)).entered
+module _ (i : StreamId) where
+  -- effects that don't enqueue into stream i
+  abbrev Quiet : Effect → Type 0
+  Quiet (Readable j (Enqueue v)) = is_same i j ≡ false
+  Quiet (Transform t (names.Enqueue v)) = ⊥
+  Quiet _ = Unit {0}
 
-by_place : (i j : StreamId) (f : Flow) → f.entered ≡ [] → (if is_same i j then f else no_flow).entered ≡ []
-by_place i j f e = either (λ (g : Flow). g.entered ≡ []) (is_same i j) f no_flow (λ same. e) (λ other. refl)
+  -- no identity transform has it as its readable half
+  abbrev Apart : List TransformShape → Type 0
+  Apart ts = (t : TransformId) (x : TransformShape) → slice_get ts t.0 ≡ Some x → x.kind ≡ Identity → is_same i x.readable ≡ false
 
-quiet-enters : (i : StreamId) (e : Effect) (s : Slots) → Quiet e → (effect_flow i e s).entered ≡ []
-quiet-enters i (Readable j (Enqueue v)) s quiet = absurd quiet
-quiet-enters i (Readable j operation) s quiet = by_place i j (operation_flow operation (readable_at j s)) refl
-quiet-enters i (ChunkSteps j request v) s quiet = by_place i j _ refl
-quiet-enters i _ s quiet = refl
+  pipe-quiet : (p : PipeId) (source dest : StreamId) (e : Effect) → PipeCauses p source dest e → Quiet e
+  pipe-quiet p source dest (Readable j (Enqueue v)) c = absurd c
+  pipe-quiet p source dest (Transform t (names.Enqueue v)) c = absurd c
+  pipe-quiet p source dest _ c = tt
 
-none_enters : (i : StreamId) (d : Done) → Each Quiet d.caused → enters i d ≡ []
-none_enters i d quiet =
-    let f : Flow = along no_flow flow_then (effect_flow i) (moments d) in
-    ap (λ (g : Flow). g.entered) (sym (nothing_flows f))
-    ∙ (performed-goes no_flow flow_then is_history (effect_flow i) (λ h s es. (h.entered ≡ []) × Each Quiet es)
-    (λ h s e es k. (ap (λ vs. vs ++ (effect_flow i e s).entered) k.0 ∙ quiet-enters i e s k.1.0, each-append Quiet (row e s).caused es (row-causes Quiet e s (quiet-causes e)) k.1.1))
-    no_flow d (refl, quiet)).0
+  -- what an operation of a transform stream causes but for an enqueue
 
--- calls and jobs
+  abbrev All : List Effect → Type 0
+  All es = Each Quiet es
 
-first_quiet : (E : StreamId → Value → Type 0) → ((i : StreamId) (v : Value) → E i v → ⊥) → (e : Effect) → IsFirst E e → Quiet e
-first_quiet E none (Readable i (Enqueue v)) f = none i v f
-first_quiet E none _ f = tt
+  backpressure-quiet : (b : Bool) (a : Acts) → All a.out.effects → All (transform.set_backpressure b a).out.effects
+  unfolding transform.set_backpressure
+  backpressure-quiet b a h = h
 
-enqueued : (i j : StreamId) (v : Value) (s : Slots) → readable.can_close_or_enqueue (readable_at j s) ≡ true
-    → enters i (causes (Readable j (Enqueue v) ∷ []) s) ≡ (if is_same i j then v ∷ [] else [])
-enqueued i j v s can =
-    let e : Effect = Readable j (Enqueue v) in
-    ap (λ ms. (along no_flow flow_then (effect_flow i) ms).entered) (moments_next s e [])
-    ∙ (ap (λ vs. (effect_flow i e s).entered ++ vs) (none_enters i (causes ((row e s).caused ++ []) (row e s).slots) (each-append Quiet (row e s).caused [] (row-causes Quiet e s (quiet-causes e)) tt))
-    ∙ (append-nil (effect_flow i e s).entered ∙ (rw can (either (λ (f : Flow). f.entered ≡ (if is_same i j then v ∷ [] else [])) (is_same i j) _ no_flow (λ e. rw e refl) (λ e. rw e refl)))))
+  chunk-quiet : (t : TransformId) (halves : Halves) (v : Value) (d : PromiseId) (a : Acts) (kind : Kind) → (kind ≡ Identity → is_same i a.slots.readable ≡ false)
+      → All (transform.transform_by t halves v d a kind)
+  chunk-quiet t halves v d a Identity other = let n = other refl in grind (arith, n)
+  chunk-quiet t halves v d a HostKind other = (tt, tt)
 
-call_accepted : (i : StreamId) (c : Call) (s : Slots) → enters i (begin c s).done ≡ accepted_by i c (begin c s).reply
-unfolding begin
-call_accepted i (EnqueueCall j v) s =
-    let P : Begun → Type 0 = λ b. enters i b.done ≡ accepted_by i (EnqueueCall j v) b.reply in
-    let none = ap (λ ms. (along no_flow flow_then (effect_flow i) ms).entered) (moments_none s) in
-    either P (has_readable j s) (calls.if_it_can j (Enqueue v) s) (unsupported s)
-    (λ there. either P (readable.can_close_or_enqueue (readable_at j s)) (calls.does (Readable j (Enqueue v) ∷ []) s) (calls.throws_type_error s) (λ can. enqueued i j v s can) (λ cannot. none))
-    (λ absent. none)
-call_accepted i c s =
-    none_enters i (begin c s).done (each-map (IsFirst (Enqueues c)) Quiet (first_quiet (Enqueues c) (λ j v e. cc)) (begin c s).done.caused (begin-first c s))
+  transform-quiet : (t : TransformId) (halves : Halves) (operation : TransformOperation) (a : Acts) → Quiet (Transform t operation) → a.out.effects ≡ []
+      → (a.slots.kind ≡ Identity → is_same i a.slots.readable ≡ false) → All (transform_operation t halves operation a).out.effects
+  unfolding transform.unblock transform.transform_error transform.terminate transform.enqueued transform.transform_chunk transform.sink_write transform.write_goes_on transform.source_pull transform.set_backpressure transform.sink_close transform.sink_abort transform.source_cancel transform.flush_settled transform.abort_settled transform.cancel_settled
+  transform-quiet t halves (names.TransformChunk v d) a q none other = rw none (chunk-quiet t halves v d a a.slots.kind other)
+  transform-quiet t halves (names.Enqueue v) a q none other = absurd q
+  transform-quiet t halves (names.SinkWrite u) a q none other = grind (arith, none)
+  transform-quiet t halves (names.WriteGoesOn d) a q none other = grind (arith, none)
+  transform-quiet t halves names.Enqueued a q none other = grind (arith, none)
+  transform-quiet t halves (names.Error e) a q none other = grind (arith, none)
+  transform-quiet t halves names.Unblock a q none other = grind (arith, none)
+  transform-quiet t halves names.Terminate a q none other = grind (arith, none)
+  transform-quiet t halves (names.SourcePull u) a q none other = grind (arith, none)
+  transform-quiet t halves (names.SinkClose u) a q none other = grind (arith, none)
+  transform-quiet t halves (names.SinkAbort r u) a q none other = grind (arith, none)
+  transform-quiet t halves (names.SourceCancel r u) a q none other = grind (arith, none)
+  transform-quiet t halves (names.FlushSettled p o) a q none other = grind (arith, none)
+  transform-quiet t halves (names.AbortSettled p r o) a q none other = grind (arith, none)
+  transform-quiet t halves (names.CancelSettled p r o) a q none other = grind (arith, none)
 
-job_quiet : (s : Slots) (job : Option Job) → Each Quiet (job_begun s job).caused
-job_quiet s None = tt
-job_quiet s (Some job) = each-map (IsFirst Never) Quiet (first_quiet Never (λ i v n. n)) (job_effects job) (job-first job)
+  by-transform : (t : TransformId) (operation : TransformOperation) (s : Slots) (o : Option transform.Slots) → slice_get s.transforms t.0 ≡ o → Quiet (Transform t operation) → Apart (transform_shapes s)
+      → All (on_transform_at (λ halves. transform_operation t halves operation) t s o).caused
+  by-transform t operation s None is q apart = tt
+  by-transform t operation s (Some x) is q apart =
+      transform-quiet t (halves_at x s) operation (record { slots = x; out = found s }) q refl (apart t (transform_shape x) (map-there transform_shape s.transforms t.0 x is))
 
-pub entry_accepted : (i : StreamId) (x : Entry) (s : Slots) → (step_flow i s x).entered ≡ accepted_in_step i s x
-unfolding begin_job
-entry_accepted i (Called c) s = call_accepted i c s
-entry_accepted i Worked s = none_enters i (begin_job s) (job_quiet s (next_job s.promises))
-entry_accepted i Heard s = none_enters i (causes [] s) tt
+  quiet-causes : (e : Effect) → IsOther e → Causes Quiet e
+  quiet-causes (Readable j operation) n = record { pull = tt; cancel = λ r p. tt; chunk = λ r v. tt; close = λ r. tt; error = λ r e. tt }
+  quiet-causes (Writable j operation) n = record { write = tt; close = tt; abort = λ r p. tt; hand_on = λ v. tt; take = λ v t d. tt }
+  quiet-causes (StartAlgorithm j step start) n = (λ g u. tt, λ c u. tt)
+  quiet-causes (PullAlgorithm j) n = (λ c u. tt, λ t u. tt)
+  quiet-causes (CancelAlgorithm j r p) n = (λ c u. tt, λ t u. tt)
+  quiet-causes (WriteAlgorithm j) n = (tt, λ t u. tt)
+  quiet-causes (CloseAlgorithm j) n = (λ c u. tt, λ t u. tt)
+  quiet-causes (AbortAlgorithm j r p) n = (λ c u. tt, λ t u. tt)
+  quiet-causes (Pipe p operation) n = pipe-quiet p
+  quiet-causes (Signal a (Trigger r)) n = λ p. tt
+  quiet-causes (Signal a (Add p)) n = tt
+  quiet-causes (Signal a (Forget p)) n = tt
+  quiet-causes (Transform t operation) n = absurd n
+  quiet-causes (ChunkSteps j (Promise p) v) n = tt
+  quiet-causes (ChunkSteps j (PipeRequest p) v) n = tt
+  quiet-causes (CloseSteps j (Promise p)) n = tt
+  quiet-causes (CloseSteps j (PipeRequest p)) n = tt
+  quiet-causes (ErrorSteps j (Promise p) e) n = tt
+  quiet-causes (ErrorSteps j (PipeRequest p) e) n = tt
+  quiet-causes _ n = tt
 
-run_accepted : (i : StreamId) (xs : List Entry) (s : Slots) → (run_flow i xs s).entered ≡ accepted i xs s
-run_accepted i [] s = refl
-run_accepted i (x ∷ xs) s = let a = entry_accepted i x s in let b = run_accepted i xs (step s x) in rw (a, b) refl
+  row-quiet : (e : Effect) (s : Slots) → Quiet e → Apart (transform_shapes s) → All (row e s).caused
+  unfolding row
+  row-quiet (Transform t operation) s q apart = by-transform t operation s (slice_get s.transforms t.0) refl q apart
+  row-quiet e s q apart = row-causes Quiet e s (quiet-causes e tt)
+
+  -- what enters stream i by the effects of a call or a job that begins so
+  abbrev pub enters : Done → List Value
+  enters d = (along no_flow flow_then (effect_flow i) (moments d)).entered
+
+  by_place : (j : StreamId) (f : Flow) → f.entered ≡ [] → (if is_same i j then f else no_flow).entered ≡ []
+  by_place j f e = either (λ (g : Flow). g.entered ≡ []) (is_same i j) f no_flow (λ same. e) (λ other. refl)
+
+  quiet-enters : (e : Effect) (s : Slots) → Quiet e → (effect_flow i e s).entered ≡ []
+  quiet-enters (Readable j (Enqueue v)) s quiet = rw quiet refl
+  quiet-enters (Readable j operation) s quiet = by_place j (operation_flow operation (readable_at j s)) refl
+  quiet-enters (ChunkSteps j request v) s quiet = by_place j _ refl
+  quiet-enters _ s quiet = refl
+
+  none_enters : (d : Done) → All d.caused → Apart (transform_shapes d.slots) → enters d ≡ []
+  none_enters d quiet apart =
+      let f : Flow = along no_flow flow_then (effect_flow i) (moments d) in
+      ap (λ (g : Flow). g.entered) (sym (nothing_flows f))
+      ∙ (performed-goes no_flow flow_then is_history (effect_flow i) (λ h s es. (h.entered ≡ []) × (All es × Apart (transform_shapes s)))
+      (λ h s e es k. (
+        ap (λ vs. vs ++ (effect_flow i e s).entered) k.0 ∙ quiet-enters e s k.1.0.0,
+        (each-append Quiet (row e s).caused es (row-quiet e s k.1.0.0 k.1.1) k.1.0.1, subst Apart (sym (row-transform_shapes e s)) k.1.1),
+      ))
+      no_flow d (refl, (quiet, apart))).0
+
+  -- the first effect, and then the others
+  enters-next : (s : Slots) (e : Effect) (es : List Effect) → enters (causes (e ∷ es) s) ≡ (effect_flow i e s).entered ++ enters (causes ((row e s).caused ++ es) (row e s).slots)
+  enters-next s e es = ap (λ ms. (along no_flow flow_then (effect_flow i) ms).entered) (moments_next s e es)
+
+  none-of : (d : Slots) → enters (causes [] d) ≡ []
+  none-of s = ap (λ ms. (along no_flow flow_then (effect_flow i) ms).entered) (moments_none s)
+
+  -- an enqueue into a stream that can take it, where quiet effects stand behind
+  enqueued : (j : StreamId) (v : Value) (s : Slots) (es : List Effect) → All es → Apart (transform_shapes s) → readable.can_close_or_enqueue (readable_at j s) ≡ true
+      → enters (causes (Readable j (Enqueue v) ∷ es) s) ≡ (if is_same i j then v ∷ [] else [])
+  enqueued j v s es quiet apart can =
+      let e : Effect = Readable j (Enqueue v) in
+      let all : All ((row e s).caused ++ es) = each-append Quiet (row e s).caused es (row-causes Quiet e s (quiet-causes e tt)) quiet in
+      enters-next s e es
+      ∙ (ap (λ vs. (effect_flow i e s).entered ++ vs) (none_enters (causes ((row e s).caused ++ es) (row e s).slots) all (subst Apart (sym (row-transform_shapes e s)) apart))
+      ∙ (append-nil (effect_flow i e s).entered ∙ (rw can (either (λ (f : Flow). f.entered ≡ (if is_same i j then v ∷ [] else [])) (is_same i j) _ no_flow (λ e. rw e refl) (λ e. rw e refl)))))
+
+  -- by the controller of a transform stream
+  enqueued-half : (t : TransformId) (j : StreamId) (v : Value) (s : Slots) (o : Option transform.Slots) → slice_get s.transforms t.0 ≡ o → (x : TransformShape) → slice_get (transform_shapes s) t.0 ≡ Some x → x.readable ≡ j
+      → Apart (transform_shapes s) → readable.can_close_or_enqueue (readable_at j s) ≡ true
+      → enters (causes (Transform t (names.Enqueue v) ∷ []) s) ≡ (if is_same i j then v ∷ [] else [])
+  unfolding row transform.enqueue
+  enqueued-half t j v s None is x there half apart can = absurd (none-there s.transforms t.0 x is there)
+  enqueued-half t j v s (Some y) is x there half apart can =
+      let e : Effect = Transform t (names.Enqueue v) in
+      let same : transform_shape y ≡ x = some-same (sym (map-there transform_shape s.transforms t.0 y is) ∙ there) in
+      let at : y.readable ≡ j = ap (λ (z : TransformShape). z.readable) same ∙ half in
+      let caused : (row e s).caused ++ [] ≡ Readable j (Enqueue v) ∷ Transform t names.Enqueued ∷ [] = rw (is, at) refl in
+      let slots : transform_shapes (row e s).slots ≡ transform_shapes s = row-transform_shapes e s in
+      let streams : readable_at j (row e s).slots ≡ readable_at j s = ap (λ (xs : List Stream). as_readable (slice_get xs j.0)) (row-streams e s tt) in
+      enters-next s e []
+      ∙ (ap (λ es. enters (causes es (row e s).slots)) caused
+      ∙ enqueued j v (row e s).slots (Transform t names.Enqueued ∷ []) (tt, tt) (subst Apart (sym slots) apart) (rw streams can))
+
+  -- calls and jobs
+
+  first_quiet : (E : StreamId → Value → Type 0) → ((j : StreamId) (v : Value) → E j v → ⊥) → (e : Effect) → IsFirst E e → Quiet e
+  first_quiet E none (Readable j (Enqueue v)) f = absurd (none j v f)
+  first_quiet E none (Transform t (names.Enqueue v)) f = absurd (none f.0 v f.1)
+  first_quiet E none _ f = tt
+
+  by-owner : (j : StreamId) (v : Value) (s : Slots) (owner : Owner) → has_readable j s ≡ true → (readable_at j s).owner ≡ owner → Halved s → Apart (transform_shapes s)
+      → enters (calls.enqueue_by v j s owner).done ≡ accepted_by i (EnqueueCall j v) (calls.enqueue_by v j s owner).reply
+  by-owner j v s Host there is halved apart =
+      either (λ (b : Begun). enters b.done ≡ accepted_by i (EnqueueCall j v) b.reply) (readable.can_close_or_enqueue (readable_at j s))
+      (calls.does (Readable j (Enqueue v) ∷ []) s) (calls.throws_type_error s) (λ can. enqueued j v s [] tt apart can) (λ cannot. none-of s)
+  by-owner j v s (HalfOf t) there is halved apart =
+      let at : slice_get (stream_shapes s) j.0 ≡ Some (ReadableOf (HalfOf t)) =
+      map-there stream_shape s.streams j.0 (ReadableStream (readable_at j s)) (readable_there (slice_get s.streams j.0) there) ∙ ap (λ o. Some (ReadableOf o)) is in
+      let half = halved.readable j t at in
+      either (λ (b : Begun). enters b.done ≡ accepted_by i (EnqueueCall j v) b.reply) (readable.can_close_or_enqueue (readable_at j s))
+      (calls.does (Transform t (names.Enqueue v) ∷ []) s) (calls.throws_type_error s)
+      (λ can. enqueued-half t j v s (slice_get s.transforms t.0) refl half.0 half.1.0 half.1.1 apart can) (λ cannot. none-of s)
+
+  call_accepted : (c : Call) (s : Slots) → Halved s → Apart (transform_shapes s) → Apart (transform_shapes (begin c s).done.slots) → enters (begin c s).done ≡ accepted_by i c (begin c s).reply
+  unfolding begin
+  call_accepted (EnqueueCall j v) s halved apart later =
+      either (λ (b : Begun). enters b.done ≡ accepted_by i (EnqueueCall j v) b.reply) (has_readable j s) (calls.enqueue v j s) (unsupported s)
+      (λ there. by-owner j v s (readable_at j s).owner there refl halved apart) (λ absent. none-of s)
+  call_accepted c s halved apart later =
+      none_enters (begin c s).done (each-map (IsFirst (Enqueues c)) Quiet (first_quiet (Enqueues c) (λ j v e. cc)) (begin c s).done.caused (begin-first c s)) later
+
+  job_quiet : (s : Slots) (job : Option Job) → All (job_begun s job).caused
+  job_quiet s None = tt
+  job_quiet s (Some job) = each-map (IsFirst Never) Quiet (first_quiet Never (λ j v n. n)) (job_effects job) (job-first job)
+
+  job_apart : (s : Slots) (job : Option Job) → Apart (transform_shapes s) → Apart (transform_shapes (job_begun s job).slots)
+  job_apart s None apart = apart
+  job_apart s (Some job) apart = apart
+
+  earlier : (ts us : List TransformShape) → Among ts us → Apart us → Apart ts
+  earlier ts us among apart = λ t x h k. apart t x (among t x h) k
+
+  entry_accepted : (x : Entry) (s : Slots) → Halved s → Apart (transform_shapes (step s x)) → (step_flow i s x).entered ≡ accepted_in_step i s x
+  unfolding begin_job
+  entry_accepted (Called c) s halved apart =
+      call_accepted c s halved (earlier _ _ (step-among (Called c) s) apart) (subst Apart (step-shapes (Called c) s) apart)
+  entry_accepted Worked s halved apart =
+      none_enters (begin_job s) (job_quiet s (next_job s.promises)) (job_apart s (next_job s.promises) (earlier _ _ (step-among Worked s) apart))
+  entry_accepted Heard s halved apart = none-of s
+
+  run_accepted : (xs : List Entry) (s : Slots) → Halved s → Apart (transform_shapes (run xs s)) → (run_flow i xs s).entered ≡ accepted i xs s
+  run_accepted [] s halved apart = refl
+  run_accepted (x ∷ xs) s halved apart =
+      let a = entry_accepted x s halved (earlier _ _ (run-among xs (step s x)) apart) in
+      let b = run_accepted xs (step s x) (step-halved x s halved) apart in rw (a, b) refl
+
+  -- where none but the host enqueues into a stream, it is no half of an identity transform
+
+  owner-there : (xs : List Stream) (n : ℕ) (o : Owner) → slice_get (map stream_shape xs) n ≡ Some (ReadableOf o) → (as_readable (slice_get xs n)).owner ≡ o
+  owner-there [] n o is = cc
+  owner-there (ReadableStream r ∷ xs) zero o is = cc
+  owner-there (WritableStream w ∷ xs) zero o is = cc
+  owner-there (x ∷ xs) (suc n) o is = owner-there xs n o is
+
+  kind-there : (ts : List transform.Slots) (n : ℕ) (x : TransformShape) → slice_get (map transform_shape ts) n ≡ Some x → (as_transform (slice_get ts n)).kind ≡ x.kind
+  kind-there [] n x is = cc
+  kind-there (t ∷ ts) zero x is = ap (λ (z : TransformShape). z.kind) (some-same is)
+  kind-there (t ∷ ts) (suc n) x is = kind-there ts n x is
+
+  no-half : (s : Slots) (t : TransformId) (x : TransformShape) → Halved s → enqueued_by_host s (readable_at i s).owner ≡ true
+      → slice_get (transform_shapes s) t.0 ≡ Some x → x.kind ≡ Identity → (same : Bool) → same ≡ is_same i x.readable → same ≡ false
+  no-half s t x halved host is kind false e = refl
+  no-half s t x halved host is kind true e =
+      let at : i ≡ x.readable = same_id i x.readable (sym e) in
+      let owner : (readable_at i s).owner ≡ HalfOf t = owner-there s.streams i.0 (HalfOf t) (rw at (halved.halves t x is).0) in
+      let kinds : (transform_at t s).kind ≡ Identity = kind-there s.transforms t.0 x is ∙ kind in
+      let wrong : false ≡ true = rw (owner, kinds) at host in cc
+
+  pub host-apart : (s : Slots) → Halved s → enqueued_by_host s (readable_at i s).owner ≡ true → Apart (transform_shapes s)
+  host-apart s halved host = λ t x is kind. no-half s t x halved host is kind (is_same i x.readable) refl
 
 pub entered_was_accepted : EnteredWasAccepted
-entered_was_accepted entries i = run_accepted i entries empty
-
--- a stream that isn't readable accepts nothing
-
-call_ended : (i : StreamId) (c : Call) (s : Slots) → (readable_at i s).state ≢ IsReadable → accepted_by i c (reply_to c s) ≡ []
-unfolding begin
-call_ended i (EnqueueCall j v) s n =
-    let P : Begun → Type 0 = λ b. accepted_by i (EnqueueCall j v) b.reply ≡ [] in
-    either P (has_readable j s) (calls.if_it_can j (Enqueue v) s) (unsupported s)
-    (λ there. either P (readable.can_close_or_enqueue (readable_at j s)) (calls.does (Readable j (Enqueue v) ∷ []) s) (calls.throws_type_error s)
-    (λ can. either (λ (vs : List Value). vs ≡ []) (is_same i j) (v ∷ []) []
-    (λ same. let is : j ≡ i = sym (same_id i j same) in absurd (n (readable_by (readable_at i s).close_requested (readable_at i s).state (rw is at can)))) (λ other. refl))
-    (λ cannot. refl))
-    (λ absent. refl)
-call_ended i c s n = refl
-
-pub entry_ended : (i : StreamId) (x : Entry) (s : Slots) → (readable_at i s).state ≢ IsReadable → (step_flow i s x).entered ≡ []
-entry_ended i (Called c) s n = entry_accepted i (Called c) s ∙ call_ended i c s n
-entry_ended i Worked s n = entry_accepted i Worked s
-entry_ended i Heard s n = entry_accepted i Heard s
+entered_was_accepted entries i = λ host. run_accepted i entries empty halved-empty (host-apart i (run entries empty) (run-halved entries empty halved-empty) host)

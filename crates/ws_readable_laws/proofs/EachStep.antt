@@ -10,7 +10,7 @@ use Rattle.ws_steps.specs.ReadableHistory.{Flow, flow_then, values, step_flow, r
 use Rattle.ws_steps.specs.Laws.{EachReadableStep}
 use Rattle.ws_laws.proofs.Lists.{append_none}
 use Rattle.ws_readable_laws.proofs.Runs.{Keeps, between, step-kept, run-kept}
-use Rattle.ws_readable_laws.proofs.Accepted.{entry_ended}
+use Rattle.ws_readable_laws.proofs.Ended.{entry_ended}
 
 -- a step is told from what is queued
 abbrev queued_before : readable.Slots → Flow

@@ -4,16 +4,17 @@ use Rattle.ws_value.specs.declared.ids.PipeId.{PipeId}
 use Rattle.ws_value.specs.declared.ids.StreamId.{StreamId}
 use Rattle.ws_value.specs.declared.value.Plain.{Plain}
 use Rattle.ws_value.specs.declared.value.Value.{Value}
-use Rattle.ws_steps.specs.declared.{effects.Effect.{Effect}, effects.Effect.TheVariants.{Readable as OnReadable, Pipe, Signal, ChunkSteps, CloseSteps, ErrorSteps}, effects.Owner.TheVariants.{Host}, pipes.PipeOperation.{PipeOperation}, pipes.SignalOperation.{SignalOperation}, pipes.SignalOperation.TheVariants.{Add, Forget, Trigger}, queue.Queued.{Queued}}
+use Rattle.ws_steps.specs.declared.{effects.Effect.{Effect}, effects.Effect.TheVariants.{Readable as OnReadable, Pipe, Signal, Transform, ChunkSteps, CloseSteps, ErrorSteps}, effects.Owner.{Owner}, pipes.PipeOperation.{PipeOperation}, pipes.SignalOperation.{SignalOperation}, pipes.SignalOperation.TheVariants.{Add, Forget, Trigger}, queue.Queued.{Queued}}
 use Rattle.ws_steps.specs.declared.{readable.ReadRequest.{ReadRequest}, readable.ReadableOperation.{ReadableOperation}, readable.ReadableOperation.TheVariants.{Read, Cancel, CancelIfReadable, Enqueue}}
-use Rattle.ws_steps.specs.declared.{readable.ReadableState.{ReadableState}, readable.ReadableState.TheVariants.{Readable, Closed, Errored}, readable.SizeBy.{SizeBy}}
+use Rattle.ws_steps.specs.declared.{readable.ReadableState.{ReadableState}, readable.ReadableState.TheVariants.{Readable, Closed, Errored}, readable.SizeBy.{SizeBy}, transform.TransformId.{TransformId}, transform.TransformOperation.{TransformOperation}}
 use Rattle.ws_steps.specs.Effects.{Out}
 use Rattle.ws_steps.specs.Operations.{readable_operation, signal_operation}
 use Rattle.ws_steps.specs.Pipes as pipe
 use Rattle.ws_steps.specs.Pipes.{abort_all, trigger_unless}
 use Rattle.ws_steps.specs.Readable as readable
+use Rattle.ws_steps.specs.Transform as transform
 use Rattle.ws_steps.specs.Readable.{Acts, is_readable, accept_for, accept, call_pull_if_needed, controller_enqueue, after_take, pull_from, pull_steps, read_by, default_reader_read, can_close_or_enqueue, waiting}
-use Rattle.ws_steps.specs.Slots.{Slots, empty, found, ends_at, has_readable, readable_at, no_readable}
+use Rattle.ws_steps.specs.Slots.{Slots, empty, found, ends_at, halves_at, has_readable, readable_at, no_readable}
 use Rattle.ws_steps.specs.Run.{Entry, step, run}
 use Rattle.ws_steps.specs.Histories.{is_same}
 use Rattle.ws_steps.specs.ReadableHistory.{Flow, no_flow, flow_then, values, operation_flow, effect_flow, step_flow, run_flow}
@@ -25,7 +26,9 @@ use Rattle.ws_laws.proofs.Begin.{IsFirst, Any, Enqueues, Never, each-any, begin-
 use Rattle.ws_laws.proofs.PipeDoes.{PipeCauses, IsQuiet, is_looking, pipe-causes, pipe-quiet}
 use Rattle.ws_laws.proofs.Walker.{IsHistory}
 use Rattle.ws_laws.proofs.OnReadable as on_readable
-use Rattle.ws_laws.proofs.OnReadable.{Holders, holders, IsForeign, AreSteps, IsLaw, Kept, Nothing, nothing-stays, is_still, piped, all_seen, all_seen-append}
+use Rattle.ws_laws.proofs.Order.{IsQuiet as IsQuietEffect, IsNoChunk, Calm, Orderly, is_resting, may_take, transform-quiet, behind-active, orderly-stays}
+use Rattle.ws_laws.proofs.TransformDoes.{TransformCauses, transform-causes}
+use Rattle.ws_laws.proofs.OnReadable.{Holders, holders, IsForeign, AreSteps, IsLaw, Kept, is_still, piped, transformed, all_seen, all_seen-append}
 use Rattle.ws_readable_laws.proofs.Operations.{Held, same_flow, or_false, due, with_due, given_to, first_given, operation_keeps}
 
 -- what is seen of the agenda: an operation that may give, one of a pipe that may read, and chunk steps of the stream
@@ -165,8 +168,8 @@ is_history = record { left = nothing_flows; right = same_flow; assoc = flow-asso
 abbrev pub Unmade : Flow → Type 0
 Unmade h = h.cancelled ≡ false
 
-made : (mark : ℕ) (size : SizeBy) (h : Flow) → Unmade h → Ordered h no_readable [] → Ordered h (readable.set_up Host mark size) []
-made mark size h n k =
+made : (owner : Owner) (mark : ℕ) (size : SizeBy) (h : Flow) → Unmade h → Ordered h no_readable [] → Ordered h (readable.set_up owner mark size) []
+made owner mark size h n k =
     let none_dropped : k.held.dropped ≡ [] = k.held.balanced.whole n refl in
     record {
       held = record { dropped = k.held.dropped; balanced = record { all = k.held.balanced.all; live = λ f. none_dropped; whole = λ f g. none_dropped; gone = λ f. refl; fit = λ f. refl; asked = k.held.balanced.asked } };
@@ -187,6 +190,10 @@ nothing_there i operation s none = rw (is_same-refl i, no_readable_there (slice_
 -- an operation of a pipe that causes nothing doesn't look
 still_looks : (operation : PipeOperation) → is_still operation ≡ true → is_looking operation ≡ false
 still_looks operation e = grind arith
+
+no_taken : (b : Bool) (ms : List Mark) → pending (takes b ++ ms) ≡ pending ms
+no_taken true ms = refl
+no_taken false ms = refl
 
 module _ (i : StreamId) where
   unseen : (e : Effect) → IsForeign i e → mark i e ≡ []
@@ -269,6 +276,50 @@ module _ (i : StreamId) where
       record { held = rw (m.0, ← k.clear.0) k.held; clear = m.1 }
   pipe_keeps p source dest es false c q h r ms k = rw (quiet_marks p source dest es c (q refl)) k
 
+  -- what a transform stream causes: none is chunk steps, and where it rests none may take
+
+  transform_marks : (t : TransformId) (w r : StreamId) (es : List Effect) (ms : List Mark) → Each (TransformCauses t w r) es → (pending ms ≡ []) × Clear ms
+      → let ns : List Mark = all_seen (mark i) es ++ ms in (pending ns ≡ []) × Clear ns
+  transform_marks t w r [] ms c k = k
+  transform_marks t w r (OnReadable j operation ∷ es) ms c k =
+      rw (append_assoc (mark i (OnReadable j operation)) (all_seen (mark i) es) ms) (taken_first (is_same i j) (is_taking operation) (all_seen (mark i) es ++ ms) (transform_marks t w r es ms c.1 k))
+  transform_marks t w r (Pipe q operation ∷ es) ms c k = absurd (c.0)
+  transform_marks t w r (ChunkSteps j request v ∷ es) ms c k = absurd (c.0)
+  transform_marks t w r (e ∷ es) ms c k = transform_marks t w r es ms c.1 k
+
+  resting_mark : (t : TransformId) (w r : StreamId) (e : Effect) → TransformCauses t w r e → may_take e ≡ false → mark i e ≡ []
+  resting_mark t w r (OnReadable j operation) c q = either (λ (ms : List Mark). ms ≡ []) (is_same i j) (takes (is_taking operation)) [] (λ e. ap takes q) (λ e. refl)
+  resting_mark t w r (Pipe p operation) c q = absurd c
+  resting_mark t w r (ChunkSteps j request v) c q = absurd c
+  resting_mark t w r _ c q = refl
+
+  resting_marks : (t : TransformId) (w r : StreamId) (es : List Effect) → Each (TransformCauses t w r) es → Each IsQuietEffect es → all_seen (mark i) es ≡ []
+  resting_marks t w r [] c q = refl
+  resting_marks t w r (e ∷ es) c q = rw (resting_mark t w r e c.0 q.0, resting_marks t w r es c.1 q.1) refl
+
+  -- where no chunk steps stand, nothing is still to be given
+  no_pending : (e : Effect) (ms : List Mark) → IsNoChunk e → pending (mark i e ++ ms) ≡ pending ms
+  no_pending (OnReadable j operation) ms n =
+      either (λ (ns : List Mark). pending (ns ++ ms) ≡ pending ms) (is_same i j) (takes (is_taking operation)) [] (λ e. no_taken (is_taking operation) ms) (λ e. refl)
+  no_pending (Pipe p operation) ms n = no_taken (is_looking operation) ms
+  no_pending (ChunkSteps j request v) ms n = absurd n
+  no_pending _ ms n = refl
+
+  calm_pending : (es : List Effect) → Calm es → pending (all_seen (mark i) es) ≡ []
+  calm_pending [] c = refl
+  calm_pending (e ∷ es) c = no_pending e (all_seen (mark i) es) c.0 ∙ calm_pending es c.1
+
+  transform_keeps : (t : TransformId) (operation : TransformOperation) (s : Slots) (x : transform.Slots) (es : List Effect) (rests : Bool) → rests ≡ is_resting operation → Orderly s (Transform t operation ∷ es)
+      → (h : Flow) (r : readable.Slots) → Ordered h r (all_seen (mark i) es) → Ordered h r (all_seen (mark i) (transformed t operation s x).out.effects ++ all_seen (mark i) es)
+  transform_keeps t operation s x es true e o h r k =
+      let a : transform.Acts = record { slots = x; out = found s } in
+      rw (resting_marks t x.writable x.readable (transformed t operation s x).out.effects (transform-causes t (halves_at x s) operation a tt).1.1.1 (transform-quiet t operation s (Some x) (sym e))) k
+  transform_keeps t operation s x es false e o h r k =
+      let a : transform.Acts = record { slots = x; out = found s } in
+      let none = calm_pending es (behind-active t operation es (sym e) o) in
+      let m = transform_marks t x.writable x.readable (transformed t operation s x).out.effects (all_seen (mark i) es) (transform-causes t (halves_at x s) operation a tt).1.1.1 (none, k.clear) in
+      record { held = rw (m.0, ← none) k.held; clear = m.1 }
+
   first_marks : (es : List Effect) → Each (IsFirst Any) es → (pending (all_seen (mark i) es) ≡ []) × Clear (all_seen (mark i) es)
   first_marks [] f = (refl, tt)
   first_marks (OnReadable j operation ∷ es) f = taken_first (is_same i j) (is_taking operation) (all_seen (mark i) es) (first_marks es f.1)
@@ -322,7 +373,7 @@ module _ (i : StreamId) where
       let a : pipe.Acts = record { slots = x; out = found s } in
       pipe_keeps p x.source x.dest (piped p operation s x).out.effects (is_looking operation) (pipe-causes p (ends_at x s) operation a tt).1.1 (λ quiet. pipe-quiet p (ends_at x s) operation a quiet tt) h r ms k
 
-  law : IsLaw no_flow flow_then (effect_flow i) (mark i) i OrderedIn UnmadeIn Nothing
+  law : IsLaw no_flow flow_then (effect_flow i) (mark i) i OrderedIn UnmadeIn Orderly
   law = record {
     history = is_history;
     unseen = unseen;
@@ -330,6 +381,7 @@ module _ (i : StreamId) where
     operation = λ operation s h ms there k. rw (is_same-refl i) (taking_keeps operation s h ms (is_taking operation) refl (rw (is_same-refl i) at k));
     idle = nothing_there i;
     absent = λ operation h locks ms k. absent_keeps h ms (is_taking operation) (rw (is_same-refl i) at k);
+    transform = λ t operation s x es known e h k. transform_keeps t operation s x es (is_resting operation) refl known h (readable_at i s) k;
     pipe = λ p operation s x es known e h k. piped_keeps p operation s x h (readable_at i s) (all_seen (mark i) es) k;
     pipe_unmade = λ p operation s x e h n. n;
     no_pipe = λ p operation h o r ms k. looked (is_looking operation) h r ms k;
@@ -341,10 +393,10 @@ module _ (i : StreamId) where
     steps_unmade = λ e same s h locks n. not_cancelled e same s h n;
     call = λ c s h k. record { unmade = k.unmade; held = first_keeps _ (each-any (Enqueues c) _ (begin-first c s)) h _ k.held };
     job = λ job h locks r k. first_keeps _ (each-any Never _ (job-first job)) h r k;
-    made = λ hwm size h locks n k. made hwm size h n k;
+    made = λ owner hwm size h locks n k. made owner hwm size h n k;
     empty = record { held = record { dropped = []; balanced = record { all = refl; live = λ e. refl; whole = λ c e. refl; gone = λ e. refl; fit = λ e. refl; asked = omega arith } }; clear = tt };
     unmade = refl;
-    known = nothing-stays;
+    known = orderly-stays;
     known_heard = λ s k. tt;
     known_first = tt;
   }
@@ -353,10 +405,10 @@ module _ (i : StreamId) where
   Keeps h s = Kept (mark i) i OrderedIn UnmadeIn h (holders s) s.streams []
 
   pub step-kept : (h : Flow) (s : Slots) (x : Entry) → Keeps h s → Keeps (flow_then h (step_flow i s x)) (step s x)
-  step-kept h s x k = on_readable.step-kept no_flow flow_then (effect_flow i) (mark i) i OrderedIn UnmadeIn Nothing law h s x tt k
+  step-kept h s x k = on_readable.step-kept no_flow flow_then (effect_flow i) (mark i) i OrderedIn UnmadeIn Orderly law h s x tt k
 
   pub run-kept : (entries : List Entry) → Keeps (run_flow i entries empty) (run entries empty)
-  run-kept entries = on_readable.run-kept no_flow flow_then (effect_flow i) (mark i) i OrderedIn UnmadeIn Nothing law entries
+  run-kept entries = on_readable.run-kept no_flow flow_then (effect_flow i) (mark i) i OrderedIn UnmadeIn Orderly law entries
 
 -- between steps nothing is still to be given
 pub between : (h : Flow) (r : readable.Slots) → Ordered h r [] → Held h r

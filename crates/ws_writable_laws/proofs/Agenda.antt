@@ -9,30 +9,36 @@ use Rattle.ws_value.specs.declared.value.Value.{Value}
 use Rattle.ws_steps.specs.declared.effects.Effect.{Effect}
 use Rattle.ws_steps.specs.Promises.{Table, fresh, settle, tell, use_this, use_gift}
 use Rattle.ws_steps.specs.Writable as writable
-use Rattle.ws_steps.specs.Slots.{Slots, Done, found as found_outside, ends_at, on_pipe_at, on_signal_at, writable_at, on_readable, on_writable, as_writable, WritableStream, nothing, put_writable, no_writable, has_writable}
+use Rattle.ws_steps.specs.Slots.{Slots, Done, found as found_outside, ends_at, halves_at, owner_at, on_pipe_at, on_signal_at, on_transform_at, writable_at, on_readable, on_writable, as_writable, WritableStream, nothing, put_writable, no_writable, has_writable}
 use Rattle.ws_steps.specs.WritableHistory.{Writes, no_writes, writes_then, effect_writes, first_chunk, operation_writes}
 use Rattle.ws_steps.specs.declared.{calls.Event.{Event}, calls.Event.TheVariants.{Host as HostCalled, Signal}, calls.HostCall.{HostCall}}
-use Rattle.ws_steps.specs.declared.effects.Effect.TheVariants.{Readable, Writable, Pipe, Signal, Queue, PullAlgorithm, CancelAlgorithm, WriteAlgorithm, CloseAlgorithm, AbortAlgorithm, ChunkSteps, CloseSteps, ErrorSteps, StartAlgorithm, Give, CallHost}
+use Rattle.ws_steps.specs.declared.effects.Effect.TheVariants.{Readable, Writable, Pipe, Signal, Transform, Queue, PullAlgorithm, CancelAlgorithm, WriteAlgorithm, CloseAlgorithm, AbortAlgorithm, ChunkSteps, CloseSteps, ErrorSteps, StartAlgorithm, Give, CallHost}
 use Rattle.ws_steps.specs.declared.{effects.Gift.{Gift}, effects.Gift.TheVariants.{This}, effects.Use.{Use}, effects.Use.TheVariants.{React}, pipes.PipeOperation.{PipeOperation}, pipes.SignalOperation.{SignalOperation}, readable.ReadRequest.{ReadRequest}, readable.ReadRequest.TheVariants.{Promise, Pipe as PipeRequest}, promises.Step.{Step}, readable.ReadableOperation.{ReadableOperation}}
+use Rattle.ws_steps.specs.declared.{effects.Owner.{Owner}, effects.Owner.TheVariants.{Host, HalfOf}, promises.Step.TheVariants.{ReadablePull, ReturnUndefined, WritableClose, WritableAbort}}
+use Rattle.ws_steps.specs.declared.{transform.TransformId.{TransformId}, transform.TransformOperation.{TransformOperation}, transform.TransformOperation.TheVariants.{TransformChunk}}
 use Rattle.ws_steps.specs.declared.writable.WritableOperation.{WritableOperation}
 use Rattle.ws_steps.specs.Effects.{Out, cause, settling}
-use Rattle.ws_steps.specs.Operations.{readable_operation, writable_operation, pipe_operation, signal_operation}
+use Rattle.ws_steps.specs.Operations.{readable_operation, writable_operation, pipe_operation, signal_operation, transform_operation}
 use Rattle.ws_steps.specs.Pipes as pipe
 use Rattle.ws_steps.specs.Pipes.{abort_all}
 use Rattle.ws_steps.specs.Readable as readable
 use Rattle.ws_steps.specs.Writable.{write_to_host, Acts, hand_on_first, hand_on}
-use Rattle.ws_steps.specs.Turns.{call_host, chunk_steps, close_steps, error_steps, row}
+use Rattle.ws_steps.specs.Transform as transform
+use Rattle.ws_steps.specs.Turns.{call_host, chunk_steps, close_steps, error_steps, row, pull_algorithm, cancel_algorithm, write_algorithm, close_algorithm, abort_algorithm}
 use Rattle.ws_steps.specs.Histories.{is_same}
-use Rattle.ws_steps.specs.declared.{writable.WritableOperation.TheVariants.{HandOn}, writable.WriteRecord.{WriteRecord}, writable.WriteRecord.TheVariants.{Chunk, InFlight, CloseMark}}
-use Rattle.ws_steps.specs.Queues.{first_value}
+use Rattle.ws_steps.specs.declared.{writable.WritableOperation.TheVariants.{HandOn}}
 use Rattle.ws_laws.proofs.Tables.{either, readable_acts, writable_acts, on_writable-other, on_writable-none, on_readable-none, on_readable-writable, is_same-refl, same_id, on_writable-same, no_writable_there}
+use Rattle.ws_laws.proofs.Halves.{Halved, halved-stays}
 use Rattle.ws_laws.proofs.Lists.{Each}
 use Rattle.ws_laws.proofs.PipeDoes.{IsStepOf, PipeCauses, OfPipe, pipe-causes, pipe-does}
 use Rattle.ws_laws.proofs.ReadableDoes.{readable-does}
+use Rattle.ws_laws.proofs.TransformDoes.{transform-does}
 use Rattle.ws_laws.proofs.WritableDoes.{writable-does, IsHandOn}
 use Rattle.ws_laws.proofs.Weights.{weigh, weigh-micro, weigh-fresh, weigh-settle, weigh-react, weigh-follow, weigh-answer}
-use Rattle.ws_writable_laws.proofs.Shape.{is_start, is_write, is_close, is_abort, leads_to, hands, closes, all, all-append, mass, weight, of_use, of_reaction, core_of}
-use Rattle.ws_writable_laws.proofs.Operations.{Due, Held, Less, with_effects, so_far, later_effects, fine-less, Fine, handed, chunk_handed, so_far-nothing, quiet-held, writes-nothing, with_operation, operation-held}
+use Rattle.ws_writable_laws.proofs.Shape.{is_start, is_write, is_close, is_abort, leads_to, hands, closes, all, all-append, mass, weight, of_use, of_reaction, of_transform, core_of}
+use Rattle.ws_writable_laws.proofs.Transforms.{IsPlain, transform-leads, transform-hands, transform-alone, start-plain, write-plain, close-plain, abort-plain, weight-transform}
+use Rattle.ws_writable_laws.proofs.Operations.{Due, Held, Less, with_effects, so_far, later_effects, fine-less, Fine, handed, chunk_handed, writes-nothing, with_operation, operation-held}
+use Rattle.ws_writable_laws.proofs.Handed.{NoHalf, no-half, nothing_chunk, nothing_handed, same-handed, acting, writes-acted, owned-held}
 
 -- what is under way among the promises
 abbrev pub among : StreamId → Table → Due
@@ -44,10 +50,11 @@ pub record Unmade (i : StreamId) (h : Writes) (s : Slots) (es : List Effect) : T
   pub starts : weight (is_start i) s.promises + all (leads_to (is_start i)) es ≡ 0
   pub aborts : weight (is_abort i) s.promises + all (leads_to (is_abort i)) es ≡ 0
 
--- what holds of stream i at each moment
+-- what holds of stream i at each moment, and of the halves of transform streams
 pub record Kept (i : StreamId) (h : Writes) (s : Slots) (es : List Effect) : Type 0 where
   pub unmade : slice_get s.streams i.0 ≡ None → Unmade i h s es
   pub held : Held i (among i s.promises) h es (writable_at i s)
+  pub halved : Halved s
 
 -- the stream stays as it is, what was to be told of it was told or is still to be told, and no more is under way
 pub record Lighter (i : StreamId) (h g : Writes) (s z : Slots) (es fs : List Effect) : Type 0 where
@@ -58,12 +65,13 @@ pub record Lighter (i : StreamId) (h g : Writes) (s z : Slots) (es fs : List Eff
   pub told : so_far i g fs (writable_at i s) ≡ so_far i h es (writable_at i s)
   pub less : Less (with_effects i (among i z.promises) fs) (with_effects i (among i s.promises) es)
 
-pub kept-lighter : (i : StreamId) (h g : Writes) (s z : Slots) (es fs : List Effect) → Lighter i h g s z es fs → Kept i h s es → Kept i g z fs
-kept-lighter i h g s z es fs l k =
+pub kept-lighter : (i : StreamId) (h g : Writes) (s z : Slots) (es fs : List Effect) → Lighter i h g s z es fs → Halved z → Kept i h s es → Kept i g z fs
+kept-lighter i h g s z es fs l halved k =
     let n = ap (λ (x : Writes). x.closes) l.told in
     record {
       unmade = λ e. let u = k.unmade (l.there e) in let t = l.less in grind arith;
       held = record { behind = l.behind; dropped = k.held.dropped; fine = rw (l.place, l.told, l.core) (fine-less _ (with_effects i (among i s.promises) es) _ k.held.dropped _ l.less k.held.fine) };
+      halved = halved;
     }
 
 -- what an effect, or what comes first, may leave in its place
@@ -90,12 +98,12 @@ pub massless : (i : StreamId) (cs : List Effect) → all (mass i) cs ≡ 0 → C
 massless i [] z = record { starts = refl; writes = refl; closes_on = refl; aborts = refl; hands = refl; closes = refl }
 massless i (c ∷ cs) z = let n = massless i cs (omega arith) in record { starts = omega arith; writes = omega arith; closes_on = omega arith; aborts = omega arith; hands = omega arith; closes = omega arith }
 
--- what an effect leaves and causes that is no operation of stream i
+-- what an effect leaves and causes that is no operation of stream i; a stream of the host has as much to hand on as before
 pub record Leaves (i : StreamId) (e : Effect) (s z : Slots) (cs : List Effect) : Type 0 where
   pub there : slice_get z.streams i.0 ≡ None → slice_get s.streams i.0 ≡ None
   pub place : writable_at i z ≡ writable_at i s
   pub alone : all (hands i) (later_effects cs) ≡ 0
-  pub hands : all (hands i) cs ≡ hands i e
+  pub hands : owner_at i s ≡ Host → NoHalf i s → all (hands i) cs ≡ hands i e
   pub closes : all (closes i) cs ≡ 0
   pub starts : weight (is_start i) z.promises + all (leads_to (is_start i)) cs ≤ weight (is_start i) s.promises + leads_to (is_start i) e
   pub writes : weight (is_write i) z.promises + all (leads_to (is_write i)) cs ≤ weight (is_write i) s.promises + leads_to (is_write i) e
@@ -106,23 +114,24 @@ pub record Leaves (i : StreamId) (e : Effect) (s z : Slots) (cs : List Effect) :
 abbrev pub closing_told : ℕ → Writes
 closing_told n = record no_writes { closes = n }
 
-so_far-next : (i : StreamId) (h : Writes) (n : ℕ) (es fs : List Effect) (w : writable.Slots) → all (hands i) fs ≡ all (hands i) es → n + all (closes i) fs ≡ all (closes i) es → so_far i (writes_then h (closing_told n)) fs w ≡ so_far i h es w
+so_far-next : (i : StreamId) (h : Writes) (n : ℕ) (es fs : List Effect) (w : writable.Slots) → chunk_handed (all (hands i) fs) w ≡ chunk_handed (all (hands i) es) w → n + all (closes i) fs ≡ all (closes i) es
+    → so_far i (writes_then h (closing_told n)) fs w ≡ so_far i h es w
 so_far-next i h n es fs w e f = grind (arith, append-nil)
 
-pub leaves-kept : (i : StreamId) (e : Effect) (s z : Slots) (cs : List Effect) (h : Writes) (es : List Effect) → Leaves i e s z cs → effect_writes i e s ≡ closing_told (closes i e) → Kept i h s (e ∷ es)
+pub leaves-kept : (i : StreamId) (e : Effect) (s z : Slots) (cs : List Effect) (h : Writes) (es : List Effect) → Leaves i e s z cs → effect_writes i e s ≡ closing_told (closes i e) → Halved z → Kept i h s (e ∷ es)
     → Kept i (writes_then h (effect_writes i e s)) z (cs ++ es)
-leaves-kept i e s z cs h es l t k =
+leaves-kept i e s z cs h es l t halved k =
     let behind : all (hands i) es ≡ 0 = k.held.behind in
-    let hs : all (hands i) (cs ++ es) ≡ hands i e + all (hands i) es = let a = all-append (hands i) cs es in let b = l.hands in omega arith in
+    let hs = same-handed (all (hands i) (cs ++ es)) (hands i e + all (hands i) es) (slice_get s.streams i.0) (λ o. let a = all-append (hands i) cs es in let b = l.hands o (no-half s i k.halved o) in omega arith) in
     let cl : closes i e + all (closes i) (cs ++ es) ≡ closes i e + all (closes i) es = let a = all-append (closes i) cs es in let b = l.closes in omega arith in
     rw t (kept-lighter i h (writes_then h (closing_told (closes i e))) s z (e ∷ es) (cs ++ es) (record {
       there = l.there;
       place = l.place;
       behind = behind-next i cs es l.alone behind;
-      core = rw hs refl;
-      told = so_far-next i h (closes i e) (e ∷ es) (cs ++ es) _ hs cl;
+      core = hs.0;
+      told = so_far-next i h (closes i e) (e ∷ es) (cs ++ es) _ hs.1 cl;
       less = grind (arith, all-append);
-    }) k)
+    }) halved k)
 
 -- promises
 
@@ -202,6 +211,7 @@ writable-outside i j operation s =
       close = λ x q. causes-outside i b t x (CloseAlgorithm j) (λ n. rw n refl) q;
       abort = λ x r p q. causes-outside i b t x (AbortAlgorithm j r p) (λ n. rw n refl) q;
       hand_on = λ x v q. causes-outside i b t x (write_to_host j v) (λ n. rw n refl) q;
+      take = λ x v u d q. causes-outside i b t x (Transform u (TransformChunk v d)) (λ n. refl) q;
     }) operation (writable_acts j s) (λ n. refl, same_weight t)
 
 elsewhere-leaves : (i j : StreamId) (operation : WritableOperation) (s : Slots) → is_same i j ≡ false
@@ -214,8 +224,9 @@ elsewhere-leaves i j operation s n =
 
 -- an operation that keeps what holds of its stream, with the effects that stand behind it
 after-own : (i : StreamId) (h : Writes) (t : Writes) (es : List Effect) (s z : Slots) (b : Acts) → slice_get z.streams i.0 ≡ Some (WritableStream b.slots) → z.promises ≡ b.out.promises → Lightens s.promises b.out.promises → all (hands i) es ≡ 0
-    → Held i (with_effects i (among i s.promises) es) (writes_then (record h { closes = h.closes + all (closes i) es }) t) b.out.effects b.slots → Kept i (writes_then h t) z (b.out.effects ++ es)
-after-own i h t es s z b place promises l none k = record {
+    → Halved z → Held i (with_effects i (among i s.promises) es) (writes_then (record h { closes = h.closes + all (closes i) es }) t) b.out.effects b.slots → Kept i (writes_then h t) z (b.out.effects ++ es)
+after-own i h t es s z b place promises l none halved k = record {
+  halved = halved;
   unmade = λ e. cc;
   held = rw place (record {
     behind = behind-next i b.out.effects es k.behind none;
@@ -228,21 +239,6 @@ after-own i h t es s z b place promises l none k = record {
         rw (hs, cl) (fine-less _ (with_effects i (with_effects i (among i s.promises) es) cs) _ k.dropped _ (rw promises (let a = l (is_start i) in let b = l (is_write i) in let c = l (is_close i) in let e = l (is_abort i) in grind (arith, all-append))) k.fine);
   });
 }
-
--- the chunk of the write in flight is handed on: it counted as handed on before
-
-abbrev acting : Writes → List Value → Writes
-acting h vs = record h { acted = h.acted ++ vs }
-
-writes-acted : (h : Writes) (vs : List Value) → writes_then h (record no_writes { acted = vs }) ≡ acting h vs
-writes-acted h vs = grind (arith, append-nil)
-
-hand_on-held : (i : StreamId) (n : Due) (h : Writes) (d : List Value) (a : Acts) (first : Option WriteRecord) → first_value a.slots.queue ≡ first → a.out.effects ≡ [] → Fine (with_operation i HandOn n) h d (core_of (handed 1 a.slots))
-    → Held i n h (hand_on_first i a first).out.effects (hand_on_first i a first).slots
-hand_on-held i n h d a (Some (Chunk v)) e q f = rw q (record { behind = refl; dropped = d; fine = rw (so_far-nothing i h a.slots) (grind arith) })
-hand_on-held i n h d a (Some InFlight) e q f = quiet-held i n h d a.out.effects a.slots q (grind arith)
-hand_on-held i n h d a (Some CloseMark) e q f = quiet-held i n h d a.out.effects a.slots q (grind arith)
-hand_on-held i n h d a None e q f = quiet-held i n h d a.out.effects a.slots q (grind arith)
 
 -- an operation of a stream that is there
 
@@ -269,10 +265,11 @@ found i operation h es s u k = rw append-nil at (own-fine i operation h (among i
 there-held : (i : StreamId) (operation : WritableOperation) (h : Writes) (es : List Effect) (s : Slots) → Kept i h s (Writable i operation ∷ es)
     → Held i (with_effects i (among i s.promises) es) (writes_then (behind_told i h es) (operation_writes operation (writable_at i s))) (writable_operation i operation (writable_acts i s)).out.effects (writable_operation i operation (writable_acts i s)).slots
 unfolding hand_on
-there-held i HandOn h es s k =
+there-held i (HandOn taker) h es s k =
     let w = writable_at i s in
-    let f = own-fine i HandOn h (among i s.promises) k.held.dropped es w 1 (rw (is_same-refl i) refl) k.held.behind k.held.fine in
-    rw (writes-acted (behind_told i h es) (first_chunk w.queue)) (hand_on-held i (with_effects i (among i s.promises) es) (acting (behind_told i h es) (first_chunk w.queue)) k.held.dropped (writable_acts i s) (first_value w.queue) refl refl f)
+    let f = own-fine i (HandOn taker) h (among i s.promises) k.held.dropped es w 1 (rw (is_same-refl i) refl) k.held.behind k.held.fine in
+    rw (writes-acted (behind_told i h es) (first_chunk w.queue))
+    (owned-held i taker (with_effects i (among i s.promises) es) (behind_told i h es) k.held.dropped (writable_acts i s) w.owner refl refl f)
 there-held i operation h es s k =
     operation-held i operation (with_effects i (among i s.promises) es) (behind_told i h es) k.held.dropped (writable_acts i s) (λ u. u) refl (found i operation h es s (λ u. u) k)
 
@@ -280,12 +277,6 @@ there-held i operation h es s k =
 
 pub idle : (operation : WritableOperation) → operation_writes operation no_writable ≡ no_writes
 idle operation = grind arith
-
-nothing_chunk : (x : ℕ) → chunk_handed x no_writable ≡ []
-nothing_chunk x = grind arith
-
-nothing_handed : (x : ℕ) → core_of (handed x no_writable) ≡ core_of no_writable
-nothing_handed x = grind arith
 
 absent-kept : (i : StreamId) (operation : WritableOperation) (h : Writes) (es : List Effect) (s : Slots) → has_writable i s ≡ false → Kept i h s (Writable i operation ∷ es) → Kept i (writes_then h (operation_writes operation (writable_at i s))) s es
 absent-kept i operation h es s t k =
@@ -298,15 +289,17 @@ absent-kept i operation h es s t k =
       core = rw none (nothing_handed (all (hands i) es) ∙ sym (nothing_handed (all (hands i) (Writable i operation ∷ es))));
       told = rw (none, nothing_chunk (all (hands i) es), nothing_chunk (all (hands i) (Writable i operation ∷ es))) (grind arith);
       less = grind arith;
-    }) k)
+    }) k.halved k)
 
 own-kept : (i : StreamId) (operation : WritableOperation) (h : Writes) (es : List Effect) (s : Slots) → Kept i h s (Writable i operation ∷ es)
     → Kept i (writes_then h (operation_writes operation (writable_at i s))) (on_writable (writable_operation i operation) i s).slots ((on_writable (writable_operation i operation) i s).caused ++ es)
+unfolding row
 own-kept i operation h es s k =
     let told : Writes = operation_writes operation (writable_at i s) in
     let b : Acts = writable_operation i operation (writable_acts i s) in
+    let here : has_writable i s ≡ true → Halved (put_writable i s b).slots = λ t. rw t at (halved-stays.row s (Writable i operation) es k.halved) in
     either (λ (d : Done). Kept i (writes_then h told) d.slots (d.caused ++ es)) (has_writable i s) (put_writable i s b) (nothing s)
-    (λ t. after-own i h told es s (put_writable i s b).slots b (rw t at (on_writable-same (writable_operation i operation) i s t)) refl (writable-outside i i operation s).1 k.held.behind (there-held i operation h es s k))
+    (λ t. after-own i h told es s (put_writable i s b).slots b (rw t at (on_writable-same (writable_operation i operation) i s t)) refl (writable-outside i i operation s).1 k.held.behind (here t) (there-held i operation h es s k))
     (λ t. absent-kept i operation h es s t k)
 
 -- each effect
@@ -350,7 +343,7 @@ pipe-leaves i p operation s (Some x) =
       there = λ e. e;
       place = refl;
       alone = n;
-      hands = c.hands;
+      hands = λ o apart. c.hands;
       closes = c.closes;
       starts = omega (arith, w1, c.starts);
       writes = omega (arith, w2, c.writes);
@@ -376,7 +369,7 @@ signal-leaves i a operation s (Some x) =
       there = λ e. e;
       place = refl;
       alone = n;
-      hands = c.hands;
+      hands = λ o apart. c.hands;
       closes = c.closes;
       starts = omega (arith, c.starts);
       writes = omega (arith, c.writes);
@@ -396,11 +389,68 @@ erring-leaves : (i j : StreamId) (e : Plain) (s : Slots) (request : ReadRequest)
 erring-leaves i j e s (Promise p) = grind (arith, weigh-settle)
 erring-leaves i j e s (PipeRequest p) = grind arith
 
+-- an operation of a transform stream
+
+transform-leaves : (i : StreamId) (t : TransformId) (operation : TransformOperation) (s : Slots) (o : Option transform.Slots) → slice_get s.transforms t.0 ≡ o
+    → let d : Done = on_transform_at (λ halves. transform_operation t halves operation) t s o in Leaves i (Transform t operation) s d.slots d.caused
+transform-leaves i t operation s None is = grind arith
+transform-leaves i t operation s (Some x) is =
+    let a : transform.Acts = record { slots = x; out = found_outside s } in
+    let b : transform.Acts = transform_operation t (halves_at x s) operation a in
+    let c = transform-alone i t (halves_at x s) operation a refl in
+    let w : (f : Step → ℕ) → weight f b.out.promises ≤ weight f s.promises =
+    λ f. transform-does (λ z. weight f z ≤ weight f s.promises) (weight-transform f s.promises) t (halves_at x s) operation a (omega arith) in
+    let l : (f : Step → ℕ) → IsPlain f → all (leads_to f) b.out.effects ≤ of_transform f operation = λ f p. transform-leads f t (halves_at x s) operation a p refl in
+    let w1 = w (is_start i) in let w2 = w (is_write i) in let w3 = w (is_close i) in let w4 = w (is_abort i) in
+    let l1 = l (is_start i) (start-plain i) in let l2 = l (is_write i) (write-plain i) in let l3 = l (is_close i) (close-plain i) in let l4 = l (is_abort i) (abort-plain i) in
+    record {
+      there = λ e. e;
+      place = refl;
+      alone = c.0;
+      hands = λ o apart. transform-hands i t (halves_at x s) operation a (apart t x is) refl;
+      closes = c.1;
+      starts = omega (arith, w1, l1);
+      writes = omega (arith, w2, l2);
+      closes_on = omega (arith, w3, l3);
+      aborts = omega (arith, w4, l4);
+    }
+
+-- algorithms, by whose they are
+
+pull-leaves : (i j : StreamId) (s : Slots) (o : Owner) → Leaves i (PullAlgorithm j) s s (pull_algorithm j (React (ReadablePull j) None) o)
+pull-leaves i j s Host = grind arith
+pull-leaves i j s (HalfOf t) = grind arith
+
+cancel-leaves : (i j : StreamId) (r : Plain) (p : PromiseId) (s : Slots) (o : Owner) → Leaves i (CancelAlgorithm j r p) s s (cancel_algorithm j r (React ReturnUndefined (Some p)) o)
+cancel-leaves i j r p s Host = grind arith
+cancel-leaves i j r p s (HalfOf t) = grind arith
+
+close-leaves : (i j : StreamId) (s : Slots) (o : Owner) → Leaves i (CloseAlgorithm j) s s (close_algorithm j (React (WritableClose j) None) o)
+close-leaves i j s Host = grind arith
+close-leaves i j s (HalfOf t) = grind arith
+
+abort-leaves : (i j : StreamId) (r : Plain) (p : PromiseId) (s : Slots) (o : Owner) → Leaves i (AbortAlgorithm j r p) s s (abort_algorithm j r (React (WritableAbort j p) None) o)
+abort-leaves i j r p s Host = grind arith
+abort-leaves i j r p s (HalfOf t) = grind arith
+
+write-leaves : (i j : StreamId) (s : Slots) (owner : Owner) (same : Bool) → same ≡ is_same i j → owner_at j s ≡ owner → Leaves i (WriteAlgorithm j) s s (write_algorithm j owner)
+write-leaves i j s Host same e is = grind arith
+write-leaves i j s (HalfOf t) false e is = grind (arith, e)
+write-leaves i j s (HalfOf t) true e is =
+    let half : owner_at i s ≡ HalfOf t = rw (same_id i j (sym e)) is in
+    let wrong : owner_at i s ≡ Host → ⊥ = λ o. cc in grind (arith, e, wrong)
+
 pub row-leaves : (i : StreamId) (e : Effect) (s : Slots) → Elsewhere i e → Leaves i e s (row e s).slots (row e s).caused
 unfolding row call_host
 row-leaves i (Readable j operation) s x = readable-leaves i j operation s
 row-leaves i (Writable j operation) s x = elsewhere-leaves i j operation s x
 row-leaves i (Pipe p operation) s x = pipe-leaves i p operation s (slice_get s.pipes p.0)
+row-leaves i (Transform t operation) s x = transform-leaves i t operation s (slice_get s.transforms t.0) refl
+row-leaves i (PullAlgorithm j) s x = pull-leaves i j s (owner_at j s)
+row-leaves i (CancelAlgorithm j r p) s x = cancel-leaves i j r p s (owner_at j s)
+row-leaves i (WriteAlgorithm j) s x = write-leaves i j s (owner_at j s) (is_same i j) refl refl
+row-leaves i (CloseAlgorithm j) s x = close-leaves i j s (owner_at j s)
+row-leaves i (AbortAlgorithm j r p) s x = abort-leaves i j r p s (owner_at j s)
 row-leaves i (Signal a operation) s x = signal-leaves i a operation s (slice_get s.signals a.0)
 row-leaves i (ChunkSteps j request v) s x = chunk-leaves i j v s request
 row-leaves i (CloseSteps j request) s x = closing-leaves i j s request
@@ -415,7 +465,7 @@ pub elsewhere_told : (i : StreamId) (e : Effect) (s : Slots) → Elsewhere i e �
 elsewhere_told i e s x = grind arith
 
 elsewhere-kept : (i : StreamId) (h : Writes) (s : Slots) (e : Effect) (es : List Effect) → Elsewhere i e → Kept i h s (e ∷ es) → Kept i (writes_then h (effect_writes i e s)) (row e s).slots ((row e s).caused ++ es)
-elsewhere-kept i h s e es x k = leaves-kept i e s (row e s).slots (row e s).caused h es (row-leaves i e s x) (elsewhere_told i e s x) k
+elsewhere-kept i h s e es x k = leaves-kept i e s (row e s).slots (row e s).caused h es (row-leaves i e s x) (elsewhere_told i e s x) (halved-stays.row s e es k.halved) k
 
 -- what is shown of an effect's stream where it is another, and where it is this one
 pub same_or : (A : StreamId → Type 0) (i j : StreamId) (same : Bool) → same ≡ is_same i j → (is_same i j ≡ false → A j) → A i → A j

@@ -2,13 +2,13 @@
 use Rattle.std.proofs.Common.{◌≡◌, ◌⊎◌, inl, inr, ⊎_elim, Option, Some, None, ap, Bool, true, false, List, [], ◌∷◌, ◌++◌, refl, sym, ◌∙◌, append_assoc, append-nil, arith}
 use Rattle.ws_value.specs.declared.ids.StreamId.{StreamId}
 use Rattle.ws_value.specs.declared.value.Value.{Value}
-use Rattle.ws_steps.specs.declared.{effects.Effect.{Effect}, effects.Effect.TheVariants.{Readable, Writable, StartAlgorithm, Give, CallHost}, writable.WritableOperation.{WritableOperation}, calls.Call.{Call}, promises.Job.{Job}}
+use Rattle.ws_steps.specs.declared.{effects.Effect.{Effect}, effects.Effect.TheVariants.{Readable, Writable, StartAlgorithm, Give, Settle, CallHost}, effects.Owner.TheVariants.{Host}, writable.WritableOperation.{WritableOperation}, calls.Call.{Call}, promises.Job.{Job}}
 use Rattle.ws_steps.specs.Writable as writable
 use Rattle.ws_steps.specs.Writable.{Acts, has_ended, is_errored, is_closed, set_up_writer, writer_release, writer_write, stream_close, close_with_error_propagation, stream_abort, abort_if_writable, controller_error_if_needed, hand_on, start_settled, write_settled, close_settled, abort_settled, finish_in_flight_close, finish_in_flight_close_with_error, deal_with_rejection, finish_erroring, advance_queue, refresh_backpressure, update_backpressure, reject_close_and_closed, process_write, process_close, start_erroring, controller_write, controller_close}
 use Rattle.ws_steps.specs.Operations.{readable_operation, writable_operation}
 use Rattle.ws_steps.specs.Promises.{next_job}
 use Rattle.ws_steps.specs.Histories.{is_same}
-use Rattle.ws_steps.specs.Slots.{Slots, Done, nothing, empty, has_writable, put_writable, as_writable, writable_at}
+use Rattle.ws_steps.specs.Slots.{Slots, Done, nothing, empty, owner_at, has_writable, put_writable, as_writable, writable_at}
 use Rattle.ws_steps.specs.Turns.{row, moments}
 use Rattle.ws_steps.specs.Jobs.{job_begun, begin_job}
 use Rattle.ws_steps.specs.Calls.{Begun, begin}
@@ -24,7 +24,7 @@ use Rattle.ws_laws.proofs.Walker.{performed-goes}
 use Rattle.ws_writable_laws.proofs.Shape.{Core, core_of, Told}
 use Rattle.ws_writable_laws.proofs.Operations.{so_far-nothing}
 use Rattle.ws_writable_laws.proofs.Agenda.{Kept, same_or}
-use Rattle.ws_writable_laws.proofs.Runs.{is_history, step-kept, run-kept, resting, closed_whole}
+use Rattle.ws_writable_laws.proofs.Runs.{is_history, step-kept, run-kept, hosted_at, host-before, resting, closed_whole}
 
 -- nothing is written to a stream that has ended
 
@@ -50,6 +50,7 @@ row-ended i e s ended = rw (row-streams e s tt) ended
 abbrev IsMaking : Effect → Type 0
 IsMaking (StartAlgorithm j step start) = Unit {0}
 IsMaking (Give gift u) = Unit {0}
+IsMaking (Settle p o) = Unit {0}
 IsMaking (CallHost call u) = Unit {0}
 IsMaking _ = ⊥
 
@@ -91,6 +92,7 @@ call_none i s c e =
       rejected = inr e;
       make_readable = λ mark size start. inl (tt, tt);
       make_writable = λ mark size start. inl (tt, tt);
+      make_transform = λ kind m n start. inl (grind arith);
       get_reader = λ j f. inr e;
       get_writer = λ j f. inr e;
       release_reader = λ l closed j f. inr e;
@@ -100,7 +102,10 @@ call_none i s c e =
       write = λ l v j f. inr e;
       close = λ j. inr e;
       abort = λ reason j f. inr e;
-      enqueue = λ j v f can. inr e;
+      enqueue = λ j v f w can. inr e;
+      enqueue_half = λ j t v f w can. inr e;
+      fail_half = λ t reason. inr e;
+      terminate = λ t. inr e;
       finish = λ j. inr e;
       fail_readable = λ j reason. inr e;
       fail_writable = λ j reason. inr e;
@@ -110,7 +115,7 @@ call_none i s c e =
       settle = λ h answer p f. inr e;
     })
 
-entry_none : (i : StreamId) (s : Slots) (x : Entry) → has_ended (writable_at i s).state ≡ true → (step_writes i s x).written ≡ []
+pub entry_none : (i : StreamId) (s : Slots) (x : Entry) → has_ended (writable_at i s).state ≡ true → (step_writes i s x).written ≡ []
 unfolding begin_job
 entry_none i s (Called c) e = performed_none i (begin c s).done (call_none i s c e)
 entry_none i s Worked e = performed_none i (begin_job s) (inr (job_ended i s (next_job s.promises) e))
@@ -118,68 +123,71 @@ entry_none i s Heard e = performed_none i (nothing s) (inr e)
 
 -- a stream that has ended acts on nothing: its past may be forgotten, but for its closing
 
-abbrev forgotten : Writes → Writes
+abbrev pub forgotten : Writes → Writes
 forgotten h = record no_writes { closes = h.closes }
 
 forgotten-told : (h : Writes) (d : List Value) (c : Core) → has_ended c.state ≡ true → c.queue ≡ [] → Told h d c → Told (forgotten h) [] c
 forgotten-told h d c e q t = grind arith
 
-forgotten-kept : (i : StreamId) (h : Writes) (s : Slots) → has_ended (writable_at i s).state ≡ true → Kept i h s [] → Kept i (forgotten h) s []
+pub forgotten-kept : (i : StreamId) (h : Writes) (s : Slots) → has_ended (writable_at i s).state ≡ true → Kept i h s [] → Kept i (forgotten h) s []
 forgotten-kept i h s e k =
     let r = resting i h s k in
     let t = forgotten-told h k.held.dropped (core_of (writable_at i s)) e (r.shape.ended e) r.told in
     record {
       unmade = λ g. let u = k.unmade g in grind arith;
+      halved = k.halved;
       held = record { behind = refl; dropped = []; fine = rw (so_far-nothing i (forgotten h) (writable_at i s)) (record { shape = r.shape; closing = r.closing; told = t; owed = r.owed }) };
     }
 
-acts_none : (i : StreamId) (x : Entry) (s : Slots) (h : Writes) → has_ended (writable_at i s).state ≡ true → Kept i h s [] → (step_writes i s x).acted ≡ []
-acts_none i x s h e k =
+acts_none : (i : StreamId) (x : Entry) (s : Slots) (h : Writes) → owner_at i (step s x) ≡ Host → has_ended (writable_at i s).state ≡ true → Kept i h s [] → (step_writes i s x).acted ≡ []
+acts_none i x s h host e k =
     let g : Writes = writes_then (forgotten h) (step_writes i s x) in
     let after = step-kept i (forgotten h) s x (forgotten-kept i h s e k) in
     let t = (resting i g (step s x) after).told in
-    let all : (step_writes i s x).acted ++ (todo (writable_at i (step s x)).queue ++ after.held.dropped) ≡ [] = sym t.all ∙ entry_none i s x e in
+    let all : (step_writes i s x).acted ++ (todo (writable_at i (step s x)).queue ++ after.held.dropped) ≡ [] = sym (t.all (hosted_at i (step s x) host)) ∙ entry_none i s x e in
     (append_none (step_writes i s x).acted (todo (writable_at i (step s x)).queue ++ after.held.dropped) all).0
 
 -- a stream that hasn't ended
 
-step_lists : (E A Q D W B R F : List Value) → E ≡ A ++ (Q ++ D) → D ≡ [] → E ++ W ≡ (A ++ B) ++ (R ++ F) → Q ++ W ≡ B ++ (R ++ F)
+pub step_lists : (E A Q D W B R F : List Value) → E ≡ A ++ (Q ++ D) → D ≡ [] → E ++ W ≡ (A ++ B) ++ (R ++ F) → Q ++ W ≡ B ++ (R ++ F)
 step_lists E A Q D W B R F e d f = append_cancel A (Q ++ W) (B ++ (R ++ F)) (grind (arith, append_assoc, append-nil))
 
 -- nothing was dropped of a stream that isn't errored
-none_dropped : (h : Writes) (d : List Value) (c : Core) → is_errored c.state ≡ false → Told h d c → d ≡ []
-none_dropped h d c f t =
+none_dropped : (h : Writes) (d : List Value) (c : Core) → c.hosted ≡ true → is_errored c.state ≡ false → Told h d c → d ≡ []
+none_dropped h d c host f t =
     let closed : is_closed c.state ≡ true → d ≡ [] = λ e.
-    let all : h.acted ++ [] ≡ h.acted ++ (todo c.queue ++ d) = append-nil h.acted ∙ ((closed_whole h d c e t).0 ∙ t.all) in
+    let all : h.acted ++ [] ≡ h.acted ++ (todo c.queue ++ d) = append-nil h.acted ∙ ((closed_whole h d c host e t).0 ∙ t.all host) in
     (append_none (todo c.queue) d (sym (append_cancel h.acted [] (todo c.queue ++ d) all))).1 in
     grind arith
 
-writable_step : (i : StreamId) (x : Entry) (s : Slots) (h : Writes) → Kept i h s [] → (ended : Bool) → ended ≡ has_ended (writable_at i s).state → IsWritableStep (step_writes i s x) (writable_at i s) (writable_at i (step s x))
-writable_step i x s h k true e =
+writable_step : (i : StreamId) (x : Entry) (s : Slots) (h : Writes) → owner_at i (step s x) ≡ Host → Kept i h s [] → (ended : Bool) → ended ≡ has_ended (writable_at i s).state → IsWritableStep (step_writes i s x) (writable_at i s) (writable_at i (step s x))
+writable_step i x s h host k true e =
     let written = entry_none i s x (sym e) in
-    let acted = acts_none i x s h (sym e) k in
+    let acted = acts_none i x s h host (sym e) k in
     record {
       alive = λ f g. absurd (cc);
       front = (todo (writable_at i s).queue ++ (step_writes i s x).written, rw acted refl);
       ended = λ f. (written, acted);
     }
-writable_step i x s h k false e =
+writable_step i x s h host k false e =
     let g : Writes = step_writes i s x in
     let before : writable.Slots = writable_at i s in
     let now : writable.Slots = writable_at i (step s x) in
+    let was = hosted_at i s (host-before i x s host) in
+    let is = hosted_at i (step s x) host in
     let after = step-kept i h s x k in
     let t = (resting i h s k).told in
     let u = (resting i (writes_then h g) (step s x) after).told in
-    let lists = step_lists h.written h.acted (todo before.queue) k.held.dropped g.written g.acted (todo now.queue) after.held.dropped t.all (t.live (rw (← e) refl)) u.all in
+    let lists = step_lists h.written h.acted (todo before.queue) k.held.dropped g.written g.acted (todo now.queue) after.held.dropped (t.all was) (t.live was (rw (← e) refl)) (u.all is) in
     record {
       alive = λ f l.
-          let none : after.held.dropped ≡ [] = none_dropped (writes_then h g) after.held.dropped (core_of now) l u in
+          let none : after.held.dropped ≡ [] = none_dropped (writes_then h g) after.held.dropped (core_of now) is l u in
           rw (none, append-nil) at lists;
       front = (todo now.queue ++ after.held.dropped, sym lists);
       ended = λ f. absurd (cc);
     }
 
 pub each_writable_step : EachWritableStep
-each_writable_step entries x i =
+each_writable_step entries x i = λ host.
     let s : Slots = run entries empty in
-    writable_step i x s (run_writes i entries empty) (run-kept entries i) (has_ended (writable_at i s).state) refl
+    writable_step i x s (run_writes i entries empty) host (run-kept entries i) (has_ended (writable_at i s).state) refl

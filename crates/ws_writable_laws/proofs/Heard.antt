@@ -1,42 +1,49 @@
 -- The host hears of each performing of a write or close algorithm, in their order, and events are only added.
-use Rattle.std.proofs.Common.{◌≡◌, ℕ, ◌+◌, zero, suc, arith, length-append, List, [], ◌∷◌, ◌++◌, length, Result, if◌then◌else◌, refl, sym, ap, ◌∙◌, append_assoc, append-nil, zero-add, Option, Some, None, slice_get}
+use Rattle.std.proofs.Common.{◌≡◌, Bool, true, false, arith, List, [], ◌∷◌, ◌++◌, Result, if◌then◌else◌, refl, sym, ap, ◌∙◌, append_assoc, append-nil, Option, Some, None, slice_get}
 use Rattle.ws_value.specs.declared.ids.PipeId.{PipeId}
 use Rattle.ws_value.specs.declared.ids.PromiseId.{PromiseId}
 use Rattle.ws_value.specs.declared.ids.SignalId.{SignalId}
 use Rattle.ws_value.specs.declared.ids.StreamId.{StreamId}
 use Rattle.ws_value.specs.declared.value.Outcome.{Outcome}
 use Rattle.ws_value.specs.declared.value.Plain.{Plain}
-use Rattle.ws_value.specs.declared.value.Plain.TheVariants.{Undefined}
 use Rattle.ws_value.specs.declared.value.Value.{Value}
-use Rattle.ws_value.specs.declared.value.Value.TheVariants.{Plain as PlainValue}
 use Rattle.ws_steps.specs.declared.{calls.Call.{Call}, calls.Event.{Event}, calls.Event.TheVariants.{Host as HostCalled, Signal}, calls.HostCall.{HostCall}}
-use Rattle.ws_steps.specs.declared.{calls.HostCall.TheVariants.{Write as HostWrite, Close as HostClose}, effects.Effect.{Effect}}
-use Rattle.ws_steps.specs.declared.effects.Effect.TheVariants.{Readable, Writable, Pipe, Signal as SignalEffect, Queue, PullAlgorithm, CancelAlgorithm, WriteAlgorithm, CloseAlgorithm, AbortAlgorithm, ChunkSteps, CloseSteps, ErrorSteps, CallHost}
+use Rattle.ws_steps.specs.declared.{calls.HostCall.TheVariants.{Write as HostWrite, Close as HostClose, Transform as HostTransform, Flush as HostFlush, CancelTransform as HostCancelTransform}, effects.Effect.{Effect}, effects.Owner.{Owner}, effects.Owner.TheVariants.{Host, HalfOf}}
+use Rattle.ws_steps.specs.declared.effects.Effect.TheVariants.{Readable, Writable, Pipe, Signal as SignalEffect, Transform, Queue, PullAlgorithm, CancelAlgorithm, WriteAlgorithm, CloseAlgorithm, AbortAlgorithm, ChunkSteps, CloseSteps, ErrorSteps, StartAlgorithm, CallHost}
 use Rattle.ws_steps.specs.declared.{effects.Gift.{Gift}, effects.Use.{Use}, promises.Job.{Job}, promises.Reaction.{Reaction}, readable.ReadableOperation.{ReadableOperation}}
 use Rattle.ws_steps.specs.declared.{writable.WritableOperation.{WritableOperation}, writable.WritableOperation.TheVariants.{HandOn}}
+use Rattle.ws_steps.specs.declared.{promises.Step.TheVariants.{ReadablePull, ReturnUndefined, WritableClose, WritableAbort}, effects.Use.TheVariants.{React}}
+use Rattle.ws_steps.specs.declared.{transform.Taker.{Taker}, transform.Taker.TheVariants.{ToHost, ToTransform}, transform.TransformId.{TransformId}, transform.TransformOperation.{TransformOperation}}
 use Rattle.ws_steps.specs.Effects.{Out, cause}
-use Rattle.ws_steps.specs.Operations.{readable_operation, writable_operation, pipe_operation, signal_operation}
+use Rattle.ws_steps.specs.Operations.{readable_operation, writable_operation, pipe_operation, signal_operation, transform_operation}
 use Rattle.ws_steps.specs.Promises.{Table, fresh, settle, answer, react, follow, unfollow, use_this, use_gift, queue_micro, tell, taken, after_next_job, watch}
-use Rattle.ws_steps.specs.declared.{pipes.PipeOperation.{PipeOperation}, pipes.SignalOperation.{SignalOperation}, promises.Micro.{Micro}, readable.ReadRequest.TheVariants.{Promise, Pipe as PipeRequest}}
+use Rattle.ws_steps.specs.declared.{pipes.PipeOperation.{PipeOperation}, pipes.SignalOperation.{SignalOperation}, pipes.SignalOperation.TheVariants.{Add, Forget, Trigger}, promises.Micro.{Micro}, readable.ReadRequest.TheVariants.{Promise, Pipe as PipeRequest}}
 use Rattle.ws_steps.specs.Pipes as pipe
 use Rattle.ws_steps.specs.Pipes.{abort_all}
+use Rattle.ws_steps.specs.Transform as transform
 use Rattle.ws_steps.specs.Writable as writable
 use Rattle.ws_steps.specs.Writable.{hand_on, hand_on_first}
-use Rattle.ws_steps.specs.Slots.{Slots, Done, found, ends_at, on_pipe_at, on_signal_at, nothing, empty, with_promises, on_readable, on_writable, writable_at}
-use Rattle.ws_steps.specs.Turns.{row, call_host, moments}
+use Rattle.ws_steps.specs.Slots.{Slots, Done, found, ends_at, halves_at, owner_at, on_pipe_at, on_signal_at, on_transform_at, nothing, empty, with_promises, on_readable, on_writable, writable_at}
+use Rattle.ws_steps.specs.Turns.{row, call_host, moments, pull_algorithm, cancel_algorithm, write_algorithm, close_algorithm, abort_algorithm}
 use Rattle.ws_steps.specs.Jobs.{job_effects}
 use Rattle.ws_steps.specs.Calls.{Begun, begin}
-use Rattle.ws_steps.specs.Run.{older, Entry as RunEntry, Called, Worked, Heard, later_events, step}
+use Rattle.ws_steps.specs.Run.{older, Entry as RunEntry, Called, Worked, Heard, later_events, step, run}
 use Rattle.ws_steps.specs.Histories.{is_same, along, taken_event, taken_in_step, run_events}
-use Rattle.ws_steps.specs.WritableHistory.{Writes, no_writes, writes_then, operation_writes, effect_writes, step_writes, run_writes, heard_writes, heard_closes}
-use Rattle.ws_steps.specs.Laws.{ActedWasHeard, ClosesWereHeard}
+use Rattle.ws_steps.specs.WritableHistory.{Writes, no_writes, writes_then, operation_writes, effect_writes, step_writes, run_writes, heard_writes}
+use Rattle.ws_steps.specs.Laws.{ActedWasHeard}
 use Rattle.ws_laws.proofs.EachCall.{each_call}
 use Rattle.ws_laws.proofs.Lists.{append_none}
 use Rattle.ws_laws.proofs.Walker as walker
 use Rattle.ws_laws.proofs.Walker.{GoesUntold, performed-goes}
-use Rattle.ws_writable_laws.proofs.Runs.{nothing-writes, is_history}
-use Rattle.ws_laws.proofs.Tables.{readable_acts, writable_acts}
-use Rattle.ws_laws.proofs.Lists.{Each}
+use Rattle.ws_writable_laws.proofs.Handed.{NoHalf, no-half}
+use Rattle.ws_writable_laws.proofs.Runs.{nothing-writes, is_history, call-was, run-was}
+use Rattle.ws_laws.proofs.Tables.{readable_acts, writable_acts, same_id}
+use Rattle.ws_laws.proofs.Lists.{Each, each-append, each-map}
+use Rattle.ws_laws.proofs.Begin.{IsFirst, Enqueues, Never, begin-first, job-first}
+use Rattle.ws_laws.proofs.Halves.{Halved, halved-stays, halved-empty, step-halved}
+use Rattle.ws_laws.proofs.Rows.{SignalCauses, row-causes}
+use Rattle.ws_laws.proofs.Shapes.{row-owner}
+use Rattle.ws_laws.proofs.TransformDoes.{TransformCauses, transform-causes, transform-does}
 use Rattle.ws_laws.proofs.PipeDoes.{PipeCauses, pipe-causes, pipe-does}
 use Rattle.ws_laws.proofs.ReadableDoes.{readable-does}
 use Rattle.ws_laws.proofs.WritableDoes.{IsHandOn, others-do}
@@ -54,16 +61,16 @@ pub record Ear : Type 0 where
   pub quiet : (operation : WritableOperation) (w : writable.Slots) → (IsHandOn operation → ⊥) → history (operation_writes operation w) ≡ []
 
 module _ (i : StreamId) (ear : Ear) where
-  abbrev hear : HostCall → List Value
+  abbrev pub hear : HostCall → List Value
   hear (HostWrite j v) = if is_same i j then ear.write v else []
   hear (HostClose j) = if is_same i j then ear.close else []
   hear _ = []
 
-  abbrev of_event : Event → List Value
+  abbrev pub of_event : Event → List Value
   of_event (HostCalled id call) = hear call
   of_event _ = []
 
-  abbrev of_events : List Event → List Value
+  abbrev pub of_events : List Event → List Value
   of_events [] = []
   of_events (e ∷ es) = of_event e ++ of_events es
 
@@ -229,23 +236,87 @@ module _ (i : StreamId) (ear : Ear) where
       let silent = signal-silent operation x in
       record { events = sym (append-nil (heard s.promises)); caused = silent ∙ sym ear.none; alone = none_later (signal_operation operation x).effects silent }
 
-  row-hears : (e : Effect) (s : Slots) → Hears e s (row e s).slots (row e s).caused
-  unfolding row hand_on
-  row-hears (Readable j operation) s = readable-hears j operation s
-  row-hears (Writable j HandOn) s = let m = ear.none in grind (arith, ear.acts, append-nil)
-  row-hears (Writable j operation) s = others-hear j operation s (λ u. u)
-  row-hears (Pipe p operation) s = pipe-hears p operation s (slice_get s.pipes p.0)
-  row-hears (SignalEffect a operation) s = signal-hears a operation s (slice_get s.signals a.0)
-  row-hears (ChunkSteps j (Promise p) v) s = let m = ear.none in grind (arith, append-nil, answer-heard)
-  row-hears (ChunkSteps j (PipeRequest p) v) s = let m = ear.none in grind (arith, append-nil)
-  row-hears (CloseSteps j (Promise p)) s = let m = ear.none in grind (arith, append-nil, answer-heard)
-  row-hears (CloseSteps j (PipeRequest p)) s = let m = ear.none in grind (arith, append-nil)
-  row-hears (ErrorSteps j (Promise p) e) s = let m = ear.none in grind (arith, append-nil, settle-heard)
-  row-hears (ErrorSteps j (PipeRequest p) e) s = let m = ear.none in grind (arith, append-nil)
-  row-hears (Queue m) s = let n = ear.none in grind (arith, append-nil, micro-heard)
-  row-hears (CloseAlgorithm j) s = let n = ear.closes in let m = ear.none in grind (arith, append-nil)
-  row-hears (CallHost call u) s = let m = ear.none in grind (arith, host-heard)
-  row-hears e s = let m = ear.none in grind (arith, append-nil, fresh-heard, answer-heard, settle-heard, gift-heard)
+  -- transform streams: their host's algorithms are others
+
+  transform_effect-silent : (t : TransformId) (w r : StreamId) (e : Effect) → TransformCauses t w r e → of_effect e ≡ []
+  transform_effect-silent t w r (CallHost (HostTransform j v) u) c = refl
+  transform_effect-silent t w r (CallHost (HostFlush j) u) c = refl
+  transform_effect-silent t w r (CallHost (HostCancelTransform j e) u) c = refl
+  transform_effect-silent t w r (CallHost _ u) c = absurd c
+  transform_effect-silent t w r _ c = refl
+
+  transform-silent : (t : TransformId) (w r : StreamId) (es : List Effect) → Each (TransformCauses t w r) es → of_effects es ≡ []
+  transform-silent t w r [] c = refl
+  transform-silent t w r (e ∷ es) c = rw (transform_effect-silent t w r e c.0, transform-silent t w r es c.1) refl
+
+  transform-hears : (t : TransformId) (operation : TransformOperation) (s : Slots) (o : Option transform.Slots)
+      → let d : Done = on_transform_at (λ halves. transform_operation t halves operation) t s o in Hears (Transform t operation) s d.slots d.caused
+  transform-hears t operation s None = let m = ear.none in grind (arith, append-nil)
+  transform-hears t operation s (Some x) =
+      let a : transform.Acts = record { slots = x; out = found s } in
+      let b : transform.Acts = transform_operation t (halves_at x s) operation a in
+      let silent = transform-silent t x.writable x.readable b.out.effects (transform-causes t (halves_at x s) operation a tt).1.1.1 in
+      let same : heard b.out.promises ≡ heard s.promises =
+      transform-does (λ z. heard z ≡ heard s.promises) (record { fresh = λ z h. fresh-heard z ∙ h; settle = λ z p o h. settle-heard p o z ∙ h }) t (halves_at x s) operation a refl in
+      record { events = same ∙ sym (append-nil (heard s.promises)); caused = silent ∙ sym ear.none; alone = none_later b.out.effects silent }
+
+  -- algorithms, by whose they are
+
+  pull-hears : (j : StreamId) (s : Slots) (o : Owner) → Hears (PullAlgorithm j) s s (pull_algorithm j (React (ReadablePull j) None) o)
+  pull-hears j s Host = let m = ear.none in grind (arith, append-nil)
+  pull-hears j s (HalfOf t) = let m = ear.none in grind (arith, append-nil)
+
+  cancel-hears : (j : StreamId) (r : Plain) (p : PromiseId) (s : Slots) (o : Owner) → Hears (CancelAlgorithm j r p) s s (cancel_algorithm j r (React ReturnUndefined (Some p)) o)
+  cancel-hears j r p s Host = let m = ear.none in grind (arith, append-nil)
+  cancel-hears j r p s (HalfOf t) = let m = ear.none in grind (arith, append-nil)
+
+  write-hears : (j : StreamId) (s : Slots) (o : Owner) → Hears (WriteAlgorithm j) s s (write_algorithm j o)
+  write-hears j s Host = let m = ear.none in grind (arith, append-nil)
+  write-hears j s (HalfOf t) = let m = ear.none in grind (arith, append-nil)
+
+  abort-hears : (j : StreamId) (r : Plain) (p : PromiseId) (s : Slots) (o : Owner) → Hears (AbortAlgorithm j r p) s s (abort_algorithm j r (React (WritableAbort j p) None) o)
+  abort-hears j r p s Host = let m = ear.none in grind (arith, append-nil)
+  abort-hears j r p s (HalfOf t) = let m = ear.none in grind (arith, append-nil)
+
+  -- the close algorithm of this stream is the host's
+  close-hears : (j : StreamId) (s : Slots) (o : Owner) (same : Bool) → same ≡ is_same i j → (same ≡ true → o ≡ Host) → Hears (CloseAlgorithm j) s s (close_algorithm j (React (WritableClose j) None) o)
+  close-hears j s Host same e host = let n = ear.closes in let m = ear.none in grind (arith, append-nil)
+  close-hears j s (HalfOf t) true e host = let wrong : HalfOf t ≡ Host = host refl in cc
+  close-hears j s (HalfOf t) false e host = let m = ear.none in grind (arith, append-nil, e)
+
+  -- its chunks are handed on to the host alone
+  abbrev HandsToHost : Effect → Type 0
+  HandsToHost (Writable j (HandOn (ToTransform t d))) = is_same i j ≡ false
+  HandsToHost _ = Unit {0}
+
+  hand_on-hears : (j : StreamId) (taker : Taker) (s : Slots) → HandsToHost (Writable j (HandOn taker))
+      → Hears (Writable j (HandOn taker)) s (on_writable (writable_operation j (HandOn taker)) j s).slots (on_writable (writable_operation j (HandOn taker)) j s).caused
+  unfolding hand_on
+  hand_on-hears j ToHost s n = let m = ear.none in grind (arith, ear.acts, append-nil)
+  hand_on-hears j (ToTransform t d) s n = let m = ear.none in grind (arith, append-nil, n)
+
+  row-hears : (e : Effect) (s : Slots) → owner_at i s ≡ Host → HandsToHost e → Hears e s (row e s).slots (row e s).caused
+  unfolding row
+  row-hears (Readable j operation) s o n = readable-hears j operation s
+  row-hears (Writable j (HandOn taker)) s o n = hand_on-hears j taker s n
+  row-hears (Writable j operation) s o n = others-hear j operation s (λ u. u)
+  row-hears (Transform t operation) s o n = transform-hears t operation s (slice_get s.transforms t.0)
+  row-hears (PullAlgorithm j) s o n = pull-hears j s (owner_at j s)
+  row-hears (CancelAlgorithm j r p) s o n = cancel-hears j r p s (owner_at j s)
+  row-hears (WriteAlgorithm j) s o n = write-hears j s (owner_at j s)
+  row-hears (AbortAlgorithm j r p) s o n = abort-hears j r p s (owner_at j s)
+  row-hears (Pipe p operation) s o n = pipe-hears p operation s (slice_get s.pipes p.0)
+  row-hears (SignalEffect a operation) s o n = signal-hears a operation s (slice_get s.signals a.0)
+  row-hears (ChunkSteps j (Promise p) v) s o n = let m = ear.none in grind (arith, append-nil, answer-heard)
+  row-hears (ChunkSteps j (PipeRequest p) v) s o n = let m = ear.none in grind (arith, append-nil)
+  row-hears (CloseSteps j (Promise p)) s o n = let m = ear.none in grind (arith, append-nil, answer-heard)
+  row-hears (CloseSteps j (PipeRequest p)) s o n = let m = ear.none in grind (arith, append-nil)
+  row-hears (ErrorSteps j (Promise p) e) s o n = let m = ear.none in grind (arith, append-nil, settle-heard)
+  row-hears (ErrorSteps j (PipeRequest p) e) s o n = let m = ear.none in grind (arith, append-nil)
+  row-hears (Queue m) s o u = let n = ear.none in grind (arith, append-nil, micro-heard)
+  row-hears (CloseAlgorithm j) s o n = close-hears j s (owner_at j s) (is_same i j) refl (λ same. rw (← same_id i j same) o)
+  row-hears (CallHost call u) s o n = let m = ear.none in grind (arith, host-heard)
+  row-hears e s o n = let m = ear.none in grind (arith, append-nil, fresh-heard, answer-heard, settle-heard, gift-heard)
 
   -- what was heard and what is to be heard is what was told, behind what was heard before
   record Told (base : List Value) (h : Writes) (s : Slots) (es : List Effect) : Type 0 where
@@ -255,9 +326,52 @@ module _ (i : StreamId) (ear : Ear) where
   later-next : (cs es : List Effect) → of_effects (later_effects cs) ≡ [] → of_effects es ≡ [] → of_effects (later_effects (cs ++ es)) ≡ []
   later-next cs es f g = grind (arith, none_later, effects-append)
 
-  row-told : (base : List Value) (h : Writes) (s : Slots) (e : Effect) (es : List Effect) → Told base h s (e ∷ es) → Told base (writes_then h (effect_writes i e s)) (row e s).slots ((row e s).caused ++ es)
-  row-told base h s e es t =
-      let r = row-hears e s in
+  -- what is caused hands on to the host
+
+  pipe-host : (p : PipeId) (source dest : StreamId) (e : Effect) → PipeCauses p source dest e → HandsToHost e
+  pipe-host p source dest (Writable j (HandOn (ToTransform t d))) c = absurd c
+  pipe-host p source dest _ c = tt
+
+  signal-host : (operation : SignalOperation) → SignalCauses HandsToHost operation
+  signal-host (Add p) = tt
+  signal-host (Forget p) = tt
+  signal-host (Trigger r) = λ p. tt
+
+  transform_effect-host : (t : TransformId) (w r : StreamId) → is_same i w ≡ false → (e : Effect) → TransformCauses t w r e → HandsToHost e
+  transform_effect-host t w r n (Writable j (HandOn (ToTransform u d))) c = rw c.0 n
+  transform_effect-host t w r n _ c = tt
+
+  transform-host : (t : TransformId) (operation : TransformOperation) (s : Slots) (o : Option transform.Slots) → slice_get s.transforms t.0 ≡ o → NoHalf i s
+      → Each HandsToHost (on_transform_at (λ halves. transform_operation t halves operation) t s o).caused
+  transform-host t operation s None is apart = tt
+  transform-host t operation s (Some x) is apart =
+      let a : transform.Acts = record { slots = x; out = found s } in
+      each-map (TransformCauses t x.writable x.readable) HandsToHost (transform_effect-host t x.writable x.readable (apart t x is)) _ (transform-causes t (halves_at x s) operation a tt).1.1.1
+
+  row-host : (e : Effect) (s : Slots) → NoHalf i s → Each HandsToHost (row e s).caused
+  unfolding row
+  row-host (Transform t operation) s apart = transform-host t operation s (slice_get s.transforms t.0) refl apart
+  row-host (Readable j operation) s apart = row-causes HandsToHost (Readable j operation) s (record { pull = tt; cancel = λ r p. tt; chunk = λ r v. tt; close = λ r. tt; error = λ r e. tt })
+  row-host (Writable j operation) s apart = row-causes HandsToHost (Writable j operation) s (record { write = tt; close = tt; abort = λ r p. tt; hand_on = λ v. tt; take = λ v t d. tt })
+  row-host (Pipe p operation) s apart = row-causes HandsToHost (Pipe p operation) s (pipe-host p)
+  row-host (SignalEffect a operation) s apart = row-causes HandsToHost (SignalEffect a operation) s (signal-host operation)
+  row-host (StartAlgorithm j step start) s apart = row-causes HandsToHost (StartAlgorithm j step start) s (λ g u. tt, λ c u. tt)
+  row-host (PullAlgorithm j) s apart = row-causes HandsToHost (PullAlgorithm j) s (λ c u. tt, λ t u. tt)
+  row-host (CancelAlgorithm j r p) s apart = row-causes HandsToHost (CancelAlgorithm j r p) s (λ c u. tt, λ t u. tt)
+  row-host (WriteAlgorithm j) s apart = row-causes HandsToHost (WriteAlgorithm j) s (tt, λ t u. tt)
+  row-host (CloseAlgorithm j) s apart = row-causes HandsToHost (CloseAlgorithm j) s (λ c u. tt, λ t u. tt)
+  row-host (AbortAlgorithm j r p) s apart = row-causes HandsToHost (AbortAlgorithm j r p) s (λ c u. tt, λ t u. tt)
+  row-host (ChunkSteps j (Promise p) v) s apart = tt
+  row-host (ChunkSteps j (PipeRequest p) v) s apart = (tt, tt)
+  row-host (CloseSteps j (Promise p)) s apart = tt
+  row-host (CloseSteps j (PipeRequest p)) s apart = (tt, tt)
+  row-host (ErrorSteps j (Promise p) e) s apart = tt
+  row-host (ErrorSteps j (PipeRequest p) e) s apart = (tt, tt)
+  row-host _ s apart = tt
+
+  row-told : (base : List Value) (h : Writes) (s : Slots) (e : Effect) (es : List Effect) → owner_at i s ≡ Host → HandsToHost e → Told base h s (e ∷ es) → Told base (writes_then h (effect_writes i e s)) (row e s).slots ((row e s).caused ++ es)
+  row-told base h s e es o u t =
+      let r = row-hears e s o u in
       let n = effects-append (row e s).caused es in
       let m = ear.after h (effect_writes i e s) in
       let k = later-next (row e s).caused es in grind (arith, append_assoc, append-nil)
@@ -273,13 +387,42 @@ module _ (i : StreamId) (ear : Ear) where
   job-silent : (job : Job) → of_effects (job_effects job) ≡ []
   job-silent job = grind arith
 
-  told-goes : (base : List Value) → GoesUntold writes_then (effect_writes i) (Told base)
+  first-host : (E : StreamId → Value → Type 0) (e : Effect) → IsFirst E e → HandsToHost e
+  first-host E (Writable j (HandOn (ToTransform t d))) f = absurd f
+  first-host E _ f = tt
+
+  -- what is known of a stream of the host
+  abbrev Known : List Value → Writes → Slots → List Effect → Type 0
+  Known base h s es = (owner_at i s ≡ Host → Told base h s es × Each HandsToHost es) × Halved s
+
+  row-known : (base : List Value) (h : Writes) (s : Slots) (e : Effect) (es : List Effect) → Known base h s (e ∷ es) → Known base (writes_then h (effect_writes i e s)) (row e s).slots ((row e s).caused ++ es)
+  row-known base h s e es k = (
+    λ host.
+        let o : owner_at i s ≡ Host = sym (row-owner i e s) ∙ host in
+        let t = k.0 o in
+        (row-told base h s e es o t.1.0 t.0, each-append HandsToHost (row e s).caused es (row-host e s (no-half s i k.1 o)) t.1.1),
+    halved-stays.row s e es k.1,
+  )
+
+  told-goes : (base : List Value) → GoesUntold writes_then (effect_writes i) (Known base)
   told-goes base = record {
-    row = row-told base;
-    call = λ h s c t. let b = call-silent c s in quiet-told base h s (begin c s).done.slots (begin c s).done.caused b.0 b.1 t;
-    job = λ h s job e t. quiet-told base h s (with_promises (after_next_job s.promises) s) (job_effects job) (next-heard s.promises) (job-silent job) t;
-    answered = λ h s p t. quiet-told base h s (with_promises (watch p s.promises) s) [] (watch-heard p s.promises) refl t;
-    older = λ h s t. quiet-told base h s (older s) [] refl refl t;
+    row = row-known base;
+    call = λ h s c k. (
+      λ host. let b = call-silent c s in (
+        quiet-told base h s (begin c s).done.slots (begin c s).done.caused b.0 b.1 (k.0 (call-was i s s c (λ o. o) host)).0,
+        each-map (IsFirst (Enqueues c)) HandsToHost (first-host (Enqueues c)) (begin c s).done.caused (begin-first c s),
+      ),
+      halved-stays.call s c k.1,
+    );
+    job = λ h s job e k. (
+      λ host. (
+        quiet-told base h s (with_promises (after_next_job s.promises) s) (job_effects job) (next-heard s.promises) (job-silent job) (k.0 host).0,
+        each-map (IsFirst Never) HandsToHost (first-host Never) (job_effects job) (job-first job),
+      ),
+      k.1,
+    );
+    answered = λ h s p k. (λ host. (quiet-told base h s (with_promises (watch p s.promises) s) [] (watch-heard p s.promises) refl (k.0 host).0, tt), k.1);
+    older = λ h s k. (λ host. (quiet-told base h s (older s) [] refl refl (k.0 host).0, tt), k.1);
   }
 
   -- steps
@@ -301,21 +444,21 @@ module _ (i : StreamId) (ear : Ear) where
   taken_first (e ∷ es) = rw (append-nil (of_event e)) refl
 
   -- what the host takes in a step, and what is there after it, is what was there before, and what the step told
-  step-heard : (s : Slots) (x : RunEntry) → of_events (taken_in_step s x) ++ heard (step s x).promises ≡ heard s.promises ++ ear.history (step_writes i s x)
-  step-heard s (Called c) =
-      step_told s (step_writes i s (Called c)) (step s (Called c)) (walker.called-goes_untold no_writes writes_then is_history (effect_writes i) (Told (heard s.promises)) (told-goes (heard s.promises)) no_writes s c (at_first s))
-  step-heard s Worked =
-      step_told s (step_writes i s Worked) (step s Worked) (walker.worked-goes_untold no_writes writes_then is_history (effect_writes i) (Told (heard s.promises)) (told-goes (heard s.promises)) no_writes s (at_first s))
-  step-heard s Heard = rw (nothing_told s, ear.none, append-nil) (taken_first s.promises.events)
+  step-heard : (s : Slots) (x : RunEntry) → Halved s → owner_at i (step s x) ≡ Host → of_events (taken_in_step s x) ++ heard (step s x).promises ≡ heard s.promises ++ ear.history (step_writes i s x)
+  step-heard s (Called c) halved host =
+      step_told s (step_writes i s (Called c)) (step s (Called c)) ((walker.called-goes_untold no_writes writes_then is_history (effect_writes i) (Known (heard s.promises)) (told-goes (heard s.promises)) no_writes s c (λ o. (at_first s, tt), halved)).0 host).0
+  step-heard s Worked halved host =
+      step_told s (step_writes i s Worked) (step s Worked) ((walker.worked-goes_untold no_writes writes_then is_history (effect_writes i) (Known (heard s.promises)) (told-goes (heard s.promises)) no_writes s (λ o. (at_first s, tt), halved)).0 host).0
+  step-heard s Heard halved host = rw (nothing_told s, ear.none, append-nil) (taken_first s.promises.events)
 
-  run-heard : (xs : List RunEntry) (s : Slots) → of_events (run_events xs s) ≡ heard s.promises ++ ear.history (run_writes i xs s)
-  run-heard [] s = sym (ap (λ vs. heard s.promises ++ vs) ear.none ∙ append-nil (heard s.promises))
-  run-heard (x ∷ xs) s =
+  pub run-heard : (xs : List RunEntry) (s : Slots) → Halved s → owner_at i (run xs s) ≡ Host → of_events (run_events xs s) ≡ heard s.promises ++ ear.history (run_writes i xs s)
+  run-heard [] s halved host = sym (ap (λ vs. heard s.promises ++ vs) ear.none ∙ append-nil (heard s.promises))
+  run-heard (x ∷ xs) s halved host =
       let f : Writes = step_writes i s x in
       let g : Writes = run_writes i xs (step s x) in
       let a = events-append (taken_in_step s x) (run_events xs (step s x)) in
-      let b = run-heard xs (step s x) in
-      let c = step-heard s x in
+      let b = run-heard xs (step s x) (step-halved x s halved) host in
+      let c = step-heard s x halved (run-was i xs (step s x) host) in
       let d = ear.after f g in grind (arith, append_assoc)
 
 -- writes
@@ -330,32 +473,4 @@ writes-heard i (e ∷ es) = let n = writes-heard i es in grind arith
 
 pub acted_was_heard : ActedWasHeard
 unfolding hears_writes
-acted_was_heard entries i = sym (run-heard i hears_writes entries empty) ∙ writes-heard i (run_events entries empty)
-
--- closes
-
--- a mark for each close
-abbrev marks : ℕ → List Value
-marks zero = []
-marks (suc n) = PlainValue Undefined ∷ marks n
-
-marks-append : (m n : ℕ) → marks (m + n) ≡ marks m ++ marks n
-marks-append zero n = ap marks (zero-add n)
-marks-append (suc m) n = let e : suc m + n ≡ suc (m + n) = omega arith in rw e (ap (λ vs. PlainValue Undefined ∷ vs) (marks-append m n))
-
-length-marks : (n : ℕ) → length (marks n) ≡ n
-length-marks zero = refl
-length-marks (suc n) = let m = length-marks n in omega arith
-
-hears_closes : Ear
-hears_closes = record { write = λ v. []; close = marks 1; history = λ h. marks h.closes; none = refl; after = λ f g. marks-append f.closes g.closes; acts = λ v. refl; closes = refl; quiet = λ operation w u. grind arith }
-
-closes-heard : (i : StreamId) (es : List Event) → length (of_events i hears_closes es) ≡ heard_closes i es
-unfolding hears_closes
-closes-heard i [] = refl
-closes-heard i (e ∷ es) = let c = closes-heard i es in grind (arith, length-append, length-marks)
-
-pub closes_were_heard : ClosesWereHeard
-unfolding hears_closes
-closes_were_heard entries i =
-    sym (length-marks (run_writes i entries empty).closes) ∙ (sym (ap length (run-heard i hears_closes entries empty)) ∙ closes-heard i (run_events entries empty))
+acted_was_heard entries i = λ host. sym (run-heard i hears_writes entries empty halved-empty host) ∙ writes-heard i (run_events entries empty)

@@ -1,7 +1,10 @@
 pub mod Shape
 pub mod Operations
+pub mod Transforms
+pub mod Handed
 pub mod Agenda
 pub mod Runs
 pub mod Expects
 pub mod EachStep
 pub mod Heard
+pub mod HeardCloses

@@ -12,7 +12,7 @@ use Rattle.ws_steps.specs.Promises.{settle}
 use Rattle.ws_steps.specs.Queues.{first_value, with_first_value, rest_of, enqueued, size_of}
 use Rattle.ws_steps.specs.Writable.{Slots, Acts, with_promises, is_writable, is_erroring, is_errored, is_closed, is_in_flight, reject_close_and_closed, abort_by, finish_abort, fail_writes, finish_erroring, reject_ready, start_erroring, deal_with_rejection, controller_error_if_needed, first_request, later_requests, process_write, process_close, process_first, advance_queue, has_ended, update_backpressure, refresh_backpressure, write_ended, without_first, write_settled, close_ended, abort_ended, clear_error, fulfil_closed, finish_in_flight_close, finish_in_flight_close_with_error, close_settled, start_settled, abort_settled, is_closing, enqueue_chunk, controller_write, add_write_request, write_refusal, write_by, writer_write, controller_close, add_close_request, fulfil_ready, stream_close, close_with_error_propagation, add_pending_abort, begin_abort, signalled, stream_abort, abort_if_writable, set_up_writer, release_by, writer_release}
 use Rattle.ws_steps.specs.WritableHistory.{Writes, todo, first_chunk, fulfilled_by, no_writes, writes_then, written_by, written_unless, operation_writes}
-use Rattle.ws_steps.specs.declared.{effects.Effect.TheVariants.{Writable as OnWritable}, effects.Owner.{Owner}, effects.Owner.TheVariants.{Host}}
+use Rattle.ws_steps.specs.declared.{effects.Effect.TheVariants.{Writable as OnWritable}, effects.Owner.{Owner}, effects.Owner.TheVariants.{Host, HalfOf}}
 use Rattle.ws_steps.specs.declared.writable.WritableOperation.{WritableOperation}
 use Rattle.ws_steps.specs.declared.writable.WritableOperation.TheVariants.{SetUpWriter, ReleaseWriter, Write, Close, ClosePropagating, Abort, AbortIfWritable, ErrorIfNeeded, HandOn, StartSettled, WriteSettled, CloseSettled, AbortSettled}
 use Rattle.ws_steps.specs.Effects.{type_error}
@@ -21,7 +21,7 @@ use Rattle.ws_steps.specs.Histories.{is_same}
 use Rattle.ws_laws.proofs.Tables.{either, is_same-refl}
 use Rattle.ws_laws.proofs.Truth.{and_left, and_right, refuted, nor_left, nor_right}
 use Rattle.ws_laws.proofs.WritableDoes.{IsHandOn}
-use Rattle.ws_writable_laws.proofs.Shape.{one_if, Core, core_of, Shape, Closing, Told, failed, has_mark, todo-append, leads-append, no_mark-append, last-append, is_start, is_write, is_close, is_abort, leads_to, hands, closes, all}
+use Rattle.ws_writable_laws.proofs.Shape.{one_if, Core, core_of, is_open, Shape, Closing, Told, failed, has_mark, todo-append, leads-append, no_mark-append, last-append, marked-behind, chunk-behind, filled, is_start, is_write, is_close, is_abort, leads_to, hands, closes, all}
 
 -- how much is under way of a stream: of its start, its writes, its close and its abort
 pub record Due : Type 0 where
@@ -66,15 +66,23 @@ abbrev pub handed_queue : List (Queued WriteRecord) → List (Queued WriteRecord
 handed_queue [] = []
 handed_queue (q ∷ qs) = handed_by (q ∷ qs) q.value
 
--- what is to be handed on counts as handed on
+-- what the host is to be handed counts as handed on
+
+abbrev handed_by_owner : Slots → Owner → Slots
+handed_by_owner s Host = record s { queue = handed_queue s.queue }
+handed_by_owner s (HalfOf t) = s
 
 abbrev pub handed : ℕ → Slots → Slots
 handed zero s = s
-handed (suc n) s = record s { queue = handed_queue s.queue }
+handed (suc n) s = handed_by_owner s s.owner
+
+abbrev owner_handed : Slots → Owner → List Value
+owner_handed s Host = first_chunk s.queue
+owner_handed s (HalfOf t) = []
 
 abbrev pub chunk_handed : ℕ → Slots → List Value
 chunk_handed zero s = []
-chunk_handed (suc n) s = first_chunk s.queue
+chunk_handed (suc n) s = owner_handed s s.owner
 
 -- the history with the effects that are still to be performed
 abbrev pub so_far : StreamId → Writes → List Effect → Slots → Writes
@@ -205,15 +213,27 @@ process-fine : (n : Due) (h : Writes) (d : List Value) (c : Core) (v : Value) �
     (record c { queue = handed_queue c.queue; requests = later_requests c.requests; flying = first_request c.requests; writing = is_some (first_request c.requests) })
 process-fine n h d c v e w b f = grind (arith, append_assoc, length-append)
 
+-- a chunk of a half stays where it is until it is handed on
+process-half : (n : Due) (h : Writes) (d : List Value) (c : Core) (v : Value) → c.hosted ≡ false → first_value c.queue ≡ Some (Chunk v) → c.writing ≡ false → c.started ≡ true → Fine n h d c
+    → Fine (record n { starts = n.starts + 0; writes = n.writes + 1; closes = n.closes + 0; aborts = n.aborts + 0 }) h d (record c { requests = later_requests c.requests; flying = first_request c.requests; writing = is_some (first_request c.requests) })
+process-half n h d c v o e w b f = grind (arith, append_assoc, length-append)
+
 close-fine : (n : Due) (h : Writes) (d : List Value) (c : Core) → first_value c.queue ≡ Some CloseMark → c.writing ≡ false → c.started ≡ true → Fine n h d c
     → Fine (record n { starts = n.starts + 0; writes = n.writes + 0; closes = n.closes + 1; aborts = n.aborts + 0 }) (record h { closes = h.closes + 1 }) d (record c { queue = rest_of c.queue; requested = false; closing = c.requested })
 close-fine n h d c e w b f = grind (arith, append-nil)
 
+process_write-held : (i : StreamId) (n : Due) (h : Writes) (d : List Value) (a : Acts) (v : Value) (owner : Owner) → owner ≡ a.slots.owner → first_value a.slots.queue ≡ Some (Chunk v) → is_some a.slots.write_in_flight ≡ false → a.slots.started ≡ true
+    → a.out.effects ≡ [] → Fine n h d (core_of a.slots) → Held i n h (process_write i a).out.effects (process_write i a).slots
+unfolding process_write
+process_write-held i n h d a v Host o e w b q f =
+    let k : h.closes + 0 ≡ h.closes = omega arith in rw q (record { behind = refl; dropped = d; fine = rw (is_same-refl i, ← o, k) (rw (← o) at (process-fine n h d (core_of a.slots) v e w b f)) })
+process_write-held i n h d a v (HalfOf t) o e w b q f =
+    let k : h.closes + 0 ≡ h.closes = omega arith in rw q (record { behind = refl; dropped = d; fine = rw (is_same-refl i, ← o, k, append-nil h.acted) (rw (← o) at (process-half n h d (core_of a.slots) v (rw (← o) refl) e w b f)) })
+
 process_first-held : (i : StreamId) (n : Due) (h : Writes) (d : List Value) (a : Acts) (first : Option WriteRecord) → first_value a.slots.queue ≡ first → is_some a.slots.write_in_flight ≡ false → a.slots.started ≡ true → a.out.effects ≡ []
     → Fine n h d (core_of a.slots) → Held i n h (process_first i a first).out.effects (process_first i a first).slots
-unfolding process_write process_close
-process_first-held i n h d a (Some (Chunk v)) e w b q f =
-    let k : h.closes + 0 ≡ h.closes = omega arith in rw q (record { behind = refl; dropped = d; fine = rw (is_same-refl i, k) (process-fine n h d (core_of a.slots) v e w b f) })
+unfolding process_close
+process_first-held i n h d a (Some (Chunk v)) e w b q f = process_write-held i n h d a v a.slots.owner refl e w b q f
 process_first-held i n h d a (Some CloseMark) e w b q f = rw q (record { behind = refl; dropped = d; fine = rw (is_same-refl i, append-nil h.acted) (close-fine n h d (core_of a.slots) e w b f) })
 process_first-held i n h d a (Some InFlight) e w b q f = quiet-held i n h d a.out.effects a.slots q f
 process_first-held i n h d a None e w b q f = quiet-held i n h d a.out.effects a.slots q f
@@ -264,7 +284,35 @@ appended-fine n h d q v p c x w r e f =
     let b = no_mark-append c.queue q u in
     let l = last-append c.queue q u in
     let k = leads-append c.queue (q ∷ []) in
-    record { shape = grind (arith, length-append); closing = f.closing; told = grind (arith, append_assoc, append-nil); owed = grind arith }
+    let r = f.shape.requests in
+    let m = chunk-behind c.writing c.queue q (rw x refl) (f.shape.front alive) in
+    let t = f.told.waiting alive in
+    record {
+      shape = record {
+        ended = λ g. cc;
+        flying = λ o g n. k (f.shape.flying o (rw w refl) n);
+        front = λ g n. filled c.queue q;
+        requests = omega (arith, r, m, length-append c.requests (p ∷ []));
+        last = l;
+        started = f.shape.started;
+        marked = λ g n. cc;
+        flight = f.shape.flight;
+        spent = λ n. absurd (omega (arith, n, z));
+        still = f.shape.still;
+        once = f.shape.once;
+      };
+      closing = f.closing;
+      told = record {
+        all = grind (arith, append_assoc, append-nil);
+        live = λ o g. f.told.live o (rw w refl);
+        counted = λ o g. f.told.counted o (rw w refl);
+        whole = λ o n. absurd (omega (arith, n, z));
+        waiting = λ g. omega (arith, t, length-append h.written (v ∷ []), length-append c.requests (p ∷ []));
+        fulfilled = λ n. absurd (omega (arith, n, z));
+        closed = λ g n. cc;
+      };
+      owed = grind arith;
+    }
 
 write_by-held : (i : StreamId) (v : Value) (p : PromiseId) (n : Due) (h : Writes) (d : List Value) (a : Acts) (refusal : Option Plain) → refusal ≡ write_refusal a.slots → a.out.effects ≡ [] → Fine n h d (core_of a.slots)
     → Held i n (record h { written = h.written ++ written_unless v refusal }) (write_by i v p a refusal).out.effects (write_by i v p a refusal).slots
@@ -291,7 +339,36 @@ marked-fine n h d q c x alive r o f =
     let b = no_mark-append c.queue q u in
     let l = last-append c.queue q u in
     let k = leads-append c.queue (q ∷ []) in
-    record { shape = grind (arith, append-nil); closing = f.closing; told = grind (arith, append-nil); owed = grind arith }
+    let n = f.shape.requests in
+    let m = marked-behind c.writing c.queue q (rw x refl) in
+    let z : h.closes ≡ 0 = grind arith in
+    let open_ : is_open c ≡ true = rw alive refl in
+    record {
+      shape = record {
+        ended = λ g. cc;
+        flying = λ o g n. k (f.shape.flying o open_ n);
+        front = λ g n. filled c.queue q;
+        requests = omega (arith, n, m);
+        last = l;
+        started = f.shape.started;
+        marked = λ g n. refl;
+        flight = f.shape.flight;
+        spent = λ n. absurd (omega (arith, n, z));
+        still = f.shape.still;
+        once = f.shape.once;
+      };
+      closing = f.closing;
+      told = record {
+        all = grind (arith, append-nil);
+        live = λ o g. f.told.live o open_;
+        counted = λ o g. f.told.counted o open_;
+        whole = f.told.whole;
+        waiting = f.told.waiting;
+        fulfilled = f.told.fulfilled;
+        closed = f.told.closed;
+      };
+      owed = grind arith;
+    }
 
 pub fulfil_ready-same : (a : Acts) (w : Option Writer) → Same a (fulfil_ready a w)
 fulfil_ready-same a w = grind arith
@@ -332,6 +409,7 @@ begin_abort-held i r p n h d a alive q f =
 
 pub signalled-same : (i : StreamId) (r : Plain) (a : Acts) (owner : Owner) → Same a (signalled i r a owner)
 signalled-same i r a Host = record { core = refl; effects = refl }
+signalled-same i r a (HalfOf t) = record { core = refl; effects = refl }
 
 abort-held : (i : StreamId) (r : Plain) (p : PromiseId) (n : Due) (h : Writes) (d : List Value) (a : Acts) → a.out.effects ≡ [] → Fine n h d (core_of a.slots) → Held i n h (stream_abort i r p a).out.effects (stream_abort i r p a).slots
 unfolding stream_abort
@@ -386,7 +464,7 @@ operation-held i (ClosePropagating p) n h d a u q f = rw (writes-nothing h) (pro
 operation-held i (Abort r p) n h d a u q f = rw (writes-nothing h) (abort-held i r p n h d a q (grind arith))
 operation-held i (AbortIfWritable r p) n h d a u q f = rw (writes-nothing h) (abort_writable-held i r p n h d a q (grind arith))
 operation-held i (ErrorIfNeeded e) n h d a u q f = rw (writes-nothing h) (error_if_needed-held i n h d e a q (grind arith))
-operation-held i HandOn n h d a u q f = absurd (u tt)
+operation-held i (HandOn taker) n h d a u q f = absurd (u tt)
 operation-held i (StartSettled (Ok v)) n h d a u q f = let one = same_once i in rw (writes-nothing h) (advance-held i n h d (record a { slots = record a.slots { started = true } }) q (grind arith))
 operation-held i (StartSettled (Err e)) n h d a u q f = let one = same_once i in rw (writes-nothing h) (deal-held i n h d e (record a { slots = record a.slots { started = true } }) q (grind arith))
 operation-held i (WriteSettled (Ok v)) n h d a u q f =

@@ -8,13 +8,13 @@ use Rattle.ws_value.specs.declared.value.Plain.{Plain}
 use Rattle.ws_value.specs.declared.value.Value.{Value}
 use Rattle.ws_steps.specs.declared.pipes.Prevent.{Prevent}
 use Rattle.ws_steps.specs.declared.{calls.Call.{Call}, calls.StartBy.{StartBy}, effects.Effect.{Effect}, effects.Effect.TheVariants.{Writable, StartAlgorithm}}
-use Rattle.ws_steps.specs.declared.{effects.Owner.TheVariants.{Host}, promises.Job.{Job}, promises.Step.{Step}, promises.Step.TheVariants.{WritableStart}, readable.SizeBy.{SizeBy}}
+use Rattle.ws_steps.specs.declared.{effects.Owner.TheVariants.{Host, HalfOf}, promises.Job.{Job}, promises.Step.{Step}, promises.Step.TheVariants.{ReadableStart, WritableStart}, readable.SizeBy.{SizeBy}, readable.SizeBy.TheVariants.{Count}, transform.Kind.{Kind}, transform.TransformId.{TransformId}, calls.StartBy.TheVariants.{Now, Later}}
 use Rattle.ws_steps.specs.declared.writable.WritableOperation.TheVariants.{ReleaseWriter}
-use Rattle.ws_steps.specs.Promises.{Table, fresh, next_job, after_next_job, watch, is_pending_at}
+use Rattle.ws_steps.specs.Promises.{Table, fresh, next_id, next_job, after_next_job, watch, is_pending_at}
 use Rattle.ws_steps.specs.Readable as readable
 use Rattle.ws_steps.specs.Writable as writable
 use Rattle.ws_steps.specs.Writable.{is_closing, is_closed}
-use Rattle.ws_steps.specs.Slots.{Slots, Stream, ReadableStream, WritableStream, empty, with_promises, readable_at, writable_at, as_writable, no_writable}
+use Rattle.ws_steps.specs.Slots.{Slots, Stream, ReadableStream, WritableStream, empty, owner_at, owner_of, with_promises, readable_at, writable_at, as_writable, no_writable}
 use Rattle.ws_steps.specs.Jobs.{job_effects}
 use Rattle.ws_steps.specs.Calls.{Begun, begin}
 use Rattle.ws_steps.specs.Calls as calls
@@ -25,40 +25,42 @@ use Rattle.ws_steps.specs.Laws.{IsLawfulWritable, EachWritableIsLawful}
 use Rattle.ws_laws.proofs.Lists.{append_none}
 use Rattle.ws_laws.proofs.Tables.{is_same-refl, same_id, eq_numbers, unequal_numbers, place_last, place_before, no_stream}
 use Rattle.ws_laws.proofs.EachCall.{each_call}
+use Rattle.ws_laws.proofs.Halves.{Halved, halved-stays, halved-empty, get-stays}
+use Rattle.ws_laws.proofs.Shapes.{row-owner}
 use Rattle.ws_laws.proofs.Walker as walker
 use Rattle.ws_laws.proofs.Walker.{IsHistory, GoesUntold, RestsUntold}
 use Rattle.ws_laws.proofs.Weights.{weigh, taken_off, weigh-fresh, weigh-next, weigh-watch}
-use Rattle.ws_writable_laws.proofs.Shape.{Core, core_of, Shape, Told, is_start, is_write, is_close, is_abort, leads_to, hands, closes, all, mass, of_reaction, weight}
-use Rattle.ws_writable_laws.proofs.Operations.{Fine, with_effects, so_far, so_far-nothing, writes-nothing}
+use Rattle.ws_writable_laws.proofs.Shape.{one_if, Core, core_of, is_host, Shape, Told, is_start, is_write, is_close, is_abort, leads_to, hands, closes, all, mass, of_reaction, weight}
+use Rattle.ws_writable_laws.proofs.Operations.{Due, handed, Fine, with_effects, so_far, so_far-nothing, writes-nothing}
 use Rattle.ws_writable_laws.proofs.Agenda.{none_behind, among, Unmade, Kept, kept-lighter, massless, Lightens, lightly, same_weight, lightens-fresh, row-kept}
 
 -- changes between steps and where one begins
 
 -- the stream stays, the promises weigh no more, and nothing is caused that concerns it
 clear-kept : (i : StreamId) (h : Writes) (s z : Slots) (cs : List Effect) → (slice_get z.streams i.0 ≡ None → slice_get s.streams i.0 ≡ None) → writable_at i z ≡ writable_at i s → Lightens s.promises z.promises → all (mass i) cs ≡ 0
-    → Kept i h s [] → Kept i h z cs
-clear-kept i h s z cs there place l m k =
+    → Halved z → Kept i h s [] → Kept i h z cs
+clear-kept i h s z cs there place l m halved k =
     let c = massless i cs m in
     let n = none_behind i cs c.hands in
-    let l1 = l (is_start i) in let l2 = l (is_write i) in let l3 = l (is_close i) in let l4 = l (is_abort i) in kept-lighter i h h s z [] cs (grind (arith, append-nil)) k
+    let l1 = l (is_start i) in let l2 = l (is_write i) in let l3 = l (is_close i) in let l4 = l (is_abort i) in kept-lighter i h h s z [] cs (grind (arith, append-nil)) halved k
 
-still-kept : (i : StreamId) (h : Writes) (s z : Slots) (cs : List Effect) → z.streams ≡ s.streams → Lightens s.promises z.promises → all (mass i) cs ≡ 0 → Kept i h s [] → Kept i h z cs
-still-kept i h s z cs e l m k = clear-kept i h s z cs (λ n. rw e at n) (rw e refl) l m k
+still-kept : (i : StreamId) (h : Writes) (s z : Slots) (cs : List Effect) → z.streams ≡ s.streams → Lightens s.promises z.promises → all (mass i) cs ≡ 0 → Halved z → Kept i h s [] → Kept i h z cs
+still-kept i h s z cs e l m halved k = clear-kept i h s z cs (λ n. rw e at n) (rw e refl) l m halved k
 
 -- new streams
 
-added_other : (i : StreamId) (h : Writes) (s : Slots) (y : Stream) (cs : List Effect) → i.0 ≢ length s.streams → all (mass i) cs ≡ 0 → Kept i h s [] → Kept i h (calls.add_stream y s) cs
-added_other i h s y cs n m k =
+added_other : (i : StreamId) (h : Writes) (s : Slots) (y : Stream) (cs : List Effect) → i.0 ≢ length s.streams → all (mass i) cs ≡ 0 → Halved (calls.add_stream y s) → Kept i h s [] → Kept i h (calls.add_stream y s) cs
+added_other i h s y cs n m halved k =
     let same = place_before s.streams y i.0 n in
-    clear-kept i h s (calls.add_stream y s) cs (λ e. sym same ∙ e) (ap as_writable same) (same_weight s.promises) m k
+    clear-kept i h s (calls.add_stream y s) cs (λ e. sym same ∙ e) (ap as_writable same) (same_weight s.promises) m halved k
 
-added_readable : (i : StreamId) (h : Writes) (s : Slots) (r : readable.Slots) (cs : List Effect) (here : Bool) → here ≡ nat_eq i.0 (length s.streams) → all (mass i) cs ≡ 0 → Kept i h s [] → Kept i h (calls.add_stream (ReadableStream r) s) cs
-added_readable i h s r cs false e m k = added_other i h s (ReadableStream r) cs (unequal_numbers i.0 (length s.streams) (sym e)) m k
-added_readable i h s r cs true e m k =
+added_readable : (i : StreamId) (h : Writes) (s : Slots) (r : readable.Slots) (cs : List Effect) (here : Bool) → here ≡ nat_eq i.0 (length s.streams) → all (mass i) cs ≡ 0 → Halved (calls.add_stream (ReadableStream r) s) → Kept i h s [] → Kept i h (calls.add_stream (ReadableStream r) s) cs
+added_readable i h s r cs false e m halved k = added_other i h s (ReadableStream r) cs (unequal_numbers i.0 (length s.streams) (sym e)) m halved k
+added_readable i h s r cs true e m halved k =
     let at_end : i.0 ≡ length s.streams = eq_numbers i.0 (length s.streams) (sym e) in
     let before = no_stream i s.streams at_end in
     let after : slice_get (s.streams ++ ReadableStream r ∷ []) i.0 ≡ Some (ReadableStream r) = rw at_end (place_last s.streams (ReadableStream r)) in
-    clear-kept i h s (calls.add_stream (ReadableStream r) s) cs (λ n. cc) (ap as_writable after ∙ sym (ap as_writable before)) (same_weight s.promises) m k
+    clear-kept i h s (calls.add_stream (ReadableStream r) s) cs (λ n. cc) (ap as_writable after ∙ sym (ap as_writable before)) (same_weight s.promises) m halved k
 
 -- a stream of which nothing has happened
 new-fine : (i : StreamId) (mark : ℕ) (size : SizeBy) (start : StartBy) (h : Writes) (s : Slots) (d : List Value) → Unmade i h s [] → Fine (with_effects i (among i s.promises) []) (so_far i h [] no_writable) d (core_of no_writable)
@@ -66,17 +68,18 @@ new-fine : (i : StreamId) (mark : ℕ) (size : SizeBy) (start : StartBy) (h : Wr
 new-fine i mark size start h s d u f =
     let one = is_same-refl i in grind (arith, append_none, append-nil)
 
-added_writable : (i j : StreamId) (mark : ℕ) (size : SizeBy) (start : StartBy) (h : Writes) (s : Slots) (here : Bool) → here ≡ is_same i j → j.0 ≡ length s.streams → Kept i h s []
+added_writable : (i j : StreamId) (mark : ℕ) (size : SizeBy) (start : StartBy) (h : Writes) (s : Slots) (here : Bool) → here ≡ is_same i j → j.0 ≡ length s.streams → Halved (calls.add_stream (WritableStream (writable.set_up Host mark size)) s) → Kept i h s []
     → Kept i h (calls.add_stream (WritableStream (writable.set_up Host mark size)) s) (StartAlgorithm j (WritableStart j) start ∷ [])
-added_writable i j mark size start h s false e at_end k =
-    added_other i h s (WritableStream (writable.set_up Host mark size)) (StartAlgorithm j (WritableStart j) start ∷ []) (λ f. unequal_numbers i.0 j.0 (sym e) (f ∙ sym at_end)) (rw (← e) refl) k
-added_writable i j mark size start h s true e at_end k =
+added_writable i j mark size start h s false e at_end halved k =
+    added_other i h s (WritableStream (writable.set_up Host mark size)) (StartAlgorithm j (WritableStart j) start ∷ []) (λ f. unequal_numbers i.0 j.0 (sym e) (f ∙ sym at_end)) (rw (← e) refl) halved k
+added_writable i j mark size start h s true e at_end halved k =
     let is : i ≡ j = same_id i j (sym e) in
     let z : Slots = calls.add_stream (WritableStream (writable.set_up Host mark size)) s in
     let at_i : i.0 ≡ length s.streams = ap (λ (l : StreamId). l.0) is ∙ at_end in
     let before = no_stream i s.streams at_i in
     let after : slice_get z.streams i.0 ≡ Some (WritableStream (writable.set_up Host mark size)) = rw at_i (place_last s.streams (WritableStream (writable.set_up Host mark size))) in
     subst (λ (l : StreamId). Kept i h z (StartAlgorithm l (WritableStart l) start ∷ [])) is (record {
+      halved = halved;
       unmade = λ n. cc;
       held = rw after (record { behind = refl; dropped = []; fine = new-fine i mark size start h s k.held.dropped (k.unmade before) (rw before at k.held.fine) });
     })
@@ -104,37 +107,117 @@ begins-mass i me p q signal reason = grind arith
 pipe_to-mass : (i source dest : StreamId) (prevent : Prevent) (signal : Option SignalId) (s : Slots) → all (mass i) (calls.pipe_to source dest prevent signal s).done.caused ≡ 0
 pipe_to-mass i source dest prevent signal s = grind (arith, begins-mass)
 
+-- a half is made of which nothing has happened
+new-half : (n : Due) (h : Writes) (t : TransformId) (mark : ℕ) → h.closes ≡ 0 → (h.written ≡ []) × (h.fulfilled ≡ 0) → n.starts ≤ 1 → n.writes ≤ 0 → n.closes ≤ 0 → n.aborts ≤ 0 → Fine n h [] (core_of (writable.set_up (HalfOf t) mark Count))
+new-half n h t mark e w a b c d = grind arith
+
+-- a transform stream is made
+
+module _ (i : StreamId) (h : Writes) (kind : Kind) (m n : ℕ) (start : StartBy) (s : Slots) where
+  abbrev First : Stream
+  First = WritableStream (writable.set_up (HalfOf (record { 0 = length s.transforms })) m Count)
+
+  abbrev Second : Stream
+  Second = ReadableStream (readable.set_up (HalfOf (record { 0 = length s.transforms })) n Count)
+
+  abbrev Made : Begun
+  Made = calls.make_transform kind m n start (record { 0 = length s.streams }) (record { 0 = length s.streams + 1 }) s
+
+  made-mass : is_same i (record { 0 = length s.streams }) ≡ false → all (mass i) Made.done.caused ≡ 0
+  made-mass e = grind (arith, e)
+
+  -- its start is under way once at most
+  one_start : (j k : StreamId) → one_if (is_same j k) ≤ 1
+  one_start j k = grind arith
+
+  none_handed : all (hands i) Made.done.caused ≡ 0
+  none_handed = handed_by start
+    where
+      handed_by : (by : StartBy) → all (hands i) (calls.make_transform kind m n by (record { 0 = length s.streams }) (record { 0 = length s.streams + 1 }) s).done.caused ≡ 0
+      handed_by by = grind arith
+
+  start_leads : (f : Step → ℕ) (p : PromiseId) (j : StreamId) (by : StartBy) → leads_to f (calls.start_transform p j by) ≡ 0
+  start_leads f p j Now = refl
+  start_leads f p j Later = refl
+
+  -- what it begins with leads to the two starts
+  made_leads : (f : Step → ℕ) → f (ReadableStart (record { 0 = length s.streams + 1 })) ≡ 0 → all (leads_to f) Made.done.caused ≡ f (WritableStart (record { 0 = length s.streams }))
+  made_leads f r = let z = start_leads f (next_id (fresh s.promises)) (record { 0 = length s.streams + 1 }) start in omega (arith, r, z)
+
+  none_closed : all (closes i) Made.done.caused ≡ 0
+  none_closed = closed_by start
+    where
+      closed_by : (by : StartBy) → all (closes i) (calls.make_transform kind m n by (record { 0 = length s.streams }) (record { 0 = length s.streams + 1 }) s).done.caused ≡ 0
+      closed_by by = grind arith
+
+  new_half-fine : (d : List Value) → Unmade i h s [] → Fine (with_effects i (among i s.promises) []) (so_far i h [] no_writable) d (core_of no_writable)
+      → Fine (with_effects i (among i Made.done.slots.promises) Made.done.caused) (so_far i h Made.done.caused (writable.set_up (HalfOf (record { 0 = length s.transforms })) m Count)) []
+      (core_of (handed (all (hands i) Made.done.caused) (writable.set_up (HalfOf (record { 0 = length s.transforms })) m Count)))
+  new_half-fine d u f =
+      let l = fresh_four s.promises in
+      let l1 = l (is_start i) in let l2 = l (is_write i) in let l3 = l (is_close i) in let l4 = l (is_abort i) in
+      let o = one_start i (record { 0 = length s.streams }) in
+      let a1 = made_leads (is_start i) refl in let a2 = made_leads (is_write i) refl in let a3 = made_leads (is_close i) refl in let a4 = made_leads (is_abort i) refl in
+      let u1 = u.starts in let u3 = u.closes in let u4 = u.aborts in let w2 = f.owed.writes in let w3 = f.owed.closes in
+      let nothing = f.told.closed refl (omega (arith, u3)) in
+      rw none_handed (new-half (with_effects i (among i Made.done.slots.promises) Made.done.caused) _ (record { 0 = length s.transforms }) m
+      (omega (arith, u3, none_closed)) (nothing.0, nothing.1) (omega (arith, l1, a1, o, u1)) (omega (arith, l2, a2, w2)) (omega (arith, l3, a3, w3)) (omega (arith, l4, a4, u4)))
+
+  transform-kept : (one two : Bool) → one ≡ nat_eq i.0 (length s.streams) → two ≡ nat_eq i.0 (length (s.streams ++ First ∷ [])) → Halved Made.done.slots → Kept i h s [] → Kept i h Made.done.slots Made.done.caused
+  transform-kept true two e f halved k =
+      let at : i.0 ≡ length s.streams = eq_numbers i.0 (length s.streams) (sym e) in
+      let before = no_stream i s.streams at in
+      let there : slice_get ((s.streams ++ First ∷ []) ++ Second ∷ []) i.0 ≡ Some First = get-stays (s.streams ++ First ∷ []) (Second ∷ []) i.0 First (rw at (place_last s.streams First)) in
+      record {
+        halved = halved;
+        unmade = λ n. cc;
+        held = rw there (record { behind = none_behind i Made.done.caused none_handed; dropped = []; fine = new_half-fine k.held.dropped (k.unmade before) (rw before at k.held.fine) });
+      }
+  transform-kept false true e f halved k =
+      let at : i.0 ≡ length (s.streams ++ First ∷ []) = eq_numbers i.0 (length (s.streams ++ First ∷ [])) (sym f) in
+      let before : slice_get s.streams i.0 ≡ None = sym (place_before s.streams First i.0 (unequal_numbers i.0 (length s.streams) (sym e))) ∙ no_stream i (s.streams ++ First ∷ []) at in
+      let there : slice_get ((s.streams ++ First ∷ []) ++ Second ∷ []) i.0 ≡ Some Second = rw at (place_last (s.streams ++ First ∷ []) Second) in
+      clear-kept i h s Made.done.slots Made.done.caused (λ n. cc) (ap as_writable there ∙ sym (ap as_writable before)) (fresh_four s.promises) (made-mass (sym e)) halved k
+  transform-kept false false e f halved k =
+      let same : slice_get ((s.streams ++ First ∷ []) ++ Second ∷ []) i.0 ≡ slice_get s.streams i.0 =
+      place_before (s.streams ++ First ∷ []) Second i.0 (unequal_numbers i.0 (length (s.streams ++ First ∷ [])) (sym f)) ∙ place_before s.streams First i.0 (unequal_numbers i.0 (length s.streams) (sym e)) in
+      clear-kept i h s Made.done.slots Made.done.caused (λ n. sym same ∙ n) (ap as_writable same) (fresh_four s.promises) (made-mass (sym e)) halved k
+
 pub call-kept : (i : StreamId) (h : Writes) (s : Slots) (c : Call) → Kept i h s [] → Kept i h (begin c s).done.slots (begin c s).done.caused
 call-kept i h s c k =
-    each_call (λ (b : Begun). Kept i h b.done.slots b.done.caused) c s (record {
-      unchanged = λ reply. k;
-      rejected = still-kept i h s (with_promises (fresh s.promises) s) _ refl (lightens-fresh s.promises) refl k;
-      make_readable = λ mark size start. added_readable i h s (readable.set_up Host mark size) _ (nat_eq i.0 (length s.streams)) refl refl k;
-      make_writable = λ mark size start. added_writable i (record { 0 = length s.streams }) mark size start h s (is_same i (record { 0 = length s.streams })) refl refl k;
-      get_reader = λ j e. still-kept i h s _ _ refl (lightens-fresh s.promises) refl k;
-      get_writer = λ j e. still-kept i h s _ _ refl (lightly s.promises (fresh s.promises) (fresh (fresh s.promises)) (lightens-fresh s.promises) (lightens-fresh (fresh s.promises))) refl k;
-      release_reader = λ l closed j e. still-kept i h s _ _ refl (renewed-lightens s.promises (readable.is_readable (readable_at j s).state)) (renewed-clear i s.promises (readable.is_readable (readable_at j s).state) _ refl) k;
-      release_writer = λ l j w e f.
+    each_call (λ (b : Begun). Halved b.done.slots → Kept i h b.done.slots b.done.caused) c s (record {
+      unchanged = λ reply o. k;
+      rejected = λ o. still-kept i h s (with_promises (fresh s.promises) s) _ refl (lightens-fresh s.promises) refl o k;
+      make_readable = λ mark size start o. added_readable i h s (readable.set_up Host mark size) _ (nat_eq i.0 (length s.streams)) refl refl o k;
+      make_writable = λ mark size start o. added_writable i (record { 0 = length s.streams }) mark size start h s (is_same i (record { 0 = length s.streams })) refl refl o k;
+      make_transform = λ kind m n start o. transform-kept i h kind m n start s (nat_eq i.0 (length s.streams)) (nat_eq i.0 (length (s.streams ++ First i h kind m n start s ∷ []))) refl refl o k;
+      get_reader = λ j e o. still-kept i h s _ _ refl (lightens-fresh s.promises) refl o k;
+      get_writer = λ j e o. still-kept i h s _ _ refl (lightly s.promises (fresh s.promises) (fresh (fresh s.promises)) (lightens-fresh s.promises) (lightens-fresh (fresh s.promises))) refl o k;
+      release_reader = λ l closed j e o. still-kept i h s _ _ refl (renewed-lightens s.promises (readable.is_readable (readable_at j s).state)) (renewed-clear i s.promises (readable.is_readable (readable_at j s).state) _ refl) o k;
+      release_writer = λ l j w e f o.
           let ready : Bool = is_pending_at w.ready s.promises in
           let t : Table = calls.with_renewed s.promises ready in
           let closed : Bool = is_pending_at w.closed t in
           still-kept i h s _ _ refl (lightly s.promises t (calls.with_renewed t closed) (renewed-lightens s.promises ready) (renewed-lightens t closed))
-          (renewed-clear i s.promises ready _ (renewed-clear i t closed (Writable j ReleaseWriter ∷ []) refl)) k;
-      cancel = λ reason j. still-kept i h s _ _ refl (lightens-fresh s.promises) refl k;
-      read = λ l j closed e f. still-kept i h s _ _ refl (lightens-fresh s.promises) refl k;
-      write = λ l v j e. still-kept i h s _ _ refl (lightens-fresh s.promises) refl k;
-      close = λ j. still-kept i h s _ _ refl (lightens-fresh s.promises) refl k;
-      abort = λ reason j e. still-kept i h s _ _ refl (lightens-fresh s.promises) refl k;
-      enqueue = λ j v e can. still-kept i h s s _ refl (same_weight s.promises) refl k;
-      finish = λ j. still-kept i h s s _ refl (same_weight s.promises) refl k;
-      fail_readable = λ j reason. still-kept i h s s _ refl (same_weight s.promises) refl k;
-      fail_writable = λ j reason. still-kept i h s s _ refl (same_weight s.promises) refl k;
-      pipe = λ source dest prevent signal e f l m.
-          still-kept i h s _ _ refl (fresh_four s.promises) (pipe_to-mass i source dest prevent signal s) k;
-      make_signal = still-kept i h s _ _ refl (same_weight s.promises) refl k;
-      trigger = λ a reason. still-kept i h s s _ refl (same_weight s.promises) refl k;
-      settle = λ a answer p e. still-kept i h s _ _ refl (same_weight s.promises) refl k;
-    })
+          (renewed-clear i s.promises ready _ (renewed-clear i t closed (Writable j ReleaseWriter ∷ []) refl)) o k;
+      cancel = λ reason j o. still-kept i h s _ _ refl (lightens-fresh s.promises) refl o k;
+      read = λ l j closed e f o. still-kept i h s _ _ refl (lightens-fresh s.promises) refl o k;
+      write = λ l v j e o. still-kept i h s _ _ refl (lightens-fresh s.promises) refl o k;
+      close = λ j o. still-kept i h s _ _ refl (lightens-fresh s.promises) refl o k;
+      abort = λ reason j e o. still-kept i h s _ _ refl (lightens-fresh s.promises) refl o k;
+      enqueue = λ j v e w can o. still-kept i h s s _ refl (same_weight s.promises) refl o k;
+      enqueue_half = λ j t v e w can o. still-kept i h s s _ refl (same_weight s.promises) refl o k;
+      fail_half = λ t reason o. still-kept i h s s _ refl (same_weight s.promises) refl o k;
+      terminate = λ t o. still-kept i h s s _ refl (same_weight s.promises) refl o k;
+      finish = λ j o. still-kept i h s s _ refl (same_weight s.promises) refl o k;
+      fail_readable = λ j reason o. still-kept i h s s _ refl (same_weight s.promises) refl o k;
+      fail_writable = λ j reason o. still-kept i h s s _ refl (same_weight s.promises) refl o k;
+      pipe = λ source dest prevent signal e f l m o.
+          still-kept i h s _ _ refl (fresh_four s.promises) (pipe_to-mass i source dest prevent signal s) o k;
+      make_signal = λ o. still-kept i h s _ _ refl (same_weight s.promises) refl o k;
+      trigger = λ a reason o. still-kept i h s s _ refl (same_weight s.promises) refl o k;
+      settle = λ a answer p e o. still-kept i h s _ _ refl (same_weight s.promises) refl o k;
+    }) (halved-stays.call s c k.halved)
 
 -- jobs
 
@@ -155,7 +238,7 @@ job-kept i h s job e k =
     λ f. let l = b.leads f in let n : weight f (after_next_job s.promises) + taken_off (of_reaction f) job ≤ weight f s.promises = rw e at (weigh-next (of_reaction f) s.promises) in omega arith in
     let n = none_behind i fs b.hands in
     let l1 = less (is_start i) in let l2 = less (is_write i) in let l3 = less (is_close i) in let l4 = less (is_abort i) in
-    kept-lighter i h h s (with_promises (after_next_job s.promises) s) [] fs (grind (arith, append-nil)) k
+    kept-lighter i h h s (with_promises (after_next_job s.promises) s) [] fs (grind (arith, append-nil)) k.halved k
 
 -- runs
 
@@ -173,14 +256,14 @@ goes i = record {
   row = row-kept i;
   call = call-kept i;
   job = job-kept i;
-  answered = λ h s p k. still-kept i h s (with_promises (watch p s.promises) s) [] refl (λ f. weigh-watch (of_reaction f) p s.promises) refl k;
-  older = λ h s k. still-kept i h s (older s) [] refl (same_weight s.promises) refl k;
+  answered = λ h s p k. still-kept i h s (with_promises (watch p s.promises) s) [] refl (λ f. weigh-watch (of_reaction f) p s.promises) refl k.halved k;
+  older = λ h s k. still-kept i h s (older s) [] refl (same_weight s.promises) refl k.halved k;
 }
 
 pub rests : (i : StreamId) → RestsUntold (Kept i)
 unfolding weigh
 rests i = record {
-  heard = λ h s k. still-kept i h s (after_event s) [] refl (λ f. omega arith) refl k;
+  heard = λ h s k. still-kept i h s (after_event s) [] refl (λ f. omega arith) refl k.halved k;
 }
 
 pub step-kept : (i : StreamId) (h : Writes) (s : Slots) (x : Entry) → Kept i h s [] → Kept i (writes_then h (step_writes i s x)) (step s x) []
@@ -191,10 +274,79 @@ unfolding weigh
 none_made i = record {
   unmade = λ e. record { closes = refl; starts = refl; aborts = refl };
   held = record { behind = refl; dropped = []; fine = grind arith };
+  halved = halved-empty;
 }
 
 pub run-kept : (entries : List Entry) (i : StreamId) → Kept i (run_writes i entries empty) (run entries empty) []
 run-kept entries i = walker.run-holds no_writes writes_then is_history (effect_writes i) (Kept i) (goes i) (rests i) entries empty (none_made i)
+
+-- what is told of a stream of the host is told of what is there
+
+hosted-owner : (o : Option Stream) → owner_of o ≡ Host → is_host (as_writable o).owner ≡ true
+hosted-owner None e = refl
+hosted-owner (Some (ReadableStream r)) e = refl
+hosted-owner (Some (WritableStream w)) e = rw e refl
+
+pub hosted_at : (i : StreamId) (s : Slots) → owner_at i s ≡ Host → (core_of (writable_at i s)).hosted ≡ true
+hosted_at i s host = hosted-owner (slice_get s.streams i.0) host
+
+-- a stream that was there before is the same, and one that wasn't is nobody's but the host's
+
+before : (s : Slots) (y : Stream) (i : StreamId) (o : Option Stream) → slice_get s.streams i.0 ≡ o → owner_at i (calls.add_stream y s) ≡ Host → owner_at i s ≡ Host
+before s y i None is h = rw is refl
+before s y i (Some x) is h = rw is (rw (get-stays s.streams (y ∷ []) i.0 x is) at h)
+
+-- a stream that is the host's after a step was so before it
+
+abbrev pub WasHost : StreamId → Slots → Slots → List Effect → Type 0
+WasHost i first s es = owner_at i s ≡ Host → owner_at i first ≡ Host
+
+pub call-was : (i : StreamId) (first s : Slots) (c : Call) → WasHost i first s [] → WasHost i first (begin c s).done.slots (begin c s).done.caused
+call-was i first s c k = each_call (λ (b : Begun). WasHost i first b.done.slots b.done.caused) c s (record {
+  unchanged = λ reply. k;
+  rejected = k;
+  make_readable = λ mark size start o. k (before s (ReadableStream (readable.set_up Host mark size)) i (slice_get s.streams i.0) refl o);
+  make_writable = λ mark size start o. k (before s (WritableStream (writable.set_up Host mark size)) i (slice_get s.streams i.0) refl o);
+  make_transform = λ kind m n start o.
+      let w : Stream = WritableStream (writable.set_up (HalfOf (record { 0 = length s.transforms })) m Count) in
+      let r : Stream = ReadableStream (readable.set_up (HalfOf (record { 0 = length s.transforms })) n Count) in
+      k (before s w i (slice_get s.streams i.0) refl (before (calls.add_stream w s) r i (slice_get (s.streams ++ w ∷ []) i.0) refl o));
+  get_reader = λ j e. k;
+  get_writer = λ j e. k;
+  release_reader = λ l closed j e. k;
+  release_writer = λ l j w e f. k;
+  cancel = λ reason j. k;
+  read = λ l j closed e f. k;
+  write = λ l v j e. k;
+  close = λ j. k;
+  abort = λ reason j e. k;
+  enqueue = λ j v e w can. k;
+  enqueue_half = λ j t v e w can. k;
+  finish = λ j. k;
+  fail_readable = λ j reason. k;
+  fail_writable = λ j reason. k;
+  fail_half = λ t reason. k;
+  terminate = λ t. k;
+  pipe = λ source dest prevent signal e f l m. k;
+  make_signal = k;
+  trigger = λ a reason. k;
+  settle = λ a answer p e. k;
+})
+
+was-stays : (i : StreamId) (first : Slots) → walker.Stays (WasHost i first)
+was-stays i first = record {
+  row = λ s e es k o. k (sym (row-owner i e s) ∙ o);
+  call = λ s c k. call-was i first s c k;
+  job = λ s job e k. k;
+  answered = λ s p k. k;
+  older = λ s k. k;
+}
+
+pub run-was : (i : StreamId) (xs : List Entry) (s : Slots) → owner_at i (run xs s) ≡ Host → owner_at i s ≡ Host
+run-was i xs s = walker.run-stays (WasHost i s) (was-stays i s) (λ z k. k) xs s (λ o. o)
+
+pub host-before : (i : StreamId) (x : Entry) (s : Slots) → owner_at i (step s x) ≡ Host → owner_at i s ≡ Host
+host-before i x s = run-was i (x ∷ []) s
 
 -- the law
 
@@ -203,21 +355,21 @@ pub resting : (i : StreamId) (h : Writes) (s : Slots) (k : Kept i h s []) → Fi
 resting i h s k = rw (so_far-nothing i h (writable_at i s)) at k.held.fine
 
 -- nothing is queued in a stream that is closed, and nothing was dropped
-pub closed_whole : (h : Writes) (d : List Value) (c : Core) → is_closed c.state ≡ true → Told h d c → (h.acted ≡ h.written) × (h.fulfilled ≡ length h.written)
-closed_whole h d c e t = grind (arith, append_none)
+pub closed_whole : (h : Writes) (d : List Value) (c : Core) → c.hosted ≡ true → is_closed c.state ≡ true → Told h d c → (h.acted ≡ h.written) × (h.fulfilled ≡ length h.written)
+closed_whole h d c host e t = grind (arith, append_none)
 
-lawful : (h : Writes) (d : List Value) (w : writable.Slots) → Shape h.closes (core_of w) → Told h d (core_of w) → IsLawfulWritable h w
-lawful h d w s t = record {
-  front = (todo w.queue ++ d, sym t.all);
-  alive = λ a. let o : d ≡ [] = t.live (rw a refl) in rw (o, append-nil) at t.all;
+lawful : (h : Writes) (d : List Value) (w : writable.Slots) → (core_of w).hosted ≡ true → Shape h.closes (core_of w) → Told h d (core_of w) → IsLawfulWritable h w
+lawful h d w host s t = record {
+  front = (todo w.queue ++ d, sym (t.all host));
+  alive = λ a. let o : d ≡ [] = t.live host (rw a refl) in rw (o, append-nil) at (t.all host);
   once = s.once;
-  whole = t.whole;
+  whole = t.whole host;
   fulfilled = t.fulfilled;
-  closed = λ f. closed_whole h d (core_of w) (rw f refl) t;
+  closed = λ f. closed_whole h d (core_of w) host (rw f refl) t;
 }
 
 pub each_writable_is_lawful : EachWritableIsLawful
-each_writable_is_lawful entries i =
+each_writable_is_lawful entries i = λ host.
     let k = run-kept entries i in
     let f = resting i (run_writes i entries empty) (run entries empty) k in
-    lawful (run_writes i entries empty) k.held.dropped (writable_at i (run entries empty)) f.shape f.told
+    lawful (run_writes i entries empty) k.held.dropped (writable_at i (run entries empty)) (hosted_at i (run entries empty) host) f.shape f.told
