@@ -1,5 +1,5 @@
 -- What calls and jobs begin with: promises that they make stand in their first effects.
-use Rattle.std.proofs.Common.{◌≡◌, ℕ, ◌+◌, ◌≤◌, zero, suc, Bool, true, false, not, nat_eq, List, [], ◌∷◌, ◌++◌, length, Option, Some, None, Result, Err, slice_get, slice_set, refl, sym, ap, arith}
+use Rattle.std.proofs.Common.{◌≡◌, ℕ, ◌+◌, ◌≤◌, zero, suc, Bool, true, false, not, nat_eq, List, [], ◌∷◌, ◌++◌, length, Option, Some, None, Result, Err, slice_get, slice_set, refl, sym, ap, arith, Ok}
 use Rattle.ws_value.specs.declared.ids.HostId.{HostId}
 use Rattle.ws_value.specs.declared.ids.PipeId.{PipeId}
 use Rattle.ws_value.specs.declared.ids.PromiseId.{PromiseId}
@@ -9,7 +9,11 @@ use Rattle.ws_value.specs.declared.value.Plain.{Plain}
 use Rattle.ws_steps.specs.declared.{calls.Answer.{Answer}, calls.Call.{Call}, effects.Effect.{Effect}, effects.Effect.TheVariants.{Settle as SettleEffect, Readable, Writable}}
 use Rattle.ws_steps.specs.declared.{promises.Job.{Job}, promises.Job.TheVariants.{Reaction as ReactionJob, Follow, Settle, Micro as MicroJob}, promises.Micro.TheVariants.{PipeLook, PipeWrite, PipeNoParts}, pipes.Prevent.{Prevent}}
 use Rattle.ws_steps.specs.declared.promises.Step.{Step}
-use Rattle.ws_steps.specs.declared.promises.Step.TheVariants.{ReadableStart, ReadablePull, ReturnUndefined, WritableStart, WritableWrite, WritableClose, WritableAbort, PipeEnds, PipeReady, PipeWrote, PipeActed, PipePart}
+use Rattle.ws_steps.specs.declared.{calls.StartBy.{StartBy}, calls.StartBy.TheVariants.{Now, Later}, effects.Owner.TheVariants.{HalfOf}, readable.SizeBy.TheVariants.{Count}, transform.Kind.{Kind}, transform.TransformId.{TransformId}}
+use Rattle.ws_steps.specs.Transform as transform
+use Rattle.ws_promise_laws.proofs.Realm.{in_transforms}
+use Rattle.ws_promise_laws.proofs.Streams.{in_transform}
+use Rattle.ws_steps.specs.declared.promises.Step.TheVariants.{ReadableStart, ReadablePull, ReturnUndefined, WritableStart, WritableWrite, WritableClose, WritableAbort, PipeEnds, PipeReady, PipeWrote, PipeActed, PipePart, TransformChanged, Transformed, TransformFlushed, TransformAborted, TransformCancelled}
 use Rattle.ws_steps.specs.Calls as calls
 use Rattle.ws_steps.specs.Effects.{type_error}
 use Rattle.ws_steps.specs.Pipes as pipe
@@ -129,6 +133,46 @@ pipe_to-sound source dest prevent signal s k =
       calm = k.calm;
     }
 
+-- a transform stream is made: its change promise stands in it, and the three of its start in its effects
+
+in_transforms-append : (x : PromiseId) (ts : List transform.Slots) (t : transform.Slots) → in_transforms x (ts ++ t ∷ []) ≡ in_transforms x ts + in_transform x t
+in_transforms-append x [] t = omega arith
+in_transforms-append x (u ∷ ts) t = let n = in_transforms-append x ts t in omega (arith, n)
+
+in_start : (x p : PromiseId) (j : StreamId) (start : StartBy) → in_effects x (calls.start_transform p j start ∷ []) ≡ names x p
+in_start x p j Now = omega arith
+in_start x p j Later = omega arith
+
+make_transform-sound : (kind : Kind) (m n : ℕ) (start : StartBy) (s : Slots) → Sound none s
+    → Begins (calls.make_transform kind m n start (record { 0 = length s.streams }) (record { 0 = length s.streams + 1 }) s)
+make_transform-sound kind m n start s k =
+    let me : TransformId = record { 0 = length s.transforms } in
+    let i : StreamId = record { 0 = length s.streams } in
+    let j : StreamId = record { 0 = length s.streams + 1 } in
+    let w : writable.Slots = writable.set_up (HalfOf me) m Count in
+    let r : readable.Slots = readable.set_up (HalfOf me) n Count in
+    let one : Slots = calls.add_stream (WritableStream w) s in
+    let two : Slots = calls.add_stream (ReadableStream r) one in
+    let first : Sound none one = added-sound (WritableStream w) s (λ x. let h = when_none (is_awaited w) in omega arith) (λ x. let h = when_none (not (is_awaited w)) in omega arith) (λ e. refl) k in
+    let second : Sound none two = added-sound (ReadableStream r) one (λ x. refl) (λ x. refl) (λ e. refl) first in
+    let a : Slots = with_promises (fresh s.promises) two in
+    let b : Slots = with_promises (fresh a.promises) two in
+    let c : Slots = with_promises (fresh b.promises) two in
+    let d : Slots = with_promises (fresh c.promises) two in
+    let fa : PromiseId → ℕ = λ x. none x + names x (next_id s.promises) in
+    let fb : PromiseId → ℕ = λ x. fa x + names x (next_id a.promises) in
+    let fc : PromiseId → ℕ = λ x. fb x + names x (next_id b.promises) in
+    let fd : PromiseId → ℕ = λ x. fc x + names x (next_id c.promises) in
+    let made : Sound fd d = fresh-sound fc c (fresh-sound fb b (fresh-sound fa a (fresh-sound none two second))) in
+    let new : transform.Slots = transform.set_up kind i j (next_id s.promises) in
+    record {
+      holds =
+          holds-less (λ x. fd x + firm_in x d) (loosely_in d) _ (loosely_in d) d.promises made.holds
+          (λ x. let h = in_transforms-append x s.transforms new in let g = in_start x (next_id a.promises) j start in omega (arith, h, g))
+          (λ x. let h = in_transforms-append x s.transforms new in let g = in_start x (next_id a.promises) j start in omega (arith, h, g));
+      calm = made.calm;
+    }
+
 pub begin-sound : (c : Call) (s : Slots) → Sound none s → Begins (begin c s)
 begin-sound c s k = each_call Begins c s (record {
   unchanged = λ reply. k;
@@ -163,7 +207,11 @@ begin-sound c s k = each_call Begins c s (record {
   write = λ l v i e. promising-sound (λ p. Writable i (Write v p) ∷ []) s (λ x p. omega arith) k;
   close = λ i. promising-sound (λ p. Writable i (Close p) ∷ []) s (λ x p. omega arith) k;
   abort = λ reason i e. promising-sound (λ p. Writable i (Abort reason p) ∷ []) s (λ x p. omega arith) k;
-  enqueue = λ i v e can. sound-less none _ s (λ x. omega arith) k;
+  make_transform = λ kind m n start. make_transform-sound kind m n start s k;
+  enqueue = λ i v e o can. sound-less none _ s (λ x. omega arith) k;
+  enqueue_half = λ i t v e o can. sound-less none _ s (λ x. omega arith) k;
+  fail_half = λ t reason. sound-less none _ s (λ x. omega arith) k;
+  terminate = λ t. sound-less none _ s (λ x. omega arith) k;
   finish = λ i. sound-less none _ s (λ x. omega arith) k;
   fail_readable = λ i reason. sound-less none _ s (λ x. omega arith) k;
   fail_writable = λ i reason. sound-less none _ s (λ x. omega arith) k;
@@ -188,6 +236,13 @@ in_steps x (PipeReady p) o = refl
 in_steps x (PipeWrote p) o = refl
 in_steps x (PipeActed p) o = refl
 in_steps x (PipePart p) o = refl
+in_steps x (TransformChanged t d) (Ok v) = omega arith
+in_steps x (TransformChanged t d) (Err r) = omega arith
+in_steps x (Transformed t) (Ok v) = refl
+in_steps x (Transformed t) (Err r) = refl
+in_steps x (TransformFlushed t p) o = omega arith
+in_steps x (TransformAborted t p r) o = omega arith
+in_steps x (TransformCancelled t p r) o = omega arith
 
 in_resolved : (x : PromiseId) (derived : Option PromiseId) (o : Result Plain Plain) → in_effects x (resolved derived o) ≡ names_any x derived
 in_resolved x None o = refl

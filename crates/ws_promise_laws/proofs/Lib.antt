@@ -4,6 +4,7 @@ pub mod Settling
 pub mod Reacting
 pub mod Following
 pub mod Streams
+pub mod Transforming
 pub mod Readables
 pub mod Piping
 pub mod PipeActs

@@ -1,11 +1,11 @@
 -- The promise that a reply names is there, in every run: a new one, one of a reader or a writer, or one that an abort was answered before.
 -- So the promises that are watched are those that replies named.
 use Rattle.std.proofs.Common.{◌≡◌, ℕ, ◌+◌, ◌≤◌, ◌<◌, zero, suc, Bool, true, false, not, ◌||◌, is_some, if◌then◌else◌, List, [], ◌∷◌, ◌++◌, length, Option, Some, None, slice_get, slice_set, refl, sym, ap, subst, ◌∙◌, arith}
-use Rattle.ws_value.specs.declared.{ids.HostId.{HostId}, ids.LockId.{LockId}, ids.SignalId.{SignalId}, ids.PromiseId.{PromiseId}, ids.StreamId.{StreamId}, value.Plain.{Plain}}
+use Rattle.ws_value.specs.declared.{ids.HostId.{HostId}, ids.LockId.{LockId}, ids.SignalId.{SignalId}, ids.PromiseId.{PromiseId}, ids.StreamId.{StreamId}, value.Plain.{Plain}, value.Value.{Value}}
 use Rattle.ws_steps.specs.declared.{calls.Answer.{Answer}, calls.Call.{Call}, pipes.Prevent.{Prevent}, readable.ReadableOperation.{ReadableOperation}, readable.ReadableOperation.TheVariants.{Enqueue as EnqueueChunk, Close as CloseReadable}}
-use Rattle.ws_steps.specs.declared.calls.Call.TheVariants.{MakeReadable, MakeWritable, GetReader, GetWriter, Cancel, CancelBy, Read, Write, Close, CloseBy, Abort, AbortBy, Closed, Ready, Release, Enqueue, Finish, Fail, Desired, DesiredBy, Pipe, MakeSignal, Trigger, Settle, State, Step}
+use Rattle.ws_steps.specs.declared.calls.Call.TheVariants.{MakeReadable, MakeWritable, MakeTransform, Terminate, GetReader, GetWriter, Cancel, CancelBy, Read, Write, Close, CloseBy, Abort, AbortBy, Closed, Ready, Release, Enqueue, Finish, Fail, Desired, DesiredBy, Pipe, MakeSignal, Trigger, Settle, State, Step}
 use Rattle.ws_steps.specs.declared.calls.Reply.TheVariants.{Promise as Named}
-use Rattle.ws_steps.specs.declared.{effects.Effect.{Effect}, locks.Lock.{Lock}, locks.Lock.TheVariants.{Reader as ReaderLock, Writer as WriterLock, ReleasedWriter, Inner}, writable.PendingAbort.{PendingAbort}, writable.Writer.{Writer}}
+use Rattle.ws_steps.specs.declared.{effects.Effect.{Effect}, effects.Owner.{Owner}, effects.Owner.TheVariants.{Host, HalfOf}, locks.Lock.{Lock}, locks.Lock.TheVariants.{Reader as ReaderLock, Writer as WriterLock, ReleasedWriter, Inner}, writable.PendingAbort.{PendingAbort}, writable.Writer.{Writer}}
 use Rattle.ws_steps.specs.Calls as calls
 use Rattle.ws_steps.specs.Calls.{Begun, begin, by_reader, by_writer, of_writer, closed_by, ready_by, renewed, with_renewed}
 use Rattle.ws_steps.specs.Jobs.{job_effects}
@@ -210,14 +210,37 @@ host-begins : (h : HostId) (answer : Answer) (s : Slots) (o : Option PromiseId) 
 host-begins h answer s None = tt
 host-begins h answer s (Some p) = tt
 
-if_it_can-begins : (s : Slots) (i : StreamId) (operation : ReadableOperation) → Begins (calls.for_readable i (calls.if_it_can i operation) s)
-if_it_can-begins s i operation = either Begins (has_readable i s) _ _ (λ e. either Begins (readable.can_close_or_enqueue (readable_at i s)) _ _ (λ f. tt) (λ f. tt)) (λ e. tt)
+-- calls of controllers, by whose they are, name none
+
+if_it_can-begins : (s : Slots) (i : StreamId) (operation : ReadableOperation) → Begins (calls.if_it_can i operation s)
+if_it_can-begins s i operation = either Begins (readable.can_close_or_enqueue (readable_at i s)) _ _ (λ f. tt) (λ f. tt)
+
+enqueue-begins : (v : Value) (i : StreamId) (s : Slots) (owner : Owner) → Begins (calls.enqueue_by v i s owner)
+enqueue-begins v i s Host = if_it_can-begins s i (EnqueueChunk v)
+enqueue-begins v i s (HalfOf t) = either Begins (readable.can_close_or_enqueue (readable_at i s)) _ _ (λ f. tt) (λ f. tt)
+
+finish-begins : (i : StreamId) (s : Slots) (owner : Owner) → Begins (calls.finish_by i s owner)
+finish-begins i s Host = if_it_can-begins s i CloseReadable
+finish-begins i s (HalfOf t) = tt
+
+fail_readable-begins : (reason : Plain) (i : StreamId) (s : Slots) (owner : Owner) → Begins (calls.fail_readable_by reason i s owner)
+fail_readable-begins reason i s Host = tt
+fail_readable-begins reason i s (HalfOf t) = tt
+
+fail_writable-begins : (reason : Plain) (i : StreamId) (s : Slots) (owner : Owner) → Begins (calls.fail_writable_by reason i s owner)
+fail_writable-begins reason i s Host = tt
+fail_writable-begins reason i s (HalfOf t) = tt
+
+terminate-begins : (s : Slots) (owner : Owner) → Begins (calls.terminate_by s owner)
+terminate-begins s Host = tt
+terminate-begins s (HalfOf t) = tt
 
 -- the promise that a call is answered is there as the call begins
 call-answers : (c : Call) (s : Slots) → Known s → Begins (begin c s)
 unfolding begin
 call-answers (MakeReadable mark size start) s k = either Begins (nat_lt (length s.streams) most_streams) _ _ (λ e. tt) (λ e. tt)
 call-answers (MakeWritable mark size start) s k = either Begins (nat_lt (length s.streams) most_streams) _ _ (λ e. tt) (λ e. tt)
+call-answers (MakeTransform kind m n start) s k = either Begins (nat_lt (length s.streams + 1) most_streams) _ _ (λ e. tt) (λ e. tt)
 call-answers (GetReader i) s k = unlocked_readable-begins calls.throws_type_error calls.get_reader s i tt tt
 call-answers (GetWriter i) s k = unlocked_writable-begins calls.throws_type_error calls.get_writer s i tt tt
 call-answers (Cancel i reason) s k = unlocked_readable-begins calls.rejected (calls.cancel reason) s i (next-there s.promises) (next-there s.promises)
@@ -233,9 +256,11 @@ call-answers (AbortBy l reason) s k =
 call-answers (Closed l) s k = closed-begins s l (lock_at l s) refl k
 call-answers (Ready l) s k = ready-begins s l (lock_at l s) refl k
 call-answers (Release l) s k = release-begins s l (lock_at l s)
-call-answers (Enqueue i v) s k = if_it_can-begins s i (EnqueueChunk v)
-call-answers (Finish i) s k = if_it_can-begins s i CloseReadable
-call-answers (Fail i reason) s k = either Begins (has_readable i s) _ _ (λ e. tt) (λ e. either Begins (has_writable i s) _ _ (λ f. tt) (λ f. tt))
+call-answers (Enqueue i v) s k = either Begins (has_readable i s) _ _ (λ e. enqueue-begins v i s (readable_at i s).owner) (λ e. tt)
+call-answers (Finish i) s k = either Begins (has_readable i s) _ _ (λ e. finish-begins i s (readable_at i s).owner) (λ e. tt)
+call-answers (Fail i reason) s k =
+    either Begins (has_readable i s) _ _ (λ e. fail_readable-begins reason i s (readable_at i s).owner) (λ e. either Begins (has_writable i s) _ _ (λ f. fail_writable-begins reason i s (writable_at i s).owner) (λ f. tt))
+call-answers (Terminate i) s k = either Begins (has_readable i s) _ _ (λ e. terminate-begins s (readable_at i s).owner) (λ e. tt)
 call-answers (Desired i) s k = either Begins (has_readable i s) _ _ (λ e. tt) (λ e. tt)
 call-answers (DesiredBy l) s k = by_writer-begins calls.desired_of_writer calls.throws_type_error s (lock_at l s) (λ i. tt) tt
 call-answers (Pipe source dest prevent signal) s k =
@@ -295,7 +320,11 @@ begin-locks c s k =
       write = λ l v i e. new;
       close = λ i. new;
       abort = λ reason i e. new;
-      enqueue = λ i v e can. k.locks;
+      make_transform = λ kind m n start. later (fresh (fresh (fresh (fresh t)))) four;
+      enqueue = λ i v e o can. k.locks;
+      enqueue_half = λ i u v e o can. k.locks;
+      fail_half = λ u reason. k.locks;
+      terminate = λ u. k.locks;
       finish = λ i. k.locks;
       fail_readable = λ i reason. k.locks;
       fail_writable = λ i reason. k.locks;

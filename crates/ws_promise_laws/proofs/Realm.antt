@@ -5,17 +5,20 @@ use Rattle.ws_value.specs.declared.ids.PromiseId.{PromiseId}
 use Rattle.ws_value.specs.declared.ids.StreamId.{StreamId}
 use Rattle.ws_steps.specs.declared.{pipes.Phase.TheVariants.{Over}, pipes.PipeOperation.{PipeOperation}, readable.ReadableOperation.{ReadableOperation}, writable.WritableOperation.{WritableOperation}}
 use Rattle.ws_steps.specs.Histories.{is_same}
-use Rattle.ws_steps.specs.Operations.{readable_operation, writable_operation, pipe_operation}
+use Rattle.ws_steps.specs.declared.{transform.TransformId.{TransformId}, transform.TransformOperation.{TransformOperation}}
+use Rattle.ws_steps.specs.Operations.{readable_operation, writable_operation, pipe_operation, transform_operation}
 use Rattle.ws_steps.specs.Pipes as pipe
 use Rattle.ws_steps.specs.Readable as readable
-use Rattle.ws_steps.specs.Slots.{Slots, Stream, ReadableStream, WritableStream, Done, nothing, no_readable, has_readable, has_writable, readable_at, writable_at, on_readable, on_writable, put_readable, put_writable, found, ends_at, on_pipe_at}
+use Rattle.ws_steps.specs.Transform as transform
+use Rattle.ws_steps.specs.Slots.{Slots, Stream, ReadableStream, WritableStream, Done, nothing, no_readable, has_readable, has_writable, readable_at, writable_at, on_readable, on_writable, put_readable, put_writable, found, ends_at, halves_at, on_pipe_at, on_transform_at}
 use Rattle.ws_steps.specs.Writable as writable
 use Rattle.ws_laws.proofs.Tables.{readable_there, writable_there, readable_acts, writable_acts, same_id, on_readable-writable, on_writable-same, on_writable-other}
 use Rattle.ws_promise_laws.proofs.Holds.{Holds, holds-less}
 use Rattle.ws_promise_laws.proofs.Piping.{pipes, PipeExpects}
 use Rattle.ws_promise_laws.proofs.Readables.{reads}
-use Rattle.ws_promise_laws.proofs.Streams.{in_readable, in_writable, loose_in, in_pipe, Calm, Reads, Writes, Pipes}
-use Rattle.ws_promise_laws.proofs.Tokens.{names_any, of_readable, of_writable, in_effects}
+use Rattle.ws_promise_laws.proofs.Streams.{in_readable, in_writable, loose_in, in_pipe, in_transform, Calm, Reads, Writes, Pipes, Transforms}
+use Rattle.ws_promise_laws.proofs.Tokens.{names_any, of_readable, of_writable, of_transform, in_effects}
+use Rattle.ws_promise_laws.proofs.Transforming.{transforms}
 use Rattle.ws_promise_laws.proofs.WritableAsks.{Expects, writes}
 
 abbrev pub in_stream : PromiseId → Stream → ℕ
@@ -41,8 +44,13 @@ abbrev pub in_pipes : PromiseId → List pipe.Slots → ℕ
 in_pipes x [] = 0
 in_pipes x (p ∷ ps) = in_pipe x p + in_pipes x ps
 
+-- so much for each transform stream
+abbrev pub in_transforms : PromiseId → List transform.Slots → ℕ
+in_transforms x [] = 0
+in_transforms x (t ∷ ts) = in_transform x t + in_transforms x ts
+
 abbrev pub firm_in : PromiseId → Slots → ℕ
-firm_in x s = in_all (in_stream x) s.streams + (in_pipes x s.pipes + in_hosts x s.hosts)
+firm_in x s = in_all (in_stream x) s.streams + (in_pipes x s.pipes + (in_hosts x s.hosts + in_transforms x s.transforms))
 
 abbrev pub loosely_in : Slots → PromiseId → ℕ
 loosely_in s x = in_all (loose_in_stream x) s.streams
@@ -79,7 +87,7 @@ blank = ReadableStream no_readable
 
 -- how often a promise stands outside stream i
 abbrev beside : (PromiseId → ℕ) → StreamId → Slots → PromiseId → ℕ
-beside f i s x = f x + (in_all (in_stream x) (slice_set s.streams i.0 blank) + (in_pipes x s.pipes + in_hosts x s.hosts))
+beside f i s x = f x + (in_all (in_stream x) (slice_set s.streams i.0 blank) + (in_pipes x s.pipes + (in_hosts x s.hosts + in_transforms x s.transforms)))
 
 abbrev loosely_beside : StreamId → Slots → PromiseId → ℕ
 loosely_beside i s x = in_all (loose_in_stream x) (slice_set s.streams i.0 blank)
@@ -198,7 +206,7 @@ on_pipe-sound f p operation s None e expected k = k
 on_pipe-sound f p operation s (Some y) e expected k =
     let a : pipe.Acts = record { slots = y; out = found s } in
     let b : pipe.Acts = pipe_operation p (ends_at y s) operation a in
-    let beside_pipe : PromiseId → ℕ = λ x. f x + (in_all (in_stream x) s.streams + (in_pipes x (slice_set s.pipes p.0 (spent y)) + in_hosts x s.hosts)) in
+    let beside_pipe : PromiseId → ℕ = λ x. f x + (in_all (in_stream x) s.streams + (in_pipes x (slice_set s.pipes p.0 (spent y)) + (in_hosts x s.hosts + in_transforms x s.transforms))) in
     let before : Pipes beside_pipe (loosely_in s) a =
     holds-less _ (loosely_in s) (λ x. beside_pipe x + (in_pipe x y + 0)) (loosely_in s) s.promises k.holds
     (λ x. let c = in_pipes-set x p.0 s.pipes y (spent y) e in omega arith) (λ x. let c = in_pipes-set x p.0 s.pipes y (spent y) e in omega arith) in
@@ -207,5 +215,44 @@ on_pipe-sound f p operation s (Some y) e expected k =
           holds-less (λ x. beside_pipe x + (in_pipe x b.slots + in_effects x b.out.effects)) (loosely_in s) _ _ b.out.promises (pipes p beside_pipe (loosely_in s) (ends_at y s) operation a expected before)
           (λ x. let c = in_pipes-set x p.0 s.pipes y (spent y) e in let d = in_pipes-set x p.0 s.pipes y b.slots e in omega arith)
           (λ x. let c = in_pipes-set x p.0 s.pipes y (spent y) e in let d = in_pipes-set x p.0 s.pipes y b.slots e in omega arith);
+      calm = k.calm;
+    }
+
+-- operations on transform streams
+
+some_transform : (p q : transform.Slots) → ◌≡◌ {A = Option transform.Slots} (Some p) (Some q) → p ≡ q
+some_transform p q e = cc
+
+in_transforms-set : (x : PromiseId) (k : ℕ) (ts : List transform.Slots) (old y : transform.Slots) → slice_get ts k ≡ Some old → in_transforms x (slice_set ts k y) + in_transform x old ≡ in_transforms x ts + in_transform x y
+in_transforms-set x k [] old y e = cc
+in_transforms-set x zero (t ∷ ts) old y e = rw (some_transform t old e) (omega arith)
+in_transforms-set x (suc k) (t ∷ ts) old y e = let rest = in_transforms-set x k ts old y e in omega arith
+
+-- how often a promise stands in the others
+abbrev others : PromiseId → ℕ → List transform.Slots → ℕ
+others x k [] = 0
+others x zero (t ∷ ts) = in_transforms x ts
+others x (suc k) (t ∷ ts) = in_transform x t + others x k ts
+
+others-all : (x : PromiseId) (k : ℕ) (ts : List transform.Slots) (old : transform.Slots) → slice_get ts k ≡ Some old → others x k ts + in_transform x old ≡ in_transforms x ts
+others-all x k [] old e = cc
+others-all x zero (t ∷ ts) old e = rw (some_transform t old e) (omega arith)
+others-all x (suc k) (t ∷ ts) old e = let rest = others-all x k ts old e in omega arith
+
+pub on_transform-sound : (f : PromiseId → ℕ) (t : TransformId) (operation : TransformOperation) (s : Slots) (o : Option transform.Slots) → slice_get s.transforms t.0 ≡ o
+    → Sound (λ x. f x + of_transform x operation) s → Leaves f (on_transform_at (λ halves. transform_operation t halves operation) t s o)
+on_transform-sound f t operation s None e k = sound-less (λ x. f x + of_transform x operation) (λ x. f x + 0) s (λ x. omega arith) k
+on_transform-sound f t operation s (Some y) e k =
+    let a : transform.Acts = record { slots = y; out = found s } in
+    let b : transform.Acts = transform_operation t (halves_at y s) operation a in
+    let around : PromiseId → ℕ = λ x. f x + (in_all (in_stream x) s.streams + (in_pipes x s.pipes + (in_hosts x s.hosts + others x t.0 s.transforms))) in
+    let before : Transforms (λ x. around x + of_transform x operation) (loosely_in s) a =
+    holds-less _ (loosely_in s) (λ x. (around x + of_transform x operation) + (in_transform x y + 0)) (loosely_in s) s.promises k.holds
+    (λ x. let c = others-all x t.0 s.transforms y e in omega arith) (λ x. let c = others-all x t.0 s.transforms y e in omega arith) in
+    record {
+      holds =
+          holds-less (λ x. around x + (in_transform x b.slots + in_effects x b.out.effects)) (loosely_in s) _ _ b.out.promises (transforms around (loosely_in s) t (halves_at y s) operation a before)
+          (λ x. let c = others-all x t.0 s.transforms y e in let d = in_transforms-set x t.0 s.transforms y b.slots e in omega arith)
+          (λ x. let c = others-all x t.0 s.transforms y e in let d = in_transforms-set x t.0 s.transforms y b.slots e in omega arith);
       calm = k.calm;
     }

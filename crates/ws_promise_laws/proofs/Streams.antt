@@ -4,6 +4,7 @@ use Rattle.ws_value.specs.declared.ids.PromiseId.{PromiseId}
 use Rattle.ws_steps.specs.declared.{pipes.Phase.{Phase}, pipes.Phase.TheVariants.{Flowing, Waiting, Acting, Over}, readable.ReadRequest.{ReadRequest}, writable.PendingAbort.{PendingAbort}, writable.Writer.{Writer}}
 use Rattle.ws_steps.specs.Pipes as pipe
 use Rattle.ws_steps.specs.Readable as readable
+use Rattle.ws_steps.specs.Transform as transform
 use Rattle.ws_steps.specs.Writable as writable
 use Rattle.ws_promise_laws.proofs.Tokens.{names, names_any, of_request, in_effects}
 use Rattle.ws_promise_laws.proofs.Holds.{Holds, when}
@@ -86,3 +87,13 @@ in_pipe x s = when (goes_on s.phase) (names x s.promise) + names_any x s.whole
 -- what an operation on a pipe keeps, where promises stand so often outside the pipe and its effects
 abbrev pub Pipes : (f l : PromiseId → ℕ) → pipe.Acts → Type 0
 Pipes f l a = Holds (λ x. f x + (in_pipe x a.slots + in_effects x a.out.effects)) l a.out.promises
+
+-- transform streams
+
+-- the change promise is to be settled; the finish promise stands in the reaction that settles it
+abbrev pub in_transform : PromiseId → transform.Slots → ℕ
+in_transform x s = names x s.change
+
+-- what an operation on a transform stream keeps, where promises stand so often outside it and its effects
+abbrev pub Transforms : (f l : PromiseId → ℕ) → transform.Acts → Type 0
+Transforms f l a = Holds (λ x. f x + (in_transform x a.slots + in_effects x a.out.effects)) l a.out.promises

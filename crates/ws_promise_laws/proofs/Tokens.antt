@@ -2,13 +2,16 @@
 use Rattle.std.proofs.Common.{◌≡◌, ℕ, ◌+◌, Bool, true, false, nat_eq, List, [], ◌∷◌, ◌++◌, Option, Some, None, arith}
 use Rattle.ws_value.specs.declared.ids.PromiseId.{PromiseId}
 use Rattle.ws_steps.specs.declared.effects.Effect.{Effect}
-use Rattle.ws_steps.specs.declared.effects.Effect.TheVariants.{Readable, Writable, Pipe, Signal, StartAlgorithm, PullAlgorithm, CancelAlgorithm, WriteAlgorithm, CloseAlgorithm, AbortAlgorithm, ChunkSteps, CloseSteps, ErrorSteps, Give, Settle as SettleEffect, Queue, CallHost}
+use Rattle.ws_steps.specs.declared.effects.Effect.TheVariants.{Readable, Writable, Pipe, Signal, Transform, StartAlgorithm, PullAlgorithm, CancelAlgorithm, WriteAlgorithm, CloseAlgorithm, AbortAlgorithm, ChunkSteps, CloseSteps, ErrorSteps, Give, Settle as SettleEffect, Queue, CallHost}
 use Rattle.ws_steps.specs.declared.{effects.Use.{Use}, effects.Use.TheVariants.{React, Resolve}, promises.Job.{Job}}
 use Rattle.ws_steps.specs.declared.{promises.Job.TheVariants.{Reaction as ReactionJob, Follow, Settle, Micro as MicroJob}, promises.Reaction.{Reaction}}
-use Rattle.ws_steps.specs.declared.{promises.Reaction.TheVariants.{Perform, Adopt}, promises.Step.{Step}, promises.Step.TheVariants.{WritableAbort}, readable.ReadRequest.{ReadRequest}}
+use Rattle.ws_steps.specs.declared.{promises.Reaction.TheVariants.{Perform, Adopt}, promises.Step.{Step}, promises.Step.TheVariants.{WritableAbort, TransformChanged, TransformFlushed, TransformAborted, TransformCancelled}, readable.ReadRequest.{ReadRequest}}
 use Rattle.ws_steps.specs.declared.{readable.ReadRequest.TheVariants.{Promise, Pipe as PipeRequest}, readable.ReadableOperation.{ReadableOperation}}
 use Rattle.ws_steps.specs.declared.{readable.ReadableOperation.TheVariants.{InitializeReader, Read, Cancel, CancelIfReadable}, writable.WritableOperation.{WritableOperation}}
-use Rattle.ws_steps.specs.declared.writable.WritableOperation.TheVariants.{SetUpWriter, Write, Close as CloseWritable, ClosePropagating, Abort, AbortIfWritable, AbortSettled}
+use Rattle.ws_steps.specs.declared.writable.WritableOperation.TheVariants.{SetUpWriter, Write, Close as CloseWritable, ClosePropagating, Abort, AbortIfWritable, HandOn, AbortSettled}
+use Rattle.ws_steps.specs.declared.transform.Taker.TheVariants.{ToTransform}
+use Rattle.ws_steps.specs.declared.transform.TransformOperation.{TransformOperation}
+use Rattle.ws_steps.specs.declared.transform.TransformOperation.TheVariants.{SinkWrite, WriteGoesOn, TransformChunk, SourcePull, SinkClose, SinkAbort, SourceCancel, FlushSettled, AbortSettled as SinkAbortSettled, CancelSettled}
 
 abbrev pub one_if : Bool → ℕ
 one_if true = 1
@@ -26,6 +29,10 @@ names_any x (Some q) = names x q
 
 abbrev pub in_step : PromiseId → Step → ℕ
 in_step x (WritableAbort i p) = names x p
+in_step x (TransformChanged t d) = names x d
+in_step x (TransformFlushed t p) = names x p
+in_step x (TransformAborted t p r) = names x p
+in_step x (TransformCancelled t p r) = names x p
 in_step x _ = 0
 
 abbrev pub in_reaction : PromiseId → Reaction → ℕ
@@ -69,14 +76,29 @@ of_writable x (CloseWritable p) = names x p
 of_writable x (ClosePropagating p) = names x p
 of_writable x (Abort r p) = names x p
 of_writable x (AbortIfWritable r p) = names x p
+of_writable x (HandOn (ToTransform t d)) = names x d
 of_writable x (AbortSettled p outcome) = names x p
 of_writable x _ = 0
+
+abbrev pub of_transform : PromiseId → TransformOperation → ℕ
+of_transform x (SinkWrite u) = of_use x u
+of_transform x (WriteGoesOn d) = names x d
+of_transform x (TransformChunk v d) = names x d
+of_transform x (SourcePull u) = of_use x u
+of_transform x (SinkClose u) = of_use x u
+of_transform x (SinkAbort r u) = of_use x u
+of_transform x (SourceCancel r u) = of_use x u
+of_transform x (FlushSettled p outcome) = names x p
+of_transform x (SinkAbortSettled p r outcome) = names x p
+of_transform x (CancelSettled p r outcome) = names x p
+of_transform x _ = 0
 
 abbrev pub of_effect : PromiseId → Effect → ℕ
 of_effect x (Readable i operation) = of_readable x operation
 of_effect x (Writable i operation) = of_writable x operation
 of_effect x (Pipe p operation) = 0
 of_effect x (Signal a operation) = 0
+of_effect x (Transform t operation) = of_transform x operation
 of_effect x (StartAlgorithm i step start) = in_step x step
 of_effect x (PullAlgorithm i) = 0
 of_effect x (CancelAlgorithm i r p) = names x p

@@ -4,7 +4,8 @@ use Rattle.ws_writable_laws.proofs.Expects.{Marked}
 use Rattle.ws_steps.specs.declared.writable.WritableOperation.{WritableOperation}
 use Rattle.ws_steps.specs.declared.writable.WritableOperation.TheVariants.{SetUpWriter, ReleaseWriter, Write, Close, ClosePropagating, Abort, AbortIfWritable, ErrorIfNeeded, HandOn, StartSettled, WriteSettled, CloseSettled, AbortSettled}
 use Rattle.ws_steps.specs.Operations.{writable_operation}
-use Rattle.ws_steps.specs.declared.{effects.Owner.{Owner}, effects.Owner.TheVariants.{Host}}
+use Rattle.ws_steps.specs.declared.{transform.Taker.TheVariants.{ToHost, ToTransform}, transform.TransformId.{TransformId}, writable.WriteRecord.{WriteRecord}, writable.WriteRecord.TheVariants.{Chunk, InFlight, CloseMark}}
+use Rattle.ws_steps.specs.declared.{effects.Owner.{Owner}, effects.Owner.TheVariants.{Host, HalfOf}}
 use Rattle.std.proofs.Common.{◌≡◌, ℕ, ◌+◌, Bool, true, false, not, ◌&&◌, ◌||◌, if◌then◌else◌, is_some, List, [], ◌∷◌, ◌++◌, Option, Some, None, Result, Ok, Err, refl, sym, ap, subst, arith}
 use Rattle.ws_value.specs.declared.ids.PromiseId.{PromiseId}
 use Rattle.ws_value.specs.declared.ids.StreamId.{StreamId}
@@ -53,9 +54,17 @@ write_by-keeps me f l v p a None r m k =
     (refresh-marked b (record { alive = rw (chunk_marked v (size_of a.slots.size_by v) a.slots.queue) m.alive; requested = rw (chunk_marked v (size_of a.slots.size_by v) a.slots.queue) m.requested }))
     (refresh_backpressure-keeps f l b asked)
 
-hand_on-keeps : (me : StreamId) (f l : PromiseId → ℕ) (a : Acts) → Writes f l a → Writes f l (hand_on me a)
+-- a transform stream is told the promise of which it takes care
+hand_to-keeps : (me : StreamId) (f l : PromiseId → ℕ) (t : TransformId) (d : PromiseId) (a : Acts) (first : Option WriteRecord) → Writes (λ x. f x + names x d) l a → Writes f l (hand_on_first me (ToTransform t d) a first)
+hand_to-keeps me f l t d a None k = writes-less f l (λ x. names x d) a a refl (λ x. grind arith) (λ x. grind arith) k.calm k
+hand_to-keeps me f l t d a (Some CloseMark) k = writes-less f l (λ x. names x d) a a refl (λ x. grind arith) (λ x. grind arith) k.calm k
+hand_to-keeps me f l t d a (Some InFlight) k = writes-less f l (λ x. names x d) a a refl (λ x. grind arith) (λ x. grind arith) k.calm k
+hand_to-keeps me f l t d a (Some (Chunk v)) k =
+    writes-less f l (λ x. names x d) a (hand_on_first me (ToTransform t d) a (Some (Chunk v))) refl (λ x. grind (arith, in_effects-append)) (λ x. grind (arith, in_effects-append)) k.calm k
+
+hand_on-keeps : (me : StreamId) (f l : PromiseId → ℕ) (a : Acts) → Writes f l a → Writes f l (hand_on me ToHost a)
 unfolding hand_on
-hand_on-keeps me f l a k = writes-quiet f l a (hand_on_first me a (first_value a.slots.queue)) (grind arith) (λ x. grind (arith, in_effects-append)) (λ x. grind (arith, in_effects-append)) (grind arith) k
+hand_on-keeps me f l a k = writes-quiet f l a (hand_on_first me ToHost a (first_value a.slots.queue)) (grind arith) (λ x. grind (arith, in_effects-append)) (λ x. grind (arith, in_effects-append)) (grind arith) k
 
 -- a close
 
@@ -109,6 +118,7 @@ close_propagating-keeps me f l p a k =
 -- the host's sink hears of it
 signalled-keeps : (me : StreamId) (f l : PromiseId → ℕ) (r : Plain) (a : Acts) (owner : Owner) → Writes f l a → Writes f l (signalled me r a owner)
 signalled-keeps me f l r a Host k = record { holds = holds-told (firm f a) (loose l a) _ a.out.promises k.holds; calm = k.calm }
+signalled-keeps me f l r a (HalfOf t) k = k
 
 begin_abort-keeps : (me : StreamId) (f l : PromiseId → ℕ) (r : Plain) (p : PromiseId) (a : Acts) → has_ended a.slots.state ≡ false → Writes (λ x. f x + names x p) l a → Writes f l (begin_abort me r p a)
 begin_abort-keeps me f l r p a alive k =
@@ -202,7 +212,7 @@ ungiven f l a k = writes-less f l (λ x. 0) a a refl (λ x. omega arith) (λ x. 
 
 pub writes : (f l : PromiseId → ℕ) (i : StreamId) (operation : WritableOperation) (a : Acts) → Expects operation a.slots → Writes (λ x. f x + of_writable x operation) l a
     → Writes f l (writable_operation i operation a)
-unfolding writer_release writer_write
+unfolding writer_release writer_write hand_on
 writes f l i (SetUpWriter w) a e k = set_up_writer-keeps f l w a k
 writes f l i ReleaseWriter a e k = release_by-keeps f l a a.slots.writer refl (ungiven f l a k)
 writes f l i (Write v p) a e k = write_by-keeps i f l v p a (write_refusal a.slots) refl e k
@@ -211,7 +221,8 @@ writes f l i (ClosePropagating p) a e k = close_propagating-keeps i f l p a k
 writes f l i (Abort r p) a e k = stream_abort-keeps i f l r p a k
 writes f l i (AbortIfWritable r p) a e k = abort_if_writable-keeps i f l r p a k
 writes f l i (ErrorIfNeeded r) a e k = controller_error_if_needed-keeps i f l r a (ungiven f l a k)
-writes f l i HandOn a e k = hand_on-keeps i f l a (ungiven f l a k)
+writes f l i (HandOn ToHost) a e k = hand_on-keeps i f l a (ungiven f l a k)
+writes f l i (HandOn (ToTransform t d)) a e k = hand_to-keeps i f l t d a (first_value a.slots.queue) k
 writes f l i (StartSettled o) a e k = start_settled-keeps i f l o a e.1 e.0 (ungiven f l a k)
 writes f l i (WriteSettled o) a e k = write_settled-keeps i f l o a e.1 e.0 (ungiven f l a k)
 writes f l i (CloseSettled o) a e k = close_settled-keeps i f l o a e (ungiven f l a k)
