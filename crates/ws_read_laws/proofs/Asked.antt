@@ -5,8 +5,8 @@ use Rattle.std.proofs.lemmas.Bool.{false≢true}
 use Rattle.ws_value.specs.declared.value.Value.{Value}
 use Rattle.ws_value.specs.declared.{ids.LockId.{LockId}, ids.PipeId.{PipeId}, ids.PromiseId.{PromiseId}, ids.StreamId.{StreamId}}
 use Rattle.ws_steps.specs.declared.{calls.Call.{Call}, calls.Call.TheVariants.{Read as ReadCall}, effects.Effect.{Effect}}
-use Rattle.ws_steps.specs.declared.effects.Effect.TheVariants.{Readable, Writable, Pipe, Signal, StartAlgorithm, PullAlgorithm, CancelAlgorithm, CloseAlgorithm, AbortAlgorithm, ChunkSteps, CloseSteps, ErrorSteps}
-use Rattle.ws_steps.specs.declared.{locks.Lock.{Lock}, locks.Lock.TheVariants.{Reader, Writer, ReleasedWriter, Inner}, promises.Job.{Job}}
+use Rattle.ws_steps.specs.declared.effects.Effect.TheVariants.{Readable, Writable, Pipe, Signal, Transform, StartAlgorithm, PullAlgorithm, CancelAlgorithm, WriteAlgorithm, CloseAlgorithm, AbortAlgorithm, ChunkSteps, CloseSteps, ErrorSteps}
+use Rattle.ws_steps.specs.declared.{locks.Lock.{Lock}, locks.Lock.TheVariants.{Reader, Writer, ReleasedWriter, Inner}, promises.Job.{Job}, transform.TransformId.{TransformId}}
 use Rattle.ws_steps.specs.declared.{readable.ReadRequest.{ReadRequest}, readable.ReadRequest.TheVariants.{Promise, Pipe as PipeRequest}, pipes.SignalOperation.{SignalOperation}, pipes.SignalOperation.TheVariants.{Add, Forget, Trigger}, readable.ReadableOperation.{ReadableOperation}, readable.ReadableOperation.TheVariants.{Read}}
 use Rattle.ws_steps.specs.Promises.{next_job}
 use Rattle.ws_steps.specs.Slots.{Slots, Done, causes, empty, has_readable, readable_at, lock_at}
@@ -24,6 +24,7 @@ use Rattle.ws_laws.proofs.Lists.{Each, each-append, each-map}
 use Rattle.ws_laws.proofs.PipeDoes.{PipeCauses}
 use Rattle.ws_laws.proofs.Rows.{Causes, ChunkCauses, EndCauses, SignalCauses, row-causes}
 use Rattle.ws_laws.proofs.EachCall.{each_call}
+use Rattle.ws_laws.proofs.TransformDoes.{TransformCauses}
 use Rattle.ws_laws.proofs.Walker.{IsHistory, performed-goes}
 use Rattle.ws_read_laws.proofs.Line.{same_reads}
 use Rattle.ws_read_laws.proofs.Told.{reads-assoc}
@@ -51,16 +52,22 @@ signal-quiet (Trigger r) = λ p. tt
 signal-quiet (Add p) = tt
 signal-quiet (Forget p) = tt
 
+transform-quiet : (t : TransformId) (writable readable : StreamId) (e : Effect) → TransformCauses t writable readable e → Quiet e
+transform-quiet t writable readable (Readable i (Read (Promise p))) c = absurd c
+transform-quiet t writable readable _ c = tt
+
 quiet-causes : (e : Effect) → Causes Quiet e
 quiet-causes (Readable j operation) = record { pull = tt; cancel = λ r p. tt; chunk = λ r v. tt; close = λ r. tt; error = λ r e. tt }
-quiet-causes (Writable j operation) = record { write = tt; close = tt; abort = λ r p. tt; hand_on = λ v. tt }
+quiet-causes (Writable j operation) = record { write = tt; close = tt; abort = λ r p. tt; hand_on = λ v. tt; take = λ v t d. tt }
 quiet-causes (Pipe p operation) = pipe-quiet p
 quiet-causes (Signal a operation) = signal-quiet operation
 quiet-causes (StartAlgorithm j step start) = (λ g u. tt, λ c u. tt)
-quiet-causes (PullAlgorithm j) = λ c u. tt
-quiet-causes (CancelAlgorithm j r p) = λ c u. tt
-quiet-causes (CloseAlgorithm j) = λ c u. tt
-quiet-causes (AbortAlgorithm j r p) = λ c u. tt
+quiet-causes (PullAlgorithm j) = (λ c u. tt, λ t u. tt)
+quiet-causes (CancelAlgorithm j r p) = (λ c u. tt, λ t u. tt)
+quiet-causes (WriteAlgorithm j) = (tt, λ t u. tt)
+quiet-causes (Transform t operation) = transform-quiet t
+quiet-causes (CloseAlgorithm j) = (λ c u. tt, λ t u. tt)
+quiet-causes (AbortAlgorithm j r p) = (λ c u. tt, λ t u. tt)
 quiet-causes (ChunkSteps j request v) = chunk-quiet v request
 quiet-causes (CloseSteps j request) = end-quiet request
 quiet-causes (ErrorSteps j request e) = end-quiet request

@@ -4,6 +4,8 @@ pub mod Holding
 pub mod Piping
 pub mod Told
 pub mod Pipes
+mod Behind
+mod Transforms
 pub mod Runs
 pub mod Outcomes
 pub mod Waiting

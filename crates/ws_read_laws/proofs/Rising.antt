@@ -83,8 +83,9 @@ module _ (n : ℕ) where
     hosts = λ z hs k. k;
     pipe = λ z source dest prevent signal promise k. k;
     signal = λ z k. k;
-    readable = λ z mark size k. k;
-    writable = λ z mark size k. k;
+    transform = λ z kind i j change k. k;
+    readable = λ z owner mark size k. k;
+    writable = λ z owner mark size k. k;
   }) c s k
 
   step-made : (s : Slots) (x : Step) → Made s.promises → Made (step s x).promises

@@ -3,14 +3,14 @@ use Rattle.std.proofs.Common.{◌≡◌, ℕ, ◌+◌, ◌≤◌, Bool, true, fa
 use Rattle.std.proofs.lemmas.List.Elements.{All-nil}
 use Rattle.ws_value.specs.declared.{ids.PipeId.{PipeId}, ids.PromiseId.{PromiseId}, ids.SignalId.{SignalId}, ids.StreamId.{StreamId}, ids.LockId.{LockId}}
 use Rattle.ws_value.specs.declared.value.{Plain.{Plain}}
-use Rattle.ws_steps.specs.declared.{calls.Call.{Call}, effects.Effect.{Effect}, effects.Effect.TheVariants.{Readable as OnReadable, Writable, Pipe as OnPipe, Signal as OnSignal, ChunkSteps, CloseSteps, ErrorSteps}}
+use Rattle.ws_steps.specs.declared.{calls.Call.{Call}, calls.StartBy.{StartBy}, calls.StartBy.TheVariants.{Now as StartNow, Later}, effects.Effect.{Effect}, effects.Effect.TheVariants.{Readable as OnReadable, Writable, Pipe as OnPipe, Signal as OnSignal, ChunkSteps, CloseSteps, ErrorSteps}}
 use Rattle.ws_steps.specs.declared.{locks.Lock.{Lock}, locks.Lock.TheVariants.{Reader, Writer, ReleasedWriter, Inner}, promises.Job.{Job}}
 use Rattle.ws_steps.specs.declared.{readable.ReadRequest.{ReadRequest}, readable.ReadRequest.TheVariants.{Promise}, readable.ReadableOperation.{ReadableOperation}, readable.ReadableOperation.TheVariants.{InitializeReader, ReleaseReader, Read, Cancel, Enqueue, Close, Error}}
 use Rattle.ws_steps.specs.declared.{readable.ReadableState.TheVariants.{Closed}, writable.WritableOperation.TheVariants.{ReleaseWriter}}
 use Rattle.ws_steps.specs.declared.pipes.{PipeOperation.{PipeOperation}, Prevent.{Prevent}}
 use Rattle.ws_steps.specs.Histories.{is_same}
 use Rattle.ws_steps.specs.Jobs.{job_effects}
-use Rattle.ws_steps.specs.Calls.{Begun, begin, renewed, with_renewed, reject_renewed, pipe_to, pipe_begins, reason_of}
+use Rattle.ws_steps.specs.Calls.{Begun, begin, renewed, with_renewed, reject_renewed, start_transform, pipe_to, pipe_begins, reason_of}
 use Rattle.ws_steps.specs.Pipes as pipe
 use Rattle.ws_steps.specs.Pipes.{abort_all, trigger_unless}
 use Rattle.ws_steps.specs.Promises.{Table, next_id, fresh, is_pending_at}
@@ -22,15 +22,19 @@ use Rattle.ws_steps.specs.Laws.{Allows}
 use Rattle.ws_laws.proofs.EachCall.{each_call}
 use Rattle.ws_laws.proofs.OnReadable as on_readable
 use Rattle.ws_laws.proofs.OnReadable.{Holders, holders, with_pipe, piped, is_still, IsForeign, AreSteps, IsLaw, Kept, all_seen, all_seen-append}
+use Rattle.ws_laws.proofs.Order.{is_resting}
 use Rattle.ws_laws.proofs.Truth.{false_true}
 use Rattle.ws_laws.proofs.Tables.{either, is_same-refl, no_readable_there, same_id}
+use Rattle.ws_laws.proofs.Walker.{Stays}
 use Rattle.ws_promise_laws.proofs.Acting.{EachWaits, waits-stays, waits-heard, none-waits}
 use Rattle.ws_promise_laws.proofs.Tokens.{one_if}
+use Rattle.ws_read_laws.proofs.Behind.{InOrder, order-stays}
 use Rattle.ws_read_laws.proofs.Holding.{has, readers, readers-append, readers-set, readers-there, sources, holding-append, sources-append, owners, Clear, IsOther, AllOther, other-pending, other-clear}
 use Rattle.ws_readable_laws.proofs.Runs as flows
 use Rattle.ws_read_laws.proofs.Marks.{Mark, Stands, Aborts, pipe_mark, marks, pending}
 use Rattle.ws_read_laws.proofs.Told.{Told, no_told, told_then, told, run_done, over-parts, is_history, Held, Unmade, operation-held, absent-held, steps-held, steps-unmade, made-held}
 use Rattle.ws_read_laws.proofs.Pipes.{pipe-held, pipe-unmade, no_pipe-held, signal-held, no_signal-held, known_expects}
+use Rattle.ws_read_laws.proofs.Transforms.{transform-held}
 
 module _ (i : StreamId) where
   -- with what calls and jobs begin
@@ -182,6 +186,10 @@ module _ (i : StreamId) where
         });
       }
 
+  start_others : (q : PromiseId) (j : StreamId) (start : StartBy) → AllOther (all_seen (marks i) (start_transform q j start ∷ []))
+  start_others q j StartNow = tt
+  start_others q j Later = tt
+
   call-now : (c : Call) (s : Slots) (h : Told) → let z : Slots = (begin c s).done.slots in Now h (holders s) z.streams [] → Now h (holders z) z.streams (begin c s).done.caused
   call-now c s h = each_call (λ (b : Begun). Now h (holders s) b.done.slots.streams [] → Now h (holders b.done.slots) b.done.slots.streams b.done.caused) c s (record {
     unchanged = λ reply k. k;
@@ -206,7 +214,11 @@ module _ (i : StreamId) where
     write = λ l v j e k. others h s.locks s.locks s.pipes _ _ refl tt k;
     close = λ j k. others h s.locks s.locks s.pipes _ _ refl tt k;
     abort = λ reason j e k. others h s.locks s.locks s.pipes _ _ refl tt k;
-    enqueue = λ j v e can k. others h s.locks s.locks s.pipes s.streams _ refl (one_other j (Enqueue v) tt) k;
+    make_transform = λ kind m n start k. others h s.locks s.locks s.pipes _ _ refl (start_others (next_id (fresh s.promises)) (record { 0 = length s.streams + 1 }) start) k;
+    enqueue = λ j v e o can k. others h s.locks s.locks s.pipes s.streams _ refl (one_other j (Enqueue v) tt) k;
+    enqueue_half = λ j t v e o can k. others h s.locks s.locks s.pipes _ _ refl tt k;
+    fail_half = λ t reason k. others h s.locks s.locks s.pipes _ _ refl tt k;
+    terminate = λ t k. others h s.locks s.locks s.pipes _ _ refl tt k;
     finish = λ j k. others h s.locks s.locks s.pipes s.streams _ refl (one_other j Close tt) k;
     fail_readable = λ j reason k. others h s.locks s.locks s.pipes s.streams _ refl (one_other j (Error reason) tt) k;
     fail_writable = λ j reason k. others h s.locks s.locks s.pipes _ _ refl tt k;
@@ -241,7 +253,20 @@ module _ (i : StreamId) where
   idle : (operation : ReadableOperation) (s : Slots) → has_readable i s ≡ false → told i (OnReadable i operation) s ≡ no_told
   idle operation s none = rw (flows.nothing_there i operation s none, is_same-refl i, none) refl
 
-  law : IsLaw no_told told_then (told i) (marks i) i (Held i) (Unmade i) EachWaits
+  -- what is known beside: the action of each pipe is awaited once, and the steps of requests stand in order
+  abbrev Known : Slots → List Effect → Type 0
+  Known s es = EachWaits s es × InOrder s es
+
+  known-stays : Stays Known
+  known-stays = record {
+    row = λ s e es k. (waits-stays.row s e es k.0, order-stays.row s e es k.1);
+    call = λ s c k. (waits-stays.call s c k.0, order-stays.call s c k.1);
+    job = λ s job e k. (waits-stays.job s job e k.0, order-stays.job s job e k.1);
+    answered = λ s p k. (waits-stays.answered s p k.0, order-stays.answered s p k.1);
+    older = λ s k. (waits-stays.older s k.0, order-stays.older s k.1);
+  }
+
+  law : IsLaw no_told told_then (told i) (marks i) i (Held i) (Unmade i) Known
   law = record {
     history = is_history;
     unseen = unseen;
@@ -251,16 +276,17 @@ module _ (i : StreamId) where
     absent = λ operation h o ms k. absent-held i operation h o ms (rw (is_same-refl i) at k);
     steps = steps-held i;
     steps_unmade = steps-unmade i;
-    pipe = λ p operation s x es known e h k. pipe-held i p operation s x (all_seen (marks i) es) (known_expects i p operation s x es known e) e h k;
+    pipe = λ p operation s x es known e h k. pipe-held i p operation s x (all_seen (marks i) es) (known_expects i p operation s x es known.0 e) e h k;
     pipe_unmade = pipe-unmade i;
     no_pipe = no_pipe-held i;
     pipe_untold = λ p operation s. refl;
     signal = λ a operation x h o z ms k. signal-held i operation x h o z ms k;
     no_signal = λ a operation h o z ms k. no_signal-held i operation h o z ms k;
     signal_untold = λ a operation s. refl;
-    known = waits-stays;
-    known_heard = waits-heard;
-    known_first = λ p. none-waits p;
+    transform = λ t operation s x es known e h k. transform-held i t operation s x es (is_resting operation) refl known.1 h (holders s) (readable_at i s) k;
+    known = known-stays;
+    known_heard = λ s k. (waits-heard s k.0, tt);
+    known_first = (λ p. none-waits p, tt);
     call = call-now;
     job = λ job h o r k. other-held h o r (all_seen (marks i) (job_effects job)) (job-others job) k;
     made = made-held i;
@@ -284,7 +310,7 @@ module _ (i : StreamId) where
 
   -- between steps
   pub run-now : (entries : List Entry) → Ends entries
-  run-now entries = rw over-parts at (on_readable.run-kept no_told told_then (told i) (marks i) i (Held i) (Unmade i) EachWaits law entries)
+  run-now entries = rw over-parts at (on_readable.run-kept no_told told_then (told i) (marks i) i (Held i) (Unmade i) Known law entries)
 
   -- a reader's stream is there
   pub reader-there : (entries : List Entry) (l : LockId) (p : PromiseId) → let s : Slots = run entries empty in lock_at l s ≡ Some (Reader (Some i) p) → has_readable i s ≡ true

@@ -4,7 +4,7 @@ use Rattle.std.proofs.Common.{◌≡◌, ℕ, ◌+◌, Bool, true, is_some, List
 use Rattle.std.proofs.lemmas.List.Elements.{All-nil}
 use Rattle.ws_value.specs.declared.{ids.StreamId.{StreamId}}
 use Rattle.ws_value.specs.declared.value.{Outcome.{Outcome}, Outcome.TheVariants.{Given}, Value.{Value}}
-use Rattle.ws_steps.specs.declared.{effects.Effect.{Effect}, effects.Effect.TheVariants.{ChunkSteps, CloseSteps, ErrorSteps}, effects.Owner.TheVariants.{Host}}
+use Rattle.ws_steps.specs.declared.{effects.Effect.{Effect}, effects.Effect.TheVariants.{ChunkSteps, CloseSteps, ErrorSteps}, effects.Owner.{Owner}}
 use Rattle.ws_steps.specs.declared.{readable.ReadRequest.{ReadRequest}, readable.ReadableOperation.{ReadableOperation}, readable.ReadableOperation.TheVariants.{InitializeReader, ReleaseReader}}
 use Rattle.ws_steps.specs.declared.{readable.SizeBy.{SizeBy}}
 use Rattle.ws_steps.specs.Effects.{Out}
@@ -180,15 +180,15 @@ module _ (i : StreamId) where
   none_answered [] rs e = refl
   none_answered (x ∷ xs) rs e = cc
 
-  pub made-held : (hwm : ℕ) (size : SizeBy) (h : Told) (o : Holders) → Unmade i h o → Held i h o no_readable [] → Held i h o (readable.set_up Host hwm size) []
-  made-held hwm size h o u k =
+  pub made-held : (owner : Owner) (hwm : ℕ) (size : SizeBy) (h : Told) (o : Holders) → Unmade i h o → Held i h o no_readable [] → Held i h o (readable.set_up owner hwm size) []
+  made-held owner hwm size h o u k =
       let none : k.line.answered ≡ [] = none_answered k.line.answered [] (k.line.order ∙ u.unasked) in
       record {
         line = record {
           answered = [];
           order = sym u.unasked;
           told = rw none at k.line.told;
-          allowed = All-nil (λ a. Allows (readable.set_up Host hwm size).state a.answer);
+          allowed = All-nil (λ a. Allows (readable.set_up owner hwm size).state a.answer);
           released = rw none at k.line.released;
           waits = record { ended = λ e. refl; served = λ e. refl; locked = λ e. refl };
         };

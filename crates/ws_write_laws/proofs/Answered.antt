@@ -1,6 +1,6 @@
 -- What is written to a stream is what calls and pipes write, and the promises of these writes are those that the calls answered and those
 -- that the pipes made: nothing else causes a write.
-use Rattle.std.proofs.Common.{◌≡◌, Bool, true, false, List, [], ◌∷◌, ◌++◌, Option, Some, None, Result, if◌then◌else◌, refl, sym, ap, ◌∙◌, append_assoc, append-nil, arith}
+use Rattle.std.proofs.Common.{◌≡◌, Bool, true, false, List, [], ◌∷◌, ◌++◌, Option, Some, None, Result, Ok, Err, if◌then◌else◌, refl, sym, ap, ◌∙◌, append_assoc, append-nil, arith}
 use Rattle.std.proofs.lemmas.Bool.{false≢true}
 use Rattle.std.specs.Prelude.{slice_get}
 use Rattle.ws_value.specs.declared.ids.PipeId.{PipeId}
@@ -12,7 +12,7 @@ use Rattle.ws_steps.specs.declared.{calls.Call.{Call}, calls.Call.TheVariants.{W
 use Rattle.ws_steps.specs.declared.effects.Effect.TheVariants.{Writable, Pipe, CloseAlgorithm}
 use Rattle.ws_steps.specs.declared.{locks.Lock.{Lock}, locks.Lock.TheVariants.{Reader, Writer, ReleasedWriter, Inner}, promises.Job.{Job}, promises.Job.TheVariants.{Reaction as ReactionJob, Follow, Settle as SettleJob, Micro as MicroJob}}
 use Rattle.ws_steps.specs.declared.{promises.Micro.TheVariants.{PipeLook, PipeWrite, PipeNoParts}, promises.Step.{Step}}
-use Rattle.ws_steps.specs.declared.promises.Step.TheVariants.{ReadableStart, ReadablePull, ReturnUndefined, WritableStart, WritableWrite, WritableClose, WritableAbort, PipeEnds, PipeReady, PipeWrote, PipeActed, PipePart}
+use Rattle.ws_steps.specs.declared.promises.Step.TheVariants.{ReadableStart, ReadablePull, ReturnUndefined, WritableStart, WritableWrite, WritableClose, WritableAbort, PipeEnds, PipeReady, PipeWrote, PipeActed, PipePart, TransformChanged, Transformed, TransformFlushed, TransformAborted, TransformCancelled}
 use Rattle.ws_steps.specs.declared.{pipes.Phase.{Phase}, pipes.Phase.TheVariants.{Flowing, Waiting, Acting, Over}, pipes.PipeOperation.TheVariants.{WriteChunk}, writable.WritableOperation.TheVariants.{Write}}
 use Rattle.ws_steps.specs.Promises.{next_id, next_job}
 use Rattle.ws_steps.specs.Pipes as pipe
@@ -315,6 +315,13 @@ steps_quiet (PipeReady p) o = (tt, tt)
 steps_quiet (PipeWrote p) o = (tt, tt)
 steps_quiet (PipeActed p) o = (tt, tt)
 steps_quiet (PipePart p) o = (tt, tt)
+steps_quiet (TransformChanged t d) (Ok v) = (tt, tt)
+steps_quiet (TransformChanged t d) (Err r) = (tt, tt)
+steps_quiet (Transformed t) (Ok v) = tt
+steps_quiet (Transformed t) (Err r) = (tt, tt)
+steps_quiet (TransformFlushed t p) o = (tt, tt)
+steps_quiet (TransformAborted t p r) o = (tt, tt)
+steps_quiet (TransformCancelled t p r) o = (tt, tt)
 
 resolved_quiet : (derived : Option PromiseId) (o : Result Plain Plain) → Each Quiet (resolved derived o)
 resolved_quiet None o = tt

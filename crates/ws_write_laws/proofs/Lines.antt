@@ -9,6 +9,7 @@ use Rattle.ws_value.specs.declared.value.Value.{Value}
 use Rattle.ws_steps.specs.declared.{queue.Queued.{Queued}, writable.PendingAbort.{PendingAbort}, writable.WritableOperation.{WritableOperation}}
 use Rattle.ws_steps.specs.declared.writable.WritableOperation.TheVariants as names
 use Rattle.ws_steps.specs.declared.{writable.WritableState.{WritableState}, writable.WritableState.TheVariants.{Writable, Erroring, Errored, Closed}, writable.WriteRecord.{WriteRecord}, writable.WriteRecord.TheVariants.{CloseMark}}
+use Rattle.ws_steps.specs.declared.transform.Taker.{Taker}
 use Rattle.ws_steps.specs.Effects.{Out, type_error}
 use Rattle.ws_steps.specs.Promises.{Table, outcome_at, settle}
 use Rattle.ws_steps.specs.Operations.{writable_operation}
@@ -313,8 +314,8 @@ abort_if_writable-lines i had ps r p a f =
 
 -- the handing on of a chunk
 
-hand_on-lines : (had : Bool) (ps : List PromiseId) (i : StreamId) (a : Acts) (first : Option WriteRecord) → Ready had ps (core_of a.slots) → Lines had ps (hand_on_first i a first)
-hand_on-lines had ps i a first r = grind (arith, rests)
+hand_on-lines : (had : Bool) (ps : List PromiseId) (i : StreamId) (taker : Taker) (a : Acts) (first : Option WriteRecord) → Ready had ps (core_of a.slots) → Lines had ps (hand_on_first i taker a first)
+hand_on-lines had ps i taker a first r = grind (arith, rests)
 
 -- operations that neither append a write nor end one alone, but for the reactions to the start and the close
 abbrev pub IsPlain : WritableOperation → Type 0
@@ -333,6 +334,6 @@ plain-lines i (names.ClosePropagating p) had ps a u r = propagating-lines i had 
 plain-lines i (names.Abort e p) had ps a u r = abort-lines i had ps e p a r
 plain-lines i (names.AbortIfWritable e p) had ps a u r = abort_if_writable-lines i had ps e p a r
 plain-lines i (names.ErrorIfNeeded e) had ps a u r = if_needed-lines i had ps e a r
-plain-lines i names.HandOn had ps a u r = hand_on-lines had ps i a (first_value a.slots.queue) r
+plain-lines i (names.HandOn taker) had ps a u r = hand_on-lines had ps i taker a (first_value a.slots.queue) r
 plain-lines i (names.AbortSettled p o) had ps a u r = abort_settled-lines i had ps p o a r
 plain-lines i _ had ps a u r = absurd u

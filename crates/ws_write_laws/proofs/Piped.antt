@@ -1,8 +1,10 @@
 -- A pipe causes a write only where it writes the chunk that it holds.
 use Rattle.std.proofs.Common.{Option, Some, None, arith}
 use Rattle.ws_value.specs.declared.ids.PipeId.{PipeId}
+use Rattle.ws_value.specs.declared.ids.{StreamId.{StreamId}}
+use Rattle.ws_steps.specs.declared.transform.TransformId.{TransformId}
 use Rattle.ws_value.specs.declared.value.Plain.{Plain}
-use Rattle.ws_steps.specs.declared.effects.{Effect.{Effect}, Effect.TheVariants.{Readable, Writable, Pipe, StartAlgorithm, PullAlgorithm, CancelAlgorithm, CloseAlgorithm, AbortAlgorithm, Signal, ChunkSteps, CloseSteps, ErrorSteps}}
+use Rattle.ws_steps.specs.declared.effects.{Effect.{Effect}, Effect.TheVariants.{Readable, Writable, Pipe, Transform, StartAlgorithm, PullAlgorithm, CancelAlgorithm, WriteAlgorithm, CloseAlgorithm, AbortAlgorithm, Signal, ChunkSteps, CloseSteps, ErrorSteps}}
 use Rattle.ws_steps.specs.declared.pipes.{Action.{Action}, Ends.{Ends}, Phase.{Phase}, PipeOperation.{PipeOperation}, SignalOperation.{SignalOperation}, SignalOperation.TheVariants.{Add, Forget, Trigger}}
 use Rattle.ws_steps.specs.declared.pipes.PipeOperation.TheVariants as names
 use Rattle.ws_steps.specs.declared.readable.{ReadRequest.{ReadRequest}, ReadRequest.TheVariants.{Promise, Pipe as PipeRequest}, ReadableState.{ReadableState}}
@@ -15,6 +17,7 @@ use Rattle.ws_steps.specs.Slots.{Slots, found, ends_at, on_pipe_at}
 use Rattle.ws_steps.specs.Turns.{row}
 use Rattle.std.proofs.Common.{slice_get}
 use Rattle.ws_laws.proofs.Lists.{Each, each-append}
+use Rattle.ws_laws.proofs.TransformDoes.{TransformCauses}
 use Rattle.ws_laws.proofs.Rows.{Causes, ChunkCauses, EndCauses, SignalCauses, row-causes}
 
 -- effects that neither write nor have a pipe write
@@ -93,16 +96,23 @@ signal_quiet (Trigger r) = λ p. tt
 signal_quiet (Add p) = tt
 signal_quiet (Forget p) = tt
 
+transform-quiet : (t : TransformId) (writable readable : StreamId) (e : Effect) → TransformCauses t writable readable e → Quiet e
+transform-quiet t writable readable (Writable i (Write v p)) c = absurd c
+transform-quiet t writable readable (Pipe p operation) c = absurd c
+transform-quiet t writable readable _ c = tt
+
 pub quiet-causes : (e : Effect) → IsNoPipe e → Causes Quiet e
 quiet-causes (Readable j operation) n = record { pull = tt; cancel = λ r p. tt; chunk = λ r v. tt; close = λ r. tt; error = λ r e. tt }
-quiet-causes (Writable j operation) n = record { write = tt; close = tt; abort = λ r p. tt; hand_on = λ v. tt }
+quiet-causes (Writable j operation) n = record { write = tt; close = tt; abort = λ r p. tt; hand_on = λ v. tt; take = λ v t d. tt }
 quiet-causes (Pipe p operation) n = absurd n
 quiet-causes (Signal a operation) n = signal_quiet operation
+quiet-causes (Transform t operation) n = λ writable readable e c. transform-quiet t writable readable e c
 quiet-causes (StartAlgorithm j step start) n = (λ g u. tt, λ c u. tt)
-quiet-causes (PullAlgorithm j) n = λ c u. tt
-quiet-causes (CancelAlgorithm j r p) n = λ c u. tt
-quiet-causes (CloseAlgorithm j) n = λ c u. tt
-quiet-causes (AbortAlgorithm j r p) n = λ c u. tt
+quiet-causes (PullAlgorithm j) n = (λ c u. tt, λ t u. tt)
+quiet-causes (CancelAlgorithm j r p) n = (λ c u. tt, λ t u. tt)
+quiet-causes (WriteAlgorithm j) n = (tt, λ t u. tt)
+quiet-causes (CloseAlgorithm j) n = (λ c u. tt, λ t u. tt)
+quiet-causes (AbortAlgorithm j r p) n = (λ c u. tt, λ t u. tt)
 quiet-causes (ChunkSteps j request v) n = chunk-quiet v request
 quiet-causes (CloseSteps j request) n = end-quiet request
 quiet-causes (ErrorSteps j request e) n = end-quiet request

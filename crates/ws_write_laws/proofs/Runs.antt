@@ -2,7 +2,7 @@
 use Rattle.std.proofs.Common.{◌≡◌, nat_eq, Bool, true, false, is_some, List, [], ◌∷◌, ◌++◌, length, Option, Some, None, slice_get, refl, sym, ap, subst, ◌∙◌, arith, append-nil, append_assoc}
 use Rattle.ws_value.specs.declared.ids.PromiseId.{PromiseId}
 use Rattle.ws_value.specs.declared.ids.StreamId.{StreamId}
-use Rattle.ws_steps.specs.declared.{calls.Call.{Call}, effects.Effect.{Effect}, effects.Effect.TheVariants.{Writable}, effects.Owner.TheVariants.{Host}}
+use Rattle.ws_steps.specs.declared.{calls.Call.{Call}, effects.Effect.{Effect}, effects.Effect.TheVariants.{Writable}}
 use Rattle.ws_steps.specs.declared.writable.WritableOperation.{WritableOperation}
 use Rattle.ws_steps.specs.declared.writable.WritableOperation.TheVariants as names
 use Rattle.ws_steps.specs.Operations.{writable_operation}
@@ -104,6 +104,7 @@ operation-keeps i operation a =
       close = λ x k. k;
       abort = λ x r p k. k;
       hand_on = λ x v k. k;
+      take = λ x v t d k. k;
     }) operation a (keeps-same a.out.promises)
 
 own-lined : (i : StreamId) (h : Both) (s : Slots) (operation : WritableOperation) (there : Bool) → there ≡ has_writable i s → Knows h.writes operation (writable_at i s)
@@ -199,8 +200,9 @@ call-lined i h c s l =
       hosts = λ z hosts m. m;
       pipe = λ z source dest prevent signal promise m. m;
       signal = λ z m. m;
-      readable = λ z mark size m. added i h z (ReadableStream (readable.set_up Host mark size)) refl refl m;
-      writable = λ z mark size m. added i h z (WritableStream (writable.set_up Host mark size)) refl refl m;
+      transform = λ z kind half other change m. m;
+      readable = λ z owner mark size m. added i h z (ReadableStream (readable.set_up owner mark size)) refl refl m;
+      writable = λ z owner mark size m. added i h z (WritableStream (writable.set_up owner mark size)) refl refl m;
     }) c s l
 
 pub holds-goes : (i : StreamId) → GoesUntold both_then (both_told i) (Holds i)
