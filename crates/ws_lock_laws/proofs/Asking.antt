@@ -5,6 +5,7 @@ use Rattle.ws_value.specs.declared.{ids.PipeId.{PipeId}, ids.StreamId.{StreamId}
 use Rattle.ws_steps.specs.declared.effects.{Effect.{Effect}, Effect.TheVariants.{Readable as OnReadable, Writable as OnWritable, Pipe as OnPipe}}
 use Rattle.ws_steps.specs.declared.pipes.{Phase.TheVariants.{Flowing}, PipeOperation.{PipeOperation}}
 use Rattle.ws_steps.specs.declared.readable.{ReadRequest.{ReadRequest}, ReadRequest.TheVariants.{Promise, Pipe as PipeRequest}, ReadableOperation.{ReadableOperation}, ReadableOperation.TheVariants.{InitializeReader, ReleaseReader, Read}}
+use Rattle.ws_steps.specs.declared.transform.TransformId.{TransformId}
 use Rattle.ws_steps.specs.declared.writable.WritableOperation.{WritableOperation}
 use Rattle.ws_steps.specs.Histories.{is_same}
 use Rattle.ws_steps.specs.Operations.{readable_operation, writable_operation, pipe_operation}
@@ -17,6 +18,7 @@ use Rattle.ws_laws.proofs.Lists.{Each, each-append}
 use Rattle.ws_laws.proofs.PipeDoes.{pipe-causes}
 use Rattle.ws_laws.proofs.Rows.{Causes, IsApart, IsNoPipe, row-causes, row-pipes, row-streams}
 use Rattle.ws_laws.proofs.Tables.{is_same-refl, same_id, eq_numbers, unequal_numbers, readable_acts, readable_there, on_readable-same, on_readable-other, on_writable-same, on_writable-other}
+use Rattle.ws_laws.proofs.TransformDoes.{TransformCauses}
 use Rattle.ws_read_laws.proofs.Line.{operation-reader}
 use Rattle.ws_pipe_laws.specs.PipeMoves.{starting}
 use Rattle.ws_pipe_laws.specs.PipeReads.{one_if}
@@ -227,8 +229,11 @@ pipe-asks p operation s es (Some x) e none k = by (operation-reads p (ends_at x 
 
 -- other effects cause no read
 
+transform_silent : (me : TransformId) (writable readable : StreamId) (e : Effect) → TransformCauses me writable readable e → IsNoRead e
+transform_silent me writable readable e c = grind (arith, c)
+
 read-causes : (e : Effect) → IsNoPipe e → Causes IsNoRead e
-read-causes e n = grind (arith, n)
+read-causes e n = grind (arith, n, transform_silent)
 
 pub other-silent : (s : Slots) (e : Effect) (es : List Effect) → IsNoPipe e → ReadsFirst (e ∷ es) → Each IsNoRead ((row e s).caused ++ es)
 other-silent s e es n first = each-append IsNoRead (row e s).caused es (row-causes IsNoRead e s (read-causes e n)) first

@@ -3,11 +3,11 @@ use Rattle.std.proofs.Common.{◌≡◌, ◌⊎◌, inl, inr, ⊎_elim, ℕ, ◌
 use Rattle.ws_value.specs.declared.{ids.LockId.{LockId}, ids.PipeId.{PipeId}, ids.PromiseId.{PromiseId}, ids.SignalId.{SignalId}, ids.StreamId.{StreamId}, value.Plain.{Plain}}
 use Rattle.ws_steps.specs.declared.calls.Call.{Call}
 use Rattle.ws_steps.specs.declared.calls.Call.TheVariants.{GetWriter}
-use Rattle.ws_steps.specs.declared.calls.{Reply.{Reply}, Reply.TheVariants.{Lock as ReplyLock}}
+use Rattle.ws_steps.specs.declared.calls.{Reply.{Reply}, Reply.TheVariants.{Lock as ReplyLock}, StartBy.{StartBy}, StartBy.TheVariants.{Now as StartNow, Later}}
 use Rattle.ws_steps.specs.declared.effects.Effect.{Effect}
 use Rattle.ws_steps.specs.declared.effects.Effect.TheVariants.{Readable as OnReadable, Writable as OnWritable}
 use Rattle.ws_steps.specs.declared.{locks.Lock.{Lock}, locks.Lock.TheVariants.{Reader, Writer as WriterLock, ReleasedWriter, Inner}, promises.Job.{Job}, pipes.Prevent.{Prevent}}
-use Rattle.ws_steps.specs.declared.{effects.Owner.TheVariants.{Host}, readable.SizeBy.{SizeBy}}
+use Rattle.ws_steps.specs.declared.{effects.Owner.{Owner}, effects.Owner.TheVariants.{Host, HalfOf}, readable.SizeBy.{SizeBy}, readable.SizeBy.TheVariants.{Count}, transform.Kind.{Kind}, transform.TransformId.{TransformId}}
 use Rattle.ws_steps.specs.declared.readable.ReadableOperation.TheVariants.{InitializeReader, ReleaseReader, Disturb}
 use Rattle.ws_steps.specs.declared.writable.{WritableOperation.TheVariants.{SetUpWriter, ReleaseWriter}, Writer.{Writer}}
 use Rattle.ws_steps.specs.Histories.{is_same}
@@ -45,6 +45,10 @@ begins-calm me a b signal (Some r) = (tt, tt)
 begins-calm me a b None None = grind arith
 begins-calm me a b (Some g) None = grind arith
 
+start-calm : (q : PromiseId) (j : StreamId) (start : StartBy) → IsCalm (calls.start_transform q j start)
+start-calm q j StartNow = tt
+start-calm q j Later = tt
+
 no_takes : (es : List Effect) → Each IsCalm es → Each IsNoTake es
 no_takes es c = each-map IsCalm IsNoTake calm_takes es c
 
@@ -70,7 +74,13 @@ call-first c s = each_call (λ (b : Begun). TakesFirst b.done.caused) c s (recor
   write = λ l v i e. tt;
   close = λ i. tt;
   abort = λ reason i e. tt;
-  enqueue = λ i v e can. tt;
+  make_transform = λ kind m n start.
+      let first : Effect = calls.start_transform (next_id (fresh s.promises)) (record { 0 = length s.streams + 1 }) start in
+      (tt, (tt, (tt, (calm_takes first (start-calm (next_id (fresh s.promises)) (record { 0 = length s.streams + 1 }) start), tt))));
+  enqueue = λ i v e o can. tt;
+  enqueue_half = λ i t v e o can. tt;
+  fail_half = λ t reason. tt;
+  terminate = λ t. tt;
   finish = λ i. tt;
   fail_readable = λ i reason. tt;
   fail_writable = λ i reason. tt;
@@ -161,13 +171,13 @@ no_released : (d : Side) (i : StreamId) (w : Writer) → has d i (ReleasedWriter
 no_released Reading i w = refl
 no_released Writing i w = refl
 
-new_readable : (d : Side) (mark : ℕ) (size : SizeBy) → has_lock d (Some (ReadableStream (readable.set_up Host mark size))) ≡ false
-new_readable Reading mark size = refl
-new_readable Writing mark size = refl
+new_readable : (d : Side) (owner : Owner) (mark : ℕ) (size : SizeBy) → has_lock d (Some (ReadableStream (readable.set_up owner mark size))) ≡ false
+new_readable Reading owner mark size = refl
+new_readable Writing owner mark size = refl
 
-new_writable : (d : Side) (mark : ℕ) (size : SizeBy) → has_lock d (Some (WritableStream (writable.set_up Host mark size))) ≡ false
-new_writable Reading mark size = refl
-new_writable Writing mark size = refl
+new_writable : (d : Side) (owner : Owner) (mark : ℕ) (size : SizeBy) → has_lock d (Some (WritableStream (writable.set_up owner mark size))) ≡ false
+new_writable Reading owner mark size = refl
+new_writable Writing owner mark size = refl
 
 -- whether a call gets a writer
 abbrev gets_writer : Reply → List Effect → Bool
@@ -278,6 +288,19 @@ module _ (i : StreamId) where
       (first_goes d source dest closed w last (goes_none-all d i last calm))
       (end_free d source dest s x refl refl free there writer)
 
+  -- the two halves of a transform stream
+
+  transform-balanced : (d : Side) (kind : Kind) (m n : ℕ) (start : StartBy) (j l : StreamId) (s : Slots) → Balanced d i s []
+      → Balanced d i (calls.make_transform kind m n start j l s).done.slots (calls.make_transform kind m n start j l s).done.caused
+  transform-balanced d kind m n start j l s k =
+      let me : TransformId = record { 0 = length s.transforms } in
+      let w : Stream = WritableStream (writable.set_up (HalfOf me) m Count) in
+      let r : Stream = ReadableStream (readable.set_up (HalfOf me) n Count) in
+      let one : Balanced d i (add_stream w s) [] = made d i s k w [] (new_writable d (HalfOf me) m Count) tt in
+      let two = made d i (add_stream w s) one r (calls.make_transform kind m n start j l s).done.caused (new_readable d (HalfOf me) n Count)
+      (tt, (tt, (tt, (tt, (start-calm (next_id (fresh s.promises)) l start, tt))))) in
+      record { even = two.even; few = two.few }
+
   -- each call
 
   abbrev Now : Side → Begun → Type 0
@@ -299,8 +322,8 @@ module _ (i : StreamId) where
       each_call (Other d) c s (record {
         unchanged = λ reply. inl k;
         rejected = inl (quiet _ _ refl refl refl (tt, tt));
-        make_readable = λ mark size start. inl (made d i s k (ReadableStream (readable.set_up Host mark size)) _ (new_readable d mark size) (tt, tt));
-        make_writable = λ mark size start. inl (made d i s k (WritableStream (writable.set_up Host mark size)) _ (new_writable d mark size) (tt, tt));
+        make_readable = λ mark size start. inl (made d i s k (ReadableStream (readable.set_up Host mark size)) _ (new_readable d Host mark size) (tt, tt));
+        make_writable = λ mark size start. inl (made d i s k (WritableStream (writable.set_up Host mark size)) _ (new_writable d Host mark size) (tt, tt));
         get_reader = λ j e. inl (get_reader-balanced d j s e k);
         get_writer = λ j e. inr refl;
         release_reader = λ l closed j e. inl (release_reader-balanced d l closed j s e k);
@@ -310,7 +333,11 @@ module _ (i : StreamId) where
         write = λ l v j e. inl (quiet _ _ refl refl refl (tt, tt));
         close = λ j. inl (quiet _ _ refl refl refl (tt, tt));
         abort = λ reason j e. inl (quiet _ _ refl refl refl (tt, tt));
-        enqueue = λ j v e can. inl (quiet _ _ refl refl refl (tt, tt));
+        make_transform = λ kind m n start. inl (transform-balanced d kind m n start (record { 0 = length s.streams }) (record { 0 = length s.streams + 1 }) s k);
+        enqueue = λ j v e o can. inl (quiet _ _ refl refl refl (tt, tt));
+        enqueue_half = λ j t v e o can. inl (quiet _ _ refl refl refl (tt, tt));
+        fail_half = λ t reason. inl (quiet _ _ refl refl refl (tt, tt));
+        terminate = λ t. inl (quiet _ _ refl refl refl (tt, tt));
         finish = λ j. inl (quiet _ _ refl refl refl (tt, tt));
         fail_readable = λ j reason. inl (quiet _ _ refl refl refl (tt, tt));
         fail_writable = λ j reason. inl (quiet _ _ refl refl refl (tt, tt));

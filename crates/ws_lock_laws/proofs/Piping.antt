@@ -4,6 +4,7 @@ use Rattle.ws_value.specs.declared.{ids.PipeId.{PipeId}, ids.PromiseId.{PromiseI
 use Rattle.ws_steps.specs.declared.effects.{Effect.{Effect}, Effect.TheVariants.{Settle}}
 use Rattle.ws_steps.specs.declared.pipes.{Action.{Action}, Action.TheVariants.{AbortDest, CancelSource, CloseDest, BySignal}, Ends.{Ends}, Phase.{Phase}}
 use Rattle.ws_steps.specs.declared.pipes.{PipeOperation.{PipeOperation}, PipeOperation.TheVariants.{ActionSettled}}
+use Rattle.ws_steps.specs.declared.transform.TransformId.{TransformId}
 use Rattle.ws_steps.specs.Histories.{is_same}
 use Rattle.ws_steps.specs.Operations.{pipe_operation}
 use Rattle.ws_steps.specs.Effects.{Out}
@@ -11,6 +12,7 @@ use Rattle.ws_steps.specs.Pipes.{Slots, Acts}
 use Rattle.ws_steps.specs.Promises.{Table}
 use Rattle.ws_laws.proofs.Lists.{Each}
 use Rattle.ws_laws.proofs.PipeDoes.{PipeCauses, pipe-causes}
+use Rattle.ws_laws.proofs.TransformDoes.{TransformCauses}
 use Rattle.ws_laws.proofs.Truth.{and_left, and_right}
 use Rattle.ws_writable_laws.proofs.Shape.{all, all-append}
 use Rattle.ws_pipe_laws.specs.PipeHistory.{is_live, is_over}
@@ -23,6 +25,10 @@ use Rattle.ws_lock_laws.proofs.Agenda.{goes, IsNoTake, IsCalm, goes_none-all}
 -- what a pipe causes takes no lock
 pub pipe_takes : (me : PipeId) (source dest : StreamId) (e : Effect) → PipeCauses me source dest e → IsNoTake e
 pipe_takes me source dest e c = grind (arith, c)
+
+-- and what a transform stream causes neither takes one nor lets go of one
+pub transform_calm : (me : TransformId) (writable readable : StreamId) (e : Effect) → TransformCauses me writable readable e → IsCalm e
+transform_calm me writable readable e c = grind (arith, c)
 
 -- an action lets go of none
 

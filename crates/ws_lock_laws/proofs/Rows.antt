@@ -5,6 +5,7 @@ use Rattle.ws_steps.specs.declared.effects.Effect.{Effect}
 use Rattle.ws_steps.specs.declared.effects.Effect.TheVariants.{Readable as OnReadable, Writable as OnWritable, Pipe as OnPipe}
 use Rattle.ws_steps.specs.declared.pipes.{Phase.{Phase}, PipeOperation.{PipeOperation}, PipeOperation.TheVariants.{ActionSettled}}
 use Rattle.ws_steps.specs.declared.readable.{ReadableOperation.{ReadableOperation}, ReadableOperation.TheVariants.{InitializeReader, ReleaseReader}}
+use Rattle.ws_steps.specs.declared.transform.TransformId.{TransformId}
 use Rattle.ws_steps.specs.declared.writable.{WritableOperation.{WritableOperation}, WritableOperation.TheVariants.{SetUpWriter, ReleaseWriter}, Writer.{Writer}}
 use Rattle.ws_steps.specs.Histories.{is_same}
 use Rattle.ws_steps.specs.Operations.{readable_operation, writable_operation, pipe_operation}
@@ -19,6 +20,7 @@ use Rattle.ws_laws.proofs.Lists.{Each, each-append, each-map}
 use Rattle.ws_laws.proofs.PipeDoes.{pipe-causes}
 use Rattle.ws_laws.proofs.Rows.{Causes, IsApart, IsNoPipe, row-causes, row-locks, row-pipes, row-streams}
 use Rattle.ws_laws.proofs.Tables.{either, is_same-refl, same_id, readable_acts, writable_acts, readable_there, writable_there, on_readable-same, on_readable-other, on_writable-same, on_writable-other}
+use Rattle.ws_laws.proofs.TransformDoes.{TransformCauses}
 use Rattle.ws_writable_laws.proofs.Shape.{all, all-append}
 use Rattle.ws_promise_laws.proofs.Acting.{EachWaits, waits-expects}
 use Rattle.ws_promise_laws.proofs.Streams.{goes_on}
@@ -29,18 +31,21 @@ use Rattle.ws_pipe_laws.specs.PipeReads.{one_if}
 use Rattle.ws_lock_laws.specs.Locks.{Side, Reading, Writing, has_lock, holders, is_locked}
 use Rattle.ws_lock_laws.proofs.Agenda.{takes, goes, reader_takes, reader_goes, writer_takes, writer_goes, IsNoTake, IsCalm, calm_takes, takes_none-all, goes_none-all, TakesFirst, takes_first, takes_behind}
 use Rattle.ws_lock_laws.proofs.Holding.{pipes-set}
-use Rattle.ws_lock_laws.proofs.Piping.{pipe_takes, operation-goes}
+use Rattle.ws_lock_laws.proofs.Piping.{pipe_takes, transform_calm, operation-goes}
 use Rattle.ws_lock_laws.proofs.Writers.{has_writer, operation-writer}
 
 -- what an effect causes
 
+transform_takes : (me : TransformId) (writable readable : StreamId) (e : Effect) → TransformCauses me writable readable e → IsNoTake e
+transform_takes me writable readable e c = calm_takes e (transform_calm me writable readable e c)
+
 -- none takes a lock
 take-causes : (e : Effect) → Causes IsNoTake e
-take-causes e = grind (arith, pipe_takes)
+take-causes e = grind (arith, pipe_takes, transform_takes)
 
 -- and but for operations of pipes none lets go of one
 calm-causes : (e : Effect) → IsNoPipe e → Causes IsCalm e
-calm-causes e n = grind (arith, n)
+calm-causes e n = grind (arith, n, transform_calm)
 
 -- those that take a lock cause nothing
 

@@ -3,11 +3,12 @@
 use Rattle.std.proofs.Common.{◌≡◌, ◌⊎◌, inl, inr, ⊎_elim, ℕ, zero, suc, ◌+◌, ◌≤◌, Bool, true, false, nat_eq, if◌then◌else◌, is_some, List, [], ◌∷◌, ◌++◌, length, All, Option, Some, None, slice_get, refl, sym, ap, subst, arith}
 use Rattle.std.proofs.lemmas.List.Elements.{All-nil, All-cons}
 use Rattle.ws_value.specs.declared.{ids.LockId.{LockId}, ids.PipeId.{PipeId}, ids.PromiseId.{PromiseId}, ids.SignalId.{SignalId}, ids.StreamId.{StreamId}, value.Plain.{Plain}}
-use Rattle.ws_steps.specs.declared.calls.Call.{Call}
+use Rattle.ws_steps.specs.declared.calls.{Call.{Call}, StartBy.{StartBy}, StartBy.TheVariants.{Now, Later}}
 use Rattle.ws_steps.specs.declared.effects.Effect.{Effect}
 use Rattle.ws_steps.specs.declared.effects.Effect.TheVariants.{Readable as OnReadable, Writable as OnWritable, Pipe as OnPipe}
-use Rattle.ws_steps.specs.declared.{effects.Owner.TheVariants.{Host}, locks.Lock.TheVariants.{Reader}, promises.Job.{Job}, pipes.PipeOperation.{PipeOperation}, pipes.Prevent.{Prevent}}
+use Rattle.ws_steps.specs.declared.{effects.Owner.TheVariants.{Host, HalfOf}, locks.Lock.TheVariants.{Reader}, promises.Job.{Job}, pipes.PipeOperation.{PipeOperation}, pipes.Prevent.{Prevent}}
 use Rattle.ws_steps.specs.declared.readable.{ReadRequest.{ReadRequest}, ReadRequest.TheVariants.{Promise, Pipe as PipeRequest}, ReadableOperation.{ReadableOperation}, ReadableOperation.TheVariants.{ReleaseReader, Read}}
+use Rattle.ws_steps.specs.declared.{readable.SizeBy.TheVariants.{Count}, transform.TransformId.{TransformId}}
 use Rattle.ws_steps.specs.declared.writable.WritableOperation.TheVariants.{ReleaseWriter}
 use Rattle.ws_steps.specs.Calls as calls
 use Rattle.ws_steps.specs.Calls.{Begun, begin}
@@ -95,6 +96,10 @@ begins-silent me a b signal (Some r) = (tt, tt)
 begins-silent me a b None None = grind arith
 begins-silent me a b (Some g) None = grind arith
 
+start-silent : (q : PromiseId) (j : StreamId) (start : StartBy) → IsNoRead (calls.start_transform q j start)
+start-silent q j Now = tt
+start-silent q j Later = tt
+
 job-silent : (job : Job) → Each IsNoRead (job_effects job)
 job-silent job = grind arith
 
@@ -138,7 +143,11 @@ call-asks c s k = each_call (λ (b : Begun). ReadsFirst b.done.caused × Asks b.
   write = λ l v i e. (tt, tt);
   close = λ i. (tt, tt);
   abort = λ reason i e. (tt, tt);
-  enqueue = λ i v e can. (tt, tt);
+  make_transform = λ kind m n start. ((tt, (tt, (tt, (start-silent (next_id (fresh s.promises)) (record { 0 = length s.streams + 1 }) start, tt)))), tt);
+  enqueue = λ i v e o can. (tt, tt);
+  enqueue_half = λ i t v e o can. (tt, tt);
+  fail_half = λ t reason. (tt, tt);
+  terminate = λ t. (tt, tt);
   finish = λ i. (tt, tt);
   fail_readable = λ i reason. (tt, tt);
   fail_writable = λ i reason. (tt, tt);
@@ -206,7 +215,14 @@ call-queued c s k = each_call (λ (b : Begun). EachQueued b.done.slots) c s (rec
   write = λ l v i e. k;
   close = λ i. k;
   abort = λ reason i e. k;
-  enqueue = λ i v e can. k;
+  make_transform = λ kind m n start i.
+      let me : TransformId = record { 0 = length s.transforms } in
+      let w : Stream = WritableStream (writable.set_up (HalfOf me) m Count) in
+      stream-made i (ReadableStream (readable.set_up (HalfOf me) n Count)) (calls.add_stream w s) refl (stream-made i w s refl (k i));
+  enqueue = λ i v e o can. k;
+  enqueue_half = λ i t v e o can. k;
+  fail_half = λ t reason. k;
+  terminate = λ t. k;
   finish = λ i. k;
   fail_readable = λ i reason. k;
   fail_writable = λ i reason. k;
@@ -232,6 +248,10 @@ module _ (p : PipeId) where
   begins-none me a b None None = refl
   begins-none me a b (Some g) None = refl
 
+  start-none : (q : PromiseId) (j : StreamId) (start : StartBy) → all (of_effect p) (calls.start_transform q j start ∷ []) ≡ 0
+  start-none q j Now = refl
+  start-none q j Later = refl
+
   call-none : (c : Call) (s : Slots) → all (of_effect p) (begin c s).done.caused ≡ 0
   call-none c s = each_call (λ (b : Begun). all (of_effect p) b.done.caused ≡ 0) c s (record {
     unchanged = λ reply. refl;
@@ -250,7 +270,11 @@ module _ (p : PipeId) where
     write = λ l v i e. refl;
     close = λ i. refl;
     abort = λ reason i e. refl;
-    enqueue = λ i v e can. refl;
+    make_transform = λ kind m n start. let k = start-none (next_id (fresh s.promises)) (record { 0 = length s.streams + 1 }) start in omega (arith, k);
+    enqueue = λ i v e o can. refl;
+    enqueue_half = λ i t v e o can. refl;
+    fail_half = λ t reason. refl;
+    terminate = λ t. refl;
     finish = λ i. refl;
     fail_readable = λ i reason. refl;
     fail_writable = λ i reason. refl;
@@ -285,8 +309,9 @@ module _ (p : PipeId) where
         hosts = λ z hs k. k;
         pipe = λ z source dest prevent signal promise k. pipe-under z source dest prevent signal promise k;
         signal = λ z k. k;
-        readable = λ z mark size k. stream-under z _ refl k;
-        writable = λ z mark size k. stream-under z _ refl k;
+        transform = λ z kind i j change k. k;
+        readable = λ z owner mark size k. stream-under z _ refl k;
+        writable = λ z owner mark size k. stream-under z _ refl k;
       }) c s k in
       let n = call-none c s in
       omega (arith, m, n)

@@ -23,7 +23,7 @@ use Rattle.ws_writable_laws.proofs.Shape.{all, all-append}
 use Rattle.ws_pipe_laws.specs.PipeReads.{held_values, one_if, in_requests, in_stream, in_streams}
 use Rattle.ws_pipe_laws.specs.PipeMoves.{starting}
 use Rattle.ws_pipe_laws.specs.PipeReads.{is_of}
-use Rattle.ws_pipe_laws.proofs.Reading.{is_answer, of_readable, of_effect, IsNone, none-all, no_answer, other-none}
+use Rattle.ws_pipe_laws.proofs.Reading.{is_answer, of_readable, of_effect, IsNone, none-all, no_answer, other-none, transform-none}
 use Rattle.ws_lock_laws.specs.Locks.{Reading, holders, is_locked}
 use Rattle.ws_lock_laws.proofs.Agenda.{takes, goes, TakesFirst}
 use Rattle.ws_lock_laws.proofs.Asking.{requests_at, any, EachQueued, Asks, read-locked, locked-there, one_at_most, place_same}
@@ -127,7 +127,7 @@ module _ (p : PipeId) where
   IsIdle _ = Unit {0}
 
   idle-causes : (e : Effect) → IsIdle e → Causes (IsNone p) e
-  idle-causes e n = grind (arith, n, no_answer)
+  idle-causes e n = grind (arith, n, no_answer, transform-none)
 
   idle-none : (e : Effect) → IsIdle e → of_effect p e ≡ 0
   idle-none e n = grind (arith, n)

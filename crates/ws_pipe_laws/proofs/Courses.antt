@@ -233,8 +233,9 @@ module _ (p : PipeId) where
         hosts = λ z hs k. k;
         pipe = λ z source dest prevent signal promise k. made h z source dest prevent signal promise k;
         signal = λ z k. k;
-        readable = λ z mark size k. k;
-        writable = λ z mark size k. k;
+        transform = λ z kind i j change k. k;
+        readable = λ z owner mark size k. k;
+        writable = λ z owner mark size k. k;
       }) c s k.0,
       waits-stays.call s c k.1,
     );

@@ -272,8 +272,9 @@ module _ (p : PipeId) (i : StreamId) where
         hosts = λ z hs k. k;
         pipe = λ z source dest prevent signal promise k. (pipe-made p h.through z source dest prevent signal promise k.0, made_rest h z source dest prevent signal promise k);
         signal = λ z k. k;
-        readable = λ z mark size k. (stream-made p h.through z _ refl k.0, stream_rest h z _ refl k.1);
-        writable = λ z mark size k. (stream-made p h.through z _ refl k.0, stream_rest h z _ refl k.1);
+        transform = λ z kind i j change k. k;
+        readable = λ z owner mark size k. (stream-made p h.through z _ refl k.0, stream_rest h z _ refl k.1);
+        writable = λ z owner mark size k. (stream-made p h.through z _ refl k.0, stream_rest h z _ refl k.1);
       }) c s k in
       (call-is p h.through s c k.0, begins h (begin c s).done.slots (begin c s).done.caused (call-none p c s) m.1)
 

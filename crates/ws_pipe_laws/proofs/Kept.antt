@@ -149,8 +149,9 @@ module _ (p : PipeId) (x : pipe.Slots) where
       hosts = λ z hs k. k;
       pipe = λ z source dest prevent signal promise k. made z source dest prevent signal promise k;
       signal = λ z k. k;
-      readable = λ z mark size k. k;
-      writable = λ z mark size k. k;
+      transform = λ z kind i j change k. k;
+      readable = λ z owner mark size k. k;
+      writable = λ z owner mark size k. k;
     }) c s k;
     job = λ s job e k. k;
     answered = λ s q k. k;

@@ -1,6 +1,7 @@
 pub mod Moves
 pub mod Starts
 pub mod Courses
+pub mod Unpiped
 pub mod Shut
 pub mod Signals
 pub mod SignalOrder

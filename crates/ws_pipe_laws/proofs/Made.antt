@@ -1,7 +1,7 @@
 -- Only a pipeTo makes a pipe, and one that flows.
 use Rattle.std.proofs.Common.{Option, Some, None, refl, arith}
 use Rattle.ws_value.specs.declared.{ids.SignalId.{SignalId}, ids.StreamId.{StreamId}}
-use Rattle.ws_steps.specs.declared.calls.Call.TheVariants.{MakeReadable, MakeWritable, GetReader, GetWriter, Cancel, CancelBy, Read, Write, Close, CloseBy, Abort, AbortBy, Closed, Ready, Release, Enqueue, Finish, Fail, Desired, DesiredBy, Pipe, MakeSignal, Trigger, Settle, State, Step}
+use Rattle.ws_steps.specs.declared.calls.Call.TheVariants.{MakeReadable, MakeWritable, MakeTransform, GetReader, GetWriter, Cancel, CancelBy, Read, Write, Close, CloseBy, Abort, AbortBy, Closed, Ready, Release, Enqueue, Finish, Fail, Terminate, Desired, DesiredBy, Pipe, MakeSignal, Trigger, Settle, State, Step}
 use Rattle.ws_steps.specs.declared.pipes.Prevent.{Prevent}
 use Rattle.ws_steps.specs.Calls as calls
 use Rattle.ws_steps.specs.Calls.{Begun, begin}
@@ -51,6 +51,7 @@ unfolding begin
 each_pipe_begins_flowing (Pipe source dest prevent signal) s = pipe-makes source dest prevent signal s
 each_pipe_begins_flowing (MakeReadable mark size start) s = MakesNone (grind arith)
 each_pipe_begins_flowing (MakeWritable mark size start) s = MakesNone (grind arith)
+each_pipe_begins_flowing (MakeTransform kind writable_mark readable_mark start) s = MakesNone (grind arith)
 each_pipe_begins_flowing (GetReader i) s = MakesNone (grind arith)
 each_pipe_begins_flowing (GetWriter i) s = MakesNone (grind arith)
 each_pipe_begins_flowing (Cancel i reason) s = MakesNone (grind arith)
@@ -67,6 +68,7 @@ each_pipe_begins_flowing (Release l) s = MakesNone (grind arith)
 each_pipe_begins_flowing (Enqueue i v) s = MakesNone (grind arith)
 each_pipe_begins_flowing (Finish i) s = MakesNone (grind arith)
 each_pipe_begins_flowing (Fail i reason) s = MakesNone (grind arith)
+each_pipe_begins_flowing (Terminate i) s = MakesNone (grind arith)
 each_pipe_begins_flowing (Desired i) s = MakesNone (grind arith)
 each_pipe_begins_flowing (DesiredBy l) s = MakesNone (grind arith)
 each_pipe_begins_flowing MakeSignal s = MakesNone refl

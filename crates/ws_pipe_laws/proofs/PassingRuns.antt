@@ -2,9 +2,9 @@
 use Rattle.std.proofs.Common.{◌≡◌, ◌⊎◌, inl, inr, ⊎_elim, ℕ, zero, suc, ◌+◌, ◌≤◌, Bool, true, false, nat_eq, List, [], ◌∷◌, ◌++◌, length, length-append, Option, Some, None, slice_get, slice_set, refl, sym, ap, subst, ◌∙◌, append_assoc, append-nil, arith}
 use Rattle.ws_value.specs.declared.{ids.PipeId.{PipeId}, ids.PromiseId.{PromiseId}, ids.SignalId.{SignalId}, ids.StreamId.{StreamId}}
 use Rattle.ws_value.specs.declared.value.{Plain.{Plain}, Value.{Value}}
-use Rattle.ws_steps.specs.declared.calls.{Call.{Call}}
+use Rattle.ws_steps.specs.declared.calls.{Call.{Call}, StartBy.{StartBy}, StartBy.TheVariants.{Now, Later}}
 use Rattle.ws_steps.specs.declared.effects.Effect.{Effect}
-use Rattle.ws_steps.specs.declared.effects.Effect.TheVariants.{Readable as OnReadable, Writable as OnWritable, Pipe as OnPipe, Signal as OnSignal, StartAlgorithm, PullAlgorithm, CancelAlgorithm, WriteAlgorithm, CloseAlgorithm, AbortAlgorithm, ChunkSteps, CloseSteps, ErrorSteps}
+use Rattle.ws_steps.specs.declared.effects.Effect.TheVariants.{Readable as OnReadable, Writable as OnWritable, Pipe as OnPipe, Signal as OnSignal, StartAlgorithm, PullAlgorithm, CancelAlgorithm, WriteAlgorithm, CloseAlgorithm, AbortAlgorithm, ChunkSteps, CloseSteps, ErrorSteps, Transform as OnTransform}
 use Rattle.ws_steps.specs.declared.pipes.{PipeOperation.{PipeOperation}, Prevent.{Prevent}, SignalOperation.{SignalOperation}, SignalOperation.TheVariants.{Add, Forget, Trigger}}
 use Rattle.ws_steps.specs.declared.promises.{Job.{Job}}
 use Rattle.ws_steps.specs.declared.readable.{ReadRequest.{ReadRequest}, ReadRequest.TheVariants.{Promise, Pipe as PipeRequest}, ReadableOperation.{ReadableOperation}}
@@ -32,7 +32,7 @@ use Rattle.ws_laws.proofs.Tables.{either, readable_acts, writable_acts, readable
 use Rattle.ws_laws.proofs.Walker.{IsHistory, GoesUntold, RestsUntold, run-holds}
 use Rattle.ws_writable_laws.proofs.Shape.{all, all-append}
 use Rattle.ws_pipe_laws.specs.PipeHistory.{Through, nothing_through, through_then, operation_through, effect_through, run_through}
-use Rattle.ws_pipe_laws.proofs.Reading.{is_answer, of_readable, of_effect, Within, operation-within, IsNone, none-all, no_answer, other-none, readable-hands}
+use Rattle.ws_pipe_laws.proofs.Reading.{is_answer, of_readable, of_effect, Within, operation-within, IsNone, none-all, no_answer, other-none, transform-none, readable-hands}
 use Rattle.ws_pipe_laws.proofs.Passing.{operation-passing}
 
 pub through_history : IsHistory nothing_through through_then
@@ -118,15 +118,16 @@ module _ (p : PipeId) where
 
   pub idle-causes : (e : Effect) → IsIdle e → Causes (IsNone p) e
   idle-causes (OnReadable j operation) n = absurd n
-  idle-causes (OnWritable j operation) n = record { write = refl; close = refl; abort = λ r q. refl; hand_on = λ v. refl }
+  idle-causes (OnWritable j operation) n = record { write = refl; close = refl; abort = λ r q. refl; hand_on = λ v. refl; take = λ v t d. refl }
   idle-causes (OnPipe q operation) n = absurd n
   idle-causes (OnSignal a operation) n = signal-none operation
+  idle-causes (OnTransform t operation) n = transform-none p t
   idle-causes (StartAlgorithm j step start) n = (λ g u. refl, λ c u. refl)
-  idle-causes (PullAlgorithm j) n = λ c u. refl
-  idle-causes (CancelAlgorithm j r q) n = λ c u. refl
-  idle-causes (WriteAlgorithm j) n = refl
-  idle-causes (CloseAlgorithm j) n = λ c u. refl
-  idle-causes (AbortAlgorithm j r q) n = λ c u. refl
+  idle-causes (PullAlgorithm j) n = (λ c u. refl, λ t u. refl)
+  idle-causes (CancelAlgorithm j r q) n = (λ c u. refl, λ t u. refl)
+  idle-causes (WriteAlgorithm j) n = (refl, λ t u. refl)
+  idle-causes (CloseAlgorithm j) n = (λ c u. refl, λ t u. refl)
+  idle-causes (AbortAlgorithm j r q) n = (λ c u. refl, λ t u. refl)
   idle-causes (ChunkSteps j request v) n = absurd n
   idle-causes (CloseSteps j request) n = absurd n
   idle-causes (ErrorSteps j request e) n = absurd n
@@ -242,6 +243,10 @@ module _ (p : PipeId) where
   begins-none me a b None None = refl
   begins-none me a b (Some g) None = refl
 
+  start-none : (q : PromiseId) (j : StreamId) (start : StartBy) → all (of_effect p) (calls.start_transform q j start ∷ []) ≡ 0
+  start-none q j Now = refl
+  start-none q j Later = refl
+
   pub call-none : (c : Call) (s : Slots) → all (of_effect p) (begin c s).done.caused ≡ 0
   call-none c s = each_call (λ (b : Begun). all (of_effect p) b.done.caused ≡ 0) c s (record {
     unchanged = λ reply. refl;
@@ -260,7 +265,11 @@ module _ (p : PipeId) where
     write = λ l v i e. refl;
     close = λ i. refl;
     abort = λ reason i e. refl;
-    enqueue = λ i v e can. refl;
+    make_transform = λ kind m n start. let k = start-none (next_id (fresh s.promises)) (record { 0 = length s.streams + 1 }) start in omega (arith, k);
+    enqueue = λ i v e o can. refl;
+    enqueue_half = λ i t v e o can. refl;
+    fail_half = λ t reason. refl;
+    terminate = λ t. refl;
     finish = λ i. refl;
     fail_readable = λ i reason. refl;
     fail_writable = λ i reason. refl;
@@ -303,8 +312,9 @@ module _ (p : PipeId) where
         hosts = λ z hs k. k;
         pipe = λ z source dest prevent signal promise k. pipe-made h z source dest prevent signal promise k;
         signal = λ z k. k;
-        readable = λ z mark size k. stream-made h z _ refl k;
-        writable = λ z mark size k. stream-made h z _ refl k;
+        transform = λ z kind i j change k. k;
+        readable = λ z owner mark size k. stream-made h z _ refl k;
+        writable = λ z owner mark size k. stream-made h z _ refl k;
       }) c s k in
       let w = m.0 in
       let n = call-none c s in

@@ -9,6 +9,7 @@ use Rattle.ws_steps.specs.declared.pipes.{PipeOperation.{PipeOperation}, PipeOpe
 use Rattle.ws_steps.specs.declared.queue.Queued.{Queued}
 use Rattle.ws_steps.specs.declared.readable.{ReadRequest.{ReadRequest}, ReadRequest.TheVariants.{Pipe as PipeRequest}, ReadableOperation.{ReadableOperation}, ReadableState.{ReadableState}, ReadableState.TheVariants.{Readable, Closed, Errored}}
 use Rattle.ws_steps.specs.declared.readable.ReadableOperation.TheVariants as names
+use Rattle.ws_steps.specs.declared.transform.TransformId.{TransformId}
 use Rattle.ws_steps.specs.declared.writable.{WritableState.{WritableState}, WritableState.TheVariants.{Writable, Erroring, Errored as WritableErrored, Closed as WritableClosed}}
 use Rattle.ws_steps.specs.Effects.{type_error}
 use Rattle.ws_steps.specs.Operations.{readable_operation, pipe_operation}
@@ -22,6 +23,7 @@ use Rattle.ws_steps.specs.Writable.{is_writable, is_closed}
 use Rattle.ws_laws.proofs.Lists.{Each}
 use Rattle.ws_laws.proofs.PipeDoes.{PipeCauses}
 use Rattle.ws_laws.proofs.Tables.{either}
+use Rattle.ws_laws.proofs.TransformDoes.{TransformCauses}
 use Rattle.ws_writable_laws.proofs.Shape.{all, all-append}
 
 -- an answer to a read of the pipe
@@ -206,6 +208,15 @@ other-none p q n source dest (ChunkSteps i request v) c = absurd c
 other-none p q n source dest (CloseSteps i request) c = absurd c
 other-none p q n source dest (ErrorSteps i request e) c = absurd c
 other-none p q n source dest _ c = refl
+
+-- an operation of a transform stream
+pub transform-none : (p : PipeId) (t : TransformId) (writable readable : StreamId) (e : Effect) → TransformCauses t writable readable e → IsNone p e
+transform-none p t writable readable (OnReadable i (names.Read request)) c = absurd c
+transform-none p t writable readable (OnPipe q operation) c = absurd c
+transform-none p t writable readable (ChunkSteps i request v) c = absurd c
+transform-none p t writable readable (CloseSteps i request) c = absurd c
+transform-none p t writable readable (ErrorSteps i request e) c = absurd c
+transform-none p t writable readable _ c = refl
 
 -- operations of readable streams hand each request on
 

@@ -1,16 +1,16 @@
 -- A step that ends with a pipe not flowing starts no read of it.
 use Rattle.std.proofs.Common.{◌≡◌, ◌≢◌, ◌⊎◌, inl, inr, ⊎_elim, ℕ, ◌+◌, ◌-◌, zero, suc, length, Bool, true, false, nat_eq, List, [], ◌∷◌, ◌++◌, Option, Some, None, Result, Ok, Err, slice_get, slice_set, refl, sym, ap, subst, ◌∙◌, add_assoc, zero-add, add-zero, arith}
 use Rattle.ws_value.specs.declared.{ids.PipeId.{PipeId}, ids.PromiseId.{PromiseId}, ids.SignalId.{SignalId}, ids.StreamId.{StreamId}, value.Plain.{Plain}, value.Value.{Value}}
-use Rattle.ws_steps.specs.declared.calls.{Call.{Call}, Reply.{Reply}, Reply.TheVariants.{Promise as Named}}
-use Rattle.ws_steps.specs.declared.effects.{Effect.{Effect}, Effect.TheVariants.{Readable as OnReadable, Writable as OnWritable, Pipe, Signal, StartAlgorithm, PullAlgorithm, CancelAlgorithm, CloseAlgorithm, AbortAlgorithm, ChunkSteps, CloseSteps, ErrorSteps}}
-use Rattle.ws_steps.specs.declared.pipes.{Action.{Action}, Ends.{Ends}, Phase.{Phase}, Phase.TheVariants.{Flowing, Waiting, Acting, Over}, PipeOperation.{PipeOperation}, SignalOperation.{SignalOperation}, SignalOperation.TheVariants.{Add, Forget, Trigger}}
+use Rattle.ws_steps.specs.declared.calls.{Call.{Call}, Reply.{Reply}, Reply.TheVariants.{Promise as Named}, StartBy.{StartBy}, StartBy.TheVariants.{Now, Later}}
+use Rattle.ws_steps.specs.declared.effects.{Effect.{Effect}, Effect.TheVariants.{Readable as OnReadable, Writable as OnWritable, Pipe, Signal, Transform as OnTransform, StartAlgorithm, PullAlgorithm, CancelAlgorithm, WriteAlgorithm, CloseAlgorithm, AbortAlgorithm, ChunkSteps, CloseSteps, ErrorSteps}}
+use Rattle.ws_steps.specs.declared.pipes.{Ends.{Ends}, Phase.{Phase}, Phase.TheVariants.{Flowing, Waiting, Acting, Over}, PipeOperation.{PipeOperation}, SignalOperation.{SignalOperation}, SignalOperation.TheVariants.{Add, Forget, Trigger}}
 use Rattle.ws_steps.specs.declared.pipes.PipeOperation.TheVariants.{Look, LookReady, KeepChunk, ReadEnded, WriteChunk, GoOn, WriteEnded, Abort as AbortPipe, ActionSettled, PartSettled, NoParts}
 use Rattle.ws_steps.specs.declared.promises.{Job.{Job}, Job.TheVariants.{Reaction as ReactionJob, Follow, Settle as SettleJob, Micro as MicroJob}, Micro.TheVariants.{PipeLook, PipeWrite, PipeNoParts}}
-use Rattle.ws_steps.specs.declared.promises.{Step.{Step}, Step.TheVariants.{ReadableStart, ReadablePull, ReturnUndefined, WritableStart, WritableWrite, WritableClose, WritableAbort, PipeEnds, PipeReady, PipeWrote, PipeActed, PipePart}}
+use Rattle.ws_steps.specs.declared.promises.{Step.{Step}, Step.TheVariants.{ReadableStart, ReadablePull, ReturnUndefined, WritableStart, WritableWrite, WritableClose, WritableAbort, PipeEnds, PipeReady, PipeWrote, PipeActed, PipePart, TransformChanged, Transformed, TransformFlushed, TransformAborted, TransformCancelled}}
 use Rattle.ws_steps.specs.declared.readable.ReadableOperation.TheVariants.{ReleaseReader, StartSettled, PullSettled}
 use Rattle.ws_steps.specs.declared.writable.WritableOperation.TheVariants.{ReleaseWriter, StartSettled as WritableStartSettled, WriteSettled, CloseSettled, AbortSettled}
-use Rattle.ws_steps.specs.declared.readable.{ReadRequest.{ReadRequest}, ReadRequest.TheVariants.{Promise, Pipe as PipeRequest}, ReadableState.{ReadableState}}
-use Rattle.ws_steps.specs.declared.writable.{WritableState.{WritableState}}
+use Rattle.ws_steps.specs.declared.readable.{ReadRequest.{ReadRequest}, ReadRequest.TheVariants.{Promise, Pipe as PipeRequest}}
+use Rattle.ws_steps.specs.declared.transform.{TransformId.{TransformId}}
 use Rattle.ws_steps.specs.Calls as calls
 use Rattle.ws_steps.specs.Calls.{Begun, begin, named}
 use Rattle.ws_steps.specs.Jobs.{job_effects, job_begun, begin_job, steps, resolved, returned}
@@ -32,8 +32,10 @@ use Rattle.ws_laws.proofs.Lists.{Each, each-append, each-map}
 use Rattle.ws_laws.proofs.PipeDoes.{PipeCauses, pipe-causes}
 use Rattle.ws_laws.proofs.Rows.{Causes, ChunkCauses, EndCauses, SignalCauses, IsNoPipe, row-causes, row-pipes}
 use Rattle.ws_laws.proofs.Tables.{either, eq_numbers, unequal_numbers}
+use Rattle.ws_laws.proofs.TransformDoes.{TransformCauses}
 use Rattle.ws_laws.proofs.Walker.{IsHistory, performed-goes, nothing-told}
 use Rattle.ws_pipe_laws.proofs.Starts.{each_read_may_start, no_other_starts_a_read}
+use Rattle.ws_pipe_laws.proofs.Unpiped.{IsUnpiped, operation-unpiped}
 
 -- an operation that looks, or goes on to one that does; and one that may end the flowing
 abbrev looks : PipeOperation → Bool
@@ -44,62 +46,6 @@ abbrev ends_flowing : PipeOperation → Bool
 ends_flowing (AbortPipe r) = true
 ends_flowing (ActionSettled o) = true
 ends_flowing _ = false
-
--- what a pipe causes but for a write: no operation of a pipe
-abbrev IsUnpiped : Effect → Type 0
-IsUnpiped (Pipe p operation) = ⊥
-IsUnpiped _ = Unit {0}
-
-module _ (me : PipeId) where
-  abbrev Keeps : Acts → Acts → Type 0
-  Keeps a b = Each IsUnpiped a.out.effects → Each IsUnpiped b.out.effects
-
-  finalize-unpiped : (error : Option Plain) (a : Acts) → Keeps a (finalize me error a)
-  unfolding finalize
-  finalize-unpiped error a = grind (arith, each-append)
-
-  signal-unpiped : (r : Plain) (a : Acts) → Keeps a (act_by_signal me r a)
-  unfolding act_by_signal
-  signal-unpiped r a = grind (arith, each-append)
-
-  act_by-unpiped : (ends : Ends) (a : Acts) (action : Option Action) → Keeps a (act_by me ends a action)
-  act_by-unpiped ends a action = grind (arith, each-append, finalize-unpiped, signal-unpiped)
-
-  act-unpiped : (ends : Ends) (a : Acts) → Keeps a (act me ends a)
-  unfolding act
-  act-unpiped ends a = grind (arith, act_by-unpiped)
-
-  proceed-unpiped : (ends : Ends) (a : Acts) → Keeps a (proceed me ends a)
-  unfolding proceed
-  proceed-unpiped ends a = grind (arith, act-unpiped)
-
-  shutdown-unpiped : (ends : Ends) (action : Option Action) (error : Option Plain) (a : Acts) → Keeps a (shutdown me ends action error a)
-  unfolding shutdown
-  shutdown-unpiped ends action error a = grind (arith, proceed-unpiped, act-unpiped)
-
-  look_by-unpiped : (ends : Ends) (a : Acts) (s : ReadableState) (d : WritableState) → Keeps a (look_by me ends a s d)
-  look_by-unpiped ends a s d = grind (arith, each-append, shutdown-unpiped)
-
-  look-unpiped : (ends : Ends) (a : Acts) → Keeps a (look me ends a)
-  unfolding look
-  look-unpiped ends a = grind (arith, look_by-unpiped)
-
-  go_on-unpiped : (ends : Ends) (a : Acts) (phase : Phase) → Keeps a (go_on_in me ends a phase)
-  go_on-unpiped ends a phase = grind (arith, look-unpiped, proceed-unpiped)
-
-  operation-unpiped : (ends : Ends) (operation : PipeOperation) (a : Acts) → (operation ≡ WriteChunk → ⊥) → Keeps a (pipe_operation me ends operation a)
-  unfolding look_ready go_on keep_chunk read_ended write_ended action_settled part_settled no_parts abort
-  operation-unpiped ends Look a q = look-unpiped ends a
-  operation-unpiped ends LookReady a q = grind (arith, look-unpiped)
-  operation-unpiped ends (KeepChunk v) a q = grind arith
-  operation-unpiped ends ReadEnded a q = grind arith
-  operation-unpiped ends WriteChunk a q = absurd (q refl)
-  operation-unpiped ends GoOn a q = go_on-unpiped ends a a.slots.phase
-  operation-unpiped ends WriteEnded a q = grind (arith, go_on-unpiped)
-  operation-unpiped ends (AbortPipe r) a q = shutdown-unpiped ends _ _ a
-  operation-unpiped ends (ActionSettled outcome) a q = grind (arith, finalize-unpiped)
-  operation-unpiped ends (PartSettled outcome) a q = grind arith
-  operation-unpiped ends NoParts a q = grind arith
 
 module _ (p : PipeId) where
   -- no look of pipe p, and nothing that may end its flowing
@@ -151,18 +97,25 @@ module _ (p : PipeId) where
   pipe-end q source dest (Signal a (Trigger r)) c = absurd c
   pipe-end q source dest _ c = tt
 
+  transform-end : (t : TransformId) (writable readable : StreamId) (e : Effect) → TransformCauses t writable readable e → IsNoEnd e
+  transform-end t writable readable (Pipe q operation) c = absurd c
+  transform-end t writable readable (Signal a (Trigger r)) c = absurd c
+  transform-end t writable readable _ c = tt
+
   causes-end : (e : Effect) → IsNoEnd e → Causes IsNoEnd e
   causes-end (OnReadable j operation) n = record { pull = tt; cancel = λ r q. tt; chunk = λ r v. tt; close = λ r. tt; error = λ r e. tt }
-  causes-end (OnWritable j operation) n = record { write = tt; close = tt; abort = λ r q. tt; hand_on = λ v. tt }
+  causes-end (OnWritable j operation) n = record { write = tt; close = tt; abort = λ r q. tt; hand_on = λ v. tt; take = λ v t d. tt }
   causes-end (Pipe q operation) n = pipe-end q
   causes-end (Signal a (Trigger r)) n = absurd n
   causes-end (Signal a (Add q)) n = tt
   causes-end (Signal a (Forget q)) n = tt
+  causes-end (OnTransform t operation) n = transform-end t
   causes-end (StartAlgorithm j step start) n = (λ g u. tt, λ c u. tt)
-  causes-end (PullAlgorithm j) n = λ c u. tt
-  causes-end (CancelAlgorithm j r q) n = λ c u. tt
-  causes-end (CloseAlgorithm j) n = λ c u. tt
-  causes-end (AbortAlgorithm j r q) n = λ c u. tt
+  causes-end (PullAlgorithm j) n = (λ c u. tt, λ t u. tt)
+  causes-end (CancelAlgorithm j r q) n = (λ c u. tt, λ t u. tt)
+  causes-end (WriteAlgorithm j) n = (tt, λ t u. tt)
+  causes-end (CloseAlgorithm j) n = (λ c u. tt, λ t u. tt)
+  causes-end (AbortAlgorithm j r q) n = (λ c u. tt, λ t u. tt)
   causes-end (ChunkSteps j request v) n = chunk-end v request
   causes-end (CloseSteps j request) n = end-end request
   causes-end (ErrorSteps j request e) n = end-end request
@@ -189,16 +142,22 @@ module _ (p : PipeId) where
   other-look q n source dest (Pipe r operation) c = absurd c
   other-look q n source dest _ c = tt
 
+  transform-look : (t : TransformId) (writable readable : StreamId) (e : Effect) → TransformCauses t writable readable e → IsNoLook e
+  transform-look t writable readable (Pipe q operation) c = absurd c
+  transform-look t writable readable _ c = tt
+
   causes-look : (e : Effect) → IsNoPipe e → Causes IsNoLook e
   causes-look (OnReadable j operation) n = record { pull = tt; cancel = λ r q. tt; chunk = λ r v. tt; close = λ r. tt; error = λ r e. tt }
-  causes-look (OnWritable j operation) n = record { write = tt; close = tt; abort = λ r q. tt; hand_on = λ v. tt }
+  causes-look (OnWritable j operation) n = record { write = tt; close = tt; abort = λ r q. tt; hand_on = λ v. tt; take = λ v t d. tt }
   causes-look (Pipe q operation) n = absurd n
   causes-look (Signal a operation) n = signal-look operation
+  causes-look (OnTransform t operation) n = transform-look t
   causes-look (StartAlgorithm j step start) n = (λ g u. tt, λ c u. tt)
-  causes-look (PullAlgorithm j) n = λ c u. tt
-  causes-look (CancelAlgorithm j r q) n = λ c u. tt
-  causes-look (CloseAlgorithm j) n = λ c u. tt
-  causes-look (AbortAlgorithm j r q) n = λ c u. tt
+  causes-look (PullAlgorithm j) n = (λ c u. tt, λ t u. tt)
+  causes-look (CancelAlgorithm j r q) n = (λ c u. tt, λ t u. tt)
+  causes-look (WriteAlgorithm j) n = (tt, λ t u. tt)
+  causes-look (CloseAlgorithm j) n = (λ c u. tt, λ t u. tt)
+  causes-look (AbortAlgorithm j r q) n = (λ c u. tt, λ t u. tt)
   causes-look (ChunkSteps j request v) n = chunk-look v request
   causes-look (CloseSteps j request) n = end-look request
   causes-look (ErrorSteps j request e) n = end-look request
@@ -393,6 +352,10 @@ module _ (p : PipeId) where
   begins-look me a b None None = (tt, (tt, (tt, tt)))
   begins-look me a b (Some g) None = (tt, (tt, (tt, (tt, tt))))
 
+  start-look : (q : PromiseId) (j : StreamId) (start : StartBy) → IsNoLook (calls.start_transform q j start)
+  start-look q j Now = tt
+  start-look q j Later = tt
+
   call-look : (c : Call) (s : Slots) → Each IsNoLook (begin c s).done.caused
   call-look c s = each_call (λ (b : Begun). Each IsNoLook b.done.caused) c s (record {
     unchanged = λ reply. tt;
@@ -411,7 +374,11 @@ module _ (p : PipeId) where
     write = λ l v i e. (tt, tt);
     close = λ i. (tt, tt);
     abort = λ reason i e. (tt, tt);
-    enqueue = λ i v e can. (tt, tt);
+    make_transform = λ kind m n start. (tt, (tt, (tt, (tt, (start-look _ _ start, tt)))));
+    enqueue = λ i v e o can. (tt, tt);
+    enqueue_half = λ i t v e o can. (tt, tt);
+    fail_half = λ t reason. (tt, tt);
+    terminate = λ t. (tt, tt);
     finish = λ i. (tt, tt);
     fail_readable = λ i reason. (tt, tt);
     fail_writable = λ i reason. (tt, tt);
@@ -448,6 +415,13 @@ module _ (p : PipeId) where
   steps-may z (PipeWrote q) o derived r = one-may z (Pipe q WriteEnded) derived r (λ e. refl)
   steps-may z (PipeActed q) o derived r = MayNone refl ((λ e. refl), resolved-look derived r)
   steps-may z (PipePart q) o derived r = one-may z (Pipe q (PartSettled o)) derived r (λ e. refl)
+  steps-may z (TransformChanged t d) (Ok v) derived r = MayNone refl (tt, resolved-look derived r)
+  steps-may z (TransformChanged t d) (Err e) derived r = MayNone refl (tt, resolved-look derived r)
+  steps-may z (Transformed t) (Ok v) derived r = MayNone refl (resolved-look derived r)
+  steps-may z (Transformed t) (Err e) derived r = MayNone refl (tt, resolved-look derived r)
+  steps-may z (TransformFlushed t q) o derived r = MayNone refl (tt, resolved-look derived r)
+  steps-may z (TransformAborted t q e) o derived r = MayNone refl (tt, resolved-look derived r)
+  steps-may z (TransformCancelled t q e) o derived r = MayNone refl (tt, resolved-look derived r)
 
   job-may : (z : Slots) (job : Job) → May 0 z (job_effects job)
   job-may z (ReactionJob step o derived) = steps-may z step o derived (returned step o)

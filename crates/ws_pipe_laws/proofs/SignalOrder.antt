@@ -125,8 +125,9 @@ module _ (a : SignalId) where
       hosts = λ z hs k. k;
       pipe = λ z source dest prevent signal promise k. k;
       signal = λ z k. made h z k;
-      readable = λ z mark size k. k;
-      writable = λ z mark size k. k;
+      transform = λ z kind i j change k. k;
+      readable = λ z owner mark size k. k;
+      writable = λ z owner mark size k. k;
     }) c s k;
     job = λ h s job e k. k;
     answered = λ h s q k. k;

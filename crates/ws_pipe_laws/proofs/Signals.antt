@@ -3,13 +3,15 @@ use Rattle.std.proofs.Common.{◌≡◌, ℕ, zero, suc, true, is_some, List, []
 use Rattle.ws_value.specs.declared.{ids.PipeId.{PipeId}, ids.SignalId.{SignalId}, value.Plain.{Plain}}
 use Rattle.ws_steps.specs.declared.calls.StartBy.TheVariants.{Now, Later}
 use Rattle.ws_steps.specs.declared.effects.Effect.{Effect}
-use Rattle.ws_steps.specs.declared.effects.Effect.TheVariants.{Readable, Writable, Pipe, Signal, StartAlgorithm, ChunkSteps, CloseSteps, ErrorSteps}
+use Rattle.ws_steps.specs.declared.effects.Effect.TheVariants.{Readable, Writable, Pipe, Signal, Transform, StartAlgorithm, ChunkSteps, CloseSteps, ErrorSteps}
 use Rattle.ws_steps.specs.declared.pipes.{PipeOperation.{PipeOperation}, PipeOperation.TheVariants.{Abort as AbortPipe}, SignalOperation.{SignalOperation}, SignalOperation.TheVariants.{Add, Forget, Trigger}}
 use Rattle.ws_steps.specs.declared.readable.ReadRequest.TheVariants.{Promise, Pipe as PipeRequest}
-use Rattle.ws_steps.specs.Operations.{readable_operation, writable_operation, pipe_operation, signal_operation}
+use Rattle.ws_steps.specs.declared.transform.{TransformId.{TransformId}, TransformOperation.{TransformOperation}}
+use Rattle.ws_steps.specs.Operations.{readable_operation, writable_operation, pipe_operation, signal_operation, transform_operation}
 use Rattle.ws_steps.specs.Pipes as pipe
 use Rattle.ws_steps.specs.Pipes.{abort_all, trigger_unless, new_signal}
-use Rattle.ws_steps.specs.Slots.{Slots, Done, nothing, has_readable, has_writable, put_readable, put_writable, as_signal, signal_at, on_pipe_at, on_signal_at}
+use Rattle.ws_steps.specs.Slots.{Slots, Done, nothing, has_readable, has_writable, put_readable, put_writable, as_signal, signal_at, on_pipe_at, on_signal_at, on_transform_at}
+use Rattle.ws_steps.specs.Transform as transform
 use Rattle.ws_steps.specs.Turns.{row, call_host}
 use Rattle.ws_laws.proofs.Begin.{begin-makes}
 use Rattle.ws_laws.proofs.Tables.{either, readable_acts, writable_acts}
@@ -74,6 +76,11 @@ pipe-signals : (p : PipeId) (operation : PipeOperation) (s : Slots) (o : Option 
 pipe-signals p operation s None = refl
 pipe-signals p operation s (Some x) = refl
 
+transform-signals : (t : TransformId) (operation : TransformOperation) (s : Slots) (o : Option transform.Slots)
+    → (on_transform_at (λ halves. transform_operation t halves operation) t s o).slots.signals ≡ s.signals
+transform-signals t operation s None = refl
+transform-signals t operation s (Some x) = refl
+
 pub row-signals : (e : Effect) (s : Slots) → IsNoSignal e → (row e s).slots.signals ≡ s.signals
 unfolding row call_host
 row-signals (Readable i operation) s n =
@@ -82,6 +89,7 @@ row-signals (Writable i operation) s n =
     either (λ (d : Done). d.slots.signals ≡ s.signals) (has_writable i s) (put_writable i s (writable_operation i operation (writable_acts i s))) (nothing s) (λ e. refl) (λ e. refl)
 row-signals (Pipe p operation) s n = pipe-signals p operation s (slice_get s.pipes p.0)
 row-signals (Signal a operation) s n = absurd n
+row-signals (Transform t operation) s n = transform-signals t operation s (slice_get s.transforms t.0)
 row-signals (StartAlgorithm i step Now) s n = refl
 row-signals (StartAlgorithm i step Later) s n = refl
 row-signals (ChunkSteps i (Promise p) v) s n = refl
@@ -139,8 +147,9 @@ module _ (a : SignalId) (q : Plain) where
       hosts = λ z hs k. k;
       pipe = λ z source dest prevent signal promise k. k;
       signal = λ z k. last_reason z.signals a.0 new_signal q k;
-      readable = λ z mark size k. k;
-      writable = λ z mark size k. k;
+      transform = λ z kind i j change k. k;
+      readable = λ z owner mark size k. k;
+      writable = λ z owner mark size k. k;
     }) c s h;
     job = λ s job e h. h;
     answered = λ s p h. h;

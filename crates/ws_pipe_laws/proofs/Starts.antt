@@ -1,11 +1,12 @@
 -- When a read of a pipe starts.
 use Rattle.std.proofs.Common.{◌≡◌, ◌≢◌, ◌⊎◌, inl, inr, ℕ, ◌+◌, ◌-◌, Bool, true, false, not, ◌&&◌, ◌||◌, nat_eq, if◌then◌else◌, List, [], ◌∷◌, Option, Some, None, Result, Ok, Err, refl, sym, ap, ◌∙◌, arith}
 use Rattle.ws_value.specs.declared.{ids.PipeId.{PipeId}, ids.PromiseId.{PromiseId}, ids.StreamId.{StreamId}, value.Plain.{Plain}, value.Plain.TheVariants.{Undefined}, value.Value.{Value}}
-use Rattle.ws_steps.specs.declared.effects.{Effect.{Effect}, Effect.TheVariants.{Readable as OnReadable, Writable as OnWritable, Pipe as OnPipe, Signal, StartAlgorithm, PullAlgorithm, CancelAlgorithm, CloseAlgorithm, AbortAlgorithm, ChunkSteps, CloseSteps, ErrorSteps}}
+use Rattle.ws_steps.specs.declared.effects.{Effect.{Effect}, Effect.TheVariants.{Readable as OnReadable, Writable as OnWritable, Pipe as OnPipe, Signal, Transform as OnTransform, StartAlgorithm, PullAlgorithm, CancelAlgorithm, WriteAlgorithm, CloseAlgorithm, AbortAlgorithm, ChunkSteps, CloseSteps, ErrorSteps}}
 use Rattle.ws_steps.specs.declared.pipes.{Action.{Action}, Action.TheVariants.{AbortDest, CancelSource, CloseDest, BySignal}, Ends.{Ends}, Phase.{Phase}, Phase.TheVariants.{Flowing, Waiting, Acting, Over}}
 use Rattle.ws_steps.specs.declared.pipes.{SignalOperation.{SignalOperation}, SignalOperation.TheVariants.{Add, Forget, Trigger}}
 use Rattle.ws_steps.specs.declared.pipes.{PipeOperation.{PipeOperation}, PipeOperation.TheVariants.{Look, LookReady, KeepChunk, ReadEnded, WriteChunk, GoOn, WriteEnded, Abort as AbortPipe, ActionSettled, PartSettled, NoParts}}
 use Rattle.ws_steps.specs.declared.readable.{ReadRequest.{ReadRequest}, ReadRequest.TheVariants.{Promise, Pipe as PipeRequest}, ReadableOperation.TheVariants.{Read}, ReadableState.{ReadableState}, ReadableState.TheVariants.{Readable, Closed, Errored}}
+use Rattle.ws_steps.specs.declared.transform.TransformId.{TransformId}
 use Rattle.ws_steps.specs.declared.writable.{WritableState.{WritableState}, WritableState.TheVariants.{Writable, Erroring, Errored as WritableErrored, Closed as WritableClosed}}
 use Rattle.ws_steps.specs.Effects.{type_error}
 use Rattle.ws_pipe_laws.specs.PipeHistory.{first_condition, is_look}
@@ -19,6 +20,7 @@ use Rattle.ws_laws.proofs.Lists.{Each, each-append}
 use Rattle.ws_laws.proofs.PipeDoes.{PipeCauses, IsQuiet}
 use Rattle.ws_laws.proofs.Rows.{Causes, ChunkCauses, EndCauses, SignalCauses, row-causes}
 use Rattle.ws_laws.proofs.Tables.{either, eq_numbers}
+use Rattle.ws_laws.proofs.TransformDoes.{TransformCauses}
 
 -- a shutdown starts no read
 module _ (me : PipeId) where
@@ -180,6 +182,10 @@ module _ (p : PipeId) where
   signal-none (Add q) = tt
   signal-none (Forget q) = tt
 
+  transform-none : (t : TransformId) (writable readable : StreamId) (e : Effect) → TransformCauses t writable readable e → IsNone e
+  transform-none t writable readable (OnReadable i (Read request)) c = absurd c
+  transform-none t writable readable _ c = tt
+
   -- a pipe reads for itself
   own_read : (q : PipeId) (request : ReadRequest) → nat_eq p.0 q.0 ≡ false → request ≡ PipeRequest q → is_of p request ≡ 0
   own_read q request n e = rw (e, n) refl
@@ -196,14 +202,16 @@ module _ (p : PipeId) where
 
   none-causes : (e : Effect) → ((o : PipeOperation) → e ≢ OnPipe p o) → Causes IsNone e
   none-causes (OnReadable j operation) n = record { pull = tt; cancel = λ r q. tt; chunk = λ r v. tt; close = λ r. tt; error = λ r e. tt }
-  none-causes (OnWritable j operation) n = record { write = tt; close = tt; abort = λ r q. tt; hand_on = λ v. tt }
+  none-causes (OnWritable j operation) n = record { write = tt; close = tt; abort = λ r q. tt; hand_on = λ v. tt; take = λ v t d. tt }
   none-causes (OnPipe q operation) n = pipe-none q (other_pipe q operation n (nat_eq p.0 q.0) refl)
   none-causes (Signal a operation) n = signal-none operation
+  none-causes (OnTransform t operation) n = transform-none t
   none-causes (StartAlgorithm j step start) n = (λ g u. tt, λ c u. tt)
-  none-causes (PullAlgorithm j) n = λ c u. tt
-  none-causes (CancelAlgorithm j r q) n = λ c u. tt
-  none-causes (CloseAlgorithm j) n = λ c u. tt
-  none-causes (AbortAlgorithm j r q) n = λ c u. tt
+  none-causes (PullAlgorithm j) n = (λ c u. tt, λ t u. tt)
+  none-causes (CancelAlgorithm j r q) n = (λ c u. tt, λ t u. tt)
+  none-causes (WriteAlgorithm j) n = (tt, λ t u. tt)
+  none-causes (CloseAlgorithm j) n = (λ c u. tt, λ t u. tt)
+  none-causes (AbortAlgorithm j r q) n = (λ c u. tt, λ t u. tt)
   none-causes (ChunkSteps j request v) n = chunk-none v request
   none-causes (CloseSteps j request) n = end-none request
   none-causes (ErrorSteps j request e) n = end-none request

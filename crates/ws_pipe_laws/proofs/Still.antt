@@ -128,8 +128,9 @@ module _ (p : PipeId) where
         hosts = λ z hs k. k;
         pipe = λ z source dest prevent signal promise k. made z source dest prevent signal promise k;
         signal = λ z k. k;
-        readable = λ z mark size k. k;
-        writable = λ z mark size k. k;
+        transform = λ z kind i j change k. k;
+        readable = λ z owner mark size k. k;
+        writable = λ z owner mark size k. k;
       }) c s k.1,
     );
     job = λ h s job e k. k;

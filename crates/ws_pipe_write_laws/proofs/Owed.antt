@@ -1,28 +1,30 @@
 -- The reactions to a pipe's writes, with the jobs and the operations that they lead to, are at most its writes that haven't settled.
-use Rattle.std.proofs.Common.{◌≡◌, ℕ, zero, suc, ◌+◌, ◌≤◌, Bool, true, false, nat_eq, List, [], ◌∷◌, ◌++◌, length, Option, Some, None, Result, Err, slice_get, slice_set, refl, sym, ap, subst, if◌then◌else◌, arith}
+use Rattle.std.proofs.Common.{◌≡◌, ℕ, zero, suc, ◌+◌, ◌≤◌, Bool, true, false, nat_eq, List, [], ◌∷◌, ◌++◌, length, Option, Some, None, Result, Ok, Err, slice_get, slice_set, refl, sym, ap, subst, if◌then◌else◌, arith}
 use Rattle.ws_value.specs.declared.ids.{PipeId.{PipeId}, PromiseId.{PromiseId}, SignalId.{SignalId}, StreamId.{StreamId}}
 use Rattle.ws_value.specs.declared.value.{Outcome.TheVariants.{Given, Finished}, Plain.{Plain}, Plain.TheVariants.{Undefined}, Value.{Value}, Value.TheVariants.{Plain as PlainValue}}
 use Rattle.ws_steps.specs.declared.{calls.Call.{Call}, calls.HostCall.{HostCall}, calls.Event.TheVariants.{Signal as SignalEvent}, calls.StartBy.{StartBy}, calls.StartBy.TheVariants.{Now, Later}}
 use Rattle.ws_steps.specs.declared.effects.Effect.{Effect}
-use Rattle.ws_steps.specs.declared.effects.Effect.TheVariants.{Readable as OnReadable, Writable as OnWritable, Pipe as OnPipe, Signal as OnSignal, StartAlgorithm, PullAlgorithm, CancelAlgorithm, WriteAlgorithm, CloseAlgorithm, AbortAlgorithm, ChunkSteps, CloseSteps, ErrorSteps, Give, Settle, Queue, CallHost}
-use Rattle.ws_steps.specs.declared.effects.{Owner.{Owner}, Owner.TheVariants.{Host}, Use.{Use}, Use.TheVariants.{React}}
+use Rattle.ws_steps.specs.declared.effects.Effect.TheVariants.{Readable as OnReadable, Writable as OnWritable, Pipe as OnPipe, Signal as OnSignal, Transform as OnTransform, StartAlgorithm, PullAlgorithm, CancelAlgorithm, WriteAlgorithm, CloseAlgorithm, AbortAlgorithm, ChunkSteps, CloseSteps, ErrorSteps, Give, Settle, Queue, CallHost}
+use Rattle.ws_steps.specs.declared.effects.{Owner.{Owner}, Owner.TheVariants.{Host, HalfOf}, Use.{Use}, Use.TheVariants.{React}}
 use Rattle.ws_steps.specs.declared.pipes.{Phase.{Phase}, Phase.TheVariants.{Flowing, Waiting, Acting, Over}}
 use Rattle.ws_steps.specs.declared.pipes.{PipeOperation.{PipeOperation}, SignalOperation.{SignalOperation}}
 use Rattle.ws_steps.specs.declared.promises.{Job.{Job}, Job.TheVariants.{Reaction as ReactionJob, Follow, Settle as SettleJob, Micro as MicroJob}, Micro.TheVariants.{PipeLook, PipeWrite, PipeNoParts}}
-use Rattle.ws_steps.specs.declared.promises.{Step.{Step}, Step.TheVariants.{ReadableStart, ReadablePull, ReturnUndefined, WritableStart, WritableWrite, WritableClose, WritableAbort, PipeEnds, PipeReady, PipeWrote, PipeActed, PipePart}}
+use Rattle.ws_steps.specs.declared.promises.{Step.{Step}, Step.TheVariants.{ReadableStart, ReadablePull, ReturnUndefined, WritableStart, WritableWrite, WritableClose, WritableAbort, PipeEnds, PipeReady, PipeWrote, PipeActed, PipePart, TransformChanged, Transformed, TransformFlushed, TransformAborted, TransformCancelled}}
 use Rattle.ws_steps.specs.declared.readable.{ReadRequest.{ReadRequest}, ReadRequest.TheVariants.{Promise, Pipe as PipeRequest}, ReadableOperation.{ReadableOperation}}
+use Rattle.ws_steps.specs.declared.transform.{TransformId.{TransformId}, TransformOperation.{TransformOperation}, TransformOperation.TheVariants.{TransformChunk}, Halves.{Halves}}
 use Rattle.ws_steps.specs.declared.writable.{WritableOperation.{WritableOperation}, WritableOperation.TheVariants.{ReleaseWriter}}
 use Rattle.ws_steps.specs.Calls as calls
 use Rattle.ws_steps.specs.Calls.{Begun, begin}
 use Rattle.ws_steps.specs.Effects.{Out, cause, settling}
 use Rattle.ws_steps.specs.Jobs.{job_effects, steps, resolved, returned}
-use Rattle.ws_steps.specs.Operations.{readable_operation, writable_operation, pipe_operation, signal_operation}
+use Rattle.ws_steps.specs.Operations.{readable_operation, writable_operation, pipe_operation, signal_operation, transform_operation}
 use Rattle.ws_steps.specs.Pipes as pipe
 use Rattle.ws_steps.specs.Pipes.{Acts, causing, with_slots, reacts, forgetting, finalize, ending, act_with, abort_dest, abort_part, cancel_part, parts_of, reacts_to_all, waiting_for, wait_for_all, act_by_signal, act_by, act, proceed, is_flowing, shut_down, shutdown, unless, wait_for_ready, read_or_wait, look_by, look, look_ready, go_on_in, go_on, keep_chunk, read_ended, write, write_in, write_held, write_chunk, write_ended, action_settled, settle_whole, part_settled, no_parts, abort, abort_all}
 use Rattle.ws_steps.specs.Promises.{Table, next_id, fresh, next_job, after_next_job, is_pending_at, watch}
 use Rattle.ws_steps.specs.Run.{after_event}
 use Rattle.ws_steps.specs.Readable as readable
-use Rattle.ws_steps.specs.Slots.{Slots, Done, nothing, causes, found, ends_at, empty, with_promises, has_readable, has_writable, readable_at, owner_at, on_readable, on_writable, put_readable, put_writable, on_pipe_at, on_signal_at}
+use Rattle.ws_steps.specs.Slots.{Slots, Done, nothing, causes, found, ends_at, empty, with_promises, has_readable, has_writable, readable_at, owner_at, on_readable, on_writable, put_readable, put_writable, on_pipe_at, on_signal_at, on_transform_at, halves_at}
+use Rattle.ws_steps.specs.Transform as transform
 use Rattle.ws_steps.specs.Turns.{row, call_host, start_algorithm, pull_algorithm, cancel_algorithm, write_algorithm, close_algorithm, abort_algorithm, chunk_steps, close_steps, error_steps}
 use Rattle.ws_steps.specs.Writable.{write_to_host}
 use Rattle.ws_steps.proofs.PromiseLaws.{slice_get-set_other}
@@ -31,11 +33,13 @@ use Rattle.ws_laws.proofs.EachCall.{each_call}
 use Rattle.ws_laws.proofs.PipeDoes.{OfPipe, pipe-does}
 use Rattle.ws_laws.proofs.ReadableDoes.{readable-does}
 use Rattle.ws_laws.proofs.Tables.{either, eq_numbers, unequal_numbers, readable_acts, writable_acts}
+use Rattle.ws_laws.proofs.TransformDoes.{transform-does}
 use Rattle.ws_laws.proofs.Walker.{Stays}
 use Rattle.ws_laws.proofs.Weights.{weigh, taken_off, weigh-fresh, weigh-settle, weigh-answer, weigh-micro, weigh-next, weigh-watch}
 use Rattle.ws_laws.proofs.WritableDoes.{writable-does}
 use Rattle.ws_writable_laws.proofs.Agenda.{weight-tell, weight-gift, weight-host}
-use Rattle.ws_writable_laws.proofs.Shape.{of_reaction, weight, all, all-append}
+use Rattle.ws_writable_laws.proofs.Shape.{of_reaction, of_transform, weight, all, all-append}
+use Rattle.ws_writable_laws.proofs.Transforms.{weight-transform}
 use Rattle.ws_laws.proofs.Lists.{each-map}
 use Rattle.ws_laws.proofs.PipeDoes.{pipe-causes}
 use Rattle.ws_pipe_laws.specs.PipeHistory.{is_acting}
@@ -144,6 +148,7 @@ module _ (p : PipeId) where
         close = λ x h. causes-light t x (CloseAlgorithm i) refl h;
         abort = λ x r q h. causes-light t x (AbortAlgorithm i r q) refl h;
         hand_on = λ x v h. causes-light t x (write_to_host i v) refl h;
+        take = λ x v half d h. causes-light t x (OnTransform half (TransformChunk v d)) refl h;
       }) operation (writable_acts i s) (omega arith) in
       either (Carries s 0) (has_writable i s) (put_writable i s (writable_operation i operation (writable_acts i s))) (nothing s) (λ e. (refl, omega (arith, h))) (λ e. (refl, omega arith))
 
@@ -157,6 +162,19 @@ module _ (p : PipeId) where
   signal-carries : (a : SignalId) (operation : SignalOperation) (s : Slots) (o : Option pipe.Signal) → Carries s 0 (on_signal_at (signal_operation operation) a s o)
   signal-carries a operation s None = (refl, omega arith)
   signal-carries a operation s (Some x) = let n = signal-none operation x in (refl, omega (arith, n))
+
+  transform-pays : (t : TransformId) (halves : Halves) (operation : TransformOperation) (a : transform.Acts) → a.out.effects ≡ [] → all (pays p) (transform_operation t halves operation a).out.effects ≤ of_transform (of_write p) operation
+  unfolding transform.unblock transform.transform_error transform.terminate transform.enqueue transform.enqueued transform.transform_chunk transform.sink_write transform.write_goes_on transform.source_pull transform.set_backpressure transform.sink_close transform.sink_abort transform.source_cancel transform.flush_settled transform.abort_settled transform.cancel_settled
+  transform-pays t halves operation a none = grind (arith, none)
+
+  transform-carries : (t : TransformId) (operation : TransformOperation) (s : Slots) (o : Option transform.Slots)
+      → Carries s (of_transform (of_write p) operation) (on_transform_at (λ halves. transform_operation t halves operation) t s o)
+  transform-carries t operation s None = (refl, omega arith)
+  transform-carries t operation s (Some x) =
+      let a : transform.Acts = record { slots = x; out = found s } in
+      let w = transform-does (λ z. under_way z ≤ under_way s.promises) (weight-transform (of_write p) s.promises) t (halves_at x s) operation a (omega arith) in
+      let l = transform-pays t (halves_at x s) operation a refl in
+      (refl, omega (arith, w, l))
 
   start-carries : (i : StreamId) (step : Step) (s : Slots) (start : StartBy) → Carries s (of_write p step) (start_algorithm i step s start)
   start-carries i step s Now = (refl, omega arith)
@@ -178,18 +196,23 @@ module _ (p : PipeId) where
 
   pulls : (i : StreamId) (s : Slots) (owner : Owner) → Carries s 0 (causes (pull_algorithm i (React (ReadablePull i) None) owner) s)
   pulls i s Host = (refl, omega arith)
+  pulls i s (HalfOf t) = (refl, omega arith)
 
   cancels : (i : StreamId) (r : Plain) (q : PromiseId) (s : Slots) (owner : Owner) → Carries s 0 (causes (cancel_algorithm i r (React ReturnUndefined (Some q)) owner) s)
   cancels i r q s Host = (refl, omega arith)
+  cancels i r q s (HalfOf t) = (refl, omega arith)
 
   hands_on : (i : StreamId) (s : Slots) (owner : Owner) → Carries s 0 (causes (write_algorithm i owner) s)
   hands_on i s Host = (refl, omega arith)
+  hands_on i s (HalfOf t) = (refl, omega arith)
 
   closes : (i : StreamId) (s : Slots) (owner : Owner) → Carries s 0 (causes (close_algorithm i (React (WritableClose i) None) owner) s)
   closes i s Host = (refl, omega arith)
+  closes i s (HalfOf t) = (refl, omega arith)
 
   aborts-on : (i : StreamId) (r : Plain) (q : PromiseId) (s : Slots) (owner : Owner) → Carries s 0 (causes (abort_algorithm i r (React (WritableAbort i q) None) owner) s)
   aborts-on i r q s Host = (refl, omega arith)
+  aborts-on i r q s (HalfOf t) = (refl, omega arith)
 
   host-pipes : (call : HostCall) (u : Use) (s : Slots) → (call_host call u s).pipes ≡ s.pipes
   unfolding call_host
@@ -201,6 +224,7 @@ module _ (p : PipeId) where
   row-owes s (OnReadable i operation) es w = carried s (OnReadable i operation) es (readable-carries i operation s) w
   row-owes s (OnWritable i operation) es w = carried s (OnWritable i operation) es (writable-carries i operation s) w
   row-owes s (OnSignal a operation) es w = carried s (OnSignal a operation) es (signal-carries a operation s (slice_get s.signals a.0)) w
+  row-owes s (OnTransform t operation) es w = carried s (OnTransform t operation) es (transform-carries t operation s (slice_get s.transforms t.0)) w
   row-owes s (StartAlgorithm i step start) es w = carried s (StartAlgorithm i step start) es (start-carries i step s start) w
   row-owes s (PullAlgorithm i) es w = carried s (PullAlgorithm i) es (pulls i s (owner_at i s)) w
   row-owes s (CancelAlgorithm i r q) es w = carried s (CancelAlgorithm i r q) es (cancels i r q s (owner_at i s)) w
@@ -234,8 +258,9 @@ module _ (p : PipeId) where
     hosts = λ z hs k. k;
     pipe = λ z source dest prevent signal promise k. (let l = k.0 in let m = grown z.pipes (pipe.set_up source dest prevent signal promise) p.0 in omega (arith, l, m), k.1);
     signal = λ z k. k;
-    readable = λ z mark size k. k;
-    writable = λ z mark size k. k;
+    transform = λ z kind i j change k. k;
+    readable = λ z owner mark size k. k;
+    writable = λ z owner mark size k. k;
   }) c s (omega arith, omega arith)
 
   renewed-none : (t : Table) (kept : Bool) (es : List Effect) → all (pays p) es ≡ 0 → all (pays p) (calls.reject_renewed t kept ++ es) ≡ 0
@@ -246,6 +271,10 @@ module _ (p : PipeId) where
   begins-none me a b signal (Some r) = let n = no_answer (nat_eq p.0 me.0) in omega (arith, n)
   begins-none me a b None None = refl
   begins-none me a b (Some g) None = refl
+
+  start-none : (q : PromiseId) (j : StreamId) (start : StartBy) → all (pays p) (calls.start_transform q j start ∷ []) ≡ 0
+  start-none q j Now = refl
+  start-none q j Later = refl
 
   call-none : (c : Call) (s : Slots) → all (pays p) (begin c s).done.caused ≡ 0
   call-none c s = each_call (λ (b : Begun). all (pays p) b.done.caused ≡ 0) c s (record {
@@ -265,7 +294,11 @@ module _ (p : PipeId) where
     write = λ l v i e. refl;
     close = λ i. refl;
     abort = λ reason i e. refl;
-    enqueue = λ i v e can. refl;
+    make_transform = λ kind m n start. let z = start-none (next_id (fresh s.promises)) (record { 0 = length s.streams + 1 }) start in omega (arith, z);
+    enqueue = λ i v e o can. refl;
+    enqueue_half = λ i t v e o can. refl;
+    fail_half = λ t reason. refl;
+    terminate = λ t. refl;
     finish = λ i. refl;
     fail_readable = λ i reason. refl;
     fail_writable = λ i reason. refl;
@@ -299,6 +332,13 @@ module _ (p : PipeId) where
   in_steps (PipeWrote q) o = let n = if_one (nat_eq p.0 q.0) in omega (arith, n)
   in_steps (PipeActed q) o = let n = no_answer (nat_eq p.0 q.0) in omega (arith, n)
   in_steps (PipePart q) o = let n = no_answer (nat_eq p.0 q.0) in omega (arith, n)
+  in_steps (TransformChanged t d) (Ok v) = refl
+  in_steps (TransformChanged t d) (Err r) = refl
+  in_steps (Transformed t) (Ok v) = refl
+  in_steps (Transformed t) (Err r) = refl
+  in_steps (TransformFlushed t q) o = refl
+  in_steps (TransformAborted t q r) o = refl
+  in_steps (TransformCancelled t q r) o = refl
 
   in_resolved : (derived : Option PromiseId) (o : Result Plain Plain) → all (pays p) (resolved derived o) ≡ 0
   in_resolved None o = refl
@@ -389,6 +429,11 @@ same_action p (PipeEnds q) = refl
 same_action p (PipeReady q) = refl
 same_action p (PipeWrote q) = refl
 same_action p (PipePart q) = refl
+same_action p (TransformChanged t d) = refl
+same_action p (Transformed t) = refl
+same_action p (TransformFlushed t q) = refl
+same_action p (TransformAborted t q r) = refl
+same_action p (TransformCancelled t q r) = refl
 
 acting_as : (phase : Phase) → tokens.one_if (acts.is_acting phase) ≡ one_if (is_acting phase)
 acting_as Flowing = refl

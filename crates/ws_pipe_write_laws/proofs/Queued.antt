@@ -224,8 +224,9 @@ module _ (p : PipeId) where
     hosts = λ z hs k. k;
     pipe = λ z source dest prevent signal promise k h. k (sym (new_place z.pipes (pipe.set_up source dest prevent signal promise) p.0 refl) ∙ h);
     signal = λ z k. k;
-    readable = λ z mark size k. k;
-    writable = λ z mark size k. k;
+    transform = λ z kind i j change k. k;
+    readable = λ z owner mark size k. k;
+    writable = λ z owner mark size k. k;
   }) c s (at_rest s k) h)
 
   watch-queues : (q : PromiseId) (t : Table) → Queues t → Queues (watch q t)

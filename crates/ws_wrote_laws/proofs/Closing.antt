@@ -55,30 +55,30 @@ named_pipes _ s = refl
 
 module _ (p : PipeId) (i : StreamId) (r : readable.Slots) (C : Type 0) (closed : has_closed r.state ≡ true → C) where
   abbrev pub SureAt : Slots → Type 0
-  SureAt s = Sure p i r C closed (slice_get s.pipes p.0)
+  SureAt s = Sure p i C (slice_get s.pipes p.0)
 
   abbrev pub SureAfter : Moment → Type 0
   SureAfter m = SureAt (leaves m)
 
   abbrev Is : List Moment → Slots → List Effect → Type 0
-  Is h s es = AllMoments SureAfter h × (SureAt s × (EachWaits s es × Agenda p i r C closed s es))
+  Is h s es = AllMoments SureAfter h × (SureAt s × (EachWaits s es × Agenda p i C s es))
 
   row-is : (h : List Moment) (s : Slots) (e : Effect) (es : List Effect) → Is h s (e ∷ es) → Is (h ++ effect_moment e s) (row e s).slots ((row e s).caused ++ es)
   row-is h s e es k =
-      let next : SureAt (row e s).slots = row-sure p i r C closed s e es k.1.1.0 k.1.1.1 k.1.0 in
-      (all_moments-append SureAfter h (moment e s) k.0 next, (next, (waits-stays.row s e es k.1.1.0, row-agenda p i r C closed s e es k.1.1.1)))
+      let next : SureAt (row e s).slots = row-sure p i C s e es k.1.1.0 k.1.1.1 k.1.0 in
+      (all_moments-append SureAfter h (moment e s) k.0 next, (next, (waits-stays.row s e es k.1.1.0, row-agenda p i C s e es k.1.1.1)))
 
   abbrev Ends : Done → Type 0
   Ends d = AllMoments SureAfter (along [] ◌++◌ effect_moment (moments d)) × SureAt (performed d)
 
-  done-sure : (d : Done) → SureAt d.slots → EachWaits d.slots d.caused → Agenda p i r C closed d.slots d.caused → Ends d
+  done-sure : (d : Done) → SureAt d.slots → EachWaits d.slots d.caused → Agenda p i C d.slots d.caused → Ends d
   done-sure d k w g = let e = performed-goes [] ◌++◌ moments_history effect_moment Is row-is [] d (tt, (k, (w, g))) in (e.0, e.1.0)
 
   job-sure : (s : Slots) (job : Option Job) → job ≡ next_job s.promises → EachWaits s [] → readable_at i s ≡ r → SureAt s → Ends (job_begun s job)
   job-sure s None e w same k = done-sure (nothing s) k w (inl tt)
   job-sure s (Some job) e w same k =
       done-sure (job_begun s (Some job)) k (waits-stays.job s job (sym e) w)
-      (⊎_elim (λ (n : Each IsNoLook (job_effects job)). inl n) (λ (f : Front (job_effects job)). inr (same, f)) (job-front job))
+      (⊎_elim (λ (n : Each IsNoLook (job_effects job)). inl n) (λ (f : Front (job_effects job)). inr ((λ c. closed (ap (λ (y : readable.Slots). has_closed y.state) (sym same) ∙ c)), f)) (job-front job))
 
   abbrev pub Stepped : Slots → Entry → Type 0
   Stepped s x = AllMoments SureAfter (step_moments s x) × SureAt (step s x)
@@ -88,7 +88,7 @@ module _ (p : PipeId) (i : StreamId) (r : readable.Slots) (C : Type 0) (closed :
   call-sure s c w k =
       let d : Done = (begin c s).done in
       let e = done-sure d k (waits-stays.call s c w) (inl (call-look c s)) in
-      (e.0, subst (λ (ps : List pipe.Slots). Sure p i r C closed (slice_get ps p.0)) (sym (named_pipes (begin c s).reply (performed d))) e.1)
+      (e.0, subst (λ (ps : List pipe.Slots). Sure p i C (slice_get ps p.0)) (sym (named_pipes (begin c s).reply (performed d))) e.1)
 
   none-stepped : (s : Slots) → AllMoments SureAfter (along [] ◌++◌ effect_moment (moments (nothing s)))
   none-stepped s = subst (AllMoments SureAfter) (sym (nothing-told [] ◌++◌ moments_history effect_moment s)) tt
@@ -100,7 +100,7 @@ module _ (p : PipeId) (i : StreamId) (r : readable.Slots) (C : Type 0) (closed :
   other-sure s Heard n w same k = (none-stepped s, k)
 
   -- where there is the pipe
-  begins-sure : (c : Call) (s : Slots) (x : pipe.Slots) → slice_get s.pipes p.0 ≡ Some x → Sure p i r C closed (Some x) → SureAt (begin c s).done.slots
+  begins-sure : (c : Call) (s : Slots) (x : pipe.Slots) → slice_get s.pipes p.0 ≡ Some x → Sure p i C (Some x) → SureAt (begin c s).done.slots
   begins-sure c s x e k =
       let m : (slice_get (begin c s).done.slots.pipes p.0 ≡ Some x) = begin-makes (λ z. slice_get z.pipes p.0 ≡ Some x) (record {
         promise = λ z k. k;
@@ -110,15 +110,16 @@ module _ (p : PipeId) (i : StreamId) (r : readable.Slots) (C : Type 0) (closed :
             let y : pipe.Slots = pipe.set_up source dest prevent signal promise in
             ⊎_elim (λ (f : slice_get (z.pipes ++ y ∷ []) p.0 ≡ slice_get z.pipes p.0). f ∙ k) (λ (f : (slice_get z.pipes p.0 ≡ None) × (slice_get (z.pipes ++ y ∷ []) p.0 ≡ Some y)). absurd (cc)) (appended z.pipes y p.0);
         signal = λ z k. k;
-        readable = λ z mark size k. k;
-        writable = λ z mark size k. k;
+        transform = λ z kind i j change k. k;
+        readable = λ z owner mark size k. k;
+        writable = λ z owner mark size k. k;
       }) c s e in
-      subst (Sure p i r C closed) (sym m) k
+      subst (Sure p i C) (sym m) k
 
-  pub there-sure : (s : Slots) (y : Entry) (x : pipe.Slots) → slice_get s.pipes p.0 ≡ Some x → EachWaits s [] → readable_at i s ≡ r → Sure p i r C closed (Some x) → Stepped s y
+  pub there-sure : (s : Slots) (y : Entry) (x : pipe.Slots) → slice_get s.pipes p.0 ≡ Some x → EachWaits s [] → readable_at i s ≡ r → Sure p i C (Some x) → Stepped s y
   there-sure s (Called c) x e w same k = call-sure s c w (begins-sure c s x e k)
-  there-sure s Worked x e w same k = other-sure s Worked (λ c f. cc) w same (subst (Sure p i r C closed) (sym e) k)
-  there-sure s Heard x e w same k = other-sure s Heard (λ c f. cc) w same (subst (Sure p i r C closed) (sym e) k)
+  there-sure s Worked x e w same k = other-sure s Worked (λ c f. cc) w same (subst (Sure p i C) (sym e) k)
+  there-sure s Heard x e w same k = other-sure s Heard (λ c f. cc) w same (subst (Sure p i C) (sym e) k)
 
 -- runs
 
@@ -154,11 +155,12 @@ module _ (p : PipeId) where
         ⊎_elim (λ (f : slice_get (z.pipes ++ y ∷ []) p.0 ≡ slice_get z.pipes p.0). subst Fresh (sym f) k)
         (λ (f : (slice_get z.pipes p.0 ≡ None) × (slice_get (z.pipes ++ y ∷ []) p.0 ≡ Some y)). subst Fresh (sym f.1) refl) (appended z.pipes y p.0);
     signal = λ z k. k;
-    readable = λ z mark size k. k;
-    writable = λ z mark size k. k;
+    transform = λ z kind i j change k. k;
+    readable = λ z owner mark size k. k;
+    writable = λ z owner mark size k. k;
   }) c s (subst Fresh (sym e) tt)
 
-  pub fresh_sure : (o : Option pipe.Slots) → Fresh o → Sure p (as_pipe o).source unclosed ⊥ never o
+  pub fresh_sure : (o : Option pipe.Slots) → Fresh o → Sure p (as_pipe o).source ⊥ o
   fresh_sure None f = tt
   fresh_sure (Some x) f = (refl, inl f)
 
@@ -193,7 +195,7 @@ module _ (p : PipeId) where
       let i : StreamId = x.source in
       let own : is_over x.phase ≡ false = not_over s y x z e f over in
       let k = there-sure p i (readable_at i s) (has_closed (readable_at i s).state ≡ true) (λ c. c) s y x e (waits-run before) refl (refl, h x e own) in
-      let after : (z.source ≡ i) × ((z.phase ≡ Flowing) ⊎ (z.error ≡ None → has_closed (readable_at i s).state ≡ true)) = subst (Sure p i (readable_at i s) (has_closed (readable_at i s).state ≡ true) (λ c. c)) f k.1 in
+      let after : (z.source ≡ i) × ((z.phase ≡ Flowing) ⊎ (z.error ≡ None → has_closed (readable_at i s).state ≡ true)) = subst (Sure p i (has_closed (readable_at i s).state ≡ true)) f k.1 in
       ⊎_elim (λ (g : z.phase ≡ Flowing). inl g)
       (λ (g : z.error ≡ None → has_closed (readable_at i s).state ≡ true). inr (λ n.
       let c = readable-kept i (λ r. has_closed r.state ≡ true) (closed-operation i) (y ∷ []) s ((stands before x e own).0, g n) in
@@ -205,15 +207,15 @@ module _ (p : PipeId) where
       let o : Option pipe.Slots = slice_get (begin c s).done.slots.pipes p.0 in
       let i : StreamId = (as_pipe o).source in
       let k = call-sure p i unclosed ⊥ never s c (waits-run before) (fresh_sure o (fresh-begins c s e)) in
-      let after : (z.source ≡ i) × ((z.phase ≡ Flowing) ⊎ (z.error ≡ None → ⊥)) = subst (Sure p i unclosed ⊥ never) f k.1 in
+      let after : (z.source ≡ i) × ((z.phase ≡ Flowing) ⊎ (z.error ≡ None → ⊥)) = subst (Sure p i ⊥) f k.1 in
       ⊎_elim (λ (g : z.phase ≡ Flowing). inl g) (λ (g : z.error ≡ None → ⊥). inr (λ n. absurd (g n))) after.1
 
   -- no other step makes one
   source_is : (before : List Entry) (y : Entry) (i : StreamId) (z : pipe.Slots) → let s : Slots = run before empty in slice_get s.pipes p.0 ≡ None → ((c : Call) → y ≡ Called c → ⊥) → slice_get (step s y).pipes p.0 ≡ Some z → z.source ≡ i
   source_is before y i z e n f =
       let s : Slots = run before empty in
-      let k = other-sure p i (readable_at i s) (Unit {0}) (λ c. tt) s y n (waits-run before) refl (subst (Sure p i (readable_at i s) (Unit {0}) (λ c. tt)) (sym e) tt) in
-      let after : (z.source ≡ i) × ((z.phase ≡ Flowing) ⊎ (z.error ≡ None → Unit {0})) = subst (Sure p i (readable_at i s) (Unit {0}) (λ c. tt)) f k.1 in
+      let k = other-sure p i (readable_at i s) (Unit {0}) (λ c. tt) s y n (waits-run before) refl (subst (Sure p i (Unit {0})) (sym e) tt) in
+      let after : (z.source ≡ i) × ((z.phase ≡ Flowing) ⊎ (z.error ≡ None → Unit {0})) = subst (Sure p i (Unit {0})) f k.1 in
       after.0
 
   none-whole : (before : List Entry) (y : Entry) → let s : Slots = run before empty in slice_get s.pipes p.0 ≡ None → ((c : Call) → y ≡ Called c → ⊥) → Whole (step s y)
@@ -260,7 +262,7 @@ each_pipe_without_an_error_passed_all before after x p ms ns m over split begins
     let there = row-stands p m.effect m.found (pipe_at p m.found) (live_there p (slice_get m.found.pipes p.0) begins.live) in
     let z : pipe.Slots = there.0 in
     let is : pipe_at p (leaves m) ≡ z = ap as_pipe there.1 in
-    let sure : (z.source ≡ i) × ((z.phase ≡ Flowing) ⊎ (z.error ≡ None → has_closed r.state ≡ true)) = subst (Sure p i r (has_closed r.state ≡ true) (λ c. c)) there.1 at in
+    let sure : (z.source ≡ i) × ((z.phase ≡ Flowing) ⊎ (z.error ≡ None → has_closed r.state ≡ true)) = subst (Sure p i (has_closed r.state ≡ true)) there.1 at in
     let acts : is_live z.phase ≡ false = subst (λ (w : pipe.Slots). is_live w.phase ≡ false) is begins.acts in
     let plain : z.error ≡ None = subst (λ (w : pipe.Slots). w.error ≡ None) is none in
     let closed : has_closed r.state ≡ true = acts_closed p (has_closed r.state ≡ true) z acts plain sure.1 in

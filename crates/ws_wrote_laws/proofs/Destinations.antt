@@ -4,11 +4,12 @@ use Rattle.ws_value.specs.declared.{ids.LockId.{LockId}, ids.PipeId.{PipeId}, id
 use Rattle.ws_value.specs.declared.value.{Plain.{Plain}, Value.{Value}}
 use Rattle.ws_steps.specs.declared.calls.{Call.{Call}, Call.TheVariants.{Write as WriteCall}}
 use Rattle.ws_steps.specs.declared.effects.Effect.{Effect}
-use Rattle.ws_steps.specs.declared.effects.Effect.TheVariants.{Readable as OnReadable, Writable as OnWritable, Pipe as OnPipe, Signal as OnSignal, StartAlgorithm, PullAlgorithm, CancelAlgorithm, WriteAlgorithm, CloseAlgorithm, AbortAlgorithm, ChunkSteps, CloseSteps, ErrorSteps}
+use Rattle.ws_steps.specs.declared.effects.Effect.TheVariants.{Readable as OnReadable, Writable as OnWritable, Pipe as OnPipe, Signal as OnSignal, Transform as OnTransform, StartAlgorithm, PullAlgorithm, CancelAlgorithm, WriteAlgorithm, CloseAlgorithm, AbortAlgorithm, ChunkSteps, CloseSteps, ErrorSteps}
 use Rattle.ws_steps.specs.declared.{locks.Lock.{Lock}, locks.Lock.TheVariants.{Reader, Writer, ReleasedWriter, Inner}}
 use Rattle.ws_steps.specs.declared.pipes.{Phase.{Phase}, Phase.TheVariants.{Over}, PipeOperation.TheVariants.{WriteChunk, GoOn}, SignalOperation.{SignalOperation}, SignalOperation.TheVariants.{Add, Forget, Trigger}}
 use Rattle.ws_steps.specs.declared.promises.{Job.{Job}, Job.TheVariants.{Reaction as ReactionJob, Follow, Settle as SettleJob, Micro as MicroJob}, Micro.TheVariants.{PipeLook, PipeWrite, PipeNoParts}, Step.{Step}}
 use Rattle.ws_steps.specs.declared.readable.{ReadRequest.{ReadRequest}, ReadRequest.TheVariants.{Promise, Pipe as PipeRequest}}
+use Rattle.ws_steps.specs.declared.transform.TransformId.{TransformId}
 use Rattle.ws_steps.specs.Calls.{Begun, begin}
 use Rattle.ws_steps.specs.Histories.{is_same, along}
 use Rattle.ws_steps.specs.Jobs.{job_effects, job_begun, begin_job}
@@ -25,6 +26,7 @@ use Rattle.ws_laws.proofs.Lists.{Each, each-append, append_cancel}
 use Rattle.ws_laws.proofs.PipeDoes.{PipeCauses}
 use Rattle.ws_laws.proofs.Rows.{Causes, ChunkCauses, EndCauses, SignalCauses, row-causes}
 use Rattle.ws_laws.proofs.Tables.{either, eq_numbers, unequal_numbers, is_same-refl, same_id}
+use Rattle.ws_laws.proofs.TransformDoes.{TransformCauses}
 use Rattle.ws_laws.proofs.Walker.{IsHistory, performed-goes}
 use Rattle.ws_write_laws.proofs.Answered.{writes_were_answered}
 use Rattle.ws_pipe_laws.specs.PipeHistory.{is_over, Through, nothing_through, through_then, held_goes, operation_through, effect_through, step_through}
@@ -84,17 +86,22 @@ signal-none (Trigger r) = λ q. tt
 signal-none (Add q) = tt
 signal-none (Forget q) = tt
 
+transform-none : (t : TransformId) (writable readable : StreamId) (e : Effect) → TransformCauses t writable readable e → IsNoWrite e
+transform-none t writable readable (OnPipe q operation) c = absurd c
+transform-none t writable readable _ c = tt
+
 none-causes : (e : Effect) → Causes IsNoWrite e
 none-causes (OnReadable j operation) = record { pull = tt; cancel = λ r q. tt; chunk = λ r v. tt; close = λ r. tt; error = λ r e. tt }
-none-causes (OnWritable j operation) = record { write = tt; close = tt; abort = λ r q. tt; hand_on = λ v. tt }
+none-causes (OnWritable j operation) = record { write = tt; close = tt; abort = λ r q. tt; hand_on = λ v. tt; take = λ v t d. tt }
 none-causes (OnPipe q operation) = pipe-none q
 none-causes (OnSignal a operation) = signal-none operation
+none-causes (OnTransform t operation) = transform-none t
 none-causes (StartAlgorithm j step start) = (λ g u. tt, λ c u. tt)
-none-causes (PullAlgorithm j) = λ c u. tt
-none-causes (CancelAlgorithm j r q) = λ c u. tt
-none-causes (WriteAlgorithm j) = tt
-none-causes (CloseAlgorithm j) = λ c u. tt
-none-causes (AbortAlgorithm j r q) = λ c u. tt
+none-causes (PullAlgorithm j) = (λ c u. tt, λ t u. tt)
+none-causes (CancelAlgorithm j r q) = (λ c u. tt, λ t u. tt)
+none-causes (WriteAlgorithm j) = (tt, λ t u. tt)
+none-causes (CloseAlgorithm j) = (λ c u. tt, λ t u. tt)
+none-causes (AbortAlgorithm j r q) = (λ c u. tt, λ t u. tt)
 none-causes (ChunkSteps j request v) = chunk-none v request
 none-causes (CloseSteps j request) = end-none request
 none-causes (ErrorSteps j request e) = end-none request

@@ -132,8 +132,9 @@ module _ (p : PipeId) where
         ⊎_elim (λ (f : slice_get (z.pipes ++ y ∷ []) p.0 ≡ slice_get z.pipes p.0). subst (Known h) (sym f) k)
         (λ (f : (slice_get z.pipes p.0 ≡ None) × (slice_get (z.pipes ++ y ∷ []) p.0 ≡ Some y)). subst (Known h) (sym f.1) (inl refl)) (appended z.pipes y p.0);
     signal = λ z k. k;
-    readable = λ z mark size k. k;
-    writable = λ z mark size k. k;
+    transform = λ z kind i j change k. k;
+    readable = λ z owner mark size k. k;
+    writable = λ z owner mark size k. k;
   }) c s k
 
   goes : GoesUntold ◌++◌ effect_moment Is
@@ -241,17 +242,17 @@ module _ (p : PipeId) where
         let at = all_moments-at (SureAfter p i unclosed ⊥ never) first rest m (subst (AllMoments (SureAfter p i unclosed ⊥ never)) split k.0) in
         let l = left m a in
         let z : pipe.Slots = l.0 in
-        let sure : (z.source ≡ i) × ((z.phase ≡ Flowing) ⊎ (z.error ≡ None → ⊥)) = subst (Sure p i unclosed ⊥ never) l.1.0 at in
+        let sure : (z.source ≡ i) × ((z.phase ≡ Flowing) ⊎ (z.error ≡ None → ⊥)) = subst (Sure p i ⊥) l.1.0 at in
         ⊎_elim (λ (g : z.phase ≡ Flowing). false_true (is_live z.phase) (ap is_live g) l.1.1.0) (λ (g : z.error ≡ None → ⊥). g l.1.1.1) sure.1
 
     source_at : (i : StreamId) → slice_get s.pipes p.0 ≡ None → ((c : Call) → x ≡ Called c → ⊥) → step_moments s x ≡ first ++ m ∷ rest → (left m a).0.source ≡ i
     source_at i e n split =
         let r = readable_at i s in
-        let k = other-sure p i r (Unit {0}) (λ c. tt) s x n (waits-run before) refl (subst (Sure p i r (Unit {0}) (λ c. tt)) (sym e) tt) in
+        let k = other-sure p i r (Unit {0}) (λ c. tt) s x n (waits-run before) refl (subst (Sure p i (Unit {0})) (sym e) tt) in
         let at = all_moments-at (SureAfter p i r (Unit {0}) (λ c. tt)) first rest m (subst (AllMoments (SureAfter p i r (Unit {0}) (λ c. tt))) split k.0) in
         let l = left m a in
         let z : pipe.Slots = l.0 in
-        let sure : (z.source ≡ i) × ((z.phase ≡ Flowing) ⊎ (z.error ≡ None → Unit {0})) = subst (Sure p i r (Unit {0}) (λ c. tt)) l.1.0 at in
+        let sure : (z.source ≡ i) × ((z.phase ≡ Flowing) ⊎ (z.error ≡ None → Unit {0})) = subst (Sure p i (Unit {0})) l.1.0 at in
         sure.0
 
     not_made : slice_get s.pipes p.0 ≡ None → ((c : Call) → x ≡ Called c → ⊥) → step_moments s x ≡ first ++ m ∷ rest → ⊥

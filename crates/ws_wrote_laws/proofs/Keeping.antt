@@ -88,8 +88,9 @@ module _ (p : PipeId) (P : pipe.Slots → Type 0) (keeps : (ends : Ends) (operat
     hosts = λ z hs k. k;
     pipe = λ z source dest prevent signal promise k. made z.pipes (pipe.set_up source dest prevent signal promise) k;
     signal = λ z k. k;
-    readable = λ z mark size k. k;
-    writable = λ z mark size k. k;
+    transform = λ z kind i j change k. k;
+    readable = λ z owner mark size k. k;
+    writable = λ z owner mark size k. k;
   }) c s k
 
   in-stays : Stays Has
@@ -195,8 +196,9 @@ module _ (i : StreamId) (W : writable.Slots → Type 0) (keeps : (operation : Wr
     hosts = λ z hs k. k;
     pipe = λ z source dest prevent signal promise k. k;
     signal = λ z k. k;
-    readable = λ z mark size k. added z.streams _ k;
-    writable = λ z mark size k. added z.streams _ k;
+    transform = λ z kind i j change k. k;
+    readable = λ z owner mark size k. added z.streams _ k;
+    writable = λ z owner mark size k. added z.streams _ k;
   }) c s k
 
   among-goes : GoesUntold writes_then (effect_writes i) Stands
@@ -278,8 +280,9 @@ module _ (i : StreamId) (R : readable.Slots → Type 0) (keeps : (operation : Re
     hosts = λ z hs k. k;
     pipe = λ z source dest prevent signal promise k. k;
     signal = λ z k. k;
-    readable = λ z mark size k. more z.streams _ k;
-    writable = λ z mark size k. more z.streams _ k;
+    transform = λ z kind i j change k. k;
+    readable = λ z owner mark size k. more z.streams _ k;
+    writable = λ z owner mark size k. more z.streams _ k;
   }) c s k
 
   within-stays : Stays Remains

@@ -1,5 +1,6 @@
 pub mod Destinations
 pub mod Keeping
+pub mod Owners
 pub mod Fronts
 pub mod Passed
 pub mod Sources

@@ -1,27 +1,30 @@
 -- A pipe that shuts down without an error found its source closed, and it was closed before the step.
-use Rattle.std.proofs.Common.{◌≡◌, ◌⊎◌, inl, inr, ⊎_elim, ℕ, ◌≤◌, Bool, true, false, nat_eq, List, [], ◌∷◌, ◌++◌, Option, Some, None, Result, slice_get, refl, sym, ap, subst, ◌∙◌, arith}
+use Rattle.std.proofs.Common.{◌≡◌, ◌⊎◌, inl, inr, ⊎_elim, ℕ, ◌≤◌, Bool, true, false, nat_eq, List, [], ◌∷◌, ◌++◌, Option, Some, None, Result, Ok, Err, slice_get, refl, sym, ap, subst, ◌∙◌, arith}
 use Rattle.ws_value.specs.declared.{ids.PipeId.{PipeId}, ids.PromiseId.{PromiseId}, ids.StreamId.{StreamId}, value.Plain.{Plain}, value.Value.{Value}}
-use Rattle.ws_steps.specs.declared.effects.{Effect.{Effect}, Effect.TheVariants.{Readable as OnReadable, Writable as OnWritable, Pipe as OnPipe, Signal as OnSignal, StartAlgorithm, PullAlgorithm, CancelAlgorithm, WriteAlgorithm, CloseAlgorithm, AbortAlgorithm, ChunkSteps, CloseSteps, ErrorSteps, Give, Settle, Queue, CallHost}}
+use Rattle.ws_steps.specs.declared.effects.{Effect.{Effect}, Effect.TheVariants.{Readable as OnReadable, Writable as OnWritable, Pipe as OnPipe, Signal as OnSignal, Transform as OnTransform, StartAlgorithm, PullAlgorithm, CancelAlgorithm, WriteAlgorithm, CloseAlgorithm, AbortAlgorithm, ChunkSteps, CloseSteps, ErrorSteps, Give, Settle, Queue, CallHost}}
 use Rattle.ws_steps.specs.declared.pipes.{Action.{Action}, Ends.{Ends}, Phase.{Phase}, Phase.TheVariants.{Flowing, Waiting, Acting, Over}, PipeOperation.{PipeOperation}, Prevent.{Prevent}, SignalOperation.{SignalOperation}, SignalOperation.TheVariants.{Add, Forget, Trigger}}
-use Rattle.ws_steps.specs.declared.pipes.PipeOperation.TheVariants.{Look, LookReady, KeepChunk, ReadEnded, WriteChunk, GoOn, WriteEnded, Abort as AbortPipe, ActionSettled, PartSettled, NoParts}
+use Rattle.ws_steps.specs.declared.pipes.PipeOperation.TheVariants.{KeepChunk, ReadEnded, WriteChunk, ActionSettled}
 use Rattle.ws_steps.specs.declared.promises.{Job.{Job}, Job.TheVariants.{Reaction as ReactionJob, Follow, Settle as SettleJob, Micro as MicroJob}, Micro.TheVariants.{PipeLook, PipeWrite, PipeNoParts}}
-use Rattle.ws_steps.specs.declared.promises.{Step.{Step}, Step.TheVariants.{ReadableStart, ReadablePull, ReturnUndefined, WritableStart, WritableWrite, WritableClose, WritableAbort, PipeEnds, PipeReady, PipeWrote, PipeActed, PipePart}}
-use Rattle.ws_steps.specs.declared.readable.{ReadRequest.{ReadRequest}, ReadRequest.TheVariants.{Promise, Pipe as PipeRequest}, ReadableState.{ReadableState}}
-use Rattle.ws_steps.specs.declared.writable.WritableState.{WritableState}
+use Rattle.ws_steps.specs.declared.promises.{Step.{Step}, Step.TheVariants.{ReadableStart, ReadablePull, ReturnUndefined, WritableStart, WritableWrite, WritableClose, WritableAbort, PipeEnds, PipeReady, PipeWrote, PipeActed, PipePart, TransformChanged, Transformed, TransformFlushed, TransformAborted, TransformCancelled}}
+use Rattle.ws_steps.specs.declared.readable.{ReadRequest.{ReadRequest}, ReadRequest.TheVariants.{Promise, Pipe as PipeRequest}, ReadableOperation.TheVariants.{Enqueue}}
+use Rattle.ws_steps.specs.declared.transform.{TransformId.{TransformId}, TransformOperation.{TransformOperation}, TransformOperation.TheVariants.{SinkWrite, TransformChunk, Enqueued, SourcePull, SinkClose, SinkAbort, SourceCancel}, Halves.{Halves}}
 use Rattle.ws_steps.specs.Jobs.{job_effects, resolved, returned, steps}
-use Rattle.ws_steps.specs.Operations.{writable_operation, pipe_operation}
+use Rattle.ws_steps.specs.Operations.{readable_operation, writable_operation, pipe_operation, transform_operation}
 use Rattle.ws_steps.specs.Pipes as pipe
 use Rattle.ws_steps.specs.Pipes.{Acts, finalize, act_by_signal, act_by, act, proceed, shutdown, look_by, look, look_ready, go_on_in, go_on, keep_chunk, read_ended, write_held, write_in, write_chunk, write_ended, action_settled, part_settled, no_parts, abort}
 use Rattle.ws_steps.specs.Promises.{Table}
 use Rattle.ws_steps.specs.Readable as readable
-use Rattle.ws_steps.specs.Slots.{Slots, Stream, Done, found, ends_at, as_readable, on_pipe_at, readable_at}
+use Rattle.ws_steps.specs.Readable.{call_pull_if_needed, accept, controller_enqueue}
+use Rattle.ws_steps.specs.Slots.{Slots, Stream, Done, nothing, found, ends_at, halves_at, has_readable, as_readable, put_readable, on_pipe_at, on_readable, on_transform_at, readable_at}
+use Rattle.ws_steps.specs.Transform as transform
 use Rattle.ws_steps.specs.Histories.{is_same}
 use Rattle.ws_steps.specs.Turns.{row}
 use Rattle.ws_steps.proofs.PromiseLaws.{slice_get-set_other}
 use Rattle.ws_laws.proofs.Lists.{Each, each-append, each-map}
 use Rattle.ws_laws.proofs.PipeDoes.{is_looking, IsQuiet, pipe-quiet, pipe-causes}
 use Rattle.ws_laws.proofs.Rows.{Causes, ChunkCauses, EndCauses, SignalCauses, IsNoPipe, row-causes, row-pipes, row-streams}
-use Rattle.ws_laws.proofs.Tables.{eq_numbers, unequal_numbers, on_writable-readable}
+use Rattle.ws_laws.proofs.Tables.{either, same_id, eq_numbers, unequal_numbers, readable_acts, on_readable-same, on_readable-other, on_writable-readable}
+use Rattle.ws_laws.proofs.TransformDoes.{TransformCauses}
 use Rattle.ws_laws.proofs.Truth.{false_true}
 use Rattle.ws_promise_laws.proofs.Acting.{EachWaits, Waits}
 use Rattle.ws_promise_laws.proofs.PipeActs.{acts_now}
@@ -30,90 +33,110 @@ use Rattle.ws_pipe_laws.specs.PipeHistory.{shutdown as shut, has_closed, is_look
 use Rattle.ws_pipe_laws.specs.PipeMoves.{starting, IsNamed, Move, MoveRests, MoveWaits, MoveActs, MoveEnds, MoveFinishes}
 use Rattle.ws_pipe_laws.proofs.Moves.{each_pipe_moves}
 use Rattle.ws_pipe_laws.proofs.PassingRuns.{place_same}
+use Rattle.ws_pipe_laws.proofs.Unpiped.{IsUnpiped, operation-unpiped}
 
--- what a pipe causes but for a write: no operation of a pipe
-abbrev IsUnpiped : Effect → Type 0
-IsUnpiped (OnPipe p operation) = ⊥
-IsUnpiped _ = Unit {0}
-
-module _ (me : PipeId) where
-  abbrev Keeps : Acts → Acts → Type 0
-  Keeps a b = Each IsUnpiped a.out.effects → Each IsUnpiped b.out.effects
-
-  finalize-unpiped : (error : Option Plain) (a : Acts) → Keeps a (finalize me error a)
-  unfolding finalize
-  finalize-unpiped error a = grind (arith, each-append)
-
-  signal-unpiped : (r : Plain) (a : Acts) → Keeps a (act_by_signal me r a)
-  unfolding act_by_signal
-  signal-unpiped r a = grind (arith, each-append)
-
-  act_by-unpiped : (ends : Ends) (a : Acts) (action : Option Action) → Keeps a (act_by me ends a action)
-  act_by-unpiped ends a action = grind (arith, each-append, finalize-unpiped, signal-unpiped)
-
-  act-unpiped : (ends : Ends) (a : Acts) → Keeps a (act me ends a)
-  unfolding act
-  act-unpiped ends a = grind (arith, act_by-unpiped)
-
-  proceed-unpiped : (ends : Ends) (a : Acts) → Keeps a (proceed me ends a)
-  unfolding proceed
-  proceed-unpiped ends a = grind (arith, act-unpiped)
-
-  shutdown-unpiped : (ends : Ends) (action : Option Action) (error : Option Plain) (a : Acts) → Keeps a (shutdown me ends action error a)
-  unfolding shutdown
-  shutdown-unpiped ends action error a = grind (arith, proceed-unpiped, act-unpiped)
-
-  look_by-unpiped : (ends : Ends) (a : Acts) (s : ReadableState) (d : WritableState) → Keeps a (look_by me ends a s d)
-  look_by-unpiped ends a s d = grind (arith, each-append, shutdown-unpiped)
-
-  look-unpiped : (ends : Ends) (a : Acts) → Keeps a (look me ends a)
-  unfolding look
-  look-unpiped ends a = grind (arith, look_by-unpiped)
-
-  go_on-unpiped : (ends : Ends) (a : Acts) (phase : Phase) → Keeps a (go_on_in me ends a phase)
-  go_on-unpiped ends a phase = grind (arith, look-unpiped, proceed-unpiped)
-
-  operation-unpiped : (ends : Ends) (operation : PipeOperation) (a : Acts) → (operation ≡ WriteChunk → ⊥) → Keeps a (pipe_operation me ends operation a)
-  unfolding look_ready go_on keep_chunk read_ended write_ended action_settled part_settled no_parts abort
-  operation-unpiped ends Look a q = look-unpiped ends a
-  operation-unpiped ends LookReady a q = grind (arith, look-unpiped)
-  operation-unpiped ends (KeepChunk v) a q = grind arith
-  operation-unpiped ends ReadEnded a q = grind arith
-  operation-unpiped ends WriteChunk a q = absurd (q refl)
-  operation-unpiped ends GoOn a q = go_on-unpiped ends a a.slots.phase
-  operation-unpiped ends WriteEnded a q = grind (arith, go_on-unpiped)
-  operation-unpiped ends (AbortPipe r) a q = shutdown-unpiped ends _ _ a
-  operation-unpiped ends (ActionSettled outcome) a q = grind (arith, finalize-unpiped)
-  operation-unpiped ends (PartSettled outcome) a q = grind arith
-  operation-unpiped ends NoParts a q = grind arith
-
--- effects that don't look, and those that leave readable streams and lead to none that looks
+-- effects that don't look, and those that close no readable stream and lead to none that does, nor to one that looks: a write to the half of
+-- a transform stream may enqueue into the other half
 
 abbrev pub IsNoLook : Effect → Type 0
 IsNoLook (OnPipe q operation) = is_looking operation ≡ false
 IsNoLook _ = Unit {0}
 
+abbrev IsCalmOperation : TransformOperation → Type 0
+IsCalmOperation (SinkWrite u) = Unit {0}
+IsCalmOperation (TransformChunk v d) = Unit {0}
+IsCalmOperation Enqueued = Unit {0}
+IsCalmOperation (SourcePull u) = Unit {0}
+IsCalmOperation (SinkClose u) = Unit {0}
+IsCalmOperation (SinkAbort r u) = Unit {0}
+IsCalmOperation (SourceCancel r u) = Unit {0}
+IsCalmOperation _ = ⊥
+
 abbrev IsCalm : Effect → Type 0
+IsCalm (OnReadable j (Enqueue v)) = Unit {0}
 IsCalm (OnWritable j operation) = Unit {0}
+IsCalm (OnPipe q (KeepChunk v)) = Unit {0}
+IsCalm (OnPipe q ReadEnded) = Unit {0}
+IsCalm (OnTransform t operation) = IsCalmOperation operation
+IsCalm (PullAlgorithm j) = Unit {0}
+IsCalm (CancelAlgorithm j r q) = Unit {0}
 IsCalm (WriteAlgorithm j) = Unit {0}
 IsCalm (CloseAlgorithm j) = Unit {0}
 IsCalm (AbortAlgorithm j r q) = Unit {0}
+IsCalm (ChunkSteps j request v) = Unit {0}
+IsCalm (CloseSteps j request) = Unit {0}
+IsCalm (ErrorSteps j request r) = Unit {0}
 IsCalm (Give gift u) = Unit {0}
 IsCalm (Settle q o) = Unit {0}
 IsCalm (Queue m) = Unit {0}
 IsCalm (CallHost call u) = Unit {0}
 IsCalm _ = ⊥
 
-calm-causes : (e : Effect) → IsCalm e → Causes IsCalm e
-calm-causes (OnWritable j operation) n = record { write = tt; close = tt; abort = λ r q. tt; hand_on = λ v. tt }
-calm-causes (WriteAlgorithm j) n = tt
-calm-causes (CloseAlgorithm j) n = λ c u. tt
-calm-causes (AbortAlgorithm j r q) n = λ c u. tt
-calm-causes (Give gift u) n = tt
-calm-causes (Settle q o) n = tt
-calm-causes (Queue m) n = tt
-calm-causes (CallHost call u) n = tt
-calm-causes e n = absurd n
+chunk-calm : (v : Value) (request : ReadRequest) → ChunkCauses IsCalm v request
+chunk-calm v (Promise q) = tt
+chunk-calm v (PipeRequest q) = tt
+
+end-calm : (request : ReadRequest) → EndCauses IsCalm request
+end-calm (Promise q) = tt
+end-calm (PipeRequest q) = tt
+
+pipe-calm : (q : PipeId) (operation : PipeOperation) (s : Slots) (o : Option pipe.Slots) → IsCalm (OnPipe q operation) → Each IsCalm (on_pipe_at (λ ends. pipe_operation q ends operation) q s o).caused
+unfolding keep_chunk read_ended
+pipe-calm q operation s None c = tt
+pipe-calm q (KeepChunk v) s (Some x) c = tt
+pipe-calm q ReadEnded s (Some x) c = tt
+pipe-calm q operation s (Some x) c = absurd c
+
+operation-calm : (t : TransformId) (halves : Halves) (operation : TransformOperation) (a : transform.Acts) → IsCalmOperation operation → a.out.effects ≡ [] → Each IsCalm (transform_operation t halves operation a).out.effects
+unfolding transform.enqueued transform.transform_chunk transform.sink_write transform.source_pull transform.set_backpressure transform.sink_close transform.sink_abort transform.source_cancel
+operation-calm t halves operation a c none = grind (arith, c, none)
+
+transform-calm : (t : TransformId) (operation : TransformOperation) (s : Slots) (o : Option transform.Slots) → IsCalmOperation operation
+    → Each IsCalm (on_transform_at (λ halves. transform_operation t halves operation) t s o).caused
+transform-calm t operation s None c = tt
+transform-calm t operation s (Some x) c = operation-calm t (halves_at x s) operation (record { slots = x; out = found s }) c refl
+
+row-calm : (e : Effect) (s : Slots) → IsCalm e → Each IsCalm (row e s).caused
+unfolding row
+row-calm (OnPipe q operation) s c = pipe-calm q operation s (slice_get s.pipes q.0) c
+row-calm (OnTransform t operation) s c = transform-calm t operation s (slice_get s.transforms t.0) c
+row-calm (OnReadable j operation) s c =
+    row-causes IsCalm (OnReadable j operation) s (record { pull = tt; cancel = λ r q. tt; chunk = λ request v. tt; close = λ request. tt; error = λ request r. tt })
+row-calm (OnWritable j operation) s c =
+    row-causes IsCalm (OnWritable j operation) s (record { write = tt; close = tt; abort = λ r q. tt; hand_on = λ v. tt; take = λ v t d. tt })
+row-calm (PullAlgorithm j) s c = row-causes IsCalm (PullAlgorithm j) s (λ h u. tt, λ t u. tt)
+row-calm (CancelAlgorithm j r q) s c = row-causes IsCalm (CancelAlgorithm j r q) s (λ h u. tt, λ t u. tt)
+row-calm (WriteAlgorithm j) s c = row-causes IsCalm (WriteAlgorithm j) s (tt, λ t u. tt)
+row-calm (CloseAlgorithm j) s c = row-causes IsCalm (CloseAlgorithm j) s (λ h u. tt, λ t u. tt)
+row-calm (AbortAlgorithm j r q) s c = row-causes IsCalm (AbortAlgorithm j r q) s (λ h u. tt, λ t u. tt)
+row-calm (ChunkSteps j request v) s c = row-causes IsCalm (ChunkSteps j request v) s (chunk-calm v request)
+row-calm (CloseSteps j request) s c = row-causes IsCalm (CloseSteps j request) s (end-calm request)
+row-calm (ErrorSteps j request r) s c = row-causes IsCalm (ErrorSteps j request r) s (end-calm request)
+row-calm (StartAlgorithm j step start) s c = absurd c
+row-calm (OnSignal a operation) s c = absurd c
+row-calm e s c = row-causes IsCalm e s tt
+
+enqueue-state : (j : StreamId) (v : Value) (a : readable.Acts) → (controller_enqueue j v a).slots.state ≡ a.slots.state
+unfolding controller_enqueue accept call_pull_if_needed
+enqueue-state j v a = grind arith
+
+enqueued-state : (i j : StreamId) (v : Value) (s : Slots) (same : Bool) → is_same i j ≡ same → (readable_at i (on_readable (readable_operation j (Enqueue v)) j s).slots).state ≡ (readable_at i s).state
+enqueued-state i j v s false n = ap (λ (o : Option Stream). (as_readable o).state) (on_readable-other (readable_operation j (Enqueue v)) j s i n)
+enqueued-state i j v s true e =
+    rw (same_id i j e)
+    (either (λ (d : Done). (readable_at j d.slots).state ≡ (readable_at j s).state) (has_readable j s) (put_readable j s (readable_operation j (Enqueue v) (readable_acts j s))) (nothing s)
+    (λ h.
+    let now : (readable_at j (put_readable j s (readable_operation j (Enqueue v) (readable_acts j s))).slots).state ≡ (readable_operation j (Enqueue v) (readable_acts j s)).slots.state =
+    ap (λ (o : Option Stream). (as_readable o).state) (rw h at (on_readable-same (readable_operation j (Enqueue v)) j s h)) in
+    now ∙ enqueue-state j v (readable_acts j s))
+    (λ h. refl))
+
+calm-state : (i : StreamId) (e : Effect) (s : Slots) → IsCalm e → (readable_at i (row e s).slots).state ≡ (readable_at i s).state
+unfolding row
+calm-state i (OnWritable j operation) s c = ap (λ (r : readable.Slots). r.state) (on_writable-readable (writable_operation j operation) j s i (is_same i j) refl)
+calm-state i (OnReadable j (Enqueue v)) s c = enqueued-state i j v s (is_same i j) refl
+calm-state i (OnReadable j operation) s c = absurd c
+calm-state i e s c = ap (λ (xs : List Stream). (as_readable (slice_get xs i.0)).state) (row-streams e s tt)
 
 chunk-look : (v : Value) (request : ReadRequest) → ChunkCauses IsNoLook v request
 chunk-look v (Promise q) = tt
@@ -128,17 +151,22 @@ signal-look (Trigger r) = λ q. refl
 signal-look (Add q) = tt
 signal-look (Forget q) = tt
 
+transform-look : (t : TransformId) (writable readable : StreamId) (e : Effect) → TransformCauses t writable readable e → IsNoLook e
+transform-look t writable readable (OnPipe q operation) c = absurd c
+transform-look t writable readable _ c = tt
+
 look-causes : (e : Effect) → IsNoPipe e → Causes IsNoLook e
 look-causes (OnReadable j operation) n = record { pull = tt; cancel = λ r q. tt; chunk = λ r v. tt; close = λ r. tt; error = λ r e. tt }
-look-causes (OnWritable j operation) n = record { write = tt; close = tt; abort = λ r q. tt; hand_on = λ v. tt }
+look-causes (OnWritable j operation) n = record { write = tt; close = tt; abort = λ r q. tt; hand_on = λ v. tt; take = λ v t d. tt }
 look-causes (OnPipe q operation) n = absurd n
 look-causes (OnSignal a operation) n = signal-look operation
+look-causes (OnTransform t operation) n = transform-look t
 look-causes (StartAlgorithm j step start) n = (λ g u. tt, λ c u. tt)
-look-causes (PullAlgorithm j) n = λ c u. tt
-look-causes (CancelAlgorithm j r q) n = λ c u. tt
-look-causes (WriteAlgorithm j) n = tt
-look-causes (CloseAlgorithm j) n = λ c u. tt
-look-causes (AbortAlgorithm j r q) n = λ c u. tt
+look-causes (PullAlgorithm j) n = (λ c u. tt, λ t u. tt)
+look-causes (CancelAlgorithm j r q) n = (λ c u. tt, λ t u. tt)
+look-causes (WriteAlgorithm j) n = (tt, λ t u. tt)
+look-causes (CloseAlgorithm j) n = (λ c u. tt, λ t u. tt)
+look-causes (AbortAlgorithm j r q) n = (λ c u. tt, λ t u. tt)
 look-causes (ChunkSteps j request v) n = chunk-look v request
 look-causes (CloseSteps j request) n = end-look request
 look-causes (ErrorSteps j request e) n = end-look request
@@ -207,39 +235,37 @@ named_closed prevent ends operation action e = grind (arith, e)
 acting_phase : (x : pipe.Slots) → 1 ≤ one_if (acts_now (Some x)) → x.phase ≡ Flowing → ⊥
 acting_phase x n f = let m : 1 ≤ 0 = rw f at n in absurd (omega (arith, m))
 
--- pipe p, its source i, which was r before the step, and what follows where that was closed
-module _ (p : PipeId) (i : StreamId) (r : readable.Slots) (C : Type 0) (closed : has_closed r.state ≡ true → C) where
+-- pipe p, its source i, and what follows where that was closed before the step
+module _ (p : PipeId) (i : StreamId) (C : Type 0) where
+  -- where the source is closed, it was so
+  abbrev pub WasClosed : Slots → Type 0
+  WasClosed s = has_closed (readable_at i s).state ≡ true → C
+
   abbrev pub Agenda : Slots → List Effect → Type 0
-  Agenda s es = Each IsNoLook es ⊎ ((readable_at i s ≡ r) × Front es)
+  Agenda s es = Each IsNoLook es ⊎ (WasClosed s × Front es)
 
-  calm-same : (e : Effect) (s : Slots) → IsCalm e → readable_at i (row e s).slots ≡ readable_at i s
+  write-agenda : (q : PipeId) (s : Slots) (es : List Effect) → WasClosed s → Each IsNoLook es → Agenda (row (OnPipe q WriteChunk) s).slots ((row (OnPipe q WriteChunk) s).caused ++ es)
   unfolding row
-  calm-same (OnWritable j operation) s c = on_writable-readable (writable_operation j operation) j s i (is_same i j) refl
-  calm-same (OnReadable j operation) s c = absurd c
-  calm-same e s c = ap (λ (xs : List Stream). as_readable (slice_get xs i.0)) (row-streams e s tt)
-
-  write-agenda : (q : PipeId) (s : Slots) (es : List Effect) → readable_at i s ≡ r → Each IsNoLook es → Agenda (row (OnPipe q WriteChunk) s).slots ((row (OnPipe q WriteChunk) s).caused ++ es)
-  unfolding row
-  write-agenda q s es same n =
+  write-agenda q s es was n =
       let d : Done = on_pipe_at (λ ends. write_chunk q) q s (slice_get s.pipes q.0) in
-      let kept : readable_at i d.slots ≡ readable_at i s = ap (λ (xs : List Stream). as_readable (slice_get xs i.0)) (row-streams (OnPipe q WriteChunk) s tt) in
-      ⊎_elim (λ (m : Each IsNoLook (d.caused ++ es)). inl m) (λ (f : Front (d.caused ++ es)). inr (kept ∙ same, f)) (write-front q s (slice_get s.pipes q.0) es n)
+      let kept : has_closed (readable_at i d.slots).state ≡ has_closed (readable_at i s).state = ap (λ (xs : List Stream). has_closed (as_readable (slice_get xs i.0)).state) (row-streams (OnPipe q WriteChunk) s tt) in
+      ⊎_elim (λ (m : Each IsNoLook (d.caused ++ es)). inl m) (λ (f : Front (d.caused ++ es)). inr ((λ c. was (sym kept ∙ c)), f)) (write-front q s (slice_get s.pipes q.0) es n)
 
   looking-none : (q : PipeId) (operation : PipeOperation) (s : Slots) (es : List Effect) → (operation ≡ WriteChunk → ⊥) → Each IsNoLook es → Each IsNoLook ((row (OnPipe q operation) s).caused ++ es)
   unfolding row
   looking-none q operation s es w n = each-append IsNoLook _ es (looked-look q operation s (slice_get s.pipes q.0) w) n
 
-  front-agenda : (s : Slots) (e : Effect) (es : List Effect) → readable_at i s ≡ r → Each IsNoLook es → Agenda (row e s).slots ((row e s).caused ++ es)
-  front-agenda s (OnPipe q WriteChunk) es same n = write-agenda q s es same n
-  front-agenda s (OnPipe q operation) es same n = inl (looking-none q operation s es (λ e. cc) n)
-  front-agenda s e es same n = inl (each-append IsNoLook (row e s).caused es (row-look e s tt) n)
+  front-agenda : (s : Slots) (e : Effect) (es : List Effect) → WasClosed s → Each IsNoLook es → Agenda (row e s).slots ((row e s).caused ++ es)
+  front-agenda s (OnPipe q WriteChunk) es was n = write-agenda q s es was n
+  front-agenda s (OnPipe q operation) es was n = inl (looking-none q operation s es (λ e. cc) n)
+  front-agenda s e es was n = inl (each-append IsNoLook (row e s).caused es (row-look e s tt) n)
 
   pub row-agenda : (s : Slots) (e : Effect) (es : List Effect) → Agenda s (e ∷ es) → Agenda (row e s).slots ((row e s).caused ++ es)
   row-agenda s e es (inl n) = inl (each-append IsNoLook (row e s).caused es (row-look e s n.0) n.1)
-  row-agenda s e es (inr (same, inl n)) = front-agenda s e es same n
-  row-agenda s e es (inr (same, inr (c, f))) = inr (calm-same e s c ∙ same, behind-calm (row e s).caused es (row-causes IsCalm e s (calm-causes e c)) f)
+  row-agenda s e es (inr (was, inl n)) = front-agenda s e es was n
+  row-agenda s e es (inr (was, inr (c, f))) = inr ((λ h. was (sym (ap has_closed (calm-state i e s c)) ∙ h)), behind-calm (row e s).caused es (row-calm e s c) f)
 
-  looks_now : (q : PipeId) (operation : PipeOperation) (s : Slots) (es : List Effect) → Agenda s (OnPipe q operation ∷ es) → is_looking operation ≡ true → readable_at i s ≡ r
+  looks_now : (q : PipeId) (operation : PipeOperation) (s : Slots) (es : List Effect) → Agenda s (OnPipe q operation ∷ es) → is_looking operation ≡ true → WasClosed s
   looks_now q operation s es (inl n) l = false_true (is_looking operation) l n.0
   looks_now q operation s es (inr k) l = k.0
 
@@ -289,8 +315,7 @@ module _ (p : PipeId) (i : StreamId) (r : readable.Slots) (C : Type 0) (closed :
     where
       looked : is_look operation ≡ true → has_closed (readable_at x.source s).state ≡ true → C
       looked l c =
-          let now : readable_at i s ≡ r = looks_now p operation s es g (look_looking operation l) in
-          closed (subst (λ (y : readable.Slots). has_closed y.state ≡ true) now (subst (λ (j : StreamId). has_closed (readable_at j s).state ≡ true) k.0 c))
+          looks_now p operation s es g (look_looking operation l) (subst (λ (j : StreamId). has_closed (readable_at j s).state ≡ true) k.0 c)
 
       settled : (o : Result Plain Plain) → operation ≡ ActionSettled o → x.phase ≡ Flowing → ⊥
       settled o is f =
@@ -338,6 +363,13 @@ steps-front (PipeReady q) o derived r = inr (inl (resolved-look derived r))
 steps-front (PipeWrote q) o derived r = inr (inl (resolved-look derived r))
 steps-front (PipeActed q) o derived r = inr (inl (resolved-look derived r))
 steps-front (PipePart q) o derived r = inr (inl (resolved-look derived r))
+steps-front (TransformChanged t d) (Ok v) derived r = inl (tt, resolved-look derived r)
+steps-front (TransformChanged t d) (Err e) derived r = inl (tt, resolved-look derived r)
+steps-front (Transformed t) (Ok v) derived r = inl (resolved-look derived r)
+steps-front (Transformed t) (Err e) derived r = inl (tt, resolved-look derived r)
+steps-front (TransformFlushed t q) o derived r = inl (tt, resolved-look derived r)
+steps-front (TransformAborted t q e) o derived r = inl (tt, resolved-look derived r)
+steps-front (TransformCancelled t q e) o derived r = inl (tt, resolved-look derived r)
 
 pub job-front : (job : Job) → Each IsNoLook (job_effects job) ⊎ Front (job_effects job)
 job-front (ReactionJob step o derived) = steps-front step o derived (returned step o)
