@@ -11,20 +11,23 @@ use Rattle.ws_value.specs.declared.value.Value.TheVariants.{Plain as PlainValue}
 use Rattle.std.specs.Prelude.{Err}
 use Rattle.ws_steps.specs.declared.{calls.Event.{Event}, calls.Event.TheVariants.{Signal}, calls.StartBy.TheVariants.{Now, Later}}
 use Rattle.ws_steps.specs.declared.effects.Effect.{Effect}
-use Rattle.ws_steps.specs.declared.effects.Effect.TheVariants.{Readable, Writable, Pipe, Signal, StartAlgorithm, ChunkSteps, CloseSteps, ErrorSteps, Give, Settle, Queue, CallHost}
+use Rattle.ws_steps.specs.declared.effects.Effect.TheVariants.{Readable, Writable, Pipe, Signal, Transform, StartAlgorithm, ChunkSteps, CloseSteps, ErrorSteps, Give, Settle, Queue, CallHost}
 use Rattle.ws_steps.specs.declared.{effects.Gift.{Gift}, effects.Gift.TheVariants.{This, Fresh}, effects.Use.{Use}}
 use Rattle.ws_steps.specs.declared.{effects.Use.TheVariants.{React, Resolve}, promises.Reaction.{Reaction}, promises.Reaction.TheVariants.{Perform}}
 use Rattle.ws_steps.specs.declared.{readable.ReadRequest.TheVariants.{Promise, Pipe as PipeRequest}, pipes.PipeOperation.{PipeOperation}, pipes.SignalOperation.{SignalOperation}, promises.Micro.{Micro}}
+use Rattle.ws_steps.specs.declared.{transform.TransformId.{TransformId}, transform.TransformOperation.{TransformOperation}}
 use Rattle.ws_steps.specs.Effects.{Out}
 use Rattle.ws_steps.specs.Promises.{Table, fresh, settle, answer, react, follow, queue_micro, tell, next_id, fresh_settled, use_this, use_gift}
-use Rattle.ws_steps.specs.Operations.{readable_operation, writable_operation, pipe_operation, signal_operation}
-use Rattle.ws_steps.specs.Slots.{Slots, Done, nothing, has_readable, has_writable, found, ends_at, put_readable, put_writable, on_pipe_at, on_signal_at}
+use Rattle.ws_steps.specs.Operations.{readable_operation, writable_operation, pipe_operation, signal_operation, transform_operation}
+use Rattle.ws_steps.specs.Slots.{Slots, Done, nothing, has_readable, has_writable, found, ends_at, halves_at, put_readable, put_writable, on_pipe_at, on_signal_at, on_transform_at}
 use Rattle.ws_steps.specs.Turns.{row, call_host}
 use Rattle.ws_steps.specs.Pipes as pipe
+use Rattle.ws_steps.specs.Transform as transform
 use Rattle.ws_steps.specs.Pipes.{abort_all, trigger_unless}
 use Rattle.ws_laws.proofs.ReadableDoes.{readable-does}
 use Rattle.ws_laws.proofs.WritableDoes.{writable-does}
 use Rattle.ws_laws.proofs.PipeDoes.{pipe-does}
+use Rattle.ws_laws.proofs.TransformDoes.{transform-does}
 use Rattle.ws_laws.proofs.Tables.{either, readable_acts, writable_acts}
 use Rattle.ws_end_laws.proofs.Hearing.{is_well}
 
@@ -59,6 +62,12 @@ module _ (T : Table → Type 0) (alters : Alters T) where
   signal-alters a operation s None h = h
   signal-alters a operation s (Some x) h = h
 
+  transform-alters : (t : TransformId) (operation : TransformOperation) (s : Slots) (o : Option transform.Slots) → T s.promises
+      → T (on_transform_at (λ halves. transform_operation t halves operation) t s o).slots.promises
+  transform-alters t operation s None h = h
+  transform-alters t operation s (Some x) h =
+      transform-does T (record { fresh = alters.fresh; settle = alters.settle }) t (halves_at x s) operation (record { slots = x; out = found s }) h
+
   pub row-alters : (e : Effect) (s : Slots) → T s.promises → T (row e s).slots.promises
   unfolding row call_host
   row-alters (Readable i operation) s h =
@@ -81,9 +90,11 @@ module _ (T : Table → Type 0) (alters : Alters T) where
         close = λ x h. h;
         abort = λ x r p h. h;
         hand_on = λ x v h. h;
+        take = λ x v t d h. h;
       }) operation (writable_acts i s) h) (λ e. h)
   row-alters (Pipe p operation) s h = pipe-alters p operation s (slice_get s.pipes p.0) h
   row-alters (Signal a operation) s h = signal-alters a operation s (slice_get s.signals a.0) h
+  row-alters (Transform t operation) s h = transform-alters t operation s (slice_get s.transforms t.0) h
   row-alters (StartAlgorithm i step Now) s h = h
   row-alters (StartAlgorithm i step Later) s h = alters.fresh s.promises h
   row-alters (ChunkSteps i (Promise p) v) s h = alters.answer s.promises p (Given v) refl h

@@ -3,11 +3,12 @@ use Rattle.std.proofs.Common.{◌≡◌, ◌⊎◌, ◌≤◌, Bool, true, false
 use Rattle.ws_value.specs.declared.{ids.PipeId.{PipeId}, ids.StreamId.{StreamId}, value.Plain.{Plain}}
 use Rattle.ws_steps.specs.declared.calls.Call.{Call}
 use Rattle.ws_steps.specs.declared.effects.Effect.{Effect}
-use Rattle.ws_steps.specs.declared.effects.Effect.TheVariants.{Readable as OnReadable, Writable as OnWritable, Pipe as OnPipe, Signal as OnSignal, StartAlgorithm, PullAlgorithm, CancelAlgorithm, WriteAlgorithm, CloseAlgorithm, AbortAlgorithm, ChunkSteps, CloseSteps, ErrorSteps}
+use Rattle.ws_steps.specs.declared.effects.Effect.TheVariants.{Readable as OnReadable, Writable as OnWritable, Pipe as OnPipe, Signal as OnSignal, Transform as OnTransform, StartAlgorithm, PullAlgorithm, CancelAlgorithm, WriteAlgorithm, CloseAlgorithm, AbortAlgorithm, ChunkSteps, CloseSteps, ErrorSteps}
 use Rattle.ws_steps.specs.declared.pipes.{Ends.{Ends}, Phase.{Phase}, PipeOperation.{PipeOperation}}
 use Rattle.ws_steps.specs.declared.pipes.{SignalOperation.{SignalOperation}, SignalOperation.TheVariants.{Add, Forget, Trigger}}
 use Rattle.ws_steps.specs.declared.promises.Job.{Job}
 use Rattle.ws_steps.specs.declared.readable.{ReadRequest.TheVariants.{Promise, Pipe as PipeRequest}}
+use Rattle.ws_steps.specs.declared.transform.TransformId.{TransformId}
 use Rattle.ws_steps.specs.declared.writable.WritableOperation.{WritableOperation}
 use Rattle.ws_steps.specs.Calls.{Begun, begin}
 use Rattle.ws_steps.specs.Histories.{is_same}
@@ -22,6 +23,7 @@ use Rattle.ws_laws.proofs.Lists.{Each, each-append, each-map}
 use Rattle.ws_laws.proofs.PipeDoes.{PipeCauses, pipe-causes}
 use Rattle.ws_laws.proofs.Rows.{Causes, SignalCauses, IsNoPipe, row-causes}
 use Rattle.ws_laws.proofs.Tables.{unequal_numbers}
+use Rattle.ws_laws.proofs.TransformDoes.{TransformCauses}
 use Rattle.ws_laws.proofs.Truth.{and_left, and_right, false_true}
 use Rattle.ws_pipe_laws.specs.PipeHistory.{is_live, is_over}
 use Rattle.ws_pipe_laws.specs.PipeMoves.{starting, end_effects, is_idle, are_idle, Move, MoveRests, MoveWaits, MoveActs, MoveEnds, MoveFinishes}
@@ -49,21 +51,25 @@ module _ (j : StreamId) where
   signal-none (Add q) = tt
   signal-none (Forget q) = tt
 
+  transform-none : (t : TransformId) (writable readable : StreamId) (e : Effect) → TransformCauses t writable readable e → NoClose e
+  transform-none t writable readable e c = grind (arith, c)
+
   none-causes : (e : Effect) → IsNoPipe e → Causes NoClose e
   none-causes (OnReadable i operation) n = record { pull = refl; cancel = λ r q. refl; chunk = λ r v. refl; close = λ r. refl; error = λ r e. refl }
-  none-causes (OnWritable i operation) n = record { write = refl; close = refl; abort = λ r q. refl; hand_on = λ v. refl }
+  none-causes (OnWritable i operation) n = record { write = refl; close = refl; abort = λ r q. refl; hand_on = λ v. refl; take = λ v t d. refl }
   none-causes (OnPipe q operation) n = absurd n
   none-causes (OnSignal a operation) n = signal-none operation
+  none-causes (OnTransform t operation) n = transform-none t
   none-causes (StartAlgorithm i step start) n = (λ g u. refl, λ c u. refl)
-  none-causes (PullAlgorithm i) n = λ c u. refl
-  none-causes (CancelAlgorithm i r q) n = λ c u. refl
-  none-causes (WriteAlgorithm i) n = by (is_same j i)
+  none-causes (PullAlgorithm i) n = (λ c u. refl, λ t u. refl)
+  none-causes (CancelAlgorithm i r q) n = (λ c u. refl, λ t u. refl)
+  none-causes (WriteAlgorithm i) n = (by (is_same j i), λ t u. refl)
     where
       by : (b : Bool) → b && false ≡ false
       by true = refl
       by false = refl
-  none-causes (CloseAlgorithm i) n = λ c u. refl
-  none-causes (AbortAlgorithm i r q) n = λ c u. refl
+  none-causes (CloseAlgorithm i) n = (λ c u. refl, λ t u. refl)
+  none-causes (AbortAlgorithm i r q) n = (λ c u. refl, λ t u. refl)
   none-causes (ChunkSteps i (Promise q) v) n = tt
   none-causes (ChunkSteps i (PipeRequest q) v) n = refl
   none-causes (CloseSteps i (Promise q)) n = tt

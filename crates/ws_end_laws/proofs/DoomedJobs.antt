@@ -1,8 +1,8 @@
 -- The job by which a pipe hears of its action is the only one, where its reaction is registered or its job is queued.
-use Rattle.std.proofs.Common.{◌≡◌, ◌⊎◌, inl, inr, ℕ, zero, suc, ◌+◌, ◌≤◌, Bool, true, false, nat_eq, List, [], ◌∷◌, ◌++◌, Option, Some, None, Result, Err, slice_get, refl, sym, ap, subst, ◌∙◌, arith}
+use Rattle.std.proofs.Common.{◌≡◌, ◌⊎◌, inl, inr, ℕ, zero, suc, ◌+◌, ◌≤◌, Bool, true, false, nat_eq, List, [], ◌∷◌, ◌++◌, Option, Some, None, Result, Ok, Err, slice_get, refl, sym, ap, subst, ◌∙◌, arith}
 use Rattle.ws_value.specs.declared.{ids.PipeId.{PipeId}, ids.PromiseId.{PromiseId}, value.Plain.{Plain}}
 use Rattle.ws_steps.specs.declared.promises.{Job.{Job}, Job.TheVariants.{Reaction as ReactionJob, Follow, Settle as SettleJob, Micro as MicroJob}, Micro.TheVariants.{PipeLook, PipeWrite, PipeNoParts}, Reaction.{Reaction}}
-use Rattle.ws_steps.specs.declared.promises.{Step.{Step}, Step.TheVariants.{ReadableStart, ReadablePull, ReturnUndefined, WritableStart, WritableWrite, WritableClose, WritableAbort, PipeEnds, PipeReady, PipeWrote, PipeActed, PipePart}}
+use Rattle.ws_steps.specs.declared.promises.{Step.{Step}, Step.TheVariants.{ReadableStart, ReadablePull, ReturnUndefined, WritableStart, WritableWrite, WritableClose, WritableAbort, PipeEnds, PipeReady, PipeWrote, PipeActed, PipePart, TransformChanged, Transformed, TransformFlushed, TransformAborted, TransformCancelled}}
 use Rattle.ws_steps.specs.Jobs.{job_effects, resolved, returned, steps}
 use Rattle.ws_steps.specs.Promises as promises
 use Rattle.ws_steps.specs.Promises.{Table, live, entry_at, next_job, first_job, after_first, after_next_job}
@@ -63,6 +63,13 @@ module _ (p : PipeId) where
   steps-told (PipeWrote q) o r derived n = (tt, resolved-told derived r)
   steps-told (PipeActed q) o r derived n = (not_it (nat_eq p.0 q.0) n, resolved-told derived r)
   steps-told (PipePart q) o r derived n = (tt, resolved-told derived r)
+  steps-told (TransformChanged t d) (Ok v) r derived n = (tt, resolved-told derived r)
+  steps-told (TransformChanged t d) (Err e) r derived n = (tt, resolved-told derived r)
+  steps-told (Transformed t) (Ok v) r derived n = resolved-told derived r
+  steps-told (Transformed t) (Err e) r derived n = (tt, resolved-told derived r)
+  steps-told (TransformFlushed t d) o r derived n = (tt, resolved-told derived r)
+  steps-told (TransformAborted t d e) o r derived n = (tt, resolved-told derived r)
+  steps-told (TransformCancelled t d e) o r derived n = (tt, resolved-told derived r)
 
   pub job-told : (job : Job) → of_job counted job ≤ 0 → Each (NotTold p) (job_effects job)
   job-told (ReactionJob step o derived) n = steps-told step o (returned step o) derived n

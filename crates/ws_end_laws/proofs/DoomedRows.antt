@@ -3,9 +3,10 @@ use Rattle.std.proofs.Common.{◌≡◌, ◌⊎◌, inl, inr, ⊎_elim, Bool, tr
 use Rattle.ws_value.specs.declared.{ids.PipeId.{PipeId}, ids.PromiseId.{PromiseId}, ids.StreamId.{StreamId}, value.Plain.{Plain}}
 use Rattle.ws_steps.specs.declared.calls.Call.{Call}
 use Rattle.ws_steps.specs.declared.effects.Effect.{Effect}
-use Rattle.ws_steps.specs.declared.effects.Effect.TheVariants.{Readable as OnReadable, Writable as OnWritable, Pipe as OnPipe, Signal as OnSignal, StartAlgorithm, PullAlgorithm, CancelAlgorithm, WriteAlgorithm, CloseAlgorithm, AbortAlgorithm, ChunkSteps, CloseSteps, ErrorSteps}
+use Rattle.ws_steps.specs.declared.effects.Effect.TheVariants.{Readable as OnReadable, Writable as OnWritable, Pipe as OnPipe, Signal as OnSignal, Transform as OnTransform, StartAlgorithm, PullAlgorithm, CancelAlgorithm, WriteAlgorithm, CloseAlgorithm, AbortAlgorithm, ChunkSteps, CloseSteps, ErrorSteps}
 use Rattle.ws_steps.specs.declared.pipes.{PipeOperation.TheVariants.{ActionSettled}, SignalOperation.{SignalOperation}, SignalOperation.TheVariants.{Add, Forget, Trigger}}
 use Rattle.ws_steps.specs.declared.readable.{ReadRequest.TheVariants.{Promise, Pipe as PipeRequest}, ReadableOperation.{ReadableOperation}}
+use Rattle.ws_steps.specs.declared.transform.TransformId.{TransformId}
 use Rattle.ws_steps.specs.declared.writable.{WritableOperation.{WritableOperation}, WritableOperation.TheVariants.{ClosePropagating}}
 use Rattle.ws_steps.specs.Calls.{Begun, begin}
 use Rattle.ws_steps.specs.Histories.{is_same}
@@ -20,6 +21,7 @@ use Rattle.ws_laws.proofs.EachCall.{each_call}
 use Rattle.ws_laws.proofs.Lists.{Each, each-append}
 use Rattle.ws_laws.proofs.Rows.{Causes, SignalCauses, row-causes, row-streams}
 use Rattle.ws_laws.proofs.Tables.{same_id, writable_acts, on_readable-writable, on_writable-same, on_writable-other}
+use Rattle.ws_laws.proofs.TransformDoes.{TransformCauses}
 use Rattle.ws_writable_laws.proofs.Agenda.{Kept}
 use Rattle.ws_pipe_laws.specs.PipeHistory.{Course}
 use Rattle.ws_pipe_laws.specs.PipeMoves.{hears_action}
@@ -140,17 +142,22 @@ module _ (p : PipeId) where
   signal-told (Add q) = tt
   signal-told (Forget q) = tt
 
+  transform-told : (t : TransformId) (writable readable : StreamId) (e : Effect) → TransformCauses t writable readable e → NotTold p e
+  transform-told t writable readable (OnPipe q operation) c = absurd c
+  transform-told t writable readable _ c = tt
+
   told-causes : (e : Effect) → Causes (NotTold p) e
   told-causes (OnReadable i operation) = record { pull = tt; cancel = λ r q. tt; chunk = λ r v. tt; close = λ r. tt; error = λ r e. tt }
-  told-causes (OnWritable i operation) = record { write = tt; close = tt; abort = λ r q. tt; hand_on = λ v. tt }
+  told-causes (OnWritable i operation) = record { write = tt; close = tt; abort = λ r q. tt; hand_on = λ v. tt; take = λ v t d. tt }
   told-causes (OnPipe q operation) = λ source dest e c. pipe-told p q source dest e c
   told-causes (OnSignal a operation) = signal-told operation
+  told-causes (OnTransform t operation) = transform-told t
   told-causes (StartAlgorithm i step start) = (λ g u. tt, λ c u. tt)
-  told-causes (PullAlgorithm i) = λ c u. tt
-  told-causes (CancelAlgorithm i r q) = λ c u. tt
-  told-causes (WriteAlgorithm i) = tt
-  told-causes (CloseAlgorithm i) = λ c u. tt
-  told-causes (AbortAlgorithm i r q) = λ c u. tt
+  told-causes (PullAlgorithm i) = (λ c u. tt, λ t u. tt)
+  told-causes (CancelAlgorithm i r q) = (λ c u. tt, λ t u. tt)
+  told-causes (WriteAlgorithm i) = (tt, λ t u. tt)
+  told-causes (CloseAlgorithm i) = (λ c u. tt, λ t u. tt)
+  told-causes (AbortAlgorithm i r q) = (λ c u. tt, λ t u. tt)
   told-causes (ChunkSteps i (Promise q) v) = tt
   told-causes (ChunkSteps i (PipeRequest q) v) = tt
   told-causes (CloseSteps i (Promise q)) = tt

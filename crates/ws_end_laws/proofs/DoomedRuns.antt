@@ -82,8 +82,9 @@ call-table T f c s k = begin-makes (λ z. T z.promises) (record {
   hosts = λ z hs k. k;
   pipe = λ z source dest prevent signal promise k. k;
   signal = λ z k. k;
-  readable = λ z mark size k. k;
-  writable = λ z mark size k. k;
+  transform = λ z kind i j change k. k;
+  readable = λ z owner mark size k. k;
+  writable = λ z owner mark size k. k;
 }) c s k
 
 pub call-straight : (c : Call) (s : Slots) → Keeps s.promises (begin c s).done.slots.promises

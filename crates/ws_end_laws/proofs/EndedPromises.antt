@@ -270,8 +270,9 @@ module _ (p : PipeId) where
     hosts = λ z hs k. k;
     pipe = λ z source dest prevent signal promise k. made h z source dest prevent signal promise k;
     signal = λ z k. k;
-    readable = λ z mark size k. k;
-    writable = λ z mark size k. k;
+    transform = λ z kind i j change k. k;
+    readable = λ z owner mark size k. k;
+    writable = λ z owner mark size k. k;
   }) c s k
 
   goes : GoesUntold course_then (effect_course p) At

@@ -178,7 +178,7 @@ failing-operation i (names.ClosePropagating p) a x k =
 failing-operation i (names.Abort r p) a x k = abort-failing i r p a k
 failing-operation i (names.AbortIfWritable r p) a x k = grind (arith, k)
 failing-operation i (names.ErrorIfNeeded r) a x k = grind (arith, k)
-failing-operation i names.HandOn a x k = grind (arith, k)
+failing-operation i (names.HandOn taker) a x k = grind (arith, k)
 failing-operation i (names.StartSettled o) a x k = start_settled-failing i o a x.0 k
 failing-operation i (names.WriteSettled o) a x k = write-failing i o a x.0 k
 failing-operation i (names.CloseSettled o) a x k = false_true (is_some a.slots.close_in_flight) x k.flight
@@ -196,7 +196,7 @@ unclosed-operation i (names.AbortIfWritable r p) a n x k =
     either (λ (b : writable.Acts). Unclosed b.slots) (writable.is_writable a.slots.state) (stream_abort i r p a) _ (λ e. abort-unclosed i r p a k) (λ e. k)
 unclosed-operation i (names.ErrorIfNeeded r) a n x k =
     either (λ (b : writable.Acts). Unclosed b.slots) (writable.is_writable a.slots.state) (start_erroring i r a) a (λ e. start-unclosed i r a k) (λ e. k)
-unclosed-operation i names.HandOn a n x k = grind (arith, k)
+unclosed-operation i (names.HandOn taker) a n x k = grind (arith, k)
 unclosed-operation i (names.StartSettled o) a n x k = start_settled-unclosed i o a k
 unclosed-operation i (names.WriteSettled o) a n x k = write-unclosed i o a k
 unclosed-operation i (names.CloseSettled o) a n x k = false_true (is_some a.slots.close_in_flight) x k.flight

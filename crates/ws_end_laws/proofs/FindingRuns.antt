@@ -251,8 +251,9 @@ module _ (p : PipeId) where
         (λ (new : IsNew s (slice_get z.pipes p.0)). let n : None ≡ Some new.slots = sym f.0 ∙ new.there in absurd (cc)) k)
         (appended z.pipes y p.0);
     signal = λ z k. k;
-    readable = λ z mark size k. k;
-    writable = λ z mark size k. k;
+    transform = λ z kind i j change k. k;
+    readable = λ z owner mark size k. k;
+    writable = λ z owner mark size k. k;
   }) c s (inl refl)
 
   call-state : (h : List Moment) (before : List Entry) (c : Call) (o : Option pipe.Slots) → let s : Slots = run before empty in slice_get s.pipes p.0 ≡ o → At h o s [] → At h o (begin c s).done.slots (begin c s).done.caused

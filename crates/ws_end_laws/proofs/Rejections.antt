@@ -129,7 +129,7 @@ asked-operation d i (names.ClosePropagating p) a x k e = inl (grind (arith, k, e
 asked-operation d i (names.Abort r p) a x k e = inl (grind (arith, k, e))
 asked-operation d i (names.AbortIfWritable r p) a x k e = inl (grind (arith, k, e))
 asked-operation d i (names.ErrorIfNeeded r) a x k e = inl (grind (arith, k, e))
-asked-operation d i names.HandOn a x k e = inl (grind (arith, e))
+asked-operation d i (names.HandOn taker) a x k e = inl (grind (arith, e))
 asked-operation d i (names.StartSettled o) a x k e = start-asked d i o a x.0 k e
 asked-operation d i (names.WriteSettled o) a x k e = write-asked d i o a x.0 k e
 asked-operation d i (names.CloseSettled o) a x k e = false_true (is_some a.slots.close_in_flight) x k.flight
@@ -181,4 +181,5 @@ operation-keeps i operation a =
       close = λ x k. k;
       abort = λ x r p k. k;
       hand_on = λ x v k. k;
+      take = λ x v t d k. k;
     }) operation a (keeps-same a.out.promises)

@@ -81,6 +81,7 @@ module _ (i : StreamId) (W : writable.Slots → Type 0) (none : W no_writable �
     hosts = λ z hs k. k;
     pipe = λ z source dest prevent signal promise k. k;
     signal = λ z k. k;
-    readable = λ z mark size k. added z.streams _ k;
-    writable = λ z mark size k. added z.streams _ k;
+    transform = λ z kind i j change k. k;
+    readable = λ z owner mark size k. added z.streams _ k;
+    writable = λ z owner mark size k. added z.streams _ k;
   }) c s w

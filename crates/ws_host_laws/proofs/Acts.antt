@@ -3,10 +3,11 @@ use Rattle.std.proofs.Common.{◌≡◌, Bool, true, false, nat_eq, List, [], �
 use Rattle.ws_value.specs.declared.{ids.PipeId.{PipeId}, ids.PromiseId.{PromiseId}, ids.StreamId.{StreamId}, ids.SignalId.{SignalId}}
 use Rattle.ws_value.specs.declared.value.Plain.{Plain}
 use Rattle.ws_value.specs.declared.value.Value.{Value}
+use Rattle.ws_steps.specs.declared.transform.TransformId.{TransformId}
 use Rattle.ws_steps.specs.declared.{calls.Call.{Call}, calls.StartBy.{StartBy}, calls.StartBy.TheVariants.{Now, Later}}
 use Rattle.ws_steps.specs.declared.effects.Effect.{Effect}
-use Rattle.ws_steps.specs.declared.effects.Effect.TheVariants.{Readable, Writable, Pipe, Signal, StartAlgorithm, PullAlgorithm, CancelAlgorithm, WriteAlgorithm, CloseAlgorithm, AbortAlgorithm, ChunkSteps, CloseSteps, ErrorSteps, Give, Settle, CallHost}
-use Rattle.ws_steps.specs.declared.{effects.Gift.TheVariants.{This}, effects.Owner.{Owner}, effects.Owner.TheVariants.{Host}, effects.Use.{Use}, effects.Use.TheVariants.{React, Resolve}}
+use Rattle.ws_steps.specs.declared.effects.Effect.TheVariants.{Readable, Writable, Pipe, Signal, Transform, StartAlgorithm, PullAlgorithm, CancelAlgorithm, WriteAlgorithm, CloseAlgorithm, AbortAlgorithm, ChunkSteps, CloseSteps, ErrorSteps, Give, Settle, CallHost}
+use Rattle.ws_steps.specs.declared.{effects.Gift.TheVariants.{This}, effects.Owner.{Owner}, effects.Owner.TheVariants.{Host, HalfOf}, effects.Use.{Use}, effects.Use.TheVariants.{React, Resolve}}
 use Rattle.ws_steps.specs.declared.{pipes.SignalOperation.{SignalOperation}, pipes.SignalOperation.TheVariants.{Add, Forget, Trigger}, promises.Job.{Job}, promises.Step.{Step}, promises.Step.TheVariants.{PipeReady, PipeWrote, PipeActed, PipePart}}
 use Rattle.ws_steps.specs.declared.pipes.PipeOperation.TheVariants.{ActionSettled}
 use Rattle.ws_steps.specs.declared.{readable.ReadRequest.{ReadRequest}, readable.ReadRequest.TheVariants.{Promise, Pipe as PipeRequest}}
@@ -21,6 +22,8 @@ use Rattle.ws_laws.proofs.PipeDoes.{IsStepOf, PipeCauses}
 use Rattle.ws_laws.proofs.Rows.{Causes, ChunkCauses, EndCauses, SignalCauses, row-causes}
 use Rattle.ws_pipe_laws.specs.PipeMoves.{is_idle, are_idle, end_effects, signal_forgets, result_by}
 use Rattle.ws_host_laws.proofs.Reactions.{JobFits}
+use Rattle.ws_laws.proofs.TransformDoes.{TransformCauses}
+use Rattle.ws_host_laws.proofs.Carried.{Carries, Uses, Own, row-uses}
 use Rattle.ws_host_laws.proofs.Dests.{NoClose}
 
 -- the reaction of pipe p to its action
@@ -37,6 +40,7 @@ abbrev pub Fits : PipeId → Type 0 → Effect → Type 0
 Fits p V (Give gift u) = NoUse p u
 Fits p V (CallHost call u) = NoUse p u
 Fits p V (StartAlgorithm i step start) = acts_on p step ≡ false
+Fits p V (Transform t operation) = Carries (NoUse p) operation
 Fits p V (Pipe q (ActionSettled (Ok v))) = nat_eq p.0 q.0 ≡ true → V
 Fits p V _ = Unit {0}
 
@@ -59,6 +63,7 @@ module _ (p : PipeId) (V : Type 0) where
   pipe-fits q source dest (CallHost call u) n c = absurd c
   pipe-fits q source dest (StartAlgorithm i step start) n c = absurd c
   pipe-fits q source dest (Pipe r (ActionSettled o)) n c = absurd c
+  pipe-fits q source dest (Transform t operation) n c = absurd c
   pipe-fits q source dest _ n c = tt
 
   chunk-fits : (v : Value) (request : ReadRequest) → ChunkCauses (Fits p V) v request
@@ -80,25 +85,37 @@ module _ (p : PipeId) (V : Type 0) where
 
   pull-fits : (i : StreamId) (owner : Owner) (step : Step) (d : Option PromiseId) → acts_on p step ≡ false → Each (Fits p V) (pull_algorithm i (React step d) owner)
   pull-fits i Host step d n = (n, tt)
+  pull-fits i (HalfOf t) step d n = (n, tt)
 
   cancel-fits : (i : StreamId) (r : Plain) (owner : Owner) (step : Step) (d : Option PromiseId) → acts_on p step ≡ false → Each (Fits p V) (cancel_algorithm i r (React step d) owner)
   cancel-fits i r Host step d n = (n, tt)
+  cancel-fits i r (HalfOf t) step d n = (n, tt)
 
   abort-fits : (i : StreamId) (r : Plain) (owner : Owner) (step : Step) (d : Option PromiseId) → acts_on p step ≡ false → Each (Fits p V) (abort_algorithm i r (React step d) owner)
   abort-fits i r Host step d n = (n, tt)
+  abort-fits i r (HalfOf t) step d n = (n, tt)
 
   write-fits : (i : StreamId) (owner : Owner) → Each (Fits p V) (write_algorithm i owner)
   write-fits i Host = (tt, tt)
+  write-fits i (HalfOf t) = (refl, tt)
 
   close-fits : (i : StreamId) (owner : Owner) (step : Step) (d : Option PromiseId) → acts_on p step ≡ false → Each (Fits p V) (close_algorithm i (React step d) owner)
   close-fits i Host step d n = (n, tt)
+  close-fits i (HalfOf t) step d n = (n, tt)
+
+  own : Own (NoUse p)
+  own = record { resolve = λ q. tt; changed = λ t q. refl; transformed = λ t q. refl; flushed = λ t q. refl; aborted = λ t q r. refl; cancelled = λ t q r. refl }
+
+  uses-fit : (e : Effect) → Uses (NoUse p) (λ i. Unit {0}) e → Fits p V e
+  uses-fit e u = grind (arith, u)
 
   pub caused-fit : (e : Effect) (s : Slots) → NotOf p e → Fits p V e → Each (Fits p V) (row e s).caused
   unfolding row
   caused-fit (Readable i operation) s n f = row-causes (Fits p V) (Readable i operation) s (record { pull = tt; cancel = λ r q. tt; chunk = λ r v. tt; close = λ r. tt; error = λ r e. tt })
-  caused-fit (Writable i operation) s n f = row-causes (Fits p V) (Writable i operation) s (record { write = tt; close = tt; abort = λ r q. tt; hand_on = λ v. refl })
+  caused-fit (Writable i operation) s n f = row-causes (Fits p V) (Writable i operation) s (record { write = tt; close = tt; abort = λ r q. tt; hand_on = λ v. refl; take = λ v t d. tt })
   caused-fit (Pipe q operation) s n f = row-causes (Fits p V) (Pipe q operation) s (λ source dest e c. pipe-fits q source dest e n c)
   caused-fit (Signal a operation) s n f = row-causes (Fits p V) (Signal a operation) s (signal-fits operation)
+  caused-fit (Transform t operation) s n f = each-map (Uses (NoUse p) (λ i. Unit {0})) (Fits p V) uses-fit (row (Transform t operation) s).caused (row-uses (NoUse p) (λ i. Unit {0}) own t operation s f (λ x e. tt))
   caused-fit (StartAlgorithm i step start) s n f = start-fits i step s start f
   caused-fit (PullAlgorithm i) s n f = pull-fits i (owner_at i s) _ _ refl
   caused-fit (CancelAlgorithm i r q) s n f = cancel-fits i r (owner_at i s) _ _ refl
@@ -179,17 +196,21 @@ module _ (i : StreamId) where
   signal-closes (Add q) = tt
   signal-closes (Forget q) = tt
 
+  transform-closes : (t : TransformId) (writable readable : StreamId) (e : Effect) → TransformCauses t writable readable e → NoClose i e
+  transform-closes t writable readable e c = grind (arith, c)
+
   closes : (e : Effect) → IsNoPipe e → Causes (NoClose i) e
   closes (Readable j operation) n = record { pull = tt; cancel = λ r q. tt; chunk = λ r v. tt; close = λ r. tt; error = λ r e. tt }
-  closes (Writable j operation) n = record { write = tt; close = tt; abort = λ r q. tt; hand_on = λ v. tt }
+  closes (Writable j operation) n = record { write = tt; close = tt; abort = λ r q. tt; hand_on = λ v. tt; take = λ v t d. tt }
   closes (Pipe q operation) n = absurd n
   closes (Signal a operation) n = signal-closes operation
+  closes (Transform t operation) n = transform-closes t
   closes (StartAlgorithm j step start) n = (λ g u. tt, λ c u. tt)
-  closes (PullAlgorithm j) n = λ c u. tt
-  closes (CancelAlgorithm j r q) n = λ c u. tt
-  closes (WriteAlgorithm j) n = tt
-  closes (CloseAlgorithm j) n = λ c u. tt
-  closes (AbortAlgorithm j r q) n = λ c u. tt
+  closes (PullAlgorithm j) n = (λ c u. tt, λ t u. tt)
+  closes (CancelAlgorithm j r q) n = (λ c u. tt, λ t u. tt)
+  closes (WriteAlgorithm j) n = (tt, λ t u. tt)
+  closes (CloseAlgorithm j) n = (λ c u. tt, λ t u. tt)
+  closes (AbortAlgorithm j r q) n = (λ c u. tt, λ t u. tt)
   closes (ChunkSteps j request v) n = chunk-closes v request
   closes (CloseSteps j request) n = end-closes request
   closes (ErrorSteps j request e) n = end-closes request

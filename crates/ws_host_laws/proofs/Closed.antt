@@ -1,206 +1,56 @@
 -- The host settled the close algorithm of each writable stream well that is closed: the reaction to it is registered with the promise of that
 -- host call alone, which only the host settles.
-use Rattle.std.proofs.Common.{◌≡◌, ℕ, Bool, true, false, ◌⊎◌, inl, inr, ⊎_elim, nat_eq, List, [], ◌∷◌, ◌++◌, length, Option, Some, None, Result, Ok, Err, slice_get, slice_set, refl, sym, ap, subst, ◌∙◌, arith, append-nil}
-use Rattle.ws_value.specs.declared.{ids.HostId.{HostId}, ids.PromiseId.{PromiseId}, ids.StreamId.{StreamId}}
-use Rattle.ws_value.specs.declared.value.Outcome.TheVariants.{Fulfilled}
+use Rattle.std.proofs.Common.{◌≡◌, Bool, true, false, List, [], ◌∷◌, ◌++◌, Some, Ok, Err, slice_get, refl, sym, ap, subst, ◌∙◌}
+use Rattle.ws_value.specs.declared.{ids.StreamId.{StreamId}}
 use Rattle.ws_value.specs.declared.value.Plain.{Plain}
-use Rattle.ws_steps.specs.declared.{calls.Answer.{Answer}, calls.Answer.TheVariants.{Ok as AnswerOk, Fail as AnswerFail}, calls.Call.{Call}, calls.Call.TheVariants.{Settle as SettleCall}, calls.Event.{Event}, calls.Event.TheVariants.{Host as HostCalled}}
-use Rattle.ws_steps.specs.declared.{calls.HostCall.{HostCall}, calls.HostCall.TheVariants.{Close as HostClose}}
+use Rattle.ws_steps.specs.declared.{calls.Call.{Call}}
+use Rattle.ws_steps.specs.declared.{calls.HostCall.TheVariants.{Close as HostClose}}
 use Rattle.ws_steps.specs.declared.effects.Effect.{Effect}
-use Rattle.ws_steps.specs.declared.effects.Effect.TheVariants.{Writable, Give, Settle, CallHost}
-use Rattle.ws_steps.specs.declared.{effects.Gift.{Gift}, effects.Owner.TheVariants.{Host}, effects.Use.{Use}, effects.Use.TheVariants.{React, Resolve}}
-use Rattle.ws_steps.specs.declared.{promises.Job.{Job}, promises.Step.{Step}}
+use Rattle.ws_steps.specs.declared.effects.Effect.TheVariants.{Writable, Give, CallHost}
+use Rattle.ws_steps.specs.declared.{effects.Owner.TheVariants.{Host}}
+use Rattle.ws_steps.specs.declared.{promises.Job.{Job}}
 use Rattle.ws_steps.specs.declared.writable.WritableOperation.TheVariants.{CloseSettled}
 use Rattle.ws_steps.specs.declared.writable.WritableState.TheVariants.{Closed}
-use Rattle.ws_steps.specs.Promises.{Table, next_id, fresh, tell, settle, use_gift, first_job, next_job, after_next_job, watch}
+use Rattle.ws_steps.specs.Promises.{next_job, after_next_job}
 use Rattle.ws_steps.specs.Readable as readable
 use Rattle.ws_steps.specs.Writable as writable
-use Rattle.ws_steps.specs.Slots.{Slots, empty, Done, Stream, pending_host, host_at, with_promises, has_writable, writable_at, WritableStream, ReadableStream}
-use Rattle.ws_steps.specs.Turns.{row, call_host}
+use Rattle.ws_steps.specs.Slots.{Slots, empty, owner_at, with_promises, has_writable, writable_at, WritableStream, ReadableStream}
+use Rattle.ws_steps.specs.Turns.{row}
 use Rattle.ws_steps.specs.Jobs.{job_effects}
-use Rattle.ws_steps.specs.Calls.{Begun, begin, settle_host, outcome_of}
-use Rattle.ws_steps.specs.Run.{Entry, Called, run, step, older, after_event}
+use Rattle.ws_steps.specs.Calls.{begin}
+use Rattle.ws_steps.specs.Run.{Entry, Called, run, after_event}
 use Rattle.ws_steps.specs.Histories.{is_same, over}
 use Rattle.ws_laws.proofs.Begin.{begin-makes}
 use Rattle.ws_laws.proofs.Lists.{Each, each-append, each-map}
-use Rattle.ws_laws.proofs.Tables.{eq_numbers, unequal_numbers, writable_there}
+use Rattle.ws_laws.proofs.Shapes.{row-owner}
+use Rattle.ws_laws.proofs.Tables.{writable_there}
 use Rattle.ws_laws.proofs.Walker as walker
 use Rattle.ws_laws.proofs.Walker.{Goes, Rests}
-use Rattle.ws_promise_laws.proofs.Holds.{named}
-use Rattle.ws_promise_laws.proofs.Runs.{Straight, straight-stays, straight-heard, straight-empty}
-use Rattle.ws_steps.proofs.PromiseLaws.{slice_get-set_other}
+use Rattle.ws_writable_laws.proofs.Runs.{call-was}
 use Rattle.ws_host_laws.specs.HostCalls.{called, WasSettledWell}
 use Rattle.ws_host_laws.specs.HostLaws.{EachCloseWasSettled}
-use Rattle.ws_host_laws.proofs.Plain.{IsPlain, row-plainly, host_added, row-hosts}
-use Rattle.ws_host_laws.proofs.Called.{place-grows, place-last, length-set, Numbered, numbered-goes, numbered-rests}
-use Rattle.ws_host_laws.proofs.Reactions.{JobFits, JobsFit, Good, good-weaker, fresh-good, next-good, watch-good, settle-good, Overtaken, GoodOr, good-plainly, use-good, follow-good, gift-good, told-good, new-good, UseFits}
-use Rattle.ws_host_laws.proofs.Hosted.{hosted-alone, open-pending, Sofar, nothing_yet, sofar_then, sofar-history, effect_sofar, settled_now, well_said, said_sofar, Well, well-stays, happens_sofar, over_sofar, run_well, well-was-settled}
-use Rattle.ws_host_laws.proofs.Uses.{closes_it, UseIs, NoUse, Fits, caused-fit, call-fits, job-effects-fit, fits-weaker}
+use Rattle.ws_host_laws.proofs.Hosted.{Sofar, nothing_yet, sofar_then, sofar-history, effect_sofar, said_sofar, Well, well-stays, happens_sofar, over_sofar, run_well, well-was-settled}
+use Rattle.ws_host_laws.proofs.Sourced.{UsesIt, Tracked, row-tracked, call-tracked, next-fits, job-tracked, answered-tracked, older-tracked, heard-tracked, tracked_empty}
+use Rattle.ws_host_laws.proofs.Uses.{closes_it, Fits, caused-fit, call-fits, job-effects-fit, fits-weaker}
 use Rattle.ws_host_laws.proofs.Closing.{is_closed_in, closed_in, row-before, added-before}
 
 module _ (j : StreamId) where
-  -- which promises have the reaction
-
   abbrev W : Sofar → Type 0
   W h = Well h (HostClose j)
 
-  -- that of a host call to close stream j, which the host hasn't settled
-  record Hosted (h : Sofar) (s : Slots) (q : PromiseId) : Type 0 where
-    id : HostId
-    waits : host_at id s ≡ Some q
-    close : slice_get h.calls id.0 ≡ Some (HostClose j)
-
-  -- or that the host settles now
-  record Settling (h : Sofar) (es : List Effect) (q : PromiseId) : Type 0 where
-    outcome : Result Plain Plain
-    first : es ≡ Settle q outcome ∷ []
-    well : (v : Plain) → outcome ≡ Ok v → W h
-
-  abbrev Source : Sofar → Slots → List Effect → PromiseId → Type 0
-  Source h s es q = Hosted h s q ⊎ Settling h es q
-
   -- what holds at each moment
   record Held (h : Sofar) (s : Slots) (es : List Effect) : Type 0 where
-    straight : Straight s es
-    numbered : Numbered h.calls s es
-    table : Good (closes_it j) (Source h s es) (W h) s.promises
+    tracked : Tracked (closes_it j) (HostClose j) h s es
     effects : Each (Fits j (W h)) es
     closed : closed_in j s ≡ true → W h
-
-  -- hosts
-
-  there_pending : (o : Option (Option PromiseId)) (q : PromiseId) → pending_host o ≡ Some q → o ≡ Some (Some q)
-  there_pending None q e = cc
-  there_pending (Some x) q e = ap (λ (x : Option PromiseId). Some x) e
-
-  host-grows : (hosts more : List (Option PromiseId)) (id : HostId) (q : PromiseId) → pending_host (slice_get hosts id.0) ≡ Some q → pending_host (slice_get (hosts ++ more) id.0) ≡ Some q
-  host-grows hosts more id q e = ap pending_host (place-grows hosts more id.0 (Some q) (there_pending (slice_get hosts id.0) q e))
-
-  hosted-next : (h g : Sofar) (s z : Slots) (more : List (Option PromiseId)) (q : PromiseId) → z.hosts ≡ s.hosts ++ more → Hosted h s q → Hosted (sofar_then h g) z q
-  hosted-next h g s z more q e k = record {
-    id = k.id;
-    waits = ap (λ (hosts : List (Option PromiseId)). pending_host (slice_get hosts k.id.0)) e ∙ host-grows s.hosts more k.id q k.waits;
-    close = place-grows h.calls g.calls k.id.0 (HostClose j) k.close;
-  }
-
-  -- no such promise has settled
-  not-overtaken : (h : Sofar) (s z : Slots) (more : List (Option PromiseId)) (fs : List Effect) {A : Type 0} → z.hosts ≡ s.hosts ++ more → Straight z fs → Overtaken (closes_it j) (Hosted h s) (W h) z.promises → A
-  not-overtaken h s z more fs e k b =
-      let f : Hosted (sofar_then h nothing_yet) z b.promise = hosted-next h nothing_yet s z more b.promise e b.holds in
-      open-pending b.promise z.promises (Fulfilled b.value) (hosted-alone f.id b.promise z fs k f.waits).open_ b.settled refl
-
-  -- rows
 
   abbrev next : Sofar → Effect → Slots → Sofar
   next h e s = sofar_then h (effect_sofar e s)
 
-  abbrev Sourced : Sofar → Slots → List Effect → Type 0
-  Sourced h s es = Good (closes_it j) (Source h s es) (W h) s.promises
-
-  -- no settling comes first
-  abbrev IsOther : Effect → Type 0
-  IsOther (Settle p o) = ⊥
-  IsOther _ = Unit {0}
-
-  other-first : (e d : Effect) (es ds : List Effect) → IsOther e → e ∷ es ≡ d ∷ ds → IsOther d
-  other-first e d es ds n f = let is : e ≡ d = cc in subst IsOther is n
-
-  only-hosted : (h : Sofar) (s : Slots) (e : Effect) (es : List Effect) (q : PromiseId) → IsOther e → Source h s (e ∷ es) q → Hosted h s q
-  only-hosted h s e es q n (inl k) = k
-  only-hosted h s e es q n (inr k) = absurd (other-first e (Settle q k.outcome) es [] n k.first)
-
-  hosted-good : (h : Sofar) (s : Slots) (e : Effect) (es : List Effect) → IsOther e → Sourced h s (e ∷ es) → Good (closes_it j) (Hosted h s) (W h) s.promises
-  hosted-good h s e es n g = good-weaker (closes_it j) (Source h s (e ∷ es)) (Hosted h s) (W h) (W h) s.promises (λ q k. only-hosted h s e es q n k) (λ w. w) g
-
-  good-table : (h g : Sofar) (s z : Slots) (more : List (Option PromiseId)) (fs : List Effect) → z.hosts ≡ s.hosts ++ more → Straight z fs → GoodOr (closes_it j) (Hosted h s) (W h) z.promises → Sourced (sofar_then h g) z fs
-  good-table h g s z more fs e k (inl b) = good-weaker (closes_it j) (Hosted h s) (Source (sofar_then h g) z fs) (W h) (W (sofar_then h g)) z.promises (λ q f. inl (hosted-next h g s z more q e f)) (well-stays h g (HostClose j)) b
-  good-table h g s z more fs e k (inr b) = not-overtaken h s z more fs e k b
-
-  plain-table : (h : Sofar) (s : Slots) (e : Effect) (es : List Effect) → IsPlain e → IsOther e → Straight (row e s).slots ((row e s).caused ++ es) → Sourced h s (e ∷ es) → Sourced (next h e s) (row e s).slots ((row e s).caused ++ es)
-  plain-table h s e es n o k g =
-      good-table h (effect_sofar e s) s (row e s).slots (host_added e s) ((row e s).caused ++ es) (row-hosts e s) k
-      (row-plainly (GoodOr (closes_it j) (Hosted h s) (W h)) (good-plainly (closes_it j) (Hosted h s) (W h)) e s n (inl (hosted-good h s e es o g)))
-
-  give-table : (h : Sofar) (s : Slots) (gift : Gift) (u : Use) (es : List Effect) → NoUse j u → Straight (row (Give gift u) s).slots es → Sourced h s (Give gift u ∷ es) → Sourced (next h (Give gift u) s) (row (Give gift u) s).slots es
-  unfolding row
-  give-table h s gift u es n k g =
-      good-table h nothing_yet s (with_promises (use_gift gift u s.promises) s) [] es (sym (append-nil s.hosts)) k
-      (gift-good (closes_it j) (Hosted h s) (W h) gift u s.promises (no_use u n) (hosted-good h s (Give gift u) es tt g))
-    where
-      no_use : (u : Use) → NoUse j u → UseFits (closes_it j) (Hosted h s) (W h) u
-      no_use (React step d) n = n
-      no_use (Resolve q) n = tt
-
-  -- a host call: its promise is new, and has the reaction only where it is that to close stream j
-
-  abbrev GoodFor : Sofar → Slots → List Effect → Table → Type 0
-  GoodFor g z es t = Good (closes_it j) (Source g z es) (W g) t
-
-  react-host : (g : Sofar) (z : Slots) (es : List Effect) (call : HostCall) (step : Step) (d : Option PromiseId) (s : Slots) (b : Bool) → b ≡ closes_it j step
-      → (call ≡ HostClose j → Source g z es (next_id s.promises)) → UseIs j call (React step d) → GoodFor g z es s.promises → GoodFor g z es (call_host call (React step d) s).promises
-  unfolding call_host
-  react-host g z es call step d s true e new n k = new-good (closes_it j) (Source g z es) (W g) step d (HostCalled (record { 0 = length s.hosts }) call) s.promises (new (n (sym e))) k
-  react-host g z es call step d s false e new n k =
-      let told : Event = HostCalled (record { 0 = length s.hosts }) call in
-      use-good (closes_it j) (Source g z es) (W g) (next_id s.promises) (tell told (fresh s.promises)) (React step d) (sym e) (told-good (closes_it j) (Source g z es) (W g) told s.promises k)
-
-  use-host : (g : Sofar) (z : Slots) (es : List Effect) (call : HostCall) (u : Use) (s : Slots)
-      → (call ≡ HostClose j → Source g z es (next_id s.promises)) → UseIs j call u → GoodFor g z es s.promises → GoodFor g z es (call_host call u s).promises
-  unfolding call_host
-  use-host g z es call (React step d) s new n k = react-host g z es call step d s (closes_it j step) refl new n k
-  use-host g z es call (Resolve q) s new n k =
-      let told : Event = HostCalled (record { 0 = length s.hosts }) call in
-      follow-good (closes_it j) (Source g z es) (W g) q (next_id s.promises) (tell told (fresh s.promises)) (told-good (closes_it j) (Source g z es) (W g) told s.promises k)
-
-  host-table : (h : Sofar) (s : Slots) (call : HostCall) (u : Use) (es : List Effect) → length s.hosts ≡ length h.calls → UseIs j call u → Sourced h s (CallHost call u ∷ es) → Sourced (next h (CallHost call u) s) (row (CallHost call u) s).slots es
-  unfolding row call_host
-  host-table h s call u es count n g =
-      let f : Sofar = next h (CallHost call u) s in
-      let z : Slots = call_host call u s in
-      let p : PromiseId = next_id s.promises in
-      let before : GoodFor f z es s.promises =
-      good-weaker (closes_it j) (Hosted h s) (Source f z es) (W h) (W f) s.promises (λ q k. inl (hosted-next h (effect_sofar (CallHost call u) s) s z (Some p ∷ []) q refl k)) (well-stays h (effect_sofar (CallHost call u) s) (HostClose j))
-      (hosted-good h s (CallHost call u) es tt g) in
-      use-host f z es call u s
-      (λ e. inl (record {
-        id = record { 0 = length s.hosts };
-        waits = ap pending_host (place-last s.hosts (Some p));
-        close = rw (count, e) (place-last h.calls (HostClose j));
-      })) n before
-
-  -- a promise is settled
-
-  same_settle : (p q : PromiseId) (o r : Result Plain Plain) (es : List Effect) → Settle p o ∷ es ≡ Settle q r ∷ [] → (p ≡ q) × (o ≡ r)
-  same_settle p q o r es e = (cc, cc)
-
-  same_promise : (p : PromiseId) → nat_eq p.0 p.0 ≡ true
-  same_promise p = grind arith
-
-  settle-table : (h : Sofar) (s : Slots) (p : PromiseId) (o : Result Plain Plain) (es : List Effect) → Straight s (Settle p o ∷ es) → Straight (row (Settle p o) s).slots es → Sourced h s (Settle p o ∷ es)
-      → Sourced (next h (Settle p o) s) (row (Settle p o) s).slots es
-  unfolding row
-  settle-table h s p o es was k g =
-      let z : Slots = with_promises (settle p o s.promises) s in
-      good-table h nothing_yet s z [] es (sym (append-nil s.hosts)) k
-      (inl (settle-good (closes_it j) (Source h s (Settle p o ∷ es)) (W h) (Hosted h s) p o s.promises (λ m v e. source v e (g.registered p m)) others g k.sound.holds.straight))
-    where
-      source : (v : Plain) → o ≡ Ok v → Source h s (Settle p o ∷ es) p → W h
-      source v e (inl k) = let a = hosted-alone k.id p s (Settle p o ∷ es) was k.waits in let n = named p in let m = a.effects in absurd (omega arith)
-      source v e (inr k) = k.well v (sym (same_settle p p o k.outcome es k.first).1 ∙ e)
-
-      others : (q : PromiseId) → nat_eq q.0 p.0 ≡ false → Source h s (Settle p o ∷ es) q → Hosted h s q
-      others q n (inl k) = k
-      others q n (inr k) =
-          let is : p ≡ q = (same_settle p q o k.outcome es k.first).0 in
-          let m : nat_eq q.0 p.0 ≡ true = subst (λ (r : PromiseId). nat_eq q.0 r.0 ≡ true) (sym is) (same_promise q) in absurd (cc)
-
-  row-table : (h : Sofar) (s : Slots) (e : Effect) (es : List Effect) → Straight s (e ∷ es) → Straight (row e s).slots ((row e s).caused ++ es) → length s.hosts ≡ length h.calls → Fits j (W h) e → Sourced h s (e ∷ es)
-      → Sourced (next h e s) (row e s).slots ((row e s).caused ++ es)
-  unfolding row
-  row-table h s (Settle p o) es was k n f g = settle-table h s p o es was k g
-  row-table h s (Give gift u) es was k n f g = give-table h s gift u es f k g
-  row-table h s (CallHost call u) es was k n f g = host-table h s call u es n f g
-  row-table h s e es was k n f g = plain-table h s e es tt tt k g
+  fits-uses : (V : Type 0) (e : Effect) → Fits j V e → UsesIt (closes_it j) (HostClose j) e
+  fits-uses V (Give gift u) f = f
+  fits-uses V (CallHost call u) f = f
+  fits-uses V _ f = tt
 
   -- the stream is closed only by the reaction
 
@@ -214,25 +64,19 @@ module _ (j : StreamId) where
   row-closed h s (Writable i operation) f c d = c (row-before j (Writable i operation) s (λ m. m.1) d)
   row-closed h s e f c d = c (row-before j e s (λ m. m) d)
 
-  row-held : (h : Sofar) (s : Slots) (e : Effect) (es : List Effect) → Held h s (e ∷ es) → Held (next h e s) (row e s).slots ((row e s).caused ++ es)
-  row-held h s e es k =
+  row-held : (h : Sofar) (s : Slots) (e : Effect) (es : List Effect) → owner_at j s ≡ Host → Held h s (e ∷ es) → Held (next h e s) (row e s).slots ((row e s).caused ++ es)
+  row-held h s e es host k =
       let g : Sofar = next h e s in
-      let straight = straight-stays.row s e es k.straight in
       let weaker : W h → W g = well-stays h (effect_sofar e s) (HostClose j) in
       record {
-        straight = straight;
-        numbered = numbered-goes.row h.calls s e es k.numbered;
-        table = row-table h s e es k.straight straight k.numbered.count k.effects.0 k.table;
+        tracked = row-tracked (closes_it j) (HostClose j) h s e es (fits-uses (W h) e k.effects.0) k.tracked;
         effects =
-            each-append (Fits j (W g)) (row e s).caused es (caused-fit j (W g) e s (fits-weaker j (W h) (W g) weaker e k.effects.0))
+            each-append (Fits j (W g)) (row e s).caused es (caused-fit j (W g) e s host (fits-weaker j (W h) (W g) weaker e k.effects.0))
             (each-map (Fits j (W h)) (Fits j (W g)) (fits-weaker j (W h) (W g) weaker) es k.effects.1);
         closed = λ c. weaker (row-closed h s e k.effects.0 k.closed c);
       }
 
-  -- calls
-
-  abbrev after_said : Sofar → Slots → Entry → Sofar
-  after_said h s x = sofar_then h (said_sofar s x)
+  -- calls, jobs, and between steps
 
   call-closed : (h : Sofar) (c : Call) (s : Slots) → (closed_in j s ≡ true → W h) → closed_in j (begin c s).done.slots ≡ true → W h
   call-closed h c s k = begin-makes (λ z. closed_in j z ≡ true → W h) (record {
@@ -241,192 +85,61 @@ module _ (j : StreamId) where
     hosts = λ z hs m. m;
     pipe = λ z source dest prevent signal promise m. m;
     signal = λ z m. m;
-    readable = λ z mark size m. λ c. m (added-before z.streams (ReadableStream (readable.set_up Host mark size)) j.0 refl c);
-    writable = λ z mark size m. λ c. m (added-before z.streams (WritableStream (writable.set_up Host mark size)) j.0 refl c);
+    transform = λ z kind half other change m. m;
+    readable = λ z owner mark size m. λ c. m (added-before z.streams (ReadableStream (readable.set_up owner mark size)) j.0 refl c);
+    writable = λ z owner mark size m. λ c. m (added-before z.streams (WritableStream (writable.set_up owner mark size)) j.0 refl c);
   }) c s k
 
-  call-good : (P : PromiseId → Type 0) (V : Type 0) (c : Call) (s : Slots) → Good (closes_it j) P V s.promises → Good (closes_it j) P V (begin c s).done.slots.promises
-  call-good P V c s k = begin-makes (λ z. Good (closes_it j) P V z.promises) (record {
-    promise = λ z m. fresh-good (closes_it j) P V z.promises m;
-    locks = λ z ls m. m;
-    hosts = λ z hs m. m;
-    pipe = λ z source dest prevent signal promise m. m;
-    signal = λ z m. m;
-    readable = λ z mark size m. m;
-    writable = λ z mark size m. m;
-  }) c s k
-
-  abbrev IsSettle : Call → Type 0
-  IsSettle (SettleCall id a) = Unit {0}
-  IsSettle c = ⊥
-
-  -- no other call changes the host's
-  call-hosts : (c : Call) (s : Slots) → (IsSettle c → ⊥) → (begin c s).done.slots.hosts ≡ s.hosts
-  unfolding begin
-  call-hosts (SettleCall id a) s n = absurd (n tt)
-  call-hosts c s n = grind arith
-
-  none_settling : (h : Sofar) (q : PromiseId) {A : Type 0} → Settling h [] q → A
-  none_settling h q k = let e = k.first in absurd (cc)
-
-  -- a call that leaves the host's
-  other-call : (h : Sofar) (s : Slots) (c : Call) → well_said s (Called c) ≡ [] → (begin c s).done.slots.hosts ≡ s.hosts → Held h s [] → Held (after_said h s (Called c)) (begin c s).done.slots (begin c s).done.caused
-  other-call h s c w e k =
-      let z : Slots = (begin c s).done.slots in
-      let cs : List Effect = (begin c s).done.caused in
-      let g : Sofar = after_said h s (Called c) in
-      let same : h ≡ g = (λ i. record { calls = sym (append-nil h.calls) i; well = (sym (append-nil h.well) ∙ ap (λ (ids : List HostId). h.well ++ ids) (sym w)) i }) in
-      subst (λ (f : Sofar). Held f z cs) same (record {
-        straight = straight-stays.call s c k.straight;
-        numbered = numbered-goes.call h.calls s c k.numbered;
-        table =
-            good-weaker (closes_it j) (Source h s []) (Source h z cs) (W h) (W h) z.promises
-            (λ q f. ⊎_elim (λ (a : Hosted h s q). inl (record { id = a.id; waits = ap (λ (hosts : List (Option PromiseId)). pending_host (slice_get hosts a.id.0)) e ∙ a.waits; close = a.close })) (λ (a : Settling h [] q). none_settling h q a) f)
-            (λ w. w) (call-good (Source h s []) (W h) c s k.table);
-        effects = call-fits j (W h) c s;
-        closed = call-closed h c s k.closed;
-      })
-
-  -- the call by which the host settles the promise of a call: from then on that is about to be settled
-
-  now_well : (h : Sofar) (s : Slots) (id : HostId) (a : Answer) (p : PromiseId) (v : Plain) → host_at id s ≡ Some p → slice_get h.calls id.0 ≡ Some (HostClose j) → outcome_of a ≡ Ok v → W (after_said h s (Called (SettleCall id a)))
-  now_well h s id AnswerOk p v e c o = record {
-    place = length h.well;
-    id = id;
-    settled = rw e (place-last h.well id);
-    called = rw (append-nil h.calls) c;
-  }
-  now_well h s id (AnswerFail r) p v e c o = absurd (cc)
-
-  same_place : (hosts : List (Option PromiseId)) (n m : ℕ) (q : PromiseId) (same : Bool) → same ≡ nat_eq m n → pending_host (slice_get hosts m) ≡ Some q
-      → (m ≡ n) ⊎ (pending_host (slice_get (slice_set hosts n None) m) ≡ Some q)
-  same_place hosts n m q true e w = inl (eq_numbers m n (sym e))
-  same_place hosts n m q false e w = inr (ap pending_host (slice_get-set_other hosts n m None (λ f. unequal_numbers m n (sym e) (sym f))) ∙ w)
-
-  module _ (h : Sofar) (s : Slots) (id : HostId) (a : Answer) (p : PromiseId) (e : host_at id s ≡ Some p) (k : Held h s []) where
-    abbrev g : Sofar
-    g = after_said h s (Called (SettleCall id a))
-
-    abbrev z : Slots
-    z = record s { hosts = slice_set s.hosts id.0 None }
-
-    abbrev cs : List Effect
-    cs = Settle p (outcome_of a) ∷ []
-
-    some_same : (p q : PromiseId) → ◌≡◌ {A = Option PromiseId} (Some p) (Some q) → p ≡ q
-    some_same p q e = cc
-
-    hosted-now : (q : PromiseId) (f : Hosted h s q) → (f.id.0 ≡ id.0) ⊎ (pending_host (slice_get (slice_set s.hosts id.0 None) f.id.0) ≡ Some q) → Source g z cs q
-    hosted-now q f (inr w) = inl (record { id = f.id; waits = w; close = rw (append-nil h.calls) f.close })
-    hosted-now q f (inl n) =
-        let is : f.id ≡ id = ap (λ (m : ℕ). record { 0 = m }) n in
-        let same : p ≡ q = some_same p q (sym e ∙ (ap (λ (i : HostId). host_at i s) (sym is) ∙ f.waits)) in
-        let close : slice_get h.calls id.0 ≡ Some (HostClose j) = subst (λ (i : HostId). slice_get h.calls i.0 ≡ Some (HostClose j)) is f.close in
-        inr (record {
-          outcome = outcome_of a;
-          first = ap (λ (r : PromiseId). Settle r (outcome_of a) ∷ []) same;
-          well = λ v o. now_well h s id a p v e close o;
-        })
-
-    source-now : (q : PromiseId) → Source h s [] q → Source g z cs q
-    source-now q (inl f) = hosted-now q f (same_place s.hosts id.0 f.id.0 q (nat_eq f.id.0 id.0) refl f.waits)
-    source-now q (inr f) = none_settling h q f
-
-    settled-begun : Straight z cs → Held g z cs
-    settled-begun straight =
-        let weaker : W h → W g = well-stays h (said_sofar s (Called (SettleCall id a))) (HostClose j) in
-        record {
-          straight = straight;
-          numbered = rw (append-nil h.calls) (record { count = length-set s.hosts id.0 None ∙ k.numbered.count; told = k.numbered.told });
-          table = good-weaker (closes_it j) (Source h s []) (Source g z cs) (W h) (W g) s.promises source-now weaker k.table;
-          effects = (tt, tt);
-          closed = λ c. weaker (k.closed c);
-        }
-
-  settle-begins : (id : HostId) (a : Answer) (s : Slots) (o : Option PromiseId) → host_at id s ≡ o → begin (SettleCall id a) s ≡ settle_host id a s o
-  unfolding begin
-  settle-begins id a s o e = ap (settle_host id a s) e
-
-  unsettled_said : (id : HostId) (a : Answer) (s : Slots) → host_at id s ≡ None → well_said s (Called (SettleCall id a)) ≡ []
-  unsettled_said id AnswerOk s e = ap (settled_now id) e
-  unsettled_said id (AnswerFail r) s e = refl
-
-  settle-call : (h : Sofar) (s : Slots) (id : HostId) (a : Answer) (o : Option PromiseId) → host_at id s ≡ o → Held h s []
-      → let d : Done = (begin (SettleCall id a) s).done in Held (after_said h s (Called (SettleCall id a))) d.slots d.caused
-  settle-call h s id a None e k =
-      other-call h s (SettleCall id a) (unsettled_said id a s e) (ap (λ (b : Begun). b.done.slots.hosts) (settle-begins id a s None e)) k
-  settle-call h s id a (Some p) e k =
-      let is = settle-begins id a s (Some p) e in
-      let straight = straight-stays.call s (SettleCall id a) k.straight in
-      subst (λ (b : Begun). Held (after_said h s (Called (SettleCall id a))) b.done.slots b.done.caused) (sym is)
-      (settled-begun h s id a p e k (subst (λ (b : Begun). Straight b.done.slots b.done.caused) is straight))
-
-  call-held : (h : Sofar) (s : Slots) (c : Call) → Held h s [] → Held (after_said h s (Called c)) (begin c s).done.slots (begin c s).done.caused
-  call-held h s (SettleCall id a) k = settle-call h s id a (host_at id s) refl k
-  call-held h s c k = other-call h s c refl (call-hosts c s (λ u. u)) k
-
-  -- jobs, and between steps
-
-  -- nothing is said, and only promises change
-  unsaid : (h : Sofar) → sofar_then h nothing_yet ≡ h
-  unsaid h = sofar-history.right h
-
-  without-settling : (h : Sofar) (s z : Slots) (fs : List Effect) → z.hosts ≡ s.hosts → (q : PromiseId) → Source h s [] q → Source h z fs q
-  without-settling h s z fs e q (inl a) = inl (record { id = a.id; waits = ap (λ (hosts : List (Option PromiseId)). pending_host (slice_get hosts a.id.0)) e ∙ a.waits; close = a.close })
-  without-settling h s z fs e q (inr a) = none_settling h q a
-
-  still-held : (h : Sofar) (s z : Slots) (cs : List Effect) → z.streams ≡ s.streams → z.hosts ≡ s.hosts → Straight z cs → Numbered h.calls z cs → (Good (closes_it j) (Source h s []) (W h) s.promises → Good (closes_it j) (Source h s []) (W h) z.promises)
-      → Each (Fits j (W h)) cs → Held h s [] → Held (sofar_then h nothing_yet) z cs
-  still-held h s z cs e f straight numbered table effects k = rw (unsaid h) (record {
-    straight = straight;
-    numbered = numbered;
-    table = good-weaker (closes_it j) (Source h s []) (Source h z cs) (W h) (W h) z.promises (without-settling h s z cs f) (λ w. w) (table k.table);
-    effects = effects;
-    closed = λ c. k.closed (ap (λ (streams : List Stream). is_closed_in (slice_get streams j.0)) (sym e) ∙ c);
-  })
-
-  first_fits : (V : Type 0) (js : List Job) (job : Job) → first_job js ≡ Some job → JobsFit (closes_it j) V js → JobFits (closes_it j) V job
-  first_fits V [] job e f = cc
-  first_fits V (i ∷ js) job e f = let is : i ≡ job = cc in subst (JobFits (closes_it j) V) is f.0
+  call-held : (h : Sofar) (s : Slots) (c : Call) → Held h s [] → Held (sofar_then h (said_sofar s (Called c))) (begin c s).done.slots (begin c s).done.caused
+  call-held h s c k =
+      let weaker : W h → W (sofar_then h (said_sofar s (Called c))) = well-stays h (said_sofar s (Called c)) (HostClose j) in
+      record {
+        tracked = call-tracked (closes_it j) (HostClose j) h s c k.tracked;
+        effects = call-fits j (W (sofar_then h (said_sofar s (Called c)))) c s;
+        closed = λ d. weaker (call-closed h c s k.closed d);
+      }
 
   job-held : (h : Sofar) (s : Slots) (job : Job) → next_job s.promises ≡ Some job → Held h s [] → Held (sofar_then h nothing_yet) (with_promises (after_next_job s.promises) s) (job_effects job)
-  job-held h s job e k =
-      let z : Slots = with_promises (after_next_job s.promises) s in
-      still-held h s z (job_effects job) refl refl (straight-stays.job s job e k.straight) (numbered-goes.job h.calls s job e k.numbered)
-      (λ g. next-good (closes_it j) (Source h s []) (W h) s.promises g) (job-effects-fit j (W h) job (first_fits (W h) s.promises.jobs job e k.table.queued)) k
+  job-held h s job e k = record {
+    tracked = job-tracked (closes_it j) (HostClose j) h s job e k.tracked;
+    effects = rw (sofar-history.right h) (job-effects-fit j (W h) job (next-fits (closes_it j) (HostClose j) h s job e k.tracked));
+    closed = λ c. rw (sofar-history.right h) (k.closed c);
+  }
 
-  held-goes : Goes sofar_then effect_sofar said_sofar Held
+  heard-held : (h : Sofar) (s : Slots) → Held h s [] → Held (sofar_then h nothing_yet) (after_event s) []
+  heard-held h s k = record { tracked = heard-tracked (closes_it j) (HostClose j) h s k.tracked; effects = tt; closed = λ c. rw (sofar-history.right h) (k.closed c) }
+
+  -- of a stream of the host
+  abbrev IfHosts : Sofar → Slots → List Effect → Type 0
+  IfHosts h s es = owner_at j s ≡ Host → Held h s es
+
+  held-goes : Goes sofar_then effect_sofar said_sofar IfHosts
   held-goes = record {
-    row = row-held;
-    call = call-held;
-    job = job-held;
-    idle = λ h s e k. rw (unsaid h) k;
-    answered = λ h s p k. rw (unsaid h) at (still-held h s (with_promises (watch p s.promises) s) [] refl refl (straight-stays.answered s p k.straight) (numbered-goes.answered h.calls s p k.numbered) (λ g. watch-good (closes_it j) (Source h s []) (W h) p s.promises g) tt k);
-    older = λ h s k. rw (unsaid h) at (still-held h s (older s) [] refl refl (straight-stays.older s k.straight) (numbered-goes.older h.calls s k.numbered) (λ g. g) tt k);
+    row = λ h s e es k o. let was : owner_at j s ≡ Host = sym (row-owner j e s) ∙ o in row-held h s e es was (k was);
+    call = λ h s c k o. call-held h s c (k (call-was j s s c (λ x. x) o));
+    job = λ h s job e k o. job-held h s job e (k o);
+    idle = λ h s e k o. rw (sofar-history.right h) (k o);
+    answered = λ h s p k o. record { tracked = answered-tracked (closes_it j) (HostClose j) h s p (k o).tracked; effects = tt; closed = (k o).closed };
+    older = λ h s k o. record { tracked = older-tracked (closes_it j) (HostClose j) h s (k o).tracked; effects = tt; closed = (k o).closed };
   }
 
-  same-good : (h : Sofar) (s : Slots) → Good (closes_it j) (Source h s []) (W h) s.promises → Good (closes_it j) (Source h s []) (W h) (after_event s).promises
-  same-good h s g = record { registered = g.registered; queued = g.queued }
-
-  held-rests : Rests sofar_then said_sofar Held
-  held-rests = record {
-    heard = λ h s k. still-held h s (after_event s) [] refl refl (straight-heard s k.straight) (numbered-rests.heard h.calls s k.numbered) (same-good h s) tt k;
-  }
+  held-rests : Rests sofar_then said_sofar IfHosts
+  held-rests = record { heard = λ h s k o. heard-held h s (k o) }
 
   held_empty : Held nothing_yet empty []
-  held_empty = record { straight = straight-empty; numbered = record { count = refl; told = tt }; table = record { registered = λ q m. absurd (cc); queued = tt }; effects = tt; closed = λ c. absurd (cc) }
+  held_empty = record { tracked = tracked_empty (closes_it j) (HostClose j); effects = tt; closed = λ c. absurd (cc) }
 
-  run-held : (entries : List Entry) → Held (record { calls = called entries; well = run_well entries empty }) (run entries empty) []
+  run-held : (entries : List Entry) → IfHosts (record { calls = called entries; well = run_well entries empty }) (run entries empty) []
   run-held entries =
-      subst (λ (h : Sofar). Held h (run entries empty) []) (over_sofar entries empty)
-      (rw (sofar-history.left (over nothing_yet sofar_then happens_sofar entries empty)) at (walker.run-goes nothing_yet sofar_then sofar-history effect_sofar said_sofar Held held-goes held-rests entries nothing_yet empty held_empty))
+      subst (λ (h : Sofar). IfHosts h (run entries empty) []) (over_sofar entries empty)
+      (rw (sofar-history.left (over nothing_yet sofar_then happens_sofar entries empty)) at (walker.run-goes nothing_yet sofar_then sofar-history effect_sofar said_sofar IfHosts held-goes held-rests entries nothing_yet empty (λ o. held_empty)))
 
 closed_there : (j : StreamId) (s : Slots) → has_writable j s ≡ true → (writable_at j s).state ≡ Closed → closed_in j s ≡ true
 closed_there j s h e = ap is_closed_in (writable_there (slice_get s.streams j.0) h) ∙ ap writable.is_closed e
 
--- the host settled the close algorithm of a stream well that is closed
-pub close-was-settled : (entries : List Entry) (j : StreamId) → closed_in j (run entries empty) ≡ true → WasSettledWell entries (HostClose j)
-close-was-settled entries j c = well-was-settled entries (HostClose j) ((run-held j entries).closed c)
+-- the host settled the close algorithm of a stream of its own well that is closed
+pub close-was-settled : (entries : List Entry) (j : StreamId) → owner_at j (run entries empty) ≡ Host → closed_in j (run entries empty) ≡ true → WasSettledWell entries (HostClose j)
+close-was-settled entries j host c = well-was-settled entries (HostClose j) ((run-held j entries host).closed c)
 
 pub each_close_was_settled : EachCloseWasSettled
-each_close_was_settled entries j there closed = close-was-settled entries j (closed_there j (run entries empty) there closed)
+each_close_was_settled entries j host there closed = close-was-settled entries j host (closed_there j (run entries empty) there closed)

@@ -8,6 +8,7 @@ use Rattle.ws_steps.specs.declared.effects.Effect.{Effect}
 use Rattle.ws_steps.specs.declared.effects.Effect.TheVariants.{Readable, Writable}
 use Rattle.ws_steps.specs.declared.effects.Owner.{Owner}
 use Rattle.ws_steps.specs.declared.readable.ReadableOperation.{ReadableOperation}
+use Rattle.ws_steps.specs.declared.transform.Taker.{Taker}
 use Rattle.ws_steps.specs.declared.writable.{WritableOperation.{WritableOperation}, WriteRecord.{WriteRecord}, Writer.{Writer}}
 use Rattle.ws_steps.specs.declared.writable.WritableOperation.TheVariants as names
 use Rattle.ws_steps.specs.declared.writable.WriteRecord.TheVariants.{CloseMark}
@@ -66,9 +67,9 @@ module _ (me : StreamId) where
   unfolding advance_queue
   advance-before a = grind (arith, erroring-closes, first-state)
 
-  hand_on-state : (a : Acts) → (hand_on me a).slots.state ≡ a.slots.state
+  hand_on-state : (taker : Taker) (a : Acts) → (hand_on me taker a).slots.state ≡ a.slots.state
   unfolding hand_on
-  hand_on-state a = grind arith
+  hand_on-state taker a = grind arith
 
   write_settled-before : (o : Result Plain Plain) (a : Acts) → OnlyBefore a (write_settled me o a)
   unfolding write_settled
@@ -139,7 +140,7 @@ operation-before i (names.ClosePropagating p) a n = propagating-before i p a
 operation-before i (names.Abort r p) a n = abort-before i r p a
 operation-before i (names.AbortIfWritable r p) a n = abort_if-before i r p a
 operation-before i (names.ErrorIfNeeded e) a n = if_needed-before i e a
-operation-before i names.HandOn a n = λ c. rw (hand_on-state i a) at c
+operation-before i (names.HandOn taker) a n = λ c. rw (hand_on-state i taker a) at c
 operation-before i (names.StartSettled o) a n = start_settled-before i o a
 operation-before i (names.WriteSettled o) a n = write_settled-before i o a
 operation-before i (names.CloseSettled (Ok v)) a n = absurd (n tt)

@@ -180,7 +180,7 @@ operation-doomed i (names.ClosePropagating p) a n q d = propagating-doomed i p a
 operation-doomed i (names.Abort r p) a n q d = abort-doomed i r p a d
 operation-doomed i (names.AbortIfWritable r p) a n q d = abort_if-doomed i r p a d
 operation-doomed i (names.ErrorIfNeeded r) a n q d = needed-doomed i r a d
-operation-doomed i names.HandOn a n q d = let f = d.failed in let g = d.flight in grind arith
+operation-doomed i (names.HandOn taker) a n q d = let f = d.failed in let g = d.flight in grind arith
 operation-doomed i (names.StartSettled o) a n q d = start_settled-doomed i o a (q (λ u. u)) d
 operation-doomed i (names.WriteSettled o) a n q d = write_settled-doomed i o a (q (λ u. u)) d
 operation-doomed i (names.CloseSettled o) a n q d = absurd (n tt)

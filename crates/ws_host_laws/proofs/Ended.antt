@@ -257,4 +257,4 @@ pub each_fulfilled_pipe_closed_its_destination : EachFulfilledPipeClosedItsDesti
 each_fulfilled_pipe_closed_its_destination before after source dest prevent signal m e =
     let entries : List Entry = with_pipe before source dest prevent signal after in
     let closed = fulfilled-closed before after source dest prevent signal m e in
-    record { closed = state_closed (slice_get (run entries empty).streams dest.0) closed; settled = close-was-settled entries dest closed }
+    record { closed = state_closed (slice_get (run entries empty).streams dest.0) closed; settled = λ host. close-was-settled entries dest host closed }

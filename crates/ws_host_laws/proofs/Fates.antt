@@ -7,8 +7,9 @@ use Rattle.ws_value.specs.declared.value.Plain.{Plain}
 use Rattle.ws_value.specs.declared.value.Plain.TheVariants.{Undefined}
 use Rattle.ws_value.specs.declared.value.Value.{Value}
 use Rattle.ws_steps.specs.declared.effects.Owner.{Owner}
-use Rattle.ws_steps.specs.declared.effects.Owner.TheVariants.{Host}
+use Rattle.ws_steps.specs.declared.effects.Owner.TheVariants.{Host, HalfOf}
 use Rattle.ws_steps.specs.declared.queue.Queued.{Queued}
+use Rattle.ws_steps.specs.declared.transform.Taker.{Taker}
 use Rattle.ws_steps.specs.declared.writable.{PendingAbort.{PendingAbort}, WritableOperation.{WritableOperation}, WritableState.{WritableState}, WriteRecord.{WriteRecord}, Writer.{Writer}}
 use Rattle.ws_steps.specs.declared.writable.WritableOperation.TheVariants as names
 use Rattle.ws_steps.specs.declared.writable.WritableState.TheVariants.{Writable, Erroring, Errored, Closed}
@@ -308,6 +309,7 @@ module _ (q : PromiseId) where
 
     signalled-fated : (r : Plain) (a : Acts) (owner : Owner) → Fated a → Fated (signalled me r a owner)
     signalled-fated r a Host f = alike-fated a (signalled me r a Host) (record { request = refl; flight = refl; keeps = keeps-tell _ a.out.promises }) f
+    signalled-fated r a (HalfOf t) f = f
 
     begin_abort-fated : (r : Plain) (p : PromiseId) (a : Acts) → Fated a → Fated (begin_abort me r p a)
     begin_abort-fated r p a f =
@@ -360,11 +362,11 @@ module _ (q : PromiseId) where
     unfolding writer_release
     release-fated a f = release_by-fated a a.slots.writer f
 
-    hand_on-fated : (a : Acts) (x : Option WriteRecord) → Fated a → Fated (hand_on_first me a x)
-    hand_on-fated a None f = f
-    hand_on-fated a (Some CloseMark) f = f
-    hand_on-fated a (Some InFlight) f = f
-    hand_on-fated a (Some (Chunk v)) f = f
+    hand_on-fated : (taker : Taker) (a : Acts) (x : Option WriteRecord) → Fated a → Fated (hand_on_first me taker a x)
+    hand_on-fated taker a None f = f
+    hand_on-fated taker a (Some CloseMark) f = f
+    hand_on-fated taker a (Some InFlight) f = f
+    hand_on-fated taker a (Some (Chunk v)) f = f
 
     -- each operation
     pub operation-fated : (operation : WritableOperation) (a : Acts) → ((IsHandOn operation → ⊥) → Neat a.slots) → Fated a → Fated (writable_operation me operation a) ⊎ (is_closed (writable_operation me operation a).slots.state ≡ true)
@@ -377,7 +379,7 @@ module _ (q : PromiseId) where
     operation-fated (names.Abort r p) a n f = inl (abort-fated r p a f)
     operation-fated (names.AbortIfWritable r p) a n f = inl (abort_if-fated r p a f)
     operation-fated (names.ErrorIfNeeded e) a n f = inl (needed-fated e a f)
-    operation-fated names.HandOn a n f = inl (hand_on-fated a (first_value a.slots.queue) f)
+    operation-fated (names.HandOn taker) a n f = inl (hand_on-fated taker a (first_value a.slots.queue) f)
     operation-fated (names.StartSettled o) a n f = inl (start_settled-fated o a (n (λ u. u)) f)
     operation-fated (names.WriteSettled o) a n f = inl (write_settled-fated o a (n (λ u. u)) f)
     operation-fated (names.CloseSettled (Ok v)) a n f = inr (now_closed me v a)

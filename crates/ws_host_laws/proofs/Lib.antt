@@ -6,6 +6,7 @@ pub mod Closing
 pub mod Fates
 pub mod Staying
 pub mod Dests
+pub mod Carried
 pub mod Acts
 pub mod Piped
 pub mod PipedRows
@@ -24,6 +25,9 @@ pub mod WriteUses
 pub mod Wrote
 pub mod WroteRuns
 pub mod WroteSteps
-pub mod Uses
+pub mod Sourced
+mod Uses
 pub mod Closed
+mod FlushUses
+mod Flushed
 mod Worked

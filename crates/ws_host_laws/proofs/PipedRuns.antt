@@ -5,7 +5,6 @@ use Rattle.ws_value.specs.declared.value.Plain.{Plain}
 use Rattle.ws_steps.specs.declared.calls.{Call.{Call}, Reply.{Reply}, Reply.TheVariants.{Promise}}
 use Rattle.ws_steps.specs.declared.effects.Effect.{Effect}
 use Rattle.ws_steps.specs.declared.effects.Effect.TheVariants.{Writable, Pipe}
-use Rattle.ws_steps.specs.declared.effects.Owner.TheVariants.{Host}
 use Rattle.ws_steps.specs.declared.pipes.{Phase.{Phase}, Phase.TheVariants.{Flowing, Waiting, Acting, Over}, PipeOperation.{PipeOperation}}
 use Rattle.ws_steps.specs.declared.promises.{Job.{Job}}
 use Rattle.ws_steps.specs.declared.writable.{WritableOperation.TheVariants.{Close, ClosePropagating}}
@@ -169,8 +168,9 @@ module _ (p : PipeId) (i : StreamId) where
     hosts = λ z hs m. m;
     pipe = λ z source dest prevent signal promise m. place-grows z.pipes (pipe.set_up source dest prevent signal promise ∷ []) p.0 x m;
     signal = λ z m. m;
-    readable = λ z mark size m. m;
-    writable = λ z mark size m. m;
+    transform = λ z kind half other change m. m;
+    readable = λ z owner mark size m. m;
+    writable = λ z owner mark size m. m;
   }) c s k
 
   call-place : (y : Stream) (c : Call) (s : Slots) → slice_get s.streams i.0 ≡ Some y → slice_get (begin c s).done.slots.streams i.0 ≡ Some y
@@ -180,8 +180,9 @@ module _ (p : PipeId) (i : StreamId) where
     hosts = λ z hs m. m;
     pipe = λ z source dest prevent signal promise m. m;
     signal = λ z m. m;
-    readable = λ z mark size m. place-grows z.streams (ReadableStream (readable.set_up Host mark size) ∷ []) i.0 y m;
-    writable = λ z mark size m. place-grows z.streams (WritableStream (writable.set_up Host mark size) ∷ []) i.0 y m;
+    transform = λ z kind half other change m. m;
+    readable = λ z owner mark size m. place-grows z.streams (ReadableStream (readable.set_up owner mark size) ∷ []) i.0 y m;
+    writable = λ z owner mark size m. place-grows z.streams (WritableStream (writable.set_up owner mark size) ∷ []) i.0 y m;
   }) c s k
 
   call-keeps : (c : Call) (s : Slots) → Keeps s.promises (begin c s).done.slots.promises
@@ -191,8 +192,9 @@ module _ (p : PipeId) (i : StreamId) where
     hosts = λ z hs m. m;
     pipe = λ z source dest prevent signal promise m. m;
     signal = λ z m. m;
-    readable = λ z mark size m. m;
-    writable = λ z mark size m. m;
+    transform = λ z kind half other change m. m;
+    readable = λ z owner mark size m. m;
+    writable = λ z owner mark size m. m;
   }) c s (keeps-same s.promises)
 
   pub call-good : (P : PromiseId → Type 0) (V : Type 0) (c : Call) (s : Slots) → Good (acts_on p) P V s.promises → Good (acts_on p) P V (begin c s).done.slots.promises
@@ -202,8 +204,9 @@ module _ (p : PipeId) (i : StreamId) where
     hosts = λ z hs m. m;
     pipe = λ z source dest prevent signal promise m. m;
     signal = λ z m. m;
-    readable = λ z mark size m. m;
-    writable = λ z mark size m. m;
+    transform = λ z kind half other change m. m;
+    readable = λ z owner mark size m. m;
+    writable = λ z owner mark size m. m;
   }) c s k
 
   pub call-same : (c : Call) (s : Slots) → has_writable i s ≡ true → SamePlace i s (begin c s).done.slots

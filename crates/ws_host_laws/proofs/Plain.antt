@@ -12,17 +12,19 @@ use Rattle.ws_value.specs.declared.value.Plain.TheVariants.{Undefined}
 use Rattle.ws_value.specs.declared.value.Value.TheVariants.{Plain as PlainValue}
 use Rattle.ws_steps.specs.declared.{calls.Event.TheVariants.{Signal as Signalled}, calls.StartBy.TheVariants.{Now, Later}}
 use Rattle.ws_steps.specs.declared.effects.Effect.{Effect}
-use Rattle.ws_steps.specs.declared.effects.Effect.TheVariants.{Readable, Writable, Pipe, Signal, StartAlgorithm, ChunkSteps, CloseSteps, ErrorSteps, Give, Settle, Queue, CallHost}
-use Rattle.ws_steps.specs.declared.{readable.ReadRequest.TheVariants.{Promise, Pipe as PipeRequest}, pipes.PipeOperation.{PipeOperation}, pipes.SignalOperation.{SignalOperation}, promises.Micro.{Micro}}
+use Rattle.ws_steps.specs.declared.effects.Effect.TheVariants.{Readable, Writable, Pipe, Signal, Transform, StartAlgorithm, ChunkSteps, CloseSteps, ErrorSteps, Give, Settle, Queue, CallHost}
+use Rattle.ws_steps.specs.declared.{readable.ReadRequest.TheVariants.{Promise, Pipe as PipeRequest}, pipes.PipeOperation.{PipeOperation}, pipes.SignalOperation.{SignalOperation}, promises.Micro.{Micro}, transform.TransformId.{TransformId}, transform.TransformOperation.{TransformOperation}}
 use Rattle.ws_steps.specs.Effects.{Out}
 use Rattle.ws_steps.specs.Promises.{Table, is_pending, fresh, settle, answer, queue_micro, tell, next_id}
-use Rattle.ws_steps.specs.Operations.{readable_operation, writable_operation, pipe_operation, signal_operation}
-use Rattle.ws_steps.specs.Slots.{Slots, Done, nothing, has_readable, has_writable, found, ends_at, put_readable, put_writable, on_pipe_at, on_signal_at}
+use Rattle.ws_steps.specs.Operations.{readable_operation, writable_operation, pipe_operation, signal_operation, transform_operation}
+use Rattle.ws_steps.specs.Slots.{Slots, Done, nothing, has_readable, has_writable, found, ends_at, halves_at, put_readable, put_writable, on_pipe_at, on_signal_at, on_transform_at}
 use Rattle.ws_steps.specs.Turns.{row, call_host}
 use Rattle.ws_steps.specs.Pipes as pipe
+use Rattle.ws_steps.specs.Transform as transform
 use Rattle.ws_laws.proofs.ReadableDoes.{readable-does}
 use Rattle.ws_laws.proofs.WritableDoes.{writable-does}
 use Rattle.ws_laws.proofs.PipeDoes.{pipe-does}
+use Rattle.ws_laws.proofs.TransformDoes.{transform-does}
 use Rattle.ws_laws.proofs.Tables.{either, readable_acts, writable_acts}
 
 -- what goes on with each change of promises but for reactions, followings and the telling of a host call
@@ -51,6 +53,12 @@ module _ (T : Table → Type 0) (does : Plainly T) where
   signal-plainly a operation s None h = h
   signal-plainly a operation s (Some x) h = h
 
+  transform-plainly : (t : TransformId) (operation : TransformOperation) (s : Slots) (o : Option transform.Slots) → T s.promises
+      → T (on_transform_at (λ halves. transform_operation t halves operation) t s o).slots.promises
+  transform-plainly t operation s None h = h
+  transform-plainly t operation s (Some x) h =
+      transform-does T (record { fresh = does.fresh; settle = does.settle }) t (halves_at x s) operation (record { slots = x; out = found s }) h
+
   pub row-plainly : (e : Effect) (s : Slots) → IsPlain e → T s.promises → T (row e s).slots.promises
   unfolding row
   row-plainly (Readable i operation) s n h =
@@ -73,9 +81,11 @@ module _ (T : Table → Type 0) (does : Plainly T) where
         close = λ x h. h;
         abort = λ x r p h. h;
         hand_on = λ x v h. h;
+        take = λ x v t d h. h;
       }) operation (writable_acts i s) h) (λ e. h)
   row-plainly (Pipe p operation) s n h = pipe-plainly p operation s (slice_get s.pipes p.0) h
   row-plainly (Signal a operation) s n h = signal-plainly a operation s (slice_get s.signals a.0) h
+  row-plainly (Transform t operation) s n h = transform-plainly t operation s (slice_get s.transforms t.0) h
   row-plainly (StartAlgorithm i step Now) s n h = h
   row-plainly (StartAlgorithm i step Later) s n h = does.fresh s.promises h
   row-plainly (ChunkSteps i (Promise p) v) s n h = does.answer s.promises p (Given v) refl h
@@ -102,6 +112,11 @@ signal-hosts : (a : SignalId) (operation : SignalOperation) (s : Slots) (o : Opt
 signal-hosts a operation s None = refl
 signal-hosts a operation s (Some x) = refl
 
+transform-hosts : (t : TransformId) (operation : TransformOperation) (s : Slots) (o : Option transform.Slots)
+    → (on_transform_at (λ halves. transform_operation t halves operation) t s o).slots.hosts ≡ s.hosts
+transform-hosts t operation s None = refl
+transform-hosts t operation s (Some x) = refl
+
 -- the promise of a host call, where an effect is one
 abbrev pub host_added : Effect → Slots → List (Option PromiseId)
 host_added (CallHost call u) s = Some (next_id s.promises) ∷ []
@@ -118,6 +133,7 @@ row-hosts (Writable i operation) s =
     (λ e. sym (append-nil s.hosts)) (λ e. sym (append-nil s.hosts))
 row-hosts (Pipe p operation) s = rw (append-nil s.hosts) (pipe-hosts p operation s (slice_get s.pipes p.0))
 row-hosts (Signal a operation) s = rw (append-nil s.hosts) (signal-hosts a operation s (slice_get s.signals a.0))
+row-hosts (Transform t operation) s = rw (append-nil s.hosts) (transform-hosts t operation s (slice_get s.transforms t.0))
 row-hosts (StartAlgorithm i step Now) s = sym (append-nil s.hosts)
 row-hosts (StartAlgorithm i step Later) s = sym (append-nil s.hosts)
 row-hosts (ChunkSteps i (Promise p) v) s = sym (append-nil s.hosts)

@@ -4,6 +4,7 @@ use Rattle.ws_value.specs.declared.ids.PromiseId.{PromiseId}
 use Rattle.ws_value.specs.declared.ids.StreamId.{StreamId}
 use Rattle.ws_value.specs.declared.value.Plain.{Plain}
 use Rattle.ws_value.specs.declared.value.Value.{Value}
+use Rattle.ws_steps.specs.declared.transform.Taker.{Taker}
 use Rattle.ws_steps.specs.declared.writable.{PendingAbort.{PendingAbort}, WritableOperation.{WritableOperation}, WriteRecord.{WriteRecord}, Writer.{Writer}}
 use Rattle.ws_steps.specs.declared.writable.WritableOperation.TheVariants as names
 use Rattle.ws_steps.specs.declared.writable.WritableState.TheVariants.{Erroring}
@@ -40,7 +41,7 @@ closed-operation i (names.ClosePropagating p) a n c = grind arith
 closed-operation i (names.Abort r p) a n c = grind arith
 closed-operation i (names.AbortIfWritable r p) a n c = grind arith
 closed-operation i (names.ErrorIfNeeded e) a n c = grind arith
-closed-operation i names.HandOn a n c = grind arith
+closed-operation i (names.HandOn taker) a n c = grind arith
 closed-operation i (names.StartSettled o) a n c = absurd (n tt)
 closed-operation i (names.WriteSettled o) a n c = absurd (n tt)
 closed-operation i (names.CloseSettled o) a n c = absurd (n tt)
@@ -107,9 +108,9 @@ module _ (me : StreamId) where
   unfolding advance_queue
   advance-closing a = grind (arith, finish-closing, first-closing)
 
-  hand_on-closing : (a : Acts) → OnlyBefore a (hand_on me a)
+  hand_on-closing : (taker : Taker) (a : Acts) → OnlyBefore a (hand_on me taker a)
   unfolding hand_on
-  hand_on-closing a = grind arith
+  hand_on-closing taker a = grind arith
 
   write_settled-closing : (o : Result Plain Plain) (a : Acts) → OnlyBefore a (write_settled me o a)
   unfolding write_settled
@@ -164,7 +165,7 @@ closing-before i (names.ClosePropagating p) a n = absurd (n tt)
 closing-before i (names.Abort r p) a n = abort-closing i r p a
 closing-before i (names.AbortIfWritable r p) a n = abort_if-closing i r p a
 closing-before i (names.ErrorIfNeeded e) a n = needed-closing i e a
-closing-before i names.HandOn a n = hand_on-closing i a
+closing-before i (names.HandOn taker) a n = hand_on-closing i taker a
 closing-before i (names.StartSettled o) a n = start_settled-closing i o a
 closing-before i (names.WriteSettled o) a n = write_settled-closing i o a
 closing-before i (names.CloseSettled o) a n = absurd (n tt)
@@ -287,7 +288,7 @@ started-operation i (names.ClosePropagating p) a e = grind (arith, close-starts)
 started-operation i (names.Abort r p) a e = abort-starts i r p a ∙ e
 started-operation i (names.AbortIfWritable r p) a e = grind (arith, abort-starts)
 started-operation i (names.ErrorIfNeeded r) a e = grind (arith, start-starts)
-started-operation i names.HandOn a e = grind arith
+started-operation i (names.HandOn taker) a e = grind arith
 started-operation i (names.StartSettled o) a e = start_settled-starts i o a
 started-operation i (names.WriteSettled o) a e = write_settled-starts i o a ∙ e
 started-operation i (names.CloseSettled (Ok v)) a e = close_ok-starts i v a ∙ e

@@ -3,7 +3,7 @@
 use Rattle.std.proofs.Common.{◌≡◌, ℕ, zero, suc, ◌<◌, Bool, true, false, ◌||◌, get_or, All, nat_eq, List, [], ◌∷◌, ◌++◌, length, Option, Some, None, slice_get, refl, sym, ap, subst, ◌∙◌, arith, append_assoc, append-nil, if◌then◌else◌}
 use Rattle.std.proofs.lemmas.List.Elements.{All-nil, All-cons}
 use Rattle.ws_value.specs.declared.{ids.PipeId.{PipeId}, ids.PromiseId.{PromiseId}, ids.SignalId.{SignalId}, ids.StreamId.{StreamId}}
-use Rattle.ws_value.specs.declared.value.{Outcome.TheVariants.{Fulfilled}, Plain.TheVariants.{Undefined}}
+use Rattle.ws_value.specs.declared.value.{Outcome.TheVariants.{Fulfilled}, Plain.TheVariants.{Undefined}, Value.{Value}}
 use Rattle.ws_steps.specs.declared.calls.{Call.{Call}, Call.TheVariants.{Pipe as PipeCall}}
 use Rattle.ws_steps.specs.declared.effects.{Effect.{Effect}, Effect.TheVariants.{Pipe}}
 use Rattle.ws_steps.specs.declared.pipes.{PipeOperation.TheVariants.{WriteChunk}, Prevent.{Prevent}}
@@ -17,11 +17,12 @@ use Rattle.ws_steps.specs.Calls.{begin}
 use Rattle.ws_steps.specs.Run.{Entry, Called, run, step, moments_in}
 use Rattle.ws_steps.specs.Writable.{is_closed, is_errored, is_erroring}
 use Rattle.ws_steps.specs.Histories.{along, in_step, over}
-use Rattle.ws_steps.specs.WritableHistory.{effect_promised, run_promised}
+use Rattle.ws_steps.specs.WritableHistory.{Writes, effect_promised, run_promised, run_writes}
 use Rattle.ws_steps.specs.Laws.{AllFulfilled}
 use Rattle.ws_laws.proofs.Tables.{eq_numbers}
 use Rattle.ws_laws.proofs.Walker.{GoesUntold, RestsUntold, run-holds}
-use Rattle.ws_writable_laws.proofs.Runs.{each_writable_is_lawful}
+use Rattle.ws_writable_laws.proofs.Runs.{run-kept, resting}
+use Rattle.ws_writable_laws.proofs.Shape.{Core, core_of, Told}
 use Rattle.ws_write_laws.proofs.Lined.{none_left}
 use Rattle.ws_write_laws.proofs.Runs.{each_write_is_settled}
 use Rattle.ws_pipe_laws.specs.PipeHistory.{effect_promises, operation_promises, effect_moment, step_moments, run_course, run_moments, promises_made}
@@ -147,10 +148,15 @@ all-among P (d ∷ ds) qs a b =
 not_failed : (state : WritableState) {A : Type 0} → is_closed state ≡ true → is_erroring state || is_errored state ≡ true → A
 not_failed state e f = absurd (grind arith)
 
+-- all writes of a stream have ended well that is closed
+closed-fulfilled : (h : Writes) (d : List Value) (c : Core) → is_closed c.state ≡ true → Told h d c → h.fulfilled ≡ length h.written
+closed-fulfilled h d c e t = grind (arith, e, t)
+
 all-fulfilled : (entries : List Entry) (i : StreamId) → (writable_at i (run entries empty)).state ≡ Closed → AllFulfilled (run entries empty).promises (run_promised i entries empty)
 all-fulfilled entries i c =
     let k = each_write_is_settled entries i in
-    let n = ((each_writable_is_lawful entries i).closed c).1 in
+    let kept = run-kept entries i in
+    let n = closed-fulfilled (run_writes i entries empty) kept.held.dropped (core_of (writable_at i (run entries empty))) (ap is_closed c) (resting i (run_writes i entries empty) (run entries empty) kept).told in
     let none : k.rest ≡ [] = none_left k.first k.rest (run_promised i entries empty) k.split (k.counted ∙ (n ∙ sym k.answered)) in
     let all : k.first ≡ run_promised i entries empty = sym (append-nil k.first) ∙ (ap (λ (ds : List PromiseId). k.first ++ ds) (sym none) ∙ k.split) in
     subst (AllFulfilled (run entries empty).promises) all k.fulfilled

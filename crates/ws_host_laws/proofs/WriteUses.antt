@@ -1,14 +1,15 @@
 -- Which reactions the effects of a realm make: that of stream j to its write algorithm is made by the host call of that algorithm, and by no other;
 -- and how many such calls are made.
-use Rattle.std.proofs.Common.{◌≡◌, ℕ, ◌+◌, Bool, true, false, List, [], ◌∷◌, length, Option, None, Ok, Err, refl, sym, arith, append-nil}
+use Rattle.std.proofs.Common.{◌≡◌, ℕ, ◌+◌, Bool, true, false, List, [], ◌∷◌, length, Option, None, Ok, Err, refl, sym, subst, arith, append-nil}
 use Rattle.ws_value.specs.declared.{ids.PipeId.{PipeId}, ids.PromiseId.{PromiseId}, ids.StreamId.{StreamId}}
 use Rattle.ws_value.specs.declared.value.Plain.{Plain}
 use Rattle.ws_value.specs.declared.value.Value.{Value}
+use Rattle.ws_steps.specs.declared.{transform.Taker.TheVariants.{ToHost, ToTransform}, transform.TransformId.{TransformId}}
 use Rattle.ws_steps.specs.declared.{calls.Call.{Call}}
 use Rattle.ws_steps.specs.declared.{calls.HostCall.{HostCall}, calls.HostCall.TheVariants.{Write as HostWrite}, calls.StartBy.{StartBy}, calls.StartBy.TheVariants.{Now, Later}}
 use Rattle.ws_steps.specs.declared.effects.Effect.{Effect}
-use Rattle.ws_steps.specs.declared.effects.Effect.TheVariants.{Readable, Writable, Pipe, Signal, StartAlgorithm, PullAlgorithm, CancelAlgorithm, WriteAlgorithm, CloseAlgorithm, AbortAlgorithm, ChunkSteps, CloseSteps, ErrorSteps, Give, CallHost}
-use Rattle.ws_steps.specs.declared.{effects.Gift.TheVariants.{This}, effects.Owner.{Owner}, effects.Owner.TheVariants.{Host}, effects.Use.{Use}, effects.Use.TheVariants.{React, Resolve}}
+use Rattle.ws_steps.specs.declared.effects.Effect.TheVariants.{Readable, Writable, Pipe, Signal, Transform, StartAlgorithm, PullAlgorithm, CancelAlgorithm, WriteAlgorithm, CloseAlgorithm, AbortAlgorithm, ChunkSteps, CloseSteps, ErrorSteps, Give, CallHost}
+use Rattle.ws_steps.specs.declared.{effects.Gift.TheVariants.{This}, effects.Owner.{Owner}, effects.Owner.TheVariants.{Host, HalfOf}, effects.Use.{Use}, effects.Use.TheVariants.{React, Resolve}}
 use Rattle.ws_steps.specs.declared.{pipes.SignalOperation.{SignalOperation}, pipes.SignalOperation.TheVariants.{Add, Forget, Trigger}, promises.Job.{Job}, promises.Step.{Step}, promises.Step.TheVariants.{WritableClose, WritableWrite, PipeReady, PipeWrote, PipeActed, PipePart}}
 use Rattle.ws_steps.specs.declared.{readable.ReadRequest.{ReadRequest}, readable.ReadRequest.TheVariants.{Promise, Pipe as PipeRequest}}
 use Rattle.ws_steps.specs.declared.writable.WritableOperation.TheVariants.{WriteSettled, HandOn}
@@ -19,9 +20,12 @@ use Rattle.ws_steps.specs.Calls.{Begun, begin}
 use Rattle.ws_steps.specs.Run.{step}
 use Rattle.ws_steps.specs.Histories.{is_same}
 use Rattle.ws_laws.proofs.EachCall.{each_call}
-use Rattle.ws_laws.proofs.Lists.{Each}
+use Rattle.ws_laws.proofs.Lists.{Each, each-map}
 use Rattle.ws_laws.proofs.PipeDoes.{IsStepOf, PipeCauses}
 use Rattle.ws_laws.proofs.Rows.{ChunkCauses, EndCauses, SignalCauses, row-causes}
+use Rattle.ws_laws.proofs.TransformDoes.{TransformCauses}
+use Rattle.ws_writable_laws.proofs.Handed.{NoHalf}
+use Rattle.ws_host_laws.proofs.Carried.{Carries, Uses, Own, row-uses}
 use Rattle.ws_host_laws.proofs.Reactions.{JobFits}
 use Rattle.ws_steps.specs.declared.writable.WritableOperation.{WritableOperation}
 use Rattle.ws_steps.specs.Effects.{Out}
@@ -29,7 +33,7 @@ use Rattle.ws_steps.specs.Operations.{writable_operation}
 use Rattle.ws_steps.specs.Slots.{Done, nothing, has_writable, put_writable, on_writable}
 use Rattle.ws_steps.specs.Writable.{hand_on}
 use Rattle.ws_steps.specs.WritableHistory.{effect_writes}
-use Rattle.ws_laws.proofs.Tables.{either, writable_acts}
+use Rattle.ws_laws.proofs.Tables.{either, same_id, writable_acts}
 use Rattle.ws_laws.proofs.WritableDoes.{IsHandOn, others-do}
 use Rattle.ws_writable_laws.proofs.Shape.{all, all-append}
 use Rattle.ws_host_laws.specs.HostCalls.{effect_called, write_of, writes_of}
@@ -48,12 +52,17 @@ abbrev pub marks : StreamId → Use → Bool
 marks j (React step derived) = writes_it j step
 marks j (Resolve p) = false
 
+abbrev NoUse : StreamId → Use → Type 0
+NoUse j u = marks j u ≡ false
+
 -- what is known of an effect: no promise is used by that reaction, but that of such a host call, which is; and where it tells that the write was
--- fulfilled, V holds
+-- fulfilled, V holds. The stream hands on to no transform stream
 abbrev pub Fits : StreamId → Type 0 → Effect → Type 0
 Fits j V (Give gift u) = marks j u ≡ false
 Fits j V (CallHost call u) = is_write_call j call ≡ marks j u
 Fits j V (StartAlgorithm i step start) = writes_it j step ≡ false
+Fits j V (Transform t operation) = Carries (NoUse j) operation
+Fits j V (Writable i (HandOn (ToTransform t d))) = is_same j i ≡ false
 Fits j V (Writable i (WriteSettled (Ok v))) = is_same j i ≡ true → V
 Fits j V _ = Unit {0}
 
@@ -75,6 +84,8 @@ module _ (j : StreamId) where
     pipe-fits p source dest (CallHost call u) c = absurd c
     pipe-fits p source dest (StartAlgorithm i step start) c = absurd c
     pipe-fits p source dest (Writable i (WriteSettled o)) c = absurd c
+    pipe-fits p source dest (Transform t operation) c = absurd c
+    pipe-fits p source dest (Writable i (HandOn taker)) c = absurd c
     pipe-fits p source dest _ c = tt
 
     chunk-fits : (v : Value) (request : ReadRequest) → ChunkCauses (Fits j V) v request
@@ -96,35 +107,57 @@ module _ (j : StreamId) where
 
     pull-fits : (i : StreamId) (owner : Owner) (step : Step) (d : Option PromiseId) → writes_it j step ≡ false → Each (Fits j V) (pull_algorithm i (React step d) owner)
     pull-fits i Host step d n = (sym n, tt)
+    pull-fits i (HalfOf t) step d n = (n, tt)
 
     cancel-fits : (i : StreamId) (r : Plain) (owner : Owner) (step : Step) (d : Option PromiseId) → writes_it j step ≡ false → Each (Fits j V) (cancel_algorithm i r (React step d) owner)
     cancel-fits i r Host step d n = (sym n, tt)
+    cancel-fits i r (HalfOf t) step d n = (n, tt)
 
     abort-fits : (i : StreamId) (r : Plain) (owner : Owner) (step : Step) (d : Option PromiseId) → writes_it j step ≡ false → Each (Fits j V) (abort_algorithm i r (React step d) owner)
     abort-fits i r Host step d n = (sym n, tt)
+    abort-fits i r (HalfOf t) step d n = (n, tt)
 
-    write-fits : (i : StreamId) (owner : Owner) → Each (Fits j V) (write_algorithm i owner)
-    write-fits i Host = (tt, tt)
+    -- a half is another stream
+    half_other : (i : StreamId) (t : TransformId) (b : Bool) → is_same j i ≡ b → (is_same j i ≡ true → HalfOf t ≡ Host) → is_same j i ≡ false
+    half_other i t false e h = e
+    half_other i t true e h = let n = h e in cc
+
+    write-fits : (i : StreamId) (owner : Owner) → (is_same j i ≡ true → owner ≡ Host) → Each (Fits j V) (write_algorithm i owner)
+    write-fits i Host h = (tt, tt)
+    write-fits i (HalfOf t) h = (half_other i t (is_same j i) refl h, tt)
 
     close-fits : (i : StreamId) (owner : Owner) → Each (Fits j V) (close_algorithm i (React (WritableClose i) None) owner)
     close-fits i Host = (refl, tt)
+    close-fits i (HalfOf t) = (refl, tt)
 
-    pub caused-fit : (e : Effect) (s : Slots) → Fits j V e → Each (Fits j V) (row e s).caused
+    own : Own (NoUse j)
+    own = record { resolve = λ q. refl; changed = λ t q. refl; transformed = λ t q. refl; flushed = λ t q. refl; aborted = λ t q r. refl; cancelled = λ t q r. refl }
+
+    uses-fit : (e : Effect) → Uses (NoUse j) (λ i. is_same j i ≡ false) e → Fits j V e
+    uses-fit e u = grind (arith, u)
+
+    hosted : (i : StreamId) (s : Slots) → owner_at j s ≡ Host → is_same j i ≡ true → owner_at i s ≡ Host
+    hosted i s h e = subst (λ (k : StreamId). owner_at k s ≡ Host) (same_id j i e) h
+
+    -- of a stream of the host
+    pub caused-fit : (e : Effect) (s : Slots) → owner_at j s ≡ Host → NoHalf j s → Fits j V e → Each (Fits j V) (row e s).caused
     unfolding row
-    caused-fit (Readable i operation) s f = row-causes (Fits j V) (Readable i operation) s (record { pull = tt; cancel = λ r q. tt; chunk = λ r v. tt; close = λ r. tt; error = λ r e. tt })
-    caused-fit (Writable i operation) s f = row-causes (Fits j V) (Writable i operation) s (record { write = tt; close = tt; abort = λ r q. tt; hand_on = λ v. refl })
-    caused-fit (Pipe p operation) s f = row-causes (Fits j V) (Pipe p operation) s (pipe-fits p)
-    caused-fit (Signal a operation) s f = row-causes (Fits j V) (Signal a operation) s (signal-fits operation)
-    caused-fit (StartAlgorithm i step start) s f = start-fits i step s start f
-    caused-fit (PullAlgorithm i) s f = pull-fits i (owner_at i s) _ _ refl
-    caused-fit (CancelAlgorithm i r p) s f = cancel-fits i r (owner_at i s) _ _ refl
-    caused-fit (WriteAlgorithm i) s f = write-fits i (owner_at i s)
-    caused-fit (CloseAlgorithm i) s f = close-fits i (owner_at i s)
-    caused-fit (AbortAlgorithm i r p) s f = abort-fits i r (owner_at i s) _ _ refl
-    caused-fit (ChunkSteps i request v) s f = row-causes (Fits j V) (ChunkSteps i request v) s (chunk-fits v request)
-    caused-fit (CloseSteps i request) s f = row-causes (Fits j V) (CloseSteps i request) s (end-fits request)
-    caused-fit (ErrorSteps i request e) s f = row-causes (Fits j V) (ErrorSteps i request e) s (end-fits request)
-    caused-fit _ s f = tt
+    caused-fit (Readable i operation) s h none f = row-causes (Fits j V) (Readable i operation) s (record { pull = tt; cancel = λ r q. tt; chunk = λ r v. tt; close = λ r. tt; error = λ r e. tt })
+    caused-fit (Writable i operation) s h none f = row-causes (Fits j V) (Writable i operation) s (record { write = tt; close = tt; abort = λ r q. tt; hand_on = λ v. refl; take = λ v t d. tt })
+    caused-fit (Pipe p operation) s h none f = row-causes (Fits j V) (Pipe p operation) s (pipe-fits p)
+    caused-fit (Signal a operation) s h none f = row-causes (Fits j V) (Signal a operation) s (signal-fits operation)
+    caused-fit (Transform t operation) s h none f =
+        each-map (Uses (NoUse j) (λ i. is_same j i ≡ false)) (Fits j V) uses-fit (row (Transform t operation) s).caused (row-uses (NoUse j) (λ i. is_same j i ≡ false) own t operation s f (none t))
+    caused-fit (StartAlgorithm i step start) s h none f = start-fits i step s start f
+    caused-fit (PullAlgorithm i) s h none f = pull-fits i (owner_at i s) _ _ refl
+    caused-fit (CancelAlgorithm i r p) s h none f = cancel-fits i r (owner_at i s) _ _ refl
+    caused-fit (WriteAlgorithm i) s h none f = write-fits i (owner_at i s) (hosted i s h)
+    caused-fit (CloseAlgorithm i) s h none f = close-fits i (owner_at i s)
+    caused-fit (AbortAlgorithm i r p) s h none f = abort-fits i r (owner_at i s) _ _ refl
+    caused-fit (ChunkSteps i request v) s h none f = row-causes (Fits j V) (ChunkSteps i request v) s (chunk-fits v request)
+    caused-fit (CloseSteps i request) s h none f = row-causes (Fits j V) (CloseSteps i request) s (end-fits request)
+    caused-fit (ErrorSteps i request e) s h none f = row-causes (Fits j V) (ErrorSteps i request e) s (end-fits request)
+    caused-fit _ s h none f = tt
 
     pub call-fits : (c : Call) (s : Slots) → Each (Fits j V) (begin c s).done.caused
     call-fits c s = each_call (λ (b : Begun). Each (Fits j V) b.done.caused) c s (grind arith)
@@ -174,18 +207,26 @@ module _ (j : StreamId) where
 
   pull-pends : (i : StreamId) (u : Use) (owner : Owner) → Each NoPend (pull_algorithm i u owner)
   pull-pends i u Host = (refl, tt)
+  pull-pends i u (HalfOf t) = (refl, tt)
 
   cancel-pends : (i : StreamId) (r : Plain) (u : Use) (owner : Owner) → Each NoPend (cancel_algorithm i r u owner)
   cancel-pends i r u Host = (refl, tt)
+  cancel-pends i r u (HalfOf t) = (refl, tt)
 
   abort-pends : (i : StreamId) (r : Plain) (u : Use) (owner : Owner) → Each NoPend (abort_algorithm i r u owner)
   abort-pends i r u Host = (refl, tt)
+  abort-pends i r u (HalfOf t) = (refl, tt)
 
   close-pends : (i : StreamId) (u : Use) (owner : Owner) → Each NoPend (close_algorithm i u owner)
   close-pends i u Host = (refl, tt)
+  close-pends i u (HalfOf t) = (refl, tt)
 
   write-pends : (i : StreamId) (owner : Owner) → Each NoPend (write_algorithm i owner)
   write-pends i Host = (refl, tt)
+  write-pends i (HalfOf t) = (refl, tt)
+
+  transform-pends : (t : TransformId) (writable readable : StreamId) (e : Effect) → TransformCauses t writable readable e → NoPend e
+  transform-pends t writable readable e c = grind (arith, c)
 
   others-pend : (i : StreamId) (operation : WritableOperation) (s : Slots) → (IsHandOn operation → ⊥) → all (pends j) (on_writable (writable_operation i operation) i s).caused ≡ 0
   others-pend i operation s u =
@@ -205,24 +246,26 @@ module _ (j : StreamId) where
   zero_called : (a b c d : ℕ) → a ≡ 0 → b ≡ 0 → c ≡ 0 → d ≡ 0 → a + b ≡ c + d
   zero_called a b c d e f g h = omega (arith, e, f, g, h)
 
-  pub row-called : (e : Effect) (s : Slots) → length (writes_of j (effect_called e s)) + all (pends j) (row e s).caused ≡ pends j e + length (effect_writes j e s).acted
+  pub row-called : (V : Type 0) (e : Effect) (s : Slots) → Fits j V e → length (writes_of j (effect_called e s)) + all (pends j) (row e s).caused ≡ pends j e + length (effect_writes j e s).acted
   unfolding row hand_on
-  row-called (Readable i operation) s = zero_called 0 _ 0 0 refl (none_pend _ (row-causes NoPend (Readable i operation) s (record { pull = refl; cancel = λ r q. refl; chunk = λ r v. refl; close = λ r. refl; error = λ r e. refl }))) refl refl
-  row-called (Writable i HandOn) s = grind (arith, append-nil)
-  row-called (Writable i operation) s = zero_called 0 _ 0 _ refl (others-pend i operation s (λ u. u)) refl (not_acted i operation s (λ u. u))
-  row-called (Pipe p operation) s = zero_called 0 _ 0 0 refl (none_pend _ (row-causes NoPend (Pipe p operation) s (pipe-pends p))) refl refl
-  row-called (Signal a operation) s = zero_called 0 _ 0 0 refl (none_pend _ (row-causes NoPend (Signal a operation) s (signal-pends operation))) refl refl
-  row-called (StartAlgorithm i step start) s = zero_called 0 _ 0 0 refl (none_pend _ (start-pends i step s start)) refl refl
-  row-called (PullAlgorithm i) s = zero_called 0 _ 0 0 refl (none_pend _ (pull-pends i _ (owner_at i s))) refl refl
-  row-called (CancelAlgorithm i r p) s = zero_called 0 _ 0 0 refl (none_pend _ (cancel-pends i r _ (owner_at i s))) refl refl
-  row-called (WriteAlgorithm i) s = zero_called 0 _ 0 0 refl (none_pend _ (write-pends i (owner_at i s))) refl refl
-  row-called (CloseAlgorithm i) s = grind (arith, none_pend, close-pends)
-  row-called (AbortAlgorithm i r p) s = zero_called 0 _ 0 0 refl (none_pend _ (abort-pends i r _ (owner_at i s))) refl refl
-  row-called (ChunkSteps i request v) s = zero_called 0 _ 0 0 refl (none_pend _ (row-causes NoPend (ChunkSteps i request v) s (chunk-pends v request))) refl refl
-  row-called (CloseSteps i request) s = zero_called 0 _ 0 0 refl (none_pend _ (row-causes NoPend (CloseSteps i request) s (end-pends request))) refl refl
-  row-called (ErrorSteps i request e) s = zero_called 0 _ 0 0 refl (none_pend _ (row-causes NoPend (ErrorSteps i request e) s (end-pends request))) refl refl
-  row-called (CallHost call u) s = grind (arith, append-nil)
-  row-called _ s = refl
+  row-called V (Readable i operation) s f = zero_called 0 _ 0 0 refl (none_pend _ (row-causes NoPend (Readable i operation) s (record { pull = refl; cancel = λ r q. refl; chunk = λ r v. refl; close = λ r. refl; error = λ r e. refl }))) refl refl
+  row-called V (Writable i (HandOn ToHost)) s f = grind (arith, append-nil)
+  row-called V (Writable i (HandOn (ToTransform t d))) s f = grind (arith, append-nil, f)
+  row-called V (Writable i operation) s f = zero_called 0 _ 0 _ refl (others-pend i operation s (λ u. u)) refl (not_acted i operation s (λ u. u))
+  row-called V (Pipe p operation) s f = zero_called 0 _ 0 0 refl (none_pend _ (row-causes NoPend (Pipe p operation) s (pipe-pends p))) refl refl
+  row-called V (Signal a operation) s f = zero_called 0 _ 0 0 refl (none_pend _ (row-causes NoPend (Signal a operation) s (signal-pends operation))) refl refl
+  row-called V (Transform t operation) s f = zero_called 0 _ 0 0 refl (none_pend _ (row-causes NoPend (Transform t operation) s (transform-pends t))) refl refl
+  row-called V (StartAlgorithm i step start) s f = zero_called 0 _ 0 0 refl (none_pend _ (start-pends i step s start)) refl refl
+  row-called V (PullAlgorithm i) s f = zero_called 0 _ 0 0 refl (none_pend _ (pull-pends i _ (owner_at i s))) refl refl
+  row-called V (CancelAlgorithm i r p) s f = zero_called 0 _ 0 0 refl (none_pend _ (cancel-pends i r _ (owner_at i s))) refl refl
+  row-called V (WriteAlgorithm i) s f = zero_called 0 _ 0 0 refl (none_pend _ (write-pends i (owner_at i s))) refl refl
+  row-called V (CloseAlgorithm i) s f = grind (arith, none_pend, close-pends)
+  row-called V (AbortAlgorithm i r p) s f = zero_called 0 _ 0 0 refl (none_pend _ (abort-pends i r _ (owner_at i s))) refl refl
+  row-called V (ChunkSteps i request v) s f = zero_called 0 _ 0 0 refl (none_pend _ (row-causes NoPend (ChunkSteps i request v) s (chunk-pends v request))) refl refl
+  row-called V (CloseSteps i request) s f = zero_called 0 _ 0 0 refl (none_pend _ (row-causes NoPend (CloseSteps i request) s (end-pends request))) refl refl
+  row-called V (ErrorSteps i request e) s f = zero_called 0 _ 0 0 refl (none_pend _ (row-causes NoPend (ErrorSteps i request e) s (end-pends request))) refl refl
+  row-called V (CallHost call u) s f = grind (arith, append-nil)
+  row-called V _ s f = refl
 
   pub call-pends : (c : Call) (s : Slots) → all (pends j) (begin c s).done.caused ≡ 0
   call-pends c s = none_pend (begin c s).done.caused (each_call (λ (b : Begun). Each NoPend b.done.caused) c s (grind arith))

@@ -5,7 +5,7 @@ use Rattle.ws_value.specs.declared.value.Outcome.TheVariants.{Fulfilled}
 use Rattle.ws_value.specs.declared.value.Plain.{Plain}
 use Rattle.ws_value.specs.declared.value.Value.{Value}
 use Rattle.ws_steps.specs.declared.{calls.Event.{Event}, calls.Event.TheVariants.{Host as HostCalled}}
-use Rattle.ws_steps.specs.declared.{calls.HostCall.{HostCall}, calls.HostCall.TheVariants.{Start, Pull, Cancel, Write as HostWrite, Close, Abort}}
+use Rattle.ws_steps.specs.declared.{calls.HostCall.{HostCall}, calls.HostCall.TheVariants.{Start, Pull, Cancel, Write as HostWrite, Close, Abort, Transform as HostTransform, Flush as HostFlush, CancelTransform as HostCancelTransform}}
 use Rattle.ws_steps.specs.declared.effects.Effect.{Effect}
 use Rattle.ws_steps.specs.declared.effects.Effect.TheVariants.{Give, Settle, CallHost}
 use Rattle.ws_steps.specs.declared.{effects.Gift.{Gift}, effects.Use.{Use}, effects.Use.TheVariants.{React, Resolve}}
@@ -194,6 +194,9 @@ module _ (j : StreamId) where
   write_call (Cancel i r) e = absurd (cc)
   write_call (Close i) e = absurd (cc)
   write_call (Abort i r) e = absurd (cc)
+  write_call (HostTransform i v) e = absurd (cc)
+  write_call (HostFlush i) e = absurd (cc)
+  write_call (HostCancelTransform i r) e = absurd (cc)
 
   pub own-host : (h : Sofar) (s : Slots) (call : HostCall) (step : Step) (d : Option PromiseId) (es : List Effect) → length s.hosts ≡ length h.calls → is_write_call j call ≡ true
       → ((P : PromiseId → Type 0) (V : Type 0) → Good (writes_it j) P V s.promises) → Sourced (next h (CallHost call (React step d)) s) (row (CallHost call (React step d)) s).slots es

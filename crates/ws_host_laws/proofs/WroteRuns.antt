@@ -3,7 +3,7 @@ use Rattle.std.proofs.Common.{◌≡◌, ℕ, zero, suc, ◌+◌, ◌≤◌, ◌
 use Rattle.ws_value.specs.declared.{ids.PromiseId.{PromiseId}, ids.StreamId.{StreamId}}
 use Rattle.ws_value.specs.declared.value.Plain.{Plain}
 use Rattle.ws_value.specs.declared.value.Value.{Value}
-use Rattle.ws_steps.specs.declared.{calls.HostCall.{HostCall}, calls.HostCall.TheVariants.{Start, Pull, Cancel, Write as HostWrite, Close, Abort}}
+use Rattle.ws_steps.specs.declared.{calls.HostCall.{HostCall}, calls.HostCall.TheVariants.{Start, Pull, Cancel, Write as HostWrite, Close, Abort, Transform as HostTransform, Flush as HostFlush, CancelTransform as HostCancelTransform}}
 use Rattle.ws_steps.specs.declared.effects.Effect.{Effect}
 use Rattle.ws_steps.specs.declared.effects.Effect.TheVariants.{Writable, Give, Settle, CallHost}
 use Rattle.ws_steps.specs.declared.{effects.Use.{Use}, effects.Use.TheVariants.{React, Resolve}}
@@ -11,7 +11,8 @@ use Rattle.ws_steps.specs.declared.{promises.Job.{Job}, promises.Step.{Step}}
 use Rattle.ws_steps.specs.declared.writable.WritableOperation.TheVariants.{WriteSettled}
 use Rattle.ws_steps.specs.Promises.{Table}
 use Rattle.ws_steps.specs.Writable as writable
-use Rattle.ws_steps.specs.Slots.{Slots, writable_at}
+use Rattle.ws_steps.specs.declared.effects.Owner.TheVariants.{Host}
+use Rattle.ws_steps.specs.Slots.{Slots, owner_at, writable_at}
 use Rattle.ws_steps.specs.Turns.{row}
 use Rattle.ws_steps.specs.Run.{Entry, step}
 use Rattle.ws_steps.specs.Histories.{is_same}
@@ -31,6 +32,8 @@ use Rattle.ws_steps.specs.declared.effects.Gift.TheVariants.{This}
 use Rattle.ws_laws.proofs.Weights.{weigh, of_reactions, of_entries, of_jobs}
 use Rattle.ws_laws.proofs.Walker.{IsHistory}
 use Rattle.ws_writable_laws.proofs.Agenda.{Kept, found}
+use Rattle.ws_writable_laws.proofs.Handed.{NoHalf, no-half}
+use Rattle.ws_writable_laws.proofs.Runs.{hosted_at}
 use Rattle.ws_writable_laws.proofs.Operations.{same_once, handed}
 use Rattle.ws_writable_laws.proofs.Shape.{core_of, hands, all, all-append, leads_to, is_write, of_reaction, one_if, weight}
 use Rattle.ws_write_laws.proofs.Runs.{Both, no_both, both_then, both_told, is_history, Holds}
@@ -158,6 +161,9 @@ module _ (j : StreamId) where
       by (Cancel i r) u f = omega arith
       by (Close i) u f = omega arith
       by (Abort i r) u f = omega arith
+      by (HostTransform i v) u f = omega arith
+      by (HostFlush i) u f = omega arith
+      by (HostCancelTransform i r) u f = omega arith
   pend_leads V e f = grind arith
 
   all_pend : (V : Type 0) (es : List Effect) → Each (Fits j V) es → all (leads_to (is_write j)) es ≤ 0 → all (pends j) es ≡ 0
@@ -211,6 +217,9 @@ module _ (j : StreamId) where
   pends_one (CallHost (Cancel i r) u) = inl refl
   pends_one (CallHost (Close i) u) = inl refl
   pends_one (CallHost (Abort i r) u) = inl refl
+  pends_one (CallHost (HostTransform i v) u) = inl refl
+  pends_one (CallHost (HostFlush i) u) = inl refl
+  pends_one (CallHost (HostCancelTransform i r) u) = inl refl
   pends_one _ = inl refl
 
   pend_one_leads : (V : Type 0) (e : Effect) → Fits j V e → pends j e ≡ 1 → leads_to (is_write j) e ≡ 1
@@ -226,17 +235,18 @@ module _ (j : StreamId) where
       few_leads : (e : Effect) → leads_to (is_write j) e ≤ 1
       few_leads e = grind (arith, few_step)
 
-  pub row-effects : (h : Past) (s : Slots) (e : Effect) (es : List Effect) → Held h s (e ∷ es) → Each (Fits j (LastWell j (next j h.sofar e s))) ((row e s).caused ++ es)
-  row-effects h s e es k =
+  pub row-effects : (h : Past) (s : Slots) (e : Effect) (es : List Effect) → owner_at j s ≡ Host → Held h s (e ∷ es) → Each (Fits j (LastWell j (next j h.sofar e s))) ((row e s).caused ++ es)
+  row-effects h s e es host k =
+      let free : NoHalf j s = no-half s j k.holds.kept.halved host in
       let W : Type 0 = LastWell j h.sofar in
       let U : Type 0 = LastWell j (next j h.sofar e s) in
       ⊎_elim
       (λ (n : pends j e ≡ 0).
       let weaker : W → U = last-stays j h.sofar (effect_sofar e s) (no_calls e s n) in
-      each-append (Fits j U) (row e s).caused es (caused-fit j U e s (fits-weaker j W U weaker e k.effects.0)) (each-map (Fits j W) (Fits j U) (fits-weaker j W U weaker) es k.effects.1))
+      each-append (Fits j U) (row e s).caused es (caused-fit j U e s host free (fits-weaker j W U weaker e k.effects.0)) (each-map (Fits j W) (Fits j U) (fits-weaker j W U weaker) es k.effects.1))
       (λ (n : pends j e ≡ 1).
       let a = alone h.both.writes s e es k.holds.kept (pend_one_leads W e k.effects.0 n) in
-      each-append (Fits j U) (row e s).caused es (caused-fit j U e s (any_fit W U e k.effects.0 n)) (zero-fits W U es a.others k.effects.1))
+      each-append (Fits j U) (row e s).caused es (caused-fit j U e s host free (any_fit W U e k.effects.0 n)) (zero-fits W U es a.others k.effects.1))
       (pends_one e)
     where
       any_fit : (V U : Type 0) (e : Effect) → Fits j V e → pends j e ≡ 1 → Fits j U e
@@ -247,7 +257,7 @@ module _ (j : StreamId) where
   pub row-counted : (h : Past) (s : Slots) (e : Effect) (es : List Effect) → Held h s (e ∷ es)
       → length (writes_of j (h.sofar.calls ++ effect_called e s)) + all (pends j) ((row e s).caused ++ es) ≡ length (h.both.writes.acted ++ (effect_writes j e s).acted)
   row-counted h s e es k =
-      let a = row-called j e s in
+      let a = row-called j (LastWell j h.sofar) e s k.effects.0 in
       let b = k.counted in
       let c = all-append (pends j) (row e s).caused es in
       let d : length (writes_of j (h.sofar.calls ++ effect_called e s)) ≡ length (writes_of j h.sofar.calls) + length (writes_of j (effect_called e s)) =
@@ -263,8 +273,8 @@ module _ (j : StreamId) where
   spent_open : (state : WritableState) (q : Bool) (b : Bool) → (has_ended state ≡ true → b ≡ false) → b ≡ true → not (has_ended state) || q ≡ true
   spent_open state q b f e = grind arith
 
-  pub ended-well : (h : Past) (s : Slots) (v : Plain) (es : List Effect) → let e : Effect = Writable j (WriteSettled (Ok v)) in Held h s (e ∷ es) → LastWell j h.sofar → NthWell j h.sofar h.both.writes.fulfilled
-  ended-well h s v es k w =
+  pub ended-well : (h : Past) (s : Slots) (v : Plain) (es : List Effect) → owner_at j s ≡ Host → let e : Effect = Writable j (WriteSettled (Ok v)) in Held h s (e ∷ es) → LastWell j h.sofar → NthWell j h.sofar h.both.writes.fulfilled
+  ended-well h s v es host k w =
       let e : Effect = Writable j (WriteSettled (Ok v)) in
       let self = same_once j in
       let one : leads_to (is_write j) e ≡ 1 = ap one_if (is_same-refl j) in
@@ -272,7 +282,7 @@ module _ (j : StreamId) where
       let f = found j (WriteSettled (Ok v)) h.both.writes es s (λ u. u) k.holds.kept in
       let lined = k.holds.lined k.straight.sound.holds.straight in
       let open_ = spent_open (writable_at j s).state (not (is_empty (writable_at j s).queue)) (is_some (writable_at j s).write_in_flight) lined.spent a.flying in
-      let counted = f.told.counted open_ in
+      let counted = f.told.counted (hosted_at j s host) open_ in
       let pend = all_pend (LastWell j h.sofar) es k.effects.1 a.others in
       let flight : one_if (is_some (writable_at j s).write_in_flight) ≡ 1 = ap one_if a.flying in
       let all = k.counted in

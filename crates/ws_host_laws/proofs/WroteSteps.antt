@@ -4,13 +4,14 @@ use Rattle.ws_value.specs.declared.{ids.HostId.{HostId}, ids.PromiseId.{PromiseI
 use Rattle.ws_value.specs.declared.value.Plain.{Plain}
 use Rattle.ws_steps.specs.declared.{calls.Answer.{Answer}, calls.Answer.TheVariants.{Ok as AnswerOk, Fail as AnswerFail}, calls.Call.{Call}, calls.Call.TheVariants.{Settle as SettleCall}}
 use Rattle.ws_steps.specs.declared.{calls.HostCall.{HostCall}, calls.HostCall.TheVariants.{Write as HostWrite}}
+use Rattle.ws_steps.specs.declared.effects.Owner.TheVariants.{Host}
 use Rattle.ws_steps.specs.declared.effects.Effect.{Effect}
 use Rattle.ws_steps.specs.declared.effects.Effect.TheVariants.{Writable, CloseAlgorithm, Settle}
 use Rattle.ws_steps.specs.declared.{promises.Job.{Job}}
 use Rattle.ws_steps.specs.declared.writable.WritableOperation.TheVariants.{WriteSettled}
 use Rattle.ws_steps.specs.declared.writable.WritableOperation.{WritableOperation}
 use Rattle.ws_steps.specs.Promises.{first_job, next_job, after_next_job, watch}
-use Rattle.ws_steps.specs.Slots.{Slots, empty, Done, pending_host, host_at, with_promises, writable_at}
+use Rattle.ws_steps.specs.Slots.{Slots, empty, Done, pending_host, host_at, with_promises, writable_at, owner_at}
 use Rattle.ws_steps.specs.Turns.{row}
 use Rattle.ws_steps.specs.Jobs.{job_effects}
 use Rattle.ws_steps.specs.Calls.{Begun, begin, settle_host, outcome_of}
@@ -34,6 +35,8 @@ use Rattle.ws_steps.specs.Turns.{Moment}
 use Rattle.ws_steps.specs.Run.{moments_in}
 use Rattle.ws_steps.specs.Histories.{along, in_step}
 use Rattle.ws_laws.proofs.Walker.{IsHistory}
+use Rattle.ws_laws.proofs.Shapes.{row-owner}
+use Rattle.ws_writable_laws.proofs.Runs.{call-was}
 use Rattle.ws_writable_laws.proofs.Shape.{all}
 use Rattle.ws_write_laws.proofs.Runs.{Both, no_both, both_then, both_told, is_history, along_both, Holds, holds-goes, holds_empty, holds-rests}
 use Rattle.ws_host_laws.proofs.Wrote.{at-grows, At, NthWell, nth-stays, LastWell, last-stays, Hosted, Settling, Source, Sourced, next}
@@ -57,8 +60,8 @@ call-hosts c s n = grind arith
 module _ (j : StreamId) where
   -- effects
 
-  own-wells : (h : Past) (s : Slots) (v : Plain) (es : List Effect) → let e : Effect = Writable j (WriteSettled (Ok v)) in Held j h s (e ∷ es) → (n : ℕ) → n < h.both.writes.fulfilled + (effect_writes j e s).fulfilled → NthWell j (next j h.sofar e s) n
-  own-wells h s v es k n l =
+  own-wells : (h : Past) (s : Slots) (v : Plain) (es : List Effect) → owner_at j s ≡ Host → let e : Effect = Writable j (WriteSettled (Ok v)) in Held j h s (e ∷ es) → (n : ℕ) → n < h.both.writes.fulfilled + (effect_writes j e s).fulfilled → NthWell j (next j h.sofar e s) n
+  own-wells h s v es host k n l =
       let e : Effect = Writable j (WriteSettled (Ok v)) in
       let told : (effect_writes j e s).fulfilled ≡ fulfilled_by (Ok v) (writable_at j s) = ap (λ (b : Bool). (if b then operation_writes (WriteSettled (Ok v)) (writable_at j s) else no_writes).fulfilled) (is_same-refl j) in
       by (is_some (writable_at j s).write_in_flight) refl told
@@ -71,20 +74,20 @@ module _ (j : StreamId) where
       by true f told =
           let z : fulfilled_by (Ok v) (writable_at j s) ≡ 1 = ap (λ (b : Bool). if b then 1 else 0) f in
           ⊎_elim (λ (m : n < h.both.writes.fulfilled). old n m)
-          (λ (m : n ≡ h.both.writes.fulfilled). nth-stays j h.sofar (effect_sofar (Writable j (WriteSettled (Ok v))) s) n (subst (NthWell j h.sofar) (sym m) (ended-well j h s v es k (k.effects.0 (is_same-refl j)))))
+          (λ (m : n ≡ h.both.writes.fulfilled). nth-stays j h.sofar (effect_sofar (Writable j (WriteSettled (Ok v))) s) n (subst (NthWell j h.sofar) (sym m) (ended-well j h s v es host k (k.effects.0 (is_same-refl j)))))
           (below j n h.both.writes.fulfilled (omega (arith, l, told, z)))
 
   -- nothing ends well
   still-wells : (h : Past) (s : Slots) (e : Effect) (es : List Effect) → (effect_writes j e s).fulfilled ≡ 0 → Held j h s (e ∷ es) → (n : ℕ) → n < h.both.writes.fulfilled + (effect_writes j e s).fulfilled → NthWell j (next j h.sofar e s) n
   still-wells h s e es z k n l = nth-stays j h.sofar (effect_sofar e s) n (k.wells n (omega (arith, z, l)))
 
-  settled-wells : (h : Past) (s : Slots) (i : StreamId) (v : Plain) (es : List Effect) (same : Bool) → is_same j i ≡ same → let e : Effect = Writable i (WriteSettled (Ok v)) in
+  settled-wells : (h : Past) (s : Slots) (i : StreamId) (v : Plain) (es : List Effect) (same : Bool) → is_same j i ≡ same → owner_at j s ≡ Host → let e : Effect = Writable i (WriteSettled (Ok v)) in
       Held j h s (e ∷ es) → (n : ℕ) → n < h.both.writes.fulfilled + (effect_writes j e s).fulfilled → NthWell j (next j h.sofar e s) n
-  settled-wells h s i v es false f k =
+  settled-wells h s i v es false f host k =
       still-wells h s (Writable i (WriteSettled (Ok v))) es (ap (λ (b : Bool). (if b then operation_writes (WriteSettled (Ok v)) (writable_at i s) else no_writes).fulfilled) f) k
-  settled-wells h s i v es true f k =
+  settled-wells h s i v es true f host k =
       subst (λ (l : StreamId). Held j h s (Writable l (WriteSettled (Ok v)) ∷ es) → (n : ℕ) → n < h.both.writes.fulfilled + (effect_writes j (Writable l (WriteSettled (Ok v))) s).fulfilled → NthWell j (next j h.sofar (Writable l (WriteSettled (Ok v))) s) n)
-      (same_id j i f) (own-wells h s v es) k
+      (same_id j i f) (own-wells h s v es host) k
 
   none_fulfilled : (i : StreamId) (operation : WritableOperation) (s : Slots) → (operation_writes operation (writable_at i s)).fulfilled ≡ 0 → (effect_writes j (Writable i operation) s).fulfilled ≡ 0
   none_fulfilled i operation s z = by (is_same j i)
@@ -93,19 +96,19 @@ module _ (j : StreamId) where
       by true = z
       by false = refl
 
-  row-wells : (h : Past) (s : Slots) (e : Effect) (es : List Effect) → Held j h s (e ∷ es) → (n : ℕ) → n < h.both.writes.fulfilled + (effect_writes j e s).fulfilled → NthWell j (next j h.sofar e s) n
-  row-wells h s (Writable i (WriteSettled (Ok v))) es k = settled-wells h s i v es (is_same j i) refl k
-  row-wells h s (Writable i (WriteSettled (Err r))) es k = still-wells h s (Writable i (WriteSettled (Err r))) es (none_fulfilled i (WriteSettled (Err r)) s refl) k
-  row-wells h s (Writable i operation) es k = still-wells h s (Writable i operation) es (none_fulfilled i operation s refl) k
-  row-wells h s (CloseAlgorithm i) es k = still-wells h s (CloseAlgorithm i) es (by (is_same j i)) k
+  row-wells : (h : Past) (s : Slots) (e : Effect) (es : List Effect) → owner_at j s ≡ Host → Held j h s (e ∷ es) → (n : ℕ) → n < h.both.writes.fulfilled + (effect_writes j e s).fulfilled → NthWell j (next j h.sofar e s) n
+  row-wells h s (Writable i (WriteSettled (Ok v))) es host k = settled-wells h s i v es (is_same j i) refl host k
+  row-wells h s (Writable i (WriteSettled (Err r))) es host k = still-wells h s (Writable i (WriteSettled (Err r))) es (none_fulfilled i (WriteSettled (Err r)) s refl) k
+  row-wells h s (Writable i operation) es host k = still-wells h s (Writable i operation) es (none_fulfilled i operation s refl) k
+  row-wells h s (CloseAlgorithm i) es host k = still-wells h s (CloseAlgorithm i) es (by (is_same j i)) k
     where
       by : (b : Bool) → (if b then record no_writes { closes = 1 } else no_writes).fulfilled ≡ 0
       by true = refl
       by false = refl
-  row-wells h s e es k = still-wells h s e es refl k
+  row-wells h s e es host k = still-wells h s e es refl k
 
-  row-held : (h : Past) (s : Slots) (e : Effect) (es : List Effect) → Held j h s (e ∷ es) → Held j (next_past j h e s) (row e s).slots ((row e s).caused ++ es)
-  row-held h s e es k =
+  row-held : (h : Past) (s : Slots) (e : Effect) (es : List Effect) → owner_at j s ≡ Host → Held j h s (e ∷ es) → Held j (next_past j h e s) (row e s).slots ((row e s).caused ++ es)
+  row-held h s e es host k =
       let straight = straight-stays.row s e es k.straight in
       record {
         straight = straight;
@@ -113,8 +116,8 @@ module _ (j : StreamId) where
         holds = (holds-goes j).row h.both s e es k.holds;
         counted = row-counted j h s e es k;
         table = row-table j h s e es k straight;
-        effects = row-effects j h s e es k;
-        wells = row-wells h s e es k;
+        effects = row-effects j h s e es host k;
+        wells = row-wells h s e es host k;
       }
 
   -- calls
@@ -133,8 +136,9 @@ module _ (j : StreamId) where
     hosts = λ z hs m. m;
     pipe = λ z source dest prevent signal promise m. m;
     signal = λ z m. m;
-    readable = λ z mark size m. m;
-    writable = λ z mark size m. m;
+    transform = λ z kind half other change m. m;
+    readable = λ z owner mark size m. m;
+    writable = λ z owner mark size m. m;
   }) c s k
 
   none_settling : (h : Sofar) (q : PromiseId) {A : Type 0} → Settling j h [] q → A
@@ -263,24 +267,36 @@ module _ (j : StreamId) where
       (still-held h s (with_promises (after_next_job s.promises) s) (job_effects job) refl (straight-stays.job s job e k.straight) (numbered-goes.job h.sofar.calls s job e k.numbered) ((holds-goes j).job h.both s job e k.holds) (job-pends j job)
       (λ g. next-good (writes_it j) (Source j h.sofar s []) (LastWell j h.sofar) s.promises g) (job-effects-fit j (LastWell j h.sofar) job (first_fits (LastWell j h.sofar) s.promises.jobs job e k.table.queued)) k)
 
-  held-goes : Goes past_then (effect_past j) said_past (Held j)
+  -- of a stream of the host
+  abbrev IfHosts : Past → Slots → List Effect → Type 0
+  IfHosts h s es = owner_at j s ≡ Host → Held j h s es
+
+  answered-held : (h : Past) (s : Slots) (p : PromiseId) → Held j h s [] → Held j h (with_promises (watch p s.promises) s) []
+  answered-held h s p k =
+      still-held h s (with_promises (watch p s.promises) s) [] refl (straight-stays.answered s p k.straight) (numbered-goes.answered h.sofar.calls s p k.numbered) ((holds-goes j).answered h.both s p k.holds) refl
+      (λ g. watch-good (writes_it j) (Source j h.sofar s []) (LastWell j h.sofar) p s.promises g) tt k
+
+  older-held : (h : Past) (s : Slots) → Held j h s [] → Held j h (older s) []
+  older-held h s k =
+      still-held h s (older s) [] refl (straight-stays.older s k.straight) (numbered-goes.older h.sofar.calls s k.numbered) ((holds-goes j).older h.both s k.holds) refl (λ g. record { registered = g.registered; queued = g.queued }) tt k
+
+  held-goes : Goes past_then (effect_past j) said_past IfHosts
   held-goes = record {
-    row = row-held;
-    call = call-held;
-    job = job-held;
-    idle = λ h s e k. rw (unsaid h) k;
-    answered = λ h s p k.
-        still-held h s (with_promises (watch p s.promises) s) [] refl (straight-stays.answered s p k.straight) (numbered-goes.answered h.sofar.calls s p k.numbered) ((holds-goes j).answered h.both s p k.holds) refl
-        (λ g. watch-good (writes_it j) (Source j h.sofar s []) (LastWell j h.sofar) p s.promises g) tt k;
-    older = λ h s k. still-held h s (older s) [] refl (straight-stays.older s k.straight) (numbered-goes.older h.sofar.calls s k.numbered) ((holds-goes j).older h.both s k.holds) refl (λ g. record { registered = g.registered; queued = g.queued }) tt k;
+    row = λ h s e es k o. let was : owner_at j s ≡ Host = sym (row-owner j e s) ∙ o in row-held h s e es was (k was);
+    call = λ h s c k o. call-held h s c (k (call-was j s s c (λ x. x) o));
+    job = λ h s job e k o. job-held h s job e (k o);
+    idle = λ h s e k o. rw (unsaid h) (k o);
+    answered = λ h s p k o. answered-held h s p (k o);
+    older = λ h s k o. older-held h s (k o);
   }
 
-  held-rests : Rests past_then said_past (Held j)
-  held-rests = record {
-    heard = λ h s k.
-        rw (unsaid h)
-        (still-held h s (after_event s) [] refl (straight-heard s k.straight) (numbered-rests.heard h.sofar.calls s k.numbered) ((holds-rests j).heard h.both s k.holds) refl (λ g. record { registered = g.registered; queued = g.queued }) tt k);
-  }
+  heard-held : (h : Past) (s : Slots) → Held j h s [] → Held j (past_then h nothing_past) (after_event s) []
+  heard-held h s k =
+      rw (unsaid h)
+      (still-held h s (after_event s) [] refl (straight-heard s k.straight) (numbered-rests.heard h.sofar.calls s k.numbered) ((holds-rests j).heard h.both s k.holds) refl (λ g. record { registered = g.registered; queued = g.queued }) tt k)
+
+  held-rests : Rests past_then said_past IfHosts
+  held-rests = record { heard = λ h s k o. heard-held h s (k o) }
 
   held_empty : Held j nothing_past empty []
   held_empty = record {
@@ -314,11 +330,11 @@ module _ (j : StreamId) where
       ∙ (ap (λ (f : Past). past_then (past_then (said_past s x) f) (record { sofar = over nothing_yet sofar_then happens_sofar xs (step s x); both = record { writes = run_writes j xs (step s x); promised = run_promised j xs (step s x) } })) (along_past (moments_in s x))
       ∙ ap (λ (f : Both). record { sofar = sofar_then (happens_sofar s x) (over nothing_yet sofar_then happens_sofar xs (step s x)); both = both_then f (record { writes = run_writes j xs (step s x); promised = run_promised j xs (step s x) }) }) (told_both x s))
 
-  run-held : (entries : List Entry) → Held j (record { sofar = record { calls = called entries; well = run_well entries empty }; both = record { writes = run_writes j entries empty; promised = run_promised j entries empty } }) (run entries empty) []
+  run-held : (entries : List Entry) → IfHosts (record { sofar = record { calls = called entries; well = run_well entries empty }; both = record { writes = run_writes j entries empty; promised = run_promised j entries empty } }) (run entries empty) []
   run-held entries =
-      subst (λ (h : Past). Held j h (run entries empty) [])
+      subst (λ (h : Past). IfHosts h (run entries empty) [])
       (over_past entries empty ∙ ap (λ (f : Sofar). record { sofar = f; both = record { writes = run_writes j entries empty; promised = run_promised j entries empty } }) (over_sofar entries empty))
-      (rw (past-history.left (over nothing_past past_then happens_past entries empty)) at (walker.run-goes nothing_past past_then past-history (effect_past j) said_past (Held j) held-goes held-rests entries nothing_past empty held_empty))
+      (rw (past-history.left (over nothing_past past_then happens_past entries empty)) at (walker.run-goes nothing_past past_then past-history (effect_past j) said_past IfHosts held-goes held-rests entries nothing_past empty (λ o. held_empty)))
 
 -- a call of a front of the calls
 
@@ -338,9 +354,9 @@ front-of (x ∷ xs) more (f ∷ first) rest c e l =
     record { rest = n.rest; split = ap (λ (y : HostCall). y ∷ xs) k.0 ∙ ap (λ (ys : List HostCall). f ∷ ys) n.split }
 
 -- the host settled the call of number n well, of those of the write algorithm of stream j
-pub write-was-settled : (entries : List Entry) (j : StreamId) (n : ℕ) → n < (run_writes j entries empty).fulfilled → WriteWasSettledWell entries j n
-write-was-settled entries j n l =
-    let w = (run-held j entries).wells n l in
+pub write-was-settled : (entries : List Entry) (j : StreamId) (n : ℕ) → owner_at j (run entries empty) ≡ Host → n < (run_writes j entries empty).fulfilled → WriteWasSettledWell entries j n
+write-was-settled entries j n host l =
+    let w = (run-held j entries host).wells n l in
     let k = well_settles entries empty w.place w.id w.settled in
     let before : Slots = run k.before empty in
     let more : List Entry = Called (settles_well w.id) ∷ k.after in
@@ -363,4 +379,4 @@ write-was-settled entries j n l =
     }
 
 pub each_write_was_settled : EachWriteWasSettled
-each_write_was_settled entries j n l = write-was-settled entries j n l
+each_write_was_settled entries j n host l = write-was-settled entries j n host l

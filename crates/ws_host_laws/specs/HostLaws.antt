@@ -1,19 +1,25 @@
 -- Laws of what the host is called for and settles well.
-use Rattle.std.specs.Prelude.{ℕ, ◌≡◌, ◌<◌, false, true, is_some, List, [], ◌∷◌, ◌++◌, length, Option, Some, None, slice_get}
+use Rattle.std.specs.Prelude.{ℕ, ◌≡◌, ◌<◌, false, true, is_some, List, [], ◌∷◌, ◌++◌, length, Option, Some, None, Ok, slice_get}
 use Rattle.ws_value.specs.declared.ids.PipeId.{PipeId}
+use Rattle.ws_value.specs.declared.ids.PromiseId.{PromiseId}
 use Rattle.ws_value.specs.declared.ids.SignalId.{SignalId}
 use Rattle.ws_value.specs.declared.ids.StreamId.{StreamId}
 use Rattle.ws_value.specs.declared.value.Outcome.TheVariants.{Fulfilled}
 use Rattle.ws_value.specs.declared.value.Plain.{Plain}
 use Rattle.ws_steps.specs.declared.calls.Call.TheVariants.{Pipe}
 use Rattle.ws_steps.specs.declared.calls.HostCall.{HostCall}
-use Rattle.ws_steps.specs.declared.calls.HostCall.TheVariants.{Close}
+use Rattle.ws_steps.specs.declared.calls.HostCall.TheVariants.{Close, Flush}
+use Rattle.ws_steps.specs.declared.effects.Owner.TheVariants.{Host}
+use Rattle.ws_steps.specs.declared.promises.Job.TheVariants.{Reaction}
+use Rattle.ws_steps.specs.declared.promises.Step.TheVariants.{TransformFlushed}
+use Rattle.ws_steps.specs.declared.transform.Kind.TheVariants.{Host as HostKind}
+use Rattle.ws_steps.specs.declared.transform.TransformId.{TransformId}
 use Rattle.ws_steps.specs.declared.writable.WritableState.TheVariants.{Closed}
 use Rattle.ws_steps.specs.declared.pipes.Prevent.{Prevent}
 use Rattle.ws_steps.specs.Calls.{begin}
 use Rattle.ws_steps.specs.Pipes as pipe
-use Rattle.ws_steps.specs.Promises.{outcome_at}
-use Rattle.ws_steps.specs.Slots.{empty, has_writable, writable_at}
+use Rattle.ws_steps.specs.Promises.{next_job, outcome_at}
+use Rattle.ws_steps.specs.Slots.{Slots, empty, has_writable, owner_at, writable_at, transform_at}
 use Rattle.ws_steps.specs.Run.{Entry, Called, run}
 use Rattle.ws_steps.specs.Histories.{run_events}
 use Rattle.ws_steps.specs.Laws.{AllFulfilled}
@@ -34,15 +40,24 @@ pub record HasItsCalls (entries : List Entry) : Type 0 where
 abbrev pub EachEventIsItsCall : Type 0
 EachEventIsItsCall = (entries : List Entry) → HasItsCalls entries
 
--- in every run, the host settled the close algorithm of each writable stream well that is closed
+-- in every run, the host settled the close algorithm of each writable stream of its own well that is closed
 abbrev pub EachCloseWasSettled : Type 0
 EachCloseWasSettled =
-    (entries : List Entry) (j : StreamId) → has_writable j (run entries empty) ≡ true → (writable_at j (run entries empty)).state ≡ Closed → WasSettledWell entries (Close j)
+    (entries : List Entry) (j : StreamId) → owner_at j (run entries empty) ≡ Host → has_writable j (run entries empty) ≡ true → (writable_at j (run entries empty)).state ≡ Closed
+    → WasSettledWell entries (Close j)
 
--- in every run, of each writable stream: the host settled each of its writes well that ended well. The writes that ended well are the first of the
+-- in every run, where the next job is the reaction of a transform stream of the host's to its flush algorithm, after a fulfilment: the host was
+-- called to flush it, and settled the promise of that call well
+abbrev pub EachFlushWasSettled : Type 0
+EachFlushWasSettled =
+    (entries : List Entry) (t : TransformId) (p : PromiseId) (v : Plain) (derived : Option PromiseId)
+    → let s : Slots = run entries empty in (transform_at t s).kind ≡ HostKind → next_job s.promises ≡ Some (Reaction (TransformFlushed t p) (Ok v) derived)
+    → WasSettledWell entries (Flush (transform_at t s).readable)
+
+-- in every run, of each writable stream of the host: the host settled each of its writes well that ended well. The writes that ended well are the first of the
 -- calls of its write algorithm
 abbrev pub EachWriteWasSettled : Type 0
-EachWriteWasSettled = (entries : List Entry) (j : StreamId) (n : ℕ) → n < (run_writes j entries empty).fulfilled → WriteWasSettledWell entries j n
+EachWriteWasSettled = (entries : List Entry) (j : StreamId) (n : ℕ) → owner_at j (run entries empty) ≡ Host → n < (run_writes j entries empty).fulfilled → WriteWasSettledWell entries j n
 
 -- A pipeTo of these streams after these entries: it makes the pipe of the next number, which closes its destination; and the destination is writable
 -- and not closing
@@ -60,13 +75,13 @@ next_pipe before = record { 0 = length (run before empty).pipes }
 abbrev pub with_pipe : List Entry → StreamId → StreamId → Prevent → Option SignalId → List Entry → List Entry
 with_pipe before source dest prevent signal after = before ++ Called (Pipe source dest prevent signal) ∷ after
 
--- the stream is closed, and the host settled its close algorithm well
+-- the stream is closed, and the host settled its close algorithm well, where it is the host's
 pub record IsClosedWell (entries : List Entry) (j : StreamId) : Type 0 where
   pub closed : (writable_at j (run entries empty)).state ≡ Closed
-  pub settled : WasSettledWell entries (Close j)
+  pub settled : owner_at j (run entries empty) ≡ Host → WasSettledWell entries (Close j)
 
 -- in every run, of a pipe without preventClose whose destination was writable and not closing when it began: where it ended without an error, its
--- destination is closed, and the host settled that close well
+-- destination is closed, and the host settled that close well, where the destination is the host's
 abbrev pub EachFulfilledPipeClosedItsDestination : Type 0
 EachFulfilledPipeClosedItsDestination =
     (before after : List Entry) (source dest : StreamId) (prevent : Prevent) (signal : Option SignalId)

@@ -49,7 +49,7 @@ reason_self r = grind (arith, nat_self, fault_self)
 tee_same : (t u : TeeId) → nat_eq t.0 u.0 ≡ true → t ≡ u
 tee_same t u e = ap (λ (n : ℕ). record { 0 = n }) (nat_same t.0 u.0 e)
 
-reason_same : (r s : Plain) → same_reason r s ≡ true → r ≡ s
+pub reason_same : (r s : Plain) → same_reason r s ≡ true → r ≡ s
 reason_same r s e = grind (arith, nat_same, fault_same, tee_same)
 
 abbrev pub is_among : Plain → List Plain → Bool
@@ -70,6 +70,10 @@ among_contained r (s ∷ ss) e = by (same_reason s r) refl (λ n. among_containe
     by : (b : Bool) → same_reason s r ≡ b → (same_reason s r ≡ false → Contains ss r) → Contains (s ∷ ss) r
     by true h f = (0, omega arith, reason_same s r h)
     by false h f = Contains-append_right (s ∷ []) ss r (f h)
+
+pub among_either : (r : Plain) (xs ys : List Plain) → is_among r (xs ++ ys) ≡ true → (is_among r xs || is_among r ys) ≡ true
+among_either r [] ys e = e
+among_either r (x ∷ xs) ys e = let h = among_either r xs ys in grind (arith, h, e)
 
 among_middle : (pre : List Plain) (r : Plain) (rs : List Plain) → is_among r (pre ++ r ∷ rs) ≡ true
 among_middle [] r rs = let h = reason_self r in grind (arith, h)

@@ -9,13 +9,18 @@ use Rattle.ws_steps.specs.declared.calls.Call.{Call}
 use Rattle.ws_steps.specs.declared.calls.Reply.{Reply}
 use Rattle.ws_steps.specs.declared.calls.Reply.TheVariants as reply
 use Rattle.ws_steps.specs.declared.effects.Effect.{Effect}
-use Rattle.ws_steps.specs.declared.effects.Effect.TheVariants.{Readable, Writable, Signal, Settle}
-use Rattle.ws_steps.specs.declared.effects.Owner.TheVariants.{Host}
+use Rattle.ws_steps.specs.declared.calls.StartBy.{StartBy}
+use Rattle.ws_steps.specs.declared.effects.Effect.TheVariants.{Readable, Writable, Signal, Transform, Settle}
+use Rattle.ws_steps.specs.declared.effects.Owner.TheVariants.{Host, HalfOf}
 use Rattle.ws_steps.specs.declared.locks.Lock.{Lock}
 use Rattle.ws_steps.specs.declared.pipes.Prevent.{Prevent}
 use Rattle.ws_steps.specs.declared.pipes.SignalOperation.TheVariants.{Trigger}
 use Rattle.ws_steps.specs.declared.readable.ReadableOperation.TheVariants.{Error, ReleaseReader, Read, Cancel}
 use Rattle.ws_steps.specs.declared.readable.ReadRequest.TheVariants.{Promise as PromiseRequest}
+use Rattle.ws_steps.specs.declared.readable.SizeBy.TheVariants.{Count}
+use Rattle.ws_steps.specs.declared.transform.Kind.{Kind}
+use Rattle.ws_steps.specs.declared.transform.TransformId.{TransformId}
+use Rattle.ws_steps.specs.declared.transform.TransformOperation.TheVariants.{Error as ErrorTransform}
 use Rattle.ws_steps.specs.declared.writable.WritableOperation.TheVariants.{Abort, ErrorIfNeeded, ReleaseWriter, Write, Close}
 use Rattle.ws_steps.specs.Calls.{Begun, begin, promising, with_renewed, reject_renewed, pipe_begins, adding}
 use Rattle.ws_steps.specs.Calls as calls
@@ -25,42 +30,49 @@ use Rattle.ws_steps.specs.Promises.{Table, fresh, is_pending_at}
 use Rattle.ws_steps.specs.Readable as readable
 use Rattle.ws_steps.specs.Readable.{is_readable}
 use Rattle.ws_steps.specs.Slots.{Slots, Stream, ReadableStream, WritableStream, with_promises, readable_at, as_signal}
+use Rattle.ws_steps.specs.Transform as transform
 use Rattle.ws_steps.specs.Writable as writable
 use Rattle.ws_laws.proofs.EachCall.{each_call}
 use Rattle.ws_reason_laws.proofs.InTable.{fresh-keeps, fresh-count}
-use Rattle.ws_reason_laws.proofs.Known.{class, Known, known-new, known-next, known-same}
+use Rattle.ws_reason_laws.proofs.Known.{Badness, class, Known, known-new, known-next, known-same}
 use Rattle.ws_reason_laws.proofs.Readables.{effects-append}
 use Rattle.ws_reason_laws.proofs.Rows.{in_signal, signal-there}
-use Rattle.ws_reason_laws.proofs.Weights.{Class, of_reason, soft, settles, in_effects, in_stream, in_streams, in_pipe, in_pipes, in_signals, in_slots, in_table, AllGood, count}
+use Rattle.ws_reason_laws.proofs.Weights.{Class, of_reason, soft, settles, in_effects, in_stream, in_streams, in_pipe, in_pipes, in_signals, in_transform, in_transforms, in_slots, in_table, loud, AllGood, count}
 
 -- what calls give: the reasons in their first effects
 
-abbrev pub bad_first : (Plain → ℕ) → Effect → ℕ
-bad_first bad (Readable i (Error r)) = bad r
-bad_first bad (Writable i (Abort r p)) = bad r
-bad_first bad (Writable i (ErrorIfNeeded r)) = bad r
-bad_first bad (Signal a (Trigger r)) = bad r
+-- the reason of a cancel, which may become an error where there may be transform streams
+abbrev pub bad_cancel : Badness → Plain → ℕ
+bad_cancel bad r = if bad.through then bad.of r else 0
+
+abbrev pub bad_first : Badness → Effect → ℕ
+bad_first bad (Readable i (Error r)) = bad.of r
+bad_first bad (Readable i (Cancel r p)) = bad_cancel bad r
+bad_first bad (Writable i (Abort r p)) = bad.of r
+bad_first bad (Writable i (ErrorIfNeeded r)) = bad.of r
+bad_first bad (Signal a (Trigger r)) = bad.of r
+bad_first bad (Transform t (ErrorTransform r)) = bad.of r
 bad_first bad _ = 0
 
-abbrev pub bad_all : (Plain → ℕ) → List Effect → ℕ
+abbrev pub bad_all : Badness → List Effect → ℕ
 bad_all bad [] = 0
 bad_all bad (e ∷ es) = bad_first bad e + bad_all bad es
 
 -- the answer of a host's algorithm
-abbrev pub bad_answer : (Plain → ℕ) → Result Plain Plain → ℕ
+abbrev pub bad_answer : Badness → Result Plain Plain → ℕ
 bad_answer bad (Ok v) = 0
-bad_answer bad (Err r) = bad r
+bad_answer bad (Err r) = bad.of r
 
-abbrev pub bad_settling : (Plain → ℕ) → List Effect → ℕ
+abbrev pub bad_settling : Badness → List Effect → ℕ
 bad_settling bad [] = 0
 bad_settling bad (Settle p o ∷ []) = bad_answer bad o
 bad_settling bad (e ∷ es) = 0
 
-abbrev pub bad_done : (Plain → ℕ) → Reply → List Effect → ℕ
+abbrev pub bad_done : Badness → Reply → List Effect → ℕ
 bad_done bad reply.Done es = bad_settling bad es
 bad_done bad _ es = 0
 
-abbrev pub bad_begun : (Plain → ℕ) → Begun → ℕ
+abbrev pub bad_begun : Badness → Begun → ℕ
 bad_begun bad b = bad_all bad b.done.caused + bad_done bad b.reply b.done.caused
 
 -- tables get one more
@@ -74,13 +86,17 @@ pipes-append k n [] y at e h g =
     let same : at ≡ n = omega (arith, e) in let f : in_pipe k n y ≡ 0 = subst (λ (m : ℕ). in_pipe k m y ≡ 0) same g in omega (arith, f)
 pipes-append k n (x ∷ xs) y at e h g = let f = pipes-append k (suc n) xs y at (omega (arith, e)) (omega (arith, h)) g in omega (arith, h, f)
 
+transforms-append : (k : Class) (xs : List transform.Slots) (y : transform.Slots) → in_transforms k (xs ++ y ∷ []) ≡ in_transforms k xs + in_transform k y
+transforms-append k [] y = omega arith
+transforms-append k (x ∷ xs) y = let h = transforms-append k xs y in omega (arith, h)
+
 signals-append : (k : Class) (xs : List pipe.Signal) → in_signals k (xs ++ pipe.new_signal ∷ []) ≡ in_signals k xs
 signals-append k [] = refl
 signals-append k (x ∷ xs) = let h = signals-append k xs in omega (arith, h)
 
-module _ (bad : Plain → ℕ) (me : PipeId) (own : Option ℕ) (s : Slots) (known : Known bad me own s []) where
+module _ (bad : Badness) (me : PipeId) (own : Option ℕ) (s : Slots) (known : Known bad me own s []) where
   abbrev Begins : Begun → Type 0
-  Begins b = bad_begun bad b ≡ 0 → Known bad me own b.done.slots b.done.caused
+  Begins b = bad_begun bad b ≡ 0 → (bad.through ≡ false → b.done.slots.transforms ≡ []) → Known bad me own b.done.slots b.done.caused
 
   -- a soft one and a loud one
   soft_one : (f : ℕ → Bool) (n : ℕ) → f n ≡ false → soft (class bad me f) n ≡ 0
@@ -229,20 +245,62 @@ module _ (bad : Plain → ℕ) (me : PipeId) (own : Option ℕ) (s : Slots) (kno
       new_one : (b : Bool) (i : ℕ) → i ≡ count s.promises + 3 → (if nat_lt i (count s.promises) then b else of_pipe i) ≡ true
       new_one b i h = grind (arith, h, m)
 
+  -- a transform stream: its promises hand on
+
+  loud_one : (f : ℕ → Bool) (n : ℕ) → f n ≡ true → loud (class bad me f) n ≡ 0
+  loud_one f n e = grind (arith, e)
+
+  may_be : (xs : List transform.Slots) (x : transform.Slots) (b : Bool) → bad.through ≡ b → (bad.through ≡ false → xs ++ x ∷ [] ≡ []) → bad.through ≡ true
+  may_be xs x true e none = e
+  may_be [] x false e none = let n = none e in cc
+  may_be (y ∷ xs) x false e none = let n = none e in cc
+
+  new_half : (f : ℕ → Bool) (kind : Kind) (i j : StreamId) (change : PromiseId) → bad.through ≡ true → loud (class bad me f) change.0 ≡ 0 → in_transform (class bad me f) (transform.set_up kind i j change) ≡ 0
+  new_half f kind i j change e h = rw e (omega (arith, h))
+
+  starts : (f : ℕ → Bool) (p : PromiseId) (j : StreamId) (start : StartBy) → in_effects (class bad me f) (calls.start_transform p j start ∷ []) ≡ 0
+  starts f p j start = grind arith
+
+  transform-known : (kind : Kind) (a b : ℕ) (start : StartBy) (i j : StreamId) → bad.through ≡ true → Known bad me own (calls.make_transform kind a b start i j s).done.slots (calls.make_transform kind a b start i j s).done.caused
+  transform-known kind a b start i j through =
+      let t : Table = s.promises in
+      let c0 = fresh-count t in
+      let c1 = fresh-count (fresh t) in
+      let c2 = fresh-count (fresh (fresh t)) in
+      let c3 = fresh-count (fresh (fresh (fresh t))) in
+      known-next bad me own s (calls.make_transform kind a b start i j s).done.slots [] (calls.make_transform kind a b start i j s).done.caused (λ i. true) known (omega (arith, c0, c1, c2, c3))
+      (λ f news g.
+      let k : Class = class bad me f in
+      let l0 = loud_one f (count t) (news (count t) (omega arith) (omega (arith, c0, c1, c2, c3))) in
+      let l1 = loud_one f (count (fresh t)) (news (count (fresh t)) (omega (arith, c0)) (omega (arith, c1, c2, c3))) in
+      let l2 = loud_one f (count (fresh (fresh t))) (news (count (fresh (fresh t))) (omega (arith, c0, c1)) (omega (arith, c2, c3))) in
+      let l3 = loud_one f (count (fresh (fresh (fresh t)))) (news (count (fresh (fresh (fresh t)))) (omega (arith, c0, c1, c2)) (omega (arith, c3))) in
+      let me_ : TransformId = record { 0 = length s.transforms } in
+      let w : Stream = WritableStream (writable.set_up (HalfOf me_) a Count) in
+      let r : Stream = ReadableStream (readable.set_up (HalfOf me_) b Count) in
+      let x : transform.Slots = transform.set_up kind i j (record { 0 = count t }) in
+      let s0 = streams-append k s.streams w in
+      let s1 = streams-append k (s.streams ++ w ∷ []) r in
+      let h = new_half f kind i j (record { 0 = count t }) through l0 in
+      let z = transforms-append k s.transforms x in
+      let e = starts f (record { 0 = count (fresh t) }) j start in
+      let p = fresh-keeps k (fresh (fresh (fresh t))) (fresh-keeps k (fresh (fresh t)) (fresh-keeps k (fresh t) (fresh-keeps k t (omega (arith, g))))) in
+      omega (arith, g, l0, l1, l2, l3, s0, s1, h, z, e, p))
+
   pub call-known : (c : Call) → Begins (begin c s)
   call-known c =
       each_call Begins c s (record {
-        unchanged = λ reply b. known;
-        rejected = λ b. promising-known (λ p. Settle p (Err type_error) ∷ []) false (λ f p e. let z = settles_one f p.0 type_error e in omega (arith, z));
-        make_readable = λ mark size start b. plain-known _ _ refl (λ f g. let a = streams-append (class bad me f) s.streams (ReadableStream (readable.set_up Host mark size)) in omega (arith, g, a));
-        make_writable = λ mark size start b. plain-known _ _ refl (λ f g. let a = streams-append (class bad me f) s.streams (WritableStream (writable.set_up Host mark size)) in omega (arith, g, a));
-        get_reader = λ i e b.
+        unchanged = λ reply b n. known;
+        rejected = λ b n. promising-known (λ p. Settle p (Err type_error) ∷ []) false (λ f p e. let z = settles_one f p.0 type_error e in omega (arith, z));
+        make_readable = λ mark size start b n. plain-known _ _ refl (λ f g. let a = streams-append (class bad me f) s.streams (ReadableStream (readable.set_up Host mark size)) in omega (arith, g, a));
+        make_writable = λ mark size start b n. plain-known _ _ refl (λ f g. let a = streams-append (class bad me f) s.streams (WritableStream (writable.set_up Host mark size)) in omega (arith, g, a));
+        get_reader = λ i e b n.
             let c = fresh-count s.promises in
             known-next bad me own s _ [] _ (λ i. false) known (omega (arith, c))
             (λ f news g.
             let one = soft_one f (count s.promises) (news (count s.promises) (omega arith) (omega (arith, c))) in
             let t = fresh-keeps (class bad me f) s.promises (omega (arith, g)) in omega (arith, g, one, t));
-        get_writer = λ i e b.
+        get_writer = λ i e b n.
             let c = fresh-count s.promises in
             let d = fresh-count (fresh s.promises) in
             known-next bad me own s _ [] _ (λ i. false) known (omega (arith, c, d))
@@ -250,19 +308,23 @@ module _ (bad : Plain → ℕ) (me : PipeId) (own : Option ℕ) (s : Slots) (kno
             let one = soft_one f (count s.promises) (news (count s.promises) (omega arith) (omega (arith, c, d))) in
             let two = soft_one f (count (fresh s.promises)) (news (count (fresh s.promises)) (omega (arith, c)) (omega (arith, d))) in
             let t = fresh-keeps (class bad me f) (fresh s.promises) (fresh-keeps (class bad me f) s.promises (omega (arith, g))) in omega (arith, g, one, two, t));
-        release_reader = λ l closed i e b. release_reader-known i _ (is_readable (readable_at i s).state);
-        release_writer = λ l i w e h b. release_writer-known i _ (is_pending_at w.ready s.promises) (is_pending_at w.closed (with_renewed s.promises (is_pending_at w.ready s.promises)));
-        cancel = λ reason i b. promising-known (λ p. Readable i (Cancel reason p) ∷ []) false (λ f p e. refl);
-        read = λ l i closed e h b. promising-known (λ p. Readable i (Read (PromiseRequest p)) ∷ []) false (λ f p e. let z = soft_one f p.0 e in omega (arith, z));
-        write = λ l v i e b. promising-known (λ p. Writable i (Write v p) ∷ []) false (λ f p e. let z = soft_one f p.0 e in omega (arith, z));
-        close = λ i b. promising-known (λ p. Writable i (Close p) ∷ []) false (λ f p e. let z = soft_one f p.0 e in omega (arith, z));
-        abort = λ reason i e b. promising-known (λ p. Writable i (Abort reason p) ∷ []) true (λ f p e. grind (arith, b, e));
-        enqueue = λ i v e can b. plain-known s _ refl (λ f g. omega (arith, g));
-        finish = λ i b. plain-known s _ refl (λ f g. omega (arith, g));
-        fail_readable = λ i reason b. plain-known s _ refl (λ f g. omega (arith, g, b));
-        fail_writable = λ i reason b. plain-known s _ refl (λ f g. omega (arith, g, b));
-        pipe = λ source dest prevent signal e f l m b. pipe-known source dest prevent signal;
-        make_signal = λ b. plain-known _ _ refl (λ f g. let a = signals-append (class bad me f) s.signals in omega (arith, g, a));
-        trigger = λ a reason b. plain-known s _ refl (λ f g. omega (arith, g, b));
-        settle = λ h answer p e b. plain-known _ _ refl (λ f g. grind (arith, g, b));
+        release_reader = λ l closed i e b n. release_reader-known i _ (is_readable (readable_at i s).state);
+        release_writer = λ l i w e h b n. release_writer-known i _ (is_pending_at w.ready s.promises) (is_pending_at w.closed (with_renewed s.promises (is_pending_at w.ready s.promises)));
+        cancel = λ reason i b n. promising-known (λ p. Readable i (Cancel reason p) ∷ []) false (λ f p e. omega (arith, b));
+        read = λ l i closed e h b n. promising-known (λ p. Readable i (Read (PromiseRequest p)) ∷ []) false (λ f p e. let z = soft_one f p.0 e in omega (arith, z));
+        write = λ l v i e b n. promising-known (λ p. Writable i (Write v p) ∷ []) false (λ f p e. let z = soft_one f p.0 e in omega (arith, z));
+        close = λ i b n. promising-known (λ p. Writable i (Close p) ∷ []) false (λ f p e. let z = soft_one f p.0 e in omega (arith, z));
+        abort = λ reason i e b n. promising-known (λ p. Writable i (Abort reason p) ∷ []) true (λ f p e. grind (arith, b, e));
+        enqueue = λ i v e o can b n. plain-known s _ refl (λ f g. omega (arith, g));
+        enqueue_half = λ i t v e o can b n. plain-known s _ refl (λ f g. omega (arith, g));
+        fail_half = λ t reason b n. plain-known s _ refl (λ f g. omega (arith, g, b));
+        terminate = λ t b n. plain-known s _ refl (λ f g. omega (arith, g));
+        make_transform = λ kind m l start b n. transform-known kind m l start _ _ (may_be s.transforms _ bad.through refl n);
+        finish = λ i b n. plain-known s _ refl (λ f g. omega (arith, g));
+        fail_readable = λ i reason b n. plain-known s _ refl (λ f g. omega (arith, g, b));
+        fail_writable = λ i reason b n. plain-known s _ refl (λ f g. omega (arith, g, b));
+        pipe = λ source dest prevent signal e f l m b n. pipe-known source dest prevent signal;
+        make_signal = λ b n. plain-known _ _ refl (λ f g. let a = signals-append (class bad me f) s.signals in omega (arith, g, a));
+        trigger = λ a reason b n. plain-known s _ refl (λ f g. omega (arith, g, b));
+        settle = λ h answer p e b n. plain-known _ _ refl (λ f g. grind (arith, g, b));
       })

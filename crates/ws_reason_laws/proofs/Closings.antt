@@ -7,7 +7,7 @@ use Rattle.ws_value.specs.declared.value.Plain.{Plain}
 use Rattle.ws_value.specs.declared.value.Plain.TheVariants.{Undefined}
 use Rattle.ws_value.specs.declared.value.Value.{Value}
 use Rattle.ws_steps.specs.declared.effects.Owner.{Owner}
-use Rattle.ws_steps.specs.declared.effects.Owner.TheVariants.{Host}
+use Rattle.ws_steps.specs.declared.effects.Owner.TheVariants.{Host, HalfOf}
 use Rattle.ws_steps.specs.declared.writable.PendingAbort.{PendingAbort}
 use Rattle.ws_steps.specs.declared.writable.WritableOperation.{WritableOperation}
 use Rattle.ws_steps.specs.declared.writable.WritableOperation.TheVariants as names
@@ -121,6 +121,7 @@ module _ (me : StreamId) where
     where
       told : (owner : Owner) → Stills a (add_pending_abort r p (signalled me r a owner))
       told Host = grind arith
+      told (HalfOf t) = grind arith
 
   failed-still : (e : Plain) (a : Acts) → Stills a (close_settled me (Err e) a)
   unfolding close_settled finish_in_flight_close_with_error
@@ -146,7 +147,7 @@ module _ (me : StreamId) where
   operation-still (names.Abort r p) a n = abort-still r p a
   operation-still (names.AbortIfWritable r p) a n = either (Stills a) (is_writable a.slots.state) _ _ (λ e. abort-still r p a) (λ e. still_same a.slots)
   operation-still (names.ErrorIfNeeded e) a n = if_needed-still e a
-  operation-still names.HandOn a n = grind arith
+  operation-still (names.HandOn taker) a n = grind arith
   operation-still (names.StartSettled (Ok v)) a n =
       let b : Acts = record a { slots = record a.slots { started = true } } in let s : Stills a b = grind arith in still_then a.slots b.slots (advance_queue me b).slots s (advance-still b)
   operation-still (names.StartSettled (Err e)) a n =

@@ -1,5 +1,5 @@
 -- Over every run: a pipe's promise is rejected only with a reason that a call gave.
-use Rattle.std.proofs.Common.{◌≡◌, ℕ, ◌+◌, ◌≤◌, Bool, true, List, [], ◌∷◌, ◌++◌, length, Option, Some, None, slice_get, refl, sym, ap, subst, ◌∙◌, arith}
+use Rattle.std.proofs.Common.{◌≡◌, ℕ, ◌+◌, Bool, true, false, ◌||◌, if◌then◌else◌, List, [], ◌∷◌, ◌++◌, length, Contains, Option, Some, None, slice_get, refl, sym, ap, subst, ◌∙◌, arith}
 use Rattle.std.specs.Option.{option_map}
 use Rattle.ws_value.specs.declared.ids.PipeId.{PipeId}
 use Rattle.ws_value.specs.declared.ids.PromiseId.{PromiseId}
@@ -15,23 +15,25 @@ use Rattle.ws_steps.specs.declared.calls.Reply.TheVariants.{Promise}
 use Rattle.ws_steps.specs.declared.pipes.Prevent.{Prevent}
 use Rattle.ws_steps.specs.Calls.{Begun, begin}
 use Rattle.ws_steps.specs.Calls as calls
+use Rattle.ws_steps.specs.Effects.{type_error}
 use Rattle.ws_steps.specs.Pipes as pipe
+use Rattle.ws_steps.specs.Transform as transform
 use Rattle.ws_steps.specs.Promises.{Entry as PromiseEntry, Table, next_id, fresh, outcome_at, entry_at}
 use Rattle.ws_steps.specs.Run.{Entry, Called, Worked, Heard, step, run, reply_to}
 use Rattle.ws_steps.specs.Slots.{Slots, empty, writable_at}
 use Rattle.ws_pipe_laws.proofs.Kept.{each_pipe_stays}
 use Rattle.ws_writable_laws.proofs.Shape.{all}
-use Rattle.ws_reason_laws.specs.Reasons.{reason_of, given, failure_of, failures, IsFree, EachReasonWasGiven, EachReasonWasAFailure}
-use Rattle.ws_reason_laws.proofs.Among.{bad_unless, all-good, good_among, among_contained}
+use Rattle.ws_reason_laws.specs.Reasons.{reason_of, given, failure_of, failures, cancel_of, cancels, IsFree, EachReasonWasGiven, EachReasonWasAFailure}
+use Rattle.ws_reason_laws.proofs.Among.{same_reason, reason_same, is_among, bad_unless, all-good, good_among, among_contained, among_either}
 use Rattle.ws_reason_laws.proofs.Answers.{bad_of, bad-append}
 use Rattle.ws_reason_laws.proofs.Asking.{asks}
 use Rattle.ws_reason_laws.proofs.Begins.{own-known}
 use Rattle.ws_reason_laws.proofs.Closings.{Opened}
 use Rattle.ws_reason_laws.proofs.InTable.{entry-good, fresh-count}
-use Rattle.ws_reason_laws.proofs.Known.{class, Known}
+use Rattle.ws_reason_laws.proofs.Known.{Badness, class, Known}
 use Rattle.ws_reason_laws.proofs.Moments.{moment-call, moment-empty}
 use Rattle.ws_reason_laws.proofs.Opening.{NewOpens, call-opens}
-use Rattle.ws_reason_laws.proofs.Runs.{Whole, begun-whole, spared, run_then, run-whole}
+use Rattle.ws_reason_laws.proofs.Runs.{Whole, begun-whole, spared, run_then, none_before, bad_run, first-good, run-whole}
 use Rattle.ws_reason_laws.proofs.Weights.{Class, in_outcome, in_entry, in_table, count}
 
 none_some : (y : pipe.Slots) → ◌≡◌ {A = Option pipe.Slots} None (Some y) → ⊥
@@ -112,7 +114,7 @@ module _ (i j : StreamId) (prevent : Prevent) (signal : Option SignalId) (s : Sl
       asks_none : all (asks j) (calls.pipe_begins (record { 0 = length s.pipes }) (next_id s.promises) (next_id (fresh (fresh s.promises))) signal (calls.reason_of signal s)) ≡ 0 → all (asks j) made.done.caused ≡ 0
       asks_none h = grind (arith, h)
 
-pipe-whole : (bad : Plain → ℕ) (opening : List Entry) (i j : StreamId) (prevent : Prevent) (signal : Option SignalId) (q : PromiseId) → let s : Slots = run opening empty in
+pipe-whole : (bad : Badness) (opening : List Entry) (i j : StreamId) (prevent : Prevent) (signal : Option SignalId) (q : PromiseId) → let s : Slots = run opening empty in
     let me : PipeId = record { 0 = length s.pipes } in IsFree i j s → reply_to (Pipe i j prevent signal) s ≡ Promise q
     → Whole bad me None s [] → Whole bad me (Some q.0) (step s (Called (Pipe i j prevent signal))) []
 pipe-whole bad opening i j prevent signal q f e w =
@@ -131,12 +133,16 @@ pipe-whole bad opening i j prevent signal q f e w =
 
 -- from nothing
 
-known-empty : (bad : Plain → ℕ) (me : PipeId) → Known bad me None empty []
-unfolding in_table
-known-empty bad me = record { hands = λ i. true; mine = tt; good = λ f same. refl }
+-- where there may be transform streams a TypeError isn't bad
+abbrev pub Fair : Badness → Type 0
+Fair bad = (if bad.through then bad.of type_error else 0) ≡ 0
 
-pub whole-empty : (bad : Plain → ℕ) (me : PipeId) → Whole bad me None empty []
-whole-empty bad me = record { moment = moment-empty; opens = λ x e g. cc; known = known-empty bad me }
+known-empty : (bad : Badness) (me : PipeId) → Fair bad → Known bad me None empty []
+unfolding in_table
+known-empty bad me fair = record { hands = λ i. true; mine = tt; good = λ f same. omega (arith, fair) }
+
+pub whole-empty : (bad : Badness) (me : PipeId) → Fair bad → Whole bad me None empty []
+whole-empty bad me fair = record { moment = moment-empty; opens = λ x e g. cc; known = known-empty bad me fair }
 
 -- what a promise that hands on was rejected with
 
@@ -151,7 +157,7 @@ rejected-good k n (Some x) r h e g =
     some_outcome : (o p : Outcome) → ◌≡◌ {A = Option Outcome} (Some o) (Some p) → o ≡ p
     some_outcome o p e = cc
 
-whole_rejected : (bad : Plain → ℕ) (me : PipeId) (q : PromiseId) (s : Slots) (r : Plain) → Whole bad me (Some q.0) s [] → outcome_at s.promises q ≡ Some (Rejected r) → bad r ≡ 0
+whole_rejected : (bad : Badness) (me : PipeId) (q : PromiseId) (s : Slots) (r : Plain) → Whole bad me (Some q.0) s [] → outcome_at s.promises q ≡ Some (Rejected r) → bad.of r ≡ 0
 whole_rejected bad me q s r w out =
     let f : ℕ → Bool = w.known.hands in
     let g = w.known.good f (λ i h. refl) in
@@ -160,32 +166,34 @@ whole_rejected bad me q s r w out =
 
 -- the law
 
-failures-append : (bad : Plain → ℕ) (xs ys : List Entry) → bad_of bad (failures (xs ++ ys)) ≡ bad_of bad (failures xs) + bad_of bad (failures ys)
-failures-append bad [] ys = omega arith
-failures-append bad (Called c ∷ xs) ys =
-    let h = failures-append bad xs ys in
-    let a = bad-append bad (failure_of c) (failures (xs ++ ys)) in
-    let b = bad-append bad (failure_of c) (failures xs) in
+pub run-append : (bad : Badness) (xs ys : List Entry) → bad_run bad (xs ++ ys) ≡ bad_run bad xs + bad_run bad ys
+run-append bad [] ys = grind arith
+run-append bad (x ∷ xs) ys =
+    let h = run-append bad xs ys in
+    let a = first-good bad x (xs ++ ys) in
+    let b = first-good bad x xs in
     omega (arith, h, a, b)
-failures-append bad (Worked ∷ xs) ys = failures-append bad xs ys
-failures-append bad (Heard ∷ xs) ys = failures-append bad xs ys
 
 -- where no reason that a call gave is bad, none is bad with which the pipe's promise is rejected
-pub good-rejection : (bad : Plain → ℕ) (opening xs : List Entry) (i j : StreamId) (prevent : Prevent) (signal : Option SignalId) (q : PromiseId) (r : Plain) → let s : Slots = run opening empty in
-    let entries : List Entry = opening ++ Called (Pipe i j prevent signal) ∷ xs in bad_of bad (failures entries) ≡ 0 → IsFree i j s → reply_to (Pipe i j prevent signal) s ≡ Promise q
-    → outcome_at (run entries empty).promises q ≡ Some (Rejected r) → bad r ≡ 0
-good-rejection bad opening xs i j prevent signal q r good free reply out =
+pub good-rejection : (bad : Badness) (opening xs : List Entry) (i j : StreamId) (prevent : Prevent) (signal : Option SignalId) (q : PromiseId) (r : Plain) → let s : Slots = run opening empty in
+    let entries : List Entry = opening ++ Called (Pipe i j prevent signal) ∷ xs in Fair bad → bad_run bad entries ≡ 0 → (bad.through ≡ false → (run entries empty).transforms ≡ [])
+    → IsFree i j s → reply_to (Pipe i j prevent signal) s ≡ Promise q → outcome_at (run entries empty).promises q ≡ Some (Rejected r) → bad.of r ≡ 0
+good-rejection bad opening xs i j prevent signal q r fair good none free reply out =
     let s : Slots = run opening empty in
     let c : Call = Pipe i j prevent signal in
     let me : PipeId = record { 0 = length s.pipes } in
-    let a = failures-append bad opening (Called c ∷ xs) in
-    let w1 : Whole bad me None s [] = run-whole bad me None (Before me) (λ s x xs f. f) (before-new me) [] opening (pipe_past s.pipes) (omega (arith, a, good)) (whole-empty bad me) in
+    let a = run-append bad opening (Called c ∷ xs) in
+    let d = first-good bad (Called c) xs in
+    let rest : run (opening ++ Called c ∷ xs) empty ≡ run (Called c ∷ xs) s = run_then opening (Called c ∷ xs) empty in
+    let later : bad.through ≡ false → (run (Called c ∷ xs) s).transforms ≡ [] = λ e. ap (λ (z : Slots). z.transforms) (sym rest) ∙ none e in
+    let w1 : Whole bad me None s [] =
+    run-whole bad me None (Before me) (λ s x xs f. f) (before-new me) [] opening (pipe_past s.pipes) (omega (arith, a, good)) (λ e. none_before (Called c ∷ xs) s (later e)) (whole-empty bad me fair) in
     let w2 : Whole bad me (Some q.0) (step s (Called c)) [] = pipe-whole bad opening i j prevent signal q free reply w1 in
     let pre : List Entry = opening ++ Called c ∷ [] in
     let at : run pre empty ≡ step s (Called c) = run_then opening (Called c ∷ []) empty in
     let t = (each_pipe_stays me s).in_call c (pipe.set_up i j prevent signal (next_id (fresh (fresh (fresh s.promises))))) (there (begin-is i j prevent signal s q free reply)) in
     let w3 : Whole bad me (Some q.0) (run xs (run pre empty)) [] =
-    run-whole bad me (Some q.0) (After me) (after-next me) (after-new me) pre xs (rw at (t.slots, t.there)) (omega (arith, a, good)) (rw at w2) in
+    run-whole bad me (Some q.0) (After me) (after-next me) (after-new me) pre xs (rw at (t.slots, t.there)) (omega (arith, a, d, good)) (rw at later) (rw at w2) in
     let all_ : run (opening ++ Called c ∷ xs) empty ≡ run xs (run pre empty) = run_then opening (Called c ∷ xs) empty ∙ ap (λ (z : Slots). run xs z) (sym at) in
     whole_rejected bad me q (run xs (run pre empty)) r w3 (rw all_ at out)
   where
@@ -193,31 +201,93 @@ good-rejection bad opening xs i j prevent signal q r good free reply out =
         → slice_get (begin (Pipe i j prevent signal) (run opening empty)).done.slots.pipes (length (run opening empty).pipes) ≡ Some (pipe.set_up i j prevent signal (next_id (fresh (fresh (fresh (run opening empty).promises)))))
     there b = rw b (pipe_last (run opening empty).pipes _)
 
+-- where there is no transform stream only failures count, and where there is one also cancels and a TypeError
+
+abbrev pub none_through : List Entry → Badness
+none_through entries = record { of = bad_unless (failures entries); through = false }
+
+abbrev pub all_through : List Entry → Badness
+all_through entries = record { of = bad_unless ((type_error ∷ cancels entries) ++ failures entries); through = true }
+
+pub none-good : (entries : List Entry) → bad_run (none_through entries) entries ≡ 0
+none-good entries = let a = all-good (failures entries) in omega (arith, a)
+
+through_good : (entries : List Entry) → bad_of (bad_unless ((type_error ∷ cancels entries) ++ failures entries)) (type_error ∷ cancels entries) + bad_of (bad_unless ((type_error ∷ cancels entries) ++ failures entries)) (failures entries) ≡ 0
+through_good entries =
+    let rs : List Plain = (type_error ∷ cancels entries) ++ failures entries in
+    let a = all-good rs in
+    let b = bad-append (bad_unless rs) (type_error ∷ cancels entries) (failures entries) in
+    omega (arith, a, b)
+
+pub all-through-good : (entries : List Entry) → (Fair (all_through entries)) × (bad_run (all_through entries) entries ≡ 0)
+all-through-good entries = let a = through_good entries in (omega (arith, a), omega (arith, a))
+
+abbrev entries_of : List Entry → List Entry → StreamId → StreamId → Prevent → Option SignalId → List Entry
+entries_of opening xs i j prevent signal = opening ++ Called (Pipe i j prevent signal) ∷ xs
+
+-- what follows of a reason that isn't bad
+module _ (entries : List Entry) (r : Plain) where
+  pub was_failure : (none_through entries).of r ≡ 0 → Contains (failures entries) r
+  was_failure h = among_contained r (failures entries) (good_among (failures entries) r h)
+
+  pub was_else : (Contains (type_error ∷ cancels entries) r → ⊥) → (all_through entries).of r ≡ 0 → Contains (failures entries) r
+  was_else n h =
+      let rs : List Plain = type_error ∷ cancels entries in
+      by (is_among r rs) refl (among_either r rs (failures entries) (good_among (rs ++ failures entries) r h))
+    where
+      by : (b : Bool) → is_among r (type_error ∷ cancels entries) ≡ b → (b || is_among r (failures entries)) ≡ true → Contains (failures entries) r
+      by true e a = absurd (n (among_contained r (type_error ∷ cancels entries) e))
+      by false e a = among_contained r (failures entries) a
+
 pub reason-was-a-failure : EachReasonWasAFailure
-reason-was-a-failure opening xs i j prevent signal q r free reply out =
-    let rs : List Plain = failures (opening ++ Called (Pipe i j prevent signal) ∷ xs) in
-    among_contained r rs (good_among rs r (good-rejection (bad_unless rs) opening xs i j prevent signal q r (all-good rs) free reply out))
+reason-was-a-failure opening xs i j prevent signal q r free reply but out = by (run (entries_of opening xs i j prevent signal) empty).transforms refl
+  where
+    by : (ts : List transform.Slots) → (run (entries_of opening xs i j prevent signal) empty).transforms ≡ ts → Contains (failures (entries_of opening xs i j prevent signal)) r
+    by [] e =
+        let entries : List Entry = entries_of opening xs i j prevent signal in
+        was_failure entries r (good-rejection (none_through entries) opening xs i j prevent signal q r refl (none-good entries) (λ f. e) free reply out)
+    by (t ∷ ts) e =
+        let entries : List Entry = entries_of opening xs i j prevent signal in
+        let g = all-through-good entries in
+        was_else entries r (λ c. let n = but c in cc) (good-rejection (all_through entries) opening xs i j prevent signal q r g.0 g.1 (λ f. cc) free reply out)
 
--- where none that was given is bad, no failure is
+-- where none that was given is bad, no failure is and no cancel
 
-failure-given : (bad : Plain → ℕ) (c : Call) → bad_of bad (failure_of c) ≤ bad_of bad (reason_of c)
-failure-given bad c = grind arith
+call-given : (bad : Plain → ℕ) (c : Call) → bad_of bad (failure_of c) + bad_of bad (cancel_of c) ≡ bad_of bad (reason_of c)
+call-given bad c = grind arith
 
-failures-given : (bad : Plain → ℕ) (xs : List Entry) → bad_of bad (failures xs) ≤ bad_of bad (given xs)
-failures-given bad [] = omega arith
-failures-given bad (Called c ∷ xs) =
-    let h = failures-given bad xs in
-    let a = failure-given bad c in
+run-given : (bad : Plain → ℕ) (xs : List Entry) → bad_of bad (failures xs) + bad_of bad (cancels xs) ≡ bad_of bad (given xs)
+run-given bad [] = omega arith
+run-given bad (Called c ∷ xs) =
+    let h = run-given bad xs in
+    let a = call-given bad c in
     let b = bad-append bad (failure_of c) (failures xs) in
-    let d = bad-append bad (reason_of c) (given xs) in
-    omega (arith, h, a, b, d)
-failures-given bad (Worked ∷ xs) = failures-given bad xs
-failures-given bad (Heard ∷ xs) = failures-given bad xs
+    let d = bad-append bad (cancel_of c) (cancels xs) in
+    let e = bad-append bad (reason_of c) (given xs) in
+    omega (arith, h, a, b, d, e)
+run-given bad (Worked ∷ xs) = run-given bad xs
+run-given bad (Heard ∷ xs) = run-given bad xs
 
 pub reason-was-given : EachReasonWasGiven
-reason-was-given opening xs i j prevent signal q r free reply out =
-    let entries : List Entry = opening ++ Called (Pipe i j prevent signal) ∷ xs in
-    let rs : List Plain = given entries in
-    let a = failures-given (bad_unless rs) entries in
-    let b = all-good rs in
-    among_contained r rs (good_among rs r (good-rejection (bad_unless rs) opening xs i j prevent signal q r (omega (arith, a, b)) free reply out))
+reason-was-given opening xs i j prevent signal q r free reply but out = by (run (entries_of opening xs i j prevent signal) empty).transforms refl
+  where
+    else_given : (rs : List Plain) → (type_error ≡ r → ⊥) → (b : Bool) → same_reason type_error r ≡ b → is_among r (type_error ∷ rs) ≡ true → Contains rs r
+    else_given rs n true e a = absurd (n (reason_same type_error r e))
+    else_given rs n false e a = let h : is_among r rs ≡ true = grind (arith, e, a) in among_contained r rs h
+
+    by : (ts : List transform.Slots) → (run (entries_of opening xs i j prevent signal) empty).transforms ≡ ts → Contains (given (entries_of opening xs i j prevent signal)) r
+    by [] e =
+        let entries : List Entry = entries_of opening xs i j prevent signal in
+        let rs : List Plain = given entries in
+        let a = run-given (bad_unless rs) entries in
+        let b = all-good rs in
+        let bad : Badness = record { of = bad_unless rs; through = false } in
+        among_contained r rs (good_among rs r (good-rejection bad opening xs i j prevent signal q r refl (omega (arith, a, b)) (λ f. e) free reply out))
+    by (t ∷ ts) e =
+        let entries : List Entry = entries_of opening xs i j prevent signal in
+        let rs : List Plain = type_error ∷ given entries in
+        let a = run-given (bad_unless rs) entries in
+        let b = all-good rs in
+        let bad : Badness = record { of = bad_unless rs; through = true } in
+        else_given (given entries) (λ c. let n = but (sym c) in cc) (same_reason type_error r) refl
+        (good_among rs r (good-rejection bad opening xs i j prevent signal q r (omega (arith, b)) (omega (arith, a, b)) (λ f. cc) free reply out))

@@ -30,11 +30,16 @@ abbrev pub Mine : Option ℕ → (ℕ → Bool) → ℕ → Type 0
 Mine None hands n = Unit {0}
 Mine (Some q) hands n = (q < n) × (hands q ≡ true)
 
-abbrev pub class : (Plain → ℕ) → PipeId → (ℕ → Bool) → Class
-class bad me f = record { bad = bad; hands = f; me = me }
+-- how bad each reason is, and whether there may be transform streams
+pub record Badness : Type 0 where
+  pub of : Plain → ℕ
+  pub through : Bool
+
+abbrev pub class : Badness → PipeId → (ℕ → Bool) → Class
+class bad me f = record { bad = bad.of; hands = f; me = me; through = bad.through }
 
 -- nothing bad stands anywhere, whichever of the promises that are to come will hand on
-pub record Known (bad : Plain → ℕ) (me : PipeId) (own : Option ℕ) (s : Slots) (es : List Effect) : Type 0 where
+pub record Known (bad : Badness) (me : PipeId) (own : Option ℕ) (s : Slots) (es : List Effect) : Type 0 where
   pub hands : ℕ → Bool
   pub mine : Mine own hands (count s.promises)
   pub good : (f : ℕ → Bool) → ((i : ℕ) → i < count s.promises → f i ≡ hands i) → AllGood (class bad me f) s es
@@ -44,7 +49,7 @@ abbrev pub with_new : Slots → (ℕ → Bool) → (ℕ → Bool) → ℕ → Bo
 with_new s hands news i = if nat_lt i (count s.promises) then hands i else news i
 
 -- another promise may be looked at from then on
-pub known-new : (bad : Plain → ℕ) (me : PipeId) (own new : Option ℕ) (s z : Slots) (es cs : List Effect) (news : ℕ → Bool) (k : Known bad me own s es) → Mine new (with_new s k.hands news) (count z.promises)
+pub known-new : (bad : Badness) (me : PipeId) (own new : Option ℕ) (s z : Slots) (es cs : List Effect) (news : ℕ → Bool) (k : Known bad me own s es) → Mine new (with_new s k.hands news) (count z.promises)
     → count s.promises ≤ count z.promises
     → ((f : ℕ → Bool) → ((i : ℕ) → count s.promises ≤ i → i < count z.promises → f i ≡ news i) → AllGood (class bad me f) s es → AllGood (class bad me f) z cs) → Known bad me new z cs
 known-new bad me own new s z es cs news k mine grows next = record {
@@ -63,7 +68,7 @@ still_mine (Some q) s m hands news l k =
 same_mine : (own : Option ℕ) (n m : ℕ) (hands : ℕ → Bool) → m ≡ n → Mine own hands n → Mine own hands m
 same_mine own n m hands e k = rw e k
 
-module _ (bad : Plain → ℕ) (me : PipeId) (own : Option ℕ) where
+module _ (bad : Badness) (me : PipeId) (own : Option ℕ) where
   abbrev K : Slots → List Effect → Type 0
   K s es = Known bad me own s es
 

@@ -3,6 +3,7 @@ pub mod InTable
 pub mod Readables
 pub mod Writables
 pub mod Pipes
+pub mod Transforms
 pub mod Rows
 pub mod Known
 pub mod Begins
@@ -16,4 +17,5 @@ pub mod Among
 pub mod Given
 pub mod Stored
 pub mod FirstPipe
+pub mod Untransformed
 mod Worked

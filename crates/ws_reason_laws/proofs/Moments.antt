@@ -61,7 +61,7 @@ expected s (Writable i (names.SetUpWriter v)) es w k = tt
 expected s (Writable i names.ReleaseWriter) es w k = tt
 expected s (Writable i (names.Abort r p)) es w k = tt
 expected s (Writable i (names.ErrorIfNeeded r)) es w k = tt
-expected s (Writable i names.HandOn) es w k = tt
+expected s (Writable i (names.HandOn taker)) es w k = tt
 expected s (Writable i (names.Close p)) es w k = tt
 expected s (Writable i (names.ClosePropagating p)) es w k = tt
 expected s (Writable i (names.AbortIfWritable r p)) es w k = tt
@@ -97,7 +97,7 @@ flies i (names.ClosePropagating p) h es s k = tt
 flies i (names.Abort r p) h es s k = tt
 flies i (names.AbortIfWritable r p) h es s k = tt
 flies i (names.ErrorIfNeeded r) h es s k = tt
-flies i names.HandOn h es s k = tt
+flies i (names.HandOn taker) h es s k = tt
 flies i (names.StartSettled o) h es s k = tt
 flies i (names.WriteSettled o) h es s k = tt
 flies i (names.AbortSettled p o) h es s k = tt
@@ -173,7 +173,7 @@ moment-fits i (names.ClosePropagating p) s es m there = tt
 moment-fits i (names.Abort r p) s es m there = tt
 moment-fits i (names.AbortIfWritable r p) s es m there = tt
 moment-fits i (names.ErrorIfNeeded r) s es m there = tt
-moment-fits i names.HandOn s es m there = tt
+moment-fits i (names.HandOn taker) s es m there = tt
 
 -- each effect keeps it
 
@@ -254,8 +254,9 @@ begin-rested c s r =
       hosts = λ z hs k. k;
       pipe = λ z source dest prevent signal promise k. k;
       signal = λ z k. k;
-      readable = λ z mark size k. added-rested z _ (λ i e. cc) k;
-      writable = λ z mark size k. added-rested z _ (λ i e. record { requested = λ f. cc; started = λ f. cc }) k;
+      transform = λ z kind i j change k. k;
+      readable = λ z owner mark size k. added-rested z _ (λ i e. cc) k;
+      writable = λ z owner mark size k. added-rested z _ (λ i e. record { requested = λ f. cc; started = λ f. cc }) k;
     }) c s r
 
 pub moment-call : (s : Slots) (c : Call) → Moment s [] → Moment (begin c s).done.slots (begin c s).done.caused

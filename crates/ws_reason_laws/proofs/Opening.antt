@@ -228,8 +228,9 @@ module _ (me : PipeId) (y : pipe.Slots) where
         hosts = λ z hs k. k;
         pipe = λ z source dest prevent signal promise k. (piped z (pipe.set_up source dest prevent signal promise) k, k.1);
         signal = λ z k. k;
-        readable = λ z mark size k. added z _ k;
-        writable = λ z mark size k. added z _ k;
+        transform = λ z kind i j change k. k;
+        readable = λ z owner mark size k. added z _ k;
+        writable = λ z owner mark size k. added z _ k;
       }) c s k
 
 -- what a call begins with, where it makes the pipe

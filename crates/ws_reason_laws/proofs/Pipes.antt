@@ -31,7 +31,7 @@ use Rattle.ws_steps.specs.Writable.{is_writable, is_closed}
 use Rattle.ws_laws.proofs.Tables.{either}
 use Rattle.ws_reason_laws.proofs.InTable.{settle-good, fresh-keeps, micro-keeps, fresh-count}
 use Rattle.ws_reason_laws.proofs.Readables.{effects-append}
-use Rattle.ws_reason_laws.proofs.Weights.{Class, of_result, loud, soft, loud_one, settles, of_pipe, of_error, in_table, in_effects, in_action, in_pipe, in_ends, count}
+use Rattle.ws_reason_laws.proofs.Weights.{Class, of_result, cancelled, loud, soft, loud_one, settles, of_pipe, of_error, in_table, in_effects, in_action, in_pipe, in_ends, count}
 
 abbrev pub size : Acts → ℕ
 size a = count a.out.promises
@@ -45,7 +45,7 @@ hands_on _ = true
 abbrev pub Finds : Bool → Ends → Slots → Type 0
 Finds own ends x = own ≡ true → is_flowing x.phase ≡ true → ends.source_state ≡ Readable → (ends.dest_closing || is_closed ends.dest_state) ≡ false
 
-module _ (k : Class) (me : PipeId) (ends : Ends) (found : in_ends k ends ≡ 0) (m : ℕ) where
+module _ (k : Class) (me : PipeId) (ends : Ends) (fair : cancelled k type_error ≡ 0) (found : in_ends k ends ≡ 0) (m : ℕ) where
   -- nothing bad stands in it
   abbrev Good : Acts → Type 0
   Good a = in_pipe k me.0 a.slots + (in_table k a.out.promises + in_effects k a.out.effects) ≡ 0
@@ -129,7 +129,7 @@ module _ (k : Class) (me : PipeId) (ends : Ends) (found : in_ends k ends ≡ 0) 
           let z : loud_one k (Some p) ≡ 0 = subst (λ (x : Option PromiseId). loud_one k x ≡ 0) e (omega (arith, found)) in
           grind (arith, h, z, effects-append)
       by None e = with-good (λ p. OnWritable a.slots.dest (Abort r p)) a l (λ p z. omega (arith, z, b)) h
-  act_by-good a (Some (CancelSource r)) b l h = with-good (λ p. OnReadable a.slots.source (Cancel r p)) a l (λ p z. refl) h
+  act_by-good a (Some (CancelSource r)) b l h = with-good (λ p. OnReadable a.slots.source (Cancel r p)) a l (λ p z. omega (arith, b)) h
   act_by-good a (Some CloseDest) b l h = with-good (λ p. OnWritable a.slots.dest (ClosePropagating p)) a l (λ p z. refl) h
   act_by-good a (Some (BySignal r)) b l h = signal-good r a b l h
 
@@ -149,6 +149,9 @@ module _ (k : Class) (me : PipeId) (ends : Ends) (found : in_ends k ends ≡ 0) 
       either Ending (is_flowing a.slots.phase) _ _
       (λ f. either Ending (is_writable ends.dest_state && not ends.dest_closing) _ _ (λ w. proceed-good (with_slots (record z.slots { phase = Waiting }) z) l g) (λ w. act-good z l g))
       (λ f q. h)
+
+  good_cancelled : (r : Plain) → k.bad r ≡ 0 → cancelled k r ≡ 0
+  good_cancelled r h = grind (arith, h)
 
   unless-good : (b : Bool) (action : Action) → in_action k (Some action) ≡ 0 → in_action k (unless b action) ≡ 0
   unless-good true action h = refl
@@ -179,16 +182,16 @@ module _ (k : Class) (me : PipeId) (ends : Ends) (found : in_ends k ends ≡ 0) 
       shutdown-good _ _ a (unless-good a.slots.prevent.abort (AbortDest ends.source_error) b) (good_error a.slots ends.source_error (omega (arith, h)) b) l h
   look_by-good a Readable dest.Errored e f w c l h =
       let b : k.bad ends.dest_error ≡ 0 = grind (arith, found, f) in
-      shutdown-good _ _ a (unless-good a.slots.prevent.cancel (CancelSource ends.dest_error) refl) (good_error a.slots ends.dest_error (omega (arith, h)) b) l h
+      shutdown-good _ _ a (unless-good a.slots.prevent.cancel (CancelSource ends.dest_error) (good_cancelled ends.dest_error b)) (good_error a.slots ends.dest_error (omega (arith, h)) b) l h
   look_by-good a Closed dest.Errored e f w c l h =
       let b : k.bad ends.dest_error ≡ 0 = grind (arith, found, f) in
-      shutdown-good _ _ a (unless-good a.slots.prevent.cancel (CancelSource ends.dest_error) refl) (good_error a.slots ends.dest_error (omega (arith, h)) b) l h
+      shutdown-good _ _ a (unless-good a.slots.prevent.cancel (CancelSource ends.dest_error) (good_cancelled ends.dest_error b)) (good_error a.slots ends.dest_error (omega (arith, h)) b) l h
   look_by-good a Closed dest.Writable e f w c l h = shutdown-good _ _ a (unless-good a.slots.prevent.close CloseDest refl) (no_error a.slots (omega (arith, h))) l h
   look_by-good a Closed dest.Erroring e f w c l h = shutdown-good _ _ a (unless-good a.slots.prevent.close CloseDest refl) (no_error a.slots (omega (arith, h))) l h
   look_by-good a Closed dest.Closed e f w c l h = shutdown-good _ _ a (unless-good a.slots.prevent.close CloseDest refl) (no_error a.slots (omega (arith, h))) l h
   look_by-good a Readable d e f w c l h =
       either Ending (ends.dest_closing || is_closed d) _ _
-      (λ z. shutdown-good _ _ a (unless-good a.slots.prevent.cancel (CancelSource type_error) refl) (any_error a.slots (Some type_error) (omega (arith, h)) (other (nat_eq me.0 k.me.0) refl z)) l h)
+      (λ z. shutdown-good _ _ a (unless-good a.slots.prevent.cancel (CancelSource type_error) fair) (any_error a.slots (Some type_error) (omega (arith, h)) (other (nat_eq me.0 k.me.0) refl z)) l h)
       (λ z. either Ending a.slots.reading _ _ (λ r q. h) (λ r q. read-good a h))
     where
       other : (b : Bool) → nat_eq me.0 k.me.0 ≡ b → (ends.dest_closing || is_closed d) ≡ true → nat_eq me.0 k.me.0 ≡ false

@@ -19,7 +19,7 @@ use Rattle.ws_steps.specs.Queues.{is_empty}
 use Rattle.ws_steps.specs.Readable.{Acts, close_all, error_all, is_readable, can_close_or_enqueue, call_pull_if_needed, accept, controller_enqueue, close_reader, stream_close, error_reader, stream_error, close_if_empty, controller_close, controller_error, after_take, pull_from, pull_steps, read_by, default_reader_read, reader_generic_initialize, disturb, start_settled, pull_ended, pull_settled, cancel_steps, cancel_by, stream_cancel, cancel_readable_by, cancel_if_readable, release_by, reader_release}
 use Rattle.ws_laws.proofs.Tables.{either}
 use Rattle.ws_reason_laws.proofs.InTable.{settle_soft, settle-good}
-use Rattle.ws_reason_laws.proofs.Weights.{Class, of_readable, in_table, in_request, in_requests, in_effects, in_reader, in_readable}
+use Rattle.ws_reason_laws.proofs.Weights.{Class, cancelled, of_readable, in_table, in_request, in_requests, in_effects, in_reader, in_readable}
 
 pub effects-append : (k : Class) (xs ys : List Effect) → in_effects k (xs ++ ys) ≡ in_effects k xs + in_effects k ys
 effects-append k [] ys = omega arith
@@ -119,23 +119,23 @@ module _ (k : Class) (me : StreamId) where
       let d = effects-append k a.out.effects (error_all me type_error a.slots.requests) in
       grind (arith, h, s, c, d)
 
-  cancel_by-good : (r : Plain) (p : PromiseId) (a : Acts) (state : ReadableState) → a.slots.state ≡ state → Good a → Good (cancel_by me r p a state)
+  cancel_by-good : (r : Plain) (p : PromiseId) (a : Acts) (state : ReadableState) → cancelled k r ≡ 0 → a.slots.state ≡ state → Good a → Good (cancel_by me r p a state)
   unfolding cancel_steps
-  cancel_by-good r p a Readable e h =
-      let b : Acts = stream_close me a in let g : Good b = close-good a h in let d = effects-append k b.out.effects (effect.CancelAlgorithm me r p ∷ []) in omega (arith, g, d)
-  cancel_by-good r p a Closed e h = let s = settle-good k p (Ok Undefined) a.out.promises (omega (arith, h)) refl in omega (arith, h, s)
-  cancel_by-good r p a Errored e h =
+  cancel_by-good r p a Readable z e h =
+      let b : Acts = stream_close me a in let g : Good b = close-good a h in let d = effects-append k b.out.effects (effect.CancelAlgorithm me r p ∷ []) in omega (arith, g, z, d)
+  cancel_by-good r p a Closed z e h = let s = settle-good k p (Ok Undefined) a.out.promises (omega (arith, h)) refl in omega (arith, h, s)
+  cancel_by-good r p a Errored z e h =
       let b : k.bad a.slots.stored_error ≡ 0 = grind (arith, h, e) in
       let s = settle-good k p (Err a.slots.stored_error) a.out.promises (omega (arith, h)) b in omega (arith, h, s)
 
-  cancel-good : (r : Plain) (p : PromiseId) (a : Acts) → Good a → Good (stream_cancel me r p a)
+  cancel-good : (r : Plain) (p : PromiseId) (a : Acts) → cancelled k r ≡ 0 → Good a → Good (stream_cancel me r p a)
   unfolding stream_cancel
-  cancel-good r p a h = cancel_by-good r p (record a { slots = record a.slots { disturbed = true } }) a.slots.state refl h
+  cancel-good r p a z h = cancel_by-good r p (record a { slots = record a.slots { disturbed = true } }) a.slots.state z refl h
 
-  cancel_readable-good : (r : Plain) (p : PromiseId) (a : Acts) (state : ReadableState) → Good a → Good (cancel_readable_by me r p a state)
-  cancel_readable-good r p a Readable h = cancel-good r p a h
-  cancel_readable-good r p a Closed h = let s = settle-good k p (Ok Undefined) a.out.promises (omega (arith, h)) refl in omega (arith, h, s)
-  cancel_readable-good r p a Errored h = let s = settle-good k p (Ok Undefined) a.out.promises (omega (arith, h)) refl in omega (arith, h, s)
+  cancel_readable-good : (r : Plain) (p : PromiseId) (a : Acts) (state : ReadableState) → cancelled k r ≡ 0 → Good a → Good (cancel_readable_by me r p a state)
+  cancel_readable-good r p a Readable z h = cancel-good r p a z h
+  cancel_readable-good r p a Closed z h = let s = settle-good k p (Ok Undefined) a.out.promises (omega (arith, h)) refl in omega (arith, h, s)
+  cancel_readable-good r p a Errored z h = let s = settle-good k p (Ok Undefined) a.out.promises (omega (arith, h)) refl in omega (arith, h, s)
 
   ended-good : (a : Acts) (again : Bool) → Good a → Good (pull_ended me a again)
   ended-good a false h = h
@@ -151,8 +151,8 @@ module _ (k : Class) (me : StreamId) where
   readable-good names.ReleaseReader a f h = release_by-good a a.slots.reader (omega (arith, h)) h
   readable-good names.Disturb a f h = h
   readable-good (names.Read request) a f h = read_by-good request (record a { slots = record a.slots { disturbed = true } }) a.slots.state refl f h
-  readable-good (names.Cancel r p) a f h = cancel-good r p a h
-  readable-good (names.CancelIfReadable r p) a f h = cancel_readable-good r p a a.slots.state h
+  readable-good (names.Cancel r p) a f h = cancel-good r p a f h
+  readable-good (names.CancelIfReadable r p) a f h = cancel_readable-good r p a a.slots.state f h
   readable-good (names.Enqueue v) a f h = enqueue-good v a h
   readable-good names.Close a f h = controller_close-good a h
   readable-good (names.Error e) a f h = controller_error-good e a f h

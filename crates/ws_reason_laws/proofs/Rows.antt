@@ -14,11 +14,11 @@ use Rattle.ws_steps.specs.declared.calls.HostCall.{HostCall}
 use Rattle.ws_steps.specs.declared.calls.StartBy.{StartBy}
 use Rattle.ws_steps.specs.declared.calls.StartBy.TheVariants.{Now, Later}
 use Rattle.ws_steps.specs.declared.effects.Effect.{Effect}
-use Rattle.ws_steps.specs.declared.effects.Effect.TheVariants.{Readable, Writable, Pipe, Signal, StartAlgorithm, PullAlgorithm, CancelAlgorithm, WriteAlgorithm, CloseAlgorithm, AbortAlgorithm, ChunkSteps, CloseSteps, ErrorSteps, Give, Settle, Queue, CallHost}
+use Rattle.ws_steps.specs.declared.effects.Effect.TheVariants.{Readable, Writable, Pipe, Signal, Transform, StartAlgorithm, PullAlgorithm, CancelAlgorithm, WriteAlgorithm, CloseAlgorithm, AbortAlgorithm, ChunkSteps, CloseSteps, ErrorSteps, Give, Settle, Queue, CallHost}
 use Rattle.ws_steps.specs.declared.effects.Gift.{Gift}
 use Rattle.ws_steps.specs.declared.effects.Gift.TheVariants.{This, Fresh}
 use Rattle.ws_steps.specs.declared.effects.Owner.{Owner}
-use Rattle.ws_steps.specs.declared.effects.Owner.TheVariants.{Host}
+use Rattle.ws_steps.specs.declared.effects.Owner.TheVariants.{Host, HalfOf}
 use Rattle.ws_steps.specs.declared.effects.Use.{Use}
 use Rattle.ws_steps.specs.declared.effects.Use.TheVariants.{React}
 use Rattle.ws_steps.specs.declared.pipes.PipeOperation.{PipeOperation}
@@ -29,21 +29,26 @@ use Rattle.ws_steps.specs.declared.promises.Step.TheVariants.{ReadablePull, Retu
 use Rattle.ws_steps.specs.declared.readable.ReadRequest.{ReadRequest}
 use Rattle.ws_steps.specs.declared.readable.ReadRequest.TheVariants.{Promise, Pipe as PipeRequest}
 use Rattle.ws_steps.specs.declared.readable.ReadableOperation.{ReadableOperation}
+use Rattle.ws_steps.specs.declared.transform.TransformId.{TransformId}
+use Rattle.ws_steps.specs.declared.transform.TransformOperation.{TransformOperation}
 use Rattle.ws_steps.specs.declared.writable.WritableOperation.{WritableOperation}
-use Rattle.ws_steps.specs.Operations.{readable_operation, writable_operation, pipe_operation, signal_operation}
+use Rattle.ws_steps.specs.Effects.{type_error}
+use Rattle.ws_steps.specs.Operations.{readable_operation, writable_operation, pipe_operation, signal_operation, transform_operation}
 use Rattle.ws_steps.specs.Pipes as pipe
 use Rattle.ws_steps.specs.Pipes.{abort_all, trigger_unless}
 use Rattle.ws_steps.specs.Promises.{Table, next_id, fresh, fresh_settled, settle, tell, use_gift, queue_micro}
 use Rattle.ws_steps.specs.Readable as readable
+use Rattle.ws_steps.specs.Transform as transform
 use Rattle.ws_steps.specs.Writable as writable
-use Rattle.ws_steps.specs.Slots.{Slots, Stream, ReadableStream, WritableStream, Done, nothing, found, has_readable, has_writable, readable_at, writable_at, as_readable, as_writable, owner_at, put_readable, put_writable, on_readable, on_writable, on_pipe_at, on_signal_at, ends_at}
+use Rattle.ws_steps.specs.Slots.{Slots, Stream, ReadableStream, WritableStream, Done, nothing, found, has_readable, has_writable, readable_at, writable_at, as_readable, as_writable, owner_at, put_readable, put_writable, on_readable, on_writable, on_pipe_at, on_signal_at, on_transform_at, ends_at, halves_at}
 use Rattle.ws_steps.specs.Turns.{row, start_algorithm, pull_algorithm, cancel_algorithm, write_algorithm, close_algorithm, abort_algorithm, chunk_steps, close_steps, error_steps, call_host}
 use Rattle.ws_laws.proofs.Rows.{Changes, row-changes}
 use Rattle.ws_laws.proofs.Tables.{either, readable_there, writable_there, readable_acts, writable_acts}
 use Rattle.ws_reason_laws.proofs.InTable.{settle-keeps, settle_soft, fresh-keeps, fresh_settled-keeps, tell-keeps, answer-keeps, micro-keeps, use-keeps, settle-count, answer-count, fresh-count, react-count, follow-count, micro-count, use-count}
 use Rattle.ws_reason_laws.proofs.Pipes.{Finds, hands_on, pipe-good}
 use Rattle.ws_reason_laws.proofs.Readables.{effects-append, readable-good}
-use Rattle.ws_reason_laws.proofs.Weights.{Class, of_result, of_reason, soft, loud, loud_one, settles, in_table, in_request, uses, gives, of_readable, of_writable, of_pipe, of_signal, in_effect, in_effects, is_errored, in_readable, has_error, in_writable, in_stream, in_streams, in_pipe, in_pipes, in_signals, in_ends, in_slots, AllGood, count}
+use Rattle.ws_reason_laws.proofs.Transforms.{transform-good}
+use Rattle.ws_reason_laws.proofs.Weights.{Class, of_result, of_reason, cancelled, of_step, soft, loud, loud_one, settles, in_table, in_request, uses, of_use, gives, of_readable, of_writable, of_pipe, of_signal, of_transform, in_effect, in_effects, is_errored, in_readable, has_error, in_writable, in_stream, in_streams, in_pipe, in_pipes, in_signals, in_ends, in_transform, in_transforms, in_halves, in_slots, AllGood, count}
 use Rattle.ws_reason_laws.proofs.Writables.{Expects, writable-good}
 
 -- places
@@ -94,6 +99,33 @@ signal-there k [] i h = refl
 signal-there k (x ∷ xs) zero h = omega (arith, h)
 signal-there k (x ∷ xs) (suc i) h = signal-there k xs i (omega (arith, h))
 
+transforms-set : (k : Class) (xs : List transform.Slots) (i : ℕ) (y : transform.Slots) → in_transforms k xs ≡ 0 → in_transform k y ≡ 0 → in_transforms k (slice_set xs i y) ≡ 0
+transforms-set k [] i y h g = refl
+transforms-set k (x ∷ xs) zero y h g = omega (arith, h, g)
+transforms-set k (x ∷ xs) (suc i) y h g = let e = transforms-set k xs i y (omega (arith, h)) g in omega (arith, h, e)
+
+abbrev in_half : Class → Option transform.Slots → ℕ
+in_half k None = 0
+in_half k (Some x) = in_transform k x
+
+transform-there : (k : Class) (xs : List transform.Slots) (i : ℕ) → in_transforms k xs ≡ 0 → in_half k (slice_get xs i) ≡ 0
+transform-there k [] i h = refl
+transform-there k (x ∷ xs) zero h = omega (arith, h)
+transform-there k (x ∷ xs) (suc i) h = transform-there k xs i (omega (arith, h))
+
+-- where there is a transform stream there may be some
+there-through : (k : Class) (x : transform.Slots) → in_transform k x ≡ 0 → k.through ≡ true
+there-through k x h = grind (arith, h)
+
+there-loud : (k : Class) (x : transform.Slots) → k.through ≡ true → in_transform k x ≡ 0 → loud k x.change.0 + loud_one k x.finish ≡ 0
+there-loud k x e h = rw e at h
+
+loud-there : (k : Class) (x : transform.Slots) → k.through ≡ true → loud k x.change.0 + loud_one k x.finish ≡ 0 → in_transform k x ≡ 0
+loud-there k x e h = rw e h
+
+fair_through : (k : Class) → k.through ≡ true → cancelled k type_error ≡ 0 → k.bad type_error ≡ 0
+fair_through k e h = rw e at h
+
 -- what is to be known before an effect, where `me` is the pipe that is looked at
 
 abbrev pub Fits : PipeId → Effect → Slots → Type 0
@@ -124,6 +156,12 @@ ends-good : (k : Class) (x : pipe.Slots) (s : Slots) → in_slots k s ≡ 0 → 
 ends-good k x s h =
     let a = source-good k (slice_get s.streams x.source.0) (stream-there k s.streams x.source.0 (omega (arith, h))) in
     let b = dest-good k (slice_get s.streams x.dest.0) (stream-there k s.streams x.dest.0 (omega (arith, h))) in
+    omega (arith, a, b)
+
+halves-good : (k : Class) (x : transform.Slots) (s : Slots) → in_slots k s ≡ 0 → in_halves k (halves_at x s) ≡ 0
+halves-good k x s h =
+    let a = source-good k (slice_get s.streams x.readable.0) (stream-there k s.streams x.readable.0 (omega (arith, h))) in
+    let b = dest-good k (slice_get s.streams x.writable.0) (stream-there k s.streams x.writable.0 (omega (arith, h))) in
     omega (arith, a, b)
 
 -- there are never fewer promises
@@ -194,7 +232,7 @@ module _ (k : Class) (m : ℕ) where
       let there = pipe-there k 0 s.pipes p.0 y p.0 (omega arith) e (omega (arith, h)) in
       let a : pipe.Acts = record { slots = y; out = found s } in
       let b : pipe.Acts = pipe_operation p (ends_at y s) operation a in
-      let g = pipe-good k p (ends_at y s) (ends-good k y s h) m operation a f (x y e) l (omega (arith, h, there)) q in
+      let g = pipe-good k p (ends_at y s) (omega (arith, h)) (ends-good k y s h) m operation a f (x y e) l (omega (arith, h, there)) q in
       let z = pipes-set k 0 s.pipes p.0 b.slots p.0 (omega arith) (omega (arith, h)) (omega (arith, g)) in
       omega (arith, h, g, z)
 
@@ -216,24 +254,41 @@ module _ (k : Class) (m : ℕ) where
               let z = signals-set k s.signals a.0 (record x { reason = Some r }) (omega (arith, h)) f in let w = aborts-good k r x.pipes f in omega (arith, h, z, w)
           first (Some old) g = let t = there in let z = signals-set k s.signals a.0 x (omega (arith, h)) t in omega (arith, h, z)
 
+  transform-row : (t : TransformId) (operation : TransformOperation) (s : Slots) (o : Option transform.Slots) → slice_get s.transforms t.0 ≡ o → in_slots k s ≡ 0 → of_transform k operation ≡ 0 → News s true
+      → Until (on_transform_at (λ halves. transform_operation t halves operation) t s o)
+  transform-row t operation s None e h f l q = omega (arith, h)
+  transform-row t operation s (Some x) e h f l q =
+      let there : in_transform k x ≡ 0 = subst (λ (o : Option transform.Slots). in_half k o ≡ 0) e (transform-there k s.transforms t.0 (omega (arith, h))) in
+      let through : k.through ≡ true = there-through k x there in
+      let fair : k.bad type_error ≡ 0 = fair_through k through (omega (arith, h)) in
+      let louds = there-loud k x through there in
+      let a : transform.Acts = record { slots = x; out = found s } in
+      let b : transform.Acts = transform_operation t (halves_at x s) operation a in
+      let g = transform-good k t (halves_at x s) through fair (halves-good k x s h) m operation a f (λ i n z. all_loud i (l i n z)) (omega (arith, h, louds)) q in
+      let z = transforms-set k s.transforms t.0 b.slots (omega (arith, h)) (loud-there k b.slots through (omega (arith, g))) in
+      omega (arith, h, g, z)
+    where
+      all_loud : (i : ℕ) → k.hands i ≡ true → loud k i ≡ 0
+      all_loud i e = grind (arith, e)
+
   -- the promises alone change
   promises-row : (s : Slots) (t : Table) (hosts : List (Option PromiseId)) (cs : List Effect) → in_slots k s ≡ 0 → in_table k t ≡ 0 → in_effects k cs ≡ 0 → Row (record { slots = record s { promises = t; hosts = hosts }; caused = cs })
   promises-row s t hosts cs h g f = omega (arith, h, g, f)
 
-  start-row : (i : StreamId) (step : Step) (s : Slots) (start : StartBy) → in_slots k s ≡ 0 → News s true → Until (start_algorithm i step s start)
-  start-row i step s Now h l q = omega (arith, h)
-  start-row i step s Later h l q =
+  start-row : (i : StreamId) (step : Step) (s : Slots) (start : StartBy) → in_slots k s ≡ 0 → of_step k step ≡ 0 → News s true → Until (start_algorithm i step s start)
+  start-row i step s Now h z l q = omega (arith, h, z)
+  start-row i step s Later h z l q =
       let c = fresh-count s.promises in
       let one = new_loud s l (omega (arith, c, q)) in
       let f = fresh-keeps k s.promises (omega (arith, h)) in
-      let u : uses k (count s.promises) (React step None) ≡ 0 = used step one in
-      omega (arith, h, f, u)
+      let u : uses k (count s.promises) (React step None) ≡ 0 = used step one z in
+      omega (arith, h, f, u, z)
     where
-      used : (step : Step) → loud k (count s.promises) ≡ 0 → uses k (count s.promises) (React step None) ≡ 0
-      used step o = grind (arith, o)
+      used : (step : Step) → loud k (count s.promises) ≡ 0 → of_step k step ≡ 0 → uses k (count s.promises) (React step None) ≡ 0
+      used step o z = grind (arith, o, z)
 
-  new_use : (n : ℕ) (u : Use) → loud k n ≡ 0 → uses k n u ≡ 0
-  new_use n u o = grind (arith, o)
+  new_use : (n : ℕ) (u : Use) → loud k n ≡ 0 → of_use k u ≡ 0 → uses k n u ≡ 0
+  new_use n u o z = grind (arith, o, z)
 
   good_settles : (n : ℕ) (o : Result Plain Plain) → of_result k o ≡ 0 → settles k n o ≡ 0
   good_settles n o h = grind (arith, h)
@@ -247,35 +302,40 @@ module _ (k : Class) (m : ℕ) where
       let b = settle-count (next_id s.promises) o (fresh s.promises) in
       let c = fresh-count s.promises in
       let one = new_loud s l (omega (arith, a, b, c, q)) in
-      let g = fresh_settled-keeps k o s.promises (omega (arith, h)) (good_settles (count s.promises) o f) in
-      use-keeps k (next_id s.promises) t u g (new_use (count s.promises) u one)
+      let g = fresh_settled-keeps k o s.promises (omega (arith, h)) (good_settles (count s.promises) o (omega (arith, f))) in
+      use-keeps k (next_id s.promises) t u g (new_use (count s.promises) u one (omega (arith, f)))
 
-  call-row : (call : HostCall) (u : Use) (s : Slots) → in_slots k s ≡ 0 → News s true → count (call_host call u s).promises ≤ m → in_slots k (call_host call u s) + 0 ≡ 0
+  call-row : (call : HostCall) (u : Use) (s : Slots) → in_slots k s ≡ 0 → of_use k u ≡ 0 → News s true → count (call_host call u s).promises ≤ m → in_slots k (call_host call u s) + 0 ≡ 0
   unfolding call_host
-  call-row call u s h l q =
+  call-row call u s h f l q =
       let e = HostCalled (record { 0 = length s.hosts }) call in
       let t = tell e (fresh s.promises) in
       let a = use-count (next_id s.promises) t u in
       let c = fresh-count s.promises in
       let one = new_loud s l (omega (arith, a, c, q)) in
       let g = tell-keeps k e (fresh s.promises) (fresh-keeps k s.promises (omega (arith, h))) in
-      let z = use-keeps k (next_id s.promises) t u g (new_use (count s.promises) u one) in
+      let z = use-keeps k (next_id s.promises) t u g (new_use (count s.promises) u one f) in
       omega (arith, h, z)
 
-  pulls : (i : StreamId) (u : Use) (owner : Owner) → in_effects k (pull_algorithm i u owner) ≡ 0
-  pulls i u Host = refl
+  pulls : (i : StreamId) (u : Use) (owner : Owner) → of_use k u ≡ 0 → in_effects k (pull_algorithm i u owner) ≡ 0
+  pulls i u Host z = omega (arith, z)
+  pulls i u (HalfOf t) z = omega (arith, z)
 
-  cancels : (i : StreamId) (r : Plain) (u : Use) (owner : Owner) → in_effects k (cancel_algorithm i r u owner) ≡ 0
-  cancels i r u Host = refl
+  cancels : (i : StreamId) (r : Plain) (u : Use) (owner : Owner) → cancelled k r ≡ 0 → of_use k u ≡ 0 → in_effects k (cancel_algorithm i r u owner) ≡ 0
+  cancels i r u Host f z = omega (arith, z)
+  cancels i r u (HalfOf t) f z = omega (arith, f, z)
 
   hands : (i : StreamId) (owner : Owner) → in_effects k (write_algorithm i owner) ≡ 0
   hands i Host = refl
+  hands i (HalfOf t) = refl
 
-  closes : (i : StreamId) (u : Use) (owner : Owner) → in_effects k (close_algorithm i u owner) ≡ 0
-  closes i u Host = refl
+  closes : (i : StreamId) (u : Use) (owner : Owner) → of_use k u ≡ 0 → in_effects k (close_algorithm i u owner) ≡ 0
+  closes i u Host z = omega (arith, z)
+  closes i u (HalfOf t) z = omega (arith, z)
 
-  aborts : (i : StreamId) (r : Plain) (u : Use) (owner : Owner) → in_effects k (abort_algorithm i r u owner) ≡ 0
-  aborts i r u Host = refl
+  aborts : (i : StreamId) (r : Plain) (u : Use) (owner : Owner) → k.bad r ≡ 0 → of_use k u ≡ 0 → in_effects k (abort_algorithm i r u owner) ≡ 0
+  aborts i r u Host f z = omega (arith, z)
+  aborts i r u (HalfOf t) f z = omega (arith, f, z)
 
   chunk-row : (v : Value) (s : Slots) (request : ReadRequest) → in_slots k s ≡ 0 → Row (chunk_steps v s request)
   chunk-row v s (Promise p) h = let a = answer-keeps k p (Given v) s.promises (omega (arith, h)) refl in omega (arith, h, a)
@@ -295,19 +355,20 @@ module _ (k : Class) (m : ℕ) where
   row-good (Writable i operation) s h f x l q = writable-row i operation s h f x l q
   row-good (Pipe p operation) s h f x l q = pipe-row p operation s (slice_get s.pipes p.0) refl h f x l q
   row-good (Signal a operation) s h f x l q = signal-row a operation s (slice_get s.signals a.0) refl h f
-  row-good (StartAlgorithm i step start) s h f x l q = start-row i step s start h l q
-  row-good (PullAlgorithm i) s h f x l q = promises-row s s.promises s.hosts _ h (omega (arith, h)) (pulls i (React (ReadablePull i) None) (owner_at i s))
-  row-good (CancelAlgorithm i r p) s h f x l q = promises-row s s.promises s.hosts _ h (omega (arith, h)) (cancels i r (React ReturnUndefined (Some p)) (owner_at i s))
+  row-good (Transform t operation) s h f x l q = transform-row t operation s (slice_get s.transforms t.0) refl h f l q
+  row-good (StartAlgorithm i step start) s h f x l q = start-row i step s start h f l q
+  row-good (PullAlgorithm i) s h f x l q = promises-row s s.promises s.hosts _ h (omega (arith, h)) (pulls i (React (ReadablePull i) None) (owner_at i s) refl)
+  row-good (CancelAlgorithm i r p) s h f x l q = promises-row s s.promises s.hosts _ h (omega (arith, h)) (cancels i r (React ReturnUndefined (Some p)) (owner_at i s) f refl)
   row-good (WriteAlgorithm i) s h f x l q = promises-row s s.promises s.hosts _ h (omega (arith, h)) (hands i (owner_at i s))
-  row-good (CloseAlgorithm i) s h f x l q = promises-row s s.promises s.hosts _ h (omega (arith, h)) (closes i (React (WritableClose i) None) (owner_at i s))
-  row-good (AbortAlgorithm i r p) s h f x l q = promises-row s s.promises s.hosts _ h (omega (arith, h)) (aborts i r (React (WritableAbort i p) None) (owner_at i s))
+  row-good (CloseAlgorithm i) s h f x l q = promises-row s s.promises s.hosts _ h (omega (arith, h)) (closes i (React (WritableClose i) None) (owner_at i s) refl)
+  row-good (AbortAlgorithm i r p) s h f x l q = promises-row s s.promises s.hosts _ h (omega (arith, h)) (aborts i r (React (WritableAbort i p) None) (owner_at i s) f refl)
   row-good (ChunkSteps i request v) s h f x l q = chunk-row v s request h
   row-good (CloseSteps i request) s h f x l q = close-row s request h
   row-good (ErrorSteps i request e) s h f x l q = error-row e s request h f
   row-good (Give gift u) s h f x l q = promises-row s (use_gift gift u s.promises) s.hosts [] h (give-row gift u s h f l q) refl
   row-good (Settle p o) s h f x l q = promises-row s (settle p o s.promises) s.hosts [] h (settle-keeps k p o s.promises (omega (arith, h)) f) refl
   row-good (Queue micro) s h f x l q = promises-row s (queue_micro micro s.promises) s.hosts [] h (micro-keeps k micro s.promises (omega (arith, h))) refl
-  row-good (CallHost call u) s h f x l q = call-row call u s h l q
+  row-good (CallHost call u) s h f x l q = call-row call u s h f l q
 
   pub turn-good : (e : Effect) (es : List Effect) (s : Slots) → AllGood k s (e ∷ es) → Fits k.me e s → News s (kind e) → count (row e s).slots.promises ≤ m → AllGood k (row e s).slots ((row e s).caused ++ es)
   turn-good e es s h x l q =

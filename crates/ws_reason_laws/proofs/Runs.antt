@@ -1,8 +1,7 @@
 -- What holds of reasons at each moment goes on through calls, jobs and runs, where the reasons that calls give aren't bad.
-use Rattle.std.proofs.Common.{◌≡◌, ℕ, ◌+◌, Bool, true, false, nat_eq, ◌||◌, List, [], ◌∷◌, ◌++◌, Option, Some, None, slice_get, refl, sym, ap, subst, arith}
+use Rattle.std.proofs.Common.{◌≡◌, ℕ, ◌+◌, Bool, true, false, nat_eq, ◌||◌, List, [], ◌∷◌, ◌++◌, if◌then◌else◌, map, Option, Some, None, slice_get, refl, sym, ap, subst, ◌∙◌, arith}
 use Rattle.ws_value.specs.declared.ids.PipeId.{PipeId}
 use Rattle.ws_value.specs.declared.ids.PromiseId.{PromiseId}
-use Rattle.ws_value.specs.declared.value.Plain.{Plain}
 use Rattle.ws_steps.specs.declared.calls.Call.{Call}
 use Rattle.ws_steps.specs.declared.calls.Reply.{Reply}
 use Rattle.ws_steps.specs.declared.calls.Reply.TheVariants.{Promise}
@@ -13,29 +12,31 @@ use Rattle.ws_steps.specs.declared.promises.Job.{Job}
 use Rattle.ws_steps.specs.Calls.{begin, named}
 use Rattle.ws_steps.specs.Jobs.{begin_job, job_begun}
 use Rattle.ws_steps.specs.Pipes as pipe
+use Rattle.ws_steps.specs.Transform as transform
 use Rattle.ws_steps.specs.Promises.{next_job, after_next_job, watch}
 use Rattle.ws_steps.specs.Run.{Entry, Called, Worked, Heard, step, run, older, after_event}
 use Rattle.ws_steps.specs.Slots.{Slots, Done, empty, writable_at, as_pipe, with_promises, ends_at}
 use Rattle.ws_steps.specs.Turns.{row, performed}
 use Rattle.ws_steps.specs.Writable.{is_closed, is_closing}
+use Rattle.ws_laws.proofs.Halves.{step-shapes, run-among}
+use Rattle.ws_laws.proofs.Shapes.{TransformShape, transform_shape, transform_shapes}
 use Rattle.ws_laws.proofs.Tables.{eq_numbers}
 use Rattle.ws_laws.proofs.Walker.{performed-goes, untold}
 use Rattle.ws_lock_laws.specs.LockLaws.{all_spare}
 use Rattle.ws_lock_laws.proofs.Owning.{each_pipe_owns_its_ends}
 use Rattle.ws_pipe_laws.specs.PipeHistory.{is_over}
-use Rattle.ws_reason_laws.specs.Reasons.{failure_of, failures}
-use Rattle.ws_reason_laws.proofs.Answers.{bad_of, bad-append, begun-good}
+use Rattle.ws_reason_laws.specs.Reasons.{failure_of, failures, cancel_of, cancels}
+use Rattle.ws_reason_laws.proofs.Answers.{bad_of, bad_call, bad-append, begun-good}
 use Rattle.ws_reason_laws.proofs.Asking.{goes}
 use Rattle.ws_reason_laws.proofs.Begins.{call-known}
-use Rattle.ws_reason_laws.proofs.Known.{Known, row-known, job-known, watch-known, older-known, event-known}
+use Rattle.ws_reason_laws.proofs.Known.{Badness, Known, row-known, job-known, watch-known, older-known, event-known}
 use Rattle.ws_reason_laws.proofs.Moments.{Moment, moment-row, moment-call, moment-job, moment-watch, moment-older, moment-heard, moment-fits}
 use Rattle.ws_reason_laws.proofs.Opening.{Opens, NewOpens, row-opens, call-opens, job-opens}
 use Rattle.ws_reason_laws.proofs.Pipes.{Finds}
 use Rattle.ws_reason_laws.proofs.Rows.{Fits}
 
 -- what holds at each moment of a run, where reasons are weighed, `me` is the pipe that is looked at, and `own` its promise once it is made
-
-pub record Whole (bad : Plain → ℕ) (me : PipeId) (own : Option ℕ) (s : Slots) (es : List Effect) : Type 0 where
+pub record Whole (bad : Badness) (me : PipeId) (own : Option ℕ) (s : Slots) (es : List Effect) : Type 0 where
   pub moment : Moment s es
   pub opens : Opens me s es
   pub known : Known bad me own s es
@@ -46,7 +47,7 @@ flows_goes x f = grind (arith, f)
 neither : (a b : Bool) → a ≡ false → b ≡ false → (a || b) ≡ false
 neither a b e f = grind (arith, e, f)
 
-module _ (bad : Plain → ℕ) (me : PipeId) (own : Option ℕ) where
+module _ (bad : Badness) (me : PipeId) (own : Option ℕ) where
   abbrev W : Slots → List Effect → Type 0
   W s es = Whole bad me own s es
 
@@ -121,37 +122,80 @@ pub run_then : (pre xs : List Entry) (s : Slots) → run (pre ++ xs) s ≡ run x
 run_then [] xs s = refl
 run_then (x ∷ pre) xs s = run_then pre xs (step s x)
 
-module _ (bad : Plain → ℕ) (me : PipeId) (own : Option ℕ) where
-  call-whole : (pre : List Entry) (c : Call) → bad_of bad (failure_of c) ≡ 0 → NewOpens me c (run pre empty) → Whole bad me own (run pre empty) [] → Whole bad me own (step (run pre empty) (Called c)) []
-  call-whole pre c h new w =
+-- a transform stream stays, so where there is none at the end of a run there was none before
+
+a_transform : (y : transform.Slots) (ys zs : List transform.Slots) → slice_get (map transform_shape zs) 0 ≡ Some (transform_shape y) → zs ≡ [] → y ∷ ys ≡ []
+a_transform y ys [] e n = cc
+a_transform y ys (z ∷ zs) e n = cc
+
+pub none_before : (xs : List Entry) (s : Slots) → (run xs s).transforms ≡ [] → s.transforms ≡ []
+none_before xs s n = by s.transforms refl
+  where
+    by : (ys : List transform.Slots) → s.transforms ≡ ys → s.transforms ≡ []
+    by [] e = e
+    by (y ∷ ys) e =
+        let first : slice_get (transform_shapes s) 0 ≡ Some (transform_shape y) = ap (λ (zs : List transform.Slots). slice_get (map transform_shape zs) 0) e in
+        e ∙ a_transform y ys (run xs s).transforms (run-among xs s (record { 0 = 0 }) (transform_shape y) first) n
+
+none_begun : (c : Call) (xs : List Entry) (s : Slots) → (run (Called c ∷ xs) s).transforms ≡ [] → (begin c s).done.slots.transforms ≡ []
+none_begun c xs s n = by (begin c s).done.slots.transforms refl
+  where
+    by : (ys : List transform.Slots) → (begin c s).done.slots.transforms ≡ ys → (begin c s).done.slots.transforms ≡ []
+    by [] e = e
+    by (y ∷ ys) e =
+        let first : slice_get (transform_shapes (begin c s).done.slots) 0 ≡ Some (transform_shape y) = ap (λ (zs : List transform.Slots). slice_get (map transform_shape zs) 0) e in
+        let stays : slice_get (transform_shapes (step s (Called c))) 0 ≡ Some (transform_shape y) = ap (λ (zs : List TransformShape). slice_get zs 0) (step-shapes (Called c) s) ∙ first in
+        let last = run-among xs (step s (Called c)) (record { 0 = 0 }) (transform_shape y) stays in
+        e ∙ a_transform y ys (run xs (step s (Called c))).transforms last n
+
+-- what the calls of a run give by which something fails, and by which something may where there may be transform streams
+
+abbrev pub bad_run : Badness → List Entry → ℕ
+bad_run bad xs = bad_of bad.of (failures xs) + (if bad.through then bad_of bad.of (cancels xs) else 0)
+
+pub first-good : (bad : Badness) (x : Entry) (xs : List Entry) → bad_run bad (x ∷ xs) ≡ bad_run bad (x ∷ []) + bad_run bad xs
+first-good bad (Called c) xs =
+    let a = bad-append bad.of (failure_of c) [] in
+    let b = bad-append bad.of (failure_of c) (failures xs) in
+    let d = bad-append bad.of (cancel_of c) [] in
+    let e = bad-append bad.of (cancel_of c) (cancels xs) in
+    grind (arith, a, b, d, e)
+first-good bad Worked xs = grind arith
+first-good bad Heard xs = grind arith
+
+call_alone : (bad : Badness) (c : Call) → bad_run bad (Called c ∷ []) ≡ 0 → bad_call bad c ≡ 0
+call_alone bad c h =
+    let a = bad-append bad.of (failure_of c) [] in
+    let d = bad-append bad.of (cancel_of c) [] in
+    grind (arith, a, d, h)
+
+module _ (bad : Badness) (me : PipeId) (own : Option ℕ) where
+  call-whole : (pre : List Entry) (c : Call) → bad_call bad c ≡ 0 → (bad.through ≡ false → (begin c (run pre empty)).done.slots.transforms ≡ []) → NewOpens me c (run pre empty) → Whole bad me own (run pre empty) [] → Whole bad me own (step (run pre empty) (Called c)) []
+  call-whole pre c h none new w =
       let s : Slots = run pre empty in
       begun-whole bad me own c s (record {
         moment = moment-call s c w.moment;
         opens = call-opens me c s w.opens (λ x e g. spared pre me c x e g) new;
-        known = call-known bad me own s w.known c (begun-good bad c s h);
+        known = call-known bad me own s w.known c (begun-good bad c s h) none;
       })
 
   -- what is known of the pipe as a run goes on
   module _ (Phase : Slots → List Entry → Type 0) (next : (s : Slots) (x : Entry) (xs : List Entry) → Phase s (x ∷ xs) → Phase (step s x) xs)
       (new : (s : Slots) (c : Call) (xs : List Entry) → Phase s (Called c ∷ xs) → NewOpens me c s) where
-    step-whole : (pre : List Entry) (x : Entry) (xs : List Entry) → Phase (run pre empty) (x ∷ xs) → bad_of bad (failures (x ∷ [])) ≡ 0 → Whole bad me own (run pre empty) [] → Whole bad me own (step (run pre empty) x) []
-    step-whole pre (Called c) xs f h w =
-        let a = bad-append bad (failure_of c) [] in call-whole pre c (omega (arith, h, a)) (new (run pre empty) c xs f) w
-    step-whole pre Worked xs f h w = worked-whole bad me own (run pre empty) w
-    step-whole pre Heard xs f h w = heard-whole bad me own (run pre empty) w
+    step-whole : (pre : List Entry) (x : Entry) (xs : List Entry) → Phase (run pre empty) (x ∷ xs) → bad_run bad (x ∷ []) ≡ 0 → (bad.through ≡ false → (run (x ∷ xs) (run pre empty)).transforms ≡ []) → Whole bad me own (run pre empty) [] → Whole bad me own (step (run pre empty) x) []
+    step-whole pre (Called c) xs f h none w =
+        call-whole pre c (call_alone bad c h) (λ e. none_begun c xs (run pre empty) (none e)) (new (run pre empty) c xs f) w
+    step-whole pre Worked xs f h none w = worked-whole bad me own (run pre empty) w
+    step-whole pre Heard xs f h none w = heard-whole bad me own (run pre empty) w
 
-    first-good : (x : Entry) (xs : List Entry) → bad_of bad (failures (x ∷ xs)) ≡ bad_of bad (failures (x ∷ [])) + bad_of bad (failures xs)
-    first-good (Called c) xs = let a = bad-append bad (failure_of c) [] in let b = bad-append bad (failure_of c) (failures xs) in omega (arith, a, b)
-    first-good Worked xs = omega arith
-    first-good Heard xs = omega arith
-
-    pub run-whole : (pre xs : List Entry) → Phase (run pre empty) xs → bad_of bad (failures xs) ≡ 0 → Whole bad me own (run pre empty) [] → Whole bad me own (run xs (run pre empty)) []
-    run-whole pre [] f h w = w
-    run-whole pre (x ∷ xs) f h w =
-        let g = first-good x xs in
+    pub run-whole : (pre xs : List Entry) → Phase (run pre empty) xs → bad_run bad xs ≡ 0 → (bad.through ≡ false → (run xs (run pre empty)).transforms ≡ []) → Whole bad me own (run pre empty) []
+        → Whole bad me own (run xs (run pre empty)) []
+    run-whole pre [] f h none w = w
+    run-whole pre (x ∷ xs) f h none w =
+        let g = first-good bad x xs in
         let s : Slots = run pre empty in
         let same : run (pre ++ x ∷ []) empty ≡ step s x = run_then pre (x ∷ []) empty in
-        let after : Whole bad me own (step s x) [] = step-whole pre x xs f (omega (arith, g, h)) w in
+        let after : Whole bad me own (step s x) [] = step-whole pre x xs f (omega (arith, g, h)) none w in
         let phase : Phase (step s x) xs = next s x xs f in
         subst (λ (z : Slots). Whole bad me own (run xs z) []) same
-        (run-whole (pre ++ x ∷ []) xs (subst (λ (z : Slots). Phase z xs) (sym same) phase) (omega (arith, g, h)) (subst (λ (z : Slots). Whole bad me own z []) (sym same) after))
+        (run-whole (pre ++ x ∷ []) xs (subst (λ (z : Slots). Phase z xs) (sym same) phase) (omega (arith, g, h)) (subst (λ (z : Slots). bad.through ≡ false → (run xs z).transforms ≡ []) (sym same) none) (subst (λ (z : Slots). Whole bad me own z []) (sym same) after))

@@ -1,6 +1,7 @@
 -- What is bad about reasons, wherever they stand. A class weighs each reason, 0 where it may stand, and tells of each promise whether it hands
 -- on the reason with which it is rejected. The others are the promises of readers and writers, of reads, writes and closes, and of other
--- pipes than one: those may be rejected with any reason, and nothing that looks at a reason reacts to them.
+-- pipes than one: those may be rejected with any reason, and nothing that looks at a reason reacts to them. Where there may be transform
+-- streams, the reason of a cancel may become an error, and so may a TypeError.
 use Rattle.std.proofs.Common.{◌≡◌, ℕ, suc, ◌+◌, Bool, true, false, nat_eq, if◌then◌else◌, List, [], ◌∷◌, length, Option, Some, None, Result, Ok, Err}
 use Rattle.ws_value.specs.declared.ids.PipeId.{PipeId}
 use Rattle.ws_value.specs.declared.ids.PromiseId.{PromiseId}
@@ -8,7 +9,7 @@ use Rattle.ws_value.specs.declared.value.Outcome.{Outcome}
 use Rattle.ws_value.specs.declared.value.Outcome.TheVariants.{Rejected}
 use Rattle.ws_value.specs.declared.value.Plain.{Plain}
 use Rattle.ws_steps.specs.declared.effects.Effect.{Effect}
-use Rattle.ws_steps.specs.declared.effects.Effect.TheVariants.{Readable as OnReadable, Writable as OnWritable, Pipe as OnPipe, Signal as OnSignal, ErrorSteps, Give, Settle as SettleEffect}
+use Rattle.ws_steps.specs.declared.effects.Effect.TheVariants.{Readable as OnReadable, Writable as OnWritable, Pipe as OnPipe, Signal as OnSignal, Transform as OnTransform, StartAlgorithm, CancelAlgorithm, AbortAlgorithm, ErrorSteps, Give, Settle as SettleEffect, CallHost}
 use Rattle.ws_steps.specs.declared.effects.Gift.{Gift}
 use Rattle.ws_steps.specs.declared.effects.Gift.TheVariants.{This, Fresh}
 use Rattle.ws_steps.specs.declared.effects.Use.{Use}
@@ -25,23 +26,28 @@ use Rattle.ws_steps.specs.declared.promises.Job.TheVariants.{Reaction as Reactio
 use Rattle.ws_steps.specs.declared.promises.Reaction.{Reaction}
 use Rattle.ws_steps.specs.declared.promises.Reaction.TheVariants.{Perform, Adopt}
 use Rattle.ws_steps.specs.declared.promises.Step.{Step}
-use Rattle.ws_steps.specs.declared.promises.Step.TheVariants.{PipeEnds, PipeReady, PipeWrote}
+use Rattle.ws_steps.specs.declared.promises.Step.TheVariants.{PipeEnds, PipeReady, PipeWrote, TransformAborted, TransformCancelled}
 use Rattle.ws_steps.specs.declared.readable.ReadRequest.{ReadRequest}
 use Rattle.ws_steps.specs.declared.readable.ReadRequest.TheVariants.{Promise, Pipe as PipeRequest}
 use Rattle.ws_steps.specs.declared.readable.ReadableOperation.{ReadableOperation}
-use Rattle.ws_steps.specs.declared.readable.ReadableOperation.TheVariants.{InitializeReader, Read, Error, StartSettled, PullSettled}
+use Rattle.ws_steps.specs.declared.readable.ReadableOperation.TheVariants.{InitializeReader, Read, Cancel, CancelIfReadable, Error, StartSettled, PullSettled}
 use Rattle.ws_steps.specs.declared.readable.ReadableState.{ReadableState}
 use Rattle.ws_steps.specs.declared.readable.ReadableState.TheVariants as state
+use Rattle.ws_steps.specs.declared.transform.Halves.{Halves}
+use Rattle.ws_steps.specs.declared.transform.TransformOperation.{TransformOperation}
+use Rattle.ws_steps.specs.declared.transform.TransformOperation.TheVariants as transform_names
 use Rattle.ws_steps.specs.declared.writable.PendingAbort.{PendingAbort}
 use Rattle.ws_steps.specs.declared.writable.WritableOperation.{WritableOperation}
 use Rattle.ws_steps.specs.declared.writable.WritableOperation.TheVariants as write
 use Rattle.ws_steps.specs.declared.writable.WritableState.{WritableState}
 use Rattle.ws_steps.specs.declared.writable.WritableState.TheVariants.{Writable, Erroring, Errored, Closed}
 use Rattle.ws_steps.specs.declared.writable.Writer.{Writer}
+use Rattle.ws_steps.specs.Effects.{type_error}
 use Rattle.ws_steps.specs.Pipes as pipe
 use Rattle.ws_steps.specs.Promises.{Entry, Table}
 use Rattle.ws_steps.specs.Readable as readable
 use Rattle.ws_steps.specs.Slots.{Slots, Stream, ReadableStream, WritableStream}
+use Rattle.ws_steps.specs.Transform as transform
 use Rattle.ws_steps.specs.Writable as writable
 
 pub record Class : Type 0 where
@@ -49,6 +55,8 @@ pub record Class : Type 0 where
   pub hands : ℕ → Bool
   -- the pipe whose promise is looked at
   pub me : PipeId
+  -- whether there may be transform streams
+  pub through : Bool
 
 abbrev pub of_result : Class → Result Plain Plain → ℕ
 of_result k (Ok v) = 0
@@ -57,6 +65,16 @@ of_result k (Err r) = k.bad r
 abbrev pub of_reason : Class → Option Plain → ℕ
 of_reason k None = 0
 of_reason k (Some r) = k.bad r
+
+-- the reason of a cancel, which a transform stream makes the error of its writable half
+abbrev pub cancelled : Class → Plain → ℕ
+cancelled k r = if k.through then k.bad r else 0
+
+-- the reason that a step carries
+abbrev pub of_step : Class → Step → ℕ
+of_step k (TransformAborted t p r) = k.bad r
+of_step k (TransformCancelled t p r) = cancelled k r
+of_step k _ = 0
 
 -- 0 where the promise of this number hands on, and where it doesn't
 
@@ -84,7 +102,7 @@ is_deaf (PipeWrote p) = true
 is_deaf _ = false
 
 abbrev pub in_reaction : Class → ℕ → Reaction → ℕ
-in_reaction k n (Perform step derived) = if is_deaf step then 0 else loud k n
+in_reaction k n (Perform step derived) = of_step k step + (if is_deaf step then 0 else loud k n)
 in_reaction k n (Adopt p) = loud k n
 
 abbrev pub in_reactions : Class → ℕ → List Reaction → ℕ
@@ -104,7 +122,7 @@ in_entries k n [] = 0
 in_entries k n (x ∷ xs) = in_entry k n x + in_entries k (suc n) xs
 
 abbrev pub in_job : Class → Job → ℕ
-in_job k (ReactionJob step o derived) = if is_deaf step then 0 else of_result k o
+in_job k (ReactionJob step o derived) = of_step k step + (if is_deaf step then 0 else of_result k o)
 in_job k (Follow p q) = loud k q.0
 in_job k (Settle p o) = of_result k o
 in_job k (MicroJob m) = 0
@@ -128,16 +146,23 @@ in_requests k (r ∷ rs) = in_request k r + in_requests k rs
 
 -- what is done with promise n
 abbrev pub uses : Class → ℕ → Use → ℕ
-uses k n (React step derived) = if is_deaf step then 0 else loud k n
+uses k n (React step derived) = of_step k step + (if is_deaf step then 0 else loud k n)
 uses k n (Resolve p) = loud k n
+
+-- the reason that is carried in what is done
+abbrev pub of_use : Class → Use → ℕ
+of_use k (React step derived) = of_step k step
+of_use k (Resolve p) = 0
 
 abbrev pub gives : Class → Gift → Use → ℕ
 gives k (This p) u = uses k p.0 u
-gives k (Fresh o) u = of_result k o
+gives k (Fresh o) u = of_result k o + of_use k u
 
 abbrev pub of_readable : Class → ReadableOperation → ℕ
 of_readable k (InitializeReader closed) = soft k closed.0
 of_readable k (Read request) = in_request k request
+of_readable k (Cancel r p) = cancelled k r
+of_readable k (CancelIfReadable r p) = cancelled k r
 of_readable k (Error e) = k.bad e
 of_readable k (StartSettled o) = of_result k o
 of_readable k (PullSettled o) = of_result k o
@@ -166,14 +191,31 @@ abbrev pub of_signal : Class → SignalOperation → ℕ
 of_signal k (Trigger r) = k.bad r
 of_signal k _ = 0
 
+abbrev pub of_transform : Class → TransformOperation → ℕ
+of_transform k (transform_names.SinkWrite u) = of_use k u
+of_transform k (transform_names.Error e) = k.bad e
+of_transform k (transform_names.SourcePull u) = of_use k u
+of_transform k (transform_names.SinkClose u) = of_use k u
+of_transform k (transform_names.SinkAbort r u) = k.bad r + of_use k u
+of_transform k (transform_names.SourceCancel r u) = cancelled k r + of_use k u
+of_transform k (transform_names.FlushSettled p o) = of_result k o
+of_transform k (transform_names.AbortSettled p r o) = k.bad r + of_result k o
+of_transform k (transform_names.CancelSettled p r o) = cancelled k r + of_result k o
+of_transform k _ = 0
+
 abbrev pub in_effect : Class → Effect → ℕ
 in_effect k (OnReadable i operation) = of_readable k operation
 in_effect k (OnWritable i operation) = of_writable k operation
 in_effect k (OnPipe p operation) = of_pipe k operation
 in_effect k (OnSignal a operation) = of_signal k operation
+in_effect k (OnTransform t operation) = of_transform k operation
+in_effect k (StartAlgorithm i step start) = of_step k step
+in_effect k (CancelAlgorithm i r p) = cancelled k r
+in_effect k (AbortAlgorithm i r p) = k.bad r
 in_effect k (ErrorSteps i request e) = in_request k request
 in_effect k (Give gift u) = gives k gift u
 in_effect k (SettleEffect p o) = settles k p.0 o
+in_effect k (CallHost call u) = of_use k u
 in_effect k _ = 0
 
 abbrev pub in_effects : Class → List Effect → ℕ
@@ -207,7 +249,7 @@ in_writer k (Some w) = soft k w.ready.0 + soft k w.closed.0
 
 abbrev pub in_abort : Class → Option PendingAbort → ℕ
 in_abort k None = 0
-in_abort k (Some abort) = loud k abort.promise.0
+in_abort k (Some abort) = loud k abort.promise.0 + (if abort.was_already_erroring then 0 else k.bad abort.reason)
 
 abbrev pub in_writable : Class → writable.Slots → ℕ
 in_writable k x = (if has_error x.state then k.bad x.stored_error else 0) + (in_writer k x.writer + in_abort k x.pending_abort)
@@ -220,11 +262,11 @@ abbrev pub in_streams : Class → List Stream → ℕ
 in_streams k [] = 0
 in_streams k (x ∷ xs) = in_stream k x + in_streams k xs
 
--- a cancel does nothing with its reason but hand it to the host
+-- a cancel does nothing with its reason but hand it to the host, or to a transform stream
 abbrev pub in_action : Class → Option Action → ℕ
 in_action k None = 0
 in_action k (Some (AbortDest r)) = k.bad r
-in_action k (Some (CancelSource r)) = 0
+in_action k (Some (CancelSource r)) = cancelled k r
 in_action k (Some CloseDest) = 0
 in_action k (Some (BySignal r)) = k.bad r
 
@@ -249,8 +291,23 @@ in_ends k ends =
     (if is_errored ends.source_state then k.bad ends.source_error else 0)
     + ((if has_error ends.dest_state then k.bad ends.dest_error else 0) + loud_one k ends.dest_abort)
 
+-- there are none where there may be none
+abbrev pub in_transform : Class → transform.Slots → ℕ
+in_transform k x = if k.through then loud k x.change.0 + loud_one k x.finish else 1
+
+abbrev pub in_transforms : Class → List transform.Slots → ℕ
+in_transforms k [] = 0
+in_transforms k (x ∷ xs) = in_transform k x + in_transforms k xs
+
+-- what a transform stream looks at
+abbrev pub in_halves : Class → Halves → ℕ
+in_halves k halves =
+    (if is_errored halves.readable_state then k.bad halves.readable_error else 0) + (if has_error halves.writable_state then k.bad halves.writable_error else 0)
+
+-- where there may be transform streams, a TypeError may stand anywhere
 abbrev pub in_slots : Class → Slots → ℕ
-in_slots k s = in_streams k s.streams + (in_pipes k 0 s.pipes + (in_signals k s.signals + in_table k s.promises))
+in_slots k s =
+    in_streams k s.streams + (in_pipes k 0 s.pipes + (in_signals k s.signals + (in_transforms k s.transforms + (in_table k s.promises + cancelled k type_error))))
 
 -- nothing bad stands in the slots, nor in what is still to be performed
 abbrev pub AllGood : Class → Slots → List Effect → Type 0

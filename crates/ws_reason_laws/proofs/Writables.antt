@@ -9,7 +9,8 @@ use Rattle.ws_value.specs.declared.value.Value.{Value}
 use Rattle.ws_steps.specs.declared.calls.Event.TheVariants.{Signal}
 use Rattle.ws_steps.specs.declared.effects.Effect.TheVariants as effect
 use Rattle.ws_steps.specs.declared.effects.Owner.{Owner}
-use Rattle.ws_steps.specs.declared.effects.Owner.TheVariants.{Host}
+use Rattle.ws_steps.specs.declared.effects.Owner.TheVariants.{Host, HalfOf}
+use Rattle.ws_steps.specs.declared.transform.Taker.{Taker}
 use Rattle.ws_steps.specs.declared.writable.PendingAbort.{PendingAbort}
 use Rattle.ws_steps.specs.declared.writable.WritableOperation.{WritableOperation}
 use Rattle.ws_steps.specs.declared.writable.WritableOperation.TheVariants as names
@@ -77,6 +78,7 @@ abort-count o t (Some abort) = settle-count abort.promise o t
 
 signalled-count : (me : StreamId) (r : Plain) (a : Acts) (owner : Owner) → size (signalled me r a owner) ≡ size a
 signalled-count me r a Host = refl
+signalled-count me r a (HalfOf t) = refl
 
 -- `n` promises are there before the operation and `m` after it, and where there is one more it may be rejected with anything
 module _ (k : Class) (me : StreamId) (n m : ℕ) (new : n < m → soft k n ≡ 0) where
@@ -116,11 +118,11 @@ module _ (k : Class) (me : StreamId) (n m : ℕ) (new : n < m → soft k n ≡ 0
 
   -- erroring
 
-  abort_by-good : (abort : PendingAbort) (a : Acts) (was : Bool) → loud k abort.promise.0 ≡ 0 → k.bad a.slots.stored_error ≡ 0 → Good a → Good (abort_by me abort a was)
+  abort_by-good : (abort : PendingAbort) (a : Acts) (was : Bool) → loud k abort.promise.0 + (if was then 0 else k.bad abort.reason) ≡ 0 → k.bad a.slots.stored_error ≡ 0 → Good a → Good (abort_by me abort a was)
   abort_by-good abort a true l b h =
       let s = settle-good k abort.promise (Err a.slots.stored_error) a.out.promises (omega (arith, h)) b in
       reject_both-good (with_promises (settle abort.promise (Err a.slots.stored_error) a.out.promises) a) (λ e. b) (omega (arith, h, s))
-  abort_by-good abort a false l b h = let d = effects-append k a.out.effects (effect.AbortAlgorithm me abort.reason abort.promise ∷ []) in omega (arith, h, d)
+  abort_by-good abort a false l b h = let d = effects-append k a.out.effects (effect.AbortAlgorithm me abort.reason abort.promise ∷ []) in omega (arith, h, l, d)
 
   finish_abort-good : (a : Acts) (abort : Option PendingAbort) → a.slots.pending_abort ≡ abort → k.bad a.slots.stored_error ≡ 0 → Good a → Good (finish_abort me a abort)
   finish_abort-good a None e b h = reject_both-good a (λ e. b) h
@@ -303,13 +305,14 @@ module _ (k : Class) (me : StreamId) (n m : ℕ) (new : n < m → soft k n ≡ 0
 
   signalled-good : (r : Plain) (a : Acts) (owner : Owner) → Good a → Good (signalled me r a owner)
   signalled-good r a Host h = let s = tell-keeps k (Signal me r) a.out.promises (omega (arith, h)) in omega (arith, h, s)
+  signalled-good r a (HalfOf t) h = h
 
-  pending-good : (r : Plain) (p : PromiseId) (a : Acts) → loud k p.0 ≡ 0 → Good a → Good (add_pending_abort r p a)
-  pending-good r p a l h = by (is_erroring a.slots.state)
+  pending-good : (r : Plain) (p : PromiseId) (a : Acts) → k.bad r ≡ 0 → loud k p.0 ≡ 0 → Good a → Good (add_pending_abort r p a)
+  pending-good r p a b l h = by (is_erroring a.slots.state)
     where
       by : (was : Bool) → Good (record a { slots = record a.slots { pending_abort = Some (abort_of p r was) } })
       by true = omega (arith, h, l)
-      by false = omega (arith, h, l)
+      by false = omega (arith, h, b, l)
 
   abort-good : (r : Plain) (p : PromiseId) (a : Acts) → k.bad r ≡ 0 → loud k p.0 ≡ 0 → size a ≡ n → Good a → Ends (stream_abort me r p a)
   unfolding stream_abort
@@ -318,7 +321,7 @@ module _ (k : Class) (me : StreamId) (n m : ℕ) (new : n < m → soft k n ≡ 0
       let g : Good y = signalled-good r a a.slots.owner h in
       let i = signalled-count me r a a.slots.owner in
       let z : Acts = add_pending_abort r p y in
-      let w : Good z = pending-good r p y l g in
+      let w : Good z = pending-good r p y b l g in
       either Ends (has_ended a.slots.state) _ _ (λ e q. let s = settle-good k p (Ok Undefined) a.out.promises (omega (arith, h)) refl in omega (arith, h, s))
       (λ e. either Ends (is_erroring y.slots.state) z (start_erroring me r z) (λ d q. w) (λ d. start-good r z b (omega (arith, i, c)) w))
 
@@ -347,8 +350,8 @@ module _ (k : Class) (me : StreamId) (n m : ℕ) (new : n < m → soft k n ≡ 0
   write_by-good v p a (Some e) z c h = λ q. let s = settle_soft k p (Err e) a.out.promises (omega (arith, h)) z in omega (arith, h, s)
   write_by-good v p a None z c h = then-good (enqueue_chunk v (add_write_request p a)) c h
 
-  hand_on-good : (a : Acts) (first : Option WriteRecord) → Good a → Good (hand_on_first me a first)
-  hand_on-good a first h = grind (arith, h, effects-append)
+  hand_on-good : (taker : Taker) (a : Acts) (first : Option WriteRecord) → Good a → Good (hand_on_first me taker a first)
+  hand_on-good taker a first h = grind (arith, h, effects-append)
 
   pub writable-good : (operation : WritableOperation) (a : Acts) → of_writable k operation ≡ 0 → Expects operation a.slots → size a ≡ n → Good a → Ends (writable_operation me operation a)
   unfolding set_up_writer writer_release writer_write start_settled write_settled abort_settled hand_on abort_if_writable
@@ -365,7 +368,7 @@ module _ (k : Class) (me : StreamId) (n m : ℕ) (new : n < m → soft k n ≡ 0
       either Ends (is_writable a.slots.state) _ _ (λ e. abort-good r p a (omega (arith, f)) (omega (arith, f)) c h)
       (λ e q. let s = settle-good k p (Ok Undefined) a.out.promises (omega (arith, h)) refl in omega (arith, h, s))
   writable-good (names.ErrorIfNeeded e) a f x c h = if_needed-good e a f c h
-  writable-good names.HandOn a f x c h = λ q. hand_on-good a (first_value a.slots.queue) h
+  writable-good (names.HandOn taker) a f x c h = λ q. hand_on-good taker a (first_value a.slots.queue) h
   writable-good (names.StartSettled (Ok v)) a f x c h = λ q. advance-good (record a { slots = record a.slots { started = true } }) h
   writable-good (names.StartSettled (Err e)) a f x c h = deal-good e (record a { slots = record a.slots { started = true } }) f x c h
   writable-good (names.WriteSettled (Ok v)) a f x c h =

@@ -12,6 +12,7 @@ use Rattle.ws_steps.specs.declared.calls.Call.TheVariants.{Cancel, CancelBy, Abo
 use Rattle.ws_steps.specs.declared.calls.Reply.TheVariants.{Promise}
 use Rattle.ws_steps.specs.declared.pipes.Prevent.{Prevent}
 use Rattle.ws_steps.specs.declared.readable.ReadableState.TheVariants.{Errored}
+use Rattle.ws_steps.specs.Effects.{type_error}
 use Rattle.ws_steps.specs.Promises.{outcome_at}
 use Rattle.ws_steps.specs.ReadableLooks as readable_looks
 use Rattle.ws_steps.specs.Run.{Entry, Called, Worked, Heard, reply_to, run}
@@ -42,7 +43,8 @@ given (Called c ∷ xs) = reason_of c ++ given xs
 given (Worked ∷ xs) = given xs
 given (Heard ∷ xs) = given xs
 
--- the reason that a call gives by which something fails: all of these but that of a cancel, which is handed to the host alone
+-- the reason that a call gives by which something fails: all of these but that of a cancel, by which no more
+-- fails than the writable half of a transform stream
 abbrev pub failure_of : Call → List Plain
 failure_of (Abort i reason) = reason ∷ []
 failure_of (AbortBy l reason) = reason ∷ []
@@ -51,12 +53,25 @@ failure_of (Trigger a reason) = reason ∷ []
 failure_of (Settle h answer) = answered_reason answer
 failure_of _ = []
 
+-- the reason that a cancel gives
+abbrev pub cancel_of : Call → List Plain
+cancel_of (Cancel i reason) = reason ∷ []
+cancel_of (CancelBy l reason) = reason ∷ []
+cancel_of _ = []
+
 -- those of a run, in their order
+
 abbrev pub failures : List Entry → List Plain
 failures [] = []
 failures (Called c ∷ xs) = failure_of c ++ failures xs
 failures (Worked ∷ xs) = failures xs
 failures (Heard ∷ xs) = failures xs
+
+abbrev pub cancels : List Entry → List Plain
+cancels [] = []
+cancels (Called c ∷ xs) = cancel_of c ++ cancels xs
+cancels (Worked ∷ xs) = cancels xs
+cancels (Heard ∷ xs) = cancels xs
 
 -- a pipe may be made from stream i to stream j: they are there and unlocked, and the destination is neither closing nor closed
 pub record IsFree (i j : StreamId) (s : Slots) : Type 0 where
@@ -68,26 +83,32 @@ pub record IsFree (i j : StreamId) (s : Slots) : Type 0 where
   pub not_closed : is_closed (writable_at j s).state ≡ false
 
 -- In every run, whatever else the host does in it: a pipe that was made between two such ends rejects its promise only with a reason that a
--- call of the run gave
+-- call of the run gave; but with a TypeError also where there is a transform stream, since the writable half of one that is terminated fails with
+-- that, which no call gives
 abbrev pub EachReasonWasGiven : Type 0
 EachReasonWasGiven =
     (opening xs : List Entry) (i j : StreamId) (prevent : Prevent) (signal : Option SignalId) (q : PromiseId) (r : Plain)
     → let s : Slots = run opening empty in let entries : List Entry = opening ++ Called (Pipe i j prevent signal) ∷ xs in
     IsFree i j s → reply_to (Pipe i j prevent signal) s ≡ Promise q
+    → (r ≡ type_error → (run entries empty).transforms ≡ [])
     → outcome_at (run entries empty).promises q ≡ Some (Rejected r) → Contains (given entries) r
 
--- and never with that of a cancel alone
+-- and never with that of a cancel alone, where there is no transform stream: the reason with which the readable half of one is cancelled is the
+-- error of its writable half
 abbrev pub EachReasonWasAFailure : Type 0
 EachReasonWasAFailure =
     (opening xs : List Entry) (i j : StreamId) (prevent : Prevent) (signal : Option SignalId) (q : PromiseId) (r : Plain)
     → let s : Slots = run opening empty in let entries : List Entry = opening ++ Called (Pipe i j prevent signal) ∷ xs in
     IsFree i j s → reply_to (Pipe i j prevent signal) s ≡ Promise q
+    → (Contains (type_error ∷ cancels entries) r → (run entries empty).transforms ≡ [])
     → outcome_at (run entries empty).promises q ≡ Some (Rejected r) → Contains (failures entries) r
 
 -- in every run, the error that a stream has stored is the reason of a failure: of a readable stream that is errored, and of a writable stream that
--- is erroring or errored
+-- is erroring or errored. Where there is a transform stream it may be a TypeError, or the reason of a cancel
 pub record EachStoredErrorWasAFailure : Type 0 where
   pub readable : (entries : List Entry) (i : StreamId) → let s : Slots = run entries empty in
-      (readable_at i s).state ≡ Errored → Contains (failures entries) (readable_at i s).stored_error
+      (Contains (type_error ∷ cancels entries) (readable_at i s).stored_error → s.transforms ≡ [])
+      → (readable_at i s).state ≡ Errored → Contains (failures entries) (readable_at i s).stored_error
   pub writable : (entries : List Entry) (i : StreamId) → let s : Slots = run entries empty in
-      (is_erroring (writable_at i s).state || is_errored (writable_at i s).state) ≡ true → Contains (failures entries) (writable_at i s).stored_error
+      (Contains (type_error ∷ cancels entries) (writable_at i s).stored_error → s.transforms ≡ [])
+      → (is_erroring (writable_at i s).state || is_errored (writable_at i s).state) ≡ true → Contains (failures entries) (writable_at i s).stored_error

@@ -3,17 +3,17 @@
 
 ghost use Rattle.ws_reason_laws.specs.Reasons.{EachReasonWasGiven, EachReasonWasAFailure, EachStoredErrorWasAFailure};
 
-/// In every run, whatever the host does before the pipe is made and after it: a pipe that was made between two unlocked streams, of which the destination was neither closing nor closed, rejects its promise only with a reason that a call of the run gave, in a cancel, an abort, an error, a trigger, or the failure of a host's algorithm.
+/// In every run, whatever the host does before the pipe is made and after it: a pipe that was made between two unlocked streams, of which the destination was neither closing nor closed, rejects its promise only with a reason that a call of the run gave, in a cancel, an abort, an error, a trigger, or the failure of a host's algorithm. Where the realm has a transform stream it may be a TypeError too.
 pub fn each_reason_was_given()
     ensures { EachReasonWasGiven }
 {}
 
-/// In every run, such a pipe rejects its promise only with the reason of an abort, an error, a trigger, or the failure of a host's algorithm, and never with one that only cancels gave.
+/// In every run, such a pipe rejects its promise only with the reason of an abort, an error, a trigger, or the failure of a host's algorithm, and never with one that only cancels gave. Where the realm has a transform stream it may be a TypeError, or the reason of a cancel.
 pub fn each_reason_was_a_failure()
     ensures { EachReasonWasAFailure }
 {}
 
-/// In every run, whatever the host does in it, the error that a readable stream has stored which is errored, or a writable stream which is erroring or errored, is the reason of an abort, an error, a trigger, or the failure of a host's algorithm, which a call of the run gave.
+/// In every run, whatever the host does in it, the error that a readable stream has stored which is errored, or a writable stream which is erroring or errored, is the reason of an abort, an error, a trigger, or the failure of a host's algorithm, which a call of the run gave. Where the realm has a transform stream it may be a TypeError, or the reason of a cancel.
 pub fn each_stored_error_was_a_failure()
     ensures { EachStoredErrorWasAFailure }
 {}
