@@ -1,0 +1,267 @@
+-- A transform stream hears that its readable half was cancelled only where that can take no chunk any more.
+use Rattle.std.proofs.Common.{◌≡◌, ℕ, ◌+◌, Bool, true, false, List, [], ◌∷◌, Option, Some, None, slice_get, refl, sym, ap, ◌∙◌, arith}
+use Rattle.ws_value.specs.declared.ids.{PipeId.{PipeId}, PromiseId.{PromiseId}, StreamId.{StreamId}}
+use Rattle.ws_value.specs.declared.value.Plain.{Plain}
+use Rattle.ws_steps.specs.declared.effects.{Effect.{Effect}, Owner.{Owner}, Owner.TheVariants.{Host, HalfOf}, Use.TheVariants.{React}}
+use Rattle.ws_steps.specs.declared.effects.Effect.TheVariants.{Readable as OnReadable, Writable as OnWritable, Pipe as OnPipe, Signal as OnSignal, Transform as OnTransform, StartAlgorithm, PullAlgorithm, CancelAlgorithm, WriteAlgorithm, CloseAlgorithm, AbortAlgorithm, ChunkSteps, CloseSteps, ErrorSteps, Give, CallHost}
+use Rattle.ws_steps.specs.declared.promises.Step.{Step}
+use Rattle.ws_steps.specs.declared.promises.Step.TheVariants.{TransformCancelled}
+use Rattle.ws_steps.specs.declared.transform.{TransformId.{TransformId}, TransformOperation.{TransformOperation}}
+use Rattle.ws_steps.specs.declared.transform.TransformOperation.TheVariants as names
+use Rattle.ws_value.specs.declared.ids.SignalId.{SignalId}
+use Rattle.ws_steps.specs.declared.pipes.{PipeOperation.{PipeOperation}, SignalOperation.{SignalOperation}, SignalOperation.TheVariants.{Add, Forget, Trigger}}
+use Rattle.ws_steps.specs.declared.readable.ReadableOperation.{ReadableOperation}
+use Rattle.ws_steps.specs.declared.writable.WritableOperation.{WritableOperation}
+use Rattle.ws_steps.specs.declared.transform.Halves.{Halves}
+use Rattle.ws_steps.specs.Effects.{Out, cause}
+use Rattle.ws_steps.specs.Operations.{readable_operation, writable_operation, pipe_operation, signal_operation, transform_operation}
+use Rattle.ws_steps.specs.Pipes as pipe
+use Rattle.ws_steps.specs.Pipes.{abort_all}
+use Rattle.ws_steps.specs.Readable as readable
+use Rattle.ws_steps.specs.Readable.{can_close_or_enqueue}
+use Rattle.ws_steps.specs.Transform as transform
+use Rattle.ws_steps.specs.Writable.{write_to_host}
+use Rattle.ws_steps.specs.declared.calls.{StartBy.{StartBy}, StartBy.TheVariants.{Now, Later}}
+use Rattle.ws_steps.specs.declared.promises.Step.TheVariants.{ReadablePull, ReturnUndefined, WritableClose, WritableAbort}
+use Rattle.ws_steps.specs.declared.readable.ReadRequest.TheVariants.{Promise, Pipe as PipeRequest}
+use Rattle.ws_steps.specs.Slots.{readable_at, as_readable, ReadableStream}
+use Rattle.ws_steps.specs.Turns.{row, start_algorithm, pull_algorithm, cancel_algorithm, write_algorithm, close_algorithm, abort_algorithm}
+use Rattle.ws_laws.proofs.Halves.{Halved}
+use Rattle.ws_laws.proofs.Shapes.{ReadableOf, TransformShape, stream_shape, stream_shapes, transform_shapes, map-there}
+use Rattle.ws_laws.proofs.Tables.{eq_numbers, readable_there, on_readable-same}
+use Rattle.ws_transform_laws.proofs.Entering.{Reads}
+use Rattle.ws_laws.proofs.Lists.{Each}
+use Rattle.ws_laws.proofs.PipeDoes.{IsStepOf, PipeCauses, pipe-causes}
+use Rattle.ws_laws.proofs.ReadableDoes.{readable-does}
+use Rattle.ws_laws.proofs.Tables.{either, readable_acts, writable_acts}
+use Rattle.ws_laws.proofs.WritableDoes.{writable-does}
+use Rattle.ws_transform_laws.proofs.Wanting.{IsNoPull, Causes, Rests, Cancels, Pulls, PullsFirst, PullsLast, operation-causes}
+use Rattle.ws_steps.specs.Slots.{Slots, Done, nothing, found, ends_at, halves_at, owner_at, has_readable, has_writable, put_readable, put_writable, on_readable, on_writable, on_pipe_at, on_signal_at, on_transform_at}
+use Rattle.ws_writable_laws.proofs.Shape.{one_if, of_use, all, all-append}
+use Rattle.ws_transform_laws.specs.TransformHistory.{is_same_transform}
+
+abbrev pub is_half : TransformId → Owner → Bool
+is_half t Host = false
+is_half t (HalfOf u) = is_same_transform t u
+
+module _ (t : TransformId) where
+  -- whether a stream performs the algorithms of the transform stream
+  abbrev pub mine : Slots → StreamId → Bool
+  mine s j = is_half t (owner_at j s)
+
+  -- the reaction to the cancel algorithm that the cancel of the readable half performed
+  abbrev pub is_cancelled : Step → ℕ
+  is_cancelled (TransformCancelled u p c) = one_if (is_same_transform t u)
+  is_cancelled _ = 0
+
+  abbrev of_cancel : TransformId → TransformOperation → ℕ
+  of_cancel u (names.SinkWrite w) = of_use is_cancelled w
+  of_cancel u (names.SourcePull w) = of_use is_cancelled w
+  of_cancel u (names.SinkClose w) = of_use is_cancelled w
+  of_cancel u (names.SinkAbort c w) = of_use is_cancelled w
+  of_cancel u (names.SourceCancel c w) = one_if (is_same_transform t u) + of_use is_cancelled w
+  of_cancel u (names.CancelSettled p c o) = one_if (is_same_transform t u)
+  of_cancel u _ = 0
+
+  -- what leads to it
+  abbrev pub cancels : Slots → Effect → ℕ
+  cancels s (OnTransform u operation) = of_cancel u operation
+  cancels s (CancelAlgorithm j c p) = one_if (mine s j)
+  cancels s (StartAlgorithm j step start) = is_cancelled step
+  cancels s (Give gift u) = of_use is_cancelled u
+  cancels s (CallHost call u) = of_use is_cancelled u
+  cancels s _ = 0
+
+  -- what an effect causes that leads to none
+
+  abbrev pub none_of : Slots → List Effect → ℕ
+  none_of s es = all (cancels s) es
+
+  transform-none : (s : Slots) (u : TransformId) (halves : Halves) (operation : TransformOperation) (a : transform.Acts) → of_cancel u operation ≡ 0 → a.out.effects ≡ [] → none_of s (transform_operation u halves operation a).out.effects ≡ 0
+  unfolding transform.unblock transform.transform_error transform.terminate transform.enqueue transform.enqueued transform.transform_chunk transform.sink_write transform.write_goes_on transform.source_pull transform.set_backpressure transform.sink_close transform.sink_abort transform.source_cancel transform.flush_settled transform.abort_settled transform.cancel_settled
+  transform-none s u halves operation a c none = grind (arith, c, none)
+
+  pub on_transform-none : (s : Slots) (u : TransformId) (operation : TransformOperation) (o : Option transform.Slots) → of_cancel u operation ≡ 0 → none_of s (on_transform_at (λ halves. transform_operation u halves operation) u s o).caused ≡ 0
+  on_transform-none s u operation None c = refl
+  on_transform-none s u operation (Some x) c = transform-none s u (halves_at x s) operation (record { slots = x; out = found s }) c refl
+
+  pipe-step : (p : PipeId) (step : Step) → IsStepOf p step → is_cancelled step ≡ 0
+  pipe-step p step c = grind arith
+
+  pipe-effect : (s : Slots) (p : PipeId) (source dest : StreamId) (e : Effect) → PipeCauses p source dest e → cancels s e ≡ 0
+  pipe-effect s p source dest e c = grind (arith, pipe-step)
+
+  pipe-each : (s : Slots) (p : PipeId) (source dest : StreamId) (es : List Effect) → Each (PipeCauses p source dest) es → none_of s es ≡ 0
+  pipe-each s p source dest [] c = refl
+  pipe-each s p source dest (e ∷ es) c = let h = pipe-effect s p source dest e c.0 in let k = pipe-each s p source dest es c.1 in omega (arith, h, k)
+
+  pub pipe-none : (s : Slots) (p : PipeId) (operation : PipeOperation) (o : Option pipe.Slots) → none_of s (on_pipe_at (λ ends. pipe_operation p ends operation) p s o).caused ≡ 0
+  pipe-none s p operation None = refl
+  pipe-none s p operation (Some x) =
+      let a : pipe.Acts = record { slots = x; out = found s } in
+      pipe-each s p x.source x.dest (pipe_operation p (ends_at x s) operation a).out.effects (pipe-causes p (ends_at x s) operation a tt).1.1
+
+  abort_all-none : (s : Slots) (c : Plain) (ps : List PipeId) → none_of s (abort_all c ps) ≡ 0
+  abort_all-none s c [] = refl
+  abort_all-none s c (p ∷ ps) = let h = abort_all-none s c ps in omega (arith, h)
+
+  signal-effects : (s : Slots) (operation : SignalOperation) (x : pipe.Signal) → none_of s (signal_operation operation x).effects ≡ 0
+  signal-effects s (Add p) x = refl
+  signal-effects s (Forget p) x = refl
+  signal-effects s (Trigger c) x = by x.reason
+    where
+      by : (reason : Option Plain) → none_of s (pipe.trigger_unless c x reason).effects ≡ 0
+      by None = abort_all-none s c x.pipes
+      by (Some old) = refl
+
+  pub signal-none : (s : Slots) (a : SignalId) (operation : SignalOperation) (o : Option pipe.Signal) → none_of s (on_signal_at (signal_operation operation) a s o).caused ≡ 0
+  signal-none s a operation None = refl
+  signal-none s a operation (Some x) = signal-effects s operation x
+
+  causing-none : (s : Slots) (x : Out) (e : Effect) → cancels s e ≡ 0 → none_of s x.effects ≡ 0 → none_of s (cause e x).effects ≡ 0
+  causing-none s x e c n = let a = all-append (cancels s) x.effects (e ∷ []) in omega arith
+
+  pub writable-none : (s : Slots) (j : StreamId) (operation : WritableOperation) → none_of s (on_writable (writable_operation j operation) j s).caused ≡ 0
+  writable-none s j operation =
+      either (λ (d : Done). none_of s d.caused ≡ 0) (has_writable j s) (put_writable j s (writable_operation j operation (writable_acts j s))) (nothing s)
+      (λ there. writable-does (λ (x : Out). none_of s x.effects ≡ 0) j (record {
+        settle = λ x p o h. h;
+        fresh = λ x h. h;
+        tell = λ x c h. h;
+        write = λ x h. causing-none s x (WriteAlgorithm j) refl h;
+        close = λ x h. causing-none s x (CloseAlgorithm j) refl h;
+        abort = λ x c p h. causing-none s x (AbortAlgorithm j c p) refl h;
+        hand_on = λ x v h. causing-none s x (write_to_host j v) refl h;
+        take = λ x v u d h. causing-none s x (OnTransform u (names.TransformChunk v d)) refl h;
+      }) operation (writable_acts j s) refl) (λ none. refl)
+
+  pub other-readable : (s : Slots) (j : StreamId) (operation : ReadableOperation) → mine s j ≡ false → none_of s (on_readable (readable_operation j operation) j s).caused ≡ 0
+  other-readable s j operation m =
+      either (λ (d : Done). none_of s d.caused ≡ 0) (has_readable j s) (put_readable j s (readable_operation j operation (readable_acts j s))) (nothing s)
+      (λ there. readable-does (λ (x : Out). none_of s x.effects ≡ 0) j (record {
+        settle = λ x p o h. h;
+        pull = λ x h. causing-none s x (PullAlgorithm j) refl h;
+        cancel = λ x c p h. causing-none s x (CancelAlgorithm j c p) (rw m refl) h;
+        chunk = λ x q v h. causing-none s x (ChunkSteps j q v) refl h;
+        close = λ x q h. causing-none s x (CloseSteps j q) refl h;
+        error = λ x q e h. causing-none s x (ErrorSteps j q e) refl h;
+      }) operation (readable_acts j s) refl) (λ none. refl)
+
+  no-pull : (s : Slots) (e : Effect) → IsNoPull e → cancels s e ≡ 0
+  no-pull s (ChunkSteps j q v) n = refl
+  no-pull s (CloseSteps j q) n = refl
+  no-pull s (ErrorSteps j q e) n = refl
+  no-pull s _ n = absurd n
+
+  no-pulls : (s : Slots) (es : List Effect) → Each IsNoPull es → none_of s es ≡ 0
+  no-pulls s [] n = refl
+  no-pulls s (e ∷ es) n = let a = no-pull s e n.0 in let b = no-pulls s es n.1 in omega arith
+
+  opened : {A : Type 0} (b : Bool) → b ≡ false → b ≡ true → A
+  opened b e f = cc
+
+  open-none : (s : Slots) (i : StreamId) (x : readable.Slots) (cs : List Effect) → can_close_or_enqueue x ≡ true → Causes i x cs → none_of s cs ≡ 0
+  open-none s i x cs can (Rests n) = no-pulls s cs n
+  open-none s i x cs can (Cancels c n) = opened (can_close_or_enqueue x) c can
+  open-none s i x cs can (Pulls w e) = rw e refl
+  open-none s i x cs can (PullsFirst q v w e) = rw e refl
+  open-none s i x cs can (PullsLast q v w e) = rw e refl
+
+  -- algorithms, by whose they are
+
+  pub start-none : (s z : Slots) (j : StreamId) (step : Step) (start : StartBy) → is_cancelled step ≡ 0 → none_of s (start_algorithm j step z start).caused ≡ 0
+  start-none s z j step Now n = omega arith
+  start-none s z j step Later n = omega arith
+
+  pub pull-none : (s : Slots) (j : StreamId) (owner : Owner) → none_of s (pull_algorithm j (React (ReadablePull j) None) owner) ≡ 0
+  pull-none s j Host = refl
+  pull-none s j (HalfOf u) = refl
+
+  pub cancel-none : (s : Slots) (j : StreamId) (c : Plain) (p : PromiseId) (owner : Owner) → one_if (is_half t owner) ≡ 0 → none_of s (cancel_algorithm j c (React ReturnUndefined (Some p)) owner) ≡ 0
+  cancel-none s j c p Host n = refl
+  cancel-none s j c p (HalfOf u) n = omega arith
+
+  pub write-none : (s : Slots) (j : StreamId) (owner : Owner) → none_of s (write_algorithm j owner) ≡ 0
+  write-none s j Host = refl
+  write-none s j (HalfOf u) = refl
+
+  pub close-none : (s : Slots) (j : StreamId) (owner : Owner) → none_of s (close_algorithm j (React (WritableClose j) None) owner) ≡ 0
+  close-none s j Host = refl
+  close-none s j (HalfOf u) = refl
+
+  pub abort-none : (s : Slots) (j : StreamId) (c : Plain) (p : PromiseId) (owner : Owner) → none_of s (abort_algorithm j c (React (WritableAbort j p) None) owner) ≡ 0
+  abort-none s j c p Host = refl
+  abort-none s j c p (HalfOf u) = refl
+
+  -- the stream is the readable half
+  module _ (r : StreamId) where
+    pub half-here : (s : Slots) (j : StreamId) → Halved s → Reads t r s → has_readable j s ≡ true → mine s j ≡ true → j ≡ r
+    half-here s j halved h there m =
+        let at = readable_there (slice_get s.streams j.0) there in
+        let owner : owner_at j s ≡ (readable_at j s).owner = rw at refl in
+        by (readable_at j s).owner (map-there stream_shape s.streams j.0 (ReadableStream (readable_at j s)) at) (sym (ap (is_half t) owner) ∙ m)
+      where
+        by : (o : Owner) → slice_get (stream_shapes s) j.0 ≡ Some (ReadableOf o) → is_half t o ≡ true → j ≡ r
+        by Host at k = cc
+        by (HalfOf u) at k =
+            let one : t ≡ u = ap (λ (n : ℕ). record { 0 = n }) (eq_numbers t.0 u.0 k) in
+            let x = halved.readable j u at in
+            let both : ◌≡◌ {A = Option TransformShape} (Some h.0) (Some x.0) = sym h.1.0 ∙ (ap (λ (w : TransformId). slice_get (transform_shapes s) w.0) one ∙ x.1.0) in
+            let same : h.0 ≡ x.0 = cc in
+            sym x.1.1 ∙ (sym (ap (λ (y : TransformShape). y.readable) same) ∙ h.1.1)
+
+    readable-none : (s : Slots) (j : StreamId) (operation : ReadableOperation) → Halved s → Reads t r s → can_close_or_enqueue (readable_at r (row (OnReadable j operation) s).slots) ≡ true → none_of s (row (OnReadable j operation) s).caused ≡ 0
+    unfolding row
+    readable-none s j operation halved h can = by (mine s j) (has_readable j s) refl refl
+      where
+        by : (m there : Bool) → m ≡ mine s j → there ≡ has_readable j s → none_of s (on_readable (readable_operation j operation) j s).caused ≡ 0
+        by false there e f = other-readable s j operation (sym e)
+        by true false e f = rw (← f) refl
+        by true true e f =
+            let is : j ≡ r = half-here s j halved h (sym f) (sym e) in
+            let at : readable_at j (on_readable (readable_operation j operation) j s).slots ≡ (readable_operation j operation (readable_acts j s)).slots = ap as_readable (on_readable-same (readable_operation j operation) j s (sym f)) in
+            let open_ : can_close_or_enqueue (readable_operation j operation (readable_acts j s)).slots ≡ true = rw at at (rw (← is) at can) in
+            rw (← f) (open-none s j (readable_operation j operation (readable_acts j s)).slots (readable_operation j operation (readable_acts j s)).out.effects open_ (operation-causes j operation (readable_acts j s) refl))
+
+    pub row-none : (e : Effect) (s : Slots) → Halved s → Reads t r s → can_close_or_enqueue (readable_at r (row e s).slots) ≡ true → cancels s e ≡ 0 → none_of s (row e s).caused ≡ 0
+    unfolding row
+    row-none (OnReadable j operation) s halved h can n = readable-none s j operation halved h can
+    row-none (OnWritable j operation) s halved h can n = writable-none s j operation
+    row-none (OnPipe p operation) s halved h can n = pipe-none s p operation (slice_get s.pipes p.0)
+    row-none (OnSignal a operation) s halved h can n = signal-none s a operation (slice_get s.signals a.0)
+    row-none (OnTransform u operation) s halved h can n = on_transform-none s u operation (slice_get s.transforms u.0) n
+    row-none (StartAlgorithm j step start) s halved h can n = start-none s s j step start n
+    row-none (PullAlgorithm j) s halved h can n = pull-none s j (owner_at j s)
+    row-none (CancelAlgorithm j c p) s halved h can n = cancel-none s j c p (owner_at j s) n
+    row-none (WriteAlgorithm j) s halved h can n = write-none s j (owner_at j s)
+    row-none (CloseAlgorithm j) s halved h can n = close-none s j (owner_at j s)
+    row-none (AbortAlgorithm j c p) s halved h can n = abort-none s j c p (owner_at j s)
+    row-none (ChunkSteps j (Promise p) v) s halved h can n = refl
+    row-none (CloseSteps j (Promise p)) s halved h can n = refl
+    row-none (ErrorSteps j (Promise p) e) s halved h can n = refl
+    row-none (ChunkSteps j (PipeRequest p) v) s halved h can n = refl
+    row-none (CloseSteps j (PipeRequest p)) s halved h can n = refl
+    row-none (ErrorSteps j (PipeRequest p) e) s halved h can n = refl
+    row-none _ s halved h can n = refl
+
+  -- where no stream performs its algorithms
+  pub none-owned : (e : Effect) (s : Slots) → ((j : StreamId) → mine s j ≡ false) → cancels s e ≡ 0 → none_of s (row e s).caused ≡ 0
+  unfolding row
+  none-owned (OnReadable j operation) s o n = other-readable s j operation (o j)
+  none-owned (OnWritable j operation) s o n = writable-none s j operation
+  none-owned (OnPipe p operation) s o n = pipe-none s p operation (slice_get s.pipes p.0)
+  none-owned (OnSignal a operation) s o n = signal-none s a operation (slice_get s.signals a.0)
+  none-owned (OnTransform u operation) s o n = on_transform-none s u operation (slice_get s.transforms u.0) n
+  none-owned (StartAlgorithm j step start) s o n = start-none s s j step start n
+  none-owned (PullAlgorithm j) s o n = pull-none s j (owner_at j s)
+  none-owned (CancelAlgorithm j c p) s o n = cancel-none s j c p (owner_at j s) n
+  none-owned (WriteAlgorithm j) s o n = write-none s j (owner_at j s)
+  none-owned (CloseAlgorithm j) s o n = close-none s j (owner_at j s)
+  none-owned (AbortAlgorithm j c p) s o n = abort-none s j c p (owner_at j s)
+  none-owned (ChunkSteps j (Promise p) v) s o n = refl
+  none-owned (CloseSteps j (Promise p)) s o n = refl
+  none-owned (ErrorSteps j (Promise p) e) s o n = refl
+  none-owned (ChunkSteps j (PipeRequest p) v) s o n = refl
+  none-owned (CloseSteps j (PipeRequest p)) s o n = refl
+  none-owned (ErrorSteps j (PipeRequest p) e) s o n = refl
+  none-owned _ s o n = refl

@@ -1,0 +1,3 @@
+pub mod HalfLaws
+pub mod TransformHistory
+pub mod TransformLaws
