@@ -1,5 +1,5 @@
 -- A pipe between two free streams makes them a link.
-use Rattle.std.proofs.Common.{◌≡◌, ◌≢◌, ℕ, zero, suc, Bool, true, false, not, ◌&&◌, nat_eq, List, [], ◌∷◌, ◌++◌, length, Option, Some, None, slice_get, refl, sym, ap, ◌∙◌, arith}
+use Rattle.std.proofs.Common.{◌≡◌, ◌≢◌, ℕ, zero, suc, Bool, true, false, not, ◌&&◌, is_some, nat_eq, List, [], ◌∷◌, ◌++◌, length, Option, Some, None, slice_get, refl, sym, ap, ◌∙◌, arith}
 use Rattle.ws_value.specs.declared.ids.PipeId.{PipeId}
 use Rattle.ws_value.specs.declared.ids.SignalId.{SignalId}
 use Rattle.ws_value.specs.declared.ids.StreamId.{StreamId}
@@ -17,25 +17,27 @@ use Rattle.ws_steps.specs.Pipes as pipe
 use Rattle.ws_steps.specs.Promises.{Table, next_id, fresh}
 use Rattle.ws_steps.specs.Readable as readable
 use Rattle.ws_steps.specs.Run.{Called, after_call}
-use Rattle.ws_steps.specs.Slots.{Slots, Done, readable_at, writable_at, pipe_at, as_pipe}
+use Rattle.ws_steps.specs.Slots.{Slots, Done, owner_at, readable_at, writable_at, pipe_at, as_pipe}
 use Rattle.ws_steps.specs.Turns.{performed}
 use Rattle.ws_steps.specs.Writable as writable
 use Rattle.ws_flow.specs.Told.{Told, then_told, IsShortOf}
 use Rattle.ws_flow.proofs.Told.{then_empty, short_refl}
-use Rattle.ws_laws.proofs.Lists.{Each}
+use Rattle.ws_laws.proofs.Lists.{Each, each-map}
 use Rattle.ws_laws.proofs.Truth.{and_right}
 use Rattle.ws_pipe_laws.proofs.AtSource.{except_few, all_off}
 use Rattle.ws_pipe_laws.proofs.PassingRuns.{call-none, call-is}
-use Rattle.ws_writable_laws.proofs.Runs.{call-kept}
-use Rattle.ws_link_laws.specs.Link.{in_sink, in_source, unheard, behind}
+use Rattle.ws_transform_laws.proofs.Halving.{going}
+use Rattle.ws_link_laws.specs.Link.{Ear, ear_at, in_sink, in_source, unheard, behind}
 use Rattle.ws_link_laws.specs.Laws.{EachLinkBegins}
 use Rattle.ws_link_laws.specs.Sound.{all_apart, IsApart, IsFree, IsThere, IsLink, AreApart, SourceFits, FitsIn}
-use Rattle.ws_link_laws.proofs.Telling.{IsSilent, silent-all, hands, writes, chunks, coming, behind_on}
+use Rattle.ws_link_laws.proofs.Ahead.{IsLate, Placed, flushes, late-silent, late-front, late-first}
+use Rattle.ws_link_laws.proofs.Hosts.{reached-hosts, hosts-same}
+use Rattle.ws_link_laws.proofs.Telling.{if_same, IsSilent, silent-all, writes, chunks, coming, behind_on}
 use Rattle.ws_link_laws.proofs.Unheard.{fresh-unheard}
 use Rattle.ws_link_laws.proofs.Pipes.{rank}
 use Rattle.ws_link_laws.proofs.Standing.{IsInner, IsNotLast, Sound}
-use Rattle.ws_link_laws.proofs.Calls.{if_same, spare-append}
-use Rattle.ws_link_laws.proofs.Steps.{From, performed-from, older-from, named-from, from-link, reached-step, reached-kept, reached-few, reached-is, append_ends}
+use Rattle.ws_link_laws.proofs.Calls.{spare-append}
+use Rattle.ws_link_laws.proofs.Steps.{From, performed-from, older-from, named-from, from-link, reached-step, reached-going, reached-few, reached-is, append_ends}
 
 -- one more at the end of a table
 
@@ -114,10 +116,15 @@ module _ (i j : StreamId) (prevent : Prevent) (signal : Option SignalId) (s : Sl
   begins-last None None = (refl, (refl, (refl, tt)))
   begins-last None (Some g) = (refl, (refl, (refl, (refl, tt))))
 
-  begins-hands : (reason : Option Plain) (o : Option SignalId) → Each (IsSilent (hands j)) (calls.pipe_begins p (next_id s.promises) (next_id (fresh (fresh s.promises))) o reason)
-  begins-hands (Some r) o = (refl, tt)
-  begins-hands None None = (refl, (refl, (refl, tt)))
-  begins-hands None (Some g) = (refl, (refl, (refl, (refl, tt))))
+  begins-late : (w : Ear) (reason : Option Plain) (o : Option SignalId) → Each (IsLate w) (calls.pipe_begins p (next_id s.promises) (next_id (fresh (fresh s.promises))) o reason)
+  begins-late w (Some r) o = ((refl, refl), tt)
+  begins-late w None None = ((refl, refl), ((refl, refl), ((refl, refl), tt)))
+  begins-late w None (Some g) = ((refl, refl), ((refl, refl), ((refl, refl), ((refl, refl), tt))))
+
+  begins-placed : (w : Ear) (z : Slots) (reason : Option Plain) (o : Option SignalId) → Each (Placed j w z) (calls.pipe_begins p (next_id s.promises) (next_id (fresh (fresh s.promises))) o reason)
+  begins-placed w z (Some r) o = (tt, tt)
+  begins-placed w z None None = (tt, (tt, (tt, tt)))
+  begins-placed w z None (Some g) = (tt, (tt, (tt, (tt, tt))))
 
   begins-writes : (reason : Option Plain) (o : Option SignalId) → Each (IsSilent (writes j)) (calls.pipe_begins p (next_id s.promises) (next_id (fresh (fresh s.promises))) o reason)
   begins-writes (Some r) o = (refl, tt)
@@ -129,7 +136,7 @@ module _ (i j : StreamId) (prevent : Prevent) (signal : Option SignalId) (s : Sl
   begins-chunks None None = (refl, (refl, (refl, tt)))
   begins-chunks None (Some g) = (refl, (refl, (refl, (refl, tt))))
 
-  begins-coming : (reason : Option Plain) (o : Option SignalId) → Each (IsSilent (coming i)) (calls.pipe_begins p (next_id s.promises) (next_id (fresh (fresh s.promises))) o reason)
+  begins-coming : (reason : Option Plain) (o : Option SignalId) → Each (IsSilent (coming (owner_at i s) i)) (calls.pipe_begins p (next_id s.promises) (next_id (fresh (fresh s.promises))) o reason)
   begins-coming (Some r) o = (refl, tt)
   begins-coming None None = (refl, (refl, (refl, tt)))
   begins-coming None (Some g) = (refl, (refl, (refl, (refl, tt))))
@@ -147,7 +154,9 @@ module _ (i j : StreamId) (prevent : Prevent) (signal : Option SignalId) (s : Sl
 
   begun-sound : Sound i j p d.slots d.caused
   begun-sound =
-      let k = reached-kept s j free.reached in
+      let hosts = reached-hosts i j s free.reached free.source free.sink free.source_owner free.sink_owner in
+      let g = reached-going s j free.reached in
+      let late : Each (IsLate (ear_at j s)) d.caused = ((refl, refl), ((refl, refl), ((refl, refl), begins-late (ear_at j s) (calls.reason_of signal s) signal))) in
       let r = reached-is s p free.reached in
       let few = rw is_begun at ((call-is p r.0 s (Pipe i j prevent signal) r.1).0) in
       let none = rw is_begun at (call-none p (Pipe i j prevent signal) s) in
@@ -167,31 +176,37 @@ module _ (i j : StreamId) (prevent : Prevent) (signal : Option SignalId) (s : Sl
           sink_fits = free-sink (writable_at j s) (writable_at j s).state free.queue free.close_request free.close_in_flight;
           closes = rw at tt;
         };
+        ahead = record {
+          hosts = hosts-same i j s d.slots refl refl hosts;
+          history = g.0;
+          going = λ t. rw is_begun at ((going j t).call g.0 s (Pipe i j prevent signal) (g.1 t));
+          placed = (tt, (tt, (tt, begins-placed (ear_at j s) d.slots (calls.reason_of signal s) signal)));
+          front = late-front (ear_at j s) d.caused late;
+          first = late-first (ear_at j s) (is_some (writable_at j d.slots).close_in_flight) d.caused (each-map (IsLate (ear_at j s)) (λ e. flushes (ear_at j s) e ≡ false) (λ e l. l.1) d.caused late);
+        };
         few = few;
         only = omega (arith, none, o, x, before);
-        history = k.0;
-        kept = rw is_begun at (call-kept j k.0 s (Pipe i j prevent signal) k.1);
         inner = (tt, (tt, (tt, begins-inner (rank (pipe_at p d.slots).phase) (calls.reason_of signal s) signal)));
         ends = append_ends j p d.caused (refl, (refl, (refl, begins-last (calls.reason_of signal s) signal)));
       }
 
   abbrev pub t : Told Value
-  t = then_told (unheard j s.promises.events) (then_told (in_sink (writable_at j s)) (in_source (readable_at i s)))
+  t = then_told (unheard (ear_at j s) s.promises.events) (then_told (in_sink (writable_at j s)) (in_source (readable_at i s)))
 
-  fresh-heard : unheard j d.slots.promises.events ≡ unheard j s.promises.events
+  fresh-heard : unheard (ear_at j s) d.slots.promises.events ≡ unheard (ear_at j s) s.promises.events
   fresh-heard =
       let u : Table = s.promises in
-      fresh-unheard j (fresh (fresh (fresh u))) ∙ (fresh-unheard j (fresh (fresh u)) ∙ (fresh-unheard j (fresh u) ∙ fresh-unheard j u))
+      fresh-unheard (ear_at j s) (fresh (fresh (fresh u))) ∙ (fresh-unheard (ear_at j s) (fresh (fresh u)) ∙ (fresh-unheard (ear_at j s) (fresh u) ∙ fresh-unheard (ear_at j s) u))
 
   begun-told : behind_on i j p d.slots d.caused ≡ t
   begun-told =
       rw (
         fresh-heard,
         at,
-        silent-all (hands j) d.caused (refl, (refl, (refl, begins-hands (calls.reason_of signal s) signal))),
+        late-silent (ear_at j s) d.caused ((refl, refl), ((refl, refl), ((refl, refl), begins-late (ear_at j s) (calls.reason_of signal s) signal))),
         silent-all (writes j) d.caused (refl, (rw (if_same (is_same j j)) refl, (refl, begins-writes (calls.reason_of signal s) signal))),
         silent-all (chunks p) d.caused (refl, (refl, (refl, begins-chunks (calls.reason_of signal s) signal))),
-        silent-all (coming i) d.caused (if_same (is_same i i), (refl, (if_same (is_same i i), begins-coming (calls.reason_of signal s) signal))),
+        silent-all (coming (owner_at i s) i) d.caused (if_same (is_same i i), (refl, (if_same (is_same i i), begins-coming (calls.reason_of signal s) signal))),
         then_empty (in_source (readable_at i s)),
       ) refl
 

@@ -1,5 +1,5 @@
 -- What calls begin with that leave a link alone.
-use Rattle.std.proofs.Common.{◌≡◌, ◌≢◌, ◌⊎◌, inl, inr, ℕ, zero, suc, Bool, true, false, not, nat_lt, if◌then◌else◌, List, [], ◌∷◌, ◌++◌, length, Option, Some, None, Err, slice_get, slice_set, refl, sym, ◌∙◌, arith}
+use Rattle.std.proofs.Common.{◌≡◌, ◌≢◌, ◌⊎◌, inl, inr, ℕ, zero, suc, ◌+◌, Bool, true, false, not, nat_eq, nat_lt, if◌then◌else◌, List, [], ◌∷◌, ◌++◌, length, Option, Some, None, Err, slice_get, slice_set, refl, sym, ap, ◌∙◌, arith}
 use Rattle.ws_value.specs.declared.ids.HostId.{HostId}
 use Rattle.ws_value.specs.declared.ids.LockId.{LockId}
 use Rattle.ws_value.specs.declared.ids.PipeId.{PipeId}
@@ -10,21 +10,28 @@ use Rattle.ws_value.specs.declared.value.Plain.{Plain}
 use Rattle.ws_value.specs.declared.value.Value.{Value}
 use Rattle.ws_steps.specs.declared.calls.Answer.{Answer}
 use Rattle.ws_steps.specs.declared.calls.Call.{Call}
-use Rattle.ws_steps.specs.declared.calls.Call.TheVariants.{MakeReadable, MakeWritable, GetReader, GetWriter, Cancel, CancelBy, Read, Write, Close, CloseBy, Abort, AbortBy, Closed, Ready, Release, Enqueue, Finish, Fail, Desired, DesiredBy, Pipe, MakeSignal, Trigger, Settle, State, Step}
+use Rattle.ws_steps.specs.declared.calls.Call.TheVariants.{MakeReadable, MakeWritable, MakeTransform, GetReader, GetWriter, Cancel, CancelBy, Read, Write, Close, CloseBy, Abort, AbortBy, Closed, Ready, Release, Enqueue, Finish, Fail, Terminate, Desired, DesiredBy, Pipe, MakeSignal, Trigger, Settle, State, Step}
 use Rattle.ws_steps.specs.declared.calls.Reply.{Reply}
 use Rattle.ws_steps.specs.declared.calls.Reply.TheVariants.{Done as ReplyDone, Promise, State as ReplyState, Throws, TooMany}
 use Rattle.ws_steps.specs.declared.calls.Thrown.TheVariants.{TypeError, Unsupported}
+use Rattle.ws_steps.specs.declared.calls.HostCall.TheVariants.{Start as HostStart}
+use Rattle.ws_steps.specs.declared.calls.StartBy.{StartBy}
+use Rattle.ws_steps.specs.declared.calls.StartBy.TheVariants.{Now, Later}
 use Rattle.ws_steps.specs.declared.effects.Effect.{Effect}
-use Rattle.ws_steps.specs.declared.effects.Effect.TheVariants.{Readable as OnReadable, Writable as OnWritable, Pipe as OnPipe, Signal as OnSignal, ChunkSteps, Settle as SettlePromise, CallHost}
+use Rattle.ws_steps.specs.declared.effects.Effect.TheVariants.{Readable as OnReadable, Writable as OnWritable, Pipe as OnPipe, Signal as OnSignal, Transform as OnTransform, CloseAlgorithm, ChunkSteps, Settle as SettlePromise, CallHost}
+use Rattle.ws_steps.specs.declared.effects.Owner.{Owner}
+use Rattle.ws_steps.specs.declared.effects.Owner.TheVariants.{Host, HalfOf}
 use Rattle.ws_steps.specs.declared.locks.Lock.{Lock}
 use Rattle.ws_steps.specs.declared.locks.Lock.TheVariants.{Reader as ReaderLock, Writer as WriterLock, ReleasedWriter, Inner}
 use Rattle.ws_steps.specs.declared.pipes.PipeOperation.TheVariants.{Abort as AbortPipe}
 use Rattle.ws_steps.specs.declared.pipes.Prevent.{Prevent}
 use Rattle.ws_steps.specs.declared.pipes.SignalOperation.TheVariants.{Trigger as TriggerSignal}
 use Rattle.ws_steps.specs.declared.readable.ReadRequest.TheVariants.{Promise as PromiseRequest}
-use Rattle.ws_steps.specs.declared.readable.ReadableOperation.{ReadableOperation}
 use Rattle.ws_steps.specs.declared.readable.ReadableOperation.TheVariants.{InitializeReader, Read as ReadChunk, Cancel as CancelStream, CancelIfReadable, Enqueue as EnqueueChunk, Close as CloseReadable, Error as ErrorReadable}
-use Rattle.ws_steps.specs.declared.writable.WritableOperation.TheVariants.{SetUpWriter, Write as WriteChunk, Close as CloseStream, ClosePropagating, Abort as AbortStream, ErrorIfNeeded}
+use Rattle.ws_steps.specs.declared.transform.Kind.{Kind}
+use Rattle.ws_steps.specs.declared.transform.TransformId.{TransformId}
+use Rattle.ws_steps.specs.declared.transform.TransformOperation.TheVariants.{TransformChunk, SinkClose, Enqueue as EnqueueByTransform, Error as ErrorTransform, Terminate as TerminateTransform}
+use Rattle.ws_steps.specs.declared.writable.WritableOperation.TheVariants.{SetUpWriter, Write as WriteChunk, Close as CloseStream, ClosePropagating, Abort as AbortStream, ErrorIfNeeded, HandOn}
 use Rattle.ws_steps.specs.declared.writable.Writer.{Writer}
 use Rattle.ws_steps.specs.Calls as calls
 use Rattle.ws_steps.specs.Calls.{Begun, begin}
@@ -36,16 +43,19 @@ use Rattle.ws_steps.specs.Readable as readable
 use Rattle.ws_steps.specs.Readable.{can_close_or_enqueue}
 use Rattle.ws_steps.specs.ReadableLooks as readable_looks
 use Rattle.ws_steps.specs.WritableLooks as writable_looks
-use Rattle.ws_steps.specs.Slots.{Slots, most_streams, has_readable, has_writable, has_signal, readable_at, writable_at, pipe_at, lock_at, host_at}
+use Rattle.ws_steps.specs.Slots.{Slots, most_streams, has_readable, has_writable, has_signal, owner_at, readable_at, writable_at, pipe_at, lock_at, host_at}
 use Rattle.ws_steps.specs.Writable as writable
-use Rattle.ws_flow.specs.Told.{Open, Told, then_told, IsShortOf}
+use Rattle.ws_flow.specs.Told.{Open, Closed as Ended, Told, told, then_told, IsShortOf}
 use Rattle.ws_flow.proofs.Told.{then_empty, short_refl}
+use Rattle.ws_laws.proofs.Halves.{Halved}
 use Rattle.ws_laws.proofs.Lists.{Each, each-append}
-use Rattle.ws_laws.proofs.Tables.{either, same_id}
+use Rattle.ws_laws.proofs.Tables.{either, eq_numbers, is_same-refl, same_id}
 use Rattle.ws_laws.proofs.Truth.{not_false, and_left, and_right}
-use Rattle.ws_link_laws.specs.Link.{silence, in_sink, in_source, in_pipe, unheard, behind, enters, leaves}
+use Rattle.ws_link_laws.specs.Link.{Ear, silence, in_sink, in_source, in_pipe, ear_at, unheard, behind, enters, leaves}
 use Rattle.ws_link_laws.specs.Sound.{spares, all_spare, AreApart, IsApart}
-use Rattle.ws_link_laws.proofs.Telling.{tells, IsSilent, silent-all, hands, writes, chunks, coming}
+use Rattle.ws_link_laws.proofs.Telling.{is_of, if_same, tells, IsSilent, silent-all, writes, chunks, coming}
+use Rattle.ws_link_laws.proofs.Hosts.{source-owner, one-readable}
+use Rattle.ws_link_laws.proofs.Ahead.{IsLate, Placed}
 use Rattle.ws_link_laws.proofs.Unheard.{fresh-unheard}
 use Rattle.ws_link_laws.proofs.Sinks.{shut}
 use Rattle.ws_link_laws.proofs.Standing.{IsInner, IsNotLast}
@@ -61,15 +71,16 @@ IsOuter i j (OnWritable k (SetUpWriter w)) = is_same j k ≡ false
 IsOuter i j (OnWritable k (WriteChunk v q)) = is_same j k ≡ false
 IsOuter i j (OnWritable k (CloseStream q)) = is_same j k ≡ false
 IsOuter i j (OnWritable k (ClosePropagating q)) = is_same j k ≡ false
+IsOuter i j (OnWritable k (HandOn taker)) = ⊥
 IsOuter i j (OnPipe q (AbortPipe r)) = Unit {0}
 IsOuter i j (OnPipe q operation) = ⊥
 IsOuter i j (ChunkSteps k request v) = ⊥
+IsOuter i j (OnTransform a (TransformChunk v d)) = ⊥
+IsOuter i j (OnTransform a (SinkClose u)) = ⊥
+IsOuter i j (CloseAlgorithm k) = ⊥
+IsOuter i j (CallHost (HostStart k) u) = Unit {0}
 IsOuter i j (CallHost call u) = ⊥
 IsOuter i j _ = Unit {0}
-
-pub if_same : (b : Bool) → (if b then silence else silence) ≡ silence
-if_same true = refl
-if_same false = refl
 
 pub outer-inner : (i j : StreamId) (p : PipeId) (n : ℕ) (e : Effect) → IsOuter i j e → IsInner i j p n e
 outer-inner i j p n e o = grind (arith, o)
@@ -77,8 +88,11 @@ outer-inner i j p n e o = grind (arith, o)
 pub outer-last : (p : PipeId) (i j : StreamId) (e : Effect) → IsOuter i j e → IsNotLast p e
 outer-last p i j e o = grind (arith, o)
 
-pub outer-hands : (i j : StreamId) (e : Effect) → IsOuter i j e → IsSilent (hands j) e
-outer-hands i j e o = grind (arith, o)
+pub outer-late : (w : Ear) (i j : StreamId) (e : Effect) → IsOuter i j e → IsLate w e
+outer-late w i j e o = grind (arith, o)
+
+pub outer-placed : (w : Ear) (s : Slots) (i j : StreamId) (e : Effect) → IsOuter i j e → Placed j w s e
+outer-placed w s i j e o = grind (arith, o)
 
 pub outer-writes : (i j : StreamId) (e : Effect) → IsOuter i j e → IsSilent (writes j) e
 outer-writes i j e o = grind (arith, o, if_same)
@@ -113,7 +127,7 @@ spare-append i j (k ∷ ls) ms a b =
 then_shut : (x y : Told Value) → y.mark ≢ Open → (then_told x y).mark ≢ Open
 then_shut x y n = grind (arith, n)
 
-source_shut : (r : readable.Slots) → can_close_or_enqueue r ≡ false → (in_source r).mark ≢ Open
+pub source_shut : (r : readable.Slots) → can_close_or_enqueue r ≡ false → (in_source r).mark ≢ Open
 source_shut r e = grind (arith, e)
 
 pipe_shut : (x : pipe.Slots) (y : Told Value) → y.mark ≢ Open → (in_pipe x y).mark ≢ Open
@@ -121,33 +135,33 @@ pipe_shut x y n = grind (arith, n)
 
 behind-shut : (i j : StreamId) (p : PipeId) (s : Slots) → can_close_or_enqueue (readable_at i s) ≡ false → (behind i j p s).mark ≢ Open
 behind-shut i j p s e =
-    then_shut (unheard j s.promises.events) _ (then_shut (in_sink (writable_at j s)) _ (pipe_shut (pipe_at p s) (in_source (readable_at i s)) (source_shut (readable_at i s) e)))
+    then_shut (unheard (ear_at j s) s.promises.events) _ (then_shut (in_sink (writable_at j s)) _ (pipe_shut (pipe_at p s) (in_source (readable_at i s)) (source_shut (readable_at i s) e)))
 
 -- what a call begins with, that enters t
 
 pub record Begins (i j : StreamId) (p : PipeId) (s : Slots) (t : Told Value) (b : Begun) : Type 0 where
   pub locks : all_spare i j b.done.slots.locks ≡ true
   pub apart : AreApart i j p b.done.slots.pipes
-  pub heard : unheard j b.done.slots.promises.events ≡ unheard j s.promises.events
+  pub heard : (w : Ear) → unheard w b.done.slots.promises.events ≡ unheard w s.promises.events
   pub outer : Each (IsOuter i j) b.done.caused
-  pub comes : IsShortOf (then_told (behind i j p s) (tells (coming i) b.done.caused)) (then_told (behind i j p s) t)
+  pub comes : IsShortOf (then_told (behind i j p s) (tells (coming (owner_at i s) i) b.done.caused)) (then_told (behind i j p s) t)
 
-module _ (i j : StreamId) (p : PipeId) (s : Slots) (here : has_readable i s ≡ true) (locks : all_spare i j s.locks ≡ true) (apart : AreApart i j p s.pipes) where
+module _ (i j : StreamId) (p : PipeId) (s : Slots) (here : has_readable i s ≡ true) (halved : Halved s) (locks : all_spare i j s.locks ≡ true) (apart : AreApart i j p s.pipes) where
   abbrev P : Begun → Type 0
   P b = Begins i j p s silence b
 
   unchanged : (reply : Reply) → P (calls.replies reply s)
-  unchanged reply = record { locks = locks; apart = apart; heard = refl; outer = tt; comes = short_refl _ }
+  unchanged reply = record { locks = locks; apart = apart; heard = λ w. refl; outer = tt; comes = short_refl _ }
 
   -- a call that causes effects of others, and changes no more than these
-  quietly : (b : Begun) → all_spare i j b.done.slots.locks ≡ true → AreApart i j p b.done.slots.pipes → unheard j b.done.slots.promises.events ≡ unheard j s.promises.events → Each (IsOuter i j) b.done.caused → Each (IsSilent (coming i)) b.done.caused → P b
-  quietly b l a h o c = record { locks = l; apart = a; heard = h; outer = o; comes = rw (silent-all (coming i) b.done.caused c) (short_refl _) }
+  quietly : (b : Begun) → all_spare i j b.done.slots.locks ≡ true → AreApart i j p b.done.slots.pipes → ((w : Ear) → unheard w b.done.slots.promises.events ≡ unheard w s.promises.events) → Each (IsOuter i j) b.done.caused → Each (IsSilent (coming (owner_at i s) i)) b.done.caused → P b
+  quietly b l a h o c = record { locks = l; apart = a; heard = h; outer = o; comes = rw (silent-all (coming (owner_at i s) i) b.done.caused c) (short_refl _) }
 
-  promising : (f : PromiseId → List Effect) → Each (IsOuter i j) (f (next_id s.promises)) → Each (IsSilent (coming i)) (f (next_id s.promises)) → P (calls.promising f s)
-  promising f o c = quietly (calls.promising f s) locks apart (fresh-unheard j s.promises) o c
+  promising : (f : PromiseId → List Effect) → Each (IsOuter i j) (f (next_id s.promises)) → Each (IsSilent (coming (owner_at i s) i)) (f (next_id s.promises)) → P (calls.promising f s)
+  promising f o c = quietly (calls.promising f s) locks apart (λ w. fresh-unheard w s.promises) o c
 
-  does : (es : List Effect) → Each (IsOuter i j) es → Each (IsSilent (coming i)) es → P (calls.does es s)
-  does es o c = quietly (calls.does es s) locks apart refl o c
+  does : (es : List Effect) → Each (IsOuter i j) es → Each (IsSilent (coming (owner_at i s) i)) es → P (calls.does es s)
+  does es o c = quietly (calls.does es s) locks apart (λ w. refl) o c
 
   rejected : P (calls.rejected s)
   rejected = promising (λ q. SettlePromise q (Err type_error) ∷ []) (tt, tt) (refl, tt)
@@ -197,29 +211,29 @@ module _ (i j : StreamId) (p : PipeId) (s : Slots) (here : has_readable i s ≡ 
   renewed-outer t true = tt
   renewed-outer t false = (tt, tt)
 
-  renewed-coming : (t : Table) (kept : Bool) → Each (IsSilent (coming i)) (calls.reject_renewed t kept)
+  renewed-coming : (t : Table) (kept : Bool) → Each (IsSilent (coming (owner_at i s) i)) (calls.reject_renewed t kept)
   renewed-coming t true = tt
   renewed-coming t false = (refl, tt)
 
-  renewed-heard : (t : Table) (kept : Bool) → unheard j (calls.with_renewed t kept).events ≡ unheard j t.events
-  renewed-heard t true = refl
-  renewed-heard t false = fresh-unheard j t
+  renewed-heard : (w : Ear) (t : Table) (kept : Bool) → unheard w (calls.with_renewed t kept).events ≡ unheard w t.events
+  renewed-heard w t true = refl
+  renewed-heard w t false = fresh-unheard w t
 
   releases_reader : (l : LockId) (closed : PromiseId) (k : StreamId) → P (calls.release_reader l closed k s)
   releases_reader l closed k =
       let kept : Bool = readable.is_readable (readable_at k s).state in
-      quietly (calls.release_reader l closed k s) (spare-set i j l.0 s.locks _ locks refl) apart (renewed-heard s.promises kept)
+      quietly (calls.release_reader l closed k s) (spare-set i j l.0 s.locks _ locks refl) apart (λ w. renewed-heard w s.promises kept)
       (each-append (IsOuter i j) (calls.reject_renewed s.promises kept) _ (renewed-outer s.promises kept) (tt, tt))
-      (each-append (IsSilent (coming i)) (calls.reject_renewed s.promises kept) _ (renewed-coming s.promises kept) (if_same (is_same i k), tt))
+      (each-append (IsSilent (coming (owner_at i s) i)) (calls.reject_renewed s.promises kept) _ (renewed-coming s.promises kept) (if_same (is_same i k), tt))
 
   releases_writer : (l : LockId) (k : StreamId) (w : Writer) → P (calls.release_writer l k w s)
   releases_writer l k w =
       let ready : Bool = is_pending_at w.ready s.promises in
       let t : Table = calls.with_renewed s.promises ready in
       let closed : Bool = is_pending_at w.closed t in
-      quietly (calls.release_writer l k w s) (spare-set i j l.0 s.locks _ locks refl) apart (renewed-heard t closed ∙ renewed-heard s.promises ready)
+      quietly (calls.release_writer l k w s) (spare-set i j l.0 s.locks _ locks refl) apart (λ w. renewed-heard w t closed ∙ renewed-heard w s.promises ready)
       (each-append (IsOuter i j) (calls.reject_renewed s.promises ready) _ (renewed-outer s.promises ready) (each-append (IsOuter i j) (calls.reject_renewed t closed) _ (renewed-outer t closed) (tt, tt)))
-      (each-append (IsSilent (coming i)) (calls.reject_renewed s.promises ready) _ (renewed-coming s.promises ready) (each-append (IsSilent (coming i)) (calls.reject_renewed t closed) _ (renewed-coming t closed) (refl, tt)))
+      (each-append (IsSilent (coming (owner_at i s) i)) (calls.reject_renewed s.promises ready) _ (renewed-coming s.promises ready) (each-append (IsSilent (coming (owner_at i s) i)) (calls.reject_renewed t closed) _ (renewed-coming t closed) (refl, tt)))
 
   release : (l : LockId) (o : Option Lock) → P (calls.release l s o)
   release l None = unchanged (Throws Unsupported)
@@ -237,7 +251,7 @@ module _ (i j : StreamId) (p : PipeId) (s : Slots) (here : has_readable i s ≡ 
 
   settle_host : (h : HostId) (answer : Answer) (o : Option PromiseId) → P (calls.settle_host h answer s o)
   settle_host h answer None = unchanged (Throws Unsupported)
-  settle_host h answer (Some q) = quietly (calls.settle_host h answer s (Some q)) locks apart refl (tt, tt) (refl, tt)
+  settle_host h answer (Some q) = quietly (calls.settle_host h answer s (Some q)) locks apart (λ w. refl) (tt, tt) (refl, tt)
 
   unlocked_readable : (k : StreamId) (locked : Slots → Begun) (free : StreamId → Slots → Begun) → P (locked s) → P (free k s) → P (calls.unlocked_readable k locked free s)
   unlocked_readable k locked free l f =
@@ -254,7 +268,7 @@ module _ (i j : StreamId) (p : PipeId) (s : Slots) (here : has_readable i s ≡ 
   begins-outer me a b None None = (tt, (tt, (tt, tt)))
   begins-outer me a b (Some g) None = (tt, (tt, (tt, (tt, tt))))
 
-  begins-coming : (me : PipeId) (a b : PromiseId) (signal : Option SignalId) (reason : Option Plain) → Each (IsSilent (coming i)) (calls.pipe_begins me a b signal reason)
+  begins-coming : (me : PipeId) (a b : PromiseId) (signal : Option SignalId) (reason : Option Plain) → Each (IsSilent (coming (owner_at i s) i)) (calls.pipe_begins me a b signal reason)
   begins-coming me a b signal (Some r) = (refl, tt)
   begins-coming me a b None None = (refl, (refl, (refl, tt)))
   begins-coming me a b (Some g) None = (refl, (refl, (refl, (refl, tt))))
@@ -273,7 +287,7 @@ module _ (i j : StreamId) (p : PipeId) (s : Slots) (here : has_readable i s ≡ 
       let closed : PromiseId = next_id t in
       let w : PromiseId = next_id (fresh (fresh t)) in
       quietly (calls.pipe_to source dest prevent signal s) (spare-append i j s.locks (Inner ∷ Inner ∷ []) locks refl) (apart-append _ (a, b))
-      (fresh-unheard j (fresh (fresh (fresh t))) ∙ (fresh-unheard j (fresh (fresh t)) ∙ (fresh-unheard j (fresh t) ∙ fresh-unheard j t)))
+      (λ w. fresh-unheard w (fresh (fresh (fresh t))) ∙ (fresh-unheard w (fresh (fresh t)) ∙ (fresh-unheard w (fresh t) ∙ fresh-unheard w t)))
       (a, (b, (tt, begins-outer me closed w signal (calls.reason_of signal s))))
       (if_same (is_same i source), (refl, (if_same (is_same i source), begins-coming me closed w signal (calls.reason_of signal s))))
 
@@ -294,35 +308,133 @@ module _ (i j : StreamId) (p : PipeId) (s : Slots) (here : has_readable i s ≡ 
   refused : (t : Told Value) (reply : Reply) → (t ≡ silence) ⊎ ((behind i j p s).mark ≢ Open) → Begins i j p s t (calls.replies reply s)
   refused t reply (inl e) = rw e (unchanged reply)
   refused t reply (inr n) =
-      record { locks = locks; apart = apart; heard = refl; outer = tt; comes = rw (then_empty (behind i j p s)) (shut (behind i j p s) (behind i j p s) t n (short_refl (behind i j p s))) }
+      record { locks = locks; apart = apart; heard = λ w. refl; outer = tt; comes = rw (then_empty (behind i j p s)) (shut (behind i j p s) (behind i j p s) t n (short_refl (behind i j p s))) }
 
-  enters-begins : (k : StreamId) (operation : ReadableOperation) (t : Told Value) → (coming i (OnReadable k operation) ≡ t) → IsOuter i j (OnReadable k operation) → (is_same i k ≡ false → t ≡ silence)
-      → Begins i j p s t (calls.for_readable k (calls.if_it_can k operation) s)
-  enters-begins k operation t c o elsewhere =
-      either Q (has_readable k s) (calls.if_it_can k operation s) (calls.unsupported s)
-      (λ h. either Q (can_close_or_enqueue (readable_at k s)) (calls.does (OnReadable k operation ∷ []) s) (calls.throws_type_error s)
-      (λ e. record { locks = locks; apart = apart; heard = refl; outer = (o, tt); comes = rw (then_empty (coming i (OnReadable k operation)), c) (short_refl (then_told (behind i j p s) t)) })
-      (λ e. refused t (Throws TypeError) (by (is_same i k) refl (λ is. behind-shut i j p s (rw is e)))))
-      (λ h. refused t (Throws Unsupported) (by (is_same i k) refl (λ is. let there : has_readable k s ≡ true = rw is at here in absurd (cc))))
+  -- at another stream nothing enters; and at the source something does, or it has come to an end
+  enters-or : (k : StreamId) (t : Told Value) → (is_same i k ≡ false → t ≡ silence) → (i ≡ k → (t ≡ silence) ⊎ ((behind i j p s).mark ≢ Open)) → (t ≡ silence) ⊎ ((behind i j p s).mark ≢ Open)
+  enters-or k t elsewhere f = by (is_same i k) refl
     where
-      Q : Begun → Type 0
-      Q b = Begins i j p s t b
+      by : (same : Bool) → same ≡ is_same i k → (t ≡ silence) ⊎ ((behind i j p s).mark ≢ Open)
+      by false n = inl (elsewhere (sym n))
+      by true n = f (same_id i k (sym n))
 
-      by : (same : Bool) → same ≡ is_same i k → (i ≡ k → (behind i j p s).mark ≢ Open) → (t ≡ silence) ⊎ ((behind i j p s).mark ≢ Open)
-      by false n f = inl (elsewhere (sym n))
-      by true n f = inr (f (same_id i k (sym n)))
+  -- where nothing can enter stream k
+  full : (k : StreamId) (t : Told Value) → (is_same i k ≡ false → t ≡ silence) → can_close_or_enqueue (readable_at k s) ≡ false → (t ≡ silence) ⊎ ((behind i j p s).mark ≢ Open)
+  full k t elsewhere e = enters-or k t elsewhere (λ is. inr (behind-shut i j p s (rw is e)))
+
+  lets_in : (t : Told Value) (e : Effect) → IsOuter i j e → coming (owner_at i s) i e ≡ t → Begins i j p s t (calls.does (e ∷ []) s)
+  lets_in t e o c = record { locks = locks; apart = apart; heard = λ w. refl; outer = (o, tt); comes = rw (then_empty (coming (owner_at i s) i e), c) (short_refl (then_told (behind i j p s) t)) }
+
+  -- by whose a stream is, that is there
+  for_owner : (k : StreamId) (t : Told Value) (operation : Slots → Owner → Begun) → (is_same i k ≡ false → t ≡ silence) → ((o : Owner) → has_readable k s ≡ true → owner_at k s ≡ o → Begins i j p s t (operation s o))
+      → Begins i j p s t (calls.for_readable k (λ z. operation z (readable_at k z).owner) s)
+  for_owner k t operation elsewhere f =
+      either (Begins i j p s t) (has_readable k s) (operation s (readable_at k s).owner) (calls.unsupported s)
+      (λ there. f (readable_at k s).owner there (source-owner k s there))
+      (λ absent. refused t (Throws Unsupported) (enters-or k t elsewhere (λ is. let there : has_readable k s ≡ true = rw is at here in absurd (cc))))
+
+  -- the readable half of a transform stream is one
+  half-is : (k : StreamId) (a : TransformId) → has_readable k s ≡ true → owner_at k s ≡ HalfOf a → is_of (owner_at i s) a ≡ is_same i k
+  half-is k a there owner = by (is_same i k) refl
+    where
+      by_owner : (o : Owner) → o ≡ owner_at i s → is_same i k ≡ false → (b : Bool) → b ≡ is_of o a → is_of o a ≡ false
+      by_owner Host e n b f = refl
+      by_owner (HalfOf u) e n false f = sym f
+      by_owner (HalfOf u) e n true f =
+          let is : u ≡ a = ap (λ (m : ℕ). record { 0 = m }) (eq_numbers u.0 a.0 (sym f)) in
+          let one : i ≡ k = one-readable i k a s halved here there (sym e ∙ ap HalfOf is) owner in
+          let same : is_same i k ≡ true = rw one (is_same-refl k) in cc
+
+      by : (same : Bool) → same ≡ is_same i k → is_of (owner_at i s) a ≡ is_same i k
+      by false n = by_owner (owner_at i s) refl (sym n) (is_of (owner_at i s) a) refl ∙ n
+      by true n =
+          let is : i ≡ k = same_id i k (sym n) in
+          let mine : owner_at i s ≡ HalfOf a = rw is owner in
+          let self : nat_eq a.0 a.0 ≡ true = grind arith in
+          rw (mine, self) n
+
+  enqueues : (k : StreamId) (v : Value) (o : Owner) → has_readable k s ≡ true → owner_at k s ≡ o → Begins i j p s (enters (owner_at i s) i (Enqueue k v)) (calls.enqueue_by v k s o)
+  enqueues k v Host there owner =
+      either (Begins i j p s (enters (owner_at i s) i (Enqueue k v))) (can_close_or_enqueue (readable_at k s)) _ _
+      (λ e. lets_in (enters (owner_at i s) i (Enqueue k v)) (OnReadable k (EnqueueChunk v)) tt refl)
+      (λ e. refused (enters (owner_at i s) i (Enqueue k v)) (Throws TypeError) (full k (enters (owner_at i s) i (Enqueue k v)) (λ d. rw d refl) e))
+  enqueues k v (HalfOf a) there owner =
+      either (Begins i j p s (enters (owner_at i s) i (Enqueue k v))) (can_close_or_enqueue (readable_at k s)) _ _
+      (λ e. lets_in (enters (owner_at i s) i (Enqueue k v)) (OnTransform a (EnqueueByTransform v)) tt (rw (half-is k a there owner) refl))
+      (λ e. refused (enters (owner_at i s) i (Enqueue k v)) (Throws TypeError) (full k (enters (owner_at i s) i (Enqueue k v)) (λ d. rw d refl) e))
+
+  -- the host finishes a source of its own, and terminates a transform stream
+
+  finish-elsewhere : (k : StreamId) (o : Owner) → is_same i k ≡ false → enters o i (Finish k) ≡ silence
+  finish-elsewhere k Host d = rw d refl
+  finish-elsewhere k (HalfOf a) d = refl
+
+  terminate-elsewhere : (k : StreamId) (o : Owner) → is_same i k ≡ false → enters o i (Terminate k) ≡ silence
+  terminate-elsewhere k Host d = refl
+  terminate-elsewhere k (HalfOf a) d = rw d refl
+
+  -- what enters is told by whose the source is, where that is stream k
+  own-or : (k : StreamId) (t : Owner → Told Value) (u : Told Value) (o : Owner) → owner_at k s ≡ o → (is_same i k ≡ false → t (owner_at i s) ≡ u) → t o ≡ u → t (owner_at i s) ≡ u
+  own-or k t u o owner elsewhere h = by (is_same i k) refl
+    where
+      by : (same : Bool) → same ≡ is_same i k → t (owner_at i s) ≡ u
+      by false n = elsewhere (sym n)
+      by true n = let is : i ≡ k = same_id i k (sym n) in let mine : owner_at i s ≡ o = rw is owner in rw mine h
+
+  finishes : (k : StreamId) (o : Owner) → has_readable k s ≡ true → owner_at k s ≡ o → Begins i j p s (enters (owner_at i s) i (Finish k)) (calls.finish_by k s o)
+  finishes k Host there owner =
+      let t : Told Value = enters (owner_at i s) i (Finish k) in
+      let same : t ≡ coming (owner_at i s) i (OnReadable k CloseReadable) =
+      own-or k (λ o. enters o i (Finish k)) (coming (owner_at i s) i (OnReadable k CloseReadable)) Host owner (λ d. finish-elsewhere k (owner_at i s) d ∙ rw d refl) refl in
+      either (Begins i j p s t) (can_close_or_enqueue (readable_at k s)) _ _ (λ e. lets_in t (OnReadable k CloseReadable) tt (sym same))
+      (λ e. refused t (Throws TypeError) (full k t (finish-elsewhere k (owner_at i s)) e))
+  finishes k (HalfOf a) there owner = refused (enters (owner_at i s) i (Finish k)) (Throws Unsupported) (inl (own-or k (λ o. enters o i (Finish k)) silence (HalfOf a) owner (finish-elsewhere k (owner_at i s)) refl))
+
+  terminates : (k : StreamId) (o : Owner) → has_readable k s ≡ true → owner_at k s ≡ o → Begins i j p s (enters (owner_at i s) i (Terminate k)) (calls.terminate_by s o)
+  terminates k Host there owner = refused (enters (owner_at i s) i (Terminate k)) (Throws Unsupported) (inl (own-or k (λ o. enters o i (Terminate k)) silence Host owner (terminate-elsewhere k (owner_at i s)) refl))
+  terminates k (HalfOf a) there owner =
+      let same : enters (owner_at i s) i (Terminate k) ≡ (if is_same i k then told [] Ended else silence) =
+      own-or k (λ o. enters o i (Terminate k)) (if is_same i k then told [] Ended else silence) (HalfOf a) owner (λ d. terminate-elsewhere k (owner_at i s) d ∙ rw d refl) refl in
+      lets_in (enters (owner_at i s) i (Terminate k)) (OnTransform a TerminateTransform) tt (rw (half-is k a there owner) (sym same))
+
+  -- calls on transform streams
+
+  starts-outer : (q : PromiseId) (k : StreamId) (start : StartBy) → IsOuter i j (calls.start_transform q k start)
+  starts-outer q k Now = tt
+  starts-outer q k Later = tt
+
+  starts-coming : (q : PromiseId) (k : StreamId) (start : StartBy) → IsSilent (coming (owner_at i s) i) (calls.start_transform q k start)
+  starts-coming q k Now = refl
+  starts-coming q k Later = refl
+
+  make_transform : (kind : Kind) (m n : ℕ) (start : StartBy) → P (calls.make_transform kind m n start (record { 0 = length s.streams }) (record { 0 = length s.streams + 1 }) s)
+  make_transform kind m n start =
+      let t : Table = s.promises in
+      let k : StreamId = record { 0 = length s.streams + 1 } in
+      quietly (calls.make_transform kind m n start (record { 0 = length s.streams }) k s) locks apart
+      (λ w. fresh-unheard w (fresh (fresh (fresh t))) ∙ (fresh-unheard w (fresh (fresh t)) ∙ (fresh-unheard w (fresh t) ∙ fresh-unheard w t)))
+      (tt, (tt, (tt, (tt, (starts-outer (next_id (fresh t)) k start, tt))))) (refl, (refl, (refl, (refl, (starts-coming (next_id (fresh t)) k start, tt)))))
+
+  fails_readable : (reason : Plain) (k : StreamId) (o : Owner) → P (calls.fail_readable_by reason k s o)
+  fails_readable reason k Host = does (OnReadable k (ErrorReadable reason) ∷ []) (tt, tt) (if_same (is_same i k), tt)
+  fails_readable reason k (HalfOf a) = does (OnTransform a (ErrorTransform reason) ∷ []) (tt, tt) (if_same (is_of (owner_at i s) a), tt)
+
+  fails_writable : (reason : Plain) (k : StreamId) (o : Owner) → P (calls.fail_writable_by reason k s o)
+  fails_writable reason k Host = does (OnWritable k (ErrorIfNeeded reason) ∷ []) (tt, tt) (refl, tt)
+  fails_writable reason k (HalfOf a) = unchanged (Throws Unsupported)
 
   -- each call
-  pub call-begins : (c : Call) → leaves i j c ≡ true → Begins i j p s (enters i c) (begin c s)
+  pub call-begins : (c : Call) → leaves i j c ≡ true → Begins i j p s (enters (owner_at i s) i c) (begin c s)
   unfolding begin
-  call-begins (MakeReadable mark size start) l = either P (nat_lt (length s.streams) most_streams) _ _ (λ e. quietly (calls.make_readable mark size start (record { 0 = length s.streams }) s) locks apart refl (tt, tt) (refl, tt)) (λ e. unchanged TooMany)
-  call-begins (MakeWritable mark size start) l = either P (nat_lt (length s.streams) most_streams) _ _ (λ e. quietly (calls.make_writable mark size start (record { 0 = length s.streams }) s) locks apart refl (tt, tt) (refl, tt)) (λ e. unchanged TooMany)
+  call-begins (MakeReadable mark size start) l = either P (nat_lt (length s.streams) most_streams) _ _ (λ e. quietly (calls.make_readable mark size start (record { 0 = length s.streams }) s) locks apart (λ w. refl) (tt, tt) (refl, tt)) (λ e. unchanged TooMany)
+  call-begins (MakeWritable mark size start) l = either P (nat_lt (length s.streams) most_streams) _ _ (λ e. quietly (calls.make_writable mark size start (record { 0 = length s.streams }) s) locks apart (λ w. refl) (tt, tt) (refl, tt)) (λ e. unchanged TooMany)
+  call-begins (MakeTransform kind m n start) l = either P (nat_lt (length s.streams + 1) most_streams) _ _ (λ e. make_transform kind m n start) (λ e. unchanged TooMany)
   call-begins (GetReader k) l =
       unlocked_readable k calls.throws_type_error calls.get_reader (unchanged (Throws TypeError))
-      (quietly (calls.get_reader k s) (spare-append i j s.locks _ locks (rw l refl)) apart (fresh-unheard j s.promises) (not_false (is_same i k) l, tt) (if_same (is_same i k), tt))
+      (quietly (calls.get_reader k s) (spare-append i j s.locks _ locks (rw l refl)) apart (λ w. fresh-unheard w s.promises) (not_false (is_same i k) l, tt) (if_same (is_same i k), tt))
   call-begins (GetWriter k) l =
       unlocked_writable k calls.throws_type_error calls.get_writer (unchanged (Throws TypeError))
-      (quietly (calls.get_writer k s) (spare-append i j s.locks _ locks (rw l refl)) apart (fresh-unheard j (fresh s.promises) ∙ fresh-unheard j s.promises) (not_false (is_same j k) l, tt) (refl, tt))
+      (quietly (calls.get_writer k s) (spare-append i j s.locks _ locks (rw l refl)) apart (λ w. fresh-unheard w (fresh s.promises) ∙ fresh-unheard w s.promises) (not_false (is_same j k) l, tt) (refl, tt))
   call-begins (Cancel k reason) l = unlocked_readable k calls.rejected (calls.cancel reason) rejected (promising (λ q. OnReadable k (CancelStream reason q) ∷ []) (not_false (is_same i k) l, tt) (if_same (is_same i k), tt))
   call-begins (CancelBy n reason) l = by_reader (calls.cancel reason) calls.rejected (λ k d. promising (λ q. OnReadable k (CancelStream reason q) ∷ []) (d, tt) (if_same (is_same i k), tt)) rejected n.0 (lock_at n s) refl
   call-begins (Read n) l = by_reader calls.read calls.rejected (λ k d. promising (λ q. OnReadable k (ReadChunk (PromiseRequest q)) ∷ []) (d, tt) (if_same (is_same i k), tt)) rejected n.0 (lock_at n s) refl
@@ -334,11 +446,12 @@ module _ (i j : StreamId) (p : PipeId) (s : Slots) (here : has_readable i s ≡ 
   call-begins (Closed n) l = closed_by (lock_at n s)
   call-begins (Ready n) l = ready_by (lock_at n s)
   call-begins (Release n) l = release n (lock_at n s)
-  call-begins (Enqueue k v) l = enters-begins k (EnqueueChunk v) (enters i (Enqueue k v)) refl tt (λ d. rw d refl)
-  call-begins (Finish k) l = enters-begins k CloseReadable (enters i (Finish k)) refl tt (λ d. rw d refl)
+  call-begins (Enqueue k v) l = for_owner k (enters (owner_at i s) i (Enqueue k v)) (calls.enqueue_by v k) (λ d. rw d refl) (enqueues k v)
+  call-begins (Finish k) l = for_owner k (enters (owner_at i s) i (Finish k)) (calls.finish_by k) (finish-elsewhere k (owner_at i s)) (finishes k)
   call-begins (Fail k reason) l =
-      either P (has_readable k s) _ _ (λ e. does (OnReadable k (ErrorReadable reason) ∷ []) (tt, tt) (if_same (is_same i k), tt))
-      (λ e. for_writable k (calls.does (OnWritable k (ErrorIfNeeded reason) ∷ [])) (does (OnWritable k (ErrorIfNeeded reason) ∷ []) (tt, tt) (refl, tt)))
+      either P (has_readable k s) _ _ (λ e. fails_readable reason k (readable_at k s).owner)
+      (λ e. for_writable k (λ s. calls.fail_writable_by reason k s (writable_at k s).owner) (fails_writable reason k (writable_at k s).owner))
+  call-begins (Terminate k) l = for_owner k (enters (owner_at i s) i (Terminate k)) calls.terminate_by (terminate-elsewhere k (owner_at i s)) (terminates k)
   call-begins (Desired k) l = for_readable k (calls.desired k) (unchanged (calls.desired k s).reply)
   call-begins (DesiredBy n) l = by_writer calls.desired_of_writer calls.throws_type_error (λ k d. unchanged (calls.desired_of_writer k s).reply) (unchanged (Throws TypeError)) n.0 (lock_at n s) refl
   call-begins (Pipe source dest prevent signal) l =
@@ -346,7 +459,7 @@ module _ (i j : StreamId) (p : PipeId) (s : Slots) (here : has_readable i s ≡ 
       let b = not_false (is_same j dest) (and_right (not (is_same i source)) (not (is_same j dest)) l) in
       for_readable source (calls.for_writable dest (calls.for_signal_where signal (calls.pipe_unlocked source dest prevent signal)))
       (for_writable dest (calls.for_signal_where signal (calls.pipe_unlocked source dest prevent signal)) (pipe_where source dest prevent signal a b))
-  call-begins MakeSignal l = quietly (calls.make_signal s) locks apart refl tt tt
+  call-begins MakeSignal l = quietly (calls.make_signal s) locks apart (λ w. refl) tt tt
   call-begins (Trigger a reason) l = either P (has_signal a s) _ _ (λ e. does (OnSignal a (TriggerSignal reason) ∷ []) (tt, tt) (refl, tt)) (λ e. unchanged (Throws Unsupported))
   call-begins (Settle h answer) l = settle_host h answer (host_at h s)
   call-begins (State k) l =

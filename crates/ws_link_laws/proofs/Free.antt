@@ -1,13 +1,12 @@
 -- Two streams that may be linked stay so in any run that leaves them alone.
-use Rattle.std.proofs.Common.{◌≡◌, ℕ, zero, suc, ◌≤◌, Bool, true, false, not, ◌&&◌, List, [], ◌∷◌, ◌++◌, length, Option, Some, None, slice_get, slice_set, refl, sym, ap, subst, ◌∙◌, arith}
+use Rattle.std.proofs.Common.{◌≡◌, ℕ, zero, suc, ◌≤◌, Bool, true, false, not, ◌&&◌, List, [], ◌∷◌, ◌++◌, length, map, Option, Some, None, slice_get, slice_set, refl, sym, ap, subst, ◌∙◌, arith}
 use Rattle.ws_value.specs.declared.ids.PipeId.{PipeId}
 use Rattle.ws_value.specs.declared.ids.StreamId.{StreamId}
 use Rattle.ws_steps.specs.declared.calls.Call.{Call}
 use Rattle.ws_steps.specs.declared.calls.Reply.{Reply}
 use Rattle.ws_steps.specs.declared.calls.Reply.TheVariants.{Promise as ReplyPromise}
 use Rattle.ws_steps.specs.declared.effects.Effect.{Effect}
-use Rattle.ws_steps.specs.declared.effects.Effect.TheVariants.{Readable as OnReadable, Writable as OnWritable, Pipe as OnPipe, Signal as OnSignal, StartAlgorithm, PullAlgorithm, CancelAlgorithm, WriteAlgorithm, CloseAlgorithm, AbortAlgorithm, ChunkSteps, CloseSteps, ErrorSteps}
-use Rattle.ws_steps.specs.declared.effects.Owner.TheVariants.{Host}
+use Rattle.ws_steps.specs.declared.effects.Effect.TheVariants.{Readable as OnReadable, Writable as OnWritable, Pipe as OnPipe, Signal as OnSignal, Transform as OnTransform, StartAlgorithm, PullAlgorithm, CancelAlgorithm, WriteAlgorithm, CloseAlgorithm, AbortAlgorithm, ChunkSteps, CloseSteps, ErrorSteps}
 use Rattle.ws_steps.specs.declared.locks.Lock.{Lock}
 use Rattle.ws_steps.specs.declared.pipes.PipeOperation.{PipeOperation}
 use Rattle.ws_steps.specs.declared.pipes.SignalOperation.{SignalOperation}
@@ -19,6 +18,7 @@ use Rattle.ws_steps.specs.declared.readable.ReadableOperation.TheVariants as rea
 use Rattle.ws_steps.specs.declared.writable.WritableOperation.{WritableOperation}
 use Rattle.ws_steps.specs.declared.writable.WritableOperation.TheVariants as writes
 use Rattle.ws_steps.specs.Calls.{Begun, begin, add_stream}
+use Rattle.ws_steps.specs.declared.transform.TransformId.{TransformId}
 use Rattle.ws_steps.specs.Histories.{is_same}
 use Rattle.ws_steps.specs.Jobs.{job_effects, job_begun, begin_job}
 use Rattle.ws_steps.specs.Operations.{readable_operation, writable_operation, pipe_operation}
@@ -27,16 +27,19 @@ use Rattle.ws_steps.specs.Promises.{next_job}
 use Rattle.ws_steps.specs.Readable as readable
 use Rattle.ws_steps.specs.Readable.{call_pull_if_needed, accept, controller_enqueue, stream_close, stream_error, close_if_empty, controller_close, controller_error, disturb, cancel_if_readable, start_settled, pull_settled, cancel_steps, stream_cancel, reader_release}
 use Rattle.ws_steps.specs.Run.{Entry, Called, Worked, Heard, step, run, after_call, after_job}
-use Rattle.ws_steps.specs.Slots.{Slots, Stream, ReadableStream, WritableStream, Done, has_readable, has_writable, readable_at, writable_at, is_readable_stream, is_writable_stream, as_readable, as_writable, ends_at, on_pipe_at}
+use Rattle.ws_steps.specs.Slots.{Slots, Stream, ReadableStream, WritableStream, Done, has_readable, has_writable, owner_of, owner_at, readable_at, writable_at, is_readable_stream, is_writable_stream, as_readable, as_writable, ends_at, on_pipe_at}
 use Rattle.ws_steps.specs.Turns.{row, performed}
 use Rattle.ws_steps.specs.Writable as writable
 use Rattle.ws_steps.specs.Writable.{update_backpressure, refresh_backpressure, reject_close_and_closed, finish_erroring, start_erroring, deal_with_rejection, controller_error_if_needed, process_write, process_close, advance_queue, hand_on, write_settled, finish_in_flight_close, finish_in_flight_close_with_error, close_settled, abort_settled, stream_abort, abort_if_writable, writer_release}
 use Rattle.ws_laws.proofs.Begin.{begin-makes}
 use Rattle.ws_laws.proofs.EachCall.{each_call}
+use Rattle.ws_laws.proofs.Halves.{call-among, halved-stays}
 use Rattle.ws_laws.proofs.Lists.{Each, each-append, each-map}
 use Rattle.ws_laws.proofs.PipeDoes.{PipeCauses, pipe-causes}
 use Rattle.ws_laws.proofs.Rows.{Causes, SignalCauses, IsApart, IsNoPipe, row-causes, row-pipes, row-streams, row-locks}
+use Rattle.ws_laws.proofs.Shapes.{stream_shape, transform_shape}
 use Rattle.ws_laws.proofs.Tables.{readable_acts, writable_acts, is_same-refl, same_id, readable_there, writable_there, on_readable-same, on_readable-other, on_readable-writable, on_writable-same, on_writable-other, on_writable-readable, on_writable-there}
+use Rattle.ws_laws.proofs.TransformDoes.{TransformCauses}
 use Rattle.ws_laws.proofs.Truth.{and_left, and_right}
 use Rattle.ws_room_laws.proofs.Turns.{performed-kept}
 use Rattle.ws_pipe_laws.specs.PipeMoves.{starting}
@@ -46,12 +49,13 @@ use Rattle.ws_link_laws.specs.Sound.{all_apart, all_spare, AreApart, IsFree}
 use Rattle.ws_link_laws.specs.Sound as sound
 use Rattle.ws_link_laws.proofs.Begins.{apart_at}
 use Rattle.ws_link_laws.proofs.Calls.{IsOuter, Begins, call-begins}
+use Rattle.ws_link_laws.proofs.Hosts.{Hosts, source-owner, sink-owner, reached-hosts, hosts-same, hosts-grown, hosts-row}
 use Rattle.ws_link_laws.proofs.SourceTurns.{readable-leaves, readable-there}
 use Rattle.ws_link_laws.proofs.SinkTurns.{writable-there}
 use Rattle.ws_link_laws.proofs.Steps.{place-append, reached-step}
 
 -- effects by which nobody takes the source or the destination, reads from the one or writes to the other
-abbrev IsFar : StreamId → StreamId → Effect → Type 0
+abbrev pub IsFar : StreamId → StreamId → Effect → Type 0
 IsFar i j (OnReadable k (reads.InitializeReader closed)) = is_same i k ≡ false
 IsFar i j (OnReadable k (reads.Read request)) = is_same i k ≡ false
 IsFar i j (OnWritable k (writes.SetUpWriter w)) = is_same j k ≡ false
@@ -71,17 +75,21 @@ signal-far i j (Trigger r) = λ q. tt
 signal-far i j (Add q) = tt
 signal-far i j (Forget q) = tt
 
+transform-far : (i j : StreamId) (t : TransformId) (w r : StreamId) (e : Effect) → TransformCauses t w r e → IsFar i j e
+transform-far i j t w r e c = grind (arith, c)
+
 far-causes : (i j : StreamId) (e : Effect) → IsNoPipe e → Causes (IsFar i j) e
 far-causes i j (OnReadable k operation) n = record { pull = tt; cancel = λ r q. tt; chunk = λ request v. tt; close = λ request. tt; error = λ request r. tt }
-far-causes i j (OnWritable k operation) n = record { write = tt; close = tt; abort = λ r q. tt; hand_on = λ v. tt }
+far-causes i j (OnWritable k operation) n = record { write = tt; close = tt; abort = λ r q. tt; hand_on = λ v. tt; take = λ v t d. tt }
 far-causes i j (OnPipe q operation) n = absurd n
 far-causes i j (OnSignal a operation) n = signal-far i j operation
 far-causes i j (StartAlgorithm k step start) n = (λ g u. tt, λ c u. tt)
-far-causes i j (PullAlgorithm k) n = λ c u. tt
-far-causes i j (CancelAlgorithm k r q) n = λ c u. tt
-far-causes i j (WriteAlgorithm k) n = tt
-far-causes i j (CloseAlgorithm k) n = λ c u. tt
-far-causes i j (AbortAlgorithm k r q) n = λ c u. tt
+far-causes i j (OnTransform t operation) n = λ w r e c. transform-far i j t w r e c
+far-causes i j (PullAlgorithm k) n = (λ c u. tt, λ t u. tt)
+far-causes i j (CancelAlgorithm k r q) n = (λ c u. tt, λ t u. tt)
+far-causes i j (WriteAlgorithm k) n = (tt, λ t u. tt)
+far-causes i j (CloseAlgorithm k) n = (λ c u. tt, λ t u. tt)
+far-causes i j (AbortAlgorithm k r q) n = (λ c u. tt, λ t u. tt)
 far-causes i j (ChunkSteps k (Promise q) v) n = tt
 far-causes i j (ChunkSteps k (PipeRequest q) v) n = tt
 far-causes i j (CloseSteps k (Promise q)) n = tt
@@ -95,15 +103,15 @@ pipe-far i j q source dest e a b c = grind (arith, a, b, c)
 
 -- records that nobody took
 
-record FreeSource (r : readable.Slots) : Type 0 where
-  unread : r.reader ≡ None
-  requests : r.requests ≡ []
+pub record FreeSource (r : readable.Slots) : Type 0 where
+  pub unread : r.reader ≡ None
+  pub requests : r.requests ≡ []
 
-record FreeSink (w : writable.Slots) : Type 0 where
-  unwritten : w.writer ≡ None
-  queue : w.queue ≡ []
-  request : w.close_request ≡ None
-  flight : w.close_in_flight ≡ None
+pub record FreeSink (w : writable.Slots) : Type 0 where
+  pub unwritten : w.writer ≡ None
+  pub queue : w.queue ≡ []
+  pub request : w.close_request ≡ None
+  pub flight : w.close_in_flight ≡ None
 
 source-free : (i j : StreamId) (operation : ReadableOperation) (a : readable.Acts) → IsFar i j (OnReadable i operation) → FreeSource a.slots → FreeSource (readable_operation i operation a).slots
 unfolding call_pull_if_needed accept controller_enqueue stream_close stream_error close_if_empty controller_close controller_error disturb cancel_if_readable start_settled pull_settled cancel_steps stream_cancel reader_release
@@ -121,14 +129,15 @@ sink-free i j operation a n f = grind (arith, f)
 
 -- at each moment
 
-record Unused (i j : StreamId) (locks : List Lock) (s : Slots) (es : List Effect) : Type 0 where
-  source : has_readable i s ≡ true
-  sink : has_writable j s ≡ true
-  from : FreeSource (readable_at i s)
-  into : FreeSink (writable_at j s)
-  apart : all_apart i j s.pipes ≡ true
-  same : s.locks ≡ locks
-  far : Each (IsFar i j) es
+pub record Unused (i j : StreamId) (locks : List Lock) (s : Slots) (es : List Effect) : Type 0 where
+  pub source : has_readable i s ≡ true
+  pub sink : has_writable j s ≡ true
+  pub from : FreeSource (readable_at i s)
+  pub into : FreeSink (writable_at j s)
+  pub hosts : Hosts i j s
+  pub apart : all_apart i j s.pipes ≡ true
+  pub same : s.locks ≡ locks
+  pub far : Each (IsFar i j) es
 
 apart-set : (i j : StreamId) (xs : List pipe.Slots) (n : ℕ) (x y : pipe.Slots) → slice_get xs n ≡ Some x → y.source ≡ x.source → y.dest ≡ x.dest → all_apart i j xs ≡ true → all_apart i j (slice_set xs n y) ≡ true
 apart-set i j [] n x y e f g a = a
@@ -151,6 +160,7 @@ readable-unused i j locks k operation s es u =
       sink = readable-leaves to k s j u.sink;
       from = by (is_same i k) refl;
       into = rw (on_readable-writable to k s j (is_same j k) refl) u.into;
+      hosts = hosts-row i j e s u.hosts;
       apart = rw (row-pipes e s tt) u.apart;
       same = row-locks e s ∙ u.same;
       far = row-far i j e s es tt u.far;
@@ -175,6 +185,7 @@ writable-unused i j locks k operation s es u =
       sink = writable-there to k s j u.sink;
       from = rw (on_writable-readable to k s i (is_same i k) refl) u.from;
       into = by (is_same j k) refl;
+      hosts = hosts-row i j e s u.hosts;
       apart = rw (row-pipes e s tt) u.apart;
       same = row-locks e s ∙ u.same;
       far = row-far i j e s es tt u.far;
@@ -194,7 +205,7 @@ unfolding row
 pipe-unused i j locks q operation s es u = by (slice_get s.pipes q.0) refl
   where
     by : (o : Option pipe.Slots) → slice_get s.pipes q.0 ≡ o → let d : Done = on_pipe_at (λ ends. pipe_operation q ends operation) q s o in Unused i j locks d.slots (d.caused ++ es)
-    by None e = record { source = u.source; sink = u.sink; from = u.from; into = u.into; apart = u.apart; same = u.same; far = u.far.1 }
+    by None e = record { source = u.source; sink = u.sink; from = u.from; into = u.into; hosts = u.hosts; apart = u.apart; same = u.same; far = u.far.1 }
     by (Some x) e =
         let b : pipe.Acts = pipe_operation q (ends_at x s) operation (starting x s.promises) in
         let c = pipe-causes q (ends_at x s) operation (starting x s.promises) tt in
@@ -204,6 +215,7 @@ pipe-unused i j locks q operation s es u = by (slice_get s.pipes q.0) refl
           sink = u.sink;
           from = u.from;
           into = u.into;
+          hosts = hosts-same i j s _ refl refl u.hosts;
           apart = apart-set i j s.pipes q.0 x b.slots e c.0 c.1.0 u.apart;
           same = u.same;
           far = each-append (IsFar i j) b.out.effects es (each-map (PipeCauses q x.source x.dest) (IsFar i j) (λ v k. pipe-far i j q x.source x.dest v a.0 a.1 k) b.out.effects c.1.1) u.far.1;
@@ -215,6 +227,7 @@ apart-unused i j locks e s es a n u = record {
   sink = rw (row-streams e s a) u.sink;
   from = rw (row-streams e s a) u.from;
   into = rw (row-streams e s a) u.into;
+  hosts = hosts-row i j e s u.hosts;
   apart = rw (row-pipes e s n) u.apart;
   same = row-locks e s ∙ u.same;
   far = row-far i j e s es n u.far;
@@ -226,7 +239,7 @@ row-unused i j locks (OnWritable k operation) s es u = writable-unused i j locks
 row-unused i j locks (OnPipe q operation) s es u = pipe-unused i j locks q operation s es u
 row-unused i j locks e s es u = apart-unused i j locks e s es tt tt u
 
-performed-unused : (i j : StreamId) (locks : List Lock) (d : Done) → Unused i j locks d.slots d.caused → Unused i j locks (performed d) []
+pub performed-unused : (i j : StreamId) (locks : List Lock) (d : Done) → Unused i j locks d.slots d.caused → Unused i j locks (performed d) []
 performed-unused i j locks d u = performed-kept (λ ms s es. Unused i j locks s es) (λ ms s e es k. row-unused i j locks e s es k) d u
 
 -- between steps
@@ -237,16 +250,19 @@ free-unused i j s f = record {
   sink = f.sink;
   from = record { unread = f.unread; requests = f.requests };
   into = record { unwritten = f.unwritten; queue = f.queue; request = f.close_request; flight = f.close_in_flight };
+  hosts = reached-hosts i j s f.reached f.source f.sink f.source_owner f.sink_owner;
   apart = f.apart;
   same = refl;
   far = tt;
 }
 
-unused-free : (i j : StreamId) (locks : List Lock) (s z : Slots) → sound.IsReached z → z.streams ≡ s.streams → z.pipes ≡ s.pipes → z.locks ≡ s.locks → all_spare i j locks ≡ true → Unused i j locks s [] → IsFree i j z
-unused-free i j locks s z r e f g a u = record {
+unused-free : (i j : StreamId) (locks : List Lock) (s z : Slots) → sound.IsReached z → z.streams ≡ s.streams → z.transforms ≡ s.transforms → z.pipes ≡ s.pipes → z.locks ≡ s.locks → all_spare i j locks ≡ true → Unused i j locks s [] → IsFree i j z
+unused-free i j locks s z r e d f g a u = record {
   reached = r;
   source = rw e u.source;
   sink = rw e u.sink;
+  source_owner = (hosts-same i j s z (ap (map stream_shape) e) (ap (map transform_shape) d) u.hosts).source_kind;
+  sink_owner = (hosts-same i j s z (ap (map stream_shape) e) (ap (map transform_shape) d) u.hosts).sink_kind;
   unread = rw e u.from.unread;
   unwritten = rw e u.into.unwritten;
   locks = rw (g, u.same) a;
@@ -259,13 +275,13 @@ unused-free i j locks s z r e f g a u = record {
 
 begun-unused : (i j : StreamId) (s : Slots) (o : Option Job) → IsFree i j s → Unused i j s.locks (job_begun s o).slots (job_begun s o).caused
 begun-unused i j s None f = free-unused i j s f
-begun-unused i j s (Some job) f = let u = free-unused i j s f in record { source = u.source; sink = u.sink; from = u.from; into = u.into; apart = u.apart; same = refl; far = job-far i j job }
+begun-unused i j s (Some job) f = let u = free-unused i j s f in record { source = u.source; sink = u.sink; from = u.from; into = u.into; hosts = hosts-same i j s _ refl refl u.hosts; apart = u.apart; same = refl; far = job-far i j job }
 
 pub free-worked : (i j : StreamId) (s : Slots) → IsFree i j s → IsFree i j (after_job s)
 unfolding begin_job
 free-worked i j s f =
     let z : Slots = performed (job_begun s (next_job s.promises)) in
-    unused-free i j s.locks z (after_job s) (reached-step s Worked f.reached) refl refl refl f.locks (performed-unused i j s.locks (job_begun s (next_job s.promises)) (begun-unused i j s (next_job s.promises) f))
+    unused-free i j s.locks z (after_job s) (reached-step s Worked f.reached) refl refl refl refl f.locks (performed-unused i j s.locks (job_begun s (next_job s.promises)) (begun-unused i j s (next_job s.promises) f))
 
 -- calls
 
@@ -278,6 +294,7 @@ few-pipes c s =
       rejected = l;
       make_readable = λ mark size start. l;
       make_writable = λ mark size start. l;
+      make_transform = λ kind m n start. l;
       get_reader = λ i e. l;
       get_writer = λ i e. l;
       release_reader = λ n closed i e. l;
@@ -287,7 +304,10 @@ few-pipes c s =
       write = λ n v i e. l;
       close = λ i. l;
       abort = λ reason i e. l;
-      enqueue = λ i v e can. l;
+      enqueue = λ i v e o can. l;
+      enqueue_half = λ i t v e o can. l;
+      fail_half = λ t reason. l;
+      terminate = λ t. l;
       finish = λ i. l;
       fail_readable = λ i reason. l;
       fail_writable = λ i reason. l;
@@ -327,9 +347,21 @@ call-kept i j c s f = begin-makes (Kept i j s) (record {
   hosts = λ z hs k. record { source = k.source; sink = k.sink };
   pipe = λ z source dest prevent signal promise k. record { source = k.source; sink = k.sink };
   signal = λ z k. record { source = k.source; sink = k.sink };
-  readable = λ z mark size k. stream-kept i j s z (ReadableStream (readable.set_up Host mark size)) k;
-  writable = λ z mark size k. stream-kept i j s z (WritableStream (writable.set_up Host mark size)) k;
+  transform = λ z kind w r change k. record { source = k.source; sink = k.sink };
+  readable = λ z owner mark size k. stream-kept i j s z (ReadableStream (readable.set_up owner mark size)) k;
+  writable = λ z owner mark size k. stream-kept i j s z (WritableStream (writable.set_up owner mark size)) k;
 }) c s (record { source = readable_there (slice_get s.streams i.0) f.source; sink = writable_there (slice_get s.streams j.0) f.sink })
+
+-- a call after whose effects nobody has them
+pub unused-called : (i j : StreamId) (locks : List Lock) (s : Slots) (c : Call) → sound.IsReached s → all_spare i j locks ≡ true → Unused i j locks (begin c s).done.slots (begin c s).done.caused → IsFree i j (after_call c s)
+unused-called i j locks s c r a u = by (begin c s).reply refl
+  where
+    z : Slots
+    z = performed (begin c s).done
+
+    by : (reply : Reply) → reply ≡ (begin c s).reply → IsFree i j (after_call c s)
+    by (ReplyPromise q) e = unused-free i j locks z (after_call c s) (reached-step s (Called c) r) (rw (← e) refl) (rw (← e) refl) (rw (← e) refl) (rw (← e) refl) a (performed-unused i j locks (begin c s).done u)
+    by _ e = unused-free i j locks z (after_call c s) (reached-step s (Called c) r) (rw (← e) refl) (rw (← e) refl) (rw (← e) refl) (rw (← e) refl) a (performed-unused i j locks (begin c s).done u)
 
 module _ (i j : StreamId) (s : Slots) (c : Call) (f : IsFree i j s) (leave : leaves i j c ≡ true) where
   abbrev d : Done
@@ -339,8 +371,11 @@ module _ (i j : StreamId) (s : Slots) (c : Call) (f : IsFree i j s) (leave : lea
   abbrev none : PipeId
   none = record { 0 = suc (length s.pipes) }
 
-  begins : Begins i j none s (enters i c) (begin c s)
-  begins = call-begins i j none s f.source f.locks (λ n x e m. apart_at i j s.pipes n x f.apart e) c leave
+  hosts : Hosts i j s
+  hosts = reached-hosts i j s f.reached f.source f.sink f.source_owner f.sink_owner
+
+  begins : Begins i j none s (enters (owner_at i s) i c) (begin c s)
+  begins = call-begins i j none s f.source hosts.halved f.locks (λ n x e m. apart_at i j s.pipes n x f.apart e) c leave
 
   kept : Kept i j s d.slots
   kept = call-kept i j c s f
@@ -354,24 +389,21 @@ module _ (i j : StreamId) (s : Slots) (c : Call) (f : IsFree i j s) (leave : lea
     sink = ap is_writable_stream kept.sink;
     from = rw (ap as_readable kept.source) (record { unread = f.unread; requests = f.requests });
     into = rw (ap as_writable kept.sink) (record { unwritten = f.unwritten; queue = f.queue; request = f.close_request; flight = f.close_in_flight });
+    hosts = hosts-grown i j s d.slots kept.source kept.sink (ap owner_of kept.source ∙ sym (source-owner i s f.source)) (ap owner_of kept.sink ∙ sym (sink-owner j s f.sink)) (call-among c s) (halved-stays.call s c hosts.halved) hosts;
     apart = apart;
     same = refl;
     far = each-map (IsOuter i j) (IsFar i j) (outer-far i j) d.caused begins.outer;
   }
 
   called : IsFree i j (after_call c s)
-  called = by (begin c s).reply refl
-    where
-      by : (reply : Reply) → reply ≡ (begin c s).reply → IsFree i j (after_call c s)
-      by (ReplyPromise q) e = unused-free i j d.slots.locks (performed d) (after_call c s) (reached-step s (Called c) f.reached) (rw (← e) refl) (rw (← e) refl) (rw (← e) refl) begins.locks (performed-unused i j d.slots.locks d begun)
-      by _ e = unused-free i j d.slots.locks (performed d) (after_call c s) (reached-step s (Called c) f.reached) (rw (← e) refl) (rw (← e) refl) (rw (← e) refl) begins.locks (performed-unused i j d.slots.locks d begun)
+  called = unused-called i j d.slots.locks s c f.reached begins.locks begun
 
 -- a call that leaves free streams alone leaves them free
 pub free-called : (i j : StreamId) (s : Slots) (c : Call) → IsFree i j s → leaves i j c ≡ true → IsFree i j (after_call c s)
 free-called i j s c f leave = called i j s c f leave
 
-quiet-free : (i j : StreamId) (s z : Slots) → sound.IsReached z → z.streams ≡ s.streams → z.pipes ≡ s.pipes → z.locks ≡ s.locks → IsFree i j s → IsFree i j z
-quiet-free i j s z r e f g k = unused-free i j s.locks s z r e f g k.locks (free-unused i j s k)
+quiet-free : (i j : StreamId) (s z : Slots) → sound.IsReached z → z.streams ≡ s.streams → z.transforms ≡ s.transforms → z.pipes ≡ s.pipes → z.locks ≡ s.locks → IsFree i j s → IsFree i j z
+quiet-free i j s z r e d f g k = unused-free i j s.locks s z r e d f g k.locks (free-unused i j s k)
 
 -- and so does a run
 pub free-run : (i j : StreamId) (entries : List Entry) (s : Slots) → IsFree i j s → all_leave i j entries ≡ true → IsFree i j (run entries s)
@@ -381,7 +413,7 @@ free-run i j (x ∷ xs) s f e = free-run i j xs (step s x) (one x (and_left (ent
     one : (x : Entry) → entry_leaves i j x ≡ true → IsFree i j (step s x)
     one (Called c) l = free-called i j s c f l
     one Worked l = free-worked i j s f
-    one Heard l = quiet-free i j s (step s Heard) (reached-step s Heard f.reached) refl refl refl f
+    one Heard l = quiet-free i j s (step s Heard) (reached-step s Heard f.reached) refl refl refl refl f
 
 pub each_free_pair_stays : EachFreePairStays
 each_free_pair_stays i j s entries f e = free-run i j entries s f e

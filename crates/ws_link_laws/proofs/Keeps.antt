@@ -9,7 +9,7 @@ use Rattle.ws_steps.specs.Slots.{Slots}
 use Rattle.ws_flow.specs.Told.{Told, then_told, IsShortOf}
 use Rattle.ws_flow.proofs.Told.{then_assoc, then_empty, short_refl, short_trans, short_same, short_as, short_left, short_right}
 use Rattle.ws_laws.proofs.Truth.{and_left, and_right}
-use Rattle.ws_link_laws.specs.Link.{behind, heard_of}
+use Rattle.ws_link_laws.specs.Link.{ear_at, behind, heard_of}
 use Rattle.ws_link_laws.specs.Laws.{entry_leaves, all_leave, first_heard, entry_heard, run_heard, entry_enters, run_enters, KeepsLink, EachLinkKeeps}
 use Rattle.ws_link_laws.specs.Sound.{IsLink}
 use Rattle.ws_link_laws.proofs.Steps.{link-called, link-worked, link-heard, link-unheard}
@@ -18,27 +18,27 @@ module _ (i j : StreamId) (p : PipeId) where
   -- one entry
 
   abbrev Keeps : Slots → Entry → Type 0
-  Keeps s x = IsLink i j p (step s x) × IsShortOf (then_told (entry_heard j s x) (behind i j p (step s x))) (then_told (behind i j p s) (entry_enters i x))
+  Keeps s x = IsLink i j p (step s x) × IsShortOf (then_told (entry_heard j s x) (behind i j p (step s x))) (then_told (behind i j p s) (entry_enters i s x))
 
   heard-keeps : (s : Slots) → IsLink i j p s → (o : Option Event) → first_event s.promises.events ≡ o → Keeps s Heard
   heard-keeps s l (Some e) f =
       let h = link-heard i j p s e f l in
-      (h.0, short_as _ (behind i j p s) _ (sym (then_empty (behind i j p s))) (short_same _ (then_told (heard_of j e) (behind i j p (after_event s))) _ (by s.promises.events f) h.1))
+      (h.0, short_as _ (behind i j p s) _ (sym (then_empty (behind i j p s))) (short_same _ (then_told (heard_of (ear_at j s) e) (behind i j p (after_event s))) _ (by s.promises.events f) h.1))
     where
-      by : (events : List Event) → first_event events ≡ Some e → then_told (first_heard j events) (behind i j p (after_event s)) ≡ then_told (heard_of j e) (behind i j p (after_event s))
+      by : (events : List Event) → first_event events ≡ Some e → then_told (first_heard (ear_at j s) events) (behind i j p (after_event s)) ≡ then_told (heard_of (ear_at j s) e) (behind i j p (after_event s))
       by [] g = cc
       by (x ∷ xs) g = let is : x ≡ e = cc in rw is refl
   heard-keeps s l None f =
       let h = link-unheard i j p s f l in
       (h.0, short_as _ (behind i j p s) _ (sym (then_empty (behind i j p s))) (by s.promises.events f))
     where
-      by : (events : List Event) → first_event events ≡ None → IsShortOf (then_told (first_heard j events) (behind i j p (after_event s))) (behind i j p s)
+      by : (events : List Event) → first_event events ≡ None → IsShortOf (then_told (first_heard (ear_at j s) events) (behind i j p (after_event s))) (behind i j p s)
       by [] g = let h = link-unheard i j p s f l in short_same (behind i j p (after_event s)) (behind i j p s) (behind i j p s) h.1 (short_refl (behind i j p s))
       by (x ∷ xs) g = cc
 
   pub entry-keeps : (s : Slots) (x : Entry) → IsLink i j p s → entry_leaves i j x ≡ true → Keeps s x
   entry-keeps s (Called c) l e = link-called i j p s c l e
-  entry-keeps s Worked l e = let h = link-worked i j p s l in (h.0, short_as (behind i j p (step s Worked)) (behind i j p s) _ (sym (then_empty (behind i j p s))) h.1)
+  entry-keeps s Worked l e = link-worked i j p s l
   entry-keeps s Heard l e = heard-keeps s l (first_event s.promises.events) refl
 
   -- one after another
@@ -57,7 +57,7 @@ module _ (i j : StreamId) (p : PipeId) where
       let rest = run-keeps xs (step s x) one.0 (and_right (entry_leaves i j x) (all_leave i j xs) e) in
       record {
         link = rest.link;
-        short = joined (entry_heard j s x) (run_heard j xs (step s x)) (behind i j p (run (x ∷ xs) s)) (behind i j p s) (behind i j p (step s x)) (entry_enters i x) (run_enters i xs) one.1 rest.short;
+        short = joined (entry_heard j s x) (run_heard j xs (step s x)) (behind i j p (run (x ∷ xs) s)) (behind i j p s) (behind i j p (step s x)) (entry_enters i s x) (run_enters i xs (step s x)) one.1 rest.short;
       }
 
 pub each_link_keeps : EachLinkKeeps

@@ -1,4 +1,6 @@
 pub mod Telling
+mod Hosts
+mod Ahead
 mod Sinks
 mod Sources
 mod Pipes
@@ -8,6 +10,7 @@ mod Standing
 mod SourceTurns
 mod SinkTurns
 mod PipeTurns
+mod TransformTurns
 mod Turns
 mod Calls
 pub mod Steps
@@ -18,3 +21,8 @@ mod RoomTurns
 pub mod HasRoom
 pub mod Worked
 pub mod Free
+pub mod Owners
+pub mod OwnLinks
+mod Entering
+pub mod Pipelines
+mod WorkedHalves

@@ -4,6 +4,7 @@ use Rattle.ws_value.specs.declared.ids.PipeId.{PipeId}
 use Rattle.ws_value.specs.declared.ids.StreamId.{StreamId}
 use Rattle.ws_value.specs.declared.value.Value.{Value}
 use Rattle.ws_steps.specs.declared.effects.Effect.{Effect}
+use Rattle.ws_steps.specs.declared.effects.Owner.{Owner}
 use Rattle.ws_steps.specs.declared.effects.Effect.TheVariants.{Pipe as OnPipe}
 use Rattle.ws_steps.specs.declared.pipes.PipeOperation.{PipeOperation}
 use Rattle.ws_steps.specs.declared.pipes.PipeOperation.TheVariants as names
@@ -14,26 +15,27 @@ use Rattle.ws_steps.specs.Pipes as pipe
 use Rattle.ws_steps.specs.Pipes.{write_chunk}
 use Rattle.ws_steps.specs.Promises.{Table}
 use Rattle.ws_steps.specs.Readable as readable
-use Rattle.ws_steps.specs.Slots.{Slots, Done, ends_at, readable_at, writable_at, pipe_at, as_pipe, on_pipe_at}
+use Rattle.ws_steps.specs.Slots.{Slots, Done, ends_at, owner_at, readable_at, writable_at, pipe_at, as_pipe, on_pipe_at}
 use Rattle.ws_steps.specs.Turns.{row}
 use Rattle.ws_steps.specs.Writable as writable
 use Rattle.ws_steps.specs.Writable.{is_writable, is_closing}
-use Rattle.ws_steps.specs.WritableHistory.{writes_then, effect_writes}
 use Rattle.ws_steps.proofs.PromiseLaws.{slice_get-set_other}
 use Rattle.ws_flow.specs.Told.{Open, Closed, Told, told, then_told}
 use Rattle.ws_flow.proofs.Told.{short_refl}
 use Rattle.ws_laws.proofs.Lists.{Each, each-append, each-map}
 use Rattle.ws_laws.proofs.PipeDoes.{PipeCauses, pipe-causes, is_looking}
+use Rattle.ws_laws.proofs.Shapes.{row-owner}
 use Rattle.ws_laws.proofs.Tables.{eq_numbers, unequal_numbers}
 use Rattle.ws_pipe_laws.specs.PipeMoves.{starting}
 use Rattle.ws_pipe_laws.specs.PipeReads.{held_values}
 use Rattle.ws_pipe_laws.proofs.AtSource.{off, all_off, OffNone, off_none, own_off}
 use Rattle.ws_pipe_laws.proofs.PassingRuns.{Few, place_same, row-few}
 use Rattle.ws_pipe_laws.proofs.Reading.{of_effect, IsNone, none-all, other-none}
-use Rattle.ws_writable_laws.proofs.Agenda.{row-kept}
 use Rattle.ws_writable_laws.proofs.Shape.{all, all-append}
-use Rattle.ws_link_laws.specs.Link.{silence, in_sink, in_source, in_pipe, unheard}
+use Rattle.ws_link_laws.specs.Link.{Ear, silence, in_sink, in_source, in_pipe, ear_at, unheard}
 use Rattle.ws_link_laws.specs.Sound.{AreApart, IsApart, SinkFits, Closes}
+use Rattle.ws_link_laws.proofs.Ahead.{row-ahead}
+use Rattle.ws_link_laws.proofs.Hosts.{row-ear}
 use Rattle.ws_link_laws.proofs.Telling.{tells, IsSilent, silent-all, hands, writes, chunks, coming}
 use Rattle.ws_link_laws.proofs.Unheard.{row-unheard}
 use Rattle.ws_link_laws.proofs.Pipes.{rank, chunk_in, IsCalm, IsNoGo, is_writing, Finds, HasRoom, PipeKept, pipe_keeps, late_writes}
@@ -43,14 +45,14 @@ use Rattle.ws_link_laws.proofs.Standing.{IsInner, inner-later, IsNotLast, IsStil
 
 -- what a pipe causes calls nothing, brings no chunk to a pipe, and lets nothing into a stream
 
-caused-hands : (j : StreamId) (q : PipeId) (source dest : StreamId) (e : Effect) → PipeCauses q source dest e → IsSilent (hands j) e
-caused-hands j q source dest e c = grind (arith, c)
+caused-hands : (w : Ear) (q : PipeId) (source dest : StreamId) (e : Effect) → PipeCauses q source dest e → IsSilent (hands w) e
+caused-hands w q source dest e c = grind (arith, c)
 
 caused-chunks : (p q : PipeId) (source dest : StreamId) (e : Effect) → PipeCauses q source dest e → IsSilent (chunks p) e
 caused-chunks p q source dest e c = grind (arith, c)
 
-caused-coming : (i : StreamId) (q : PipeId) (source dest : StreamId) (e : Effect) → PipeCauses q source dest e → IsSilent (coming i) e
-caused-coming i q source dest e c = grind (arith, c)
+caused-coming : (o : Owner) (i : StreamId) (q : PipeId) (source dest : StreamId) (e : Effect) → PipeCauses q source dest e → IsSilent (coming o i) e
+caused-coming o i q source dest e c = grind (arith, c)
 
 -- a pipe to another destination writes nothing to j
 other-writes : (j : StreamId) (q : PipeId) (source dest : StreamId) (e : Effect) → is_same j dest ≡ false → PipeCauses q source dest e → IsSilent (writes j) e
@@ -145,7 +147,7 @@ module _ (i j : StreamId) (p : PipeId) (s : Slots) (operation : PipeOperation) (
   C = tells (chunks p) es
 
   abbrev Q : Told Value
-  Q = then_told (in_source (readable_at i s)) (tells (coming i) es)
+  Q = then_told (in_source (readable_at i s)) (tells (coming (owner_at i s) i) es)
 
   abbrev K : Told Value
   K = then_told (in_sink (writable_at j s)) (tells (writes j) es)
@@ -174,7 +176,7 @@ module _ (i j : StreamId) (p : PipeId) (s : Slots) (operation : PipeOperation) (
 
   finds : Finds (ends_at x s) K Q
   finds = record {
-    closed = λ c. in_source_closed (readable_at i s) (tells (coming i) es) (rw h.state.from at c);
+    closed = λ c. in_source_closed (readable_at i s) (tells (coming (owner_at i s) i) es) (rw h.state.from at c);
     shut = λ c. shut_more (in_sink (writable_at j s)) (tells (writes j) es) (sink_shut (writable_at j s) h.state.sink_fits (rw h.state.into at c));
   }
 
@@ -219,10 +221,9 @@ module _ (i j : StreamId) (p : PipeId) (s : Slots) (operation : PipeOperation) (
   own-turned = record {
     sound = record {
       state = state;
+      ahead = row-ahead i j s e es h.ahead;
       few = row-few p s e es h.few;
       only = let a = all-append (off p i) b.out.effects es in let n = off-caused in let w = h.only in rw (streams, caused) (omega (arith, a, n, w));
-      history = writes_then h.history (effect_writes j e s);
-      kept = row-kept j h.history s e es h.kept;
       inner = rw (at, caused)
           (each-append (IsInner i j p (rank b.slots.phase)) b.out.effects es
           (each-map _ (IsInner i j p (rank b.slots.phase)) (own-inner i j p (rank b.slots.phase) x.source x.dest) b.out.effects (each-both (PipeCauses p x.source x.dest) (IsCalm (rank b.slots.phase)) b.out.effects causes.1.1 kept.calm))
@@ -233,15 +234,17 @@ module _ (i j : StreamId) (p : PipeId) (s : Slots) (operation : PipeOperation) (
     short =
         rw (
           split i j p z cs es,
-          row-unheard j e s tt,
+          row-ear j e s,
+          row-owner i e s,
+          row-unheard (ear_at j s) e s tt,
           caused,
           at,
           streams,
-          silent-all (hands j) b.out.effects (each-map _ (IsSilent (hands j)) (caused-hands j p x.source x.dest) b.out.effects causes.1.1),
+          silent-all (hands (ear_at j s)) b.out.effects (each-map _ (IsSilent (hands (ear_at j s))) (caused-hands (ear_at j s) p x.source x.dest) b.out.effects causes.1.1),
           silent-all (chunks p) b.out.effects (each-map _ (IsSilent (chunks p)) (caused-chunks p p x.source x.dest) b.out.effects causes.1.1),
-          silent-all (coming i) b.out.effects (each-map _ (IsSilent (coming i)) (caused-coming i p x.source x.dest) b.out.effects causes.1.1),
+          silent-all (coming (owner_at i s) i) b.out.effects (each-map _ (IsSilent (coming (owner_at i s) i)) (caused-coming (owner_at i s) i p x.source x.dest) b.out.effects causes.1.1),
         )
-        (pipe-passes (unheard j s.promises.events) (tells (hands j) es) (in_sink (writable_at j s)) (tells (writes j) es) (tells (writes j) b.out.effects) (in_pipe b.slots (then_told C Q)) _ either-way (rw (own_chunk operation) kept.short));
+        (pipe-passes (unheard (ear_at j s) s.promises.events) (tells (hands (ear_at j s)) es) (in_sink (writable_at j s)) (tells (writes j) es) (tells (writes j) b.out.effects) (in_pipe b.slots (then_told C Q)) _ either-way (rw (own_chunk operation) kept.short));
   }
     where
       own_chunk : (o : PipeOperation) → chunks p (OnPipe p o) ≡ chunk_in o
@@ -259,10 +262,10 @@ module _ (i j : StreamId) (p : PipeId) (s : Slots) (q : PipeId) (operation : Pip
     streams : d.slots.streams ≡ s.streams
     here : slice_get d.slots.pipes p.0 ≡ slice_get s.pipes p.0
     apart : AreApart i j p d.slots.pipes
-    hands : tells (hands j) d.caused ≡ silence
+    hands : tells (hands (ear_at j s)) d.caused ≡ silence
     writes : tells (writes j) d.caused ≡ silence
     chunks : tells (chunks p) d.caused ≡ silence
-    coming : tells (coming i) d.caused ≡ silence
+    coming : tells (coming (owner_at i s) i) d.caused ≡ silence
     inner : Each (IsInner i j p (rank (pipe_at p s).phase)) d.caused
     last : Each (IsNotLast p) d.caused
     off : all (off p i) d.caused ≡ 0
@@ -278,10 +281,10 @@ module _ (i j : StreamId) (p : PipeId) (s : Slots) (q : PipeId) (operation : Pip
         streams = refl;
         here = slice_get-set_other s.pipes q.0 p.0 b.slots (λ k. unequal_numbers p.0 q.0 n (sym k));
         apart = apart-set i j p q s.pipes x b.slots e c.0 c.1.0 h.state.apart;
-        hands = silent-all (hands j) b.out.effects (each-map _ (IsSilent (hands j)) (caused-hands j q x.source x.dest) b.out.effects c.1.1);
+        hands = silent-all (hands (ear_at j s)) b.out.effects (each-map _ (IsSilent (hands (ear_at j s))) (caused-hands (ear_at j s) q x.source x.dest) b.out.effects c.1.1);
         writes = silent-all (writes j) b.out.effects (each-map _ (IsSilent (writes j)) (λ u k. other-writes j q x.source x.dest u far.1 k) b.out.effects c.1.1);
         chunks = silent-all (chunks p) b.out.effects (each-map _ (IsSilent (chunks p)) (caused-chunks p q x.source x.dest) b.out.effects c.1.1);
-        coming = silent-all (coming i) b.out.effects (each-map _ (IsSilent (coming i)) (caused-coming i q x.source x.dest) b.out.effects c.1.1);
+        coming = silent-all (coming (owner_at i s) i) b.out.effects (each-map _ (IsSilent (coming (owner_at i s) i)) (caused-coming (owner_at i s) i q x.source x.dest) b.out.effects c.1.1);
         inner = each-map _ (IsInner i j p (rank (pipe_at p s).phase)) (λ u k. other-inner i j p (rank (pipe_at p s).phase) q x.source x.dest u far.0 k) b.out.effects c.1.1;
         last = each-map _ (IsNotLast p) (λ u k. other-last p q x.source x.dest u n k) b.out.effects c.1.1;
         off = let a = all_off p i b.out.effects in omega (arith, a, none);
@@ -308,14 +311,13 @@ module _ (i j : StreamId) (p : PipeId) (s : Slots) (q : PipeId) (operation : Pip
             sink_fits = rw a.streams h.state.sink_fits;
             closes = rw (same, a.streams) h.state.closes;
           };
+          ahead = row-ahead i j s e es h.ahead;
           few = row-few p s e es h.few;
           only = let f = all-append (off p i) cs es in let g = a.off in let w = h.only in rw a.streams (omega (arith, f, g, w));
-          history = writes_then h.history (effect_writes j e s);
-          kept = row-kept j h.history s e es h.kept;
           inner = rw same (each-append (IsInner i j p (rank (pipe_at p s).phase)) cs es a.inner h.inner.1);
           ends = at_end-append j p cs es a.last h.ends.1;
         };
-        short = rw (split i j p z cs es, row-unheard j e s tt, a.hands, a.writes, a.chunks, a.coming, same, a.streams, other_chunk p q operation n) (short_refl _);
+        short = rw (split i j p z cs es, row-ear j e s, row-owner i e s, row-unheard (ear_at j s) e s tt, a.hands, a.writes, a.chunks, a.coming, same, a.streams, other_chunk p q operation n) (short_refl _);
       }
 
 pub pipe-turned : (i j : StreamId) (p : PipeId) (s : Slots) (q : PipeId) (operation : PipeOperation) (es : List Effect) → Sound i j p s (OnPipe q operation ∷ es) → Turned i j p s (OnPipe q operation) es

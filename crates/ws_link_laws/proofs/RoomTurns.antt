@@ -6,7 +6,7 @@ use Rattle.ws_value.specs.declared.ids.StreamId.{StreamId}
 use Rattle.ws_value.specs.declared.value.Plain.{Plain}
 use Rattle.ws_value.specs.declared.value.Value.{Value}
 use Rattle.ws_steps.specs.declared.effects.Effect.{Effect}
-use Rattle.ws_steps.specs.declared.effects.Effect.TheVariants.{Readable as OnReadable, Writable as OnWritable, Pipe as OnPipe, Signal as OnSignal, StartAlgorithm, PullAlgorithm, CancelAlgorithm, WriteAlgorithm, CloseAlgorithm, AbortAlgorithm, ChunkSteps, CloseSteps, ErrorSteps}
+use Rattle.ws_steps.specs.declared.effects.Effect.TheVariants.{Readable as OnReadable, Writable as OnWritable, Pipe as OnPipe, Signal as OnSignal, Transform as OnTransform, StartAlgorithm, PullAlgorithm, CancelAlgorithm, WriteAlgorithm, CloseAlgorithm, AbortAlgorithm, ChunkSteps, CloseSteps, ErrorSteps}
 use Rattle.ws_steps.specs.declared.pipes.Action.{Action}
 use Rattle.ws_steps.specs.declared.pipes.Action.TheVariants.{BySignal}
 use Rattle.ws_steps.specs.declared.pipes.Ends.{Ends}
@@ -24,6 +24,7 @@ use Rattle.ws_steps.specs.declared.writable.WritableOperation.{WritableOperation
 use Rattle.ws_steps.specs.declared.writable.WritableOperation.TheVariants.{Write}
 use Rattle.ws_steps.specs.declared.writable.WritableState.{WritableState}
 use Rattle.ws_steps.specs.declared.writable.WritableState.TheVariants.{Writable, Erroring, Errored as WritableErrored, Closed as WritableClosed}
+use Rattle.ws_steps.specs.declared.transform.TransformId.{TransformId}
 use Rattle.ws_steps.specs.Histories.{is_same}
 use Rattle.ws_steps.specs.Operations.{readable_operation, writable_operation, pipe_operation}
 use Rattle.ws_steps.specs.Pipes as pipe
@@ -40,6 +41,7 @@ use Rattle.ws_laws.proofs.Lists.{Each, each-map, append_none}
 use Rattle.ws_laws.proofs.PipeDoes.{PipeCauses, pipe-causes, is_looking}
 use Rattle.ws_laws.proofs.Rows.{Causes, SignalCauses, IsNoPipe, IsApart, row-causes, row-pipes, row-streams}
 use Rattle.ws_laws.proofs.Tables.{either, is_same-refl, same_id, eq_numbers, unequal_numbers, writable_acts, on_readable-writable, on_writable-same, on_writable-other}
+use Rattle.ws_laws.proofs.TransformDoes.{TransformCauses}
 use Rattle.ws_laws.proofs.Truth.{and_right}
 use Rattle.ws_pipe_laws.specs.PipeMoves.{starting}
 use Rattle.ws_pipe_laws.specs.PipeReads.{held_values, one_if}
@@ -194,17 +196,21 @@ signal-more j (Trigger r) = λ q. refl
 signal-more j (Add q) = tt
 signal-more j (Forget q) = tt
 
+transform-more : (j : StreamId) (t : TransformId) (w r : StreamId) (e : Effect) → TransformCauses t w r e → IsNoMore j e
+transform-more j t w r e c = grind (arith, c)
+
 more-causes : (j : StreamId) (e : Effect) → IsNoPipe e → Causes (IsNoMore j) e
 more-causes j (OnReadable k operation) n = record { pull = refl; cancel = λ r q. refl; chunk = λ request v. refl; close = λ request. refl; error = λ request r. refl }
-more-causes j (OnWritable k operation) n = record { write = refl; close = refl; abort = λ r q. refl; hand_on = λ v. refl }
+more-causes j (OnWritable k operation) n = record { write = refl; close = refl; abort = λ r q. refl; hand_on = λ v. refl; take = λ v t d. refl }
 more-causes j (OnPipe q operation) n = absurd n
 more-causes j (OnSignal a operation) n = signal-more j operation
 more-causes j (StartAlgorithm k step start) n = (λ g u. refl, λ c u. refl)
-more-causes j (PullAlgorithm k) n = λ c u. refl
-more-causes j (CancelAlgorithm k r q) n = λ c u. refl
-more-causes j (WriteAlgorithm k) n = refl
-more-causes j (CloseAlgorithm k) n = λ c u. refl
-more-causes j (AbortAlgorithm k r q) n = λ c u. refl
+more-causes j (OnTransform t operation) n = λ w r e c. transform-more j t w r e c
+more-causes j (PullAlgorithm k) n = (λ c u. refl, λ t u. refl)
+more-causes j (CancelAlgorithm k r q) n = (λ c u. refl, λ t u. refl)
+more-causes j (WriteAlgorithm k) n = (refl, λ t u. refl)
+more-causes j (CloseAlgorithm k) n = (λ c u. refl, λ t u. refl)
+more-causes j (AbortAlgorithm k r q) n = (λ c u. refl, λ t u. refl)
 more-causes j (ChunkSteps k (Promise q) v) n = tt
 more-causes j (ChunkSteps k (PipeRequest q) v) n = refl
 more-causes j (CloseSteps k (Promise q)) n = tt

@@ -7,7 +7,7 @@ use Rattle.ws_value.specs.declared.value.Plain.{Plain}
 use Rattle.ws_value.specs.declared.value.Plain.TheVariants.{Undefined}
 use Rattle.ws_value.specs.declared.value.Value.{Value}
 use Rattle.ws_steps.specs.declared.effects.Owner.{Owner}
-use Rattle.ws_steps.specs.declared.effects.Owner.TheVariants.{Host}
+use Rattle.ws_steps.specs.declared.effects.Owner.TheVariants.{Host, HalfOf}
 use Rattle.ws_steps.specs.declared.queue.Queued.{Queued}
 use Rattle.ws_steps.specs.declared.readable.SizeBy.{SizeBy}
 use Rattle.ws_steps.specs.declared.readable.SizeBy.TheVariants.{Count}
@@ -121,6 +121,7 @@ module _ (me : StreamId) (b : ℕ) (x : Slots) where
 
   signalled_is : (r : Plain) (t : Table) (o : Owner) → (z : Table) × (signalled me r (starting x t) o ≡ starting x z)
   signalled_is r t Host = (_, refl)
+  signalled_is r t (HalfOf half) = (_, refl)
 
   abort_room : (r : Plain) (p : PromiseId) (t : Table) → Sized x.queue → total_of x.queue ≤ b → Keeps (stream_abort me r p (starting x t))
   unfolding stream_abort
@@ -178,9 +179,9 @@ sink_room me (AbortIfWritable r p) x t z s =
 sink_room me (ErrorIfNeeded e) x t z s =
     let k = rests_room me (total_of x.queue + 0) x (starting x t) refl refl refl s (omega arith) in
     either (RoomKept x (total_of x.queue + 0)) (is_writable x.state) (start_erroring me e (starting x t)) (starting x t) (λ w. start_room me (total_of x.queue + 0) x e (starting x t) k) (λ w. k)
-sink_room me HandOn x t z s = handed x.queue s refl
+sink_room me (HandOn taker) x t z s = handed x.queue s refl
   where
-    handed : (qs : List (Queued WriteRecord)) → Sized qs → qs ≡ x.queue → RoomKept x (total_of x.queue + 0) (hand_on me (starting x t))
+    handed : (qs : List (Queued WriteRecord)) → Sized qs → qs ≡ x.queue → RoomKept x (total_of x.queue + 0) (hand_on me taker (starting x t))
     handed qs r e = grind (arith, total-cons, r, e)
 sink_room me (StartSettled (Ok v)) x t z s = let a : Acts = starting (record x { started = true }) t in advance_room me (total_of x.queue + 0) x a (rests_room me (total_of x.queue + 0) x a refl refl refl s (omega arith))
 sink_room me (StartSettled (Err e)) x t z s = let a : Acts = starting (record x { started = true }) t in deal_room me (total_of x.queue + 0) x e a (rests_room me (total_of x.queue + 0) x a refl refl refl s (omega arith))

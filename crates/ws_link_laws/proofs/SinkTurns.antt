@@ -1,40 +1,50 @@
 -- A turn of an operation of a writable stream: of the destination, or of another.
-use Rattle.std.proofs.Common.{◌≡◌, ℕ, Bool, true, false, List, ◌∷◌, ◌++◌, refl, sym, ap, subst, ◌∙◌, arith}
+use Rattle.std.proofs.Common.{◌≡◌, inr, ℕ, Bool, true, false, is_some, List, ◌∷◌, ◌++◌, Option, Some, None, Ok, Err, refl, sym, ap, subst, ◌∙◌, arith}
+use Rattle.ws_value.specs.declared.ids.PromiseId.{PromiseId}
 use Rattle.ws_value.specs.declared.ids.PipeId.{PipeId}
 use Rattle.ws_value.specs.declared.ids.StreamId.{StreamId}
+use Rattle.ws_value.specs.declared.value.Plain.{Plain}
 use Rattle.ws_value.specs.declared.value.Value.{Value}
 use Rattle.ws_steps.specs.declared.effects.Effect.{Effect}
 use Rattle.ws_steps.specs.declared.effects.Effect.TheVariants.{Writable as OnWritable}
+use Rattle.ws_steps.specs.declared.effects.Owner.{Owner}
+use Rattle.ws_steps.specs.declared.effects.Owner.TheVariants.{Host, HalfOf}
+use Rattle.ws_steps.specs.declared.transform.TransformId.{TransformId}
 use Rattle.ws_steps.specs.declared.writable.WritableOperation.{WritableOperation}
-use Rattle.ws_steps.specs.declared.writable.WritableOperation.TheVariants.{Close, StartSettled, WriteSettled, CloseSettled, AbortSettled}
+use Rattle.ws_steps.specs.declared.writable.WritableOperation.TheVariants.{Close, HandOn, StartSettled, WriteSettled, CloseSettled, AbortSettled}
 use Rattle.ws_steps.specs.declared.writable.WritableState.{WritableState}
 use Rattle.ws_steps.specs.declared.writable.WritableState.TheVariants.{Writable, Erroring, Errored, Closed}
 use Rattle.ws_steps.specs.Histories.{is_same}
 use Rattle.ws_steps.specs.Operations.{writable_operation}
-use Rattle.ws_steps.specs.Slots.{Slots, has_writable, readable_at, writable_at, pipe_at, is_writable_stream, as_writable, on_writable}
+use Rattle.ws_steps.specs.Slots.{Slots, has_writable, owner_at, readable_at, writable_at, pipe_at, is_writable_stream, as_writable, on_writable}
 use Rattle.ws_steps.specs.Turns.{row}
 use Rattle.ws_steps.specs.Writable as writable
-use Rattle.ws_steps.specs.WritableHistory.{Writes, writes_then, effect_writes}
+use Rattle.ws_steps.specs.WritableHistory.{Writes}
 use Rattle.ws_flow.specs.Told.{Told, then_told, IsShortOf}
 use Rattle.ws_flow.proofs.Told.{short_refl}
 use Rattle.ws_laws.proofs.Lists.{Each, each-append}
 use Rattle.ws_laws.proofs.Rows.{row-causes, row-pipes}
+use Rattle.ws_laws.proofs.Shapes.{row-owner}
 use Rattle.ws_laws.proofs.Tables.{is_same-refl, same_id, writable_acts, on_writable-same, on_writable-other, on_writable-readable, on_writable-there}
 use Rattle.ws_pipe_laws.proofs.AtSource.{off-only, row-off}
 use Rattle.ws_pipe_laws.proofs.PassingRuns.{row-few}
-use Rattle.ws_writable_laws.proofs.Agenda.{Kept, found, row-kept}
-use Rattle.ws_writable_laws.proofs.Expects.{close_settled-expects, abort_settled-expects}
+use Rattle.ws_writable_laws.proofs.Agenda.{found}
+use Rattle.ws_writable_laws.proofs.Expects.{write_settled-expects, close_settled-expects, abort_settled-expects}
 use Rattle.ws_writable_laws.proofs.Operations.{same_once}
 use Rattle.ws_writable_laws.proofs.Shape.{leads}
-use Rattle.ws_link_laws.specs.Link.{silence, in_sink, in_source, in_pipe, unheard}
+use Rattle.ws_transform_laws.proofs.Halving.{Going}
+use Rattle.ws_transform_laws.proofs.Lawful.{half-owner, known-half, settled-led}
+use Rattle.ws_link_laws.specs.Link.{silence, in_sink, in_source, in_pipe, ear_at, unheard}
 use Rattle.ws_link_laws.specs.Sound.{SinkFits}
-use Rattle.ws_link_laws.proofs.Telling.{tells, IsSilent, silent-all, hands, written, writes, chunks, coming, behind_on}
+use Rattle.ws_link_laws.proofs.Ahead.{Ahead, ahead-kept, ahead-silent, row-ahead, other-silent}
+use Rattle.ws_link_laws.proofs.Hosts.{row-ear, sink-owner, sink-there}
+use Rattle.ws_link_laws.proofs.Telling.{is_of, if_same, tells, IsSilent, silent-all, hands, written, writes, chunks, coming, behind_on}
 use Rattle.ws_link_laws.proofs.Unheard.{row-unheard}
 use Rattle.ws_link_laws.proofs.Sinks.{InFlightOr, Needs, SinkKept, sink_keeps}
 use Rattle.ws_link_laws.proofs.Pipes.{rank}
 use Rattle.ws_link_laws.proofs.Moves.{line, sink-passes}
 use Rattle.ws_link_laws.proofs.SourceTurns.{Turned}
-use Rattle.ws_link_laws.proofs.Standing.{IsInner, IsNotLast, at_end-append, State, Sound, split, hands-apart}
+use Rattle.ws_link_laws.proofs.Standing.{IsInner, IsNotLast, at_end-append, State, Sound, split}
 
 -- what an operation of the destination may rely on
 
@@ -44,22 +54,35 @@ flies Erroring x e f = f refl
 flies Errored x e f = tt
 flies Closed x e f = tt
 
-needs : (i j : StreamId) (p : PipeId) (n : ℕ) (operation : WritableOperation) (h : Writes) (s : Slots) (es : List Effect) → IsInner i j p n (OnWritable j operation) → Kept j h s (OnWritable j operation ∷ es) → Needs operation (writable_at j s)
-needs i j p n (WriteSettled o) h s es a k =
-    let f = found j (WriteSettled o) h es s (λ u. u) k in
+none_is : (o : Option PromiseId) → is_some o ≡ false → o ≡ None
+none_is None e = refl
+none_is (Some p) e = cc
+
+-- the chunk of a write that is fulfilled was handed on
+led-by : (j : StreamId) (h : Writes) (s : Slots) (es : List Effect) (v : Plain) → has_writable j s ≡ true → ((t : TransformId) → Going j t h s (OnWritable j (WriteSettled (Ok v)) ∷ es)) → (o : Owner) → owner_at j s ≡ o
+    → writable.has_ended (writable_at j s).state ≡ false → leads (writable_at j s).queue ≡ true
+led-by j h s es v there g Host own e =
+    let f = found j (WriteSettled (Ok v)) h es s (λ u. u) (g (record { 0 = 0 })).kept in
     let one = same_once j in
     let w = f.owed.writes in
-    let flying = f.shape.flying in
-    flies (writable_at j s).state (writable_at j s) refl (λ e. grind (arith, one, w, flying, e))
-needs i j p n (CloseSettled o) h s es a k = close_settled-expects j h es s o k
-needs i j p n (StartSettled o) h s es a k =
-    let f = found j (StartSettled o) h es s (λ u. u) k in
+    let hosted : (writable_at j s).owner ≡ Host = sym (sink-owner j s there) ∙ own in
+    let flying = f.shape.flying (rw hosted refl) in
+    grind (arith, one, w, flying, e)
+led-by j h s es v there g (HalfOf t) own e = settled-led j t h s es v own (g t) (known-half j t h s _ (half-owner j t s there own) (g t).kept) e
+
+needs : (i j : StreamId) (operation : WritableOperation) (s : Slots) (es : List Effect) (p : PipeId) (n : ℕ) → IsInner i j p n (OnWritable j operation) → Ahead i j s (OnWritable j operation ∷ es) → Needs (ear_at j s) j operation (writable_at j s)
+needs i j (WriteSettled (Ok v)) s es p n a k = flies (writable_at j s).state (writable_at j s) refl (led-by j k.history s es v (sink-there i j s k.hosts) k.going (owner_at j s) refl)
+needs i j (WriteSettled (Err r)) s es p n a k = none_is (writable_at j s).close_in_flight (write_settled-expects j k.history es s (Err r) (ahead-kept i j s _ k)).1
+needs i j (CloseSettled o) s es p n a k = close_settled-expects j k.history es s o (ahead-kept i j s _ k)
+needs i j (StartSettled o) s es p n a k =
+    let f = found j (StartSettled o) k.history es s (λ u. u) (ahead-kept i j s _ k) in
     let one = same_once j in
     let w = f.owed.starts in
     grind (arith, one, w)
-needs i j p n (AbortSettled q o) h s es a k = abort_settled-expects j h es s q o k
-needs i j p n (Close q) h s es a k = let e = is_same-refl j in absurd (cc)
-needs i j p n operation h s es a k = grind arith
+needs i j (AbortSettled q o) s es p n a k = abort_settled-expects j k.history es s q o (ahead-kept i j s _ k)
+needs i j (Close q) s es p n a k = let e = is_same-refl j in absurd (cc)
+needs i j (HandOn taker) s es p n a k = k.placed.0.0 (is_same-refl j)
+needs i j operation s es p n a k = grind arith
 
 pub writable-there : (operation : writable.Acts → writable.Acts) (k : StreamId) (s : Slots) (j : StreamId) → has_writable j s ≡ true → has_writable j (on_writable operation k s).slots ≡ true
 writable-there operation k s j h = by (is_same j k) refl
@@ -84,19 +107,19 @@ module _ (i j : StreamId) (p : PipeId) (s : Slots) (k : StreamId) (operation : W
   -- what it causes is no write, no chunk for the pipe, and nothing that comes
 
   quiet-writes : tells (writes j) cs ≡ silence
-  quiet-writes = silent-all (writes j) cs (row-causes (IsSilent (writes j)) e s (record { write = refl; close = refl; abort = λ r q. refl; hand_on = λ v. refl }))
+  quiet-writes = silent-all (writes j) cs (row-causes (IsSilent (writes j)) e s (record { write = refl; close = refl; abort = λ r q. refl; hand_on = λ v. refl; take = λ v t d. refl }))
 
   quiet-chunks : tells (chunks p) cs ≡ silence
-  quiet-chunks = silent-all (chunks p) cs (row-causes (IsSilent (chunks p)) e s (record { write = refl; close = refl; abort = λ r q. refl; hand_on = λ v. refl }))
+  quiet-chunks = silent-all (chunks p) cs (row-causes (IsSilent (chunks p)) e s (record { write = refl; close = refl; abort = λ r q. refl; hand_on = λ v. refl; take = λ v t d. refl }))
 
-  quiet-coming : tells (coming i) cs ≡ silence
-  quiet-coming = silent-all (coming i) cs (row-causes (IsSilent (coming i)) e s (record { write = refl; close = refl; abort = λ r q. refl; hand_on = λ v. refl }))
+  quiet-coming : tells (coming (owner_at i s) i) cs ≡ silence
+  quiet-coming = silent-all (coming (owner_at i s) i) cs (row-causes (IsSilent (coming (owner_at i s) i)) e s (record { write = refl; close = refl; abort = λ r q. refl; hand_on = λ v. refl; take = λ v t d. if_same (is_of (owner_at i s) t) }))
 
   inner-caused : (n : ℕ) → Each (IsInner i j p n) cs
-  inner-caused n = row-causes (IsInner i j p n) e s (record { write = tt; close = tt; abort = λ r q. tt; hand_on = λ v. refl })
+  inner-caused n = row-causes (IsInner i j p n) e s (record { write = tt; close = tt; abort = λ r q. tt; hand_on = λ v. tt; take = λ v t d. tt })
 
   last-caused : Each (IsNotLast p) cs
-  last-caused = row-causes (IsNotLast p) e s (record { write = refl; close = refl; abort = λ r q. refl; hand_on = λ v. refl })
+  last-caused = row-causes (IsNotLast p) e s (record { write = refl; close = refl; abort = λ r q. refl; hand_on = λ v. refl; take = λ v t d. refl })
 
   pipes : z.pipes ≡ s.pipes
   pipes = row-pipes e s tt
@@ -108,10 +131,9 @@ module _ (i j : StreamId) (p : PipeId) (s : Slots) (k : StreamId) (operation : W
   sound-by : State i j p z → Sound i j p s (e ∷ es) → Sound i j p z (cs ++ es)
   sound-by st h = record {
     state = st;
+    ahead = row-ahead i j s e es h.ahead;
     few = row-few p s e es h.few;
     only = off-only p i s e es (row-off p i s e tt) h.only;
-    history = writes_then h.history (effect_writes j e s);
-    kept = row-kept j h.history s e es h.kept;
     inner = rw pipes (each-append (IsInner i j p (rank (pipe_at p s).phase)) cs es (inner-caused (rank (pipe_at p s).phase)) h.inner.1);
     ends = at_end-append j p cs es last-caused h.ends.1;
   }
@@ -134,19 +156,15 @@ module _ (i j : StreamId) (p : PipeId) (s : Slots) (k : StreamId) (operation : W
   -- what is told, where nothing but the destination and the calls of its algorithms change
 
   abbrev rest : Told Value
-  rest = in_pipe (pipe_at p s) (then_told (tells (chunks p) es) (then_told (in_source (readable_at i s)) (tells (coming i) es)))
+  rest = in_pipe (pipe_at p s) (then_told (tells (chunks p) es) (then_told (in_source (readable_at i s)) (tells (coming (owner_at i s) i) es)))
 
   told-by : (w : writable.Slots) → writable_at j z ≡ w
-      → IsShortOf (line (unheard j s.promises.events) (then_told (tells (hands j) cs) (tells (hands j) es)) (in_sink w) (tells (writes j) es) rest)
-      (line (unheard j s.promises.events) (tells (hands j) es) (in_sink (writable_at j s)) (then_told (writes j e) (tells (writes j) es)) rest)
+      → IsShortOf (line (unheard (ear_at j s) s.promises.events) (then_told (tells (hands (ear_at j s)) cs) (tells (hands (ear_at j s)) es)) (in_sink w) (tells (writes j) es) rest)
+      (line (unheard (ear_at j s) s.promises.events) (tells (hands (ear_at j s)) es) (in_sink (writable_at j s)) (then_told (writes j e) (tells (writes j) es)) rest)
       → IsShortOf (behind_on i j p z (cs ++ es)) (behind_on i j p s (e ∷ es))
-  told-by w same h = rw (split i j p z cs es, row-unheard j e s tt, quiet-writes, quiet-chunks, quiet-coming, source-same, pipes, same) h
+  told-by w same h = rw (split i j p z cs es, row-ear j e s, row-owner i e s, row-unheard (ear_at j s) e s tt, quiet-writes, quiet-chunks, quiet-coming, source-same, pipes, same) h
 
 -- an operation of another stream
-
-other-hands : (j : StreamId) (s : Slots) (k : StreamId) (operation : WritableOperation) → is_same j k ≡ false → tells (hands j) (row (OnWritable k operation) s).caused ≡ silence
-other-hands j s k operation n =
-    silent-all (hands j) (row (OnWritable k operation) s).caused (row-causes (IsSilent (hands j)) (OnWritable k operation) s (record { write = refl; close = refl; abort = λ r q. refl; hand_on = λ v. rw n refl }))
 
 other-turned : (i j : StreamId) (p : PipeId) (s : Slots) (k : StreamId) (operation : WritableOperation) (es : List Effect) → is_same j k ≡ false → Sound i j p s (OnWritable k operation ∷ es) → Turned i j p s (OnWritable k operation) es
 unfolding row
@@ -154,7 +172,7 @@ other-turned i j p s k operation es n h =
     let same : writable_at j (row (OnWritable k operation) s).slots ≡ writable_at j s = ap as_writable (on_writable-other (writable_operation k operation) k s j n) in
     record {
       sound = sound-by i j p s k operation es (state-by i j p s k operation es (writable_at j s) same h.state h.state.sink_fits) h;
-      short = told-by i j p s k operation es (writable_at j s) same (rw (other-hands j s k operation n, n) (short_refl _));
+      short = told-by i j p s k operation es (writable_at j s) same (rw (other-silent j k s n operation h.ahead.placed.0, n) (short_refl _));
     }
 
 -- an operation of the destination
@@ -165,16 +183,15 @@ own-turned i j p s operation es h =
     let e : Effect = OnWritable j operation in
     let b : writable.Acts = writable_operation j operation (writable_acts j s) in
     let n : ℕ = rank (pipe_at p s).phase in
-    let k : SinkKept j operation (writable_at j s) b = sink_keeps j operation (writable_at j s) s.promises h.state.sink_fits (needs i j p n operation h.history s es h.inner.0 h.kept) in
+    let k : SinkKept (ear_at j s) operation (writable_at j s) b = sink_keeps (ear_at j s) j operation (writable_at j s) s.promises h.state.sink_fits (needs i j operation s es p n h.inner.0 h.ahead) in
     let same : writable_at j (row e s).slots ≡ b.slots = ap as_writable (on_writable-same (writable_operation j operation) j s h.state.sink) in
     let caused : (row e s).caused ≡ b.out.effects = rw h.state.sink refl in
     let sound = sound-by i j p s j operation es (state-by i j p s j operation es b.slots same h.state k.fits) h in
-    let apart = hands-apart i j p n sound.history (row e s).slots (row e s).caused es sound.kept (inner-caused i j p s j operation es n) h.inner.1 in
     record {
       sound = sound;
       short = told-by i j p s j operation es b.slots same
           (rw (is_same-refl j)
-          (sink-passes (unheard j s.promises.events) (tells (hands j) es) (in_sink (writable_at j s)) (tells (writes j) es) (rest i j p s j operation es) (tells (hands j) (row e s).caused) (in_sink b.slots) (written operation) (rw caused k.short) apart));
+          (sink-passes (unheard (ear_at j s) s.promises.events) (tells (hands (ear_at j s)) es) (in_sink (writable_at j s)) (tells (writes j) es) (rest i j p s j operation es) (tells (hands (ear_at j s)) (row e s).caused) (in_sink b.slots) (written operation) (rw caused k.short) (inr (ahead-silent i j s e es h.ahead))));
     }
 
 pub writable-turned : (i j : StreamId) (p : PipeId) (s : Slots) (k : StreamId) (operation : WritableOperation) (es : List Effect) → Sound i j p s (OnWritable k operation ∷ es) → Turned i j p s (OnWritable k operation) es

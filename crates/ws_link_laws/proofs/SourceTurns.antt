@@ -10,21 +10,23 @@ use Rattle.ws_steps.specs.declared.readable.ReadableState.TheVariants.{Closed as
 use Rattle.ws_steps.specs.Histories.{is_same}
 use Rattle.ws_steps.specs.Operations.{readable_operation}
 use Rattle.ws_steps.specs.Readable as readable
-use Rattle.ws_steps.specs.Slots.{Slots, Stream, has_readable, has_writable, readable_at, writable_at, pipe_at, is_readable_stream, is_writable_stream, as_readable, on_readable}
+use Rattle.ws_steps.specs.Slots.{Slots, Stream, has_readable, has_writable, owner_at, readable_at, writable_at, pipe_at, is_readable_stream, is_writable_stream, as_readable, on_readable}
 use Rattle.ws_steps.specs.Turns.{row}
-use Rattle.ws_steps.specs.WritableHistory.{writes_then, effect_writes}
 use Rattle.ws_flow.specs.Told.{Lost, told, then_told, IsShortOf}
 use Rattle.ws_flow.proofs.Told.{short_refl}
 use Rattle.ws_laws.proofs.Lists.{Each, each-append}
 use Rattle.ws_laws.proofs.Rows.{row-causes, row-pipes}
+use Rattle.ws_laws.proofs.Shapes.{row-owner}
 use Rattle.ws_laws.proofs.Tables.{is_same-refl, same_id, readable_acts, on_readable-same, on_readable-other, on_readable-writable}
 use Rattle.ws_pipe_laws.proofs.AtSource.{Only, off, off-only, row-off}
 use Rattle.ws_pipe_laws.proofs.PassingRuns.{row-few}
-use Rattle.ws_writable_laws.proofs.Agenda.{row-kept}
 use Rattle.ws_writable_laws.proofs.Shape.{all, all-append}
-use Rattle.ws_link_laws.specs.Link.{silence, in_sink, in_source, in_pipe, unheard}
+use Rattle.ws_link_laws.specs.Link.{silence, in_sink, in_source, in_pipe, ear_at, unheard}
 use Rattle.ws_link_laws.specs.Sound.{SourceFits}
-use Rattle.ws_link_laws.proofs.Telling.{tells, IsSilent, silent-all, hands, writes, chunks, entered, coming, behind_on}
+use Rattle.ws_link_laws.proofs.Ahead.{row-ahead}
+use Rattle.ws_link_laws.proofs.Hosts.{row-ear}
+use Rattle.ws_link_laws.specs.Entering.{entered}
+use Rattle.ws_link_laws.proofs.Telling.{tells, IsSilent, silent-all, hands, writes, chunks, coming, behind_on}
 use Rattle.ws_link_laws.proofs.Unheard.{row-unheard}
 use Rattle.ws_link_laws.proofs.Sources.{is_cancel, IsOwn, SourceKept, source_keeps}
 use Rattle.ws_link_laws.proofs.Pipes.{rank, closes_map}
@@ -79,14 +81,14 @@ module _ (i j : StreamId) (p : PipeId) (s : Slots) (k : StreamId) (operation : R
 
   -- what it causes is no call, no write, and nothing that comes
 
-  quiet-hands : tells (hands j) cs ≡ silence
-  quiet-hands = silent-all (hands j) cs (row-causes (IsSilent (hands j)) e s (record { pull = refl; cancel = λ r q. refl; chunk = λ request v. refl; close = λ request. refl; error = λ request r. refl }))
+  quiet-hands : tells (hands (ear_at j s)) cs ≡ silence
+  quiet-hands = silent-all (hands (ear_at j s)) cs (row-causes (IsSilent (hands (ear_at j s))) e s (record { pull = refl; cancel = λ r q. refl; chunk = λ request v. refl; close = λ request. refl; error = λ request r. refl }))
 
   quiet-writes : tells (writes j) cs ≡ silence
   quiet-writes = silent-all (writes j) cs (row-causes (IsSilent (writes j)) e s (record { pull = refl; cancel = λ r q. refl; chunk = λ request v. refl; close = λ request. refl; error = λ request r. refl }))
 
-  quiet-coming : tells (coming i) cs ≡ silence
-  quiet-coming = silent-all (coming i) cs (row-causes (IsSilent (coming i)) e s (record { pull = refl; cancel = λ r q. refl; chunk = λ request v. refl; close = λ request. refl; error = λ request r. refl }))
+  quiet-coming : tells (coming (owner_at i s) i) cs ≡ silence
+  quiet-coming = silent-all (coming (owner_at i s) i) cs (row-causes (IsSilent (coming (owner_at i s) i)) e s (record { pull = refl; cancel = λ r q. refl; chunk = λ request v. refl; close = λ request. refl; error = λ request r. refl }))
 
   inner-caused : (n : ℕ) → Each (IsInner i j p n) cs
   inner-caused n = row-causes (IsInner i j p n) e s (record { pull = tt; cancel = λ r q. tt; chunk = λ request v. tt; close = λ request. tt; error = λ request r. tt })
@@ -104,10 +106,9 @@ module _ (i j : StreamId) (p : PipeId) (s : Slots) (k : StreamId) (operation : R
   sound-by : State i j p z → Sound i j p s (e ∷ es) → Sound i j p z (cs ++ es)
   sound-by st h = record {
     state = st;
+    ahead = row-ahead i j s e es h.ahead;
     few = row-few p s e es h.few;
     only = off-only p i s e es (row-off p i s e tt) h.only;
-    history = writes_then h.history (effect_writes j e s);
-    kept = row-kept j h.history s e es h.kept;
     inner = rw pipes (each-append (IsInner i j p (rank (pipe_at p s).phase)) cs es (inner-caused (rank (pipe_at p s).phase)) h.inner.1);
     ends = at_end-append j p cs es last-caused h.ends.1;
   }
@@ -131,12 +132,12 @@ module _ (i j : StreamId) (p : PipeId) (s : Slots) (k : StreamId) (operation : R
   -- what is told, where nothing but the source and the chunks on their way changes
 
   told-by : (r : readable.Slots) → readable_at i z ≡ r
-      → IsShortOf (in_pipe (pipe_at p s) (then_told (then_told (tells (chunks p) cs) (tells (chunks p) es)) (then_told (in_source r) (tells (coming i) es))))
-      (in_pipe (pipe_at p s) (then_told (tells (chunks p) es) (then_told (in_source (readable_at i s)) (then_told (coming i e) (tells (coming i) es)))))
+      → IsShortOf (in_pipe (pipe_at p s) (then_told (then_told (tells (chunks p) cs) (tells (chunks p) es)) (then_told (in_source r) (tells (coming (owner_at i s) i) es))))
+      (in_pipe (pipe_at p s) (then_told (tells (chunks p) es) (then_told (in_source (readable_at i s)) (then_told (coming (owner_at i s) i e) (tells (coming (owner_at i s) i) es)))))
       → IsShortOf (behind_on i j p z (cs ++ es)) (behind_on i j p s (e ∷ es))
   told-by r same h =
-      rw (split i j p z cs es, row-unheard j e s tt, quiet-hands, quiet-writes, quiet-coming, sink-same, pipes, same)
-      (line-short (unheard j s.promises.events) (tells (hands j) es) (in_sink (writable_at j s)) (tells (writes j) es) _ _ h)
+      rw (split i j p z cs es, row-ear j e s, row-owner i e s, row-unheard (ear_at j s) e s tt, quiet-hands, quiet-writes, quiet-coming, sink-same, pipes, same)
+      (line-short (unheard (ear_at j s) s.promises.events) (tells (hands (ear_at j s)) es) (in_sink (writable_at j s)) (tells (writes j) es) _ _ h)
 
 -- another stream gives the pipe nothing
 
@@ -170,7 +171,7 @@ other-turned i j p s k operation es n h =
     let sound = sound-by i j p s k operation es (state-by i j p s k operation es (readable_at i s) same h.state h.state.source_fits (λ c. c)) h in
     record {
       sound = sound;
-      short = told-by i j p s k operation es (readable_at i s) same (rw (off-chunks i p s k operation es n sound.only, n) (short_refl (in_pipe (pipe_at p s) (then_told (tells (chunks p) es) (then_told (in_source (readable_at i s)) (tells (coming i) es))))));
+      short = told-by i j p s k operation es (readable_at i s) same (rw (off-chunks i p s k operation es n sound.only, n) (short_refl (in_pipe (pipe_at p s) (then_told (tells (chunks p) es) (then_told (in_source (readable_at i s)) (tells (coming (owner_at i s) i) es))))));
     }
 
 -- an operation of the source
@@ -200,20 +201,20 @@ own-turned i j p s operation es h =
   where
     by : (b : readable.Acts) → SourceKept p operation (readable_at i s) b → (row (OnReadable i operation) s).caused ≡ b.out.effects
         → (tells (chunks p) (row (OnReadable i operation) s).caused ≡ silence) ⊎ (tells (chunks p) es ≡ silence) → (c : Bool) → c ≡ is_cancel operation
-        → IsShortOf (in_pipe (pipe_at p s) (then_told (then_told (tells (chunks p) (row (OnReadable i operation) s).caused) (tells (chunks p) es)) (then_told (in_source b.slots) (tells (coming i) es))))
-        (in_pipe (pipe_at p s) (then_told (tells (chunks p) es) (then_told (in_source (readable_at i s)) (then_told (coming i (OnReadable i operation)) (tells (coming i) es)))))
+        → IsShortOf (in_pipe (pipe_at p s) (then_told (then_told (tells (chunks p) (row (OnReadable i operation) s).caused) (tells (chunks p) es)) (then_told (in_source b.slots) (tells (coming (owner_at i s) i) es))))
+        (in_pipe (pipe_at p s) (then_told (tells (chunks p) es) (then_told (in_source (readable_at i s)) (then_told (coming (owner_at i s) i (OnReadable i operation)) (tells (coming (owner_at i s) i) es)))))
     by b k caused apart true c =
         let l = acts-late i j p (rank (pipe_at p s).phase) operation h.inner.0 (sym c) in
         rw (
-          late_pipe (pipe_at p s) (then_told (then_told (tells (chunks p) (row (OnReadable i operation) s).caused) (tells (chunks p) es)) (then_told (in_source b.slots) (tells (coming i) es))) l,
-          late_pipe (pipe_at p s) (then_told (tells (chunks p) es) (then_told (in_source (readable_at i s)) (then_told (coming i (OnReadable i operation)) (tells (coming i) es)))) l,
+          late_pipe (pipe_at p s) (then_told (then_told (tells (chunks p) (row (OnReadable i operation) s).caused) (tells (chunks p) es)) (then_told (in_source b.slots) (tells (coming (owner_at i s) i) es))) l,
+          late_pipe (pipe_at p s) (then_told (tells (chunks p) es) (then_told (in_source (readable_at i s)) (then_told (coming (owner_at i s) i (OnReadable i operation)) (tells (coming (owner_at i s) i) es)))) l,
         ) (short_refl (told [] Lost))
     by b k caused apart false c =
         rw (is_same-refl i)
         (in_pipe-short (pipe_at p s)
-        (then_told (then_told (tells (chunks p) (row (OnReadable i operation) s).caused) (tells (chunks p) es)) (then_told (in_source b.slots) (tells (coming i) es)))
-        (then_told (tells (chunks p) es) (then_told (in_source (readable_at i s)) (then_told (entered operation) (tells (coming i) es))))
-        (passes (tells (chunks p) es) (in_source (readable_at i s)) (tells (coming i) es) (tells (chunks p) (row (OnReadable i operation) s).caused) (in_source b.slots) (entered operation) (rw caused (k.short (sym c))) apart))
+        (then_told (then_told (tells (chunks p) (row (OnReadable i operation) s).caused) (tells (chunks p) es)) (then_told (in_source b.slots) (tells (coming (owner_at i s) i) es)))
+        (then_told (tells (chunks p) es) (then_told (in_source (readable_at i s)) (then_told (entered operation) (tells (coming (owner_at i s) i) es))))
+        (passes (tells (chunks p) es) (in_source (readable_at i s)) (tells (coming (owner_at i s) i) es) (tells (chunks p) (row (OnReadable i operation) s).caused) (in_source b.slots) (entered operation) (rw caused (k.short (sym c))) apart))
 
 pub readable-turned : (i j : StreamId) (p : PipeId) (s : Slots) (k : StreamId) (operation : ReadableOperation) (es : List Effect) → Sound i j p s (OnReadable k operation ∷ es) → Turned i j p s (OnReadable k operation) es
 readable-turned i j p s k operation es h = by (is_same i k) refl

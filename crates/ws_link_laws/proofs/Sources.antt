@@ -22,7 +22,8 @@ use Rattle.ws_flow.proofs.Told.{short_refl, then_empty}
 use Rattle.ws_pipe_laws.specs.PipeReads.{is_of}
 use Rattle.ws_link_laws.specs.Link.{silence, values, in_source}
 use Rattle.ws_link_laws.specs.Sound.{Owned, NoneWaits, SourceFits}
-use Rattle.ws_link_laws.proofs.Telling.{tells, tells-append, lost_short, chunks, entered}
+use Rattle.ws_link_laws.specs.Entering.{entered}
+use Rattle.ws_link_laws.proofs.Telling.{tells, tells-append, lost_short, chunks}
 
 -- an operation begins
 abbrev pub starting : Slots → Table → Acts

@@ -1,22 +1,18 @@
 -- What holds of a link at each moment of a step, with the effects that stand on the agenda.
-use Rattle.std.proofs.Common.{◌≡◌, ◌⊎◌, inl, inr, ℕ, zero, suc, ◌+◌, ◌≤◌, Bool, true, false, ◌&&◌, nat_eq, List, [], ◌∷◌, ◌++◌, Some, None, slice_get, refl, arith}
+use Rattle.std.proofs.Common.{◌≡◌, ◌⊎◌, inl, inr, ℕ, zero, suc, ◌+◌, ◌≤◌, Bool, true, false, ◌&&◌, nat_eq, List, [], ◌∷◌, ◌++◌, Some, slice_get, refl, arith}
 use Rattle.ws_value.specs.declared.ids.PipeId.{PipeId}
 use Rattle.ws_value.specs.declared.ids.StreamId.{StreamId}
 use Rattle.ws_value.specs.declared.value.Value.{Value}
-use Rattle.ws_steps.specs.declared.calls.HostCall.TheVariants.{Write as HostWrite, Close as HostClose}
 use Rattle.ws_steps.specs.declared.effects.Effect.{Effect}
-use Rattle.ws_steps.specs.declared.effects.Effect.TheVariants.{Readable as OnReadable, Writable as OnWritable, Pipe as OnPipe, ChunkSteps, CallHost}
-use Rattle.ws_steps.specs.declared.effects.Use.TheVariants.{React}
+use Rattle.ws_steps.specs.declared.effects.Effect.TheVariants.{Readable as OnReadable, Writable as OnWritable, Pipe as OnPipe, ChunkSteps}
 use Rattle.ws_steps.specs.declared.pipes.PipeOperation.TheVariants.{KeepChunk}
-use Rattle.ws_steps.specs.declared.promises.Step.TheVariants.{WritableWrite, WritableClose}
 use Rattle.ws_steps.specs.declared.readable.ReadRequest.{ReadRequest}
 use Rattle.ws_steps.specs.declared.readable.ReadRequest.TheVariants.{Promise, Pipe as PipeRequest}
 use Rattle.ws_steps.specs.declared.readable.ReadableOperation.TheVariants.{Read, Cancel, CancelIfReadable}
 use Rattle.ws_steps.specs.declared.readable.ReadableState.TheVariants.{Closed as ReadableClosed}
 use Rattle.ws_steps.specs.declared.writable.WritableOperation.TheVariants.{Close}
 use Rattle.ws_steps.specs.Histories.{is_same}
-use Rattle.ws_steps.specs.Slots.{Slots, has_readable, has_writable, readable_at, writable_at, pipe_at}
-use Rattle.ws_steps.specs.WritableHistory.{Writes}
+use Rattle.ws_steps.specs.Slots.{Slots, has_readable, has_writable, owner_at, readable_at, writable_at, pipe_at}
 use Rattle.ws_flow.specs.Told.{Told, then_told}
 use Rattle.ws_laws.proofs.Lists.{Each}
 use Rattle.ws_laws.proofs.PipeDoes.{is_looking}
@@ -25,23 +21,21 @@ use Rattle.ws_pipe_laws.proofs.AtSource.{Only}
 use Rattle.ws_pipe_laws.proofs.PassingRuns.{Few, reads_now}
 use Rattle.ws_pipe_laws.proofs.Reading.{of_effect}
 use Rattle.ws_pipe_laws.specs.PipeReads as reads
-use Rattle.ws_writable_laws.proofs.Agenda.{Kept}
-use Rattle.ws_writable_laws.proofs.Shape.{all, all-append, leads_to, is_write, is_close, one_if}
-use Rattle.ws_link_laws.specs.Link.{silence, in_sink, in_source, in_pipe, unheard}
+use Rattle.ws_writable_laws.proofs.Shape.{all, all-append}
+use Rattle.ws_link_laws.specs.Link.{silence, in_sink, in_source, in_pipe, ear_at, unheard}
 use Rattle.ws_link_laws.specs.Sound.{AreApart, SourceFits, SinkFits, Closes}
+use Rattle.ws_link_laws.proofs.Ahead.{Ahead}
 use Rattle.ws_link_laws.proofs.Telling.{tells, tells-append, hands, writes, chunk_for, chunks, coming, behind_on}
 use Rattle.ws_link_laws.proofs.Pipes.{rank}
 use Rattle.ws_link_laws.proofs.Moves.{line}
 
--- what may stand on the agenda, with a pipe that is n far: at the source only the pipe's reads, and a cancel only once it acts; no close of
--- the destination but the pipe's; and a call of the host goes on by its stream
+-- what may stand on the agenda, with a pipe that is n far: at the source only the pipe's reads, and a cancel only once it acts; and no close
+-- of the destination but the pipe's
 abbrev pub IsInner : StreamId → StreamId → PipeId → ℕ → Effect → Type 0
 IsInner i j p n (OnReadable k (Read request)) = is_same i k ≡ true → is_of p request ≡ 1
 IsInner i j p n (OnReadable k (Cancel r q)) = is_same i k ≡ true → 2 ≤ n
 IsInner i j p n (OnReadable k (CancelIfReadable r q)) = is_same i k ≡ true → 2 ≤ n
 IsInner i j p n (OnWritable k (Close q)) = is_same j k ≡ false
-IsInner i j p n (CallHost (HostWrite k v) u) = u ≡ React (WritableWrite k) None
-IsInner i j p n (CallHost (HostClose k) u) = u ≡ React (WritableClose k) None
 IsInner i j p n _ = Unit {0}
 
 inner_later : (i j : StreamId) (p : PipeId) (n m : ℕ) (e : Effect) → n ≤ m → IsInner i j p n e → IsInner i j p m e
@@ -102,21 +96,20 @@ state-same i j p s z e f k = record {
 -- and of a link, with these effects on the agenda
 pub record Sound (i j : StreamId) (p : PipeId) (s : Slots) (es : List Effect) : Type 0 where
   pub state : State i j p s
+  pub ahead : Ahead i j s es
   pub few : Few p s es
   pub only : Only p i s.streams es
-  pub history : Writes
-  pub kept : Kept j history s es
   pub inner : Each (IsInner i j p (rank (pipe_at p s).phase)) es
   pub ends : AtEnd j p es
 
 -- after a turn, what was caused stands first
 abbrev pub now : StreamId → StreamId → PipeId → Slots → List Effect → List Effect → Told Value
 now i j p z cs es =
-    line (unheard j z.promises.events) (then_told (tells (hands j) cs) (tells (hands j) es)) (in_sink (writable_at j z)) (then_told (tells (writes j) cs) (tells (writes j) es))
-    (in_pipe (pipe_at p z) (then_told (then_told (tells (chunks p) cs) (tells (chunks p) es)) (then_told (in_source (readable_at i z)) (then_told (tells (coming i) cs) (tells (coming i) es)))))
+    line (unheard (ear_at j z) z.promises.events) (then_told (tells (hands (ear_at j z)) cs) (tells (hands (ear_at j z)) es)) (in_sink (writable_at j z)) (then_told (tells (writes j) cs) (tells (writes j) es))
+    (in_pipe (pipe_at p z) (then_told (then_told (tells (chunks p) cs) (tells (chunks p) es)) (then_told (in_source (readable_at i z)) (then_told (tells (coming (owner_at i z) i) cs) (tells (coming (owner_at i z) i) es)))))
 
 pub split : (i j : StreamId) (p : PipeId) (z : Slots) (cs es : List Effect) → behind_on i j p z (cs ++ es) ≡ now i j p z cs es
-split i j p z cs es = rw (tells-append (hands j) cs es, tells-append (writes j) cs es, tells-append (chunks p) cs es, tells-append (coming i) cs es) refl
+split i j p z cs es = rw (tells-append (hands (ear_at j z)) cs es, tells-append (writes j) cs es, tells-append (chunks p) cs es, tells-append (coming (owner_at i z) i) cs es) refl
 
 -- one chunk at most is on its way to the pipe
 
@@ -153,51 +146,3 @@ chunks-apart p s cs es w =
     by : (all (of_effect p) cs ≡ 0) ⊎ (all (of_effect p) es ≡ 0) → (tells (chunks p) cs ≡ silence) ⊎ (tells (chunks p) es ≡ silence)
     by (inl e) = inl (chunks-silent p cs e)
     by (inr e) = inr (chunks-silent p es e)
-
--- one call of the destination's algorithms at most is on its way
-
-abbrev pub calls : StreamId → Effect → ℕ
-calls j e = leads_to (is_write j) e + leads_to (is_close j) e
-
-all_calls : (j : StreamId) (es : List Effect) → all (calls j) es ≡ all (leads_to (is_write j)) es + all (leads_to (is_close j)) es
-all_calls j [] = refl
-all_calls j (e ∷ es) = let h = all_calls j es in omega (arith, h)
-
-shaped_few : (w c : Bool) (k n m : ℕ) → n ≤ one_if w → m ≤ one_if c → (c ≡ true → 1 ≤ k) → (1 ≤ k → w ≡ false) → n + m ≤ 1
-shaped_few true true k n m a b f g = absurd (let e = g (f refl) in cc)
-shaped_few true false k n m a b f g = omega (arith, a, b)
-shaped_few false true k n m a b f g = omega (arith, a, b)
-shaped_few false false k n m a b f g = omega (arith, a, b)
-
-pub calls-few : (j : StreamId) (h : Writes) (s : Slots) (es : List Effect) → Kept j h s es → all (calls j) es ≤ 1
-calls-few j h s es k =
-    let f = k.held.fine in
-    let a = f.owed.writes in
-    let b = f.owed.closes in
-    let e = all_calls j es in
-    let m = shaped_few _ _ _ (all (leads_to (is_write j)) es) (all (leads_to (is_close j)) es) (omega (arith, a)) (omega (arith, b)) f.shape.flight f.shape.still in
-    omega (arith, e, m)
-
-hands_silent : (i j : StreamId) (p : PipeId) (n : ℕ) (e : Effect) → IsInner i j p n e → calls j e ≡ 0 → hands j e ≡ silence
-hands_silent i j p n (CallHost (HostWrite k v) u) h e = let z : leads_to (is_write j) (CallHost (HostWrite k v) (React (WritableWrite k) None)) + 0 ≡ 0 = rw h at e in grind (arith, z)
-hands_silent i j p n (CallHost (HostClose k) u) h e = let z : 0 + leads_to (is_close j) (CallHost (HostClose k) (React (WritableClose k) None)) ≡ 0 = rw h at e in grind (arith, z)
-hands_silent i j p n (CallHost call u) h e = grind (arith, e)
-hands_silent i j p n _ h e = refl
-
-pub hands-silent : (i j : StreamId) (p : PipeId) (n : ℕ) (es : List Effect) → Each (IsInner i j p n) es → all (calls j) es ≡ 0 → tells (hands j) es ≡ silence
-hands-silent i j p n [] h e = refl
-hands-silent i j p n (x ∷ es) h e =
-    let a : calls j x ≡ 0 = omega (arith, e) in
-    let b : all (calls j) es ≡ 0 = omega (arith, e) in
-    rw (hands_silent i j p n x h.0 a, hands-silent i j p n es h.1 b) refl
-
-pub hands-apart : (i j : StreamId) (p : PipeId) (n : ℕ) (h : Writes) (s : Slots) (cs es : List Effect) → Kept j h s (cs ++ es) → Each (IsInner i j p n) cs → Each (IsInner i j p n) es
-    → (tells (hands j) cs ≡ silence) ⊎ (tells (hands j) es ≡ silence)
-hands-apart i j p n h s cs es k a b =
-    let f = calls-few j h s (cs ++ es) k in
-    let g = all-append (calls j) cs es in
-    by (either_none (all (calls j) cs) (all (calls j) es) (omega (arith, f, g)))
-  where
-    by : (all (calls j) cs ≡ 0) ⊎ (all (calls j) es ≡ 0) → (tells (hands j) cs ≡ silence) ⊎ (tells (hands j) es ≡ silence)
-    by (inl e) = inl (hands-silent i j p n cs a e)
-    by (inr e) = inr (hands-silent i j p n es b e)

@@ -1,5 +1,5 @@
 -- A call, a job and the taking of an event keep a link.
-use Rattle.std.proofs.Common.{◌≡◌, ℕ, zero, suc, ◌≤◌, true, List, [], ◌∷◌, ◌++◌, Option, Some, None, slice_get, refl, sym, ap, ◌∙◌, arith}
+use Rattle.std.proofs.Common.{◌≡◌, ℕ, zero, suc, ◌≤◌, true, false, is_some, List, [], ◌∷◌, ◌++◌, map, Option, Some, None, slice_get, refl, sym, ap, ◌∙◌, arith}
 use Rattle.ws_value.specs.declared.ids.PipeId.{PipeId}
 use Rattle.ws_value.specs.declared.ids.PromiseId.{PromiseId}
 use Rattle.ws_value.specs.declared.ids.StreamId.{StreamId}
@@ -9,7 +9,8 @@ use Rattle.ws_steps.specs.declared.calls.Event.{Event}
 use Rattle.ws_steps.specs.declared.calls.Reply.{Reply}
 use Rattle.ws_steps.specs.declared.calls.Reply.TheVariants.{Promise}
 use Rattle.ws_steps.specs.declared.effects.Effect.{Effect}
-use Rattle.ws_steps.specs.declared.effects.Owner.TheVariants.{Host}
+use Rattle.ws_steps.specs.declared.effects.Owner.{Owner}
+use Rattle.ws_steps.specs.declared.transform.TransformId.{TransformId}
 use Rattle.ws_steps.specs.declared.locks.Lock.{Lock}
 use Rattle.ws_steps.specs.declared.pipes.Phase.{Phase}
 use Rattle.ws_steps.specs.declared.pipes.Phase.TheVariants.{Flowing, Waiting, Acting, Over}
@@ -20,31 +21,36 @@ use Rattle.ws_steps.specs.Pipes as pipe
 use Rattle.ws_steps.specs.Promises.{next_job, after_next_job, watch}
 use Rattle.ws_steps.specs.Readable as readable
 use Rattle.ws_steps.specs.Run.{Entry, Called, Worked, Heard, step, run, older, after_call, after_job, after_event, first_event, later_events}
-use Rattle.ws_steps.specs.Slots.{Slots, Stream, ReadableStream, WritableStream, Done, empty, with_promises, readable_at, writable_at, pipe_at, is_readable_stream, is_writable_stream, as_readable, as_writable, as_pipe}
+use Rattle.ws_steps.specs.Slots.{Slots, Stream, ReadableStream, WritableStream, Done, empty, with_promises, owner_of, owner_at, readable_at, writable_at, pipe_at, is_readable_stream, is_writable_stream, as_readable, as_writable, as_pipe}
 use Rattle.ws_steps.specs.Turns.{row, performed}
 use Rattle.ws_steps.specs.Writable as writable
-use Rattle.ws_steps.specs.WritableHistory.{Writes, run_writes}
+use Rattle.ws_steps.specs.WritableHistory.{Writes, no_writes, writes_then, effect_writes, run_writes}
 use Rattle.ws_flow.specs.Told.{Open, Lost, Told, told, then_told, IsShortOf}
-use Rattle.ws_flow.proofs.Told.{then_assoc, short_refl, short_trans, short_same}
+use Rattle.ws_flow.proofs.Told.{then_assoc, then_empty, short_refl, short_trans, short_same}
 use Rattle.ws_laws.proofs.Begin.{begin-makes}
+use Rattle.ws_laws.proofs.Halves.{call-among, halved-stays}
 use Rattle.ws_laws.proofs.Lists.{Each, each-map}
 use Rattle.ws_laws.proofs.Rows.{row-locks}
+use Rattle.ws_laws.proofs.Shapes.{stream_shape, transform_shape}
+use Rattle.ws_laws.proofs.Walker as walker
 use Rattle.ws_laws.proofs.Tables.{readable_there, writable_there}
 use Rattle.ws_room_laws.proofs.Turns.{performed-kept}
 use Rattle.ws_pipe_laws.specs.PipeHistory.{Through, run_through}
 use Rattle.ws_pipe_laws.specs.PipeReads.{in_stream}
 use Rattle.ws_pipe_laws.proofs.AtSource.{except, except-append, all_off}
 use Rattle.ws_pipe_laws.proofs.PassingRuns.{Few, Is, call-none, job-none, call-is, each_is}
-use Rattle.ws_writable_laws.proofs.Agenda.{Kept}
-use Rattle.ws_writable_laws.proofs.Runs.{call-kept, job-kept, goes, run-kept}
-use Rattle.ws_link_laws.specs.Link.{silence, in_sink, in_source, held_items, piped_by, in_pipe, lies, heard_of, unheard, behind, enters, leaves}
+use Rattle.ws_writable_laws.proofs.Runs.{is_history}
+use Rattle.ws_transform_laws.proofs.Halving.{Going, going, going-rests, none-going}
+use Rattle.ws_link_laws.specs.Link.{silence, in_sink, in_source, held_items, piped_by, in_pipe, lies, Ear, ear_at, heard_of, unheard, behind, enters, job_enters, next_enters, leaves}
 use Rattle.ws_link_laws.specs.Sound.{IsReached, all_spare, elsewhere, AreApart, IsLink}
-use Rattle.ws_link_laws.proofs.Telling.{tells, IsSilent, silent-all, hands, writes, chunks, coming, behind_on, behind_on-nothing}
+use Rattle.ws_link_laws.proofs.Ahead.{Ahead, IsLate, Placed, flushes, late-silent, late-front, late-first}
+use Rattle.ws_link_laws.proofs.Hosts.{Hosts, source-owner, sink-owner, reached-hosts, hosts-same, hosts-grown, ear-same, grown-shape}
+use Rattle.ws_link_laws.proofs.Telling.{if_same, tells, IsSilent, silent-all, writes, chunks, coming, behind_on, behind_on-nothing}
 use Rattle.ws_link_laws.proofs.Unheard.{next-unheard, watch-unheard}
 use Rattle.ws_link_laws.proofs.Pipes.{rank}
 use Rattle.ws_link_laws.proofs.Standing.{IsInner, IsNotLast, IsStill, AtEnd, State, state-same, Sound}
 use Rattle.ws_link_laws.proofs.Turns.{row-turned}
-use Rattle.ws_link_laws.proofs.Calls.{IsOuter, if_same, outer-inner, outer-last, outer-hands, outer-writes, outer-chunks, Begins, call-begins}
+use Rattle.ws_link_laws.proofs.Calls.{IsOuter, outer-inner, outer-last, outer-late, outer-placed, outer-writes, outer-chunks, Begins, call-begins}
 
 -- where the realm came from
 
@@ -62,15 +68,18 @@ elsewhere-is p (suc n) (x ∷ xs) = let h = elsewhere-is p n xs in omega (arith,
 
 -- between steps, a link is what holds at each moment, with nothing on the agenda
 
-pub reached-kept : (s : Slots) (j : StreamId) → IsReached s → (h : Writes) × Kept j h s []
-reached-kept s j (xs, e) = (run_writes j xs empty, rw e (run-kept xs j))
+pub reached-going : (s : Slots) (j : StreamId) → IsReached s → (h : Writes) × ((t : TransformId) → Going j t h s [])
+reached-going s j (xs, e) = (run_writes j xs empty, λ t. rw e (walker.run-holds no_writes writes_then is_history (effect_writes j) (Going j t) (going j t) (going-rests j t) xs empty (none-going j t)))
+
+-- no effect stands there
+pub rested : (i j : StreamId) (s : Slots) → IsReached s → Hosts i j s → Ahead i j s []
+rested i j s r h = let g = reached-going s j r in record { hosts = h; history = g.0; going = g.1; placed = tt; front = tt; first = tt }
 
 pub reached-few : (s : Slots) (p : PipeId) → IsReached s → Few p s []
 reached-few s p (xs, e) = rw e ((each_is xs p).0)
 
 pub link-sound : (i j : StreamId) (p : PipeId) (s : Slots) → IsLink i j p s → Sound i j p s []
 link-sound i j p s l =
-    let k = reached-kept s j l.reached in
     let n = l.elsewhere in
     let m = elsewhere-is p i.0 s.streams in
     record {
@@ -85,10 +94,9 @@ link-sound i j p s l =
         sink_fits = l.sink_fits;
         closes = l.closes;
       };
+      ahead = rested i j s l.reached (reached-hosts i j s l.reached l.source l.sink l.source_owner l.sink_owner);
       few = reached-few s p l.reached;
       only = omega (arith, n, m);
-      history = k.0;
-      kept = k.1;
       inner = tt;
       ends = tt;
     }
@@ -101,6 +109,8 @@ sound-link i j p s r a h =
       reached = r;
       source = h.state.source;
       sink = h.state.sink;
+      source_owner = h.ahead.hosts.source_kind;
+      sink_owner = h.ahead.hosts.sink_kind;
       there = h.state.there;
       from = h.state.from;
       into = h.state.into;
@@ -128,14 +138,19 @@ performed-from i j p t locks d h =
 
 -- it grows older, and a promise is watched
 
+older-ahead : (i j : StreamId) (s : Slots) → Ahead i j s [] → Ahead i j (older s) []
+older-ahead i j s a = record { hosts = hosts-same i j s (older s) refl refl a.hosts; history = a.history; going = λ t. (going j t).older a.history s (a.going t); placed = tt; front = tt; first = tt }
+
+watched-ahead : (i j : StreamId) (s : Slots) (q : PromiseId) → Ahead i j s [] → Ahead i j (with_promises (watch q s.promises) s) []
+watched-ahead i j s q a = record { hosts = hosts-same i j s (with_promises (watch q s.promises) s) refl refl a.hosts; history = a.history; going = λ t. (going j t).answered a.history s q (a.going t); placed = tt; front = tt; first = tt }
+
 pub older-from : (i j : StreamId) (p : PipeId) (t : Told Value) (locks : List Lock) (s : Slots) → From i j p t locks s [] → From i j p t locks (older s) []
 older-from i j p t locks s h = record {
   sound = record {
     state = state-same i j p s (older s) refl refl h.sound.state;
+    ahead = older-ahead i j s h.sound.ahead;
     few = h.sound.few;
     only = h.sound.only;
-    history = h.sound.history;
-    kept = (goes j).older h.sound.history s h.sound.kept;
     inner = tt;
     ends = tt;
   };
@@ -147,14 +162,13 @@ watched-from : (i j : StreamId) (p : PipeId) (t : Told Value) (locks : List Lock
 watched-from i j p t locks s q h = record {
   sound = record {
     state = state-same i j p s (with_promises (watch q s.promises) s) refl refl h.sound.state;
+    ahead = watched-ahead i j s q h.sound.ahead;
     few = h.sound.few;
     only = h.sound.only;
-    history = h.sound.history;
-    kept = (goes j).answered h.sound.history s q h.sound.kept;
     inner = tt;
     ends = tt;
   };
-  short = rw (watch-unheard j q s.promises) h.short;
+  short = rw (watch-unheard (ear_at j s) q s.promises) h.short;
   same = h.same;
 }
 
@@ -165,13 +179,26 @@ named-from i j p t locks _ s h = h
 pub from-link : (i j : StreamId) (p : PipeId) (t : Told Value) (locks : List Lock) (z : Slots) → IsReached z → all_spare i j locks ≡ true → From i j p t locks z [] → IsLink i j p z × IsShortOf (behind i j p z) t
 from-link i j p t locks z r a h = (sound-link i j p z r (rw h.same a) h.sound, rw (behind_on-nothing i j p z) at h.short)
 
+-- what is about to enter is behind all else, unless the pipe lost it
+comes-last : (U K : Told Value) (x : pipe.Slots) (S M : Told Value) → then_told U (then_told K (in_pipe x (then_told S M))) ≡ then_told (then_told U (then_told K (in_pipe x S))) M
+comes-last U K x S M = by x.phase
+  where
+    by : (w : Phase) → then_told U (then_told K (piped_by w x.held (then_told S M))) ≡ then_told (then_told U (then_told K (piped_by w x.held S))) M
+    by Flowing = rw (then_assoc U (then_told K (then_told (told (held_items x.held) Open) S)) M, then_assoc K (then_told (told (held_items x.held) Open) S) M, then_assoc (told (held_items x.held) Open) S M) refl
+    by Waiting = rw (then_assoc U (then_told K (then_told (told (held_items x.held) Open) S)) M, then_assoc K (then_told (told (held_items x.held) Open) S) M, then_assoc (told (held_items x.held) Open) S M) refl
+    by Acting = rw (then_assoc U (then_told K (told [] Lost)) M, then_assoc K (told [] Lost) M) refl
+    by Over = rw (then_assoc U (then_told K (told [] Lost)) M, then_assoc K (told [] Lost) M) refl
+
 -- jobs
 
 job-inner : (i j : StreamId) (p : PipeId) (n : ℕ) (job : Job) → Each (IsInner i j p n) (job_effects job)
 job-inner i j p n job = grind arith
 
-job-hands : (j : StreamId) (job : Job) → Each (IsSilent (hands j)) (job_effects job)
-job-hands j job = grind arith
+job-late : (w : Ear) (job : Job) → Each (IsLate w) (job_effects job)
+job-late w job = grind arith
+
+job-placed : (j : StreamId) (w : Ear) (s : Slots) (job : Job) → Each (Placed j w s) (job_effects job)
+job-placed j w s job = grind arith
 
 job-writes : (j : StreamId) (job : Job) → Each (IsSilent (writes j)) (job_effects job)
 job-writes j job = grind (arith, if_same)
@@ -179,8 +206,9 @@ job-writes j job = grind (arith, if_same)
 job-chunks : (p : PipeId) (job : Job) → Each (IsSilent (chunks p)) (job_effects job)
 job-chunks p job = grind arith
 
-job-coming : (i : StreamId) (job : Job) → Each (IsSilent (coming i)) (job_effects job)
-job-coming i job = grind (arith, if_same)
+-- nothing comes but the end, after a flush that went well
+pub job-coming : (o : Owner) (i : StreamId) (job : Job) → tells (coming o i) (job_effects job) ≡ job_enters o job
+job-coming o i job = grind (arith, if_same, then_empty)
 
 still-none : (j : StreamId) (p : PipeId) → IsStill j p []
 still-none j p = record { writes = refl; chunks = refl }
@@ -188,8 +216,21 @@ still-none j p = record { writes = refl; chunks = refl }
 job-ends : (j : StreamId) (p : PipeId) (job : Job) → AtEnd j p (job_effects job)
 job-ends j p job = let n = still-none j p in grind (arith, n)
 
-pub begun-from : (i j : StreamId) (p : PipeId) (s : Slots) (o : Option Job) → o ≡ next_job s.promises → Sound i j p s [] → From i j p (behind i j p s) s.locks (job_begun s o).slots (job_begun s o).caused
-begun-from i j p s None e h = record { sound = h; short = rw (behind_on-nothing i j p s) (short_refl (behind i j p s)); same = refl }
+begun-ahead : (i j : StreamId) (s : Slots) (job : Job) → next_job s.promises ≡ Some job → Ahead i j s [] → Ahead i j (with_promises (after_next_job s.promises) s) (job_effects job)
+begun-ahead i j s job e a =
+    let z : Slots = with_promises (after_next_job s.promises) s in
+    let late = job-late (ear_at j s) job in
+    record {
+      hosts = hosts-same i j s z refl refl a.hosts;
+      history = a.history;
+      going = λ t. (going j t).job a.history s job e (a.going t);
+      placed = job-placed j (ear_at j s) z job;
+      front = late-front (ear_at j s) (job_effects job) late;
+      first = late-first (ear_at j s) (is_some (writable_at j z).close_in_flight) (job_effects job) (each-map (IsLate (ear_at j s)) (λ e. flushes (ear_at j s) e ≡ false) (λ e l. l.1) (job_effects job) late);
+    }
+
+pub begun-from : (i j : StreamId) (p : PipeId) (s : Slots) (o : Option Job) → o ≡ next_job s.promises → Sound i j p s [] → From i j p (then_told (behind i j p s) (next_enters (owner_at i s) o)) s.locks (job_begun s o).slots (job_begun s o).caused
+begun-from i j p s None e h = record { sound = h; short = rw (behind_on-nothing i j p s, then_empty (behind i j p s)) (short_refl (behind i j p s)); same = refl }
 begun-from i j p s (Some job) e h =
     let z : Slots = with_promises (after_next_job s.promises) s in
     let few = h.few in
@@ -199,30 +240,31 @@ begun-from i j p s (Some job) e h =
     record {
       sound = record {
         state = state-same i j p s z refl refl h.state;
+        ahead = begun-ahead i j s job (sym e) h.ahead;
         few = omega (arith, few, none);
         only = omega (arith, only, none, o);
-        history = h.history;
-        kept = job-kept j h.history s job (sym e) h.kept;
         inner = job-inner i j p (rank (pipe_at p s).phase) job;
         ends = job-ends j p job;
       };
       short = rw (
-        silent-all (hands j) (job_effects job) (job-hands j job),
+        late-silent (ear_at j s) (job_effects job) (job-late (ear_at j s) job),
         silent-all (writes j) (job_effects job) (job-writes j job),
         silent-all (chunks p) (job_effects job) (job-chunks p job),
-        silent-all (coming i) (job_effects job) (job-coming i job),
-        next-unheard j s.promises,
-      ) (rw (behind_on-nothing i j p s) (short_refl (behind i j p s)));
+        job-coming (owner_at i s) i job,
+        next-unheard (ear_at j s) s.promises,
+        comes-last (unheard (ear_at j s) s.promises.events) (in_sink (writable_at j s)) (pipe_at p s) (in_source (readable_at i s)) (job_enters (owner_at i s) job),
+      ) (short_refl (then_told (behind i j p s) (job_enters (owner_at i s) job)));
       same = refl;
     }
 
--- a job, or none, keeps a link, and lets nothing in
-pub link-worked : (i j : StreamId) (p : PipeId) (s : Slots) → IsLink i j p s → IsLink i j p (after_job s) × IsShortOf (behind i j p (after_job s)) (behind i j p s)
+-- a job, or none, keeps a link, and lets nothing in but the end that it brings
+pub link-worked : (i j : StreamId) (p : PipeId) (s : Slots) → IsLink i j p s → IsLink i j p (after_job s) × IsShortOf (behind i j p (after_job s)) (then_told (behind i j p s) (next_enters (owner_at i s) (next_job s.promises)))
 unfolding begin_job
 link-worked i j p s l =
+    let t : Told Value = then_told (behind i j p s) (next_enters (owner_at i s) (next_job s.promises)) in
     let b = begun-from i j p s (next_job s.promises) refl (link-sound i j p s l) in
-    from-link i j p (behind i j p s) s.locks (after_job s) (reached-step s Worked l.reached) l.locks
-    (older-from i j p (behind i j p s) s.locks (performed (job_begun s (next_job s.promises))) (performed-from i j p (behind i j p s) s.locks (job_begun s (next_job s.promises)) b))
+    from-link i j p t s.locks (after_job s) (reached-step s Worked l.reached) l.locks
+    (older-from i j p t s.locks (performed (job_begun s (next_job s.promises))) (performed-from i j p t s.locks (job_begun s (next_job s.promises)) b))
 
 -- calls
 
@@ -253,8 +295,9 @@ call-grown i j p c s z g = begin-makes (Grown i j p s) (record {
   hosts = λ z hs g. record { source = g.source; sink = g.sink; there = g.there; only = g.only };
   pipe = λ z source dest prevent signal promise g. record { source = g.source; sink = g.sink; there = place-append z.pipes _ (pipe_at p s) p.0 g.there; only = g.only };
   signal = λ z g. record { source = g.source; sink = g.sink; there = g.there; only = g.only };
-  readable = λ z mark size g. stream-grown i j p s z (ReadableStream (readable.set_up Host mark size)) refl g;
-  writable = λ z mark size g. stream-grown i j p s z (WritableStream (writable.set_up Host mark size)) refl g;
+  transform = λ z kind w r change g. record { source = g.source; sink = g.sink; there = g.there; only = g.only };
+  readable = λ z owner mark size g. stream-grown i j p s z (ReadableStream (readable.set_up owner mark size)) refl g;
+  writable = λ z owner mark size g. stream-grown i j p s z (WritableStream (writable.set_up owner mark size)) refl g;
 }) c z g
 
 link-grown : (i j : StreamId) (p : PipeId) (s : Slots) → Sound i j p s [] → Grown i j p s s
@@ -285,28 +328,18 @@ pub append_ends : (j : StreamId) (p : PipeId) (cs : List Effect) → Each (IsNot
 append_ends j p [] n = tt
 append_ends j p (c ∷ cs) n = (λ e. let f = n.0 in absurd (cc), append_ends j p cs n.1)
 
--- what is about to enter is behind all else, unless the pipe lost it
-comes-last : (U K : Told Value) (x : pipe.Slots) (S M : Told Value) → then_told U (then_told K (in_pipe x (then_told S M))) ≡ then_told (then_told U (then_told K (in_pipe x S))) M
-comes-last U K x S M = by x.phase
-  where
-    by : (w : Phase) → then_told U (then_told K (piped_by w x.held (then_told S M))) ≡ then_told (then_told U (then_told K (piped_by w x.held S))) M
-    by Flowing = rw (then_assoc U (then_told K (then_told (told (held_items x.held) Open) S)) M, then_assoc K (then_told (told (held_items x.held) Open) S) M, then_assoc (told (held_items x.held) Open) S M) refl
-    by Waiting = rw (then_assoc U (then_told K (then_told (told (held_items x.held) Open) S)) M, then_assoc K (then_told (told (held_items x.held) Open) S) M, then_assoc (told (held_items x.held) Open) S M) refl
-    by Acting = rw (then_assoc U (then_told K (told [] Lost)) M, then_assoc K (told [] Lost) M) refl
-    by Over = rw (then_assoc U (then_told K (told [] Lost)) M, then_assoc K (told [] Lost) M) refl
-
 module _ (i j : StreamId) (p : PipeId) (s : Slots) (c : Call) (l : IsLink i j p s) (leave : leaves i j c ≡ true) where
   abbrev pub d : Done
   d = (begin c s).done
 
   abbrev pub t : Told Value
-  t = then_told (behind i j p s) (enters i c)
+  t = then_told (behind i j p s) (enters (owner_at i s) i c)
 
   before : Sound i j p s []
   before = link-sound i j p s l
 
-  pub begins : Begins i j p s (enters i c) (begin c s)
-  begins = call-begins i j p s l.source l.locks l.apart c leave
+  pub begins : Begins i j p s (enters (owner_at i s) i c) (begin c s)
+  begins = call-begins i j p s l.source before.ahead.hosts.halved l.locks l.apart c leave
 
   pub grown : Grown i j p s d.slots
   grown = call-grown i j p c s s (link-grown i j p s before)
@@ -319,8 +352,29 @@ module _ (i j : StreamId) (p : PipeId) (s : Slots) (c : Call) (l : IsLink i j p 
   begun-last : Each (IsNotLast p) d.caused
   begun-last = each-map (IsOuter i j) (IsNotLast p) (outer-last p i j) d.caused begins.outer
 
-  begun-hands : tells (hands j) d.caused ≡ silence
-  begun-hands = silent-all (hands j) d.caused (each-map (IsOuter i j) (IsSilent (hands j)) (outer-hands i j) d.caused begins.outer)
+  -- whose the ends are
+
+  same-source : owner_at i d.slots ≡ owner_at i s
+  same-source = ap owner_of grown.source ∙ sym (source-owner i s l.source)
+
+  same-sink : owner_at j d.slots ≡ owner_at j s
+  same-sink = ap owner_of grown.sink ∙ sym (sink-owner j s l.sink)
+
+  pub same-ear : ear_at j d.slots ≡ ear_at j s
+  same-ear = ear-same j s d.slots (grown-shape s d.slots (owner_at j s) (call-among c s) l.sink_owner) same-sink
+
+  begun-late : Each (IsLate (ear_at j s)) d.caused
+  begun-late = each-map (IsOuter i j) (IsLate (ear_at j s)) (outer-late (ear_at j s) i j) d.caused begins.outer
+
+  pub begun-ahead_of : Ahead i j d.slots d.caused
+  begun-ahead_of = record {
+    hosts = hosts-grown i j s d.slots grown.source grown.sink same-source same-sink (call-among c s) (halved-stays.call s c before.ahead.hosts.halved) before.ahead.hosts;
+    history = before.ahead.history;
+    going = λ t. (going j t).call before.ahead.history s c (before.ahead.going t);
+    placed = rw same-ear (each-map (IsOuter i j) (Placed j (ear_at j s) d.slots) (outer-placed (ear_at j s) d.slots i j) d.caused begins.outer);
+    front = rw same-ear (late-front (ear_at j s) d.caused begun-late);
+    first = rw same-ear (late-first (ear_at j s) (is_some (writable_at j d.slots).close_in_flight) d.caused (each-map (IsLate (ear_at j s)) (λ e. flushes (ear_at j s) e ≡ false) (λ e l. l.1) d.caused begun-late));
+  }
 
   begun-writes : tells (writes j) d.caused ≡ silence
   begun-writes = silent-all (writes j) d.caused (each-map (IsOuter i j) (IsSilent (writes j)) (outer-writes i j) d.caused begins.outer)
@@ -336,18 +390,17 @@ module _ (i j : StreamId) (p : PipeId) (s : Slots) (c : Call) (l : IsLink i j p 
       let o = all_off p i d.caused in
       record {
         state = grown-state i j p s d.slots grown begins.apart before.state;
+        ahead = begun-ahead_of;
         few = few;
         only = omega (arith, w, none, o);
-        history = before.history;
-        kept = call-kept j before.history s c before.kept;
         inner = begun-inner;
         ends = append_ends j p d.caused begun-last;
       }
 
-  begun-told : behind_on i j p d.slots d.caused ≡ then_told (behind i j p s) (tells (coming i) d.caused)
+  begun-told : behind_on i j p d.slots d.caused ≡ then_told (behind i j p s) (tells (coming (owner_at i s) i) d.caused)
   begun-told =
-      rw (begun-hands, begun-writes, begun-chunks, begins.heard, ap as_pipe grown.there, ap as_readable grown.source, ap as_writable grown.sink)
-      (comes-last (unheard j s.promises.events) (in_sink (writable_at j s)) (pipe_at p s) (in_source (readable_at i s)) (tells (coming i) d.caused))
+      rw (same-ear, same-source, late-silent (ear_at j s) d.caused begun-late, begun-writes, begun-chunks, begins.heard (ear_at j s), ap as_pipe grown.there, ap as_readable grown.source, ap as_writable grown.sink)
+      (comes-last (unheard (ear_at j s) s.promises.events) (in_sink (writable_at j s)) (pipe_at p s) (in_source (readable_at i s)) (tells (coming (owner_at i s) i) d.caused))
 
   pub begun : From i j p t d.slots.locks d.slots d.caused
   begun = record { sound = begun-sound; short = rw begun-told begins.comes; same = refl }
@@ -359,16 +412,18 @@ module _ (i j : StreamId) (p : PipeId) (s : Slots) (c : Call) (l : IsLink i j p 
       (older-from i j p t d.slots.locks z (named-from i j p t d.slots.locks (begin c s).reply (performed d) (performed-from i j p t d.slots.locks d begun)))
 
 -- a call that leaves the link alone keeps it, and brings what it enters
-pub link-called : (i j : StreamId) (p : PipeId) (s : Slots) (c : Call) → IsLink i j p s → leaves i j c ≡ true → IsLink i j p (after_call c s) × IsShortOf (behind i j p (after_call c s)) (then_told (behind i j p s) (enters i c))
+pub link-called : (i j : StreamId) (p : PipeId) (s : Slots) (c : Call) → IsLink i j p s → leaves i j c ≡ true → IsLink i j p (after_call c s) × IsShortOf (behind i j p (after_call c s)) (then_told (behind i j p s) (enters (owner_at i s) i c))
 link-called i j p s c l leave = called i j p s c l leave
 
 -- what the host does between steps
 
-quiet-link : (i j : StreamId) (p : PipeId) (s z : Slots) → IsReached z → z.streams ≡ s.streams → z.pipes ≡ s.pipes → z.locks ≡ s.locks → IsLink i j p s → IsLink i j p z
-quiet-link i j p s z r e f g l = record {
+quiet-link : (i j : StreamId) (p : PipeId) (s z : Slots) → IsReached z → z.streams ≡ s.streams → z.transforms ≡ s.transforms → z.pipes ≡ s.pipes → z.locks ≡ s.locks → IsLink i j p s → IsLink i j p z
+quiet-link i j p s z r e d f g l = let h = reached-hosts i j s l.reached l.source l.sink l.source_owner l.sink_owner in record {
   reached = r;
   source = rw e l.source;
   sink = rw e l.sink;
+  source_owner = (hosts-same i j s z (ap (map stream_shape) e) (ap (map transform_shape) d) h).source_kind;
+  sink_owner = (hosts-same i j s z (ap (map stream_shape) e) (ap (map transform_shape) d) h).sink_kind;
   there = rw f l.there;
   from = rw f l.from;
   into = rw f l.into;
@@ -380,21 +435,21 @@ quiet-link i j p s z r e f g l = record {
   closes = rw (e, f) l.closes;
 }
 
-heard_first : (j : StreamId) (events : List Event) (e : Event) → first_event events ≡ Some e → unheard j events ≡ then_told (heard_of j e) (unheard j (later_events events))
-heard_first j [] e f = cc
-heard_first j (x ∷ xs) e f = let is : x ≡ e = cc in rw is refl
+heard_first : (w : Ear) (events : List Event) (e : Event) → first_event events ≡ Some e → unheard w events ≡ then_told (heard_of w e) (unheard w (later_events events))
+heard_first w [] e f = cc
+heard_first w (x ∷ xs) e f = let is : x ≡ e = cc in rw is refl
 
 -- the taking of an event keeps it, and hands on what the event says
-pub link-heard : (i j : StreamId) (p : PipeId) (s : Slots) (e : Event) → first_event s.promises.events ≡ Some e → IsLink i j p s → IsLink i j p (after_event s) × IsShortOf (then_told (heard_of j e) (behind i j p (after_event s))) (behind i j p s)
+pub link-heard : (i j : StreamId) (p : PipeId) (s : Slots) (e : Event) → first_event s.promises.events ≡ Some e → IsLink i j p s → IsLink i j p (after_event s) × IsShortOf (then_told (heard_of (ear_at j s) e) (behind i j p (after_event s))) (behind i j p s)
 link-heard i j p s e f l = (
-  quiet-link i j p s (after_event s) (reached-step s Heard l.reached) refl refl refl l,
-  rw (heard_first j s.promises.events e f) (short_same _ _ _ (sym (then_assoc (heard_of j e) (unheard j (later_events s.promises.events)) (lies i j p s))) (short_refl _)),
+  quiet-link i j p s (after_event s) (reached-step s Heard l.reached) refl refl refl refl l,
+  rw (heard_first (ear_at j s) s.promises.events e f) (short_same _ _ _ (sym (then_assoc (heard_of (ear_at j s) e) (unheard (ear_at j s) (later_events s.promises.events)) (lies i j p s))) (short_refl _)),
 )
 
 -- where no event is left, the taking changes nothing
 pub link-unheard : (i j : StreamId) (p : PipeId) (s : Slots) → first_event s.promises.events ≡ None → IsLink i j p s → IsLink i j p (after_event s) × (behind i j p (after_event s) ≡ behind i j p s)
-link-unheard i j p s f l = (quiet-link i j p s (after_event s) (reached-step s Heard l.reached) refl refl refl l, by s.promises.events f)
+link-unheard i j p s f l = (quiet-link i j p s (after_event s) (reached-step s Heard l.reached) refl refl refl refl l, by s.promises.events f)
   where
-    by : (events : List Event) → first_event events ≡ None → then_told (unheard j (later_events events)) (lies i j p s) ≡ then_told (unheard j events) (lies i j p s)
+    by : (events : List Event) → first_event events ≡ None → then_told (unheard (ear_at j s) (later_events events)) (lies i j p s) ≡ then_told (unheard (ear_at j s) events) (lies i j p s)
     by [] e = refl
     by (x ∷ xs) e = cc

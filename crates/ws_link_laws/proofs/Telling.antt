@@ -1,23 +1,31 @@
 -- What effects on the agenda tell of a link, one after another.
-use Rattle.std.proofs.Common.{◌≡◌, if◌then◌else◌, nat_eq, List, [], ◌∷◌, ◌++◌, refl, sym}
+use Rattle.std.proofs.Common.{◌≡◌, Bool, true, false, if◌then◌else◌, nat_eq, List, [], ◌∷◌, ◌++◌, Ok, refl, sym}
 use Rattle.ws_value.specs.declared.ids.PipeId.{PipeId}
 use Rattle.ws_value.specs.declared.ids.StreamId.{StreamId}
 use Rattle.ws_value.specs.declared.value.Value.{Value}
 use Rattle.ws_steps.specs.declared.effects.Effect.{Effect}
-use Rattle.ws_steps.specs.declared.effects.Effect.TheVariants.{Readable as OnReadable, Writable as OnWritable, Pipe as OnPipe, ChunkSteps, CallHost}
+use Rattle.ws_steps.specs.declared.effects.Effect.TheVariants.{Readable as OnReadable, Writable as OnWritable, Pipe as OnPipe, Transform as OnTransform, ChunkSteps, CallHost}
+use Rattle.ws_steps.specs.declared.effects.Owner.{Owner}
+use Rattle.ws_steps.specs.declared.effects.Owner.TheVariants.{Host, HalfOf}
 use Rattle.ws_steps.specs.declared.pipes.PipeOperation.TheVariants.{KeepChunk}
 use Rattle.ws_steps.specs.declared.readable.ReadRequest.{ReadRequest}
 use Rattle.ws_steps.specs.declared.readable.ReadRequest.TheVariants.{Promise, Pipe as PipeRequest}
-use Rattle.ws_steps.specs.declared.readable.ReadableOperation.{ReadableOperation}
-use Rattle.ws_steps.specs.declared.readable.ReadableOperation.TheVariants.{Enqueue, Close as CloseReadable}
+use Rattle.ws_steps.specs.declared.transform.TransformId.{TransformId}
+use Rattle.ws_steps.specs.declared.transform.TransformOperation.{TransformOperation}
+use Rattle.ws_steps.specs.declared.transform.TransformOperation.TheVariants.{TransformChunk, Enqueue as EnqueueByTransform, Terminate, FlushSettled}
 use Rattle.ws_steps.specs.declared.writable.WritableOperation.{WritableOperation}
 use Rattle.ws_steps.specs.declared.writable.WritableOperation.TheVariants.{Write, Close as CloseWritable, ClosePropagating}
 use Rattle.ws_steps.specs.Histories.{is_same}
-use Rattle.ws_steps.specs.Slots.{Slots, readable_at, writable_at, pipe_at}
+use Rattle.ws_steps.specs.Slots.{Slots, owner_at, readable_at, writable_at, pipe_at}
 use Rattle.ws_flow.specs.Told.{Open, Closed, Lost, Told, told, then_told, IsShortOf}
 use Rattle.ws_flow.proofs.Told.{then_assoc, then_empty}
 use Rattle.ws_laws.proofs.Lists.{Each}
-use Rattle.ws_link_laws.specs.Link.{silence, in_sink, in_source, in_pipe, heard_call, unheard, behind}
+use Rattle.ws_link_laws.specs.Entering.{entered}
+use Rattle.ws_link_laws.specs.Link.{Ear, OfSink, OfTransform, silence, in_sink, in_source, in_pipe, ear_at, heard_call, unheard, behind}
+
+pub if_same : (b : Bool) → (if b then silence else silence) ≡ silence
+if_same true = refl
+if_same false = refl
 
 -- what effects tell, one after another
 abbrev pub tells : (Effect → Told Value) → List Effect → Told Value
@@ -39,10 +47,20 @@ silent-all f (e ∷ es) n = rw (n.0, silent-all f es n.1) refl
 pub lost_short : (x y : Told Value) → x.items ≡ [] → x.mark ≡ Lost → IsShortOf x y
 lost_short x y e f = rw (f, e) (y.items, refl)
 
--- what is called of the host is about to be heard
-abbrev pub hands : StreamId → Effect → Told Value
-hands j (CallHost call u) = heard_call j call
-hands j _ = silence
+-- the transform stream of which a destination is a half
+abbrev pub is_in : Ear → TransformId → Bool
+is_in (OfSink j) k = false
+is_in (OfTransform t r) k = nat_eq t.0 k.0
+
+-- a chunk that it takes is about to be told to the host
+abbrev pub taken : Ear → TransformId → Value → Told Value
+taken w k v = if is_in w k then told (v ∷ []) Open else silence
+
+-- and what is called of the host is about to be heard
+abbrev pub hands : Ear → Effect → Told Value
+hands w (CallHost call u) = heard_call w call
+hands w (OnTransform k (TransformChunk v d)) = taken w k v
+hands w _ = silence
 
 -- what an operation writes to its stream
 abbrev pub written : WritableOperation → Told Value
@@ -66,26 +84,33 @@ chunks p (ChunkSteps k request v) = chunk_for p v request
 chunks p (OnPipe q (KeepChunk v)) = if nat_eq p.0 q.0 then told (v ∷ []) Open else silence
 chunks p _ = silence
 
--- what an operation lets into its stream
-abbrev pub entered : ReadableOperation → Told Value
-entered (Enqueue v) = told (v ∷ []) Open
-entered CloseReadable = told [] Closed
-entered _ = silence
+-- the transform stream of which a source is a half
+abbrev pub is_of : Owner → TransformId → Bool
+is_of Host k = false
+is_of (HalfOf t) k = nat_eq t.0 k.0
+
+-- what an operation of a transform stream lets into its readable half
+abbrev pub entered_by : TransformOperation → Told Value
+entered_by (EnqueueByTransform v) = told (v ∷ []) Open
+entered_by Terminate = told [] Closed
+entered_by (FlushSettled p (Ok v)) = told [] Closed
+entered_by _ = silence
 
 -- what is about to enter the source
-abbrev pub coming : StreamId → Effect → Told Value
-coming i (OnReadable k operation) = if is_same i k then entered operation else silence
-coming i _ = silence
+abbrev pub coming : Owner → StreamId → Effect → Told Value
+coming o i (OnReadable k operation) = if is_same i k then entered operation else silence
+coming o i (OnTransform k operation) = if is_of o k then entered_by operation else silence
+coming o i _ = silence
 
 -- what is behind the host, with these effects on the agenda
 abbrev pub behind_on : StreamId → StreamId → PipeId → Slots → List Effect → Told Value
 behind_on i j p s es =
-    then_told (unheard j s.promises.events)
-    (then_told (tells (hands j) es)
+    then_told (unheard (ear_at j s) s.promises.events)
+    (then_told (tells (hands (ear_at j s)) es)
     (then_told (in_sink (writable_at j s))
     (then_told (tells (writes j) es)
     (in_pipe (pipe_at p s)
-    (then_told (tells (chunks p) es) (then_told (in_source (readable_at i s)) (tells (coming i) es)))))))
+    (then_told (tells (chunks p) es) (then_told (in_source (readable_at i s)) (tells (coming (owner_at i s) i) es)))))))
 
 pub behind_on-nothing : (i j : StreamId) (p : PipeId) (s : Slots) → behind_on i j p s [] ≡ behind i j p s
 behind_on-nothing i j p s = rw (then_empty (in_source (readable_at i s))) refl

@@ -1,16 +1,17 @@
 -- A turn of any effect keeps a link, and what is behind the host is short of what was.
-use Rattle.std.proofs.Common.{◌≡◌, ℕ, zero, suc, ◌+◌, ◌≤◌, Bool, true, false, ◌&&◌, is_some, nat_eq, if◌then◌else◌, List, [], ◌∷◌, ◌++◌, None, refl, sym, subst, ◌∙◌, arith}
+use Rattle.std.proofs.Common.{◌≡◌, ℕ, Bool, true, false, ◌&&◌, nat_eq, if◌then◌else◌, List, [], ◌∷◌, ◌++◌, None, refl, sym, subst}
 use Rattle.ws_value.specs.declared.ids.PipeId.{PipeId}
 use Rattle.ws_value.specs.declared.ids.PromiseId.{PromiseId}
 use Rattle.ws_value.specs.declared.ids.SignalId.{SignalId}
 use Rattle.ws_value.specs.declared.ids.StreamId.{StreamId}
 use Rattle.ws_value.specs.declared.value.Plain.{Plain}
+use Rattle.ws_value.specs.declared.value.Value.{Value}
 use Rattle.ws_steps.specs.declared.calls.HostCall.{HostCall}
 use Rattle.ws_steps.specs.declared.calls.StartBy.TheVariants.{Now, Later}
 use Rattle.ws_steps.specs.declared.effects.Effect.{Effect}
-use Rattle.ws_steps.specs.declared.effects.Effect.TheVariants.{Readable as OnReadable, Writable as OnWritable, Pipe as OnPipe, Signal as OnSignal, StartAlgorithm, PullAlgorithm, CancelAlgorithm, WriteAlgorithm, CloseAlgorithm, AbortAlgorithm, ChunkSteps, CloseSteps, ErrorSteps, Give, Settle, Queue, CallHost}
+use Rattle.ws_steps.specs.declared.effects.Effect.TheVariants.{Readable as OnReadable, Writable as OnWritable, Pipe as OnPipe, Signal as OnSignal, Transform as OnTransform, StartAlgorithm, PullAlgorithm, CancelAlgorithm, WriteAlgorithm, CloseAlgorithm, AbortAlgorithm, ChunkSteps, CloseSteps, ErrorSteps, Give, Settle, Queue, CallHost}
 use Rattle.ws_steps.specs.declared.effects.Owner.{Owner}
-use Rattle.ws_steps.specs.declared.effects.Owner.TheVariants.{Host}
+use Rattle.ws_steps.specs.declared.effects.Owner.TheVariants.{Host, HalfOf}
 use Rattle.ws_steps.specs.declared.effects.Use.{Use}
 use Rattle.ws_steps.specs.declared.effects.Use.TheVariants.{React}
 use Rattle.ws_steps.specs.declared.pipes.PipeOperation.TheVariants.{Abort as AbortPipe}
@@ -18,38 +19,40 @@ use Rattle.ws_steps.specs.declared.pipes.SignalOperation.{SignalOperation}
 use Rattle.ws_steps.specs.declared.pipes.SignalOperation.TheVariants.{Add, Forget, Trigger}
 use Rattle.ws_steps.specs.declared.promises.Step.TheVariants.{WritableClose}
 use Rattle.ws_steps.specs.declared.readable.ReadRequest.TheVariants.{Promise, Pipe as PipeRequest}
+use Rattle.ws_steps.specs.declared.transform.TransformId.{TransformId}
+use Rattle.ws_steps.specs.declared.transform.TransformOperation.{TransformOperation}
 use Rattle.ws_steps.specs.Histories.{is_same}
 use Rattle.ws_steps.specs.Slots.{Slots, readable_at, writable_at, pipe_at, owner_at}
 use Rattle.ws_steps.specs.Turns.{row, pull_algorithm, cancel_algorithm, write_algorithm, close_algorithm, abort_algorithm}
-use Rattle.ws_steps.specs.Writable as writable
-use Rattle.ws_steps.specs.WritableHistory.{Writes, writes_then, effect_writes}
-use Rattle.ws_flow.specs.Told.{Closed, told, then_told}
-use Rattle.ws_flow.proofs.Told.{then_empty, short_refl}
+use Rattle.ws_flow.specs.Told.{Closed, Told, told, then_told, IsShortOf}
+use Rattle.ws_flow.proofs.Told.{then_empty, short_refl, short_left, short_trans}
 use Rattle.ws_laws.proofs.Lists.{Each, each-append}
 use Rattle.ws_laws.proofs.Rows.{IsApart, IsNoPipe, SignalCauses, row-causes, row-pipes, row-streams}
+use Rattle.ws_laws.proofs.Shapes.{row-owner}
 use Rattle.ws_laws.proofs.Tables.{is_same-refl, same_id}
 use Rattle.ws_pipe_laws.proofs.AtSource.{off-only, row-off}
 use Rattle.ws_pipe_laws.proofs.PassingRuns.{row-few}
-use Rattle.ws_writable_laws.proofs.Agenda.{Kept, row-kept}
-use Rattle.ws_writable_laws.proofs.Operations.{handed, same_once}
-use Rattle.ws_writable_laws.proofs.Shape.{all, leads_to, is_close, one_if, core_of, hands as drawn}
-use Rattle.ws_link_laws.specs.Link.{silence, in_sink, in_source, in_pipe, heard_call, unheard}
-use Rattle.ws_link_laws.proofs.Telling.{tells, IsSilent, silent-all, hands, writes, chunks, coming, behind_on}
+use Rattle.ws_link_laws.specs.Link.{Ear, silence, in_sink, in_source, in_pipe, ear_by, ear_at, is_sink, heard_call, unheard}
+use Rattle.ws_link_laws.specs.Sound.{SinkFits}
+use Rattle.ws_link_laws.proofs.Ahead.{Ahead, ahead-kept, ahead-silent, row-ahead, closing-flies}
+use Rattle.ws_link_laws.proofs.Hosts.{row-ear}
+use Rattle.ws_link_laws.proofs.Telling.{is_of, if_same, tells, IsSilent, silent-all, hands, writes, chunks, coming, behind_on}
 use Rattle.ws_link_laws.proofs.Unheard.{IsQuiet, row-unheard, call-unheard}
 use Rattle.ws_link_laws.proofs.Sinks.{ended_lies}
 use Rattle.ws_link_laws.proofs.Pipes.{rank}
-use Rattle.ws_link_laws.proofs.Moves.{close-passes, heard-passes}
-use Rattle.ws_link_laws.proofs.Standing.{IsInner, IsNotLast, at_end-append, state-same, Sound, split, calls, hands-silent, calls-few}
+use Rattle.ws_link_laws.proofs.Moves.{line, line-short, in_pipe-short, close-passes, heard-passes}
+use Rattle.ws_link_laws.proofs.Standing.{IsInner, IsNotLast, at_end-append, state-same, Sound, split}
 use Rattle.ws_link_laws.proofs.SourceTurns.{Turned, readable-turned}
 use Rattle.ws_link_laws.proofs.SinkTurns.{writable-turned}
 use Rattle.ws_link_laws.proofs.PipeTurns.{pipe-turned}
+use Rattle.ws_link_laws.proofs.TransformTurns.{Says, AsBefore, Flushes, lets-short, transform-outside}
 
 -- an effect that is no operation and passes on what it brings
-record Passing (i j : StreamId) (p : PipeId) (n : ℕ) (e : Effect) (cs : List Effect) : Type 0 where
-  hands : tells (hands j) cs ≡ hands j e
+record Passing (w : Ear) (o : Owner) (i j : StreamId) (p : PipeId) (n : ℕ) (e : Effect) (cs : List Effect) : Type 0 where
+  hands : tells (hands w) cs ≡ hands w e
   writes : tells (writes j) cs ≡ writes j e
   chunks : tells (chunks p) cs ≡ chunks p e
-  coming : tells (coming i) cs ≡ coming i e
+  coming : tells (coming o i) cs ≡ coming o i e
   inner : Each (IsInner i j p n) cs
   last : Each (IsNotLast p) cs
 
@@ -66,40 +69,44 @@ module _ (i j : StreamId) (p : PipeId) (s : Slots) (e : Effect) (es : List Effec
   sound-by : Each (IsInner i j p n) (row e s).caused → Each (IsNotLast p) (row e s).caused → Sound i j p (row e s).slots ((row e s).caused ++ es)
   sound-by inner last = record {
     state = state-same i j p s (row e s).slots streams pipes h.state;
+    ahead = row-ahead i j s e es h.ahead;
     few = row-few p s e es h.few;
     only = off-only p i s e es (row-off p i s e far) h.only;
-    history = writes_then h.history (effect_writes j e s);
-    kept = row-kept j h.history s e es h.kept;
     inner = rw pipes (each-append (IsInner i j p n) (row e s).caused es inner h.inner.1);
     ends = at_end-append j p (row e s).caused es last h.ends.1;
   }
 
-  passing-turned : IsQuiet j e → Passing i j p n e (row e s).caused → Turned i j p s e es
+  passing-turned : IsQuiet (ear_at j s) e → Passing (ear_at j s) (owner_at i s) i j p n e (row e s).caused → Turned i j p s e es
   passing-turned quiet k = record {
     sound = sound-by k.inner k.last;
-    short = rw (split i j p (row e s).slots (row e s).caused es, row-unheard j e s quiet, k.hands, k.writes, k.chunks, k.coming, streams, pipes) (short_refl (behind_on i j p s (e ∷ es)));
+    short = rw (split i j p (row e s).slots (row e s).caused es, row-ear j e s, row-owner i e s, row-unheard (ear_at j s) e s quiet, k.hands, k.writes, k.chunks, k.coming, streams, pipes) (short_refl (behind_on i j p s (e ∷ es)));
   }
 
 -- what each of them causes
 
-if_same : (b : Bool) → (if b then silence else silence) ≡ silence
-if_same true = refl
-if_same false = refl
+quiet-if : (b : Bool) → then_told (if b then silence else silence) silence ≡ silence
+quiet-if true = refl
+quiet-if false = refl
 
-pull-passing : (i j : StreamId) (p : PipeId) (n : ℕ) (k : StreamId) (u : Use) (o : Owner) → Passing i j p n (PullAlgorithm k) (pull_algorithm k u o)
-pull-passing i j p n k u Host = record { hands = refl; writes = refl; chunks = refl; coming = refl; inner = (tt, tt); last = (refl, tt) }
+pull-passing : (w : Ear) (v : Owner) (i j : StreamId) (p : PipeId) (n : ℕ) (k : StreamId) (u : Use) (o : Owner) → Passing w v i j p n (PullAlgorithm k) (pull_algorithm k u o)
+pull-passing w v i j p n k u Host = record { hands = refl; writes = refl; chunks = refl; coming = refl; inner = (tt, tt); last = (refl, tt) }
+pull-passing w v i j p n k u (HalfOf t) = record { hands = refl; writes = refl; chunks = refl; coming = quiet-if (is_of v t); inner = (tt, tt); last = (refl, tt) }
 
-cancel-passing : (i j : StreamId) (p : PipeId) (n : ℕ) (k : StreamId) (r : Plain) (q : PromiseId) (u : Use) (o : Owner) → Passing i j p n (CancelAlgorithm k r q) (cancel_algorithm k r u o)
-cancel-passing i j p n k r q u Host = record { hands = refl; writes = refl; chunks = refl; coming = refl; inner = (tt, tt); last = (refl, tt) }
+cancel-passing : (w : Ear) (v : Owner) (i j : StreamId) (p : PipeId) (n : ℕ) (k : StreamId) (r : Plain) (q : PromiseId) (u : Use) (o : Owner) → Passing w v i j p n (CancelAlgorithm k r q) (cancel_algorithm k r u o)
+cancel-passing w v i j p n k r q u Host = record { hands = refl; writes = refl; chunks = refl; coming = refl; inner = (tt, tt); last = (refl, tt) }
+cancel-passing w v i j p n k r q u (HalfOf t) = record { hands = refl; writes = refl; chunks = refl; coming = quiet-if (is_of v t); inner = (tt, tt); last = (refl, tt) }
 
-abort-passing : (i j : StreamId) (p : PipeId) (n : ℕ) (k : StreamId) (r : Plain) (q : PromiseId) (u : Use) (o : Owner) → Passing i j p n (AbortAlgorithm k r q) (abort_algorithm k r u o)
-abort-passing i j p n k r q u Host = record { hands = refl; writes = refl; chunks = refl; coming = refl; inner = (tt, tt); last = (refl, tt) }
+abort-passing : (w : Ear) (v : Owner) (i j : StreamId) (p : PipeId) (n : ℕ) (k : StreamId) (r : Plain) (q : PromiseId) (u : Use) (o : Owner) → Passing w v i j p n (AbortAlgorithm k r q) (abort_algorithm k r u o)
+abort-passing w v i j p n k r q u Host = record { hands = refl; writes = refl; chunks = refl; coming = refl; inner = (tt, tt); last = (refl, tt) }
+abort-passing w v i j p n k r q u (HalfOf t) = record { hands = refl; writes = refl; chunks = refl; coming = quiet-if (is_of v t); inner = (tt, tt); last = (refl, tt) }
 
-write-passing : (i j : StreamId) (p : PipeId) (n : ℕ) (k : StreamId) (o : Owner) → Passing i j p n (WriteAlgorithm k) (write_algorithm k o)
-write-passing i j p n k Host = record { hands = refl; writes = rw (if_same (is_same j k)) refl; chunks = refl; coming = refl; inner = (tt, tt); last = (refl, tt) }
+write-passing : (w : Ear) (v : Owner) (i j : StreamId) (p : PipeId) (n : ℕ) (k : StreamId) (o : Owner) → Passing w v i j p n (WriteAlgorithm k) (write_algorithm k o)
+write-passing w v i j p n k Host = record { hands = refl; writes = rw (if_same (is_same j k)) refl; chunks = refl; coming = refl; inner = (tt, tt); last = (refl, tt) }
+write-passing w v i j p n k (HalfOf t) = record { hands = refl; writes = refl; chunks = refl; coming = quiet-if (is_of v t); inner = (tt, tt); last = (refl, tt) }
 
-close-elsewhere : (i j : StreamId) (p : PipeId) (n : ℕ) (k : StreamId) (o : Owner) → is_same j k ≡ false → Passing i j p n (CloseAlgorithm k) (close_algorithm k (React (WritableClose k) None) o)
-close-elsewhere i j p n k Host d = record { hands = rw d refl; writes = refl; chunks = refl; coming = refl; inner = (refl, tt); last = (refl, tt) }
+close-elsewhere : (w : Ear) (v : Owner) (i j : StreamId) (p : PipeId) (n : ℕ) (k : StreamId) (o : Owner) → is_same j k ≡ false → is_sink w k ≡ false → Passing w v i j p n (CloseAlgorithm k) (close_algorithm k (React (WritableClose k) None) o)
+close-elsewhere w v i j p n k Host d x = record { hands = rw x refl; writes = refl; chunks = refl; coming = refl; inner = (tt, tt); last = (refl, tt) }
+close-elsewhere w v i j p n k (HalfOf t) d x = record { hands = refl; writes = refl; chunks = refl; coming = quiet-if (is_of v t); inner = (tt, tt); last = (refl, tt) }
 
 and_false : (b : Bool) → b && false ≡ false
 and_false true = refl
@@ -110,17 +117,49 @@ signal-each P (Trigger r) f = λ q. f q r
 signal-each P (Add q) f = tt
 signal-each P (Forget q) f = tt
 
-signal-passing : (i j : StreamId) (p : PipeId) (n : ℕ) (a : SignalId) (operation : SignalOperation) (s : Slots) → Passing i j p n (OnSignal a operation) (row (OnSignal a operation) s).caused
-signal-passing i j p n a operation s =
+signal-passing : (w : Ear) (v : Owner) (i j : StreamId) (p : PipeId) (n : ℕ) (a : SignalId) (operation : SignalOperation) (s : Slots) → Passing w v i j p n (OnSignal a operation) (row (OnSignal a operation) s).caused
+signal-passing w v i j p n a operation s =
     let e : Effect = OnSignal a operation in
     let cs : List Effect = (row e s).caused in
     record {
-      hands = silent-all (hands j) cs (row-causes (IsSilent (hands j)) e s (signal-each (IsSilent (hands j)) operation (λ q r. refl)));
+      hands = silent-all (hands w) cs (row-causes (IsSilent (hands w)) e s (signal-each (IsSilent (hands w)) operation (λ q r. refl)));
       writes = silent-all (writes j) cs (row-causes (IsSilent (writes j)) e s (signal-each (IsSilent (writes j)) operation (λ q r. refl)));
       chunks = silent-all (chunks p) cs (row-causes (IsSilent (chunks p)) e s (signal-each (IsSilent (chunks p)) operation (λ q r. refl)));
-      coming = silent-all (coming i) cs (row-causes (IsSilent (coming i)) e s (signal-each (IsSilent (coming i)) operation (λ q r. refl)));
+      coming = silent-all (coming v i) cs (row-causes (IsSilent (coming v i)) e s (signal-each (IsSilent (coming v i)) operation (λ q r. refl)));
       inner = row-causes (IsInner i j p n) e s (signal-each (IsInner i j p n) operation (λ q r. tt));
       last = row-causes (IsNotLast p) e s (signal-each (IsNotLast p) operation (λ q r. and_false (nat_eq p.0 q.0)));
+    }
+
+-- an operation of a transform stream
+
+says-by : (i j : StreamId) (s : Slots) (e : Effect) (es cs : List Effect) (U W P : Told Value) → SinkFits (writable_at j s) → Ahead i j s (e ∷ es) → Says (ear_at j s) e cs
+    → IsShortOf (line U (then_told (tells (hands (ear_at j s)) cs) (tells (hands (ear_at j s)) es)) (in_sink (writable_at j s)) W P) (line U (then_told (hands (ear_at j s) e) (tells (hands (ear_at j s)) es)) (in_sink (writable_at j s)) W P)
+says-by i j s e es cs U W P fits a (AsBefore same) = rw same (short_refl _)
+says-by i j s e es cs U W P fits a (Flushes closing none flush) =
+    rw (flush, none)
+    (close-passes U (tells (hands (ear_at j s)) es) (in_sink (writable_at j s)) W P (ahead-silent i j s e es a) (ended_lies (ear_at j s) (writable_at j s) fits (a.first closing)))
+
+transform-turned : (i j : StreamId) (p : PipeId) (s : Slots) (t : TransformId) (operation : TransformOperation) (es : List Effect) → Sound i j p s (OnTransform t operation ∷ es) → Turned i j p s (OnTransform t operation) es
+transform-turned i j p s t operation es h =
+    let e : Effect = OnTransform t operation in
+    let cs : List Effect = (row e s).caused in
+    let o = transform-outside i j p (rank (pipe_at p s).phase) t operation s h.ahead.hosts in
+    let U : Told Value = unheard (ear_at j s) s.promises.events in
+    let W : Told Value = tells (writes j) es in
+    let K : Told Value = in_sink (writable_at j s) in
+    let C : Told Value = tells (chunks p) es in
+    let S : Told Value = in_source (readable_at i s) in
+    let M : Told Value = tells (coming (owner_at i s) i) es in
+    let now : Told Value = in_pipe (pipe_at p s) (then_told C (then_told S (then_told (tells (coming (owner_at i s) i) cs) M))) in
+    let before : Told Value = in_pipe (pipe_at p s) (then_told C (then_told S (then_told (coming (owner_at i s) i e) M))) in
+    let H : Told Value = then_told (hands (ear_at j s) e) (tells (hands (ear_at j s)) es) in
+    let lets = lets-short (owner_at i s) i (readable_at i s) e cs M o.lets in
+    record {
+      sound = sound-by i j p s e es tt tt h o.inner o.last;
+      short = rw (split i j p (row e s).slots cs es, row-ear j e s, row-owner i e s, row-unheard (ear_at j s) e s tt, o.writes, o.chunks, streams i j p s e es tt tt h, pipes i j p s e es tt tt h)
+          (short_trans _ (line U H K W now) (line U H K W before)
+          (says-by i j s e es cs U W now h.state.sink_fits h.ahead o.says)
+          (line-short U H K W now before (in_pipe-short (pipe_at p s) _ _ (short_left C _ _ lets))));
     }
 
 -- a call of the host is heard of
@@ -130,48 +169,66 @@ call-turned i j p s call u es h =
     let e : Effect = CallHost call u in
     record {
       sound = sound-by i j p s e es tt tt h tt tt;
-      short = rw (call-unheard j call u s, streams i j p s e es tt tt h, pipes i j p s e es tt tt h)
-          (heard-passes (unheard j s.promises.events) (heard_call j call) (tells (hands j) es)
-          (then_told (in_sink (writable_at j s)) (then_told (tells (writes j) es) (in_pipe (pipe_at p s) (then_told (tells (chunks p) es) (then_told (in_source (readable_at i s)) (tells (coming i) es)))))));
+      short = rw (row-ear j e s, row-owner i e s, call-unheard (ear_at j s) call u s, streams i j p s e es tt tt h, pipes i j p s e es tt tt h)
+          (heard-passes (unheard (ear_at j s) s.promises.events) (heard_call (ear_at j s) call) (tells (hands (ear_at j s)) es)
+          (then_told (in_sink (writable_at j s)) (then_told (tells (writes j) es) (in_pipe (pipe_at p s) (then_told (tells (chunks p) es) (then_told (in_source (readable_at i s)) (tells (coming (owner_at i s) i) es)))))));
     }
 
 -- the close algorithm of the destination is performed
 
-close_flies : (c : Bool) (n m : ℕ) → n + (1 + m) ≤ one_if c → c ≡ true
-close_flies true n m l = refl
-close_flies false n m l = absurd (omega (arith, l))
+-- what it causes is nothing else of the link
+close-quiet : (v : Owner) (i j : StreamId) (p : PipeId) (u : Use) (o : Owner) → (tells (writes j) (close_algorithm j u o) ≡ silence) × ((tells (chunks p) (close_algorithm j u o) ≡ silence) × (tells (coming v i) (close_algorithm j u o) ≡ silence))
+close-quiet v i j p u Host = (refl, (refl, refl))
+close-quiet v i j p u (HalfOf t) = (refl, (refl, quiet-if (is_of v t)))
 
-handed_closing : (n : ℕ) (w : writable.Slots) → (core_of (handed n w)).closing ≡ is_some w.close_in_flight
-handed_closing zero w = refl
-handed_closing (suc n) w = refl
+close-told : (j : StreamId) (s : Slots) (u : Use) → Host ≡ owner_at j s → tells (hands (ear_at j s)) (close_algorithm j u (owner_at j s)) ≡ told [] Closed
+close-told j s u e =
+    let sink : is_sink (ear_at j s) j ≡ true = subst (λ (o : Owner). is_sink (ear_by j s o) j ≡ true) e (is_same-refl j) in
+    subst (λ (o : Owner). tells (hands (ear_at j s)) (close_algorithm j u o) ≡ told [] Closed) e (rw sink refl)
 
-closing : (j : StreamId) (h : Writes) (s : Slots) (es : List Effect) → Kept j h s (CloseAlgorithm j ∷ es) → is_some (writable_at j s).close_in_flight ≡ true
-closing j h s es k =
-    let f = k.held.fine.owed.closes in
-    let one = same_once j in
-    let same = handed_closing (all (drawn j) (CloseAlgorithm j ∷ es)) (writable_at j s) in
-    sym same ∙ close_flies _ _ (all (leads_to (is_close j)) es) (rw one at f)
+record Closes (i j : StreamId) (p : PipeId) (s : Slots) (cs : List Effect) : Type 0 where
+  hands : tells (hands (ear_at j s)) cs ≡ told [] Closed
+  writes : tells (writes j) cs ≡ silence
+  chunks : tells (chunks p) cs ≡ silence
+  coming : tells (coming (owner_at i s) i) cs ≡ silence
+  inner : Each (IsInner i j p (rank (pipe_at p s).phase)) cs
+  last : Each (IsNotLast p) cs
 
-own_close : (i j : StreamId) (p : PipeId) (s : Slots) (es : List Effect) → Sound i j p s (CloseAlgorithm j ∷ es) → all (calls j) es ≡ 0
-own_close i j p s es h = let f = calls-few j h.history s (CloseAlgorithm j ∷ es) h.kept in let one = same_once j in omega (arith, f, one)
+closes-host : (i j : StreamId) (p : PipeId) (s : Slots) → Host ≡ owner_at j s → Closes i j p s (row (CloseAlgorithm j) s).caused
+unfolding row
+closes-host i j p s e =
+    let u : Use = React (WritableClose j) None in
+    let q = close-quiet (owner_at i s) i j p u (owner_at j s) in
+    record { hands = close-told j s u e; writes = q.0; chunks = q.1.0; coming = q.1.1; inner = rw (← e) (tt, tt); last = rw (← e) (refl, tt) }
+
+close-passing : (i j : StreamId) (p : PipeId) (s : Slots) (t : TransformId) → HalfOf t ≡ owner_at j s → Passing (ear_at j s) (owner_at i s) i j p (rank (pipe_at p s).phase) (CloseAlgorithm j) (row (CloseAlgorithm j) s).caused
+unfolding row
+close-passing i j p s t e = rw (← e) (record { hands = refl; writes = refl; chunks = refl; coming = quiet-if (is_of (owner_at i s) t); inner = (tt, tt); last = (refl, tt) })
 
 close-turned : (i j : StreamId) (p : PipeId) (s : Slots) (es : List Effect) (o : Owner) → o ≡ owner_at j s → Sound i j p s (CloseAlgorithm j ∷ es) → Turned i j p s (CloseAlgorithm j) es
-unfolding row
 close-turned i j p s es Host e h =
     let c : Effect = CloseAlgorithm j in
-    let still : tells (hands j) es ≡ silence = hands-silent i j p (rank (pipe_at p s).phase) es h.inner.1 (own_close i j p s es h) in
-    let ended : in_sink (writable_at j s) ≡ told [] Closed = ended_lies (writable_at j s) h.state.sink_fits (closing j h.history s es h.kept) in
+    let q = closes-host i j p s e in
+    let ended : in_sink (writable_at j s) ≡ told [] Closed = ended_lies (ear_at j s) (writable_at j s) h.state.sink_fits (closing-flies j h.ahead.history s es (ahead-kept i j s (c ∷ es) h.ahead)) in
     record {
-      sound = sound-by i j p s c es tt tt h (rw (← e) (refl, tt)) (rw (← e) (refl, tt));
-      short = rw (← e, is_same-refl j) (close-passes (unheard j s.promises.events) (tells (hands j) es) (in_sink (writable_at j s)) (tells (writes j) es) (in_pipe (pipe_at p s) (then_told (tells (chunks p) es) (then_told (in_source (readable_at i s)) (tells (coming i) es)))) still ended);
+      sound = sound-by i j p s c es tt tt h q.inner q.last;
+      short = rw (split i j p (row c s).slots (row c s).caused es, row-ear j c s, row-owner i c s, row-unheard (ear_at j s) c s tt, q.writes, q.chunks, q.coming, streams i j p s c es tt tt h, pipes i j p s c es tt tt h, q.hands)
+          (close-passes (unheard (ear_at j s) s.promises.events) (tells (hands (ear_at j s)) es) (in_sink (writable_at j s)) (tells (writes j) es)
+          (in_pipe (pipe_at p s) (then_told (tells (chunks p) es) (then_told (in_source (readable_at i s)) (tells (coming (owner_at i s) i) es)))) (ahead-silent i j s c es h.ahead) ended);
     }
+close-turned i j p s es (HalfOf t) e h = passing-turned i j p s (CloseAlgorithm j) es tt tt h tt (close-passing i j p s t e)
+
+-- that of another stream
+other-sink : (j k : StreamId) (s : Slots) (o : Owner) → is_same j k ≡ false → is_sink (ear_by j s o) k ≡ false
+other-sink j k s Host n = n
+other-sink j k s (HalfOf t) n = refl
 
 closes-turned : (i j : StreamId) (p : PipeId) (s : Slots) (k : StreamId) (es : List Effect) → Sound i j p s (CloseAlgorithm k ∷ es) → Turned i j p s (CloseAlgorithm k) es
 unfolding row
 closes-turned i j p s k es h = by (is_same j k) refl
   where
     by : (same : Bool) → same ≡ is_same j k → Turned i j p s (CloseAlgorithm k) es
-    by false d = passing-turned i j p s (CloseAlgorithm k) es tt tt h tt (close-elsewhere i j p (rank (pipe_at p s).phase) k (owner_at k s) (sym d))
+    by false d = passing-turned i j p s (CloseAlgorithm k) es tt tt h tt (close-elsewhere (ear_at j s) (owner_at i s) i j p (rank (pipe_at p s).phase) k (owner_at k s) (sym d) (other-sink j k s (owner_at j s) (sym d)))
     by true d = subst (λ (x : StreamId). Sound i j p s (CloseAlgorithm x ∷ es) → Turned i j p s (CloseAlgorithm x) es) (same_id j k (sym d)) (close-turned i j p s es (owner_at j s) refl) h
 
 -- each effect
@@ -180,15 +237,16 @@ unfolding row
 row-turned i j p s (OnReadable k operation) es h = readable-turned i j p s k operation es h
 row-turned i j p s (OnWritable k operation) es h = writable-turned i j p s k operation es h
 row-turned i j p s (OnPipe q operation) es h = pipe-turned i j p s q operation es h
-row-turned i j p s (OnSignal a operation) es h = passing-turned i j p s (OnSignal a operation) es tt tt h tt (signal-passing i j p (rank (pipe_at p s).phase) a operation s)
+row-turned i j p s (OnSignal a operation) es h = passing-turned i j p s (OnSignal a operation) es tt tt h tt (signal-passing (ear_at j s) (owner_at i s) i j p (rank (pipe_at p s).phase) a operation s)
+row-turned i j p s (OnTransform t operation) es h = transform-turned i j p s t operation es h
 row-turned i j p s (StartAlgorithm k step Now) es h = passing-turned i j p s (StartAlgorithm k step Now) es tt tt h tt (record { hands = refl; writes = refl; chunks = refl; coming = refl; inner = (tt, tt); last = (refl, tt) })
 row-turned i j p s (StartAlgorithm k step Later) es h =
     passing-turned i j p s (StartAlgorithm k step Later) es tt tt h tt (record { hands = refl; writes = refl; chunks = refl; coming = refl; inner = (tt, (tt, tt)); last = (refl, (refl, tt)) })
-row-turned i j p s (PullAlgorithm k) es h = passing-turned i j p s (PullAlgorithm k) es tt tt h tt (pull-passing i j p (rank (pipe_at p s).phase) k _ (owner_at k s))
-row-turned i j p s (CancelAlgorithm k r q) es h = passing-turned i j p s (CancelAlgorithm k r q) es tt tt h tt (cancel-passing i j p (rank (pipe_at p s).phase) k r q _ (owner_at k s))
-row-turned i j p s (WriteAlgorithm k) es h = passing-turned i j p s (WriteAlgorithm k) es tt tt h tt (write-passing i j p (rank (pipe_at p s).phase) k (owner_at k s))
+row-turned i j p s (PullAlgorithm k) es h = passing-turned i j p s (PullAlgorithm k) es tt tt h tt (pull-passing (ear_at j s) (owner_at i s) i j p (rank (pipe_at p s).phase) k _ (owner_at k s))
+row-turned i j p s (CancelAlgorithm k r q) es h = passing-turned i j p s (CancelAlgorithm k r q) es tt tt h tt (cancel-passing (ear_at j s) (owner_at i s) i j p (rank (pipe_at p s).phase) k r q _ (owner_at k s))
+row-turned i j p s (WriteAlgorithm k) es h = passing-turned i j p s (WriteAlgorithm k) es tt tt h tt (write-passing (ear_at j s) (owner_at i s) i j p (rank (pipe_at p s).phase) k (owner_at k s))
 row-turned i j p s (CloseAlgorithm k) es h = closes-turned i j p s k es h
-row-turned i j p s (AbortAlgorithm k r q) es h = passing-turned i j p s (AbortAlgorithm k r q) es tt tt h tt (abort-passing i j p (rank (pipe_at p s).phase) k r q _ (owner_at k s))
+row-turned i j p s (AbortAlgorithm k r q) es h = passing-turned i j p s (AbortAlgorithm k r q) es tt tt h tt (abort-passing (ear_at j s) (owner_at i s) i j p (rank (pipe_at p s).phase) k r q _ (owner_at k s))
 row-turned i j p s (ChunkSteps k (Promise q) v) es h = passing-turned i j p s (ChunkSteps k (Promise q) v) es tt tt h tt (record { hands = refl; writes = refl; chunks = refl; coming = refl; inner = tt; last = tt })
 row-turned i j p s (ChunkSteps k (PipeRequest q) v) es h =
     passing-turned i j p s (ChunkSteps k (PipeRequest q) v) es tt tt h tt

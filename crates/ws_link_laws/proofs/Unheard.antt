@@ -14,7 +14,7 @@ use Rattle.ws_steps.specs.declared.calls.Event.TheVariants.{Host as HostCalled, 
 use Rattle.ws_steps.specs.declared.calls.HostCall.{HostCall}
 use Rattle.ws_steps.specs.declared.calls.StartBy.TheVariants.{Now, Later}
 use Rattle.ws_steps.specs.declared.effects.Effect.{Effect}
-use Rattle.ws_steps.specs.declared.effects.Effect.TheVariants.{Readable, Writable, Pipe, Signal, StartAlgorithm, ChunkSteps, CloseSteps, ErrorSteps, Give, Settle, Queue, CallHost}
+use Rattle.ws_steps.specs.declared.effects.Effect.TheVariants.{Readable, Writable, Pipe, Signal, Transform, StartAlgorithm, ChunkSteps, CloseSteps, ErrorSteps, Give, Settle, Queue, CallHost}
 use Rattle.ws_steps.specs.declared.effects.Gift.{Gift}
 use Rattle.ws_steps.specs.declared.effects.Gift.TheVariants.{This, Fresh}
 use Rattle.ws_steps.specs.declared.effects.Use.{Use}
@@ -26,38 +26,42 @@ use Rattle.ws_steps.specs.declared.promises.Micro.{Micro}
 use Rattle.ws_steps.specs.declared.promises.Reaction.{Reaction}
 use Rattle.ws_steps.specs.declared.promises.Reaction.TheVariants.{Perform}
 use Rattle.ws_steps.specs.declared.readable.ReadRequest.TheVariants.{Promise, Pipe as PipeRequest}
+use Rattle.ws_steps.specs.declared.transform.TransformId.{TransformId}
+use Rattle.ws_steps.specs.declared.transform.TransformOperation.{TransformOperation}
 use Rattle.ws_steps.specs.Effects.{Out}
-use Rattle.ws_steps.specs.Operations.{readable_operation, writable_operation, pipe_operation, signal_operation}
+use Rattle.ws_steps.specs.Operations.{readable_operation, writable_operation, pipe_operation, signal_operation, transform_operation}
 use Rattle.ws_steps.specs.Pipes as pipe
 use Rattle.ws_steps.specs.Promises.{Table, fresh, settle, answer, react, follow, unfollow, queue_micro, tell, next_id, fresh_settled, use_this, use_gift, watch, taken, after_first, after_next_job}
-use Rattle.ws_steps.specs.Slots.{Slots, Done, nothing, has_readable, has_writable, found, ends_at, put_readable, put_writable, on_pipe_at, on_signal_at}
+use Rattle.ws_steps.specs.Slots.{Slots, Done, nothing, has_readable, has_writable, found, ends_at, halves_at, put_readable, put_writable, on_pipe_at, on_signal_at, on_transform_at}
+use Rattle.ws_steps.specs.Transform as transform
 use Rattle.ws_steps.specs.Turns.{row, call_host}
 use Rattle.ws_flow.specs.Told.{then_told}
 use Rattle.ws_flow.proofs.Told.{then_assoc, then_empty}
 use Rattle.ws_laws.proofs.PipeDoes.{pipe-does}
 use Rattle.ws_laws.proofs.ReadableDoes.{readable-does}
 use Rattle.ws_laws.proofs.Tables.{either, readable_acts, writable_acts}
+use Rattle.ws_laws.proofs.TransformDoes.{transform-does}
 use Rattle.ws_laws.proofs.WritableDoes.{writable-does}
-use Rattle.ws_link_laws.specs.Link.{silence, heard_of, heard_call, unheard}
+use Rattle.ws_link_laws.specs.Link.{Ear, silence, heard_of, heard_call, unheard}
 
-module _ (j : StreamId) where
-  pub unheard-append : (xs ys : List Event) → unheard j (xs ++ ys) ≡ then_told (unheard j xs) (unheard j ys)
+module _ (w : Ear) where
+  pub unheard-append : (xs ys : List Event) → unheard w (xs ++ ys) ≡ then_told (unheard w xs) (unheard w ys)
   unheard-append [] ys = refl
-  unheard-append (x ∷ xs) ys = rw (unheard-append xs ys) (sym (then_assoc (heard_of j x) (unheard j xs) (unheard j ys)))
+  unheard-append (x ∷ xs) ys = rw (unheard-append xs ys) (sym (then_assoc (heard_of w x) (unheard w xs) (unheard w ys)))
 
-  pub unheard-last : (xs : List Event) (e : Event) → unheard j (xs ++ e ∷ []) ≡ then_told (unheard j xs) (heard_of j e)
-  unheard-last xs e = rw (unheard-append xs (e ∷ []), then_empty (heard_of j e)) refl
+  pub unheard-last : (xs : List Event) (e : Event) → unheard w (xs ++ e ∷ []) ≡ then_told (unheard w xs) (heard_of w e)
+  unheard-last xs e = rw (unheard-append xs (e ∷ []), then_empty (heard_of w e)) refl
 
-  unheard-quiet : (xs : List Event) (e : Event) → heard_of j e ≡ silence → unheard j (xs ++ e ∷ []) ≡ unheard j xs
-  unheard-quiet xs e n = rw (unheard-last xs e, n) (then_empty (unheard j xs))
+  unheard-quiet : (xs : List Event) (e : Event) → heard_of w e ≡ silence → unheard w (xs ++ e ∷ []) ≡ unheard w xs
+  unheard-quiet xs e n = rw (unheard-last xs e, n) (then_empty (unheard w xs))
 
-  settled-quiet : (xs : List Event) (p : PromiseId) → unheard j (xs ++ Settled p ∷ []) ≡ unheard j xs
+  settled-quiet : (xs : List Event) (p : PromiseId) → unheard w (xs ++ Settled p ∷ []) ≡ unheard w xs
   settled-quiet xs p = unheard-quiet xs (Settled p) refl
 
   -- each change of promises
 
   abbrev pub Alike : Table → Table → Type 0
-  Alike t z = unheard j z.events ≡ unheard j t.events
+  Alike t z = unheard w z.events ≡ unheard w t.events
 
   pub fresh-unheard : (t : Table) → Alike t (fresh t)
   unfolding fresh
@@ -134,7 +138,16 @@ module _ (j : StreamId) where
   signal-unheard a operation s None = refl
   signal-unheard a operation s (Some x) = refl
 
-  signalled-quiet : (xs : List Event) (i : StreamId) (r : Plain) → unheard j (xs ++ Signalled i r ∷ []) ≡ unheard j xs
+  transform-unheard : (t : TransformId) (operation : TransformOperation) (s : Slots) (o : Option transform.Slots)
+      → Alike s.promises (on_transform_at (λ halves. transform_operation t halves operation) t s o).slots.promises
+  transform-unheard t operation s None = refl
+  transform-unheard t operation s (Some x) =
+      transform-does (λ z. Alike s.promises z) (record {
+        fresh = λ u h. fresh-unheard u ∙ h;
+        settle = λ u q o h. settle-unheard q o u ∙ h;
+      }) t (halves_at x s) operation (record { slots = x; out = found s }) refl
+
+  signalled-quiet : (xs : List Event) (i : StreamId) (r : Plain) → unheard w (xs ++ Signalled i r ∷ []) ≡ unheard w xs
   signalled-quiet xs i r = unheard-quiet xs (Signalled i r) refl
 
   pub row-unheard : (e : Effect) (s : Slots) → IsQuiet e → Alike s.promises (row e s).slots.promises
@@ -159,9 +172,11 @@ module _ (j : StreamId) where
         close = λ x h. h;
         abort = λ x r p h. h;
         hand_on = λ x v h. h;
+        take = λ x v t d h. h;
       }) operation (writable_acts i s) refl) (λ e. refl)
   row-unheard (Pipe p operation) s n = pipe-unheard p operation s (slice_get s.pipes p.0)
   row-unheard (Signal a operation) s n = signal-unheard a operation s (slice_get s.signals a.0)
+  row-unheard (Transform t operation) s n = transform-unheard t operation s (slice_get s.transforms t.0)
   row-unheard (StartAlgorithm i step Now) s n = refl
   row-unheard (StartAlgorithm i step Later) s n = fresh-unheard s.promises
   row-unheard (ChunkSteps i (Promise p) v) s n = answer-unheard p (Given v) s.promises
@@ -178,7 +193,7 @@ module _ (j : StreamId) where
 
   -- and a call of the host is heard of
 
-  pub call-unheard : (call : HostCall) (u : Use) (s : Slots) → unheard j (call_host call u s).promises.events ≡ then_told (unheard j s.promises.events) (heard_call j call)
+  pub call-unheard : (call : HostCall) (u : Use) (s : Slots) → unheard w (call_host call u s).promises.events ≡ then_told (unheard w s.promises.events) (heard_call w call)
   unfolding call_host
   call-unheard call u s =
       let a = use-unheard (next_id s.promises) (tell (HostCalled _ call) (fresh s.promises)) u in

@@ -8,9 +8,10 @@ use Rattle.ws_steps.specs.declared.calls.Call.TheVariants.{Pipe}
 use Rattle.ws_steps.specs.declared.calls.Event.{Event}
 use Rattle.ws_steps.specs.declared.pipes.Prevent.{Prevent}
 use Rattle.ws_steps.specs.Run.{Entry, Called, Worked, Heard, step, run, after_call}
-use Rattle.ws_steps.specs.Slots.{Slots, readable_at, writable_at}
+use Rattle.ws_steps.specs.Promises.{next_job}
+use Rattle.ws_steps.specs.Slots.{Slots, owner_at, readable_at, writable_at}
 use Rattle.ws_flow.specs.Told.{Told, then_told, IsShortOf}
-use Rattle.ws_link_laws.specs.Link.{silence, in_sink, in_source, heard_of, unheard, behind, enters, leaves}
+use Rattle.ws_link_laws.specs.Link.{Ear, silence, in_sink, in_source, ear_at, heard_of, unheard, behind, enters, next_enters, leaves}
 use Rattle.ws_link_laws.specs.Sound.{IsLink, IsFree, IsThere}
 
 -- what an entry of a run is to a link
@@ -25,15 +26,15 @@ all_leave i j [] = true
 all_leave i j (x ∷ xs) = entry_leaves i j x && all_leave i j xs
 
 -- what the first event tells, where there is one
-abbrev pub first_heard : StreamId → List Event → Told Value
-first_heard j [] = silence
-first_heard j (e ∷ es) = heard_of j e
+abbrev pub first_heard : Ear → List Event → Told Value
+first_heard w [] = silence
+first_heard w (e ∷ es) = heard_of w e
 
 -- what the host hears of stream j by an entry
 abbrev pub entry_heard : StreamId → Slots → Entry → Told Value
 entry_heard j s (Called c) = silence
 entry_heard j s Worked = silence
-entry_heard j s Heard = first_heard j s.promises.events
+entry_heard j s Heard = first_heard (ear_at j s) s.promises.events
 
 -- and in a run
 abbrev pub run_heard : StreamId → List Entry → Slots → Told Value
@@ -41,21 +42,21 @@ run_heard j [] s = silence
 run_heard j (x ∷ xs) s = then_told (entry_heard j s x) (run_heard j xs (step s x))
 
 -- what an entry brings to stream i
-abbrev pub entry_enters : StreamId → Entry → Told Value
-entry_enters i (Called c) = enters i c
-entry_enters i Worked = silence
-entry_enters i Heard = silence
+abbrev pub entry_enters : StreamId → Slots → Entry → Told Value
+entry_enters i s (Called c) = enters (owner_at i s) i c
+entry_enters i s Worked = next_enters (owner_at i s) (next_job s.promises)
+entry_enters i s Heard = silence
 
 -- and a run
-abbrev pub run_enters : StreamId → List Entry → Told Value
-run_enters i [] = silence
-run_enters i (x ∷ xs) = then_told (entry_enters i x) (run_enters i xs)
+abbrev pub run_enters : StreamId → List Entry → Slots → Told Value
+run_enters i [] s = silence
+run_enters i (x ∷ xs) s = then_told (entry_enters i s x) (run_enters i xs (step s x))
 
 -- over any run that leaves the link alone, what the host heard of, followed by what is behind it then, is, or is cut short of, what was
 -- behind it before, followed by what entered
 pub record KeepsLink (i j : StreamId) (p : PipeId) (s : Slots) (entries : List Entry) : Type 0 where
   pub link : IsLink i j p (run entries s)
-  pub short : IsShortOf (then_told (run_heard j entries s) (behind i j p (run entries s))) (then_told (behind i j p s) (run_enters i entries))
+  pub short : IsShortOf (then_told (run_heard j entries s) (behind i j p (run entries s))) (then_told (behind i j p s) (run_enters i entries s))
 
 -- from any link on, in any run that leaves it alone: it stays a link, and loses, doubles and mixes nothing, unless it says that it lost
 abbrev pub EachLinkKeeps : Type 0
@@ -65,7 +66,7 @@ EachLinkKeeps =
 -- a new pipe is a link, and behind it is what was in its source, or a first part of that which says so
 pub record BeginsLink (i j : StreamId) (p : PipeId) (s z : Slots) : Type 0 where
   pub link : IsLink i j p z
-  pub short : IsShortOf (behind i j p z) (then_told (unheard j s.promises.events) (then_told (in_sink (writable_at j s)) (in_source (readable_at i s))))
+  pub short : IsShortOf (behind i j p z) (then_told (unheard (ear_at j s) s.promises.events) (then_told (in_sink (writable_at j s)) (in_source (readable_at i s))))
 
 -- a pipe between two free streams makes them a link, whatever its options and its signal
 abbrev pub EachLinkBegins : Type 0

@@ -1,19 +1,26 @@
--- One link: a pipe from a readable stream to a writable stream of the host, and what lies on it, oldest first, told with a mark.
-use Rattle.std.specs.Prelude.{Bool, true, false, not, ◌&&◌, is_some, if◌then◌else◌, List, [], ◌∷◌, Option, Some, None}
+-- One link: a pipe from a readable stream to a writable stream, and what lies on it, oldest first, told with a mark. Each end is the host's
+-- own, or a half of a transform stream whose algorithms are the host's.
+use Rattle.std.specs.Prelude.{Bool, true, false, not, ◌&&◌, is_some, nat_eq, if◌then◌else◌, List, [], ◌∷◌, Option, Some, None, Ok}
 use Rattle.ws_value.specs.declared.ids.PipeId.{PipeId}
 use Rattle.ws_value.specs.declared.ids.StreamId.{StreamId}
 use Rattle.ws_value.specs.declared.value.Value.{Value}
 use Rattle.ws_steps.specs.declared.calls.Call.{Call}
-use Rattle.ws_steps.specs.declared.calls.Call.TheVariants.{GetReader, GetWriter, Cancel, Close, Abort, Enqueue, Finish, Fail, Pipe}
+use Rattle.ws_steps.specs.declared.calls.Call.TheVariants.{GetReader, GetWriter, Cancel, Close, Abort, Enqueue, Finish, Fail, Terminate, Pipe}
 use Rattle.ws_steps.specs.declared.calls.Event.{Event}
-use Rattle.ws_steps.specs.declared.calls.Event.TheVariants.{Host}
+use Rattle.ws_steps.specs.declared.calls.Event.TheVariants.{Host as HostCalled}
 use Rattle.ws_steps.specs.declared.calls.HostCall.{HostCall}
-use Rattle.ws_steps.specs.declared.calls.HostCall.TheVariants.{Write as HostWrite, Close as HostClose}
+use Rattle.ws_steps.specs.declared.calls.HostCall.TheVariants.{Write as HostWrite, Close as HostClose, Transform as HostTransform, Flush as HostFlush}
+use Rattle.ws_steps.specs.declared.effects.Owner.{Owner}
+use Rattle.ws_steps.specs.declared.effects.Owner.TheVariants.{Host, HalfOf}
 use Rattle.ws_steps.specs.declared.pipes.Phase.{Phase}
 use Rattle.ws_steps.specs.declared.pipes.Phase.TheVariants.{Flowing, Waiting, Acting, Over}
+use Rattle.ws_steps.specs.declared.promises.Job.{Job}
+use Rattle.ws_steps.specs.declared.promises.Job.TheVariants.{Reaction}
+use Rattle.ws_steps.specs.declared.promises.Step.TheVariants.{TransformFlushed}
 use Rattle.ws_steps.specs.declared.queue.Queued.{Queued}
 use Rattle.ws_steps.specs.declared.readable.ReadableState.{ReadableState}
 use Rattle.ws_steps.specs.declared.readable.ReadableState.TheVariants.{Readable, Closed as ReadableClosed, Errored as ReadableErrored}
+use Rattle.ws_steps.specs.declared.transform.TransformId.{TransformId}
 use Rattle.ws_steps.specs.declared.writable.WritableState.{WritableState}
 use Rattle.ws_steps.specs.declared.writable.WritableState.TheVariants.{Writable, Erroring, Errored as WritableErrored, Closed as WritableClosed}
 use Rattle.ws_steps.specs.declared.writable.WriteRecord.{WriteRecord}
@@ -22,7 +29,7 @@ use Rattle.ws_steps.specs.Histories.{is_same}
 use Rattle.ws_steps.specs.Pipes as pipe
 use Rattle.ws_steps.specs.Readable as readable
 use Rattle.ws_steps.specs.Writable as writable
-use Rattle.ws_steps.specs.Slots.{Slots, readable_at, writable_at, pipe_at}
+use Rattle.ws_steps.specs.Slots.{Slots, owner_at, readable_at, writable_at, transform_at, pipe_at}
 use Rattle.ws_flow.specs.Told.{Mark, Open, Closed, Lost, Told, told, then_told}
 
 -- nothing was told, and more may come
@@ -95,35 +102,75 @@ lies i j p s = then_told (in_sink (writable_at j s)) (in_pipe (pipe_at p s) (in_
 
 -- what the host hears
 
-abbrev pub heard_call : StreamId → HostCall → Told Value
-heard_call j (HostWrite k v) = if is_same j k then told (v ∷ []) Open else silence
-heard_call j (HostClose k) = if is_same j k then told [] Closed else silence
-heard_call j _ = silence
+-- by what the host hears of a destination: by the write and the close algorithm of this sink, or by the transform and the flush algorithm of
+-- this transform stream, which name its readable half
+pub data Ear : Type 0 where
+  OfSink : StreamId → Ear
+  OfTransform : TransformId → StreamId → Ear
 
--- what an event tells of stream j: a chunk that is written, or the close
-abbrev pub heard_of : StreamId → Event → Told Value
-heard_of j (Host id call) = heard_call j call
-heard_of j _ = silence
+abbrev pub ear_by : StreamId → Slots → Owner → Ear
+ear_by j s Host = OfSink j
+ear_by j s (HalfOf t) = OfTransform t (transform_at t s).readable
+
+-- of stream j
+abbrev pub ear_at : StreamId → Slots → Ear
+ear_at j s = ear_by j s (owner_at j s)
+
+abbrev pub is_sink : Ear → StreamId → Bool
+is_sink (OfSink j) k = is_same j k
+is_sink (OfTransform t r) k = false
+
+abbrev pub is_half : Ear → StreamId → Bool
+is_half (OfSink j) k = false
+is_half (OfTransform t r) k = is_same r k
+
+abbrev pub heard_call : Ear → HostCall → Told Value
+heard_call w (HostWrite k v) = if is_sink w k then told (v ∷ []) Open else silence
+heard_call w (HostClose k) = if is_sink w k then told [] Closed else silence
+heard_call w (HostTransform k v) = if is_half w k then told (v ∷ []) Open else silence
+heard_call w (HostFlush k) = if is_half w k then told [] Closed else silence
+heard_call w _ = silence
+
+-- what an event tells of a destination: a chunk that is written or transformed, or the close or the flush
+abbrev pub heard_of : Ear → Event → Told Value
+heard_of w (HostCalled id call) = heard_call w call
+heard_of w _ = silence
 
 -- what the events tell that the host hasn't taken
-abbrev pub unheard : StreamId → List Event → Told Value
-unheard j [] = silence
-unheard j (e ∷ es) = then_told (heard_of j e) (unheard j es)
+abbrev pub unheard : Ear → List Event → Told Value
+unheard w [] = silence
+unheard w (e ∷ es) = then_told (heard_of w e) (unheard w es)
 
 -- what is behind the host: what it hasn't heard yet, and then what lies on the link
 abbrev pub behind : StreamId → StreamId → PipeId → Slots → Told Value
-behind i j p s = then_told (unheard j s.promises.events) (lies i j p s)
+behind i j p s = then_told (unheard (ear_at j s) s.promises.events) (lies i j p s)
 
 -- calls
 
--- what a call brings to stream i
-abbrev pub enters : StreamId → Call → Told Value
-enters i (Enqueue k v) = if is_same i k then told (v ∷ []) Open else silence
-enters i (Finish k) = if is_same i k then told [] Closed else silence
-enters i _ = silence
+-- what a call brings to stream i, by whose algorithms the stream performs: a chunk that is enqueued, or the end. The host finishes a stream
+-- of its own, and terminates a transform stream
+abbrev pub enters : Owner → StreamId → Call → Told Value
+enters o i (Enqueue k v) = if is_same i k then told (v ∷ []) Open else silence
+enters Host i (Finish k) = if is_same i k then told [] Closed else silence
+enters (HalfOf t) i (Terminate k) = if is_same i k then told [] Closed else silence
+enters o i _ = silence
+
+-- what a job brings to a stream: the end, where it is the reaction to the flush algorithm of its transform stream, which went well
+abbrev pub half_enters : TransformId → Job → Told Value
+half_enters t (Reaction (TransformFlushed k p) (Ok v) derived) = if nat_eq t.0 k.0 then told [] Closed else silence
+half_enters t _ = silence
+
+abbrev pub job_enters : Owner → Job → Told Value
+job_enters Host job = silence
+job_enters (HalfOf t) job = half_enters t job
+
+abbrev pub next_enters : Owner → Option Job → Told Value
+next_enters o None = silence
+next_enters o (Some job) = job_enters o job
 
 -- whether a call leaves the link alone: all do but those by number that lock, cancel, close, abort or fail one of its ends, or pipe from
--- or to one of them. What the host does to the source is its own: it enqueues, finishes and fails
+-- or to one of them. What the host does to the source is its own: it enqueues, finishes or terminates, and fails; and so is what it does to the
+-- other half where an end is a half of a transform stream
 abbrev pub leaves : StreamId → StreamId → Call → Bool
 leaves i j (GetReader k) = not (is_same i k)
 leaves i j (Cancel k reason) = not (is_same i k)

@@ -5,6 +5,8 @@ use Rattle.ws_value.specs.declared.ids.PromiseId.{PromiseId}
 use Rattle.ws_value.specs.declared.ids.SignalId.{SignalId}
 use Rattle.ws_value.specs.declared.ids.StreamId.{StreamId}
 use Rattle.ws_value.specs.declared.value.Value.{Value}
+use Rattle.ws_steps.specs.declared.effects.Owner.{Owner}
+use Rattle.ws_steps.specs.declared.effects.Owner.TheVariants.{Host, HalfOf}
 use Rattle.ws_steps.specs.declared.locks.Lock.{Lock}
 use Rattle.ws_steps.specs.declared.locks.Lock.TheVariants.{Reader, Writer, ReleasedWriter, Inner}
 use Rattle.ws_steps.specs.declared.pipes.Action.{Action}
@@ -14,6 +16,7 @@ use Rattle.ws_steps.specs.declared.pipes.Phase.TheVariants.{Waiting}
 use Rattle.ws_steps.specs.declared.queue.Queued.{Queued}
 use Rattle.ws_steps.specs.declared.readable.ReadRequest.{ReadRequest}
 use Rattle.ws_steps.specs.declared.readable.ReadableState.TheVariants.{Closed as ReadableClosed}
+use Rattle.ws_steps.specs.declared.transform.Kind.TheVariants.{Host as HostKind}
 use Rattle.ws_steps.specs.declared.writable.WritableState.{WritableState}
 use Rattle.ws_steps.specs.declared.writable.WritableState.TheVariants.{Writable, Erroring, Errored, Closed}
 use Rattle.ws_steps.specs.declared.writable.WriteRecord.{WriteRecord}
@@ -22,7 +25,7 @@ use Rattle.ws_steps.specs.Histories.{is_same}
 use Rattle.ws_steps.specs.Pipes as pipe
 use Rattle.ws_steps.specs.Readable as readable
 use Rattle.ws_steps.specs.Run.{Entry, run}
-use Rattle.ws_steps.specs.Slots.{Slots, Stream, empty, has_readable, has_writable, has_signal, readable_at, writable_at, pipe_at}
+use Rattle.ws_steps.specs.Slots.{Slots, Stream, empty, has_readable, has_writable, has_signal, owner_at, readable_at, writable_at, transform_at, pipe_at}
 use Rattle.ws_steps.specs.Writable as writable
 use Rattle.ws_flow.specs.Told.{Mark, Open, Closed as ToldClosed, Lost}
 use Rattle.ws_pipe_laws.specs.PipeReads.{is_of, in_stream, in_streams}
@@ -31,6 +34,11 @@ use Rattle.ws_link_laws.specs.Link.{todo_of}
 -- the realm is one to which calls, jobs and its host led
 abbrev pub IsReached : Slots → Type 0
 IsReached s = (entries : List Entry) × (s ≡ run entries empty)
+
+-- it performs algorithms of the host: its own, or those of a transform stream
+abbrev pub IsHosts : Slots → Owner → Type 0
+IsHosts s Host = Unit {0}
+IsHosts s (HalfOf t) = (transform_at t s).kind ≡ HostKind
 
 -- no reader of the host has stream i, and no writer of the host stream j
 
@@ -126,12 +134,14 @@ IsApart i j x = (is_same i x.source ≡ false) × (is_same j x.dest ≡ false)
 abbrev pub AreApart : StreamId → StreamId → PipeId → List pipe.Slots → Type 0
 AreApart i j p pipes = (n : ℕ) (x : pipe.Slots) → slice_get pipes n ≡ Some x → n ≢ p.0 → IsApart i j x
 
--- The link of pipe p from stream i to stream j, between steps: the pipe goes from the one to the other, nobody else has them, and what is
--- in them is as a pipe, its source and its destination keep it
+-- The link of pipe p from stream i to stream j, between steps: each is the host's own or a half of a transform stream of the host's kind, the
+-- pipe goes from the one to the other, nobody else has them, and what is in them is as a pipe, its source and its destination keep it
 pub record IsLink (i j : StreamId) (p : PipeId) (s : Slots) : Type 0 where
   pub reached : IsReached s
   pub source : has_readable i s ≡ true
   pub sink : has_writable j s ≡ true
+  pub source_owner : IsHosts s (owner_at i s)
+  pub sink_owner : IsHosts s (owner_at j s)
   pub there : slice_get s.pipes p.0 ≡ Some (pipe_at p s)
   pub from : (pipe_at p s).source ≡ i
   pub into : (pipe_at p s).dest ≡ j
@@ -147,11 +157,14 @@ abbrev pub all_apart : StreamId → StreamId → List pipe.Slots → Bool
 all_apart i j [] = true
 all_apart i j (x ∷ xs) = (not (is_same i x.source) && not (is_same j x.dest)) && all_apart i j xs
 
--- Streams i and j may be linked: nobody has them, no pipe ever had, and nothing was written to j. What was enqueued at i stays
+-- Streams i and j may be linked: each is the host's own or a half of a transform stream of the host's kind, nobody has them, no pipe ever had,
+-- and nothing was written to j. What was enqueued at i stays
 pub record IsFree (i j : StreamId) (s : Slots) : Type 0 where
   pub reached : IsReached s
   pub source : has_readable i s ≡ true
   pub sink : has_writable j s ≡ true
+  pub source_owner : IsHosts s (owner_at i s)
+  pub sink_owner : IsHosts s (owner_at j s)
   pub unread : (readable_at i s).reader ≡ None
   pub unwritten : (writable_at j s).writer ≡ None
   pub locks : all_spare i j s.locks ≡ true

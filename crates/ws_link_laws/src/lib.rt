@@ -1,15 +1,16 @@
-//! Laws of one link of a realm: a pipe from a readable stream to a writable stream of the host, and what lies on it, over every run that leaves its ends alone.
+//! Laws of one link of a realm: a pipe from a readable stream to a writable stream, each of them the host's own or a half of a transform stream whose algorithms are the host's, and what lies on it, over every run that leaves its ends alone.
 #![tactic(auto)]
 
+ghost use Rattle.ws_link_laws.specs.Entering.{EachEnqueueLetsIn, EachJobLetsIn};
 ghost use Rattle.ws_link_laws.specs.Laws.{EachFreePairStays, EachLinkKeeps, EachLinkBegins};
 ghost use Rattle.ws_link_laws.specs.Room.{EachLinkHasRoom, EachLinkBeginsWithRoom};
 
-/// From any link on, in any run that leaves it alone, the link stays, and what the host heard of its destination, followed by what is behind it then, is what was behind it before, followed by what entered; or it is a first part of that, and says that it is cut short. A call that throws enters nothing, and then what was behind had come to an end, which nothing follows.
+/// From any link on, in any run that leaves it alone, the link stays, and what the host heard of its destination, followed by what is behind it then, is what was behind it before, followed by what entered; or it is a first part of that, and says that it is cut short. The host hears of a sink of its own by writes and the close, and of a half of a transform stream by the transform algorithm and the flush. Calls enter chunks and the end; a call that throws enters nothing, and then what was behind had come to an end, which nothing follows. A job enters nothing but the end of a readable half, where it is the reaction to a flush that went well.
 pub fn each_link_keeps()
     ensures { EachLinkKeeps }
 {}
 
-/// A pipe between two streams that nobody has makes them a link, whatever it is told not to do and whatever its signal. What is behind the host then is what was unheard, followed by what was in the two streams; or it is a first part of that, and says that it is cut short.
+/// A pipe between two such streams that nobody has makes them a link, whatever it is told not to do and whatever its signal. What is behind the host then is what was unheard, followed by what was in the two streams; or it is a first part of that, and says that it is cut short.
 pub fn each_link_begins()
     ensures { EachLinkBegins }
 {}
@@ -19,12 +20,22 @@ pub fn each_link_has_room()
     ensures { EachLinkHasRoom }
 {}
 
-/// A pipe between two streams that nobody has begins with that room, where the destination has the mark 1 and counts chunks.
+/// A pipe between two such streams that nobody has begins with that room, where the destination has the mark 1 and counts chunks.
 pub fn each_link_begins_with_room()
     ensures { EachLinkBeginsWithRoom }
 {}
 
-/// Two streams that may be linked, since nobody has them, no pipe had, and nothing was written to the second, stay so in any run that leaves them alone, whatever is enqueued at the first and whatever others do.
+/// Two streams that may be linked, since each is the host's own or such a half, nobody has them, no pipe had, and nothing was written to the second, stay so in any run that leaves them alone, whatever is enqueued at the first and whatever others do.
 pub fn each_free_pair_stays()
     ensures { EachFreePairStays }
+{}
+
+/// In every run a job lets nothing into a readable stream of the host's own, nor into the readable half of a transform stream of the host's; but where it is the reaction to the flush algorithm of that transform stream, which went well, it may let in the end. So no job lets a chunk in.
+pub fn each_job_lets_in()
+    ensures { EachJobLetsIn }
+{}
+
+/// A call that enqueues into such a stream lets its chunk in where it is answered `Done`, and nothing else; where it throws it lets nothing in, and then what lies in the stream has come to an end.
+pub fn each_enqueue_lets_in()
+    ensures { EachEnqueueLetsIn }
 {}

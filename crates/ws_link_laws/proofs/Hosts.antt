@@ -1,0 +1,301 @@
+-- Whose the ends of a link are: the host's own, or halves of transform streams of the host's kind. No effect changes it.
+use Rattle.std.proofs.Common.{◌≡◌, ℕ, zero, suc, Bool, true, false, nat_eq, List, [], ◌∷◌, map, Option, Some, None, slice_get, refl, sym, ap, subst, ◌∙◌, arith}
+use Rattle.ws_value.specs.declared.ids.StreamId.{StreamId}
+use Rattle.ws_steps.specs.declared.calls.HostCall.{HostCall}
+use Rattle.ws_steps.specs.declared.effects.Effect.{Effect}
+use Rattle.ws_steps.specs.declared.effects.Owner.{Owner}
+use Rattle.ws_steps.specs.declared.effects.Owner.TheVariants.{Host, HalfOf}
+use Rattle.ws_steps.specs.declared.transform.Kind.TheVariants.{Host as HostKind}
+use Rattle.ws_steps.specs.declared.transform.TransformId.{TransformId}
+use Rattle.ws_steps.specs.Histories.{is_same}
+use Rattle.ws_steps.specs.Slots.{Slots, Stream, ReadableStream, WritableStream, empty, is_writable_stream, no_transform, as_transform, has_readable, has_writable, owner_of, owner_at, readable_at, writable_at, transform_at}
+use Rattle.ws_steps.specs.Transform as transform
+use Rattle.ws_steps.specs.Turns.{row}
+use Rattle.ws_laws.proofs.Halves.{Among, Halved, halved-empty, run-halved}
+use Rattle.ws_laws.proofs.Shapes.{StreamShape, ReadableOf, WritableOf, TransformShape, stream_shape, transform_shape, stream_shapes, transform_shapes, map-there, owner-told, row-owner, row-stream_shapes, row-transform_shapes}
+use Rattle.ws_laws.proofs.Tables.{eq_numbers, unequal_numbers, same_id, readable_there, writable_there}
+use Rattle.ws_laws.proofs.TransformDoes.{IsCallOf}
+use Rattle.ws_link_laws.specs.Link.{Ear, OfSink, OfTransform, silence, ear_by, ear_at, heard_call}
+use Rattle.ws_link_laws.specs.Sound.{IsReached, IsHosts}
+use Rattle.ws_link_laws.proofs.Telling.{is_of, is_in}
+
+-- by their shapes
+
+abbrev shape_of : Option TransformShape → TransformShape
+shape_of None = transform_shape no_transform
+shape_of (Some x) = x
+
+transform-told : (xs : List transform.Slots) (n : ℕ) → transform_shape (as_transform (slice_get xs n)) ≡ shape_of (slice_get (map transform_shape xs) n)
+transform-told [] n = refl
+transform-told (x ∷ xs) zero = refl
+transform-told (x ∷ xs) (suc n) = transform-told xs n
+
+-- the same shapes at all, or the same shape of a transform stream
+
+shape-same : (t : TransformId) (s z : Slots) → transform_shapes z ≡ transform_shapes s → transform_shape (transform_at t z) ≡ transform_shape (transform_at t s)
+shape-same t s z e = transform-told z.transforms t.0 ∙ (ap (λ (ts : List TransformShape). shape_of (slice_get ts t.0)) e ∙ sym (transform-told s.transforms t.0))
+
+pub owner-same : (i : StreamId) (s z : Slots) → stream_shapes z ≡ stream_shapes s → owner_at i z ≡ owner_at i s
+owner-same i s z e = let a = owner-told z.streams i.0 in let b = owner-told s.streams i.0 in rw (a, b, e) refl
+
+abbrev SameShape : Slots → Slots → Owner → Type 0
+SameShape s z Host = Unit {0}
+SameShape s z (HalfOf t) = transform_shape (transform_at t z) ≡ transform_shape (transform_at t s)
+
+same-shapes : (s z : Slots) (o : Owner) → transform_shapes z ≡ transform_shapes s → SameShape s z o
+same-shapes s z Host e = tt
+same-shapes s z (HalfOf t) e = shape-same t s z e
+
+ear-shaped : (j : StreamId) (s z : Slots) (o : Owner) → SameShape s z o → ear_by j z o ≡ ear_by j s o
+ear-shaped j s z Host e = refl
+ear-shaped j s z (HalfOf t) e = ap (λ (x : TransformShape). OfTransform t x.readable) e
+
+pub hosts-shaped : (s z : Slots) (o : Owner) → SameShape s z o → IsHosts s o → IsHosts z o
+hosts-shaped s z Host e h = tt
+hosts-shaped s z (HalfOf t) e h = ap (λ (x : TransformShape). x.kind) e ∙ h
+
+pub ear-same : (j : StreamId) (s z : Slots) → SameShape s z (owner_at j s) → owner_at j z ≡ owner_at j s → ear_at j z ≡ ear_at j s
+ear-same j s z e f = ap (λ (o : Owner). ear_by j z o) f ∙ ear-shaped j s z (owner_at j s) e
+
+pub row-ear : (j : StreamId) (e : Effect) (s : Slots) → ear_at j (row e s).slots ≡ ear_at j s
+row-ear j e s = ear-same j s (row e s).slots (same-shapes s (row e s).slots (owner_at j s) (row-transform_shapes e s)) (row-owner j e s)
+
+-- a transform stream of the host's kind stays, whatever is made beside it
+
+there-still : (t : TransformId) (s z : Slots) (o : Option transform.Slots) → slice_get s.transforms t.0 ≡ o → Among (transform_shapes s) (transform_shapes z) → (as_transform o).kind ≡ HostKind
+    → transform_shape (transform_at t z) ≡ transform_shape (as_transform o)
+there-still t s z None e a h = cc
+there-still t s z (Some x) e a h =
+    let there : slice_get (transform_shapes z) t.0 ≡ Some (transform_shape x) = a t (transform_shape x) (map-there transform_shape s.transforms t.0 x e) in
+    transform-told z.transforms t.0 ∙ rw there refl
+
+pub grown-shape : (s z : Slots) (o : Owner) → Among (transform_shapes s) (transform_shapes z) → IsHosts s o → SameShape s z o
+grown-shape s z Host a h = tt
+grown-shape s z (HalfOf t) a h = there-still t s z (slice_get s.transforms t.0) refl a h
+
+abbrev map_shape : Option Stream → Option StreamShape
+map_shape None = None
+map_shape (Some x) = Some (stream_shape x)
+
+-- the two ends, and each transform stream has halves of its own
+pub record Hosts (i j : StreamId) (s : Slots) : Type 0 where
+  pub source : slice_get (stream_shapes s) i.0 ≡ Some (ReadableOf (owner_at i s))
+  pub sink : slice_get (stream_shapes s) j.0 ≡ Some (WritableOf (owner_at j s))
+  pub source_kind : IsHosts s (owner_at i s)
+  pub sink_kind : IsHosts s (owner_at j s)
+  pub halved : Halved s
+
+-- the one of them from which chunks come
+pub record Source (i : StreamId) (s : Slots) : Type 0 where
+  pub shape : slice_get (stream_shapes s) i.0 ≡ Some (ReadableOf (owner_at i s))
+  pub kind : IsHosts s (owner_at i s)
+  pub halved : Halved s
+
+pub hosts-source : (i j : StreamId) (s : Slots) → Hosts i j s → Source i s
+hosts-source i j s h = record { shape = h.source; kind = h.source_kind; halved = h.halved }
+
+-- from their records, and back
+
+pub source-shape : (i : StreamId) (s z : Slots) → slice_get z.streams i.0 ≡ Some (ReadableStream (readable_at i s)) → slice_get (stream_shapes z) i.0 ≡ Some (ReadableOf (owner_at i z))
+source-shape i s z e = map-there stream_shape z.streams i.0 (ReadableStream (readable_at i s)) e ∙ ap (λ (w : Owner). Some (ReadableOf w)) (sym (ap owner_of e))
+
+pub sink-shape : (j : StreamId) (s z : Slots) → slice_get z.streams j.0 ≡ Some (WritableStream (writable_at j s)) → slice_get (stream_shapes z) j.0 ≡ Some (WritableOf (owner_at j z))
+sink-shape j s z e = map-there stream_shape z.streams j.0 (WritableStream (writable_at j s)) e ∙ ap (λ (w : Owner). Some (WritableOf w)) (sym (ap owner_of e))
+
+pub source-owner : (i : StreamId) (s : Slots) → has_readable i s ≡ true → owner_at i s ≡ (readable_at i s).owner
+source-owner i s there = ap owner_of (readable_there (slice_get s.streams i.0) there)
+
+pub sink-owner : (j : StreamId) (s : Slots) → has_writable j s ≡ true → owner_at j s ≡ (writable_at j s).owner
+sink-owner j s there = ap owner_of (writable_there (slice_get s.streams j.0) there)
+
+pub reached-halved : (s : Slots) → IsReached s → Halved s
+reached-halved s (xs, e) = rw e (run-halved xs empty halved-empty)
+
+pub reached-hosts : (i j : StreamId) (s : Slots) → IsReached s → has_readable i s ≡ true → has_writable j s ≡ true → IsHosts s (owner_at i s) → IsHosts s (owner_at j s) → Hosts i j s
+reached-hosts i j s r a b o p = record {
+  source = source-shape i s s (readable_there (slice_get s.streams i.0) a);
+  sink = sink-shape j s s (writable_there (slice_get s.streams j.0) b);
+  source_kind = o;
+  sink_kind = p;
+  halved = reached-halved s r;
+}
+
+-- a stream is of the kind that its shape says
+
+write_by : (o : Option Stream) (w : Owner) → map_shape o ≡ Some (WritableOf w) → is_writable_stream o ≡ true
+write_by None w e = cc
+write_by (Some (ReadableStream r)) w e = cc
+write_by (Some (WritableStream r)) w e = refl
+
+shape-there : (xs : List Stream) (n : ℕ) → slice_get (map stream_shape xs) n ≡ map_shape (slice_get xs n)
+shape-there [] n = refl
+shape-there (x ∷ xs) zero = refl
+shape-there (x ∷ xs) (suc n) = shape-there xs n
+
+pub sink-there : (i j : StreamId) (s : Slots) → Hosts i j s → has_writable j s ≡ true
+sink-there i j s h = write_by (slice_get s.streams j.0) (owner_at j s) (sym (shape-there s.streams j.0) ∙ h.sink)
+
+pub reached-source : (i : StreamId) (s : Slots) → IsReached s → has_readable i s ≡ true → IsHosts s (owner_at i s) → Source i s
+reached-source i s r a o = record { shape = source-shape i s s (readable_there (slice_get s.streams i.0) a); kind = o; halved = reached-halved s r }
+
+-- each effect leaves them so
+
+pub source-same : (i : StreamId) (s z : Slots) → stream_shapes z ≡ stream_shapes s → transform_shapes z ≡ transform_shapes s → Source i s → Source i z
+source-same i s z e f h =
+    let a = owner-same i s z e in
+    record { shape = rw (e, a) h.shape; kind = rw a (hosts-shaped s z (owner_at i s) (same-shapes s z (owner_at i s) f) h.kind); halved = rw (e, f) h.halved }
+
+pub source-row : (i : StreamId) (e : Effect) (s : Slots) → Source i s → Source i (row e s).slots
+source-row i e s h = source-same i s (row e s).slots (row-stream_shapes e s) (row-transform_shapes e s) h
+
+pub hosts-same : (i j : StreamId) (s z : Slots) → stream_shapes z ≡ stream_shapes s → transform_shapes z ≡ transform_shapes s → Hosts i j s → Hosts i j z
+hosts-same i j s z e f h =
+    let a = owner-same i s z e in
+    let b = owner-same j s z e in
+    record {
+      source = rw (e, a) h.source;
+      sink = rw (e, b) h.sink;
+      source_kind = rw a (hosts-shaped s z (owner_at i s) (same-shapes s z (owner_at i s) f) h.source_kind);
+      sink_kind = rw b (hosts-shaped s z (owner_at j s) (same-shapes s z (owner_at j s) f) h.sink_kind);
+      halved = rw (e, f) h.halved;
+    }
+
+pub hosts-row : (i j : StreamId) (e : Effect) (s : Slots) → Hosts i j s → Hosts i j (row e s).slots
+hosts-row i j e s h = hosts-same i j s (row e s).slots (row-stream_shapes e s) (row-transform_shapes e s) h
+
+-- and what is made beside them
+
+pub hosts-grown : (i j : StreamId) (s z : Slots) → slice_get z.streams i.0 ≡ Some (ReadableStream (readable_at i s)) → slice_get z.streams j.0 ≡ Some (WritableStream (writable_at j s)) → owner_at i z ≡ owner_at i s → owner_at j z ≡ owner_at j s
+    → Among (transform_shapes s) (transform_shapes z) → Halved z → Hosts i j s → Hosts i j z
+hosts-grown i j s z e f a b m halved h = record {
+  source = source-shape i s z e;
+  sink = sink-shape j s z f;
+  source_kind = rw a (hosts-shaped s z (owner_at i s) (grown-shape s z (owner_at i s) m h.source_kind) h.source_kind);
+  sink_kind = rw b (hosts-shaped s z (owner_at j s) (grown-shape s z (owner_at j s) m h.sink_kind) h.sink_kind);
+  halved = halved;
+}
+
+-- streams of other shapes aren't the same
+
+unlike : (i k : StreamId) (a b : StreamShape) (xs : List StreamShape) → slice_get xs i.0 ≡ Some a → slice_get xs k.0 ≡ Some b → (a ≡ b → ⊥) → is_same i k ≡ false
+unlike i k a b xs e f n = by (is_same i k) refl
+  where
+    by : (same : Bool) → same ≡ is_same i k → is_same i k ≡ false
+    by false g = sym g
+    by true g =
+        let is : i ≡ k = same_id i k (sym g) in
+        let at : slice_get xs k.0 ≡ Some a = subst (λ (x : StreamId). slice_get xs x.0 ≡ Some a) is e in
+        let same : a ≡ b = cc in
+        absurd (n same)
+
+same_transform : (t k : TransformId) → nat_eq t.0 k.0 ≡ true → t ≡ k
+same_transform t k e = ap (λ (n : ℕ). record { 0 = n }) (eq_numbers t.0 k.0 e)
+
+unequal_transforms : (t k : TransformId) → nat_eq t.0 k.0 ≡ false → t ≡ k → ⊥
+unequal_transforms t k e is = unequal_numbers t.0 k.0 e (ap (λ (x : TransformId). x.0) is)
+
+-- what transform stream k is to a source: it is the source's own, or another
+pub data AtSource (i : StreamId) (o : Owner) (k : TransformId) (x : transform.Slots) : Type 0 where
+  OwnSource : is_of o k ≡ true → x.readable ≡ i → x.kind ≡ HostKind → AtSource i o k x
+  OtherSource : is_of o k ≡ false → is_same i x.readable ≡ false → AtSource i o k x
+
+pub at-source : (i : StreamId) (s : Slots) (k : TransformId) (x : transform.Slots) → Source i s → slice_get s.transforms k.0 ≡ Some x → AtSource i (owner_at i s) k x
+at-source i s k x h e = by (owner_at i s) refl h.shape h.kind
+  where
+    there : slice_get (transform_shapes s) k.0 ≡ Some (transform_shape x)
+    there = map-there transform_shape s.transforms k.0 x e
+
+    half : slice_get (stream_shapes s) x.readable.0 ≡ Some (ReadableOf (HalfOf k))
+    half = (h.halved.halves k (transform_shape x) there).0
+
+    own : slice_get (stream_shapes s) i.0 ≡ Some (ReadableOf (HalfOf k)) → x.readable ≡ i
+    own shape = let y = h.halved.readable i k shape in let same : y.0 ≡ transform_shape x = (let a = there in let f = y.1.0 in cc) in let g = y.1.1 in ap (λ (z : TransformShape). z.readable) (sym same) ∙ g
+
+    by_number : (t : TransformId) → slice_get (stream_shapes s) i.0 ≡ Some (ReadableOf (HalfOf t)) → IsHosts s (HalfOf t) → (b : Bool) → b ≡ nat_eq t.0 k.0 → AtSource i (HalfOf t) k x
+    by_number t shape kind true n =
+        let is : t ≡ k = same_transform t k (sym n) in
+        let at : transform_at t s ≡ x = rw (is, e) refl in
+        OwnSource (sym n) (own (rw is at shape)) (rw at at kind)
+    by_number t shape kind false n = OtherSource (sym n) (unlike i x.readable (ReadableOf (HalfOf t)) (ReadableOf (HalfOf k)) (stream_shapes s) shape half (λ f. let is : t ≡ k = cc in unequal_transforms t k (sym n) is))
+
+    by : (o : Owner) → o ≡ owner_at i s → slice_get (stream_shapes s) i.0 ≡ Some (ReadableOf o) → IsHosts s o → AtSource i o k x
+    by Host f shape kind = OtherSource refl (unlike i x.readable (ReadableOf Host) (ReadableOf (HalfOf k)) (stream_shapes s) shape half (λ f. cc))
+    by (HalfOf t) f shape kind = by_number t shape kind (nat_eq t.0 k.0) refl
+
+-- what it is to a destination
+pub data AtSink (j : StreamId) (w : Ear) (k : TransformId) (x : transform.Slots) : Type 0 where
+  OwnSink : w ≡ OfTransform k x.readable → x.writable ≡ j → x.kind ≡ HostKind → AtSink j w k x
+  OtherSink : is_in w k ≡ false → is_same j x.writable ≡ false → ((call : HostCall) → IsCallOf x.readable call → heard_call w call ≡ silence) → AtSink j w k x
+
+unheard-by-sink : (j r : StreamId) (call : HostCall) → IsCallOf r call → heard_call (OfSink j) call ≡ silence
+unheard-by-sink j r call c = grind (arith, c)
+
+unheard-by-other : (t : TransformId) (m r : StreamId) (call : HostCall) → is_same m r ≡ false → IsCallOf r call → heard_call (OfTransform t m) call ≡ silence
+unheard-by-other t m r call n c = grind (arith, n, c)
+
+pub at-sink : (i j : StreamId) (s : Slots) (k : TransformId) (x : transform.Slots) → Hosts i j s → slice_get s.transforms k.0 ≡ Some x → AtSink j (ear_at j s) k x
+at-sink i j s k x h e = by (owner_at j s) refl h.sink h.sink_kind
+  where
+    there : slice_get (transform_shapes s) k.0 ≡ Some (transform_shape x)
+    there = map-there transform_shape s.transforms k.0 x e
+
+    halves : (slice_get (stream_shapes s) x.readable.0 ≡ Some (ReadableOf (HalfOf k))) × (slice_get (stream_shapes s) x.writable.0 ≡ Some (WritableOf (HalfOf k)))
+    halves = h.halved.halves k (transform_shape x) there
+
+    own : slice_get (stream_shapes s) j.0 ≡ Some (WritableOf (HalfOf k)) → x.writable ≡ j
+    own shape = let y = h.halved.writable j k shape in let same : y.0 ≡ transform_shape x = (let a = there in let f = y.1.0 in cc) in let g = y.1.1 in ap (λ (z : TransformShape). z.writable) (sym same) ∙ g
+
+    -- the readable half of another transform stream
+    far : (t : TransformId) → slice_get (stream_shapes s) j.0 ≡ Some (WritableOf (HalfOf t)) → nat_eq t.0 k.0 ≡ false → is_same (transform_at t s).readable x.readable ≡ false
+    far t shape n =
+        let y = h.halved.writable j t shape in
+        let at : transform_shape (transform_at t s) ≡ y.0 = transform-told s.transforms t.0 ∙ (let f = y.1.0 in rw f refl) in
+        let r : slice_get (stream_shapes s) (transform_at t s).readable.0 ≡ Some (ReadableOf (HalfOf t)) = subst (λ (z : TransformShape). slice_get (stream_shapes s) z.readable.0 ≡ Some (ReadableOf (HalfOf t))) (sym at) (h.halved.halves t y.0 y.1.0).0 in
+        unlike (transform_at t s).readable x.readable (ReadableOf (HalfOf t)) (ReadableOf (HalfOf k)) (stream_shapes s) r halves.0 (λ f. let is : t ≡ k = cc in unequal_transforms t k n is)
+
+    by_number : (t : TransformId) → slice_get (stream_shapes s) j.0 ≡ Some (WritableOf (HalfOf t)) → IsHosts s (HalfOf t) → (b : Bool) → b ≡ nat_eq t.0 k.0 → AtSink j (ear_by j s (HalfOf t)) k x
+    by_number t shape kind true n =
+        let is : t ≡ k = same_transform t k (sym n) in
+        let at : transform_at t s ≡ x = rw (is, e) refl in
+        OwnSink (rw (at, is) refl) (own (rw is at shape)) (rw at at kind)
+    by_number t shape kind false n =
+        OtherSink (sym n) (unlike j x.writable (WritableOf (HalfOf t)) (WritableOf (HalfOf k)) (stream_shapes s) shape halves.1 (λ f. let is : t ≡ k = cc in unequal_transforms t k (sym n) is))
+        (λ call c. unheard-by-other t (transform_at t s).readable x.readable call (far t shape (sym n)) c)
+
+    by : (o : Owner) → o ≡ owner_at j s → slice_get (stream_shapes s) j.0 ≡ Some (WritableOf o) → IsHosts s o → AtSink j (ear_by j s o) k x
+    by Host f shape kind = OtherSink refl (unlike j x.writable (WritableOf Host) (WritableOf (HalfOf k)) (stream_shapes s) shape halves.1 (λ f. cc)) (λ call c. unheard-by-sink j x.readable call c)
+    by (HalfOf t) f shape kind = by_number t shape kind (nat_eq t.0 k.0) refl
+
+-- a transform stream that isn't there is neither's
+
+none-of : (s : Slots) (k : TransformId) (o : Owner) → slice_get s.transforms k.0 ≡ None → IsHosts s o → is_of o k ≡ false
+none-of s k Host e h = refl
+none-of s k (HalfOf t) e h = by (nat_eq t.0 k.0) refl
+  where
+    by : (b : Bool) → b ≡ nat_eq t.0 k.0 → nat_eq t.0 k.0 ≡ false
+    by false n = sym n
+    by true n =
+        let is : t ≡ k = same_transform t k (sym n) in
+        let none : transform_at t s ≡ no_transform = rw (is, e) refl in
+        let kind : no_transform.kind ≡ HostKind = rw none at h in
+        cc
+
+in-of : (j : StreamId) (s : Slots) (k : TransformId) (o : Owner) → is_in (ear_by j s o) k ≡ is_of o k
+in-of j s k Host = refl
+in-of j s k (HalfOf t) = refl
+
+pub no-source : (i : StreamId) (s : Slots) (k : TransformId) → Source i s → slice_get s.transforms k.0 ≡ None → is_of (owner_at i s) k ≡ false
+no-source i s k h e = none-of s k (owner_at i s) e h.kind
+
+pub no-sink : (i j : StreamId) (s : Slots) (k : TransformId) → Hosts i j s → slice_get s.transforms k.0 ≡ None → is_in (ear_at j s) k ≡ false
+no-sink i j s k h e = in-of j s k (owner_at j s) ∙ none-of s k (owner_at j s) e h.sink_kind
+
+-- a transform stream has one readable half
+pub one-readable : (i k : StreamId) (t : TransformId) (s : Slots) → Halved s → has_readable i s ≡ true → has_readable k s ≡ true → owner_at i s ≡ HalfOf t → owner_at k s ≡ HalfOf t → i ≡ k
+one-readable i k t s halved a b o p =
+    let x = halved.readable i t (source-shape i s s (readable_there (slice_get s.streams i.0) a) ∙ ap (λ (w : Owner). Some (ReadableOf w)) o) in
+    let y = halved.readable k t (source-shape k s s (readable_there (slice_get s.streams k.0) b) ∙ ap (λ (w : Owner). Some (ReadableOf w)) p) in
+    let e = x.1.0 in
+    let f = y.1.0 in
+    let same : x.0 ≡ y.0 = cc in
+    sym x.1.1 ∙ (ap (λ (z : TransformShape). z.readable) same ∙ y.1.1)
