@@ -1,6 +1,7 @@
--- How many promises there are, and what pipes count of them.
-use Rattle.std.proofs.Common.{◌≡◌, ◌≤◌, ℕ, ⊎_elim, List, [], ◌∷◌, length, Some, Result, sym, ap, subst, ◌∙◌, arith}
+-- How many promises there are, and what pipes count of them; and how many streams and transform streams.
+use Rattle.std.proofs.Common.{◌≡◌, ◌≤◌, ℕ, ⊎_elim, List, [], ◌∷◌, length, map, Some, Result, sym, ap, subst, ◌∙◌, arith}
 use Rattle.std.specs.Prelude.{slice_get, slice_set}
+use Rattle.std.proofs.lemmas.List.{length-map}
 use Rattle.ws_value.specs.declared.ids.PromiseId.{PromiseId}
 use Rattle.ws_value.specs.declared.ids.StreamId.{StreamId}
 use Rattle.ws_value.specs.declared.value.Plain.{Plain}
@@ -24,7 +25,8 @@ use Rattle.ws_room_laws.proofs.Rows.{get-other, same-or}
 use Rattle.ws_room_laws.proofs.Tables.{length-set}
 use Rattle.ws_laws.proofs.Cases.{Puts, settle-cases, answer-cases, react-cases, follow-cases, unfollow-cases, watch-cases}
 use Rattle.ws_laws.proofs.Rows.{Changes, row-changes}
-use Rattle.ws_tables.specs.Room.{AreCounted}
+use Rattle.ws_laws.proofs.Shapes.{stream_shape, transform_shape, row-stream_shapes, row-transform_shapes}
+use Rattle.ws_tables.specs.Room.{AreCounted, HasFewTransforms}
 use Rattle.ws_tables.proofs.Streams.{put-is}
 
 -- promises get no fewer
@@ -106,3 +108,14 @@ counted-put n m xs j y more h small i x is =
     subst (λ (z : pipe.Slots). z.unsettled ≤ m) new small)
     (λ other. counted-on n m xs more h i x (sym (get-other xs j i y other) ∙ is))
     (same-or i j)
+
+-- of streams and transform streams there are as many as before
+
+same-length : {X Y : Type 0} (f : X → Y) (xs ys : List X) → map f xs ≡ map f ys → length xs ≡ length ys
+same-length f xs ys is = sym (length-map xs f) ∙ (ap length is ∙ length-map ys f)
+
+pub row-few : (e : Effect) (s : Slots) → HasFewTransforms s → HasFewTransforms (row e s).slots
+row-few e s few =
+    let a = same-length stream_shape (row e s).slots.streams s.streams (row-stream_shapes e s) in
+    let b = same-length transform_shape (row e s).slots.transforms s.transforms (row-transform_shapes e s) in
+    omega (arith, a, b, few)

@@ -28,7 +28,7 @@ no-more : {X : Type 0} (j : X) → Contains {X = X} [] j → ⊥
 no-more j (k, less, is) = omega (arith, less)
 
 -- no stream waits for places
-pub all-covered : (grown : List StreamId) (xs : List Stream) → grown ≡ [] → AllCovered grown xs → EachHasLists 2 2 xs
+pub all-covered : (grown : List StreamId) (xs : List Stream) → grown ≡ [] → AllCovered grown xs → EachHasLists 4 4 xs
 all-covered grown xs none covered i x is =
     ⊎_elim (λ h. h) (λ c. absurd (no-more (record { 0 = i }) (subst (λ g. Contains g (record { 0 = i })) none c))) (covered (record { 0 = i }) x is)
 
@@ -69,8 +69,8 @@ on_both (Ok x) P Q a b = (a, b)
 on_both (Err e) P Q a b = tt
 
 -- the stream that is put at a number has the places
-pub made-at : {T E : Type 0} (r : Result T E) (xs : List Stream) (i : StreamId) (y : Stream) → OnOk r (HasLists 2 2 y) → OnOk r ((x : Stream) → slice_get (slice_set xs i.0 y) i.0 ≡ Some x → HasLists 2 2 x)
-made-at r xs i y h = on_ok r (HasLists 2 2 y) _ (λ has x is. subst (HasLists 2 2) (put-is xs i.0 y x is) has) h
+pub made-at : {T E : Type 0} (r : Result T E) (xs : List Stream) (i : StreamId) (y : Stream) → OnOk r (HasLists 4 4 y) → OnOk r ((x : Stream) → slice_get (slice_set xs i.0 y) i.0 ≡ Some x → HasLists 4 4 x)
+made-at r xs i y h = on_ok r (HasLists 4 4 y) _ (λ has x is. subst (HasLists 4 4) (put-is xs i.0 y x is) has) h
 
 -- so has the signal
 pub members-made : {T E : Type 0} (r : Result T E) (xs : List SeenSignal) (a : SignalId) (y : SeenSignal) → OnOk r (HasMemberRoom 1 y) → OnOk r ((x : SeenSignal) → slice_get (slice_set xs a.0 y) a.0 ≡ Some x → HasMemberRoom 1 x)

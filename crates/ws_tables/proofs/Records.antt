@@ -1,4 +1,4 @@
--- What an operation of a pipe or of a signal takes of the places of a realm.
+-- What an operation of a pipe, of a transform stream or of a signal takes of the places of a realm.
 use Rattle.std.proofs.Common.{◌≡◌, ◌≤◌, ◌<◌, ℕ, zero, suc, ◌+◌, ◌*◌, ◌⊎◌, inl, inr, ⊎_elim, Bool, true, false, not, ◌&&◌, if◌then◌else◌, List, [], ◌∷◌, ◌++◌, length, map, Some, None, refl, sym, ap, ◌∙◌, subst, Contains, arith}
 use Rattle.std.specs.Prelude.{slice_get, slice_set, nat_lt}
 use Rattle.std.proofs.lemmas.Bool.{false≢true}
@@ -7,17 +7,22 @@ use Rattle.ws_value.specs.declared.ids.PipeId.{PipeId}
 use Rattle.ws_value.specs.declared.ids.SignalId.{SignalId}
 use Rattle.ws_pipe.specs.Seen.{SeenSignal, HasMemberRoom, aborts_of}
 use Rattle.ws_steps.specs.declared.effects.Effect.{Effect}
-use Rattle.ws_steps.specs.declared.effects.Effect.TheVariants.{Pipe, Signal}
+use Rattle.ws_steps.specs.declared.effects.Effect.TheVariants.{Pipe, Signal, Transform}
 use Rattle.ws_steps.specs.declared.pipes.Ends.{Ends}
 use Rattle.ws_steps.specs.declared.pipes.PipeOperation.{PipeOperation}
 use Rattle.ws_steps.specs.declared.pipes.SignalOperation.{SignalOperation}
-use Rattle.ws_steps.specs.Operations.{pipe_operation, signal_operation}
+use Rattle.ws_steps.specs.declared.transform.Halves.{Halves}
+use Rattle.ws_steps.specs.declared.transform.TransformId.{TransformId}
+use Rattle.ws_steps.specs.declared.transform.TransformOperation.{TransformOperation}
+use Rattle.ws_steps.specs.Operations.{pipe_operation, signal_operation, transform_operation}
 use Rattle.ws_steps.specs.Pipes as pipe
-use Rattle.ws_steps.specs.Places.{prices_of, table_size, turns_alone, queued_alone, requests_alone, members_alone, pipe_price, signal_price, own_signal}
-use Rattle.ws_steps.specs.Slots.{Slots, found, ends_at, put_pipe, put_signal}
+use Rattle.ws_steps.specs.Places.{prices_of, table_size, turns_alone, queued_alone, requests_alone, members_alone, pipe_price, signal_price, transform_price, own_signal}
+use Rattle.ws_steps.specs.Slots.{Slots, found, ends_at, halves_at, put_pipe, put_signal, put_transform}
+use Rattle.ws_steps.specs.Transform as transform
 use Rattle.ws_steps.specs.Turns.{row}
 use Rattle.ws_steps.proofs.StreamLaws.{map-set}
 use Rattle.ws_room_laws.proofs.Pipes.{pipe-takes, signal-takes}
+use Rattle.ws_room_laws.proofs.Transforms.{transform-takes}
 use Rattle.ws_room_laws.proofs.Rows.{each-none, get-other, same-or}
 use Rattle.ws_tables.specs.View.{slots_of, signal_of}
 use Rattle.ws_tables.specs.Room.{aborts_in, AllHaveMembers, Performs}
@@ -57,6 +62,31 @@ pipe-took p ends operation a quiet =
     let m = pipe-takes members_alone p ends operation a in
     record { queued = omega (arith, none.0, q); requested = omega (arith, none.1, r); members = omega (arith, none.2, m) }
 
+-- transform streams
+
+pub transform-absent : (t : TransformId) (operation : TransformOperation) (x : Tables) → length (slots_of x).transforms ≤ t.0 → x.caused.effects ≡ [] → Performs (Transform t operation) x x
+unfolding row
+transform-absent t operation x past quiet = let none = within-none (slots_of x).transforms t.0 past in absent (Transform t operation) x (rw none refl) quiet
+
+pub transform-row : (t : TransformId) (operation : TransformOperation) (s : Slots) (x : transform.Slots) (a : transform.Acts) → slice_get s.transforms t.0 ≡ Some x
+    → a ≡ transform_operation t (halves_at x s) operation (record { slots = x; out = found s }) → row (Transform t operation) s ≡ put_transform t s a
+unfolding row
+transform-row t operation s x a is did = rw (is, did) refl
+
+pub record TransformTook (operation : TransformOperation) (es : List Effect) : Type 0 where
+  pub queued : prices_of queued_alone es ≤ transform_price queued_alone operation
+  pub requested : prices_of requests_alone es ≤ transform_price requests_alone operation
+  pub members : prices_of members_alone es ≤ transform_price members_alone operation
+
+pub transform-took : (t : TransformId) (halves : Halves) (operation : TransformOperation) (a : transform.Acts) → a.out.effects ≡ [] → TransformTook operation (transform_operation t halves operation a).out.effects
+unfolding table_size
+transform-took t halves operation a quiet =
+    let none : (prices_of queued_alone a.out.effects ≡ 0) × (prices_of requests_alone a.out.effects ≡ 0) × (prices_of members_alone a.out.effects ≡ 0) = rw quiet (refl, refl, refl) in
+    let q = transform-takes queued_alone t halves operation a in
+    let r = transform-takes requests_alone t halves operation a in
+    let m = transform-takes members_alone t halves operation a in
+    record { queued = omega (arith, none.0, q); requested = omega (arith, none.1, r); members = omega (arith, none.2, m) }
+
 -- signals
 
 pub signal-absent : (a : SignalId) (operation : SignalOperation) (t : Tables) → length (slots_of t).signals ≤ a.0 → t.caused.effects ≡ [] → Performs (Signal a operation) t t
@@ -70,7 +100,7 @@ signal-row a operation s x is = rw is refl
 
 pub record SignalTook (operation : SignalOperation) (x y : pipe.Signal) (es : List Effect) : Type 0 where
   pub members : Took (own_signal members_alone operation) (length x.pipes) (length y.pipes) (prices_of members_alone es)
-  pub turns : prices_of turns_alone es + 10 * aborts_of y + 1 ≤ 10 * aborts_of x + signal_price turns_alone operation
+  pub turns : prices_of turns_alone es + 14 * aborts_of y + 1 ≤ 14 * aborts_of x + signal_price turns_alone operation
   pub queued : prices_of queued_alone es ≤ signal_price queued_alone operation
   pub requested : prices_of requests_alone es ≤ signal_price requests_alone operation
 

@@ -7,7 +7,7 @@ use Rattle.ws_value.specs.declared.ids.StreamId.{StreamId}
 use Rattle.ws_steps.specs.declared.readable.ReadableOperation.{ReadableOperation}
 use Rattle.ws_steps.specs.declared.writable.WritableOperation.{WritableOperation}
 use Rattle.ws_steps.specs.Operations.{readable_operation, writable_operation}
-use Rattle.ws_steps.specs.Places.{each, prices_of, table_size, turns_alone, queued_alone, requests_alone, members_alone, readable_price, writable_price, own_readable, own_writable}
+use Rattle.ws_steps.specs.Places.{each, prices_of, table_size, turns_alone, queued_alone, requests_alone, members_alone, readable_price, writable_price}
 use Rattle.ws_steps.specs.Readable as readable
 use Rattle.ws_steps.specs.Writable as writable
 use Rattle.ws_steps.specs.declared.effects.Effect.{Effect}
@@ -76,23 +76,17 @@ pub each-one : {A : Type 0} (xs : List A) → each 1 xs ≡ length xs
 each-one [] = refl
 each-one (x ∷ xs) = let h = each-one xs in omega (arith, h)
 
-pub readable-own : (operation : ReadableOperation) → (readable_price queued_alone operation ≡ own_readable queued_alone operation) × (readable_price requests_alone operation ≡ own_readable requests_alone operation)
-readable-own operation = grind arith
-
 readable-none : (operation : ReadableOperation) → readable_price members_alone operation ≡ 0
 readable-none operation = grind arith
 
 writable-none : (operation : WritableOperation) → writable_price members_alone operation ≡ 0
 writable-none operation = grind arith
 
-pub writable-own : (operation : WritableOperation) → (writable_price queued_alone operation ≡ own_writable queued_alone operation) × (writable_price requests_alone operation ≡ own_writable requests_alone operation)
-writable-own operation = grind arith
-
 -- what an operation takes of the lists of its stream
 
 pub record ReadableTook (operation : ReadableOperation) (a b : readable.Acts) : Type 0 where
-  pub queued : Took (own_readable queued_alone operation) (length a.slots.queue) (length b.slots.queue) (prices_of queued_alone b.out.effects)
-  pub requested : Took (own_readable requests_alone operation) (length a.slots.requests) (length b.slots.requests) (prices_of requests_alone b.out.effects)
+  pub queued : Took (readable_price queued_alone operation) (length a.slots.queue) (length b.slots.queue) (prices_of queued_alone b.out.effects)
+  pub requested : Took (readable_price requests_alone operation) (length a.slots.requests) (length b.slots.requests) (prices_of requests_alone b.out.effects)
   pub turns : prices_of turns_alone b.out.effects + 2 * length b.slots.requests + 1 ≤ 2 * length a.slots.requests + readable_price turns_alone operation
   pub members : prices_of members_alone b.out.effects ≤ 0
 
@@ -100,7 +94,6 @@ pub readable-took : (me : StreamId) (operation : ReadableOperation) (a : readabl
 unfolding table_size
 readable-took me operation a quiet =
     let b : readable.Acts = readable_operation me operation a in
-    let own = readable-own operation in
     let none : (prices_of queued_alone a.out.effects ≡ 0) × (prices_of requests_alone a.out.effects ≡ 0) × (prices_of turns_alone a.out.effects ≡ 0) × (prices_of members_alone a.out.effects ≡ 0) = rw quiet (refl, refl, refl, refl) in
     let q = readable-takes queued_alone 1 0 me operation a (omega arith) (omega arith) in
     let r = readable-takes requests_alone 0 1 me operation a (omega arith) (omega arith) in
@@ -121,27 +114,26 @@ readable-took me operation a quiet =
     let zbr = each-none b.slots.requests in
     record {
       queued = record {
-        list = omega (arith, own.0, none.0, q, aq, bq, zar, zbr);
-        caused = omega (arith, own.0, none.0, c, zaq, zbq, zar, zbr);
+        list = omega (arith, none.0, q, aq, bq, zar, zbr);
+        caused = omega (arith, none.0, c, zaq, zbq, zar, zbr);
       };
       requested = record {
-        list = omega (arith, own.1, none.1, r, ar, br, zaq, zbq);
-        caused = omega (arith, own.1, none.1, d, zaq, zbq, zar, zbr);
+        list = omega (arith, none.1, r, ar, br, zaq, zbq);
+        caused = omega (arith, none.1, d, zaq, zbq, zar, zbr);
       };
       turns = omega (arith, none.2, t, at, bt, zaq, zbq, zar, zbr);
       members = omega (arith, none.3, m, price, zaq, zbq, zar, zbr);
     }
 
 pub record WritableTook (operation : WritableOperation) (a b : writable.Acts) : Type 0 where
-  pub queued : Took (own_writable queued_alone operation) (length a.slots.queue) (length b.slots.queue) (prices_of queued_alone b.out.effects)
-  pub requested : Took (own_writable requests_alone operation) (length a.slots.write_requests) (length b.slots.write_requests) (prices_of requests_alone b.out.effects)
+  pub queued : Took (writable_price queued_alone operation) (length a.slots.queue) (length b.slots.queue) (prices_of queued_alone b.out.effects)
+  pub requested : Took (writable_price requests_alone operation) (length a.slots.write_requests) (length b.slots.write_requests) (prices_of requests_alone b.out.effects)
   pub members : prices_of members_alone b.out.effects ≤ 0
 
 pub writable-took : (me : StreamId) (operation : WritableOperation) (a : writable.Acts) → a.out.effects ≡ [] → WritableTook operation a (writable_operation me operation a)
 unfolding table_size
 writable-took me operation a quiet =
     let b : writable.Acts = writable_operation me operation a in
-    let own = writable-own operation in
     let none : (prices_of queued_alone a.out.effects ≡ 0) × (prices_of requests_alone a.out.effects ≡ 0) × (prices_of members_alone a.out.effects ≡ 0) = rw quiet (refl, refl, refl) in
     let q = writable-takes queued_alone 1 0 me operation a (omega arith) (omega arith) in
     let r = writable-takes requests_alone 0 1 me operation a (omega arith) (omega arith) in
@@ -159,29 +151,29 @@ writable-took me operation a quiet =
     let zbr = each-none b.slots.write_requests in
     record {
       queued = record {
-        list = omega (arith, own.0, none.0, q, aq, bq, zar, zbr);
-        caused = omega (arith, own.0, none.0, c, zaq, zbq, zar, zbr);
+        list = omega (arith, none.0, q, aq, bq, zar, zbr);
+        caused = omega (arith, none.0, c, zaq, zbq, zar, zbr);
       };
       requested = record {
-        list = omega (arith, own.1, none.1, r, ar, br, zaq, zbq);
-        caused = omega (arith, own.1, none.1, d, zaq, zbq, zar, zbr);
+        list = omega (arith, none.1, r, ar, br, zaq, zbq);
+        caused = omega (arith, none.1, d, zaq, zbq, zar, zbr);
       };
       members = omega (arith, none.2, m, price, zaq, zbq, zar, zbr);
     }
 
--- whether there are two places in both lists
+-- whether there are four places in both lists
 
-pub has-both : (a b c d : ℕ) → (nat_le 2 (b - a) && nat_le 2 (d - c)) ≡ true → (2 + a ≤ b) × (2 + c ≤ d)
+pub has-both : (a b c d : ℕ) → (nat_le 4 (b - a) && nat_le 4 (d - c)) ≡ true → (4 + a ≤ b) × (4 + c ≤ d)
 has-both a b c d is = grind arith
 
-pub both-have : (a b c d : ℕ) → 2 + a ≤ b → 2 + c ≤ d → (nat_le 2 (b - a) && nat_le 2 (d - c)) ≡ true
+pub both-have : (a b c d : ℕ) → 4 + a ≤ b → 4 + c ≤ d → (nat_le 4 (b - a) && nat_le 4 (d - c)) ≡ true
 both-have a b c d x y = grind arith
 
-pub has-not : (a b c d : ℕ) → (nat_le 2 (b - a) && nat_le 2 (d - c)) ≡ false → 2 + a ≤ b → 2 + c ≤ d → ⊥
+pub has-not : (a b c d : ℕ) → (nat_le 4 (b - a) && nat_le 4 (d - c)) ≡ false → 4 + a ≤ b → 4 + c ≤ d → ⊥
 has-not a b c d is = grind arith
 
 -- an entry more than before was paid for
-pub paid : (q q' r r' n m c d Q R : ℕ) → Took n q q' c → Took m r r' d → (nat_le 2 (Q - q) && nat_le 2 (R - r)) ≡ true → (nat_le 2 (Q - q') && nat_le 2 (R - r')) ≡ false → c + d < n + m
+pub paid : (q q' r r' n m c d Q R : ℕ) → Took n q q' c → Took m r r' d → (nat_le 4 (Q - q) && nat_le 4 (R - r)) ≡ true → (nat_le 4 (Q - q') && nat_le 4 (R - r')) ≡ false → c + d < n + m
 paid q q' r r' n m c d Q R tq tr had has =
     let h = has-both q Q r R had in
     let a = tq.list in let b = tr.list in let e = tq.caused in let f = tr.caused in
@@ -199,16 +191,16 @@ module _ (grown : List StreamId) (i : StreamId) (y : StreamRecord) where
   still true j h = Contains-append_left grown (i ∷ []) j h
   still false j h = h
 
-  covers : (b : Bool) (xs : List StreamRecord) → AllCovered grown xs → HasLists 2 2 y ⊎ Contains (noted b) i → AllCovered (noted b) (slice_set xs i.0 y)
+  covers : (b : Bool) (xs : List StreamRecord) → AllCovered grown xs → HasLists 4 4 y ⊎ Contains (noted b) i → AllCovered (noted b) (slice_set xs i.0 y)
   covers b xs covered this j x is =
       ⊎_elim
       (λ (same : j.0 ≡ i.0).
       let number : j ≡ i = ap (λ n. record { 0 = n }) same in
-      rw number (subst (λ z. HasLists 2 2 z ⊎ Contains (noted b) i) (put-is xs i.0 y x (ap (slice_get (slice_set xs i.0 y)) (sym same) ∙ is)) this))
+      rw number (subst (λ z. HasLists 4 4 z ⊎ Contains (noted b) i) (put-is xs i.0 y x (ap (slice_get (slice_set xs i.0 y)) (sym same) ∙ is)) this))
       (λ other. ⊎_elim (λ h. inl h) (λ h. inr (still b j h)) (covered j x (sym (get-other xs i.0 j.0 y other) ∙ is)))
       (same-or j.0 i.0)
 
-  pub cover : (had has : Bool) (x : StreamRecord) (xs : List StreamRecord) → AllCovered grown xs → slice_get xs i.0 ≡ Some x → (HasLists 2 2 x → had ≡ true) → (has ≡ true → HasLists 2 2 y)
+  pub cover : (had has : Bool) (x : StreamRecord) (xs : List StreamRecord) → AllCovered grown xs → slice_get xs i.0 ≡ Some x → (HasLists 4 4 x → had ≡ true) → (has ≡ true → HasLists 4 4 y)
       → AllCovered (noted (had && not has)) (slice_set xs i.0 y)
   cover true true x xs covered is before after = covers false xs covered (inl (after refl))
   cover true false x xs covered is before after = covers true xs covered (inr (Contains-append_right grown (i ∷ []) i (0, omega arith, refl)))

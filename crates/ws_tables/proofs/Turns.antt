@@ -89,7 +89,7 @@ room-for e rest t room =
       caused = let h = room.caused in omega (arith, h);
       others = let h = room.others in omega (arith, h);
       lists = λ i x is. let h = room.lists i x is in (omega (arith, h.0, q), omega (arith, h.1, r));
-      grown = let h = room.grown in omega (arith, h, q, r);
+      grown = let h = room.grown in omega (arith, h);
       members = λ i x is. let h = room.members i x is in omega (arith, h, m);
       full = let h = room.full in omega (arith, h, m);
     }

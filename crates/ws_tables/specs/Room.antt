@@ -37,9 +37,9 @@ HasLists q r x = (q + queued_in x ≤ (room_of x).queue) × (r + requested_in x 
 abbrev pub EachHasLists : ℕ → ℕ → List Stream → Type 0
 EachHasLists q r xs = (i : ℕ) (x : Stream) → slice_get xs i ≡ Some x → HasLists q r x
 
--- each stream has two places in either list, or places are to be made there
+-- each stream has four places in either list, or places are to be made there
 abbrev pub AllCovered : List StreamId → List Stream → Type 0
-AllCovered grown xs = (i : StreamId) (x : Stream) → slice_get xs i.0 ≡ Some x → HasLists 2 2 x ⊎ Contains grown i
+AllCovered grown xs = (i : StreamId) (x : Stream) → slice_get xs i.0 ≡ Some x → HasLists 4 4 x ⊎ Contains grown i
 
 abbrev pub IsCovered : Tables → Type 0
 IsCovered t = AllCovered t.grown.items t.streams.items
@@ -104,6 +104,10 @@ AreCounted n xs = (i : ℕ) (x : pipe.Slots) → slice_get xs i ≡ Some x → x
 abbrev pub IsCounted : Slots → Type 0
 IsCounted s = AreCounted (length s.promises.entries) s.pipes
 
+-- each transform stream was made with two streams, so there are no more of them than streams
+abbrev pub HasFewTransforms : Slots → Type 0
+HasFewTransforms s = length s.transforms ≤ length s.streams
+
 -- what holds of the tables at each moment: how many read requests wait is known and how many pipes a trigger would abort, and in which
 -- streams and signals places are to be made
 pub record IsKept (t : Tables) : Type 0 where
@@ -112,8 +116,9 @@ pub record IsKept (t : Tables) : Type 0 where
   pub aborts : t.aborts ≡ aborts_in (slots_of t).signals
   pub members : HaveMembers t
   pub counted : IsCounted (slots_of t)
+  pub few : HasFewTransforms (slots_of t)
 
--- there are places for what the row of an effect takes by itself
+-- there are places for what the row of an effect takes by itself, and for the streams that it may come to note
 pub record HasRoomFor (e : Effect) (t : Tables) : Type 0 where
   pub promises : HasPromiseRoom (own promises_alone e) t.promises
   pub jobs : HasJobRoom (own jobs_alone e) t.promises
@@ -122,7 +127,7 @@ pub record HasRoomFor (e : Effect) (t : Tables) : Type 0 where
   pub caused : effect_price turns_alone e + later turns_alone t + 6 ≤ t.caused.capacity
   pub others : effect_price turns_alone e + later turns_alone t + 6 ≤ vec_capacity t.others
   pub lists : EachHasLists (own queued_alone e) (own requests_alone e) t.streams.items
-  pub grown : own queued_alone e + own requests_alone e + vec_len t.grown ≤ vec_capacity t.grown
+  pub grown : effect_price queued_alone e + effect_price requests_alone e + vec_len t.grown ≤ vec_capacity t.grown
   pub members : EachHasMembers (own members_alone e) t.signals.items
   pub full : own members_alone e + vec_len t.full ≤ vec_capacity t.full
 
@@ -145,17 +150,18 @@ places_for a_wait an_abort more t = t.waiting * a_wait + t.aborts * an_abort + m
 
 -- there are places for the next call or job, whichever it is
 pub record IsPrepared (t : Tables) : Type 0 where
-  pub promises : HasRoom (places_for 0 6 10 t) t.promises
-  pub jobs : HasJobRoom (places_for 1 5 8 t) t.promises
+  pub promises : HasRoom (places_for 0 8 14 t) t.promises
+  pub jobs : HasJobRoom (places_for 1 7 11 t) t.promises
   pub hosts : places_for 0 2 3 t + vec_len t.hosts ≤ vec_capacity t.hosts
-  pub caused : places_for 2 10 23 t ≤ t.caused.capacity
-  pub others : places_for 2 10 23 t ≤ vec_capacity t.others
-  pub grown : vec_len t.grown + 4 ≤ vec_capacity t.grown
-  pub lists : EachHasLists 2 2 t.streams.items
+  pub caused : places_for 2 14 34 t ≤ t.caused.capacity
+  pub others : places_for 2 14 34 t ≤ vec_capacity t.others
+  pub grown : vec_len t.grown + 6 ≤ vec_capacity t.grown
+  pub lists : EachHasLists 4 4 t.streams.items
   pub full : vec_len t.full < vec_capacity t.full
   pub members : EachHasMembers 1 t.signals.items
   pub locks : vec_len t.locks + 2 ≤ vec_capacity t.locks
-  pub streams : vec_len t.streams < vec_capacity t.streams
+  pub streams : vec_len t.streams + 2 ≤ vec_capacity t.streams
+  pub transforms : vec_len t.transforms < vec_capacity t.transforms
   pub pipes : vec_len t.pipes < vec_capacity t.pipes
   pub signals : vec_len t.signals < vec_capacity t.signals
 
@@ -187,7 +193,7 @@ pub record Performs (e : Effect) (t t' : Tables) : Type 0 where
   pub members : map members_room t'.signals.items ≡ map members_room t.signals.items
   pub full : vec_len t'.full + prices_of members_alone t'.caused.effects ≤ vec_len t.full + effect_price members_alone e
 
--- a stream in which there were two places of each kind, and aren't any more, is noted
+-- a stream in which there were four places of each kind, and aren't any more, is noted
 pub record NotesGrowth (i : StreamId) (had_room has_room : Bool) (t t' : Tables) : Type 0 where
   pub tables : t' ≡ record t { grown = t'.grown }
   pub grown : t'.grown.items ≡ (if had_room && not has_room then t.grown.items ++ i ∷ [] else t.grown.items)
@@ -222,9 +228,9 @@ pub record PerformsAll (t t' : Tables) : Type 0 where
 
 -- memory is taken
 
--- the stream of this number, where there is one, has two places in either list
+-- the stream of this number, where there is one, has four places in either list
 abbrev pub HasListsAt : StreamId → Tables → Type 0
-HasListsAt i t = (x : Stream) → slice_get t.streams.items i.0 ≡ Some x → HasLists 2 2 x
+HasListsAt i t = (x : Stream) → slice_get t.streams.items i.0 ≡ Some x → HasLists 4 4 x
 
 -- a stream has the same entries, and no fewer places
 pub record IsWider (x y : Stream) : Type 0 where

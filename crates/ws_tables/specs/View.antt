@@ -18,6 +18,7 @@ abbrev pub slots_of : Tables → Slots
 slots_of t =
     record {
       streams = map stream_of t.streams.items;
+      transforms = t.transforms.items;
       pipes = t.pipes.items;
       signals = map signal_of t.signals.items;
       locks = t.locks.items;

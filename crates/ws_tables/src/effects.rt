@@ -5,8 +5,8 @@ ghost use Rattle.ws_tables.specs.Room.{HasRoomFor, IsKept, KeepsRecords, Perform
 
 use crate::tables::Tables;
 use ws_steps::{
-    Effect, Event, Gift, HostCall, Owner, PipeOperation, ReadRequest, StartBy, Step, Use,
-    WritableOperation,
+    Effect, Event, Gift, HostCall, Owner, PipeOperation, ReadRequest, StartBy, Step, Taker,
+    TransformOperation, Use, WritableOperation,
 };
 use ws_value::{HostId, Plain, PromiseId, StreamId, Value};
 
@@ -44,6 +44,9 @@ impl Tables {
         let u = Use::React(Step::ReadablePull(i), None);
         match self.owner(i) {
             Owner::Host => self.caused.push(Effect::CallHost(HostCall::Pull(i), u)),
+            Owner::HalfOf(t) => self
+                .caused
+                .push(Effect::Transform(t, TransformOperation::SourcePull(u))),
         }
     }
 
@@ -59,10 +62,14 @@ impl Tables {
             Owner::Host => self
                 .caused
                 .push(Effect::CallHost(HostCall::Cancel(i, reason), u)),
+            Owner::HalfOf(t) => {
+                let operation = TransformOperation::SourceCancel(reason, u);
+                self.caused.push(Effect::Transform(t, operation));
+            }
         }
     }
 
-    /// The write algorithm gets the chunk once the stream hands it on.
+    /// The write algorithm gets the chunk once the stream hands it on: to the host at once, and to a transform stream once it has no backpressure.
     #[tactic(auto, unfolding(ws_steps::specs::Turns::row))]
     fn write_algorithm(&mut self, i: StreamId)
         requires quiet { self.old.caused.effects ≡ [] }
@@ -71,9 +78,15 @@ impl Tables {
         ensures records { KeepsRecords self.old self.new }
     {
         match self.owner(i) {
-            Owner::Host => self
-                .caused
-                .push(Effect::Writable(i, WritableOperation::HandOn)),
+            Owner::Host => self.caused.push(Effect::Writable(
+                i,
+                WritableOperation::HandOn(Taker::ToHost),
+            )),
+            Owner::HalfOf(t) => {
+                let u = Use::React(Step::WritableWrite(i), None);
+                self.caused
+                    .push(Effect::Transform(t, TransformOperation::SinkWrite(u)));
+            }
         }
     }
 
@@ -87,6 +100,9 @@ impl Tables {
         let u = Use::React(Step::WritableClose(i), None);
         match self.owner(i) {
             Owner::Host => self.caused.push(Effect::CallHost(HostCall::Close(i), u)),
+            Owner::HalfOf(t) => self
+                .caused
+                .push(Effect::Transform(t, TransformOperation::SinkClose(u))),
         }
     }
 
@@ -102,6 +118,10 @@ impl Tables {
             Owner::Host => self
                 .caused
                 .push(Effect::CallHost(HostCall::Abort(i, reason), u)),
+            Owner::HalfOf(t) => {
+                let operation = TransformOperation::SinkAbort(reason, u);
+                self.caused.push(Effect::Transform(t, operation));
+            }
         }
     }
 
@@ -179,6 +199,7 @@ impl Tables {
             Effect::Writable(i, operation) => self.perform_writable(i, operation),
             Effect::Pipe(p, operation) => self.perform_pipe(p, operation),
             Effect::Signal(a, operation) => self.perform_signal(a, operation),
+            Effect::Transform(t, operation) => self.perform_transform(t, operation),
             Effect::StartAlgorithm(i, step, start) => self.start_algorithm(i, step, start),
             Effect::PullAlgorithm(i) => self.pull_algorithm(i),
             Effect::CancelAlgorithm(i, reason, promise) => {

@@ -5,13 +5,14 @@ ghost use Rattle.ws_tables.specs.Room.{NotesFull, NotesGrowth};
 mod pipe;
 mod readable;
 mod signal;
+mod transform;
 mod writable;
 
 use crate::tables::Tables;
 use ws_value::{SignalId, StreamId};
 
 /// The places in either list of a stream that one call or job can need.
-pub(crate) const LIST_PLACES: usize = 2;
+pub(crate) const LIST_PLACES: usize = 4;
 
 impl Tables {
     /// Notes a stream one of whose lists has too few places left, so that places are made before the next call or job.

@@ -1,4 +1,4 @@
-//! The tables of a realm: its streams by number, its pipes and the signals that abort them, its readers and writers, its promises and what its host is to answer; and what is done to them.
+//! The tables of a realm: its streams by number, its transform streams, its pipes and the signals that abort them, its readers and writers, its promises and what its host is to answer; and what is done to them.
 //!
 //! `agenda` performs effects, one at a time, each with what it causes before the others; `effects` finds what an effect concerns, and `kinds` has, for each kind of record, its look-ups and the performing of its operations. `prepare` takes the memory that a call or job can need, so that performing takes none.
 //!

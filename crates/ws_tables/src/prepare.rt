@@ -6,8 +6,8 @@ use crate::kinds::LIST_PLACES;
 use crate::tables::{Stream, Tables};
 use ws_value::{NoMemory, SignalId, StreamId};
 
-/// The streams that one call or job can leave with too few places.
-const GROWN: usize = 2 * LIST_PLACES;
+/// The streams that one call or job can leave with too few places: it adds four entries to queues and two requests at most, or makes two streams.
+const GROWN: usize = 6;
 
 impl Tables {
     ghost use Rattle.ws_tables.specs.View.{slots_of};
@@ -22,7 +22,7 @@ impl Tables {
         both.checked_add(more).ok_or(NoMemory)
     }
 
-    /// Makes two places in either list of the stream of this number, where there is one.
+    /// Makes places in either list of the stream of this number, where there is one.
     fn prepare_stream(&mut self, i: StreamId) -> Result<(), NoMemory>
         ensures ok { OnOk result (HasListsAt i self.new) }
         ensures lists { ListsGrow self.old.streams.items self.new.streams.items }
@@ -39,10 +39,10 @@ impl Tables {
         }
     }
 
-    /// Makes two places in either list of each stream that had fewer.
+    /// Makes places in either list of each stream that had fewer.
     fn prepare_streams(&mut self) -> Result<(), NoMemory>
         requires covered { IsCovered self.old }
-        ensures ok { OnOk result (EachHasLists 2 2 self.new.streams.items) }
+        ensures ok { OnOk result (EachHasLists 4 4 self.new.streams.items) }
         ensures empty { OnOk result (vec_len self.new.grown ≡ 0) }
         ensures covered { IsCovered self.new }
         ensures slots { slots_of self.new ≡ slots_of self.old }
@@ -92,13 +92,13 @@ impl Tables {
     /// Makes places on the agenda.
     fn prepare_agenda(&mut self) -> Result<(), NoMemory>
         requires resting { IsResting self.old }
-        ensures caused { OnOk result (places_for 2 10 23 self.old ≤ self.new.caused.capacity) }
-        ensures others { OnOk result (places_for 2 10 23 self.old ≤ vec_capacity self.new.others) }
+        ensures caused { OnOk result (places_for 2 14 34 self.old ≤ self.new.caused.capacity) }
+        ensures others { OnOk result (places_for 2 14 34 self.old ≤ vec_capacity self.new.others) }
         ensures slots { slots_of self.new ≡ slots_of self.old }
         ensures resting { IsResting self.new }
         ensures rest { StaysBesideAgenda self.old self.new }
     {
-        let places = self.places(2, 10, 23)?;
+        let places = self.places(2, 14, 34)?;
         self.caused.reserve(places)?;
         self.others.reserve(places)?;
         Ok(())
@@ -114,14 +114,15 @@ impl Tables {
         self.prepare_streams()?;
         self.prepare_signals()?;
         self.prepare_agenda()?;
-        let promises = self.places(0, 6, 10)?;
+        let promises = self.places(0, 8, 14)?;
         self.promises.reserve(promises)?;
-        let jobs = self.places(1, 5, 8)?;
+        let jobs = self.places(1, 7, 11)?;
         self.promises.reserve_jobs(jobs)?;
         let hosts = self.places(0, 2, 3)?;
         self.hosts.reserve(hosts)?;
         self.locks.reserve(2)?;
-        self.streams.reserve(1)?;
+        self.streams.reserve(2)?;
+        self.transforms.reserve(1)?;
         self.pipes.reserve(1)?;
         self.signals.reserve(1)?;
         self.grown.reserve(GROWN)?;

@@ -7,6 +7,7 @@ use ws_pipe::{Pipe, Signal};
 use ws_promise::{Agenda, Promises};
 use ws_readable::Readable;
 use ws_steps::{Effect, Lock};
+use ws_transform::Transform;
 use ws_value::{NoMemory, PromiseId, SignalId, StreamId};
 use ws_writable::Writable;
 
@@ -22,6 +23,7 @@ pub enum Stream {
 pub struct Tables {
     pub alloc: Global,
     pub streams: Vec<Stream>,
+    pub transforms: Vec<Transform>,
     pub pipes: Vec<Pipe>,
     pub signals: Vec<Signal>,
     pub locks: Vec<Lock>,
@@ -56,6 +58,7 @@ impl Tables {
         Ok(Tables {
             alloc,
             streams: Vec::new(alloc),
+            transforms: Vec::new(alloc),
             pipes: Vec::new(alloc),
             signals: Vec::new(alloc),
             locks: Vec::new(alloc),

@@ -1,4 +1,4 @@
-use Rattle.ws_steps.specs.declared.effects.Effect.TheVariants.{StartAlgorithm, ChunkSteps, CloseSteps, ErrorSteps, CallHost}
+use Rattle.ws_steps.specs.declared.effects.Effect.TheVariants.{Transform, StartAlgorithm, ChunkSteps, CloseSteps, ErrorSteps, CallHost}
 use Rattle.ws_tables.specs.View.{slots_of}
 use Rattle.ws_tables.proofs.Counts.{gift-more, settle-more, micro-more}
 use Rattle.ws_tables.proofs.Places.{kept_by, kept_promises}
@@ -8,6 +8,11 @@ pub returns-in-StartAlgorithm-clause-kept : goal.returns-in-StartAlgorithm-claus
 returns-in-StartAlgorithm-clause-kept c =
     let e = c.start_algorithm.ensures in
     kept_by (StartAlgorithm c.in-StartAlgorithm.i c.in-StartAlgorithm.step c.in-StartAlgorithm.start) c.args.self.now c.start_algorithm.new.self e.performs e.records c.requires.kept
+
+pub returns-in-Transform-clause-kept : goal.returns-in-Transform-clause-kept
+returns-in-Transform-clause-kept c =
+    let e = c.perform_transform.ensures in
+    kept_by (Transform c.in-Transform.t c.in-Transform.operation) c.args.self.now c.perform_transform.new.self e.performs e.records c.requires.kept
 
 pub returns-in-ChunkSteps-clause-kept : goal.returns-in-ChunkSteps-clause-kept
 returns-in-ChunkSteps-clause-kept c =

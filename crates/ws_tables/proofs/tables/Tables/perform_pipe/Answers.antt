@@ -76,4 +76,5 @@ returns-clause-kept c =
       aborts = was.aborts;
       members = was.members;
       counted = counted-put (length old.promises.table.entries) (length c.perform.new.p.table.entries) old.pipes.items c.args.p.0 c.perform.new.self more was.counted c.perform.ensures.counted;
+      few = was.few;
     }

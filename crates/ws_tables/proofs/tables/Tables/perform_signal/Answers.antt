@@ -11,7 +11,7 @@ use Rattle.ws_steps.specs.Turns.{row}
 use Rattle.ws_steps.proofs.StreamLaws.{map-set}
 use Rattle.ws_tables.specs.declared.tables.Tables.{Tables}
 use Rattle.ws_tables.specs.View.{slots_of, signal_of}
-use Rattle.ws_tables.specs.Room.{places_of, room_of, members_room, aborts_in, IsCounted}
+use Rattle.ws_tables.specs.Room.{places_of, room_of, members_room, aborts_in, HasFewTransforms, IsCounted}
 use Rattle.ws_tables.proofs.Records.{signal-absent, signal-row, signal-own, SignalTook, signal-did, aborts-among, aborts-after, paid-member, has-place, place-has, noted-full, cover-signal}
 use Rattle.ws_tables.proofs.Streams.{stands-at, get-map, map-put, noted-length}
 use Rattle.ws_tables.proofs.tables.Tables.perform_signal.Goals as goal
@@ -125,4 +125,5 @@ returns-clause-kept c =
           (λ h. c.has_room-had_room.ensures ∙ place-has (length x.signal.pipes) x.room h)
           (λ has. has-place (length y.signal.pipes) y.room (sym c.has_room-has_room.ensures ∙ has)));
       counted = subst (λ (t : Tables). IsCounted (slots_of t)) (sym same) c.requires.kept.counted;
+      few = subst (λ (t : Tables). HasFewTransforms (slots_of t)) (sym same) c.requires.kept.few;
     }

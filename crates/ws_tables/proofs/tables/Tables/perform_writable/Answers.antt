@@ -1,9 +1,10 @@
 use Rattle.std.proofs.Common.{◌≡◌, ◌∙◌, ◌&&◌, not, true, false, Some, List, length, map, refl, sym, ap, subst, ◌<◌, ◌+◌, ◌-◌, arith}
 use Rattle.std.specs.Prelude.{slice_get, slice_set, vec_len, nat_le}
 use Rattle.ws_steps.specs.declared.effects.Effect.{Effect}
+use Rattle.ws_steps.specs.declared.effects.Effect.TheVariants.{Writable as WritableEffect}
 use Rattle.ws_steps.specs.Turns.{row}
 use Rattle.ws_queue.specs.Seen.{Lists}
-use Rattle.ws_steps.specs.Places.{prices_of, own_writable, queued_alone, requests_alone, members_alone}
+use Rattle.ws_steps.specs.Places.{prices_of, writable_price, queued_alone, requests_alone, members_alone}
 use Rattle.ws_writable.specs.Seen.{acts_of}
 use Rattle.ws_steps.specs.Operations.{writable_operation}
 use Rattle.ws_steps.specs.Slots.{Done, on_writable}
@@ -11,9 +12,9 @@ use Rattle.ws_steps.proofs.StreamLaws.{on_writable-at}
 use Rattle.ws_tables.specs.declared.tables.Stream.TheVariants.{Writable}
 use Rattle.ws_tables.specs.declared.tables.Tables.{Tables}
 use Rattle.ws_tables.specs.View.{slots_of, stream_of}
-use Rattle.ws_tables.specs.Room.{places_of, room_of, members_room, waiting_in, IsCounted}
-use Rattle.ws_tables.proofs.Streams.{writable-within, stands-at, waits-after, map-put, WritableTook, writable-took, writable-own, has-both, both-have, paid, cover, writable-absent, noted-grown, noted-length}
-use Rattle.ws_tables.proofs.Counts.{counted-on, writable-more}
+use Rattle.ws_tables.specs.Room.{places_of, room_of, members_room, waiting_in, HasFewTransforms, IsCounted}
+use Rattle.ws_tables.proofs.Streams.{writable-within, stands-at, waits-after, map-put, WritableTook, writable-took, has-both, both-have, paid, cover, writable-absent, noted-grown, noted-length}
+use Rattle.ws_tables.proofs.Counts.{counted-on, writable-more, row-few}
 use Rattle.ws_tables.proofs.tables.Tables.perform_writable.Goals as goal
 
 pub returns-then-not-has_writable-clause-performs : goal.returns-then-not-has_writable-clause-performs
@@ -47,14 +48,14 @@ took c =
     (writable-took c.args.i c.args.operation (acts_of c.in-Writable.stream c.args.self.now.promises c.args.self.now.caused) c.requires.quiet)
 
 paid_for : (c : goal.After-note_growth-arg-1) → c.has_room-had_room.result ≡ true → c.has_room-has_room.result ≡ false
-    → prices_of queued_alone c.perform.new.fx.effects + prices_of requests_alone c.perform.new.fx.effects < own_writable queued_alone c.args.operation + own_writable requests_alone c.args.operation
+    → prices_of queued_alone c.perform.new.fx.effects + prices_of requests_alone c.perform.new.fx.effects < writable_price queued_alone c.args.operation + writable_price requests_alone c.args.operation
 paid_for c had has =
     let t = took c in
     let room = c.perform.ensures.room in
     paid (length c.in-Writable.stream.slots.queue) (length c.perform.new.self.slots.queue) (length c.in-Writable.stream.slots.write_requests) (length c.perform.new.self.slots.write_requests)
-    (own_writable queued_alone c.args.operation) (own_writable requests_alone c.args.operation) (prices_of queued_alone c.perform.new.fx.effects) (prices_of requests_alone c.perform.new.fx.effects)
+    (writable_price queued_alone c.args.operation) (writable_price requests_alone c.args.operation) (prices_of queued_alone c.perform.new.fx.effects) (prices_of requests_alone c.perform.new.fx.effects)
     c.in-Writable.stream.room.queue c.in-Writable.stream.room.requests t.queued t.requested (sym c.has_room-had_room.ensures ∙ had)
-    (ap (λ (l : Lists). nat_le 2 (l.queue - length c.perform.new.self.slots.queue) && nat_le 2 (l.requests - length c.perform.new.self.slots.write_requests)) (sym room) ∙ (sym c.has_room-has_room.ensures ∙ has))
+    (ap (λ (l : Lists). nat_le 4 (l.queue - length c.perform.new.self.slots.queue) && nat_le 4 (l.requests - length c.perform.new.self.slots.write_requests)) (sym room) ∙ (sym c.has_room-has_room.ensures ∙ has))
 
 pub note_growth-requires : goal.note_growth-requires
 note_growth-requires c = record {
@@ -81,7 +82,6 @@ returns-clause-performs c =
     let old = c.args.self.now in
     let same = c.note_growth.ensures.tables in
     let t = took c.before in
-    let own = writable-own c.args.operation in
     let caused : c.note_growth.new.self.caused.effects ≡ c.perform.new.fx.effects = ap (λ (t : Tables). t.caused.effects) same in
     record {
       slots = ap slots_of same ∙ ap (λ (d : Done). d.slots) (sym (left c));
@@ -90,12 +90,12 @@ returns-clause-performs c =
       places = ap places_of same ∙ rw (c.perform.ensures.promise_room, c.perform.ensures.effect_room, c.note_growth.ensures.capacity) refl;
       lists = ap (λ (t : Tables). map room_of t.streams.items) same ∙ map-put room_of old.streams.items c.args.i.0 (Writable c.in-Writable.stream) (Writable c.perform.new.self) (at c.before.before.before.before.before) c.perform.ensures.room;
       grown =
-          let g = noted-grown (vec_len old.grown) (vec_len c.note_growth.new.self.grown) (own_writable queued_alone c.args.operation) (own_writable requests_alone c.args.operation)
+          let g = noted-grown (vec_len old.grown) (vec_len c.note_growth.new.self.grown) (writable_price queued_alone c.args.operation) (writable_price requests_alone c.args.operation)
           (prices_of queued_alone c.perform.new.fx.effects) (prices_of requests_alone c.perform.new.fx.effects) c.has_room-had_room.result c.has_room-has_room.result
           t.queued.caused t.requested.caused (paid_for c.before) (rw (c.note_growth.new.self.grown.ok.0, old.grown.ok.0, c.note_growth.ensures.grown) (noted-length old.grown.items c.args.i (c.has_room-had_room.result && not c.has_room-has_room.result))) in
           let q = ap (prices_of queued_alone) caused in
           let r = ap (prices_of requests_alone) caused in
-          omega (arith, g, q, r, own.0, own.1);
+          omega (arith, g, q, r);
       members = ap (λ (t : Tables). map members_room t.signals.items) same;
       full =
           let none = t.members in
@@ -125,4 +125,5 @@ returns-clause-kept c =
       counted =
           subst (λ (t : Tables). IsCounted (slots_of t)) (sym same)
           (counted-on (length old.promises.table.entries) (length c.perform.new.p.table.entries) old.pipes.items (writable-more c.args.i c.args.operation (slots_of old) _ (left c)) c.requires.kept.counted);
+      few = subst HasFewTransforms (sym (returns-clause-performs c).slots) (row-few (WritableEffect c.args.i c.args.operation) (slots_of old) c.requires.kept.few);
     }
