@@ -1,5 +1,5 @@
 -- A call or a job has begun: there are places for its effects and all that comes of them.
-use Rattle.std.proofs.Common.{◌≡◌, ◌≤◌, ℕ, zero, suc, ◌+◌, ◌⊎◌, inl, inr, ⊎_elim, List, [], ◌∷◌, ◌++◌, length, map, Option, Some, None, refl, sym, ap, subst, ◌∙◌, arith}
+use Rattle.std.proofs.Common.{◌≡◌, ◌≤◌, ℕ, zero, suc, ◌+◌, ◌⊎◌, inl, inr, ⊎_elim, List, [], ◌∷◌, ◌++◌, length, map, Option, Some, None, refl, sym, ap, subst, ◌∙◌, length-append, arith}
 use Rattle.std.specs.Prelude.{slice_get, vec_len}
 use Rattle.std.proofs.lemmas.List.Elements.{Contains-append_left, Contains-append_right}
 use Rattle.ws_value.specs.declared.ids.SignalId.{SignalId}
@@ -9,18 +9,25 @@ use Rattle.ws_steps.specs.declared.calls.Call.{Call}
 use Rattle.ws_steps.specs.declared.calls.Reply.{Reply}
 use Rattle.ws_steps.specs.declared.calls.Reply.TheVariants as replies
 use Rattle.ws_steps.specs.declared.promises.Job.{Job}
-use Rattle.ws_steps.specs.Calls.{begin}
+use Rattle.ws_steps.specs.Calls.{Begun, begin}
 use Rattle.ws_steps.specs.Jobs.{job_begun, begin_job}
 use Rattle.ws_steps.specs.Pipes as pipe
 use Rattle.ws_steps.specs.Places.{Prices, all_keep, signals_keep, prices_of, step_price, entries_of, members_of, turns_alone, promises_alone, jobs_alone, events_alone, hosts_alone, queued_alone, requests_alone, members_alone}
-use Rattle.ws_steps.specs.Promises.{after_next_job, next_job}
-use Rattle.ws_steps.specs.Slots.{Slots, Done}
+use Rattle.ws_steps.specs.Promises.{after_next_job, next_id, next_job}
+use Rattle.ws_steps.specs.Readable as readable
+use Rattle.ws_steps.specs.Transform as transform
+use Rattle.ws_steps.specs.Writable as writable
+use Rattle.ws_steps.specs.declared.effects.Owner.TheVariants.{Host, HalfOf}
+use Rattle.ws_steps.specs.declared.readable.SizeBy.TheVariants.{Count}
+use Rattle.ws_steps.specs.declared.transform.TransformId.{TransformId}
+use Rattle.ws_steps.specs.Slots.{Slots, Stream, ReadableStream, WritableStream, Done}
 use Rattle.ws_steps.proofs.PromiseLaws.{length-fresh}
 use Rattle.ws_room_laws.proofs.Room.{Begins as BeginsWithin, begin-fits, job-fits}
 use Rattle.ws_laws.proofs.Begin.{Makes, begin-makes}
+use Rattle.ws_laws.proofs.EachCall.{each_call}
 use Rattle.ws_tables.specs.View.{slots_of, stream_of, signal_of}
-use Rattle.ws_tables.specs.Room.{Places, places_of, queued_in, requested_in, waiting_in, aborts_in, HasLists, AllCovered, AllHaveMembers, AreCounted, IsCounted, HasRoomForAll, IsPrepared, IsResting, IsKept}
-use Rattle.ws_calls.specs.Begin.{IsBegun, Answers, Begins, MakesNone, MakesOne, MakesSignal, RecordsAfter}
+use Rattle.ws_tables.specs.Room.{Places, places_of, queued_in, requested_in, waiting_in, aborts_in, HasLists, AllCovered, AllHaveMembers, AreCounted, IsCounted, HasFewTransforms, HasRoomForAll, IsPrepared, IsResting, IsKept}
+use Rattle.ws_calls.specs.Begin.{IsBegun, Answers, Begins, MakesNone, MakesOne, MakesTwo, MakesSignal, RecordsAfter}
 use Rattle.ws_tables.specs.declared.tables.Stream.{Stream as StreamRecord}
 use Rattle.ws_tables.specs.declared.tables.Stream.TheVariants.{Readable, Writable}
 use Rattle.ws_tables.specs.declared.tables.Tables.{Tables}
@@ -28,7 +35,7 @@ use Rattle.ws_tables.proofs.Counts.{counted-on, next-more}
 use Rattle.ws_tables.proofs.Fits.{Takes, takes, queued-at, requested-at, members-at}
 use Rattle.ws_tables.proofs.Keeps.{later-is}
 
--- what has begun leaves the places as they are, and makes one stream, or one signal, or neither
+-- what has begun leaves the places as they are, and makes one stream, or two, or one signal, or none of these
 record Starts (d : Done) (t t' : Tables) : Type 0 where
   slots : slots_of t' ≡ d.slots
   caused : t'.caused.effects ≡ d.caused
@@ -37,12 +44,14 @@ record Starts (d : Done) (t t' : Tables) : Type 0 where
   waiting : t'.waiting ≡ t.waiting
   aborts : t'.aborts ≡ t.aborts
   counted : IsCounted d.slots
-  records : MakesNone t t' ⊎ (MakesOne t t' ⊎ MakesSignal t t')
+  few : HasFewTransforms d.slots
+  records : MakesNone t t' ⊎ (MakesOne t t' ⊎ (MakesSignal t t' ⊎ MakesTwo t t'))
 
-which-made : (reply : Reply) (t t' : Tables) → RecordsAfter reply t t' → MakesNone t t' ⊎ (MakesOne t t' ⊎ MakesSignal t t')
+which-made : (reply : Reply) (t t' : Tables) → RecordsAfter reply t t' → MakesNone t t' ⊎ (MakesOne t t' ⊎ (MakesSignal t t' ⊎ MakesTwo t t'))
 which-made replies.Done t t' h = inl h
 which-made (replies.Made i) t t' h = inr (inl h)
-which-made (replies.Signal a) t t' h = inr (inr h)
+which-made (replies.MadeTwo i j) t t' h = inr (inr (inr h))
+which-made (replies.Signal a) t t' h = inr (inr (inl h))
 which-made (replies.Lock l) t t' h = inl h
 which-made (replies.Promise p) t t' h = inl h
 which-made (replies.Size n) t t' h = inl h
@@ -71,6 +80,12 @@ cover-new grown xs x covered i y is =
     (λ h. let number : i ≡ new = ap (λ n. record { 0 = n }) h.0 in inr (rw number (Contains-append_right grown (new ∷ []) new (0, omega arith, refl))))
     (added xs x y i.0 is)
 
+cover-two : (grown : List StreamId) (xs : List StreamRecord) (x y : StreamRecord) → AllCovered grown xs
+    → AllCovered ((grown ++ record { 0 = length xs } ∷ []) ++ record { 0 = length xs + 1 } ∷ []) ((xs ++ x ∷ []) ++ y ∷ [])
+cover-two grown xs x y covered =
+    subst (λ n. AllCovered ((grown ++ record { 0 = length xs } ∷ []) ++ record { 0 = n } ∷ []) ((xs ++ x ∷ []) ++ y ∷ [])) (length-append xs (x ∷ []))
+    (cover-new (grown ++ record { 0 = length xs } ∷ []) (xs ++ x ∷ []) y (cover-new grown xs x covered))
+
 -- a new signal aborts no pipes
 aborts-new : (xs : List SeenSignal) (x : SeenSignal) → x.signal ≡ pipe.new_signal → aborts_in (map signal_of (xs ++ x ∷ [])) ≡ aborts_in (map signal_of xs)
 aborts-new [] x none = let h = ap aborts_of none in omega (arith, h)
@@ -87,6 +102,7 @@ cover-signal full xs x covered i y is =
 kept : (d : Done) (t t' : Tables) → Starts d t t' → IsKept t → IsKept t'
 kept d t t' start was =
     let counted : IsCounted (slots_of t') = subst (λ (s : Slots). IsCounted s) (sym start.slots) start.counted in
+    let few : HasFewTransforms (slots_of t') = subst HasFewTransforms (sym start.slots) start.few in
     ⊎_elim
     (λ (none : MakesNone t t'). record {
       waiting = start.waiting ∙ (was.waiting ∙ ap (λ v. waiting_in (map stream_of v.items)) (sym none.streams));
@@ -94,6 +110,7 @@ kept d t t' start was =
       aborts = start.aborts ∙ (was.aborts ∙ ap (λ v. aborts_in (map signal_of v.items)) (sym none.signals));
       members = rw (none.full, none.signals) was.members;
       counted = counted;
+      few = few;
     })
     (λ made. ⊎_elim
     (λ (one : MakesOne t t'). record {
@@ -102,14 +119,30 @@ kept d t t' start was =
       aborts = start.aborts ∙ (was.aborts ∙ ap (λ v. aborts_in (map signal_of v.items)) (sym one.signals));
       members = rw (one.full, one.signals) was.members;
       counted = counted;
+      few = few;
     })
+    (λ rest. ⊎_elim
     (λ (one : MakesSignal t t'). record {
       waiting = start.waiting ∙ (was.waiting ∙ ap (λ v. waiting_in (map stream_of v.items)) (sym one.streams));
       covered = rw (one.grown, one.streams) was.covered;
       aborts = start.aborts ∙ (was.aborts ∙ (sym (aborts-new t.signals.items one.signal one.empty) ∙ ap (λ xs. aborts_in (map signal_of xs)) (sym one.signals)));
       members = rw (one.full, one.signals) (cover-signal t.full.items t.signals.items one.signal was.members);
       counted = counted;
+      few = few;
     })
+    (λ (two : MakesTwo t t'). record {
+      waiting =
+          start.waiting
+          ∙ (was.waiting
+          ∙ (sym (waits-new t.streams.items two.first two.first_empty.1)
+          ∙ (sym (waits-new (t.streams.items ++ two.first ∷ []) two.second two.second_empty.1) ∙ ap (λ xs. waiting_in (map stream_of xs)) (sym two.streams))));
+      covered = rw (two.grown, two.streams) (cover-two t.grown.items t.streams.items two.first two.second was.covered);
+      aborts = start.aborts ∙ (was.aborts ∙ ap (λ v. aborts_in (map signal_of v.items)) (sym two.signals));
+      members = rw (two.full, two.signals) was.members;
+      counted = counted;
+      few = few;
+    })
+    rest)
     made)
     start.records
 
@@ -121,7 +154,7 @@ module _ (d : Done) (t t' : Tables) (within : (π : Prices) (i : StreamId) (a : 
 
   -- what the effects make in lists
 
-  queued-few : t'.streams ≡ t.streams → prices_of queued_alone t'.caused.effects ≤ 2
+  queued-few : t'.streams ≡ t.streams → prices_of queued_alone t'.caused.effects ≤ 4
   queued-few same =
       let a = took.queued (record { 0 = 0 }) in
       let q = ap (λ v. entries_of queued_alone (slice_get (map stream_of v.items) 0)) same in
@@ -167,6 +200,19 @@ module _ (d : Done) (t t' : Tables) (within : (π : Prices) (i : StreamId) (a : 
       (omega (arith, q, qe), omega (arith, r, re)))
       (added t.streams.items one.stream y i (ap (λ xs. slice_get xs i) (sym one.streams) ∙ is))
 
+  lists-two : (i : ℕ) (y : StreamRecord) → slice_get t'.streams.items i ≡ Some y → MakesTwo t t'
+      → HasLists (prices_of queued_alone t'.caused.effects) (prices_of requests_alone t'.caused.effects) y
+  lists-two i y is two =
+      let new : (x : StreamRecord) → (queued_in x ≡ 0) × (requested_in x ≡ 0) → x ≡ y → HasLists (prices_of queued_alone t'.caused.effects) (prices_of requests_alone t'.caused.effects) y =
+      λ x empty same.
+      let q = two.queued in let r = two.requested in
+      let qe = ap queued_in (sym same) ∙ empty.0 in let re = ap requested_in (sym same) ∙ empty.1 in
+      (omega (arith, q, qe), omega (arith, r, re)) in
+      ⊎_elim
+      (λ before. ⊎_elim (lists-before i y is) (λ h. new two.first two.first_empty h.1) (added t.streams.items two.first y i before))
+      (λ h. new two.second two.second_empty h.1)
+      (added (t.streams.items ++ two.first ∷ []) two.second y i (ap (λ xs. slice_get xs i) (sym two.streams) ∙ is))
+
   members-before : (i : ℕ) (y : SeenSignal) → slice_get t'.signals.items i ≡ Some y → slice_get t.signals.items i ≡ Some y → HasMemberRoom (prices_of members_alone t'.caused.effects) y
   members-before i y is before =
       let a = took.members (record { 0 = i }) in
@@ -208,26 +254,34 @@ module _ (d : Done) (t t' : Tables) (within : (π : Prices) (i : StreamId) (a : 
         others = let h = ready.others in let a = took.turns in omega (arith, h, a, oc, turns, turns');
         lists = λ i y is.
             ⊎_elim (λ (none : MakesNone t t'). lists-same i y is none.streams)
-            (λ made. ⊎_elim (λ (one : MakesOne t t'). lists-made i y is one) (λ (one : MakesSignal t t'). lists-same i y is one.streams) made) start.records;
+            (λ made. ⊎_elim (λ (one : MakesOne t t'). lists-made i y is one)
+            (λ rest. ⊎_elim (λ (one : MakesSignal t t'). lists-same i y is one.streams) (λ (two : MakesTwo t t'). lists-two i y is two) rest) made) start.records;
         grown =
             let h = ready.grown in
             ⊎_elim
             (λ (none : MakesNone t t'). let q = queued-few none.streams in let r = requested-few none.streams in let l = ap vec_len none.grown in omega (arith, h, q, r, l, gc))
             (λ made. ⊎_elim
             (λ (one : MakesOne t t'). let q = one.queued in let r = one.requested in let l = one.counted in omega (arith, h, q, r, l, gc))
+            (λ rest. ⊎_elim
             (λ (one : MakesSignal t t'). let q = queued-few one.streams in let r = requested-few one.streams in let l = ap vec_len one.grown in omega (arith, h, q, r, l, gc))
+            (λ (two : MakesTwo t t'). let q = two.queued in let r = two.requested in let l = two.counted in omega (arith, h, q, r, l, gc))
+            rest)
             made)
             start.records;
         members = λ i y is.
             ⊎_elim (λ (none : MakesNone t t'). members-same i y is none.signals)
-            (λ made. ⊎_elim (λ (one : MakesOne t t'). members-same i y is one.signals) (λ (one : MakesSignal t t'). members-made i y is one) made) start.records;
+            (λ made. ⊎_elim (λ (one : MakesOne t t'). members-same i y is one.signals)
+            (λ rest. ⊎_elim (λ (one : MakesSignal t t'). members-made i y is one) (λ (two : MakesTwo t t'). members-same i y is two.signals) rest) made) start.records;
         full =
             let h = ready.full in
             ⊎_elim
             (λ (none : MakesNone t t'). let m = members-few none.signals in let l = ap vec_len none.full in omega (arith, h, m, l, fc))
             (λ made. ⊎_elim
             (λ (one : MakesOne t t'). let m = members-few one.signals in let l = ap vec_len one.full in omega (arith, h, m, l, fc))
+            (λ rest. ⊎_elim
             (λ (one : MakesSignal t t'). let m = one.members in let l = one.counted in omega (arith, h, m, l, fc))
+            (λ (two : MakesTwo t t'). let m = members-few two.signals in let l = ap vec_len two.full in omega (arith, h, m, l, fc))
+            rest)
             made)
             start.records;
       }
@@ -253,8 +307,9 @@ counted-makes = record {
   hosts = λ s hs k. k;
   pipe = λ s i j p a q k. counted-new (length s.promises.entries) s.pipes (pipe.set_up i j p a q) refl k;
   signal = λ s k. k;
-  readable = λ s m b k. k;
-  writable = λ s m b k. k;
+  transform = λ s kind w r p k. k;
+  readable = λ s o m b k. k;
+  writable = λ s o m b k. k;
 }
 
 begun-counted : (s : Slots) (job : Option Job) → IsCounted s → IsCounted (job_begun s job).slots
@@ -264,6 +319,53 @@ begun-counted s (Some job) k = counted-on (length s.promises.entries) (length (a
 job-counted : (s : Slots) → IsCounted s → IsCounted (begin_job s).slots
 unfolding begin_job
 job-counted s k = begun-counted s (next_job s.promises) k
+
+-- a call that makes a transform stream makes two streams, and no other makes one
+
+begin-few : (c : Call) (s : Slots) → HasFewTransforms s → HasFewTransforms (begin c s).done.slots
+begin-few c s few = each_call (λ (b : Begun). HasFewTransforms b.done.slots) c s (record {
+  unchanged = λ reply. few;
+  rejected = few;
+  make_readable = λ mark size start. let a = length-append s.streams (ReadableStream (readable.set_up Host mark size) ∷ []) in omega (arith, a, few);
+  make_writable = λ mark size start. let a = length-append s.streams (WritableStream (writable.set_up Host mark size) ∷ []) in omega (arith, a, few);
+  make_transform = λ kind m n start.
+      let me : TransformId = record { 0 = length s.transforms } in
+      let w : Stream = WritableStream (writable.set_up (HalfOf me) m Count) in
+      let r : Stream = ReadableStream (readable.set_up (HalfOf me) n Count) in
+      let x : transform.Slots = transform.set_up kind (record { 0 = length s.streams }) (record { 0 = length s.streams + 1 }) (next_id s.promises) in
+      let a = length-append s.streams (w ∷ []) in
+      let b = length-append (s.streams ++ w ∷ []) (r ∷ []) in
+      let d = length-append s.transforms (x ∷ []) in
+      omega (arith, a, b, d, few);
+  get_reader = λ i e. few;
+  get_writer = λ i e. few;
+  release_reader = λ l closed i e. few;
+  release_writer = λ l i w e f. few;
+  cancel = λ reason i. few;
+  read = λ l i closed e f. few;
+  write = λ l v i e. few;
+  close = λ i. few;
+  abort = λ reason i e. few;
+  enqueue = λ i v e o can. few;
+  enqueue_half = λ i t v e o can. few;
+  finish = λ i. few;
+  fail_readable = λ i reason. few;
+  fail_writable = λ i reason. few;
+  fail_half = λ t reason. few;
+  terminate = λ t. few;
+  pipe = λ source dest prevent signal e f l m. few;
+  make_signal = few;
+  trigger = λ a reason. few;
+  settle = λ h answer p e. few;
+})
+
+begun-few : (s : Slots) (job : Option Job) → HasFewTransforms s → HasFewTransforms (job_begun s job).slots
+begun-few s None few = few
+begun-few s (Some job) few = few
+
+job-few : (s : Slots) → HasFewTransforms s → HasFewTransforms (begin_job s).slots
+unfolding begin_job
+job-few s few = begun-few s (next_job s.promises) few
 
 pub call-begins : (c : Call) (reply : Reply) (t t' : Tables) → IsPrepared t → IsResting t → Answers (begin c (slots_of t)) reply t t' → IsBegun t'
 call-begins c reply t t' ready rest did =
@@ -276,6 +378,7 @@ call-begins c reply t t' ready rest did =
       waiting = did.waiting;
       aborts = did.aborts;
       counted = begin-makes IsCounted counted-makes c (slots_of t) rest.kept.counted;
+      few = begin-few c (slots_of t) rest.kept.few;
       records = which-made reply t t' did.records;
     })
 
@@ -291,5 +394,6 @@ job-begins t t' ready rest did =
       waiting = same.waiting;
       aborts = same.aborts;
       counted = job-counted (slots_of t) rest.kept.counted;
+      few = job-few (slots_of t) rest.kept.few;
       records = inl (record { streams = same.streams; grown = same.grown; signals = same.signals; full = same.full });
     })

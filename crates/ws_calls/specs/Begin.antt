@@ -3,7 +3,7 @@ use Rattle.std.specs.Prelude.{◌≡◌, ◌+◌, ◌≤◌, ◌<◌, [], ◌∷
 use Rattle.ws_pipe.specs.Seen.{SeenSignal}
 use Rattle.ws_promise.specs.Seen.{HasPromiseRoom}
 use Rattle.ws_steps.specs.declared.calls.Reply.{Reply}
-use Rattle.ws_steps.specs.declared.calls.Reply.TheVariants.{Done as ReplyDone, Made, Lock as ReplyLock, Promise, Signal as ReplySignal, Size, State as ReplyState, Throws, TooMany}
+use Rattle.ws_steps.specs.declared.calls.Reply.TheVariants.{Done as ReplyDone, Made, MadeTwo, Lock as ReplyLock, Promise, Signal as ReplySignal, Size, State as ReplyState, Throws, TooMany}
 use Rattle.ws_steps.specs.Pipes.{new_signal}
 use Rattle.ws_steps.specs.Places.{prices_of, queued_alone, requests_alone, members_alone}
 use Rattle.ws_steps.specs.Slots.{Done}
@@ -28,10 +28,13 @@ pub record CanBegin (t : Tables) : Type 0 where
   pub effects : 7 ≤ t.caused.capacity
   pub locks : vec_len t.locks + 2 ≤ vec_capacity t.locks
 
--- there are places for one stream, one pipe and one signal more
+-- there are places for two streams, one transform stream, one pipe and one signal more; of transform streams there are no more than of
+-- streams, so there are numbers for them
 pub record CanMake (t : Tables) : Type 0 where
-  pub streams : vec_len t.streams < vec_capacity t.streams
-  pub grown : vec_len t.grown < vec_capacity t.grown
+  pub streams : vec_len t.streams + 2 ≤ vec_capacity t.streams
+  pub grown : vec_len t.grown + 2 ≤ vec_capacity t.grown
+  pub transforms : vec_len t.transforms < vec_capacity t.transforms
+  pub few : vec_len t.transforms ≤ vec_len t.streams
   pub pipes : vec_len t.pipes < vec_capacity t.pipes
   pub signals : vec_len t.signals < vec_capacity t.signals
   pub full : vec_len t.full < vec_capacity t.full
@@ -43,6 +46,20 @@ pub record MakesOne (t t' : Tables) : Type 0 where
   pub streams : t'.streams.items ≡ t.streams.items ++ stream ∷ []
   pub grown : t'.grown.items ≡ t.grown.items ++ record { 0 = length t.streams.items } ∷ []
   pub counted : vec_len t'.grown ≡ vec_len t.grown + 1
+  pub queued : prices_of queued_alone t'.caused.effects ≡ 0
+  pub requested : prices_of requests_alone t'.caused.effects ≡ 0
+  pub signals : t'.signals ≡ t.signals
+  pub full : t'.full ≡ t.full
+
+-- two streams are made, which have no entries, and what is caused makes none; places are to be made there
+pub record MakesTwo (t t' : Tables) : Type 0 where
+  pub first : Stream
+  pub second : Stream
+  pub first_empty : (queued_in first ≡ 0) × (requested_in first ≡ 0)
+  pub second_empty : (queued_in second ≡ 0) × (requested_in second ≡ 0)
+  pub streams : t'.streams.items ≡ (t.streams.items ++ first ∷ []) ++ second ∷ []
+  pub grown : t'.grown.items ≡ (t.grown.items ++ record { 0 = length t.streams.items } ∷ []) ++ record { 0 = length t.streams.items + 1 } ∷ []
+  pub counted : vec_len t'.grown ≡ vec_len t.grown + 2
   pub queued : prices_of queued_alone t'.caused.effects ≡ 0
   pub requested : prices_of requests_alone t'.caused.effects ≡ 0
   pub signals : t'.signals ≡ t.signals
@@ -65,9 +82,10 @@ pub record MakesNone (t t' : Tables) : Type 0 where
   pub signals : t'.signals ≡ t.signals
   pub full : t'.full ≡ t.full
 
--- a call that answers so makes a stream, or a signal, or neither
+-- a call that answers so makes a stream, or two, or a signal, or none of these
 abbrev pub RecordsAfter : Reply → Tables → Tables → Type 0
 RecordsAfter (Made i) t t' = MakesOne t t'
+RecordsAfter (MadeTwo i j) t t' = MakesTwo t t'
 RecordsAfter (ReplySignal a) t t' = MakesSignal t t'
 RecordsAfter ReplyDone t t' = MakesNone t t'
 RecordsAfter (ReplyLock l) t t' = MakesNone t t'

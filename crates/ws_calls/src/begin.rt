@@ -9,7 +9,7 @@ ghost use Rattle.ws_tables.specs.View.{slots_of};
 ghost use Rattle.ws_calls.specs.Begin.{Answers, CanBegin, CanMake, IsSameBeside};
 
 use crate::jobs::begin_job;
-use crate::{controllers, locks, pipes, readers, streams, writers};
+use crate::{controllers, locks, pipes, readers, streams, transforms, writers};
 use ws_steps::{Call, Reply};
 use ws_tables::Tables;
 
@@ -30,6 +30,12 @@ fn begin(tables: &mut Tables, call: Call) -> Reply
     match call {
         Call::MakeReadable { hwm, size, start } => streams::make_readable(tables, hwm, size, start),
         Call::MakeWritable { hwm, size, start } => streams::make_writable(tables, hwm, size, start),
+        Call::MakeTransform {
+            kind,
+            whwm,
+            rhwm,
+            start,
+        } => transforms::make_transform(tables, kind, whwm, rhwm, start),
         Call::GetReader(i) => readers::get_reader(tables, i),
         Call::GetWriter(i) => writers::get_writer(tables, i),
         Call::Cancel(i, reason) => readers::cancel(tables, i, reason),
@@ -46,6 +52,7 @@ fn begin(tables: &mut Tables, call: Call) -> Reply
         Call::Enqueue(i, chunk) => controllers::enqueue(tables, i, chunk),
         Call::Finish(i) => controllers::finish(tables, i),
         Call::Fail(i, reason) => controllers::fail(tables, i, reason),
+        Call::Terminate(i) => transforms::terminate(tables, i),
         Call::Desired(i) => controllers::desired(tables, i),
         Call::DesiredBy(l) => writers::desired_by(tables, l),
         Call::Pipe {
@@ -72,6 +79,7 @@ fn name(tables: &mut Tables, reply: Reply)
         Reply::Promise(promise) => tables.promises.watch(promise),
         Reply::Done => {}
         Reply::Made(_) => {}
+        Reply::MadeTwo(_, _) => {}
         Reply::Lock(_) => {}
         Reply::Signal(_) => {}
         Reply::Size(_) => {}

@@ -6,7 +6,9 @@ ghost use Rattle.ws_steps.specs.declared.calls.Call.TheVariants as call;
 ghost use Rattle.ws_tables.specs.View.{slots_of};
 
 use crate::replies::{TYPE_ERROR, UNSUPPORTED};
-use ws_steps::{Answer, Effect, ReadableOperation, Reply, WritableOperation};
+use ws_steps::{
+    Answer, Effect, Owner, ReadableOperation, Reply, TransformOperation, WritableOperation,
+};
 use ws_tables::Tables;
 use ws_value::{HostId, Plain, StreamId, Value};
 
@@ -28,12 +30,18 @@ pub(crate) fn enqueue(tables: &mut Tables, i: StreamId, chunk: Value) -> Reply
     if !tables.has_readable(i) {
         return UNSUPPORTED;
     }
+    let owner = tables.readable(i).owner();
     if !tables.readable(i).can_close_or_enqueue() {
         return TYPE_ERROR;
     }
-    tables
-        .caused
-        .push(Effect::Readable(i, ReadableOperation::Enqueue(chunk)));
+    match owner {
+        Owner::Host => tables
+            .caused
+            .push(Effect::Readable(i, ReadableOperation::Enqueue(chunk))),
+        Owner::HalfOf(t) => tables
+            .caused
+            .push(Effect::Transform(t, TransformOperation::Enqueue(chunk))),
+    }
     Reply::Done
 }
 
@@ -43,6 +51,9 @@ pub(crate) fn finish(tables: &mut Tables, i: StreamId) -> Reply
     ensures { Answers (calls.begin (call.Finish i) (slots_of tables.old)) result tables.old tables.new }
 {
     if !tables.has_readable(i) {
+        return UNSUPPORTED;
+    }
+    if let Owner::HalfOf(_) = tables.readable(i).owner() {
         return UNSUPPORTED;
     }
     if !tables.readable(i).can_close_or_enqueue() {
@@ -60,12 +71,20 @@ pub(crate) fn fail(tables: &mut Tables, i: StreamId, reason: Plain) -> Reply
     ensures { Answers (calls.begin (call.Fail i reason) (slots_of tables.old)) result tables.old tables.new }
 {
     if tables.has_readable(i) {
-        tables
-            .caused
-            .push(Effect::Readable(i, ReadableOperation::Error(reason)));
+        match tables.readable(i).owner() {
+            Owner::Host => tables
+                .caused
+                .push(Effect::Readable(i, ReadableOperation::Error(reason))),
+            Owner::HalfOf(t) => tables
+                .caused
+                .push(Effect::Transform(t, TransformOperation::Error(reason))),
+        }
         return Reply::Done;
     }
     if !tables.has_writable(i) {
+        return UNSUPPORTED;
+    }
+    if let Owner::HalfOf(_) = tables.writable(i).owner() {
         return UNSUPPORTED;
     }
     tables.caused.push(Effect::Writable(i, WritableOperation::ErrorIfNeeded(reason)));

@@ -6,7 +6,10 @@ ghost use Rattle.ws_steps.specs.Slots.{causes};
 ghost use Rattle.ws_tables.specs.View.{slots_of};
 ghost use Rattle.ws_calls.specs.Begin.{Begins};
 
-use ws_steps::{Effect, Job, Micro, PipeOperation, ReadableOperation, Step, WritableOperation};
+use ws_steps::{
+    Effect, Job, Micro, PipeOperation, ReadableOperation, Step, TransformOperation,
+    WritableOperation,
+};
 use ws_tables::Tables;
 use ws_value::{Plain, PromiseId};
 
@@ -30,6 +33,11 @@ fn returned(step: Step, outcome: Result<Plain, Plain>) -> Result<Plain, Plain>
         Step::PipeWrote(_) => Ok(Plain::Undefined),
         Step::PipeActed(_) => Ok(Plain::Undefined),
         Step::PipePart(_) => Ok(Plain::Undefined),
+        Step::TransformChanged(_, _) => Ok(Plain::Undefined),
+        Step::Transformed(_) => outcome,
+        Step::TransformFlushed(_, _) => Ok(Plain::Undefined),
+        Step::TransformAborted(_, _, _) => Ok(Plain::Undefined),
+        Step::TransformCancelled(_, _, _) => Ok(Plain::Undefined),
     }
 }
 
@@ -79,6 +87,31 @@ fn cause_steps(tables: &mut Tables, step: Step, outcome: Result<Plain, Plain>)
         Step::PipePart(p) => {
             let operation = PipeOperation::PartSettled(outcome);
             tables.caused.push(Effect::Pipe(p, operation));
+        }
+        Step::TransformChanged(t, promise) => match outcome {
+            Ok(_) => {
+                let operation = TransformOperation::WriteGoesOn(promise);
+                tables.caused.push(Effect::Transform(t, operation));
+            }
+            Err(reason) => tables.caused.push(Effect::Settle(promise, Err(reason))),
+        },
+        Step::Transformed(t) => {
+            if let Err(reason) = outcome {
+                let operation = TransformOperation::Error(reason);
+                tables.caused.push(Effect::Transform(t, operation));
+            }
+        }
+        Step::TransformFlushed(t, promise) => {
+            let operation = TransformOperation::FlushSettled(promise, outcome);
+            tables.caused.push(Effect::Transform(t, operation));
+        }
+        Step::TransformAborted(t, promise, reason) => {
+            let operation = TransformOperation::AbortSettled(promise, reason, outcome);
+            tables.caused.push(Effect::Transform(t, operation));
+        }
+        Step::TransformCancelled(t, promise, reason) => {
+            let operation = TransformOperation::CancelSettled(promise, reason, outcome);
+            tables.caused.push(Effect::Transform(t, operation));
         }
     }
 }

@@ -11,7 +11,7 @@ use ws_value::StreamId;
 use ws_writable::Writable;
 
 /// The most streams of a realm.
-const MOST_STREAMS: usize = 1024;
+pub(crate) const MOST_STREAMS: usize = 1024;
 
 #[tactic(auto, unfolding(ws_steps::specs::Calls::begin))]
 pub(crate) fn make_readable(tables: &mut Tables, hwm: u64, size: SizeBy, start: StartBy) -> Reply

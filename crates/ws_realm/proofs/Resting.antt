@@ -39,7 +39,7 @@ rests-still t u more rest = record {
 -- and prepared still, where places are left
 pub ready-still : (t : Tables) (u : Table) → Less t.promises.table u → IsPrepared t → IsPrepared (record t { promises = record t.promises { table = u } })
 ready-still t u less ready = record {
-  promises = less-room (places_for 0 6 10 t) t.promises u less ready.promises;
+  promises = less-room (places_for 0 8 14 t) t.promises u less ready.promises;
   jobs = let a = less.jobs in let h = ready.jobs in omega (arith, a, h);
   hosts = ready.hosts;
   caused = ready.caused;
@@ -50,6 +50,7 @@ ready-still t u less ready = record {
   members = ready.members;
   locks = ready.locks;
   streams = ready.streams;
+  transforms = ready.transforms;
   pipes = ready.pipes;
   signals = ready.signals;
 }

@@ -6,16 +6,17 @@ pub use ws_end_laws::{
     each_promise_is_open_until_the_end, each_unfailing_pipe_passed_all, each_whole_is_open,
 };
 pub use ws_host_laws::{
-    each_close_was_settled, each_event_is_its_call, each_fulfilled_pipe_closed_its_destination,
-    each_write_of_a_fulfilled_pipe_succeeded, each_write_was_settled,
+    each_close_was_settled, each_event_is_its_call, each_flush_was_settled,
+    each_fulfilled_pipe_closed_its_destination, each_write_of_a_fulfilled_pipe_succeeded,
+    each_write_was_settled,
 };
 pub use ws_laws::{
     each_age_counts, each_mark_stays, each_outcome_stays, each_throw_changes_nothing,
     each_work_is_a_run,
 };
 pub use ws_link_laws::{
-    each_free_pair_stays, each_link_begins, each_link_begins_with_room, each_link_has_room,
-    each_link_keeps,
+    each_enqueue_lets_in, each_free_pair_stays, each_job_lets_in, each_link_begins,
+    each_link_begins_with_room, each_link_has_room, each_link_keeps,
 };
 pub use ws_lock_laws::{
     each_lock_has_one_holder, each_pipe_owns_its_ends, each_reading_has_one_read,
@@ -40,6 +41,10 @@ pub use ws_reason_laws::{
     each_reason_was_a_failure, each_reason_was_given, each_stored_error_was_a_failure,
 };
 pub use ws_room_laws::{effects_end_once, room_is_enough};
+pub use ws_transform_laws::{
+    each_acted_is_transformed, each_half_is_lawful, each_half_step, each_step_enters,
+    flushes_close, jobs_enter_nothing, no_backpressure_is_wanted, transforms_were_heard,
+};
 pub use ws_writable_laws::{
     acted_was_heard, closes_were_heard, each_writable_is_lawful, each_writable_step,
 };

@@ -1,4 +1,4 @@
-//! A realm: readable and writable streams, their readers and writers, pipes and the signals that abort them, promises and one job queue, and the calls on them.
+//! A realm: readable, writable and transform streams, their readers and writers, pipes and the signals that abort them, promises and one job queue, and the calls on them.
 //!
 //! It is thin: `ws_tables` has the tables and the performing of effects, `ws_calls` what calls and jobs begin with. Here all memory is taken first, and a realm that performed 2^62 calls and jobs performs no more. `laws` has what holds over every run.
 #![tactic(auto)]
@@ -8,7 +8,8 @@ mod realm;
 
 pub use realm::{NoRoom, Realm, Why};
 pub use ws_steps::{
-    Answer, Call, Event, Flags, HostCall, Prevent, Reply, SizeBy, StartBy, StateIs, Thrown, Word,
+    Answer, Call, Event, Flags, HostCall, Kind, Prevent, Reply, SizeBy, StartBy, StateIs, Thrown,
+    Word,
 };
 pub use ws_value::{
     Chunk, Fault, HostId, LockId, NoMemory, Outcome, PipeId, Plain, PromiseId, SignalId, StreamId,

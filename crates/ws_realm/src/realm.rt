@@ -35,7 +35,7 @@ pub struct NoRoom {
     pub why: Why,
 }
 
-/// A realm of readable and writable streams, with their readers and writers, its pipes and signals, its promises, its one job queue, and what its host hasn't heard of yet. It is seen as its slots, and whether all memory was taken that the next call or job can need.
+/// A realm of readable, writable and transform streams, with their readers and writers, its pipes and signals, its promises, its one job queue, and what its host hasn't heard of yet. It is seen as its slots, and whether all memory was taken that the next call or job can need.
 #[derive(Drop)]
 pub struct Realm {
     tables: Tables,

@@ -1,8 +1,26 @@
 use Rattle.std.proofs.Common.{◌∙◌, ◌+◌, ap, arith}
+use Rattle.std.proofs.lemmas.List.{length-map}
 use Rattle.ws_steps.specs.Slots.{Slots}
+use Rattle.ws_tables.specs.View.{stream_of}
 use Rattle.ws_laws.proofs.Ages.{begin-age}
 use Rattle.ws_calls.proofs.Beginning.{call-begins}
 use Rattle.ws_calls.proofs.begin.perform_call.Goals as goal
+
+pub begin-reply-requires-clause-room : goal.begin-reply-requires-clause-room
+begin-reply-requires-clause-room c =
+    let ready = c.requires.prepared in
+    let t = c.args.tables.now in
+    let few = c.requires.resting.kept.few in
+    let many = length-map t.streams.items stream_of in
+    record {
+      streams = ready.streams;
+      grown = let h = ready.grown in omega (arith, h);
+      transforms = ready.transforms;
+      few = omega (arith, few, many, t.transforms.ok.0, t.streams.ok.0);
+      pipes = ready.pipes;
+      signals = ready.signals;
+      full = ready.full;
+    }
 
 pub perform_effects-requires-clause-room : goal.perform_effects-requires-clause-room
 perform_effects-requires-clause-room c = (call-begins c.args.call c.begin-reply.result c.args.tables.now c.begin-reply.new.tables c.requires.prepared c.requires.resting c.begin-reply.ensures).room
