@@ -2,10 +2,11 @@
 use Rattle.std.proofs.Common.{◌≡◌, ℕ, ◌^◌, true, false, List, [], ◌∷◌, Some, None, Ok, Err, refl}
 use Rattle.std.specs.Prelude.{codes}
 use Rattle.ws_steps.specs.declared.calls.Call.{Call}
-use Rattle.ws_steps.specs.declared.calls.Call.TheVariants.{MakeReadable, MakeWritable, GetReader, GetWriter, Write, Close, CloseBy, Abort, AbortBy, Ready, Cancel, CancelBy, Read, Closed, Release, Enqueue, Finish, Fail, Desired, DesiredBy, Pipe, MakeSignal, Trigger, Settle, State, Step}
+use Rattle.ws_steps.specs.declared.calls.Call.TheVariants.{MakeReadable, MakeWritable, MakeTransform, GetReader, GetWriter, Write, Close, CloseBy, Abort, AbortBy, Ready, Cancel, CancelBy, Read, Closed, Release, Enqueue, Finish, Fail, Terminate, Desired, DesiredBy, Pipe, MakeSignal, Trigger, Settle, State, Step}
 use Rattle.ws_steps.specs.declared.calls.StartBy.TheVariants.{Now, Later}
 use Rattle.ws_steps.specs.declared.calls.Answer.TheVariants.{Ok as AnswerOk, Fail as AnswerFail}
 use Rattle.ws_steps.specs.declared.readable.SizeBy.TheVariants.{Count, ByteLength}
+use Rattle.ws_steps.specs.declared.transform.Kind.TheVariants.{Identity, Host}
 use Rattle.ws_value.specs.declared.fault.Fault.TheVariants.{User}
 use Rattle.ws_value.specs.declared.value.Plain.TheVariants.{Undefined, Number, Fault, Local}
 use Rattle.ws_value.specs.declared.value.Value.TheVariants.{Plain as PlainValue, Bytes}
@@ -47,6 +48,16 @@ spelled_reader = refl
 
 spelled_writable : AloneIs (codes "writable 1 count now") (MakeWritable 1 Count Now)
 spelled_writable = refl
+
+spelled_transform : AloneIs (codes "transform identity 1 0 now") (MakeTransform Identity 1 0 Now)
+spelled_transform = refl
+
+-- the mark of the writable half stands first
+spelled_transform_of_the_host : AloneIs (codes "transform host 0 18446744073709551615 later") (MakeTransform Host 0 18446744073709551615 Later)
+spelled_transform_of_the_host = refl
+
+spelled_terminate : AloneIs (codes "terminate s1") (Terminate (record { 0 = 1 }))
+spelled_terminate = refl
 
 spelled_writer : AloneIs (codes "writer s1") (GetWriter (record { 0 = 1 }))
 spelled_writer = refl
@@ -186,6 +197,27 @@ refused_large_signal = refl
 
 refused_trigger_without_a_reason : lines (codes "trigger a0") ≡ Err 1
 refused_trigger_without_a_reason = refl
+
+refused_kind : lines (codes "transform Identity 1 0 now") ≡ Err 1
+refused_kind = refl
+
+refused_large_mark : lines (codes "transform host 1 18446744073709551616 now") ≡ Err 1
+refused_large_mark = refl
+
+refused_large_mark_of_the_writable_half : lines (codes "transform host 18446744073709551616 1 now") ≡ Err 1
+refused_large_mark_of_the_writable_half = refl
+
+refused_transform_with_one_mark : lines (codes "transform host 1 now") ≡ Err 1
+refused_transform_with_one_mark = refl
+
+refused_transform_with_a_size : lines (codes "transform host 1 0 count now") ≡ Err 1
+refused_transform_with_a_size = refl
+
+refused_terminate_by_a_lock : lines (codes "terminate l0") ≡ Err 1
+refused_terminate_by_a_lock = refl
+
+refused_terminate_with_a_reason : lines (codes "terminate s1 e1") ≡ Err 1
+refused_terminate_with_a_reason = refl
 
 refused_return_inside : lines (codes "step\r ") ≡ Err 1
 refused_return_inside = refl

@@ -4,12 +4,14 @@ use Rattle.std.specs.Option.{option_or}
 use Rattle.std.specs.Str.{bytes_eq}
 use Rattle.ws_value.specs.declared.ids.StreamId.{StreamId}
 use Rattle.ws_steps.specs.declared.calls.Call.{Call}
-use Rattle.ws_steps.specs.declared.calls.Call.TheVariants.{MakeReadable, MakeWritable, GetReader, GetWriter, Cancel, CancelBy, Read, Write, Close, CloseBy, Abort, AbortBy, Closed, Ready, Release, Enqueue, Finish, Fail, Desired, DesiredBy, Pipe, MakeSignal, Trigger, Settle, State, Step}
+use Rattle.ws_steps.specs.declared.calls.Call.TheVariants.{MakeReadable, MakeWritable, MakeTransform, GetReader, GetWriter, Cancel, CancelBy, Read, Write, Close, CloseBy, Abort, AbortBy, Closed, Ready, Release, Enqueue, Finish, Fail, Terminate, Desired, DesiredBy, Pipe, MakeSignal, Trigger, Settle, State, Step}
 use Rattle.ws_steps.specs.declared.calls.StartBy.{StartBy}
 use Rattle.ws_steps.specs.declared.calls.StartBy.TheVariants.{Now, Later}
 use Rattle.ws_steps.specs.declared.calls.Answer.TheVariants.{Ok as AnswerOk, Fail as AnswerFail}
 use Rattle.ws_steps.specs.declared.readable.SizeBy.{SizeBy}
 use Rattle.ws_steps.specs.declared.readable.SizeBy.TheVariants.{Count, ByteLength}
+use Rattle.ws_steps.specs.declared.transform.Kind.{Kind}
+use Rattle.ws_steps.specs.declared.transform.Kind.TheVariants.{Identity, Host}
 use Rattle.ws_grammar.specs.Numbers.{number_below}
 use Rattle.ws_grammar.specs.declared.options.PipeOptions.{PipeOptions}
 use Rattle.ws_grammar.specs.Options.{options_of}
@@ -26,6 +28,11 @@ abbrev pub all_three : {A B C D : Type 0} → (A → B → C → D) → Option A
 all_three make None second third = None
 all_three make (Some x) second third = both (make x) second third
 
+-- the same of four
+abbrev pub all_four : {A B C D E : Type 0} → (A → B → C → D → E) → Option A → Option B → Option C → Option D → Option E
+all_four make None second third fourth = None
+all_four make (Some x) second third fourth = all_three (make x) second third fourth
+
 -- how a queue measures a chunk: `count` or `bytes`
 abbrev pub size_named : List ℕ → Option SizeBy
 size_named word =
@@ -40,6 +47,13 @@ start_named word =
     else if bytes_eq word (codes "later") then Some Later
     else None
 
+-- whose algorithms a transform stream performs: `identity` or `host`
+abbrev pub kind_named : List ℕ → Option Kind
+kind_named word =
+    if bytes_eq word (codes "identity") then Some Identity
+    else if bytes_eq word (codes "host") then Some Host
+    else None
+
 -- `readable HWM SIZE START`
 abbrev pub readable_call : List ℕ → List ℕ → List ℕ → Option Call
 readable_call hwm size start =
@@ -49,6 +63,15 @@ readable_call hwm size start =
 abbrev pub writable_call : List ℕ → List ℕ → List ℕ → Option Call
 writable_call hwm size start =
     all_three MakeWritable (number_below (2 ^ 64) hwm) (size_named size) (start_named start)
+
+-- `transform KIND HWM HWM START`, with the mark of the writable half first
+abbrev pub transform_call : List ℕ → List ℕ → List ℕ → List ℕ → Option Call
+transform_call kind whwm rhwm start =
+    all_four MakeTransform
+    (kind_named kind)
+    (number_below (2 ^ 64) whwm)
+    (number_below (2 ^ 64) rhwm)
+    (start_named start)
 
 -- `desired S`, or `desired L`
 abbrev pub desired_call : List ℕ → Option Call
@@ -112,7 +135,7 @@ call_alone word =
     else None
 
 -- a word and one more: `reader S`, `writer S`, `read L`, `closed L`, `ready L`, `release L`, `close S` or `L`, `finish S`,
--- `desired S` or `L`, `state S`
+-- `terminate S`, `desired S` or `L`, `state S`
 abbrev pub call_on_one : List ℕ → List ℕ → Option Call
 call_on_one word first =
     if bytes_eq word (codes "reader") then option_map GetReader (stream_named first)
@@ -123,6 +146,7 @@ call_on_one word first =
     else if bytes_eq word (codes "release") then option_map Release (lock_named first)
     else if bytes_eq word (codes "close") then close_call first
     else if bytes_eq word (codes "finish") then option_map Finish (stream_named first)
+    else if bytes_eq word (codes "terminate") then option_map Terminate (stream_named first)
     else if bytes_eq word (codes "desired") then desired_call first
     else if bytes_eq word (codes "state") then option_map State (stream_named first)
     else None
@@ -149,7 +173,14 @@ call_on_three word first second third =
     else if bytes_eq word (codes "pipe") then pipe_call first second (third ∷ [])
     else None
 
--- a word and more than three: `pipe` with options
+-- a word and four more: `transform`, `pipe` with two options
+abbrev pub call_on_four : List ℕ → List ℕ → List ℕ → List ℕ → List ℕ → Option Call
+call_on_four word first second third fourth =
+    if bytes_eq word (codes "transform") then transform_call first second third fourth
+    else if bytes_eq word (codes "pipe") then pipe_call first second (third ∷ fourth ∷ [])
+    else None
+
+-- a word and more than four: `pipe` with options
 abbrev pub call_on_more : List ℕ → List ℕ → List ℕ → List (List ℕ) → Option Call
 call_on_more word first second more = if bytes_eq word (codes "pipe") then pipe_call first second more else None
 
@@ -160,4 +191,6 @@ call_of (word ∷ []) = call_alone word
 call_of (word ∷ first ∷ []) = call_on_one word first
 call_of (word ∷ first ∷ second ∷ []) = call_on_two word first second
 call_of (word ∷ first ∷ second ∷ third ∷ []) = call_on_three word first second third
-call_of (word ∷ first ∷ second ∷ third ∷ fourth ∷ more) = call_on_more word first second (third ∷ fourth ∷ more)
+call_of (word ∷ first ∷ second ∷ third ∷ fourth ∷ []) = call_on_four word first second third fourth
+call_of (word ∷ first ∷ second ∷ third ∷ fourth ∷ fifth ∷ more) =
+    call_on_more word first second (third ∷ fourth ∷ fifth ∷ more)

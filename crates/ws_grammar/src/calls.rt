@@ -1,13 +1,13 @@
 //! The call that a line's words spell.
 ghost use Rattle.std.specs.Prelude.{◌≡◌, IfOk, map};
-ghost use Rattle.ws_grammar.specs.Calls.{size_named, start_named, readable_call, writable_call, desired_call, cancel_call, close_call, abort_call, write_call, enqueue_call, fail_call, settle_ok_call, settle_fail_call, pipe_call, trigger_call};
-ghost use Rattle.ws_grammar.specs.Calls.{call_alone, call_on_one, call_on_two, call_on_three, call_on_more, call_of};
+ghost use Rattle.ws_grammar.specs.Calls.{size_named, start_named, kind_named, readable_call, writable_call, transform_call, desired_call, cancel_call, close_call, abort_call, write_call, enqueue_call, fail_call, settle_ok_call, settle_fail_call, pipe_call, trigger_call};
+ghost use Rattle.ws_grammar.specs.Calls.{call_alone, call_on_one, call_on_two, call_on_three, call_on_four, call_on_more, call_of};
 
 use crate::numbers::number_u64;
 use crate::options::{PipeOptions, options_of};
 use crate::values::{host_named, lock_named, reason_of, signal_named, stream_named, value_of};
 use std::alloc::Global;
-use ws_steps::{Answer, Call, SizeBy, StartBy};
+use ws_steps::{Answer, Call, Kind, SizeBy, StartBy};
 use ws_value::NoMemory;
 
 /// How a queue measures a chunk.
@@ -36,6 +36,19 @@ fn start_named(word: &[u8]) -> Option<StartBy>
     }
 }
 
+/// Whose algorithms a transform stream performs.
+fn kind_named(word: &[u8]) -> Option<Kind>
+    ensures { result ≡ kind_named word.now }
+{
+    if word == b"identity".as_slice() {
+        Some(Kind::Identity)
+    } else if word == b"host".as_slice() {
+        Some(Kind::Host)
+    } else {
+        None
+    }
+}
+
 /// A new readable stream.
 fn readable_call(hwm: &[u8], size: &[u8], start: &[u8]) -> Option<Call>
     ensures { result ≡ readable_call hwm.now size.now start.now }
@@ -54,6 +67,18 @@ fn writable_call(hwm: &[u8], size: &[u8], start: &[u8]) -> Option<Call>
     Some(Call::MakeWritable {
         hwm: number_u64(hwm)?,
         size: size_named(size)?,
+        start: start_named(start)?,
+    })
+}
+
+/// A new transform stream, with the mark of its writable half first.
+fn transform_call(kind: &[u8], whwm: &[u8], rhwm: &[u8], start: &[u8]) -> Option<Call>
+    ensures { result ≡ transform_call kind.now whwm.now rhwm.now start.now }
+{
+    Some(Call::MakeTransform {
+        kind: kind_named(kind)?,
+        whwm: number_u64(whwm)?,
+        rhwm: number_u64(rhwm)?,
         start: start_named(start)?,
     })
 }
@@ -206,6 +231,8 @@ fn call_on_one(word: &[u8], first: &[u8]) -> Option<Call>
         close_call(first)
     } else if word == b"finish".as_slice() {
         stream_named(first).map(Call::Finish)
+    } else if word == b"terminate".as_slice() {
+        stream_named(first).map(Call::Terminate)
     } else if word == b"desired".as_slice() {
         desired_call(first)
     } else if word == b"state".as_slice() {
@@ -262,7 +289,26 @@ fn call_on_three(word: &[u8], first: &[u8], second: &[u8], third: &[u8]) -> Opti
     }
 }
 
-/// The call of a word and more than three.
+/// The call of a word and four more.
+fn call_on_four(
+    word: &[u8],
+    first: &[u8],
+    second: &[u8],
+    third: &[u8],
+    fourth: &[u8],
+) -> Option<Call>
+    ensures { result ≡ call_on_four word.now first.now second.now third.now fourth.now }
+{
+    if word == b"transform".as_slice() {
+        transform_call(first, second, third, fourth)
+    } else if word == b"pipe".as_slice() {
+        pipe_call(first, second, &[third, fourth])
+    } else {
+        None
+    }
+}
+
+/// The call of a word and more than four.
 fn call_on_more(word: &[u8], first: &[u8], second: &[u8], more: &[&[u8]]) -> Option<Call>
     ensures { result ≡ call_on_more word.now first.now second.now (map (λ word. word.now) more.now) }
 {
@@ -283,6 +329,9 @@ pub fn call_of(alloc: Global, words: &[&[u8]]) -> Result<Option<Call>, NoMemory>
         [word, first] => Ok(call_on_one(word, first)),
         [word, first, second] => call_on_two(alloc, word, first, second),
         [word, first, second, third] => Ok(call_on_three(word, first, second, third)),
-        [word, first, second, _, _, ..] => Ok(call_on_more(word, first, second, &words[3..])),
+        [word, first, second, third, fourth] => {
+            Ok(call_on_four(word, first, second, third, fourth))
+        }
+        [word, first, second, _, _, _, ..] => Ok(call_on_more(word, first, second, &words[3..])),
     }
 }

@@ -4,8 +4,8 @@ use Rattle.std.specs.Prelude.{codes}
 use Rattle.std.specs.Fmt.{digits}
 use Rattle.hex.specs.Hex.{encode_with}
 use Rattle.ws_steps.specs.declared.calls.Flags.{Flags}
-use Rattle.ws_steps.specs.declared.calls.HostCall.TheVariants.{Start, Pull, Cancel, Write, Close, Abort}
-use Rattle.ws_steps.specs.declared.calls.Reply.TheVariants.{Done, Made, Lock, Promise, Signal, Size, State, Throws, TooMany}
+use Rattle.ws_steps.specs.declared.calls.HostCall.TheVariants.{Start, Pull, Cancel, Write, Close, Abort, Transform, Flush, CancelTransform}
+use Rattle.ws_steps.specs.declared.calls.Reply.TheVariants.{Done, Made, MadeTwo, Lock, Promise, Signal, Size, State, Throws, TooMany}
 use Rattle.ws_steps.specs.declared.calls.Thrown.TheVariants.{RangeError}
 use Rattle.ws_steps.specs.declared.calls.Word.TheVariants.{Readable, Erroring}
 use Rattle.ws_value.specs.declared.fault.Fault.TheVariants.{TypeError, User, Stage}
@@ -25,6 +25,10 @@ done = refl
 made : reply_line 1 None (Made (record { 0 = 0 })) ≡ codes "1 made s0\n"
 unfolding digits
 made = refl
+
+made_two : reply_line 1 None (MadeTwo (record { 0 = 9 }) (record { 0 = 10 })) ≡ codes "1 made s9 s10\n"
+unfolding digits
+made_two = refl
 
 lock : reply_line 2 None (Lock (record { 0 = 0 })) ≡ codes "2 lock l0\n"
 unfolding digits
@@ -139,6 +143,18 @@ host_close = refl
 host_abort : host_text (record { 0 = 1 }) (Abort (record { 0 = 0 }) (Fault (User 7))) ≡ codes "  host h1 abort s0 e7\n"
 unfolding digits
 host_abort = refl
+
+host_transform : host_text (record { 0 = 0 }) (Transform (record { 0 = 1 }) (Plain (Number 1))) ≡ codes "  host h0 transform s1 n1\n"
+unfolding digits
+host_transform = refl
+
+host_flush : host_text (record { 0 = 1 }) (Flush (record { 0 = 1 })) ≡ codes "  host h1 flush s1\n"
+unfolding digits
+host_flush = refl
+
+host_cancel_transform : host_text (record { 0 = 2 }) (CancelTransform (record { 0 = 1 }) (Fault (User 7))) ≡ codes "  host h2 canceltransform s1 e7\n"
+unfolding digits
+host_cancel_transform = refl
 
 signal : signal_text (record { 0 = 0 }) (Fault (User 7)) ≡ codes "  signal s0 e7\n"
 unfolding digits

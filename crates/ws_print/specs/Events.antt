@@ -6,7 +6,7 @@ use Rattle.ws_value.specs.declared.value.Outcome.{Outcome}
 use Rattle.ws_value.specs.declared.value.Plain.{Plain}
 use Rattle.ws_value.specs.declared.value.Outcome.TheVariants.{Pending, Fulfilled, Given, Finished, Rejected}
 use Rattle.ws_steps.specs.declared.calls.HostCall.{HostCall}
-use Rattle.ws_steps.specs.declared.calls.HostCall.TheVariants.{Start, Pull, Cancel, Write, Close, Abort}
+use Rattle.ws_steps.specs.declared.calls.HostCall.TheVariants.{Start, Pull, Cancel, Write, Close, Abort, Transform, Flush, CancelTransform}
 use Rattle.ws_steps.specs.declared.calls.Reply.{Reply}
 use Rattle.ws_print.specs.Values.{numbered, plain_text, value_text}
 use Rattle.ws_print.specs.Replies.{promise_name, reply_text}
@@ -23,6 +23,10 @@ host_call_text (Cancel stream reason) = numbered (codes "cancel s") stream.0 ++ 
 host_call_text (Write stream value) = numbered (codes "write s") stream.0 ++ codes " " ++ value_text value
 host_call_text (Close stream) = numbered (codes "close s") stream.0
 host_call_text (Abort stream reason) = numbered (codes "abort s") stream.0 ++ codes " " ++ plain_text reason
+host_call_text (Transform stream value) = numbered (codes "transform s") stream.0 ++ codes " " ++ value_text value
+host_call_text (Flush stream) = numbered (codes "flush s") stream.0
+host_call_text (CancelTransform stream reason) =
+    numbered (codes "canceltransform s") stream.0 ++ codes " " ++ plain_text reason
 
 -- the event of such a call, with the number by which the host settles its promise
 abbrev pub host_text : HostId → HostCall → List ℕ

@@ -3,7 +3,7 @@ use Rattle.std.specs.Prelude.{ℕ, ℤ, Bool, if◌then◌else◌, List, [], ◌
 use Rattle.std.specs.Fmt.{signed_decimal}
 use Rattle.ws_steps.specs.declared.calls.Flags.{Flags}
 use Rattle.ws_steps.specs.declared.calls.Reply.{Reply}
-use Rattle.ws_steps.specs.declared.calls.Reply.TheVariants.{Done, Made, Lock, Promise, Signal, Size, State, Throws, TooMany}
+use Rattle.ws_steps.specs.declared.calls.Reply.TheVariants.{Done, Made, MadeTwo, Lock, Promise, Signal, Size, State, Throws, TooMany}
 use Rattle.ws_steps.specs.declared.calls.StateIs.{StateIs}
 use Rattle.ws_steps.specs.declared.calls.Thrown.{Thrown}
 use Rattle.ws_steps.specs.declared.calls.Thrown.TheVariants.{TypeError, RangeError, DataClone, Unsupported}
@@ -73,6 +73,7 @@ thrown_name Unsupported = codes "Unsupported"
 abbrev pub reply_text : Option ℕ → Reply → List ℕ
 reply_text rank Done = codes "done"
 reply_text rank (Made stream) = numbered (codes "made s") stream.0
+reply_text rank (MadeTwo first second) = numbered (codes "made s") first.0 ++ numbered (codes " s") second.0
 reply_text rank (Lock lock) = numbered (codes "lock l") lock.0
 reply_text rank (Promise promise) = codes "promise " ++ promise_name rank
 reply_text rank (Signal signal) = numbered (codes "signal a") signal.0

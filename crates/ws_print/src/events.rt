@@ -1,13 +1,14 @@
 //! The lines of a task. After want of memory a part of a line may have been appended.
-ghost use Rattle.std.specs.Prelude.{◌≡◌, ◌++◌, OnOk};
+ghost use Rattle.std.specs.Prelude.{◌≡◌, ◌++◌, OnOk, codes};
 ghost use Rattle.std.specs.Option.{option_copied};
+ghost use Rattle.ws_print.specs.Values.{numbered, plain_text, value_text};
 ghost use Rattle.ws_print.specs.Events.{reply_line, host_call_text, host_text, outcome_text, outcome_if_known, settled_text, signal_text, again_text};
 
 use crate::append::{append, append_number, append_numbered};
 use crate::replies::{print_promise, print_reply_text};
 use crate::values::{print_plain, print_value};
 use ws_steps::{HostCall, Reply};
-use ws_value::{HostId, NoMemory, Outcome, Plain, StreamId};
+use ws_value::{HostId, NoMemory, Outcome, Plain, StreamId, Value};
 
 /// Appends the line of a reply: the number of the script's line, from 1, a blank, the reply. The rank is that of the promise that the reply names, from 0, and is read for no other reply.
 pub fn print_reply(
@@ -24,6 +25,36 @@ pub fn print_reply(
     append(out, b"\n")
 }
 
+/// Appends words, a stream's number, a blank and a reason.
+fn print_for_reason(
+    out: &mut Vec<u8>,
+    words: &[u8],
+    stream: StreamId,
+    reason: Plain,
+) -> Result<(), NoMemory>
+    ensures appended { OnOk result (out.new.items
+        ≡ out.old.items ++ (numbered words.now stream.0 ++ codes " " ++ plain_text reason)) }
+{
+    append_numbered(out, words, stream.0)?;
+    append(out, b" ")?;
+    print_plain(out, reason)
+}
+
+/// Appends words, a stream's number, a blank and a chunk.
+fn print_for_chunk(
+    out: &mut Vec<u8>,
+    words: &[u8],
+    stream: StreamId,
+    chunk: &Value,
+) -> Result<(), NoMemory>
+    ensures appended { OnOk result (out.new.items
+        ≡ out.old.items ++ (numbered words.now stream.0 ++ codes " " ++ value_text chunk.now)) }
+{
+    append_numbered(out, words, stream.0)?;
+    append(out, b" ")?;
+    print_value(out, chunk)
+}
+
 /// Appends a call of a host's algorithm.
 fn print_host_call(out: &mut Vec<u8>, call: &HostCall) -> Result<(), NoMemory>
     ensures appended { OnOk result (out.new.items ≡ out.old.items ++ host_call_text call.now) }
@@ -31,22 +62,18 @@ fn print_host_call(out: &mut Vec<u8>, call: &HostCall) -> Result<(), NoMemory>
     match call {
         HostCall::Start(stream) => append_numbered(out, b"start s", stream.0),
         HostCall::Pull(stream) => append_numbered(out, b"pull s", stream.0),
-        HostCall::Cancel(stream, reason) => {
-            append_numbered(out, b"cancel s", stream.0)?;
-            append(out, b" ")?;
-            print_plain(out, *reason)
-        }
-        HostCall::Write(stream, value) => {
-            append_numbered(out, b"write s", stream.0)?;
-            append(out, b" ")?;
-            print_value(out, value)
-        }
+        HostCall::Cancel(stream, reason) => print_for_reason(out, b"cancel s", *stream, *reason),
+        HostCall::Write(stream, value) => print_for_chunk(out, b"write s", *stream, value),
         HostCall::Close(stream) => append_numbered(out, b"close s", stream.0),
-        HostCall::Abort(stream, reason) => {
-            append_numbered(out, b"abort s", stream.0)?;
-            append(out, b" ")?;
-            print_plain(out, *reason)
-        }
+        HostCall::Abort(stream, reason) => print_for_reason(out, b"abort s", *stream, *reason),
+        HostCall::Transform(stream, value) => print_for_chunk(out, b"transform s", *stream, value),
+        HostCall::Flush(stream) => append_numbered(out, b"flush s", stream.0),
+        HostCall::CancelTransform(stream, reason) => print_for_reason(
+            out,
+            b"canceltransform s",
+            *stream,
+            *reason,
+        ),
     }
 }
 
@@ -114,9 +141,7 @@ pub fn print_settled(
 pub fn print_signal(out: &mut Vec<u8>, stream: StreamId, reason: Plain) -> Result<(), NoMemory>
     ensures appended { OnOk result (out.new.items ≡ out.old.items ++ signal_text stream reason) }
 {
-    append_numbered(out, b"  signal s", stream.0)?;
-    append(out, b" ")?;
-    print_plain(out, reason)?;
+    print_for_reason(out, b"  signal s", stream, reason)?;
     append(out, b"\n")
 }
 

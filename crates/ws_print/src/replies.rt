@@ -108,6 +108,10 @@ pub fn print_reply_text(out: &mut Vec<u8>, reply: &Reply, rank: Option<u64>) -> 
     match reply {
         Reply::Done => append(out, b"done"),
         Reply::Made(stream) => append_numbered(out, b"made s", stream.0),
+        Reply::MadeTwo(first, second) => {
+            append_numbered(out, b"made s", first.0)?;
+            append_numbered(out, b" s", second.0)
+        }
         Reply::Lock(lock) => append_numbered(out, b"lock l", lock.0),
         Reply::Promise(_) => {
             append(out, b"promise ")?;

@@ -21,6 +21,7 @@ fn rank_named(reply: &Reply, realm: &Realm) -> Option<u64>
         Reply::Promise(promise) => realm.rank(*promise),
         Reply::Done => None,
         Reply::Made(_) => None,
+        Reply::MadeTwo(_, _) => None,
         Reply::Lock(_) => None,
         Reply::Signal(_) => None,
         Reply::Size(_) => None,
