@@ -77,6 +77,7 @@ pub settles-other : (xs : List Entry) (n : Node) (id : HostId) (call : HostCall)
 settles-other xs n id call is other =
     record {
       leaves = refl;
+      makes_none = refl;
       failed = All-nil (IsCause n.input n.output);
       closes = λ i e c. absurd (other (some_same call (Close sink) (sym is ∙ (ap (λ (h : HostId). slice_get (called (past_of xs)) h.0) (id_of id i (settles id) (settles_well i) refl refl e) ∙ c))));
     }
@@ -84,7 +85,7 @@ settles-other xs n id call is other =
 -- what is asked of an output that isn't open any more fails
 pub settles-badly : (xs : List Entry) (n : Node) (id : HostId) → n.output ≢ output.Open → MayAsk xs n (Settle id (AnswerFail (FaultReason WriteFault)))
 settles-badly xs n id shut =
-    record { leaves = refl; failed = All-cons (IsCause n.input n.output) (FaultReason WriteFault) [] shut (All-nil (IsCause n.input n.output)); closes = λ i e c. cc }
+    record { leaves = refl; makes_none = refl; failed = All-cons (IsCause n.input n.output) (FaultReason WriteFault) [] shut (All-nil (IsCause n.input n.output)); closes = λ i e c. cc }
 
 -- a settling brings nothing in
 pub since-settles : (xs : List Entry) (a b : Node) (id : HostId) (answer : Answer) → Led xs a → HasOne a → MayAsk xs a (Settle id answer) → Asks (Settle id answer) a b
@@ -163,6 +164,7 @@ led-written xs n k less s =
       answered = s.answered;
       left = s.left;
       link = s.link;
+      plain = s.plain;
       failed = s.failed;
       closes = s.closes;
       asked = s.asked;
@@ -194,6 +196,7 @@ led-output xs n o f s =
       answered = s.answered;
       left = s.left;
       link = s.link;
+      plain = s.plain;
       failed = all-causes n.input n.output o (failures xs) f s.failed;
       closes = λ before after id e c. let g = s.closes before after id e c in f (λ h. cc) ∙ g;
       asked = s.asked;
@@ -218,7 +221,7 @@ left-alone output.Failed m gain old new h k = (refl, k)
 
 pub pull-asked : (xs : List Entry) (n : Node) (id : HostId) → IsPull (past_of xs) (Some id) → Led xs n → Led xs (record n { asked = Some id })
 pull-asked xs n id pull s =
-    record { slots = s.slots; answered = s.answered; left = s.left; link = s.link; failed = s.failed; closes = s.closes; asked = pull; counts = s.counts; spent = s.spent }
+    record { slots = s.slots; answered = s.answered; left = s.left; link = s.link; plain = s.plain; failed = s.failed; closes = s.closes; asked = pull; counts = s.counts; spent = s.spent }
 
 -- a node that does nothing more
 pub rested : (xs : List Entry) (n : Node) → Led xs n → HasOne n → n.stopped ≡ None → After (in_bytes (behind_in n.realm.slots)) xs n

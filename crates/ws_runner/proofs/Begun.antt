@@ -10,7 +10,7 @@ use Rattle.ws_steps.specs.declared.calls.Call.{Call}
 use Rattle.ws_steps.specs.declared.calls.Event.{Event}
 use Rattle.ws_steps.specs.declared.calls.Event.TheVariants.{Host, Settled, Signal}
 use Rattle.ws_steps.specs.declared.calls.HostCall.{HostCall}
-use Rattle.ws_steps.specs.declared.calls.HostCall.TheVariants.{Pull, Write, Close, Start, Cancel, Abort}
+use Rattle.ws_steps.specs.declared.calls.HostCall.TheVariants.{Pull, Write, Close, Start, Cancel, Abort, Transform, Flush, CancelTransform}
 use Rattle.ws_steps.specs.Histories.{is_same}
 use Rattle.ws_steps.specs.Queues.{is_empty}
 use Rattle.ws_steps.specs.Run.{Entry, Called, Worked, Heard, run, step, after_job, after_event, first_event, is_idle, jobs_in_a_row}
@@ -77,6 +77,9 @@ module _ (id : HostId) (a b : Node) (old new : Shown) (p q : List ℕ → Type 0
   answers-follow (Start i) h = asks-follow _ a b h.0
   answers-follow (Cancel i r) h = asks-follow _ a b h.0
   answers-follow (Abort i r) h = asks-follow _ a b h.0
+  answers-follow (Transform i v) h = asks-follow _ a b h.0
+  answers-follow (Flush i) h = asks-follow _ a b h.0
+  answers-follow (CancelTransform i r) h = asks-follow _ a b h.0
 
 hears-follow : (e : Event) (a b : Node) (old new : Shown) (p q : List ℕ → Type 0) → Hears e a b old new p q → Follows a b
 hears-follow (Host id call) a b old new p q h = answers-follow id a b old new p q call h

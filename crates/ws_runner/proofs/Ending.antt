@@ -16,7 +16,8 @@ use Rattle.ws_steps.specs.declared.calls.HostCall.TheVariants.{Close}
 use Rattle.ws_steps.specs.Pipes as pipe
 use Rattle.ws_steps.specs.Promises.{outcome_at, rank_at}
 use Rattle.ws_steps.specs.Run.{Entry, run}
-use Rattle.ws_steps.specs.Slots.{Slots, empty}
+use Rattle.ws_steps.specs.declared.effects.Owner.TheVariants.{Host}
+use Rattle.ws_steps.specs.Slots.{Slots, empty, owner_at}
 use Rattle.ws_end_laws.specs.PromiseEnds.{IsOpenUntilTheEnd, outcome_of_end}
 use Rattle.ws_end_laws.proofs.PromiseEnds.{each_promise_is_open_until_the_end}
 use Rattle.ws_host_laws.specs.HostCalls.{WasSettledWell}
@@ -61,13 +62,13 @@ settles xs =
 fulfilled-finished : (xs : List Entry) (n : Node) → Led xs n → (run_course link (past_of xs) empty).ended ≡ None ∷ [] → n.output ≡ output.Finished
 fulfilled-finished xs n s e =
     let w : WasSettledWell (past_of xs) (Close sink) =
-    close-was-settled (past_of xs) sink
+    close-was-settled (past_of xs) sink (subst (λ (q : Slots). owner_at sink q ≡ Host) s.slots s.link.own.sink)
     (fulfilled-closed opening xs source sink nothing_prevented None pipe-made (subst (λ (p : PipeId). (run_course p (past_of xs) empty).ended ≡ None ∷ []) (sym first-number) e)) in
     s.closes w.before w.after w.id w.settles w.called
 
 -- a reason with which it was rejected has its cause
 rejected-cause : (xs : List Entry) (n : Node) (r : Plain) → Led xs n → out xs ≡ Some (Rejected r) → IsCause n.input n.output r
-rejected-cause xs n r s e = All-contains (IsCause n.input n.output) (failures xs) r s.failed (first-rejected nothing_prevented xs r e)
+rejected-cause xs n r s e = All-contains (IsCause n.input n.output) (failures xs) r s.failed (first-rejected nothing_prevented xs r (subst (λ (q : Slots). q.transforms ≡ []) s.slots s.plain) e)
 
 -- what a realm answers of the promise
 

@@ -14,17 +14,18 @@ use Rattle.ws_flow.proofs.Told.{before_front, before_of_short, short_refl}
 use Rattle.ws_io.specs.Feed.{Feed}
 use Rattle.ws_io.specs.Moment.{Moment}
 use Rattle.ws_io.proofs.Flow.{Fed-nothing, Gains-nothing}
-use Rattle.ws_link_laws.proofs.Steps.{link-unheard}
+use Rattle.ws_link_laws.proofs.OwnLinks.{link-unheard}
 use Rattle.ws_steps.specs.declared.calls.Answer.TheVariants.{Ok as AnswerOk, Fail as AnswerFail}
 use Rattle.ws_steps.specs.declared.calls.Call.TheVariants.{Settle}
 use Rattle.ws_steps.specs.declared.calls.Event.{Event}
 use Rattle.ws_steps.specs.declared.calls.Event.TheVariants.{Host, Settled, Signal}
 use Rattle.ws_steps.specs.declared.calls.HostCall.{HostCall}
-use Rattle.ws_steps.specs.declared.calls.HostCall.TheVariants.{Start, Pull, Cancel, Write, Close, Abort}
+use Rattle.ws_steps.specs.declared.calls.HostCall.TheVariants.{Start, Pull, Cancel, Write, Close, Abort, Transform, Flush, CancelTransform}
 use Rattle.ws_steps.specs.Histories.{is_same}
 use Rattle.ws_steps.specs.Run.{Entry, Heard, first_event, after_event}
 use Rattle.ws_host_laws.specs.HostCalls.{called, IsItsCall}
-use Rattle.ws_link_laws.specs.Link.{heard_of, heard_call, silence}
+use Rattle.ws_link_laws.specs.Link.{silence}
+use Rattle.ws_link_laws.specs.Own.{heard_of, heard_call}
 use Rattle.ws_realm.specs.Seen.{SeenRealm}
 use Rattle.ws_runner.specs.declared.node.Node.{Node}
 use Rattle.ws_runner.specs.declared.node.Output.TheVariants as output
@@ -46,7 +47,7 @@ module _ (rf : ℕ) (feed : Option Feed) (p q : List ℕ → Type 0) (xs : List 
       (λ o. absurd (shut-isn't_open a.output o)) (settles-badly xs c id (shut-isn't_open a.output)) fails
 
   may_finish : (n : Node) → n.output ≡ output.Finished → MayAsk xs n (settles id)
-  may_finish n o = record { leaves = refl; failed = All-nil (IsCause n.input n.output); closes = λ i e c. o }
+  may_finish n o = record { leaves = refl; makes_none = refl; failed = All-nil (IsCause n.input n.output); closes = λ i e c. o }
 
   finished : IsShortOf (told [] Closed) (lying a) → Finishes id (with_realm realm a) b old new p q → Handled (lying a) a b (shows rf feed old) (shows rf feed new) p q
   finished lay (FinishedWell was_open gained calm done asks) =
@@ -172,6 +173,9 @@ module _ (rf : ℕ) (feed : Option Feed) (p q : List ℕ → Type 0) (xs : List 
   answered id (Write i v) is short h = written_by id i v (is_same sink i) refl is short h
   answered id (Close i) is short h = closed_by id i (is_same sink i) refl is short h
   answered id (Abort i r) is short h = at_once id (Abort i r) is short refl (λ e. cc) h
+  answered id (Transform i v) is short h = at_once id (Transform i v) is short refl (λ e. cc) h
+  answered id (Flush i) is short h = at_once id (Flush i) is short refl (λ e. cc) h
+  answered id (CancelTransform i r) is short h = at_once id (CancelTransform i r) is short refl (λ e. cc) h
 
   heard_event : (e : Event) → IsItsCall (called (past_of xs)) e → IsShortOf (then_told (heard_of sink e) (behind_in realm.slots)) (behind_in a.realm.slots)
       → Hears e (with_realm realm a) b old new p q → Handled (lying a) a b (shows rf feed old) (shows rf feed new) p q

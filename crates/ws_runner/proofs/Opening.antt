@@ -19,13 +19,13 @@ use Rattle.ws_steps.specs.Run.{Entry, run, step, reply_to}
 use Rattle.ws_steps.specs.Slots.{Slots, empty, pipe_at}
 use Rattle.ws_host_laws.specs.HostLaws.{MakesAPipe, next_pipe}
 use Rattle.ws_laws.proofs.Watched.{named-stays}
-use Rattle.ws_link_laws.specs.Sound.{IsLink}
-use Rattle.ws_link_laws.proofs.Begins.{link-begins}
-use Rattle.ws_link_laws.proofs.Worked.{free-new}
+use Rattle.ws_link_laws.specs.Own.{IsOwnLink}
+use Rattle.ws_link_laws.proofs.OwnLinks.{link-begins, free-new}
 use Rattle.ws_pipe_laws.proofs.Kept.{each_pipe_stays}
 use Rattle.ws_promise_laws.proofs.Names.{run-names}
 use Rattle.ws_realm.specs.declared.realm.Why.{Why}
 use Rattle.ws_reason_laws.proofs.FirstPipe.{promise-answered}
+use Rattle.ws_reason_laws.proofs.Untransformed.{run-none}
 use Rattle.ws_runner.specs.declared.node.Input.{Input}
 use Rattle.ws_runner.specs.declared.node.Input.TheVariants as input
 use Rattle.ws_runner.specs.declared.node.Node.{Node}
@@ -43,9 +43,9 @@ no_pipes : length (run opening empty).pipes ≡ 0
 unfolding fresh settle answer react follow unfollow use_gift queue_micro after_next_job watch call_host row turns performed begin_job begin
 no_pipes = refl
 
-pub link-made : IsLink source sink link (run (past_of []) empty)
+pub link-made : IsOwnLink source sink link (run (past_of []) empty)
 link-made =
-    subst (λ (n : ℕ). IsLink source sink (record { 0 = n }) (run (past_of []) empty)) no_pipes
+    subst (λ (n : ℕ). IsOwnLink source sink (record { 0 = n }) (run (past_of []) empty)) no_pipes
     (link-begins source sink nothing_prevented None (run opening empty) (free-new 0 Count Now 1 Count Now) tt)
 
 -- the reply names the promise of the pipe
@@ -76,7 +76,8 @@ fresh-driven limit n small f =
           slots = f.slots;
           answered = f.answered;
           left = refl;
-          link = subst (IsLink source sink link) (sym f.slots) link-made;
+          link = subst (IsOwnLink source sink link) (sym f.slots) link-made;
+          plain = subst (λ (s : Slots). s.transforms ≡ []) (sym f.slots) (run-none (past_of []) empty (refl, (refl, (refl, tt))) refl);
           failed = All-nil (IsCause n.input n.output);
           closes = nothing-closed n.output;
           asked = rw f.asked tt;

@@ -24,7 +24,7 @@ use Rattle.ws_steps.specs.declared.calls.Call.TheVariants.{Enqueue, Finish, Fail
 use Rattle.ws_steps.specs.declared.calls.HostCall.TheVariants.{Pull}
 use Rattle.ws_steps.specs.Run.{Entry}
 use Rattle.ws_host_laws.specs.HostCalls.{called}
-use Rattle.ws_link_laws.specs.Link.{enters}
+use Rattle.ws_link_laws.specs.Own.{enters}
 use Rattle.ws_realm.specs.declared.realm.Why.{Why}
 use Rattle.ws_realm.specs.declared.realm.Why.TheVariants.{NoMemory}
 use Rattle.ws_reason_laws.specs.Reasons.{failures}
@@ -67,6 +67,7 @@ led-input xs n taken unwritten i open_before counts s =
       answered = s.answered;
       left = s.left;
       link = s.link;
+      plain = s.plain;
       failed = all-causes n.input i n.output (failures xs) open_before s.failed;
       closes = s.closes;
       asked = tt;
@@ -207,7 +208,7 @@ module _ (wf : ℕ) (finished : Option Bool) (p : List ℕ → Type 0) (xs : Lis
         let fewer = few in
         let done = both xs a s goes written was_open id asked a.taken a.unwritten input.Ended (Finish source) c b
         (record { limited = omega arith; bound = omega arith; within = λ e. fewer; beyond = λ e. absurd (cc); piece = omega arith; failed = λ e. absurd (cc) })
-        (record { leaves = refl; failed = All-nil (IsCause input.Ended a.output); closes = λ i e. absurd (cc) })
+        (record { leaves = refl; makes_none = refl; failed = All-nil (IsCause input.Ended a.output); closes = λ i e. absurd (cc) })
         (λ o. one-closes a.unwritten (behind_in a.realm.slots) Closed (none o)) asks settles_it in
         let same = done.2 in
         let taken = same.taken in
@@ -232,7 +233,7 @@ module _ (wf : ℕ) (finished : Option Bool) (p : List ℕ → Type 0) (xs : Lis
         let fewer = few in
         let done = both xs a s goes written was_open id asked a.taken a.unwritten input.Failed (Fail source (FaultReason ReadFault)) c b
         (record { limited = omega arith; bound = omega arith; within = λ e. fewer; beyond = λ e. absurd (cc); piece = omega arith; failed = λ e. written })
-        (record { leaves = refl; failed = All-cons (IsCause input.Failed a.output) (FaultReason ReadFault) [] refl (All-nil (IsCause input.Failed a.output)); closes = λ i e. absurd (cc) })
+        (record { leaves = refl; makes_none = refl; failed = All-cons (IsCause input.Failed a.output) (FaultReason ReadFault) [] refl (All-nil (IsCause input.Failed a.output)); closes = λ i e. absurd (cc) })
         (λ o. one-closes a.unwritten (behind_in a.realm.slots) MayCome (none o)) asks settles_it in
         let same = done.2 in
         let taken = same.taken in
@@ -268,7 +269,7 @@ module _ (wf : ℕ) (finished : Option Bool) (p : List ℕ → Type 0) (xs : Lis
           let counted = count in
           let done = both xs a s goes written was_open id asked (a.taken + length (x ∷ rest)) (length (x ∷ rest)) input.TooLong (Fail source (FaultReason TooMuch)) c b
           (record { limited = omega arith; bound = omega arith; within = λ e. absurd (e refl); beyond = λ e. more; piece = omega arith; failed = λ e. absurd (cc) })
-          (record { leaves = refl; failed = All-cons (IsCause input.TooLong a.output) (FaultReason TooMuch) [] refl (All-nil (IsCause input.TooLong a.output)); closes = λ i e. absurd (cc) })
+          (record { leaves = refl; makes_none = refl; failed = All-cons (IsCause input.TooLong a.output) (FaultReason TooMuch) [] refl (All-nil (IsCause input.TooLong a.output)); closes = λ i e. absurd (cc) })
           (λ o. one-closes (length (x ∷ rest)) (behind_in a.realm.slots) MayCome (none o)) asks settles_it in
           let same = done.2 in
           let taken = same.taken in
@@ -291,7 +292,7 @@ module _ (wf : ℕ) (finished : Option Bool) (p : List ℕ → Type 0) (xs : Lis
           let counted = count in
           let done = both xs a s goes written was_open id asked (a.taken + length (x ∷ rest)) (length (x ∷ rest)) a.input (Enqueue source (Bytes (x ∷ rest))) c b
           (record { limited = omega arith; bound = omega arith; within = λ e. within; beyond = λ e. let f = was_open in absurd (cc); piece = omega arith; failed = λ e. let f = was_open in absurd (cc) })
-          (record { leaves = refl; failed = All-nil (IsCause a.input a.output); closes = λ i e. absurd (cc) })
+          (record { leaves = refl; makes_none = refl; failed = All-nil (IsCause a.input a.output); closes = λ i e. absurd (cc) })
           (λ o. one-comes (length (x ∷ rest)) (x ∷ rest) (behind_in a.realm.slots) (none o) refl (omega arith)) asks settles_it in
           let same = done.2 in
           let taken = same.taken in
@@ -330,6 +331,7 @@ module _ (wf : ℕ) (finished : Option Bool) (p : List ℕ → Type 0) (xs : Lis
               answered = s.led.answered;
               left = s.led.left;
               link = s.led.link;
+              plain = s.led.plain;
               failed = s.led.failed;
               closes = s.led.closes;
               asked = tt;

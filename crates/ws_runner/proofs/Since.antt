@@ -1,5 +1,5 @@
 -- A node stays one that its past led to, as its realm performs calls and jobs and its host hears of events.
-use Rattle.std.proofs.Common.{◌≡◌, ℕ, zero, suc, true, List, [], ◌∷◌, ◌++◌, Option, Some, None, refl, sym, ap, ◌∙◌, subst, append-nil, append_assoc, arith}
+use Rattle.std.proofs.Common.{◌≡◌, false, ℕ, zero, suc, true, List, [], ◌∷◌, ◌++◌, Option, Some, None, refl, sym, ap, ◌∙◌, subst, append-nil, append_assoc, arith}
 use Rattle.std.specs.Prelude.{slice_get, All}
 use Rattle.std.proofs.lemmas.List.Elements.{All-nil, All-append}
 use Rattle.ws_value.specs.declared.ids.HostId.{HostId}
@@ -15,14 +15,15 @@ use Rattle.ws_steps.specs.declared.calls.HostCall.TheVariants.{Close}
 use Rattle.ws_steps.specs.Run.{Entry, Called, Worked, Heard, run, step, after_job, after_event, first_event, jobs_in_a_row}
 use Rattle.ws_steps.specs.Slots.{Slots, empty}
 use Rattle.ws_host_laws.specs.HostCalls.{called, settles_well, AllEvents, IsItsCall}
-use Rattle.ws_link_laws.proofs.Steps.{link-called, link-worked, link-heard}
+use Rattle.ws_link_laws.proofs.OwnLinks.{link-called, link-worked, link-heard}
 use Rattle.ws_host_laws.proofs.Called.{each_event_is_its_call}
-use Rattle.ws_link_laws.specs.Link.{enters, heard_of, leaves}
+use Rattle.ws_link_laws.specs.Link.{leaves}
 use Rattle.ws_link_laws.specs.Laws.{entry_leaves}
-use Rattle.ws_link_laws.specs.Sound.{IsLink}
+use Rattle.ws_link_laws.specs.Own.{IsOwnLink, enters, heard_of}
 use Rattle.ws_realm.specs.Seen.{SeenRealm, oldest}
 use Rattle.ws_realm.specs.declared.realm.Why.{Why}
 use Rattle.ws_realm.specs.declared.realm.Why.TheVariants.{Spent}
+use Rattle.ws_reason_laws.proofs.Untransformed.{makes_transform, MakesNone, step-none}
 use Rattle.ws_reason_laws.specs.Reasons.{failures, failure_of}
 use Rattle.ws_runner.specs.declared.node.Node.{Node}
 use Rattle.ws_runner.specs.declared.node.Output.TheVariants as output
@@ -84,6 +85,7 @@ first-event calls (x ∷ es) e f a = subst (IsItsCall calls) (same_some x e f) a
 -- what a node may ask of its realm: calls that leave the link alone, with reasons that have their cause
 pub record MayAsk (xs : List Entry) (n : Node) (c : Call) : Type 0 where
   pub leaves : leaves source sink c ≡ true
+  pub makes_none : makes_transform c ≡ false
   pub failed : All (IsCause n.input n.output) (failure_of c)
   pub closes : (id : HostId) → c ≡ settles_well id → slice_get (called (past_of xs)) id.0 ≡ Some (Close sink) → n.output ≡ output.Finished
 
@@ -94,14 +96,15 @@ pub record After (before : Told (List ℕ)) (xs : List Entry) (n : Node) : Type 
   pub short : IsShortOf (lying n) (ended_by n.input before)
 
 -- the past is longer by one entry
-pub longer : (xs : List Entry) (x : Entry) (n : Node) (realm : SeenRealm) → Led xs n → n.stopped ≡ None → realm.slots ≡ step n.realm.slots x → IsLink source sink link realm.slots
-    → entry_leaves source sink x ≡ true → All (IsCause n.input n.output) (failures (x ∷ [])) → MayClose (past_of xs) x n.output → Led (xs ++ x ∷ []) (with_realm realm n)
-longer xs x n realm s goes is linked leave reasons may =
+pub longer : (xs : List Entry) (x : Entry) (n : Node) (realm : SeenRealm) → Led xs n → n.stopped ≡ None → realm.slots ≡ step n.realm.slots x → IsOwnLink source sink link realm.slots
+    → entry_leaves source sink x ≡ true → MakesNone x → All (IsCause n.input n.output) (failures (x ∷ [])) → MayClose (past_of xs) x n.output → Led (xs ++ x ∷ []) (with_realm realm n)
+longer xs x n realm s goes is linked leave none reasons may =
     record {
       slots = is ∙ (ap (λ q. step q x) s.slots ∙ sym (run-snoc (past_of xs) x empty));
       answered = s.answered;
       left = leave-snoc source sink xs x s.left leave;
       link = linked;
+      plain = subst (λ (q : Slots). q.transforms ≡ []) (sym is) (step-none x n.realm.slots none s.plain);
       failed = rw (failures-snoc xs x) (All-append (IsCause n.input n.output) (failures xs) (failures (x ∷ [])) s.failed reasons);
       closes = closes-snoc (past_of xs) x n.output s.closes may;
       asked = pull-longer (past_of xs) (x ∷ []) n.asked s.asked;
@@ -122,6 +125,7 @@ stopping xs n why stops s =
       answered = s.answered;
       left = s.left;
       link = s.link;
+      plain = s.plain;
       failed = s.failed;
       closes = s.closes;
       asked = s.asked;
@@ -143,7 +147,7 @@ since-asks xs a b c s may one (Performed realm slots goes is) =
     (record {
       more = Called c ∷ [];
       since = record {
-        led = longer xs (Called c) a realm s goes slots (subst (IsLink source sink link) (sym slots) went.0) may.leaves
+        led = longer xs (Called c) a realm s goes slots (subst (IsOwnLink source sink link) (sym slots) went.0) may.leaves may.makes_none
             (subst (All (IsCause a.input a.output)) (sym (append-nil (failure_of c))) may.failed)
             (λ id e. may.closes id (same_call c (settles_well id) e));
         one = λ o. one-short a.unwritten _ _ short (one o);
@@ -167,7 +171,8 @@ same-slots xs a realm e s =
         slots = e ∙ s.led.slots;
         answered = s.led.answered;
         left = s.led.left;
-        link = subst (IsLink source sink link) (sym e) s.led.link;
+        link = subst (IsOwnLink source sink link) (sym e) s.led.link;
+        plain = subst (λ (q : Slots). q.transforms ≡ []) (sym e) s.led.plain;
         failed = s.led.failed;
         closes = s.led.closes;
         asked = s.led.asked;
@@ -186,7 +191,7 @@ jobs-go (suc n) xs a realm goes s e =
     let mid : SeenRealm = record { slots = after_job a.realm.slots; prepared = a.realm.prepared } in
     let since : Since (xs ++ Worked ∷ []) (with_realm mid a) =
     record {
-      led = longer xs Worked a mid s.led goes refl went.0 refl (All-nil (IsCause a.input a.output)) (λ id f. cc);
+      led = longer xs Worked a mid s.led goes refl went.0 refl tt (All-nil (IsCause a.input a.output)) (λ id f. cc);
       one = λ o. one-short a.unwritten _ _ went.1 (s.one o);
     } in
     let rest = jobs-go n (xs ++ Worked ∷ []) (with_realm mid a) realm goes since e in
@@ -201,6 +206,7 @@ stopped xs a realm why spent s =
         answered = s.led.answered;
         left = s.led.left;
         link = s.led.link;
+        plain = s.led.plain;
         failed = s.led.failed;
         closes = s.led.closes;
         asked = s.led.asked;
@@ -234,7 +240,7 @@ pub since-hears : (xs : List Entry) (a : Node) (realm : SeenRealm) (e : Event) �
     × (IsItsCall (called (past_of (xs ++ Heard ∷ []))) e)
 since-hears xs a realm e s goes first slots =
     let went = link-heard source sink link a.realm.slots e first s.link in (
-      longer xs Heard a realm s goes slots (subst (IsLink source sink link) (sym slots) went.0) refl (All-nil (IsCause a.input a.output)) (λ id f. cc),
+      longer xs Heard a realm s goes slots (subst (IsOwnLink source sink link) (sym slots) went.0) refl tt (All-nil (IsCause a.input a.output)) (λ id f. cc),
       subst (λ q. IsShortOf (then_told (heard_of sink e) (behind_in q)) (behind_in a.realm.slots)) (sym slots) went.1,
       call-longer (past_of xs) (Heard ∷ []) e
           (first-event (called (past_of xs)) a.realm.slots.promises.events e first

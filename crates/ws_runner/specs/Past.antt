@@ -19,7 +19,7 @@ use Rattle.ws_steps.specs.Run.{Entry, Called, run}
 use Rattle.ws_steps.specs.Slots.{empty}
 use Rattle.ws_host_laws.specs.HostCalls.{called, settles_well}
 use Rattle.ws_link_laws.specs.Laws.{all_leave}
-use Rattle.ws_link_laws.specs.Sound.{IsLink}
+use Rattle.ws_link_laws.specs.Own.{IsOwnLink}
 use Rattle.ws_realm.specs.Seen.{oldest}
 use Rattle.ws_realm.specs.declared.realm.Why.TheVariants.{Spent}
 use Rattle.ws_reason_laws.specs.Reasons.{failures}
@@ -108,7 +108,9 @@ pub record Led (xs : List Entry) (n : Node) : Type 0 where
   pub slots : n.realm.slots ≡ run (past_of xs) empty
   pub answered : n.pipe ≡ promise
   pub left : all_leave source sink xs ≡ true
-  pub link : IsLink source sink link n.realm.slots
+  pub link : IsOwnLink source sink link n.realm.slots
+  -- it has no transform streams
+  pub plain : n.realm.slots.transforms ≡ []
   pub failed : All (IsCause n.input n.output) (failures xs)
   pub closes : ClosesFinished (past_of xs) n.output
   pub asked : IsPull (past_of xs) n.asked

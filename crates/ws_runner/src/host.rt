@@ -128,6 +128,10 @@ impl Node {
             HostCall::Start(_) => self.settle(id),
             HostCall::Cancel(..) => self.settle(id),
             HostCall::Abort(..) => self.settle(id),
+            // a node has no transform streams
+            HostCall::Transform(..) => self.settle(id),
+            HostCall::Flush(_) => self.settle(id),
+            HostCall::CancelTransform(..) => self.settle(id),
         }
     }
 
