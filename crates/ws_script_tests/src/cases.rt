@@ -2,6 +2,9 @@
 use crate::pipes::PIPED;
 use crate::refused::REFUSED;
 use crate::scripts::WORKED;
+use crate::transform_ends::TRANSFORM_ENDS;
+use crate::transform_errors::TRANSFORM_ERRORS;
+use crate::transforms::TRANSFORMED;
 use std::alloc::Global;
 use std::sync::Wait;
 use std::test::Fail;
@@ -78,7 +81,13 @@ fn holds<R: Threads + Wait>(rt: &R, alloc: Global, case: &Case) -> Result<bool, 
 
 #[test]
 fn worked_scripts(rt: HostRuntime) -> Result<(), Fail> {
-    for (text, printed) in WORKED.iter().chain(&PIPED) {
+    for (text, printed) in WORKED
+        .iter()
+        .chain(&PIPED)
+        .chain(&TRANSFORMED)
+        .chain(&TRANSFORM_ENDS)
+        .chain(&TRANSFORM_ERRORS)
+    {
         let case = Case {
             text: text.as_bytes(),
             failed_reads: &[],

@@ -13,3 +13,9 @@ mod pipes;
 mod refused;
 #[cfg(test)]
 mod scripts;
+#[cfg(test)]
+mod transform_ends;
+#[cfg(test)]
+mod transform_errors;
+#[cfg(test)]
+mod transforms;

@@ -107,6 +107,30 @@ fn long_scripts(rt: HostRuntime) -> Result<(), Fail> {
         ends: b"\n1024 made s1023\n1025 too many\n1026 throws Unsupported\n1027 state readable s total 0 queue 0 requests 0\n",
         length: 0,
     };
+    let no_room_for_both_halves = Long {
+        input: Repeated {
+            text: b"readable 0 count now\n",
+            times: 1023,
+            last: b"transform identity 0 0 now\nreadable 0 count now\ntransform host 0 0 now\n",
+        },
+        failed_writes: &[],
+        status: Status::Done,
+        begins: b"1 made s0\n2 made s1\n",
+        ends: b"\n1023 made s1022\n1024 too many\n1025 made s1023\n1026 too many\n",
+        length: 0,
+    };
+    let room_for_both_halves = Long {
+        input: Repeated {
+            text: b"transform identity 0 0 now\n",
+            times: 513,
+            last: b"readable 0 count now\n",
+        },
+        failed_writes: &[],
+        status: Status::Done,
+        begins: b"1 made s0 s1\n2 made s2 s3\n",
+        ends: b"\n512 made s1022 s1023\n513 too many\n514 too many\n",
+        length: 0,
+    };
     let written_in_parts = Long {
         input: Repeated {
             text: b"step\n",
@@ -119,7 +143,12 @@ fn long_scripts(rt: HostRuntime) -> Result<(), Fail> {
         ends: b"",
         length: ROOM,
     };
-    for case in [after_too_many, written_in_parts] {
+    for case in [
+        after_too_many,
+        no_room_for_both_halves,
+        room_for_both_halves,
+        written_in_parts,
+    ] {
         assert!(rt; holds(&rt, rt.alloc(), &case)?);
     }
     Ok(())

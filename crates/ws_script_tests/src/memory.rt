@@ -2,6 +2,7 @@
 use crate::cases::perform;
 use crate::pipes::PIPED;
 use crate::scripts::WORKED;
+use crate::transforms::TRANSFORMED;
 use std::alloc::Global;
 use std::sync::Wait;
 use std::test::Fail;
@@ -27,7 +28,7 @@ fn prints<R: Threads + Wait>(
 
 #[test]
 fn a_refused_allocation(rt: HostRuntime) -> Result<(), Fail> {
-    for (text, printed) in WORKED.iter().chain(&PIPED) {
+    for (text, printed) in WORKED.iter().chain(&PIPED).chain(&TRANSFORMED) {
         match prints(&rt, rt.alloc(), text, printed) {
             Ok(holds) => assert!(rt; holds, "{text}"),
             Err(NoMemory) => {}

@@ -1,7 +1,7 @@
 //! Scripts that are refused.
 
 /// A script, and its first line outside the grammar.
-pub const REFUSED: [(&str, u32); 39] = [
+pub const REFUSED: [(&str, u32); 52] = [
     ("readable 0 count now\nnothing s0\n", 2),
     ("# one\n\nread l01", 3),
     ("nothing s0", 1),
@@ -44,4 +44,17 @@ pub const REFUSED: [(&str, u32); 39] = [
     ("pipe s0", 1),
     ("signal\ntrigger a0", 2),
     ("trigger a340282366920938463463374607431768211456 e1", 1),
+    ("transform identity 1 now", 1),
+    ("transform identity 1 0 count now", 1),
+    ("transform Identity 1 0 now", 1),
+    ("transform 1 0 host now", 1),
+    ("transform host 18446744073709551616 0 now", 1),
+    ("transform host 0 18446744073709551616 now", 1),
+    ("transform host 01 0 now", 1),
+    ("transform host 1 0 soon", 1),
+    ("transform host 1 0 now\nterminate", 2),
+    ("terminate l1", 1),
+    ("terminate s1 e1", 1),
+    ("terminate s01", 1),
+    ("terminate s4294967296", 1),
 ];
