@@ -11,14 +11,15 @@ from typing import Callable
 
 import looks
 from pipe import Pipe, Prevent
-from promises import Promise, promise_rejected_with
+from promises import Promise, Thrown, promise_rejected_with
 from readable import ReadableStream
 from readable_controller import ReadableStreamDefaultController, UnderlyingSource
 from readable_reader import PromiseReadRequest, ReadableStreamDefaultReader
 from realm import Lock, Realm, Throw
-from replies import (Done, Locked, Look, Made, Named, Reply, SignalMade, Size, Throws,
+from replies import (Done, Locked, Look, Made, MadeTwo, Named, Reply, SignalMade, Size, Throws,
                      TooMany)
 from signals import AbortSignal
+from transform import (Transformer, TransformStreamDefaultController, new_transform_stream)
 from values import TYPE_ERROR, UNDEFINED, Value
 from writable import WritableStream
 from writable_controller import (AbortController, UnderlyingSink,
@@ -84,6 +85,25 @@ def make_writable(realm: Realm, high_water_mark: int, size_algorithm: SizeAlgori
     return Made(number)
 
 
+def make_transform(realm: Realm, is_host: bool, writable_high_water_mark: int,
+                   readable_high_water_mark: int, start_later: bool) -> Reply:
+    """new TransformStream(transformer, writableStrategy, readableStrategy)"""
+    writable = len(realm.streams)
+    readable = writable + 1
+    if readable >= MOST_STREAMS:
+        return TooMany()
+    transformer = Transformer(
+        transform=realm.host_algorithm("transform", readable),
+        flush=realm.host_algorithm("flush", readable),
+        cancel=realm.host_algorithm("canceltransform", readable)) if is_host else None
+    stream = new_transform_stream(
+        realm.jobs, writable_high_water_mark, readable_high_water_mark,
+        realm.start_algorithm(readable, start_later), transformer)
+    realm.streams += [stream.writable, stream.readable]
+    realm.transform_controllers |= {writable: stream.controller, readable: stream.controller}
+    return MadeTwo(writable, readable)
+
+
 def get_reader(realm: Realm, stream: int) -> Reply:
     """stream.getReader()"""
     readable = realm.readable(stream)
@@ -132,8 +152,17 @@ def look(realm: Realm, stream: int) -> Look:
 # Controllers
 
 def enqueue(realm: Realm, stream: int, chunk: Value) -> Reply:
-    """controller.enqueue(chunk) of a readable stream"""
-    controller = realm.readable(stream).controller
+    """controller.enqueue(chunk) of a readable stream or of a transform stream"""
+    controller = realm.controller(stream)
+    if isinstance(controller, TransformStreamDefaultController):
+        try:
+            controller.enqueue(chunk)
+        except Thrown as thrown:
+            assert thrown.value == TYPE_ERROR
+            raise Throw("TypeError") from None
+        return Done()
+    if not isinstance(controller, ReadableStreamDefaultController):
+        raise Throw("Unsupported")
     if not controller.can_close_or_enqueue():
         raise Throw("TypeError")
     controller.enqueue(chunk)
@@ -142,7 +171,9 @@ def enqueue(realm: Realm, stream: int, chunk: Value) -> Reply:
 
 def finish(realm: Realm, stream: int) -> Reply:
     """controller.close() of a readable stream"""
-    controller = realm.readable(stream).controller
+    controller = realm.controller(stream)
+    if not isinstance(controller, ReadableStreamDefaultController):
+        raise Throw("Unsupported")
     if not controller.can_close_or_enqueue():
         raise Throw("TypeError")
     controller.close()
@@ -151,17 +182,29 @@ def finish(realm: Realm, stream: int) -> Reply:
 
 def fail(realm: Realm, stream: int, reason: Value) -> Reply:
     """controller.error(reason)"""
-    found = realm.stream(stream)
-    if isinstance(found, ReadableStream):
-        found.controller.error(reason)
+    controller = realm.controller(stream)
+    if isinstance(controller, WritableStreamDefaultController):
+        controller.error_if_needed(reason)
     else:
-        found.controller.error_if_needed(reason)
+        controller.error(reason)
+    return Done()
+
+
+def terminate(realm: Realm, stream: int) -> Reply:
+    """controller.terminate() of a transform stream"""
+    controller = realm.controller(stream)
+    if not isinstance(controller, TransformStreamDefaultController):
+        raise Throw("Unsupported")
+    controller.terminate()
     return Done()
 
 
 def desired(realm: Realm, stream: int) -> Reply:
-    """controller.desiredSize of a readable stream"""
-    return Size(realm.readable(stream).controller.desired_size())
+    """controller.desiredSize of a readable stream or of a transform stream"""
+    controller = realm.controller(stream)
+    if isinstance(controller, WritableStreamDefaultController):
+        raise Throw("Unsupported")
+    return Size(controller.desired_size())
 
 
 # Readers and writers

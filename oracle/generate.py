@@ -25,7 +25,7 @@ COMMONNESS: dict[str, float] = {
     "cancel reader": 0.8,
     "writer": 1.2, "write": 9.0, "close stream": 1.0, "close writer": 2.0,
     "abort stream": 1.2, "abort writer": 2.2,
-    "fail": 1.0, "release": 1.8, "closed": 2.5, "ready": 3.0, "desired stream": 1.0,
+    "fail": 1.0, "terminate": 0.7, "release": 1.8, "closed": 2.5, "ready": 3.0, "desired stream": 1.0,
     "desired writer": 1.2, "pipe": 2.0, "signal": 0.8, "trigger": 1.0, "settle ok": 9.0, "settle fail": 2.0, "state": 3.0, "step": 2.0,
 }
 
@@ -36,7 +36,8 @@ CHUNKS = ("x", "x00", "x6162", "x616263", "xAbCdEf01", "n1", "n2", "n3", "e5", "
 MARKS = ("0", "0", "1", "1", "1", "1", "2", "2", "3", "5") * 3 + ("18446744073709551615",)
 LIMITS = ("0", "0", "0", "1", "1", "1", "2", "2", "3", "4", "7", "100000")
 PREVENTS = ("prevent-close", "prevent-abort", "prevent-cancel")
-ALL_KINDS = (("readable",), ("writable",)) + (("readable", "writable"),) * 3
+ALL_KINDS = ((("readable",), ("writable",), ("transform",)) + (("readable", "writable"),) * 3
+             + (("transform", "transform"),) * 2 + (("readable", "writable", "transform"),) * 2)
 
 
 def is_alive(stream: Stream | None) -> bool:
@@ -60,8 +61,11 @@ class Author:
         self._start_later = random.choice((0.1, 0.3, 0.8))
         self._kinds = random.choice(ALL_KINDS)
         self._pipes = random.choice((0.0, 0.4, 0.9, 0.9)) if len(self._kinds) > 1 else 0.0
+        self._host_kind = random.choice((0.0, 0.5, 0.8, 1.0))
         self._prevents = random.choice((0.0, 0.2, 0.6))
         self._signals = random.choice((0.1, 0.5, 0.9))
+        self._destinations: dict[int, set[int]] = {}
+        self._goes_round = False
         self._most_alive = random.choice((1, 1, 2, 3)) + len(self._kinds) - 1
         self._writers: dict[str, Callable[[], str | None]] = {
             "reader": lambda: self._of_stream("reader", ReadableStream),
@@ -77,6 +81,7 @@ class Author:
             "abort stream": lambda: self._of_stream("abort", WritableStream, REASONS),
             "abort writer": lambda: self._of_lock("abort", WritableStream, REASONS),
             "fail": lambda: self._of_stream("fail", object, REASONS),
+            "terminate": lambda: self._of_half("terminate"),
             "release": lambda: self._of_lock("release", object),
             "closed": lambda: self._of_lock("closed", object),
             "ready": lambda: self._of_lock("ready", WritableStream),
@@ -104,11 +109,34 @@ class Author:
         return "".join(f"{line}\n" for line in self._lines).encode("ascii")
 
     def _perform(self, call: str) -> None:
-        """Adds a line, and performs it."""
-        if self._random.random() < self._limited:
+        """Adds a line, and performs it. Where chunks may go round, no task has many jobs."""
+        if call.startswith("pipe "):
+            self._note_pipe(*(int(word[1:]) for word in call.split(" ")[1:3]))
+        if self._goes_round:
+            call = f"@{self._random.choice(LIMITS[:-1])} {call}"
+        elif self._random.random() < self._limited:
             call = f"@{self._random.choice(LIMITS)} {call}"
         self._lines.append(call)
         perform_task(self._realm, task_in(len(self._lines), call.encode("ascii").split(b" ")))
+
+    def _note_pipe(self, source: int, dest: int) -> None:
+        """Keeps in mind where a pipe leads. It may close a circle of transform streams, whose
+        jobs have no end."""
+        self._destinations.setdefault(source, set()).add(dest)
+        reached, left = set(), [dest]
+        while left:
+            number = left.pop()
+            if number not in reached:
+                reached.add(number)
+                left += self._destinations.get(number, ())
+                if self._is_writable_half(number):
+                    left.append(number + 1)
+        self._goes_round = self._goes_round or source in reached
+
+    def _is_writable_half(self, number: int) -> bool:
+        """Whether this is the number of the writable half of a transform stream."""
+        return (number in self._realm.transform_controllers
+                and isinstance(self._realm.streams[number], WritableStream))
 
     def _next_call(self) -> str | None:
         """A stream or a lock where one is wanted and the author is eager, or else a call of
@@ -128,9 +156,17 @@ class Author:
 
     def _new_stream(self) -> str:
         kind = self._random.choice(self._kinds)
+        if kind == "transform":
+            return self._new_transform()
         size = self._random.choice(("count", "count", "bytes"))
         start = "later" if self._random.random() < self._start_later else "now"
         return f"{kind} {self._random.choice(MARKS)} {size} {start}"
+
+    def _new_transform(self) -> str:
+        kind = "host" if self._random.random() < self._host_kind else "identity"
+        start = "later" if self._random.random() < self._start_later else "now"
+        marks = f"{self._random.choice(MARKS)} {self._random.choice(MARKS)}"
+        return f"transform {kind} {marks} {start}"
 
     def _new_lock(self, number: int) -> str:
         is_readable = isinstance(self._realm.streams[number], ReadableStream)
@@ -146,6 +182,14 @@ class Author:
         if word not in ("reader", "writer"):
             numbers = self._narrowed(numbers, lambda number: is_alive(streams[number]))
         return self._on(word, "s", numbers, values)
+
+    def _of_half(self, word: str) -> str | None:
+        """A call on the readable half of a transform stream, mostly on one that is alive."""
+        streams = self._realm.streams
+        numbers = [number for number in self._realm.transform_controllers
+                   if isinstance(streams[number], ReadableStream)]
+        numbers = self._narrowed(numbers, lambda number: is_alive(streams[number]))
+        return self._on(word, "s", numbers, ())
 
     def _of_lock(self, word: str, kind: type, values: tuple[str, ...] = ()) -> str | None:
         """A call on a reader or writer of such a stream, mostly on one that isn't released,
@@ -229,6 +273,8 @@ def random_script(random: Random, most_lines: int) -> bytes:
 
 def crowded_script(random: Random) -> bytes:
     """A script that asks for a few streams more than a realm may have."""
-    lines = [f"{random.choice(('readable', 'writable'))} 1 count now\n"
-             for _ in range(random.randint(1022, 1028))]
-    return "".join(lines).encode("ascii")
+    makers = ["readable 1 count now", "writable 1 count now", "transform identity 1 0 now",
+              "transform host 0 1 now"]
+    transforms = random.choice((0, 0, 1, 100))
+    makers = random.choices(makers, (100, 100, transforms, transforms), k=1028)
+    return "".join(f"{maker}\n" for maker in makers).encode("ascii")

@@ -91,6 +91,14 @@ def size(word: bytes) -> Callable[[Value], int]:
     raise Mismatch
 
 
+def kind_is_host(word: bytes) -> bool:
+    if word == b"identity":
+        return False
+    if word == b"host":
+        return True
+    raise Mismatch
+
+
 def start_is_later(word: bytes) -> bool:
     if word == b"now":
         return False
@@ -161,6 +169,8 @@ def pipe_options(words: list[bytes]) -> PipeOptions:
 FORMS: dict[bytes, tuple[Form, ...]] = {
     b"readable": (((high_water_mark, size, start_is_later), calls.make_readable),),
     b"writable": (((high_water_mark, size, start_is_later), calls.make_writable),),
+    b"transform": (((kind_is_host, high_water_mark, high_water_mark, start_is_later),
+                    calls.make_transform),),
     b"reader": (((stream,), calls.get_reader),),
     b"writer": (((stream,), calls.get_writer),),
     b"read": (((lock,), calls.read),),
@@ -174,6 +184,7 @@ FORMS: dict[bytes, tuple[Form, ...]] = {
     b"enqueue": (((stream, value), calls.enqueue),),
     b"finish": (((stream,), calls.finish),),
     b"fail": (((stream, reason), calls.fail),),
+    b"terminate": (((stream,), calls.terminate),),
     b"desired": (((stream,), calls.desired), ((lock,), calls.desired_by_writer)),
     b"pipe": (((stream, stream, Rest(pipe_options)), calls.pipe),),
     b"signal": (((), calls.make_signal),),

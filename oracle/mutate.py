@@ -33,7 +33,8 @@ WORDS = (
     b"x", b"x0", b"x0G", b"xaB", b"x\xc3\xa9", b"X00", b"TypeError",
     b"@0", b"@1", b"@", b"@00", b"@100000", b"@100001", b"@-1", b"@@1", b"@1step",
     b"readable", b"writable", b"reader", b"writer", b"read", b"write", b"cancel", b"close",
-    b"abort", b"closed", b"ready", b"release", b"enqueue", b"finish", b"fail", b"desired",
+    b"abort", b"closed", b"ready", b"release", b"enqueue", b"finish", b"fail", b"desired", b"transform", b"terminate",
+    b"identity", b"Identity", b"host", b"Host", b"hosts",
     b"pipe", b"signal", b"trigger", b"settle", b"state", b"step", b"STEP", b"count", b"bytes", b"now", b"later", b"ok",
     b"#", b"#step", "٣".encode(), "step\u00a0".encode(),
 )
@@ -48,6 +49,10 @@ LINES = (
     b"pipe s0 s1 prevent-close prevent-close", b"pipe s0 s1 signal=a0 signal=a1",
     b"pipe s0 s1 prevent-cancel prevent-abort signal=a0 prevent-close",
     b"pipe s0 s1 prevent-cancel prevent-abort signal=a0 prevent-close prevent-close",
+    b"transform identity 1 0 now", b"transform host 0 18446744073709551615 later",
+    b"transform host 1 18446744073709551616 now", b"transform identity 1 now",
+    b"transform identity 1 0 count now", b"transform host 1 0 now now", b"transform 1 0 host now",
+    b"terminate s0", b"terminate l0", b"terminate s0 e1", b"terminate",
     b"write s0 n1", b"read s0", b"tee s0", b"bytes 0 0 now",
 )
 

@@ -2,7 +2,7 @@
 
 from promises import PromiseState
 from readable_reader import ReadResult
-from replies import (Done, Event, HostCalled, Locked, Look, Made, Named, Reply, Settled,
+from replies import (Done, Event, HostCalled, Locked, Look, Made, MadeTwo, Named, Reply, Settled,
                      Signalled, SignalMade, Size, Throws, TooMany)
 from values import Bytes, Fault, HostError, HostValue, Number, Undefined, Value
 
@@ -32,6 +32,8 @@ def text_of_reply(reply: Reply) -> str:
             return "done"
         case Made(stream):
             return f"made s{stream}"
+        case MadeTwo(writable, readable):
+            return f"made s{writable} s{readable}"
         case Locked(lock):
             return f"lock l{lock}"
         case SignalMade(signal):

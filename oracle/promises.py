@@ -15,10 +15,18 @@ from dataclasses import dataclass
 from enum import Enum
 from typing import Any, Callable
 
-from values import UNDEFINED
+from values import UNDEFINED, Value
 
 Job = Callable[[], None]
 Handler = Callable[[Any], Any]
+
+
+class Thrown(Exception):
+    """What an operation or a handler throws."""
+
+    def __init__(self, value: Value) -> None:
+        super().__init__(value)
+        self.value = value
 
 
 class PromiseState(Enum):
@@ -60,7 +68,11 @@ class Reaction:
         fulfilled = settled.state is PromiseState.FULFILLED
         handler = self.on_fulfilled if fulfilled else self.on_rejected
         if handler is not None:
-            returned = handler(settled.result)
+            try:
+                returned = handler(settled.result)
+            except Thrown as thrown:
+                self.derived.reject(thrown.value)
+                return
             self.derived.resolve(UNDEFINED if returned is None else returned)
         elif fulfilled:
             self.derived.resolve(settled.result)

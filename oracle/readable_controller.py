@@ -148,6 +148,10 @@ class ReadableStreamDefaultController:
             return 0
         return self.high_water_mark - self.queue.total_size
 
+    def has_backpressure(self) -> bool:
+        """ReadableStreamDefaultControllerHasBackpressure"""
+        return not self.should_call_pull()
+
     def can_close_or_enqueue(self) -> bool:
         """ReadableStreamDefaultControllerCanCloseOrEnqueue"""
         return not self.close_requested and self.stream.state == "readable"

@@ -1,6 +1,6 @@
 """One realm: its streams, readers, writers and signals by number, and what its host hears.
 
-Algorithms of sources and sinks belong to the host: a call of one is an event, and gives a
+Algorithms of sources, sinks and transformers belong to the host: a call of one is an event, and gives a
 promise that the host settles by a later call. A promise has a name once a reply told it, and
 from then on its settling is an event.
 """
@@ -11,15 +11,20 @@ from typing import Callable
 
 from promises import JobQueue, Promise
 from readable import ReadableStream
+from readable_controller import ReadableStreamDefaultController
 from readable_reader import ReadableStreamDefaultReader
-from signals import AbortSignal
 from replies import Event, HostCalled, Settled, Signalled
+from signals import AbortSignal
+from transform import TransformStreamDefaultController
 from values import UNDEFINED, Value
 from writable import WritableStream
+from writable_controller import WritableStreamDefaultController
 from writable_writer import WritableStreamDefaultWriter
 
 Stream = ReadableStream | WritableStream
 Lock = ReadableStreamDefaultReader | WritableStreamDefaultWriter
+Controller = (ReadableStreamDefaultController | WritableStreamDefaultController
+              | TransformStreamDefaultController)
 Algorithm = Callable[..., Promise]
 
 
@@ -33,6 +38,8 @@ class Realm:
     def __init__(self) -> None:
         self.jobs = JobQueue()
         self.streams: list[Stream] = []
+        # By the numbers of both halves of each transform stream.
+        self.transform_controllers: dict[int, TransformStreamDefaultController] = {}
         # A reader or a writer of a pipe's own has a number, and no call may name it.
         self.locks: list[Lock | None] = []
         self.signals: list[AbortSignal] = []
@@ -58,6 +65,16 @@ class Realm:
         if not isinstance(stream, WritableStream):
             raise Throw("Unsupported")
         return stream
+
+    def controller(self, number: int) -> Controller:
+        """The controller that the host has of a stream. Of a transform stream it has one, by its
+        readable half, and none of the two halves' own."""
+        stream = self.stream(number)
+        if number not in self.transform_controllers:
+            return stream.controller
+        if not isinstance(stream, ReadableStream):
+            raise Throw("Unsupported")
+        return self.transform_controllers[number]
 
     def lock(self, number: int) -> Lock:
         lock = self.locks[number] if number < len(self.locks) else None

@@ -21,6 +21,14 @@ class Made:
 
 
 @dataclass
+class MadeTwo:
+    """A transform stream was made, with a writable and a readable half."""
+
+    writable: int
+    readable: int
+
+
+@dataclass
 class Locked:
     """A reader or a writer was made."""
 
@@ -71,7 +79,8 @@ class Look:
     requests: int
 
 
-Reply = Done | Made | Locked | SignalMade | Named | Size | Throws | TooMany | Look
+Reply = (Done | Made | MadeTwo | Locked | SignalMade | Named | Size | Throws | TooMany
+         | Look)
 
 
 @dataclass
