@@ -22,7 +22,7 @@ use Rattle.ws_steps.proofs.PromiseLaws.{slice_get-set_other}
 use Rattle.ws_laws.proofs.Tables.{either, readable_acts, writable_acts, eq_numbers, unequal_numbers}
 
 abbrev pub Turned : Acts → Acts → Type 0
-Turned a b = (b.slots.change ≡ a.slots.change) ⊎ (b.out.promises ≡ fresh (settle a.slots.change done a.out.promises))
+Turned a b = ((b.slots.change ≡ a.slots.change) × (b.slots.backpressure ≡ a.slots.backpressure)) ⊎ (b.out.promises ≡ fresh (settle a.slots.change done a.out.promises))
 
 backpressure-turned : (b : Bool) (a : Acts) → Turned a (set_backpressure b a)
 unfolding set_backpressure
@@ -30,11 +30,11 @@ backpressure-turned b a = inr refl
 
 unblock-turned : (a : Acts) → Turned a (unblock a)
 unfolding unblock
-unblock-turned a = either (Turned a) a.slots.backpressure (set_backpressure false a) a (λ e. backpressure-turned false a) (λ e. inl refl)
+unblock-turned a = either (Turned a) a.slots.backpressure (set_backpressure false a) a (λ e. backpressure-turned false a) (λ e. inl (refl, refl))
 
 enqueued-turned : (halves : Halves) (a : Acts) → Turned a (enqueued halves a)
 unfolding enqueued
-enqueued-turned halves a = either (Turned a) (differs (not halves.should_pull) a.slots.backpressure) (set_backpressure true a) a (λ e. backpressure-turned true a) (λ e. inl refl)
+enqueued-turned halves a = either (Turned a) (differs (not halves.should_pull) a.slots.backpressure) (set_backpressure true a) a (λ e. backpressure-turned true a) (λ e. inl (refl, refl))
 
 pull-turned : (u : Use) (a : Acts) → Turned a (source_pull u a)
 unfolding source_pull set_backpressure
@@ -43,54 +43,54 @@ pull-turned u a = inr refl
 module _ (me : TransformId) where
   write-turned : (u : Use) (a : Acts) → Turned a (sink_write me u a)
   unfolding sink_write
-  write-turned u a = either (Turned a) a.slots.backpressure (wait_for_change me u a) (perform_transform me u a) (λ e. inl refl) (λ e. inl refl)
+  write-turned u a = either (Turned a) a.slots.backpressure (wait_for_change me u a) (perform_transform me u a) (λ e. inl (refl, refl)) (λ e. inl (refl, refl))
 
   goes_on-turned : (halves : Halves) (d : PromiseId) (a : Acts) (state : WritableState) → Turned a (write_in me halves d a state)
-  goes_on-turned halves d a IsWritable = inl refl
-  goes_on-turned halves d a Erroring = inl refl
-  goes_on-turned halves d a WritableErrored = inl refl
-  goes_on-turned halves d a WritableClosed = inl refl
+  goes_on-turned halves d a IsWritable = inl (refl, refl)
+  goes_on-turned halves d a Erroring = inl (refl, refl)
+  goes_on-turned halves d a WritableErrored = inl (refl, refl)
+  goes_on-turned halves d a WritableClosed = inl (refl, refl)
 
   finish-turned : (call : HostCall) (step : PromiseId → Step) (u : Use) (a : Acts) (finish : Option PromiseId) → Turned a (finish_by call step u a finish)
-  finish-turned call step u a None = inl refl
-  finish-turned call step u a (Some p) = inl refl
+  finish-turned call step u a None = inl (refl, refl)
+  finish-turned call step u a (Some p) = inl (refl, refl)
 
   flushed-turned : (p : PromiseId) (halves : Halves) (a : Acts) (state : ReadableState) → Turned a (flushed_in p halves a state)
-  flushed-turned p halves a IsReadable = inl refl
-  flushed-turned p halves a ReadableClosed = inl refl
-  flushed-turned p halves a ReadableErrored = inl refl
+  flushed-turned p halves a IsReadable = inl (refl, refl)
+  flushed-turned p halves a ReadableClosed = inl (refl, refl)
+  flushed-turned p halves a ReadableErrored = inl (refl, refl)
 
   aborted-turned : (p : PromiseId) (halves : Halves) (r : Plain) (a : Acts) (state : ReadableState) → Turned a (aborted_in p halves r a state)
-  aborted-turned p halves r a IsReadable = inl refl
-  aborted-turned p halves r a ReadableClosed = inl refl
-  aborted-turned p halves r a ReadableErrored = inl refl
+  aborted-turned p halves r a IsReadable = inl (refl, refl)
+  aborted-turned p halves r a ReadableClosed = inl (refl, refl)
+  aborted-turned p halves r a ReadableErrored = inl (refl, refl)
 
   cancelled-turned : (p : PromiseId) (halves : Halves) (r : Plain) (a : Acts) (state : WritableState) → Turned a (cancelled_in me p halves r a state)
-  cancelled-turned p halves r a IsWritable = inl refl
-  cancelled-turned p halves r a Erroring = inl refl
-  cancelled-turned p halves r a WritableErrored = inl refl
-  cancelled-turned p halves r a WritableClosed = inl refl
+  cancelled-turned p halves r a IsWritable = inl (refl, refl)
+  cancelled-turned p halves r a Erroring = inl (refl, refl)
+  cancelled-turned p halves r a WritableErrored = inl (refl, refl)
+  cancelled-turned p halves r a WritableClosed = inl (refl, refl)
 
   operation-turned : (halves : Halves) (operation : TransformOperation) (a : Acts) → Turned a (transform_operation me halves operation a)
   unfolding transform_error terminate enqueue transform_chunk write_goes_on sink_close sink_abort source_cancel flush_settled abort_settled cancel_settled
   operation-turned halves (names.SinkWrite u) a = write-turned u a
   operation-turned halves (names.WriteGoesOn d) a = goes_on-turned halves d a halves.writable_state
-  operation-turned halves (names.TransformChunk v d) a = inl refl
-  operation-turned halves (names.Enqueue v) a = inl refl
+  operation-turned halves (names.TransformChunk v d) a = inl (refl, refl)
+  operation-turned halves (names.Enqueue v) a = inl (refl, refl)
   operation-turned halves names.Enqueued a = enqueued-turned halves a
-  operation-turned halves (names.Error e) a = inl refl
+  operation-turned halves (names.Error e) a = inl (refl, refl)
   operation-turned halves names.Unblock a = unblock-turned a
-  operation-turned halves names.Terminate a = inl refl
+  operation-turned halves names.Terminate a = inl (refl, refl)
   operation-turned halves (names.SourcePull u) a = pull-turned u a
   operation-turned halves (names.SinkClose u) a = finish-turned _ (TransformFlushed me) u a a.slots.finish
   operation-turned halves (names.SinkAbort r u) a = finish-turned _ (λ p. TransformAborted me p r) u a a.slots.finish
   operation-turned halves (names.SourceCancel r u) a = finish-turned _ (λ p. TransformCancelled me p r) u a a.slots.finish
   operation-turned halves (names.FlushSettled p (Ok v)) a = flushed-turned p halves a halves.readable_state
-  operation-turned halves (names.FlushSettled p (Err e)) a = inl refl
+  operation-turned halves (names.FlushSettled p (Err e)) a = inl (refl, refl)
   operation-turned halves (names.AbortSettled p r (Ok v)) a = aborted-turned p halves r a halves.readable_state
-  operation-turned halves (names.AbortSettled p r (Err e)) a = inl refl
+  operation-turned halves (names.AbortSettled p r (Err e)) a = inl (refl, refl)
   operation-turned halves (names.CancelSettled p r (Ok v)) a = cancelled-turned p halves r a halves.writable_state
-  operation-turned halves (names.CancelSettled p r (Err e)) a = inl refl
+  operation-turned halves (names.CancelSettled p r (Err e)) a = inl (refl, refl)
 
 -- the places of transform streams
 
@@ -103,10 +103,10 @@ place-same (t ∷ ts) (suc k) x y e = place-same ts k x y e
 pub record Turns (t : TransformId) (x : Slots) (s z : realm.Slots) : Type 0 where
   pub after : Slots
   pub there : slice_get z.transforms t.0 ≡ Some after
-  pub turned : (after.change ≡ x.change) ⊎ (z.promises ≡ fresh (settle x.change done s.promises))
+  pub turned : ((after.change ≡ x.change) × (after.backpressure ≡ x.backpressure)) ⊎ (z.promises ≡ fresh (settle x.change done s.promises))
 
 kept : (t : TransformId) (x : Slots) (s z : realm.Slots) → z.transforms ≡ s.transforms → slice_get s.transforms t.0 ≡ Some x → Turns t x s z
-kept t x s z e there = record { after = x; there = ap (λ (ts : List Slots). slice_get ts t.0) e ∙ there; turned = inl refl }
+kept t x s z e there = record { after = x; there = ap (λ (ts : List Slots). slice_get ts t.0) e ∙ there; turned = inl (refl, refl) }
 
 transform-turns : (t u : TransformId) (operation : TransformOperation) (x : Slots) (s : realm.Slots) (o : Option Slots) (same : Bool) → same ≡ nat_eq t.0 u.0 → slice_get s.transforms u.0 ≡ o → slice_get s.transforms t.0 ≡ Some x
     → Turns t x s (on_transform_at (λ halves. transform_operation u halves operation) u s o).slots
@@ -121,7 +121,7 @@ transform-turns t u operation x s (Some y) true e at there =
 transform-turns t u operation x s (Some y) false e at there =
     let a : Acts = record { slots = y; out = found s } in
     let b : Acts = transform_operation u (halves_at y s) operation a in
-    record { after = x; there = slice_get-set_other s.transforms u.0 t.0 b.slots (λ i. unequal_numbers t.0 u.0 (sym e) (sym i)) ∙ there; turned = inl refl }
+    record { after = x; there = slice_get-set_other s.transforms u.0 t.0 b.slots (λ i. unequal_numbers t.0 u.0 (sym e) (sym i)) ∙ there; turned = inl (refl, refl) }
 
 pub pipe-transforms : (p : PipeId) (operation : PipeOperation) (s : realm.Slots) (o : Option pipe.Slots) → (on_pipe_at (λ ends. pipe_operation p ends operation) p s o).slots.transforms ≡ s.transforms
 pipe-transforms p operation s None = refl

@@ -27,3 +27,10 @@ pub mod Telling
 pub mod Pressing
 pub mod Wanted
 pub mod WantedRuns
+pub mod Seen
+pub mod Due
+pub mod Wants
+pub mod Keeping
+pub mod Waited
+pub mod Asked
+pub mod Asking

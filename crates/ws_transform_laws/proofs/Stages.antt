@@ -117,7 +117,7 @@ module _ (i : StreamId) (t : TransformId) where
   row-token f d e s k (AtChange x there w) =
       let r = row-turns t e x s there in
       ⊎_elim
-      (λ same. AtChange r.after r.there (rw same (row-changes (Waits (of_reaction (goes_on t d)) 1 x.change) (waits-changes (of_reaction (goes_on t d)) 1 x.change) e s w)))
+      (λ same. AtChange r.after r.there (rw same.0 (row-changes (Waits (of_reaction (goes_on t d)) 1 x.change) (waits-changes (of_reaction (goes_on t d)) 1 x.change) e s w)))
       (λ turned.
       let z : Table = settle x.change transform.done s.promises in
       let q : Queued (of_job (of_reaction (goes_on t d))) 1 z = queued-settle (of_reaction (goes_on t d)) (of_job (of_reaction (goes_on t d))) 1 x.change transform.done s.promises (goes-job t d transform.done) (change-open f t x s k there) w in

@@ -25,7 +25,7 @@ pub record Waits (f : Reaction → ℕ) (n : ℕ) (p : PromiseId) (t : Table) : 
   pub there : entry_at t p ≡ Some entry
   pub waits : is_pending entry.outcome ≡ true → n ≤ of_reactions f entry.reactions
 
-of_reactions-append : (f : Reaction → ℕ) (xs ys : List Reaction) → of_reactions f (xs ++ ys) ≡ of_reactions f xs + of_reactions f ys
+pub of_reactions-append : (f : Reaction → ℕ) (xs ys : List Reaction) → of_reactions f (xs ++ ys) ≡ of_reactions f xs + of_reactions f ys
 of_reactions-append f [] ys = omega arith
 of_reactions-append f (x ∷ xs) ys = let n = of_reactions-append f xs ys in omega arith
 
@@ -105,7 +105,7 @@ module _ (f : Reaction → ℕ) (n : ℕ) (p : PromiseId) where
 abbrev pub Queued : (Job → ℕ) → ℕ → Table → Type 0
 Queued f n t = n ≤ in_jobs f t.jobs
 
-in_jobs-append : (f : Job → ℕ) (xs ys : List Job) → in_jobs f (xs ++ ys) ≡ in_jobs f xs + in_jobs f ys
+pub in_jobs-append : (f : Job → ℕ) (xs ys : List Job) → in_jobs f (xs ++ ys) ≡ in_jobs f xs + in_jobs f ys
 in_jobs-append f [] ys = omega arith
 in_jobs-append f (x ∷ xs) ys = let n = in_jobs-append f xs ys in omega arith
 
@@ -157,13 +157,21 @@ queued-next f n t job e k = by t.jobs refl e k
     by [] h e k = cc
     by (j ∷ js) h e k = let is : j ≡ job = cc in let few : n ≤ in_jobs f js = (let same : f j ≡ f job = ap f is in omega arith) in queued_taken f n j (record t { jobs = js }) few
 
+-- the first job is among them
+pub queued-first : (f : Job → ℕ) (t : Table) (job : Job) → next_job t ≡ Some job → f job ≤ in_jobs f t.jobs
+queued-first f t job e = by t.jobs e
+  where
+    by : (js : List Job) → first_job js ≡ Some job → f job ≤ in_jobs f js
+    by [] e = cc
+    by (j ∷ js) e = let is : j ≡ job = cc in let same : f j ≡ f job = ap f is in omega arith
+
 -- a promise that settles queues what waited for it
 
-in_jobs-map : (f : Reaction → ℕ) (g : Job → ℕ) (o : Result Plain Plain) → ((r : Reaction) → f r ≤ g (job_of o r)) → (rs : List Reaction) → of_reactions f rs ≤ in_jobs g (map (job_of o) rs)
+pub in_jobs-map : (f : Reaction → ℕ) (g : Job → ℕ) (o : Result Plain Plain) → ((r : Reaction) → f r ≤ g (job_of o r)) → (rs : List Reaction) → of_reactions f rs ≤ in_jobs g (map (job_of o) rs)
 in_jobs-map f g o l [] = omega arith
 in_jobs-map f g o l (r ∷ rs) = let a = in_jobs-map f g o l rs in let b = l r in omega arith
 
-jobs_noted : (q : PromiseId) (t : Table) (r : Option ℕ) → (noted q t r).jobs ≡ t.jobs
+pub jobs_noted : (q : PromiseId) (t : Table) (r : Option ℕ) → (noted q t r).jobs ≡ t.jobs
 jobs_noted q t r = grind arith
 
 settled_queued : (f : Reaction → ℕ) (g : Job → ℕ) (n : ℕ) (p : PromiseId) (o : Result Plain Plain) (t : Table) (e : Entry) → ((r : Reaction) → f r ≤ g (job_of o r)) → n ≤ of_reactions f e.reactions → (x : Option Entry) → x ≡ Some e
@@ -211,7 +219,7 @@ waits-none f p t e there = record { entry = e; there = there; waits = λ h. omeg
 
 -- what waits for a promise that is pending, and what is queued, weighs as much in all
 
-entry_weighs : (f : Reaction → ℕ) (es : List (Option Entry)) (k : ℕ) (e : Entry) → live (slice_get es k) ≡ Some e → of_reactions f e.reactions ≤ of_entries f es
+pub entry_weighs : (f : Reaction → ℕ) (es : List (Option Entry)) (k : ℕ) (e : Entry) → live (slice_get es k) ≡ Some e → of_reactions f e.reactions ≤ of_entries f es
 entry_weighs f [] k e h = cc
 entry_weighs f (x ∷ xs) zero e h = rw h (omega arith)
 entry_weighs f (x ∷ xs) (suc k) e h = let n = entry_weighs f xs k e h in omega arith
@@ -226,7 +234,7 @@ waits-weigh f n p t open_ k =
 abbrev pub IsWithin : (Job → ℕ) → (Reaction → ℕ) → Type 0
 IsWithin g f = (j : Job) → g j ≤ of_job f j
 
-jobs_within : (g : Job → ℕ) (f : Reaction → ℕ) → IsWithin g f → (js : List Job) → in_jobs g js ≤ of_jobs f js
+pub jobs_within : (g : Job → ℕ) (f : Reaction → ℕ) → IsWithin g f → (js : List Job) → in_jobs g js ≤ of_jobs f js
 jobs_within g f l [] = omega arith
 jobs_within g f l (j ∷ js) = let a = jobs_within g f l js in let b = l j in omega arith
 

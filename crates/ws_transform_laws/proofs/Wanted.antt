@@ -41,7 +41,7 @@ module _ (t : TransformId) (r : StreamId) where
     pub fine : IsRead t r s → Fine t r (not (can r s)) es
     pub fits : h.released ≡ [] → IsRead t r s → Fits t r s es
 
-  read-there : (s : Slots) → IsRead t r s → (x : transform.Slots) × ((slice_get s.transforms t.0 ≡ Some x) × (x.readable ≡ r))
+  pub read-there : (s : Slots) → IsRead t r s → (x : transform.Slots) × ((slice_get s.transforms t.0 ≡ Some x) × (x.readable ≡ r))
   read-there s h = let x = map-from transform_shape s.transforms t.0 h.0 h.1.0 in (x.0, (x.1.0, ap (λ (y : TransformShape). y.readable) x.1.1 ∙ h.1.1))
 
   read-owner : (s : Slots) → Halved s → IsRead t r s → owner_at r s ≡ HalfOf t

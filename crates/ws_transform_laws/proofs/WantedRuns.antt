@@ -40,7 +40,7 @@ use Rattle.ws_transform_laws.proofs.Wanted.{Known, row-known}
 
 module _ (t : TransformId) (r : StreamId) where
   -- at rest there is backpressure where nothing is wanted
-  at-rest : (s : Slots) → Fits t r s [] → unwanted t r s ≡ true → pressed t s ≡ true
+  pub at-rest : (s : Slots) → Fits t r s [] → unwanted t r s ≡ true → pressed t s ≡ true
   at-rest s (Fronts f claim) = (claim refl).0
   at-rest s (Enters v rest eq k) = cc
   at-rest s (Opens p rest eq none k claim) = cc
@@ -290,7 +290,7 @@ module _ (t : TransformId) (r : StreamId) where
     settle = λ a answer p e halved. calls-same h s _ _ k halved refl refl (omega arith) (one _ _ refl tt) (λ m. (tt, tt));
   }) (halved-stays.call s c k.halved)
 
-  goes : GoesUntold reads_then (effect_reads r) (Known t r)
+  pub goes : GoesUntold reads_then (effect_reads r) (Known t r)
   goes = record {
     row = λ h s e es k. row-known t r h s e es k;
     call = λ h s c k. call-known h s c k;
@@ -299,11 +299,11 @@ module _ (t : TransformId) (r : StreamId) where
     older = λ h s k. calls-same h s (older s) [] k k.halved refl refl (omega arith) (record { none = refl; plain = tt }) (λ m. tt);
   }
 
-  rests : RestsUntold (Known t r)
+  pub rests : RestsUntold (Known t r)
   unfolding weigh
   rests = record { heard = λ h s k. calls-same h s (after_event s) [] k k.halved refl refl (omega arith) (record { none = refl; plain = tt }) (λ m. tt) }
 
-  none-known : Known t r no_reads empty []
+  pub none-known : Known t r no_reads empty []
   unfolding weigh
   none-known = record { halved = halved-empty; unmade = λ e. (refl, refl); uncancelled = λ m. cc; fine = λ m. tt; fits = λ e m. cc }
 
@@ -313,7 +313,7 @@ reads-nothing h = λ k. record { asked = append-nil h.asked k; released = append
 reads-assoc : (f g h : Reads) → reads_then (reads_then f g) h ≡ reads_then f (reads_then g h)
 reads-assoc f g h = λ k. record { asked = append_assoc f.asked g.asked h.asked k; released = append_assoc f.released g.released h.released k }
 
-are_reads : IsHistory no_reads reads_then
+pub are_reads : IsHistory no_reads reads_then
 are_reads = record { left = λ h. refl; right = reads-nothing; assoc = reads-assoc }
 
 wanted_then : (open_ w b : Bool) → open_ ≡ true → b ≡ false → (open_ && not w ≡ true → b ≡ true) → w ≡ true

@@ -9,14 +9,15 @@ use Rattle.ws_steps.specs.declared.effects.Effect.{Effect}
 use Rattle.ws_steps.specs.declared.effects.Effect.TheVariants.{Readable, Transform}
 use Rattle.ws_steps.specs.declared.promises.Job.{Job}
 use Rattle.ws_steps.specs.declared.promises.Job.TheVariants.{Reaction as ReactionJob}
-use Rattle.ws_steps.specs.declared.promises.Step.TheVariants.{TransformFlushed}
+use Rattle.ws_steps.specs.declared.promises.Step.TheVariants.{TransformFlushed, TransformChanged}
 use Rattle.ws_steps.specs.declared.readable.ReadableOperation.TheVariants.{Close}
 use Rattle.ws_steps.specs.declared.transform.Kind.{Kind}
 use Rattle.ws_steps.specs.declared.transform.Kind.TheVariants.{Identity, Host as HostKind}
 use Rattle.ws_steps.specs.declared.transform.TransformId.{TransformId}
 use Rattle.ws_steps.specs.declared.transform.TransformOperation.TheVariants.{TransformChunk}
 use Rattle.ws_steps.specs.Histories.{is_same, in_step, over}
-use Rattle.ws_steps.specs.Run.{Entry}
+use Rattle.ws_steps.specs.Promises.{next_job}
+use Rattle.ws_steps.specs.Run.{Entry, Worked}
 use Rattle.ws_steps.specs.Queues.{is_empty, total_of}
 use Rattle.ws_steps.specs.Readable as readable
 use Rattle.ws_steps.specs.Readable.{can_close_or_enqueue, waiting}
@@ -76,6 +77,32 @@ effect_unwanted t _ s = []
 -- in a run
 abbrev pub run_unwanted : TransformId → List Entry → Slots → List Value
 run_unwanted t xs s = over [] ◌++◌ (in_step [] ◌++◌ (effect_unwanted t)) xs s
+
+-- in a step
+abbrev pub step_unwanted : TransformId → Slots → Entry → List Value
+step_unwanted t s x = in_step [] ◌++◌ (effect_unwanted t) s x
+
+-- whether a job is that of the reaction by which a write of its writable half goes on that waited for the backpressure to change
+abbrev pub is_changed : TransformId → Option Job → Bool
+is_changed t (Some (ReactionJob (TransformChanged u d) o derived)) = is_same_transform t u
+is_changed t _ = false
+
+-- whether in a step such a write goes on though there is backpressure
+abbrev pub goes_on_pressed : TransformId → Slots → Entry → Bool
+goes_on_pressed t s Worked = is_changed t (next_job s.promises) && (transform_at t s).backpressure
+goes_on_pressed t s _ = false
+
+-- the chunk with which an effect performs the transform algorithm of transform stream t, where its readable half could take one and has mark 0, and
+-- no read of that waits
+abbrev pub effect_unread : TransformId → Effect → Slots → List Value
+effect_unread t (Transform u (TransformChunk v d)) s =
+    let r : readable.Slots = readable_at (transform_at t s).readable s in
+    if is_same_transform t u && (can_close_or_enqueue r && (nat_eq r.hwm 0 && is_empty (waiting r))) then v ∷ [] else []
+effect_unread t _ s = []
+
+-- in a step
+abbrev pub step_unread : TransformId → Slots → Entry → List Value
+step_unread t s x = in_step [] ◌++◌ (effect_unread t) s x
 
 -- how its readable half is closed
 

@@ -5,12 +5,12 @@ use Rattle.ws_steps.specs.declared.transform.TransformId.{TransformId}
 use Rattle.ws_steps.specs.Histories.{run_events}
 use Rattle.ws_steps.specs.Promises.{next_job}
 use Rattle.ws_steps.specs.Readable.{can_close_or_enqueue}
-use Rattle.ws_steps.specs.ReadableHistory.{step_flow, accepted_in_step, run_reads}
+use Rattle.ws_steps.specs.ReadableHistory.{step_flow, accepted_in_step, run_reads, step_reads}
 use Rattle.ws_steps.specs.Run.{Entry, Worked, run, step}
 use Rattle.ws_steps.specs.Slots.{Slots, empty, readable_at}
 use Rattle.ws_steps.specs.Transform as transform
 use Rattle.ws_steps.specs.WritableHistory.{run_writes}
-use Rattle.ws_transform_laws.specs.TransformHistory.{run_transformed, step_enqueued, step_closings, is_flushed, wants, heard_transforms}
+use Rattle.ws_transform_laws.specs.TransformHistory.{run_transformed, step_enqueued, step_closings, is_flushed, wants, goes_on_pressed, step_unwanted, step_unread, heard_transforms}
 
 -- in every run, the chunks that the writable half of a transform stream handed on are those with which its transform algorithm was performed, in
 -- their order
@@ -53,3 +53,17 @@ abbrev pub NoBackpressureIsWanted : Type 0
 NoBackpressureIsWanted =
     (entries : List Entry) (t : TransformId) (y : transform.Slots) → let s : Slots = run entries empty in slice_get s.transforms t.0 ≡ Some y
     → y.backpressure ≡ false → can_close_or_enqueue (readable_at y.readable s) ≡ true → (run_reads y.readable entries empty).released ≡ [] → wants (readable_at y.readable s) ≡ true
+
+-- in each step of every run, where no reader of the readable half of a transform stream was released while a read of it waited, its transform
+-- algorithm is performed only where the readable half wants a chunk, or can take none; but for the step by which a write goes on that waited for the
+-- backpressure to change, where there is backpressure again
+abbrev pub EachChunkIsWanted : Type 0
+EachChunkIsWanted =
+    (entries : List Entry) (x : Entry) (t : TransformId) (y : transform.Slots) → let s : Slots = run entries empty in slice_get (step s x).transforms t.0 ≡ Some y
+    → (run_reads y.readable entries empty).released ≡ [] → (step_reads y.readable s x).released ≡ [] → goes_on_pressed t s x ≡ false → step_unwanted t s x ≡ []
+
+-- and so, where the readable half has mark 0 and can take a chunk, it is performed only while a read of that waits
+abbrev pub EachChunkIsRead : Type 0
+EachChunkIsRead =
+    (entries : List Entry) (x : Entry) (t : TransformId) (y : transform.Slots) → let s : Slots = run entries empty in slice_get (step s x).transforms t.0 ≡ Some y
+    → (run_reads y.readable entries empty).released ≡ [] → (step_reads y.readable s x).released ≡ [] → goes_on_pressed t s x ≡ false → step_unread t s x ≡ []

@@ -2,7 +2,7 @@
 #![tactic(auto)]
 
 ghost use Rattle.ws_transform_laws.specs.HalfLaws.{EachHalfIsLawful, EachHalfStep};
-ghost use Rattle.ws_transform_laws.specs.TransformLaws.{EachActedIsTransformed, EachStepEnters, FlushesClose, JobsEnterNothing, NoBackpressureIsWanted, TransformsWereHeard};
+ghost use Rattle.ws_transform_laws.specs.TransformLaws.{EachActedIsTransformed, EachChunkIsRead, EachChunkIsWanted, EachStepEnters, FlushesClose, JobsEnterNothing, NoBackpressureIsWanted, TransformsWereHeard};
 
 /// The order of the writable half of each transform stream, in every run. What it handed on to the transform algorithm is the first part of what was written to it; while it is writable or erroring, what was written was handed on or stands in its queue, in this order; its close algorithm is performed at most once, and only where all that was written was handed on and each of these writes was fulfilled, and so it is of a half that is closed.
 pub fn each_half_is_lawful()
@@ -42,4 +42,14 @@ pub fn flushes_close()
 /// In every run, where a transform stream has no backpressure, its readable half can take a chunk, and no reader of that was released while a read of it waited, the readable half wants a chunk: a read waits, or its desired size is more than 0.
 pub fn no_backpressure_is_wanted()
     ensures { NoBackpressureIsWanted }
+{}
+
+/// In each step of every run, the transform algorithm of a transform stream, of whose readable half no reader was released while a read of it waited, is performed only where the readable half wants a chunk, or can take none; but for the step by which a write goes on that waited for the backpressure to change, where there is backpressure again.
+pub fn each_chunk_is_wanted()
+    ensures { EachChunkIsWanted }
+{}
+
+/// And so, where the readable half has mark 0 and can take a chunk, the transform algorithm is performed only while a read of it waits.
+pub fn each_chunk_is_read()
+    ensures { EachChunkIsRead }
 {}

@@ -1,0 +1,162 @@
+-- No effect asks for a write to wait, but the write algorithm of the transform stream under backpressure.
+use Rattle.std.proofs.Common.{◌≡◌, ℕ, Bool, false, List, [], ◌∷◌, Option, Some, None, slice_get, refl, arith}
+use Rattle.ws_value.specs.declared.ids.{PipeId.{PipeId}, PromiseId.{PromiseId}, StreamId.{StreamId}}
+use Rattle.ws_value.specs.declared.value.Plain.{Plain}
+use Rattle.ws_steps.specs.declared.effects.{Effect.{Effect}, Owner.{Owner}, Owner.TheVariants.{Host, HalfOf}, Use.TheVariants.{React}}
+use Rattle.ws_steps.specs.declared.effects.Effect.TheVariants.{Readable as OnReadable, Writable as OnWritable, Pipe as OnPipe, Signal as OnSignal, Transform as OnTransform, StartAlgorithm, PullAlgorithm, CancelAlgorithm, WriteAlgorithm, CloseAlgorithm, AbortAlgorithm, ChunkSteps, CloseSteps, ErrorSteps}
+use Rattle.ws_steps.specs.declared.promises.Step.{Step}
+use Rattle.ws_steps.specs.declared.transform.{TransformId.{TransformId}, TransformOperation.{TransformOperation}}
+use Rattle.ws_steps.specs.declared.transform.TransformOperation.TheVariants as names
+use Rattle.ws_value.specs.declared.ids.SignalId.{SignalId}
+use Rattle.ws_steps.specs.declared.pipes.{PipeOperation.{PipeOperation}, SignalOperation.{SignalOperation}, SignalOperation.TheVariants.{Add, Forget, Trigger}}
+use Rattle.ws_steps.specs.declared.readable.ReadableOperation.{ReadableOperation}
+use Rattle.ws_steps.specs.declared.writable.WritableOperation.{WritableOperation}
+use Rattle.ws_steps.specs.declared.transform.Halves.{Halves}
+use Rattle.ws_steps.specs.Effects.{Out, cause}
+use Rattle.ws_steps.specs.Operations.{readable_operation, writable_operation, pipe_operation, signal_operation, transform_operation}
+use Rattle.ws_steps.specs.Pipes as pipe
+use Rattle.ws_steps.specs.Pipes.{abort_all}
+use Rattle.ws_steps.specs.Transform as transform
+use Rattle.ws_steps.specs.Writable.{write_to_host}
+use Rattle.ws_steps.specs.declared.calls.{StartBy.{StartBy}, StartBy.TheVariants.{Now, Later}}
+use Rattle.ws_steps.specs.declared.promises.Step.TheVariants.{ReadablePull, ReturnUndefined, WritableClose, WritableAbort}
+use Rattle.ws_steps.specs.declared.readable.ReadRequest.TheVariants.{Promise, Pipe as PipeRequest}
+use Rattle.ws_steps.specs.Turns.{row, start_algorithm, pull_algorithm, cancel_algorithm, write_algorithm, close_algorithm, abort_algorithm}
+use Rattle.ws_laws.proofs.Lists.{Each}
+use Rattle.ws_laws.proofs.PipeDoes.{IsStepOf, PipeCauses, pipe-causes}
+use Rattle.ws_laws.proofs.ReadableDoes.{readable-does}
+use Rattle.ws_laws.proofs.Tables.{either, readable_acts, writable_acts}
+use Rattle.ws_laws.proofs.WritableDoes.{writable-does}
+use Rattle.ws_steps.specs.Slots.{Slots, Done, nothing, found, ends_at, halves_at, owner_at, has_readable, has_writable, put_readable, put_writable, on_readable, on_writable, on_pipe_at, on_signal_at, on_transform_at}
+use Rattle.ws_writable_laws.proofs.Shape.{all, all-append}
+use Rattle.ws_transform_laws.specs.TransformHistory.{is_same_transform}
+use Rattle.ws_writable_laws.proofs.Shape.{leads_to, of_transform}
+use Rattle.ws_transform_laws.proofs.Waited.{changing}
+
+module _ (t : TransformId) where
+  abbrev pub asks_sink : Effect → Bool
+  asks_sink (OnTransform u (names.SinkWrite w)) = is_same_transform t u
+  asks_sink _ = false
+
+  -- what an effect causes that leads to none
+
+  abbrev pub none_of : Slots → List Effect → ℕ
+  none_of s es = all (leads_to (changing t)) es
+
+  transform-none : (s : Slots) (u : TransformId) (halves : Halves) (operation : TransformOperation) (a : transform.Acts) → asks_sink (OnTransform u operation) ≡ false → of_transform (changing t) operation ≡ 0 → a.out.effects ≡ [] → none_of s (transform_operation u halves operation a).out.effects ≡ 0
+  unfolding transform.unblock transform.transform_error transform.terminate transform.enqueue transform.enqueued transform.transform_chunk transform.sink_write transform.write_goes_on transform.source_pull transform.set_backpressure transform.sink_close transform.sink_abort transform.source_cancel transform.flush_settled transform.abort_settled transform.cancel_settled
+  transform-none s u halves operation a b c none = grind (arith, b, c, none)
+
+  pub on_transform-none : (s : Slots) (u : TransformId) (operation : TransformOperation) (o : Option transform.Slots) → asks_sink (OnTransform u operation) ≡ false → of_transform (changing t) operation ≡ 0 → none_of s (on_transform_at (λ halves. transform_operation u halves operation) u s o).caused ≡ 0
+  on_transform-none s u operation None b c = refl
+  on_transform-none s u operation (Some x) b c = transform-none s u (halves_at x s) operation (record { slots = x; out = found s }) b c refl
+
+  pipe-step : (p : PipeId) (step : Step) → IsStepOf p step → changing t step ≡ 0
+  pipe-step p step c = grind arith
+
+  pipe-effect : (s : Slots) (p : PipeId) (source dest : StreamId) (e : Effect) → PipeCauses p source dest e → leads_to (changing t) e ≡ 0
+  pipe-effect s p source dest e c = grind (arith, pipe-step)
+
+  pipe-each : (s : Slots) (p : PipeId) (source dest : StreamId) (es : List Effect) → Each (PipeCauses p source dest) es → none_of s es ≡ 0
+  pipe-each s p source dest [] c = refl
+  pipe-each s p source dest (e ∷ es) c = let h = pipe-effect s p source dest e c.0 in let k = pipe-each s p source dest es c.1 in omega (arith, h, k)
+
+  pub pipe-none : (s : Slots) (p : PipeId) (operation : PipeOperation) (o : Option pipe.Slots) → none_of s (on_pipe_at (λ ends. pipe_operation p ends operation) p s o).caused ≡ 0
+  pipe-none s p operation None = refl
+  pipe-none s p operation (Some x) =
+      let a : pipe.Acts = record { slots = x; out = found s } in
+      pipe-each s p x.source x.dest (pipe_operation p (ends_at x s) operation a).out.effects (pipe-causes p (ends_at x s) operation a tt).1.1
+
+  abort_all-none : (s : Slots) (c : Plain) (ps : List PipeId) → none_of s (abort_all c ps) ≡ 0
+  abort_all-none s c [] = refl
+  abort_all-none s c (p ∷ ps) = let h = abort_all-none s c ps in omega (arith, h)
+
+  signal-effects : (s : Slots) (operation : SignalOperation) (x : pipe.Signal) → none_of s (signal_operation operation x).effects ≡ 0
+  signal-effects s (Add p) x = refl
+  signal-effects s (Forget p) x = refl
+  signal-effects s (Trigger c) x = by x.reason
+    where
+      by : (reason : Option Plain) → none_of s (pipe.trigger_unless c x reason).effects ≡ 0
+      by None = abort_all-none s c x.pipes
+      by (Some old) = refl
+
+  pub signal-none : (s : Slots) (a : SignalId) (operation : SignalOperation) (o : Option pipe.Signal) → none_of s (on_signal_at (signal_operation operation) a s o).caused ≡ 0
+  signal-none s a operation None = refl
+  signal-none s a operation (Some x) = signal-effects s operation x
+
+  causing-none : (s : Slots) (x : Out) (e : Effect) → leads_to (changing t) e ≡ 0 → none_of s x.effects ≡ 0 → none_of s (cause e x).effects ≡ 0
+  causing-none s x e c n = let a = all-append (leads_to (changing t)) x.effects (e ∷ []) in omega arith
+
+  pub writable-none : (s : Slots) (j : StreamId) (operation : WritableOperation) → none_of s (on_writable (writable_operation j operation) j s).caused ≡ 0
+  writable-none s j operation =
+      either (λ (d : Done). none_of s d.caused ≡ 0) (has_writable j s) (put_writable j s (writable_operation j operation (writable_acts j s))) (nothing s)
+      (λ there. writable-does (λ (x : Out). none_of s x.effects ≡ 0) j (record {
+        settle = λ x p o h. h;
+        fresh = λ x h. h;
+        tell = λ x c h. h;
+        write = λ x h. causing-none s x (WriteAlgorithm j) refl h;
+        close = λ x h. causing-none s x (CloseAlgorithm j) refl h;
+        abort = λ x c p h. causing-none s x (AbortAlgorithm j c p) refl h;
+        hand_on = λ x v h. causing-none s x (write_to_host j v) refl h;
+        take = λ x v u d h. causing-none s x (OnTransform u (names.TransformChunk v d)) refl h;
+      }) operation (writable_acts j s) refl) (λ none. refl)
+
+  pub other-readable : (s : Slots) (j : StreamId) (operation : ReadableOperation) → none_of s (on_readable (readable_operation j operation) j s).caused ≡ 0
+  other-readable s j operation =
+      either (λ (d : Done). none_of s d.caused ≡ 0) (has_readable j s) (put_readable j s (readable_operation j operation (readable_acts j s))) (nothing s)
+      (λ there. readable-does (λ (x : Out). none_of s x.effects ≡ 0) j (record {
+        settle = λ x p o h. h;
+        pull = λ x h. causing-none s x (PullAlgorithm j) refl h;
+        cancel = λ x c p h. causing-none s x (CancelAlgorithm j c p) refl h;
+        chunk = λ x q v h. causing-none s x (ChunkSteps j q v) refl h;
+        close = λ x q h. causing-none s x (CloseSteps j q) refl h;
+        error = λ x q e h. causing-none s x (ErrorSteps j q e) refl h;
+      }) operation (readable_acts j s) refl) (λ none. refl)
+
+  -- algorithms, by whose they are
+
+  pub start-none : (s z : Slots) (j : StreamId) (step : Step) (start : StartBy) → changing t step ≡ 0 → none_of s (start_algorithm j step z start).caused ≡ 0
+  start-none s z j step Now n = omega arith
+  start-none s z j step Later n = omega arith
+
+  pub pull-none : (s : Slots) (j : StreamId) (owner : Owner) → none_of s (pull_algorithm j (React (ReadablePull j) None) owner) ≡ 0
+  pull-none s j Host = refl
+  pull-none s j (HalfOf u) = refl
+
+  pub cancel-none : (s : Slots) (j : StreamId) (c : Plain) (p : PromiseId) (owner : Owner) → none_of s (cancel_algorithm j c (React ReturnUndefined (Some p)) owner) ≡ 0
+  cancel-none s j c p Host = refl
+  cancel-none s j c p (HalfOf u) = refl
+
+  pub write-none : (s : Slots) (j : StreamId) (owner : Owner) → none_of s (write_algorithm j owner) ≡ 0
+  write-none s j Host = refl
+  write-none s j (HalfOf u) = refl
+
+  pub close-none : (s : Slots) (j : StreamId) (owner : Owner) → none_of s (close_algorithm j (React (WritableClose j) None) owner) ≡ 0
+  close-none s j Host = refl
+  close-none s j (HalfOf u) = refl
+
+  pub abort-none : (s : Slots) (j : StreamId) (c : Plain) (p : PromiseId) (owner : Owner) → none_of s (abort_algorithm j c (React (WritableAbort j p) None) owner) ≡ 0
+  abort-none s j c p Host = refl
+  abort-none s j c p (HalfOf u) = refl
+
+  -- each effect
+  pub row-none : (e : Effect) (s : Slots) → asks_sink e ≡ false → leads_to (changing t) e ≡ 0 → none_of s (row e s).caused ≡ 0
+  unfolding row
+  row-none (OnReadable j operation) s o n = other-readable s j operation
+  row-none (OnWritable j operation) s o n = writable-none s j operation
+  row-none (OnPipe p operation) s o n = pipe-none s p operation (slice_get s.pipes p.0)
+  row-none (OnSignal a operation) s o n = signal-none s a operation (slice_get s.signals a.0)
+  row-none (OnTransform u operation) s o n = on_transform-none s u operation (slice_get s.transforms u.0) o n
+  row-none (StartAlgorithm j step start) s o n = start-none s s j step start n
+  row-none (PullAlgorithm j) s o n = pull-none s j (owner_at j s)
+  row-none (CancelAlgorithm j c p) s o n = cancel-none s j c p (owner_at j s)
+  row-none (WriteAlgorithm j) s o n = write-none s j (owner_at j s)
+  row-none (CloseAlgorithm j) s o n = close-none s j (owner_at j s)
+  row-none (AbortAlgorithm j c p) s o n = abort-none s j c p (owner_at j s)
+  row-none (ChunkSteps j (Promise p) v) s o n = refl
+  row-none (CloseSteps j (Promise p)) s o n = refl
+  row-none (ErrorSteps j (Promise p) e) s o n = refl
+  row-none (ChunkSteps j (PipeRequest p) v) s o n = refl
+  row-none (CloseSteps j (PipeRequest p)) s o n = refl
+  row-none (ErrorSteps j (PipeRequest p) e) s o n = refl
+  row-none _ s o n = refl
