@@ -1,6 +1,7 @@
 -- Whether a reason is among others.
-use Rattle.std.proofs.Common.{◌≡◌, ℕ, Bool, true, false, nat_eq, ◌&&◌, ◌||◌, if◌then◌else◌, List, [], ◌∷◌, ◌++◌, Contains, refl, sym, ap, ◌∙◌, append_assoc, arith}
-use Rattle.std.proofs.lemmas.List.Elements.{Contains-append_right}
+use Rattle.std.proofs.Common.{◌≡◌, ℕ, zero, suc, ◌<◌, Bool, true, false, nat_eq, ◌&&◌, ◌||◌, if◌then◌else◌, List, [], ◌∷◌, ◌++◌, Contains, ⊎_elim, refl, sym, ap, subst, ◌∙◌, append_assoc, arith}
+use Rattle.std.specs.List.{slice_index_or}
+use Rattle.std.proofs.lemmas.List.Elements.{Contains-append_right, Contains-append_cases}
 use Rattle.ws_value.specs.declared.fault.Fault.{Fault}
 use Rattle.ws_value.specs.declared.fault.Fault.TheVariants.{TypeError, RangeError, DataClone, User, Read, Write, Stage, TooMuch, Abort, NoMemory}
 use Rattle.ws_value.specs.declared.ids.TeeId.{TeeId}
@@ -43,7 +44,7 @@ fault_self f = grind (arith, nat_self)
 fault_same : (f g : Fault) → same_fault f g ≡ true → f ≡ g
 fault_same f g e = grind (arith, nat_same)
 
-reason_self : (r : Plain) → same_reason r r ≡ true
+pub reason_self : (r : Plain) → same_reason r r ≡ true
 reason_self r = grind (arith, nat_self, fault_self)
 
 tee_same : (t u : TeeId) → nat_eq t.0 u.0 ≡ true → t ≡ u
@@ -97,3 +98,19 @@ good_among all r e = by (is_among r all) refl
     by : (b : Bool) → is_among r all ≡ b → is_among r all ≡ true
     by true h = h
     by false h = let c : bad_unless all r ≡ 1 = rw h refl in absurd (omega (arith, c, e))
+
+-- what is contained is among them
+pub contained_among : (r : Plain) (rs : List Plain) → Contains rs r → is_among r rs ≡ true
+contained_among r [] c = absurd (omega (arith, c.1))
+contained_among r (s ∷ ss) c =
+    ⊎_elim (λ (d : Contains (s ∷ []) r). first d) (λ (d : Contains ss r). later (contained_among r ss d)) (Contains-append_cases (s ∷ []) ss r c)
+  where
+    only : (k : ℕ) → k < 1 → slice_index_or (s ∷ []) k r ≡ r → s ≡ r
+    only zero l e = e
+    only (suc k) l e = absurd (omega (arith, l))
+
+    first : Contains (s ∷ []) r → (same_reason s r || is_among r ss) ≡ true
+    first d = let is : s ≡ r = only d.0 d.1 d.2 in let h : same_reason s r ≡ true = subst (λ (x : Plain). same_reason x r ≡ true) (sym is) (reason_self r) in rw h refl
+
+    later : is_among r ss ≡ true → (same_reason s r || is_among r ss) ≡ true
+    later h = grind (arith, h)

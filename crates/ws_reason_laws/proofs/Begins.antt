@@ -20,7 +20,7 @@ use Rattle.ws_steps.specs.declared.readable.ReadRequest.TheVariants.{Promise as 
 use Rattle.ws_steps.specs.declared.readable.SizeBy.TheVariants.{Count}
 use Rattle.ws_steps.specs.declared.transform.Kind.{Kind}
 use Rattle.ws_steps.specs.declared.transform.TransformId.{TransformId}
-use Rattle.ws_steps.specs.declared.transform.TransformOperation.TheVariants.{Error as ErrorTransform}
+use Rattle.ws_steps.specs.declared.transform.TransformOperation.TheVariants.{Error as ErrorTransform, Terminate}
 use Rattle.ws_steps.specs.declared.writable.WritableOperation.TheVariants.{Abort, ErrorIfNeeded, ReleaseWriter, Write, Close}
 use Rattle.ws_steps.specs.Calls.{Begun, begin, promising, with_renewed, reject_renewed, pipe_begins, adding}
 use Rattle.ws_steps.specs.Calls as calls
@@ -37,21 +37,22 @@ use Rattle.ws_reason_laws.proofs.InTable.{fresh-keeps, fresh-count}
 use Rattle.ws_reason_laws.proofs.Known.{Badness, class, Known, known-new, known-next, known-same}
 use Rattle.ws_reason_laws.proofs.Readables.{effects-append}
 use Rattle.ws_reason_laws.proofs.Rows.{in_signal, signal-there}
-use Rattle.ws_reason_laws.proofs.Weights.{Class, of_reason, soft, settles, in_effects, in_stream, in_streams, in_pipe, in_pipes, in_signals, in_transform, in_transforms, in_slots, in_table, loud, AllGood, count}
+use Rattle.ws_reason_laws.proofs.Weights.{Class, of_reason, soft, settles, in_effects, in_stream, in_streams, in_pipe, in_pipes, in_signals, of_kind, in_transform, in_transforms, in_slots, in_table, loud, AllGood, count}
 
 -- what calls give: the reasons in their first effects
 
--- the reason of a cancel, which may become an error where there may be transform streams
-abbrev pub bad_cancel : Badness → Plain → ℕ
-bad_cancel bad r = if bad.through then bad.of r else 0
+-- the reason of a cancel of stream i, which becomes an error where that is a half of a transform stream
+abbrev pub bad_cancel : Badness → StreamId → Plain → ℕ
+bad_cancel bad i r = if bad.half i.0 then bad.of r else 0
 
 abbrev pub bad_first : Badness → Effect → ℕ
 bad_first bad (Readable i (Error r)) = bad.of r
-bad_first bad (Readable i (Cancel r p)) = bad_cancel bad r
+bad_first bad (Readable i (Cancel r p)) = bad_cancel bad i r
 bad_first bad (Writable i (Abort r p)) = bad.of r
 bad_first bad (Writable i (ErrorIfNeeded r)) = bad.of r
 bad_first bad (Signal a (Trigger r)) = bad.of r
 bad_first bad (Transform t (ErrorTransform r)) = bad.of r
+bad_first bad (Transform t Terminate) = bad.of type_error
 bad_first bad _ = 0
 
 abbrev pub bad_all : Badness → List Effect → ℕ
@@ -75,6 +76,22 @@ bad_done bad _ es = 0
 abbrev pub bad_begun : Badness → Begun → ℕ
 bad_begun bad b = bad_all bad b.done.caused + bad_done bad b.reply b.done.caused
 
+-- of the transform streams
+abbrev pub of_kinds : (Plain → ℕ) → List transform.Slots → ℕ
+of_kinds bad [] = 0
+of_kinds bad (x ∷ xs) = of_kind bad x.kind + of_kinds bad xs
+
+pub kinds-append : (bad : Plain → ℕ) (xs : List transform.Slots) (y : transform.Slots) → of_kinds bad (xs ++ y ∷ []) ≡ of_kinds bad xs + of_kind bad y.kind
+kinds-append bad [] y = omega arith
+kinds-append bad (x ∷ xs) y = let h = kinds-append bad xs y in omega (arith, h)
+
+kinds-in : (k : Class) (xs : List transform.Slots) → in_transforms k xs ≡ 0 → of_kinds k.bad xs ≡ 0
+kinds-in k [] h = refl
+kinds-in k (x ∷ xs) h = let g = kinds-in k xs (omega (arith, h)) in omega (arith, h, g)
+
+pub kinds-known : (bad : Badness) (me : PipeId) (own : Option ℕ) (s : Slots) → Known bad me own s [] → of_kinds bad.of s.transforms ≡ 0
+kinds-known bad me own s k = let g = k.good k.hands (λ i h. refl) in kinds-in (class bad me k.hands) s.transforms (omega (arith, g))
+
 -- tables get one more
 
 streams-append : (k : Class) (xs : List Stream) (y : Stream) → in_streams k (xs ++ y ∷ []) ≡ in_streams k xs + in_stream k y
@@ -96,7 +113,7 @@ signals-append k (x ∷ xs) = let h = signals-append k xs in omega (arith, h)
 
 module _ (bad : Badness) (me : PipeId) (own : Option ℕ) (s : Slots) (known : Known bad me own s []) where
   abbrev Begins : Begun → Type 0
-  Begins b = bad_begun bad b ≡ 0 → (bad.through ≡ false → b.done.slots.transforms ≡ []) → Known bad me own b.done.slots b.done.caused
+  Begins b = bad_begun bad b ≡ 0 → of_kinds bad.of b.done.slots.transforms ≡ 0 → Known bad me own b.done.slots b.done.caused
 
   -- a soft one and a loud one
   soft_one : (f : ℕ → Bool) (n : ℕ) → f n ≡ false → soft (class bad me f) n ≡ 0
@@ -250,19 +267,14 @@ module _ (bad : Badness) (me : PipeId) (own : Option ℕ) (s : Slots) (known : K
   loud_one : (f : ℕ → Bool) (n : ℕ) → f n ≡ true → loud (class bad me f) n ≡ 0
   loud_one f n e = grind (arith, e)
 
-  may_be : (xs : List transform.Slots) (x : transform.Slots) (b : Bool) → bad.through ≡ b → (bad.through ≡ false → xs ++ x ∷ [] ≡ []) → bad.through ≡ true
-  may_be xs x true e none = e
-  may_be [] x false e none = let n = none e in cc
-  may_be (y ∷ xs) x false e none = let n = none e in cc
-
-  new_half : (f : ℕ → Bool) (kind : Kind) (i j : StreamId) (change : PromiseId) → bad.through ≡ true → loud (class bad me f) change.0 ≡ 0 → in_transform (class bad me f) (transform.set_up kind i j change) ≡ 0
-  new_half f kind i j change e h = rw e (omega (arith, h))
+  new_half : (f : ℕ → Bool) (kind : Kind) (i j : StreamId) (change : PromiseId) → of_kind bad.of kind ≡ 0 → loud (class bad me f) change.0 ≡ 0 → in_transform (class bad me f) (transform.set_up kind i j change) ≡ 0
+  new_half f kind i j change e h = omega (arith, e, h)
 
   starts : (f : ℕ → Bool) (p : PromiseId) (j : StreamId) (start : StartBy) → in_effects (class bad me f) (calls.start_transform p j start ∷ []) ≡ 0
   starts f p j start = grind arith
 
-  transform-known : (kind : Kind) (a b : ℕ) (start : StartBy) (i j : StreamId) → bad.through ≡ true → Known bad me own (calls.make_transform kind a b start i j s).done.slots (calls.make_transform kind a b start i j s).done.caused
-  transform-known kind a b start i j through =
+  transform-known : (kind : Kind) (a b : ℕ) (start : StartBy) (i j : StreamId) → of_kind bad.of kind ≡ 0 → Known bad me own (calls.make_transform kind a b start i j s).done.slots (calls.make_transform kind a b start i j s).done.caused
+  transform-known kind a b start i j fair =
       let t : Table = s.promises in
       let c0 = fresh-count t in
       let c1 = fresh-count (fresh t) in
@@ -281,7 +293,7 @@ module _ (bad : Badness) (me : PipeId) (own : Option ℕ) (s : Slots) (known : K
       let x : transform.Slots = transform.set_up kind i j (record { 0 = count t }) in
       let s0 = streams-append k s.streams w in
       let s1 = streams-append k (s.streams ++ w ∷ []) r in
-      let h = new_half f kind i j (record { 0 = count t }) through l0 in
+      let h = new_half f kind i j (record { 0 = count t }) fair l0 in
       let z = transforms-append k s.transforms x in
       let e = starts f (record { 0 = count (fresh t) }) j start in
       let p = fresh-keeps k (fresh (fresh (fresh t))) (fresh-keeps k (fresh (fresh t)) (fresh-keeps k (fresh t) (fresh-keeps k t (omega (arith, g))))) in
@@ -318,8 +330,10 @@ module _ (bad : Badness) (me : PipeId) (own : Option ℕ) (s : Slots) (known : K
         enqueue = λ i v e o can b n. plain-known s _ refl (λ f g. omega (arith, g));
         enqueue_half = λ i t v e o can b n. plain-known s _ refl (λ f g. omega (arith, g));
         fail_half = λ t reason b n. plain-known s _ refl (λ f g. omega (arith, g, b));
-        terminate = λ t b n. plain-known s _ refl (λ f g. omega (arith, g));
-        make_transform = λ kind m l start b n. transform-known kind m l start _ _ (may_be s.transforms _ bad.through refl n);
+        terminate = λ t b n. plain-known s _ refl (λ f g. omega (arith, g, b));
+        make_transform = λ kind m l start b n.
+            transform-known kind m l start _ _
+            (let z = kinds-append bad.of s.transforms (transform.set_up kind (record { 0 = length s.streams }) (record { 0 = length s.streams + 1 }) (record { 0 = count s.promises })) in omega (arith, n, z));
         finish = λ i b n. plain-known s _ refl (λ f g. omega (arith, g));
         fail_readable = λ i reason b n. plain-known s _ refl (λ f g. omega (arith, g, b));
         fail_writable = λ i reason b n. plain-known s _ refl (λ f g. omega (arith, g, b));

@@ -19,7 +19,7 @@ use Rattle.ws_steps.specs.Calls.{begin}
 use Rattle.ws_steps.specs.Run.{Entry, Called, run, reply_to}
 use Rattle.ws_steps.specs.Slots.{empty}
 use Rattle.ws_reason_laws.specs.Reasons.{failures, IsFree}
-use Rattle.ws_reason_laws.proofs.Given.{reason-was-a-failure}
+use Rattle.ws_reason_laws.proofs.Failed.{reason-was-a-failure}
 
 abbrev pub s0 : StreamId
 s0 = record { 0 = 0 }

@@ -1,5 +1,5 @@
--- Over every run: a pipe's promise is rejected only with a reason that a call gave.
-use Rattle.std.proofs.Common.{◌≡◌, ℕ, ◌+◌, Bool, true, false, ◌||◌, if◌then◌else◌, List, [], ◌∷◌, ◌++◌, length, Contains, Option, Some, None, slice_get, refl, sym, ap, subst, ◌∙◌, arith}
+-- Over every run: a pipe's promise is rejected only with a reason that has an origin.
+use Rattle.std.proofs.Common.{◌≡◌, ℕ, ◌+◌, Bool, true, false, List, [], ◌∷◌, ◌++◌, length, Option, Some, None, slice_get, refl, sym, ap, subst, ◌∙◌, arith, nat_eq, Contains}
 use Rattle.std.specs.Option.{option_map}
 use Rattle.ws_value.specs.declared.ids.PipeId.{PipeId}
 use Rattle.ws_value.specs.declared.ids.PromiseId.{PromiseId}
@@ -17,24 +17,23 @@ use Rattle.ws_steps.specs.Calls.{Begun, begin}
 use Rattle.ws_steps.specs.Calls as calls
 use Rattle.ws_steps.specs.Effects.{type_error}
 use Rattle.ws_steps.specs.Pipes as pipe
-use Rattle.ws_steps.specs.Transform as transform
 use Rattle.ws_steps.specs.Promises.{Entry as PromiseEntry, Table, next_id, fresh, outcome_at, entry_at}
-use Rattle.ws_steps.specs.Run.{Entry, Called, Worked, Heard, step, run, reply_to}
-use Rattle.ws_steps.specs.Slots.{Slots, empty, writable_at}
+use Rattle.ws_steps.specs.Run.{Entry, Called, step, run, reply_to}
+use Rattle.ws_steps.specs.Slots.{Slots, empty}
 use Rattle.ws_pipe_laws.proofs.Kept.{each_pipe_stays}
-use Rattle.ws_writable_laws.proofs.Shape.{all}
-use Rattle.ws_reason_laws.specs.Reasons.{reason_of, given, failure_of, failures, cancel_of, cancels, IsFree, EachReasonWasGiven, EachReasonWasAFailure}
-use Rattle.ws_reason_laws.proofs.Among.{same_reason, reason_same, is_among, bad_unless, all-good, good_among, among_contained, among_either}
-use Rattle.ws_reason_laws.proofs.Answers.{bad_of, bad-append}
-use Rattle.ws_reason_laws.proofs.Asking.{asks}
+use Rattle.ws_reason_laws.specs.Origins.{through, origins, AreUnlocked, IsOpen, EachReasonHasAnOrigin}
+use Rattle.ws_reason_laws.specs.Reasons.{failures}
+use Rattle.ws_reason_laws.proofs.Among.{same_reason, reason_same, reason_self, is_among, bad_unless, all-good, good_among, among_contained}
+use Rattle.ws_reason_laws.proofs.Answers.{bad_call, bad-append}
 use Rattle.ws_reason_laws.proofs.Begins.{own-known}
-use Rattle.ws_reason_laws.proofs.Closings.{Opened}
+use Rattle.ws_reason_laws.proofs.Halved.{Halved, half_at, halved-end, halved-before, halved-begun}
 use Rattle.ws_reason_laws.proofs.InTable.{entry-good, fresh-count}
 use Rattle.ws_reason_laws.proofs.Known.{Badness, class, Known}
-use Rattle.ws_reason_laws.proofs.Moments.{moment-call, moment-empty}
-use Rattle.ws_reason_laws.proofs.Opening.{NewOpens, call-opens}
-use Rattle.ws_reason_laws.proofs.Runs.{Whole, begun-whole, spared, run_then, none_before, bad_run, first-good, run-whole}
-use Rattle.ws_reason_laws.proofs.Weights.{Class, in_outcome, in_entry, in_table, count}
+use Rattle.ws_reason_laws.proofs.Moments.{moment-empty}
+use Rattle.ws_reason_laws.proofs.Newly.{made-opens}
+use Rattle.ws_reason_laws.proofs.Opening.{NewOpens}
+use Rattle.ws_reason_laws.proofs.Runs.{Whole, call-whole, run_then, bad_run, first-good, run-whole}
+use Rattle.ws_reason_laws.proofs.Weights.{Class, in_outcome, in_entry, in_table, minds, count}
 
 none_some : (y : pipe.Slots) → ◌≡◌ {A = Option pipe.Slots} None (Some y) → ⊥
 none_some y e = cc
@@ -44,8 +43,8 @@ none_some y e = cc
 abbrev pub Before : PipeId → Slots → List Entry → Type 0
 Before me s xs = slice_get (run xs s).pipes me.0 ≡ None
 
-pub before-new : (me : PipeId) (s : Slots) (c : Call) (xs : List Entry) → Before me s (Called c ∷ xs) → NewOpens me c s
-before-new me s c xs f x none e g =
+pub before-new : (mind : StreamId → Prevent → Bool) (me : PipeId) (s : Slots) (c : Call) (xs : List Entry) → Before me s (Called c ∷ xs) → NewOpens mind me c s
+before-new mind me s c xs f x none e m g =
     let t = (each_pipe_stays me s).in_call c x e in
     let u = (each_pipe_stays me (step s (Called c))).in_run xs t.slots t.there in
     absurd (none_some u.slots (sym f ∙ u.there))
@@ -58,8 +57,8 @@ After me s xs = (y : pipe.Slots) × (slice_get s.pipes me.0 ≡ Some y)
 after-next : (me : PipeId) (s : Slots) (x : Entry) (xs : List Entry) → After me s (x ∷ xs) → After me (step s x) xs
 after-next me s x xs f = let t = (each_pipe_stays me s).in_run (x ∷ []) f.0 f.1 in (t.slots, t.there)
 
-after-new : (me : PipeId) (s : Slots) (c : Call) (xs : List Entry) → After me s (Called c ∷ xs) → NewOpens me c s
-after-new me s c xs f x none e g = absurd (none_some f.0 (sym none ∙ f.1))
+after-new : (mind : StreamId → Prevent → Bool) (me : PipeId) (s : Slots) (c : Call) (xs : List Entry) → After me s (Called c ∷ xs) → NewOpens mind me c s
+after-new mind me s c xs f x none e m g = absurd (none_some f.0 (sym none ∙ f.1))
 
 -- the call that makes it
 
@@ -71,9 +70,6 @@ pub pipe_past : (xs : List pipe.Slots) → slice_get xs (length xs) ≡ None
 pipe_past [] = refl
 pipe_past (x ∷ xs) = pipe_past xs
 
-begins_asks : (j : StreamId) (me : PipeId) (x y : PromiseId) (signal : Option SignalId) (reason : Option Plain) → all (asks j) (calls.pipe_begins me x y signal reason) ≡ 0
-begins_asks j me x y signal reason = grind arith
-
 same_promise : (p q : PromiseId) → ◌≡◌ {A = Reply} (Promise p) (Promise q) → p ≡ q
 same_promise p q e = cc
 
@@ -84,7 +80,7 @@ module _ (i j : StreamId) (prevent : Prevent) (signal : Option SignalId) (s : Sl
   abbrev c : Call
   c = Pipe i j prevent signal
 
-  begin-is : (q : PromiseId) → IsFree i j s → reply_to c s ≡ Promise q → begin c s ≡ made
+  begin-is : (q : PromiseId) → AreUnlocked i j s → reply_to c s ≡ Promise q → begin c s ≡ made
   unfolding begin
   begin-is q f e = let x = f.source in let y = f.dest in let z = f.source_unlocked in let w = f.dest_unlocked in grind (arith, x, y, z, w, e)
 
@@ -100,49 +96,32 @@ module _ (i j : StreamId) (prevent : Prevent) (signal : Option SignalId) (s : Sl
       let c2 = fresh-count (fresh (fresh t)) in
       omega (arith, n, c0, c1, c2)
 
-  made-opens : IsFree i j s → (x : pipe.Slots) → slice_get made.done.slots.pipes (length s.pipes) ≡ Some x → Opened x.dest (writable_at x.dest made.done.slots) × (all (asks x.dest) made.done.caused ≡ 0)
-  made-opens f x e =
-      let y : pipe.Slots = pipe.set_up i j prevent signal (next_id (fresh (fresh (fresh s.promises)))) in
-      let is : x ≡ y = some_pipe x y (sym e ∙ pipe_last s.pipes y) in
-      let none = begins_asks j (record { 0 = length s.pipes }) (next_id s.promises) (next_id (fresh (fresh s.promises))) signal (calls.reason_of signal s) in
-      subst (λ (z : pipe.Slots). Opened z.dest (writable_at z.dest made.done.slots) × (all (asks z.dest) made.done.caused ≡ 0)) (sym is)
-      (record { closing = f.not_closing; closed = f.not_closed }, asks_none none)
-    where
-      some_pipe : (v w : pipe.Slots) → ◌≡◌ {A = Option pipe.Slots} (Some v) (Some w) → v ≡ w
-      some_pipe v w e = cc
+minded : (bad : Badness) (me : PipeId) (i : StreamId) (prevent : Prevent) → minds bad.of bad.half me me i prevent ≡ true → nat_eq (bad.of type_error) 0 ≡ false
+minded bad me i prevent m = grind (arith, m)
 
-      asks_none : all (asks j) (calls.pipe_begins (record { 0 = length s.pipes }) (next_id s.promises) (next_id (fresh (fresh s.promises))) signal (calls.reason_of signal s)) ≡ 0 → all (asks j) made.done.caused ≡ 0
-      asks_none h = grind (arith, h)
-
+-- the call that makes it, where what it brings isn't bad
 pipe-whole : (bad : Badness) (opening : List Entry) (i j : StreamId) (prevent : Prevent) (signal : Option SignalId) (q : PromiseId) → let s : Slots = run opening empty in
-    let me : PipeId = record { 0 = length s.pipes } in IsFree i j s → reply_to (Pipe i j prevent signal) s ≡ Promise q
-    → Whole bad me None s [] → Whole bad me (Some q.0) (step s (Called (Pipe i j prevent signal))) []
-pipe-whole bad opening i j prevent signal q f e w =
+    let me : PipeId = record { 0 = length s.pipes } in let c : Call = Pipe i j prevent signal in AreUnlocked i j s → reply_to c s ≡ Promise q → (nat_eq (bad.of type_error) 0 ≡ false → IsOpen j s) → bad_call bad c s ≡ 0 → Halved bad.half (begin c s).done.slots
+    → Whole bad me None s [] → Whole bad me (Some q.0) (step s (Called c)) []
+pipe-whole bad opening i j prevent signal q f e ready good there w =
     let s : Slots = run opening empty in
     let me : PipeId = record { 0 = length s.pipes } in
     let c : Call = Pipe i j prevent signal in
     let b : begin c s ≡ calls.pipe_to i j prevent signal s = begin-is i j prevent signal s q f e in
-    let new : NewOpens me c s = rw b (λ x none there g. made-opens i j prevent signal s f x there) in
+    let mind : StreamId → Prevent → Bool = minds bad.of bad.half me me in
+    let new : NewOpens mind me c s = rw b (λ x none there m g. made-opens mind me s i j prevent signal (λ n. let o = ready (minded bad me i prevent n) in record { closing = o.closing; closed = o.closed }) x none there m g) in
     let known : Known bad me (Some q.0) (begin c s).done.slots (begin c s).done.caused =
     rw b (own-known bad me None s w.known i j prevent signal q.0 refl (promise-is i j prevent signal s q b e)) in
-    begun-whole bad me (Some q.0) c s (record {
-      moment = moment-call s c w.moment;
-      opens = call-opens me c s w.opens (λ x there g. spared opening me c x there g) new;
-      known = known;
-    })
+    call-whole bad me None opening c good there new (Some q.0) known w
 
 -- from nothing
 
--- where there may be transform streams a TypeError isn't bad
-abbrev pub Fair : Badness → Type 0
-Fair bad = (if bad.through then bad.of type_error else 0) ≡ 0
-
-known-empty : (bad : Badness) (me : PipeId) → Fair bad → Known bad me None empty []
+known-empty : (bad : Badness) (me : PipeId) → Known bad me None empty []
 unfolding in_table
-known-empty bad me fair = record { hands = λ i. true; mine = tt; good = λ f same. omega (arith, fair) }
+known-empty bad me = record { hands = λ i. true; mine = tt; good = λ f same. refl }
 
-pub whole-empty : (bad : Badness) (me : PipeId) → Fair bad → Whole bad me None empty []
-whole-empty bad me fair = record { moment = moment-empty; opens = λ x e g. cc; known = known-empty bad me fair }
+pub whole-empty : (bad : Badness) (me : PipeId) → Whole bad me None empty []
+whole-empty bad me = record { moment = moment-empty; halved = λ i y e. cc; opens = λ p x e m g. cc; known = known-empty bad me }
 
 -- what a promise that hands on was rejected with
 
@@ -166,34 +145,37 @@ whole_rejected bad me q s r w out =
 
 -- the law
 
-pub run-append : (bad : Badness) (xs ys : List Entry) → bad_run bad (xs ++ ys) ≡ bad_run bad xs + bad_run bad ys
-run-append bad [] ys = grind arith
-run-append bad (x ∷ xs) ys =
-    let h = run-append bad xs ys in
-    let a = first-good bad x (xs ++ ys) in
-    let b = first-good bad x xs in
+run-append : (bad : Badness) (xs ys : List Entry) (s : Slots) → bad_run bad (xs ++ ys) s ≡ bad_run bad xs s + bad_run bad ys (run xs s)
+run-append bad [] ys s = omega arith
+run-append bad (x ∷ xs) ys s =
+    let h = run-append bad xs ys (step s x) in
+    let a = first-good bad x (xs ++ ys) s in
+    let b = first-good bad x xs s in
     omega (arith, h, a, b)
 
--- where no reason that a call gave is bad, none is bad with which the pipe's promise is rejected
-pub good-rejection : (bad : Badness) (opening xs : List Entry) (i j : StreamId) (prevent : Prevent) (signal : Option SignalId) (q : PromiseId) (r : Plain) → let s : Slots = run opening empty in
-    let entries : List Entry = opening ++ Called (Pipe i j prevent signal) ∷ xs in Fair bad → bad_run bad entries ≡ 0 → (bad.through ≡ false → (run entries empty).transforms ≡ [])
-    → IsFree i j s → reply_to (Pipe i j prevent signal) s ≡ Promise q → outcome_at (run entries empty).promises q ≡ Some (Rejected r) → bad.of r ≡ 0
-good-rejection bad opening xs i j prevent signal q r fair good none free reply out =
+-- where no reason is bad that calls gave by which something fails, or brought through a transform stream, none is bad with which the pipe's
+-- promise is rejected
+good-rejection : (bad : Badness) (opening xs : List Entry) (i j : StreamId) (prevent : Prevent) (signal : Option SignalId) (q : PromiseId) (r : Plain) → let s : Slots = run opening empty in
+    let entries : List Entry = opening ++ Called (Pipe i j prevent signal) ∷ xs in bad_run bad entries empty ≡ 0 → Halved bad.half (run entries empty)
+    → AreUnlocked i j s → reply_to (Pipe i j prevent signal) s ≡ Promise q → (nat_eq (bad.of type_error) 0 ≡ false → IsOpen j s) → outcome_at (run entries empty).promises q ≡ Some (Rejected r) → bad.of r ≡ 0
+good-rejection bad opening xs i j prevent signal q r good halved free reply ready out =
     let s : Slots = run opening empty in
     let c : Call = Pipe i j prevent signal in
     let me : PipeId = record { 0 = length s.pipes } in
-    let a = run-append bad opening (Called c ∷ xs) in
-    let d = first-good bad (Called c) xs in
+    let mind : StreamId → Prevent → Bool = minds bad.of bad.half me me in
+    let a = run-append bad opening (Called c ∷ xs) empty in
+    let d = first-good bad (Called c) xs s in
     let rest : run (opening ++ Called c ∷ xs) empty ≡ run (Called c ∷ xs) s = run_then opening (Called c ∷ xs) empty in
-    let later : bad.through ≡ false → (run (Called c ∷ xs) s).transforms ≡ [] = λ e. ap (λ (z : Slots). z.transforms) (sym rest) ∙ none e in
+    let later : Halved bad.half (run (Called c ∷ xs) s) = subst (Halved bad.half) rest halved in
     let w1 : Whole bad me None s [] =
-    run-whole bad me None (Before me) (λ s x xs f. f) (before-new me) [] opening (pipe_past s.pipes) (omega (arith, a, good)) (λ e. none_before (Called c ∷ xs) s (later e)) (whole-empty bad me fair) in
-    let w2 : Whole bad me (Some q.0) (step s (Called c)) [] = pipe-whole bad opening i j prevent signal q free reply w1 in
+    run-whole bad me None (Before me) (λ s x xs f. f) (before-new mind me) [] opening (pipe_past s.pipes) (omega (arith, a, good)) (halved-before bad.half (Called c ∷ xs) s later) (whole-empty bad me) in
+    let w2 : Whole bad me (Some q.0) (step s (Called c)) [] = pipe-whole bad opening i j prevent signal q free reply ready (omega (arith, a, d, good)) (halved-begun bad.half c xs s later) w1 in
     let pre : List Entry = opening ++ Called c ∷ [] in
     let at : run pre empty ≡ step s (Called c) = run_then opening (Called c ∷ []) empty in
     let t = (each_pipe_stays me s).in_call c (pipe.set_up i j prevent signal (next_id (fresh (fresh (fresh s.promises))))) (there (begin-is i j prevent signal s q free reply)) in
+    let after : bad_run bad xs (step s (Called c)) ≡ 0 = omega (arith, a, d, good) in
     let w3 : Whole bad me (Some q.0) (run xs (run pre empty)) [] =
-    run-whole bad me (Some q.0) (After me) (after-next me) (after-new me) pre xs (rw at (t.slots, t.there)) (omega (arith, a, d, good)) (rw at later) (rw at w2) in
+    run-whole bad me (Some q.0) (After me) (after-next me) (after-new mind me) pre xs (rw at (t.slots, t.there)) (rw at after) (rw at later) (rw at w2) in
     let all_ : run (opening ++ Called c ∷ xs) empty ≡ run xs (run pre empty) = run_then opening (Called c ∷ xs) empty ∙ ap (λ (z : Slots). run xs z) (sym at) in
     whole_rejected bad me q (run xs (run pre empty)) r w3 (rw all_ at out)
   where
@@ -201,93 +183,35 @@ good-rejection bad opening xs i j prevent signal q r fair good none free reply o
         → slice_get (begin (Pipe i j prevent signal) (run opening empty)).done.slots.pipes (length (run opening empty).pipes) ≡ Some (pipe.set_up i j prevent signal (next_id (fresh (fresh (fresh (run opening empty).promises)))))
     there b = rw b (pipe_last (run opening empty).pipes _)
 
--- where there is no transform stream only failures count, and where there is one also cancels and a TypeError
+-- only the origins of a run count, and these others
+abbrev pub but_origins : List Plain → List Entry → Badness
+but_origins others entries = record { of = bad_unless (others ++ origins entries); half = half_at (run entries empty) }
 
-abbrev pub none_through : List Entry → Badness
-none_through entries = record { of = bad_unless (failures entries); through = false }
+pub origins-good : (others : List Plain) (entries : List Entry) → bad_run (but_origins others entries) entries empty ≡ 0
+origins-good others entries =
+    let bad : Plain → ℕ = bad_unless (others ++ origins entries) in
+    let a = all-good (others ++ origins entries) in
+    let b = bad-append bad others (origins entries) in
+    let c = bad-append bad (failures entries) (through entries empty) in
+    omega (arith, a, b, c)
 
-abbrev pub all_through : List Entry → Badness
-all_through entries = record { of = bad_unless ((type_error ∷ cancels entries) ++ failures entries); through = true }
+-- where a TypeError is one of the reasons it isn't bad
+unfair : (rs : List Plain) → nat_eq (bad_unless (type_error ∷ rs) type_error) 0 ≡ false → ⊥
+unfair rs n = let s : is_among type_error (type_error ∷ rs) ≡ true = rw (reason_self type_error) refl in let m : nat_eq 0 0 ≡ false = rw s at n in cc
 
-pub none-good : (entries : List Entry) → bad_run (none_through entries) entries ≡ 0
-none-good entries = let a = all-good (failures entries) in omega (arith, a)
-
-through_good : (entries : List Entry) → bad_of (bad_unless ((type_error ∷ cancels entries) ++ failures entries)) (type_error ∷ cancels entries) + bad_of (bad_unless ((type_error ∷ cancels entries) ++ failures entries)) (failures entries) ≡ 0
-through_good entries =
-    let rs : List Plain = (type_error ∷ cancels entries) ++ failures entries in
-    let a = all-good rs in
-    let b = bad-append (bad_unless rs) (type_error ∷ cancels entries) (failures entries) in
-    omega (arith, a, b)
-
-pub all-through-good : (entries : List Entry) → (Fair (all_through entries)) × (bad_run (all_through entries) entries ≡ 0)
-all-through-good entries = let a = through_good entries in (omega (arith, a), omega (arith, a))
-
-abbrev entries_of : List Entry → List Entry → StreamId → StreamId → Prevent → Option SignalId → List Entry
-entries_of opening xs i j prevent signal = opening ++ Called (Pipe i j prevent signal) ∷ xs
-
--- what follows of a reason that isn't bad
-module _ (entries : List Entry) (r : Plain) where
-  pub was_failure : (none_through entries).of r ≡ 0 → Contains (failures entries) r
-  was_failure h = among_contained r (failures entries) (good_among (failures entries) r h)
-
-  pub was_else : (Contains (type_error ∷ cancels entries) r → ⊥) → (all_through entries).of r ≡ 0 → Contains (failures entries) r
-  was_else n h =
-      let rs : List Plain = type_error ∷ cancels entries in
-      by (is_among r rs) refl (among_either r rs (failures entries) (good_among (rs ++ failures entries) r h))
-    where
-      by : (b : Bool) → is_among r (type_error ∷ cancels entries) ≡ b → (b || is_among r (failures entries)) ≡ true → Contains (failures entries) r
-      by true e a = absurd (n (among_contained r (type_error ∷ cancels entries) e))
-      by false e a = among_contained r (failures entries) a
-
-pub reason-was-a-failure : EachReasonWasAFailure
-reason-was-a-failure opening xs i j prevent signal q r free reply but out = by (run (entries_of opening xs i j prevent signal) empty).transforms refl
+pub reason-has-an-origin : EachReasonHasAnOrigin
+reason-has-an-origin opening xs i j prevent signal q r free reply ready out = by (same_reason type_error r) refl
   where
-    by : (ts : List transform.Slots) → (run (entries_of opening xs i j prevent signal) empty).transforms ≡ ts → Contains (failures (entries_of opening xs i j prevent signal)) r
-    by [] e =
-        let entries : List Entry = entries_of opening xs i j prevent signal in
-        was_failure entries r (good-rejection (none_through entries) opening xs i j prevent signal q r refl (none-good entries) (λ f. e) free reply out)
-    by (t ∷ ts) e =
-        let entries : List Entry = entries_of opening xs i j prevent signal in
-        let g = all-through-good entries in
-        was_else entries r (λ c. let n = but c in cc) (good-rejection (all_through entries) opening xs i j prevent signal q r g.0 g.1 (λ f. cc) free reply out)
-
--- where none that was given is bad, no failure is and no cancel
-
-call-given : (bad : Plain → ℕ) (c : Call) → bad_of bad (failure_of c) + bad_of bad (cancel_of c) ≡ bad_of bad (reason_of c)
-call-given bad c = grind arith
-
-run-given : (bad : Plain → ℕ) (xs : List Entry) → bad_of bad (failures xs) + bad_of bad (cancels xs) ≡ bad_of bad (given xs)
-run-given bad [] = omega arith
-run-given bad (Called c ∷ xs) =
-    let h = run-given bad xs in
-    let a = call-given bad c in
-    let b = bad-append bad (failure_of c) (failures xs) in
-    let d = bad-append bad (cancel_of c) (cancels xs) in
-    let e = bad-append bad (reason_of c) (given xs) in
-    omega (arith, h, a, b, d, e)
-run-given bad (Worked ∷ xs) = run-given bad xs
-run-given bad (Heard ∷ xs) = run-given bad xs
-
-pub reason-was-given : EachReasonWasGiven
-reason-was-given opening xs i j prevent signal q r free reply but out = by (run (entries_of opening xs i j prevent signal) empty).transforms refl
-  where
-    else_given : (rs : List Plain) → (type_error ≡ r → ⊥) → (b : Bool) → same_reason type_error r ≡ b → is_among r (type_error ∷ rs) ≡ true → Contains rs r
-    else_given rs n true e a = absurd (n (reason_same type_error r e))
-    else_given rs n false e a = let h : is_among r rs ≡ true = grind (arith, e, a) in among_contained r rs h
-
-    by : (ts : List transform.Slots) → (run (entries_of opening xs i j prevent signal) empty).transforms ≡ ts → Contains (given (entries_of opening xs i j prevent signal)) r
-    by [] e =
-        let entries : List Entry = entries_of opening xs i j prevent signal in
-        let rs : List Plain = given entries in
-        let a = run-given (bad_unless rs) entries in
-        let b = all-good rs in
-        let bad : Badness = record { of = bad_unless rs; through = false } in
-        among_contained r rs (good_among rs r (good-rejection bad opening xs i j prevent signal q r refl (omega (arith, a, b)) (λ f. e) free reply out))
-    by (t ∷ ts) e =
-        let entries : List Entry = entries_of opening xs i j prevent signal in
-        let rs : List Plain = type_error ∷ given entries in
-        let a = run-given (bad_unless rs) entries in
-        let b = all-good rs in
-        let bad : Badness = record { of = bad_unless rs; through = true } in
-        else_given (given entries) (λ c. let n = but (sym c) in cc) (same_reason type_error r) refl
-        (good_among rs r (good-rejection bad opening xs i j prevent signal q r (omega (arith, b)) (omega (arith, a, b)) (λ f. cc) free reply out))
+    by : (b : Bool) → same_reason type_error r ≡ b → Contains (origins (opening ++ Called (Pipe i j prevent signal) ∷ xs)) r
+    by true e =
+        let entries : List Entry = opening ++ Called (Pipe i j prevent signal) ∷ xs in
+        let o : IsOpen j (run opening empty) = ready (sym (reason_same type_error r e)) in
+        among_contained r (origins entries)
+        (good_among (origins entries) r (good-rejection (but_origins [] entries) opening xs i j prevent signal q r (origins-good [] entries) (halved-end (run entries empty)) free reply (λ n. o) out))
+    by false e =
+        let entries : List Entry = opening ++ Called (Pipe i j prevent signal) ∷ xs in
+        let good =
+        good-rejection (but_origins (type_error ∷ []) entries) opening xs i j prevent signal q r (origins-good (type_error ∷ []) entries) (halved-end (run entries empty)) free reply
+        (λ n. absurd (unfair (origins entries) n)) out in
+        let among : is_among r (type_error ∷ origins entries) ≡ true = good_among (type_error ∷ origins entries) r good in
+        among_contained r (origins entries) (rw e at among)

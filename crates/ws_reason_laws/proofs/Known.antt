@@ -30,13 +30,13 @@ abbrev pub Mine : Option ℕ → (ℕ → Bool) → ℕ → Type 0
 Mine None hands n = Unit {0}
 Mine (Some q) hands n = (q < n) × (hands q ≡ true)
 
--- how bad each reason is, and whether there may be transform streams
+-- how bad each reason is, and whether the stream of each number is a half of a transform stream
 pub record Badness : Type 0 where
   pub of : Plain → ℕ
-  pub through : Bool
+  pub half : ℕ → Bool
 
 abbrev pub class : Badness → PipeId → (ℕ → Bool) → Class
-class bad me f = record { bad = bad.of; hands = f; me = me; through = bad.through }
+class bad me f = record { bad = bad.of; hands = f; me = me; half = bad.half }
 
 -- nothing bad stands anywhere, whichever of the promises that are to come will hand on
 pub record Known (bad : Badness) (me : PipeId) (own : Option ℕ) (s : Slots) (es : List Effect) : Type 0 where
@@ -81,7 +81,7 @@ module _ (bad : Badness) (me : PipeId) (own : Option ℕ) where
   pub known-same : (s z : Slots) (es cs : List Effect) → K s es → count z.promises ≡ count s.promises → ((f : ℕ → Bool) → AllGood (class bad me f) s es → AllGood (class bad me f) z cs) → K z cs
   known-same s z es cs k e next = record { hands = k.hands; mine = same_mine own (count s.promises) (count z.promises) k.hands e k.mine; good = λ f same. next f (k.good f (λ i h. same i (omega (arith, h, e)))) }
 
-  pub row-known : (s : Slots) (e : Effect) (es : List Effect) → Fits me e s → K s (e ∷ es) → K (row e s).slots ((row e s).caused ++ es)
+  pub row-known : (s : Slots) (e : Effect) (es : List Effect) → Fits bad.of bad.half me e s → K s (e ∷ es) → K (row e s).slots ((row e s).caused ++ es)
   row-known s e es x k =
       known-next s (row e s).slots (e ∷ es) ((row e s).caused ++ es) (λ i. kind e) k (row-more e s)
       (λ f news g. turn-good (class bad me f) (count (row e s).slots.promises) e es s g x news (omega arith))

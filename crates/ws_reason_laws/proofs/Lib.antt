@@ -6,16 +6,22 @@ pub mod Pipes
 pub mod Transforms
 pub mod Rows
 pub mod Known
+pub mod Halved
 pub mod Begins
 pub mod Closings
 pub mod Asking
 pub mod Answers
 pub mod Moments
 pub mod Opening
+pub mod Newly
 pub mod Runs
 pub mod Among
 pub mod Given
 pub mod Stored
+pub mod Brought
+pub mod Failed
+pub mod Quiet
 pub mod FirstPipe
 pub mod Untransformed
 mod Worked
+mod WorkedThrough

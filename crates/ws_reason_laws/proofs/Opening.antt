@@ -8,6 +8,7 @@ use Rattle.ws_steps.specs.declared.effects.Effect.{Effect}
 use Rattle.ws_steps.specs.declared.effects.Effect.TheVariants.{Readable, Writable, Pipe}
 use Rattle.ws_steps.specs.declared.pipes.Phase.{Phase}
 use Rattle.ws_steps.specs.declared.pipes.PipeOperation.{PipeOperation}
+use Rattle.ws_steps.specs.declared.pipes.Prevent.{Prevent}
 use Rattle.ws_steps.specs.declared.promises.Job.{Job}
 use Rattle.ws_steps.specs.declared.writable.WritableOperation.{WritableOperation}
 use Rattle.ws_steps.specs.Calls.{begin, add_stream}
@@ -36,9 +37,10 @@ use Rattle.ws_reason_laws.proofs.Asking.{is_asking, asks, goes, operation-quiet,
 use Rattle.ws_reason_laws.proofs.Closings.{Opened, Asks, Flies, operation-opened}
 use Rattle.ws_reason_laws.proofs.Moments.{Moment, moment-flies}
 
--- while pipe `me` flows or waits
-abbrev pub Opens : PipeId → Slots → List Effect → Type 0
-Opens me s es = (x : pipe.Slots) → slice_get s.pipes me.0 ≡ Some x → goes x.phase ≡ true → Opened x.dest (writable_at x.dest s) × (all (asks x.dest) es ≡ 0)
+-- while pipe `me` flows or waits, where it minds by its source and by what it isn't to do
+abbrev pub Opens : (StreamId → Prevent → Bool) → PipeId → Slots → List Effect → Type 0
+Opens minds me s es =
+    (x : pipe.Slots) → slice_get s.pipes me.0 ≡ Some x → minds x.source x.prevent ≡ true → goes x.phase ≡ true → Opened x.dest (writable_at x.dest s) × (all (asks x.dest) es ≡ 0)
 
 -- effects that ask for nothing
 
@@ -85,32 +87,35 @@ module _ (s : Slots) (es : List Effect) (m : Moment s es) where
 
 -- an operation of the pipe itself, and of another
 
-module _ (me : PipeId) (s : Slots) (es : List Effect) where
-  own-opens : (operation : PipeOperation) (o : Option pipe.Slots) → slice_get s.pipes me.0 ≡ o → Opens me s (Pipe me operation ∷ es)
-      → Opens me (on_pipe_at (λ ends. pipe_operation me ends operation) me s o).slots ((on_pipe_at (λ ends. pipe_operation me ends operation) me s o).caused ++ es)
-  own-opens operation None e k x f g = let h = k x f g in let z = h.1 in (h.0, omega (arith, z))
-  own-opens operation (Some y) e k x f g =
+module _ (minds : StreamId → Prevent → Bool) (me : PipeId) (s : Slots) (es : List Effect) where
+  own-opens : (operation : PipeOperation) (o : Option pipe.Slots) → slice_get s.pipes me.0 ≡ o → Opens minds me s (Pipe me operation ∷ es)
+      → Opens minds me (on_pipe_at (λ ends. pipe_operation me ends operation) me s o).slots ((on_pipe_at (λ ends. pipe_operation me ends operation) me s o).caused ++ es)
+  own-opens operation None e k x f v g = let h = k x f v g in let z = h.1 in (h.0, omega (arith, z))
+  own-opens operation (Some y) e k x f v g =
       let a : pipe.Acts = record { slots = y; out = found s } in
       let b : pipe.Acts = pipe_operation me (ends_at y s) operation a in
       let is : x ≡ b.slots = some_pipe x b.slots (sym f ∙ place_same s.pipes me.0 y b.slots e) in
-      let same : b.slots.dest ≡ y.dest = (each_pipe_keeps_its_ends me (ends_at y s) operation y s.promises).dest in
+      let kept = each_pipe_keeps_its_ends me (ends_at y s) operation y s.promises in
+      let same : b.slots.dest ≡ y.dest = kept.dest in
+      let wants : minds b.slots.source b.slots.prevent ≡ true = subst (λ (z : pipe.Slots). minds z.source z.prevent ≡ true) is v in
+      let wanted : minds y.source y.prevent ≡ true = rw (kept.source, kept.prevent) at wants in
       let going : goes b.slots.phase ≡ true = subst (λ (z : pipe.Slots). goes z.phase ≡ true) is g in
       let q = operation-quiet me y.dest (ends_at y s) operation a in
-      let old = k y e (q.before going) in
+      let old = k y e wanted (q.before going) in
       let none = q.none going in
       let rest = old.1 in
       let all_ = all-append (asks y.dest) b.out.effects es in
       let to : x.dest ≡ y.dest = ap (λ (z : pipe.Slots). z.dest) is ∙ same in
       rw to (old.0, omega (arith, none, rest, all_))
 
-  other-opens : (q : PipeId) (operation : PipeOperation) (o : Option pipe.Slots) → nat_eq me.0 q.0 ≡ false → slice_get s.pipes q.0 ≡ o → Moment s (Pipe q operation ∷ es) → Opens me s (Pipe q operation ∷ es)
-      → Opens me (on_pipe_at (λ ends. pipe_operation q ends operation) q s o).slots ((on_pipe_at (λ ends. pipe_operation q ends operation) q s o).caused ++ es)
-  other-opens q operation None n e m k x f g = let h = k x f g in let z = h.1 in (h.0, omega (arith, z))
-  other-opens q operation (Some y) n e m k x f g =
+  other-opens : (q : PipeId) (operation : PipeOperation) (o : Option pipe.Slots) → nat_eq me.0 q.0 ≡ false → slice_get s.pipes q.0 ≡ o → Moment s (Pipe q operation ∷ es) → Opens minds me s (Pipe q operation ∷ es)
+      → Opens minds me (on_pipe_at (λ ends. pipe_operation q ends operation) q s o).slots ((on_pipe_at (λ ends. pipe_operation q ends operation) q s o).caused ++ es)
+  other-opens q operation None n e m k x f v g = let h = k x f v g in let z = h.1 in (h.0, omega (arith, z))
+  other-opens q operation (Some y) n e m k x f v g =
       let a : pipe.Acts = record { slots = y; out = found s } in
       let b : pipe.Acts = pipe_operation q (ends_at y s) operation a in
       let mine : slice_get s.pipes me.0 ≡ Some x = sym (slice_get-set_other s.pipes q.0 me.0 b.slots (λ i. unequal_numbers me.0 q.0 n (sym i))) ∙ f in
-      let old = k x mine g in
+      let old = k x mine v g in
       let rest = old.1 in
       let none = asked x mine g (goes y.phase) refl in
       let all_ = all-append (asks x.dest) b.out.effects es in
@@ -126,14 +131,14 @@ module _ (me : PipeId) (s : Slots) (es : List Effect) where
       asked x f g false h = operation-none q x.dest (ends_at y s) operation (record { slots = y; out = found s }) h
       asked x f g true h = same x f g h (is_same x.dest y.dest) refl
 
-  pipe-opens : (q : PipeId) (operation : PipeOperation) (same : Bool) → same ≡ nat_eq me.0 q.0 → Moment s (Pipe q operation ∷ es) → Opens me s (Pipe q operation ∷ es)
-      → Opens me (row (Pipe q operation) s).slots ((row (Pipe q operation) s).caused ++ es)
+  pipe-opens : (q : PipeId) (operation : PipeOperation) (same : Bool) → same ≡ nat_eq me.0 q.0 → Moment s (Pipe q operation ∷ es) → Opens minds me s (Pipe q operation ∷ es)
+      → Opens minds me (row (Pipe q operation) s).slots ((row (Pipe q operation) s).caused ++ es)
   unfolding row
   pipe-opens q operation false n m k = other-opens q operation (slice_get s.pipes q.0) (sym n) refl m k
   pipe-opens q operation true n m k =
       let is : me ≡ q = ap (λ (i : ℕ). record { 0 = i }) (eq_numbers me.0 q.0 (sym n)) in
-      let h : Opens me s (Pipe me operation ∷ es) = subst (λ (p : PipeId). Opens me s (Pipe p operation ∷ es)) (sym is) k in
-      subst (λ (p : PipeId). Opens me (on_pipe_at (λ ends. pipe_operation p ends operation) p s (slice_get s.pipes p.0)).slots ((on_pipe_at (λ ends. pipe_operation p ends operation) p s (slice_get s.pipes p.0)).caused ++ es)) is
+      let h : Opens minds me s (Pipe me operation ∷ es) = subst (λ (p : PipeId). Opens minds me s (Pipe p operation ∷ es)) (sym is) k in
+      subst (λ (p : PipeId). Opens minds me (on_pipe_at (λ ends. pipe_operation p ends operation) p s (slice_get s.pipes p.0)).slots ((on_pipe_at (λ ends. pipe_operation p ends operation) p s (slice_get s.pipes p.0)).caused ++ es)) is
       (own-opens operation (slice_get s.pipes me.0) refl h)
 
   -- an operation of a writable stream
@@ -157,10 +162,10 @@ module _ (me : PipeId) (s : Slots) (es : List Effect) where
       not_asks operation z a = grind (arith, z, a)
 
   -- what an effect that is none of a pipe leaves of the destination
-  rest-opens : (e : Effect) → IsNoPipe e → ((j : StreamId) → asks j e ≡ 0 → Opened j (writable_at j s) → Opened j (writable_at j (row e s).slots)) → Opens me s (e ∷ es) → Opens me (row e s).slots ((row e s).caused ++ es)
-  rest-opens e n stays k x f g =
+  rest-opens : (e : Effect) → IsNoPipe e → ((j : StreamId) → asks j e ≡ 0 → Opened j (writable_at j s) → Opened j (writable_at j (row e s).slots)) → Opens minds me s (e ∷ es) → Opens minds me (row e s).slots ((row e s).caused ++ es)
+  rest-opens e n stays k x f v g =
       let mine : slice_get s.pipes me.0 ≡ Some x = ap (λ (xs : List pipe.Slots). slice_get xs me.0) (sym (row-pipes e s n)) ∙ f in
-      let old = k x mine g in
+      let old = k x mine v g in
       let all_ = old.1 in
       let caused = none_asks x.dest (row e s).caused (row-causes (λ d. asks x.dest d ≡ 0) e s (asks_none x.dest e n)) in
       let both = all-append (asks x.dest) (row e s).caused es in
@@ -175,7 +180,7 @@ module _ (me : PipeId) (s : Slots) (es : List Effect) where
   unfolding row
   row_readable i operation j o = rw (on_readable-writable (readable_operation i operation) i s j (is_same j i) refl) o
 
-  pub row-opens : (e : Effect) → Moment s (e ∷ es) → Opens me s (e ∷ es) → Opens me (row e s).slots ((row e s).caused ++ es)
+  pub row-opens : (e : Effect) → Moment s (e ∷ es) → Opens minds me s (e ∷ es) → Opens minds me (row e s).slots ((row e s).caused ++ es)
   row-opens (Pipe q operation) m k = pipe-opens q operation (nat_eq me.0 q.0) refl m k
   row-opens (Writable i operation) m k = rest-opens (Writable i operation) tt (row_writable i operation m) k
   row-opens (Readable i operation) m k = rest-opens (Readable i operation) tt (λ j z o. row_readable i operation j o) k
@@ -214,10 +219,10 @@ module _ (me : PipeId) (y : pipe.Slots) where
           let c : Opened y.dest no_writable = subst (λ (w : Option Stream). Opened y.dest (as_writable w)) none o in
           let f = c.closed in cc
 
-  piped : (s : Slots) (x : pipe.Slots) → At s → slice_get (s.pipes ++ x ∷ []) me.0 ≡ Some y
+  piped : (s : Slots) (x : pipe.Slots) → slice_get s.pipes me.0 ≡ Some y → slice_get (s.pipes ++ x ∷ []) me.0 ≡ Some y
   piped s x k =
-      ⊎_elim (λ (e : slice_get (s.pipes ++ x ∷ []) me.0 ≡ slice_get s.pipes me.0). e ∙ k.0)
-      (λ (e : (slice_get s.pipes me.0 ≡ None) × (slice_get (s.pipes ++ x ∷ []) me.0 ≡ Some x)). let n : ◌≡◌ {A = Option pipe.Slots} None (Some y) = sym e.0 ∙ k.0 in cc)
+      ⊎_elim (λ (e : slice_get (s.pipes ++ x ∷ []) me.0 ≡ slice_get s.pipes me.0). e ∙ k)
+      (λ (e : (slice_get s.pipes me.0 ≡ None) × (slice_get (s.pipes ++ x ∷ []) me.0 ≡ Some x)). let n : ◌≡◌ {A = Option pipe.Slots} None (Some y) = sym e.0 ∙ k in cc)
       (appended s.pipes x me.0)
 
   begin-at : (c : Call) (s : Slots) → At s → At (begin c s).done.slots
@@ -226,37 +231,52 @@ module _ (me : PipeId) (y : pipe.Slots) where
         promise = λ z k. k;
         locks = λ z ls k. k;
         hosts = λ z hs k. k;
-        pipe = λ z source dest prevent signal promise k. (piped z (pipe.set_up source dest prevent signal promise) k, k.1);
+        pipe = λ z source dest prevent signal promise k. (piped z (pipe.set_up source dest prevent signal promise) k.0, k.1);
         signal = λ z k. k;
         transform = λ z kind i j change k. k;
         readable = λ z owner mark size k. added z _ k;
         writable = λ z owner mark size k. added z _ k;
       }) c s k
 
+-- a pipe that is there stays as a call begins
+begin-there : (me : PipeId) (y : pipe.Slots) (c : Call) (s : Slots) → slice_get s.pipes me.0 ≡ Some y → slice_get (begin c s).done.slots.pipes me.0 ≡ Some y
+begin-there me y c s k =
+    begin-makes (λ z. slice_get z.pipes me.0 ≡ Some y) (record {
+      promise = λ z k. k;
+      locks = λ z ls k. k;
+      hosts = λ z hs k. k;
+      pipe = λ z source dest prevent signal promise k. piped me y z (pipe.set_up source dest prevent signal promise) k;
+      signal = λ z k. k;
+      transform = λ z kind i j change k. k;
+      readable = λ z owner mark size k. k;
+      writable = λ z owner mark size k. k;
+    }) c s k
+
 -- what a call begins with, where it makes the pipe
-abbrev pub NewOpens : PipeId → Call → Slots → Type 0
-NewOpens me c s =
-    (x : pipe.Slots) → slice_get s.pipes me.0 ≡ None → slice_get (begin c s).done.slots.pipes me.0 ≡ Some x → goes x.phase ≡ true
+abbrev pub NewOpens : (StreamId → Prevent → Bool) → PipeId → Call → Slots → Type 0
+NewOpens minds me c s =
+    (x : pipe.Slots) → slice_get s.pipes me.0 ≡ None → slice_get (begin c s).done.slots.pipes me.0 ≡ Some x → minds x.source x.prevent ≡ true → goes x.phase ≡ true
     → Opened x.dest (writable_at x.dest (begin c s).done.slots) × (all (asks x.dest) (begin c s).done.caused ≡ 0)
 
-pub call-opens : (me : PipeId) (c : Call) (s : Slots) → Opens me s []
-    → ((x : pipe.Slots) → slice_get s.pipes me.0 ≡ Some x → goes x.phase ≡ true → all_spare x.source x.dest (begin c s).done.caused ≡ true) → NewOpens me c s
-    → Opens me (begin c s).done.slots (begin c s).done.caused
-call-opens me c s k spared new x f g = by (slice_get s.pipes me.0) refl
+pub call-opens : (minds : StreamId → Prevent → Bool) (me : PipeId) (c : Call) (s : Slots) → Opens minds me s []
+    → ((x : pipe.Slots) → slice_get s.pipes me.0 ≡ Some x → goes x.phase ≡ true → all_spare x.source x.dest (begin c s).done.caused ≡ true) → NewOpens minds me c s
+    → Opens minds me (begin c s).done.slots (begin c s).done.caused
+call-opens minds me c s k spared new x f v g = by (slice_get s.pipes me.0) refl
   where
     by : (o : Option pipe.Slots) → slice_get s.pipes me.0 ≡ o → Opened x.dest (writable_at x.dest (begin c s).done.slots) × (all (asks x.dest) (begin c s).done.caused ≡ 0)
-    by None e = new x e f g
+    by None e = new x e f v g
     by (Some y) e =
-        let z = begin-at me y c s (e, λ h. (k y e h).0) in
-        let is : x ≡ y = some_pipe x y (sym f ∙ z.0) in
+        let is : x ≡ y = some_pipe x y (sym f ∙ (begin-there me y c s e)) in
+        let wanted : minds y.source y.prevent ≡ true = subst (λ (w : pipe.Slots). minds w.source w.prevent ≡ true) is v in
+        let z = begin-at me y c s (e, λ h. (k y e wanted h).0) in
         let h : goes y.phase ≡ true = subst (λ (w : pipe.Slots). goes w.phase ≡ true) is g in
         rw is (z.1 h, all_spare_asks y.source y.dest (begin c s).done.caused (spared y e h))
 
 -- jobs
 
-pub job-opens : (me : PipeId) (job : Job) (s z : Slots) → z.streams ≡ s.streams → z.pipes ≡ s.pipes → Opens me s [] → Opens me z (job_effects job)
-job-opens me job s z e f k x there g =
-    let old = k x (ap (λ (xs : List pipe.Slots). slice_get xs me.0) (sym f) ∙ there) g in
+pub job-opens : (minds : StreamId → Prevent → Bool) (me : PipeId) (job : Job) (s z : Slots) → z.streams ≡ s.streams → z.pipes ≡ s.pipes → Opens minds me s [] → Opens minds me z (job_effects job)
+job-opens minds me job s z e f k x there v g =
+    let old = k x (ap (λ (xs : List pipe.Slots). slice_get xs me.0) (sym f) ∙ there) v g in
     (subst (λ (xs : List Stream). Opened x.dest (as_writable (slice_get xs x.dest.0))) (sym e) old.0, none job)
   where
     none : (job : Job) → all (asks x.dest) (job_effects job) ≡ 0

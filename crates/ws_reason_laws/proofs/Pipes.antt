@@ -4,6 +4,7 @@ use Rattle.std.proofs.Common.{◌≡◌, ℕ, ◌+◌, ◌-◌, ◌≤◌, ◌<�
 use Rattle.ws_value.specs.declared.ids.PipeId.{PipeId}
 use Rattle.ws_value.specs.declared.ids.PromiseId.{PromiseId}
 use Rattle.ws_value.specs.declared.ids.SignalId.{SignalId}
+use Rattle.ws_value.specs.declared.ids.StreamId.{StreamId}
 use Rattle.ws_value.specs.declared.value.Plain.{Plain}
 use Rattle.ws_value.specs.declared.value.Plain.TheVariants.{Undefined}
 use Rattle.ws_value.specs.declared.value.Value.{Value}
@@ -31,7 +32,7 @@ use Rattle.ws_steps.specs.Writable.{is_writable, is_closed}
 use Rattle.ws_laws.proofs.Tables.{either}
 use Rattle.ws_reason_laws.proofs.InTable.{settle-good, fresh-keeps, micro-keeps, fresh-count}
 use Rattle.ws_reason_laws.proofs.Readables.{effects-append}
-use Rattle.ws_reason_laws.proofs.Weights.{Class, of_result, cancelled, loud, soft, loud_one, settles, of_pipe, of_error, in_table, in_effects, in_action, in_pipe, in_ends, count}
+use Rattle.ws_reason_laws.proofs.Weights.{Class, of_result, cancelled, loud, soft, loud_one, settles, of_pipe, of_error, in_table, in_effects, in_action, in_pipe, minds, in_ends, count}
 
 abbrev pub size : Acts → ℕ
 size a = count a.out.promises
@@ -41,11 +42,14 @@ abbrev pub hands_on : PipeOperation → Bool
 hands_on names.WriteChunk = false
 hands_on _ = true
 
--- the pipe doesn't find its destination closing or closed while it flows and the source is readable, where it is the one that is looked at
+-- the pipe doesn't find its destination closing or closed while it flows and the source is readable, where it minds
 abbrev pub Finds : Bool → Ends → Slots → Type 0
-Finds own ends x = own ≡ true → is_flowing x.phase ≡ true → ends.source_state ≡ Readable → (ends.dest_closing || is_closed ends.dest_state) ≡ false
+Finds cares ends x = cares ≡ true → is_flowing x.phase ≡ true → ends.source_state ≡ Readable → (ends.dest_closing || is_closed ends.dest_state) ≡ false
 
-module _ (k : Class) (me : PipeId) (ends : Ends) (fair : cancelled k type_error ≡ 0) (found : in_ends k ends ≡ 0) (m : ℕ) where
+module _ (k : Class) (me : PipeId) (ends : Ends) (found : in_ends k ends ≡ 0) (m : ℕ) where
+  abbrev Minds : Slots → Bool
+  Minds x = minds k.bad k.half k.me me x.source x.prevent
+
   -- nothing bad stands in it
   abbrev Good : Acts → Type 0
   Good a = in_pipe k me.0 a.slots + (in_table k a.out.promises + in_effects k a.out.effects) ≡ 0
@@ -120,7 +124,7 @@ module _ (k : Class) (me : PipeId) (ends : Ends) (fair : cancelled k type_error 
   unfolding act_by_signal
   signal-good r a b l h q = signal_by-good r a a.slots.prevent.abort a.slots.prevent.cancel b l h q
 
-  act_by-good : (a : Acts) (action : Option Action) → in_action k action ≡ 0 → Louds (size a) → Good a → Ending (act_by me ends a action)
+  act_by-good : (a : Acts) (action : Option Action) → in_action k a.slots.source action ≡ 0 → Louds (size a) → Good a → Ending (act_by me ends a action)
   act_by-good a None b l h = λ q. finalize-good a.slots.error a (ends_well a.slots a.slots.error (omega (arith, h))) h
   act_by-good a (Some (AbortDest r)) b l h = by ends.dest_abort refl
     where
@@ -141,7 +145,7 @@ module _ (k : Class) (me : PipeId) (ends : Ends) (fair : cancelled k type_error 
   unfolding proceed
   proceed-good a l h = either Ending (is_none a.slots.held && nat_eq a.slots.unsettled 0) _ _ (λ e. act-good a l h) (λ e q. h)
 
-  shutdown-good : (action : Option Action) (e : Option Plain) (a : Acts) → in_action k action ≡ 0 → of_error k me.0 a.slots.promise e ≡ 0 → Louds (size a) → Good a → Ending (shutdown me ends action e a)
+  shutdown-good : (action : Option Action) (e : Option Plain) (a : Acts) → in_action k a.slots.source action ≡ 0 → of_error k me.0 a.slots.promise e ≡ 0 → Louds (size a) → Good a → Ending (shutdown me ends action e a)
   unfolding shutdown
   shutdown-good action e a b c l h =
       let z : Acts = with_slots (record a.slots { action = action; error = e }) a in
@@ -150,12 +154,19 @@ module _ (k : Class) (me : PipeId) (ends : Ends) (fair : cancelled k type_error 
       (λ f. either Ending (is_writable ends.dest_state && not ends.dest_closing) _ _ (λ w. proceed-good (with_slots (record z.slots { phase = Waiting }) z) l g) (λ w. act-good z l g))
       (λ f q. h)
 
-  good_cancelled : (r : Plain) → k.bad r ≡ 0 → cancelled k r ≡ 0
-  good_cancelled r h = grind (arith, h)
+  good_cancelled : (i : StreamId) (r : Plain) → k.bad r ≡ 0 → cancelled k i r ≡ 0
+  good_cancelled i r h = grind (arith, h)
 
-  unless-good : (b : Bool) (action : Action) → in_action k (Some action) ≡ 0 → in_action k (unless b action) ≡ 0
-  unless-good true action h = refl
-  unless-good false action h = h
+  unless-good : (b : Bool) (source : StreamId) (action : Action) → in_action k source (Some action) ≡ 0 → in_action k source (unless b action) ≡ 0
+  unless-good true source action h = refl
+  unless-good false source action h = h
+
+  -- a pipe that doesn't mind cancels its source with a TypeError where that isn't bad
+  fair-good : (x : Slots) → Minds x ≡ false → in_action k x.source (unless x.prevent.cancel (CancelSource type_error)) ≡ 0
+  fair-good x n = grind (arith, n)
+
+  type-error : (x : Slots) → Minds x ≡ false → in_pipe k me.0 x ≡ 0 → of_error k me.0 x.promise (Some type_error) ≡ 0
+  type-error x n h = grind (arith, n, h)
 
   ready-good : (a : Acts) (ready : Option PromiseId) → Good a → Good (wait_for_ready me a ready)
   ready-good a None h = h
@@ -170,40 +181,39 @@ module _ (k : Class) (me : PipeId) (ends : Ends) (fair : cancelled k type_error 
   good_error : (x : Slots) (r : Plain) → in_pipe k me.0 x ≡ 0 → k.bad r ≡ 0 → of_error k me.0 x.promise (Some r) ≡ 0
   good_error x r h b = grind (arith, h, b)
 
-  any_error : (x : Slots) (e : Option Plain) → in_pipe k me.0 x ≡ 0 → nat_eq me.0 k.me.0 ≡ false → of_error k me.0 x.promise e ≡ 0
-  any_error x e h n = grind (arith, h, n)
-
   no_error : (x : Slots) → in_pipe k me.0 x ≡ 0 → of_error k me.0 x.promise None ≡ 0
   no_error x h = grind (arith, h)
 
-  look_by-good : (a : Acts) (s : ReadableState) (d : WritableState) → ends.source_state ≡ s → ends.dest_state ≡ d → is_flowing a.slots.phase ≡ true → Finds (nat_eq me.0 k.me.0) ends a.slots → Louds (size a) → Good a → Ending (look_by me ends a s d)
+  look_by-good : (a : Acts) (s : ReadableState) (d : WritableState) → ends.source_state ≡ s → ends.dest_state ≡ d → is_flowing a.slots.phase ≡ true → Finds (Minds a.slots) ends a.slots → Louds (size a) → Good a → Ending (look_by me ends a s d)
   look_by-good a Errored d e f w c l h =
       let b : k.bad ends.source_error ≡ 0 = grind (arith, found, e) in
-      shutdown-good _ _ a (unless-good a.slots.prevent.abort (AbortDest ends.source_error) b) (good_error a.slots ends.source_error (omega (arith, h)) b) l h
+      shutdown-good _ _ a (unless-good a.slots.prevent.abort a.slots.source (AbortDest ends.source_error) b) (good_error a.slots ends.source_error (omega (arith, h)) b) l h
   look_by-good a Readable dest.Errored e f w c l h =
       let b : k.bad ends.dest_error ≡ 0 = grind (arith, found, f) in
-      shutdown-good _ _ a (unless-good a.slots.prevent.cancel (CancelSource ends.dest_error) (good_cancelled ends.dest_error b)) (good_error a.slots ends.dest_error (omega (arith, h)) b) l h
+      shutdown-good _ _ a (unless-good a.slots.prevent.cancel a.slots.source (CancelSource ends.dest_error) (good_cancelled a.slots.source ends.dest_error b)) (good_error a.slots ends.dest_error (omega (arith, h)) b) l h
   look_by-good a Closed dest.Errored e f w c l h =
       let b : k.bad ends.dest_error ≡ 0 = grind (arith, found, f) in
-      shutdown-good _ _ a (unless-good a.slots.prevent.cancel (CancelSource ends.dest_error) (good_cancelled ends.dest_error b)) (good_error a.slots ends.dest_error (omega (arith, h)) b) l h
-  look_by-good a Closed dest.Writable e f w c l h = shutdown-good _ _ a (unless-good a.slots.prevent.close CloseDest refl) (no_error a.slots (omega (arith, h))) l h
-  look_by-good a Closed dest.Erroring e f w c l h = shutdown-good _ _ a (unless-good a.slots.prevent.close CloseDest refl) (no_error a.slots (omega (arith, h))) l h
-  look_by-good a Closed dest.Closed e f w c l h = shutdown-good _ _ a (unless-good a.slots.prevent.close CloseDest refl) (no_error a.slots (omega (arith, h))) l h
+      shutdown-good _ _ a (unless-good a.slots.prevent.cancel a.slots.source (CancelSource ends.dest_error) (good_cancelled a.slots.source ends.dest_error b)) (good_error a.slots ends.dest_error (omega (arith, h)) b) l h
+  look_by-good a Closed dest.Writable e f w c l h = shutdown-good _ _ a (unless-good a.slots.prevent.close a.slots.source CloseDest refl) (no_error a.slots (omega (arith, h))) l h
+  look_by-good a Closed dest.Erroring e f w c l h = shutdown-good _ _ a (unless-good a.slots.prevent.close a.slots.source CloseDest refl) (no_error a.slots (omega (arith, h))) l h
+  look_by-good a Closed dest.Closed e f w c l h = shutdown-good _ _ a (unless-good a.slots.prevent.close a.slots.source CloseDest refl) (no_error a.slots (omega (arith, h))) l h
   look_by-good a Readable d e f w c l h =
       either Ending (ends.dest_closing || is_closed d) _ _
-      (λ z. shutdown-good _ _ a (unless-good a.slots.prevent.cancel (CancelSource type_error) fair) (any_error a.slots (Some type_error) (omega (arith, h)) (other (nat_eq me.0 k.me.0) refl z)) l h)
+      (λ z.
+      let n : Minds a.slots ≡ false = other (Minds a.slots) refl z in
+      shutdown-good _ _ a (fair-good a.slots n) (type-error a.slots n (omega (arith, h))) l h)
       (λ z. either Ending a.slots.reading _ _ (λ r q. h) (λ r q. read-good a h))
     where
-      other : (b : Bool) → nat_eq me.0 k.me.0 ≡ b → (ends.dest_closing || is_closed d) ≡ true → nat_eq me.0 k.me.0 ≡ false
+      other : (b : Bool) → Minds a.slots ≡ b → (ends.dest_closing || is_closed d) ≡ true → Minds a.slots ≡ false
       other false n z = n
       other true n z = let y = c n w e in grind (arith, y, z, f)
 
-  look-good : (a : Acts) → Finds (nat_eq me.0 k.me.0) ends a.slots → Louds (size a) → Good a → Ending (look me ends a)
+  look-good : (a : Acts) → Finds (Minds a.slots) ends a.slots → Louds (size a) → Good a → Ending (look me ends a)
   unfolding look
   look-good a c l h =
       either Ending (is_flowing a.slots.phase) _ _ (λ w. look_by-good a ends.source_state ends.dest_state refl refl w c l h) (λ w q. h)
 
-  go_on-good : (a : Acts) (phase : Phase) → Finds (nat_eq me.0 k.me.0) ends a.slots → Louds (size a) → Good a → Ending (go_on_in me ends a phase)
+  go_on-good : (a : Acts) (phase : Phase) → Finds (Minds a.slots) ends a.slots → Louds (size a) → Good a → Ending (go_on_in me ends a phase)
   go_on-good a Flowing c l h = look-good a c l h
   go_on-good a Waiting c l h = proceed-good a l h
   go_on-good a Acting c l h = λ q. h
@@ -241,7 +251,7 @@ module _ (k : Class) (me : PipeId) (ends : Ends) (fair : cancelled k type_error 
   softs : (n : ℕ) → ((i : ℕ) → n ≤ i → i < m → k.hands i ≡ false) → Softs n
   softs n f i a b = let e = f i a b in grind (arith, e)
 
-  pub pipe-good : (operation : PipeOperation) (a : Acts) → of_pipe k operation ≡ 0 → Finds (nat_eq me.0 k.me.0) ends a.slots → ((i : ℕ) → size a ≤ i → i < m → k.hands i ≡ hands_on operation) → Good a → Ending (pipe_operation me ends operation a)
+  pub pipe-good : (operation : PipeOperation) (a : Acts) → of_pipe k operation ≡ 0 → Finds (Minds a.slots) ends a.slots → ((i : ℕ) → size a ≤ i → i < m → k.hands i ≡ hands_on operation) → Good a → Ending (pipe_operation me ends operation a)
   unfolding look_ready go_on keep_chunk read_ended write_chunk write_ended action_settled part_settled no_parts abort
   pipe-good names.Look a f c l h = look-good a c (louds (size a) l) h
   pipe-good names.LookReady a f c l h = look-good (with_slots (record a.slots { waits = false }) a) c (louds (size a) l) h

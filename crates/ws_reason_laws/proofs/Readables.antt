@@ -119,7 +119,7 @@ module _ (k : Class) (me : StreamId) where
       let d = effects-append k a.out.effects (error_all me type_error a.slots.requests) in
       grind (arith, h, s, c, d)
 
-  cancel_by-good : (r : Plain) (p : PromiseId) (a : Acts) (state : ReadableState) → cancelled k r ≡ 0 → a.slots.state ≡ state → Good a → Good (cancel_by me r p a state)
+  cancel_by-good : (r : Plain) (p : PromiseId) (a : Acts) (state : ReadableState) → cancelled k me r ≡ 0 → a.slots.state ≡ state → Good a → Good (cancel_by me r p a state)
   unfolding cancel_steps
   cancel_by-good r p a Readable z e h =
       let b : Acts = stream_close me a in let g : Good b = close-good a h in let d = effects-append k b.out.effects (effect.CancelAlgorithm me r p ∷ []) in omega (arith, g, z, d)
@@ -128,11 +128,11 @@ module _ (k : Class) (me : StreamId) where
       let b : k.bad a.slots.stored_error ≡ 0 = grind (arith, h, e) in
       let s = settle-good k p (Err a.slots.stored_error) a.out.promises (omega (arith, h)) b in omega (arith, h, s)
 
-  cancel-good : (r : Plain) (p : PromiseId) (a : Acts) → cancelled k r ≡ 0 → Good a → Good (stream_cancel me r p a)
+  cancel-good : (r : Plain) (p : PromiseId) (a : Acts) → cancelled k me r ≡ 0 → Good a → Good (stream_cancel me r p a)
   unfolding stream_cancel
   cancel-good r p a z h = cancel_by-good r p (record a { slots = record a.slots { disturbed = true } }) a.slots.state z refl h
 
-  cancel_readable-good : (r : Plain) (p : PromiseId) (a : Acts) (state : ReadableState) → cancelled k r ≡ 0 → Good a → Good (cancel_readable_by me r p a state)
+  cancel_readable-good : (r : Plain) (p : PromiseId) (a : Acts) (state : ReadableState) → cancelled k me r ≡ 0 → Good a → Good (cancel_readable_by me r p a state)
   cancel_readable-good r p a Readable z h = cancel-good r p a z h
   cancel_readable-good r p a Closed z h = let s = settle-good k p (Ok Undefined) a.out.promises (omega (arith, h)) refl in omega (arith, h, s)
   cancel_readable-good r p a Errored z h = let s = settle-good k p (Ok Undefined) a.out.promises (omega (arith, h)) refl in omega (arith, h, s)
@@ -145,7 +145,7 @@ module _ (k : Class) (me : StreamId) where
   unfolding reader_generic_initialize
   initialize-good closed a z h = grind (arith, h, z, settle_soft)
 
-  pub readable-good : (operation : ReadableOperation) (a : Acts) → of_readable k operation ≡ 0 → Good a → Good (readable_operation me operation a)
+  pub readable-good : (operation : ReadableOperation) (a : Acts) → of_readable k me operation ≡ 0 → Good a → Good (readable_operation me operation a)
   unfolding reader_release disturb default_reader_read cancel_if_readable start_settled pull_settled
   readable-good (names.InitializeReader closed) a f h = initialize-good closed a f h
   readable-good names.ReleaseReader a f h = release_by-good a a.slots.reader (omega (arith, h)) h

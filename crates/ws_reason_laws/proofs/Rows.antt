@@ -1,5 +1,5 @@
 -- The row of each effect keeps that nothing bad stands anywhere, where the promises that it makes are of the right kind.
-use Rattle.std.proofs.Common.{◌≡◌, ℕ, zero, suc, ◌+◌, ◌≤◌, ◌<◌, Bool, true, false, nat_eq, if◌then◌else◌, List, [], ◌∷◌, ◌++◌, length, Option, Some, None, Result, Err, slice_get, slice_set, refl, subst, arith}
+use Rattle.std.proofs.Common.{◌≡◌, ℕ, zero, suc, ◌+◌, ◌≤◌, ◌<◌, Bool, true, false, if◌then◌else◌, List, [], ◌∷◌, ◌++◌, length, Option, Some, None, Result, Err, slice_get, slice_set, refl, subst, arith}
 use Rattle.ws_value.specs.declared.ids.PipeId.{PipeId}
 use Rattle.ws_value.specs.declared.ids.PromiseId.{PromiseId}
 use Rattle.ws_value.specs.declared.ids.SignalId.{SignalId}
@@ -32,7 +32,6 @@ use Rattle.ws_steps.specs.declared.readable.ReadableOperation.{ReadableOperation
 use Rattle.ws_steps.specs.declared.transform.TransformId.{TransformId}
 use Rattle.ws_steps.specs.declared.transform.TransformOperation.{TransformOperation}
 use Rattle.ws_steps.specs.declared.writable.WritableOperation.{WritableOperation}
-use Rattle.ws_steps.specs.Effects.{type_error}
 use Rattle.ws_steps.specs.Operations.{readable_operation, writable_operation, pipe_operation, signal_operation, transform_operation}
 use Rattle.ws_steps.specs.Pipes as pipe
 use Rattle.ws_steps.specs.Pipes.{abort_all, trigger_unless}
@@ -44,11 +43,12 @@ use Rattle.ws_steps.specs.Slots.{Slots, Stream, ReadableStream, WritableStream, 
 use Rattle.ws_steps.specs.Turns.{row, start_algorithm, pull_algorithm, cancel_algorithm, write_algorithm, close_algorithm, abort_algorithm, chunk_steps, close_steps, error_steps, call_host}
 use Rattle.ws_laws.proofs.Rows.{Changes, row-changes}
 use Rattle.ws_laws.proofs.Tables.{either, readable_there, writable_there, readable_acts, writable_acts}
+use Rattle.ws_reason_laws.specs.Origins.{is_half}
 use Rattle.ws_reason_laws.proofs.InTable.{settle-keeps, settle_soft, fresh-keeps, fresh_settled-keeps, tell-keeps, answer-keeps, micro-keeps, use-keeps, settle-count, answer-count, fresh-count, react-count, follow-count, micro-count, use-count}
 use Rattle.ws_reason_laws.proofs.Pipes.{Finds, hands_on, pipe-good}
 use Rattle.ws_reason_laws.proofs.Readables.{effects-append, readable-good}
 use Rattle.ws_reason_laws.proofs.Transforms.{transform-good}
-use Rattle.ws_reason_laws.proofs.Weights.{Class, of_result, of_reason, cancelled, of_step, soft, loud, loud_one, settles, in_table, in_request, uses, of_use, gives, of_readable, of_writable, of_pipe, of_signal, of_transform, in_effect, in_effects, is_errored, in_readable, has_error, in_writable, in_stream, in_streams, in_pipe, in_pipes, in_signals, in_ends, in_transform, in_transforms, in_halves, in_slots, AllGood, count}
+use Rattle.ws_reason_laws.proofs.Weights.{Class, of_result, of_reason, cancelled, of_step, soft, loud, loud_one, settles, in_table, in_request, uses, of_use, gives, of_readable, of_writable, of_pipe, of_signal, of_transform, in_effect, in_effects, is_errored, in_readable, has_error, in_writable, in_stream, in_streams, in_pipe, in_pipes, in_signals, minds, in_ends, in_transform, in_transforms, in_halves, in_slots, AllGood, count}
 use Rattle.ws_reason_laws.proofs.Writables.{Expects, writable-good}
 
 -- places
@@ -113,25 +113,13 @@ transform-there k [] i h = refl
 transform-there k (x ∷ xs) zero h = omega (arith, h)
 transform-there k (x ∷ xs) (suc i) h = transform-there k xs i (omega (arith, h))
 
--- where there is a transform stream there may be some
-there-through : (k : Class) (x : transform.Slots) → in_transform k x ≡ 0 → k.through ≡ true
-there-through k x h = grind (arith, h)
-
-there-loud : (k : Class) (x : transform.Slots) → k.through ≡ true → in_transform k x ≡ 0 → loud k x.change.0 + loud_one k x.finish ≡ 0
-there-loud k x e h = rw e at h
-
-loud-there : (k : Class) (x : transform.Slots) → k.through ≡ true → loud k x.change.0 + loud_one k x.finish ≡ 0 → in_transform k x ≡ 0
-loud-there k x e h = rw e h
-
-fair_through : (k : Class) → k.through ≡ true → cancelled k type_error ≡ 0 → k.bad type_error ≡ 0
-fair_through k e h = rw e at h
-
 -- what is to be known before an effect, where `me` is the pipe that is looked at
 
-abbrev pub Fits : PipeId → Effect → Slots → Type 0
-Fits me (Writable i operation) s = has_writable i s ≡ true → Expects operation (writable_at i s)
-Fits me (Pipe p operation) s = (x : pipe.Slots) → slice_get s.pipes p.0 ≡ Some x → Finds (nat_eq p.0 me.0) (ends_at x s) x
-Fits me _ s = Unit {0}
+abbrev pub Fits : (Plain → ℕ) → (ℕ → Bool) → PipeId → Effect → Slots → Type 0
+Fits bad half me (Writable i operation) s = has_writable i s ≡ true → Expects operation (writable_at i s)
+Fits bad half me (Pipe p operation) s = (x : pipe.Slots) → slice_get s.pipes p.0 ≡ Some x → Finds (minds bad half me p x.source x.prevent) (ends_at x s) x
+Fits bad half me (CancelAlgorithm i r p) s = is_half (owner_at i s) ≡ true → half i.0 ≡ true
+Fits bad half me _ s = Unit {0}
 
 -- whether the promises that an effect makes hand on
 abbrev pub kind : Effect → Bool
@@ -203,7 +191,7 @@ module _ (k : Class) (m : ℕ) where
   new_soft : (s : Slots) → News s false → count s.promises < m → soft k (count s.promises) ≡ 0
   new_soft s f l = let e = f (count s.promises) (omega arith) l in grind (arith, e)
 
-  readable-row : (i : StreamId) (operation : ReadableOperation) (s : Slots) → in_slots k s ≡ 0 → of_readable k operation ≡ 0 → Row (on_readable (readable_operation i operation) i s)
+  readable-row : (i : StreamId) (operation : ReadableOperation) (s : Slots) → in_slots k s ≡ 0 → of_readable k i operation ≡ 0 → Row (on_readable (readable_operation i operation) i s)
   readable-row i operation s h f =
       either Row (has_readable i s) (put_readable i s (readable_operation i operation (readable_acts i s))) (nothing s)
       (λ e.
@@ -226,13 +214,13 @@ module _ (k : Class) (m : ℕ) where
       (λ e q. omega (arith, h))
 
   pipe-row : (p : PipeId) (operation : PipeOperation) (s : Slots) (o : Option pipe.Slots) → slice_get s.pipes p.0 ≡ o → in_slots k s ≡ 0 → of_pipe k operation ≡ 0
-      → ((x : pipe.Slots) → slice_get s.pipes p.0 ≡ Some x → Finds (nat_eq p.0 k.me.0) (ends_at x s) x) → News s (hands_on operation) → Until (on_pipe_at (λ ends. pipe_operation p ends operation) p s o)
+      → ((x : pipe.Slots) → slice_get s.pipes p.0 ≡ Some x → Finds (minds k.bad k.half k.me p x.source x.prevent) (ends_at x s) x) → News s (hands_on operation) → Until (on_pipe_at (λ ends. pipe_operation p ends operation) p s o)
   pipe-row p operation s None e h f x l q = omega (arith, h)
   pipe-row p operation s (Some y) e h f x l q =
       let there = pipe-there k 0 s.pipes p.0 y p.0 (omega arith) e (omega (arith, h)) in
       let a : pipe.Acts = record { slots = y; out = found s } in
       let b : pipe.Acts = pipe_operation p (ends_at y s) operation a in
-      let g = pipe-good k p (ends_at y s) (omega (arith, h)) (ends-good k y s h) m operation a f (x y e) l (omega (arith, h, there)) q in
+      let g = pipe-good k p (ends_at y s) (ends-good k y s h) m operation a f (x y e) l (omega (arith, h, there)) q in
       let z = pipes-set k 0 s.pipes p.0 b.slots p.0 (omega arith) (omega (arith, h)) (omega (arith, g)) in
       omega (arith, h, g, z)
 
@@ -259,13 +247,10 @@ module _ (k : Class) (m : ℕ) where
   transform-row t operation s None e h f l q = omega (arith, h)
   transform-row t operation s (Some x) e h f l q =
       let there : in_transform k x ≡ 0 = subst (λ (o : Option transform.Slots). in_half k o ≡ 0) e (transform-there k s.transforms t.0 (omega (arith, h))) in
-      let through : k.through ≡ true = there-through k x there in
-      let fair : k.bad type_error ≡ 0 = fair_through k through (omega (arith, h)) in
-      let louds = there-loud k x through there in
       let a : transform.Acts = record { slots = x; out = found s } in
       let b : transform.Acts = transform_operation t (halves_at x s) operation a in
-      let g = transform-good k t (halves_at x s) through fair (halves-good k x s h) m operation a f (λ i n z. all_loud i (l i n z)) (omega (arith, h, louds)) q in
-      let z = transforms-set k s.transforms t.0 b.slots (omega (arith, h)) (loud-there k b.slots through (omega (arith, g))) in
+      let g = transform-good k t (halves_at x s) (halves-good k x s h) m operation a f (λ i n z. all_loud i (l i n z)) (omega (arith, h, there)) q in
+      let z = transforms-set k s.transforms t.0 b.slots (omega (arith, h)) (omega (arith, g)) in
       omega (arith, h, g, z)
     where
       all_loud : (i : ℕ) → k.hands i ≡ true → loud k i ≡ 0
@@ -321,9 +306,9 @@ module _ (k : Class) (m : ℕ) where
   pulls i u Host z = omega (arith, z)
   pulls i u (HalfOf t) z = omega (arith, z)
 
-  cancels : (i : StreamId) (r : Plain) (u : Use) (owner : Owner) → cancelled k r ≡ 0 → of_use k u ≡ 0 → in_effects k (cancel_algorithm i r u owner) ≡ 0
-  cancels i r u Host f z = omega (arith, z)
-  cancels i r u (HalfOf t) f z = omega (arith, f, z)
+  cancels : (i : StreamId) (r : Plain) (u : Use) (owner : Owner) → cancelled k i r ≡ 0 → (is_half owner ≡ true → k.half i.0 ≡ true) → of_use k u ≡ 0 → in_effects k (cancel_algorithm i r u owner) ≡ 0
+  cancels i r u Host f x z = omega (arith, z)
+  cancels i r u (HalfOf t) f x z = let b : k.bad r ≡ 0 = rw (x refl) at f in omega (arith, b, z)
 
   hands : (i : StreamId) (owner : Owner) → in_effects k (write_algorithm i owner) ≡ 0
   hands i Host = refl
@@ -349,7 +334,7 @@ module _ (k : Class) (m : ℕ) where
   error-row e s (Promise p) h f = let a = settle_soft k p (Err e) s.promises (omega (arith, h)) f in omega (arith, h, a)
   error-row e s (PipeRequest p) h f = omega (arith, h)
 
-  pub row-good : (e : Effect) (s : Slots) → in_slots k s ≡ 0 → in_effect k e ≡ 0 → Fits k.me e s → News s (kind e) → Until (row e s)
+  pub row-good : (e : Effect) (s : Slots) → in_slots k s ≡ 0 → in_effect k e ≡ 0 → Fits k.bad k.half k.me e s → News s (kind e) → Until (row e s)
   unfolding row
   row-good (Readable i operation) s h f x l q = readable-row i operation s h f
   row-good (Writable i operation) s h f x l q = writable-row i operation s h f x l q
@@ -358,7 +343,7 @@ module _ (k : Class) (m : ℕ) where
   row-good (Transform t operation) s h f x l q = transform-row t operation s (slice_get s.transforms t.0) refl h f l q
   row-good (StartAlgorithm i step start) s h f x l q = start-row i step s start h f l q
   row-good (PullAlgorithm i) s h f x l q = promises-row s s.promises s.hosts _ h (omega (arith, h)) (pulls i (React (ReadablePull i) None) (owner_at i s) refl)
-  row-good (CancelAlgorithm i r p) s h f x l q = promises-row s s.promises s.hosts _ h (omega (arith, h)) (cancels i r (React ReturnUndefined (Some p)) (owner_at i s) f refl)
+  row-good (CancelAlgorithm i r p) s h f x l q = promises-row s s.promises s.hosts _ h (omega (arith, h)) (cancels i r (React ReturnUndefined (Some p)) (owner_at i s) f x refl)
   row-good (WriteAlgorithm i) s h f x l q = promises-row s s.promises s.hosts _ h (omega (arith, h)) (hands i (owner_at i s))
   row-good (CloseAlgorithm i) s h f x l q = promises-row s s.promises s.hosts _ h (omega (arith, h)) (closes i (React (WritableClose i) None) (owner_at i s) refl)
   row-good (AbortAlgorithm i r p) s h f x l q = promises-row s s.promises s.hosts _ h (omega (arith, h)) (aborts i r (React (WritableAbort i p) None) (owner_at i s) f refl)
@@ -370,7 +355,7 @@ module _ (k : Class) (m : ℕ) where
   row-good (Queue micro) s h f x l q = promises-row s (queue_micro micro s.promises) s.hosts [] h (micro-keeps k micro s.promises (omega (arith, h))) refl
   row-good (CallHost call u) s h f x l q = call-row call u s h f l q
 
-  pub turn-good : (e : Effect) (es : List Effect) (s : Slots) → AllGood k s (e ∷ es) → Fits k.me e s → News s (kind e) → count (row e s).slots.promises ≤ m → AllGood k (row e s).slots ((row e s).caused ++ es)
+  pub turn-good : (e : Effect) (es : List Effect) (s : Slots) → AllGood k s (e ∷ es) → Fits k.bad k.half k.me e s → News s (kind e) → count (row e s).slots.promises ≤ m → AllGood k (row e s).slots ((row e s).caused ++ es)
   turn-good e es s h x l q =
       let a = row-good e s (omega (arith, h)) (omega (arith, h)) x l q in
       let b = effects-append k (row e s).caused es in

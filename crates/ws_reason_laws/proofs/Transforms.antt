@@ -1,5 +1,5 @@
--- Operations of a transform stream keep that nothing bad stands in it, in the promises and in what they cause, where its new promises hand on
--- and a TypeError isn't bad: a stream that is terminated, and an identity that can't enqueue, fail with one.
+-- Operations of a transform stream keep that nothing bad stands in it, in the promises and in what they cause, where its new promises hand on.
+-- A stream that is terminated, and an identity that can't enqueue, fail with a TypeError.
 use Rattle.std.proofs.Common.{◌≡◌, ℕ, ◌+◌, ◌≤◌, ◌<◌, Bool, true, false, not, List, ◌++◌, Option, Some, None, Result, Ok, Err, refl, subst, arith}
 use Rattle.ws_value.specs.declared.ids.PromiseId.{PromiseId}
 use Rattle.ws_value.specs.declared.value.Plain.{Plain}
@@ -20,22 +20,21 @@ use Rattle.ws_steps.specs.declared.transform.TransformOperation.{TransformOperat
 use Rattle.ws_steps.specs.declared.transform.TransformOperation.TheVariants as names
 use Rattle.ws_steps.specs.declared.writable.WritableState.{WritableState}
 use Rattle.ws_steps.specs.declared.writable.WritableState.TheVariants as dest
-use Rattle.ws_steps.specs.Effects.{type_error}
 use Rattle.ws_steps.specs.Operations.{transform_operation}
 use Rattle.ws_steps.specs.Promises.{next_id, settle}
 use Rattle.ws_steps.specs.Transform.{Acts, done, set_backpressure, unblock, differs, transform_error, terminate, enqueue, enqueued, transform_by, transform_chunk, perform_transform, wait_for_change, sink_write, write_in, write_goes_on, source_pull, finish_by, sink_close, sink_abort, source_cancel, flushed_in, flush_settled, aborted_in, abort_settled, cancelled_in, cancel_settled}
 use Rattle.ws_laws.proofs.Tables.{either}
 use Rattle.ws_reason_laws.proofs.InTable.{settle-good, fresh-keeps, settle-count, fresh-count}
 use Rattle.ws_reason_laws.proofs.Readables.{effects-append}
-use Rattle.ws_reason_laws.proofs.Weights.{Class, of_result, cancelled, of_step, loud, loud_one, settles, of_use, uses, of_transform, in_table, in_effects, is_errored, has_error, in_halves, count}
+use Rattle.ws_reason_laws.proofs.Weights.{Class, of_result, of_step, loud, loud_one, settles, of_use, uses, of_transform, in_table, in_effects, is_errored, has_error, of_kind, in_transform, in_halves, count}
 
 abbrev pub size : Acts → ℕ
 size a = count a.out.promises
 
-module _ (k : Class) (me : TransformId) (halves : Halves) (through : k.through ≡ true) (fair : k.bad type_error ≡ 0) (found : in_halves k halves ≡ 0) (m : ℕ) where
+module _ (k : Class) (me : TransformId) (halves : Halves) (found : in_halves k halves ≡ 0) (m : ℕ) where
   -- nothing bad stands in it
   abbrev Good : Acts → Type 0
-  Good a = (loud k a.slots.change.0 + loud_one k a.slots.finish) + (in_table k a.out.promises + in_effects k a.out.effects) ≡ 0
+  Good a = in_transform k a.slots + (in_table k a.out.promises + in_effects k a.out.effects) ≡ 0
 
   -- with `m` promises after it
   abbrev Ending : Acts → Type 0
@@ -80,8 +79,8 @@ module _ (k : Class) (me : TransformId) (halves : Halves) (through : k.through �
   causing-good : (a : Acts) (es : List Effect) → in_effects k es ≡ 0 → Good a → Good (record a { out = record a.out { effects = a.out.effects ++ es } })
   causing-good a es z h = let c = effects-append k a.out.effects es in omega (arith, z, h, c)
 
-  chunk-good : (v : Value) (d : PromiseId) (a : Acts) (kind : Kind) → in_effects k (transform_by me halves v d a kind) ≡ 0
-  chunk-good v d a kind = grind (arith, fair)
+  chunk-good : (v : Value) (d : PromiseId) (a : Acts) (kind : Kind) → of_kind k.bad kind ≡ 0 → in_effects k (transform_by me halves v d a kind) ≡ 0
+  chunk-good v d a kind h = grind (arith, h)
 
   perform-good : (u : Use) (a : Acts) → of_use k u ≡ 0 → Louds (size a) → Good a → Ending (perform_transform me u a)
   perform-good u a z l h q =
@@ -157,20 +156,16 @@ module _ (k : Class) (me : TransformId) (halves : Halves) (through : k.through �
   cancelled-good p r a dest.Erroring e b h = grind (arith, h, b, effects-append)
   cancelled-good p r a dest.Closed e b h = grind (arith, h, b, effects-append)
 
-  -- the reason of a cancel isn't bad
-  uncancelled : (r : Plain) → cancelled k r ≡ 0 → k.bad r ≡ 0
-  uncancelled r h = rw through at h
-
   pub transform-good : (operation : TransformOperation) (a : Acts) → of_transform k operation ≡ 0 → Louds (size a) → Good a → Ending (transform_operation me halves operation a)
   unfolding transform_error terminate enqueue transform_chunk write_goes_on sink_close sink_abort source_cancel flush_settled abort_settled cancel_settled
   transform-good (names.SinkWrite u) a f l h = write-good u a f l h
   transform-good (names.WriteGoesOn d) a f l h = goes_on-good d a halves.writable_state refl l h
-  transform-good (names.TransformChunk v d) a f l h = λ q. causing-good a _ (chunk-good v d a a.slots.kind) h
+  transform-good (names.TransformChunk v d) a f l h = λ q. causing-good a _ (chunk-good v d a a.slots.kind (omega (arith, h))) h
   transform-good (names.Enqueue v) a f l h = λ q. causing-good a _ refl h
   transform-good names.Enqueued a f l h = enqueued-good a l h
   transform-good (names.Error e) a f l h = λ q. causing-good a _ (omega (arith, f)) h
   transform-good names.Unblock a f l h = unblock-good a l h
-  transform-good names.Terminate a f l h = λ q. causing-good a _ (omega (arith, fair)) h
+  transform-good names.Terminate a f l h = λ q. causing-good a _ (omega (arith, f)) h
   transform-good (names.SourcePull u) a f l h = pull-good u a f l h
   transform-good (names.SinkClose u) a f l h = finish-good (HostFlush a.slots.readable) (TransformFlushed me) u a a.slots.finish refl (λ p. refl) f l h
   transform-good (names.SinkAbort r u) a f l h =
@@ -181,5 +176,5 @@ module _ (k : Class) (me : TransformId) (halves : Halves) (through : k.through �
   transform-good (names.FlushSettled p (Err e)) a f l h = λ q. let s = good_settles p.0 (Err e) f in causing-good a _ (omega (arith, f, s)) h
   transform-good (names.AbortSettled p r (Ok v)) a f l h = λ q. aborted-good p r a halves.readable_state refl (omega (arith, f)) h
   transform-good (names.AbortSettled p r (Err e)) a f l h = λ q. let s = good_settles p.0 (Err e) (omega (arith, f)) in causing-good a _ (omega (arith, f, s)) h
-  transform-good (names.CancelSettled p r (Ok v)) a f l h = λ q. cancelled-good p r a halves.writable_state refl (uncancelled r (omega (arith, f))) h
+  transform-good (names.CancelSettled p r (Ok v)) a f l h = λ q. cancelled-good p r a halves.writable_state refl (omega (arith, f)) h
   transform-good (names.CancelSettled p r (Err e)) a f l h = λ q. let s = good_settles p.0 (Err e) (omega (arith, f)) in causing-good a _ (omega (arith, f, s)) h

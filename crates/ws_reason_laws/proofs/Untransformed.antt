@@ -10,7 +10,7 @@ use Rattle.ws_steps.specs.Run.{Entry, Called, Worked, Heard, step, run}
 use Rattle.ws_steps.specs.Slots.{Slots}
 use Rattle.ws_steps.specs.Transform as transform
 use Rattle.ws_laws.proofs.Halves.{step-shapes}
-use Rattle.ws_laws.proofs.Shapes.{TransformShape, transform_shape, transform_shapes}
+use Rattle.ws_laws.proofs.Shapes.{transform_shape}
 
 -- whether an entry makes one
 abbrev pub makes_transform : Call → Bool
@@ -21,7 +21,7 @@ abbrev pub MakesNone : Entry → Type 0
 MakesNone (Called c) = makes_transform c ≡ false
 MakesNone _ = Unit {0}
 
-call-same : (c : Call) (s : Slots) → makes_transform c ≡ false → (begin c s).done.slots.transforms ≡ s.transforms
+pub call-same : (c : Call) (s : Slots) → makes_transform c ≡ false → (begin c s).done.slots.transforms ≡ s.transforms
 unfolding begin
 call-same (MakeTransform kind writable_mark readable_mark start) s n = cc
 call-same c s n = grind arith

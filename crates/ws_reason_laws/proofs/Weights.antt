@@ -1,10 +1,11 @@
 -- What is bad about reasons, wherever they stand. A class weighs each reason, 0 where it may stand, and tells of each promise whether it hands
 -- on the reason with which it is rejected. The others are the promises of readers and writers, of reads, writes and closes, and of other
--- pipes than one: those may be rejected with any reason, and nothing that looks at a reason reacts to them. Where there may be transform
--- streams, the reason of a cancel may become an error, and so may a TypeError.
-use Rattle.std.proofs.Common.{◌≡◌, ℕ, suc, ◌+◌, Bool, true, false, nat_eq, if◌then◌else◌, List, [], ◌∷◌, length, Option, Some, None, Result, Ok, Err}
+-- pipes than one: those may be rejected with any reason, and nothing that looks at a reason reacts to them. The reason with which the readable
+-- half of a transform stream is cancelled becomes an error, and so may a TypeError.
+use Rattle.std.proofs.Common.{◌≡◌, ℕ, suc, ◌+◌, Bool, true, false, not, ◌&&◌, ◌||◌, nat_eq, if◌then◌else◌, List, [], ◌∷◌, length, Option, Some, None, Result, Ok, Err}
 use Rattle.ws_value.specs.declared.ids.PipeId.{PipeId}
 use Rattle.ws_value.specs.declared.ids.PromiseId.{PromiseId}
+use Rattle.ws_value.specs.declared.ids.StreamId.{StreamId}
 use Rattle.ws_value.specs.declared.value.Outcome.{Outcome}
 use Rattle.ws_value.specs.declared.value.Outcome.TheVariants.{Rejected}
 use Rattle.ws_value.specs.declared.value.Plain.{Plain}
@@ -19,6 +20,7 @@ use Rattle.ws_steps.specs.declared.pipes.Action.TheVariants.{AbortDest, CancelSo
 use Rattle.ws_steps.specs.declared.pipes.Ends.{Ends}
 use Rattle.ws_steps.specs.declared.pipes.PipeOperation.{PipeOperation}
 use Rattle.ws_steps.specs.declared.pipes.PipeOperation.TheVariants.{Abort as AbortPipe, ActionSettled, PartSettled}
+use Rattle.ws_steps.specs.declared.pipes.Prevent.{Prevent}
 use Rattle.ws_steps.specs.declared.pipes.SignalOperation.{SignalOperation}
 use Rattle.ws_steps.specs.declared.pipes.SignalOperation.TheVariants.{Trigger}
 use Rattle.ws_steps.specs.declared.promises.Job.{Job}
@@ -34,6 +36,8 @@ use Rattle.ws_steps.specs.declared.readable.ReadableOperation.TheVariants.{Initi
 use Rattle.ws_steps.specs.declared.readable.ReadableState.{ReadableState}
 use Rattle.ws_steps.specs.declared.readable.ReadableState.TheVariants as state
 use Rattle.ws_steps.specs.declared.transform.Halves.{Halves}
+use Rattle.ws_steps.specs.declared.transform.Kind.{Kind}
+use Rattle.ws_steps.specs.declared.transform.Kind.TheVariants.{Identity}
 use Rattle.ws_steps.specs.declared.transform.TransformOperation.{TransformOperation}
 use Rattle.ws_steps.specs.declared.transform.TransformOperation.TheVariants as transform_names
 use Rattle.ws_steps.specs.declared.writable.PendingAbort.{PendingAbort}
@@ -55,8 +59,8 @@ pub record Class : Type 0 where
   pub hands : ℕ → Bool
   -- the pipe whose promise is looked at
   pub me : PipeId
-  -- whether there may be transform streams
-  pub through : Bool
+  -- whether the stream of this number is a half of a transform stream
+  pub half : ℕ → Bool
 
 abbrev pub of_result : Class → Result Plain Plain → ℕ
 of_result k (Ok v) = 0
@@ -66,14 +70,14 @@ abbrev pub of_reason : Class → Option Plain → ℕ
 of_reason k None = 0
 of_reason k (Some r) = k.bad r
 
--- the reason of a cancel, which a transform stream makes the error of its writable half
-abbrev pub cancelled : Class → Plain → ℕ
-cancelled k r = if k.through then k.bad r else 0
+-- the reason of a cancel of stream i, which a transform stream makes the error of its writable half
+abbrev pub cancelled : Class → StreamId → Plain → ℕ
+cancelled k i r = if k.half i.0 then k.bad r else 0
 
 -- the reason that a step carries
 abbrev pub of_step : Class → Step → ℕ
 of_step k (TransformAborted t p r) = k.bad r
-of_step k (TransformCancelled t p r) = cancelled k r
+of_step k (TransformCancelled t p r) = k.bad r
 of_step k _ = 0
 
 -- 0 where the promise of this number hands on, and where it doesn't
@@ -158,15 +162,15 @@ abbrev pub gives : Class → Gift → Use → ℕ
 gives k (This p) u = uses k p.0 u
 gives k (Fresh o) u = of_result k o + of_use k u
 
-abbrev pub of_readable : Class → ReadableOperation → ℕ
-of_readable k (InitializeReader closed) = soft k closed.0
-of_readable k (Read request) = in_request k request
-of_readable k (Cancel r p) = cancelled k r
-of_readable k (CancelIfReadable r p) = cancelled k r
-of_readable k (Error e) = k.bad e
-of_readable k (StartSettled o) = of_result k o
-of_readable k (PullSettled o) = of_result k o
-of_readable k _ = 0
+abbrev pub of_readable : Class → StreamId → ReadableOperation → ℕ
+of_readable k i (InitializeReader closed) = soft k closed.0
+of_readable k i (Read request) = in_request k request
+of_readable k i (Cancel r p) = cancelled k i r
+of_readable k i (CancelIfReadable r p) = cancelled k i r
+of_readable k i (Error e) = k.bad e
+of_readable k i (StartSettled o) = of_result k o
+of_readable k i (PullSettled o) = of_result k o
+of_readable k i _ = 0
 
 abbrev pub of_writable : Class → WritableOperation → ℕ
 of_writable k (write.SetUpWriter w) = soft k w.ready.0 + soft k w.closed.0
@@ -197,20 +201,21 @@ of_transform k (transform_names.Error e) = k.bad e
 of_transform k (transform_names.SourcePull u) = of_use k u
 of_transform k (transform_names.SinkClose u) = of_use k u
 of_transform k (transform_names.SinkAbort r u) = k.bad r + of_use k u
-of_transform k (transform_names.SourceCancel r u) = cancelled k r + of_use k u
+of_transform k transform_names.Terminate = k.bad type_error
+of_transform k (transform_names.SourceCancel r u) = k.bad r + of_use k u
 of_transform k (transform_names.FlushSettled p o) = of_result k o
 of_transform k (transform_names.AbortSettled p r o) = k.bad r + of_result k o
-of_transform k (transform_names.CancelSettled p r o) = cancelled k r + of_result k o
+of_transform k (transform_names.CancelSettled p r o) = k.bad r + of_result k o
 of_transform k _ = 0
 
 abbrev pub in_effect : Class → Effect → ℕ
-in_effect k (OnReadable i operation) = of_readable k operation
+in_effect k (OnReadable i operation) = of_readable k i operation
 in_effect k (OnWritable i operation) = of_writable k operation
 in_effect k (OnPipe p operation) = of_pipe k operation
 in_effect k (OnSignal a operation) = of_signal k operation
 in_effect k (OnTransform t operation) = of_transform k operation
 in_effect k (StartAlgorithm i step start) = of_step k step
-in_effect k (CancelAlgorithm i r p) = cancelled k r
+in_effect k (CancelAlgorithm i r p) = cancelled k i r
 in_effect k (AbortAlgorithm i r p) = k.bad r
 in_effect k (ErrorSteps i request e) = in_request k request
 in_effect k (Give gift u) = gives k gift u
@@ -263,19 +268,19 @@ in_streams k [] = 0
 in_streams k (x ∷ xs) = in_stream k x + in_streams k xs
 
 -- a cancel does nothing with its reason but hand it to the host, or to a transform stream
-abbrev pub in_action : Class → Option Action → ℕ
-in_action k None = 0
-in_action k (Some (AbortDest r)) = k.bad r
-in_action k (Some (CancelSource r)) = cancelled k r
-in_action k (Some CloseDest) = 0
-in_action k (Some (BySignal r)) = k.bad r
+abbrev pub in_action : Class → StreamId → Option Action → ℕ
+in_action k source None = 0
+in_action k source (Some (AbortDest r)) = k.bad r
+in_action k source (Some (CancelSource r)) = cancelled k source r
+in_action k source (Some CloseDest) = 0
+in_action k source (Some (BySignal r)) = k.bad r
 
 -- pipe n, which is the one that is looked at, or else may be rejected with anything
 abbrev pub of_error : Class → ℕ → PromiseId → Option Plain → ℕ
 of_error k n promise e = if nat_eq n k.me.0 then of_reason k e else soft k promise.0
 
 abbrev pub in_pipe : Class → ℕ → pipe.Slots → ℕ
-in_pipe k n x = in_action k x.action + of_error k n x.promise x.error
+in_pipe k n x = in_action k x.source x.action + of_error k n x.promise x.error
 
 abbrev pub in_pipes : Class → ℕ → List pipe.Slots → ℕ
 in_pipes k n [] = 0
@@ -285,15 +290,24 @@ abbrev pub in_signals : Class → List pipe.Signal → ℕ
 in_signals k [] = 0
 in_signals k (x ∷ xs) = of_reason k x.reason + in_signals k xs
 
+-- whether pipe p may not find its destination closing or closed, where a TypeError is bad: where it is the one that is looked at, and where it
+-- would cancel a half of a transform stream
+abbrev pub minds : (Plain → ℕ) → (ℕ → Bool) → PipeId → PipeId → StreamId → Prevent → Bool
+minds bad half me p source prevent = not (nat_eq (bad type_error) 0) && (nat_eq p.0 me.0 || (half source.0 && not prevent.cancel))
+
 -- what a pipe looks at
 abbrev pub in_ends : Class → Ends → ℕ
 in_ends k ends =
     (if is_errored ends.source_state then k.bad ends.source_error else 0)
     + ((if has_error ends.dest_state then k.bad ends.dest_error else 0) + loud_one k ends.dest_abort)
 
--- there are none where there may be none
+-- an identity that can't enqueue fails with a TypeError
+abbrev pub of_kind : (Plain → ℕ) → Kind → ℕ
+of_kind bad Identity = bad type_error
+of_kind bad _ = 0
+
 abbrev pub in_transform : Class → transform.Slots → ℕ
-in_transform k x = if k.through then loud k x.change.0 + loud_one k x.finish else 1
+in_transform k x = of_kind k.bad x.kind + (loud k x.change.0 + loud_one k x.finish)
 
 abbrev pub in_transforms : Class → List transform.Slots → ℕ
 in_transforms k [] = 0
@@ -304,10 +318,8 @@ abbrev pub in_halves : Class → Halves → ℕ
 in_halves k halves =
     (if is_errored halves.readable_state then k.bad halves.readable_error else 0) + (if has_error halves.writable_state then k.bad halves.writable_error else 0)
 
--- where there may be transform streams, a TypeError may stand anywhere
 abbrev pub in_slots : Class → Slots → ℕ
-in_slots k s =
-    in_streams k s.streams + (in_pipes k 0 s.pipes + (in_signals k s.signals + (in_transforms k s.transforms + (in_table k s.promises + cancelled k type_error))))
+in_slots k s = in_streams k s.streams + (in_pipes k 0 s.pipes + (in_signals k s.signals + (in_transforms k s.transforms + in_table k s.promises)))
 
 -- nothing bad stands in the slots, nor in what is still to be performed
 abbrev pub AllGood : Class → Slots → List Effect → Type 0

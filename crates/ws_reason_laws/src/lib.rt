@@ -2,6 +2,17 @@
 #![tactic(auto)]
 
 ghost use Rattle.ws_reason_laws.specs.Reasons.{EachReasonWasGiven, EachReasonWasAFailure, EachStoredErrorWasAFailure};
+ghost use Rattle.ws_reason_laws.specs.Origins.{EachReasonHasAnOrigin, EachStoredErrorHasAnOrigin};
+
+/// In every run, whatever the host does before the pipe is made and after it: a pipe that was made between two unlocked streams rejects its promise only with the reason of an abort, an error, a trigger, or the failure of a host's algorithm, or with one that a call brought through a transform stream; but with a TypeError also where its destination was closing or closed as it was made. A call brings the reason of a cancel of a readable half through its transform stream; and a TypeError where it terminates one, where it makes a pipe from a readable half onto a destination that is closing or closed, and where it makes an identity. So where no call of a run does so, a pipe whose destination was neither closing nor closed rejects only with a failure, also where the realm has transform streams.
+pub fn each_reason_has_an_origin()
+    ensures { EachReasonHasAnOrigin }
+{}
+
+/// In every run, whatever the host does in it, the error that a readable stream has stored which is errored, or a writable stream which is erroring or errored, is the reason of such a failure, or one that a call brought through a transform stream.
+pub fn each_stored_error_has_an_origin()
+    ensures { EachStoredErrorHasAnOrigin }
+{}
 
 /// In every run, whatever the host does before the pipe is made and after it: a pipe that was made between two unlocked streams, of which the destination was neither closing nor closed, rejects its promise only with a reason that a call of the run gave, in a cancel, an abort, an error, a trigger, or the failure of a host's algorithm. Where the realm has a transform stream it may be a TypeError too.
 pub fn each_reason_was_given()

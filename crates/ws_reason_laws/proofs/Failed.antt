@@ -1,0 +1,91 @@
+-- What follows for runs in which no reason came through a transform stream.
+use Rattle.std.proofs.Common.{◌≡◌, Bool, true, false, ◌||◌, List, [], ◌∷◌, ◌++◌, Option, Some, Contains, refl, sym, subst, arith}
+use Rattle.ws_value.specs.declared.ids.PromiseId.{PromiseId}
+use Rattle.ws_value.specs.declared.ids.SignalId.{SignalId}
+use Rattle.ws_value.specs.declared.ids.StreamId.{StreamId}
+use Rattle.ws_value.specs.declared.value.Outcome.TheVariants.{Rejected}
+use Rattle.ws_value.specs.declared.value.Plain.{Plain}
+use Rattle.ws_steps.specs.declared.calls.Call.{Call}
+use Rattle.ws_steps.specs.declared.calls.Call.TheVariants.{Pipe}
+use Rattle.ws_steps.specs.declared.calls.Reply.TheVariants.{Promise}
+use Rattle.ws_steps.specs.declared.pipes.Prevent.{Prevent}
+use Rattle.ws_steps.specs.Effects.{type_error}
+use Rattle.ws_steps.specs.Promises.{outcome_at}
+use Rattle.ws_steps.specs.Run.{Entry, Called, Worked, Heard, run, reply_to}
+use Rattle.ws_steps.specs.Slots.{Slots, empty, readable_at, writable_at}
+use Rattle.ws_reason_laws.specs.Origins.{through, origins}
+use Rattle.ws_reason_laws.specs.Reasons.{reason_of, given, failure_of, failures, cancel_of, cancels, IsFree, EachReasonWasGiven, EachReasonWasAFailure, EachStoredErrorWasAFailure}
+use Rattle.ws_reason_laws.proofs.Among.{same_reason, reason_same, is_among, among_contained, contained_among}
+use Rattle.ws_reason_laws.proofs.Brought.{among-append, through-among, none-through}
+use Rattle.ws_reason_laws.proofs.Given.{reason-has-an-origin}
+use Rattle.ws_reason_laws.proofs.Stored.{stored-error-has-an-origin}
+
+-- what a run gave
+
+given-call : (r : Plain) (c : Call) → (is_among r (failure_of c) || is_among r (cancel_of c)) ≡ is_among r (reason_of c)
+given-call r c = grind arith
+
+given-run : (r : Plain) (xs : List Entry) → (is_among r (failures xs) || is_among r (cancels xs)) ≡ is_among r (given xs)
+given-run r [] = refl
+given-run r (Called c ∷ xs) =
+    let h = given-run r xs in
+    let a = given-call r c in
+    let b = among-append r (failure_of c) (failures xs) in
+    let d = among-append r (cancel_of c) (cancels xs) in
+    let e = among-append r (reason_of c) (given xs) in
+    grind (arith, h, a, b, d, e)
+given-run r (Worked ∷ xs) = given-run r xs
+given-run r (Heard ∷ xs) = given-run r xs
+
+module _ (entries : List Entry) (r : Plain) where
+  -- an origin is a failure, or came through a transform stream
+  origin-either : Contains (origins entries) r → (is_among r (failures entries) || is_among r (through entries empty)) ≡ true
+  origin-either c = subst (λ (b : Bool). b ≡ true) (among-append r (failures entries) (through entries empty)) (contained_among r (origins entries) c)
+
+  -- where none did
+  none-brought : (run entries empty).transforms ≡ [] → is_among r (through entries empty) ≡ false
+  none-brought n = rw (none-through entries n) refl
+
+  -- it is a failure, where only one that wasn't brought through is meant
+  pub was-failure : (Contains (type_error ∷ cancels entries) r → (run entries empty).transforms ≡ []) → Contains (origins entries) r → Contains (failures entries) r
+  was-failure but c = by (is_among r (through entries empty)) refl
+    where
+      by : (b : Bool) → is_among r (through entries empty) ≡ b → Contains (failures entries) r
+      by false e = let o = origin-either c in let h : is_among r (failures entries) ≡ true = grind (arith, o, e) in among_contained r (failures entries) h
+      by true e =
+          let n = none-brought (but (among_contained r (type_error ∷ cancels entries) (through-among r entries empty e))) in
+          cc
+
+  pub was-given : (r ≡ type_error → (run entries empty).transforms ≡ []) → Contains (origins entries) r → Contains (given entries) r
+  was-given but c = by (is_among r (through entries empty)) refl (same_reason type_error r) refl
+    where
+      g : (is_among r (failures entries) || is_among r (cancels entries)) ≡ true → Contains (given entries) r
+      g h = among_contained r (given entries) (subst (λ (b : Bool). b ≡ true) (given-run r entries) h)
+
+      by : (b : Bool) → is_among r (through entries empty) ≡ b → (d : Bool) → same_reason type_error r ≡ d → Contains (given entries) r
+      by false e d f = let o = origin-either c in g (grind (arith, o, e))
+      by true e false f = let o = through-among r entries empty e in g (grind (arith, o, f))
+      by true e true f = let n = none-brought (but (sym (reason_same type_error r f))) in cc
+
+-- between free ends
+pub free-origin : (opening xs : List Entry) (i j : StreamId) (prevent : Prevent) (signal : Option SignalId) (q : PromiseId) (r : Plain) → let s : Slots = run opening empty in
+    let entries : List Entry = opening ++ Called (Pipe i j prevent signal) ∷ xs in IsFree i j s → reply_to (Pipe i j prevent signal) s ≡ Promise q
+    → outcome_at (run entries empty).promises q ≡ Some (Rejected r) → Contains (origins entries) r
+free-origin opening xs i j prevent signal q r free reply out =
+    reason-has-an-origin opening xs i j prevent signal q r
+    (record { source = free.source; dest = free.dest; source_unlocked = free.source_unlocked; dest_unlocked = free.dest_unlocked }) reply
+    (λ e. record { closing = free.not_closing; closed = free.not_closed }) out
+
+pub reason-was-a-failure : EachReasonWasAFailure
+reason-was-a-failure opening xs i j prevent signal q r free reply but out =
+    was-failure (opening ++ Called (Pipe i j prevent signal) ∷ xs) r but (free-origin opening xs i j prevent signal q r free reply out)
+
+pub reason-was-given : EachReasonWasGiven
+reason-was-given opening xs i j prevent signal q r free reply but out =
+    was-given (opening ++ Called (Pipe i j prevent signal) ∷ xs) r but (free-origin opening xs i j prevent signal q r free reply out)
+
+pub stored-error-was-a-failure : EachStoredErrorWasAFailure
+stored-error-was-a-failure = record {
+  readable = λ entries i but e. was-failure entries (readable_at i (run entries empty)).stored_error but (stored-error-has-an-origin.readable entries i e);
+  writable = λ entries i but e. was-failure entries (writable_at i (run entries empty)).stored_error but (stored-error-has-an-origin.writable entries i e);
+}

@@ -1,0 +1,63 @@
+-- Calls that bring nothing through a transform stream, and runs of them: there each origin is a failure.
+use Rattle.std.proofs.Common.{◌≡◌, Bool, true, false, List, [], ◌∷◌, ◌++◌, Option, Contains, refl, subst, ap, ◌∙◌, arith}
+use Rattle.ws_value.specs.declared.ids.SignalId.{SignalId}
+use Rattle.ws_value.specs.declared.ids.StreamId.{StreamId}
+use Rattle.ws_value.specs.declared.value.Plain.{Plain}
+use Rattle.ws_steps.specs.declared.calls.Call.{Call}
+use Rattle.ws_steps.specs.declared.calls.Call.TheVariants.{MakeTransform, Cancel, CancelBy, Terminate, Pipe}
+use Rattle.ws_steps.specs.declared.pipes.Prevent.{Prevent}
+use Rattle.ws_steps.specs.declared.transform.Kind.{Kind}
+use Rattle.ws_steps.specs.declared.transform.Kind.TheVariants.{Identity}
+use Rattle.ws_steps.specs.Run.{Entry, Called, Worked, Heard, run}
+use Rattle.ws_steps.specs.Slots.{Slots, empty, writable_at}
+use Rattle.ws_steps.specs.Writable.{is_closed, is_closing}
+use Rattle.ws_reason_laws.specs.Origins.{through_of, through, origins}
+use Rattle.ws_reason_laws.specs.Reasons.{failures, IsFree}
+use Rattle.ws_reason_laws.proofs.Brought.{through-append}
+
+-- a call that brings nothing whatever it finds: no cancel, no pipe, and none that terminates a transform stream or makes an identity
+
+abbrev is_identity : Kind → Bool
+is_identity Identity = true
+is_identity _ = false
+
+abbrev pub may_bring : Call → Bool
+may_bring (Cancel i reason) = true
+may_bring (CancelBy l reason) = true
+may_bring (Terminate i) = true
+may_bring (Pipe i j prevent signal) = true
+may_bring (MakeTransform kind writable_mark readable_mark start) = is_identity kind
+may_bring _ = false
+
+pub brings-none : (c : Call) (s : Slots) → may_bring c ≡ false → through_of c s ≡ []
+brings-none c s n = grind (arith, n)
+
+-- a pipe onto a destination that is neither closing nor closed brings nothing
+pub open-none : (i j : StreamId) (prevent : Prevent) (signal : Option SignalId) (s : Slots) → is_closing (writable_at j s) ≡ false → is_closed (writable_at j s).state ≡ false
+    → through_of (Pipe i j prevent signal) s ≡ []
+open-none i j prevent signal s e f = grind (arith, e, f)
+
+pub free-none : (i j : StreamId) (prevent : Prevent) (signal : Option SignalId) (s : Slots) → IsFree i j s → through_of (Pipe i j prevent signal) s ≡ []
+free-none i j prevent signal s f = open-none i j prevent signal s f.not_closing f.not_closed
+
+-- an entry that brings nothing
+abbrev pub BringsNone : Slots → Entry → Type 0
+BringsNone s (Called c) = through_of c s ≡ []
+BringsNone s _ = Unit {0}
+
+entry-none : (s : Slots) (x : Entry) → BringsNone s x → through (x ∷ []) s ≡ []
+entry-none s (Called c) n = rw n refl
+entry-none s Worked n = refl
+entry-none s Heard n = refl
+
+-- one more of them
+pub through-snoc : (xs : List Entry) (x : Entry) (s : Slots) → through xs s ≡ [] → BringsNone (run xs s) x → through (xs ++ x ∷ []) s ≡ []
+through-snoc xs x s h n = let e = entry-none (run xs s) x n in rw (through-append xs (x ∷ []) s, h) e
+
+-- where nothing came through each origin is a failure
+pub origin-failed : (entries : List Entry) (r : Plain) → through entries empty ≡ [] → Contains (origins entries) r → Contains (failures entries) r
+origin-failed entries r n c = subst (λ (rs : List Plain). Contains rs r) (ap (λ (rs : List Plain). failures entries ++ rs) n ∙ append_nil (failures entries)) c
+  where
+    append_nil : (rs : List Plain) → rs ++ [] ≡ rs
+    append_nil [] = refl
+    append_nil (x ∷ rs) = ap (λ (ys : List Plain). x ∷ ys) (append_nil rs)
