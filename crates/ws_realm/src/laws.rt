@@ -38,12 +38,14 @@ pub use ws_promise_laws::{each_name_stays, none_goes_astray};
 pub use ws_read_laws::{each_read_is_answered, reads_of_the_ended, reads_were_answered};
 pub use ws_readable_laws::{each_readable_is_lawful, each_readable_step, entered_was_accepted};
 pub use ws_reason_laws::{
-    each_reason_was_a_failure, each_reason_was_given, each_stored_error_was_a_failure,
+    each_reason_has_an_origin, each_reason_was_a_failure, each_reason_was_given,
+    each_stored_error_has_an_origin, each_stored_error_was_a_failure,
 };
 pub use ws_room_laws::{effects_end_once, room_is_enough};
 pub use ws_transform_laws::{
-    each_acted_is_transformed, each_half_is_lawful, each_half_step, each_step_enters,
-    flushes_close, jobs_enter_nothing, no_backpressure_is_wanted, transforms_were_heard,
+    each_acted_is_transformed, each_chunk_is_read, each_chunk_is_wanted, each_half_is_lawful,
+    each_half_step, each_step_enters, flushes_close, jobs_enter_nothing, no_backpressure_is_wanted,
+    transforms_were_heard,
 };
 pub use ws_writable_laws::{
     acted_was_heard, closes_were_heard, each_writable_is_lawful, each_writable_step,
