@@ -1,9 +1,9 @@
-// Performs `readable`, `writable`, `reader`, `enqueue`, `finish`, `read`, `pipe` and `settle` lines on Node's own Web Streams, and
-// prints them as `./streams script` does. Between two lines all jobs are performed.
+// Performs `readable`, `writable`, `transform identity`, `reader`, `writer`, `enqueue`, `finish`, `read`, `write`, `pipe` and `settle`
+// lines on Node's own Web Streams, and prints them as `./streams script` does. Between two lines all jobs are performed.
 import { readFileSync, writeSync } from 'node:fs';
 
 const streams = [];
-const readers = [];
+const locks = [];
 const settles = [];
 let printed = '';
 let events = '';
@@ -55,9 +55,18 @@ function perform([word, on, ...rest]) {
       streams.push((word === 'readable' ? readable : writable)(name, Number(on)));
       return `made ${name}`;
     }
+    case 'transform': {
+      const [writableMark, readableMark] = rest.map(Number);
+      const halves = new TransformStream({}, { highWaterMark: writableMark }, { highWaterMark: readableMark });
+      streams.push({ writable: halves.writable }, { readable: halves.readable });
+      return `made s${streams.length - 2} s${streams.length - 1}`;
+    }
     case 'reader':
-      readers.push(streams[numbered(on)].readable.getReader());
-      return `lock l${readers.length - 1}`;
+      locks.push(streams[numbered(on)].readable.getReader());
+      return `lock l${locks.length - 1}`;
+    case 'writer':
+      locks.push(streams[numbered(on)].writable.getWriter());
+      return `lock l${locks.length - 1}`;
     case 'enqueue':
       streams[numbered(on)].controller.enqueue(numbered(rest[0]));
       return 'done';
@@ -65,7 +74,9 @@ function perform([word, on, ...rest]) {
       streams[numbered(on)].controller.close();
       return 'done';
     case 'read':
-      return named(readers[numbered(on)].read(), ({ done, value }) => `${done ? 'finished' : 'given'} ${show(value)}`);
+      return named(locks[numbered(on)].read(), ({ done, value }) => `${done ? 'finished' : 'given'} ${show(value)}`);
+    case 'write':
+      return named(locks[numbered(on)].write(numbered(rest[0])), (value) => `fulfilled ${show(value)}`);
     case 'pipe': {
       const { writable } = streams[numbered(rest[0])];
       return named(streams[numbered(on)].readable.pipeTo(writable), (value) => `fulfilled ${show(value)}`);

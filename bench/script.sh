@@ -1,6 +1,7 @@
 #!/bin/sh
 # Performs scripts of 20,000, 40,000 and 80,000 lines by `./streams script` and, where node is there, by the same calls on
-# Node's own Web Streams: of `enqueue` and `read` lines on one stream, and of pipes through each of which 65 chunks go. Prints
+# Node's own Web Streams: of `enqueue` and `read` lines on one stream, of `write` and `read` lines on the halves of one identity
+# transform stream, and of pipes through each of which 65 chunks go. Prints
 # each one's best of five times side by side, and how many times Node's rate `./streams script` has.
 set -eu
 root=$(CDPATH='' cd -- "$(dirname -- "$0")/.." && pwd)
@@ -14,6 +15,14 @@ reads() {
     awk -v lines="$1" 'BEGIN {
         print "readable 0 count now"; print "reader s0"
         for (line = 2; line < lines; line += 2) { print "enqueue s0 n" line; print "read l0" }
+    }'
+}
+
+# A script of so many lines: writes to an identity transform stream, and reads from it.
+transforms() {
+    awk -v lines="$1" 'BEGIN {
+        print "transform identity 1 0 now"; print "writer s0"; print "reader s1"
+        for (line = 3; line < lines; line += 2) { print "write l0 n" line; print "read l1" }
     }'
 }
 
@@ -47,8 +56,8 @@ best() {
 
 echo "$(nproc) processors"
 # A script has at most 1,048,576 bytes.
-for kind in reads pipes; do
-    case $kind in reads) sizes='20000 40000 80000' ;; *) sizes='10000 20000 40000' ;; esac
+for kind in reads transforms pipes; do
+    case $kind in pipes) sizes='10000 20000 40000' ;; *) sizes='20000 40000 80000' ;; esac
     for lines in $sizes; do
         "$kind" "$lines" >"$work/in"
         streams=$(best "$program" script)
