@@ -1,12 +1,12 @@
 -- What is written to the destination of a pipe, while it isn't over, is a first part of what it passes on.
 use Rattle.std.proofs.Common.{◌≡◌, Bool, true, false, is_some, List, [], ◌∷◌, ◌++◌, Option, Some, None, slice_get, Result, Ok, Err, refl, sym, ap, subst, ◌∙◌, append_assoc, append-nil, arith}
 use Rattle.ws_value.specs.declared.{ids.PipeId.{PipeId}, ids.StreamId.{StreamId}, value.Plain.{Plain}, value.Plain.TheVariants.{Undefined}, value.Value.{Value}}
-use Rattle.ws_steps.specs.declared.effects.Owner.TheVariants.{Host}
+use Rattle.ws_steps.specs.declared.effects.{Owner.{Owner}, Owner.TheVariants.{Host, HalfOf}}
 use Rattle.ws_steps.specs.declared.pipes.{Ends.{Ends}, Phase.{Phase}, PipeOperation.{PipeOperation}}
 use Rattle.ws_steps.specs.declared.writable.WritableOperation.{WritableOperation}
 use Rattle.ws_steps.specs.declared.writable.WritableOperation.TheVariants as names
 use Rattle.ws_steps.specs.Histories.{over}
-use Rattle.ws_steps.specs.Laws.{IsPrefixOf, IsLawfulWritable}
+use Rattle.ws_steps.specs.Laws.{IsPrefixOf, IsLawfulWritable, IsWritableStep}
 use Rattle.ws_steps.specs.Operations.{writable_operation, pipe_operation}
 use Rattle.ws_steps.specs.Pipes as pipe
 use Rattle.ws_steps.specs.Promises.{Table}
@@ -19,6 +19,8 @@ use Rattle.ws_laws.proofs.Lists.{append_cancel}
 use Rattle.ws_laws.proofs.PipeDoes.{pipe-causes}
 use Rattle.ws_laws.proofs.Truth.{false_true}
 use Rattle.ws_laws.proofs.Walker.{IsHistory}
+use Rattle.ws_transform_laws.proofs.Lawful.{each_half_is_lawful}
+use Rattle.ws_transform_laws.proofs.Steps.{each_half_step}
 use Rattle.ws_writable_laws.proofs.EachStep.{each_writable_step}
 use Rattle.ws_writable_laws.proofs.Runs as writes
 use Rattle.ws_writable_laws.proofs.Runs.{each_writable_is_lawful}
@@ -32,7 +34,22 @@ use Rattle.ws_lock_laws.proofs.Owning.{each_pipe_owns_its_ends}
 use Rattle.ws_wrote_laws.specs.WroteLaws.{EachPipeWroteAFront}
 use Rattle.ws_wrote_laws.proofs.Destinations.{each_destination_is_its_pipes}
 use Rattle.ws_wrote_laws.proofs.Keeping.{Expected, pipe-kept, pipe-stands, writable-kept}
-use Rattle.ws_wrote_laws.proofs.Owners.{run-hosts}
+
+-- each writable stream is lawful, and each step of it, whoever has it
+
+every_writable : (entries : List Entry) (i : StreamId) → IsLawfulWritable (run_writes i entries empty) (writable_at i (run entries empty))
+every_writable entries i = by (owner_at i (run entries empty)) refl
+  where
+    by : (o : Owner) → owner_at i (run entries empty) ≡ o → IsLawfulWritable (run_writes i entries empty) (writable_at i (run entries empty))
+    by Host e = each_writable_is_lawful entries i e
+    by (HalfOf t) e = each_half_is_lawful entries i t e
+
+every_step : (entries : List Entry) (x : Entry) (i : StreamId) → IsWritableStep (step_writes i (run entries empty) x) (writable_at i (run entries empty)) (writable_at i (step (run entries empty) x))
+every_step entries x i = by (owner_at i (step (run entries empty) x)) refl
+  where
+    by : (o : Owner) → owner_at i (step (run entries empty) x) ≡ o → IsWritableStep (step_writes i (run entries empty) x) (writable_at i (run entries empty)) (writable_at i (step (run entries empty) x))
+    by Host e = each_writable_step entries x i e
+    by (HalfOf t) e = each_half_step entries x i t e
 
 -- a stream that refuses writes goes on to
 
@@ -141,13 +158,12 @@ record Front (h : Writes) (passed : List Value) (w z : writable.Slots) : Type 0 
   written : IsPrefixOf h.written passed
   whole : refuses z ≡ false → h.written ≡ passed
   none : refuses w ≡ true → h.written ≡ []
-  ended : w.owner ≡ Host → has_ended w.state ≡ true → h.acted ≡ []
+  ended : has_ended w.state ≡ true → h.acted ≡ []
 
 -- a stream that is w is no better later, where it is z
 record Goes (w z : writable.Slots) : Type 0 where
   refuses : refuses w ≡ true → refuses z ≡ true
   ended : has_ended w.state ≡ true → has_ended z.state ≡ true
-  owner : w.owner ≡ Host → z.owner ≡ Host
 
 not_before : (w z : writable.Slots) → Goes w z → refuses z ≡ false → refuses w ≡ false
 not_before w z g e = by (refuses w) refl
@@ -162,7 +178,7 @@ both h g a b w u z f k m n = record {
   written = by (refuses u) refl;
   whole = λ e. rw (f.whole (not_before u z n e), k.whole e) refl;
   none = λ e. rw (f.none e, k.none (m.refuses e)) refl;
-  ended = λ o e. rw (f.ended o e, k.ended (m.owner o) (m.ended e)) refl;
+  ended = λ e. rw (f.ended e, k.ended (m.ended e)) refl;
 }
   where
     by : (c : Bool) → refuses u ≡ c → IsPrefixOf (h.written ++ g.written) (a ++ b)
@@ -190,8 +206,8 @@ module _ (p : PipeId) where
   abbrev Written : Entry → Slots → Type 0
   Written x s = is_over (pipe_at p s).phase ≡ false → (step_writes (dest s) s x).written ≡ appended_by (writable_at (dest s) s) (step_through p s x).passed
 
-  abbrev Rests : Entry → Slots → Type 0
-  Rests x s = is_over (pipe_at p s).phase ≡ false → let w : writable.Slots = writable_at (dest s) s in w.owner ≡ Host → has_ended w.state ≡ true → (step_writes (dest s) s x).acted ≡ []
+  abbrev Rests : Entry → StreamId → Slots → Type 0
+  Rests x i s = has_ended (writable_at i s).state ≡ true → (step_writes i s x).acted ≡ []
 
   abbrev Stands : Slots → Type 0
   Stands s = is_over (pipe_at p s).phase ≡ false → slice_get s.streams (dest s).0 ≡ Some (WritableStream (writable_at (dest s) s))
@@ -209,15 +225,7 @@ module _ (p : PipeId) where
       record {
         refuses = λ f. writable-kept i (λ w. refuses w ≡ true) (refuses-operation i) before xs there f;
         ended = λ f. writable-kept i (λ w. has_ended w.state ≡ true) (ended-operation i) before xs there f;
-        owner = λ o. (run-hosts i xs (run before empty) there o).1;
       }
-
-  -- where the host has it, it goes on to
-  pub hosted : (before xs : List Entry) → let s : Slots = run before empty in is_over (pipe_at p s).phase ≡ false → (writable_at (dest s) s).owner ≡ Host → owner_at (dest s) (run xs s) ≡ Host
-  hosted before xs live o = (run-hosts (dest (run before empty)) xs (run before empty) (stands before live) o).0
-
-  rests : (before : List Entry) (x : Entry) → Rests x (run before empty)
-  rests before x live o f = ((each_writable_step before x (dest (run before empty)) (hosted before (x ∷ []) live o)).ended f).1
 
   by_refusal : (h passed : List Value) (w : writable.Slots) → h ≡ appended_by w passed → (b : Bool) → refuses w ≡ b → IsPrefixOf h passed
   by_refusal h passed w is true e = (passed, rw (is, appended_none w passed e) refl)
@@ -236,7 +244,7 @@ module _ (p : PipeId) where
         written = by_refusal (step_writes i s x).written passed w is (refuses w) refl;
         whole = λ f. is ∙ appended_whole w passed (not_before w z g f);
         none = λ f. is ∙ appended_none w passed f;
-        ended = subst (Rests x) e (rests before x) live;
+        ended = subst (Rests x i) e (λ f. ((every_step before x i).ended f).1);
       }
 
   -- and runs
@@ -298,11 +306,9 @@ each_pipe_wrote_a_front before after last p live alive =
     let t : Through = run_through p before empty in
     let u : Through = run_through p entries s in
     let f = run-front p after last before s i refl (pipe_there (slice_get s.pipes p.0) (live_over x.phase live)) alive refl in
-    let own : is_over x.phase ≡ false = live_over x.phase live in
-    let lawful : w.owner ≡ Host → IsLawfulWritable h w = λ o. each_writable_is_lawful before i (hosted p before [] own o) in
-    let written : w.owner ≡ Host → IsPrefixOf (h.acted ++ g.acted) (h.written ++ g.written) = λ o.
-    let after : owner_at i (run (before ++ entries) empty) ≡ Host = ap (owner_at i) (run-append before entries empty) ∙ hosted p before entries own o in
-    subst (λ (k : Writes). IsPrefixOf k.acted k.written) (over-append no_writes writes_then writes.is_history (step_writes i) before entries empty) (each_writable_is_lawful (before ++ entries) i after).front in
+    let lawful = every_writable before i in
+    let written : IsPrefixOf (h.acted ++ g.acted) (h.written ++ g.written) =
+    subst (λ (k : Writes). IsPrefixOf k.acted k.written) (over-append no_writes writes_then writes.is_history (step_writes i) before entries empty) (every_writable (before ++ entries) i).front in
     let passing = each_pipe_passes before p in
     let whole = each_pipe_passes (before ++ entries) p in
     let rest : List Value = (run_through p (before ++ entries) empty).dropped ++ held_values (pipe_at p (run (before ++ entries) empty)).held in
@@ -313,8 +319,7 @@ each_pipe_wrote_a_front before after last p live alive =
     record {
       written = f.written;
       whole = λ e. f.whole (ap is_some e);
-      acted = λ o.
-          by_end (has_ended w.state) g.acted (todo w.queue) g.written (held_values x.held ++ u.read) (f.ended o) (λ e. acted_front h.written h.acted (todo w.queue) g.acted g.written ((lawful o).alive e) (written o)) read;
+      acted = by_end (has_ended w.state) g.acted (todo w.queue) g.written (held_values x.held ++ u.read) f.ended (λ e. acted_front h.written h.acted (todo w.queue) g.acted g.written (lawful.alive e) written) read;
     }
   where
     by_end : (b : Bool) (a q g c : List Value) → (b ≡ true → a ≡ []) → (b ≡ false → IsPrefixOf a (q ++ g)) → IsPrefixOf g c → IsPrefixOf a (q ++ c)

@@ -1,6 +1,5 @@
 pub mod Destinations
 pub mod Keeping
-pub mod Owners
 pub mod Fronts
 pub mod Passed
 pub mod Sources

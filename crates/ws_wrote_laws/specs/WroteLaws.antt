@@ -2,7 +2,6 @@
 use Rattle.std.specs.Prelude.{◌≡◌, ◌⊎◌, true, false, List, [], ◌∷◌, ◌++◌, None}
 use Rattle.ws_value.specs.declared.ids.PipeId.{PipeId}
 use Rattle.ws_value.specs.declared.ids.StreamId.{StreamId}
-use Rattle.ws_steps.specs.declared.effects.Owner.TheVariants.{Host}
 use Rattle.ws_steps.specs.declared.pipes.Phase.TheVariants.{Waiting}
 use Rattle.ws_steps.specs.Histories.{along}
 use Rattle.ws_steps.specs.Laws.{IsPrefixOf}
@@ -28,12 +27,12 @@ EachDestinationIsItsPipes =
     is_over (pipe_at p s).phase ≡ false → (step_writes i s x).written ≡ appended_by (writable_at i s) (step_through p s x).passed
 
 -- What was written since to the destination, which was w and is z, by a pipe that was x: a first part of what the pipe passed on, and all of it
--- where the destination refuses no write. And what a destination of the host acted on since is a first part of what was queued, then the chunk that
--- the pipe held, then what the pipe read
+-- where the destination refuses no write. And what it acted on since is a first part of what was queued, then the chunk that the pipe held, then
+-- what the pipe read
 pub record IsAFront (h : Writes) (through : Through) (x : pipe.Slots) (w z : writable.Slots) : Type 0 where
   pub written : IsPrefixOf h.written through.passed
   pub whole : writable.write_refusal z ≡ None → h.written ≡ through.passed
-  pub acted : w.owner ≡ Host → IsPrefixOf h.acted (todo w.queue ++ (held_values x.held ++ through.read))
+  pub acted : IsPrefixOf h.acted (todo w.queue ++ (held_values x.held ++ through.read))
 
 -- In every run, from any moment at which a pipe flows or waits until the end of the step in which it is over
 abbrev pub EachPipeWroteAFront : Type 0

@@ -8,7 +8,7 @@ pub fn each_destination_is_its_pipes()
     ensures { EachDestinationIsItsPipes }
 {}
 
-/// In every run, from any moment at which a pipe flows or waits until the end of the step in which it is over: what was written to its destination since, whoever wrote it, is a first part of what the pipe passed on, and all of it where the destination refuses no write at the end. What a destination of the host acted on since is a first part of what was queued there, then the chunk that the pipe held, then what the pipe read.
+/// In every run, from any moment at which a pipe flows or waits until the end of the step in which it is over: what was written to its destination since, whoever wrote it, is a first part of what the pipe passed on, and all of it where the destination refuses no write at the end. What the destination acted on since is a first part of what was queued there, then the chunk that the pipe held, then what the pipe read.
 pub fn each_pipe_wrote_a_front()
     ensures { EachPipeWroteAFront }
 {}
