@@ -29,5 +29,5 @@ pub mod Sourced
 mod Uses
 pub mod Closed
 mod FlushUses
-mod Flushed
+pub mod Flushed
 mod Worked

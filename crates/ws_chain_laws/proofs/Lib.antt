@@ -1,0 +1,12 @@
+pub mod Keeps
+mod Lists
+mod Numbers
+mod Young
+mod Making
+mod Ready
+pub mod Begins
+pub mod Nodes
+pub mod Outcomes
+pub mod Flushed
+pub mod Runs
+mod Worked

@@ -1,0 +1,6 @@
+pub mod Chain
+pub mod Laws
+pub mod Opening
+pub mod Nodes
+pub mod Outcomes
+pub mod Runs
