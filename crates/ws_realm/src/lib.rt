@@ -1,8 +1,9 @@
 //! A realm: readable, writable and transform streams, their readers and writers, pipes and the signals that abort them, promises and one job queue, and the calls on them.
 //!
-//! It is thin: `ws_tables` has the tables and the performing of effects, `ws_calls` what calls and jobs begin with. Here all memory is taken first, and a realm that performed 2^62 calls and jobs performs no more. `laws` has what holds over every run.
+//! It is thin: `ws_tables` has the tables and the performing of effects, `ws_calls` what calls and jobs begin with. Here all memory is taken first, and a realm that performed 2^62 calls and jobs performs no more. `laws` has what holds over every run, and `chains` what holds of a chain of pipes.
 #![tactic(auto)]
 
+pub mod chains;
 pub mod laws;
 mod realm;
 
