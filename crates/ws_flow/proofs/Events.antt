@@ -11,7 +11,7 @@ pub not_asked : (m : Machine) (w : AtWork) → Asked m w nothing_told w
 not_asked m (Live k) = (refl, refl)
 not_asked m (Over e) = (refl, refl)
 
-nothing_made : (m : Machine) (w : AtWork) → made m w nothing_told ≡ nothing_told
+pub nothing_made : (m : Machine) (w : AtWork) → made m w nothing_told ≡ nothing_told
 nothing_made m (Live k) = refl
 nothing_made m (Over e) = refl
 

@@ -6,6 +6,7 @@ pub mod Nodes
 pub mod Cutting
 pub mod Headline
 pub mod Events
+pub mod Steps
 pub mod Ends
 pub mod Tables
 pub mod Reach
@@ -18,3 +19,4 @@ pub mod Backwards
 pub mod Outputs
 pub mod Examples
 pub mod Lengths
+pub mod Lying

@@ -11,7 +11,7 @@ use Rattle.ws_flow.specs.Machines.{Machine, Kept, Pushed, piece, at_end, through
 use Rattle.ws_flow.specs.Stages.{nothing_kept, each_byte, Packing, AsCut, byte_machine, line_byte, block_byte, unframe_byte, unhex_byte, machine, machines}
 use Rattle.ws_flow.specs.Outputs.{Says, LinesDone, LineWrong, BlocksDone, NeverWrong, FramesDone, FrameWrong, DigitsDone, DigitWrong}
 use Rattle.ws_flow.specs.Plans.{bytes_of, as_one, reach, sees_known_chunks, stages_of, is_hex, is_in_range, are_numbers_within, are_in_order, each_has_stage, refusal}
-use Rattle.ws_flow.specs.Parts.{Part, Goes, Flows, residual, found}
+use Rattle.ws_flow.specs.Parts.{AtWork, Live, Over, Part, Goes, Flows, residual, found}
 use Rattle.ws_flow.specs.Rows.{Place, in_place, LinkKeeps, Turned, Relates}
 use Rattle.ws_flow.specs.Chains.{Member, Chained, all_stages, all_parts}
 
@@ -147,6 +147,22 @@ abbrev pub EachChunkIsShort : Type 0
 EachChunkIsShort =
     (ss : List Stage) (x : Told (List ℕ)) → list_all is_in_range ss ≡ true → count_by is_hex ss ≤ 4 → length ss ≤ 16 →
     All (λ c. length c ≤ 4096) x.items → All (λ c. length c < 33554432) (all_through (machines ss) x).items
+
+-- each chunk that lies before a stage which may be asked is below 2^25 bytes
+abbrev pub LiesShort : AtWork → List (List ℕ) → Type 0
+LiesShort (Live k) cs = All (λ c. length c < 33554432) cs
+LiesShort (Over e) cs = Unit {0}
+
+abbrev pub AreShort : List Part → Type 0
+AreShort [] = Unit {0}
+AreShort (p ∷ ps) = LiesShort p.work p.before.items × AreShort ps
+
+-- and so no chunk reaches 2^25 bytes that lies in a node with such stages, or that it put out
+abbrev pub EachLyingChunkIsShort : Type 0
+EachLyingChunkIsShort =
+    (ss : List Stage) (x : Told (List ℕ)) (ps : List Part) (out : Told (List ℕ)) →
+    list_all is_in_range ss ≡ true → count_by is_hex ss ≤ 4 → length ss ≤ 16 → All (λ c. length c ≤ 4096) x.items →
+    Flows (machines ss) x ps out → AreShort ps × All (λ c. length c < 33554432) out.items
 
 -- what a plan has that isn't refused
 pub record IsAccepted (plan : Plan) : Type 0 where

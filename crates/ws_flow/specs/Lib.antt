@@ -3,6 +3,7 @@ pub mod Machines
 pub mod Stages
 pub mod Plans
 pub mod Parts
+pub mod Steps
 pub mod Rows
 pub mod Chains
 pub mod Outputs

@@ -5,7 +5,7 @@ ghost use Rattle.hex.specs.Hex.{encode_lower};
 ghost use Rattle.ws_flow.specs.declared.plan.Stage.TheVariants.{Frame, Hex, Mask, Number};
 ghost use Rattle.ws_flow.specs.Stages.{framed};
 ghost use Rattle.ws_flow.specs.Outputs.{each_masked, each_numbered};
-ghost use Rattle.ws_flow.specs.Laws.{EachAcceptedPlan, EachBlockIsCut, EachChunkIsShort, EachCloseIsWhole, EachCuttingIsAlike, EachDigitIsRead, EachEndingStays, EachFaultIsFound, EachFinishIsWhole, EachFirstBytesStay, EachFirstPartStays, EachFlowGoesOn, EachFrameIsRead, EachFrameReadsBack, EachInputIsOne, EachLineIsCut, EachMaskTwiceIsNone, EachNodeFlows, EachPlaceKeeps, EachRunFlows, EachTextReadsBack, EachTurnKeeps, Gives};
+ghost use Rattle.ws_flow.specs.Laws.{EachAcceptedPlan, EachBlockIsCut, EachChunkIsShort, EachCloseIsWhole, EachCuttingIsAlike, EachDigitIsRead, EachEndingStays, EachFaultIsFound, EachFinishIsWhole, EachFirstBytesStay, EachFirstPartStays, EachFlowGoesOn, EachFrameIsRead, EachFrameReadsBack, EachInputIsOne, EachLineIsCut, EachLyingChunkIsShort, EachMaskTwiceIsNone, EachNodeFlows, EachPlaceKeeps, EachRunFlows, EachTextReadsBack, EachTurnKeeps, Gives};
 
 /// What comes out goes on as more comes in: a first part stays a first part, an ending that was found stays, and an output closes only over an input that closed and stages that ended fine.
 pub fn each_stage_flows()
@@ -21,10 +21,11 @@ pub fn each_cutting_is_alike()
     ensures first_bytes { EachFirstBytesStay }
 {}
 
-/// What a plan has that isn't refused, and with that no chunk reaches 2^25 bytes.
+/// What a plan has that isn't refused, and with that no chunk reaches 2^25 bytes, whether it came out of all stages or lies between them.
 pub fn each_accepted_plan()
     ensures accepted { EachAcceptedPlan }
     ensures short { EachChunkIsShort }
+    ensures lying { EachLyingChunkIsShort }
 {}
 
 /// What came into a node flows through its stages to what it put out and what lies in it, from one turn to the next.

@@ -5,7 +5,7 @@ mod laws;
 mod plan;
 
 pub use laws::{
-    each_cutting_is_alike, each_node_flows, each_output_is_told, each_pair_undoes, each_run_flows,
-    each_stage_flows,
+    each_accepted_plan, each_cutting_is_alike, each_node_flows, each_output_is_told,
+    each_pair_undoes, each_run_flows, each_stage_flows,
 };
 pub use plan::{Ending, Placed, Plan, Stage};
