@@ -1,5 +1,5 @@
 -- A stage at work, as its caller sees it, and what it answers.
-use Rattle.std.specs.Prelude.{ℕ}
+use Rattle.std.specs.Prelude.{ℕ, Bool, true, false}
 use Rattle.ws_flow.specs.declared.plan.Ending.{Ending}
 use Rattle.ws_flow.specs.declared.plan.Ending.TheVariants.{Fine, Bad}
 use Rattle.ws_flow.specs.declared.plan.Stage.{Stage}
@@ -17,6 +17,10 @@ pub record State : Type 0 where
 abbrev pub IsLive : AtWork → Type 0
 IsLive (Live k) = Unit {0}
 IsLive (Over e) = ⊥
+
+abbrev pub is_live : AtWork → Bool
+is_live (Live k) = true
+is_live (Over e) = false
 
 abbrev pub kept_in : AtWork → Kept
 kept_in (Live k) = k

@@ -1,11 +1,12 @@
 //! A stage at work.
-ghost use Rattle.std.specs.Prelude.{◌≡◌, ◌+◌, ◌<◌, ◌≤◌, ◌^◌, [], true, false, IfOk, OnOk, length};
+ghost use Rattle.std.specs.Prelude.{◌≡◌, ◌+◌, ◌<◌, ◌≤◌, ◌^◌, [], true, false, IfOk, OnErr, OnOk, length};
 ghost use Rattle.ws_flow.specs.declared.plan.Ending.TheVariants.{Fine};
 ghost use Rattle.ws_flow.specs.Stages.{machine};
 ghost use Rattle.ws_flow.specs.Plans.{is_in_range};
 ghost use Rattle.ws_stages.specs.Cuts.{CanTake, HasLength, RestFits, kept_of, seen};
 ghost use Rattle.ws_stages.specs.Answers.{Answers, Flushed};
-ghost use Rattle.ws_stages.specs.State.{IsLive, begun, kept_in};
+ghost use Rattle.ws_flow.specs.Parts.{Over};
+ghost use Rattle.ws_stages.specs.State.{IsLive, begun, is_live, kept_in};
 
 use crate::cut::{Blocks, Cut, Frames, Lines, cut_bytes};
 use crate::text::{framed, from_hex, in_hex, masked, numbered};
@@ -22,7 +23,7 @@ pub struct Pushed {
     pub ending: Ending,
 }
 
-/// A stage with what it keeps between chunks. After an ending that isn't fine, a flush, or want of memory it is asked nothing more.
+/// A stage with what it keeps between chunks. After an ending that isn't fine, a flush, or want of memory it is asked nothing more; one that found no memory ended fine.
 #[derive(Drop)]
 pub struct Work {
     stage: Stage,
@@ -157,6 +158,13 @@ impl Work {
         })
     }
 
+    /// Whether it may be asked for more.
+    pub fn is_live(&self) -> bool
+        ensures { result ≡ is_live self.now.work }
+    {
+        !self.stopped
+    }
+
     /// A chunk of the stage's input, and what comes out. It costs no more than the chunk's bytes and what comes out.
     pub fn push(&mut self, chunk: Chunk) -> Result<Pushed, NoMemory>
         requires live { IsLive self.old.work }
@@ -164,11 +172,15 @@ impl Work {
         requires length { HasLength self.old.stage (length chunk) }
         ensures pushed { IfOk result (λ pushed.
             Answers pushed self.new.work ((machine self.old.stage).push (kept_in self.old.work) chunk)) }
+        ensures wanting { OnErr result (self.new.work ≡ Over Fine) }
         ensures stage { self.new.stage ≡ self.old.stage }
         ensures count { OnOk result (self.new.pushes ≡ self.old.pushes + 1) }
     {
         self.stopped = true;
-        take(&self.stage, &mut self.cut, chunk.as_slice())?;
+        if take(&self.stage, &mut self.cut, chunk.as_slice()).is_err() {
+            self.cut.ending = Ending::Fine;
+            return Err(NoMemory);
+        }
         self.pushes += 1;
         let ending = self.cut.ending;
         let chunks = mem::replace(&mut self.cut.chunks, Vec::new(self.cut.alloc));
@@ -181,11 +193,15 @@ impl Work {
         requires live { IsLive self.old.work }
         ensures flushed { IfOk result (λ pushed.
             Flushed pushed self.new.work ((machine self.old.stage).flush (kept_in self.old.work))) }
+        ensures wanting { OnErr result (self.new.work ≡ Over Fine) }
         ensures stage { self.new.stage ≡ self.old.stage }
         ensures count { self.new.pushes ≡ self.old.pushes }
     {
         self.stopped = true;
-        finish(&self.stage, &mut self.cut)?;
+        if finish(&self.stage, &mut self.cut).is_err() {
+            self.cut.ending = Ending::Fine;
+            return Err(NoMemory);
+        }
         let chunks = mem::replace(&mut self.cut.chunks, Vec::new(self.cut.alloc));
         let ending = self.cut.ending;
         Ok(Pushed { chunks, ending })
