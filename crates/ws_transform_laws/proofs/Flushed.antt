@@ -31,7 +31,7 @@ use Rattle.ws_transform_laws.proofs.Entering.{Reads, apart}
 
 module _ (t : TransformId) (r : StreamId) where
   -- an effect that closes the stream neither now nor by what it causes
-  abbrev Calm : Effect → Type 0
+  abbrev pub Calm : Effect → Type 0
   Calm (OnReadable j Close) = is_same r j ≡ false
   Calm (OnTransform u names.Terminate) = is_same_transform t u ≡ false
   Calm (OnTransform u (names.FlushSettled p (Ok v))) = is_same_transform t u ≡ false
@@ -75,7 +75,7 @@ module _ (t : TransformId) (r : StreamId) where
   IsClosing (names.FlushSettled p (Ok v)) = Unit {0}
   IsClosing _ = ⊥
 
-  abbrev All : List Effect → Type 0
+  abbrev pub All : List Effect → Type 0
   All es = Each Calm es
 
   resting-calm : (u : TransformId) (halves : Halves) (operation : TransformOperation) (a : transform.Acts) → (IsClosing operation → ⊥) → a.out.effects ≡ [] → All (transform_operation u halves operation a).out.effects
@@ -172,7 +172,7 @@ module _ (t : TransformId) (r : StreamId) where
     halved : Halved s
     reads : Reads t r s
 
-  none-closes : (d : Done) → All d.caused → Halved d.slots → Reads t r d.slots → along 0 ◌+◌ (effect_closings r) (moments d) ≡ 0
+  pub none-closes : (d : Done) → All d.caused → Halved d.slots → Reads t r d.slots → along 0 ◌+◌ (effect_closings r) (moments d) ≡ 0
   none-closes d calm halved reads =
       let k = performed-goes 0 ◌+◌ are_numbers (effect_closings r) Closes
       (λ n s e es k. record {
