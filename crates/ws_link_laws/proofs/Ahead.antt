@@ -124,7 +124,7 @@ one_first w me taker a (Some InFlight) e = rw e tt
 one_first w me taker a (Some (Chunk v)) e = rw e tt
 
 module _ (w : Ear) (k : StreamId) where
-  others-late : (operation : WritableOperation) (a : writable.Acts) → (IsHandOn operation → ⊥) → Each (IsLate w) a.out.effects → Each (IsLate w) (writable_operation k operation a).out.effects
+  pub others-late : (operation : WritableOperation) (a : writable.Acts) → (IsHandOn operation → ⊥) → Each (IsLate w) a.out.effects → Each (IsLate w) (writable_operation k operation a).out.effects
   others-late operation a u l = others-do (λ (x : Out). Each (IsLate w) x.effects) k (record {
     settle = λ x p o h. h;
     fresh = λ x h. h;

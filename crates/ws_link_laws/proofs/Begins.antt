@@ -41,17 +41,17 @@ use Rattle.ws_link_laws.proofs.Steps.{From, performed-from, older-from, named-fr
 
 -- one more at the end of a table
 
-place_last : {A : Type 0} (xs : List A) (y : A) → slice_get (xs ++ y ∷ []) (length xs) ≡ Some y
+pub place_last : {A : Type 0} (xs : List A) (y : A) → slice_get (xs ++ y ∷ []) (length xs) ≡ Some y
 place_last [] y = refl
 place_last (x ∷ xs) y = place_last xs y
 
-place_before : {A : Type 0} (xs : List A) (y : A) (n : ℕ) → n ≢ length xs → slice_get (xs ++ y ∷ []) n ≡ slice_get xs n
+pub place_before : {A : Type 0} (xs : List A) (y : A) (n : ℕ) → n ≢ length xs → slice_get (xs ++ y ∷ []) n ≡ slice_get xs n
 place_before [] y zero n = absurd (n refl)
 place_before [] y (suc i) n = refl
 place_before (x ∷ xs) y zero n = refl
 place_before (x ∷ xs) y (suc i) n = place_before xs y i (λ e. n (ap suc e))
 
-place_past : {A : Type 0} (xs : List A) → slice_get xs (length xs) ≡ None
+pub place_past : {A : Type 0} (xs : List A) → slice_get xs (length xs) ≡ None
 place_past [] = refl
 place_past (x ∷ xs) = place_past xs
 
@@ -65,10 +65,10 @@ apart_at i j (y ∷ xs) (suc n) x a e = apart_at i j xs n x (and_right (not (is_
 
 -- the records of free streams
 
-free-source : (p : PipeId) (r : readable.Slots) → r.reader ≡ None → r.requests ≡ [] → SourceFits p r
+pub free-source : (p : PipeId) (r : readable.Slots) → r.reader ≡ None → r.requests ≡ [] → SourceFits p r
 free-source p r e f = record { owned = rw f tt; fit = rw e tt }
 
-free-sink : (w : writable.Slots) (state : WritableState) → w.queue ≡ [] → w.close_request ≡ None → w.close_in_flight ≡ None → FitsIn state w
+pub free-sink : (w : writable.Slots) (state : WritableState) → w.queue ≡ [] → w.close_request ≡ None → w.close_in_flight ≡ None → FitsIn state w
 free-sink w Writable q r c = record { shaped = rw q tt; closing = rw (c, r, q) refl; started = λ e. c }
 free-sink w Erroring q r c = record { shaped = rw q tt; closing = rw (c, r, q) refl; started = λ e. c }
 free-sink w Closed q r c = (c, q)

@@ -64,10 +64,10 @@ IsFar i j (OnWritable k (writes.Close q)) = is_same j k ≡ false
 IsFar i j (OnWritable k (writes.ClosePropagating q)) = is_same j k ≡ false
 IsFar i j _ = Unit {0}
 
-outer-far : (i j : StreamId) (e : Effect) → IsOuter i j e → IsFar i j e
+pub outer-far : (i j : StreamId) (e : Effect) → IsOuter i j e → IsFar i j e
 outer-far i j e o = grind (arith, o)
 
-job-far : (i j : StreamId) (job : Job) → Each (IsFar i j) (job_effects job)
+pub job-far : (i j : StreamId) (job : Job) → Each (IsFar i j) (job_effects job)
 job-far i j job = grind arith
 
 signal-far : (i j : StreamId) (operation : SignalOperation) → SignalCauses (IsFar i j) operation
@@ -98,7 +98,7 @@ far-causes i j (ErrorSteps k (Promise q) r) n = tt
 far-causes i j (ErrorSteps k (PipeRequest q) r) n = tt
 far-causes i j _ n = tt
 
-pipe-far : (i j : StreamId) (q : PipeId) (source dest : StreamId) (e : Effect) → is_same i source ≡ false → is_same j dest ≡ false → PipeCauses q source dest e → IsFar i j e
+pub pipe-far : (i j : StreamId) (q : PipeId) (source dest : StreamId) (e : Effect) → is_same i source ≡ false → is_same j dest ≡ false → PipeCauses q source dest e → IsFar i j e
 pipe-far i j q source dest e a b c = grind (arith, a, b, c)
 
 -- records that nobody took
@@ -113,13 +113,13 @@ pub record FreeSink (w : writable.Slots) : Type 0 where
   pub request : w.close_request ≡ None
   pub flight : w.close_in_flight ≡ None
 
-source-free : (i j : StreamId) (operation : ReadableOperation) (a : readable.Acts) → IsFar i j (OnReadable i operation) → FreeSource a.slots → FreeSource (readable_operation i operation a).slots
+pub source-free : (i j : StreamId) (operation : ReadableOperation) (a : readable.Acts) → IsFar i j (OnReadable i operation) → FreeSource a.slots → FreeSource (readable_operation i operation a).slots
 unfolding call_pull_if_needed accept controller_enqueue stream_close stream_error close_if_empty controller_close controller_error disturb cancel_if_readable start_settled pull_settled cancel_steps stream_cancel reader_release
 source-free i j (reads.InitializeReader closed) a n f = let s = is_same-refl i in absurd (cc)
 source-free i j (reads.Read request) a n f = let s = is_same-refl i in absurd (cc)
 source-free i j operation a n f = grind (arith, f)
 
-sink-free : (i j : StreamId) (operation : WritableOperation) (a : writable.Acts) → IsFar i j (OnWritable j operation) → FreeSink a.slots → FreeSink (writable_operation j operation a).slots
+pub sink-free : (i j : StreamId) (operation : WritableOperation) (a : writable.Acts) → IsFar i j (OnWritable j operation) → FreeSink a.slots → FreeSink (writable_operation j operation a).slots
 unfolding update_backpressure refresh_backpressure reject_close_and_closed finish_erroring start_erroring deal_with_rejection controller_error_if_needed process_write process_close advance_queue hand_on writable.start_settled write_settled finish_in_flight_close finish_in_flight_close_with_error close_settled abort_settled stream_abort abort_if_writable writer_release
 sink-free i j (writes.SetUpWriter w) a n f = let s = is_same-refl j in absurd (cc)
 sink-free i j (writes.Write v q) a n f = let s = is_same-refl j in absurd (cc)
@@ -139,7 +139,7 @@ pub record Unused (i j : StreamId) (locks : List Lock) (s : Slots) (es : List Ef
   pub same : s.locks ≡ locks
   pub far : Each (IsFar i j) es
 
-apart-set : (i j : StreamId) (xs : List pipe.Slots) (n : ℕ) (x y : pipe.Slots) → slice_get xs n ≡ Some x → y.source ≡ x.source → y.dest ≡ x.dest → all_apart i j xs ≡ true → all_apart i j (slice_set xs n y) ≡ true
+pub apart-set : (i j : StreamId) (xs : List pipe.Slots) (n : ℕ) (x y : pipe.Slots) → slice_get xs n ≡ Some x → y.source ≡ x.source → y.dest ≡ x.dest → all_apart i j xs ≡ true → all_apart i j (slice_set xs n y) ≡ true
 apart-set i j [] n x y e f g a = a
 apart-set i j (z ∷ xs) zero x y e f g a = let is : z ≡ x = cc in rw (f, g, ← is) a
 apart-set i j (z ∷ xs) (suc n) x y e f g a =
@@ -147,7 +147,7 @@ apart-set i j (z ∷ xs) (suc n) x y e f g a =
     let c = apart-set i j xs n x y e f g (and_right (not (is_same i z.source) && not (is_same j z.dest)) (all_apart i j xs) a) in
     rw (b, c) refl
 
-row-far : (i j : StreamId) (e : Effect) (s : Slots) (es : List Effect) → IsNoPipe e → Each (IsFar i j) (e ∷ es) → Each (IsFar i j) ((row e s).caused ++ es)
+pub row-far : (i j : StreamId) (e : Effect) (s : Slots) (es : List Effect) → IsNoPipe e → Each (IsFar i j) (e ∷ es) → Each (IsFar i j) ((row e s).caused ++ es)
 row-far i j e s es n f = each-append (IsFar i j) (row e s).caused es (row-causes (IsFar i j) e s (far-causes i j e n)) f.1
 
 readable-unused : (i j : StreamId) (locks : List Lock) (k : StreamId) (operation : ReadableOperation) (s : Slots) (es : List Effect) → Unused i j locks s (OnReadable k operation ∷ es) → Unused i j locks (row (OnReadable k operation) s).slots ((row (OnReadable k operation) s).caused ++ es)
@@ -286,7 +286,7 @@ free-worked i j s f =
 -- calls
 
 -- a call makes one pipe at most
-few-pipes : (c : Call) (s : Slots) → length (begin c s).done.slots.pipes ≤ suc (length s.pipes)
+pub few-pipes : (c : Call) (s : Slots) → length (begin c s).done.slots.pipes ≤ suc (length s.pipes)
 few-pipes c s =
     let l : length s.pipes ≤ suc (length s.pipes) = omega arith in
     each_call (λ (b : Begun). length b.done.slots.pipes ≤ suc (length s.pipes)) c s (record {
@@ -323,12 +323,12 @@ few-pipes c s =
 
 -- where each pipe of a table is apart, all are
 
-place_below : (xs : List pipe.Slots) (n : ℕ) (x : pipe.Slots) → slice_get xs n ≡ Some x → suc n ≤ length xs
+pub place_below : (xs : List pipe.Slots) (n : ℕ) (x : pipe.Slots) → slice_get xs n ≡ Some x → suc n ≤ length xs
 place_below [] n x e = cc
 place_below (y ∷ xs) zero x e = omega arith
 place_below (y ∷ xs) (suc n) x e = let h = place_below xs n x e in omega (arith, h)
 
-all_of : (i j : StreamId) (xs : List pipe.Slots) → ((n : ℕ) (x : pipe.Slots) → slice_get xs n ≡ Some x → sound.IsApart i j x) → all_apart i j xs ≡ true
+pub all_of : (i j : StreamId) (xs : List pipe.Slots) → ((n : ℕ) (x : pipe.Slots) → slice_get xs n ≡ Some x → sound.IsApart i j x) → all_apart i j xs ≡ true
 all_of i j [] f = refl
 all_of i j (x ∷ xs) f = let a = f 0 x refl in let b = all_of i j xs (λ n y e. f (suc n) y e) in rw (a.0, a.1, b) refl
 

@@ -1,18 +1,18 @@
 pub mod Telling
-mod Hosts
-mod Ahead
-mod Sinks
-mod Sources
-mod Pipes
+pub mod Hosts
+pub mod Ahead
+pub mod Sinks
+pub mod Sources
+pub mod Pipes
 pub mod Unheard
-mod Moves
-mod Standing
-mod SourceTurns
-mod SinkTurns
-mod PipeTurns
-mod TransformTurns
-mod Turns
-mod Calls
+pub mod Moves
+pub mod Standing
+pub mod SourceTurns
+pub mod SinkTurns
+pub mod PipeTurns
+pub mod TransformTurns
+pub mod Turns
+pub mod Calls
 pub mod Steps
 pub mod Keeps
 pub mod Begins
@@ -23,6 +23,6 @@ pub mod Worked
 pub mod Free
 pub mod Owners
 pub mod OwnLinks
-mod Entering
+pub mod Entering
 pub mod Pipelines
 mod WorkedHalves

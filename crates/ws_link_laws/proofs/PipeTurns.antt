@@ -48,32 +48,32 @@ use Rattle.ws_link_laws.proofs.Standing.{IsInner, inner-later, IsNotLast, IsStil
 caused-hands : (w : Ear) (q : PipeId) (source dest : StreamId) (e : Effect) → PipeCauses q source dest e → IsSilent (hands w) e
 caused-hands w q source dest e c = grind (arith, c)
 
-caused-chunks : (p q : PipeId) (source dest : StreamId) (e : Effect) → PipeCauses q source dest e → IsSilent (chunks p) e
+pub caused-chunks : (p q : PipeId) (source dest : StreamId) (e : Effect) → PipeCauses q source dest e → IsSilent (chunks p) e
 caused-chunks p q source dest e c = grind (arith, c)
 
 caused-coming : (o : Owner) (i : StreamId) (q : PipeId) (source dest : StreamId) (e : Effect) → PipeCauses q source dest e → IsSilent (coming o i) e
 caused-coming o i q source dest e c = grind (arith, c)
 
 -- a pipe to another destination writes nothing to j
-other-writes : (j : StreamId) (q : PipeId) (source dest : StreamId) (e : Effect) → is_same j dest ≡ false → PipeCauses q source dest e → IsSilent (writes j) e
+pub other-writes : (j : StreamId) (q : PipeId) (source dest : StreamId) (e : Effect) → is_same j dest ≡ false → PipeCauses q source dest e → IsSilent (writes j) e
 other-writes j q source dest e n c = grind (arith, n, c)
 
 -- and from another source asks nothing of i
-other-inner : (i j : StreamId) (p : PipeId) (n : ℕ) (q : PipeId) (source dest : StreamId) (e : Effect) → is_same i source ≡ false → PipeCauses q source dest e → IsInner i j p n e
+pub other-inner : (i j : StreamId) (p : PipeId) (n : ℕ) (q : PipeId) (source dest : StreamId) (e : Effect) → is_same i source ≡ false → PipeCauses q source dest e → IsInner i j p n e
 other-inner i j p n q source dest e x c = grind (arith, x, c)
 
 -- and another pipe does nothing last
-other-last : (p q : PipeId) (source dest : StreamId) (e : Effect) → nat_eq p.0 q.0 ≡ false → PipeCauses q source dest e → IsNotLast p e
+pub other-last : (p q : PipeId) (source dest : StreamId) (e : Effect) → nat_eq p.0 q.0 ≡ false → PipeCauses q source dest e → IsNotLast p e
 other-last p q source dest e n c = grind (arith, n, c)
 
-self : (p : PipeId) → nat_eq p.0 p.0 ≡ true
+pub self : (p : PipeId) → nat_eq p.0 p.0 ≡ true
 self p = grind arith
 
 -- the pipe itself asks its source for its own reads, and cancels it once it acts
-own-inner : (i j : StreamId) (p : PipeId) (n : ℕ) (source dest : StreamId) (e : Effect) → PipeCauses p source dest e × IsCalm n e → IsInner i j p n e
+pub own-inner : (i j : StreamId) (p : PipeId) (n : ℕ) (source dest : StreamId) (e : Effect) → PipeCauses p source dest e × IsCalm n e → IsInner i j p n e
 own-inner i j p n source dest e c = let s = self p in grind (arith, s, c)
 
-each-both : (P Q : Effect → Type 0) (es : List Effect) → Each P es → Each Q es → Each (λ e. P e × Q e) es
+pub each-both : (P Q : Effect → Type 0) (es : List Effect) → Each P es → Each Q es → Each (λ e. P e × Q e) es
 each-both P Q [] a b = tt
 each-both P Q (e ∷ es) a b = ((a.0, b.0), each-both P Q es a.1 b.1)
 
@@ -82,11 +82,11 @@ go-last p e n = grind (arith, n)
 
 -- a write is caused with a reaction and a look behind it
 module _ (j : StreamId) (p : PipeId) (x : pipe.Slots) (t : Table) (es : List Effect) where
-  write-ends : IsStill j p es → AtEnd j p es → AtEnd j p ((write_chunk p (starting x t)).out.effects ++ es)
+  pub write-ends : IsStill j p es → AtEnd j p es → AtEnd j p ((write_chunk p (starting x t)).out.effects ++ es)
   unfolding write_chunk
   write-ends still a = grind (arith, still, a)
 
-own-ends : (j : StreamId) (p : PipeId) (operation : PipeOperation) (cs es : List Effect) → (is_writing operation ≡ false → Each IsNoGo cs) → (is_writing operation ≡ true → IsStill j p es → AtEnd j p es → AtEnd j p (cs ++ es))
+pub own-ends : (j : StreamId) (p : PipeId) (operation : PipeOperation) (cs es : List Effect) → (is_writing operation ≡ false → Each IsNoGo cs) → (is_writing operation ≡ true → IsStill j p es → AtEnd j p es → AtEnd j p (cs ++ es))
     → AtEnd j p (OnPipe p operation ∷ es) → AtEnd j p (cs ++ es)
 own-ends j p operation cs es quiet writes a = by (is_writing operation) refl
   where
@@ -94,12 +94,12 @@ own-ends j p operation cs es quiet writes a = by (is_writing operation) refl
     by false e = at_end-append j p cs es (each-map IsNoGo (IsNotLast p) (go-last p) cs (quiet (sym e))) a.1
     by true e = writes (sym e) (a.0 (let s = self p in grind (arith, s, e))) a.1
 
-writing_is : (operation : PipeOperation) → is_writing operation ≡ true → operation ≡ names.WriteChunk
+pub writing_is : (operation : PipeOperation) → is_writing operation ≡ true → operation ≡ names.WriteChunk
 writing_is operation e = grind (arith, e)
 
 -- the pipes of a table, where one is put in the place of another between the same streams
 
-apart-set : (i j : StreamId) (p q : PipeId) (ps : List pipe.Slots) (x y : pipe.Slots) → slice_get ps q.0 ≡ Some x → y.source ≡ x.source → y.dest ≡ x.dest → AreApart i j p ps → AreApart i j p (slice_set ps q.0 y)
+pub apart-set : (i j : StreamId) (p q : PipeId) (ps : List pipe.Slots) (x y : pipe.Slots) → slice_get ps q.0 ≡ Some x → y.source ≡ x.source → y.dest ≡ x.dest → AreApart i j p ps → AreApart i j p (slice_set ps q.0 y)
 apart-set i j p q ps x y there f g a n u e m = by (nat_eq n q.0) refl
   where
     by : (same : Bool) → same ≡ nat_eq n q.0 → IsApart i j u
@@ -114,16 +114,16 @@ apart-set i j p q ps x y there f g a n u e m = by (nat_eq n q.0) refl
 
 -- an operation of the link's own pipe
 
-in_source_closed : (r : readable.Slots) (M : Told Value) → r.state ≡ ReadableClosed → then_told (in_source r) M ≡ told [] Closed
+pub in_source_closed : (r : readable.Slots) (M : Told Value) → r.state ≡ ReadableClosed → then_told (in_source r) M ≡ told [] Closed
 in_source_closed r M e = rw e refl
 
-sink_shut : (w : writable.Slots) → SinkFits w → is_writable w.state && not (is_closing w) ≡ false → (in_sink w).mark ≢ Open
+pub sink_shut : (w : writable.Slots) → SinkFits w → is_writable w.state && not (is_closing w) ≡ false → (in_sink w).mark ≢ Open
 sink_shut w f e = grind (arith, f, e)
 
-shut_more : (K W : Told Value) → K.mark ≢ Open → (then_told K W).mark ≢ Open
+pub shut_more : (K W : Told Value) → K.mark ≢ Open → (then_told K W).mark ≢ Open
 shut_more K W n = grind (arith, n)
 
-held_none : (o : Option Value) → length (held_values o) ≤ 0 → o ≡ None
+pub held_none : (o : Option Value) → length (held_values o) ≤ 0 → o ≡ None
 held_none None l = refl
 held_none (Some v) l = absurd (omega (arith, l))
 
@@ -253,7 +253,7 @@ module _ (i j : StreamId) (p : PipeId) (s : Slots) (operation : PipeOperation) (
 
 -- an operation of another pipe
 
-other_chunk : (p q : PipeId) (operation : PipeOperation) → nat_eq p.0 q.0 ≡ false → chunks p (OnPipe q operation) ≡ silence
+pub other_chunk : (p q : PipeId) (operation : PipeOperation) → nat_eq p.0 q.0 ≡ false → chunks p (OnPipe q operation) ≡ silence
 other_chunk p q operation n = grind (arith, n)
 
 module _ (i j : StreamId) (p : PipeId) (s : Slots) (q : PipeId) (operation : PipeOperation) (es : List Effect) (n : nat_eq p.0 q.0 ≡ false) (h : Sound i j p s (OnPipe q operation ∷ es)) where

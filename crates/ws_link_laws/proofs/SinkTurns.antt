@@ -48,18 +48,18 @@ use Rattle.ws_link_laws.proofs.Standing.{IsInner, IsNotLast, at_end-append, Stat
 
 -- what an operation of the destination may rely on
 
-flies : (w : WritableState) (x : writable.Slots) → w ≡ x.state → (writable.has_ended w ≡ false → leads x.queue ≡ true) → InFlightOr w x
+pub flies : (w : WritableState) (x : writable.Slots) → w ≡ x.state → (writable.has_ended w ≡ false → leads x.queue ≡ true) → InFlightOr w x
 flies Writable x e f = f refl
 flies Erroring x e f = f refl
 flies Errored x e f = tt
 flies Closed x e f = tt
 
-none_is : (o : Option PromiseId) → is_some o ≡ false → o ≡ None
+pub none_is : (o : Option PromiseId) → is_some o ≡ false → o ≡ None
 none_is None e = refl
 none_is (Some p) e = cc
 
 -- the chunk of a write that is fulfilled was handed on
-led-by : (j : StreamId) (h : Writes) (s : Slots) (es : List Effect) (v : Plain) → has_writable j s ≡ true → ((t : TransformId) → Going j t h s (OnWritable j (WriteSettled (Ok v)) ∷ es)) → (o : Owner) → owner_at j s ≡ o
+pub led-by : (j : StreamId) (h : Writes) (s : Slots) (es : List Effect) (v : Plain) → has_writable j s ≡ true → ((t : TransformId) → Going j t h s (OnWritable j (WriteSettled (Ok v)) ∷ es)) → (o : Owner) → owner_at j s ≡ o
     → writable.has_ended (writable_at j s).state ≡ false → leads (writable_at j s).queue ≡ true
 led-by j h s es v there g Host own e =
     let f = found j (WriteSettled (Ok v)) h es s (λ u. u) (g (record { 0 = 0 })).kept in

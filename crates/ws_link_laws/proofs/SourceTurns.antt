@@ -153,7 +153,7 @@ off-silent i p (x ∷ es) n e =
     let b : all (off p i) es ≡ 0 = omega (arith, e) in
     rw (off_silent i p x n.0 a, off-silent i p es n.1 b) refl
 
-off-chunks : (i : StreamId) (p : PipeId) (s : Slots) (k : StreamId) (operation : ReadableOperation) (es : List Effect) → is_same i k ≡ false → Only p i (row (OnReadable k operation) s).slots.streams ((row (OnReadable k operation) s).caused ++ es)
+pub off-chunks : (i : StreamId) (p : PipeId) (s : Slots) (k : StreamId) (operation : ReadableOperation) (es : List Effect) → is_same i k ≡ false → Only p i (row (OnReadable k operation) s).slots.streams ((row (OnReadable k operation) s).caused ++ es)
     → tells (chunks p) (row (OnReadable k operation) s).caused ≡ silence
 off-chunks i p s k operation es n only =
     let cs : List Effect = (row (OnReadable k operation) s).caused in
@@ -176,11 +176,11 @@ other-turned i j p s k operation es n h =
 
 -- an operation of the source
 
-is_own : (i j : StreamId) (p : PipeId) (n : ℕ) (operation : ReadableOperation) → IsInner i j p n (OnReadable i operation) → IsOwn p operation
+pub is_own : (i j : StreamId) (p : PipeId) (n : ℕ) (operation : ReadableOperation) → IsInner i j p n (OnReadable i operation) → IsOwn p operation
 is_own i j p n (Read request) h = h (is_same-refl i)
 is_own i j p n operation h = grind arith
 
-acts-late : (i j : StreamId) (p : PipeId) (n : ℕ) (operation : ReadableOperation) → IsInner i j p n (OnReadable i operation) → is_cancel operation ≡ true → 2 ≤ n
+pub acts-late : (i j : StreamId) (p : PipeId) (n : ℕ) (operation : ReadableOperation) → IsInner i j p n (OnReadable i operation) → is_cancel operation ≡ true → 2 ≤ n
 acts-late i j p n (Cancel r q) h c = h (is_same-refl i)
 acts-late i j p n (CancelIfReadable r q) h c = h (is_same-refl i)
 acts-late i j p n operation h c = absurd (cc)

@@ -61,7 +61,7 @@ run-last (y ∷ xs) x s = run-last xs x (step s y)
 pub reached-step : (s : Slots) (x : Entry) → IsReached s → IsReached (step s x)
 reached-step s x (xs, e) = (xs ++ x ∷ [], ap (λ (z : Slots). step z x) e ∙ sym (run-last xs x empty))
 
-elsewhere-is : (p : PipeId) (n : ℕ) (xs : List Stream) → elsewhere p n xs ≡ except p n xs
+pub elsewhere-is : (p : PipeId) (n : ℕ) (xs : List Stream) → elsewhere p n xs ≡ except p n xs
 elsewhere-is p n [] = refl
 elsewhere-is p zero (x ∷ xs) = refl
 elsewhere-is p (suc n) (x ∷ xs) = let h = elsewhere-is p n xs in omega (arith, h)
@@ -180,7 +180,7 @@ pub from-link : (i j : StreamId) (p : PipeId) (t : Told Value) (locks : List Loc
 from-link i j p t locks z r a h = (sound-link i j p z r (rw h.same a) h.sound, rw (behind_on-nothing i j p z) at h.short)
 
 -- what is about to enter is behind all else, unless the pipe lost it
-comes-last : (U K : Told Value) (x : pipe.Slots) (S M : Told Value) → then_told U (then_told K (in_pipe x (then_told S M))) ≡ then_told (then_told U (then_told K (in_pipe x S))) M
+pub comes-last : (U K : Told Value) (x : pipe.Slots) (S M : Told Value) → then_told U (then_told K (in_pipe x (then_told S M))) ≡ then_told (then_told U (then_told K (in_pipe x S))) M
 comes-last U K x S M = by x.phase
   where
     by : (w : Phase) → then_told U (then_told K (piped_by w x.held (then_told S M))) ≡ then_told (then_told U (then_told K (piped_by w x.held S))) M
@@ -191,7 +191,7 @@ comes-last U K x S M = by x.phase
 
 -- jobs
 
-job-inner : (i j : StreamId) (p : PipeId) (n : ℕ) (job : Job) → Each (IsInner i j p n) (job_effects job)
+pub job-inner : (i j : StreamId) (p : PipeId) (n : ℕ) (job : Job) → Each (IsInner i j p n) (job_effects job)
 job-inner i j p n job = grind arith
 
 job-late : (w : Ear) (job : Job) → Each (IsLate w) (job_effects job)
@@ -200,10 +200,10 @@ job-late w job = grind arith
 job-placed : (j : StreamId) (w : Ear) (s : Slots) (job : Job) → Each (Placed j w s) (job_effects job)
 job-placed j w s job = grind arith
 
-job-writes : (j : StreamId) (job : Job) → Each (IsSilent (writes j)) (job_effects job)
+pub job-writes : (j : StreamId) (job : Job) → Each (IsSilent (writes j)) (job_effects job)
 job-writes j job = grind (arith, if_same)
 
-job-chunks : (p : PipeId) (job : Job) → Each (IsSilent (chunks p)) (job_effects job)
+pub job-chunks : (p : PipeId) (job : Job) → Each (IsSilent (chunks p)) (job_effects job)
 job-chunks p job = grind arith
 
 -- nothing comes but the end, after a flush that went well
@@ -213,7 +213,7 @@ job-coming o i job = grind (arith, if_same, then_empty)
 still-none : (j : StreamId) (p : PipeId) → IsStill j p []
 still-none j p = record { writes = refl; chunks = refl }
 
-job-ends : (j : StreamId) (p : PipeId) (job : Job) → AtEnd j p (job_effects job)
+pub job-ends : (j : StreamId) (p : PipeId) (job : Job) → AtEnd j p (job_effects job)
 job-ends j p job = let n = still-none j p in grind (arith, n)
 
 begun-ahead : (i j : StreamId) (s : Slots) (job : Job) → next_job s.promises ≡ Some job → Ahead i j s [] → Ahead i j (with_promises (after_next_job s.promises) s) (job_effects job)
@@ -288,7 +288,7 @@ stream-grown i j p s z y n g = record {
   only = let a = except-append p i.0 z.streams y n in let w = g.only in omega (arith, a, w);
 }
 
-call-grown : (i j : StreamId) (p : PipeId) (c : Call) (s z : Slots) → Grown i j p s z → Grown i j p s (begin c z).done.slots
+pub call-grown : (i j : StreamId) (p : PipeId) (c : Call) (s z : Slots) → Grown i j p s z → Grown i j p s (begin c z).done.slots
 call-grown i j p c s z g = begin-makes (Grown i j p s) (record {
   promise = λ z g. record { source = g.source; sink = g.sink; there = g.there; only = g.only };
   locks = λ z ls g. record { source = g.source; sink = g.sink; there = g.there; only = g.only };
@@ -308,7 +308,7 @@ link-grown i j p s h = record {
   only = let w = h.only in omega (arith, w);
 }
 
-grown-state : (i j : StreamId) (p : PipeId) (s z : Slots) → Grown i j p s z → AreApart i j p z.pipes → State i j p s → State i j p z
+pub grown-state : (i j : StreamId) (p : PipeId) (s z : Slots) → Grown i j p s z → AreApart i j p z.pipes → State i j p s → State i j p z
 grown-state i j p s z g a st = record {
   source = ap is_readable_stream g.source;
   sink = ap is_writable_stream g.sink;

@@ -43,19 +43,19 @@ use Rattle.ws_link_laws.proofs.Standing.{IsInner, IsNotLast}
 
 -- it writes nothing, and brings no chunk to a pipe
 
-caused-writes : (j : StreamId) (t : TransformId) (w r : StreamId) (e : Effect) → TransformCauses t w r e → IsSilent (writes j) e
+pub caused-writes : (j : StreamId) (t : TransformId) (w r : StreamId) (e : Effect) → TransformCauses t w r e → IsSilent (writes j) e
 caused-writes j t w r e c = grind (arith, c, if_same)
 
-caused-chunks : (p : PipeId) (t : TransformId) (w r : StreamId) (e : Effect) → TransformCauses t w r e → IsSilent (chunks p) e
+pub caused-chunks : (p : PipeId) (t : TransformId) (w r : StreamId) (e : Effect) → TransformCauses t w r e → IsSilent (chunks p) e
 caused-chunks p t w r e c = grind (arith, c)
 
 caused-coming : (o : Owner) (i : StreamId) (t : TransformId) (w r : StreamId) (e : Effect) → is_same i r ≡ false → TransformCauses t w r e → IsSilent (coming o i) e
 caused-coming o i t w r e n c = grind (arith, n, c, if_same)
 
-caused-inner : (i j : StreamId) (p : PipeId) (n : ℕ) (t : TransformId) (w r : StreamId) (e : Effect) → TransformCauses t w r e → IsInner i j p n e
+pub caused-inner : (i j : StreamId) (p : PipeId) (n : ℕ) (t : TransformId) (w r : StreamId) (e : Effect) → TransformCauses t w r e → IsInner i j p n e
 caused-inner i j p n t w r e c = grind (arith, c)
 
-caused-last : (p : PipeId) (t : TransformId) (w r : StreamId) (e : Effect) → TransformCauses t w r e → IsNotLast p e
+pub caused-last : (p : PipeId) (t : TransformId) (w r : StreamId) (e : Effect) → TransformCauses t w r e → IsNotLast p e
 caused-last p t w r e c = grind (arith, c)
 
 -- what is told to the host in the place of an effect: the same; or its flush, where nothing stood, at the end of a destination that closes

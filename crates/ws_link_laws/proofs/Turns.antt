@@ -108,11 +108,11 @@ close-elsewhere : (w : Ear) (v : Owner) (i j : StreamId) (p : PipeId) (n : ℕ) 
 close-elsewhere w v i j p n k Host d x = record { hands = rw x refl; writes = refl; chunks = refl; coming = refl; inner = (tt, tt); last = (refl, tt) }
 close-elsewhere w v i j p n k (HalfOf t) d x = record { hands = refl; writes = refl; chunks = refl; coming = quiet-if (is_of v t); inner = (tt, tt); last = (refl, tt) }
 
-and_false : (b : Bool) → b && false ≡ false
+pub and_false : (b : Bool) → b && false ≡ false
 and_false true = refl
 and_false false = refl
 
-signal-each : (P : Effect → Type 0) (operation : SignalOperation) → ((q : PipeId) (r : Plain) → P (OnPipe q (AbortPipe r))) → SignalCauses P operation
+pub signal-each : (P : Effect → Type 0) (operation : SignalOperation) → ((q : PipeId) (r : Plain) → P (OnPipe q (AbortPipe r))) → SignalCauses P operation
 signal-each P (Trigger r) f = λ q. f q r
 signal-each P (Add q) f = tt
 signal-each P (Forget q) f = tt

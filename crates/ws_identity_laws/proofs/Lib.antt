@@ -1,0 +1,21 @@
+pub mod Standing
+pub mod SourceTurns
+pub mod SinkTurns
+pub mod PipeTurns
+pub mod Turns
+pub mod Steps
+pub mod Keeps
+pub mod Flushing
+pub mod Closing
+pub mod Acting
+pub mod Taking
+pub mod Through
+pub mod Ways
+pub mod Begins
+pub mod Free
+pub mod Entered
+pub mod Heard
+pub mod Enqueues
+pub mod Young
+pub mod Opening
+mod WorkedHalves

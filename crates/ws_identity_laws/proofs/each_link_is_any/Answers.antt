@@ -1,0 +1,5 @@
+use Rattle.ws_identity_laws.proofs.Keeps.{each_link_is_any}
+use Rattle.ws_identity_laws.proofs.each_link_is_any.Goals as goal
+
+pub returns : goal.returns
+returns c = each_link_is_any

@@ -1,0 +1,21 @@
+-- What passes, as the histories of streams tell it.
+use Rattle.std.specs.Prelude.{◌≡◌, ◌+◌, List, []}
+use Rattle.ws_value.specs.declared.ids.StreamId.{StreamId}
+use Rattle.ws_steps.specs.ReadableHistory.{run_flow}
+use Rattle.ws_steps.specs.Run.{Entry, run}
+use Rattle.ws_steps.specs.Slots.{Slots, empty}
+use Rattle.ws_steps.specs.WritableHistory.{run_writes}
+use Rattle.ws_flow.specs.Told.{told, then_told}
+use Rattle.ws_identity_laws.specs.Passing.{ending, run_acts, run_takes}
+
+-- after any run, what a stream acts on in another is what its history tells of that: the chunks that it handed on, and whether its close algorithm
+-- was performed. It hands nothing on after that
+abbrev pub EachActIsTold : Type 0
+EachActIsTold =
+    (xs entries : List Entry) (j : StreamId) → let s : Slots = run xs empty in
+    then_told (told [] (ending (run_writes j xs empty).closes)) (run_acts j entries s)
+    ≡ told (run_writes j entries s).acted (ending ((run_writes j xs empty).closes + (run_writes j entries s).closes))
+
+-- and over any run the chunks that a stream takes in are those that entered it
+abbrev pub EachTakeIsTold : Type 0
+EachTakeIsTold = (s : Slots) (entries : List Entry) (i : StreamId) → (run_takes i entries s).items ≡ (run_flow i entries s).entered
