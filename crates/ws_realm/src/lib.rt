@@ -1,11 +1,13 @@
 //! A realm: readable, writable and transform streams, their readers and writers, pipes and the signals that abort them, promises and one job queue, and the calls on them.
 //!
-//! It is thin: `ws_tables` has the tables and the performing of effects, `ws_calls` what calls and jobs begin with. Here all memory is taken first, and a realm that performed 2^62 calls and jobs performs no more. `laws` has what holds over every run, and `chains` what holds of a chain of pipes.
+//! It is thin: `ws_tables` has the tables and the performing of effects, `ws_calls` what calls and jobs begin with. Here all memory is taken first, and a realm that performed 2^62 calls and jobs performs no more. `laws` has what holds over every run, `wants` what holds where a host enqueues only while its transformer is at work, `chains` what holds of a chain of pipes, and `ways` what holds of pipes into and out of identity transform streams, and through these.
 #![tactic(auto)]
 
 pub mod chains;
 pub mod laws;
 mod realm;
+pub mod wants;
+pub mod ways;
 
 pub use realm::{NoRoom, Realm, Why};
 pub use ws_steps::{
