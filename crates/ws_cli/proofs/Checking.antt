@@ -1,13 +1,12 @@
 -- What the ends of a check exclude.
-use Rattle.std.proofs.Common.{◌≡◌, ◌<◌, ◌⊎◌, inl, inr, ℕ, Bool, true, false, List, [], length, refl, sym, ◌∙◌, ap, subst, arith}
-use Rattle.std.proofs.lemmas.Bool.{lt-ltb, false≢true}
-use Rattle.std.specs.Prelude.{Option, Some, None, Result, Ok, Err, nat_lt, is_err, if◌then◌else◌}
+use Rattle.std.proofs.Common.{◌≡◌, ◌⊎◌, inl, inr, ℕ, true, List, [], refl, sym, ◌∙◌, ap, arith}
+use Rattle.std.proofs.lemmas.Bool.{false≢true}
+use Rattle.std.specs.Prelude.{Result, Ok, Err, is_err}
 use Rattle.ws_io.specs.Faults.{Calm, HasCause}
 use Rattle.ws_io.specs.Gain.{KeepsTold}
 use Rattle.ws_io.specs.Written.{WroteFirst}
 use Rattle.ws_io.proofs.Flow.{Gains-nothing, KeepsTold-same}
-use Rattle.ws_io.specs.Files.{Loads, LoadsTold, load_limit}
-use Rattle.ws_io.specs.declared.files.LoadRefused.TheVariants.{TooLong}
+use Rattle.ws_io.specs.Files.{LoadsTold}
 use Rattle.ws_io.specs.declared.status.Status.{Status}
 use Rattle.ws_io.specs.declared.status.Status.TheVariants.{Done, WriteFault, NoMemory, LoadFault, Plan}
 use Rattle.ws_plan.specs.Reading.{Planned, reading}
@@ -15,52 +14,11 @@ use Rattle.ws_flow.specs.declared.plan.Plan.{Plan as PlanOf}
 use Rattle.ws_plan.specs.Answers.{planned_as}
 use Rattle.ws_plan.specs.PlanText.{check_text}
 use Rattle.ws_script.specs.Printing.{Told, Performs, StopsPrinting}
-use Rattle.ws_cli.specs.Check.{Shelf, HasText, LacksText, OfName, CheckEnds, ChecksText, PerformsCheck}
+use Rattle.ws_cli.specs.Check.{Shelf, HasText, LacksText, CheckEnds, ChecksText, PerformsCheck}
+use Rattle.ws_cli.specs.Planned.{Loads}
+use Rattle.ws_cli.proofs.Loading.{long_reading, not_both_read, same_number, told_none, told_not_long, told_text}
 
--- a loaded text is the one that is told
-loaded_text : (found : Option (List ℕ)) (text text' : List ℕ) → found ≡ Some text → Loads found (Ok text') → text' ≡ text
-loaded_text None text text' has loaded = absurd loaded
-loaded_text (Some t) text text' has loaded = let same : t ≡ text = cc in loaded.0 ∙ same
-
-told_text : (texts : Option (List ℕ → Option (List ℕ))) (name text text' : List ℕ) → OfName texts name (Some text) → LoadsTold texts name (Ok text') → text' ≡ text
-told_text None name text text' has loaded = absurd has
-told_text (Some texts) name text text' has loaded = loaded_text (texts name) text text' has loaded
-
-long_text : (found : Option (List ℕ)) (text : List ℕ) → found ≡ Some text → Loads found (Err TooLong) → load_limit < length text
-long_text None text has loaded = absurd loaded
-long_text (Some t) text has loaded = let same : t ≡ text = cc in let P : List ℕ → Type 0 = λ xs. load_limit < length xs in subst P same loaded
-
-told_long : (texts : Option (List ℕ → Option (List ℕ))) (name text : List ℕ) → OfName texts name (Some text) → LoadsTold texts name (Err TooLong) → load_limit < length text
-told_long None name text has loaded = absurd has
-told_long (Some texts) name text has loaded = long_text (texts name) text has loaded
-
-no_text : (found : Option (List ℕ)) (text : List ℕ) → found ≡ None → Loads found (Ok text) → ⊥
-no_text None text lacks loaded = loaded
-no_text (Some t) text lacks loaded = cc
-
-told_none : (texts : Option (List ℕ → Option (List ℕ))) (name text : List ℕ) → OfName texts name None → LoadsTold texts name (Ok text) → ⊥
-told_none None name text lacks loaded = lacks
-told_none (Some texts) name text lacks loaded = no_text (texts name) text lacks loaded
-
-no_long : (found : Option (List ℕ)) → found ≡ None → Loads found (Err TooLong) → ⊥
-no_long None lacks loaded = loaded
-no_long (Some t) lacks loaded = cc
-
-told_not_long : (texts : Option (List ℕ → Option (List ℕ))) (name : List ℕ) → OfName texts name None → LoadsTold texts name (Err TooLong) → ⊥
-told_not_long None name lacks loaded = lacks
-told_not_long (Some texts) name lacks loaded = no_long (texts name) lacks loaded
-
--- a text that is too long is refused by 8
-too_long : (text : List ℕ) → load_limit < length text → reading text ≡ Err 8
-too_long text long = let is : nat_lt 1048576 (length text) ≡ true = lt-ltb 1048576 (length text) long in rw is refl
-
-same_number : (r : Result Planned ℕ) (m n : ℕ) → r ≡ Err m → r ≡ Err n → m ≡ n
-same_number r m n a b = cc
-
-not_both : (r : Result Planned ℕ) (p : Planned) (n : ℕ) → r ≡ Ok p → r ≡ Err n → ⊥
-not_both r p n a b = cc
-
-pub Complete : (status : Status) (name : List ℕ) (files files' : Shelf) (old new : Told) (p q : List ℕ → Type 0) → CheckEnds status name files files' old new p q
+Complete : (status : Status) (name : List ℕ) (files files' : Shelf) (old new : Told) (p q : List ℕ → Type 0) → CheckEnds status name files files' old new p q
     → (text : List ℕ) (plan : Planned) → HasText files name text → reading text ≡ Ok plan
     → Calm files.faults files'.faults → Calm old.faults new.faults → (status ≡ Done) ⊎ (status ≡ NoMemory)
 Complete Done name files files' old new p q e text plan has accepted load write = inl refl
@@ -69,28 +27,28 @@ Complete LoadFault name files files' old new p q e text plan has accepted load w
 Complete WriteFault name files files' old new p q e text plan has accepted load write = let rose = e.checks.prints.cause in absurd (omega arith)
 Complete (Plan n) name files files' old new p q e text plan has accepted load write =
     elim e [
-      | inl long ↦ absurd (not_both (reading text) plan 8 accepted (too_long text (told_long files.texts name text has long.long)))
-      | inr bad ↦ absurd (not_both (reading text) plan n accepted (ap reading (sym (told_text files.texts name text bad.text has bad.loaded)) ∙ bad.checks))
+      | inl long ↦ absurd (not_both_read (reading text) plan n accepted (long_reading n name text files files' has long))
+      | inr bad ↦ absurd (not_both_read (reading text) plan n accepted (ap reading (sym (told_text files.texts name text bad.text has bad.loaded)) ∙ bad.checks))
     ]
 Complete _ name files files' old new p q e text plan has accepted load write = absurd e.checks
 
-pub Refused : (status : Status) (name : List ℕ) (files files' : Shelf) (old new : Told) (p q : List ℕ → Type 0) → CheckEnds status name files files' old new p q
+Refused : (status : Status) (name : List ℕ) (files files' : Shelf) (old new : Told) (p q : List ℕ → Type 0) → CheckEnds status name files files' old new p q
     → (text : List ℕ) (n : ℕ) → HasText files name text → reading text ≡ Err n
     → Calm files.faults files'.faults → (status ≡ Plan n) ⊎ (status ≡ NoMemory)
 Refused Done name files files' old new p q e text n has refused load =
-    absurd (not_both (reading e.text) _ n e.checks.accepted (ap reading (told_text files.texts name text e.text has e.loaded) ∙ refused))
+    absurd (not_both_read (reading e.text) _ n e.checks.accepted (ap reading (told_text files.texts name text e.text has e.loaded) ∙ refused))
 Refused NoMemory name files files' old new p q e text n has refused load = inr refl
 Refused LoadFault name files files' old new p q e text n has refused load = let rose = e in absurd (omega arith)
 Refused WriteFault name files files' old new p q e text n has refused load =
-    absurd (not_both (reading e.text) _ n e.checks.accepted (ap reading (told_text files.texts name text e.text has e.loaded) ∙ refused))
+    absurd (not_both_read (reading e.text) _ n e.checks.accepted (ap reading (told_text files.texts name text e.text has e.loaded) ∙ refused))
 Refused (Plan m) name files files' old new p q e text n has refused load =
     elim e [
-      | inl long ↦ inl (ap Plan (long.number ∙ same_number (reading text) 8 n (too_long text (told_long files.texts name text has long.long)) refused))
+      | inl long ↦ inl (ap Plan (same_number (reading text) m n (long_reading m name text files files' has long) refused))
       | inr bad ↦ inl (ap Plan (same_number (reading text) m n (ap reading (sym (told_text files.texts name text bad.text has bad.loaded)) ∙ bad.checks) refused))
     ]
 Refused _ name files files' old new p q e text n has refused load = absurd e.checks
 
-pub Missing : (status : Status) (name : List ℕ) (files files' : Shelf) (old new : Told) (p q : List ℕ → Type 0) → CheckEnds status name files files' old new p q
+Missing : (status : Status) (name : List ℕ) (files files' : Shelf) (old new : Told) (p q : List ℕ → Type 0) → CheckEnds status name files files' old new p q
     → LacksText files name → (status ≡ LoadFault) ⊎ (status ≡ NoMemory)
 Missing NoMemory name files files' old new p q e lacks = inr refl
 Missing LoadFault name files files' old new p q e lacks = inl refl
@@ -151,3 +109,23 @@ Ends-checked (Plan n) name text files files' old new p q loaded calm checks =
     inr (record { text = text; loaded = loaded; calm = calm; checks = checks })
 Ends-checked _ name text files files' old new p q loaded calm checks =
     record { text = text; loaded = loaded; calm = calm; checks = checks }
+
+-- the file has no plan
+pub Ends-unread : (status : Status) (name : List ℕ) (files files' : Shelf) (told : Told) (p : List ℕ → Type 0) → Loads (Err status) name files files'
+    → CheckEnds status name files files' told told p p
+Ends-unread NoMemory name files files' told p e = e
+Ends-unread LoadFault name files files' told p e = e
+Ends-unread (Plan n) name files files' told p e =
+    elim e [
+      | inl long ↦ inl long
+      | inr bad ↦ inr (record { text = bad.text; loaded = bad.loaded; calm = bad.calm; checks = bad.read })
+    ]
+Ends-unread _ name files files' told p e = absurd e.read
+
+-- what isn't written is as it was
+pub Unwritten : {K : Type 0} (status : Status) (text : List ℕ) (output output' : K) (old new : Told) (p q : List ℕ → Type 0) → Performs status text old new p q
+    → (status ≡ NoMemory → output' ≡ output) → (status ≡ Done → ⊥) → (status ≡ WriteFault → ⊥) → output' ≡ output
+Unwritten Done text output output' old new p q does kept not_done not_failed = absurd (not_done refl)
+Unwritten WriteFault text output output' old new p q does kept not_done not_failed = absurd (not_failed refl)
+Unwritten NoMemory text output output' old new p q does kept not_done not_failed = kept refl
+Unwritten _ text output output' old new p q does kept not_done not_failed = absurd does.cause

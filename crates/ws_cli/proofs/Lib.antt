@@ -1,2 +1,5 @@
 pub mod Checking
+pub mod Copying
+pub mod Loading
 pub mod Performing
+pub mod Running

@@ -3,7 +3,6 @@ use Rattle.std.specs.Prelude.{◌≡◌, ◌⊎◌, ℕ, List, Option, Some, Non
 use Rattle.ws_io.specs.Faults.{Calm, Rose}
 use Rattle.ws_io.specs.Files.{LoadsTold}
 use Rattle.ws_io.specs.Moment.{Moment}
-use Rattle.ws_io.specs.declared.files.LoadRefused.{LoadRefused}
 use Rattle.ws_io.specs.declared.files.LoadRefused.TheVariants.{TooLong}
 use Rattle.ws_io.specs.declared.status.Status.{Status}
 use Rattle.ws_io.specs.declared.status.Status.TheVariants.{Done, Stage, Usage, Plan, ReadFault, WriteFault, Aborted, NoMemory, Script, LoadFault, TooMuch}

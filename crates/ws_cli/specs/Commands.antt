@@ -13,23 +13,26 @@ use Rattle.ws_grammar.specs.declared.line.Line.{Line}
 use Rattle.ws_grammar.specs.Lines.{lines, most_bytes}
 use Rattle.ws_script.specs.Ends.{ScriptEnds}
 use Rattle.ws_cli.specs.Check.{Shelf, PerformsCheck, heard_by}
-use Rattle.ws_runner.specs.Ends.{Ends}
-use Rattle.ws_cli.specs.Words.{IsRun, IsScript, IsCheck, IsNoCheck}
+use Rattle.ws_runner.specs.Copies.{Copies}
+use Rattle.ws_cli.specs.Planned.{PerformsRun}
+use Rattle.ws_cli.specs.Words.{IsRun, IsRunOf, IsScript, IsCheck, NamesNoFile}
 
 -- what these words have done to files, an input and an output, with the status that it ended with
 pub record Performs {F S K : Type 0} (words : List (List ℕ)) (status : Status) (files files' : F) (input input' : S) (output output' : K)
     (shelf shelf' : Shelf) (old new : Moment) (got got' : List ℕ → Type 0) : Type 0 where
   -- the usage is told exactly where the words have none of the forms, and then nothing is read or written
-  pub usage : status ≡ Usage → (IsRun words ⊎ IsScript words → ⊥) × IsNoCheck words
-  pub other_words : (IsRun words ⊎ IsScript words → ⊥) → IsNoCheck words → status ≡ Usage
+  pub usage : status ≡ Usage → (IsRun words ⊎ IsScript words → ⊥) × NamesNoFile words
+  pub other_words : (IsRun words ⊎ IsScript words → ⊥) → NamesNoFile words → status ≡ Usage
   pub untouched : status ≡ Usage → (input' ≡ input) × (output' ≡ output)
-  -- no other form than `check` loads a file
-  pub unloaded : IsNoCheck words → files' ≡ files
-  -- what a run may end with
-  pub run : IsRun words → Ends status (2 ^ 40) 4096 old new got got'
+  -- no other form than `check` and `run` with a file loads one
+  pub unloaded : NamesNoFile words → files' ≡ files
+  -- what a run without a file may end with
+  pub run : IsRun words → Copies status (2 ^ 40) 4096 old new got got'
   -- where nothing fails and the input isn't too long, all of it is copied or memory can't be had
   pub complete : IsRun words → Calm old.read_faults new.read_faults → Calm old.write_faults new.write_faults
       → HasAtMost old.feed (2 ^ 40) → (status ≡ Done) ⊎ (status ≡ NoMemory)
+  -- what a run of a file does
+  pub run_of : (name : List ℕ) → IsRunOf words name → PerformsRun status name input input' output output' shelf shelf' old new got got'
   -- what a script may end with
   pub script : IsScript words → ScriptEnds status old new got got'
   -- where nothing fails, a script in the grammar that isn't too long is performed whole, or memory can't be had

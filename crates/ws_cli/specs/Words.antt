@@ -1,9 +1,14 @@
 -- The forms of the words of the command line.
-use Rattle.std.specs.Prelude.{◌≡◌, ℕ, List, [], ◌∷◌, codes}
+use Rattle.std.specs.Prelude.{◌≡◌, ◌≢◌, ℕ, List, [], ◌∷◌, codes}
 
 -- `run`, without a pipeline file
 abbrev pub IsRun : List (List ℕ) → Type 0
 IsRun words = words ≡ codes "run" ∷ []
+
+-- `run`, and the name of a pipeline file, which isn't the word that asks for a trace
+pub record IsRunOf (words : List (List ℕ)) (name : List ℕ) : Type 0 where
+  pub are : words ≡ codes "run" ∷ name ∷ []
+  pub named : name ≢ codes "--trace"
 
 -- `script`
 abbrev pub IsScript : List (List ℕ) → Type 0
@@ -16,3 +21,10 @@ IsCheck words name = words ≡ codes "check" ∷ name ∷ []
 -- no name stands behind `check`
 abbrev pub IsNoCheck : List (List ℕ) → Type 0
 IsNoCheck words = (name : List ℕ) → IsCheck words name → ⊥
+
+-- and none behind `run`
+abbrev pub IsNoRunOf : List (List ℕ) → Type 0
+IsNoRunOf words = (name : List ℕ) → IsRunOf words name → ⊥
+
+abbrev pub NamesNoFile : List (List ℕ) → Type 0
+NamesNoFile words = IsNoCheck words × IsNoRunOf words

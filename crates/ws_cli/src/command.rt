@@ -6,19 +6,16 @@ ghost use Rattle.ws_io.specs.Moment.{moment};
 ghost use Rattle.ws_io.specs.Notes.{text_of};
 ghost use Rattle.ws_cli.specs.Check.{shelf};
 ghost use Rattle.ws_cli.specs.Commands.{Performs};
-ghost use Rattle.ws_cli.specs.Words.{IsNoCheck};
+ghost use Rattle.ws_cli.specs.Words.{IsRunOf, NamesNoFile};
 
 use crate::check::run_check;
+use crate::run::{run_copy, run_file};
 use std::alloc::Global;
 use std::sync::Wait;
 use std::thread::Threads;
 use ws_io::{Files, Gate, Sink, Source, Status};
-use ws_runner::run_nodes;
 use ws_script::run_script;
 use ws_value::Text;
-
-/// The most bytes of input of a run without a pipeline file.
-pub const MAX_INPUT: u64 = 1 << 40;
 
 fn is_text(word: &Text, text: &[u8]) -> bool
     ensures { IsTrue result ↔ (word.now ≡ text.now) }
@@ -54,6 +51,24 @@ fn file_after<'a>(words: &'a [Text], name: &[u8]) -> Option<&'a Text>
     }
 }
 
+/// The pipeline file that is to be run, which isn't named as the trace is.
+fn file_to_run(words: &[Text]) -> Option<&Text>
+    ensures { MatchOption result
+        ((file : List ℕ) → IsRunOf words.now file → ⊥)
+        (λ file. IsRunOf words.now file.now) }
+{
+    match file_after(words, b"run") {
+        Some(file) => {
+            if is_text(file, b"--trace") {
+                None
+            } else {
+                Some(file)
+            }
+        }
+        None => None,
+    }
+}
+
 /// Does what the words after the program's name say.
 fn perform<R: Wait, F: Files, S: Source, K: Sink>(
     rt: &R,
@@ -71,10 +86,13 @@ fn perform<R: Wait, F: Files, S: Source, K: Sink>(
     ensures texts { F.texts files.new ≡ F.texts files.old }
 {
     if is_alone(words, b"run") {
-        return run_nodes(rt, alloc, MAX_INPUT, input, output);
+        return run_copy(rt, alloc, input, output);
     }
     if is_alone(words, b"script") {
         return run_script(alloc, input, output);
+    }
+    if let Some(file) = file_to_run(words) {
+        return run_file(rt, alloc, files, file, input, output);
     }
     match file_after(words, b"check") {
         Some(file) => run_check(alloc, files, file, output),
@@ -100,8 +118,8 @@ pub fn top<R: Threads + Wait, F: Files, S: Source, K: Sink, E: Sink, G: Gate>(
         (moment (S.faults input.new) (S.feed input.new) (K.faults output.new) (K.finished output.new))
         (K.got output.old) (K.got output.new) }
 
-    // No form but `check` loads a file, and no load changes what the files tell.
-    ensures files { IsNoCheck words.now → files.new ≡ files.old }
+    // No form but `check` and `run` with a file loads one, and no load changes what the files tell.
+    ensures files { NamesNoFile words.now → files.new ≡ files.old }
     ensures texts { F.texts files.new ≡ F.texts files.old }
 
     // Where the notes didn't fail, they gained the text of the status and nothing else. They are never finished.

@@ -3,10 +3,13 @@
 
 mod check;
 mod command;
+mod file;
 mod program;
+mod run;
 
 pub use check::run_check;
-pub use command::{MAX_INPUT, top};
+pub use command::top;
 pub use program::process;
+pub use run::MAX_INPUT;
 pub use ws_plan::{PlanRefused, read_plan};
 pub use ws_script::{Line, ScriptRefused, print_step, read_script, run_script};

@@ -112,7 +112,7 @@ const FAILED_WRITE: Case = Case {
 };
 
 /// Words of each wrong form; then each read, each write, the finish and the notes fail in turn. Nothing is read ahead or afterwards.
-const CASES: [Case; 20] = [
+const CASES: [Case; 22] = [
     COPY,
     Case {
         input: b"",
@@ -133,7 +133,17 @@ const CASES: [Case; 20] = [
         ..USAGE
     },
     Case {
+        arguments: &[b"streams", b"run", b"--trace"],
+        ..USAGE
+    },
+    Case {
+        arguments: &[b"streams", b"run", b"--trace", b"x"],
+        ..USAGE
+    },
+    Case {
         arguments: &[b"streams", b"run", b"x"],
+        status: 9,
+        told: b"load fault\n",
         ..USAGE
     },
     Case {

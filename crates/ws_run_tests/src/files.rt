@@ -1,4 +1,5 @@
 //! Files: they are copied and loaded.
+use crate::copying::copying;
 use std::alloc::Global;
 use std::fs;
 use std::test::Fail;
@@ -21,7 +22,13 @@ fn files_are_copied(rt: HostRuntime) -> Result<(), Fail> {
             fs::open(&rt, name)?
         };
         let mut output = StdSink::over(file);
-        let status = run_nodes(&rt, alloc, 1 << 40, &mut input, &mut output);
+        let status = run_nodes(
+            &rt,
+            alloc,
+            &copying(alloc, u32::MAX),
+            &mut input,
+            &mut output,
+        );
         assert_eq!(rt; status, want, "{name}");
         let bytes = fs::read(&rt, name)?;
         assert!(rt; bytes.as_slice() == text.as_slice(), "{name}");

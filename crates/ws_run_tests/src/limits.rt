@@ -1,4 +1,5 @@
 //! Runs whose input is about as long as they may take.
+use crate::copying::copying;
 use std::test::Fail;
 use ws_io::{MemSink, MemSource, Status};
 use ws_runner::run_nodes;
@@ -14,7 +15,7 @@ fn small_limits(rt: HostRuntime) -> Result<(), Fail> {
     ] {
         let mut input = MemSource::make(alloc, b"abc", &[4096], &[])?;
         let mut output = MemSink::make(alloc, 16, &[4096], &[], &[])?;
-        let status = run_nodes(&rt, alloc, limit, &mut input, &mut output);
+        let status = run_nodes(&rt, alloc, &copying(alloc, limit), &mut input, &mut output);
         assert_eq!(rt; status, want, "limit {limit}");
         assert_eq!(rt; output.got(), written, "limit {limit}");
     }

@@ -1,4 +1,5 @@
 //! A run in which an allocation is refused: `rt try --test --fail-alloc N` refuses the Nth.
+use crate::copying::copying;
 use std::alloc::Global;
 use std::sync::Wait;
 use std::test::Fail;
@@ -12,7 +13,7 @@ const INPUT: &[u8] = b"abcdefghij";
 fn copied<R: Wait>(rt: &R, alloc: Global) -> Result<(Status, MemSink), NoMemory> {
     let mut input = MemSource::make(alloc, INPUT, &[3], &[])?;
     let mut output = MemSink::make(alloc, INPUT.len(), &[2], &[], &[])?;
-    let status = run_nodes(rt, alloc, 100, &mut input, &mut output);
+    let status = run_nodes(rt, alloc, &copying(alloc, 100), &mut input, &mut output);
     Ok((status, output))
 }
 

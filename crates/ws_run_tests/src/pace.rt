@@ -1,6 +1,7 @@
 //! That the input is read only once all that was read before is written, and that the bytes come out in order: a source that fails where it is asked sooner, and a sink that fails at a wrong byte.
 ghost use Rattle.std.specs.Prelude.{None};
 
+use crate::copying::copying;
 use std::alloc::Global;
 use std::cell::Cell;
 use std::sync::Wait;
@@ -108,7 +109,13 @@ fn paced<R: Wait>(
         most: most_written,
         count: 0,
     };
-    let status = run_nodes(rt, alloc, 1 << 40, &mut input, &mut output);
+    let status = run_nodes(
+        rt,
+        alloc,
+        &copying(alloc, u32::MAX),
+        &mut input,
+        &mut output,
+    );
     (status, written.get())
 }
 

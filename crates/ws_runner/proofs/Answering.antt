@@ -1,396 +1,359 @@
--- What a node does as it hears of an event: it stays one that its past led to, and goes on as it says.
-use Rattle.std.proofs.Common.{◌≡◌, ◌≢◌, ◌-◌, ◌<◌, ◌≤◌, ℕ, List, [], ◌∷◌, ◌++◌, length, Option, Some, None, refl, sym, ap, ◌∙◌, subst, append-nil, append_assoc, arith}
-use Rattle.std.specs.List.{All}
+-- What a node does as its sink is written and closed, and what it settles at once.
+use Rattle.std.proofs.Common.{◌≡◌, ◌≢◌, ◌+◌, ◌-◌, ◌<◌, ◌≤◌, ◌^◌, ◌==◌, ℕ, zero, suc, true, false, List, [], ◌∷◌, ◌++◌, length, Option, Some, None, refl, sym, ap, ◌∙◌, subst, append-nil, length-append, arith}
 use Rattle.std.specs.Prelude.{slice_get}
-use Rattle.std.proofs.lemmas.List.Elements.{All-nil, All-cons, All-head, All-tail}
-use Rattle.ws_value.specs.declared.fault.Fault.TheVariants.{Read as ReadFault, TooMuch, Write as WriteFault}
+use Rattle.std.proofs.lemmas.Bool.{and_parts}
+use Rattle.std.proofs.lemmas.List.{length-map}
+use Rattle.std.proofs.lemmas.List.Elements.{All-nil, All-cons}
+use Rattle.ws_value.specs.declared.fault.Fault.TheVariants.{Abort as AbortFault}
 use Rattle.ws_value.specs.declared.ids.HostId.{HostId}
-use Rattle.ws_value.specs.declared.value.Plain.{Plain}
+use Rattle.ws_value.specs.declared.ids.StreamId.{StreamId}
 use Rattle.ws_value.specs.declared.value.Plain.TheVariants.{Fault as FaultReason}
 use Rattle.ws_value.specs.declared.value.Value.{Value}
 use Rattle.ws_value.specs.declared.value.Value.TheVariants.{Bytes}
+use Rattle.ws_flow.specs.declared.plan.Plan.{Plan}
+use Rattle.ws_flow.specs.Parts.{Goes}
 use Rattle.ws_flow.specs.Plans.{bytes_of}
-use Rattle.ws_flow.specs.Told.{Mark, Open as MayCome, Closed, Lost, Told, told, then_told, IsShortOf}
-use Rattle.ws_flow.proofs.Told.{short_refl, short_trans, short_same, short_as, short_left, then_empty, before_front, before_of_short}
-use Rattle.ws_io.specs.Feed.{Feed}
-use Rattle.ws_io.specs.Gain.{KeepsTold, Becomes}
-use Rattle.ws_io.specs.Moment.{Moment, moment}
-use Rattle.ws_io.proofs.Flow.{Fed-nothing}
-use Rattle.ws_steps.specs.declared.calls.Answer.{Answer}
-use Rattle.ws_steps.specs.declared.calls.Answer.TheVariants.{Ok as AnswerOk, Fail as AnswerFail}
-use Rattle.ws_steps.specs.declared.calls.Call.{Call}
-use Rattle.ws_steps.specs.declared.calls.Call.TheVariants.{Settle}
-use Rattle.ws_steps.specs.declared.calls.HostCall.{HostCall}
-use Rattle.ws_steps.specs.declared.calls.HostCall.TheVariants.{Write, Close}
-use Rattle.ws_steps.specs.Run.{Entry}
-use Rattle.ws_host_laws.specs.HostCalls.{called, settles_well}
-use Rattle.ws_link_laws.specs.Link.{silence}
-use Rattle.ws_laws.proofs.Lists.{append_none}
-use Rattle.ws_realm.specs.Seen.{SeenRealm}
-use Rattle.ws_realm.specs.declared.realm.Why.{Why}
+use Rattle.ws_flow.specs.Stages.{machines}
+use Rattle.ws_flow.specs.Told.{Open as MayCome, Closed, Lost, Told, told, then_told, IsShortOf}
+use Rattle.ws_flow.proofs.Steps.{goes_rests}
+use Rattle.ws_flow.proofs.Told.{short_trans, before_front, before_of_short}
 use Rattle.ws_io.specs.Faults.{Rose}
-use Rattle.ws_reason_laws.specs.Reasons.{failures}
-use Rattle.ws_runner.specs.declared.node.Input.{Input}
-use Rattle.ws_runner.specs.declared.node.Input.TheVariants as input
+use Rattle.ws_io.specs.Feed.{Feed}
+use Rattle.ws_io.specs.Gain.{Gains, KeepsTold, Becomes}
+use Rattle.ws_io.specs.Moment.{Moment}
+use Rattle.ws_stages.specs.State.{State}
+use Rattle.ws_steps.specs.declared.calls.Answer.TheVariants.{Ok as AnswerOk, Fail as AnswerFail}
+use Rattle.ws_steps.specs.declared.calls.Call.TheVariants.{Settle}
+use Rattle.ws_steps.specs.declared.calls.Event.{Event}
+use Rattle.ws_steps.specs.declared.calls.Event.TheVariants.{Host}
+use Rattle.ws_steps.specs.declared.calls.HostCall.{HostCall}
+use Rattle.ws_steps.specs.declared.calls.HostCall.TheVariants.{Pull, Write, Close, Flush}
+use Rattle.ws_steps.specs.Run.{Entry, Heard}
+use Rattle.ws_chain_laws.specs.Chain.{behind_at, call_enters, heard_at}
+use Rattle.ws_chain_laws.specs.Nodes.{only_at}
+use Rattle.ws_chain_laws.proofs.Nodes.{each_event_is_heard_at_one_link, each_nodes_call_brings}
+use Rattle.ws_host_laws.specs.HostCalls.{IsItsCall, called}
+use Rattle.ws_link_laws.specs.Link.{silence}
+use Rattle.ws_realm.specs.Seen.{SeenRealm}
+use Rattle.ws_runner.specs.declared.node.Abort.{Abort}
 use Rattle.ws_runner.specs.declared.node.Node.{Node}
 use Rattle.ws_runner.specs.declared.node.Output.{Output}
 use Rattle.ws_runner.specs.declared.node.Output.TheVariants as output
-use Rattle.ws_runner.specs.Moves.{Asks, Performed, Refused, with_realm, Shown, shut, Fails, settles, Untouched, Writes, WroteAll, WroteLess, WroteNone, Settles}
-use Rattle.ws_runner.specs.Node.{sink, behind_in, in_bytes, ended_by, lying_by, lying, nothing_yet}
-use Rattle.ws_runner.specs.Past.{past_of, IsCause, IsPull, OneAtMost, Led, HasOne, Since, Driven}
-use Rattle.ws_runner.specs.Went.{OutputGoes, InputGoes, LeftAlone, WentFrom}
-use Rattle.ws_runner.proofs.Bytes.{in_bytes-then, in_bytes-short, ended-both, ended-then}
-use Rattle.ws_runner.proofs.Going.{KeepsEnd-same, went-rests}
-use Rattle.ws_runner.proofs.Since.{one-short, MayAsk, After, since-asks}
+use Rattle.ws_runner.specs.Moves.{Asks, with_realm, Shown, shut, fault_of, Fails, fails, settles, triggers, nearer, draws_near, draws_by, had_by, written, Untouched, Writes, WroteAll, WroteLess, WroteNone, Reached, Finishes, FinishedWell, FinishedBadly, FinishedNot, Settles, is_writable}
+use Rattle.ws_runner.specs.Node.{coming, in_bytes, is_reached, lies_in, lying, nothing_yet, parts, stages_in, works_in}
+use Rattle.ws_runner.specs.Opening.{count_of, past}
+use Rattle.ws_runner.proofs.Staged.{same-length}
+use Rattle.ws_runner.specs.Past.{IsCause, OneAtMost, ArePushed, HasOne, Led, Since, may_have}
+use Rattle.ws_runner.specs.Went.{AbortGoes, OutputGoes}
+use Rattle.ws_runner.proofs.Called.{may-settle, named-longer}
+use Rattle.ws_runner.proofs.Changes.{led-abort, led-ahead, led-asked, led-output}
+use Rattle.ws_runner.proofs.Going.{going-stays, went-quietly, went-rests}
+use Rattle.ws_runner.proofs.Handled.{Handled, shows}
+use Rattle.ws_runner.proofs.Handing.{lies_to, unheard-lies, one-heard}
+use Rattle.ws_runner.proofs.Ones.{all-more}
+use Rattle.ws_runner.proofs.Putting.{AfterQuiet, asks-quietly, quiet-then, settle-quiet}
+use Rattle.ws_runner.proofs.Sinking.{count-works, abort-less, abort-nearer, abort-same, heard-out, keeps-told, nearer_by, one-stages, open-fails, output-alone, piece-short, shut-shut, shut-stays, signal-same, sunk}
+use Rattle.ws_runner.proofs.Since.{AfterEvent, MayAsk}
+use Rattle.ws_runner.proofs.Unheard.{at-there}
 
--- a node that was led on, and how it went there
-pub record Handled (lay : Told (List ℕ)) (a b : Node) (old new : Moment) (p q : List ℕ → Type 0) : Type 0 where
-  pub driven : Driven b
-  pub went : WentFrom lay a b old new p q
+-- how an open output goes on, and one that was shut
 
--- what a call leaves of a node's own counts
+output-open : (o : Output) (gain : List ℕ) (old new : Moment) → o ≡ output.Open → new.write_faults ≡ old.write_faults → KeepsTold old.finished new.finished
+    → OutputGoes o o gain MayCome old new
+output-open output.Open gain old new e calm kept = (refl, calm, kept)
+output-open output.Finished gain old new e calm kept = absurd (cc)
+output-open output.Failed gain old new e calm kept = absurd (cc)
+output-open output.Aborted gain old new e calm kept = absurd (cc)
 
-pub record SameCounts (a b : Node) : Type 0 where
-  pub taken : b.taken ≡ a.taken
-  pub unwritten : b.unwritten ≡ a.unwritten
-  pub input : b.input ≡ a.input
-  pub output : b.output ≡ a.output
-  pub most : b.most ≡ a.most
-  pub pipe : b.pipe ≡ a.pipe
+output-fails : (o : Output) (gain : List ℕ) (old new : Moment) → o ≡ output.Open → Rose old.write_faults new.write_faults → KeepsTold old.finished new.finished
+    → OutputGoes o (shut o) gain Lost old new
+output-fails output.Open gain old new e rose kept = (refl, rose, kept)
+output-fails output.Finished gain old new e rose kept = absurd (cc)
+output-fails output.Failed gain old new e rose kept = absurd (cc)
+output-fails output.Aborted gain old new e rose kept = absurd (cc)
 
-pub asks-same : (c : Call) (a b : Node) → Asks c a b → SameCounts a b
-asks-same c a b (Performed realm slots goes is) =
-    rw is (record { taken = refl; unwritten = refl; input = refl; output = refl; most = refl; pipe = refl })
-asks-same c a b (Refused why stops is) = rw is (record { taken = refl; unwritten = refl; input = refl; output = refl; most = refl; pipe = refl })
+output-finishes : (o : Output) (old new : Moment) → o ≡ output.Open → new.write_faults ≡ old.write_faults → Becomes old.finished new.finished → OutputGoes o output.Finished [] Closed old new
+output-finishes output.Open old new e calm done = (refl, calm, done)
+output-finishes output.Finished old new e calm done = absurd (cc)
+output-finishes output.Failed old new e calm done = absurd (cc)
+output-finishes output.Aborted old new e calm done = absurd (cc)
 
--- the settling of a host's call
+output-aborts : (o : Output) (old : Moment) → o ≡ output.Open → OutputGoes o output.Aborted [] Lost old old
+output-aborts output.Open old e = (refl, refl, keeps-told old.finished)
+output-aborts output.Finished old e = absurd (cc)
+output-aborts output.Failed old e = absurd (cc)
+output-aborts output.Aborted old e = absurd (cc)
 
-some_same : {A : Type 0} (x y : A) → Some x ≡ Some y → x ≡ y
-some_same x y e = grind arith
+writable-open : (o : Output) → is_writable o ≡ true → o ≡ output.Open
+writable-open output.Open e = refl
+writable-open output.Finished e = absurd (cc)
+writable-open output.Failed e = absurd (cc)
+writable-open output.Aborted e = absurd (cc)
 
-pub id_of : (id i : HostId) (a b : Call) → a ≡ settles id → b ≡ settles_well i → a ≡ b → id ≡ i
-id_of id i a b e f g = grind arith
+had-less : (ws : List State) (count ahead : ℕ) → had_by ws count ahead ≤ ahead
+had-less [] count ahead = omega arith
+had-less (w ∷ ws) count ahead = omega arith
 
--- a call that isn't the close of the sink may be settled well
-pub settles-other : (xs : List Entry) (n : Node) (id : HostId) (call : HostCall) → slice_get (called (past_of xs)) id.0 ≡ Some call → (call ≡ Close sink → ⊥)
-    → MayAsk xs n (settles id)
-settles-other xs n id call is other =
+had-counts : (ws : List State) (count ahead : ℕ) → ws ≡ [] → ahead ≤ count + had_by ws count ahead
+had-counts [] count ahead e = omega arith
+had-counts (w ∷ ws) count ahead e = absurd (cc)
+
+-- why an output fails
+pub caused : (n : Node) → n.output ≢ output.Open → (n.output ≡ output.Aborted → is_reached n.abort ≡ true) → IsCause n (FaultReason (fault_of n.output))
+caused n closed reached = by n.output refl where
+  by : (o : Output) → n.output ≡ o → IsCause n (FaultReason (fault_of o))
+  by output.Open e = absurd (closed e)
+  by output.Finished e = (λ f. cc, λ f. cc)
+  by output.Failed e = (λ f. cc, λ f. cc)
+  by output.Aborted e = reached e
+
+-- the abort comes nearer by so many bytes, and where it is reached its signal is triggered
+
+data Drawn (n c : Node) : Type 0 where
+  Same : c ≡ n → Drawn n c
+  Triggered : (y : Abort) → is_reached n.abort ≡ true → Asks (triggers y) n c → Drawn n c
+
+drawn-near : (y : Abort) (count l : ℕ) (n c : Node) → y.left - count ≡ l → draws_near (nearer count y) l n c → Drawn (record n { abort = Some (nearer count y) }) c
+drawn-near y count zero n c e d = Triggered (nearer count y) (ap (λ (z : ℕ). z == 0) e) d
+drawn-near y count (suc l) n c e d = Same d
+
+drawn : (count : ℕ) (x : Option Abort) (n c : Node) → n.abort ≡ x → draws_by count x n c → Drawn (record n { abort = nearer_by count x }) c
+drawn count None n c e d = Same (d ∙ ap (λ (z : Option Abort). record n { abort = z }) e)
+drawn count (Some y) n c e d = drawn-near y count (y.left - count) n c refl d
+
+trigger-quiet : (y : Abort) (k : ℕ) → call_enters k (triggers y) ≡ silence
+trigger-quiet y k = (each_nodes_call_brings k).trigger y.signal (FaultReason AbortFault)
+
+may-trigger : (plan : Plan) (xs : List Entry) (n : Node) (y : Abort) → is_reached n.abort ≡ true → MayAsk plan xs n (triggers y)
+may-trigger plan xs n y reached =
     record {
-      leaves = refl;
-      makes_none = refl;
-      failed = All-nil (IsCause n.input n.output);
-      closes = λ i e c. absurd (other (some_same call (Close sink) (sym is ∙ (ap (λ (h : HostId). slice_get (called (past_of xs)) h.0) (id_of id i (settles id) (settles_well i) refl refl e) ∙ c))));
+      is_nodes = tt;
+      failed = All-cons (IsCause n) (FaultReason AbortFault) [] reached (All-nil (IsCause n));
+      closes = λ id e c. absurd (cc);
+      flushes = λ id i e c first last w at. absurd (cc);
     }
 
--- what is asked of an output that isn't open any more fails
-pub settles-badly : (xs : List Entry) (n : Node) (id : HostId) → n.output ≢ output.Open → MayAsk xs n (Settle id (AnswerFail (FaultReason WriteFault)))
-settles-badly xs n id shut =
-    record { leaves = refl; makes_none = refl; failed = All-cons (IsCause n.input n.output) (FaultReason WriteFault) [] shut (All-nil (IsCause n.input n.output)); closes = λ i e c. cc }
+module _ (plan : Plan) (xs : List Entry) (id : HostId) (call : HostCall) (is : slice_get (called (past plan xs)) id.0 ≡ Some call) where
+  -- a call is settled well; and badly, with a cause
+  well : (n b : Node) → Led plan xs n → (call ≡ Close n.sink → n.output ≡ output.Finished) → ((s : StreamId) → call ≡ Flush s → ⊥) → Asks (settles id) n b → AfterQuiet plan xs n b
+  well n b led close flush asks =
+      asks-quietly plan xs n b (settles id) (settle-quiet id AnswerOk) led (may-settle plan xs n id call is AnswerOk (All-nil (IsCause n)) (λ c x. close c) (λ s f. absurd (flush s f))) asks
 
--- a settling brings nothing in
-pub since-settles : (xs : List Entry) (a b : Node) (id : HostId) (answer : Answer) → Led xs a → HasOne a → MayAsk xs a (Settle id answer) → Asks (Settle id answer) a b
-    → After (in_bytes (behind_in a.realm.slots)) xs b
-since-settles xs a b id answer s one may asks =
-    subst (λ q. After q xs b) (then_empty (in_bytes (behind_in a.realm.slots)))
-    (since-asks xs a b (Settle id answer) s may (λ o. subst (λ q. OneAtMost a.unwritten q.items) (sym (then_empty (behind_in a.realm.slots))) (one o)) asks)
+  badly : (n b : Node) → Led plan xs n → n.output ≢ output.Open → (n.output ≡ output.Aborted → is_reached n.abort ≡ true) → Asks (fails id (fault_of n.output)) n b → AfterQuiet plan xs n b
+  badly n b led closed reached asks =
+      let x = AnswerFail (FaultReason (fault_of n.output)) in
+      asks-quietly plan xs n b (Settle id x) (settle-quiet id x) led
+      (may-settle plan xs n id call is x (All-cons (IsCause n) (FaultReason (fault_of n.output)) [] (caused n closed reached) (All-nil (IsCause n))) (λ c e. absurd (cc)) (λ s f e. absurd (cc))) asks
 
--- the moment between two looks at the output
-abbrev pub shows : ℕ → Option Feed → Shown → Moment
-shows faults feed shown = moment faults feed shown.faults shown.finished
+module _ (rf : ℕ) (feed : Option Feed) (p q : List ℕ → Type 0) (plan : Plan) (xs : List Entry) (a : Node) (realm : SeenRealm) (id : HostId) (b : Node) (old new : Shown) (since : Since plan xs a)
+    (goes : a.stopped ≡ None) where
+  abbrev was : Node
+  was = with_realm realm a
 
--- what a realm that goes on hands to its host, and what lies in the node then
-lies-on : (a b : Node) (heard : Told Value) (x : Told Value) → a.stopped ≡ None → b.input ≡ a.input → IsShortOf (then_told heard x) (behind_in a.realm.slots)
-    → IsShortOf (lying b) (ended_by b.input (in_bytes x)) → heard ≡ silence → IsShortOf (lying b) (lying a)
-lies-on a b heard x goes same short lies quiet =
-    let x_short : IsShortOf (in_bytes x) (in_bytes (behind_in a.realm.slots)) = in_bytes-short x _ (subst (λ q. IsShortOf (then_told q x) (behind_in a.realm.slots)) quiet short) in
-    let all : IsShortOf (lying b) (ended_by a.input (in_bytes (behind_in a.realm.slots))) =
-    short_trans _ _ _ (subst (λ q. IsShortOf (lying b) (ended_by q (in_bytes x))) same lies) (ended-both a.input _ _ x_short) in
-    subst (λ q. IsShortOf (lying b) (lying_by q (ended_by a.input (in_bytes (behind_in a.realm.slots))))) (sym goes) all
+  abbrev further : List Entry
+  further = xs ++ Heard ∷ []
 
--- What a node does at an event. The input isn't touched meanwhile
-module _ (rf : ℕ) (feed : Option Feed) (p q : List ℕ → Type 0) (xs : List Entry) (a : Node) (realm : SeenRealm) (goes : a.stopped ≡ None)
-    (led : Led xs (with_realm realm a)) where
-  same-but_realm : (b : Node) → SameCounts (with_realm realm a) b → SameCounts a b
-  same-but_realm b s =
-      record { taken = s.taken; unwritten = s.unwritten; input = s.input; output = s.output; most = s.most; pipe = s.pipe }
+  -- of the sink
+  module _ (call : HostCall) (t : Told Value) (event : AfterEvent plan xs a realm (Host id call))
+      (heard : (k : ℕ) → k ≤ count_of plan → heard_at (count_of plan) k (Host id call) ≡ only_at (count_of plan) t k) where
+    -- once the output isn't open, nothing is said of what is behind the host without stages
+    one-shut : (k : ℕ) (x : Option Abort) (o : Output) (after : AfterQuiet plan further (record was { ahead = k; abort = x; output = o }) b) → o ≢ output.Open → k ≡ a.ahead → HasOne b
+    one-shut k x o after closed same = by a.stages.items refl where
+      b-stages : b.stages.items ≡ a.stages.items
+      b-stages = ap (λ (n : Node). n.stages.items) after.only.is
 
-  -- one that tells nothing of the sink
-  pub quietly : (b : Node) (old new : Shown) (heard : Told Value) → heard ≡ silence → IsShortOf (then_told heard (behind_in realm.slots)) (behind_in a.realm.slots)
-      → SameCounts a b → After (in_bytes (behind_in realm.slots)) xs b → Untouched old new p q
-      → Handled (lying a) a b (shows rf feed old) (shows rf feed new) p q
-  quietly b old new heard quiet short same after untouched =
-      rw untouched.shown
-      (record {
-        driven = record { xs = xs ++ after.more; since = after.since };
-        went = went-rests (lying a) a b (shows rf feed old) p q untouched.gained (lies-on a b heard (behind_in realm.slots) goes same.input short after.short quiet)
-            same.taken same.unwritten same.input same.output same.most same.pipe;
-      })
+      by : (ws : List State) → a.stages.items ≡ ws → HasOne b
+      by [] e = λ h.
+          let f : may_have [] b.output b.abort ≡ true = subst (λ (s : List State). may_have s b.output b.abort ≡ true) (b-stages ∙ e) h in
+          absurd (closed (sym (ap (λ (n : Node). n.output) after.only.is) ∙ writable-open b.output ((and_parts (is_writable b.output) _ f).0)))
+      by (u ∷ us) e = one-stages plan xs a realm since goes id call t event heard b u us e (b-stages ∙ e) (ap (λ (n : Node). n.ahead) after.only.is ∙ same) (λ n o. after.one n o)
 
-  pub quiet-one : (heard : Told Value) → heard ≡ silence → IsShortOf (then_told heard (behind_in realm.slots)) (behind_in a.realm.slots) → HasOne a → HasOne (with_realm realm a)
-  quiet-one heard quiet short one o =
-      one-short a.unwritten (behind_in realm.slots) (behind_in a.realm.slots) (subst (λ x. IsShortOf (then_told x (behind_in realm.slots)) (behind_in a.realm.slots)) quiet short) (one o)
+    lost-out : (x : Told (List ℕ)) → IsShortOf (told [] Lost) (lies_to x a (count_of plan))
+    lost-out x = ((lies_to x a (count_of plan)).items, refl)
 
-  -- one that is settled at once
-  pub settled : (id : HostId) (call : HostCall) (b : Node) (old new : Shown) (heard : Told Value) → heard ≡ silence
-      → IsShortOf (then_told heard (behind_in realm.slots)) (behind_in a.realm.slots) → HasOne a → slice_get (called (past_of xs)) id.0 ≡ Some call → (call ≡ Close sink → ⊥)
-      → Settles id (with_realm realm a) b old new p q → Handled (lying a) a b (shows rf feed old) (shows rf feed new) p q
-  settled id call b old new heard quiet short one is other (asks, untouched) =
-      quietly b old new heard quiet short (same-but_realm b (asks-same (settles id) (with_realm realm a) b asks))
-      (since-settles xs (with_realm realm a) b id AnswerOk led (quiet-one heard quiet short one) (settles-other xs (with_realm realm a) id call is other) asks) untouched
+    -- what was asked of an output that takes no more is lost
+    refused : a.output ≢ output.Open → Untouched old new p q → Fails id was b → Handled plan a b (shows rf feed old) (shows rf feed new) p q
+    refused shut_already untouched asks =
+        let o = shut a.output in
+        let same = shut-stays a.output shut_already in
+        let led = led-output plan further was o (λ h. same) (λ e. since.led.aborts (sym same ∙ e)) event.led in
+        let after = badly plan further id call event.its (record was { output = o }) b led (shut-shut a.output) (λ e. since.led.aborts (sym same ∙ e)) asks in
+        rw untouched.shown
+        (sunk plan xs a realm since goes id call t event heard b a.ahead a.abort o after (told [] Lost) lost-out rf feed old old p q [] Lost untouched.gained ([], refl) (λ e. omega arith)
+        (subst (λ (z : Output). OutputGoes a.output z [] Lost (shows rf feed old) (shows rf feed old)) (sym same) (output-alone a.output [] Lost (shows rf feed old) shut_already refl))
+        (abort-same a.abort [] o) (one-shut a.ahead a.abort o after (shut-shut a.output) refl))
 
--- a chunk that was handed to the host, whole or cut short
+    -- it fails as it is asked for this, of which some was written
+    broken : (went : Told (List ℕ)) (gain : List ℕ) → a.output ≡ output.Open → Gains p q gain → Rose old.faults new.faults → KeepsTold old.finished new.finished → Fails id was b
+        → ((x : Told (List ℕ)) → IsShortOf (then_told went (lies_to x was (count_of plan))) (lies_to x a (count_of plan))) → IsShortOf (told gain Lost) (bytes_of went)
+        → (a.stages.items ≡ [] → a.ahead ≤ length gain + a.ahead) → AbortGoes a.abort a.abort went.items gain (shut a.output) → Handled plan a b (shows rf feed old) (shows rf feed new) p q
+    broken went gain is gained rose kept asks there written ahead abort =
+        let o = shut a.output in
+        let led = led-output plan further was o (λ h. absurd (h is)) (λ e. absurd (let f = open-fails a.output is in cc)) event.led in
+        let after = badly plan further id call event.its (record was { output = o }) b led (shut-shut a.output) (λ e. absurd (let f = open-fails a.output is in cc)) asks in
+        sunk plan xs a realm since goes id call t event heard b a.ahead a.abort o after went there rf feed old new p q gain Lost gained written ahead
+        (output-fails a.output gain (shows rf feed old) (shows rf feed new) is rose kept) abort (one-shut a.ahead a.abort o after (shut-shut a.output) refl)
 
-abbrev chunk_in : List ℕ → Mark → Told (List ℕ)
-chunk_in piece m = told (piece ∷ []) m
+  heard-write : (v : Value) (k : ℕ) → k ≤ count_of plan → heard_at (count_of plan) k (Host id (Write a.sink v)) ≡ only_at (count_of plan) (told (v ∷ []) MayCome) k
+  heard-write v k less =
+      subst (λ (s : StreamId). heard_at (count_of plan) k (Host id (Write s v)) ≡ only_at (count_of plan) (told (v ∷ []) MayCome) k) (sym since.led.is_of.sink)
+      ((each_event_is_heard_at_one_link (count_of plan) k less).write id v)
 
--- all that was handed on was written
-wrote-all : (piece : List ℕ) → IsShortOf (told piece MayCome) (bytes_of (chunk_in piece MayCome))
-wrote-all piece = (append-nil piece, refl)
+  heard-close : (k : ℕ) → k ≤ count_of plan → heard_at (count_of plan) k (Host id (Close a.sink)) ≡ only_at (count_of plan) (told [] Closed) k
+  heard-close k less =
+      subst (λ (s : StreamId). heard_at (count_of plan) k (Host id (Close s)) ≡ only_at (count_of plan) (told [] Closed) k) (sym since.led.is_of.sink)
+      ((each_event_is_heard_at_one_link (count_of plan) k less).close id)
 
-wrote-less : (piece gain rest : List ℕ) → piece ≡ gain ++ rest → IsShortOf (told gain Lost) (bytes_of (chunk_in piece Lost))
-wrote-less piece gain rest e = (rest, append-nil piece ∙ e)
+  module _ (piece : List ℕ) (event : AfterEvent plan xs a realm (Host id (Write a.sink (Bytes piece)))) where
+    abbrev call : HostCall
+    call = Write a.sink (Bytes piece)
 
--- the one chunk that was behind the host was this
-one-heard : (n : ℕ) (piece : List ℕ) (rest ys : List Value) → ys ≡ (Bytes piece ∷ rest) → OneAtMost n ys → (rest ≡ []) × (length piece ≡ n) × (0 < n)
-one-heard n piece rest ys e o = subst (OneAtMost n) e o
+    abbrev one_told : Told Value
+    one_told = told (Bytes piece ∷ []) MayCome
 
--- the same node with another count, or another output
+    heard : (k : ℕ) → k ≤ count_of plan → heard_at (count_of plan) k (Host id call) ≡ only_at (count_of plan) one_told k
+    heard = heard-write (Bytes piece)
 
-pub led-written : (xs : List Entry) (n : Node) (k : ℕ) → k ≤ n.unwritten → Led xs n → Led xs (record n { unwritten = k })
-led-written xs n k less s =
-    let piece = s.counts.piece in
-    record {
-      slots = s.slots;
-      answered = s.answered;
-      left = s.left;
-      link = s.link;
-      plain = s.plain;
-      failed = s.failed;
-      closes = s.closes;
-      asked = s.asked;
-      counts = record {
-        limited = s.counts.limited;
-        bound = s.counts.bound;
-        within = s.counts.within;
-        beyond = s.counts.beyond;
-        piece = omega arith;
-        failed = λ f. let none = s.counts.failed f in omega arith;
-      };
-      spent = s.spent;
-    }
+    out : (x : Told (List ℕ)) → IsShortOf (then_told (told (piece ∷ []) MayCome) (lies_to x was (count_of plan))) (lies_to x a (count_of plan))
+    out = heard-out plan xs a realm since goes id call one_told event heard
 
-cause-stays : (i : Input) (o o' : Output) (r : Plain) → (o ≢ output.Open → o' ≡ o) → IsCause i o r → IsCause i o' r
-cause-stays i o o' (FaultReason ReadFault) f h = h
-cause-stays i o o' (FaultReason TooMuch) f h = h
-cause-stays i o o' (FaultReason WriteFault) f h = λ e. h (sym (f h) ∙ e)
-cause-stays i o o' _ f h = absurd h
+    short-piece : a.output ≡ output.Open → length piece < 2 ^ 25
+    short-piece is = piece-short plan xs a realm since goes piece (lies_to (coming a (count_of plan)) was (count_of plan)) is (out (coming a (count_of plan)))
 
-all-causes : (i : Input) (o o' : Output) (rs : List Plain) → (o ≢ output.Open → o' ≡ o) → All (IsCause i o) rs → All (IsCause i o') rs
-all-causes i o o' [] f a = All-nil (IsCause i o')
-all-causes i o o' (r ∷ rs) f a = All-cons (IsCause i o') r rs (cause-stays i o o' r f (All-head (IsCause i o) r rs a)) (all-causes i o o' rs f (All-tail (IsCause i o) r rs a))
+    -- it was written first, and then nothing more comes
+    out-lost : (x : Told (List ℕ)) → IsShortOf (then_told (told (piece ∷ []) Lost) (lies_to x was (count_of plan))) (lies_to x a (count_of plan))
+    out-lost x =
+        let n = count_of plan in
+        let f = before_front (then_told (told (piece ∷ []) MayCome) (lies_to x was n)) (lies_to x a n) (before_of_short _ _ (out x)) in
+        ((lies_to x was n).items ++ f.0, f.1)
 
-pub led-output : (xs : List Entry) (n : Node) (o : Output) → (n.output ≢ output.Open → o ≡ n.output) → Led xs n → Led xs (record n { output = o })
-led-output xs n o f s =
-    record {
-      slots = s.slots;
-      answered = s.answered;
-      left = s.left;
-      link = s.link;
-      plain = s.plain;
-      failed = all-causes n.input n.output o (failures xs) f s.failed;
-      closes = λ before after id e c. let g = s.closes before after id e c in f (λ h. cc) ∙ g;
-      asked = s.asked;
-      counts = s.counts;
-      spent = s.spent;
-    }
+    abbrev left : ℕ
+    left = had_by a.stages.items (length piece) a.ahead
 
-pub shut-stays : (o : Output) → o ≢ output.Open → shut o ≡ o
-shut-stays output.Open h = absurd (h refl)
-shut-stays output.Finished h = refl
-shut-stays output.Failed h = refl
+    abbrev abort_left : Option Abort
+    abort_left = nearer_by (length piece) a.abort
 
-pub shut-isn't_open : (o : Output) → shut o ≢ output.Open
-shut-isn't_open output.Open h = cc
-shut-isn't_open output.Finished h = cc
-shut-isn't_open output.Failed h = cc
+    one-written : (after : AfterQuiet plan further (record was { ahead = left; abort = abort_left }) b) → a.output ≡ output.Open → is_reached a.abort ≡ false → HasOne b
+    one-written after is near = by a.stages.items refl where
+      b-stages : b.stages.items ≡ a.stages.items
+      b-stages = ap (λ (n : Node). n.stages.items) after.only.is
 
-left-alone : (o : Output) (m : Mark) (gain : List ℕ) (old new : Moment) → o ≢ output.Open → LeftAlone gain old new → OutputGoes o o gain m old new
-left-alone output.Open m gain old new h k = absurd (h refl)
-left-alone output.Finished m gain old new h k = (refl, k)
-left-alone output.Failed m gain old new h k = (refl, k)
+      by : (ws : List State) → a.stages.items ≡ ws → HasOne b
+      by [] e = λ h.
+          let none : count_of plan ≡ 0 = sym (count-works plan xs a realm since goes) ∙ (let f : length (works_in a) ≡ length a.stages.items = length-map a.stages.items (λ (w : State). w.work) in let g : length a.stages.items ≡ 0 = ap length e in omega arith) in
+          let may : may_have a.stages.items a.output a.abort ≡ true = rw (e, is, near) refl in
+          let it : heard_at (count_of plan) 0 (Host id call) ≡ one_told = heard 0 (omega arith) ∙ (ap (λ (n : ℕ). only_at n one_told 0) none ∙ at-there 0 one_told) in
+          let left_over = one-heard a.ahead (Bytes piece) (behind_at 0 realm.slots) (behind_at 0 a.realm.slots)
+          (subst (λ (t : Told Value). IsShortOf (then_told t (behind_at 0 realm.slots)) (behind_at 0 a.realm.slots)) it (event.short 0 (omega arith))) (since.one may) in
+          after.one b.ahead (subst (OneAtMost b.ahead) (sym left_over.0) tt)
+      by (u ∷ us) e =
+          one-stages plan xs a realm since goes id call one_told event heard b u us e (b-stages ∙ e)
+          (ap (λ (n : Node). n.ahead) after.only.is ∙ ap (λ (ws : List State). had_by ws (length piece) a.ahead) e) (λ n o. after.one n o)
 
-pub pull-asked : (xs : List Entry) (n : Node) (id : HostId) → IsPull (past_of xs) (Some id) → Led xs n → Led xs (record n { asked = Some id })
-pull-asked xs n id pull s =
-    record { slots = s.slots; answered = s.answered; left = s.left; link = s.link; plain = s.plain; failed = s.failed; closes = s.closes; asked = pull; counts = s.counts; spent = s.spent }
+    after-drawn : (c : Node) → Led plan further (record was { ahead = left; abort = abort_left }) → Drawn (record was { ahead = left; abort = abort_left }) c → Asks (settles id) c b
+        → AfterQuiet plan further (record was { ahead = left; abort = abort_left }) b
+    after-drawn c led (Same e) asks =
+        well plan further id call event.its (record was { ahead = left; abort = abort_left }) b led (λ f. absurd (cc)) (λ s f. cc) (subst (λ (n : Node). Asks (settles id) n b) e asks)
+    after-drawn c led (Triggered y reached trigger) asks =
+        let n : Node = record was { ahead = left; abort = abort_left } in
+        let first = asks-quietly plan further n c (triggers y) (trigger-quiet y) led (may-trigger plan further n y reached) trigger in
+        quiet-then plan further n c b first
+        (well plan (further ++ first.more) id call (named-longer plan further first.more id call event.its) c b first.led (λ f. absurd (cc)) (λ s f. cc) asks)
 
--- a node that does nothing more
-pub rested : (xs : List Entry) (n : Node) → Led xs n → HasOne n → n.stopped ≡ None → After (in_bytes (behind_in n.realm.slots)) xs n
-rested xs n s one goes =
-    let x : Told (List ℕ) = ended_by n.input (in_bytes (behind_in n.realm.slots)) in
-    record {
-      more = [];
-      since = subst (λ q. Since q n) (sym (append-nil xs)) (record { led = s; one = one });
-      short = subst (λ (w : Option Why). IsShortOf (lying_by w x) x) (sym goes) (short_refl x);
-    }
+    pub wrote : Writes id piece was b old new p q → Handled plan a b (shows rf feed old) (shows rf feed new) p q
+    wrote (WroteAll is near gained calm kept c draws asks) =
+        let m : Node = record was { ahead = left } in
+        let led = led-abort plan further m abort_left (signal-same (length piece) a.abort) (λ r. absurd (let f : true ≡ false = sym r ∙ near in cc))
+        (led-ahead plan further was left (had-less a.stages.items (length piece) a.ahead) event.led) in
+        let after = after-drawn c led (drawn (length piece) a.abort m c refl draws) asks in
+        sunk plan xs a realm since goes id call one_told event heard b left abort_left a.output after (told (piece ∷ []) MayCome) out rf feed old new p q piece MayCome gained (append-nil piece, refl)
+        (had-counts a.stages.items (length piece) a.ahead) (output-open a.output piece (shows rf feed old) (shows rf feed new) is calm kept)
+        (abort-nearer a.abort piece a.output near (short-piece is)) (one-written after is near)
+    wrote (WroteLess is near gain rest e gained rose kept asks) =
+        let few : length gain ≤ length piece = let m : length piece ≡ length gain + length rest = ap length e ∙ length-append gain rest in omega arith in
+        broken call one_told event heard (told (piece ∷ []) Lost) gain is gained rose kept asks out-lost (rest, append-nil piece ∙ e) (λ n. omega arith)
+        (abort-less a.abort piece gain (shut a.output) (open-fails a.output is) near (short-piece is) few)
+    wrote (WroteNone closed untouched asks) = refused call one_told event heard closed untouched asks
+    wrote (Reached is reached untouched asks) =
+        let n : Node = record was { output = output.Aborted } in
+        let led = led-output plan further was output.Aborted (λ h. absurd (h is)) (λ e. reached) event.led in
+        let after = badly plan further id call event.its n b led (λ e. cc) (λ e. reached) asks in
+        rw untouched.shown
+        (sunk plan xs a realm since goes id call one_told event heard b a.ahead a.abort output.Aborted after (told [] Lost) (lost-out call one_told event heard) rf feed old old p q [] Lost untouched.gained ([], refl)
+        (λ e. omega arith) (output-aborts a.output (shows rf feed old) is) (abort-same a.abort [] output.Aborted) (one-shut call one_told event heard a.ahead a.abort output.Aborted after (λ e. cc) refl))
 
--- what went out first, where the rest lies on
-went-first : (lay : Told (List ℕ)) (xs : List (List ℕ)) (x y : Told (List ℕ)) → IsShortOf x y → IsShortOf (then_told (told xs MayCome) y) lay → IsShortOf (then_told (told xs MayCome) x) lay
-went-first lay xs x y h g = short_trans _ _ _ (short_left (told xs MayCome) x y h) g
+  -- the sink is closed
+  module _ (event : AfterEvent plan xs a realm (Host id (Close a.sink))) where
+    pub closed : Finishes id was b old new p q → Handled plan a b (shows rf feed old) (shows rf feed new) p q
+    closed (FinishedWell is gained calm done asks) =
+        let call = Close a.sink in
+        let led = led-output plan further was output.Finished (λ h. absurd (h is)) (λ e. absurd (cc)) event.led in
+        let after = well plan further id call event.its (record was { output = output.Finished }) b led (λ e. refl) (λ s f. cc) asks in
+        sunk plan xs a realm since goes id call (told [] Closed) event heard-close b a.ahead a.abort output.Finished after (told [] Closed)
+        (heard-out plan xs a realm since goes id call (told [] Closed) event heard-close) rf feed old new p q [] Closed gained (refl, refl)
+        (λ e. omega arith) (output-finishes a.output (shows rf feed old) (shows rf feed new) is calm done) (abort-same a.abort [] output.Finished)
+        (one-shut call (told [] Closed) event heard-close a.ahead a.abort output.Finished after (λ e. cc) refl)
+    closed (FinishedBadly is gained rose kept asks) =
+        let call = Close a.sink in
+        broken call (told [] Closed) event heard-close (told [] Lost) [] is gained rose kept asks (lost-out call (told [] Closed) event heard-close) ([], refl) (λ n. omega arith)
+        (abort-same a.abort [] (shut a.output))
+    closed (FinishedNot shut_already untouched asks) = refused (Close a.sink) (told [] Closed) event heard-close shut_already untouched asks
 
--- what went out, and was cut short
-went-lost : (lay : Told (List ℕ)) (xs : List (List ℕ)) (x y : Told (List ℕ)) → IsShortOf (then_told (told xs MayCome) y) lay → IsShortOf (then_told (told xs Lost) x) lay
-went-lost lay xs x y g =
-    let f = before_front (then_told (told xs MayCome) y) lay (before_of_short _ _ g) in
-    (y.items ++ f.0, f.1 ∙ append_assoc xs y.items f.0)
+  -- of nothing whose bytes lie in the node
+  module _ (e : Event) (event : AfterEvent plan xs a realm e) (quiet : (k : ℕ) → k ≤ count_of plan → in_bytes (heard_at (count_of plan) k e) ≡ nothing_yet) (one : HasOne was) where
+    unheard : (k : ℕ) → k ≤ count_of plan → IsShortOf (lies_in was k) (lies_in a k)
+    unheard k less = unheard-lies plan xs a realm e event goes (coming a k) k less (quiet k less)
 
--- nothing is lost behind what is all
-pub then_nothing : (lay x : Told (List ℕ)) → IsShortOf x lay → IsShortOf x (then_told lay nothing_yet)
-then_nothing lay x h = short_as x lay (then_told lay nothing_yet) (sym (then_empty lay)) h
+    -- nothing is answered
+    pub noted : b ≡ was → Untouched old new p q → Handled plan a b (shows rf feed old) (shows rf feed new) p q
+    noted same untouched =
+        rw (untouched.shown, same)
+        (record {
+          xs = further;
+          led = event.led;
+          pushes = λ h. subst (λ (n : ℕ). ArePushed n a.stages.items) (sym event.age) (since.pushes goes);
+          one = one;
+          went = went-rests plan a was (shows rf feed old) p q untouched.gained (going-stays a was goes) since.led.is_of.stages (record { realm = realm; stopped = a.stopped; is = refl }) unheard;
+        })
 
--- an input that isn't touched
-pub input-calm : (i : Input) (rf : ℕ) (feed : Option Feed) (old new : Shown) → InputGoes i i nothing_yet (shows rf feed old) (shows rf feed new)
-input-calm input.Open rf feed old new = (refl, refl, KeepsEnd-same feed)
-input-calm input.Ended rf feed old new = (refl, refl, refl, refl)
-input-calm input.Failed rf feed old new = (refl, refl, refl, refl)
-input-calm input.TooLong rf feed old new = (refl, refl, refl, refl)
+    rest-goes : Goes (machines (stages_in a)) nothing_yet (parts a) (lying a) (parts was) (lying was)
+    rest-goes =
+        goes_rests (machines (stages_in a)) 0 (works_in a) (lies_in a) (lies_in was) (same-length a.stages.items)
+        (λ j p less. unheard j (let f = count-works plan xs a realm since goes in omega arith))
 
--- an output that was open
+    -- a pull waits
+    pub pulled : (i : StreamId) → e ≡ Host id (Pull i) → b ≡ record was { asked = Some id } → Untouched old new p q → Handled plan a b (shows rf feed old) (shows rf feed new) p q
+    pulled i is same untouched =
+        let n : Node = record was { asked = Some id } in
+        rw (untouched.shown, same)
+        (record {
+          xs = further;
+          led = led-asked plan further was id (i, subst (λ x. IsItsCall (called (past plan further)) x) is event.its) event.led;
+          pushes = λ h. subst (λ (k : ℕ). ArePushed k a.stages.items) (sym event.age) (since.pushes goes);
+          one = one;
+          went = went-quietly a n (shows rf feed old) p q untouched.gained (going-stays a n goes)
+              (record { taken = refl; ahead = λ h. refl; input = refl; output = refl; abort = refl; stages = refl; sink = refl; most = refl; pipe = refl; pipes = refl }) rest-goes;
+        })
 
-open-stays : (o o' : Output) (gain : List ℕ) (m : Mark) (old new : Moment) → o ≡ output.Open → o' ≡ o → m ≡ MayCome → new.write_faults ≡ old.write_faults
-    → KeepsTold old.finished new.finished → OutputGoes o o' gain m old new
-open-stays output.Open output.Open gain m old new e f mark calm kept = (mark, calm, kept)
-open-stays output.Open output.Finished gain m old new e f mark calm kept = absurd (cc)
-open-stays output.Open output.Failed gain m old new e f mark calm kept = absurd (cc)
-open-stays output.Finished o' gain m old new e f mark calm kept = absurd (cc)
-open-stays output.Failed o' gain m old new e f mark calm kept = absurd (cc)
-
-pub open-fails : (o o' : Output) (gain : List ℕ) (old new : Moment) → o ≡ output.Open → o' ≡ shut o → Rose old.write_faults new.write_faults
-    → KeepsTold old.finished new.finished → OutputGoes o o' gain Lost old new
-open-fails output.Open output.Failed gain old new e f rose kept = (refl, rose, kept)
-open-fails output.Open output.Open gain old new e f rose kept = absurd (cc)
-open-fails output.Open output.Finished gain old new e f rose kept = absurd (cc)
-open-fails output.Finished o' gain old new e f rose kept = absurd (cc)
-open-fails output.Failed o' gain old new e f rose kept = absurd (cc)
-
-pub open-finishes : (o o' : Output) (old new : Moment) → o ≡ output.Open → o' ≡ output.Finished → new.write_faults ≡ old.write_faults
-    → Becomes old.finished new.finished → OutputGoes o o' [] Closed old new
-open-finishes output.Open output.Finished old new e f calm done = (refl, calm, done)
-open-finishes output.Open output.Open old new e f calm done = absurd (cc)
-open-finishes output.Open output.Failed old new e f calm done = absurd (cc)
-open-finishes output.Finished o' old new e f calm done = absurd (cc)
-open-finishes output.Failed o' old new e f calm done = absurd (cc)
-
--- what an output that takes no more was asked for is lost
-pub lost-now : (rf : ℕ) (feed : Option Feed) (p q : List ℕ → Type 0) (xs : List Entry) (a : Node) (realm : SeenRealm) (goes : a.stopped ≡ None) (led : Led xs (with_realm realm a))
-    (b : Node) (old new : Shown) → SameCounts (record (with_realm realm a) { output = shut a.output }) b → After (in_bytes (behind_in realm.slots)) xs b → a.output ≢ output.Open
-    → Untouched old new p q → Handled (lying a) a b (shows rf feed old) (shows rf feed new) p q
-lost-now rf feed p q xs a realm goes led b old new same after closed untouched =
-    let taken = same.taken in
-    let unwritten = same.unwritten in
-    rw untouched.shown
-    (record {
-      driven = record { xs = xs ++ after.more; since = after.since };
-      went = record {
-        read = nothing_yet;
-        went = told [] Lost;
-        gain = [];
-        out = Lost;
-        fed = Fed-nothing feed;
-        gained = untouched.gained;
-        written = ([], refl);
-        flows = ((then_told (lying a) nothing_yet).items, refl);
-        counted = omega arith;
-        ahead = omega arith;
-        input = subst (λ x. InputGoes a.input x nothing_yet (shows rf feed old) (shows rf feed old)) (sym same.input) (input-calm a.input rf feed old old);
-        output = subst (λ x. OutputGoes a.output x [] Lost (shows rf feed old) (shows rf feed old)) (sym (same.output ∙ shut-stays a.output closed))
-            (left-alone a.output Lost [] (shows rf feed old) (shows rf feed old) closed (record { none = refl; calm = refl; finished = refl }));
-        most = same.most;
-        pipe = same.pipe;
-      };
-    })
-
-module _ (rf : ℕ) (feed : Option Feed) (p q : List ℕ → Type 0) (xs : List Entry) (a : Node) (realm : SeenRealm) (goes : a.stopped ≡ None)
-    (led : Led xs (with_realm realm a)) where
-  -- what the host heard, and what lies in the realm then, as it lay in the node
-  pub handed : (heard : Told Value) → IsShortOf (then_told heard (behind_in realm.slots)) (behind_in a.realm.slots)
-      → IsShortOf (ended_by a.input (then_told (in_bytes heard) (in_bytes (behind_in realm.slots)))) (lying a)
-  handed heard short =
-      let all : IsShortOf (then_told (in_bytes heard) (in_bytes (behind_in realm.slots))) (in_bytes (behind_in a.realm.slots)) =
-      short_same _ _ _ (sym (in_bytes-then heard (behind_in realm.slots))) (in_bytes-short _ _ short) in
-      subst (λ (w : Option Why). IsShortOf (ended_by a.input (then_told (in_bytes heard) (in_bytes (behind_in realm.slots)))) (lying_by w (ended_by a.input (in_bytes (behind_in a.realm.slots)))))
-      (sym goes) (ended-both a.input _ _ all)
-
-  module _ (id : HostId) (piece : List ℕ) (b : Node) (old new : Shown) (is : slice_get (called (past_of xs)) id.0 ≡ Some (Write sink (Bytes piece)))
-      (short : IsShortOf (then_told (told (Bytes piece ∷ []) MayCome) (behind_in realm.slots)) (behind_in a.realm.slots)) (one : HasOne a) where
-    lay : IsShortOf (then_told (told (piece ∷ []) MayCome) (ended_by a.input (in_bytes (behind_in realm.slots)))) (lying a)
-    lay = short_same _ _ _ (ended-then a.input (told (piece ∷ []) MayCome) (in_bytes (behind_in realm.slots))) (handed (told (Bytes piece ∷ []) MayCome) short)
-
-    -- while the output is open, this was all that was behind the host
-    sole : a.output ≡ output.Open → ((behind_in realm.slots).items ≡ []) × (length piece ≡ a.unwritten) × (0 < a.unwritten)
-    sole o =
-        let f = before_front (then_told (told (Bytes piece ∷ []) MayCome) (behind_in realm.slots)) (behind_in a.realm.slots) (before_of_short _ _ short) in
-        let h = subst (OneAtMost a.unwritten) f.1 (one o) in
-        ((append_none (behind_in realm.slots).items f.0 h.0).0, h.1, h.2)
-
-    failing : (xs' : List Entry) → xs' ≡ xs → Fails id (with_realm realm a) b → After (in_bytes (behind_in realm.slots)) xs b
-    failing xs' e fails =
-        let c : Node = record (with_realm realm a) { output = shut a.output } in
-        since-settles xs c b id (AnswerFail (FaultReason WriteFault)) (led-output xs (with_realm realm a) (shut a.output) (shut-stays a.output) led)
-        (λ o. absurd (shut-isn't_open a.output o)) (settles-badly xs c id (shut-isn't_open a.output)) fails
-
-    pub wrote : Writes id piece (with_realm realm a) b old new p q → Handled (lying a) a b (shows rf feed old) (shows rf feed new) p q
-    wrote (WroteAll was_open gained calm kept asks) =
-        let c : Node = record (with_realm realm a) { unwritten = a.unwritten - length piece } in
-        let only = sole was_open in
-        let counted = only.1 in
-        let after = since-settles xs c b id AnswerOk (led-written xs (with_realm realm a) (a.unwritten - length piece) (omega arith) led)
-        (λ o. subst (OneAtMost (a.unwritten - length piece)) (sym only.0) tt) (settles-other xs c id (Write sink (Bytes piece)) is (λ e. cc)) asks in
-        let same = asks-same (settles id) c b asks in
-        let taken = same.taken in
-        let unwritten = same.unwritten in
-        record {
-          driven = record { xs = xs ++ after.more; since = after.since };
-          went = record {
-            read = nothing_yet;
-            went = told (piece ∷ []) MayCome;
-            gain = piece;
-            out = MayCome;
-            fed = Fed-nothing feed;
-            gained = gained;
-            written = wrote-all piece;
-            flows = then_nothing (lying a) _ (went-first (lying a) (piece ∷ []) (lying b) _ (subst (λ (i : Input). IsShortOf (lying b) (ended_by i (in_bytes (behind_in realm.slots)))) same.input after.short) lay);
-            counted = omega arith;
-            ahead = omega arith;
-            input = subst (λ x. InputGoes a.input x nothing_yet (shows rf feed old) (shows rf feed new)) (sym same.input) (input-calm a.input rf feed old new);
-            output = open-stays a.output b.output piece MayCome (shows rf feed old) (shows rf feed new) was_open same.output refl calm kept;
-            most = same.most;
-            pipe = same.pipe;
-          };
-        }
-    wrote (WroteLess was_open gain rest e gained rose kept fails) =
-        let after = failing xs refl fails in
-        let same = asks-same (Settle id (AnswerFail (FaultReason WriteFault))) (record (with_realm realm a) { output = shut a.output }) b fails in
-        let taken = same.taken in
-        let unwritten = same.unwritten in
-        record {
-          driven = record { xs = xs ++ after.more; since = after.since };
-          went = record {
-            read = nothing_yet;
-            went = told (piece ∷ []) Lost;
-            gain = gain;
-            out = Lost;
-            fed = Fed-nothing feed;
-            gained = gained;
-            written = wrote-less piece gain rest e;
-            flows = then_nothing (lying a) (then_told (told (piece ∷ []) Lost) (lying b)) (went-lost (lying a) (piece ∷ []) (lying b) (ended_by a.input (in_bytes (behind_in realm.slots))) lay);
-            counted = omega arith;
-            ahead = omega arith;
-            input = subst (λ x. InputGoes a.input x nothing_yet (shows rf feed old) (shows rf feed new)) (sym same.input) (input-calm a.input rf feed old new);
-            output = open-fails a.output b.output gain (shows rf feed old) (shows rf feed new) was_open same.output rose kept;
-            most = same.most;
-            pipe = same.pipe;
-          };
-        }
-    wrote (WroteNone shut_already untouched fails) =
-        lost-now rf feed p q xs a realm goes led b old new (asks-same (Settle id (AnswerFail (FaultReason WriteFault))) (record (with_realm realm a) { output = shut a.output }) b fails)
-        (failing xs refl fails) shut_already untouched
+    -- it is settled at once
+    pub settled : (call : HostCall) → e ≡ Host id call → (call ≡ Close a.sink → ⊥) → ((s : StreamId) → call ≡ Flush s → ⊥) → Settles id was b old new p q
+        → Handled plan a b (shows rf feed old) (shows rf feed new) p q
+    settled call is other flush (asks, untouched) =
+        let its : slice_get (called (past plan further)) id.0 ≡ Some call = subst (λ x. IsItsCall (called (past plan further)) x) is event.its in
+        let after = well plan further id call its was b event.led (λ c. absurd (other c)) flush asks in
+        let b-is : b ≡ record a { realm = after.only.realm; stopped = after.only.stopped } = after.only.is in
+        rw untouched.shown
+        (record {
+          xs = further ++ after.more;
+          led = after.led;
+          pushes = λ h.
+              let f = after.older h in
+              let g = event.age in
+              subst (ArePushed b.realm.slots.age) (sym (ap (λ (n : Node). n.stages.items) b-is)) (all-more a.realm.slots.age b.realm.slots.age a.stages.items (omega arith) (since.pushes goes));
+          one = λ h.
+              subst (λ (k : ℕ). OneAtMost k (behind_at 0 b.realm.slots).items) (sym (ap (λ (n : Node). n.ahead) b-is))
+              (after.one a.ahead (one (subst (λ (n : Node). may_have n.stages.items n.output n.abort ≡ true) b-is h)));
+          went = went-rests plan a b (shows rf feed old) p q untouched.gained (going-stays a b goes) since.led.is_of.stages (record { realm = after.only.realm; stopped = after.only.stopped; is = b-is })
+              (λ k less. subst (λ (z : Told (List ℕ)). IsShortOf (lies_to z b k) (lies_in a k)) (sym (ap (λ (n : Node). coming n k) b-is))
+              (short_trans _ _ _ (after.lies (coming a k) k less) (unheard k less)));
+        })

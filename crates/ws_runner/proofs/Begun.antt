@@ -1,7 +1,8 @@
 -- What a turn does first: a job, or an event of which the host hears.
-use Rattle.std.proofs.Common.{◌≡◌, ◌<◌, ℕ, Bool, true, false, List, [], ◌∷◌, ◌++◌, Option, Some, None, Result, Ok, Err, refl, sym, ap, ◌∙◌, arith}
+use Rattle.std.proofs.Common.{◌≡◌, ◌<◌, ◌-◌, ℕ, zero, suc, Bool, true, false, List, [], ◌∷◌, ◌++◌, length, Option, Some, None, Result, Ok, Err, refl, sym, ap, ◌∙◌, arith}
 use Rattle.std.specs.Prelude.{not, ◌||◌}
 use Rattle.ws_value.specs.declared.ids.HostId.{HostId}
+use Rattle.ws_value.specs.declared.ids.StreamId.{StreamId}
 use Rattle.ws_value.specs.declared.value.Value.{Value}
 use Rattle.ws_value.specs.declared.value.Value.TheVariants.{Bytes, Plain}
 use Rattle.ws_io.specs.Feed.{Feed}
@@ -15,11 +16,14 @@ use Rattle.ws_steps.specs.Histories.{is_same}
 use Rattle.ws_steps.specs.Queues.{is_empty}
 use Rattle.ws_steps.specs.Run.{Entry, Called, Worked, Heard, run, step, after_job, after_event, first_event, is_idle, jobs_in_a_row}
 use Rattle.ws_steps.specs.Slots.{Slots}
+use Rattle.ws_stages.specs.State.{State}
+use Rattle.ws_stages.specs.declared.work.Pushed.{Pushed}
 use Rattle.ws_realm.specs.Seen.{SeenRealm}
 use Rattle.ws_runner.specs.declared.node.Node.{Node}
-use Rattle.ws_runner.specs.Moves.{Asks, Performed, Refused, Works, Shown, Writes, WroteAll, WroteLess, WroteNone, Finishes, FinishedWell, FinishedBadly, FinishedNot, writes_by, finishes_by, Answers, Hears, Reads, ReadNot, Wanted, ReadOnce, takes_bytes, Takes, with_realm}
-use Rattle.ws_runner.specs.Node.{sink, is_busy}
-use Rattle.ws_runner.specs.Turns.{Follows, GoesBy, IsBegun, JobFirst, EventFirst, IsWorking, SomeJob, NoJob, HasWorked, AnyJob, NoneQueued, HasHeard, NoneHeard}
+use Rattle.ws_runner.specs.declared.node.Abort.{Abort as AbortOf}
+use Rattle.ws_runner.specs.Moves.{Asks, Performed, Refused, Works, Shown, Writes, WroteAll, WroteLess, WroteNone, Reached, DrawsNear, draws_near, draws_by, nearer, written, Finishes, FinishedWell, FinishedBadly, FinishedNot, writes_by, finishes_by, HasStages, had_behind, Enqueues, NoPiece, NotTaken, OneTaken, PutsAll, Transforms, PushedOne, NoRoomToPush, NotPushed, NothingToPush, transforms_by, Flushes, FlushedOne, NoRoomToFlush, NotFlushed, NothingToFlush, Answers, Hears, Reads, ReadNot, Wanted, ReadOnce, takes_bytes, Takes, with_realm}
+use Rattle.ws_runner.specs.Node.{is_busy}
+use Rattle.ws_runner.specs.Turns.{Follows, GoesBy, IsBegun, JobFirst, EventFirst, HasWorked, AnyJob, NoneQueued, HasHeard, NoneHeard}
 
 run-both : (xs ys : List Entry) (s : Slots) → run (xs ++ ys) s ≡ run ys (run xs s)
 run-both [] ys s = refl
@@ -46,14 +50,65 @@ begun-then a b c (EventFirst some g) f = EventFirst some (goes-then Heard a b c 
 -- what a node does follows
 
 asks-follow : (c : Call) (a b : Node) → Asks c a b → Follows a b
-asks-follow c a b (Performed realm slots goes is) = record { entries = Called c ∷ []; slots = ap (λ (n : Node). n.realm.slots) is ∙ slots }
+asks-follow c a b (Performed realm slots young goes is) = record { entries = Called c ∷ []; slots = ap (λ (n : Node). n.realm.slots) is ∙ slots }
 asks-follow c a b (Refused why stops is) = record { entries = []; slots = ap (λ (n : Node). n.realm.slots) is }
+
+-- from a node with the same realm
+from-same : (a b c : Node) → b.realm.slots ≡ a.realm.slots → Follows b c → Follows a c
+from-same a b c e f = record { entries = f.entries; slots = f.slots ∙ ap (run f.entries) e }
+
+draws_near-follow : (abort : AbortOf) (left : ℕ) (a b : Node) → draws_near abort left a b → Follows a b
+draws_near-follow abort zero a b h = from-same a (record a { abort = Some abort }) b refl (asks-follow _ _ b h)
+draws_near-follow abort (suc left) a b h = follows-same a b (ap (λ (n : Node). n.realm.slots) h)
+
+draws_by-follow : (count : ℕ) (o : Option AbortOf) (a b : Node) → draws_by count o a b → Follows a b
+draws_by-follow count None a b h = follows-same a b (ap (λ (n : Node). n.realm.slots) h)
+draws_by-follow count (Some abort) a b h = draws_near-follow (nearer count abort) (abort.left - count) a b h
+
+draws-follow : (count : ℕ) (a b : Node) → DrawsNear count a b → Follows a b
+draws-follow count a b h = draws_by-follow count a.abort a b h
+
+enqueues-follow : (i : StreamId) (pieces : List (List ℕ)) (a b : Node) → Enqueues i pieces a b → Follows a b
+enqueues-follow i [] a b (NoPiece n) = follows-same a b refl
+enqueues-follow i (p ∷ ps) a b (NotTaken piece rest x y asks not_done) = asks-follow _ a b asks
+enqueues-follow i (p ∷ ps) a b (OneTaken piece rest x y c asks done more) = follows-then a c b (asks-follow _ a c asks) (enqueues-follow i ps c b more)
+
+puts-follow : (id : HostId) (i : StreamId) (p : Pushed) (a b : Node) → PutsAll id i p a b → Follows a b
+puts-follow id i p a b h = follows-then a h.between b (enqueues-follow i p.chunks.items a h.between h.enqueued) (asks-follow _ h.between b h.ended)
+
+had-same : (before : List State) (count : ℕ) (a : Node) → (had_behind before count a).realm.slots ≡ a.realm.slots
+had-same [] count a = refl
+had-same (w ∷ ws) count a = refl
+
+stages-same : (stages : List State) (a b : Node) → HasStages stages a b → b.realm.slots ≡ a.realm.slots
+stages-same stages a b h = ap (λ (n : Node). n.realm.slots) h.is
+
+module _ (id : HostId) (i : StreamId) (a b : Node) where
+  transforms-follow : (piece : List ℕ) → Transforms id i piece a b → Follows a b
+  transforms-follow piece (PushedOne before after w v p at live answers stage pushes c has puts) =
+      from-same a c b (stages-same _ _ c has ∙ had-same before (length piece) a) (puts-follow id i p c b puts)
+  transforms-follow piece (NoRoomToPush before after w v at live stage over c has same) =
+      follows-same a b (ap (λ (n : Node). n.realm.slots) same ∙ (stages-same _ _ c has ∙ had-same before (length piece) a))
+  transforms-follow piece (NotPushed before after w at dead same) = follows-same a b (ap (λ (n : Node). n.realm.slots) same)
+  transforms-follow piece (NothingToPush none same) = follows-same a b (ap (λ (n : Node). n.realm.slots) same)
+
+  transforms_by-follow : (v : Value) → transforms_by id i v a b → Follows a b
+  transforms_by-follow (Bytes piece) h = transforms-follow piece h
+  transforms_by-follow (Plain v) h = asks-follow _ a b h
+
+  flushes-follow : Flushes id i a b → Follows a b
+  flushes-follow (FlushedOne before after w v p at live answers stage pushes c has puts) = from-same a c b (stages-same _ _ c has) (puts-follow id i p c b puts)
+  flushes-follow (NoRoomToFlush before after w v at live stage over c has same) = follows-same a b (ap (λ (n : Node). n.realm.slots) same ∙ stages-same _ _ c has)
+  flushes-follow (NotFlushed before after w at dead same) = follows-same a b (ap (λ (n : Node). n.realm.slots) same)
+  flushes-follow (NothingToFlush none same) = follows-same a b (ap (λ (n : Node). n.realm.slots) same)
 
 module _ (id : HostId) (a b : Node) (old new : Shown) (p q : List ℕ → Type 0) where
   writes-follow : (piece : List ℕ) → Writes id piece a b old new p q → Follows a b
-  writes-follow piece (WroteAll was_open gained calm kept asks) = let f = asks-follow _ _ b asks in record { entries = f.entries; slots = f.slots }
-  writes-follow piece (WroteLess was_open gain rest split gained rose kept fails) = let f = asks-follow _ _ b fails in record { entries = f.entries; slots = f.slots }
+  writes-follow piece (WroteAll was_open far gained calm kept c draws asks) =
+      follows-then a c b (from-same a (written (length piece) a) c refl (draws-follow (length piece) _ c draws)) (asks-follow _ c b asks)
+  writes-follow piece (WroteLess was_open far gain rest split gained rose kept fails) = let f = asks-follow _ _ b fails in record { entries = f.entries; slots = f.slots }
   writes-follow piece (WroteNone was_shut untouched fails) = let f = asks-follow _ _ b fails in record { entries = f.entries; slots = f.slots }
+  writes-follow piece (Reached was_open reached untouched fails) = let f = asks-follow _ _ b fails in record { entries = f.entries; slots = f.slots }
 
   finishes-follow : Finishes id a b old new p q → Follows a b
   finishes-follow (FinishedWell was_open gained calm done asks) = let f = asks-follow _ _ b asks in record { entries = f.entries; slots = f.slots }
@@ -72,13 +127,13 @@ module _ (id : HostId) (a b : Node) (old new : Shown) (p q : List ℕ → Type 0
 
   answers-follow : (call : HostCall) → Answers id call a b old new p q → Follows a b
   answers-follow (Pull i) h = follows-same a b (ap (λ (n : Node). n.realm.slots) h.0)
-  answers-follow (Write i v) h = writes_by-follow v (is_same sink i) h
-  answers-follow (Close i) h = finishes_by-follow (is_same sink i) h
+  answers-follow (Write i v) h = writes_by-follow v (is_same a.sink i) h
+  answers-follow (Close i) h = finishes_by-follow (is_same a.sink i) h
   answers-follow (Start i) h = asks-follow _ a b h.0
   answers-follow (Cancel i r) h = asks-follow _ a b h.0
   answers-follow (Abort i r) h = asks-follow _ a b h.0
-  answers-follow (Transform i v) h = asks-follow _ a b h.0
-  answers-follow (Flush i) h = asks-follow _ a b h.0
+  answers-follow (Transform i v) h = transforms_by-follow id i a b v h.0
+  answers-follow (Flush i) h = flushes-follow id i a b h.0
   answers-follow (CancelTransform i r) h = asks-follow _ a b h.0
 
 hears-follow : (e : Event) (a b : Node) (old new : Shown) (p q : List ℕ → Type 0) → Hears e a b old new p q → Follows a b
@@ -96,7 +151,7 @@ takes-follow (Ok (x ∷ xs)) a b h = takes_bytes-follow (x ∷ xs) a b _ h
 takes-follow (Err failed) a b h = let f = asks-follow _ _ b h in record { entries = f.entries; slots = f.slots }
 
 reads-follow : (a b : Node) (old new : Option Feed) (before now : ℕ) → Reads a b old new before now → Follows a b
-reads-follow a b old new before now (ReadNot same unread) = follows-same a b (ap (λ (n : Node). n.realm.slots) same)
+reads-follow a b old new before now (ReadNot none same unread) = follows-same a b (ap (λ (n : Node). n.realm.slots) same)
 reads-follow a b old new before now (Wanted goes unread id asked same) = follows-same a b (ap (λ (n : Node). n.realm.slots) same)
 reads-follow a b old new before now (ReadOnce goes written was_open id asked want most limit piece gives c takes settles_it) =
     let f = takes-follow piece (record a { asked = None }) c takes in
@@ -132,6 +187,11 @@ heard-none a realm slots = record { entries = Heard ∷ []; slots = slots }
 
 -- jobs
 
+-- as a realm performs jobs: one was performed, or none yet
+pub data IsWorking (left most : ℕ) (a b : Node) : Type 0 where
+  SomeJob : is_idle a.realm.slots ≡ false → GoesBy Worked a b → IsWorking left most a b
+  NoJob : left ≡ most → b.realm.slots ≡ a.realm.slots → IsWorking left most a b
+
 job-more : (idle : Bool) (a b : Node) (realm : SeenRealm) (left most : ℕ) → is_idle b.realm.slots ≡ idle → idle ≡ false → IsWorking left most a b
     → realm.slots ≡ after_job b.realm.slots → (is_idle a.realm.slots ≡ false) × (GoesBy Worked a (with_realm realm b))
 job-more idle a b realm left most e f (SomeJob some g) slots =
@@ -148,7 +208,8 @@ not_idle true e = absurd (cc)
 not_idle false e = refl
 
 -- no job is queued any more
-pub worked-idle : (a b : Node) (realm : SeenRealm) (left most : ℕ) → is_idle b.realm.slots ≡ true → realm.slots ≡ b.realm.slots → IsWorking left most a b → HasWorked a (with_realm realm b)
+pub worked-idle : (a b : Node) (realm : SeenRealm) (left most : ℕ) → is_idle b.realm.slots ≡ true → realm.slots ≡ b.realm.slots → IsWorking left most a b
+    → HasWorked a (with_realm realm b)
 worked-idle a b realm left most idle same (SomeJob some g) = AnyJob some (goes-then Worked a b (with_realm realm b) g (record { entries = []; slots = same }))
 worked-idle a b realm left most idle same (NoJob e slots) = NoneQueued (ap (λ (s : Slots). is_idle s) same ∙ idle) (same ∙ slots)
 

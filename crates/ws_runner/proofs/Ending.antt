@@ -1,140 +1,198 @@
--- How a node ends, by how its pipe settled.
-use Rattle.std.proofs.Common.{◌≡◌, ℕ, List, [], ◌∷◌, Bool, true, false, Option, Some, None, refl, sym, ap, ◌∙◌, subst}
+-- How a node ends, by how its last pipe settled.
+use Rattle.std.proofs.Common.{◌≡◌, ◌≢◌, ◌+◌, ◌*◌, ◌≤◌, ℕ, Bool, true, false, List, Option, Some, None, slice_get, refl, sym, ap, ◌∙◌, subst, arith}
 use Rattle.std.proofs.lemmas.List.Elements.{All-contains}
 use Rattle.std.specs.Prelude.{is_some}
-use Rattle.ws_value.specs.declared.fault.Fault.TheVariants.{TypeError, RangeError, DataClone, User, Read, Write, Stage, TooMuch, Abort, NoMemory as NoMemoryFault}
-use Rattle.ws_value.specs.declared.ids.PipeId.{PipeId}
+use Rattle.ws_value.specs.declared.fault.Fault.TheVariants.{Read, Write, Stage, TooMuch, Abort}
 use Rattle.ws_value.specs.declared.ids.PromiseId.{PromiseId}
+use Rattle.ws_value.specs.declared.ids.StreamId.{StreamId}
 use Rattle.ws_value.specs.declared.value.Outcome.{Outcome}
 use Rattle.ws_value.specs.declared.value.Outcome.TheVariants.{Pending, Fulfilled, Given, Finished as OutcomeFinished, Rejected}
 use Rattle.ws_value.specs.declared.value.Plain.{Plain}
-use Rattle.ws_value.specs.declared.value.Plain.TheVariants.{Undefined, Number, Fault as FaultReason, Pair, Local}
+use Rattle.ws_value.specs.declared.value.Plain.TheVariants.{Fault as FaultReason}
 use Rattle.ws_value.specs.declared.value.Value.{Value}
+use Rattle.ws_flow.specs.declared.plan.Plan.{Plan}
+use Rattle.ws_flow.proofs.Lengths.{accepted}
 use Rattle.ws_io.specs.declared.status.Status.{Status}
 use Rattle.ws_io.specs.declared.status.Status.TheVariants.{Done, NoMemory}
 use Rattle.ws_steps.specs.declared.calls.HostCall.TheVariants.{Close}
 use Rattle.ws_steps.specs.Pipes as pipe
 use Rattle.ws_steps.specs.Promises.{outcome_at, rank_at}
 use Rattle.ws_steps.specs.Run.{Entry, run}
-use Rattle.ws_steps.specs.declared.effects.Owner.TheVariants.{Host}
-use Rattle.ws_steps.specs.Slots.{Slots, empty, owner_at}
+use Rattle.ws_steps.specs.Slots.{Slots, empty, most_streams, pipe_at}
 use Rattle.ws_end_laws.specs.PromiseEnds.{IsOpenUntilTheEnd, outcome_of_end}
 use Rattle.ws_end_laws.proofs.PromiseEnds.{each_promise_is_open_until_the_end}
-use Rattle.ws_host_laws.specs.HostCalls.{WasSettledWell}
-use Rattle.ws_host_laws.proofs.Closed.{close-was-settled}
-use Rattle.ws_host_laws.proofs.Ended.{fulfilled-closed}
 use Rattle.ws_pipe_laws.specs.PipeHistory.{is_over, run_course}
+use Rattle.ws_host_laws.specs.HostCalls.{WasSettledWell}
+use Rattle.ws_chain_laws.specs.Chain.{dest_of, link_of}
+use Rattle.ws_chain_laws.specs.Opening.{BeginsChain}
+use Rattle.ws_chain_laws.specs.Outcomes.{last_promise, ChainEnds}
+use Rattle.ws_chain_laws.specs.Runs.{NodeGoes}
+use Rattle.ws_chain_laws.proofs.Begins.{each_chain_begins}
+use Rattle.ws_chain_laws.proofs.Outcomes.{each_chain_ends}
+use Rattle.ws_chain_laws.proofs.Runs.{each_node_goes}
 use Rattle.ws_realm.specs.Seen.{outcome_named, where_named}
 use Rattle.ws_realm.specs.declared.realm.Why.TheVariants as why
 use Rattle.ws_reason_laws.specs.Reasons.{failures}
-use Rattle.ws_reason_laws.proofs.FirstPipe.{first-rejected}
-use Rattle.ws_runner.specs.declared.node.Input.{Input}
 use Rattle.ws_runner.specs.declared.node.Node.{Node}
 use Rattle.ws_runner.specs.declared.node.Output.{Output}
 use Rattle.ws_runner.specs.declared.node.Output.TheVariants as output
 use Rattle.ws_runner.specs.Ends.{EndsAs, EndsBy, IsNamed, status_of, unless_finished}
-use Rattle.ws_runner.specs.Node.{source, sink, link, outcome_of_pipe, has_settled}
-use Rattle.ws_runner.specs.Past.{IsCause, opening, nothing_prevented, promise, past_of, Led, Driven}
-use Rattle.ws_runner.proofs.Opening.{pipe-made, first-promise, first-number, promise-named}
+use Rattle.ws_runner.specs.Node.{outcome_of_pipe, has_settled}
+use Rattle.ws_runner.specs.Opening.{IsAccepted, count_of, is_aborted, past}
+use Rattle.ws_runner.specs.Past.{IsCause, Led, Driven}
 
--- the pipe's promise in the run that led to the node
-abbrev out : List Entry → Option Outcome
-out xs = outcome_at (run (past_of xs) empty).promises promise
+-- an accepted plan has few streams
+pub few-streams : (plan : Plan) → IsAccepted plan → 2 * count_of plan + 2 ≤ most_streams
+few-streams plan h = let few = (accepted plan h).stages in omega arith
 
--- it is pending, or fulfilled with undefined, or rejected
-pub data Settles (xs : List Entry) : Type 0 where
-  IsPending : out xs ≡ Some Pending → Settles xs
-  HasEnded : (e : Option Plain) → (run_course link (past_of xs) empty).ended ≡ e ∷ [] → out xs ≡ Some (outcome_of_end e) → Settles xs
-
-settles-by : (xs : List Entry) (x : pipe.Slots) (over : Bool) → is_over x.phase ≡ over → x.promise ≡ promise
-    → IsOpenUntilTheEnd x (run_course link (past_of xs) empty).ended (outcome_at (run (past_of xs) empty).promises x.promise) → Settles xs
-settles-by xs x false e same k = IsPending (subst (λ q. outcome_at (run (past_of xs) empty).promises q ≡ Some Pending) same (k.before e).1)
-settles-by xs x true e same k =
-    let a = k.after e in
-    HasEnded a.0 a.1.0 (subst (λ q. outcome_at (run (past_of xs) empty).promises q ≡ Some (outcome_of_end a.0)) same a.1.1)
-
-pub settles : (xs : List Entry) → Settles xs
-settles xs =
-    let there = first-promise xs in
-    settles-by xs there.0 (is_over there.0.phase) refl there.2 (each_promise_is_open_until_the_end (past_of xs) link there.0 there.1)
-
--- a pipe that ended without an error has had the output finished
-fulfilled-finished : (xs : List Entry) (n : Node) → Led xs n → (run_course link (past_of xs) empty).ended ≡ None ∷ [] → n.output ≡ output.Finished
-fulfilled-finished xs n s e =
-    let w : WasSettledWell (past_of xs) (Close sink) =
-    close-was-settled (past_of xs) sink (subst (λ (q : Slots). owner_at sink q ≡ Host) s.slots s.link.own.sink)
-    (fulfilled-closed opening xs source sink nothing_prevented None pipe-made (subst (λ (p : PipeId). (run_course p (past_of xs) empty).ended ≡ None ∷ []) (sym first-number) e)) in
-    s.closes w.before w.after w.id w.settles w.called
-
--- a reason with which it was rejected has its cause
-rejected-cause : (xs : List Entry) (n : Node) (r : Plain) → Led xs n → out xs ≡ Some (Rejected r) → IsCause n.input n.output r
-rejected-cause xs n r s e = All-contains (IsCause n.input n.output) (failures xs) r s.failed (first-rejected nothing_prevented xs r (subst (λ (q : Slots). q.transforms ≡ []) s.slots s.plain) e)
-
--- what a realm answers of the promise
-
+-- what a realm answers of a promise that it named
 where_is : (rank : Option ℕ) (o : Option Outcome) → is_some rank ≡ true → where_named rank o ≡ o
 where_is None o h = absurd (cc)
 where_is (Some n) o h = refl
 
-pub outcome-is : (xs : List Entry) (n : Node) → Led xs n → outcome_of_pipe n ≡ out xs
-outcome-is xs n s =
-    ap (λ (q : PromiseId). outcome_named q n.realm.slots) s.answered
-    ∙ (ap (λ (z : Slots). outcome_named promise z) s.slots ∙ where_is (rank_at (run (past_of xs) empty).promises promise) (out xs) (promise-named xs))
+-- pending, or fulfilled with undefined, or rejected
+data Settles (o : Option Outcome) : Type 0 where
+  IsPending : o ≡ Some Pending → Settles o
+  HasEnded : (e : Option Plain) → o ≡ Some (outcome_of_end e) → Settles o
 
--- it answers
-some-outcome : (xs : List Entry) → Settles xs → out xs ≡ None → ⊥
-some-outcome xs (IsPending e) f = absurd (cc)
-some-outcome xs (HasEnded r c e) f = absurd (cc)
+settles-by : (x : pipe.Slots) (over : Bool) (ended : List (Option Plain)) (o : Option Outcome) → is_over x.phase ≡ over → IsOpenUntilTheEnd x ended o → Settles o
+settles-by x false ended o e k = IsPending (k.before e).1
+settles-by x true ended o e k = let a = k.after e in HasEnded a.0 a.1.1
+
+module _ (plan : Plan) (xs : List Entry) (n : Node) (led : Led plan xs n) where
+  abbrev k : ℕ
+  k = count_of plan
+
+  abbrev signalled : Bool
+  signalled = is_aborted plan
+
+  -- the last pipe's promise
+  abbrev promise : PromiseId
+  promise = last_promise k signalled
+
+  abbrev out : Option Outcome
+  out = outcome_at (run (past plan xs) empty).promises promise
+
+  few : 2 * k + 2 ≤ most_streams
+  few = few-streams plan led.is_of.accepted
+
+  begins : BeginsChain k signalled
+  begins = each_chain_begins k signalled few
+
+  ends : ChainEnds k signalled xs
+  ends = each_chain_ends k signalled xs few
+
+  goes : NodeGoes k signalled xs
+  goes = each_node_goes k signalled xs few led.calls
+
+  its : n.pipe ≡ promise
+  its = let a = led.answered in let b = begins.last in cc
+
+  outcome-is : outcome_of_pipe n ≡ out
+  outcome-is =
+      ap (λ (p : PromiseId). outcome_named p n.realm.slots) its
+      ∙ (ap (λ (s : Slots). outcome_named promise s) led.slots
+      ∙ where_is (rank_at (run (past plan xs) empty).promises promise) out (ends.watched k (omega arith)))
+
+  settles : Settles out
+  settles =
+      let s : Slots = run (past plan xs) empty in
+      let x = pipe_at (link_of k) s in
+      let there : slice_get s.pipes k ≡ Some x =
+      subst (λ (z : Slots). slice_get z.pipes k ≡ Some (pipe_at (link_of k) z)) (sym ends.slots) (goes.chain.links k (omega arith)).there in
+      settles-by x (is_over x.phase) (run_course (link_of k) (past plan xs) empty).ended out refl
+      (subst (λ (p : PromiseId). IsOpenUntilTheEnd x (run_course (link_of k) (past plan xs) empty).ended (outcome_at s.promises p)) (ends.pipes k (omega arith))
+      (each_promise_is_open_until_the_end (past plan xs) (link_of k) x there))
+
+  finished : (v : Plain) → out ≡ Some (Fulfilled v) → n.output ≡ output.Finished
+  finished v e =
+      let w : WasSettledWell (past plan xs) (Close (dest_of k)) = (goes.fulfilled v e).settled in
+      led.closes w.before w.after w.id w.settles (w.called ∙ ap (λ (i : StreamId). Some (Close i)) (sym led.is_of.sink))
+
+  cause : (r : Plain) → out ≡ Some (Rejected r) → IsCause n r
+  cause r e = All-contains (IsCause n) (failures xs) r led.failed (goes.rejected r e)
+
+-- the output was finished
+pub fulfilled : (n : Node) (v : Plain) → Driven n → outcome_of_pipe n ≡ Some (Fulfilled v) → n.output ≡ output.Finished
+fulfilled n v d e = let led = d.since.led in finished d.plan d.xs n led v (sym (outcome-is d.plan d.xs n led) ∙ e)
+
+-- the outcome of the last pipe's promise is there, and is none of a read
+settled : (n : Node) → Driven n → Settles (outcome_of_pipe n)
+settled n d = let led = d.since.led in subst Settles (sym (outcome-is d.plan d.xs n led)) (settles d.plan d.xs n led)
+
+none_settles : (o : Option Outcome) → Settles o → o ≢ None
+none_settles o (IsPending e) f = absurd (cc)
+none_settles o (HasEnded a e) f = absurd (cc)
+
+given_settles : (o : Option Outcome) (v : Value) → Settles o → o ≢ Some (Given v)
+given_settles o v (IsPending e) f = absurd (cc)
+given_settles o v (HasEnded None e) f = absurd (cc)
+given_settles o v (HasEnded (Some r) e) f = absurd (cc)
+
+finished_settles : (o : Option Outcome) (v : Value) → Settles o → o ≢ Some (OutcomeFinished v)
+finished_settles o v (IsPending e) f = absurd (cc)
+finished_settles o v (HasEnded None e) f = absurd (cc)
+finished_settles o v (HasEnded (Some r) e) f = absurd (cc)
+
+pub named : (n : Node) → Driven n → outcome_of_pipe n ≢ None
+named n d = none_settles (outcome_of_pipe n) (settled n d)
+
+pub not_given : (n : Node) (v : Value) → Driven n → outcome_of_pipe n ≢ Some (Given v)
+not_given n v d = given_settles (outcome_of_pipe n) v (settled n d)
+
+pub not_finished : (n : Node) (v : Value) → Driven n → outcome_of_pipe n ≢ Some (OutcomeFinished v)
+not_finished n v d = finished_settles (outcome_of_pipe n) v (settled n d)
+
+-- a cause has a status, by which the node ends
+
+named-by : (n : Node) (r : Plain) → IsCause n r → IsNamed r
+named-by n (FaultReason Read) h = tt
+named-by n (FaultReason Write) h = tt
+named-by n (FaultReason TooMuch) h = tt
+named-by n (FaultReason (Stage index code place)) h = tt
+named-by n (FaultReason Abort) h = tt
+named-by n _ h = absurd h
+
+failed : (o : Output) → o ≢ output.Finished → o ≢ output.Open → o ≢ output.Aborted → o ≡ output.Failed
+failed output.Finished a b c = absurd (a refl)
+failed output.Open a b c = absurd (b refl)
+failed output.Aborted a b c = absurd (c refl)
+failed output.Failed a b c = refl
+
+by-cause : (n : Node) (r : Plain) → n.output ≢ output.Finished → IsCause n r → EndsBy (status_of r) n
+by-cause n (FaultReason Read) other h = (other, h)
+by-cause n (FaultReason Write) other h = failed n.output other h.0 h.1
+by-cause n (FaultReason TooMuch) other h = (other, h)
+by-cause n (FaultReason (Stage index code place)) other h = (other, h)
+by-cause n (FaultReason Abort) other h = (other, h)
+by-cause n _ other h = absurd h
+
+pub by-unless : (n : Node) (o : Output) (status : Status) → n.output ≡ o → (n.output ≢ output.Finished → EndsBy status n) → EndsBy (unless_finished o status) n
+by-unless n output.Finished status e h = e
+by-unless n output.Open status e h = h (λ f. cc)
+by-unless n output.Failed status e h = h (λ f. cc)
+by-unless n output.Aborted status e h = h (λ f. cc)
+
+-- it is rejected with a reason that has a status, whose cause is there
+pub rejected : (n : Node) (r : Plain) → Driven n → outcome_of_pipe n ≡ Some (Rejected r) → IsNamed r × EndsBy (unless_finished n.output (status_of r)) n
+rejected n r d e =
+    let led = d.since.led in
+    let c = cause d.plan d.xs n led r (sym (outcome-is d.plan d.xs n led) ∙ e) in
+    (named-by n r c, by-unless n n.output (status_of r) refl (λ other. by-cause n r other c))
+
+-- what a node's status is
 
 pub outcome-there : (n : Node) → Driven n → outcome_of_pipe n ≡ None → ⊥
-outcome-there n d e = some-outcome d.xs (settles d.xs) (sym (outcome-is d.xs n d.since.led) ∙ e)
-
--- an outcome that it answers is one of these
-
-data Answered (n : Node) (o : Outcome) : Type 0 where
-  StillPending : o ≡ Pending → Answered n o
-  WellEnded : o ≡ Fulfilled Undefined → n.output ≡ output.Finished → Answered n o
-  BadlyEnded : (r : Plain) → o ≡ Rejected r → IsCause n.input n.output r → Answered n o
-
-answered-by : (xs : List Entry) (n : Node) (o : Outcome) → Led xs n → out xs ≡ Some o → Settles xs → Answered n o
-answered-by xs n o s e (IsPending f) = StillPending (cc)
-answered-by xs n o s e (HasEnded None c f) = WellEnded (cc) (fulfilled-finished xs n s c)
-answered-by xs n o s e (HasEnded (Some r) c f) = BadlyEnded r (cc) (rejected-cause xs n r s f)
-
-answered : (n : Node) (o : Outcome) → Driven n → outcome_of_pipe n ≡ Some o → Answered n o
-answered n o d e = answered-by d.xs n o d.since.led (sym (outcome-is d.xs n d.since.led) ∙ e) (settles d.xs)
-
-not_given : (n : Node) (o : Outcome) (v : Value) → o ≡ Given v → Answered n o → ⊥
-not_given n o v e (StillPending f) = absurd (cc)
-not_given n o v e (WellEnded f g) = absurd (cc)
-not_given n o v e (BadlyEnded r f g) = absurd (cc)
-
-not_finished : (n : Node) (o : Outcome) (v : Value) → o ≡ OutcomeFinished v → Answered n o → ⊥
-not_finished n o v e (StillPending f) = absurd (cc)
-not_finished n o v e (WellEnded f g) = absurd (cc)
-not_finished n o v e (BadlyEnded r f g) = absurd (cc)
+outcome-there n d e = named n d e
 
 pub outcome-not_given : (n : Node) (o : Outcome) (v : Value) → Driven n → outcome_of_pipe n ≡ Some o → o ≡ Given v → ⊥
-outcome-not_given n o v d e f = not_given n o v f (answered n o d e)
+outcome-not_given n o v d e f = not_given n v d (e ∙ ap Some f)
 
 pub outcome-not_finished : (n : Node) (o : Outcome) (v : Value) → Driven n → outcome_of_pipe n ≡ Some o → o ≡ OutcomeFinished v → ⊥
-outcome-not_finished n o v d e f = not_finished n o v f (answered n o d e)
-
-named-by_cause : (i : Input) (o : Output) (r : Plain) → IsCause i o r → IsNamed r
-named-by_cause i o (FaultReason Read) h = tt
-named-by_cause i o (FaultReason Write) h = tt
-named-by_cause i o (FaultReason TooMuch) h = tt
-named-by_cause i o _ h = absurd h
-
-rejected-so : (n : Node) (o : Outcome) (r : Plain) → o ≡ Rejected r → Answered n o → IsCause n.input n.output r
-rejected-so n o r e (StillPending f) = absurd (cc)
-rejected-so n o r e (WellEnded f g) = absurd (cc)
-rejected-so n o r e (BadlyEnded q f g) = let same : q ≡ r = cc in subst (IsCause n.input n.output) same g
+outcome-not_finished n o v d e f = not_finished n v d (e ∙ ap Some f)
 
 pub rejected-named : (n : Node) (o : Outcome) (r : Plain) → Driven n → outcome_of_pipe n ≡ Some o → o ≡ Rejected r → IsNamed r
-rejected-named n o r d e f = named-by_cause n.input n.output r (rejected-so n o r f (answered n o d e))
-
--- the end
+rejected-named n o r d e f = (rejected n r d (e ∙ ap Some f)).0
 
 pending-unsettled : (n : Node) (o : Outcome) → outcome_of_pipe n ≡ Some o → o ≡ Pending → has_settled (outcome_of_pipe n) ≡ false
 pending-unsettled n o e f = rw (e, f) refl
@@ -150,10 +208,8 @@ ends-not n o d e f going =
       counts = d.since.led.counts;
     }
 
-by-wanting : (n : Node) (o : Output) → n.output ≡ o → EndsBy (unless_finished o NoMemory) n
-by-wanting n output.Open e = λ f. cc
-by-wanting n output.Finished e = e
-by-wanting n output.Failed e = λ f. cc
+by-wanting : (n : Node) → EndsBy (unless_finished n.output NoMemory) n
+by-wanting n = by-unless n n.output NoMemory refl (λ other. other)
 
 pub ends-wanting : (n : Node) (o : Outcome) → Driven n → outcome_of_pipe n ≡ Some o → o ≡ Pending → n.stopped ≡ Some why.NoMemory → EndsAs (Some (unless_finished n.output NoMemory)) n
 ends-wanting n o d e f wanting =
@@ -162,69 +218,34 @@ ends-wanting n o d e f wanting =
       fulfilled = λ v g. absurd (cc);
       rejected = λ r g. absurd (cc);
       wanting = λ g w. refl;
-      by = by-wanting n n.output refl;
+      by = by-wanting n;
       counts = d.since.led.counts;
     }
 
-finished-so : (n : Node) (o : Outcome) (v : Plain) → o ≡ Fulfilled v → Answered n o → n.output ≡ output.Finished
-finished-so n o v e (StillPending f) = absurd (cc)
-finished-so n o v e (WellEnded f g) = g
-finished-so n o v e (BadlyEnded q f g) = absurd (cc)
-
-settled-so : (n : Node) (o : Outcome) → outcome_of_pipe n ≡ Some o → (b : Bool) → has_settled (Some o) ≡ true → has_settled (outcome_of_pipe n) ≡ false → ⊥
-settled-so n o e b f g = cc
+settled-so : (n : Node) (o : Outcome) → outcome_of_pipe n ≡ Some o → has_settled (Some o) ≡ true → has_settled (outcome_of_pipe n) ≡ false → ⊥
+settled-so n o e f g = cc
 
 pub ends-well : (n : Node) (o : Outcome) (v : Plain) → Driven n → outcome_of_pipe n ≡ Some o → o ≡ Fulfilled v → EndsAs (Some Done) n
 ends-well n o v d e f =
     record {
-      none = ((λ h. absurd (cc)), (λ h. absurd (settled-so n o e true (rw f refl) h.0)));
+      none = ((λ h. absurd (cc)), (λ h. absurd (settled-so n o e (rw f refl) h.0)));
       fulfilled = λ w g. refl;
       rejected = λ r g. absurd (cc);
       wanting = λ g w. absurd (cc);
-      by = finished-so n o v f (answered n o d e);
+      by = fulfilled n v d (e ∙ ap Some f);
       counts = d.since.led.counts;
     }
-
-by-rejected : (n : Node) (r : Plain) (o : Output) → n.output ≡ o → IsCause n.input n.output r → EndsBy (unless_finished o (status_of r)) n
-by-rejected n r output.Finished e h = e
-by-rejected n (FaultReason Read) output.Open e h = (λ f. cc, h)
-by-rejected n (FaultReason Read) output.Failed e h = (λ f. cc, h)
-by-rejected n (FaultReason Write) output.Open e h = absurd (h e)
-by-rejected n (FaultReason Write) output.Failed e h = e
-by-rejected n (FaultReason TooMuch) output.Open e h = (λ f. cc, h)
-by-rejected n (FaultReason TooMuch) output.Failed e h = (λ f. cc, h)
-by-rejected n (FaultReason TypeError) output.Open e h = absurd h
-by-rejected n (FaultReason RangeError) output.Open e h = absurd h
-by-rejected n (FaultReason DataClone) output.Open e h = absurd h
-by-rejected n (FaultReason (User m)) output.Open e h = absurd h
-by-rejected n (FaultReason (Stage index code place)) output.Open e h = absurd h
-by-rejected n (FaultReason Abort) output.Open e h = absurd h
-by-rejected n (FaultReason NoMemoryFault) output.Open e h = absurd h
-by-rejected n Undefined output.Open e h = absurd h
-by-rejected n (Number m) output.Open e h = absurd h
-by-rejected n (Pair t) output.Open e h = absurd h
-by-rejected n (Local m) output.Open e h = absurd h
-by-rejected n (FaultReason TypeError) output.Failed e h = absurd h
-by-rejected n (FaultReason RangeError) output.Failed e h = absurd h
-by-rejected n (FaultReason DataClone) output.Failed e h = absurd h
-by-rejected n (FaultReason (User m)) output.Failed e h = absurd h
-by-rejected n (FaultReason (Stage index code place)) output.Failed e h = absurd h
-by-rejected n (FaultReason Abort) output.Failed e h = absurd h
-by-rejected n (FaultReason NoMemoryFault) output.Failed e h = absurd h
-by-rejected n Undefined output.Failed e h = absurd h
-by-rejected n (Number m) output.Failed e h = absurd h
-by-rejected n (Pair t) output.Failed e h = absurd h
-by-rejected n (Local m) output.Failed e h = absurd h
 
 pub ends-badly : (n : Node) (o : Outcome) (r : Plain) (status : Status) → Driven n → outcome_of_pipe n ≡ Some o → o ≡ Rejected r → status ≡ status_of r
     → EndsAs (Some (unless_finished n.output status)) n
 ends-badly n o r status d e f is =
+    let h = rejected n r d (e ∙ ap Some f) in
     rw is
     (record {
-      none = ((λ h. absurd (cc)), (λ h. absurd (settled-so n o e true (rw f refl) h.0)));
+      none = ((λ g. absurd (cc)), (λ g. absurd (settled-so n o e (rw f refl) g.0)));
       fulfilled = λ v g. absurd (cc);
-      rejected = λ q g. let same : r ≡ q = cc in subst (λ (x : Plain). IsNamed x × (Some (unless_finished n.output (status_of r)) ≡ Some (unless_finished n.output (status_of x)))) same (rejected-named n o r d e f, refl);
+      rejected = λ q g. let same : r ≡ q = cc in subst (λ (x : Plain). IsNamed x × (Some (unless_finished n.output (status_of r)) ≡ Some (unless_finished n.output (status_of x)))) same (h.0, refl);
       wanting = λ g w. absurd (cc);
-      by = by-rejected n r n.output refl (rejected-so n o r f (answered n o d e));
+      by = h.1;
       counts = d.since.led.counts;
     })

@@ -1,32 +1,58 @@
 -- Runs that are longer by one entry.
-use Rattle.std.proofs.Common.{◌≡◌, true, List, [], ◌∷◌, ◌++◌, Some, refl, sym, ap, ◌∙◌, subst, append_assoc, arith}
+use Rattle.std.proofs.Common.{◌≡◌, List, [], ◌∷◌, ◌++◌, Option, Some, None, refl, sym, ap, ◌∙◌, subst, append_assoc, arith}
 use Rattle.std.specs.Prelude.{slice_get}
 use Rattle.ws_value.specs.declared.ids.HostId.{HostId}
 use Rattle.ws_value.specs.declared.ids.StreamId.{StreamId}
-use Rattle.ws_steps.specs.declared.calls.HostCall.TheVariants.{Close}
+use Rattle.ws_flow.specs.declared.plan.Ending.TheVariants.{Fine}
+use Rattle.ws_flow.specs.declared.plan.Plan.{Plan}
+use Rattle.ws_flow.specs.Parts.{Over}
+use Rattle.ws_stages.specs.State.{State}
+use Rattle.ws_steps.specs.declared.calls.HostCall.{HostCall}
+use Rattle.ws_steps.specs.declared.calls.HostCall.TheVariants.{Close, Flush}
 use Rattle.ws_steps.specs.Run.{Entry, Called, Worked, Heard, run, step}
 use Rattle.ws_steps.specs.Slots.{Slots}
+use Rattle.ws_chain_laws.specs.Opening.{piping, signal_of, opening}
+use Rattle.ws_chain_laws.specs.Runs.{AreNodes}
+use Rattle.ws_host_laws.proofs.Called.{place-grows, each_event_is_its_call}
 use Rattle.ws_host_laws.specs.HostCalls.{called, settles_well}
-use Rattle.ws_link_laws.specs.Laws.{all_leave, entry_leaves}
 use Rattle.ws_reason_laws.specs.Reasons.{failures, failure_of}
 use Rattle.ws_runner.specs.declared.node.Output.{Output}
 use Rattle.ws_runner.specs.declared.node.Output.TheVariants as output
-use Rattle.ws_runner.specs.Node.{sink}
-use Rattle.ws_runner.specs.Past.{ClosesFinished}
+use Rattle.ws_runner.specs.Moves.{IsAt}
+use Rattle.ws_runner.specs.Opening.{count_of, is_aborted, past}
+use Rattle.ws_runner.specs.Past.{ClosesFinished, FlushesFine, IsPull}
 
 pub run-snoc : (xs : List Entry) (x : Entry) (s : Slots) → run (xs ++ x ∷ []) s ≡ step (run xs s) x
 run-snoc [] x s = refl
 run-snoc (y ∷ ys) x s = run-snoc ys x (step s y)
-
-pub leave-snoc : (i j : StreamId) (xs : List Entry) (x : Entry) → all_leave i j xs ≡ true → entry_leaves i j x ≡ true → all_leave i j (xs ++ x ∷ []) ≡ true
-leave-snoc i j [] x h g = grind arith
-leave-snoc i j (y ∷ ys) x h g = let r = leave-snoc i j ys x in grind arith
 
 pub failures-snoc : (xs : List Entry) (x : Entry) → failures (xs ++ x ∷ []) ≡ failures xs ++ failures (x ∷ [])
 failures-snoc [] x = refl
 failures-snoc (Called c ∷ ys) x = ap (λ q. failure_of c ++ q) (failures-snoc ys x) ∙ sym (append_assoc (failure_of c) (failures ys) (failures (x ∷ [])))
 failures-snoc (Worked ∷ ys) x = failures-snoc ys x
 failures-snoc (Heard ∷ ys) x = failures-snoc ys x
+
+pub nodes-snoc : (xs : List Entry) (x : Entry) → AreNodes xs → AreNodes (x ∷ []) → AreNodes (xs ++ x ∷ [])
+nodes-snoc [] x a b = b
+nodes-snoc (Called c ∷ ys) x a b = (a.0, nodes-snoc ys x a.1 b)
+nodes-snoc (Worked ∷ ys) x a b = nodes-snoc ys x a b
+nodes-snoc (Heard ∷ ys) x a b = nodes-snoc ys x a b
+
+-- the opening stands before all
+pub past-longer : (plan : Plan) (xs more : List Entry) → past plan (xs ++ more) ≡ past plan xs ++ more
+past-longer plan xs more =
+    sym (append_assoc (opening (count_of plan) (is_aborted plan)) (Called (piping (signal_of (is_aborted plan)) (count_of plan)) ∷ xs) more)
+
+-- a call of the host has the same number in a longer past
+pub called-longer : (entries more : List Entry) (id : HostId) (call : HostCall) → slice_get (called entries) id.0 ≡ Some call
+    → slice_get (called (entries ++ more)) id.0 ≡ Some call
+called-longer entries more id call h =
+    let g = (each_event_is_its_call entries).grows more in
+    subst (λ q. slice_get q id.0 ≡ Some call) (sym g.1) (place-grows (called entries) g.0 id.0 call h)
+
+pub pull-longer : (entries more : List Entry) (asked : Option HostId) → IsPull entries asked → IsPull (entries ++ more) asked
+pull-longer entries more None h = tt
+pull-longer entries more (Some id) (i, h) = (i, called-longer entries more id _ h)
 
 -- a list that ends with x and has y at some place: that is the last, or an earlier one
 pub data Splits {A : Type 0} (xs ys zs : List A) (x y : A) : Type 0 where
@@ -52,15 +78,33 @@ splits (v ∷ xs) (w ∷ ys) zs x y h =
     let e = heads v w (xs ++ x ∷ []) (ys ++ y ∷ zs) h in
     subst (λ q. Splits (v ∷ xs) (q ∷ ys) zs x y) e.0 (splits-under v xs ys zs x y (splits xs ys zs x y e.1))
 
--- an entry by which no close is settled well but one of a finished output
-abbrev pub MayClose : List Entry → Entry → Output → Type 0
-MayClose entries x o = (id : HostId) → x ≡ Called (settles_well id) → slice_get (called entries) id.0 ≡ Some (Close sink) → o ≡ output.Finished
+-- an entry by which no host call of this kind is settled well unless something holds
+abbrev MaySettle : List Entry → Entry → HostCall → Type 0 → Type 0
+MaySettle entries x call P = (id : HostId) → x ≡ Called (settles_well id) → slice_get (called entries) id.0 ≡ Some call → P
 
-closes-by : (entries before after : List Entry) (x : Entry) (o : Output) (id : HostId) → ClosesFinished entries o → MayClose entries x o
-    → Splits entries before after x (Called (settles_well id)) → slice_get (called before) id.0 ≡ Some (Close sink) → o ≡ output.Finished
-closes-by entries before after x o id k may (AtEnd e f) c = may id f (subst (λ q. slice_get (called q) id.0 ≡ Some (Close sink)) (sym e) c)
-closes-by entries before after x o id k may (Before ws e) c = k before ws id e c
+settled-by : (entries before after : List Entry) (x : Entry) (id : HostId) (call : HostCall) (P : Type 0)
+    → ((ws : List Entry) → entries ≡ before ++ Called (settles_well id) ∷ ws → slice_get (called before) id.0 ≡ Some call → P) → MaySettle entries x call P
+    → Splits entries before after x (Called (settles_well id)) → slice_get (called before) id.0 ≡ Some call → P
+settled-by entries before after x id call P k may (AtEnd e f) c = may id f (subst (λ q. slice_get (called q) id.0 ≡ Some call) (sym e) c)
+settled-by entries before after x id call P k may (Before ws e) c = k ws e c
 
-pub closes-snoc : (entries : List Entry) (x : Entry) (o : Output) → ClosesFinished entries o → MayClose entries x o → ClosesFinished (entries ++ x ∷ []) o
-closes-snoc entries x o k may before after id e c =
-    closes-by entries before after x o id k may (splits entries before after x (Called (settles_well id)) e) c
+-- by which no close is settled well but one of a finished output
+abbrev pub MayClose : StreamId → List Entry → Entry → Output → Type 0
+MayClose sink entries x o = (id : HostId) → x ≡ Called (settles_well id) → slice_get (called entries) id.0 ≡ Some (Close sink) → o ≡ output.Finished
+
+pub closes-snoc : (sink : StreamId) (entries : List Entry) (x : Entry) (o : Output) → ClosesFinished sink entries o → MayClose sink entries x o
+    → ClosesFinished sink (entries ++ x ∷ []) o
+closes-snoc sink entries x o k may before after id e c =
+    settled-by entries before after x id (Close sink) (o ≡ output.Finished) (λ ws f g. k before ws id f g) may
+    (splits entries before after x (Called (settles_well id)) e) c
+
+-- and no flush but one of a stage that ended fine
+abbrev pub MayFlush : List Entry → Entry → List State → Type 0
+MayFlush entries x stages =
+    (id : HostId) (i : StreamId) → x ≡ Called (settles_well id) → slice_get (called entries) id.0 ≡ Some (Flush i)
+    → (first last : List State) (w : State) → IsAt i stages first w last → w.work ≡ Over Fine
+
+pub flushes-snoc : (entries : List Entry) (x : Entry) (stages : List State) → FlushesFine entries stages → MayFlush entries x stages → FlushesFine (entries ++ x ∷ []) stages
+flushes-snoc entries x stages k may before after id i e c first last w at =
+    settled-by entries before after x id (Flush i) (w.work ≡ Over Fine) (λ ws f g. k before ws id i f g first last w at) (λ id f g. may id i f g first last w at)
+    (splits entries before after x (Called (settles_well id)) e) c

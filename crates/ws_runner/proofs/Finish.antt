@@ -1,58 +1,36 @@
--- How a run ends whose node went on from its start and ends so.
-use Rattle.std.proofs.Common.{◌≡◌, ◌≢◌, ◌+◌, ℕ, List, [], ◌∷◌, ◌++◌, length, Some, refl, sym, ap, ◌∙◌, subst, append-nil, length-append, arith}
+-- What a run may end with, by how its node went.
+use Rattle.std.proofs.Common.{◌≡◌, ◌≢◌, ◌+◌, ◌<◌, ◌^◌, ℕ, ℤ, true, List, [], ◌∷◌, ◌++◌, length, map, nat_abs, Option, Some, None, refl, sym, ap, ◌∙◌, subst, append-nil, length-append, arith}
 use Rattle.std.specs.List.{concat}
-use Rattle.ws_flow.specs.Plans.{bytes_of}
-use Rattle.ws_flow.specs.Told.{Mark, Open as MayCome, Closed, Lost, Told, told, then_told, IsFront, IsShortOf}
-use Rattle.ws_flow.proofs.Cutting.{joined_append}
-use Rattle.ws_flow.proofs.Told.{before_front, before_of_short, before_then, front_trans}
+use Rattle.ws_flow.specs.declared.plan.Ending.TheVariants.{Fine}
+use Rattle.ws_flow.specs.declared.plan.Plan.{Plan}
+use Rattle.ws_flow.specs.Plans.{bytes_of, reach, stages_of}
+use Rattle.ws_flow.specs.Told.{Mark, Open as MayCome, Closed, Lost, Told, told, IsFront, IsBefore}
+use Rattle.ws_flow.proofs.Cutting.{some_joined}
+use Rattle.ws_flow.proofs.Told.{before_front}
 use Rattle.ws_io.specs.Faults.{Rose}
 use Rattle.ws_io.specs.Feed.{IsEmpty, IsEnded}
 use Rattle.ws_io.specs.Gain.{Becomes, KeepsTold}
 use Rattle.ws_io.specs.Moment.{Moment}
-use Rattle.ws_io.proofs.Flow.{Gains-nothing, Fed-nothing, KeepsTold-same}
 use Rattle.ws_io.specs.declared.status.Status.{Status}
-use Rattle.ws_io.specs.declared.status.Status.TheVariants.{Done, ReadFault, WriteFault, NoMemory, TooMuch}
+use Rattle.ws_io.specs.declared.status.Status.TheVariants.{Done, Stage as StageIs, ReadFault, WriteFault, Aborted as AbortedIs, NoMemory, TooMuch}
+use Rattle.ws_stages.specs.State.{State}
+use Rattle.ws_runner.specs.declared.node.Abort.{Abort}
 use Rattle.ws_runner.specs.declared.node.Input.{Input}
 use Rattle.ws_runner.specs.declared.node.Input.TheVariants as input
 use Rattle.ws_runner.specs.declared.node.Node.{Node}
 use Rattle.ws_runner.specs.declared.node.Output.{Output}
 use Rattle.ws_runner.specs.declared.node.Output.TheVariants as output
-use Rattle.ws_runner.specs.Ends.{IsDone, Allows, Leaves, Ends, EndsBy, EndsAs}
-use Rattle.ws_runner.specs.Node.{lying}
+use Rattle.ws_runner.specs.Ends.{ReadAs, out_of, ending_of, IsDone, IsAborted, IsWithinAbort, Allows, Leaves, Ends, EndsBy, EndsAs}
+use Rattle.ws_runner.specs.Node.{is_reached}
+use Rattle.ws_runner.specs.Opening.{abort_of}
 use Rattle.ws_runner.specs.Past.{IsNew, HasCounts}
-use Rattle.ws_runner.specs.Went.{InputGoes, OutputGoes, Went}
+use Rattle.ws_runner.specs.Went.{InputGoes, OutputGoes, AbortGoes, StopsAt, Went}
+use Rattle.ws_runner.specs.Flow.{HasGone}
+use Rattle.ws_runner.proofs.Flow as flow
 
--- there was no memory before anything was read
-pub ends-at_once : (most : ℕ) (m : Moment) (p : List ℕ → Type 0) → Ends NoMemory most 4096 m m p p
-ends-at_once most m p =
-    record {
-      taken = [];
-      gain = [];
-      rest = [];
-      fed = Fed-nothing m.feed;
-      gained = Gains-nothing p;
-      first = refl;
-      bound = omega arith;
-      ahead_by = omega arith;
-      allowed = tt;
-      finish_kept = KeepsTold-same m.finished;
-    }
-
-front_joined : (xs ys : List (List ℕ)) → IsFront xs ys → IsFront (concat xs) (concat ys)
-front_joined xs ys (r, e) = (concat r, ap concat e ∙ joined_append xs r)
-
-none_left : (gain rest : List ℕ) → length rest ≡ 0 → gain ≡ gain ++ rest
-none_left gain [] e = sym (append-nil gain)
-none_left gain (x ∷ rest) e = absurd (omega arith)
-
--- what is cut short of what closed, and closed itself, is it
-closed_short : (x y : Told (List ℕ)) (m : Mark) → m ≡ Closed → x.mark ≡ Closed → (z : Told (List ℕ)) → IsShortOf (then_told x z) y → (y.items ≡ x.items) × (y.mark ≡ Closed)
-closed_short x y m e f z h = grind arith
-
-closed_bytes : (gain : List ℕ) (m : Mark) (y : Told ℕ) → m ≡ Closed → IsShortOf (told gain m) y → (y.items ≡ gain) × (y.mark ≡ Closed)
-closed_bytes gain Closed y e h = h
-closed_bytes gain MayCome y e h = absurd (cc)
-closed_bytes gain Lost y e h = absurd (cc)
+none_mapped : (ws : List State) → map (λ (w : State). w.stage) ws ≡ [] → ws ≡ []
+none_mapped [] e = refl
+none_mapped (w ∷ ws) e = absurd (cc)
 
 -- an input that was read to its end
 input-ended : (i o : Input) (read : Told (List ℕ)) (m₀ m₁ : Moment) → i ≡ input.Open → read.mark ≡ Closed → InputGoes i o read m₀ m₁
@@ -80,79 +58,128 @@ output-finished : (a b : Output) (gain : List ℕ) (m : Mark) (m₀ m₁ : Momen
 output-finished output.Open output.Finished gain m m₀ m₁ e f h = h
 output-finished output.Open output.Open gain m m₀ m₁ e f h = absurd (cc)
 output-finished output.Open output.Failed gain m m₀ m₁ e f h = absurd (cc)
+output-finished output.Open output.Aborted gain m m₀ m₁ e f h = absurd (cc)
 output-finished output.Finished b gain m m₀ m₁ e f h = absurd (cc)
 output-finished output.Failed b gain m m₀ m₁ e f h = absurd (cc)
+output-finished output.Aborted b gain m m₀ m₁ e f h = absurd (cc)
 
 output-unfinished : (a b : Output) (gain : List ℕ) (m : Mark) (m₀ m₁ : Moment) → a ≡ output.Open → b ≢ output.Finished → OutputGoes a b gain m m₀ m₁
     → KeepsTold m₀.finished m₁.finished
 output-unfinished output.Open output.Open gain m m₀ m₁ e f (g, h, k) = k
 output-unfinished output.Open output.Failed gain m m₀ m₁ e f (g, h, k) = k
+output-unfinished output.Open output.Aborted gain m m₀ m₁ e f (g, h, k) = k
 output-unfinished output.Open output.Finished gain m m₀ m₁ e f h = absurd (f refl)
 output-unfinished output.Finished b gain m m₀ m₁ e f h = absurd (cc)
 output-unfinished output.Failed b gain m m₀ m₁ e f h = absurd (cc)
+output-unfinished output.Aborted b gain m m₀ m₁ e f h = absurd (cc)
 
 output-failed : (a b : Output) (gain : List ℕ) (m : Mark) (m₀ m₁ : Moment) → a ≡ output.Open → b ≡ output.Failed → OutputGoes a b gain m m₀ m₁
     → Rose m₀.write_faults m₁.write_faults
 output-failed output.Open output.Failed gain m m₀ m₁ e f (g, h, k) = h
 output-failed output.Open output.Open gain m m₀ m₁ e f h = absurd (cc)
 output-failed output.Open output.Finished gain m m₀ m₁ e f h = absurd (cc)
+output-failed output.Open output.Aborted gain m m₀ m₁ e f h = absurd (cc)
 output-failed output.Finished b gain m m₀ m₁ e f h = absurd (cc)
 output-failed output.Failed b gain m m₀ m₁ e f h = absurd (cc)
+output-failed output.Aborted b gain m m₀ m₁ e f h = absurd (cc)
 
-module _ (limit : ℕ) (a n : Node) (m₀ m₁ : Moment) (p q : List ℕ → Type 0) (new : IsNew limit a) (w : Went a n m₀ m₁ p q) (counts : HasCounts n) where
-  -- all that was read, as it flowed
-  flows : IsShortOf (then_told w.went (lying n)) w.read
-  flows = subst (λ (x : Told (List ℕ)). IsShortOf (then_told w.went (lying n)) (then_told x w.read)) new.lying w.flows
+-- what the output got with an abort
+few : (left : ℕ) (chunks : List (List ℕ)) (gain : List ℕ) → (0 < length gain → StopsAt left chunks gain) → length gain < left + 2 ^ 25
+few left chunks [] last = omega arith
+few left chunks (x ∷ gain) last =
+    let at = last (omega arith) in
+    let to = at.to in
+    let fewer = at.fewer in
+    let short = at.short in
+    omega arith
 
-  fronts : IsFront w.gain (concat w.read.items)
-  fronts =
-      front_trans w.gain (concat w.went.items) (concat w.read.items) (before_front (told w.gain w.out) (bytes_of w.went) (before_of_short _ _ w.written))
-      (front_joined w.went.items w.read.items
-      (front_trans w.went.items (then_told w.went (lying n)).items w.read.items (before_front w.went (then_told w.went (lying n)) (before_then w.went (lying n)))
-      (before_front (then_told w.went (lying n)) w.read (before_of_short _ _ flows))))
+abort-within : (after : Option ℤ) (x y : Option Abort) (chunks : List (List ℕ)) (gain : List ℕ) (o : Output) → x ≡ abort_of after → AbortGoes x y chunks gain o
+    → IsWithinAbort after gain
+abort-within None x y chunks gain o e g = tt
+abort-within (Some after) (Some x) (Some y) chunks gain o e (same, near) =
+    let left : x.left ≡ nat_abs after = cc in
+    subst (λ q. length gain < q + 2 ^ 25) left (few x.left chunks gain near.last)
+abort-within (Some after) None y chunks gain o e g = absurd (cc)
+abort-within (Some after) (Some x) None chunks gain o e g = absurd g
 
-  split : length (concat w.read.items) ≡ length w.gain + length fronts.0
-  split = ap length fronts.1 ∙ length-append w.gain fronts.0
+abort-reached : (after : Option ℤ) (x y : Option Abort) (chunks : List (List ℕ)) (gain : List ℕ) (o : Output) → x ≡ abort_of after → AbortGoes x y chunks gain o
+    → is_reached y ≡ true → IsAborted after gain
+abort-reached (Some after) (Some x) (Some y) chunks gain o e (same, near) r =
+    let left : x.left ≡ nat_abs after = cc in
+    let none : y.left ≡ 0 = grind arith in
+    let counted = near.counted in
+    omega arith
+abort-reached (Some after) (Some x) None chunks gain o e g r = absurd g
+abort-reached (Some after) None y chunks gain o e g r = absurd (cc)
+abort-reached None None (Some y) chunks gain o e g r = absurd g
+abort-reached None None None chunks gain o e g r = absurd (cc)
+abort-reached None (Some x) y chunks gain o e g r = absurd (cc)
 
-  whole : n.output ≡ output.Finished → IsDone limit m₀ m₁ (concat w.read.items) w.gain
+-- a part of a list that is as long as all
+all_there : (gain rest : List ℕ) → length rest ≡ 0 → gain ++ rest ≡ gain
+all_there gain [] e = append-nil gain
+all_there gain (x ∷ rest) e = absurd (omega arith)
+
+module _ (plan : Plan) (a n : Node) (m₀ m₁ : Moment) (p q : List ℕ → Type 0) (new : IsNew plan a) (w : Went a n m₀ m₁ p q) (counts : HasCounts n) where
+  abbrev taken : List ℕ
+  taken = concat w.read.items
+
+  abbrev got : Told ℕ
+  got = told w.gain w.out
+
+  gone : HasGone plan n m₀ m₁ w.read w.went w.gain w.out
+  gone = record { from = a; is_new = new; goes = w.goes; written = w.written; output = w.output; abort = w.abort }
+
+  before : IsBefore got (out_of plan taken w.read.mark)
+  before = flow.before plan n m₀ m₁ w.read w.went w.gain w.out gone
+
+  within_most : n.taken ≡ length taken
+  within_most = let counted = w.counted in let from = new.taken in omega arith
+
+  most : n.most ≡ nat_abs plan.max_input
+  most = w.most ∙ new.is_of.most
+
+  whole : n.output ≡ output.Finished → IsDone plan m₀ m₁ taken w.gain
   whole done =
       let o = output-finished a.output n.output w.gain w.out m₀ m₁ new.output done w.output in
-      let b = closed_bytes w.gain w.out (bytes_of w.went) o.0 w.written in
-      let r = closed_short w.went w.read w.out o.0 b.1 (lying n) flows in
-      let i = input-ended a.input n.input w.read m₀ m₁ new.input r.1 w.input in
+      let c = flow.closed plan n m₀ m₁ w.read w.went w.gain w.out gone o.0 in
+      let i = input-ended a.input n.input w.read m₀ m₁ new.input c.1 w.input in
       let within = counts.within (λ e. let f = i.3 in cc) in
-      let counted = w.counted in
-      let most = w.most in
-      let limited = new.most in
-      let from = new.taken in
+      let same = within_most in
+      let limit = most in
       record {
         ended = i.1;
         emptied = i.2;
         no_fault = record { read = i.0; write = o.1 };
         within = omega arith;
-        whole = sym b.0 ∙ ap concat (sym r.0);
+        fine = subst (λ (m : Mark). (j : ℕ) → ending_of plan j taken m ≡ Fine) c.1 c.2;
+        whole = subst (λ (m : Mark). out_of plan taken m ≡ told w.gain m) c.1 (c.0 ∙ ap (λ m. told w.gain m) (o.0 ∙ sym c.1));
         finished = o.2;
       }
 
-  nothing_left : n.input ≡ input.Failed → w.gain ≡ concat w.read.items
-  nothing_left failed =
-      let none = counts.failed failed in
-      let ahead = w.ahead in
-      let from = new.unwritten in
-      let parts = split in
-      none_left w.gain fronts.0 (omega arith) ∙ sym fronts.1
+  no_stages : stages_of plan ≡ [] → a.stages.items ≡ []
+  no_stages e = none_mapped a.stages.items (new.is_of.stages ∙ e)
 
-  allows : (status : Status) → EndsBy status n → Allows status limit m₀ m₁ (concat w.read.items) w.gain
+  nothing_left : stages_of plan ≡ [] → n.input ≡ input.Failed → w.gain ≡ taken
+  nothing_left e failed =
+      let none = counts.failed failed in
+      let ahead = w.ahead (no_stages e) in
+      let from = new.ahead in
+      let front = subst (IsFront w.gain) (ap (λ ss. (bytes_of (reach ss taken w.read.mark)).items) e ∙ some_joined taken) (before_front got (out_of plan taken w.read.mark) before) in
+      let parts = ap length front.1 ∙ length-append w.gain front.0 in
+      sym (front.1 ∙ all_there w.gain front.0 (omega arith))
+
+  allows : (status : Status) → EndsBy status n → Allows status plan w.read.mark m₀ m₁ taken w.gain
   allows Done by = whole by
-  allows ReadFault by = (nothing_left by.1, input-failed a.input n.input w.read m₀ m₁ new.input by.1 w.input)
+  allows (StageIs index code place) by = flow.bad plan n m₀ m₁ w.read w.went w.gain w.out gone index code place by.1
+  allows ReadFault by = ((λ e. nothing_left e by.1), input-failed a.input n.input w.read m₀ m₁ new.input by.1 w.input)
   allows WriteFault by = output-failed a.output n.output w.gain w.out m₀ m₁ new.output by w.output
+  allows AbortedIs by = abort-reached plan.abort_after a.abort n.abort w.went.items w.gain n.output new.abort w.abort by.1
   allows NoMemory by = tt
   allows TooMuch by =
       let beyond = counts.beyond by.1 in
-      let counted = w.counted in
-      let most = w.most in
-      let limited = new.most in
-      let from = new.taken in
+      let same = within_most in
+      let limit = most in
       omega arith
   allows _ by = absurd by
 
@@ -161,37 +188,44 @@ module _ (limit : ℕ) (a n : Node) (m₀ m₁ : Moment) (p q : List ℕ → Typ
 
   leaves : (status : Status) → EndsBy status n → Leaves status m₀ m₁
   leaves Done by = tt
+  leaves (StageIs index code place) by = kept by.0
   leaves ReadFault by = kept by.0
   leaves WriteFault by = kept (λ e. let f = by in cc)
+  leaves AbortedIs by = kept by.0
   leaves NoMemory by = kept by
   leaves TooMuch by = kept by.0
   leaves _ by = absurd by
 
-  ends-with : (status : Status) → EndsBy status n → Ends status limit 4096 m₀ m₁ p q
+  reads : (m : Mark) → w.read.mark ≡ m → ReadAs m m₀ m₁
+  reads MayCome e = tt
+  reads Lost e = tt
+  reads Closed e =
+      let i = input-ended a.input n.input w.read m₀ m₁ new.input e w.input in
+      record { ended = i.1; emptied = i.2; calm = i.0 }
+
+  ends-with : (status : Status) → EndsBy status n → Ends status plan m₀ m₁ p q
   ends-with status by =
       let bound = counts.bound in
       let piece = counts.piece in
-      let counted = w.counted in
-      let most = w.most in
-      let limited = new.most in
-      let from = new.taken in
-      let ahead = w.ahead in
-      let written = new.unwritten in
-      let parts = split in
+      let same = within_most in
+      let limit = most in
+      let from = new.ahead in
       record {
-        taken = concat w.read.items;
+        taken = taken;
         gain = w.gain;
-        rest = fronts.0;
+        mark = w.read.mark;
         fed = w.fed;
+        read = reads w.read.mark refl;
         gained = w.gained;
-        first = fronts.1;
+        first = before_front got (out_of plan taken w.read.mark) before;
         bound = omega arith;
-        ahead_by = omega arith;
+        ahead_by = λ e. let ahead = w.ahead (no_stages e) in omega arith;
+        abort = abort-within plan.abort_after a.abort n.abort w.went.items w.gain n.output new.abort w.abort;
         allowed = allows status by;
         finish_kept = leaves status by;
       }
 
 -- a run whose node ends with a status
-pub ends-from : (limit : ℕ) (a n : Node) (status : Status) (m₀ m₁ : Moment) (p q : List ℕ → Type 0) → IsNew limit a → Went a n m₀ m₁ p q → EndsAs (Some status) n
-    → Ends status limit 4096 m₀ m₁ p q
-ends-from limit a n status m₀ m₁ p q new w e = ends-with limit a n m₀ m₁ p q new w e.counts status e.by
+pub ends-from : (plan : Plan) (a n : Node) (status : Status) (m₀ m₁ : Moment) (p q : List ℕ → Type 0) → IsNew plan a → Went a n m₀ m₁ p q → EndsAs (Some status) n
+    → Ends status plan m₀ m₁ p q
+ends-from plan a n status m₀ m₁ p q new went ends = ends-with plan a n m₀ m₁ p q new went ends.counts status ends.by

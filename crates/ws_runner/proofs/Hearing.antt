@@ -1,200 +1,268 @@
--- What a node does at each event, and at the end of its sink.
-use Rattle.std.proofs.Common.{◌≡◌, ◌≢◌, ℕ, Bool, true, false, List, [], ◌∷◌, ◌++◌, Option, Some, None, refl, sym, ap, ◌∙◌, subst, arith}
-use Rattle.std.specs.Prelude.{slice_get, if◌then◌else◌}
-use Rattle.std.proofs.lemmas.Bool.Decides.{nat_tests}
-use Rattle.ws_value.specs.declared.value.Plain.{Plain}
-use Rattle.ws_value.specs.declared.fault.Fault.TheVariants.{Write as WriteFault}
+-- A node hears of an event.
+use Rattle.std.proofs.Common.{◌≡◌, ◌<◌, ◌≤◌, ℕ, nat_eq, Bool, true, false, List, [], ◌∷◌, ◌++◌, length, Option, Some, None, refl, sym, ap, ◌∙◌, subst, arith}
+use Rattle.std.specs.Prelude.{All, if◌then◌else◌}
+use Rattle.std.proofs.lemmas.List.{length-map}
+use Rattle.std.proofs.lemmas.List.Elements.{All-head, All-tail}
 use Rattle.ws_value.specs.declared.ids.HostId.{HostId}
 use Rattle.ws_value.specs.declared.ids.StreamId.{StreamId}
-use Rattle.ws_value.specs.declared.value.Plain.TheVariants.{Fault as FaultReason}
+use Rattle.ws_value.specs.declared.value.Plain.{Plain}
 use Rattle.ws_value.specs.declared.value.Value.{Value}
 use Rattle.ws_value.specs.declared.value.Value.TheVariants.{Bytes, Plain as PlainValue}
-use Rattle.ws_flow.specs.Told.{Open as MayCome, Closed, Lost, Told, told, then_told, IsShortOf}
-use Rattle.ws_flow.proofs.Told.{before_front, before_of_short, short_refl}
+use Rattle.ws_flow.specs.declared.plan.Plan.{Plan}
+use Rattle.ws_flow.specs.declared.plan.Stage.{Stage}
+use Rattle.ws_flow.specs.declared.plan.Stage.TheVariants.{Lines, Fixed, Hex, Unhex, Mask, Number, Frame, Unframe}
+use Rattle.ws_flow.specs.Laws.{AreShort}
+use Rattle.ws_flow.specs.Plans.{stages_of}
+use Rattle.ws_flow.specs.Steps.{parts_at}
+use Rattle.ws_flow.specs.Told.{Open, Told, told, then_told, IsShortOf}
+use Rattle.ws_flow.proofs.Lengths.{accepted}
+use Rattle.ws_flow.proofs.Lying.{lying_short, short_at}
+use Rattle.ws_flow.proofs.Told.{before_front, before_of_short, short_right}
 use Rattle.ws_io.specs.Feed.{Feed}
 use Rattle.ws_io.specs.Moment.{Moment}
-use Rattle.ws_io.proofs.Flow.{Fed-nothing, Gains-nothing}
-use Rattle.ws_link_laws.proofs.OwnLinks.{link-unheard}
-use Rattle.ws_steps.specs.declared.calls.Answer.TheVariants.{Ok as AnswerOk, Fail as AnswerFail}
-use Rattle.ws_steps.specs.declared.calls.Call.TheVariants.{Settle}
+use Rattle.ws_io.proofs.Flow.{Gains-nothing}
+use Rattle.ws_laws.proofs.Tables.{eq_numbers, is_same-refl}
+use Rattle.ws_stages.specs.Cuts.{HasLength}
+use Rattle.ws_stages.specs.State.{State, IsLive, kept_in}
 use Rattle.ws_steps.specs.declared.calls.Event.{Event}
 use Rattle.ws_steps.specs.declared.calls.Event.TheVariants.{Host, Settled, Signal}
 use Rattle.ws_steps.specs.declared.calls.HostCall.{HostCall}
 use Rattle.ws_steps.specs.declared.calls.HostCall.TheVariants.{Start, Pull, Cancel, Write, Close, Abort, Transform, Flush, CancelTransform}
 use Rattle.ws_steps.specs.Histories.{is_same}
 use Rattle.ws_steps.specs.Run.{Entry, Heard, first_event, after_event}
-use Rattle.ws_host_laws.specs.HostCalls.{called, IsItsCall}
-use Rattle.ws_link_laws.specs.Link.{silence}
-use Rattle.ws_link_laws.specs.Own.{heard_of, heard_call}
+use Rattle.ws_chain_laws.specs.Chain.{dest_of, behind_at, ear_of, heard_at}
+use Rattle.ws_chain_laws.specs.Nodes.{only_at}
+use Rattle.ws_chain_laws.proofs.Nodes.{each_event_is_heard_at_one_link}
+use Rattle.ws_link_laws.specs.Link.{silence, is_sink, is_half}
 use Rattle.ws_realm.specs.Seen.{SeenRealm}
+use Rattle.ws_realm.specs.declared.realm.Why.{Why}
 use Rattle.ws_runner.specs.declared.node.Node.{Node}
-use Rattle.ws_runner.specs.declared.node.Output.TheVariants as output
-use Rattle.ws_runner.specs.Moves.{with_realm, Shown, shut, Fails, settles, Untouched, Finishes, FinishedWell, FinishedBadly, FinishedNot, Settles, writes_by, finishes_by, Answers, Hears}
-use Rattle.ws_runner.specs.Node.{source, sink, link, behind_in, in_bytes, ended_by, lying_by, lying, nothing_yet}
-use Rattle.std.proofs.lemmas.List.Elements.{All-nil}
-use Rattle.ws_runner.specs.Past.{past_of, IsCause, OneAtMost, Led, HasOne, Since}
-use Rattle.ws_runner.specs.Went.{InputGoes, Went}
-use Rattle.ws_runner.proofs.Going.{went-rests}
-use Rattle.ws_runner.proofs.Answering.{Handled, asks-same, settles-other, settles-badly, since-settles, shows, quietly, settled, quiet-one, led-output, shut-stays, shut-isn't_open, input-calm, open-fails, open-finishes, lost-now, pull-asked, rested, handed, wrote, then_nothing}
-use Rattle.ws_runner.proofs.Since.{MayAsk, After, since-hears}
+use Rattle.ws_runner.specs.Moves.{Answers, Hears, IsAt, MayAnswer, MayHear, Settles, Shown, Untouched, finishes_by, with_realm, writes_by}
+use Rattle.ws_runner.specs.Node.{coming, in_bytes, lies_in, lying, lying_by, nothing_yet, parts, works_in}
+use Rattle.ws_runner.specs.Opening.{count_of}
+use Rattle.ws_runner.specs.Past.{ArePushed, HasOne, OneAtMost, Since, may_have}
+use Rattle.ws_runner.proofs.Answering.{closed, noted, pulled, settled, wrote}
+use Rattle.ws_runner.proofs.Bytes.{in_bytes-short, one-short}
+use Rattle.ws_runner.proofs.Going.{going-stays, went-rests}
+use Rattle.ws_runner.proofs.Handled.{Handled, shows}
+use Rattle.ws_runner.proofs.Handing.{heard-lies, lies_to, one-heard, one-quiet}
+use Rattle.ws_runner.proofs.Ones.{live-true}
+use Rattle.ws_runner.proofs.Pushing.{flushes, transforms}
+use Rattle.ws_runner.proofs.Since.{AfterEvent, since-hears, since-hears-none}
+use Rattle.ws_runner.proofs.Sinking.{count-works}
+use Rattle.ws_runner.proofs.Staged.{count-is, live-is, works, works-are}
+use Rattle.ws_runner.proofs.Unheard.{at-there}
 
-module _ (rf : ℕ) (feed : Option Feed) (p q : List ℕ → Type 0) (xs : List Entry) (a : Node) (realm : SeenRealm) (goes : a.stopped ≡ None)
-    (led : Led xs (with_realm realm a)) (id : HostId) (b : Node) (old new : Shown) where
-  failed : Fails id (with_realm realm a) b → After (in_bytes (behind_in realm.slots)) xs b
-  failed fails =
-      let c : Node = record (with_realm realm a) { output = shut a.output } in
-      since-settles xs c b id (AnswerFail (FaultReason WriteFault)) (led-output xs (with_realm realm a) (shut a.output) (shut-stays a.output) led)
-      (λ o. absurd (shut-isn't_open a.output o)) (settles-badly xs c id (shut-isn't_open a.output)) fails
+-- What is asked can be done
 
-  may_finish : (n : Node) → n.output ≡ output.Finished → MayAsk xs n (settles id)
-  may_finish n o = record { leaves = refl; makes_none = refl; failed = All-nil (IsCause n.input n.output); closes = λ i e c. o }
+among : (P : State → Type 0) (before after : List State) (w : State) → All P (before ++ w ∷ after) → P w
+among P [] after w h = All-head P w after h
+among P (u ∷ before) after w h = among P before after w (All-tail P u (before ++ w ∷ after) h)
 
-  finished : IsShortOf (told [] Closed) (lying a) → Finishes id (with_realm realm a) b old new p q → Handled (lying a) a b (shows rf feed old) (shows rf feed new) p q
-  finished lay (FinishedWell was_open gained calm done asks) =
-      let c : Node = record (with_realm realm a) { output = output.Finished } in
-      let after = since-settles xs c b id AnswerOk (led-output xs (with_realm realm a) output.Finished (λ o. absurd (o was_open)) led) (λ o. absurd (cc)) (may_finish c refl) asks in
-      let same = asks-same (settles id) c b asks in
-      let taken = same.taken in
-      let unwritten = same.unwritten in
-      record {
-        driven = record { xs = xs ++ after.more; since = after.since };
-        went = record {
-          read = nothing_yet;
-          went = told [] Closed;
-          gain = [];
-          out = Closed;
-          fed = Fed-nothing feed;
-          gained = gained;
-          written = (refl, refl);
-          flows = then_nothing (lying a) (told [] Closed) lay;
-          counted = omega arith;
-          ahead = omega arith;
-          input = subst (λ x. InputGoes a.input x nothing_yet (shows rf feed old) (shows rf feed new)) (sym same.input) (input-calm a.input rf feed old new);
-          output = open-finishes a.output b.output (shows rf feed old) (shows rf feed new) was_open same.output calm done;
-          most = same.most;
-          pipe = same.pipe;
+fits : (s : Stage) (n : ℕ) → n < 33554432 → HasLength s n
+fits Frame n l = omega arith
+fits (Lines k) n l = tt
+fits (Fixed k) n l = tt
+fits Hex n l = tt
+fits Unhex n l = tt
+fits (Mask key) n l = tt
+fits Number n l = tt
+fits (Unframe k) n l = tt
+
+module _ (plan : Plan) (xs : List Entry) (a : Node) (realm : SeenRealm) (since : Since plan xs a) (goes : a.stopped ≡ None) (id : HostId) where
+  -- the one chunk on the first link is that which was counted
+  one-counted : (call : HostCall) (piece : List ℕ) → AfterEvent plan xs a realm (Host id call) → heard_at (count_of plan) 0 (Host id call) ≡ told (Bytes piece ∷ []) Open
+      → may_have a.stages.items a.output a.abort ≡ true → length piece ≤ a.ahead
+  one-counted call piece event is may =
+      let o = one-heard a.ahead (Bytes piece) (behind_at 0 realm.slots) (behind_at 0 a.realm.slots)
+      (subst (λ (t : Told Value). IsShortOf (then_told t (behind_at 0 realm.slots)) (behind_at 0 a.realm.slots)) is (event.short 0 (omega arith))) (since.one may) in
+      let same = o.1.1 in
+      omega arith
+
+  heard-stage : (i : StreamId) (before after : List State) (w : State) (v : Value) → IsAt i a.stages.items before w after
+      → heard_at (count_of plan) (length before) (Host id (Transform i v)) ≡ told (v ∷ []) Open
+  heard-stage i before after w v at =
+      let e = count-is plan a before after w goes since.led.is_of.stages at.whole in
+      let j = length before in
+      subst (λ (s : StreamId). heard_at (count_of plan) j (Host id (Transform s v)) ≡ told (v ∷ []) Open) (sym at.place)
+      ((each_event_is_heard_at_one_link (count_of plan) j (omega arith)).transform id j v (omega arith) ∙ at-there j (told (v ∷ []) Open))
+
+  -- a chunk that comes to a stage which may be asked is below 2^25 bytes
+  stage-short : (i : StreamId) (piece : List ℕ) (before after : List State) (w : State) → IsAt i a.stages.items before w after → IsLive w.work
+      → AfterEvent plan xs a realm (Host id (Transform i (Bytes piece))) → length piece < 33554432
+  stage-short i piece before after w at live event =
+      let j = length before in
+      let n = count_of plan in
+      let e = count-is plan a before after w goes since.led.is_of.stages at.whole in
+      let plan_is = accepted plan since.led.is_of.accepted in
+      let fed = since.fed in
+      let short = (lying_short (stages_of plan) fed.came (parts a) (then_told fed.went (lying a)) plan_is.range plan_is.hex plan_is.stages fed.short fed.flows).0 in
+      let here = works-are plan a before after w goes since.led.is_of.stages at.whole ∙ ap (λ q. works before ++ q ∷ works after) (live-is w.work live) in
+      let P : List ℕ → Type 0 = λ c. length c < 33554432 in
+      let all : All P (lies_in a j).items = short_at 0 (works before) (kept_in w.work) (works after) (lies_in a) j (subst (λ ws. AreShort (parts_at 0 ws (lies_in a))) here short)
+      (let f = length-map before (λ (u : State). u.work) in omega arith) in
+      let lay : IsShortOf (then_told (told (piece ∷ []) Open) (lies_to (coming a j) (with_realm realm a) j)) (lies_in a j) =
+      subst (λ (t : Told Value). IsShortOf (then_told (in_bytes t) (lies_to (coming a j) (with_realm realm a) j)) (lies_in a j)) (heard-stage i before after w (Bytes piece) at)
+      (heard-lies plan xs a realm (Host id (Transform i (Bytes piece))) event goes (coming a j) j (omega arith)) in
+      let first = before_front (then_told (told (piece ∷ []) Open) (lies_to (coming a j) (with_realm realm a) j)) (lies_in a j) (before_of_short _ _ lay) in
+      All-head P piece ((lies_to (coming a j) (with_realm realm a) j).items ++ first.0) (subst (All P) first.1 all)
+
+  may-answer-it : (call : HostCall) → AfterEvent plan xs a realm (Host id call) → MayAnswer (with_realm realm a) call
+  may-answer-it call event = record {
+    written = λ piece is opened near none.
+        let n = count_of plan in
+        let w : HostCall = Write a.sink (Bytes piece) in
+        let zero_is : n ≡ 0 = sym (count-works plan xs a realm since goes)
+        ∙ (let f : length (works_in a) ≡ length a.stages.items = length-map a.stages.items (λ (u : State). u.work) in let g : length a.stages.items ≡ 0 = ap length none in omega arith) in
+        let heard : heard_at n 0 (Host id w) ≡ told (Bytes piece ∷ []) Open =
+        subst (λ (s : StreamId). heard_at n 0 (Host id (Write s (Bytes piece))) ≡ only_at n (told (Bytes piece ∷ []) Open) 0) (sym since.led.is_of.sink) ((each_event_is_heard_at_one_link n 0 (omega arith)).write id (Bytes piece))
+        ∙ (ap (λ (k : ℕ). only_at k (told (Bytes piece ∷ []) Open) 0) zero_is ∙ at-there 0 (told (Bytes piece ∷ []) Open)) in
+        one-counted w piece (subst (λ (c : HostCall). AfterEvent plan xs a realm (Host id c)) is event) heard (rw (none, opened, near) refl);
+    had = λ i piece is after w at live.
+        one-counted (Transform i (Bytes piece)) piece (subst (λ (c : HostCall). AfterEvent plan xs a realm (Host id c)) is event) (heard-stage i [] after w (Bytes piece) at)
+        (subst (λ (ws : List State). may_have ws a.output a.abort ≡ true) (sym at.whole) (live-true w live));
+    pushed = λ i piece is before after w at live.
+        let some = among (λ u. u.pushes < a.realm.slots.age) before after w (subst (All (λ u. u.pushes < a.realm.slots.age)) at.whole (since.pushes goes)) in
+        let old = since.led.age in
+        record {
+          count = omega arith;
+          length_fits = fits w.stage (length piece) (stage-short i piece before after w at live (subst (λ (c : HostCall). AfterEvent plan xs a realm (Host id c)) is event));
         };
-      }
-  finished lay (FinishedBadly was_open gained rose kept fails) =
-      let after = failed fails in
-      let same = asks-same (Settle id (AnswerFail (FaultReason WriteFault))) (record (with_realm realm a) { output = shut a.output }) b fails in
-      let taken = same.taken in
-      let unwritten = same.unwritten in
-      record {
-        driven = record { xs = xs ++ after.more; since = after.since };
-        went = record {
-          read = nothing_yet;
-          went = told [] Lost;
-          gain = [];
-          out = Lost;
-          fed = Fed-nothing feed;
-          gained = gained;
-          written = ([], refl);
-          flows = ((then_told (lying a) nothing_yet).items, refl);
-          counted = omega arith;
-          ahead = omega arith;
-          input = subst (λ x. InputGoes a.input x nothing_yet (shows rf feed old) (shows rf feed new)) (sym same.input) (input-calm a.input rf feed old new);
-          output = open-fails a.output b.output [] (shows rf feed old) (shows rf feed new) was_open same.output rose kept;
-          most = same.most;
-          pipe = same.pipe;
-        };
-      }
-  finished lay (FinishedNot shut_already untouched fails) =
-      lost-now rf feed p q xs a realm goes led b old new (asks-same (Settle id (AnswerFail (FaultReason WriteFault))) (record (with_realm realm a) { output = shut a.output }) b fails)
-      (failed fails) shut_already untouched
+  }
+
+-- what it asks can be done
+pub may-hear : (plan : Plan) (xs : List Entry) (a : Node) (realm : SeenRealm) (e : Event) → Since plan xs a → a.stopped ≡ None → first_event a.realm.slots.promises.events ≡ Some e
+    → realm.slots ≡ after_event a.realm.slots → MayHear (with_realm realm a) e
+may-hear plan xs a realm e since goes first slots id call is =
+    may-answer-it plan xs a realm since goes id call (subst (λ (x : Event). AfterEvent plan xs a realm x) is (since-hears plan xs a realm e since.led goes first slots))
+
+-- What is asked is done
+
+-- a value that isn't bytes
+plain-bytes : (v : Plain) (b : Bool) → in_bytes (if b then told (PlainValue v ∷ []) Open else silence) ≡ nothing_yet
+plain-bytes v true = refl
+plain-bytes v false = refl
+
+plain-one : (n : ℕ) (v : Plain) (b : Bool) (x y : Told Value) → IsShortOf (then_told (if b then told (PlainValue v ∷ []) Open else silence) x) y → OneAtMost n y.items → OneAtMost n x.items
+plain-one n v true x y h o = absurd ((one-heard n (PlainValue v) x y h o).1)
+plain-one n v false x y h o = one-short n x y h o
 
 -- which stream is the sink
 
-the_sink : (i : StreamId) → is_same sink i ≡ true → i ≡ sink
-the_sink i e = grind (arith, nat_tests)
+the-sink : (s i : StreamId) → is_same s i ≡ true → i ≡ s
+the-sink s i e = ap (λ (x : ℕ). let j : StreamId = record { 0 = x } in j) (sym (eq_numbers s.0 i.0 e))
 
-not_the_sink : (i : StreamId) (call : HostCall) → is_same sink i ≡ false → Close i ≡ Close sink → ⊥
-not_the_sink i call e g = absurd (cc)
+not-the-sink : (s i : StreamId) → is_same s i ≡ false → Close i ≡ Close s → ⊥
+not-the-sink s i e f = let g : i ≡ s = grind arith in absurd (let h : is_same i i ≡ false = subst (λ z. is_same z i ≡ false) (sym g) e in let k = is_same-refl i in cc)
 
--- a value of the sink that isn't bytes is never behind the host while the output is open; else it is lost
-plain-settled : (rf : ℕ) (feed : Option Feed) (p q : List ℕ → Type 0) (xs : List Entry) (a : Node) (realm : SeenRealm) (goes : a.stopped ≡ None) (led : Led xs (with_realm realm a))
-    (id : HostId) (call : HostCall) (v : Plain) (b : Node) (old new : Shown) → IsShortOf (then_told (told (PlainValue v ∷ []) MayCome) (behind_in realm.slots)) (behind_in a.realm.slots)
-    → HasOne a → slice_get (called (past_of xs)) id.0 ≡ Some call → (call ≡ Close sink → ⊥) → Settles id (with_realm realm a) b old new p q
-    → Handled (lying a) a b (shows rf feed old) (shows rf feed new) p q
-plain-settled rf feed p q xs a realm goes led id call v b old new short one is other (asks, untouched) =
-    let shut_already : a.output ≢ output.Open = λ o.
-    let f = before_front (then_told (told (PlainValue v ∷ []) MayCome) (behind_in realm.slots)) (behind_in a.realm.slots) (before_of_short _ _ short) in
-    subst (OneAtMost a.unwritten) f.1 (one o) in
-    let same = asks-same (settles id) (with_realm realm a) b asks in
-    lost-now rf feed p q xs a realm goes led b old new
-    (record { taken = same.taken; unwritten = same.unwritten; input = same.input; output = same.output ∙ sym (shut-stays a.output shut_already); most = same.most; pipe = same.pipe })
-    (since-settles xs (with_realm realm a) b id AnswerOk led (λ o. absurd (shut_already o)) (settles-other xs (with_realm realm a) id call is other) asks) shut_already untouched
+module _ (n k : ℕ) (id : HostId) (i : StreamId) (other : is_same (dest_of n) i ≡ false) where
+  ear-other : is_sink (ear_of n k) i ≡ false
+  ear-other = by (nat_eq k n) refl where
+    by : (b : Bool) → nat_eq k n ≡ b → is_sink (ear_of n k) i ≡ false
+    by true e = rw e (subst (λ (j : ℕ). is_same (dest_of j) i ≡ false) (sym (eq_numbers k n e)) other)
+    by false e = rw e refl
 
--- an event of each kind
-module _ (rf : ℕ) (feed : Option Feed) (p q : List ℕ → Type 0) (xs : List Entry) (a : Node) (realm : SeenRealm) (goes : a.stopped ≡ None)
-    (led : Led xs (with_realm realm a)) (one : HasOne a) (b : Node) (old new : Shown) where
-  -- one that asks for nothing
-  told_only : (e : Event) → heard_of sink e ≡ silence → IsShortOf (then_told (heard_of sink e) (behind_in realm.slots)) (behind_in a.realm.slots) → b ≡ with_realm realm a
-      → Untouched old new p q → Handled (lying a) a b (shows rf feed old) (shows rf feed new) p q
-  told_only e quiet short is untouched =
-      let after : After (in_bytes (behind_in realm.slots)) xs (with_realm realm a) = rested xs (with_realm realm a) led (quiet-one rf feed p q xs a realm goes led (heard_of sink e) quiet short one) goes in
-      quietly rf feed p q xs a realm goes led b old new (heard_of sink e) quiet short
-      (rw is (record { taken = refl; unwritten = refl; input = refl; output = refl; most = refl; pipe = refl })) (subst (After (in_bytes (behind_in realm.slots)) xs) (sym is) after) untouched
+  no-write : (v : Value) → heard_at n k (Host id (Write i v)) ≡ silence
+  no-write v = rw ear-other refl
 
-  module _ (id : HostId) (call : HostCall) (is : slice_get (called (past_of xs)) id.0 ≡ Some call)
-      (short : IsShortOf (then_told (heard_call sink call) (behind_in realm.slots)) (behind_in a.realm.slots)) where
-    at_once : heard_call sink call ≡ silence → (call ≡ Close sink → ⊥) → Settles id (with_realm realm a) b old new p q → Handled (lying a) a b (shows rf feed old) (shows rf feed new) p q
-    at_once quiet other h = settled rf feed p q xs a realm goes led id call b old new (heard_call sink call) quiet short one is other h
+  no-close : heard_at n k (Host id (Close i)) ≡ silence
+  no-close = rw ear-other refl
 
-  pulled : (id : HostId) (i : StreamId) → slice_get (called (past_of xs)) id.0 ≡ Some (Pull i) → IsShortOf (then_told silence (behind_in realm.slots)) (behind_in a.realm.slots)
-      → b ≡ record (with_realm realm a) { asked = Some id } → Untouched old new p q → Handled (lying a) a b (shows rf feed old) (shows rf feed new) p q
-  pulled id i is short same untouched =
-      let c : Node = record (with_realm realm a) { asked = Some id } in
-      let after : After (in_bytes (behind_in realm.slots)) xs c = rested xs c (pull-asked xs (with_realm realm a) id (i, is) led) (quiet-one rf feed p q xs a realm goes led silence refl short one) goes in
-      quietly rf feed p q xs a realm goes led b old new silence refl short
-      (rw same (record { taken = refl; unwritten = refl; input = refl; output = refl; most = refl; pipe = refl })) (subst (After (in_bytes (behind_in realm.slots)) xs) (sym same) after) untouched
+module _ (rf : ℕ) (feed : Option Feed) (p q : List ℕ → Type 0) (plan : Plan) (xs : List Entry) (a : Node) (realm : SeenRealm) (b : Node) (old new : Shown) (since : Since plan xs a)
+    (goes : a.stopped ≡ None) where
+  abbrev was : Node
+  was = with_realm realm a
 
-  written_by : (id : HostId) (i : StreamId) (v : Value) (t : Bool) → is_same sink i ≡ t → slice_get (called (past_of xs)) id.0 ≡ Some (Write i v)
-      → IsShortOf (then_told (if t then told (v ∷ []) MayCome else silence) (behind_in realm.slots)) (behind_in a.realm.slots) → writes_by id v (with_realm realm a) b old new p q t
-      → Handled (lying a) a b (shows rf feed old) (shows rf feed new) p q
-  written_by id i (Bytes piece) true e is short w =
-      wrote rf feed p q xs a realm goes led id piece b old new (subst (λ k. slice_get (called (past_of xs)) id.0 ≡ Some (Write k (Bytes piece))) (the_sink i e) is) short one w
-  written_by id i (Bytes piece) false e is short w = settled rf feed p q xs a realm goes led id (Write i (Bytes piece)) b old new silence refl short one is (λ f. cc) w
-  written_by id i (PlainValue v) false e is short w = settled rf feed p q xs a realm goes led id (Write i (PlainValue v)) b old new silence refl short one is (λ f. cc) w
-  written_by id i (PlainValue v) true e is short w =
-      plain-settled rf feed p q xs a realm goes led id (Write i (PlainValue v)) v b old new short one is (λ f. cc) w
+  abbrev Done : Type 0
+  Done = Handled plan a b (shows rf feed old) (shows rf feed new) p q
 
-  closed_by : (id : HostId) (i : StreamId) (t : Bool) → is_same sink i ≡ t → slice_get (called (past_of xs)) id.0 ≡ Some (Close i)
-      → IsShortOf (then_told (if t then told [] Closed else silence) (behind_in realm.slots)) (behind_in a.realm.slots) → finishes_by id (with_realm realm a) b old new p q t
-      → Handled (lying a) a b (shows rf feed old) (shows rf feed new) p q
-  closed_by id i true e is short f = finished rf feed p q xs a realm goes led id b old new (handed rf feed p q xs a realm goes led (told [] Closed) short) f
-  closed_by id i false e is short f = settled rf feed p q xs a realm goes led id (Close i) b old new silence refl short one is (λ g. not_the_sink i (Close i) e g) f
+  one-was : (e : Event) → AfterEvent plan xs a realm e → heard_at (count_of plan) 0 e ≡ silence → HasOne was
+  one-was e event quiet h = one-quiet a.ahead (heard_at (count_of plan) 0 e) (behind_at 0 realm.slots) (behind_at 0 a.realm.slots) quiet (event.short 0 (omega arith)) (since.one h)
 
-  answered : (id : HostId) (call : HostCall) → slice_get (called (past_of xs)) id.0 ≡ Some call → IsShortOf (then_told (heard_call sink call) (behind_in realm.slots)) (behind_in a.realm.slots)
-      → Answers id call (with_realm realm a) b old new p q → Handled (lying a) a b (shows rf feed old) (shows rf feed new) p q
-  answered id (Start i) is short h = at_once id (Start i) is short refl (λ e. cc) h
-  answered id (Pull i) is short h = pulled id i is short h.0 h.1
-  answered id (Cancel i r) is short h = at_once id (Cancel i r) is short refl (λ e. cc) h
-  answered id (Write i v) is short h = written_by id i v (is_same sink i) refl is short h
-  answered id (Close i) is short h = closed_by id i (is_same sink i) refl is short h
-  answered id (Abort i r) is short h = at_once id (Abort i r) is short refl (λ e. cc) h
-  answered id (Transform i v) is short h = at_once id (Transform i v) is short refl (λ e. cc) h
-  answered id (Flush i) is short h = at_once id (Flush i) is short refl (λ e. cc) h
-  answered id (CancelTransform i r) is short h = at_once id (CancelTransform i r) is short refl (λ e. cc) h
+  -- of the node it tells nothing
+  told-only : (id : HostId) (e : Event) → AfterEvent plan xs a realm e → ((k : ℕ) → k ≤ count_of plan → heard_at (count_of plan) k e ≡ silence) → b ≡ was → Untouched old new p q → Done
+  told-only id e event quiet same untouched =
+      noted rf feed p q plan xs a realm id b old new since goes e event (λ k less. ap in_bytes (quiet k less)) (one-was e event (quiet 0 (omega arith))) same untouched
 
-  heard_event : (e : Event) → IsItsCall (called (past_of xs)) e → IsShortOf (then_told (heard_of sink e) (behind_in realm.slots)) (behind_in a.realm.slots)
-      → Hears e (with_realm realm a) b old new p q → Handled (lying a) a b (shows rf feed old) (shows rf feed new) p q
-  heard_event (Host id call) is short h = answered id call is short h
-  heard_event (Settled d) is short h = told_only (Settled d) refl short h.0 h.1
-  heard_event (Signal i r) is short h = told_only (Signal i r) refl short h.0 h.1
+  module _ (id : HostId) (call : HostCall) (event : AfterEvent plan xs a realm (Host id call)) where
+    at-once : ((k : ℕ) → k ≤ count_of plan → heard_at (count_of plan) k (Host id call) ≡ silence) → (call ≡ Close a.sink → ⊥) → ((s : StreamId) → call ≡ Flush s → ⊥) → Settles id was b old new p q → Done
+    at-once quiet other flush h =
+        settled rf feed p q plan xs a realm id b old new since goes (Host id call) event (λ k less. ap in_bytes (quiet k less)) (one-was (Host id call) event (quiet 0 (omega arith))) call refl other flush h
 
--- a node hears of an event
-pub hears : (rf : ℕ) (feed : Option Feed) (p q : List ℕ → Type 0) (xs : List Entry) (a : Node) (realm : SeenRealm) (e : Event) (b : Node) (old new : Shown) → Since xs a
-    → a.stopped ≡ None → first_event a.realm.slots.promises.events ≡ Some e → realm.slots ≡ after_event a.realm.slots → Hears e (with_realm realm a) b old new p q
-    → Handled (lying a) a b (shows rf feed old) (shows rf feed new) p q
-hears rf feed p q xs a realm e b old new since goes first slots h =
-    let s = since-hears xs a realm e since.led goes first slots in
-    heard_event rf feed p q (xs ++ Heard ∷ []) a realm goes s.0 since.one b old new e s.2 s.1 h
+    pull-waits : (i : StreamId) → call ≡ Pull i → ((k : ℕ) → k ≤ count_of plan → heard_at (count_of plan) k (Host id call) ≡ silence) → b ≡ record was { asked = Some id } → Untouched old new p q → Done
+    pull-waits i is quiet same untouched =
+        pulled rf feed p q plan xs a realm id b old new since goes (Host id call) event (λ k less. ap in_bytes (quiet k less)) (one-was (Host id call) event (quiet 0 (omega arith))) i
+        (ap (λ (c : HostCall). let e : Event = Host id c in e) is) same untouched
+
+  -- of a value that isn't bytes
+  module _ (id : HostId) (i : StreamId) (v : Plain) where
+    plain-written : AfterEvent plan xs a realm (Host id (Write i (PlainValue v))) → Settles id was b old new p q → Done
+    plain-written event h =
+        settled rf feed p q plan xs a realm id b old new since goes (Host id (Write i (PlainValue v))) event (λ k less. plain-bytes v (is_sink (ear_of (count_of plan) k) i))
+        (λ o. plain-one a.ahead v (is_sink (ear_of (count_of plan) 0) i) (behind_at 0 realm.slots) (behind_at 0 a.realm.slots) (event.short 0 (omega arith)) (since.one o))
+        (Write i (PlainValue v)) refl (λ f. cc) (λ s f. cc) h
+
+    plain-transformed : AfterEvent plan xs a realm (Host id (Transform i (PlainValue v))) → Settles id was b old new p q → Done
+    plain-transformed event h =
+        settled rf feed p q plan xs a realm id b old new since goes (Host id (Transform i (PlainValue v))) event (λ k less. plain-bytes v (is_half (ear_of (count_of plan) k) i))
+        (λ o. plain-one a.ahead v (is_half (ear_of (count_of plan) 0) i) (behind_at 0 realm.slots) (behind_at 0 a.realm.slots) (event.short 0 (omega arith)) (since.one o))
+        (Transform i (PlainValue v)) refl (λ f. cc) (λ s f. cc) h
+
+  other-sink : (i : StreamId) → is_same a.sink i ≡ false → is_same (dest_of (count_of plan)) i ≡ false
+  other-sink i e = subst (λ (s : StreamId). is_same s i ≡ false) since.led.is_of.sink e
+
+  written-by : (id : HostId) (i : StreamId) (v : Value) (t : Bool) → is_same a.sink i ≡ t → AfterEvent plan xs a realm (Host id (Write i v)) → writes_by id v was b old new p q t → Done
+  written-by id i (Bytes piece) true e event w =
+      wrote rf feed p q plan xs a realm id b old new since goes piece (subst (λ (s : StreamId). AfterEvent plan xs a realm (Host id (Write s (Bytes piece)))) (the-sink a.sink i e) event) w
+  written-by id i (Bytes piece) false e event w =
+      at-once id (Write i (Bytes piece)) event (λ k less. no-write (count_of plan) k id i (other-sink i e) (Bytes piece)) (λ f. cc) (λ s f. cc) w
+  written-by id i (PlainValue v) true e event w = plain-written id i v event w
+  written-by id i (PlainValue v) false e event w = plain-written id i v event w
+
+  closed-by : (id : HostId) (i : StreamId) (t : Bool) → is_same a.sink i ≡ t → AfterEvent plan xs a realm (Host id (Close i)) → finishes_by id was b old new p q t → Done
+  closed-by id i true e event f =
+      closed rf feed p q plan xs a realm id b old new since goes (subst (λ (s : StreamId). AfterEvent plan xs a realm (Host id (Close s))) (the-sink a.sink i e) event) f
+  closed-by id i false e event f =
+      at-once id (Close i) event (λ k less. no-close (count_of plan) k id i (other-sink i e)) (not-the-sink a.sink i e) (λ s g. cc) f
+
+  answered : (id : HostId) (call : HostCall) → AfterEvent plan xs a realm (Host id call) → Answers id call was b old new p q → Done
+  answered id (Start i) event h = at-once id (Start i) event (λ k less. refl) (λ f. cc) (λ s f. cc) h
+  answered id (Pull i) event h = pull-waits id (Pull i) event i refl (λ k less. refl) h.0 h.1
+  answered id (Cancel i r) event h = at-once id (Cancel i r) event (λ k less. refl) (λ f. cc) (λ s f. cc) h
+  answered id (Write i v) event h = written-by id i v (is_same a.sink i) refl event h
+  answered id (Close i) event h = closed-by id i (is_same a.sink i) refl event h
+  answered id (Abort i r) event h = at-once id (Abort i r) event (λ k less. refl) (λ f. cc) (λ s f. cc) h
+  answered id (Transform i (Bytes piece)) event h = rw h.1.shown (transforms plan xs a realm id i b (shows rf feed old) p q h.1.gained since goes piece event h.0)
+  answered id (Transform i (PlainValue v)) event h = plain-transformed id i v event h
+  answered id (Flush i) event h = rw h.1.shown (flushes plan xs a realm id i b (shows rf feed old) p q h.1.gained since goes event h.0)
+  answered id (CancelTransform i r) event h = at-once id (CancelTransform i r) event (λ k less. refl) (λ f. cc) (λ s f. cc) h
+
+  heard-of : (e : Event) → AfterEvent plan xs a realm e → Hears e was b old new p q → Done
+  heard-of (Host id call) event h = answered id call event h
+  heard-of (Settled d) event h = told-only (record { 0 = 0 }) (Settled d) event (λ k less. refl) h.0 h.1
+  heard-of (Signal i r) event h = told-only (record { 0 = 0 }) (Signal i r) event (λ k less. refl) h.0 h.1
+
+pub hears : (rf : ℕ) (feed : Option Feed) (p q : List ℕ → Type 0) (plan : Plan) (xs : List Entry) (a : Node) (realm : SeenRealm) (e : Event) (b : Node) (old new : Shown)
+    → Since plan xs a → a.stopped ≡ None → first_event a.realm.slots.promises.events ≡ Some e → realm.slots ≡ after_event a.realm.slots
+    → Hears e (with_realm realm a) b old new p q → Handled plan a b (shows rf feed old) (shows rf feed new) p q
+hears rf feed p q plan xs a realm e b old new since goes first slots h =
+    heard-of rf feed p q plan xs a realm b old new since goes e (since-hears plan xs a realm e since.led goes first slots) h
 
 -- a node whose host has heard of everything
-pub hears-none : (xs : List Entry) (a : Node) (realm : SeenRealm) (m : Moment) (p : List ℕ → Type 0) → Since xs a → first_event a.realm.slots.promises.events ≡ None
-    → realm.slots ≡ after_event a.realm.slots → Went a (with_realm realm a) m m p p
-hears-none xs a realm m p since first slots =
-    let same : behind_in realm.slots ≡ behind_in a.realm.slots = ap behind_in slots ∙ (link-unheard source sink link a.realm.slots first since.led.link).1 in
-    went-rests (lying a) a (with_realm realm a) m p p (Gains-nothing p)
-    (subst (λ (x : Told Value). IsShortOf (lying_by a.stopped (ended_by a.input (in_bytes x))) (lying a)) (sym same) (short_refl (lying a))) refl refl refl refl refl refl
+
+stopped-same : (stopped : Option Why) (x y t : Told (List ℕ)) → IsShortOf x y → IsShortOf (lying_by stopped (then_told x t)) (lying_by stopped (then_told y t))
+stopped-same None x y t h = short_right x y t h
+stopped-same (Some why) x y t h = ([], refl)
+
+pub hears-none : (plan : Plan) (xs : List Entry) (a : Node) (realm : SeenRealm) (m : Moment) (p : List ℕ → Type 0) → Since plan xs a → a.stopped ≡ None
+    → first_event a.realm.slots.promises.events ≡ None → realm.slots ≡ after_event a.realm.slots → Handled plan a (with_realm realm a) m m p p
+hears-none plan xs a realm m p since goes first slots =
+    let after = since-hears-none plan xs a realm since.led first slots in
+    record {
+      xs = xs ++ Heard ∷ [];
+      led = after.led;
+      pushes = λ h. subst (λ (n : ℕ). ArePushed n a.stages.items) (sym after.age) (since.pushes h);
+      one = λ h. one-short a.ahead (behind_at 0 realm.slots) (behind_at 0 a.realm.slots) (after.short 0 (omega arith)) (since.one h);
+      went = went-rests plan a (with_realm realm a) m p p (Gains-nothing p) (going-stays a (with_realm realm a) goes) since.led.is_of.stages (record { realm = realm; stopped = a.stopped; is = refl })
+          (λ k less. stopped-same a.stopped (in_bytes (behind_at k realm.slots)) (in_bytes (behind_at k a.realm.slots)) (coming a k) (in_bytes-short _ _ (after.short k less)));
+    }

@@ -1,138 +1,318 @@
--- A new node: its realm has a source, a sink and a pipe, and nothing lies in it.
-use Rattle.std.proofs.Common.{◌≡◌, ◌<◌, ◌^◌, ℕ, true, List, [], ◌∷◌, length, Option, Some, None, refl, sym, ap, ◌∙◌, subst, arith}
-use Rattle.std.specs.Prelude.{slice_get, is_some}
-use Rattle.std.proofs.lemmas.List.Elements.{All-nil}
-use Rattle.ws_value.specs.declared.ids.PromiseId.{PromiseId}
-use Rattle.ws_flow.specs.Told.{Open, Told, told}
-use Rattle.ws_steps.specs.declared.calls.Reply.{Reply}
-use Rattle.ws_steps.specs.declared.calls.Reply.TheVariants.{Promise}
+-- A new node: its realm has the streams and pipes of a chain, and nothing lies in it.
+use Rattle.std.proofs.Common.{◌≡◌, ◌+◌, ◌*◌, ◌<◌, ◌≤◌, ℕ, zero, suc, ℤ, pos, negsuc, nat_abs, Bool, true, false, ◌&&◌, List, [], ◌∷◌, ◌++◌, length, map, Option, Some, None, refl, sym, ap, ◌∙◌, subst, arith}
+use Rattle.std.specs.Prelude.{is_some, option_map, int_le}
+use Rattle.std.specs.List.{list_all}
+use Rattle.std.proofs.lemmas.Bool.{and_parts}
+use Rattle.std.proofs.lemmas.List.Elements.{All-nil, All-cons}
+use Rattle.ws_value.specs.declared.ids.HostId.{HostId}
+use Rattle.ws_value.specs.declared.value.Value.{Value}
+use Rattle.ws_flow.specs.declared.plan.Plan.{Plan}
+use Rattle.ws_flow.specs.declared.plan.Stage.{Stage}
+use Rattle.ws_flow.specs.declared.plan.Stage.TheVariants.{Lines, Fixed, Hex, Unhex, Mask, Number, Frame, Unframe}
+use Rattle.ws_flow.specs.Machines.{Kept, Machine}
+use Rattle.ws_flow.specs.Parts.{Live, Part, Flows, fresh, nothing_told}
+use Rattle.ws_flow.specs.Plans.{is_within, is_abort_within, is_placed_within, stages_of}
+use Rattle.ws_flow.specs.Stages.{machine, machines, nothing_kept}
+use Rattle.ws_flow.specs.Steps.{parts_at}
+use Rattle.ws_flow.specs.Told.{Told, then_told}
+use Rattle.ws_flow.proofs.Lengths.{accepted}
+use Rattle.ws_flow.proofs.Steps.{behind_at as behind_last, goes_same}
+use Rattle.ws_stages.specs.State.{State, begun}
+use Rattle.ws_steps.specs.declared.calls.Call.{Call}
+use Rattle.ws_steps.specs.declared.calls.Call.TheVariants.{MakeWritable, Settle}
 use Rattle.ws_steps.specs.declared.calls.StartBy.TheVariants.{Now}
 use Rattle.ws_steps.specs.declared.readable.SizeBy.TheVariants.{Count}
-use Rattle.ws_steps.specs.Promises.{rank_at, fresh, settle, answer, react, follow, unfollow, use_gift, queue_micro, after_next_job, watch}
-use Rattle.ws_steps.specs.Readable as readable
-use Rattle.ws_steps.specs.Writable as writable
-use Rattle.ws_steps.specs.Pipes as pipe
-use Rattle.ws_steps.specs.Turns.{call_host, row, turns, performed}
-use Rattle.ws_steps.specs.Jobs.{begin_job}
-use Rattle.ws_steps.specs.Calls.{begin}
-use Rattle.ws_steps.specs.Run.{Entry, run, step, reply_to}
-use Rattle.ws_steps.specs.Slots.{Slots, empty, pipe_at}
-use Rattle.ws_host_laws.specs.HostLaws.{MakesAPipe, next_pipe}
-use Rattle.ws_laws.proofs.Watched.{named-stays}
-use Rattle.ws_link_laws.specs.Own.{IsOwnLink}
-use Rattle.ws_link_laws.proofs.OwnLinks.{link-begins, free-new}
-use Rattle.ws_pipe_laws.proofs.Kept.{each_pipe_stays}
-use Rattle.ws_promise_laws.proofs.Names.{run-names}
+use Rattle.ws_steps.specs.Run.{Entry, Called, Worked, Heard, run, performed_in}
+use Rattle.ws_steps.specs.Slots.{Slots, empty, most_streams}
+use Rattle.ws_laws.proofs.Ages.{each_age_counts}
+use Rattle.ws_host_laws.specs.HostCalls.{settles_well}
+use Rattle.ws_link_laws.specs.Link.{silence}
+use Rattle.ws_chain_laws.specs.Chain.{behind_at}
+use Rattle.ws_chain_laws.specs.Opening.{BeginsChain, transforms, streams, signals, signal_of, pipes_from, piping, opening, opened, chained}
+use Rattle.ws_chain_laws.specs.Outcomes.{past_of}
+use Rattle.ws_chain_laws.proofs.Begins.{each_chain_begins}
+use Rattle.ws_chain_laws.proofs.Outcomes.{each_chain_ends}
+use Rattle.ws_realm.specs.Seen.{oldest}
 use Rattle.ws_realm.specs.declared.realm.Why.{Why}
-use Rattle.ws_reason_laws.proofs.FirstPipe.{promise-answered}
-use Rattle.ws_reason_laws.proofs.Untransformed.{run-none}
+use Rattle.ws_runner.specs.declared.node.Abort.{Abort}
 use Rattle.ws_runner.specs.declared.node.Input.{Input}
 use Rattle.ws_runner.specs.declared.node.Input.TheVariants as input
 use Rattle.ws_runner.specs.declared.node.Node.{Node}
-use Rattle.ws_runner.specs.declared.node.Output.{Output}
-use Rattle.ws_runner.specs.Node.{source, sink, link, behind_in, in_bytes, ended_by, lying_by}
-use Rattle.ws_runner.specs.Past.{IsCause, nothing_prevented, piping, opening, promise, past_of, ClosesFinished, OneAtMost, Driven, IsNew, IsFresh}
+use Rattle.ws_runner.specs.Node.{coming, coming_by, coming_behind, in_bytes, lies_in, lying, lying_by, nothing_yet, parts, works_in}
+use Rattle.ws_runner.specs.Opening.{IsAccepted, abort_of, all_begun, count_of, is_aborted}
+use Rattle.ws_runner.specs.Past.{ArePushed, Counts, Driven, IsCause, IsFed, IsFresh, IsNew, IsOf, Led, OneAtMost}
+use Rattle.ws_runner.proofs.Ending.{few-streams}
 
--- nothing lies behind the host
-pub nothing-behind : behind_in (run (past_of []) empty) ≡ told [] Open
-unfolding fresh settle answer react follow unfollow use_gift queue_micro after_next_job watch readable.call_pull_if_needed readable.accept readable.controller_enqueue readable.controller_close readable.close_if_empty readable.stream_close readable.after_take readable.pull_steps readable.default_reader_read readable.reader_generic_initialize readable.disturb readable.start_settled readable.pull_settled readable.stream_cancel readable.cancel_steps readable.cancel_if_readable readable.reader_release writable.ensure_rejected writable.settle_pending writable.update_backpressure writable.refresh_backpressure writable.reject_close_and_closed writable.finish_erroring writable.start_erroring writable.deal_with_rejection writable.controller_error_if_needed writable.process_write writable.process_close writable.advance_queue writable.hand_on writable.write_settled writable.finish_in_flight_close writable.finish_in_flight_close_with_error writable.close_settled writable.start_settled writable.abort_settled writable.controller_write writable.writer_write writable.controller_close writable.stream_close writable.close_with_error_propagation writable.stream_abort writable.abort_if_writable writable.set_up_writer writable.writer_release pipe.finalize pipe.act_by_signal pipe.act pipe.proceed pipe.shutdown pipe.look pipe.look_ready pipe.go_on pipe.keep_chunk pipe.read_ended pipe.write_chunk pipe.write_ended pipe.action_settled pipe.part_settled pipe.no_parts pipe.abort call_host row turns performed begin_job begin
-nothing-behind = refl
+-- the stages at their beginning
 
--- the pipe is the first
-no_pipes : length (run opening empty).pipes ≡ 0
-unfolding fresh settle answer react follow unfollow use_gift queue_micro after_next_job watch call_host row turns performed begin_job begin
-no_pipes = refl
+stages-begun : (ss : List Stage) → map (λ (w : State). w.stage) (all_begun ss) ≡ ss
+stages-begun [] = refl
+stages-begun (s ∷ ss) = ap (λ q. s ∷ q) (stages-begun ss)
 
-pub link-made : IsOwnLink source sink link (run (past_of []) empty)
-link-made =
-    subst (λ (n : ℕ). IsOwnLink source sink (record { 0 = n }) (run (past_of []) empty)) no_pipes
-    (link-begins source sink nothing_prevented None (run opening empty) (free-new 0 Count Now 1 Count Now) tt)
+works_begun : (ss : List Stage) → length (map (λ (w : State). w.work) (all_begun ss)) ≡ length ss
+works_begun [] = refl
+works_begun (s ∷ ss) = ap suc (works_begun ss)
 
--- the reply names the promise of the pipe
-pub pipe-named : (q : PromiseId) → reply_to piping (run opening empty) ≡ Promise q → q ≡ promise
-pipe-named q e = let f = promise-answered nothing_prevented in cc
+start-is : (s : Stage) → (machine s).start ≡ nothing_kept
+start-is (Lines most) = refl
+start-is (Fixed n) = refl
+start-is Hex = refl
+start-is Unhex = refl
+start-is (Mask key) = refl
+start-is Number = refl
+start-is Frame = refl
+start-is (Unframe most) = refl
 
-pub reply-promises : (s : Slots) (reply : Reply) → s ≡ run opening empty → reply ≡ reply_to piping s → ((q : PromiseId) → reply ≡ Promise q → ⊥) → ⊥
-reply-promises s reply e is other = other promise (is ∙ (ap (reply_to piping) e ∙ promise-answered nothing_prevented))
+coming-begun : (j : ℕ) (ss : List Stage) → coming_behind j (all_begun ss) ≡ nothing_yet
+coming-begun j [] = refl
+coming-begun zero (s ∷ ss) = refl
+coming-begun (suc j) (s ∷ ss) = coming-begun j ss
 
--- none of the calls that open a realm settles a host's call
-nothing-closed : (o : Output) → ClosesFinished (past_of []) o
-nothing-closed o [] after id e c = absurd (cc)
-nothing-closed o (x ∷ []) after id e c = absurd (cc)
-nothing-closed o (x ∷ y ∷ []) after id e c = absurd (cc)
-nothing-closed o (x ∷ y ∷ z ∷ []) after id e c = absurd (cc)
-nothing-closed o (x ∷ y ∷ z ∷ w ∷ before) after id e c = absurd (cc)
+coming-none : (ss : List Stage) (j : ℕ) → coming_by input.Open (all_begun ss) j ≡ nothing_yet
+coming-none ss zero = refl
+coming-none ss (suc j) = coming-begun j ss
 
-pub fresh-driven : (limit : ℕ) (n : Node) → limit < 2 ^ 63 → IsFresh limit n → Driven n
-fresh-driven limit n small f =
-    let most = f.most in
-    let taken = f.taken in
-    let unwritten = f.unwritten in
-    let is = f.input in
-    record {
-      xs = [];
-      since = record {
-        led = record {
-          slots = f.slots;
-          answered = f.answered;
-          left = refl;
-          link = subst (IsOwnLink source sink link) (sym f.slots) link-made;
-          plain = subst (λ (s : Slots). s.transforms ≡ []) (sym f.slots) (run-none (past_of []) empty (refl, (refl, (refl, tt))) refl);
-          failed = All-nil (IsCause n.input n.output);
-          closes = nothing-closed n.output;
-          asked = rw f.asked tt;
-          counts = record { limited = omega arith; bound = omega arith; within = λ e. omega arith; beyond = λ e. absurd (cc); piece = omega arith; failed = λ e. absurd (cc) };
-          spent = λ e. let f₁ = f.stopped in absurd (cc);
-        };
-        one = λ o. subst (λ (s : Slots). OneAtMost n.unwritten (behind_in s).items) (sym f.slots) (subst (λ (x : Told _). OneAtMost n.unwritten x.items) (sym nothing-behind) tt);
-      };
-    }
+-- where nothing lies before any of them, they are fresh
+fresh-at : (k : ℕ) (ss : List Stage) (x : ℕ → Told (List ℕ)) → ((j : ℕ) → k ≤ j → j < k + length ss → x j ≡ nothing_told)
+    → parts_at k (map (λ (w : State). w.work) (all_begun ss)) x ≡ fresh (machines ss)
+fresh-at k [] x h = refl
+fresh-at k (s ∷ ss) x h =
+    let rest = fresh-at (suc k) ss x (λ j a b. h j (omega arith) (omega arith)) in
+    let none : x k ≡ nothing_told = h k (omega arith) (omega arith) in
+    let first : record { work = Live nothing_kept; before = x k } ≡ record { work = Live (machine s).start; before = nothing_told } =
+    ap (λ (t : Told (List ℕ)). record { work = Live nothing_kept; before = t }) none
+    ∙ ap (λ (r : Kept). record { work = Live r; before = nothing_told }) (sym (start-is s)) in
+    ap (λ (p : Part). p ∷ parts_at (suc k) (map (λ (w : State). w.work) (all_begun ss)) x) first
+    ∙ ap (λ (ps : List Part). record { work = Live (machine s).start; before = nothing_told } ∷ ps) rest
 
-pub fresh-new : (limit : ℕ) (n : Node) → IsFresh limit n → IsNew limit n
-fresh-new limit n f =
-    record {
-      most = f.most;
-      taken = f.taken;
-      unwritten = f.unwritten;
-      input = f.input;
-      output = f.output;
-      lying =
-          ap (λ (w : Option Why). lying_by w (ended_by n.input (in_bytes (behind_in n.realm.slots)))) f.stopped
-          ∙ (ap (λ (i : Input). ended_by i (in_bytes (behind_in n.realm.slots))) f.input ∙ ap (λ (x : Told _). ended_by input.Open (in_bytes x)) (ap behind_in f.slots ∙ nothing-behind));
-    }
+fresh-length : (ms : List Machine) → length ms ≡ length (fresh ms)
+fresh-length [] = refl
+fresh-length (m ∷ ms) = ap suc (fresh-length ms)
 
--- the pipe is made, and its destination is writable and not closing
-pub pipe-made : MakesAPipe opening source sink nothing_prevented None
-unfolding fresh settle answer react follow unfollow use_gift queue_micro after_next_job watch readable.call_pull_if_needed readable.accept readable.controller_enqueue readable.controller_close readable.close_if_empty readable.stream_close readable.after_take readable.pull_steps readable.default_reader_read readable.reader_generic_initialize readable.disturb readable.start_settled readable.pull_settled readable.stream_cancel readable.cancel_steps readable.cancel_if_readable readable.reader_release writable.ensure_rejected writable.settle_pending writable.update_backpressure writable.refresh_backpressure writable.reject_close_and_closed writable.finish_erroring writable.start_erroring writable.deal_with_rejection writable.controller_error_if_needed writable.process_write writable.process_close writable.advance_queue writable.hand_on writable.write_settled writable.finish_in_flight_close writable.finish_in_flight_close_with_error writable.close_settled writable.start_settled writable.abort_settled writable.controller_write writable.writer_write writable.controller_close writable.stream_close writable.close_with_error_propagation writable.stream_abort writable.abort_if_writable writable.set_up_writer writable.writer_release pipe.finalize pipe.act_by_signal pipe.act pipe.proceed pipe.shutdown pipe.look pipe.look_ready pipe.go_on pipe.keep_chunk pipe.read_ended pipe.write_chunk pipe.write_ended pipe.action_settled pipe.part_settled pipe.no_parts pipe.abort call_host row turns performed begin_job begin
-pipe-made = record { made = refl; closes = refl; writable = refl; not_closing = refl }
+never-pushed : (age : ℕ) (ss : List Stage) → 0 < age → ArePushed age (all_begun ss)
+never-pushed age [] h = All-nil (λ (w : State). w.pushes < age)
+never-pushed age (s ∷ ss) h = All-cons (λ (w : State). w.pushes < age) (begun s) (all_begun ss) h (never-pushed age ss h)
 
--- the pipe of a new realm
-new-pipe : pipe.Slots
-new-pipe = pipe_at link (run (past_of []) empty)
+signal-is : (x : Option ℤ) → option_map (λ (a : Abort). a.signal) (abort_of x) ≡ signal_of (is_some x)
+signal-is None = refl
+signal-is (Some after) = refl
 
-new-there : slice_get (run (past_of []) empty).pipes 0 ≡ Some new-pipe
-unfolding fresh settle answer react follow unfollow use_gift queue_micro after_next_job watch readable.call_pull_if_needed readable.accept readable.controller_enqueue readable.controller_close readable.close_if_empty readable.stream_close readable.after_take readable.pull_steps readable.default_reader_read readable.reader_generic_initialize readable.disturb readable.start_settled readable.pull_settled readable.stream_cancel readable.cancel_steps readable.cancel_if_readable readable.reader_release writable.ensure_rejected writable.settle_pending writable.update_backpressure writable.refresh_backpressure writable.reject_close_and_closed writable.finish_erroring writable.start_erroring writable.deal_with_rejection writable.controller_error_if_needed writable.process_write writable.process_close writable.advance_queue writable.hand_on writable.write_settled writable.finish_in_flight_close writable.finish_in_flight_close_with_error writable.close_settled writable.start_settled writable.abort_settled writable.controller_write writable.writer_write writable.controller_close writable.stream_close writable.close_with_error_propagation writable.stream_abort writable.abort_if_writable writable.set_up_writer writable.writer_release pipe.finalize pipe.act_by_signal pipe.act pipe.proceed pipe.shutdown pipe.look pipe.look_ready pipe.go_on pipe.keep_chunk pipe.read_ended pipe.write_chunk pipe.write_ended pipe.action_settled pipe.part_settled pipe.no_parts pipe.abort call_host row turns performed begin_job begin new-pipe
-new-there = refl
+-- none of the calls that open a realm settles a call of the host
 
-new-promise : new-pipe.promise ≡ promise
-unfolding fresh settle answer react follow unfollow use_gift queue_micro after_next_job watch readable.call_pull_if_needed readable.accept readable.controller_enqueue readable.controller_close readable.close_if_empty readable.stream_close readable.after_take readable.pull_steps readable.default_reader_read readable.reader_generic_initialize readable.disturb readable.start_settled readable.pull_settled readable.stream_cancel readable.cancel_steps readable.cancel_if_readable readable.reader_release writable.ensure_rejected writable.settle_pending writable.update_backpressure writable.refresh_backpressure writable.reject_close_and_closed writable.finish_erroring writable.start_erroring writable.deal_with_rejection writable.controller_error_if_needed writable.process_write writable.process_close writable.advance_queue writable.hand_on writable.write_settled writable.finish_in_flight_close writable.finish_in_flight_close_with_error writable.close_settled writable.start_settled writable.abort_settled writable.controller_write writable.writer_write writable.controller_close writable.stream_close writable.close_with_error_propagation writable.stream_abort writable.abort_if_writable writable.set_up_writer writable.writer_release pipe.finalize pipe.act_by_signal pipe.act pipe.proceed pipe.shutdown pipe.look pipe.look_ready pipe.go_on pipe.keep_chunk pipe.read_ended pipe.write_chunk pipe.write_ended pipe.action_settled pipe.part_settled pipe.no_parts pipe.abort call_host row turns performed begin_job begin new-pipe
-new-promise = refl
+abbrev is_open : Call → Bool
+is_open (Settle id answer) = false
+is_open c = true
 
--- the pipe is there, and its promise is the one that was answered
-pub first-promise : (xs : List Entry) → (x : pipe.Slots) × (slice_get (run (past_of xs) empty).pipes 0 ≡ Some x) × (x.promise ≡ promise)
-first-promise xs =
-    let stays = (each_pipe_stays link (run (past_of []) empty)).in_run xs new-pipe new-there in
-    (stays.slots, stays.there, stays.same.promise ∙ new-promise)
+abbrev are_open : List Entry → Bool
+are_open [] = true
+are_open (Called c ∷ xs) = is_open c && are_open xs
+are_open (Worked ∷ xs) = are_open xs
+are_open (Heard ∷ xs) = are_open xs
 
--- the number of the pipe
-pub first-number : next_pipe opening ≡ link
-first-number = ap (λ (n : ℕ). record { 0 = n }) no_pipes
+both_open : (a b c : Bool) → ((b ≡ true) → c ≡ true) → (a && b) ≡ true → (a && c) ≡ true
+both_open true b c f h = f h
+both_open false b c f h = h
 
--- a reply has named its promise
+open-append : (xs ys : List Entry) → are_open xs ≡ true → are_open ys ≡ true → are_open (xs ++ ys) ≡ true
+open-append [] ys a b = b
+open-append (Called c ∷ xs) ys a b = both_open (is_open c) (are_open xs) (are_open (xs ++ ys)) (λ h. open-append xs ys h b) a
+open-append (Worked ∷ xs) ys a b = open-append xs ys a b
+open-append (Heard ∷ xs) ys a b = open-append xs ys a b
 
-named-run : (xs : List Entry) (s : Slots) → is_some (rank_at s.promises promise) ≡ true → is_some (rank_at (run xs s).promises promise) ≡ true
-named-run [] s h = h
-named-run (x ∷ xs) s h = named-run xs (step s x) (named-stays s x promise h)
+transforms-open : (n : ℕ) → are_open (transforms n) ≡ true
+transforms-open zero = refl
+transforms-open (suc n) = transforms-open n
 
-pub promise-named : (xs : List Entry) → is_some (rank_at (run (past_of xs) empty).promises promise) ≡ true
-promise-named xs = named-run xs (run (past_of []) empty) (run-names opening piping promise (promise-answered nothing_prevented))
+signals-open : (b : Bool) → are_open (signals b) ≡ true
+signals-open false = refl
+signals-open true = refl
+
+pipes-open : (k n : ℕ) → are_open (pipes_from k n) ≡ true
+pipes-open k zero = refl
+pipes-open k (suc n) = pipes-open (suc k) n
+
+past-open : (n : ℕ) (signalled : Bool) → are_open (past_of n signalled []) ≡ true
+past-open n signalled =
+    open-append (opening n signalled) (Called (piping (signal_of signalled) n) ∷ [])
+    (open-append (streams n) (signals signalled ++ pipes_from 0 n) (open-append (transforms n) _ (transforms-open n) refl)
+    (open-append (signals signalled) (pipes_from 0 n) (signals-open signalled) (pipes-open 0 n)))
+    refl
+
+none-settled : (before after : List Entry) (id : HostId) → are_open (before ++ Called (settles_well id) ∷ after) ≡ true → ⊥
+none-settled [] after id e = cc
+none-settled (Called c ∷ before) after id e = none-settled before after id (and_parts (is_open c) (are_open (before ++ Called (settles_well id) ∷ after)) e).1
+none-settled (Worked ∷ before) after id e = none-settled before after id e
+none-settled (Heard ∷ before) after id e = none-settled before after id e
+
+-- how many they are
+
+performed-append : (xs ys : List Entry) → performed_in (xs ++ ys) ≡ performed_in xs + performed_in ys
+performed-append [] ys = omega arith
+performed-append (Called c ∷ xs) ys = let h = performed-append xs ys in omega arith
+performed-append (Worked ∷ xs) ys = let h = performed-append xs ys in omega arith
+performed-append (Heard ∷ xs) ys = performed-append xs ys
+
+transforms-performed : (n : ℕ) → performed_in (transforms n) ≡ n
+transforms-performed zero = refl
+transforms-performed (suc n) = let h = transforms-performed n in omega arith
+
+signals-performed : (b : Bool) → performed_in (signals b) ≤ 1
+signals-performed false = omega arith
+signals-performed true = omega arith
+
+pipes-performed : (k n : ℕ) → performed_in (pipes_from k n) ≡ n
+pipes-performed k zero = refl
+pipes-performed k (suc n) = let h = pipes-performed (suc k) n in omega arith
+
+pub record IsYoung (n age : ℕ) : Type 0 where
+  pub some : 0 < age
+  pub few : age ≤ 2 * n + 4
+
+young-by : (n age all opened made rest some t s p : ℕ) → age ≡ 0 + all → all ≡ opened + 1 → opened ≡ made + rest → made ≡ 1 + some → some ≡ t + 1 → rest ≡ s + p
+    → t ≡ n → s ≤ 1 → p ≡ n → IsYoung n age
+young-by n age all opened made rest some t s p a b c d e f g h i = record { some = omega arith; few = omega arith }
+
+young : (n : ℕ) (signalled : Bool) → IsYoung n (run (past_of n signalled []) empty).age
+young n signalled =
+    let sink = Called (MakeWritable 1 Count Now) ∷ [] in
+    let last = Called (piping (signal_of signalled) n) ∷ [] in
+    let rest = signals signalled ++ pipes_from 0 n in
+    young-by n (run (past_of n signalled []) empty).age (performed_in (past_of n signalled [])) (performed_in (opening n signalled)) (performed_in (streams n)) (performed_in rest)
+    (performed_in (transforms n ++ sink)) (performed_in (transforms n)) (performed_in (signals signalled)) (performed_in (pipes_from 0 n))
+    (each_age_counts empty (past_of n signalled [])) (performed-append (opening n signalled) last) (performed-append (streams n) rest) refl (performed-append (transforms n) sink)
+    (performed-append (signals signalled) (pipes_from 0 n)) (transforms-performed n) (signals-performed signalled) (pipes-performed 0 n)
+
+-- a plan's limit
+limit-of : (x : ℤ) → is_within 0 1099511627776 x ≡ true → nat_abs x ≤ 1099511627776
+limit-of (pos n) h = grind arith
+limit-of (negsuc n) h = grind arith
+
+module _ (plan : Plan) (n : Node) (is_accepted : IsAccepted plan) (f : IsFresh plan n) where
+  abbrev k : ℕ
+  k = count_of plan
+
+  abbrev signalled : Bool
+  signalled = is_aborted plan
+
+  abbrev ss : List Stage
+  ss = stages_of plan
+
+  few : 2 * k + 2 ≤ most_streams
+  few = few-streams plan is_accepted
+
+  begins : BeginsChain k signalled
+  begins = each_chain_begins k signalled few
+
+  slots-are : n.realm.slots ≡ chained k signalled
+  slots-are = f.slots ∙ (each_chain_ends k signalled [] few).slots
+
+  nothing-behind : (j : ℕ) → j ≤ k → behind_at j n.realm.slots ≡ silence
+  nothing-behind j l = ap (behind_at j) slots-are ∙ begins.none j l
+
+  nothing-lies : (j : ℕ) → j ≤ k → lies_in n j ≡ nothing_yet
+  nothing-lies j l =
+      ap (λ (w : Option Why). lying_by w (then_told (in_bytes (behind_at j n.realm.slots)) (coming n j))) f.stopped
+      ∙ (ap (λ (t : Told Value). then_told (in_bytes t) (coming n j)) (nothing-behind j l)
+      ∙ ap (λ (t : Told (List ℕ)). then_told nothing_yet t)
+      (ap (λ (i : Input). coming_by i n.stages.items j) f.input ∙ (ap (λ (ws : List State). coming_by input.Open ws j) f.stages ∙ coming-none ss j)))
+
+  parts-fresh : parts n ≡ fresh (machines ss)
+  parts-fresh =
+      ap (λ (ws : List State). parts_at 0 (map (λ (w : State). w.work) ws) (lies_in n)) f.stages
+      ∙ fresh-at 0 ss (lies_in n) (λ j a b. nothing-lies j (omega arith))
+
+  lying-none : lying n ≡ nothing_yet
+  lying-none =
+      behind_last 0 (works_in n) (lies_in n)
+      ∙ nothing-lies (0 + length (works_in n))
+      (let e = ap (λ (ws : List State). length (map (λ (w : State). w.work) ws)) f.stages ∙ works_begun ss in omega arith)
+
+  is-of : IsOf plan n
+  is-of = record {
+    accepted = is_accepted;
+    stages = ap (λ (ws : List State). map (λ (w : State). w.stage) ws) f.stages ∙ stages-begun ss;
+    sink = f.sink;
+    most = f.most;
+    signal = ap (λ (x : Option Abort). option_map (λ (a : Abort). a.signal) x) f.abort ∙ signal-is plan.abort_after;
+  }
+
+  its-age : IsYoung k n.realm.slots.age
+  its-age = subst (λ (s : Slots). IsYoung k s.age) (sym f.slots) (young k signalled)
+
+  young-enough : n.realm.slots.age ≤ oldest
+  young-enough = let few₁ = its-age.few in let small = (accepted plan is_accepted).stages in omega arith
+
+  limited : nat_abs plan.max_input ≤ 1099511627776
+  limited =
+      let numbers = (accepted plan is_accepted).numbers in
+      let a = and_parts (int_le (pos 0) plan.workers) (is_abort_within plan.abort_after && (is_within 0 1099511627776 plan.max_input && list_all (is_placed_within plan.workers) plan.stages.items)) numbers in
+      let b = and_parts (is_abort_within plan.abort_after) (is_within 0 1099511627776 plan.max_input && list_all (is_placed_within plan.workers) plan.stages.items) a.1 in
+      let c = and_parts (is_within 0 1099511627776 plan.max_input) (list_all (is_placed_within plan.workers) plan.stages.items) b.1 in
+      limit-of plan.max_input c.0
+
+  counts : Counts n.most n.taken n.ahead n.input
+  counts =
+      let most = f.most in
+      let small = limited in
+      let taken = f.taken in
+      let ahead = f.ahead in
+      let is = f.input in
+      record { limited = omega arith; bound = omega arith; within = λ e. omega arith; beyond = λ e. absurd (cc); piece = omega arith; failed = λ e. absurd (cc) }
+
+  led : Led plan [] n
+  led = record {
+    is_of = is-of;
+    slots = f.slots;
+    calls = tt;
+    answered = f.answered;
+    failed = All-nil (IsCause n);
+    closes = λ before after id e c. absurd (none-settled before after id (subst (λ (xs : List Entry). are_open xs ≡ true) e (past-open k signalled)));
+    flushes = λ before after id i e c. absurd (none-settled before after id (subst (λ (xs : List Entry). are_open xs ≡ true) e (past-open k signalled)));
+    asked = rw f.asked tt;
+    aborts = λ e. let o = f.output in absurd (cc);
+    age = young-enough;
+    counts = counts;
+    spent = λ e. let o = f.stopped in absurd (cc);
+  }
+
+  fed : IsFed plan n
+  fed = record {
+    came = nothing_told;
+    went = nothing_told;
+    short = All-nil (λ (c : List ℕ). length c ≤ 4096);
+    goes_on = λ o. refl;
+    flows = subst (λ (ps : List Part). Flows (machines ss) nothing_told ps (then_told nothing_told (lying n))) (sym parts-fresh)
+        (subst (λ (t : Told (List ℕ)). Flows (machines ss) nothing_told (fresh (machines ss)) (then_told nothing_told t)) (sym lying-none)
+        (goes_same (machines ss) (fresh (machines ss)) nothing_told (fresh-length (machines ss))));
+  }
+
+  driven : Driven n
+  driven = record {
+    plan = plan;
+    xs = [];
+    since = record {
+      led = led;
+      pushes = λ e. subst (ArePushed n.realm.slots.age) (sym f.stages) (never-pushed n.realm.slots.age ss its-age.some);
+      one = λ o. subst (λ (x : Told Value). OneAtMost n.ahead x.items) (sym (nothing-behind 0 (omega arith))) tt;
+      fed = fed;
+    };
+  }
+
+  new : IsNew plan n
+  new = record {
+    is_of = is-of;
+    pipes = f.before_answered;
+    parts = parts-fresh;
+    lying = lying-none;
+    abort = f.abort;
+    taken = f.taken;
+    ahead = f.ahead;
+    input = f.input;
+    output = f.output;
+  }
+
+pub fresh-driven : (plan : Plan) (n : Node) → IsAccepted plan → IsFresh plan n → Driven n
+fresh-driven plan n accepted f = driven plan n accepted f
+
+pub fresh-new : (plan : Plan) (n : Node) → IsAccepted plan → IsFresh plan n → IsNew plan n
+fresh-new plan n accepted f = new plan n accepted f

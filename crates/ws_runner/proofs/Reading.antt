@@ -1,33 +1,44 @@
 -- What a node does as it reads its input.
-use Rattle.std.proofs.Common.{◌≡◌, ◌+◌, ◌-◌, ◌≤◌, ◌<◌, ℕ, Bool, true, false, List, [], ◌∷◌, ◌++◌, length, Option, Some, None, Result, Ok, Err, refl, sym, ap, ◌∙◌, subst, append-nil, arith}
+use Rattle.std.proofs.Common.{◌≡◌, ◌+◌, ◌-◌, ◌≤◌, ◌<◌, ℕ, zero, suc, Bool, true, false, List, [], ◌∷◌, ◌++◌, length, Option, Some, None, Result, Ok, Err, refl, sym, ap, ◌∙◌, subst, append-nil, append_assoc, arith}
 use Rattle.std.specs.List.{concat, All}
-use Rattle.std.specs.Prelude.{nat_lt, slice_get}
+use Rattle.std.specs.Prelude.{nat_eq, nat_lt, slice_get}
 use Rattle.std.proofs.lemmas.Bool.Decides.{nat_tests}
-use Rattle.std.proofs.lemmas.List.Elements.{All-nil, All-cons, All-head, All-tail}
-use Rattle.ws_value.specs.declared.fault.Fault.TheVariants.{Read as ReadFault, TooMuch, Write as WriteFault}
+use Rattle.std.proofs.lemmas.List.Elements.{All-nil, All-cons}
+use Rattle.ws_value.specs.declared.fault.Fault.TheVariants.{Read as ReadFault, TooMuch}
 use Rattle.ws_value.specs.declared.ids.HostId.{HostId}
 use Rattle.ws_value.specs.declared.ids.StreamId.{StreamId}
-use Rattle.ws_value.specs.declared.value.Plain.{Plain}
 use Rattle.ws_value.specs.declared.value.Plain.TheVariants.{Fault as FaultReason}
 use Rattle.ws_value.specs.declared.value.Value.{Value}
 use Rattle.ws_value.specs.declared.value.Value.TheVariants.{Bytes, Plain as PlainValue}
+use Rattle.ws_flow.specs.declared.plan.Plan.{Plan}
+use Rattle.ws_flow.specs.Parts.{AtWork, Goes}
+use Rattle.ws_flow.specs.Plans.{stages_of}
+use Rattle.ws_flow.specs.Stages.{machines}
+use Rattle.ws_flow.specs.Steps.{parts_at, behind_of}
 use Rattle.ws_flow.specs.Told.{Mark, Open as MayCome, Closed, Lost, Told, told, goes_on, then_told, IsShortOf}
-use Rattle.ws_flow.proofs.Told.{short_trans, short_same, short_as, short_left, then_empty}
+use Rattle.ws_flow.proofs.Steps.{goes_enters, goes_rests}
+use Rattle.ws_flow.proofs.Told.{short_trans, short_as, short_left, then_empty}
 use Rattle.ws_io.specs.Faults.{Rose}
 use Rattle.ws_io.specs.Feed.{Feed, Fed, KeepsEnd}
 use Rattle.ws_io.specs.Moment.{Moment, moment}
 use Rattle.ws_io.specs.declared.outside.Failed.{Failed}
 use Rattle.ws_io.proofs.Flow.{Gains-nothing, IsEmpty-kept, KeepsTold-same}
+use Rattle.ws_stages.specs.State.{State}
 use Rattle.ws_steps.specs.declared.calls.Answer.TheVariants.{Ok as AnswerOk}
 use Rattle.ws_steps.specs.declared.calls.Call.{Call}
 use Rattle.ws_steps.specs.declared.calls.Call.TheVariants.{Enqueue, Finish, Fail}
+use Rattle.ws_steps.specs.declared.calls.HostCall.{HostCall}
 use Rattle.ws_steps.specs.declared.calls.HostCall.TheVariants.{Pull}
-use Rattle.ws_steps.specs.Run.{Entry}
-use Rattle.ws_host_laws.specs.HostCalls.{called}
-use Rattle.ws_link_laws.specs.Own.{enters}
+use Rattle.ws_steps.specs.Run.{Entry, Called}
+use Rattle.ws_host_laws.specs.HostCalls.{called, settles_well}
+use Rattle.ws_host_laws.proofs.Called.{each_event_is_its_call}
+use Rattle.ws_link_laws.specs.Link.{silence}
+use Rattle.ws_chain_laws.specs.Chain.{behind_at, call_enters}
+use Rattle.ws_chain_laws.specs.Opening.{opening, piping, signal_of}
+use Rattle.ws_chain_laws.specs.Nodes.{only_at}
+use Rattle.ws_chain_laws.proofs.Nodes.{each_nodes_call_brings}
 use Rattle.ws_realm.specs.declared.realm.Why.{Why}
 use Rattle.ws_realm.specs.declared.realm.Why.TheVariants.{NoMemory}
-use Rattle.ws_reason_laws.specs.Reasons.{failures}
 use Rattle.ws_runner.specs.declared.node.Input.{Input}
 use Rattle.ws_runner.specs.declared.node.Input.TheVariants as input
 use Rattle.ws_runner.specs.declared.node.Node.{Node}
@@ -35,47 +46,16 @@ use Rattle.ws_runner.specs.declared.node.Output.{Output}
 use Rattle.ws_runner.specs.declared.node.Output.TheVariants as output
 use Rattle.ws_runner.specs.Host.{GivesPiece, IsPiece}
 use Rattle.ws_runner.specs.Moves.{Asks, Performed, Refused, settles, takes_bytes, Takes, Reads, ReadNot, Wanted, ReadOnce}
-use Rattle.ws_runner.specs.Node.{source, behind_in, in_bytes, ended_by, lying_by, lying, nothing_yet}
-use Rattle.ws_runner.specs.Past.{past_of, IsCause, IsPull, Counts, OneAtMost, Led, Since, Driven}
-use Rattle.ws_runner.specs.Went.{InputGoes, OutputGoes, Went}
-use Rattle.ws_runner.proofs.Answering.{Handled, SameCounts, asks-same, settles-other, since-settles}
-use Rattle.ws_runner.proofs.Going.{went-rests, went-same}
-use Rattle.ws_runner.proofs.Since.{MayAsk, since-asks, pull-longer}
+use Rattle.ws_runner.specs.Node.{source, in_bytes, lost_by, coming, coming_behind, lying_by, lies, lies_in, lying, nothing_yet, parts, stages_in, works_in}
+use Rattle.ws_runner.specs.Opening.{count_of, is_aborted, past}
+use Rattle.ws_runner.specs.Past.{IsCause, IsPull, Counts, ArePushed, OneAtMost, may_have, Led, Since}
+use Rattle.ws_runner.specs.Went.{InputGoes, OutputGoes, AbortGoes}
+use Rattle.ws_runner.proofs.Changes.{answering, led-input, led-unasked, led-stopped}
+use Rattle.ws_runner.proofs.Going.{abort-same, as-many, works-count, going-acts, going-stays, went-quietly, went-same, only-same}
+use Rattle.ws_runner.proofs.Handled.{Handled}
+use Rattle.ws_runner.proofs.Since.{OnlyRealm, MayAsk, since-asks}
 
--- the same node with what became of its input
-
-cause-stays : (i i' : Input) (o : Output) (r : Plain) → i ≡ input.Open → IsCause i o r → IsCause i' o r
-cause-stays i i' o (FaultReason ReadFault) e h = absurd (cc)
-cause-stays i i' o (FaultReason TooMuch) e h = absurd (cc)
-cause-stays i i' o (FaultReason WriteFault) e h = h
-cause-stays i i' o _ e h = absurd h
-
-all-causes : (i i' : Input) (o : Output) (rs : List Plain) → i ≡ input.Open → All (IsCause i o) rs → All (IsCause i' o) rs
-all-causes i i' o [] e a = All-nil (IsCause i' o)
-all-causes i i' o (r ∷ rs) e a =
-    All-cons (IsCause i' o) r rs (cause-stays i i' o r e (All-head (IsCause i o) r rs a)) (all-causes i i' o rs e (All-tail (IsCause i o) r rs a))
-
--- a node that answers the pull that waited
-abbrev answering : ℕ → ℕ → Input → Node → Node
-answering taken unwritten i n = record n { taken = taken; unwritten = unwritten; input = i; asked = None }
-
-led-input : (xs : List Entry) (n : Node) (taken unwritten : ℕ) (i : Input) → n.input ≡ input.Open → Counts n.most taken unwritten i → Led xs n
-    → Led xs (answering taken unwritten i n)
-led-input xs n taken unwritten i open_before counts s =
-    record {
-      slots = s.slots;
-      answered = s.answered;
-      left = s.left;
-      link = s.link;
-      plain = s.plain;
-      failed = all-causes n.input i n.output (failures xs) open_before s.failed;
-      closes = s.closes;
-      asked = tt;
-      counts = counts;
-      spent = s.spent;
-    }
-
--- where all that was read is written, nothing is behind the host while the output is open
+-- where all that was read was had, nothing is behind the host
 none-behind : (n : ℕ) (vs : List Value) → n ≡ 0 → OneAtMost n vs → vs ≡ []
 none-behind n [] e o = refl
 none-behind n (v ∷ vs) e o = absurd (one_of_none n v vs e o)
@@ -104,74 +84,94 @@ one-closes m x j none = one-closes-by m x.items x.mark j none
 one-comes : (m : ℕ) (piece : List ℕ) (x : Told Value) → x.items ≡ [] → length piece ≡ m → 0 < m → OneAtMost m (then_told x (told (Bytes piece ∷ []) MayCome)).items
 one-comes m piece x none long some = one-comes-by m piece x.items x.mark none long some
 
--- a settling that comes after a call
-through : (mid b : Node) (id : HostId) (x : Told (List ℕ)) → Asks (settles id) mid b → IsShortOf (lying mid) (ended_by mid.input x)
-    → IsShortOf (lying b) (ended_by b.input (in_bytes (behind_in mid.realm.slots))) → b.input ≡ mid.input → IsShortOf (lying b) (ended_by mid.input x)
-through mid b id x (Performed realm slots goes is) first second same =
-    let y : Told (List ℕ) = ended_by mid.input (in_bytes (behind_in mid.realm.slots)) in
-    short_trans _ _ _ (subst (λ (i : Input). IsShortOf (lying b) (ended_by i (in_bytes (behind_in mid.realm.slots)))) same second)
-    (subst (λ (w : Option Why). IsShortOf (lying_by w y) (ended_by mid.input x)) goes first)
-through mid b id x (Refused why stops is) first second same = rw is ((ended_by mid.input x).items, refl)
+-- the call of a host's number is the same in a longer past
+
+get-front : {A : Type 0} (xs rest : List A) (n : ℕ) (x : A) → slice_get xs n ≡ Some x → slice_get (xs ++ rest) n ≡ Some x
+get-front [] rest n x h = absurd (cc)
+get-front (y ∷ xs) rest zero x h = h
+get-front (y ∷ xs) rest (suc n) x h = get-front xs rest n x h
+
+called-on : (entries more : List Entry) (id : HostId) (call : HostCall) → slice_get (called entries) id.0 ≡ Some call → slice_get (called (entries ++ more)) id.0 ≡ Some call
+called-on entries more id call h =
+    let g = (each_event_is_its_call entries).grows more in
+    subst (λ q. slice_get q id.0 ≡ Some call) (sym g.1) (get-front (called entries) g.0 id.0 call h)
+
+past-on : (plan : Plan) (xs more : List Entry) → past plan (xs ++ more) ≡ past plan xs ++ more
+past-on plan xs more = sym (append_assoc (opening (count_of plan) (is_aborted plan)) (Called (piping (signal_of (is_aborted plan)) (count_of plan)) ∷ xs) more)
+
+call-on : (plan : Plan) (xs more : List Entry) (id : HostId) (call : HostCall) → slice_get (called (past plan xs)) id.0 ≡ Some call
+    → slice_get (called (past plan (xs ++ more))) id.0 ≡ Some call
+call-on plan xs more id call h = subst (λ q. slice_get (called q) id.0 ≡ Some call) (sym (past-on plan xs more)) (called-on (past plan xs) more id call h)
+
+-- the settling of a pull is neither that of a close nor of a flush
+
+id_of : (id i : HostId) (a b : Call) → a ≡ settles id → b ≡ settles_well i → a ≡ b → id ≡ i
+id_of id i a b e f g = grind arith
+
+other-call : (calls : List HostCall) (id i : HostId) (a b : HostCall) → id ≡ i → slice_get calls id.0 ≡ Some a → slice_get calls i.0 ≡ Some b → a ≡ b
+other-call calls id i a b e f g = grind arith
+
+pull-may : (plan : Plan) (xs : List Entry) (n : Node) (id : HostId) (i : StreamId) → slice_get (called (past plan xs)) id.0 ≡ Some (Pull i) → MayAsk plan xs n (settles id)
+pull-may plan xs n id i pull =
+    record {
+      is_nodes = tt;
+      failed = All-nil (IsCause n);
+      closes = λ j e close. let f = other-call (called (past plan xs)) id j _ _ (id_of id j _ _ refl refl e) pull close in absurd (cc);
+      flushes = λ j k e flush first last w at. let f = other-call (called (past plan xs)) id j _ _ (id_of id j _ _ refl refl e) pull flush in absurd (cc);
+    }
 
 -- the call that hands on what was read, and then the settling of the pull
 
-module _ (xs : List Entry) (a : Node) (s : Since xs a) (goes : a.stopped ≡ None) (written : a.unwritten ≡ 0) (was_open : a.input ≡ input.Open) (id : HostId)
-    (asked : a.asked ≡ Some id) where
-  -- the pull that waited is one
-  is_pull : (i : StreamId) × (slice_get (called (past_of xs)) id.0 ≡ Some (Pull i))
-  is_pull = subst (IsPull (past_of xs)) asked s.led.asked
+only-then : (a b c : Node) → OnlyRealm a b → OnlyRealm b c → OnlyRealm a c
+only-then a b c first second =
+    record {
+      realm = second.realm;
+      stopped = second.stopped;
+      is = second.is ∙ ap (λ (n : Node). record n { realm = second.realm; stopped = second.stopped }) first.is;
+    }
 
-  -- the two calls, one after the other
-  both : (taken unwritten : ℕ) (i : Input) (c : Call) (mid b : Node) → Counts a.most taken unwritten i → MayAsk xs (answering taken unwritten i a) c
-      → (a.output ≡ output.Open → OneAtMost unwritten (then_told (behind_in a.realm.slots) (enters source c)).items) → Asks c (answering taken unwritten i a) mid → Asks (settles id) mid b
-      → (Driven b) × (IsShortOf (lying b) (ended_by i (then_told (in_bytes (behind_in a.realm.slots)) (in_bytes (enters source c))))) × (SameCounts (answering taken unwritten i a) b)
-  both taken unwritten i c mid b counts may one asks settles_it =
-      let n : Node = answering taken unwritten i a in
-      let first = since-asks xs n mid c (led-input xs a taken unwritten i was_open counts s.led) may one asks in
-      let pull = pull-longer (past_of xs) first.more (Some id) is_pull in
-      let same = asks-same c n mid asks in
-      let second = since-settles (xs ++ first.more) mid b id AnswerOk first.since.led first.since.one (settles-other (xs ++ first.more) mid id (Pull pull.0) pull.1 (λ e. cc)) settles_it in
-      let later = asks-same (settles id) mid b settles_it in (
-        record { xs = (xs ++ first.more) ++ second.more; since = second.since },
-        subst (λ (k : Input). IsShortOf (lying b) (ended_by k (then_told (in_bytes (behind_in a.realm.slots)) (in_bytes (enters source c))))) same.input
-            (through mid b id (then_told (in_bytes (behind_in a.realm.slots)) (in_bytes (enters source c))) settles_it first.short second.short later.input),
-        record {
-          taken = later.taken ∙ same.taken;
-          unwritten = later.unwritten ∙ same.unwritten;
-          input = later.input ∙ same.input;
-          output = later.output ∙ same.output;
-          most = later.most ∙ same.most;
-          pipe = later.pipe ∙ same.pipe;
-        },
-      )
+record Both (plan : Plan) (xs : List Entry) (c : Call) (n b : Node) : Type 0 where
+  pub more : List Entry
+  pub led : Led plan more b
+  pub only : OnlyRealm n b
+  pub short : (d : ℕ → Told (List ℕ)) (k : ℕ) → k ≤ count_of plan → IsShortOf (lies d b k) (lies (λ j. then_told (in_bytes (call_enters j c)) (d j)) n k)
+  pub one : (m : ℕ) → OneAtMost m (then_told (behind_at 0 n.realm.slots) (call_enters 0 c)).items → OneAtMost m (behind_at 0 b.realm.slots).items
+  pub older : b.stopped ≡ None → n.realm.slots.age ≤ b.realm.slots.age
+
+going-on : (c : Call) (a b : Node) → Asks c a b → b.stopped ≡ None → a.stopped ≡ None
+going-on c a b (Performed realm slots young goes is) e = goes
+going-on c a b (Refused why stops is) e = let f : b.stopped ≡ Some why = ap (λ (n : Node). n.stopped) is in absurd (cc)
+
+-- the settling brings nothing
+settled-short : (plan : Plan) (mid b : Node) (id : HostId) (d : ℕ → Told (List ℕ)) (k : ℕ)
+    → IsShortOf (lies d b k) (lies (λ j. then_told (in_bytes (call_enters j (settles id))) (d j)) mid k) → IsShortOf (lies d b k) (lies d mid k)
+settled-short plan mid b id d k h =
+    subst (λ (t : Told Value). IsShortOf (lies d b k) (lies (λ j. then_told (in_bytes t) (d j)) mid k)) ((each_nodes_call_brings k).settle id AnswerOk) h
+
+settled-one : (x : Told Value) (c : Call) (m : ℕ) → call_enters 0 c ≡ silence → OneAtMost m x.items → OneAtMost m (then_told x (call_enters 0 c)).items
+settled-one x c m e o = subst (λ (q : Told Value). OneAtMost m q.items) (sym (ap (λ q. then_told x q) e ∙ then_empty x)) o
+
+both : (plan : Plan) (xs : List Entry) (n mid b : Node) (c : Call) (id : HostId) (i : StreamId) → slice_get (called (past plan xs)) id.0 ≡ Some (Pull i) → Led plan xs n
+    → MayAsk plan xs n c → Asks c n mid → Asks (settles id) mid b → Both plan xs c n b
+both plan xs n mid b c id i pull led may asks settles_it =
+    let first = since-asks plan xs n mid c led may asks in
+    let second = since-asks plan (xs ++ first.more) mid b (settles id) first.led (pull-may plan (xs ++ first.more) mid id i (call-on plan xs first.more id (Pull i) pull)) settles_it in
+    record {
+      more = (xs ++ first.more) ++ second.more;
+      led = second.led;
+      only = only-then n mid b first.only second.only;
+      short = λ d k less. short_trans _ _ _ (settled-short plan mid b id d k (second.short d k less)) (first.short d k less);
+      one = λ m o. second.one m (settled-one (behind_at 0 mid.realm.slots) (settles id) m ((each_nodes_call_brings 0).settle id AnswerOk) (first.one m o));
+      older = λ going.
+          let one = second.older going in
+          let other = first.older (going-on (settles id) mid b settles_it going) in
+          omega arith;
+    }
 
 -- what a read is to the node
 
-lying-open : (a : Node) → a.stopped ≡ None → a.input ≡ input.Open → lying a ≡ in_bytes (behind_in a.realm.slots)
-lying-open a goes was_open =
-    let x : Told (List ℕ) = in_bytes (behind_in a.realm.slots) in
-    ap (λ (w : Option Why). lying_by w (ended_by a.input x)) goes ∙ (ap (λ (i : Input). ended_by i x) was_open ∙ then_empty x)
-
-read-went : (a b : Node) (read : Told (List ℕ)) (m₀ m₁ : Moment) (p : List ℕ → Type 0) → Fed m₀.feed m₁.feed (concat read.items) → IsShortOf (lying b) (then_told (lying a) read)
-    → b.taken ≡ a.taken + length (concat read.items) → a.unwritten + length (concat read.items) ≤ b.unwritten → InputGoes a.input b.input read m₀ m₁ → b.output ≡ a.output
-    → b.most ≡ a.most → b.pipe ≡ a.pipe → OutputGoes a.output a.output [] MayCome m₀ m₁ → Went a b m₀ m₁ p p
-read-went a b read m₀ m₁ p fed flows counted ahead reads out most pipe same =
-    record {
-      read = read;
-      went = nothing_yet;
-      gain = [];
-      out = MayCome;
-      fed = fed;
-      gained = Gains-nothing p;
-      written = (refl, refl);
-      flows = flows;
-      counted = counted;
-      ahead = omega arith;
-      input = reads;
-      output = subst (λ o. OutputGoes a.output o [] MayCome m₀ m₁) (sym out) same;
-      most = most;
-      pipe = pipe;
-    }
+not-first : (t : Told Value) (j : ℕ) → only_at 0 t (suc j) ≡ silence
+not-first t j = let other : nat_eq (suc j) 0 ≡ false = grind (arith, nat_tests) in rw other refl
 
 -- an output that isn't touched
 output-calm : (o : Output) (wf : ℕ) (finished : Option Bool) (before now : ℕ) (old new : Option Feed)
@@ -179,169 +179,230 @@ output-calm : (o : Output) (wf : ℕ) (finished : Option Bool) (before now : ℕ
 output-calm output.Open wf finished before now old new = (refl, refl, KeepsTold-same finished)
 output-calm output.Finished wf finished before now old new = (refl, record { none = refl; calm = refl; finished = refl })
 output-calm output.Failed wf finished before now old new = (refl, record { none = refl; calm = refl; finished = refl })
+output-calm output.Aborted wf finished before now old new = (refl, record { none = refl; calm = refl; finished = refl })
 
-module _ (wf : ℕ) (finished : Option Bool) (p : List ℕ → Type 0) (xs : List Entry) (a b : Node) (old new : Option Feed) (before now : ℕ) (s : Since xs a) where
-  abbrev pub m₀ : Moment
+pushed-on : (m n : ℕ) (ws : List State) → m ≤ n → ArePushed m ws → ArePushed n ws
+pushed-on m n ws less h k d within = let few = h k d within in omega arith
+
+-- what lies at each place, where this call brings what was read, or nothing at all, to the first
+enters-at : (a : Node) (i : Input) (c : Call) (read : Told (List ℕ)) (d : ℕ → Told (List ℕ)) (b : Node) → a.stopped ≡ None → a.input ≡ input.Open
+    → IsShortOf (then_told (in_bytes (call_enters 0 c)) (d 0)) read
+    → IsShortOf (lies d b 0) (lying_by a.stopped (then_told (in_bytes (behind_at 0 a.realm.slots)) (then_told (in_bytes (call_enters 0 c)) (d 0))))
+    → IsShortOf (lies d b 0) (then_told (lies_in a 0) read)
+enters-at a i c read d b goes was_open came h =
+    let x : Told (List ℕ) = in_bytes (behind_at 0 a.realm.slots) in
+    let y : Told (List ℕ) = then_told (in_bytes (call_enters 0 c)) (d 0) in
+    let lay : lies_in a 0 ≡ x = ap (λ (w : Option Why). lying_by w (then_told x (lost_by a.input))) goes ∙ (ap (λ (i : Input). then_told x (lost_by i)) was_open ∙ then_empty x) in
+    short_trans (lies d b 0) (then_told x y) (then_told (lies_in a 0) read)
+    (subst (λ (w : Option Why). IsShortOf (lies d b 0) (lying_by w (then_told x y))) goes h)
+    (short_as _ _ _ (ap (λ q. then_told q read) (sym lay)) (short_left x y read came))
+
+passes-at : (a : Node) (c : Call) (j : ℕ) (d : ℕ → Told (List ℕ)) (b : Node) → d (suc j) ≡ coming_behind j a.stages.items → call_enters (suc j) c ≡ silence
+    → IsShortOf (lies d b (suc j)) (lying_by a.stopped (then_told (in_bytes (behind_at (suc j) a.realm.slots)) (then_told (in_bytes (call_enters (suc j) c)) (d (suc j)))))
+    → IsShortOf (lies d b (suc j)) (lies_in a (suc j))
+passes-at a c j d b same silent h =
+    subst (λ (q : Told (List ℕ)). IsShortOf (lies d b (suc j)) (lying_by a.stopped (then_told (in_bytes (behind_at (suc j) a.realm.slots)) q)))
+    (ap (λ (q : Told Value). then_told (in_bytes q) (d (suc j))) silent ∙ same) h
+
+-- what came in lies before the first stage, or what came of it
+reads-goes : (plan : Plan) (a b : Node) (read : Told (List ℕ)) → stages_in a ≡ stages_of plan → works_in b ≡ works_in a → IsShortOf (lies_in b 0) (then_told (lies_in a 0) read)
+    → ((j : ℕ) → suc j ≤ count_of plan → IsShortOf (lies_in b (suc j)) (lies_in a (suc j)))
+    → Goes (machines (stages_in a)) read (parts a) (lying a) (parts b) (lying b)
+reads-goes plan a b read stages works first others =
+    subst (λ (ws : List AtWork). Goes (machines (stages_in a)) read (parts a) (lying a) (parts_at 0 ws (lies_in b)) (behind_of 0 ws (lies_in b))) (sym works)
+    (goes_enters (machines (stages_in a)) 0 (works_in a) (lies_in a) (lies_in b) read (as-many a) first other) where
+      other : (j : ℕ) → 0 < j → j ≤ 0 + length (works_in a) → IsShortOf (lies_in b j) (lies_in a j)
+      other zero more less = absurd (omega arith)
+      other (suc j) more less = others j (let l = works-count plan a stages in omega arith)
+
+module _ (wf : ℕ) (finished : Option Bool) (p : List ℕ → Type 0) (plan : Plan) (xs : List Entry) (a b : Node) (old new : Option Feed) (before now : ℕ) (s : Since plan xs a) where
+  abbrev m₀ : Moment
   m₀ = moment before old wf finished
 
-  abbrev pub m₁ : Moment
+  abbrev m₁ : Moment
   m₁ = moment now new wf finished
 
-  module _ (goes : a.stopped ≡ None) (written : a.unwritten ≡ 0) (was_open : a.input ≡ input.Open) (id : HostId) (asked : a.asked ≡ Some id) (want : ℕ) (most : want ≤ 4096)
+  module _ (goes : a.stopped ≡ None) (written : a.ahead ≡ 0) (was_open : a.input ≡ input.Open) (id : HostId) (asked : a.asked ≡ Some id) (want : ℕ) (most : want ≤ 4096)
       (limit : want ≤ (a.most - a.taken) + 1) where
-    lies : lying a ≡ in_bytes (behind_in a.realm.slots)
-    lies = lying-open a goes was_open
+    -- the pull that waited is one
+    is_pull : (i : StreamId) × (slice_get (called (past plan xs)) id.0 ≡ Some (Pull i))
+    is_pull = subst (IsPull (past plan xs)) asked s.led.asked
 
-    none : a.output ≡ output.Open → (behind_in a.realm.slots).items ≡ []
-    none o = none-behind a.unwritten (behind_in a.realm.slots).items written (s.one o)
+    none : may_have a.stages.items a.output a.abort ≡ true → (behind_at 0 a.realm.slots).items ≡ []
+    none may = none-behind a.ahead (behind_at 0 a.realm.slots).items written (s.one may)
 
     few : a.taken ≤ a.most
     few = s.led.counts.within (λ e. let f = was_open in cc)
 
+    -- what was read came in by this call
+    took : (taken ahead : ℕ) (i : Input) (c : Call) (mid : Node) (read : Told (List ℕ)) → Counts a.most taken ahead i → MayAsk plan xs (answering taken ahead i a) c
+        → Asks c (answering taken ahead i a) mid → Asks (settles id) mid b → ((j : ℕ) → call_enters (suc j) c ≡ silence)
+        → IsShortOf (then_told (in_bytes (call_enters 0 c)) (lost_by i)) read
+        → ((behind_at 0 a.realm.slots).items ≡ [] → OneAtMost ahead (then_told (behind_at 0 a.realm.slots) (call_enters 0 c)).items)
+        → Fed old new (concat read.items) → All (λ c. length c ≤ 4096) read.items → taken ≡ a.taken + length (concat read.items) → length (concat read.items) ≤ ahead
+        → InputGoes a.input i read m₀ m₁ → Handled plan a b m₀ m₁ p p
+    took taken ahead i c mid read counts may asks settles_it silent came one fed short counted had goes_in =
+        let n : Node = answering taken ahead i a in
+        let h = both plan xs n mid b c id is_pull.0 is_pull.1 (led-input plan xs a taken ahead i was_open counts s.led) may asks settles_it in
+        let same = only-same n b h.only in
+        let items : b.stages.items ≡ a.stages.items = ap (λ (q : Node). q.stages.items) h.only.is in
+        let ahead_is : b.ahead ≡ ahead = ap (λ (q : Node). q.ahead) h.only.is in
+        let taken_is : b.taken ≡ taken = same.taken in
+        let input_is : b.input ≡ i = same.input in
+        let coming_is : (j : ℕ) → coming b (suc j) ≡ coming_behind j a.stages.items = λ j. ap (λ ws. coming_behind j ws) items in
+        let first : IsShortOf (lies_in b 0) (then_told (lies_in a 0) read) =
+        enters-at a i c read (coming b) b goes was_open (subst (λ q. IsShortOf (then_told (in_bytes (call_enters 0 c)) (lost_by q)) read) (sym input_is) came)
+        (h.short (coming b) 0 (omega arith)) in
+        record {
+          xs = h.more;
+          led = h.led;
+          pushes = λ going. subst (λ ws. ArePushed b.realm.slots.age ws) (sym items) (pushed-on a.realm.slots.age b.realm.slots.age a.stages.items (h.older going) (s.pushes goes));
+          one = λ may_be. subst (λ q. OneAtMost q (behind_at 0 b.realm.slots).items) (sym ahead_is)
+              (h.one ahead (one (none (subst (λ (q : Node). may_have q.stages.items q.output q.abort ≡ true) h.only.is may_be))));
+          went = record {
+            read = read;
+            went = nothing_yet;
+            gain = [];
+            out = MayCome;
+            fed = fed;
+            gained = Gains-nothing p;
+            written = (refl, refl);
+            short = short;
+            goes = reads-goes plan a b read s.led.is_of.stages (ap (λ (q : Node). works_in q) h.only.is) first
+                (λ j less. passes-at a c j (coming b) b (coming_is j) (silent j) (h.short (coming b) (suc j) less));
+            counted = taken_is ∙ counted;
+            ahead = λ e. omega arith;
+            input = subst (λ q. InputGoes a.input q read m₀ m₁) (sym input_is) goes_in;
+            output = subst (λ o. OutputGoes a.output o [] MayCome m₀ m₁) (sym same.output) (output-calm a.output wf finished before now old new);
+            abort = subst (λ x. AbortGoes a.abort x [] [] b.output) (sym same.abort) (abort-same a.abort [] b.output);
+            stays = going-acts a b m₀ m₁ read [] goes;
+            stages = same.stages;
+            sink = same.sink;
+            most = same.most;
+            pipe = same.pipe;
+            pipes = same.pipes;
+          };
+        }
+
     -- the end of the input
-    ended : (c : Node) → IsPiece old new before now want [] → Asks (Finish source) (answering a.taken a.unwritten input.Ended a) c → Asks (settles id) c b → Handled (lying a) a b m₀ m₁ p p
+    ended : (c : Node) → IsPiece old new before now want [] → Asks (Finish source) (answering a.taken a.ahead input.Ended a) c → Asks (settles id) c b → Handled plan a b m₀ m₁ p p
     ended c piece asks settles_it =
         let counts = s.led.counts in
         let limited = counts.limited in
         let bound = counts.bound in
         let room = counts.piece in
         let fewer = few in
-        let done = both xs a s goes written was_open id asked a.taken a.unwritten input.Ended (Finish source) c b
+        took a.taken a.ahead input.Ended (Finish source) c (told [] Closed)
         (record { limited = omega arith; bound = omega arith; within = λ e. fewer; beyond = λ e. absurd (cc); piece = omega arith; failed = λ e. absurd (cc) })
-        (record { leaves = refl; makes_none = refl; failed = All-nil (IsCause input.Ended a.output); closes = λ i e. absurd (cc) })
-        (λ o. one-closes a.unwritten (behind_in a.realm.slots) Closed (none o)) asks settles_it in
-        let same = done.2 in
-        let taken = same.taken in
-        let unwritten = same.unwritten in
-        record {
-          driven = done.0;
-          went = read-went a b (told [] Closed) m₀ m₁ p piece.moved
-              (short_as _ _ _ (then_empty (then_told (in_bytes (behind_in a.realm.slots)) (told [] Closed)) ∙ ap (λ q. then_told q (told [] Closed)) (sym lies)) done.1)
-              (omega arith) (omega arith)
-              (rw (was_open, same.input) (refl, piece.calm, (piece.end refl).1, IsEmpty-kept old new [] (piece.end refl).0 piece.moved))
-              same.output same.most same.pipe (output-calm a.output wf finished before now old new);
-        }
+        (record { is_nodes = tt; failed = All-nil (IsCause (answering a.taken a.ahead input.Ended a)); closes = λ i e. absurd (cc); flushes = λ i j e. absurd (cc) })
+        asks settles_it (λ j. (each_nodes_call_brings (suc j)).finish ∙ not-first (told [] Closed) j)
+        (subst (λ (t : Told Value). IsShortOf (then_told (in_bytes t) (lost_by input.Ended)) (told [] Closed)) (sym (each_nodes_call_brings 0).finish) (refl, refl))
+        (λ e. subst (λ q. OneAtMost a.ahead (then_told (behind_at 0 a.realm.slots) q).items) (sym (each_nodes_call_brings 0).finish) (one-closes a.ahead (behind_at 0 a.realm.slots) Closed e))
+        piece.moved (All-nil (λ c. length c ≤ 4096)) (omega arith) (omega arith)
+        (rw was_open (refl, piece.calm, (piece.end refl).1, IsEmpty-kept old new [] (piece.end refl).0 piece.moved))
 
     -- a failed read
-    failed : (c : Node) → Fed old new [] → KeepsEnd old new → Rose before now → Asks (Fail source (FaultReason ReadFault)) (answering a.taken a.unwritten input.Failed a) c → Asks (settles id) c b
-        → Handled (lying a) a b m₀ m₁ p p
+    failed : (c : Node) → Fed old new [] → KeepsEnd old new → Rose before now → Asks (Fail source (FaultReason ReadFault)) (answering a.taken a.ahead input.Failed a) c → Asks (settles id) c b
+        → Handled plan a b m₀ m₁ p p
     failed c fed kept rose asks settles_it =
         let counts = s.led.counts in
         let limited = counts.limited in
         let bound = counts.bound in
         let room = counts.piece in
         let fewer = few in
-        let done = both xs a s goes written was_open id asked a.taken a.unwritten input.Failed (Fail source (FaultReason ReadFault)) c b
+        let n : Node = answering a.taken a.ahead input.Failed a in
+        took a.taken a.ahead input.Failed (Fail source (FaultReason ReadFault)) c (told [] Lost)
         (record { limited = omega arith; bound = omega arith; within = λ e. fewer; beyond = λ e. absurd (cc); piece = omega arith; failed = λ e. written })
-        (record { leaves = refl; makes_none = refl; failed = All-cons (IsCause input.Failed a.output) (FaultReason ReadFault) [] refl (All-nil (IsCause input.Failed a.output)); closes = λ i e. absurd (cc) })
-        (λ o. one-closes a.unwritten (behind_in a.realm.slots) MayCome (none o)) asks settles_it in
-        let same = done.2 in
-        let taken = same.taken in
-        let unwritten = same.unwritten in
-        record {
-          driven = done.0;
-          went = read-went a b (told [] Lost) m₀ m₁ p fed
-              (short_as _ _ _ (ap (λ q. then_told q (told [] Lost)) (then_empty (in_bytes (behind_in a.realm.slots)) ∙ sym lies)) done.1)
-              (omega arith) (omega arith) (rw (was_open, same.input) (refl, rose, kept)) same.output same.most same.pipe (output-calm a.output wf finished before now old new);
-        }
+        (record { is_nodes = (0, refl); failed = All-cons (IsCause n) (FaultReason ReadFault) [] refl (All-nil (IsCause n)); closes = λ i e. absurd (cc); flushes = λ i j e. absurd (cc) })
+        asks settles_it (λ j. (each_nodes_call_brings (suc j)).fail source (FaultReason ReadFault))
+        (subst (λ (t : Told Value). IsShortOf (then_told (in_bytes t) (lost_by input.Failed)) (told [] Lost)) (sym ((each_nodes_call_brings 0).fail source (FaultReason ReadFault))) ([], refl))
+        (λ e. subst (λ q. OneAtMost a.ahead (then_told (behind_at 0 a.realm.slots) q).items) (sym ((each_nodes_call_brings 0).fail source (FaultReason ReadFault)))
+        (one-closes a.ahead (behind_at 0 a.realm.slots) MayCome e))
+        fed (All-nil (λ c. length c ≤ 4096)) (omega arith) (omega arith) (rw was_open (refl, rose, kept))
 
     -- bytes
     module _ (x : ℕ) (rest : List ℕ) (piece : IsPiece old new before now want (x ∷ rest)) where
-      all : List ℕ
-      all = x ∷ rest
-
       joined : concat ((x ∷ rest) ∷ []) ≡ x ∷ rest
       joined = append-nil (x ∷ rest)
 
       count : length (concat ((x ∷ rest) ∷ [])) ≡ length (x ∷ rest)
       count = ap length joined
 
-      fed : Fed old new (concat ((x ∷ rest) ∷ []))
-      fed = subst (Fed old new) (sym joined) piece.moved
+      fed_all : Fed old new (concat ((x ∷ rest) ∷ []))
+      fed_all = subst (Fed old new) (sym joined) piece.moved
+
+      one_short : All (λ c. length c ≤ 4096) ((x ∷ rest) ∷ [])
+      one_short = All-cons (λ c. length c ≤ 4096) (x ∷ rest) [] (let long = piece.short in omega arith) (All-nil (λ c. length c ≤ 4096))
 
       too_many : (c : Node) → a.most < a.taken + length (x ∷ rest) → Asks (Fail source (FaultReason TooMuch)) (answering (a.taken + length (x ∷ rest)) (length (x ∷ rest)) input.TooLong a) c
-          → Asks (settles id) c b → Handled (lying a) a b m₀ m₁ p p
+          → Asks (settles id) c b → Handled plan a b m₀ m₁ p p
       too_many c more asks settles_it =
           let counts = s.led.counts in
           let limited = counts.limited in
           let short = piece.short in
           let fewer = few in
           let counted = count in
-          let done = both xs a s goes written was_open id asked (a.taken + length (x ∷ rest)) (length (x ∷ rest)) input.TooLong (Fail source (FaultReason TooMuch)) c b
+          let n : Node = answering (a.taken + length (x ∷ rest)) (length (x ∷ rest)) input.TooLong a in
+          took (a.taken + length (x ∷ rest)) (length (x ∷ rest)) input.TooLong (Fail source (FaultReason TooMuch)) c (told ((x ∷ rest) ∷ []) Lost)
           (record { limited = omega arith; bound = omega arith; within = λ e. absurd (e refl); beyond = λ e. more; piece = omega arith; failed = λ e. absurd (cc) })
-          (record { leaves = refl; makes_none = refl; failed = All-cons (IsCause input.TooLong a.output) (FaultReason TooMuch) [] refl (All-nil (IsCause input.TooLong a.output)); closes = λ i e. absurd (cc) })
-          (λ o. one-closes (length (x ∷ rest)) (behind_in a.realm.slots) MayCome (none o)) asks settles_it in
-          let same = done.2 in
-          let taken = same.taken in
-          let unwritten = same.unwritten in
-          record {
-            driven = done.0;
-            went = read-went a b (told ((x ∷ rest) ∷ []) Lost) m₀ m₁ p fed
-                (short_trans _ _ _ done.1
-                (short_same _ _ _ (ap (λ q. then_told q (told [] Lost)) (then_empty (in_bytes (behind_in a.realm.slots)) ∙ sym lies))
-                (short_left (lying a) (told [] Lost) (told ((x ∷ rest) ∷ []) Lost) ((x ∷ rest) ∷ [], refl))))
-                (omega arith) (omega arith) (rw (was_open, same.input) (refl, piece.calm, piece.before_end (omega arith))) same.output same.most same.pipe (output-calm a.output wf finished before now old new);
-          }
+          (record { is_nodes = (0, refl); failed = All-cons (IsCause n) (FaultReason TooMuch) [] refl (All-nil (IsCause n)); closes = λ i e. absurd (cc); flushes = λ i j e. absurd (cc) })
+          asks settles_it (λ j. (each_nodes_call_brings (suc j)).fail source (FaultReason TooMuch))
+          (subst (λ (t : Told Value). IsShortOf (then_told (in_bytes t) (lost_by input.TooLong)) (told ((x ∷ rest) ∷ []) Lost)) (sym ((each_nodes_call_brings 0).fail source (FaultReason TooMuch)))
+          ((x ∷ rest) ∷ [], refl))
+          (λ e. subst (λ q. OneAtMost (length (x ∷ rest)) (then_told (behind_at 0 a.realm.slots) q).items) (sym ((each_nodes_call_brings 0).fail source (FaultReason TooMuch)))
+          (one-closes (length (x ∷ rest)) (behind_at 0 a.realm.slots) MayCome e))
+          fed_all one_short (omega arith) (omega arith) (rw was_open (refl, piece.calm, piece.before_end (omega arith)))
 
       some : (c : Node) → a.taken + length (x ∷ rest) ≤ a.most → Asks (Enqueue source (Bytes (x ∷ rest))) (answering (a.taken + length (x ∷ rest)) (length (x ∷ rest)) a.input a) c
-          → Asks (settles id) c b → Handled (lying a) a b m₀ m₁ p p
+          → Asks (settles id) c b → Handled plan a b m₀ m₁ p p
       some c within asks settles_it =
           let counts = s.led.counts in
           let limited = counts.limited in
           let short = piece.short in
           let counted = count in
-          let done = both xs a s goes written was_open id asked (a.taken + length (x ∷ rest)) (length (x ∷ rest)) a.input (Enqueue source (Bytes (x ∷ rest))) c b
+          took (a.taken + length (x ∷ rest)) (length (x ∷ rest)) a.input (Enqueue source (Bytes (x ∷ rest))) c (told ((x ∷ rest) ∷ []) MayCome)
           (record { limited = omega arith; bound = omega arith; within = λ e. within; beyond = λ e. let f = was_open in absurd (cc); piece = omega arith; failed = λ e. let f = was_open in absurd (cc) })
-          (record { leaves = refl; makes_none = refl; failed = All-nil (IsCause a.input a.output); closes = λ i e. absurd (cc) })
-          (λ o. one-comes (length (x ∷ rest)) (x ∷ rest) (behind_in a.realm.slots) (none o) refl (omega arith)) asks settles_it in
-          let same = done.2 in
-          let taken = same.taken in
-          let unwritten = same.unwritten in
-          let lay : Told (List ℕ) = then_told (in_bytes (behind_in a.realm.slots)) (told ((x ∷ rest) ∷ []) MayCome) in
-          record {
-            driven = done.0;
-            went = read-went a b (told ((x ∷ rest) ∷ []) MayCome) m₀ m₁ p fed
-                (short_as _ _ _ (ap (λ (i : Input). ended_by i lay) was_open ∙ (then_empty lay ∙ ap (λ q. then_told q (told ((x ∷ rest) ∷ []) MayCome)) (sym lies))) done.1)
-                (omega arith) (omega arith) (rw (was_open, same.input ∙ was_open) (refl, piece.calm, piece.before_end (omega arith))) same.output same.most same.pipe (output-calm a.output wf finished before now old new);
-          }
+          (record { is_nodes = tt; failed = All-nil (IsCause (answering (a.taken + length (x ∷ rest)) (length (x ∷ rest)) a.input a)); closes = λ i e. absurd (cc); flushes = λ i j e. absurd (cc) })
+          asks settles_it (λ j. (each_nodes_call_brings (suc j)).enqueue 0 (Bytes (x ∷ rest)) ∙ not-first (told (Bytes (x ∷ rest) ∷ []) MayCome) j)
+          (subst (λ (i : Input). IsShortOf (then_told (in_bytes (call_enters 0 (Enqueue source (Bytes (x ∷ rest))))) (lost_by i)) (told ((x ∷ rest) ∷ []) MayCome)) (sym was_open)
+          (subst (λ (t : Told Value). IsShortOf (then_told (in_bytes t) nothing_yet) (told ((x ∷ rest) ∷ []) MayCome)) (sym ((each_nodes_call_brings 0).enqueue 0 (Bytes (x ∷ rest)))) (refl, refl)))
+          (λ e. subst (λ q. OneAtMost (length (x ∷ rest)) (then_told (behind_at 0 a.realm.slots) q).items) (sym ((each_nodes_call_brings 0).enqueue 0 (Bytes (x ∷ rest))))
+          (one-comes (length (x ∷ rest)) (x ∷ rest) (behind_at 0 a.realm.slots) e refl (omega arith)))
+          fed_all one_short (omega arith) (omega arith)
+          (subst (λ (i : Input). InputGoes i i (told ((x ∷ rest) ∷ []) MayCome) m₀ m₁) (sym was_open) (refl, piece.calm, piece.before_end (omega arith)))
 
       taken_by : (c : Node) (t : Bool) → nat_lt a.most (a.taken + length (x ∷ rest)) ≡ t → takes_bytes (x ∷ rest) (record a { asked = None }) c t → Asks (settles id) c b
-          → Handled (lying a) a b m₀ m₁ p p
+          → Handled plan a b m₀ m₁ p p
       taken_by c true e asks settles_it = too_many c (grind (arith, nat_tests)) asks settles_it
       taken_by c false e asks settles_it = some c (grind (arith, nat_tests)) asks settles_it
 
     once : (piece : Result (List ℕ) Failed) (c : Node) → GivesPiece old new before now want piece → Takes piece (record a { asked = None }) c → Asks (settles id) c b
-        → Handled (lying a) a b m₀ m₁ p p
+        → Handled plan a b m₀ m₁ p p
     once (Ok []) c gives takes settles_it = ended c gives takes settles_it
     once (Ok (x ∷ rest)) c gives takes settles_it = taken_by x rest gives c (nat_lt a.most (a.taken + length (x ∷ rest))) refl takes settles_it
     once (Err failure) c gives takes settles_it = failed c gives.moved gives.before_end gives.rose takes settles_it
 
-  -- a node reads its input, or doesn't
-  pub reads : Reads a b old new before now → Handled (lying a) a b m₀ m₁ p p
-  reads (ReadNot same unread) =
-      rw (same, unread.feed, unread.calm) (record { driven = record { xs = xs; since = s }; went = went-same a m₀ p })
-  reads (Wanted goes unread id asked same) =
-      rw (same, unread.feed, unread.calm)
-      (record {
-        driven = record {
-          xs = xs;
-          since = record {
-            led = record {
-              slots = s.led.slots;
-              answered = s.led.answered;
-              left = s.led.left;
-              link = s.led.link;
-              plain = s.led.plain;
-              failed = s.led.failed;
-              closes = s.led.closes;
-              asked = tt;
-              counts = s.led.counts;
-              spent = λ e. absurd (cc);
-            };
-            one = s.one;
-          };
-        };
-        went = went-rests (lying a) a (record a { asked = None; stopped = Some NoMemory }) m₀ p p (Gains-nothing p) ((lying a).items, refl) refl refl refl refl refl refl;
-      })
-  reads (ReadOnce goes written was_open id asked want most limit piece gives c takes settles_it) =
-      once goes written was_open id asked want most limit piece c gives takes settles_it
+-- there was no memory for a read
+wanted : (plan : Plan) (xs : List Entry) (a : Node) (m : Moment) (p : List ℕ → Type 0) → Since plan xs a → a.stopped ≡ None
+    → Handled plan a (record a { asked = None; stopped = Some NoMemory }) m m p p
+wanted plan xs a m p s goes =
+    let b : Node = record a { asked = None; stopped = Some NoMemory } in
+    record {
+      xs = xs;
+      led = led-stopped plan xs (record a { asked = None }) NoMemory (λ e. absurd (cc)) (led-unasked plan xs a s.led);
+      pushes = λ e. absurd (cc);
+      one = s.one;
+      went = went-quietly a b m p p (Gains-nothing p) (going-stays a b goes)
+          (record { taken = refl; ahead = λ e. refl; input = refl; output = refl; abort = refl; stages = refl; sink = refl; most = refl; pipe = refl; pipes = refl })
+          (goes_rests (machines (stages_in a)) 0 (works_in a) (lies_in a) (lies_in b) (as-many a) (λ j h k. ((lies_in a j).items, refl)));
+    }
+
+-- a node reads its input, or doesn't
+pub reads : (wf : ℕ) (finished : Option Bool) (p : List ℕ → Type 0) (plan : Plan) (xs : List Entry) (a b : Node) (old new : Option Feed) (before now : ℕ) → Since plan xs a
+    → Reads a b old new before now → Handled plan a b (moment before old wf finished) (moment now new wf finished) p p
+reads wf finished p plan xs a b old new before now s (ReadNot none same unread) =
+    rw (same, unread.feed, unread.calm) (record { xs = xs; led = s.led; pushes = s.pushes; one = s.one; went = went-same a (moment before old wf finished) p })
+reads wf finished p plan xs a b old new before now s (Wanted goes unread id asked same) =
+    rw (same, unread.feed, unread.calm) (wanted plan xs a (moment before old wf finished) p s goes)
+reads wf finished p plan xs a b old new before now s (ReadOnce goes written was_open id asked want most limit piece gives c takes settles_it) =
+    once wf finished p plan xs a b old new before now s goes written was_open id asked want most limit piece c gives takes settles_it

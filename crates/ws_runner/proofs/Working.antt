@@ -1,31 +1,42 @@
 -- A node goes on as its realm performs jobs.
-use Rattle.std.proofs.Common.{◌≡◌, ℕ, List, ◌++◌, Option, Some, None, refl, sym, ap, subst}
-use Rattle.ws_flow.specs.Told.{Told, IsShortOf}
+use Rattle.std.proofs.Common.{◌≡◌, ◌≤◌, ◌<◌, ℕ, List, ◌++◌, Option, Some, None, refl, sym, ap, ◌∙◌, subst, arith}
+use Rattle.std.proofs.lemmas.List.Elements.{All-weaker}
+use Rattle.ws_flow.specs.declared.plan.Plan.{Plan}
 use Rattle.ws_io.specs.Moment.{Moment}
 use Rattle.ws_io.proofs.Flow.{Gains-nothing}
 use Rattle.ws_realm.specs.declared.realm.Why.{Why}
-use Rattle.ws_runner.specs.declared.node.Input.{Input}
+use Rattle.ws_stages.specs.State.{State}
+use Rattle.ws_steps.specs.Run.{Entry}
+use Rattle.ws_chain_laws.specs.Chain.{behind_at}
 use Rattle.ws_runner.specs.declared.node.Node.{Node}
 use Rattle.ws_runner.specs.Moves.{Works}
-use Rattle.ws_runner.specs.Node.{behind_in, in_bytes, ended_by, lying_by, lying}
-use Rattle.ws_runner.specs.Past.{Driven}
-use Rattle.ws_runner.specs.Went.{Went}
-use Rattle.ws_runner.proofs.Going.{went-rests, went-same}
-use Rattle.ws_runner.proofs.Since.{since-works}
+use Rattle.ws_runner.specs.Past.{ArePushed, OneAtMost, HasOne, Since}
+use Rattle.ws_runner.proofs.Going.{went-rests}
+use Rattle.ws_runner.proofs.Handled.{Handled}
+use Rattle.ws_runner.proofs.Since.{OnlyRealm, since-works}
 
-pub works-driven : (a b : Node) → Driven a → Works a b → Driven b
-works-driven a b d w = let after = since-works d.xs a b d.since w in record { xs = d.xs ++ after.more; since = after.since }
+-- a realm that goes on went on before
+goes-before : (a b : Node) → Works a b → b.stopped ≡ None → (why : Option Why) → a.stopped ≡ why → a.stopped ≡ None
+goes-before a b w goes None e = e
+goes-before a b w goes (Some why) e = let is = ap (λ (n : Node). n.stopped) (w.stays why e) in sym is ∙ goes
 
-went-by : (a b : Node) (m : Moment) (p : List ℕ → Type 0) → Driven a → Works a b → (why : Option Why) → a.stopped ≡ why → Went a b m m p p
-went-by a b m p d w (Some why) e = rw (w.stays why e) (went-same a m p)
-went-by a b m p d w None e =
-    let after = since-works d.xs a b d.since w in
-    let is = w.is in
-    let input : b.input ≡ a.input = ap (λ (n : Node). n.input) is in
-    let x : Told (List ℕ) = in_bytes (behind_in a.realm.slots) in
-    went-rests (lying a) a b m p p (Gains-nothing p)
-    (subst (λ (v : Option Why). IsShortOf (lying b) (lying_by v (ended_by a.input x))) (sym e) (subst (λ (i : Input). IsShortOf (lying b) (ended_by i x)) input after.short))
-    (ap (λ (n : Node). n.taken) is) (ap (λ (n : Node). n.unwritten) is) input (ap (λ (n : Node). n.output) is) (ap (λ (n : Node). n.most) is) (ap (λ (n : Node). n.pipe) is)
+pushed-longer : (before now : ℕ) (ws : List State) → before ≤ now → ArePushed before ws → ArePushed now ws
+pushed-longer before now ws l h = All-weaker (λ (w : State). w.pushes < before) (λ (w : State). w.pushes < now) (λ w k. omega (arith, k, l)) ws h
 
-pub works-went : (a b : Node) (m : Moment) (p : List ℕ → Type 0) → Driven a → Works a b → Went a b m m p p
-works-went a b m p d w = went-by a b m p d w a.stopped refl
+one-stays : (a b : Node) → OnlyRealm a b
+    → ((m : ℕ) → OneAtMost m (behind_at 0 a.realm.slots).items → OneAtMost m (behind_at 0 b.realm.slots).items) → HasOne a → HasOne b
+one-stays a b only =
+    subst (λ (n : Node). ((m : ℕ) → OneAtMost m (behind_at 0 a.realm.slots).items → OneAtMost m (behind_at 0 n.realm.slots).items) → HasOne a → HasOne n) (sym only.is)
+    (λ keeps one may. keeps a.ahead (one may))
+
+pub works : (plan : Plan) (xs : List Entry) (a b : Node) (m : Moment) (p : List ℕ → Type 0) → Since plan xs a → Works a b → Handled plan a b m m p p
+works plan xs a b m p since w =
+    let after = since-works plan xs a b since.led w in
+    record {
+      xs = xs ++ after.more;
+      led = after.led;
+      pushes = λ goes. subst (λ (n : Node). ArePushed b.realm.slots.age n.stages.items) (sym after.only.is)
+          (pushed-longer a.realm.slots.age b.realm.slots.age a.stages.items after.older (since.pushes (goes-before a b w goes a.stopped refl)));
+      one = one-stays a b after.only after.one since.one;
+      went = went-rests plan a b m p p (Gains-nothing p) w.stays since.led.is_of.stages after.only after.short;
+    }

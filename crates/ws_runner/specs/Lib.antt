@@ -1,7 +1,10 @@
+pub mod Copies
 pub mod Ends
+pub mod Flow
 pub mod Host
 pub mod Moves
 pub mod Node
+pub mod Opening
 pub mod Past
 pub mod Turns
 pub mod Went

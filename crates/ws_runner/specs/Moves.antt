@@ -1,33 +1,47 @@
 -- What the methods of a node do to it, each told as it is.
-use Rattle.std.specs.Prelude.{◌≡◌, ◌≤◌, ◌<◌, ◌+◌, ◌-◌, ◌^◌, ◌≢◌, ◌++◌, ℕ, nat_lt, Bool, true, false, List, [], ◌∷◌, length, Option, Some, None, Result, Ok, Err}
-use Rattle.ws_value.specs.declared.fault.Fault.TheVariants.{Read, Write as WriteFault, TooMuch}
+use Rattle.std.specs.Prelude.{◌≡◌, ◌≤◌, ◌<◌, ◌+◌, ◌-◌, ◌^◌, ◌≢◌, ◌++◌, ℕ, zero, suc, nat_lt, Bool, true, false, List, [], ◌∷◌, length, Option, Some, None, Result, Ok, Err}
+use Rattle.ws_value.specs.declared.fault.Fault.{Fault}
+use Rattle.ws_value.specs.declared.fault.Fault.TheVariants.{Read, Write as WriteFault, TooMuch, Stage as StageFault, Abort as AbortFault}
 use Rattle.ws_value.specs.declared.ids.HostId.{HostId}
 use Rattle.ws_value.specs.declared.value.Plain.TheVariants.{Fault as FaultReason}
 use Rattle.ws_value.specs.declared.value.Value.{Value}
-use Rattle.ws_value.specs.declared.value.Value.TheVariants.{Bytes}
+use Rattle.ws_value.specs.declared.ids.StreamId.{StreamId}
+use Rattle.ws_value.specs.declared.value.Value.TheVariants.{Plain as PlainValue, Bytes}
+use Rattle.ws_flow.specs.declared.plan.Ending.{Ending}
+use Rattle.ws_flow.specs.declared.plan.Ending.TheVariants.{Fine, Bad}
+use Rattle.ws_flow.specs.Stages.{machine}
 use Rattle.ws_io.specs.Faults.{Rose}
 use Rattle.ws_io.specs.Feed.{Feed}
 use Rattle.ws_io.specs.Gain.{Gains, Becomes, KeepsTold}
 use Rattle.ws_io.specs.declared.outside.Failed.{Failed}
 use Rattle.ws_steps.specs.declared.calls.Answer.TheVariants.{Ok as AnswerOk, Fail as AnswerFail}
 use Rattle.ws_steps.specs.declared.calls.Call.{Call}
-use Rattle.ws_steps.specs.declared.calls.Call.TheVariants.{Enqueue, Finish, Fail, Settle}
+use Rattle.ws_steps.specs.declared.calls.Call.TheVariants.{Enqueue, Finish, Fail, Settle, Trigger}
 use Rattle.ws_steps.specs.declared.calls.Event.{Event}
 use Rattle.ws_steps.specs.declared.calls.Event.TheVariants.{Host, Settled, Signal}
 use Rattle.ws_steps.specs.declared.calls.HostCall.{HostCall}
-use Rattle.ws_steps.specs.declared.calls.HostCall.TheVariants.{Pull as HostPull, Write as HostWrite, Close as HostClose}
+use Rattle.ws_steps.specs.declared.calls.HostCall.TheVariants.{Pull as HostPull, Write as HostWrite, Close as HostClose, Transform as HostTransform, Flush as HostFlush}
+use Rattle.ws_steps.specs.declared.calls.Reply.TheVariants.{Done}
 use Rattle.ws_steps.specs.Histories.{is_same}
-use Rattle.ws_steps.specs.Run.{after_call, run, jobs_in_a_row}
+use Rattle.ws_steps.specs.Run.{after_call, reply_to, run, jobs_in_a_row}
+use Rattle.ws_stages.specs.declared.work.Pushed.{Pushed}
+use Rattle.ws_stages.specs.Answers.{Answers as StageAnswers, Flushed}
+use Rattle.ws_stages.specs.Cuts.{HasLength}
+use Rattle.ws_stages.specs.State.{State, IsLive, kept_in}
 use Rattle.ws_realm.specs.Seen.{SeenRealm, oldest}
+use Rattle.ws_value.specs.declared.memory.NoMemory.{NoMemory as NoMemoryError}
 use Rattle.ws_realm.specs.declared.realm.Why.{Why}
 use Rattle.ws_realm.specs.declared.realm.Why.TheVariants.{NoMemory, Spent}
 use Rattle.ws_runner.specs.declared.node.Input.{Input}
 use Rattle.ws_runner.specs.declared.node.Input.TheVariants.{Open as InputOpen, Ended, Failed as InputFailed, TooLong}
+use Rattle.ws_flow.specs.Parts.{Over}
+use Rattle.ws_runner.specs.declared.node.Abort.{Abort}
 use Rattle.ws_runner.specs.declared.node.Node.{Node}
 use Rattle.ws_runner.specs.declared.node.Output.{Output}
-use Rattle.ws_runner.specs.declared.node.Output.TheVariants.{Open, Finished, Failed as OutputFailed}
+use Rattle.ws_runner.specs.declared.node.Output.TheVariants.{Open, Finished, Failed as OutputFailed, Aborted}
 use Rattle.ws_runner.specs.Host.{GivesPiece}
-use Rattle.ws_runner.specs.Node.{source, sink}
+use Rattle.ws_chain_laws.specs.Chain.{source_of}
+use Rattle.ws_runner.specs.Node.{source, stage_of, is_reached}
 
 -- a node whose realm is so
 abbrev pub with_realm : SeenRealm → Node → Node
@@ -36,16 +50,27 @@ with_realm realm n = record n { realm = realm }
 abbrev pub stopped_by : Why → Node → Node
 stopped_by why n = record n { stopped = Some why }
 
--- why a realm stops: it had stopped for that before; or memory was wanting; or it is spent
+-- why a realm stops: it had stopped for that before; or now memory was wanting, or it is spent
 pub data Stops (why : Why) (a : Node) : Type 0 where
   Before : a.stopped ≡ Some why → Stops why a
-  Wanting : why ≡ NoMemory → Stops why a
-  IsSpent : a.realm.slots.age ≡ oldest → Stops why a
+  Wanting : a.stopped ≡ None → why ≡ NoMemory → Stops why a
+  IsSpent : a.stopped ≡ None → why ≡ Spent → a.realm.slots.age ≡ oldest → Stops why a
+
+-- a realm that could still grow older isn't older than any may be
+abbrev pub IsYoung : ℕ → ℕ → Type 0
+IsYoung before now = before ≤ oldest → now ≤ oldest
 
 -- a call was performed; or it wasn't, since the realm has stopped
 pub data Asks (c : Call) (a b : Node) : Type 0 where
-  Performed : (realm : SeenRealm) → realm.slots ≡ after_call c a.realm.slots → a.stopped ≡ None → b ≡ with_realm realm a → Asks c a b
+  Performed : (realm : SeenRealm) → realm.slots ≡ after_call c a.realm.slots → IsYoung a.realm.slots.age realm.slots.age → a.stopped ≡ None
+      → b ≡ with_realm realm a → Asks c a b
   Refused : (why : Why) → Stops why a → b ≡ stopped_by why a → Asks c a b
+
+-- it was performed, and answered Done
+pub record IsDoneBy (c : Call) (a b : Node) : Type 0 where
+  pub going : a.stopped ≡ None
+  pub done : reply_to c a.realm.slots ≡ Done
+  pub goes_on : b.stopped ≡ None
 
 -- some jobs were performed, one after another, and then the realm may have stopped
 pub record Works (a b : Node) : Type 0 where
@@ -53,6 +78,7 @@ pub record Works (a b : Node) : Type 0 where
   pub realm : SeenRealm
   pub stopped : Option Why
   pub slots : realm.slots ≡ run (jobs_in_a_row jobs) a.realm.slots
+  pub young : IsYoung a.realm.slots.age realm.slots.age
   pub is : b ≡ record a { realm = realm; stopped = stopped }
   -- a realm that has stopped doesn't go on
   pub stays : (why : Why) → a.stopped ≡ Some why → b ≡ a
@@ -60,7 +86,7 @@ pub record Works (a b : Node) : Type 0 where
 
 -- a piece that was read is counted, and waits to be written
 abbrev pub with_piece : List ℕ → Input → Node → Node
-with_piece piece input n = record n { taken = n.taken + length piece; unwritten = length piece; input = input }
+with_piece piece input n = record n { taken = n.taken + length piece; ahead = length piece; input = input }
 
 abbrev pub takes_bytes : List ℕ → Node → Node → Bool → Type 0
 takes_bytes piece a b true = Asks (Fail source (FaultReason TooMuch)) (with_piece piece TooLong a) b
@@ -90,32 +116,74 @@ abbrev pub is_writable : Output → Bool
 is_writable Open = true
 is_writable Finished = false
 is_writable OutputFailed = false
+is_writable Aborted = false
 
--- an output that failed; one that was finished stays so
+-- an output that failed; one that wasn't open stays as it is
 abbrev pub shut : Output → Output
 shut Open = OutputFailed
 shut Finished = Finished
 shut OutputFailed = OutputFailed
+shut Aborted = Aborted
 
--- what was asked of the output has failed, and the host says so
-abbrev pub Fails : HostId → Node → Node → Type 0
-Fails id a b = Asks (Settle id (AnswerFail (FaultReason WriteFault))) (record a { output = shut a.output }) b
+-- how what is asked of an output fails, once it isn't open
+abbrev pub fault_of : Output → Fault
+fault_of Open = WriteFault
+fault_of Finished = WriteFault
+fault_of OutputFailed = WriteFault
+fault_of Aborted = AbortFault
 
 abbrev pub settles : HostId → Call
 settles id = Settle id AnswerOk
+
+abbrev pub fails : HostId → Fault → Call
+fails id fault = Settle id (AnswerFail (FaultReason fault))
+
+-- what was asked of the output has failed, and the host says so
+abbrev pub Fails : HostId → Node → Node → Type 0
+Fails id a b = Asks (fails id (fault_of (shut a.output))) (record a { output = shut a.output }) b
+
+-- So many bytes were written, and of those before the abort as many fewer are left. Where none is, its signal is triggered
+
+abbrev pub nearer : ℕ → Abort → Abort
+nearer count abort = record abort { left = abort.left - count }
+
+abbrev pub triggers : Abort → Call
+triggers abort = Trigger abort.signal (FaultReason AbortFault)
+
+abbrev pub draws_near : Abort → ℕ → Node → Node → Type 0
+draws_near abort zero a b = Asks (triggers abort) (record a { abort = Some abort }) b
+draws_near abort (suc left) a b = b ≡ record a { abort = Some abort }
+
+abbrev pub draws_by : ℕ → Option Abort → Node → Node → Type 0
+draws_by count None a b = b ≡ a
+draws_by count (Some abort) a b = draws_near (nearer count abort) (abort.left - count) a b
+
+abbrev pub DrawsNear : ℕ → Node → Node → Type 0
+DrawsNear count a b = draws_by count a.abort a b
+
+-- without stages, bytes that are written were had by the output
+abbrev pub had_by : List State → ℕ → ℕ → ℕ
+had_by [] count ahead = ahead - count
+had_by (w ∷ ws) count ahead = ahead
+
+abbrev pub written : ℕ → Node → Node
+written count n = record n { ahead = had_by n.stages.items count n.ahead }
 
 -- nothing was written, since the output takes no more
 pub record Untouched (old new : Shown) (got got' : List ℕ → Type 0) : Type 0 where
   pub shown : new ≡ old
   pub gained : Gains got got' []
 
--- a chunk was asked to be written: all of it was; or a first part, and then a write failed; or the output takes no more
+-- A chunk was asked to be written: all of it was; or a first part, and then a write failed; or the output takes no more, since it was finished or
+-- has failed, or has all bytes before the abort
 pub data Writes (id : HostId) (piece : List ℕ) (a b : Node) (old new : Shown) (got got' : List ℕ → Type 0) : Type 0 where
-  WroteAll : a.output ≡ Open → Gains got got' piece → new.faults ≡ old.faults → KeepsTold old.finished new.finished
-      → Asks (settles id) (record a { unwritten = a.unwritten - length piece }) b → Writes id piece a b old new got got'
-  WroteLess : a.output ≡ Open → (gain rest : List ℕ) → piece ≡ gain ++ rest → Gains got got' gain → Rose old.faults new.faults
+  WroteAll : a.output ≡ Open → is_reached a.abort ≡ false → Gains got got' piece → new.faults ≡ old.faults → KeepsTold old.finished new.finished
+      → (c : Node) → DrawsNear (length piece) (written (length piece) a) c → Asks (settles id) c b → Writes id piece a b old new got got'
+  WroteLess : a.output ≡ Open → is_reached a.abort ≡ false → (gain rest : List ℕ) → piece ≡ gain ++ rest → Gains got got' gain → Rose old.faults new.faults
       → KeepsTold old.finished new.finished → Fails id a b → Writes id piece a b old new got got'
   WroteNone : a.output ≢ Open → Untouched old new got got' → Fails id a b → Writes id piece a b old new got got'
+  Reached : a.output ≡ Open → is_reached a.abort ≡ true → Untouched old new got got' → Fails id (record a { output = Aborted }) b
+      → Writes id piece a b old new got got'
 
 -- the output was asked to be finished: it was; or that failed; or it takes no more
 pub data Finishes (id : HostId) (a b : Node) (old new : Shown) (got got' : List ℕ → Type 0) : Type 0 where
@@ -127,9 +195,27 @@ pub data Finishes (id : HostId) (a b : Node) (old new : Shown) (got got' : List 
 
 -- What is asked of the host and how it is answered
 
--- a chunk to be written is one that was counted
-abbrev pub MayAnswer : Node → HostCall → Type 0
-MayAnswer n call = (piece : List ℕ) → call ≡ HostWrite sink (Bytes piece) → n.output ≡ Open → length piece ≤ n.unwritten
+-- the stage in a list whose transform stream has this readable half, with those before it and behind it
+pub record IsAt (i : StreamId) (stages before : List State) (w : State) (after : List State) : Type 0 where
+  pub whole : stages ≡ before ++ w ∷ after
+  pub place : i ≡ source_of (suc (length before))
+
+-- a chunk may be pushed: fewer than 2^62 were, and it isn't too long for `frame`
+pub record CanPush (piece : List ℕ) (w : State) : Type 0 where
+  pub count : w.pushes < 2 ^ 62
+  pub length_fits : HasLength w.stage (length piece)
+
+-- a chunk that is written without stages is one that was counted
+abbrev pub MayWrite : List ℕ → Node → Type 0
+MayWrite piece n = n.output ≡ Open → is_reached n.abort ≡ false → n.stages.items ≡ [] → length piece ≤ n.ahead
+
+-- a chunk that the first stage takes, or where there is none the output, is one that was counted; and one that a stage takes can be pushed
+pub record MayAnswer (n : Node) (call : HostCall) : Type 0 where
+  pub written : (piece : List ℕ) → call ≡ HostWrite n.sink (Bytes piece) → MayWrite piece n
+  pub had : (i : StreamId) (piece : List ℕ) → call ≡ HostTransform i (Bytes piece) → (after : List State) (w : State) → IsAt i n.stages.items [] w after
+      → IsLive w.work → length piece ≤ n.ahead
+  pub pushed : (i : StreamId) (piece : List ℕ) → call ≡ HostTransform i (Bytes piece) → (before after : List State) (w : State)
+      → IsAt i n.stages.items before w after → IsLive w.work → CanPush piece w
 
 -- a pull waits until it may be answered; the sink's chunks are written, and its close finishes the output; all else is settled at once
 abbrev pub Settles : HostId → Node → Node → Shown → Shown → (List ℕ → Type 0) → (List ℕ → Type 0) → Type 0
@@ -143,10 +229,78 @@ abbrev pub finishes_by : HostId → Node → Node → Shown → Shown → (List 
 finishes_by id a b old new got got' true = Finishes id a b old new got got'
 finishes_by id a b old new got got' false = Settles id a b old new got got'
 
+-- What comes out of a stage is enqueued behind it, chunk by chunk, until one isn't taken
+
+abbrev pub enqueues : StreamId → List ℕ → Call
+enqueues i piece = Enqueue i (Bytes piece)
+
+pub data Enqueues (i : StreamId) : List (List ℕ) → Node → Node → Type 0 where
+  NoPiece : (a : Node) → Enqueues i [] a a
+  -- the rest is dropped
+  NotTaken : (piece : List ℕ) (rest : List (List ℕ)) (a b : Node) → Asks (enqueues i piece) a b → (IsDoneBy (enqueues i piece) a b → ⊥)
+      → Enqueues i (piece ∷ rest) a b
+  OneTaken : (piece : List ℕ) (rest : List (List ℕ)) (a b c : Node) → Asks (enqueues i piece) a c → IsDoneBy (enqueues i piece) a c → Enqueues i rest c b
+      → Enqueues i (piece ∷ rest) a b
+
+-- and what was asked of it ends as it did
+abbrev pub settles_by : HostId → StreamId → Ending → Call
+settles_by id i Fine = settles id
+settles_by id i (Bad code place) = fails id (StageFault (stage_of i) code place)
+
+pub record PutsAll (id : HostId) (i : StreamId) (p : Pushed) (a b : Node) : Type 0 where
+  pub between : Node
+  pub enqueued : Enqueues i p.chunks.items a between
+  pub ended : Asks (settles_by id i p.ending) between b
+
+abbrev pub PutsOut : HostId → StreamId → Result Pushed NoMemoryError → Node → Node → Type 0
+PutsOut id i (Ok p) a b = PutsAll id i p a b
+PutsOut id i (Err e) a b = b ≡ stopped_by NoMemory a
+
+-- only the states of its stages changed
+pub record HasStages (stages : List State) (a b : Node) : Type 0 where
+  pub is : b ≡ record a { stages = b.stages }
+  pub items : b.stages.items ≡ stages
+
+-- where none stands before it, a stage has had a chunk of so many bytes
+abbrev pub had_behind : List State → ℕ → Node → Node
+had_behind [] count n = record n { ahead = n.ahead - count }
+had_behind (w ∷ ws) count n = n
+
+-- no stage has this readable half
+abbrev pub NoneThere : StreamId → List State → Type 0
+NoneThere i ws = (before after : List State) (w : State) → IsAt i ws before w after → ⊥
+
+-- A chunk came to a stage: it is pushed, and what comes out is put out; or memory was wanting; or the stage is over,
+-- or no stage is there, and then nothing is answered
+pub data Transforms (id : HostId) (i : StreamId) (piece : List ℕ) (a b : Node) : Type 0 where
+  PushedOne : (before after : List State) (w v : State) (p : Pushed) → IsAt i a.stages.items before w after → IsLive w.work
+      → StageAnswers p v.work ((machine w.stage).push (kept_in w.work) piece) → v.stage ≡ w.stage → v.pushes ≡ w.pushes + 1
+      → (c : Node) → HasStages (before ++ v ∷ after) (had_behind before (length piece) a) c → PutsAll id i p c b → Transforms id i piece a b
+  NoRoomToPush : (before after : List State) (w v : State) → IsAt i a.stages.items before w after → IsLive w.work → v.stage ≡ w.stage → v.work ≡ Over Fine
+      → (c : Node) → HasStages (before ++ v ∷ after) (had_behind before (length piece) a) c → b ≡ stopped_by NoMemory c → Transforms id i piece a b
+  NotPushed : (before after : List State) (w : State) → IsAt i a.stages.items before w after → (IsLive w.work → ⊥) → b ≡ a → Transforms id i piece a b
+  NothingToPush : NoneThere i a.stages.items → b ≡ a → Transforms id i piece a b
+
+abbrev pub transforms_by : HostId → StreamId → Value → Node → Node → Type 0
+transforms_by id i (Bytes piece) a b = Transforms id i piece a b
+transforms_by id i (PlainValue v) a b = Asks (settles id) a b
+
+-- the input of a stage has ended: so with what the end adds; and where the stage is over, or no stage is there, nothing is answered
+pub data Flushes (id : HostId) (i : StreamId) (a b : Node) : Type 0 where
+  FlushedOne : (before after : List State) (w v : State) (p : Pushed) → IsAt i a.stages.items before w after → IsLive w.work
+      → Flushed p v.work ((machine w.stage).flush (kept_in w.work)) → v.stage ≡ w.stage → v.pushes ≡ w.pushes
+      → (c : Node) → HasStages (before ++ v ∷ after) a c → PutsAll id i p c b → Flushes id i a b
+  NoRoomToFlush : (before after : List State) (w v : State) → IsAt i a.stages.items before w after → IsLive w.work → v.stage ≡ w.stage → v.work ≡ Over Fine
+      → (c : Node) → HasStages (before ++ v ∷ after) a c → b ≡ stopped_by NoMemory c → Flushes id i a b
+  NotFlushed : (before after : List State) (w : State) → IsAt i a.stages.items before w after → (IsLive w.work → ⊥) → b ≡ a → Flushes id i a b
+  NothingToFlush : NoneThere i a.stages.items → b ≡ a → Flushes id i a b
+
 abbrev pub Answers : HostId → HostCall → Node → Node → Shown → Shown → (List ℕ → Type 0) → (List ℕ → Type 0) → Type 0
 Answers id (HostPull i) a b old new got got' = (b ≡ record a { asked = Some id }) × Untouched old new got got'
-Answers id (HostWrite i v) a b old new got got' = writes_by id v a b old new got got' (is_same sink i)
-Answers id (HostClose i) a b old new got got' = finishes_by id a b old new got got' (is_same sink i)
+Answers id (HostWrite i v) a b old new got got' = writes_by id v a b old new got got' (is_same a.sink i)
+Answers id (HostClose i) a b old new got got' = finishes_by id a b old new got got' (is_same a.sink i)
+Answers id (HostTransform i v) a b old new got got' = transforms_by id i v a b × Untouched old new got got'
+Answers id (HostFlush i) a b old new got got' = Flushes id i a b × Untouched old new got got'
 Answers id _ a b old new got got' = Settles id a b old new got got'
 
 -- an event is a call of the host, or tells of what it needs no answer to
@@ -158,17 +312,24 @@ Hears (Host id call) a b old new got got' = Answers id call a b old new got got'
 Hears (Settled p) a b old new got got' = (b ≡ a) × Untouched old new got got'
 Hears (Signal i reason) a b old new got got' = (b ≡ a) × Untouched old new got got'
 
--- the input isn't read: no pull waits, or what was read before isn't written, or the input isn't open, or the realm has stopped
+-- why the input isn't read: the realm has stopped, or what was read before wasn't had, or the input isn't open, or no pull waits
+pub data NeedsNoRead (a : Node) : Type 0 where
+  IsStopped : (why : Why) → a.stopped ≡ Some why → NeedsNoRead a
+  IsAhead : 0 < a.ahead → NeedsNoRead a
+  IsShut : a.input ≢ InputOpen → NeedsNoRead a
+  IsUnasked : a.asked ≡ None → NeedsNoRead a
+
+-- the input wasn't read
 pub record Unread (old new : Option Feed) (before now : ℕ) : Type 0 where
   pub feed : new ≡ old
   pub calm : now ≡ before
 
--- it is read once, and what it gave is handed to the source; or there was no memory for a read
+-- it isn't read; or there was no memory for a read; or it is read once, and what it gave is handed to the source
 pub data Reads (a b : Node) (old new : Option Feed) (before now : ℕ) : Type 0 where
-  ReadNot : b ≡ a → Unread old new before now → Reads a b old new before now
+  ReadNot : NeedsNoRead a → b ≡ a → Unread old new before now → Reads a b old new before now
   Wanted : a.stopped ≡ None → Unread old new before now → (id : HostId) → a.asked ≡ Some id
       → b ≡ record a { asked = None; stopped = Some NoMemory } → Reads a b old new before now
-  ReadOnce : a.stopped ≡ None → a.unwritten ≡ 0 → a.input ≡ InputOpen → (id : HostId) → a.asked ≡ Some id
+  ReadOnce : a.stopped ≡ None → a.ahead ≡ 0 → a.input ≡ InputOpen → (id : HostId) → a.asked ≡ Some id
       → (want : ℕ) → want ≤ 4096 → want ≤ (a.most - a.taken) + 1 → (piece : Result (List ℕ) Failed) → GivesPiece old new before now want piece
       → (c : Node) → Takes piece (record a { asked = None }) c → Asks (settles id) c b → Reads a b old new before now
 

@@ -1,69 +1,108 @@
--- A node without stages: the streams of its realm, and what lies in it on its way from the input to the output.
-use Rattle.std.specs.Prelude.{ℕ, Bool, false, not, ◌&&◌, ◌||◌, List, [], map, Option, Some, None}
-use Rattle.ws_value.specs.declared.ids.PipeId.{PipeId}
+-- A node: the streams of its realm, its stages, and what lies before each of them and behind the last, on the way from the input to the output.
+use Rattle.std.specs.Prelude.{ℕ, zero, suc, ◌/◌, ◌==◌, Bool, false, not, ◌&&◌, ◌||◌, List, [], ◌∷◌, map, Option, Some, None}
+use Rattle.std.specs.List.{list_all}
+use Rattle.ws_value.specs.declared.ids.PromiseId.{PromiseId}
 use Rattle.ws_value.specs.declared.ids.StreamId.{StreamId}
 use Rattle.ws_value.specs.declared.value.Outcome.{Outcome}
 use Rattle.ws_value.specs.declared.value.Value.{Value}
 use Rattle.ws_value.specs.declared.value.Value.TheVariants.{Plain, Bytes}
+use Rattle.ws_flow.specs.declared.plan.Stage.{Stage}
+use Rattle.ws_flow.specs.Parts.{AtWork, Part}
+use Rattle.ws_flow.specs.Steps.{parts_at, behind_of, coming_from}
 use Rattle.ws_flow.specs.Told.{Open as MayCome, Lost, Told, told, then_told}
+use Rattle.ws_stages.specs.State.{State}
 use Rattle.ws_steps.specs.Promises.{is_pending}
 use Rattle.ws_steps.specs.Queues.{is_empty}
 use Rattle.ws_steps.specs.Run.{is_idle}
 use Rattle.ws_steps.specs.Slots.{Slots}
-use Rattle.ws_link_laws.specs.Link.{behind}
+use Rattle.ws_chain_laws.specs.Chain.{source_of, behind_at}
 use Rattle.ws_realm.specs.Seen.{outcome_named}
 use Rattle.ws_realm.specs.declared.realm.Why.{Why}
+use Rattle.ws_runner.specs.declared.node.Abort.{Abort}
 use Rattle.ws_runner.specs.declared.node.Input.{Input}
 use Rattle.ws_runner.specs.declared.node.Input.TheVariants.{Open, Ended, Failed, TooLong}
 use Rattle.ws_runner.specs.declared.node.Node.{Node}
 
--- the stream that the input feeds, the one that feeds the output, and the pipe between them
+-- The streams are those of a chain: link k goes from stream 2k to stream 2k + 1. Link 0 comes from the source, the last link goes to the sink, and from
+-- link k the stage of number k, from 0, takes its chunks, which puts out into link k + 1
+
+-- the stream that the input feeds
 abbrev pub source : StreamId
-source = record { 0 = 0 }
+source = source_of 0
 
-abbrev pub sink : StreamId
-sink = record { 0 = 1 }
+-- the number of the stage, from 1, whose transform stream has this readable half
+abbrev pub stage_of : StreamId → ℕ
+stage_of i = i.0 / 2
 
-abbrev pub link : PipeId
-link = record { 0 = 0 }
-
-abbrev pub bytes_in : Value → List ℕ
-bytes_in (Bytes bytes) = bytes
-bytes_in (Plain v) = []
+-- the chunks of bytes among values
+abbrev pub chunks_in : List Value → List (List ℕ)
+chunks_in [] = []
+chunks_in (Bytes bytes ∷ vs) = bytes ∷ chunks_in vs
+chunks_in (Plain v ∷ vs) = chunks_in vs
 
 abbrev pub in_bytes : Told Value → Told (List ℕ)
-in_bytes x = told (map bytes_in x.items) x.mark
+in_bytes x = told (chunks_in x.items) x.mark
 
--- what lies in a realm on its way to the output: what the host hasn't heard of, and what lies on the link
-abbrev pub behind_in : Slots → Told Value
-behind_in s = behind source sink link s
+abbrev pub nothing_yet : Told (List ℕ)
+nothing_yet = told [] MayCome
 
 -- what comes behind a failed read, or behind more than the run may take, is lost
 abbrev pub lost_by : Input → Told (List ℕ)
-lost_by Open = told [] MayCome
-lost_by Ended = told [] MayCome
+lost_by Open = nothing_yet
+lost_by Ended = nothing_yet
 lost_by Failed = told [] Lost
 lost_by TooLong = told [] Lost
 
-abbrev pub ended_by : Input → Told (List ℕ) → Told (List ℕ)
-ended_by i x = then_told x (lost_by i)
+-- what comes behind a stage that is over: the end where it was flushed and ended fine, and nothing whole where it was bad
+abbrev pub coming_behind : ℕ → List State → Told (List ℕ)
+coming_behind k [] = nothing_yet
+coming_behind zero (w ∷ ws) = coming_from w.work
+coming_behind (suc k) (w ∷ ws) = coming_behind k ws
 
+-- what comes behind all that lies on link k: of link 0 that is told by the input, of each further one by the stage before it
+abbrev pub coming_by : Input → List State → ℕ → Told (List ℕ)
+coming_by input ws zero = lost_by input
+coming_by input ws (suc k) = coming_behind k ws
+
+abbrev pub coming : Node → ℕ → Told (List ℕ)
+coming n k = coming_by n.input n.stages.items k
+
+-- once the realm performs no more, all that lies in it is lost
 abbrev pub lying_by : Option Why → Told (List ℕ) → Told (List ℕ)
 lying_by None x = x
 lying_by (Some why) x = told [] Lost
 
--- what lies in a node. Once its realm performs no more, all that lies there is lost
-abbrev pub lying : Node → Told (List ℕ)
-lying n = lying_by n.stopped (ended_by n.input (in_bytes (behind_in n.realm.slots)))
+-- what lies before the place that link k leads to, where this comes behind what lies on each link
+abbrev pub lies : (ℕ → Told (List ℕ)) → Node → ℕ → Told (List ℕ)
+lies c n k = lying_by n.stopped (then_told (in_bytes (behind_at k n.realm.slots)) (c k))
 
-abbrev pub nothing_yet : Told (List ℕ)
-nothing_yet = told [] MayCome
+abbrev pub lies_in : Node → ℕ → Told (List ℕ)
+lies_in n k = lies (coming n) n k
+
+abbrev pub works_in : Node → List AtWork
+works_in n = map (λ w. w.work) n.stages.items
+
+-- the stages, each with what lies before it
+abbrev pub parts : Node → List Part
+parts n = parts_at 0 (works_in n) (lies_in n)
+
+-- and what lies behind the last of them
+abbrev pub lying : Node → Told (List ℕ)
+lying n = behind_of 0 (works_in n) (lies_in n)
+
+abbrev pub stages_in : Node → List Stage
+stages_in n = map (λ w. w.stage) n.stages.items
+
+-- whether the output has all bytes before the abort
+abbrev pub is_reached : Option Abort → Bool
+is_reached None = false
+is_reached (Some abort) = abort.left == 0
 
 -- whether a job is queued, or the host hasn't heard of something
 abbrev pub is_busy : Node → Bool
 is_busy n = not (is_idle n.realm.slots) || not (is_empty n.realm.slots.promises.events)
 
--- how the pipe has settled
+-- how the pipe into the sink has settled
 abbrev pub outcome_of_pipe : Node → Option Outcome
 outcome_of_pipe n = outcome_named n.pipe n.realm.slots
 
@@ -71,6 +110,11 @@ abbrev pub has_settled : Option Outcome → Bool
 has_settled None = false
 has_settled (Some outcome) = not (is_pending outcome)
 
--- whether the pipe has settled, and the host has heard of everything
+abbrev pub has_settled_in : Slots → PromiseId → Bool
+has_settled_in s p = has_settled (outcome_named p s)
+
+-- whether each pipe has settled, and the host has heard of everything
 abbrev pub has_ended : Node → Bool
-has_ended n = has_settled (outcome_of_pipe n) && is_empty n.realm.slots.promises.events
+has_ended n =
+    is_empty n.realm.slots.promises.events
+    && (has_settled (outcome_of_pipe n) && list_all (has_settled_in n.realm.slots) n.pipes_before.items)

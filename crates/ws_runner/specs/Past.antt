@@ -1,80 +1,82 @@
--- What holds of a node between turns: its realm was led there by calls that leave the link alone, and by what its host knows.
-use Rattle.std.specs.Prelude.{◌≡◌, ◌≢◌, ◌+◌, ◌<◌, ◌≤◌, ◌^◌, ℕ, true, false, List, [], ◌∷◌, ◌++◌, length, All, Option, Some, None, slice_get}
+-- What holds of a node between turns: its realm was led there by calls that leave its links alone, and by what its host knows.
+use Rattle.std.specs.Prelude.{◌≡◌, ◌≢◌, ◌+◌, ◌<◌, ◌≤◌, ◌^◌, ℕ, Bool, true, not, ◌&&◌, List, [], ◌∷◌, ◌++◌, length, All, Option, Some, None, slice_get, option_map, nat_abs}
 use Rattle.ws_value.specs.declared.fault.Fault.{Fault}
 use Rattle.ws_value.specs.declared.fault.Fault.TheVariants.{TypeError, RangeError, DataClone, User, Read, Write, Stage, TooMuch, Abort, NoMemory}
 use Rattle.ws_value.specs.declared.ids.HostId.{HostId}
-use Rattle.ws_value.specs.declared.ids.PromiseId.{PromiseId}
 use Rattle.ws_value.specs.declared.ids.StreamId.{StreamId}
 use Rattle.ws_value.specs.declared.value.Plain.{Plain}
 use Rattle.ws_value.specs.declared.value.Plain.TheVariants.{Undefined, Number, Fault as FaultReason, Pair, Local}
 use Rattle.ws_value.specs.declared.value.Value.{Value}
 use Rattle.ws_value.specs.declared.value.Value.TheVariants.{Plain as PlainValue, Bytes}
-use Rattle.ws_steps.specs.declared.calls.Call.{Call}
-use Rattle.ws_steps.specs.declared.calls.Call.TheVariants.{MakeReadable, MakeWritable, Pipe}
-use Rattle.ws_steps.specs.declared.calls.HostCall.TheVariants.{Pull, Close}
-use Rattle.ws_steps.specs.declared.calls.StartBy.TheVariants.{Now}
-use Rattle.ws_steps.specs.declared.pipes.Prevent.{Prevent}
-use Rattle.ws_steps.specs.declared.readable.SizeBy.TheVariants.{Count}
-use Rattle.ws_steps.specs.Run.{Entry, Called, run}
-use Rattle.ws_steps.specs.Slots.{empty}
+use Rattle.ws_flow.specs.declared.plan.Ending.TheVariants.{Fine, Bad}
+use Rattle.ws_flow.specs.declared.plan.Plan.{Plan}
+use Rattle.ws_flow.specs.Parts.{Over, Flows, fresh}
+use Rattle.ws_flow.specs.Plans.{stages_of}
+use Rattle.ws_flow.specs.Stages.{machines}
+use Rattle.ws_flow.specs.Told.{Open as MayCome, Told, then_told}
+use Rattle.ws_stages.specs.State.{State, is_live}
+use Rattle.ws_steps.specs.declared.calls.HostCall.TheVariants.{Pull, Close, Flush}
+use Rattle.ws_steps.specs.Run.{Entry, Called}
 use Rattle.ws_host_laws.specs.HostCalls.{called, settles_well}
-use Rattle.ws_link_laws.specs.Laws.{all_leave}
-use Rattle.ws_link_laws.specs.Own.{IsOwnLink}
+use Rattle.ws_chain_laws.specs.Chain.{dest_of, behind_at}
+use Rattle.ws_chain_laws.specs.Opening.{signal_of}
+use Rattle.ws_chain_laws.specs.Runs.{AreNodes}
 use Rattle.ws_realm.specs.Seen.{oldest}
 use Rattle.ws_realm.specs.declared.realm.Why.TheVariants.{Spent}
 use Rattle.ws_reason_laws.specs.Reasons.{failures}
+use Rattle.ws_runner.specs.declared.node.Abort.{Abort as AbortOf}
 use Rattle.ws_runner.specs.declared.node.Input.{Input}
 use Rattle.ws_runner.specs.declared.node.Input.TheVariants as input
 use Rattle.ws_runner.specs.declared.node.Node.{Node}
 use Rattle.ws_runner.specs.declared.node.Output.{Output}
 use Rattle.ws_runner.specs.declared.node.Output.TheVariants as output
-use Rattle.ws_runner.specs.Node.{source, sink, link, behind_in, nothing_yet, lying}
+use Rattle.ws_runner.specs.Moves.{IsAt, is_writable}
+use Rattle.ws_runner.specs.Node.{stages_in, nothing_yet, parts, lying, is_reached}
+use Rattle.ws_runner.specs.Opening.{IsAccepted, count_of, is_aborted, IsAnswered, AreAnsweredOf, led_by, past, all_begun, abort_of}
 
--- how the realm of a node was made: a source without a queue, a sink with room for one chunk, and a pipe that nothing keeps from ending
--- as both do
+-- The reasons with which a node fails something: each has its cause in what became of the input, of the output or of a stage, or in an abort that was
+-- reached
 
-abbrev pub nothing_prevented : Prevent
-nothing_prevented = record { close = false; abort = false; cancel = false }
+-- the stage of this number, from 1, ended so
+pub record EndedAs (number code place : ℕ) (stages : List State) : Type 0 where
+  pub before : List State
+  pub after : List State
+  pub state : State
+  pub numbered : length before + 1 ≡ number
+  pub whole : stages ≡ before ++ state ∷ after
+  pub over : state.work ≡ Over (Bad code place)
 
-abbrev pub piping : Call
-piping = Pipe source sink nothing_prevented None
+abbrev pub IsCauseFault : Node → Fault → Type 0
+IsCauseFault n Read = n.input ≡ input.Failed
+IsCauseFault n TooMuch = n.input ≡ input.TooLong
+IsCauseFault n Write = (n.output ≢ output.Open) × (n.output ≢ output.Aborted)
+IsCauseFault n (Stage index code place) = EndedAs index code place n.stages.items
+IsCauseFault n Abort = is_reached n.abort ≡ true
+IsCauseFault n TypeError = ⊥
+IsCauseFault n RangeError = ⊥
+IsCauseFault n DataClone = ⊥
+IsCauseFault n (User k) = ⊥
+IsCauseFault n NoMemory = ⊥
 
-abbrev pub opening : List Entry
-opening = Called (MakeReadable 0 Count Now) ∷ Called (MakeWritable 1 Count Now) ∷ []
-
--- the promise of the pipe
-abbrev pub promise : PromiseId
-promise = record { 0 = 5 }
-
-abbrev pub past_of : List Entry → List Entry
-past_of xs = opening ++ Called piping ∷ xs
-
--- the reasons with which a node fails something: each has its cause in what became of the input or of the output
-
-abbrev pub IsCauseFault : Input → Output → Fault → Type 0
-IsCauseFault i o Read = i ≡ input.Failed
-IsCauseFault i o TooMuch = i ≡ input.TooLong
-IsCauseFault i o Write = o ≢ output.Open
-IsCauseFault i o TypeError = ⊥
-IsCauseFault i o RangeError = ⊥
-IsCauseFault i o DataClone = ⊥
-IsCauseFault i o (User n) = ⊥
-IsCauseFault i o (Stage index code place) = ⊥
-IsCauseFault i o Abort = ⊥
-IsCauseFault i o NoMemory = ⊥
-
-abbrev pub IsCause : Input → Output → Plain → Type 0
-IsCause i o (FaultReason fault) = IsCauseFault i o fault
-IsCause i o Undefined = ⊥
-IsCause i o (Number n) = ⊥
-IsCause i o (Pair t) = ⊥
-IsCause i o (Local n) = ⊥
+abbrev pub IsCause : Node → Plain → Type 0
+IsCause n (FaultReason fault) = IsCauseFault n fault
+IsCause n Undefined = ⊥
+IsCause n (Number k) = ⊥
+IsCause n (Pair t) = ⊥
+IsCause n (Local k) = ⊥
 
 -- the host settled the close of the sink well only where it has finished the output
-abbrev pub ClosesFinished : List Entry → Output → Type 0
-ClosesFinished entries o =
+abbrev pub ClosesFinished : StreamId → List Entry → Output → Type 0
+ClosesFinished sink entries o =
     (before after : List Entry) (id : HostId) → entries ≡ before ++ Called (settles_well id) ∷ after
     → slice_get (called before) id.0 ≡ Some (Close sink) → o ≡ output.Finished
+
+-- the host settled the flush of a stage well only where that ended fine
+abbrev pub FlushesFine : List Entry → List State → Type 0
+FlushesFine entries stages =
+    (before after : List Entry) (id : HostId) (i : StreamId) → entries ≡ before ++ Called (settles_well id) ∷ after
+    → slice_get (called before) id.0 ≡ Some (Flush i)
+    → (first last : List State) (w : State) → IsAt i stages first w last → w.work ≡ Over Fine
 
 -- the pull that waits is one
 abbrev pub IsPull : List Entry → Option HostId → Type 0
@@ -91,62 +93,104 @@ OneAtMost n [] = Unit {0}
 OneAtMost n (v ∷ vs) = IsOne n v vs
 
 -- the counts of a node, by the end of its input
-pub record Counts (limit taken unwritten : ℕ) (i : Input) : Type 0 where
+pub record Counts (limit taken ahead : ℕ) (i : Input) : Type 0 where
   pub limited : limit < 2 ^ 63
   pub bound : taken ≤ limit + 1
   pub within : i ≢ input.TooLong → taken ≤ limit
   pub beyond : i ≡ input.TooLong → limit < taken
-  pub piece : unwritten ≤ 4096
-  pub failed : i ≡ input.Failed → unwritten ≡ 0
+  pub piece : ahead ≤ 4096
+  pub failed : i ≡ input.Failed → ahead ≡ 0
 
 -- those of this node
 abbrev pub HasCounts : Node → Type 0
-HasCounts n = Counts n.most n.taken n.unwritten n.input
+HasCounts n = Counts n.most n.taken n.ahead n.input
 
--- a node to which this led behind the opening of its realm
-pub record Led (xs : List Entry) (n : Node) : Type 0 where
-  pub slots : n.realm.slots ≡ run (past_of xs) empty
-  pub answered : n.pipe ≡ promise
-  pub left : all_leave source sink xs ≡ true
-  pub link : IsOwnLink source sink link n.realm.slots
-  -- it has no transform streams
-  pub plain : n.realm.slots.transforms ≡ []
-  pub failed : All (IsCause n.input n.output) (failures xs)
-  pub closes : ClosesFinished (past_of xs) n.output
-  pub asked : IsPull (past_of xs) n.asked
+-- each stage was asked for fewer chunks than the realm performed calls
+abbrev pub ArePushed : ℕ → List State → Type 0
+ArePushed age stages = All (λ w. w.pushes < age) stages
+
+-- the stages, the abort and the limit are those of this plan
+pub record IsOf (plan : Plan) (n : Node) : Type 0 where
+  pub accepted : IsAccepted plan
+  pub stages : stages_in n ≡ stages_of plan
+  pub sink : n.sink ≡ dest_of (count_of plan)
+  pub most : n.most ≡ nat_abs plan.max_input
+  pub signal : option_map (λ a. a.signal) n.abort ≡ signal_of (is_aborted plan)
+
+-- the output refused what came behind the abort only where that was reached
+abbrev pub AbortsReached : Node → Type 0
+AbortsReached n = n.output ≡ output.Aborted → is_reached n.abort ≡ true
+
+-- a node of a plan to which this led behind the opening of its realm
+pub record Led (plan : Plan) (xs : List Entry) (n : Node) : Type 0 where
+  pub is_of : IsOf plan n
+  pub slots : n.realm.slots ≡ led_by plan xs
+  pub calls : AreNodes xs
+  pub answered : IsAnswered plan n.pipe
+  pub failed : All (IsCause n) (failures xs)
+  pub closes : ClosesFinished n.sink (past plan xs) n.output
+  pub flushes : FlushesFine (past plan xs) n.stages.items
+  pub asked : IsPull (past plan xs) n.asked
+  pub aborts : AbortsReached n
+  pub age : n.realm.slots.age ≤ oldest
   pub counts : HasCounts n
   -- the realm has stopped as one that is spent only where it is
   pub spent : n.stopped ≡ Some Spent → n.realm.slots.age ≡ oldest
 
--- while the output may be written, what is behind the host is one chunk at most, of the bytes that aren't written
-abbrev pub HasOne : Node → Type 0
-HasOne n = n.output ≡ output.Open → OneAtMost n.unwritten (behind_in n.realm.slots).items
+-- whether what is read may still come to be had: while the first stage may be asked, or without stages the output may be written
+abbrev pub may_have : List State → Output → Option AbortOf → Bool
+may_have (w ∷ ws) o abort = is_live w.work
+may_have [] o abort = is_writable o && not (is_reached abort)
 
-pub record Since (xs : List Entry) (n : Node) : Type 0 where
-  pub led : Led xs n
+-- what is behind the host on the first link is then one chunk at most, of the bytes that weren't had
+abbrev pub HasOne : Node → Type 0
+HasOne n = may_have n.stages.items n.output n.abort ≡ true → OneAtMost n.ahead (behind_at 0 n.realm.slots).items
+
+-- Since the node was made these pieces came in, none of more than 4,096 bytes, and went through the stages to what went out and what lies in it. So no
+-- chunk that lies in it reaches 2^25 bytes
+pub record IsFed (plan : Plan) (n : Node) : Type 0 where
+  pub came : Told (List ℕ)
+  pub went : Told (List ℕ)
+  pub short : All (λ c. length c ≤ 4096) came.items
+  -- while the output may be written, more may go out
+  pub goes_on : n.output ≡ output.Open → went.mark ≡ MayCome
+  pub flows : Flows (machines (stages_of plan)) came (parts n) (then_told went (lying n))
+
+pub record Since (plan : Plan) (xs : List Entry) (n : Node) : Type 0 where
+  pub led : Led plan xs n
+  pub pushes : n.stopped ≡ None → ArePushed n.realm.slots.age n.stages.items
   pub one : HasOne n
+  pub fed : IsFed plan n
 
 -- a node between turns
 pub record Driven (n : Node) : Type 0 where
+  pub plan : Plan
   pub xs : List Entry
-  pub since : Since xs n
+  pub since : Since plan xs n
 
 -- a new node: nothing was read or written, and nothing lies in it
-pub record IsNew (limit : ℕ) (n : Node) : Type 0 where
-  pub most : n.most ≡ limit
+pub record IsNew (plan : Plan) (n : Node) : Type 0 where
+  pub is_of : IsOf plan n
+  pub pipes : AreAnsweredOf plan n.pipes_before.items
+  pub parts : parts n ≡ fresh (machines (stages_of plan))
+  pub lying : lying n ≡ nothing_yet
+  pub abort : n.abort ≡ abort_of plan.abort_after
   pub taken : n.taken ≡ 0
-  pub unwritten : n.unwritten ≡ 0
+  pub ahead : n.ahead ≡ 0
   pub input : n.input ≡ input.Open
   pub output : n.output ≡ output.Open
-  pub lying : lying n ≡ nothing_yet
 
--- as it is made: the three calls that open its realm were performed
-pub record IsFresh (limit : ℕ) (n : Node) : Type 0 where
-  pub slots : n.realm.slots ≡ run (past_of []) empty
-  pub answered : n.pipe ≡ promise
-  pub most : n.most ≡ limit
+-- as it is made: the calls that open its realm were performed
+pub record IsFresh (plan : Plan) (n : Node) : Type 0 where
+  pub slots : n.realm.slots ≡ led_by plan []
+  pub stages : n.stages.items ≡ all_begun (stages_of plan)
+  pub sink : n.sink ≡ dest_of (count_of plan)
+  pub answered : IsAnswered plan n.pipe
+  pub before_answered : AreAnsweredOf plan n.pipes_before.items
+  pub abort : n.abort ≡ abort_of plan.abort_after
+  pub most : n.most ≡ nat_abs plan.max_input
   pub taken : n.taken ≡ 0
-  pub unwritten : n.unwritten ≡ 0
+  pub ahead : n.ahead ≡ 0
   pub asked : n.asked ≡ None
   pub input : n.input ≡ input.Open
   pub output : n.output ≡ output.Open

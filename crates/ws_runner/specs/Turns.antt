@@ -1,5 +1,5 @@
 -- What a turn of a node does first, and what it answers.
-use Rattle.std.specs.Prelude.{◌≡◌, ℕ, true, false, List, ◌∷◌, Some, None}
+use Rattle.std.specs.Prelude.{◌≡◌, true, false, List, ◌∷◌, Some, None}
 use Rattle.ws_steps.specs.Queues.{is_empty}
 use Rattle.ws_steps.specs.Run.{Entry, Worked as JobWorked, Heard, run, is_idle}
 use Rattle.ws_realm.specs.Seen.{oldest}
@@ -24,12 +24,7 @@ pub data IsBegun (a b : Node) : Type 0 where
   JobFirst : is_idle a.realm.slots ≡ false → GoesBy JobWorked a b → IsBegun a b
   EventFirst : is_empty a.realm.slots.promises.events ≡ false → GoesBy Heard a b → IsBegun a b
 
--- as a realm performs jobs: one was performed, or none yet
-pub data IsWorking (left most : ℕ) (a b : Node) : Type 0 where
-  SomeJob : is_idle a.realm.slots ≡ false → GoesBy JobWorked a b → IsWorking left most a b
-  NoJob : left ≡ most → b.realm.slots ≡ a.realm.slots → IsWorking left most a b
-
--- so it was until no job was left, or as many were performed as may be
+-- a realm performed jobs until no job was left, or as many were performed as may be
 pub data HasWorked (a b : Node) : Type 0 where
   AnyJob : is_idle a.realm.slots ≡ false → GoesBy JobWorked a b → HasWorked a b
   NoneQueued : is_idle b.realm.slots ≡ true → b.realm.slots ≡ a.realm.slots → HasWorked a b

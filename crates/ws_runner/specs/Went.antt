@@ -1,18 +1,22 @@
 -- How a node goes on, and what it read and wrote meanwhile. One going after another is one.
-use Rattle.std.specs.Prelude.{◌≡◌, ◌+◌, ◌≤◌, ℕ, List, [], length}
+use Rattle.std.specs.Prelude.{◌≡◌, ◌≢◌, ◌+◌, ◌<◌, ◌≤◌, ◌^◌, ℕ, List, [], ◌∷◌, ◌++◌, All, length, Option, Some, None}
 use Rattle.std.specs.List.{concat}
+use Rattle.ws_flow.specs.Parts.{Goes}
 use Rattle.ws_flow.specs.Plans.{bytes_of}
+use Rattle.ws_flow.specs.Stages.{machines}
 use Rattle.ws_flow.specs.Told.{Mark, Open as MayCome, Closed, Lost, Told, told, then_told, IsShortOf}
 use Rattle.ws_io.specs.Faults.{Rose}
 use Rattle.ws_io.specs.Feed.{Fed, IsEmpty, IsEnded, KeepsEnd}
 use Rattle.ws_io.specs.Gain.{Gains, Becomes, KeepsTold}
 use Rattle.ws_io.specs.Moment.{Moment}
+use Rattle.ws_realm.specs.declared.realm.Why.{Why}
+use Rattle.ws_runner.specs.declared.node.Abort.{Abort}
 use Rattle.ws_runner.specs.declared.node.Input.{Input}
 use Rattle.ws_runner.specs.declared.node.Input.TheVariants as input
 use Rattle.ws_runner.specs.declared.node.Node.{Node}
 use Rattle.ws_runner.specs.declared.node.Output.{Output}
 use Rattle.ws_runner.specs.declared.node.Output.TheVariants as output
-use Rattle.ws_runner.specs.Node.{lying, nothing_yet}
+use Rattle.ws_runner.specs.Node.{lying, nothing_yet, parts, stages_in}
 
 -- no read failed
 abbrev pub CalmRead : Moment → Moment → Type 0
@@ -35,18 +39,49 @@ pub record LeftAlone (gain : List ℕ) (old new : Moment) : Type 0 where
   pub calm : new.write_faults ≡ old.write_faults
   pub finished : new.finished ≡ old.finished
 
--- What was done to an output: while it is open, it is written; then it is finished, or one call of it fails; and after that it is left
--- alone. The mark says how what was written ends
+-- What was done to an output: while it is open, it is written; then it is finished, or one call of it fails, or more comes behind the
+-- abort; and after that it is left alone. The mark says how what was written ends
 abbrev pub OutputGoes : Output → Output → List ℕ → Mark → Moment → Moment → Type 0
 OutputGoes output.Open output.Open gain out old new = (out ≡ MayCome) × (new.write_faults ≡ old.write_faults) × (KeepsTold old.finished new.finished)
 OutputGoes output.Open output.Finished gain out old new = (out ≡ Closed) × (new.write_faults ≡ old.write_faults) × (Becomes old.finished new.finished)
 OutputGoes output.Open output.Failed gain out old new = (out ≡ Lost) × (Rose old.write_faults new.write_faults) × (KeepsTold old.finished new.finished)
+OutputGoes output.Open output.Aborted gain out old new = (out ≡ Lost) × (new.write_faults ≡ old.write_faults) × (KeepsTold old.finished new.finished)
+OutputGoes output.Aborted b gain out old new = (b ≡ output.Aborted) × (LeftAlone gain old new)
 OutputGoes output.Finished b gain out old new = (b ≡ output.Finished) × (LeftAlone gain old new)
 OutputGoes output.Failed b gain out old new = (b ≡ output.Failed) × (LeftAlone gain old new)
 
--- The node goes from a to b, where this lay in it at first: so much was read, and so much of what lay there went out, whole, or was
--- lost from some place on
-pub record WentFrom (lay : Told (List ℕ)) (a b : Node) (old new : Moment) (got got' : List ℕ → Type 0) : Type 0 where
+-- of the chunks that went out, one holds the last byte that the output got, and those before it have fewer bytes than are left to the abort
+pub record StopsAt (left : ℕ) (chunks : List (List ℕ)) (gain : List ℕ) : Type 0 where
+  pub before : List (List ℕ)
+  pub chunk : List ℕ
+  pub after : List (List ℕ)
+  pub split : chunks ≡ before ++ (chunk ∷ after)
+  pub from : length (concat before) < length gain
+  pub to : length gain ≤ length (concat before) + length chunk
+  pub fewer : length (concat before) < left
+  pub short : length chunk < 2 ^ 25
+
+-- How near the abort came as these bytes of the chunks that went out were written: each byte by which it came nearer was written, and all that were but for a
+-- write that failed. Before the chunk of the last byte fewer were written than were left, and none once it was reached
+pub record ComesNear (left left' : ℕ) (chunks : List (List ℕ)) (gain : List ℕ) (o : Output) : Type 0 where
+  pub counted : left ≤ length gain + left'
+  pub exact : o ≢ output.Failed → 0 < left' → length gain + left' ≡ left
+  pub last : 0 < length gain → StopsAt left chunks gain
+
+abbrev pub AbortGoes : Option Abort → Option Abort → List (List ℕ) → List ℕ → Output → Type 0
+AbortGoes None None chunks gain o = Unit {0}
+AbortGoes (Some x) (Some y) chunks gain o = (y.signal ≡ x.signal) × ComesNear x.left y.left chunks gain o
+AbortGoes _ _ chunks gain o = ⊥
+
+-- it did nothing
+pub record DoesNothing (a b : Node) (old new : Moment) (read : Told (List ℕ)) (gain : List ℕ) : Type 0 where
+  pub same : b ≡ a
+  pub still : new ≡ old
+  pub unread : read ≡ nothing_yet
+  pub none : gain ≡ []
+
+-- The node goes from a to b: so much was read, and went through its stages to what went out and what lies in it, whole, or was lost from some place on
+pub record Went (a b : Node) (old new : Moment) (got got' : List ℕ → Type 0) : Type 0 where
   pub read : Told (List ℕ)
   pub went : Told (List ℕ)
   pub gain : List ℕ
@@ -55,16 +90,21 @@ pub record WentFrom (lay : Told (List ℕ)) (a b : Node) (old new : Moment) (got
   pub gained : Gains got got' gain
   -- what the output gained is what went out, or is cut short of it
   pub written : IsShortOf (told gain out) (bytes_of went)
-  -- what went out, and then what lies in it now, is what lay there, and then what was read, or is cut short of that
-  pub flows : IsShortOf (then_told went (lying b)) (then_told lay read)
-  -- what was read is counted, and what wasn't written is at least what was read and not gained
+  -- some cutting of what was read into pieces, none longer: `fed` tells of all its bytes together
+  pub short : All (λ c. length c ≤ 4096) read.items
+  -- what lay before each stage, and then what came, was taken by it or lies there now, and what the last one made went out or lies behind it, or is cut
+  -- short of that
+  pub goes : Goes (machines (stages_in a)) read (parts a) (lying a) (parts b) (then_told went (lying b))
+  -- what was read is counted, and without stages what the output hasn't had is at least what was read and not gained
   pub counted : b.taken ≡ a.taken + length (concat read.items)
-  pub ahead : a.unwritten + length (concat read.items) ≤ length gain + b.unwritten
+  pub ahead : a.stages.items ≡ [] → a.ahead + length (concat read.items) ≤ length gain + b.ahead
   pub input : InputGoes a.input b.input read old new
   pub output : OutputGoes a.output b.output gain out old new
+  pub abort : AbortGoes a.abort b.abort went.items gain b.output
+  -- one that had stopped does nothing more
+  pub stays : (why : Why) → a.stopped ≡ Some why → DoesNothing a b old new read gain
+  pub stages : stages_in b ≡ stages_in a
+  pub sink : b.sink ≡ a.sink
   pub most : b.most ≡ a.most
   pub pipe : b.pipe ≡ a.pipe
-
--- a node goes on
-abbrev pub Went : Node → Node → Moment → Moment → (List ℕ → Type 0) → (List ℕ → Type 0) → Type 0
-Went a b old new got got' = WentFrom (lying a) a b old new got got'
+  pub pipes : b.pipes_before ≡ a.pipes_before

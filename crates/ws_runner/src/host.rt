@@ -1,20 +1,22 @@
-//! What the host of a node does as it is asked: a pull reads the input once, a write writes its chunk whole, a close finishes the output.
-ghost use Rattle.std.specs.Prelude.{◌≡◌, ◌<◌, ◌≤◌, ◌+◌, ◌^◌, false, length, true, IfOk, None, OnErr};
+//! What the host of a node does as it is asked: a pull reads the input once, a transform or a flush asks the stage and enqueues what comes out, a write writes its chunk whole, a close finishes the output.
+ghost use Rattle.std.specs.Prelude.{◌≡◌, ◌<◌, ◌≤◌, ◌+◌, ◌^◌, ℕ, suc, [], false, length, true, IfOk, MatchOption, None, OnErr};
+ghost use Rattle.ws_chain_laws.specs.Chain.{source_of};
 ghost use Rattle.ws_io.specs.Moment.{moment};
 ghost use Rattle.ws_runner.specs.declared.node.Output.TheVariants as output_is;
 ghost use Rattle.ws_runner.specs.Host.{GivesPiece};
 ghost use Rattle.ws_steps.specs.Histories.{is_same};
 ghost use Rattle.ws_steps.specs.declared.calls.HostCall.TheVariants as host_call;
-ghost use Rattle.ws_runner.specs.Moves.{Answers, Asks, Fails, Finishes, Hears, MayAnswer, MayHear, MayTake, Reads, Takes, Writes, finishes_by, settles, takes_chunk, writes_by};
-ghost use Rattle.ws_runner.specs.Node.{is_busy, sink};
+ghost use Rattle.ws_runner.specs.Moves.{Answers, Asks, DrawsNear, Enqueues, Fails, Finishes, Flushes, Hears, MayAnswer, MayHear, MayTake, MayWrite, PutsOut, Reads, Takes, Writes, fails, finishes_by, settles, settles_by, takes_chunk, transforms_by, writes_by};
+ghost use Rattle.ws_runner.specs.Node.{is_busy, is_reached, stage_of};
 ghost use Rattle.ws_runner.specs.Past.{Driven, HasCounts};
 ghost use Rattle.ws_runner.specs.Turns.{Follows, HasHeard, IsBegun, NoneHeard};
 ghost use Rattle.ws_runner.specs.Went.{Went};
 
-use crate::node::{Input, Node, Output, SINK, SOURCE};
+use crate::node::{Abort, Input, Node, Output, SOURCE};
 use std::alloc::Global;
 use ws_io::{Failed, Sink, Source, write_whole};
 use ws_realm::{Answer, Call, Chunk, Event, Fault, HostId, NoMemory, Plain, StreamId, Value, Why};
+use ws_stages::{Ending, Pushed};
 use ws_steps::HostCall;
 use ws_value::Room;
 
@@ -45,10 +47,22 @@ fn read_piece<S: Source>(
     }
 }
 
-fn is_sink(stream: StreamId) -> bool
-    ensures { result ≡ is_same sink stream }
+/// The number of the stage, from 1, whose transform stream has this readable half.
+fn stage_of(readable: StreamId) -> u32
+    ensures { result ≡ stage_of readable }
 {
-    SINK.0 == stream.0
+    readable.0 / 2
+}
+
+/// The place of that stage, from 0. No stage has the source, or a stream of an odd number.
+fn place_of(readable: StreamId) -> Option<usize>
+    ensures { MatchOption result ((k : ℕ) → readable ≡ source_of (suc k) → ⊥)
+        (λ place. readable ≡ source_of (suc place)) }
+{
+    if readable.0 == 0 || readable.0 % 2 == 1 {
+        return None;
+    }
+    Some((readable.0 / 2 - 1) as usize)
 }
 
 impl Node {
@@ -75,7 +89,7 @@ impl Node {
         }
     }
 
-    /// Takes what happened first of what the host hasn't heard of, and does what it asks. False says that there is none.
+    /// Takes what happened first of what the host hasn't heard of, and does what it asks. False says that there is none, or that the realm has stopped.
     fn hear<S: Source, K: Sink>(&mut self, alloc: Global, input: &mut S, output: &mut K) -> bool
         requires { Driven self.old }
         ensures driven { Driven self.new }
@@ -128,9 +142,8 @@ impl Node {
             HostCall::Start(_) => self.settle(id),
             HostCall::Cancel(..) => self.settle(id),
             HostCall::Abort(..) => self.settle(id),
-            // a node has no transform streams
-            HostCall::Transform(..) => self.settle(id),
-            HostCall::Flush(_) => self.settle(id),
+            HostCall::Transform(stream, value) => self.transform(id, stream, value),
+            HostCall::Flush(stream) => self.flush(id, stream),
             HostCall::CancelTransform(..) => self.settle(id),
         }
     }
@@ -142,15 +155,23 @@ impl Node {
         self.ask(Call::Settle(id, Answer::Ok))
     }
 
-    /// Answers the pull that waits by one read of the input, once all that was read before is written. An input that ended or failed isn't read again.
+    /// What was asked has failed.
+    fn fail(&mut self, id: HostId, fault: Fault)
+        ensures { Asks (fails id fault) self.old self.new }
+    {
+        self.ask(Call::Settle(id, Answer::Fail(Plain::Fault(fault))))
+    }
+
+    /// Answers the pull that waits by one read of the input, once all that was read before was had. An input that ended or failed isn't read again.
     fn read<S: Source>(&mut self, alloc: Global, input: &mut S)
         requires { HasCounts self.old }
-        ensures { Reads self.old self.new (S.feed input.old) (S.feed input.new) (S.faults input.old) (S.faults input.new) }
+        ensures { Reads self.old self.new
+            (S.feed input.old) (S.feed input.new) (S.faults input.old) (S.faults input.new) }
     {
         if self.stopped.is_some() {
             return;
         }
-        if self.unwritten > 0 {
+        if self.ahead > 0 {
             return;
         }
         if !self.input.is_open() {
@@ -195,12 +216,90 @@ impl Node {
         }
         let count = chunk.len() as u64;
         self.taken += count;
-        self.unwritten = count;
+        self.ahead = count;
         if self.taken > self.most {
             self.input = Input::TooLong;
             return self.ask(Call::Fail(SOURCE, Plain::Fault(Fault::TooMuch)));
         }
         self.ask(Call::Enqueue(SOURCE, Value::Bytes(chunk)))
+    }
+
+    /// A chunk that came to a stage is pushed. A stage that is over is asked nothing more, and nothing is answered for it.
+    fn transform(&mut self, id: HostId, stream: StreamId, value: Value)
+        requires { MayAnswer self.old (host_call.Transform stream value) }
+        ensures { transforms_by id stream value self.old self.new }
+    {
+        let Value::Bytes(chunk) = value else {
+            return self.settle(id);
+        };
+        let Some(place) = place_of(stream) else {
+            return;
+        };
+        let Some(work) = self.stages.get_mut(place) else {
+            return;
+        };
+        if !work.is_live() {
+            return;
+        }
+        if place == 0 {
+            self.ahead -= chunk.len() as u64;
+        }
+        let pushed = work.push(chunk);
+        self.put_out(id, stream, pushed)
+    }
+
+    /// The input of a stage has ended.
+    fn flush(&mut self, id: HostId, stream: StreamId)
+        ensures { Flushes id stream self.old self.new }
+    {
+        let Some(place) = place_of(stream) else {
+            return;
+        };
+        let Some(work) = self.stages.get_mut(place) else {
+            return;
+        };
+        if !work.is_live() {
+            return;
+        }
+        let pushed = work.flush();
+        self.put_out(id, stream, pushed)
+    }
+
+    /// What came out of a stage is enqueued behind it, and what was asked has ended as the stage did.
+    fn put_out(&mut self, id: HostId, stream: StreamId, pushed: Result<Pushed, NoMemory>)
+        ensures { PutsOut id stream pushed self.old self.new }
+    {
+        match pushed {
+            Ok(pushed) => {
+                self.enqueue_all(stream, pushed.chunks);
+                self.settle_by(id, stream, pushed.ending)
+            }
+            Err(NoMemory) => self.stopped = Some(Why::NoMemory),
+        }
+    }
+
+    /// Enqueues chunks in order. Where one can't be taken, the rest is dropped.
+    fn enqueue_all(&mut self, stream: StreamId, chunks: Vec<Chunk>)
+        ensures { Enqueues stream chunks.items self.old self.new }
+    {
+        for chunk in chunks {
+            if !self.enqueue(stream, chunk) {
+                return;
+            }
+        }
+    }
+
+    /// What was asked of a stage is done, or has failed by its ending.
+    fn settle_by(&mut self, id: HostId, stream: StreamId, ending: Ending)
+        ensures { Asks (settles_by id stream ending) self.old self.new }
+    {
+        match ending {
+            Ending::Fine => self.settle(id),
+            Ending::Bad { code, place } => {
+                let index = stage_of(stream);
+                self.fail(id, Fault::Stage { index, code, place })
+            }
+        }
     }
 
     /// A chunk of the sink is written to the output.
@@ -209,9 +308,9 @@ impl Node {
         ensures { writes_by id value self.old self.new
             (record { faults = K.faults output.old; finished = K.finished output.old })
             (record { faults = K.faults output.new; finished = K.finished output.new })
-            (K.got output.old) (K.got output.new) (is_same sink stream) }
+            (K.got output.old) (K.got output.new) (is_same self.old.sink stream) }
     {
-        if !is_sink(stream) {
+        if !self.is_sink(stream) {
             return self.settle(id);
         }
         match value {
@@ -220,24 +319,61 @@ impl Node {
         }
     }
 
-    /// Writes a chunk whole. An output that was finished or has failed takes no more.
+    fn is_sink(&self, stream: StreamId) -> bool
+        ensures { result ≡ is_same self.now.sink stream }
+    {
+        self.sink.0 == stream.0
+    }
+
+    /// Writes a chunk whole. An output that was finished or has failed takes no more, nor does one that has all bytes before the abort.
     fn write_chunk<K: Sink>(&mut self, id: HostId, chunk: &Chunk, output: &mut K)
-        requires { self.old.output ≡ output_is.Open → length chunk.now ≤ self.old.unwritten }
+        requires { MayWrite chunk.now self.old }
         ensures { Writes id chunk.now self.old self.new
             (record { faults = K.faults output.old; finished = K.finished output.old })
             (record { faults = K.faults output.new; finished = K.finished output.new })
             (K.got output.old) (K.got output.new) }
     {
         if !self.output.is_open() {
-            return self.fail(id);
+            return self.fail_output(id);
+        }
+        if self.is_reached() {
+            self.output = Output::Aborted;
+            return self.fail_output(id);
         }
         match write_whole(output, chunk.as_slice()) {
             Ok(()) => {
                 let count = chunk.len() as u64;
-                self.unwritten -= count;
+                if self.stages.is_empty() {
+                    self.ahead -= count;
+                }
+                self.draw_near(count);
                 self.settle(id)
             }
-            Err(Failed) => self.fail(id),
+            Err(Failed) => self.fail_output(id),
+        }
+    }
+
+    /// Whether the output has all bytes before the abort.
+    fn is_reached(&self) -> bool
+        ensures { result ≡ is_reached self.now.abort }
+    {
+        match self.abort {
+            Some(abort) => abort.left == 0,
+            None => false,
+        }
+    }
+
+    /// So many bytes were written. Where these are all before the abort, its signal is triggered.
+    fn draw_near(&mut self, count: u64)
+        ensures { DrawsNear count self.old self.new }
+    {
+        let Some(abort) = self.abort else {
+            return;
+        };
+        let left = abort.left.saturating_sub(count);
+        self.abort = Some(Abort { left, ..abort });
+        if left == 0 {
+            self.ask(Call::Trigger(abort.signal, Plain::Fault(Fault::Abort)))
         }
     }
 
@@ -246,9 +382,9 @@ impl Node {
         ensures { finishes_by id self.old self.new
             (record { faults = K.faults output.old; finished = K.finished output.old })
             (record { faults = K.faults output.new; finished = K.finished output.new })
-            (K.got output.old) (K.got output.new) (is_same sink stream) }
+            (K.got output.old) (K.got output.new) (is_same self.old.sink stream) }
     {
-        if !is_sink(stream) {
+        if !self.is_sink(stream) {
             return self.settle(id);
         }
         self.finish(id, output)
@@ -262,22 +398,22 @@ impl Node {
             (K.got output.old) (K.got output.new) }
     {
         if !self.output.is_open() {
-            return self.fail(id);
+            return self.fail_output(id);
         }
         match output.finish() {
             Ok(()) => {
                 self.output = Output::Finished;
                 self.settle(id)
             }
-            Err(Failed) => self.fail(id),
+            Err(Failed) => self.fail_output(id),
         }
     }
 
     /// What the output was asked for has failed.
-    fn fail(&mut self, id: HostId)
+    fn fail_output(&mut self, id: HostId)
         ensures { Fails id self.old self.new }
     {
         self.output = self.output.shut();
-        self.ask(Call::Settle(id, Answer::Fail(Plain::Fault(Fault::Write))))
+        self.fail(id, self.output.fault())
     }
 }

@@ -1,7 +1,9 @@
-//! A run: the streams of one realm, whose host reads the input and writes the output.
+//! A run: the streams of one realm, whose host reads the input, asks the stages and writes the output.
 #![tactic(auto)]
 
 mod host;
+pub mod laws;
+mod making;
 mod node;
 mod nodes;
 mod turn;

@@ -1,26 +1,25 @@
-//! A node without stages: the realm of one pipe, from a source that the input feeds to a sink that feeds the output, and what its host knows of both.
-ghost use Rattle.std.specs.Prelude.{◌≡◌, ◌≤◌, ◌<◌, Err, IfOk, OnErr, OnOk, None, Some};
-ghost use Rattle.ws_realm.specs.Seen.{oldest};
+//! A node: the realm of a pipeline, from a source that the input feeds through the stages to a sink that feeds the output, and what its host knows of these.
+ghost use Rattle.std.specs.Prelude.{◌≡◌, ◌↔◌, ◌≤◌, ◌<◌, true, Err, IfOk, OnErr, OnOk, None, Some};
+ghost use Rattle.ws_realm.specs.Seen.{oldest, outcome_named};
 ghost use Rattle.ws_realm.specs.declared.realm.Why.TheVariants as why;
 ghost use Rattle.ws_steps.specs.Run as steps;
 ghost use Rattle.ws_runner.specs.Ends.{EndsAs, IsNamed, status_of, unless_finished};
-ghost use Rattle.ws_runner.specs.Moves.{Asks, Works, is_readable, is_writable, shut};
-ghost use Rattle.ws_runner.specs.Node.{has_ended, is_busy, outcome_of_pipe};
-ghost use Rattle.ws_runner.specs.Past.{Driven, IsFresh};
+ghost use Rattle.ws_runner.specs.Moves.{Asks, IsDoneBy, Works, fault_of, is_readable, is_writable, shut};
+ghost use Rattle.ws_runner.specs.Node.{has_ended, has_settled, is_busy, outcome_of_pipe};
+ghost use Rattle.ws_runner.specs.Past.{Driven};
+ghost use Rattle.ws_steps.specs.declared.calls.Call.TheVariants.{Enqueue};
+ghost use Rattle.ws_value.specs.declared.value.Value.TheVariants.{Bytes};
 ghost use Rattle.ws_runner.specs.Turns.{HasWorked};
 
-use std::alloc::Global;
 use ws_io::Status;
 use ws_realm::{
-    Call, Fault, HostId, NoMemory, Outcome, Plain, Prevent, PromiseId, Realm, Reply, SizeBy,
-    StartBy, StreamId, Why,
+    Call, Chunk, Fault, HostId, Outcome, Plain, PromiseId, Realm, Reply, SignalId, StreamId, Value,
+    Why,
 };
+use ws_stages::Work;
 
 /// The number of the stream that the input feeds.
 pub const SOURCE: StreamId = StreamId(0);
-
-/// The number of the stream that feeds the output.
-pub const SINK: StreamId = StreamId(1);
 
 /// What became of the input.
 #[derive(Clone, Copy, Debug, PartialEq, Eq)]
@@ -44,20 +43,38 @@ pub enum Output {
     Finished,
     /// A write failed, or finishing it.
     Failed,
+    /// More was to be written once it had all bytes before the abort.
+    Aborted,
 }
 
-/// The realm of a run, and what its host knows.
+/// The abort of a run after some bytes of output.
+#[derive(Clone, Copy, Debug, PartialEq, Eq)]
+pub struct Abort {
+    /// The signal of the last pipe.
+    pub signal: SignalId,
+    /// How many bytes are yet to be written before it.
+    pub left: u64,
+}
+
+/// The realm of a run, and what its host knows. The streams were made in order: the source, for each stage the two halves of its transform stream, and the sink.
 #[derive(Drop)]
 pub struct Node {
     pub realm: Realm,
-    /// The promise of the pipe.
+    /// The stages, in order.
+    pub stages: Vec<Work>,
+    /// The stream that feeds the output.
+    pub sink: StreamId,
+    /// The promises of the pipes into the stages.
+    pub pipes_before: Vec<PromiseId>,
+    /// The promise of the pipe into the sink.
     pub pipe: PromiseId,
+    pub abort: Option<Abort>,
     /// The most bytes that the run may take.
     pub most: u64,
     /// The bytes that were read.
     pub taken: u64,
-    /// Of these, those that a write hasn't taken.
-    pub unwritten: u64,
+    /// Of these, those that the first stage, or where there is none the output, hasn't had.
+    pub ahead: u64,
     /// The pull that isn't answered yet.
     pub asked: Option<HostId>,
     pub input: Input,
@@ -67,56 +84,6 @@ pub struct Node {
 }
 
 impl Node {
-    /// A node of a run that may take so many bytes.
-    pub fn make(alloc: Global, most: u64) -> Result<Node, NoMemory>
-        ensures { IfOk result (λ node. IsFresh most node) }
-    {
-        let mut realm = Realm::make(alloc)?;
-        let source = Call::MakeReadable {
-            hwm: 0,
-            size: SizeBy::Count,
-            start: StartBy::Now,
-        };
-        let Ok(_) = perform(&mut realm, source) else {
-            return Err(NoMemory);
-        };
-        let sink = Call::MakeWritable {
-            hwm: 1,
-            size: SizeBy::Count,
-            start: StartBy::Now,
-        };
-        let Ok(_) = perform(&mut realm, sink) else {
-            return Err(NoMemory);
-        };
-        let piping = Call::Pipe {
-            source: SOURCE,
-            dest: SINK,
-            prevent: Prevent {
-                close: false,
-                abort: false,
-                cancel: false,
-            },
-            signal: None,
-        };
-        let Ok(reply) = perform(&mut realm, piping) else {
-            return Err(NoMemory);
-        };
-        let Reply::Promise(pipe) = reply else {
-            unreachable!();
-        };
-        Ok(Node {
-            realm,
-            pipe,
-            most,
-            taken: 0,
-            unwritten: 0,
-            asked: None,
-            input: Input::Open,
-            output: Output::Open,
-            stopped: None,
-        })
-    }
-
     /// The realm performs a call, unless it has stopped. A refusal stops it.
     pub fn ask(&mut self, call: Call)
         ensures { Asks call self.old self.new }
@@ -126,6 +93,23 @@ impl Node {
         }
         if let Err(why) = perform(&mut self.realm, call) {
             self.stopped = Some(why);
+        }
+    }
+
+    /// Enqueues a chunk. False says that the stream takes no more, or that the realm has stopped.
+    pub fn enqueue(&mut self, stream: StreamId, chunk: Chunk) -> bool
+        ensures asks { Asks (Enqueue stream (Bytes chunk)) self.old self.new }
+        ensures done { result ≡ true ↔ IsDoneBy (Enqueue stream (Bytes chunk)) self.old self.new }
+    {
+        if self.stopped.is_some() {
+            return false;
+        }
+        match perform(&mut self.realm, Call::Enqueue(stream, Value::Bytes(chunk))) {
+            Ok(reply) => reply == Reply::Done,
+            Err(why) => {
+                self.stopped = Some(why);
+                false
+            }
         }
     }
 
@@ -159,7 +143,7 @@ impl Node {
         self.realm.queued() > 0 || self.realm.has_event()
     }
 
-    /// How the pipe has settled.
+    /// How the pipe into the sink has settled.
     fn outcome(&self) -> &Outcome
         requires { Driven self.now }
         ensures { outcome_of_pipe self.now ≡ Some result.now }
@@ -170,18 +154,33 @@ impl Node {
         }
     }
 
-    /// Whether the pipe has settled, and the host has heard of everything.
-    pub fn has_ended(&self) -> bool
-        requires { Driven self.now }
-        ensures { result ≡ has_ended self.now }
+    /// Whether a pipe has settled.
+    fn has_settled(&self, pipe: PromiseId) -> bool
+        ensures { result ≡ has_settled (outcome_named pipe self.now.realm.slots) }
     {
-        match self.outcome() {
-            Outcome::Pending => false,
-            _ => !self.realm.has_event(),
+        match self.realm.outcome(pipe) {
+            Some(Outcome::Pending) => false,
+            Some(_) => true,
+            None => false,
         }
     }
 
-    /// The status that follows from how the pipe settled, and with 0 from an output that was finished.
+    /// Whether each pipe has settled, and the host has heard of everything.
+    pub fn has_ended(&self) -> bool
+        ensures { result ≡ has_ended self.now }
+    {
+        if self.realm.has_event() || !self.has_settled(self.pipe) {
+            return false;
+        }
+        for pipe in &self.pipes_before {
+            if !self.has_settled(*pipe) {
+                return false;
+            }
+        }
+        true
+    }
+
+    /// The status that follows from how the pipe into the sink settled, and with 0 from an output that was finished.
     pub fn status(&self) -> Option<Status>
         requires { Driven self.now }
         ensures { EndsAs result self.now }
@@ -200,7 +199,7 @@ impl Node {
         }
     }
 
-    /// An output that was finished has all that was read, whatever is wanting afterwards.
+    /// An output that was finished has all that came out, whatever is wanting afterwards.
     fn unless_finished(&self, status: Status) -> Status
         ensures { result ≡ unless_finished self.now.output status }
     {
@@ -208,6 +207,7 @@ impl Node {
             Output::Finished => Status::Done,
             Output::Open => status,
             Output::Failed => status,
+            Output::Aborted => status,
         }
     }
 }
@@ -235,6 +235,19 @@ impl Output {
             Output::Open => true,
             Output::Finished => false,
             Output::Failed => false,
+            Output::Aborted => false,
+        }
+    }
+
+    /// How what is asked of it fails, once it isn't open.
+    pub fn fault(self) -> Fault
+        ensures { result ≡ fault_of self }
+    {
+        match self {
+            Output::Open => Fault::Write,
+            Output::Finished => Fault::Write,
+            Output::Failed => Fault::Write,
+            Output::Aborted => Fault::Abort,
         }
     }
 
@@ -246,6 +259,7 @@ impl Output {
             Output::Open => Output::Failed,
             Output::Finished => Output::Finished,
             Output::Failed => Output::Failed,
+            Output::Aborted => Output::Aborted,
         }
     }
 }
@@ -256,6 +270,8 @@ fn status_of(reason: Plain) -> Status
     ensures { result ≡ status_of reason }
 {
     match reason {
+        Plain::Fault(Fault::Stage { index, code, place }) => Status::Stage { index, code, place },
+        Plain::Fault(Fault::Abort) => Status::Aborted,
         Plain::Fault(Fault::Read) => Status::ReadFault,
         Plain::Fault(Fault::Write) => Status::WriteFault,
         Plain::Fault(Fault::TooMuch) => Status::TooMuch,
@@ -268,7 +284,7 @@ fn perform(realm: &mut Realm, call: Call) -> Result<Reply, Why>
     ensures reply { IfOk result (λ reply. reply ≡ steps.reply_to call realm.old.slots) }
     ensures slots { OnOk result (realm.new.slots ≡ steps.after_call call realm.old.slots) }
     ensures refused { OnErr result (realm.new ≡ realm.old) }
-    ensures spent { result ≡ Err why.Spent → realm.old.slots.age ≡ oldest }
+    ensures spent { (result ≡ Err why.Spent) ↔ (realm.old.slots.age ≡ oldest) }
 {
     match realm.call(call) {
         Ok(reply) => Ok(reply),

@@ -1,3 +1,4 @@
+//! What a turn of a node answers.
 /// How a turn of a node ended.
 #[derive(Clone, Copy, Debug, PartialEq, Eq)]
 pub enum Turn {
@@ -5,7 +6,7 @@ pub enum Turn {
     Worked,
     /// There was nothing to do.
     Idle,
-    /// The pipe has settled, and the host has heard of everything.
+    /// Each pipe has settled, and the host has heard of everything.
     Ended,
     /// Memory was wanting, in this turn or an earlier one.
     NoMemory,

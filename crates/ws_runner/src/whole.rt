@@ -1,7 +1,8 @@
-//! The node of a run without workers.
+//! The node of a run on one thread.
 ghost use Rattle.std.specs.Prelude.{◌≡◌, ◌<◌, ◌^◌, IfOk};
 ghost use Rattle.ws_io.specs.Moment.{moment};
 ghost use Rattle.ws_runner.specs.Ends.{EndsAs};
+ghost use Rattle.ws_runner.specs.Opening.{IsAccepted};
 ghost use Rattle.ws_runner.specs.Past.{HasCounts, IsNew};
 ghost use Rattle.ws_runner.specs.Turns.{TurnIs};
 ghost use Rattle.ws_runner.specs.Went.{Went};
@@ -12,8 +13,9 @@ use std::alloc::Global;
 use std::marker::Model;
 use ws_io::{Sink, Source, Status};
 use ws_realm::{NoMemory, Why};
+use ws_stages::Plan;
 
-/// The node of a run without workers: one realm with a pipe from the input to the output. It holds neither; each turn is lent both.
+/// The one node of a run: a realm with all streams and pipes of the plan, from the input to the output. It holds neither; each turn is lent both.
 #[derive(Drop)]
 pub struct Whole {
     node: Node,
@@ -31,13 +33,13 @@ impl Model for Whole {
 }
 
 impl Whole {
-    /// A node of a run that may take `most` bytes of its input.
-    pub fn make(alloc: Global, most: u64) -> Result<Whole, NoMemory>
-        requires { most < 2 ^ 63 }
-        ensures { IfOk result (IsNew most) }
+    /// A node of a run of this plan.
+    pub fn make(alloc: Global, plan: &Plan) -> Result<Whole, NoMemory>
+        requires { IsAccepted plan.now }
+        ensures { IfOk result (IsNew plan.now) }
     {
         Ok(Whole {
-            node: Node::make(alloc, most)?,
+            node: Node::make(alloc, plan)?,
         })
     }
 
@@ -67,7 +69,7 @@ impl Whole {
         }
     }
 
-    /// How the run ends, by how its pipe settled: none says that it is pending, and that memory wasn't wanting. An output that was finished has all that was read, so that is the end whatever is wanting afterwards.
+    /// How the run ends, by how its pipe into the sink settled: none says that it is pending, and that memory wasn't wanting. An output that was finished has all that came out, so that is the end whatever is wanting afterwards.
     pub fn status(&self) -> Option<Status>
         ensures { EndsAs result self.now }
     {

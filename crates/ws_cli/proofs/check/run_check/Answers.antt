@@ -1,18 +1,42 @@
+use Rattle.std.proofs.Common.{refl}
+use Rattle.ws_plan.specs.PlanText.{check_text}
 use Rattle.ws_cli.specs.Check.{shelf}
-use Rattle.ws_cli.proofs.Checking.{Ends-checked, Performs-check}
+use Rattle.ws_cli.proofs.Checking.{Checks-printed, Ends-checked, Ends-unread, Performs-check, Unwritten}
 use Rattle.ws_cli.proofs.check.run_check.Goals as goal
 
 pub returns-in-Ok-clause-does : goal.returns-in-Ok-clause-does
 returns-in-Ok-clause-does g c =
     let files = shelf (g.F.Files.texts c.args.files.now) (g.F.Files.faults c.args.files.now) in
-    let files' = shelf (g.F.Files.texts c.load.new.self) (g.F.Files.faults c.load.new.self) in
-    Performs-check c.check_file.result c.args.name.now c.args.output.now c.check_file.new.output files files'
-    (record { faults = g.K.Sink.faults c.args.output.now; finished = g.K.Sink.finished c.args.output.now })
-    (record { faults = g.K.Sink.faults c.check_file.new.output; finished = g.K.Sink.finished c.check_file.new.output })
-    (g.K.Sink.got c.args.output.now) (g.K.Sink.got c.check_file.new.output)
-    (Ends-checked c.check_file.result c.args.name.now c.in-Ok.text files files'
-    (record { faults = g.K.Sink.faults c.args.output.now; finished = g.K.Sink.finished c.args.output.now })
-    (record { faults = g.K.Sink.faults c.check_file.new.output; finished = g.K.Sink.finished c.check_file.new.output })
-    (g.K.Sink.got c.args.output.now) (g.K.Sink.got c.check_file.new.output)
-    c.in-Ok.ensures.text c.in-Ok.ensures.cause c.check_file.ensures.ends)
-    c.check_file.ensures.unwritten
+    let files' = shelf (g.F.Files.texts c.load_plan.new.files) (g.F.Files.faults c.load_plan.new.files) in
+    let was = c.args.output.now in
+    let is = c.print_plan.new.output in
+    let loads = c.in-Ok.ensures.loads in
+    Performs-check c.print_plan.result c.args.name.now was is files files'
+    (record { faults = g.K.Sink.faults was; finished = g.K.Sink.finished was })
+    (record { faults = g.K.Sink.faults is; finished = g.K.Sink.finished is })
+    (g.K.Sink.got was) (g.K.Sink.got is)
+    (Ends-checked c.print_plan.result c.args.name.now loads.text files files'
+    (record { faults = g.K.Sink.faults was; finished = g.K.Sink.finished was })
+    (record { faults = g.K.Sink.faults is; finished = g.K.Sink.finished is })
+    (g.K.Sink.got was) (g.K.Sink.got is) loads.loaded loads.calm
+    (Checks-printed c.print_plan.result loads.text c.in-Ok.plan
+    (record { faults = g.K.Sink.faults was; finished = g.K.Sink.finished was })
+    (record { faults = g.K.Sink.faults is; finished = g.K.Sink.finished is })
+    (g.K.Sink.got was) (g.K.Sink.got is) loads.read c.print_plan.ensures.ends))
+    (Unwritten c.print_plan.result (check_text c.in-Ok.plan) was is
+    (record { faults = g.K.Sink.faults was; finished = g.K.Sink.finished was })
+    (record { faults = g.K.Sink.faults is; finished = g.K.Sink.finished is })
+    (g.K.Sink.got was) (g.K.Sink.got is) c.print_plan.ensures.ends c.print_plan.ensures.unwritten)
+
+pub returns-in-Err-clause-does : goal.returns-in-Err-clause-does
+returns-in-Err-clause-does g c =
+    let files = shelf (g.F.Files.texts c.args.files.now) (g.F.Files.faults c.args.files.now) in
+    let files' = shelf (g.F.Files.texts c.load_plan.new.files) (g.F.Files.faults c.load_plan.new.files) in
+    let was = c.args.output.now in
+    Performs-check c.in-Err.status c.args.name.now was was files files'
+    (record { faults = g.K.Sink.faults was; finished = g.K.Sink.finished was })
+    (record { faults = g.K.Sink.faults was; finished = g.K.Sink.finished was })
+    (g.K.Sink.got was) (g.K.Sink.got was)
+    (Ends-unread c.in-Err.status c.args.name.now files files'
+    (record { faults = g.K.Sink.faults was; finished = g.K.Sink.finished was }) (g.K.Sink.got was) c.in-Err.ensures.loads)
+    (λ not_done not_failed. refl)

@@ -3,13 +3,14 @@ use Rattle.std.specs.Prelude.{Option}
 use Rattle.ws_io.specs.Moment.{moment}
 use Rattle.ws_io.specs.declared.status.Status.{Status}
 use Rattle.ws_runner.specs.Ends.{EndsAs}
-use Rattle.ws_runner.proofs.Finish.{ends-at_once, ends-from}
+use Rattle.ws_runner.proofs.AtOnce.{ends-at_once}
+use Rattle.ws_runner.proofs.Finish.{ends-from}
 use Rattle.ws_runner.proofs.Going.{went-same, went-then}
 use Rattle.ws_runner.proofs.nodes.run_nodes.Goals as goal
 
 pub returns-in_default : goal.returns-in_default
 returns-in_default g c =
-    ends-at_once c.args.most (moment (g.S.Source.faults c.args.input.now) (g.S.Source.feed c.args.input.now) (g.K.Sink.faults c.args.output.now) (g.K.Sink.finished c.args.output.now)) (g.K.Sink.got c.args.output.now)
+    ends-at_once c.args.plan.now (moment (g.S.Source.faults c.args.input.now) (g.S.Source.feed c.args.input.now) (g.K.Sink.faults c.args.output.now) (g.K.Sink.finished c.args.output.now)) (g.K.Sink.got c.args.output.now)
 
 pub loop-init : goal.loop-init
 loop-init g c = (
@@ -19,10 +20,10 @@ loop-init g c = (
 
 pub returns-in-Some-status : goal.returns-in-Some-status
 returns-in-Some-status g c =
-    ends-from c.args.most c.in-Ok.whole c.turn.new.self c.in-Some-status.status _ _ _ _ c.loop.invariant.0
-    (went-then _ c.in-Ok.whole c.loop.whole c.turn.new.self _ _ _ _ _ _ c.loop.invariant.1 c.turn.ensures.went)
+    ends-from c.args.plan.now c.in-Ok.whole c.turn.new.self c.in-Some-status.status _ _ _ _ c.loop.invariant.0
+    (went-then c.in-Ok.whole c.loop.whole c.turn.new.self _ _ _ _ _ _ c.loop.invariant.1 c.turn.ensures.went)
     (subst (λ (status : Option Status). EndsAs status c.turn.new.self) c.in-Some-status.is c.status.ensures)
 
 pub loop-preserved : goal.loop-preserved
 loop-preserved g c =
-    (c.loop.invariant.0, went-then _ c.in-Ok.whole c.loop.whole c.turn.new.self _ _ _ _ _ _ c.loop.invariant.1 c.turn.ensures.went)
+    (c.loop.invariant.0, went-then c.in-Ok.whole c.loop.whole c.turn.new.self _ _ _ _ _ _ c.loop.invariant.1 c.turn.ensures.went)

@@ -5,7 +5,7 @@ use Rattle.ws_runner.proofs.nodes.run_nodes.Given as goal
 
 abbrev pub invariant-loop : goal.invariant-loop
 invariant-loop g l =
-    (IsNew l.fn.most l.initial.whole)
+    (IsNew l.fn.plan l.initial.whole)
     × (Went l.initial.whole l.whole
     (moment (g.S.Source.faults l.fn.input) (g.S.Source.feed l.fn.input) (g.K.Sink.faults l.fn.output) (g.K.Sink.finished l.fn.output))
     (moment (g.S.Source.faults l.input) (g.S.Source.feed l.input) (g.K.Sink.faults l.output) (g.K.Sink.finished l.output))

@@ -1,7 +1,7 @@
 use Rattle.std.proofs.Common.{arith}
 use Rattle.ws_runner.proofs.Begun.{begun, begun-then, first, follows-then, works-follow}
 use Rattle.ws_runner.proofs.Going.{went-then}
-use Rattle.ws_runner.proofs.Working.{works-driven, works-went}
+use Rattle.ws_runner.proofs.Worked.{works-driven, works-went}
 use Rattle.ws_runner.proofs.node.Node.go_on.Goals as goal
 
 pub hear-requires : goal.hear-requires
@@ -9,7 +9,7 @@ hear-requires g c = works-driven c.args.self.now c.work-jobs.new.self c.requires
 
 pub returns-then-not-hear-clause-went : goal.returns-then-not-hear-clause-went
 returns-then-not-hear-clause-went g c =
-    went-then _ c.args.self.now c.work-jobs.new.self c.hear.new.self _ _ _ _ _ _ (works-went c.args.self.now c.work-jobs.new.self _ _ c.requires c.work-jobs.ensures.works) c.hear.ensures.went
+    went-then c.args.self.now c.work-jobs.new.self c.hear.new.self _ _ _ _ _ _ (works-went c.args.self.now c.work-jobs.new.self _ _ c.requires c.work-jobs.ensures.works) c.hear.ensures.went
 
 pub returns-then-not-hear-clause-begun : goal.returns-then-not-hear-clause-begun
 returns-then-not-hear-clause-begun g c =
@@ -18,7 +18,7 @@ returns-then-not-hear-clause-begun g c =
 pub loop-init : goal.loop-init
 loop-init g c = (
   c.hear.ensures.driven,
-  went-then _ c.args.self.now c.work-jobs.new.self c.hear.new.self _ _ _ _ _ _ (works-went c.args.self.now c.work-jobs.new.self _ _ c.requires c.work-jobs.ensures.works) c.hear.ensures.went,
+  went-then c.args.self.now c.work-jobs.new.self c.hear.new.self _ _ _ _ _ _ (works-went c.args.self.now c.work-jobs.new.self _ _ c.requires c.work-jobs.ensures.works) c.hear.ensures.went,
   begun c.args.self.now c.work-jobs.new.self c.hear.new.self (c.work-jobs.ensures.worked (omega arith)) (c.hear.ensures.heard c.if-not-hear.false),
 )
 
@@ -27,8 +27,8 @@ hear-requires-in-loop g c = works-driven c.loop.self c.work-jobs-in-loop.new.sel
 
 pub returns-then-not-hear-2-clause-went : goal.returns-then-not-hear-2-clause-went
 returns-then-not-hear-2-clause-went g c =
-    went-then _ c.args.self.now c.work-jobs-in-loop.new.self c.hear-in-loop.new.self _ _ _ _ _ _
-    (went-then _ c.args.self.now c.loop.self c.work-jobs-in-loop.new.self _ _ _ _ _ _ c.loop.invariant.1 (works-went c.loop.self c.work-jobs-in-loop.new.self _ _ c.loop.invariant.0 c.work-jobs-in-loop.ensures.works))
+    went-then c.args.self.now c.work-jobs-in-loop.new.self c.hear-in-loop.new.self _ _ _ _ _ _
+    (went-then c.args.self.now c.loop.self c.work-jobs-in-loop.new.self _ _ _ _ _ _ c.loop.invariant.1 (works-went c.loop.self c.work-jobs-in-loop.new.self _ _ c.loop.invariant.0 c.work-jobs-in-loop.ensures.works))
     c.hear-in-loop.ensures.went
 
 pub returns-then-not-hear-2-clause-begun : goal.returns-then-not-hear-2-clause-begun
@@ -39,8 +39,8 @@ returns-then-not-hear-2-clause-begun g c busy goes =
 pub loop-preserved : goal.loop-preserved
 loop-preserved g c = (
   c.hear-in-loop.ensures.driven,
-  went-then _ c.args.self.now c.work-jobs-in-loop.new.self c.hear-in-loop.new.self _ _ _ _ _ _
-      (went-then _ c.args.self.now c.loop.self c.work-jobs-in-loop.new.self _ _ _ _ _ _ c.loop.invariant.1 (works-went c.loop.self c.work-jobs-in-loop.new.self _ _ c.loop.invariant.0 c.work-jobs-in-loop.ensures.works))
+  went-then c.args.self.now c.work-jobs-in-loop.new.self c.hear-in-loop.new.self _ _ _ _ _ _
+      (went-then c.args.self.now c.loop.self c.work-jobs-in-loop.new.self _ _ _ _ _ _ c.loop.invariant.1 (works-went c.loop.self c.work-jobs-in-loop.new.self _ _ c.loop.invariant.0 c.work-jobs-in-loop.ensures.works))
       c.hear-in-loop.ensures.went,
   begun-then c.args.self.now c.loop.self c.hear-in-loop.new.self c.loop.invariant.2
       (follows-then c.loop.self c.work-jobs-in-loop.new.self c.hear-in-loop.new.self (works-follow c.loop.self c.work-jobs-in-loop.new.self c.work-jobs-in-loop.ensures.works) c.hear-in-loop.ensures.follows),

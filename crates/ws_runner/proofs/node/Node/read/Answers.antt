@@ -1,7 +1,15 @@
 use Rattle.std.proofs.Common.{refl, sym, ◌∙◌, ap, arith}
 use Rattle.ws_runner.specs.Moves.{ReadOnce, Wanted}
-use Rattle.ws_runner.proofs.Asking.{is_none_so, may_read}
+use Rattle.ws_runner.proofs.Asking.{is_none_so, may_read, shut-rests, stopped-rests, unread}
 use Rattle.ws_runner.proofs.node.Node.read.Goals as goal
+
+pub returns-then-is_some : goal.returns-then-is_some
+returns-then-is_some g c =
+    unread c.args.self.now (g.S.Source.feed c.args.input.now) (g.S.Source.faults c.args.input.now) (stopped-rests c.args.self.now (sym c.is_some.ensures ∙ c.if-is_some.true))
+
+pub returns-then-not-is_open : goal.returns-then-not-is_open
+returns-then-not-is_open g c =
+    unread c.args.self.now (g.S.Source.feed c.args.input.now) (g.S.Source.faults c.args.input.now) (shut-rests c.args.self.now (sym c.is_open.ensures ∙ c.if-not-is_open.true))
 
 pub returns-in-Ok : goal.returns-in-Ok
 returns-in-Ok g c =

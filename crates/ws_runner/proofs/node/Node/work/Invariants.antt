@@ -1,6 +1,6 @@
 use Rattle.std.proofs.Common.{◌≡◌, ◌≤◌, None}
 use Rattle.ws_runner.specs.Moves.{Works}
-use Rattle.ws_runner.specs.Turns.{IsWorking}
+use Rattle.ws_runner.proofs.Begun.{IsWorking}
 use Rattle.ws_runner.proofs.node.Node.work.Given as goal
 
 abbrev pub invariant-loop-left : goal.invariant-loop-left

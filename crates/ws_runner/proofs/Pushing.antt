@@ -1,0 +1,338 @@
+-- A chunk, or the end of its input, comes to a stage.
+use Rattle.std.proofs.Common.{◌≡◌, ◌≢◌, ◌+◌, ◌-◌, ◌≤◌, ℕ, suc, true, List, [], ◌∷◌, ◌++◌, length, Some, None, refl, sym, ap, ◌∙◌, subst, arith}
+use Rattle.std.proofs.lemmas.List.{length-map}
+use Rattle.ws_value.specs.declared.ids.HostId.{HostId}
+use Rattle.ws_value.specs.declared.ids.StreamId.{StreamId}
+use Rattle.ws_value.specs.declared.value.Value.{Value}
+use Rattle.ws_value.specs.declared.value.Value.TheVariants.{Bytes}
+use Rattle.ws_flow.specs.declared.plan.Ending.{Ending}
+use Rattle.ws_flow.specs.declared.plan.Ending.TheVariants.{Fine, Bad}
+use Rattle.ws_flow.specs.declared.plan.Plan.{Plan}
+use Rattle.ws_flow.specs.Machines.{Kept}
+use Rattle.ws_flow.specs.Parts.{AtWork, Over, Goes}
+use Rattle.ws_flow.specs.Stages.{machine, machines}
+use Rattle.ws_flow.specs.Told.{Open, Closed, Told, told, then_told, IsShortOf}
+use Rattle.ws_flow.proofs.Told.{short_trans, short_left}
+use Rattle.ws_io.specs.Gain.{Gains}
+use Rattle.ws_io.specs.Moment.{Moment}
+use Rattle.ws_stages.specs.State.{State, IsLive, kept_in, after_push}
+use Rattle.ws_steps.specs.declared.calls.Call.TheVariants.{Settle}
+use Rattle.ws_steps.specs.declared.calls.Event.{Event}
+use Rattle.ws_steps.specs.declared.calls.Event.TheVariants.{Host}
+use Rattle.ws_steps.specs.declared.calls.HostCall.{HostCall}
+use Rattle.ws_steps.specs.declared.calls.HostCall.TheVariants.{Transform, Flush}
+use Rattle.ws_steps.specs.Run.{Entry, Heard}
+use Rattle.ws_chain_laws.specs.Chain.{behind_at, heard_at}
+use Rattle.ws_chain_laws.specs.Nodes.{only_at}
+use Rattle.ws_chain_laws.proofs.Nodes.{each_event_is_heard_at_one_link}
+use Rattle.ws_link_laws.specs.Link.{silence}
+use Rattle.ws_realm.specs.Seen.{SeenRealm}
+use Rattle.ws_realm.specs.declared.realm.Why.TheVariants as why
+use Rattle.ws_runner.specs.declared.node.Node.{Node}
+use Rattle.ws_runner.specs.Moves.{Flushes, FlushedOne, NoRoomToFlush, NotFlushed, NothingToFlush, IsAt, NoneThere, Transforms, PushedOne, NoRoomToPush, NotPushed, NothingToPush, had_behind, stopped_by, with_realm}
+use Rattle.ws_runner.specs.Node.{coming, in_bytes, lying, nothing_yet, parts, stages_in}
+use Rattle.ws_runner.specs.Opening.{count_of}
+use Rattle.ws_runner.specs.Went.{Went}
+use Rattle.ws_runner.specs.Past.{OneAtMost, ArePushed, HasOne, Led, Since, may_have}
+use Rattle.ws_runner.proofs.Changes.{led-ahead, led-stages, led-stopped}
+use Rattle.ws_runner.proofs.Going.{SameCounts, going-stays, went-quietly, went-rests}
+use Rattle.ws_runner.proofs.Handled.{Handled}
+use Rattle.ws_runner.proofs.Handing.{lies_to, heard-lies, unheard-lies, one-quiet, one-heard}
+use Rattle.ws_runner.proofs.Ones.{one-more, live-true, one-behind, one-over}
+use Rattle.ws_runner.proofs.Settling.{AfterAll, answer_by, ended-as, may-answer, puts-all, the-stage}
+use Rattle.ws_runner.proofs.Since.{AfterEvent, MayAsk, OnlyRealm}
+use Rattle.ws_runner.proofs.Staged.{count-is, Stepped, pushed-goes, flushed-goes, stopped-goes, over-goes, stages-at, stages}
+use Rattle.ws_runner.proofs.Unheard.{IsNoHalf, at-there, at-elsewhere, no-transform, no-flush, none-half}
+
+not-none : (before after : List State) (w : State) → before ++ w ∷ after ≡ [] → ⊥
+not-none [] after w e = cc
+not-none (u ∷ before) after w e = cc
+
+had-is : (before : List State) (count : ℕ) (n : Node) → (k : ℕ) × (had_behind before count n ≡ record n { ahead = k }) × (k ≤ n.ahead)
+had-is [] count n = (n.ahead - count, refl, omega arith)
+had-is (u ∷ before) count n = (n.ahead, refl, omega arith)
+
+items-now : (c z : Node) (ws : List State) → OnlyRealm c z → c.stages.items ≡ ws → z.stages.items ≡ ws
+items-now c z ws only items = ap (λ (n : Node). n.stages.items) only.is ∙ items
+
+ahead-now : (c z n : Node) → OnlyRealm c z → c ≡ record n { stages = c.stages } → z.ahead ≡ n.ahead
+ahead-now c z n only is = ap (λ (x : Node). x.ahead) only.is ∙ ap (λ (x : Node). x.ahead) is
+
+-- a work that is over, by how what was asked of it ended
+
+pushed-over : (w : AtWork) (by e : Ending) (k : Kept) (code place : ℕ) → w ≡ after_push by k → e ≡ by → e ≡ Bad code place → w ≡ Over (Bad code place)
+pushed-over w by e k code place f g h = f ∙ ap (λ (x : Ending). after_push x k) (sym g ∙ h)
+
+flushed-over : (w : AtWork) (by e f : Ending) → w ≡ Over by → e ≡ by → e ≡ f → w ≡ Over f
+flushed-over w by e f g h i = g ∙ ap Over (sym h ∙ i)
+
+had-stages : (before : List State) (count : ℕ) (n : Node) → (had_behind before count n).stages.items ≡ n.stages.items
+had-stages [] count n = refl
+had-stages (u ∷ before) count n = refl
+
+had-kept : (before : List State) (count : ℕ) (n : Node) (u : State) (us : List State) → before ≡ u ∷ us → (had_behind before count n).ahead ≡ n.ahead
+had-kept [] count n u us e = absurd (cc)
+had-kept (x ∷ before) count n u us e = refl
+
+flush-same : (i s : StreamId) → Flush i ≡ Flush s → i ≡ s
+flush-same i s e = grind arith
+
+module _ (plan : Plan) (xs : List Entry) (a : Node) (realm : SeenRealm) (id : HostId) (i : StreamId) (b : Node) (m : Moment) (p q : List ℕ → Type 0) (gained : Gains p q [])
+    (since : Since plan xs a) (goes : a.stopped ≡ None) where
+  abbrev was : Node
+  was = with_realm realm a
+
+  -- what is behind the host on the first link then: nothing where its one chunk came to the first stage
+  one-pushed : (before after : List State) (w v : State) (piece : List ℕ) (h : Told Value) → a.stages.items ≡ before ++ w ∷ after → b.stages.items ≡ before ++ v ∷ after → IsLive w.work
+      → b.ahead ≡ (had_behind before (length piece) was).ahead → h ≡ only_at (length before) (told (Bytes piece ∷ []) Open) 0
+      → IsShortOf (then_told h (behind_at 0 realm.slots)) (behind_at 0 a.realm.slots)
+      → ((n : ℕ) → OneAtMost n (behind_at 0 realm.slots).items → OneAtMost n (behind_at 0 b.realm.slots).items) → HasOne b
+  one-pushed [] after w v piece h whole is live ahead heard short less some =
+      let o = since.one (subst (λ (s : List State). may_have s a.output a.abort ≡ true) (sym whole) (live-true w live)) in
+      let e = one-heard a.ahead (Bytes piece) (behind_at 0 realm.slots) (behind_at 0 a.realm.slots)
+      (subst (λ (x : Told Value). IsShortOf (then_told x (behind_at 0 realm.slots)) (behind_at 0 a.realm.slots)) (heard ∙ at-there 0 (told (Bytes piece ∷ []) Open)) short) o in
+      less b.ahead (subst (OneAtMost b.ahead) (sym e.0) tt)
+  one-pushed (u ∷ us) after w v piece h whole is live ahead heard short less some =
+      one-behind u (us ++ w ∷ after) (us ++ v ∷ after) a b since.one whole is ahead
+      (λ n o. less n (one-quiet n h (behind_at 0 realm.slots) (behind_at 0 a.realm.slots) (heard ∙ at-elsewhere (suc (length us)) 0 (told (Bytes piece ∷ []) Open) (λ e. omega arith)) short o)) some
+
+  one-ended : (before after : List State) (w v : State) (t h : Told Value) (n : Node) → a.stages.items ≡ before ++ w ∷ after → n.stages.items ≡ before ++ v ∷ after → (IsLive v.work → ⊥)
+      → ((u : State) (us : List State) → before ≡ u ∷ us → n.ahead ≡ a.ahead) → h ≡ only_at (length before) t 0
+      → IsShortOf (then_told h (behind_at 0 realm.slots)) (behind_at 0 a.realm.slots)
+      → ((k : ℕ) → OneAtMost k (behind_at 0 realm.slots).items → OneAtMost k (behind_at 0 n.realm.slots).items) → HasOne n
+  one-ended [] after w v t h n whole is over ahead heard short less = one-over v after n is over
+  one-ended (u ∷ us) after w v t h n whole is over ahead heard short less =
+      one-behind u (us ++ w ∷ after) (us ++ v ∷ after) a n since.one whole is (ahead u us refl)
+      (λ k o. less k (one-quiet k h (behind_at 0 realm.slots) (behind_at 0 a.realm.slots) (heard ∙ at-elsewhere (suc (length us)) 0 t (λ e. omega arith)) short o))
+
+  -- nothing is answered
+  rested : (e : Event) → AfterEvent plan xs a realm e → HasOne was → Goes (machines (stages_in a)) nothing_yet (parts a) (lying a) (parts was) (lying was) → Handled plan a was m m p q
+  rested e event one on =
+      record {
+        xs = xs ++ Heard ∷ [];
+        led = event.led;
+        pushes = λ h. subst (λ (n : ℕ). ArePushed n a.stages.items) (sym event.age) (since.pushes goes);
+        one = one;
+        went = went-quietly a was m p q gained (going-stays a was goes) (record { taken = refl; ahead = λ h. refl; input = refl; output = refl; abort = refl; stages = refl; sink = refl; most = refl; pipe = refl; pipes = refl }) on;
+      }
+
+  -- an event at a stage
+  module _ (before after : List State) (w : State) (at : IsAt i a.stages.items before w after) (call : HostCall) (t : Told Value) (event : AfterEvent plan xs a realm (Host id call))
+      (heard : (k : ℕ) → k ≤ count_of plan → heard_at (count_of plan) k (Host id call) ≡ only_at (length before) t k) where
+    count : count_of plan ≡ length before + suc (length after)
+    count = count-is plan a before after w goes since.led.is_of.stages at.whole
+
+    next_is : suc (length before) ≤ count_of plan
+    next_is = let e = count in omega arith
+
+    here_is : length before ≤ count_of plan
+    here_is = let e = count in omega arith
+
+    heard-here : (x : Told (List ℕ)) → IsShortOf (then_told (in_bytes t) (lies_to x was (length before))) (lies_to x a (length before))
+    heard-here x =
+        subst (λ (v : Told Value). IsShortOf (then_told (in_bytes v) (lies_to x was (length before))) (lies_to x a (length before)))
+        (heard (length before) here_is ∙ at-there (length before) t) (heard-lies plan xs a realm (Host id call) event goes x (length before) here_is)
+
+    unheard-there : (x : Told (List ℕ)) (k : ℕ) → k ≤ count_of plan → k ≢ length before → IsShortOf (lies_to x was k) (lies_to x a k)
+    unheard-there x k less other =
+        unheard-lies plan xs a realm (Host id call) event goes x k less (ap in_bytes (heard k less ∙ at-elsewhere (length before) k t other))
+
+    first_is : 0 ≤ count_of plan
+    first_is = omega arith
+
+    -- with the first link, where the stage isn't the first
+    one-elsewhere : 0 ≢ length before → (n : ℕ) → OneAtMost n (behind_at 0 a.realm.slots).items → OneAtMost n (behind_at 0 realm.slots).items
+    one-elsewhere other n o =
+        one-quiet n (heard_at (count_of plan) 0 (Host id call)) (behind_at 0 realm.slots) (behind_at 0 a.realm.slots) (heard 0 first_is ∙ at-elsewhere (length before) 0 t other)
+        (event.short 0 first_is) o
+
+    -- the stage is over
+    over-on : (IsLive w.work → ⊥) → Handled plan a was m m p q
+    over-on not_live =
+        rested (Host id call) event
+        (one-ended before after w w t (heard_at (count_of plan) 0 (Host id call)) was at.whole at.whole not_live (λ u us e. refl) (heard 0 first_is) (event.short 0 first_is) (λ n o. o))
+        (over-goes plan a before after w goes since.led.is_of.stages at.whole was w refl at.whole not_live refl (λ k less other. unheard-there (coming was k) k less other))
+
+    -- the stage was asked
+    module _ (v : State) (c : Node) (k : ℕ) (is : c ≡ record was { ahead = k; stages = c.stages }) (items : c.stages.items ≡ before ++ v ∷ after) (stage : v.stage ≡ w.stage) where
+      at-c : (x : Told (List ℕ)) (j : ℕ) → lies_to x c j ≡ lies_to x was j
+      at-c x j = ap (λ (n : Node). lies_to x n j) is
+
+      module _ (only : OnlyRealm c b) where
+        b-is : b ≡ record a { realm = only.realm; stopped = only.stopped; ahead = k; stages = c.stages }
+        b-is = only.is ∙ ap (λ (n : Node). record n { realm = only.realm; stopped = only.stopped }) is
+
+        b-items : b.stages.items ≡ before ++ v ∷ after
+        b-items = ap (λ (n : Node). n.stages.items) b-is ∙ items
+
+        b-input : b.input ≡ a.input
+        b-input = ap (λ (n : Node). n.input) b-is
+
+        b-ahead : b.ahead ≡ c.ahead
+        b-ahead = ap (λ (n : Node). n.ahead) only.is
+
+        same-counts : SameCounts a b
+        same-counts =
+            record {
+              taken = ap (λ (n : Node). n.taken) b-is;
+              ahead = λ none. absurd (not-none before after w (sym at.whole ∙ none));
+              input = b-input;
+              output = ap (λ (n : Node). n.output) b-is;
+              abort = ap (λ (n : Node). n.abort) b-is;
+              stages = ap stages b-items ∙ (stages-at before after v ∙ (ap (λ s. stages before ++ s ∷ stages after) stage ∙ (sym (stages-at before after w) ∙ ap stages (sym at.whole))));
+              sink = ap (λ (n : Node). n.sink) b-is;
+              most = ap (λ (n : Node). n.most) b-is;
+              pipe = ap (λ (n : Node). n.pipe) b-is;
+              pipes = ap (λ (n : Node). n.pipes_before) b-is;
+            }
+
+        went-on : Goes (machines (stages_in a)) nothing_yet (parts a) (lying a) (parts b) (lying b) → Went a b m m p q
+        went-on on = went-quietly a b m p q gained (going-stays a b goes) same-counts on
+
+      -- the realm stopped
+      stopped-on : Led plan (xs ++ Heard ∷ []) c → b ≡ stopped_by why.NoMemory c → v.work ≡ Over Fine → IsLive w.work → ((u : State) (us : List State) → before ≡ u ∷ us → c.ahead ≡ a.ahead)
+          → Handled plan a b m m p q
+      stopped-on led ends over live ahead =
+          let only : OnlyRealm c b = record { realm = c.realm; stopped = Some why.NoMemory; is = ends } in
+          let stopped : b.stopped ≡ Some why.NoMemory = ap (λ (n : Node). n.stopped) ends in
+          record {
+            xs = xs ++ Heard ∷ [];
+            led = subst (Led plan (xs ++ Heard ∷ [])) (sym ends) (led-stopped plan (xs ++ Heard ∷ []) c why.NoMemory (λ e. absurd (cc)) led);
+            pushes = λ e. absurd (let f : Some why.NoMemory ≡ None = sym stopped ∙ e in cc);
+            one = one-ended before after w v t (heard_at (count_of plan) 0 (Host id call)) b at.whole (b-items only) (λ l. subst IsLive over l)
+                (λ u us e. b-ahead only ∙ ahead u us e) (heard 0 first_is) (event.short 0 first_is)
+                (λ n o. subst (λ (z : Node). OneAtMost n (behind_at 0 z.realm.slots).items) (sym ends) (subst (λ (z : Node). OneAtMost n (behind_at 0 z.realm.slots).items) (sym is) o));
+            went = went-on only (stopped-goes plan a before after w goes since.led.is_of.stages at.whole b v (b-input only) (b-items only) why.NoMemory live over stopped);
+          }
+
+      -- and what came out was put out
+      module _ (chunks : List (List ℕ)) (all : AfterAll plan (xs ++ Heard ∷ []) (length before) chunks c b) where
+        stepped : Stepped plan a before after w goes since.led.is_of.stages at.whole b v (b-input all.only) (b-items all.only) (in_bytes t) chunks
+        stepped = record {
+          there = λ x.
+              short_trans _ _ _
+              (short_left (in_bytes t) _ _ (subst (λ (z : Told (List ℕ)). IsShortOf (lies_to x b (length before)) z) (at-c x (length before)) (all.elsewhere x (length before) here_is (λ e. omega arith))))
+              (heard-here x);
+          next = λ x.
+              let y = then_told (told chunks Open) x in
+              short_trans _ _ _ (subst (λ (z : Told (List ℕ)). IsShortOf (lies_to x b (suc (length before))) z) (at-c y (suc (length before))) (all.there x))
+              (unheard-there y (suc (length before)) next_is (λ e. omega arith));
+          elsewhere = λ x j less here next.
+              short_trans _ _ _ (subst (λ (z : Told (List ℕ)). IsShortOf (lies_to x b j) z) (at-c x j) (all.elsewhere x j less next)) (unheard-there x j less here);
+        }
+
+        pushes-on : v.pushes ≤ w.pushes + 1 → b.stopped ≡ None → ArePushed b.realm.slots.age b.stages.items
+        pushes-on some on =
+            let young = all.younger on in
+            let same : c.realm.slots.age ≡ a.realm.slots.age = ap (λ (n : Node). n.realm.slots.age) is ∙ event.age in
+            subst (ArePushed b.realm.slots.age) (sym (b-items all.only))
+            (one-more a.realm.slots.age b.realm.slots.age before after w v (omega arith) some (subst (ArePushed a.realm.slots.age) at.whole (since.pushes goes)))
+
+        one-from : (n : ℕ) → OneAtMost n (behind_at 0 realm.slots).items → OneAtMost n (behind_at 0 b.realm.slots).items
+        one-from n o = all.one n (subst (λ (z : Node). OneAtMost n (behind_at 0 z.realm.slots).items) (sym is) o)
+
+        pub on : v.pushes ≤ w.pushes + 1 → HasOne b → Goes (machines (stages_in a)) nothing_yet (parts a) (lying a) (parts b) (lying b) → Handled plan a b m m p q
+        on some one goes_on = record { xs = (xs ++ Heard ∷ []) ++ all.more; led = all.led; pushes = pushes-on some; one = one; went = went-on all.only goes_on }
+
+  heard-transform : (before after : List State) (w : State) → IsAt i a.stages.items before w after → (v : Value) (k : ℕ) → k ≤ count_of plan
+      → heard_at (count_of plan) k (Host id (Transform i v)) ≡ only_at (length before) (told (v ∷ []) Open) k
+  heard-transform before after w at v k less =
+      let e = count-is plan a before after w goes since.led.is_of.stages at.whole in
+      subst (λ (s : StreamId). heard_at (count_of plan) k (Host id (Transform s v)) ≡ only_at (length before) (told (v ∷ []) Open) k) (sym at.place)
+      ((each_event_is_heard_at_one_link (count_of plan) k less).transform id (length before) v (omega arith))
+
+  heard-flush : (before after : List State) (w : State) → IsAt i a.stages.items before w after → (k : ℕ) → k ≤ count_of plan
+      → heard_at (count_of plan) k (Host id (Flush i)) ≡ only_at (length before) (told [] Closed) k
+  heard-flush before after w at k less =
+      let e = count-is plan a before after w goes since.led.is_of.stages at.whole in
+      subst (λ (s : StreamId). heard_at (count_of plan) k (Host id (Flush s)) ≡ only_at (length before) (told [] Closed) k) (sym at.place)
+      ((each_event_is_heard_at_one_link (count_of plan) k less).flush id (length before) (omega arith))
+
+  no-stage : (e : Event) → AfterEvent plan xs a realm e → ((k : ℕ) → k ≤ count_of plan → heard_at (count_of plan) k e ≡ silence) → Handled plan a was m m p q
+  no-stage e event quiet =
+      record {
+        xs = xs ++ Heard ∷ [];
+        led = event.led;
+        pushes = λ h. subst (λ (n : ℕ). ArePushed n a.stages.items) (sym event.age) (since.pushes goes);
+        one = λ h. one-quiet a.ahead (heard_at (count_of plan) 0 e) (behind_at 0 realm.slots) (behind_at 0 a.realm.slots) (quiet 0 (omega arith)) (event.short 0 (omega arith)) (since.one h);
+        went = went-rests plan a was m p q gained (going-stays a was goes) since.led.is_of.stages (record { realm = realm; stopped = a.stopped; is = refl })
+            (λ k less. unheard-lies plan xs a realm e event goes (coming a k) k less (ap in_bytes (quiet k less)));
+      }
+
+  no-half : NoneThere i a.stages.items → IsNoHalf (count_of plan) i
+  no-half none =
+      subst (λ (n : ℕ). IsNoHalf n i) (sym (length-map a.stages.items (λ w. w.stage)) ∙ ap length since.led.is_of.stages) (none-half i a.stages.items none)
+
+  pub transforms : (piece : List ℕ) → AfterEvent plan xs a realm (Host id (Transform i (Bytes piece))) → Transforms id i piece was b → Handled plan a b m m p q
+  transforms piece event (PushedOne before after w v pushed at live answers stage pushes c has puts) =
+      let call = Transform i (Bytes piece) in
+      let past' = xs ++ Heard ∷ [] in
+      let by = (machine w.stage).push (kept_in w.work) piece in
+      let n = had_behind before (length piece) was in
+      let h = had-is before (length piece) was in
+      let heard = heard-transform before after w at (Bytes piece) in
+      let led = led-stages plan past' n c before after w v (had-stages before (length piece) was ∙ at.whole) live stage has
+      (subst (Led plan past') (sym h.1) (led-ahead plan past' was h.0 h.2 event.led)) in
+      let is : c ≡ record was { ahead = h.0; stages = c.stages } = has.is ∙ ap (λ (z : Node). record z { stages = c.stages }) h.1 in
+      let less = next_is before after w at call (told (Bytes piece ∷ []) Open) event heard in
+      let may : (more : List Entry) (z : Node) → OnlyRealm c z → MayAsk plan (past' ++ more) z (Settle id (answer_by i pushed.ending)) =
+      λ more z only. may-answer plan past' more id i pushed.ending call z event.its (λ s e. cc)
+      (λ code place e. ended-as i code place z.stages.items before after v at.place (items-now c z (before ++ v ∷ after) only has.items)
+      (pushed-over v.work by.ending pushed.ending by.kept code place answers.goes_on answers.ending e))
+      (λ s e. absurd (cc)) in
+      let all = subst (λ (cs : List (List ℕ)). AfterAll plan past' (length before) cs c b) answers.chunks (puts-all plan past' (length before) id i pushed c b less at.place led may puts) in
+      let t = told (Bytes piece ∷ []) Open in
+      on before after w at call t event heard v c h.0 is has.items stage by.chunks all (omega (arith, pushes))
+      (one-pushed before after w v piece (heard_at (count_of plan) 0 (Host id call)) at.whole (b-items before after w at call t event heard v c h.0 is has.items stage all.only) live
+      (ahead-now c b n all.only has.is) (heard 0 (omega arith)) (event.short 0 (omega arith))
+      (one-from before after w at call t event heard v c h.0 is has.items stage by.chunks all))
+      (pushed-goes plan a before after w goes since.led.is_of.stages at.whole b v (b-input before after w at call t event heard v c h.0 is has.items stage all.only)
+      (b-items before after w at call t event heard v c h.0 is has.items stage all.only) piece live answers.goes_on (stepped before after w at call t event heard v c h.0 is has.items stage by.chunks all))
+  transforms piece event (NoRoomToPush before after w v at live stage over c has ends) =
+      let call = Transform i (Bytes piece) in
+      let past' = xs ++ Heard ∷ [] in
+      let n = had_behind before (length piece) was in
+      let h = had-is before (length piece) was in
+      let led = led-stages plan past' n c before after w v (had-stages before (length piece) was ∙ at.whole) live stage has
+      (subst (Led plan past') (sym h.1) (led-ahead plan past' was h.0 h.2 event.led)) in
+      let is : c ≡ record was { ahead = h.0; stages = c.stages } = has.is ∙ ap (λ (z : Node). record z { stages = c.stages }) h.1 in
+      stopped-on before after w at call (told (Bytes piece ∷ []) Open) event (heard-transform before after w at (Bytes piece)) v c h.0 is has.items stage led ends over live
+      (λ u us e. ap (λ (z : Node). z.ahead) has.is ∙ had-kept before (length piece) was u us e)
+  transforms piece event (NotPushed before after w at not_live is) =
+      subst (λ (n : Node). Handled plan a n m m p q) (sym is)
+      (over-on before after w at (Transform i (Bytes piece)) (told (Bytes piece ∷ []) Open) event (heard-transform before after w at (Bytes piece)) not_live)
+  transforms piece event (NothingToPush none is) =
+      subst (λ (n : Node). Handled plan a n m m p q) (sym is)
+      (no-stage (Host id (Transform i (Bytes piece))) event (λ k less. no-transform (count_of plan) k id i less (no-half none) (Bytes piece)))
+
+  pub flushes : AfterEvent plan xs a realm (Host id (Flush i)) → Flushes id i was b → Handled plan a b m m p q
+  flushes event (FlushedOne before after w v flushed at live answers stage pushes c has puts) =
+      let call = Flush i in
+      let past' = xs ++ Heard ∷ [] in
+      let by = (machine w.stage).flush (kept_in w.work) in
+      let heard = heard-flush before after w at in
+      let t : Told Value = told [] Closed in
+      let led = led-stages plan past' was c before after w v at.whole live stage has event.led in
+      let less = next_is before after w at call t event heard in
+      let may : (more : List Entry) (z : Node) → OnlyRealm c z → MayAsk plan (past' ++ more) z (Settle id (answer_by i flushed.ending)) =
+      λ more z only.
+      let items : z.stages.items ≡ before ++ v ∷ after = items-now c z (before ++ v ∷ after) only has.items in
+      may-answer plan past' more id i flushed.ending call z event.its (λ s e. cc)
+      (λ code place e. ended-as i code place z.stages.items before after v at.place items (flushed-over v.work by.ending flushed.ending (Bad code place) answers.over answers.ending e))
+      (λ s e fine first last u there.
+      ap (λ (x : State). x.work) (the-stage s z.stages.items before after v (sym (flush-same i s e) ∙ at.place) items first last u there) ∙ flushed-over v.work by.ending flushed.ending Fine answers.over answers.ending fine) in
+      let all = subst (λ (cs : List (List ℕ)). AfterAll plan past' (length before) cs c b) answers.chunks (puts-all plan past' (length before) id i flushed c b less at.place led may puts) in
+      on before after w at call t event heard v c a.ahead has.is has.items stage by.chunks all (omega (arith, pushes))
+      (one-ended before after w v t (heard_at (count_of plan) 0 (Host id call)) b at.whole (b-items before after w at call t event heard v c a.ahead has.is has.items stage all.only)
+      (λ l. subst IsLive answers.over l) (λ u us e. ahead-now c b was all.only has.is) (heard 0 (omega arith)) (event.short 0 (omega arith))
+      (one-from before after w at call t event heard v c a.ahead has.is has.items stage by.chunks all))
+      (flushed-goes plan a before after w goes since.led.is_of.stages at.whole b v (b-input before after w at call t event heard v c a.ahead has.is has.items stage all.only)
+      (b-items before after w at call t event heard v c a.ahead has.is has.items stage all.only) live answers.over (stepped before after w at call t event heard v c a.ahead has.is has.items stage by.chunks all))
+  flushes event (NoRoomToFlush before after w v at live stage over c has ends) =
+      let past' = xs ++ Heard ∷ [] in
+      let led = led-stages plan past' was c before after w v at.whole live stage has event.led in
+      stopped-on before after w at (Flush i) (told [] Closed) event (heard-flush before after w at) v c a.ahead has.is has.items stage led ends over live (λ u us e. ap (λ (z : Node). z.ahead) has.is)
+  flushes event (NotFlushed before after w at not_live is) =
+      subst (λ (n : Node). Handled plan a n m m p q) (sym is) (over-on before after w at (Flush i) (told [] Closed) event (heard-flush before after w at) not_live)
+  flushes event (NothingToFlush none is) =
+      subst (λ (n : Node). Handled plan a n m m p q) (sym is) (no-stage (Host id (Flush i)) event (λ k less. no-flush (count_of plan) k id i less (no-half none)))

@@ -1,0 +1,164 @@
+-- What comes out of a stage is enqueued behind it, and what was asked of the host is settled.
+use Rattle.std.proofs.Common.{◌≡◌, ◌≢◌, ◌≤◌, ◌<◌, ℕ, suc, nat_eq, true, false, List, [], ◌∷◌, ◌++◌, Some, None, refl, sym, ap, ◌∙◌, subst, append-nil, append_assoc, arith}
+use Rattle.std.proofs.lemmas.List.Elements.{All-nil}
+use Rattle.ws_value.specs.declared.ids.HostId.{HostId}
+use Rattle.ws_value.specs.declared.value.Value.{Value}
+use Rattle.ws_value.specs.declared.value.Value.TheVariants.{Bytes}
+use Rattle.ws_flow.specs.declared.plan.Plan.{Plan}
+use Rattle.ws_flow.specs.Told.{Open, Told, told, then_told, IsShortOf}
+use Rattle.ws_flow.proofs.Told.{then_empty, short_refl, short_trans}
+use Rattle.ws_steps.specs.declared.calls.Answer.{Answer}
+use Rattle.ws_steps.specs.declared.calls.Call.{Call}
+use Rattle.ws_steps.specs.declared.calls.Call.TheVariants.{Settle}
+use Rattle.ws_steps.specs.Run.{Entry}
+use Rattle.ws_chain_laws.specs.Chain.{source_of, behind_at, call_enters}
+use Rattle.ws_chain_laws.specs.Nodes.{only_at}
+use Rattle.ws_chain_laws.proofs.Nodes.{each_nodes_call_brings}
+use Rattle.ws_link_laws.specs.Link.{silence}
+use Rattle.ws_runner.specs.declared.node.Node.{Node}
+use Rattle.ws_runner.specs.Moves.{Asks, Performed, Refused, Enqueues, NoPiece, NotTaken, OneTaken, enqueues}
+use Rattle.ws_runner.specs.Node.{in_bytes}
+use Rattle.ws_runner.specs.Opening.{count_of}
+use Rattle.ws_runner.specs.Past.{IsCause, OneAtMost, Led}
+use Rattle.ws_runner.proofs.Since.{OnlyRealm, MayAsk, since-asks, dropped}
+use Rattle.ws_runner.proofs.Handing.{lies_to}
+use Rattle.ws_runner.proofs.Unheard.{alike, unlike}
+
+pub only-then : (a b c : Node) → OnlyRealm a b → OnlyRealm b c → OnlyRealm a c
+only-then a b c f g = record { realm = g.realm; stopped = g.stopped; is = g.is ∙ ap (λ (n : Node). record n { realm = g.realm; stopped = g.stopped }) f.is }
+
+pub only-refl : (a : Node) → OnlyRealm a a
+only-refl a = record { realm = a.realm; stopped = a.stopped; is = refl }
+
+-- a realm that goes on after a call went on before
+pub asked-before : (c : Call) (a b : Node) → Asks c a b → b.stopped ≡ None → a.stopped ≡ None
+asked-before c a b (Performed realm slots young goes is) e = goes
+asked-before c a b (Refused why stops is) e = absurd (let f : Some why ≡ None = sym (ap (λ (n : Node). n.stopped) is) ∙ e in cc)
+
+-- a call that brings nothing, as a settling
+
+pub record AfterQuiet (plan : Plan) (xs : List Entry) (a b : Node) : Type 0 where
+  pub more : List Entry
+  pub led : Led plan (xs ++ more) b
+  pub only : OnlyRealm a b
+  pub lies : (t : Told (List ℕ)) (k : ℕ) → k ≤ count_of plan → IsShortOf (lies_to t b k) (lies_to t a k)
+  pub one : (m : ℕ) → OneAtMost m (behind_at 0 a.realm.slots).items → OneAtMost m (behind_at 0 b.realm.slots).items
+  pub before : b.stopped ≡ None → a.stopped ≡ None
+  pub older : b.stopped ≡ None → a.realm.slots.age < b.realm.slots.age
+
+pub asks-quietly : (plan : Plan) (xs : List Entry) (a b : Node) (c : Call) → ((k : ℕ) → call_enters k c ≡ silence) → Led plan xs a → MayAsk plan xs a c → Asks c a b → AfterQuiet plan xs a b
+asks-quietly plan xs a b c quiet led may asks =
+    let after = since-asks plan xs a b c led may asks in
+    record {
+      more = after.more;
+      led = after.led;
+      only = after.only;
+      lies = λ t k less. subst (λ (q : Told Value). IsShortOf (lies_to t b k) (lies_to (then_told (in_bytes q) t) a k)) (quiet k) (after.short (λ j. t) k less);
+      one = λ m o. after.one m
+          (subst (λ (q : Told Value). OneAtMost m (then_told (behind_at 0 a.realm.slots) q).items) (sym (quiet 0))
+          (subst (λ (q : Told Value). OneAtMost m q.items) (sym (then_empty (behind_at 0 a.realm.slots))) o));
+      before = asked-before c a b asks;
+      older = λ e. let f = after.older e in omega arith;
+    }
+
+pub quiet-then : (plan : Plan) (xs : List Entry) (a b c : Node) → (first : AfterQuiet plan xs a b) → AfterQuiet plan (xs ++ first.more) b c → AfterQuiet plan xs a c
+quiet-then plan xs a b c first second =
+    record {
+      more = first.more ++ second.more;
+      led = subst (λ q. Led plan q c) (append_assoc xs first.more second.more) second.led;
+      only = only-then a b c first.only second.only;
+      lies = λ t k less. short_trans _ _ _ (second.lies t k less) (first.lies t k less);
+      one = λ m o. second.one m (first.one m o);
+      before = λ e. first.before (second.before e);
+      older = λ e. let f = first.older (second.before e) in let g = second.older e in omega arith;
+    }
+
+pub settle-quiet : (id : HostId) (x : Answer) (k : ℕ) → call_enters k (Settle id x) ≡ silence
+settle-quiet id x k = (each_nodes_call_brings k).settle id x
+
+-- chunks that are put out into a link behind the first
+
+pub record AfterPuts (plan : Plan) (xs : List Entry) (m : ℕ) (chunks : List (List ℕ)) (a b : Node) : Type 0 where
+  pub more : List Entry
+  pub led : Led plan (xs ++ more) b
+  pub only : OnlyRealm a b
+  pub there : (t : Told (List ℕ)) → IsShortOf (lies_to t b (suc m)) (lies_to (then_told (told chunks Open) t) a (suc m))
+  pub elsewhere : (t : Told (List ℕ)) (k : ℕ) → k ≤ count_of plan → k ≢ suc m → IsShortOf (lies_to t b k) (lies_to t a k)
+  pub one : (q : ℕ) → OneAtMost q (behind_at 0 a.realm.slots).items → OneAtMost q (behind_at 0 b.realm.slots).items
+  pub older : b.stopped ≡ None → a.realm.slots.age ≤ b.realm.slots.age
+
+module _ (plan : Plan) (m : ℕ) (less : suc m ≤ count_of plan) where
+  may-enqueue : (xs : List Entry) (a : Node) (piece : List ℕ) → MayAsk plan xs a (enqueues (source_of (suc m)) piece)
+  may-enqueue xs a piece = record { is_nodes = tt; failed = All-nil (IsCause a); closes = λ id e c. absurd (cc); flushes = λ id i e c first last w at. absurd (cc) }
+
+  brings : (piece : List ℕ) (k : ℕ) → call_enters k (enqueues (source_of (suc m)) piece) ≡ only_at (suc m) (told (Bytes piece ∷ []) Open) k
+  brings piece k = (each_nodes_call_brings k).enqueue (suc m) (Bytes piece)
+
+  brings-there : (piece : List ℕ) → call_enters (suc m) (enqueues (source_of (suc m)) piece) ≡ told (Bytes piece ∷ []) Open
+  brings-there piece = brings piece (suc m) ∙ (let e : nat_eq (suc m) (suc m) ≡ true = alike (suc m) in rw e refl)
+
+  brings-elsewhere : (piece : List ℕ) (k : ℕ) → k ≢ suc m → call_enters k (enqueues (source_of (suc m)) piece) ≡ silence
+  brings-elsewhere piece k other = brings piece k ∙ (let e : nat_eq k (suc m) ≡ false = unlike k (suc m) other in rw e refl)
+
+  not_first : 0 ≢ suc m
+  not_first e = omega arith
+
+  -- one chunk
+  record AfterOne (xs : List Entry) (piece : List ℕ) (a b : Node) : Type 0 where
+    more : List Entry
+    led : Led plan (xs ++ more) b
+    only : OnlyRealm a b
+    there : (t : Told (List ℕ)) → IsShortOf (lies_to t b (suc m)) (lies_to (then_told (told (piece ∷ []) Open) t) a (suc m))
+    elsewhere : (t : Told (List ℕ)) (k : ℕ) → k ≤ count_of plan → k ≢ suc m → IsShortOf (lies_to t b k) (lies_to t a k)
+    one : (q : ℕ) → OneAtMost q (behind_at 0 a.realm.slots).items → OneAtMost q (behind_at 0 b.realm.slots).items
+    older : b.stopped ≡ None → b.realm.slots.age ≡ suc a.realm.slots.age
+
+  puts-one : (xs : List Entry) (piece : List ℕ) (a b : Node) → Led plan xs a → Asks (enqueues (source_of (suc m)) piece) a b → AfterOne xs piece a b
+  puts-one xs piece a b led asks =
+      let after = since-asks plan xs a b (enqueues (source_of (suc m)) piece) led (may-enqueue xs a piece) asks in
+      record {
+        more = after.more;
+        led = after.led;
+        only = after.only;
+        there = λ t. subst (λ (q : Told Value). IsShortOf (lies_to t b (suc m)) (lies_to (then_told (in_bytes q) t) a (suc m))) (brings-there piece) (after.short (λ j. t) (suc m) less);
+        elsewhere = λ t k l other. subst (λ (q : Told Value). IsShortOf (lies_to t b k) (lies_to (then_told (in_bytes q) t) a k)) (brings-elsewhere piece k other) (after.short (λ j. t) k l);
+        one = λ q o. after.one q
+            (subst (λ (v : Told Value). OneAtMost q (then_told (behind_at 0 a.realm.slots) v).items) (sym (brings-elsewhere piece 0 not_first))
+            (subst (λ (v : Told Value). OneAtMost q v.items) (sym (then_empty (behind_at 0 a.realm.slots))) o));
+        older = after.older;
+      }
+
+  pub puts : (xs : List Entry) (chunks : List (List ℕ)) (a b : Node) → Led plan xs a → Enqueues (source_of (suc m)) chunks a b → AfterPuts plan xs m chunks a b
+  puts xs chunks a b led (NoPiece n) =
+      record {
+        more = [];
+        led = subst (λ q. Led plan q a) (sym (append-nil xs)) led;
+        only = only-refl a;
+        there = λ t. short_refl (lies_to t a (suc m));
+        elsewhere = λ t k l other. short_refl (lies_to t a k);
+        one = λ q o. o;
+        older = λ e. omega arith;
+      }
+  puts xs chunks a b led (NotTaken piece rest x y asks not_done) =
+      let first = puts-one xs piece a b led asks in
+      record {
+        more = first.more;
+        led = first.led;
+        only = first.only;
+        there = λ t. dropped plan xs a b m piece less led asks not_done (λ j. t) (λ j. then_told (told (piece ∷ rest) Open) t);
+        elsewhere = first.elsewhere;
+        one = first.one;
+        older = λ e. let f = first.older e in omega arith;
+      }
+  puts xs chunks a b led (OneTaken piece rest x y c asks done after) =
+      let first = puts-one xs piece a c led asks in
+      let next = puts (xs ++ first.more) rest c b first.led after in
+      record {
+        more = first.more ++ next.more;
+        led = subst (λ q. Led plan q b) (append_assoc xs first.more next.more) next.led;
+        only = only-then a c b first.only next.only;
+        there = λ t. short_trans _ _ _ (next.there t) (first.there (then_told (told rest Open) t));
+        elsewhere = λ t k l other. short_trans _ _ _ (next.elsewhere t k l other) (first.elsewhere t k l other);
+        one = λ q o. next.one q (first.one q o);
+        older = λ e. let f = first.older done.goes_on in let g = next.older e in omega arith;
+      }

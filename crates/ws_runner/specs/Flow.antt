@@ -1,0 +1,57 @@
+-- How what went out of a node stands to what came into it, once it has gone on for any number of turns.
+use Rattle.std.specs.Prelude.{◌≡◌, ◌≢◌, ◌<◌, ℕ, ℤ, nat_abs, List, length, Some}
+use Rattle.std.specs.List.{concat}
+use Rattle.ws_flow.specs.declared.plan.Ending.TheVariants.{Fine}
+use Rattle.ws_flow.specs.declared.plan.Plan.{Plan}
+use Rattle.ws_flow.specs.Machines.{all_through}
+use Rattle.ws_flow.specs.Parts.{Goes, residual}
+use Rattle.ws_flow.specs.Plans.{bytes_of, stages_of}
+use Rattle.ws_flow.specs.Stages.{machines}
+use Rattle.ws_flow.specs.Told.{Mark, Closed, Lost, Told, told, then_told, IsBefore, IsShortOf}
+use Rattle.ws_io.specs.Moment.{Moment}
+use Rattle.ws_runner.specs.declared.node.Node.{Node}
+use Rattle.ws_runner.specs.declared.node.Output.TheVariants as output
+use Rattle.ws_runner.specs.Ends.{IsBad, ending_of, out_of}
+use Rattle.ws_runner.specs.Node.{lying, parts, stages_in}
+use Rattle.ws_runner.specs.Past.{EndedAs, IsNew}
+use Rattle.ws_runner.specs.Went.{AbortGoes, OutputGoes, StopsAt, Went}
+
+-- an output that was finished has all: the input was read to its end, and each stage ended fine
+pub record IsWhole (plan : Plan) (read gain : List ℕ) : Type 0 where
+  pub fine : (j : ℕ) → ending_of plan j read Closed ≡ Fine
+  pub all : out_of plan read Closed ≡ told gain Closed
+
+-- a node that was new has read this, and this went out of it, of which the output gained so much: the parts of `Went` that say so
+pub record HasGone (plan : Plan) (n : Node) (old new : Moment) (read went : Told (List ℕ)) (gain : List ℕ) (out : Mark) : Type 0 where
+  pub from : Node
+  pub is_new : IsNew plan from
+  pub goes : Goes (machines (stages_in from)) read (parts from) (lying from) (parts n) (then_told went (lying n))
+  pub written : IsShortOf (told gain out) (bytes_of went)
+  pub output : OutputGoes from.output n.output gain out old new
+  pub abort : AbortGoes from.abort n.abort went.items gain n.output
+
+-- So what went out stands to what was read
+pub record KeepsFlow (plan : Plan) (n : Node) (read went : Told (List ℕ)) (gain : List ℕ) (out : Mark) : Type 0 where
+  -- what went out is a first part of what the stages make of the pieces that were read, and what the output gained is one in bytes
+  pub first : IsBefore went (all_through (machines (stages_of plan)) read)
+  pub gained : IsBefore (told gain out) (out_of plan (concat read.items) read.mark)
+  -- while nothing was lost, what went out and what lies in the node, through the stages that it hasn't passed, is all of it
+  pub whole : (then_told (then_told went (lying n)) (residual (machines (stages_of plan)) (parts n))).mark ≢ Lost
+      → then_told (then_told went (lying n)) (residual (machines (stages_of plan)) (parts n)) ≡ all_through (machines (stages_of plan)) read
+  pub finished : n.output ≡ output.Finished → (read.mark ≡ Closed) × IsWhole plan (concat read.items) gain
+  -- before the chunk that holds its last byte the output had fewer bytes than the abort names
+  pub near : (after : ℤ) → plan.abort_after ≡ Some after → 0 < length gain → StopsAt (nat_abs after) went.items gain
+  -- a stage that is bad is so over what was read
+  pub bad : (index code place : ℕ) → EndedAs index code place n.stages.items → IsBad plan index code place read.mark (concat read.items)
+
+-- One going after another is one, and doing nothing is one: `got` tells for what lists each output stands
+abbrev pub EachGoesOn : {K : Type 0} → (K → List ℕ → Type 0) → Type 0
+EachGoesOn {K} got =
+    ((a : Node) (m : Moment) (k : K) → Went a a m m (got k) (got k))
+    × ((a b c : Node) (m₀ m₁ m₂ : Moment) (k₀ k₁ k₂ : K) → Went a b m₀ m₁ (got k₀) (got k₁) → Went b c m₁ m₂ (got k₁) (got k₂)
+    → Went a c m₀ m₂ (got k₀) (got k₂))
+
+abbrev pub EachNodeKeepsFlow : Type 0
+EachNodeKeepsFlow =
+    (plan : Plan) (n : Node) (old new : Moment) (read went : Told (List ℕ)) (gain : List ℕ) (out : Mark) → HasGone plan n old new read went gain out
+    → KeepsFlow plan n read went gain out

@@ -1,0 +1,75 @@
+-- How the realm of a node is made: the source, a transform stream for each stage, and the sink; a signal where the run is aborted after some bytes;
+-- and then the pipes, in order, of which the last one has the signal. The calls are those that open a chain.
+use Rattle.std.specs.Prelude.{◌≡◌, ℕ, zero, suc, ℤ, List, [], ◌∷◌, length, Bool, is_some, Option, Some, None, nat_abs}
+use Rattle.ws_value.specs.declared.ids.PromiseId.{PromiseId}
+use Rattle.ws_flow.specs.declared.plan.Plan.{Plan}
+use Rattle.ws_flow.specs.declared.plan.Stage.{Stage}
+use Rattle.ws_flow.specs.Plans.{refusal, stages_of}
+use Rattle.ws_stages.specs.State.{State, begun}
+use Rattle.ws_steps.specs.declared.calls.Call.{Call}
+use Rattle.ws_steps.specs.declared.calls.Reply.{Reply}
+use Rattle.ws_steps.specs.declared.calls.Reply.TheVariants.{Promise}
+use Rattle.ws_steps.specs.Run.{Entry, run, reply_to, after_call}
+use Rattle.ws_steps.specs.Slots.{Slots, empty}
+use Rattle.ws_chain_laws.specs.Opening.{piping, signal_of, opened, made}
+use Rattle.ws_chain_laws.specs.Outcomes.{past_of}
+use Rattle.ws_realm.specs.Seen.{SeenRealm}
+use Rattle.ws_runner.specs.declared.node.Abort.{Abort}
+
+-- a plan that isn't refused
+abbrev pub IsAccepted : Plan → Type 0
+IsAccepted plan = refusal plan ≡ None
+
+-- how many stages it has, and whether it is aborted after some bytes
+abbrev pub count_of : Plan → ℕ
+count_of plan = length (stages_of plan)
+
+abbrev pub is_aborted : Plan → Bool
+is_aborted plan = is_some plan.abort_after
+
+-- a call was performed
+pub record Begins (c : Call) (old new : SeenRealm) (reply : Reply) : Type 0 where
+  pub reply_is : reply ≡ reply_to c old.slots
+  pub slots : new.slots ≡ after_call c old.slots
+
+-- a call answers a promise
+abbrev pub IsPromise : Reply → Type 0
+IsPromise (Promise p) = Unit {0}
+IsPromise _ = ⊥
+
+-- the realm to which the calls of the opening lead, and then these entries
+abbrev pub led_by : Plan → List Entry → Slots
+led_by plan xs = run (past_of (count_of plan) (is_aborted plan) xs) empty
+
+-- all that led there
+abbrev pub past : Plan → List Entry → List Entry
+past plan xs = past_of (count_of plan) (is_aborted plan) xs
+
+-- the promise of the last pipe, and those of the pipes before, each by the reply that named it
+
+abbrev pub IsAnswered : Plan → PromiseId → Type 0
+IsAnswered plan p = reply_to (piping (signal_of (is_aborted plan)) (count_of plan)) (opened (count_of plan) (is_aborted plan)) ≡ Promise p
+
+abbrev pub AreAnswered : ℕ → ℕ → Slots → List PromiseId → Type 0
+AreAnswered k zero s ps = ps ≡ []
+AreAnswered k (suc n) s [] = ⊥
+AreAnswered k (suc n) s (p ∷ ps) =
+    (reply_to (piping None k) s ≡ Promise p) × AreAnswered (suc k) n (after_call (piping None k) s) ps
+
+abbrev pub AreAnsweredOf : Plan → List PromiseId → Type 0
+AreAnsweredOf plan ps = AreAnswered 0 (count_of plan) (made (count_of plan) (is_aborted plan)) ps
+
+-- so many pipes from this number on can be made
+abbrev pub CanPipe : ℕ → ℕ → Slots → Type 0
+CanPipe k zero s = Unit {0}
+CanPipe k (suc n) s = IsPromise (reply_to (piping None k) s) × CanPipe (suc k) n (after_call (piping None k) s)
+
+-- the stages at their beginning
+abbrev pub all_begun : List Stage → List State
+all_begun [] = []
+all_begun (s ∷ ss) = begun s ∷ all_begun ss
+
+-- what the abort of a run is at first
+abbrev pub abort_of : Option ℤ → Option Abort
+abort_of None = None
+abort_of (Some after) = Some (record { signal = record { 0 = 0 }; left = nat_abs after })

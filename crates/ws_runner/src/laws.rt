@@ -1,0 +1,14 @@
+//! What holds of every node, told of its definitions alone.
+ghost use Rattle.ws_runner.specs.Flow.{EachGoesOn, EachNodeKeepsFlow};
+
+use ws_io::Sink;
+
+/// From a new node on, over any number of turns: what went out is a first part of what the stages make of what was read; while nothing was lost, that and what lies in the node is all of it; an output that was finished has all, the input was read to its end, and each stage ended fine; of the chunks that went out, those before the one that holds the last byte of the output have fewer bytes than the abort names; and a stage that is bad is so over what was read. With which reason the pipe into the sink is rejected, and by which cause, `Whole::status` tells.
+pub fn each_node_keeps_flow()
+    ensures { EachNodeKeepsFlow }
+{}
+
+/// A node that does nothing goes on, and one that goes on and then goes on again, with the same kind of output, goes on: so what `Whole::turn` tells of each of several turns holds of all of them together, and from a new node on `each_node_keeps_flow` says what follows.
+pub fn each_turn_goes_on<K: Sink>()
+    ensures { EachGoesOn K.got }
+{}
