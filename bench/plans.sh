@@ -1,0 +1,80 @@
+#!/bin/sh
+# Runs four pipelines over text in lines of about 80 bytes by `./streams run FILE`, beside the usual tool where there is one and,
+# where node is there, beside the same stages written for Node's own Web Streams (reads of 4,096 bytes), in one run: `lines` and
+# `number`, `hex`, `mask`, and four transform streams in a row. Prints each one's best of three times, its rate, the chunks that
+# pass its stages in a second, its peak memory, and how many times Node's rate `./streams run` has. Each output is compared with
+# Node's, and the usual tool's by its bytes. Word: the input's MiB.
+set -eu
+root=$(CDPATH='' cd -- "$(dirname -- "$0")/.." && pwd)
+work=$(mktemp -d)
+trap 'rm -rf "$work"' EXIT
+mebibytes=${1:-64}
+awk -v bytes="$((mebibytes * 1048576))" 'BEGIN {
+    srand(7)
+    for (line = 1; done < bytes; line += 1) {
+        text = sprintf("2026-11-28T09:%02d:%02dZ host-%d GET /item/%d 200", line / 60 % 60, line % 60, line % 16, line)
+        for (pad = 30 + int(rand() * 20); length(text) < 45 + pad; ) text = text " ."
+        print text; done += length(text) + 1
+    }
+}' | head -c "$((mebibytes * 1048576))" >"$work/in"
+lines=$(wc -l <"$work/in")
+printf 'x' | "$root/streams" run >/dev/null
+program=$root/crates/streams/out/streams
+
+# The plan of these stages, one a word: KIND or KIND:KEY=VALUE.
+plan() {
+    echo 'version = 1'
+    for stage in "$@"; do
+        printf '[[stage]]\nkind = "%s"\n' "${stage%%:*}"
+        case $stage in *:*) echo "${stage#*:}" | sed 's/=\(.*\)/ = "\1"/' ;; esac
+    done
+}
+
+# Best of three: seconds by the wall clock, and peak memory in KiB.
+measure() {
+    name=$1
+    shift
+    best=
+    for _ in 1 2 3; do
+        /usr/bin/time -f '%e %M' -o "$work/time" "$@" <"$work/in" >"$work/$name"
+        read -r seconds memory <"$work/time"
+        if [ -z "$best" ] || [ "$(echo "$seconds < $best" | bc)" = 1 ]; then
+            best=$seconds
+            peak=$memory
+        fi
+    done
+    printf '  %-9s %6s s  %8s MiB/s  %9s chunks/s  %8s KiB\n' "$name" "$best" "$(echo "scale=1; $mebibytes / $best" | bc)" \
+        "$(echo "$chunks / $best" | bc)" "$peak"
+}
+
+# The stages of a pipeline, the chunks that pass them, and the usual tool's words behind `--`.
+run() {
+    chunks=$1
+    shift
+    stages=
+    while [ $# -gt 0 ] && [ "$1" != -- ]; do
+        stages="$stages $1"
+        shift
+    done
+    [ $# -eq 0 ] || shift
+    # each stage is a word
+    # shellcheck disable=SC2086
+    plan $stages >"$work/plan.toml"
+    echo "$stages"
+    measure streams "$program" run "$work/plan.toml"
+    streams=$best
+    if [ $# -gt 0 ]; then measure "$1" "$@"; fi
+    if command -v node >/dev/null 2>&1; then
+        # shellcheck disable=SC2086
+        measure node node "$root/bench/plans.mjs" $stages
+        cmp "$work/streams" "$work/node" || { echo 'the outputs differ' >&2; exit 1; }
+        echo "  streams has $(echo "scale=2; $best / $streams" | bc) times node's rate"
+    fi
+}
+
+pieces=$((mebibytes * 256))
+echo "$(nproc) processors, $mebibytes MiB, $lines lines"
+run "$((pieces + 2 * lines))" lines number -- cat -n
+run "$((2 * pieces))" hex -- xxd -p
+run "$((2 * pieces))" mask:key=5a17
+run "$((pieces + 4 * lines))" lines number mask:key=5a17 hex
