@@ -1,26 +1,4 @@
-// Copies standard input to standard output through Node's own Web Streams: a ReadableStream with mark 0, which reads at most
-// 4,096 bytes a pull, piped to a WritableStream with mark 1.
-import { readSync, writeSync } from 'node:fs';
-
-const source = new ReadableStream(
-  {
-    pull(controller) {
-      const room = new Uint8Array(4096);
-      const count = readSync(0, room, 0, room.length, null);
-      if (count === 0) controller.close();
-      else controller.enqueue(room.subarray(0, count));
-    },
-  },
-  { highWaterMark: 0 },
-);
-
-const sink = new WritableStream(
-  {
-    write(chunk) {
-      for (let at = 0; at < chunk.length; ) at += writeSync(1, chunk, at, chunk.length - at);
-    },
-  },
-  { highWaterMark: 1 },
-);
+// Copies standard input to standard output through Node's own Web Streams.
+import { sink, source } from './ends.mjs';
 
 await source.pipeTo(sink);

@@ -10,24 +10,13 @@ mebibytes=${1:-256}
 head -c "$((mebibytes * 1048576))" /dev/urandom >"$work/in"
 printf 'x' | "$root/streams" run >/dev/null
 program=$root/crates/streams/out/streams
+. "$root/bench/measure.sh"
 
-# Best of three: seconds by the wall clock, and peak memory in KiB.
 measure() {
-    name=$1
-    shift
-    best=
-    for _ in 1 2 3; do
-        /usr/bin/time -f '%e %M' -o "$work/time" "$@" <"$work/in" >"$work/out"
-        cmp -s "$work/in" "$work/out" || { echo "$name: the copy differs" >&2; exit 1; }
-        read -r seconds memory <"$work/time"
-        if [ -z "$best" ] || [ "$(echo "$seconds < $best" | bc)" = 1 ]; then
-            best=$seconds
-            peak=$memory
-        fi
-    done
-    rate=$(echo "scale=1; $mebibytes / $best" | bc)
-    printf '%-8s %6s s  %8s MiB/s  %8s KiB\n' "$name" "$best" "$rate" "$peak"
-    eval "best_$name=$best"
+    best_of_three "$@"
+    cmp -s "$work/in" "$work/$1" || { echo "$1: the copy differs" >&2; exit 1; }
+    printf '%-8s %6s s  %8s MiB/s  %8s KiB\n' "$1" "$best" "$(echo "scale=1; $mebibytes / $best" | bc)" "$peak"
+    eval "best_$1=$best"
 }
 
 echo "$(nproc) processors, $mebibytes MiB"

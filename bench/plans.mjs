@@ -1,28 +1,6 @@
-// Runs stages over standard input to standard output through Node's own Web Streams: a ReadableStream with mark 0, which reads
-// at most 4,096 bytes a pull, a TransformStream with marks 1 and 0 for each stage, and a WritableStream with mark 1. The words
-// are the stages: lines, number, hex, mask:key=HEX.
-import { readSync, writeSync } from 'node:fs';
-
-const source = new ReadableStream(
-  {
-    pull(controller) {
-      const room = new Uint8Array(4096);
-      const count = readSync(0, room, 0, room.length, null);
-      if (count === 0) controller.close();
-      else controller.enqueue(room.subarray(0, count));
-    },
-  },
-  { highWaterMark: 0 },
-);
-
-const sink = new WritableStream(
-  {
-    write(chunk) {
-      for (let at = 0; at < chunk.length; ) at += writeSync(1, chunk, at, chunk.length - at);
-    },
-  },
-  { highWaterMark: 1 },
-);
+// Runs stages over standard input to standard output through Node's own Web Streams, a TransformStream with marks 1 and 0 for
+// each stage. The words are the stages: lines, number, hex, mask:key=HEX.
+import { sink, source } from './ends.mjs';
 
 // Cuts after each line feed; what follows the last one waits.
 function lines() {

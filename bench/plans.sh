@@ -20,6 +20,7 @@ awk -v bytes="$((mebibytes * 1048576))" 'BEGIN {
 lines=$(wc -l <"$work/in")
 printf 'x' | "$root/streams" run >/dev/null
 program=$root/crates/streams/out/streams
+. "$root/bench/measure.sh"
 
 # The plan of these stages, one a word: KIND or KIND:KEY=VALUE.
 plan() {
@@ -30,20 +31,9 @@ plan() {
     done
 }
 
-# Best of three: seconds by the wall clock, and peak memory in KiB.
 measure() {
-    name=$1
-    shift
-    best=
-    for _ in 1 2 3; do
-        /usr/bin/time -f '%e %M' -o "$work/time" "$@" <"$work/in" >"$work/$name"
-        read -r seconds memory <"$work/time"
-        if [ -z "$best" ] || [ "$(echo "$seconds < $best" | bc)" = 1 ]; then
-            best=$seconds
-            peak=$memory
-        fi
-    done
-    printf '  %-9s %6s s  %8s MiB/s  %9s chunks/s  %8s KiB\n' "$name" "$best" "$(echo "scale=1; $mebibytes / $best" | bc)" \
+    best_of_three "$@"
+    printf '  %-9s %6s s  %8s MiB/s  %9s chunks/s  %8s KiB\n' "$1" "$best" "$(echo "scale=1; $mebibytes / $best" | bc)" \
         "$(echo "$chunks / $best" | bc)" "$peak"
 }
 
