@@ -20,7 +20,7 @@ each_bad f k b bs n = by (f k b).chunks (f k b).ending (f k b).kept (each_byte f
   by cs Fine j r n = absurd (n refl)
   by cs (Bad c p) j r n = refl
 
-after_fine : (cs : List (List ℕ)) (p q : Pushed) → p.ending ≡ Fine → with_chunks cs (added p.chunks p.ending p.kept q) ≡ with_chunks (cs ++ p.chunks) q
+pub after_fine : (cs : List (List ℕ)) (p q : Pushed) → p.ending ≡ Fine → with_chunks cs (added p.chunks p.ending p.kept q) ≡ with_chunks (cs ++ p.chunks) q
 after_fine cs p q e =
     ap (λ z. with_chunks cs (added p.chunks z p.kept q)) e ∙ ap (λ z. pushed q.kept z q.ending) (sym (append_assoc cs p.chunks q.chunks))
 

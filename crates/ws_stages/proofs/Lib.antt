@@ -1,4 +1,5 @@
 pub mod Bytes
+pub mod Feeds
 pub mod Texts
 pub mod Pushes
 pub mod Workers

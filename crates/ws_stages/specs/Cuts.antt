@@ -1,5 +1,5 @@
 -- What a cut shows of a stage's machine.
-use Rattle.std.specs.Prelude.{◌≡◌, List, [], ◌∷◌, ℕ, ◌+◌, ◌^◌, ◌++◌, ◌<◌}
+use Rattle.std.specs.Prelude.{◌≡◌, ◌≢◌, List, [], ◌∷◌, ℕ, ◌+◌, ◌^◌, ◌++◌, ◌<◌, length, slice_index}
 use Rattle.std.specs.List.{concat}
 use Rattle.ws_flow.specs.declared.plan.Ending.TheVariants.{Fine}
 use Rattle.ws_flow.specs.declared.plan.Stage.{Stage}
@@ -14,6 +14,14 @@ kept_of cut = record { rest = cut.rest.items; bytes = cut.bytes; chunks = cut.co
 -- that, with the chunks so far and how it ended
 abbrev pub seen : Cut → Pushed
 seen cut = record { kept = kept_of cut; chunks = cut.chunks.items; ending = cut.ending }
+
+-- these bytes are left over too
+abbrev pub with_bytes : Kept → List ℕ → Kept
+with_bytes k bs = record k { rest = k.rest ++ bs; bytes = k.bytes + length bs }
+
+-- none of the first n bytes is a feed
+abbrev pub HasNoFeed : ℕ → List ℕ → Type 0
+HasNoFeed n bs = (i : ℕ) → i < n → slice_index bs i ≢ 10
 
 -- these chunks, and then what came
 abbrev pub with_chunks : List (List ℕ) → Pushed → Pushed

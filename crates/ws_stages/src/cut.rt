@@ -1,9 +1,10 @@
-//! Stages that cut their input into chunks wherever it was cut before: `lines`, `fixed` and `unframe`, byte by byte.
+//! Stages that cut their input into chunks wherever it was cut before: `lines` a line at a time, `fixed` and `unframe` byte by byte.
 ghost use Rattle.std.specs.Prelude.{◌≡◌, ◌∷◌, ◌++◌, [], ◌+◌, ◌<◌, ◌≤◌, ◌^◌, OnOk, length, drop};
 ghost use Rattle.ws_flow.specs.declared.plan.Ending.TheVariants.{Fine};
-ghost use Rattle.ws_flow.specs.Stages.{each_byte};
-ghost use Rattle.ws_stages.specs.Cuts.{kept_of, seen, with_chunks};
+ghost use Rattle.ws_flow.specs.Stages.{each_byte, line_byte};
+ghost use Rattle.ws_stages.specs.Cuts.{HasNoFeed, kept_of, seen, with_bytes, with_chunks};
 
+use memchr::memchr;
 use std::alloc::Global;
 use std::mem;
 use ws_flow::Ending;
@@ -23,7 +24,19 @@ pub struct Cut {
 }
 
 impl Cut {
-    /// The bytes that are left over, but for the first `n`, become a chunk, without a copy.
+    /// These bytes are left over too.
+    fn keep(&mut self, bytes: &[u8]) -> Result<(), NoMemory>
+        requires room { self.old.bytes + length bytes.now < 2 ^ 128 }
+        ensures kept { OnOk result (kept_of self.new ≡ with_bytes (kept_of self.old) bytes.now) }
+        ensures chunks { OnOk result (self.new.chunks.items ≡ self.old.chunks.items) }
+        ensures ending { OnOk result (self.new.ending ≡ self.old.ending) }
+    {
+        self.rest.extend_from_slice(bytes)?;
+        self.bytes += bytes.len() as u128;
+        Ok(())
+    }
+
+    /// The bytes that are left over, but for the first `n`, become a chunk, without a copy. There is room for as many again.
     pub fn close_from(&mut self, n: usize) -> Result<(), NoMemory>
         requires { n ≤ length self.old.rest.items }
         ensures rest { OnOk result (self.new.rest.items ≡ []) }
@@ -33,7 +46,8 @@ impl Cut {
         ensures count { self.new.count ≡ self.old.count }
         ensures ending { self.new.ending ≡ self.old.ending }
     {
-        let bytes = mem::replace(&mut self.rest, Vec::new(self.alloc));
+        let room = Vec::with_capacity(self.alloc, self.rest.len())?;
+        let bytes = mem::replace(&mut self.rest, room);
         let mut chunk = Chunk::from_vec(bytes);
         chunk.advance(n);
         self.chunks.push(chunk)?;
@@ -144,6 +158,44 @@ pub fn cut_bytes<S: ByteStep>(stage: &S, cut: &mut Cut, bytes: &[u8]) -> Result<
         if let Ending::Bad { .. } = cut.ending {
             return Ok(());
         }
+    }
+    Ok(())
+}
+
+/// How many bytes stand before the first feed, but no more than `most`.
+fn before_feed(bytes: &[u8], most: usize) -> usize
+    ensures within { result ≤ length bytes.now }
+    ensures most { result ≤ most }
+    ensures plain { HasNoFeed result bytes.now }
+{
+    match memchr(b'\n', bytes) {
+        Some(at) => at.min(most),
+        None => bytes.len().min(most),
+    }
+}
+
+/// Cuts these bytes into lines too, until one is bad: the bytes before a feed go over at once.
+pub fn cut_lines(stage: &Lines, cut: &mut Cut, bytes: &[u8]) -> Result<(), NoMemory>
+    requires room { cut.old.bytes + length bytes.now < 2 ^ 128 }
+    requires fine { cut.old.ending ≡ Fine }
+    ensures seen { OnOk result (seen cut.new
+        ≡ with_chunks cut.old.chunks.items (each_byte (line_byte stage.now.0) (kept_of cut.old) bytes.now)) }
+    ensures bytes { OnOk result (cut.new.bytes ≤ cut.old.bytes + length bytes.now) }
+    ensures count { OnOk result (cut.new.count ≡ cut.old.count) }
+{
+    let mut left = bytes;
+    while !left.is_empty() {
+        let room = stage.0.saturating_sub(cut.rest.len());
+        let (line, rest) = left.split_at(before_feed(left, room));
+        cut.keep(line)?;
+        let Some((byte, after)) = rest.split_first() else {
+            return Ok(());
+        };
+        stage.step(cut, *byte)?;
+        if let Ending::Bad { .. } = cut.ending {
+            return Ok(());
+        }
+        left = after;
     }
     Ok(())
 }

@@ -12,6 +12,9 @@ use std::alloc::Global;
 use ws_flow::Ending;
 use ws_value::{Chunk, NoMemory};
 
+/// The digits of the largest number of 64 bits.
+const LONGEST_NUMBER: usize = 20;
+
 /// These bytes, each xor the key's byte at its place, the key repeated.
 pub fn masked(alloc: Global, key: &[u8], place: u128, bytes: &[u8]) -> Result<Chunk, NoMemory>
     requires { 0 < length key.now }
@@ -109,7 +112,8 @@ pub fn from_hex(cut: &mut Cut, bytes: &[u8]) -> Result<Vec<u8>, NoMemory>
 pub fn numbered(alloc: Global, number: u64, bytes: &[u8]) -> Result<Chunk, NoMemory>
     ensures { IfOk result (λ chunk. chunk ≡ decimal number ++ 32 ∷ bytes.now) }
 {
-    let mut text = Vec::from_slice(alloc, Buffer::new().format(number).as_bytes())?;
+    let mut text = Vec::with_capacity(alloc, bytes.len() + LONGEST_NUMBER + 1)?;
+    text.extend_from_slice(Buffer::new().format(number).as_bytes())?;
     text.push(b' ')?;
     text.extend_from_slice(bytes)?;
     Ok(Chunk::from_vec(text))
@@ -121,7 +125,8 @@ pub fn framed(alloc: Global, bytes: &[u8]) -> Result<Chunk, NoMemory>
     ensures { IfOk result (λ chunk. chunk ≡ framed bytes.now) }
 {
     let length = bytes.len() as u32;
-    let mut frame = Vec::from_slice(alloc, &length.to_be_bytes())?;
+    let mut frame = Vec::with_capacity(alloc, bytes.len() + 4)?;
+    frame.extend_from_slice(&length.to_be_bytes())?;
     frame.extend_from_slice(bytes)?;
     Ok(Chunk::from_vec(frame))
 }

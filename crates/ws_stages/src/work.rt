@@ -8,7 +8,7 @@ ghost use Rattle.ws_stages.specs.Answers.{Answers, Flushed};
 ghost use Rattle.ws_flow.specs.Parts.{Over};
 ghost use Rattle.ws_stages.specs.State.{IsLive, begun, is_live, kept_in};
 
-use crate::cut::{Blocks, Cut, Frames, Lines, cut_bytes};
+use crate::cut::{Blocks, Cut, Frames, Lines, cut_bytes, cut_lines};
 use crate::text::{framed, from_hex, in_hex, masked, numbered};
 use std::alloc::Global;
 use std::marker::Model;
@@ -74,7 +74,7 @@ fn take(stage: &Stage, cut: &mut Cut, chunk: &[u8]) -> Result<(), NoMemory>
     ensures count { OnOk result (cut.new.count ≤ cut.old.count + 1) }
 {
     match stage {
-        Stage::Lines { max } => cut_bytes(&Lines(max.unsigned_abs() as usize), cut, chunk),
+        Stage::Lines { max } => cut_lines(&Lines(max.unsigned_abs() as usize), cut, chunk),
         Stage::Fixed { n } => cut_bytes(&Blocks(n.unsigned_abs() as usize), cut, chunk),
         Stage::Unframe { max } => cut_bytes(&Frames(max.unsigned_abs() as usize), cut, chunk),
         Stage::Unhex => {

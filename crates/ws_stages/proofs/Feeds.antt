@@ -1,0 +1,64 @@
+-- Lines: the bytes before a feed at once.
+use Rattle.std.proofs.Common.{◌≡◌, ◌≢◌, ℕ, zero, suc, ◌-◌, ◌<◌, ◌≤◌, List, [], ◌∷◌, ◌++◌, sym, ap, ◌∙◌, append_assoc, append-nil, length, length-append, take, drop, arith}
+use Rattle.std.proofs.lemmas.Bool.Decides.{nat_tests}
+use Rattle.std.proofs.lemmas.List.{take-append-drop}
+use Rattle.ws_flow.specs.declared.plan.Ending.{Ending}
+use Rattle.ws_flow.specs.declared.plan.Ending.TheVariants.{Fine}
+use Rattle.ws_flow.specs.Machines.{Kept, Pushed}
+use Rattle.ws_flow.specs.Stages.{pushed, added, each_byte, line_byte}
+use Rattle.ws_flow.proofs.Cutting.{each_append}
+use Rattle.ws_stages.proofs.Bytes.{after_fine, each_bad}
+use Rattle.ws_stages.specs.Cuts.{HasNoFeed, with_bytes, with_chunks}
+
+plain_byte : (most : ℕ) (k : Kept) (b : ℕ) → b ≢ 10 → length k.rest < most → line_byte most k b ≡ pushed (with_bytes k (b ∷ [])) [] Fine
+plain_byte most k b n h = grind (arith, nat_tests)
+
+more_bytes : (k : Kept) (b : ℕ) (bs : List ℕ) → with_bytes (with_bytes k (b ∷ [])) bs ≡ with_bytes k (b ∷ bs)
+more_bytes k b bs = grind (arith, append_assoc k.rest (b ∷ []) bs)
+
+-- the bytes before a feed are left over, as long as the line isn't too long
+pub plain_bytes : (most : ℕ) (n : ℕ) (bs : List ℕ) (k : Kept) → HasNoFeed n bs → n ≤ length bs → n ≤ most - length k.rest →
+    each_byte (line_byte most) k (take n bs) ≡ pushed (with_bytes k (take n bs)) [] Fine
+plain_bytes most zero bs k plain within fits = ap (λ r. pushed r [] Fine) (grind (arith, append-nil k.rest))
+plain_bytes most (suc n) [] k plain within fits = absurd (omega arith)
+plain_bytes most (suc n) (b ∷ bs) k plain within fits =
+    let one = plain_byte most k b (plain 0 (omega arith)) (omega arith) in
+    let then = plain_bytes most n bs (with_bytes k (b ∷ [])) (λ i lt. plain (suc i) (omega arith)) (omega arith) (let len = length-append k.rest (b ∷ []) in omega (arith, len)) in
+    ap (λ p. added p.chunks p.ending p.kept (each_byte (line_byte most) p.kept (take n bs))) one
+    ∙ ap (λ q. added [] Fine (with_bytes k (b ∷ [])) q) then
+    ∙ ap (λ r. pushed r [] Fine) (more_bytes k b (take n bs))
+
+-- what is left once the first bytes are left over
+pub after_plain : (f : Kept → ℕ → Pushed) (k j : Kept) (cs : List (List ℕ)) (front back : List ℕ) → each_byte f k front ≡ pushed j [] Fine →
+    with_chunks cs (each_byte f k (front ++ back)) ≡ with_chunks cs (each_byte f j back)
+after_plain f k j cs front back e = ap (λ q. with_chunks cs q) (each_append f k front back ∙ ap (λ p. added p.chunks p.ending p.kept (each_byte f p.kept back)) e)
+
+-- what is left after a byte that was fine
+pub after_byte : (f : Kept → ℕ → Pushed) (k : Kept) (cs : List (List ℕ)) (b : ℕ) (back : List ℕ) (new : Pushed) → new ≡ with_chunks cs (f k b) → new.ending ≡ Fine →
+    with_chunks new.chunks (each_byte f new.kept back) ≡ with_chunks cs (each_byte f k (b ∷ back))
+after_byte f k cs b back new n fine =
+    ap (λ q. with_chunks q.chunks (each_byte f q.kept back)) n
+    ∙ sym (after_fine cs (f k b) (each_byte f (f k b).kept back) (sym (ap (λ q. q.ending) n) ∙ fine))
+
+-- nothing is left after one that is bad
+pub at_bad : (f : Kept → ℕ → Pushed) (k : Kept) (cs : List (List ℕ)) (b : ℕ) (back : List ℕ) (new : Pushed) → new ≡ with_chunks cs (f k b) → new.ending ≢ Fine →
+    new ≡ with_chunks cs (each_byte f k (b ∷ back))
+at_bad f k cs b back new n bad = n ∙ ap (λ q. with_chunks cs q) (sym (each_bad f k b back (λ h. bad (ap (λ q. q.ending) n ∙ h))))
+
+-- what is left once the bytes before a feed are left over
+pub after_keep : (most : ℕ) (k j : Kept) (cs ds : List (List ℕ)) (left line back : List ℕ) (n : ℕ) →
+    HasNoFeed n left → n ≤ length left → n ≤ most - length k.rest → line ≡ take n left → back ≡ drop n left → j ≡ with_bytes k line → ds ≡ cs →
+    with_chunks ds (each_byte (line_byte most) j back) ≡ with_chunks cs (each_byte (line_byte most) k left)
+after_keep most k j cs ds left line back n plain within fits line-is back-is is same =
+    let f = line_byte most in
+    let j-is : j ≡ with_bytes k (take n left) = is ∙ ap (λ q. with_bytes k q) line-is in
+    ap (λ q. with_chunks q (each_byte f j back)) same
+    ∙ ap (λ q. with_chunks cs (each_byte f q back)) j-is
+    ∙ ap (λ q. with_chunks cs (each_byte f (with_bytes k (take n left)) q)) back-is
+    ∙ sym (after_plain f k (with_bytes k (take n left)) cs (take n left) (drop n left) (plain_bytes most n left k plain within fits))
+    ∙ ap (λ q. with_chunks cs (each_byte f k q)) (take-append-drop n left)
+
+-- nothing is left
+pub at_end : (f : Kept → ℕ → Pushed) (k : Kept) (cs : List (List ℕ)) (back : List ℕ) (e : Ending) → e ≡ Fine → length back ≡ 0 → pushed k cs e ≡ with_chunks cs (each_byte f k back)
+at_end f k cs [] e fine none = ap (λ q. pushed k cs q) fine ∙ ap (λ q. pushed k q Fine) (sym (append-nil cs))
+at_end f k cs (b ∷ back) e fine none = absurd (omega arith)
