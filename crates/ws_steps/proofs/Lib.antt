@@ -8,3 +8,4 @@ mod WorkedWrites
 mod WorkedHistories
 mod WorkedPipes
 mod WorkedTransforms
+mod WorkedBytes

@@ -1,32 +1,37 @@
 -- The calls on a realm: their checks, what they answer, what they make, and the effects that they cause.
-use Rattle.std.specs.Prelude.{ℕ, ◌+◌, Bool, true, false, nat_lt, if◌then◌else◌, List, [], ◌∷◌, ◌++◌, length, Option, Some, None, Result, Ok, Err, slice_set}
+use Rattle.std.specs.Prelude.{ℕ, ◌+◌, ◌*◌, ◌%◌, Bool, true, false, not, ◌&&◌, ◌||◌, nat_eq, nat_lt, if◌then◌else◌, List, [], ◌∷◌, ◌++◌, length, Option, Some, None, Result, Ok, Err, slice_set}
 use Rattle.ws_value.specs.declared.ids.LockId.{LockId}
 use Rattle.ws_value.specs.declared.ids.PipeId.{PipeId}
 use Rattle.ws_value.specs.declared.ids.PromiseId.{PromiseId}
+use Rattle.ws_value.specs.declared.fault.Fault.{Fault}
+use Rattle.ws_value.specs.declared.fault.Fault.TheVariants.{RangeError as RangeFault}
+use Rattle.ws_value.specs.declared.ids.RequestId.{RequestId}
 use Rattle.ws_value.specs.declared.ids.SignalId.{SignalId}
 use Rattle.ws_value.specs.declared.ids.StreamId.{StreamId}
 use Rattle.ws_value.specs.declared.ids.HostId.{HostId}
 use Rattle.ws_value.specs.declared.value.Plain.{Plain}
 use Rattle.ws_value.specs.declared.value.Plain.TheVariants.{Undefined}
 use Rattle.ws_value.specs.declared.value.Value.{Value}
+use Rattle.ws_value.specs.declared.value.Value.TheVariants.{Plain as PlainValue, Bytes}
+use Rattle.ws_steps.specs.declared.byte.ByteOperation.TheVariants.{InitializeByobReader, Enqueue as EnqueueBytes, PullInto, MakeRequest, Respond as RespondBytes}
 use Rattle.ws_steps.specs.declared.calls.Answer.{Answer}
 use Rattle.ws_steps.specs.declared.calls.Answer.TheVariants.{Ok as AnswerOk, Fail as AnswerFail}
 use Rattle.ws_steps.specs.declared.calls.Call.{Call}
-use Rattle.ws_steps.specs.declared.calls.Call.TheVariants.{MakeReadable, MakeWritable, MakeTransform, GetReader, GetWriter, Cancel, CancelBy, Read, Write, Close, CloseBy, Abort, AbortBy, Closed, Ready, Release, Enqueue, Finish, Fail, Terminate, Desired, DesiredBy, Pipe, MakeSignal, Trigger, Settle, State, Step}
+use Rattle.ws_steps.specs.declared.calls.Call.TheVariants.{MakeReadable, MakeBytes, MakeWritable, MakeTransform, GetReader, GetByob, GetWriter, Cancel, CancelBy, Read, ReadInto, Write, Close, CloseBy, Abort, AbortBy, Closed, Ready, Release, Enqueue, Finish, Fail, Terminate, Request, Respond, Desired, DesiredBy, Pipe, MakeSignal, Trigger, Settle, State, Step}
 use Rattle.ws_steps.specs.declared.calls.Reply.{Reply}
-use Rattle.ws_steps.specs.declared.calls.Reply.TheVariants.{Done as ReplyDone, Made, MadeTwo, Lock as ReplyLock, Promise, Signal as ReplySignal, Size, State as ReplyState, Throws, TooMany}
+use Rattle.ws_steps.specs.declared.calls.Reply.TheVariants.{Done as ReplyDone, Made, MadeTwo, Lock as ReplyLock, Promise, Signal as ReplySignal, Request as ReplyRequest, Size, State as ReplyState, Throws, TooMany}
 use Rattle.ws_steps.specs.declared.calls.HostCall.TheVariants.{Start as HostStart}
 use Rattle.ws_steps.specs.declared.calls.StartBy.{StartBy}
 use Rattle.ws_steps.specs.declared.calls.StartBy.TheVariants.{Now, Later}
-use Rattle.ws_steps.specs.declared.calls.Thrown.TheVariants.{TypeError, Unsupported}
+use Rattle.ws_steps.specs.declared.calls.Thrown.TheVariants.{TypeError, RangeError, Unsupported}
 use Rattle.ws_steps.specs.declared.effects.Effect.{Effect}
-use Rattle.ws_steps.specs.declared.effects.Effect.TheVariants.{Readable, Writable, Pipe as OnPipe, Signal as OnSignal, Transform as OnTransform, StartAlgorithm, Give, Settle as SettlePromise, Queue, CallHost}
+use Rattle.ws_steps.specs.declared.effects.Effect.TheVariants.{Readable, Byte, Writable, Pipe as OnPipe, Signal as OnSignal, Transform as OnTransform, StartAlgorithm, Give, Settle as SettlePromise, Queue, CallHost}
 use Rattle.ws_steps.specs.declared.effects.Gift.TheVariants.{This}
 use Rattle.ws_steps.specs.declared.effects.Owner.{Owner}
 use Rattle.ws_steps.specs.declared.effects.Owner.TheVariants.{Host, HalfOf}
 use Rattle.ws_steps.specs.declared.effects.Use.TheVariants.{React, Resolve}
 use Rattle.ws_steps.specs.declared.locks.Lock.{Lock}
-use Rattle.ws_steps.specs.declared.locks.Lock.TheVariants.{Reader as ReaderLock, Writer as WriterLock, ReleasedWriter, Inner}
+use Rattle.ws_steps.specs.declared.locks.Lock.TheVariants.{Reader as ReaderLock, ByobReader, Writer as WriterLock, ReleasedWriter, Inner}
 use Rattle.ws_steps.specs.declared.readable.ReadRequest.TheVariants.{Promise as PromiseRequest}
 use Rattle.ws_steps.specs.declared.readable.ReadableOperation.{ReadableOperation}
 use Rattle.ws_steps.specs.declared.readable.ReadableOperation.TheVariants.{InitializeReader, ReleaseReader, Disturb, Read as ReadChunk, Cancel as CancelStream, Enqueue as EnqueueChunk, Close as CloseReadable, Error as ErrorReadable}
@@ -44,13 +49,16 @@ use Rattle.ws_steps.specs.declared.writable.WritableOperation.TheVariants.{SetUp
 use Rattle.ws_steps.specs.declared.writable.Writer.{Writer}
 use Rattle.ws_steps.specs.Promises.{Table, next_id, fresh, watch, is_pending_at}
 use Rattle.ws_steps.specs.Effects.{type_error}
+use Rattle.ws_steps.specs.Bytes as byte
+use Rattle.ws_steps.specs.Descriptors.{Descriptor, room_left, respond_throws}
 use Rattle.ws_steps.specs.Pipes as pipe
+use Rattle.ws_steps.specs.Queues.{is_empty}
 use Rattle.ws_steps.specs.Readable as readable
 use Rattle.ws_steps.specs.ReadableLooks as readable_looks
 use Rattle.ws_steps.specs.Transform as transform
 use Rattle.ws_steps.specs.Writable as writable
 use Rattle.ws_steps.specs.WritableLooks as writable_looks
-use Rattle.ws_steps.specs.Slots.{Slots, most_streams, Stream, ReadableStream, WritableStream, Done, nothing, causes, with_promises, has_readable, has_writable, readable_at, writable_at, lock_at, host_at, signal_at, has_signal}
+use Rattle.ws_steps.specs.Slots.{Slots, most_streams, Stream, ReadableStream, ByteStream, WritableStream, Done, nothing, causes, with_promises, has_readable, has_byte, has_source, has_writable, readable_at, byte_at, source_at, writable_at, stream_of_request, lock_at, host_at, signal_at, has_signal}
 
 -- a call's reply, and what it leaves and causes
 pub record Begun : Type 0 where
@@ -81,9 +89,16 @@ promising effects s =
 abbrev pub rejected : Slots → Begun
 rejected s = promising (λ p. SettlePromise p (Err type_error) ∷ []) s
 
--- a call on a readable stream, or on a writable one, where there is such a stream of this number
+-- a call on a readable stream with a default controller, on one with a byte controller, on one with any controller, or on a writable
+-- stream, where there is such a stream of this number
 abbrev pub for_readable : StreamId → (Slots → Begun) → Slots → Begun
 for_readable i operation s = if has_readable i s then operation s else unsupported s
+
+abbrev pub for_byte : StreamId → (Slots → Begun) → Slots → Begun
+for_byte i operation s = if has_byte i s then operation s else unsupported s
+
+abbrev pub for_source : StreamId → (Slots → Begun) → Slots → Begun
+for_source i operation s = if has_source i s then operation s else unsupported s
 
 abbrev pub for_writable : StreamId → (Slots → Begun) → Slots → Begun
 for_writable i operation s = if has_writable i s then operation s else unsupported s
@@ -97,6 +112,10 @@ abbrev pub make_readable : ℕ → SizeBy → StartBy → StreamId → Slots →
 make_readable mark size start i s =
     begun (Made i)
     (causes (StartAlgorithm i (ReadableStart i) start ∷ []) (add_stream (ReadableStream (readable.set_up Host mark size)) s))
+
+abbrev pub make_bytes : ℕ → ℕ → StartBy → StreamId → Slots → Begun
+make_bytes mark auto start i s =
+    begun (Made i) (causes (StartAlgorithm i (ReadableStart i) start ∷ []) (add_stream (ByteStream (byte.set_up mark auto)) s))
 
 abbrev pub make_writable : ℕ → SizeBy → StartBy → StreamId → Slots → Begun
 make_writable mark size start i s =
@@ -151,6 +170,18 @@ get_reader i s =
     (causes (Readable i (InitializeReader closed) ∷ [])
     (record s { locks = s.locks ++ ReaderLock (Some i) closed ∷ []; promises = fresh s.promises }))
 
+-- a new BYOB reader, which takes the stream
+abbrev pub get_byob : StreamId → Slots → Begun
+get_byob i s =
+    let closed = next_id s.promises in
+    begun (ReplyLock (record { 0 = length s.locks }))
+    (causes (Byte i (InitializeByobReader closed) ∷ [])
+    (record s { locks = s.locks ++ ByobReader (Some i) closed ∷ []; promises = fresh s.promises }))
+
+-- where the stream has a byte controller; another has no BYOB readers
+abbrev pub get_byob_of : StreamId → Slots → Begun
+get_byob_of i s = if has_byte i s then get_byob i s else throws_type_error s
+
 -- a new writer, which takes the stream
 abbrev pub get_writer : StreamId → Slots → Begun
 get_writer i s =
@@ -166,6 +197,10 @@ cancel reason i s = promising (λ p. Readable i (CancelStream reason p) ∷ []) 
 
 abbrev pub read : StreamId → Slots → Begun
 read i s = promising (λ p. Readable i (ReadChunk (PromiseRequest p)) ∷ []) s
+
+-- a read into a room, of elements of this size, of which so many are to be filled at least
+abbrev pub read_into : List ℕ → ℕ → ℕ → StreamId → Slots → Begun
+read_into room element least i s = promising (λ p. Byte i (PullInto room element (least * element) (PromiseRequest p)) ∷ []) s
 
 abbrev pub write : Value → StreamId → Slots → Begun
 write v i s = promising (λ p. Writable i (WriteChunk v p) ∷ []) s
@@ -183,19 +218,49 @@ abort reason i s = abort_unless reason i s (writable.answered_abort (writable_at
 
 -- calls on readers and writers
 
--- what a reader does while it has a stream, and what is answered once it is released; a writer has no such call
+-- what a reader of either kind does while it has a stream, and what is answered once it is released; a writer has no such call
 abbrev pub by_reader : (StreamId → Slots → Begun) → (Slots → Begun) → Slots → Option Lock → Begun
 by_reader holding free s None = unsupported s
-by_reader holding free s (Some (ReaderLock (Some i) closed)) = for_readable i (holding i) s
+by_reader holding free s (Some (ReaderLock (Some i) closed)) = for_source i (holding i) s
 by_reader holding free s (Some (ReaderLock None closed)) = free s
+by_reader holding free s (Some (ByobReader (Some i) closed)) = for_source i (holding i) s
+by_reader holding free s (Some (ByobReader None closed)) = free s
 by_reader holding free s (Some (WriterLock i)) = unsupported s
 by_reader holding free s (Some (ReleasedWriter w)) = unsupported s
 by_reader holding free s (Some Inner) = unsupported s
+
+abbrev pub is_byob_reader : Option Lock → Bool
+is_byob_reader None = false
+is_byob_reader (Some (ReaderLock stream closed)) = false
+is_byob_reader (Some (ByobReader stream closed)) = true
+is_byob_reader (Some (WriterLock i)) = false
+is_byob_reader (Some (ReleasedWriter w)) = false
+is_byob_reader (Some Inner) = false
+
+-- the same of a default reader, or of a BYOB reader, where the other kind has no such call
+abbrev pub by_default_reader : (StreamId → Slots → Begun) → (Slots → Begun) → Slots → Option Lock → Begun
+by_default_reader holding free s lock = if is_byob_reader lock then unsupported s else by_reader holding free s lock
+
+abbrev pub by_byob_reader : (StreamId → Slots → Begun) → (Slots → Begun) → Slots → Option Lock → Begun
+by_byob_reader holding free s lock = if is_byob_reader lock then by_reader holding free s lock else unsupported s
+
+-- a room is viewed by elements of 1, 2, 4 or 8 bytes, and whole ones
+abbrev pub is_view : ℕ → ℕ → Bool
+is_view room element =
+    (nat_eq element 1 || nat_eq element 2 || nat_eq element 4 || nat_eq element 8) && nat_eq (room % element) 0
+
+-- of a read into a room at least one element is to be filled, and no other number yet. An empty room is refused
+abbrev pub read_into_by : List ℕ → ℕ → ℕ → Slots → Option Lock → Begun
+read_into_by room element least s lock =
+    if not (is_view (length room) element && nat_eq least 1) then unsupported s
+    else if is_empty room then by_byob_reader (λ i. rejected) rejected s lock
+    else by_byob_reader (read_into room element least) rejected s lock
 
 -- what a writer does while it has a stream, and what is answered once it is released; a reader has no such call
 abbrev pub by_writer : (StreamId → Slots → Begun) → (Slots → Begun) → Slots → Option Lock → Begun
 by_writer holding free s None = unsupported s
 by_writer holding free s (Some (ReaderLock stream closed)) = unsupported s
+by_writer holding free s (Some (ByobReader stream closed)) = unsupported s
 by_writer holding free s (Some (WriterLock i)) = for_writable i (holding i) s
 by_writer holding free s (Some (ReleasedWriter w)) = free s
 by_writer holding free s (Some Inner) = unsupported s
@@ -208,6 +273,7 @@ of_writer operation s (Some w) = operation w s
 abbrev pub closed_by : Slots → Option Lock → Begun
 closed_by s None = unsupported s
 closed_by s (Some (ReaderLock stream closed)) = replies (Promise closed) s
+closed_by s (Some (ByobReader stream closed)) = replies (Promise closed) s
 closed_by s (Some (WriterLock i)) = of_writer (λ w. replies (Promise w.closed)) s (writable_at i s).writer
 closed_by s (Some (ReleasedWriter w)) = replies (Promise w.closed) s
 closed_by s (Some Inner) = unsupported s
@@ -215,6 +281,7 @@ closed_by s (Some Inner) = unsupported s
 abbrev pub ready_by : Slots → Option Lock → Begun
 ready_by s None = unsupported s
 ready_by s (Some (ReaderLock stream closed)) = unsupported s
+ready_by s (Some (ByobReader stream closed)) = unsupported s
 ready_by s (Some (WriterLock i)) = of_writer (λ w. replies (Promise w.ready)) s (writable_at i s).writer
 ready_by s (Some (ReleasedWriter w)) = replies (Promise w.ready) s
 ready_by s (Some Inner) = unsupported s
@@ -235,13 +302,13 @@ abbrev pub reject_renewed : Table → Bool → List Effect
 reject_renewed t true = []
 reject_renewed t false = SettlePromise (next_id t) (Err type_error) ∷ []
 
--- a reader lets go of its stream
-abbrev pub release_reader : LockId → PromiseId → StreamId → Slots → Begun
-release_reader l closed i s =
-    let kept : Bool = readable.is_readable (readable_at i s).state in
+-- a reader lets go of its stream, and is this lock from now on, with the closed promise that it has then
+abbrev pub release_reader : (PromiseId → Lock) → LockId → PromiseId → StreamId → Slots → Begun
+release_reader released l closed i s =
+    let kept : Bool = readable.is_readable (source_at i s).state in
     begun ReplyDone
     (causes (reject_renewed s.promises kept ++ Readable i ReleaseReader ∷ [])
-    (with_lock l (ReaderLock None (renewed closed s.promises kept)) (with_promises (with_renewed s.promises kept) s)))
+    (with_lock l (released (renewed closed s.promises kept)) (with_promises (with_renewed s.promises kept) s)))
 
 -- a writer lets go of its stream
 abbrev pub release_writer : LockId → StreamId → Writer → Slots → Begun
@@ -257,8 +324,10 @@ release_writer l i w s =
 
 abbrev pub release : LockId → Slots → Option Lock → Begun
 release l s None = unsupported s
-release l s (Some (ReaderLock (Some i) closed)) = for_readable i (release_reader l closed i) s
+release l s (Some (ReaderLock (Some i) closed)) = for_source i (release_reader (ReaderLock None) l closed i) s
 release l s (Some (ReaderLock None closed)) = replies ReplyDone s
+release l s (Some (ByobReader (Some i) closed)) = for_source i (release_reader (ByobReader None) l closed i) s
+release l s (Some (ByobReader None closed)) = replies ReplyDone s
 release l s (Some (WriterLock i)) = of_writer (release_writer l i) s (writable_at i s).writer
 release l s (Some (ReleasedWriter w)) = replies ReplyDone s
 release l s (Some Inner) = unsupported s
@@ -282,6 +351,16 @@ enqueue_by v i s (HalfOf t) =
 abbrev pub enqueue : Value → StreamId → Slots → Begun
 enqueue v i s = enqueue_by v i s (readable_at i s).owner
 
+-- enqueue() of a byte controller: it takes bytes alone, and some
+abbrev pub enqueue_bytes : StreamId → Slots → Value → Begun
+enqueue_bytes i s (PlainValue v) = throws_type_error s
+enqueue_bytes i s (Bytes b) =
+    if not (is_empty b) && byte.can_take (byte_at i s) then does (Byte i (EnqueueBytes b) ∷ []) s else throws_type_error s
+
+-- of a stream with a controller of either kind
+abbrev pub enqueue_call : StreamId → Value → Slots → Begun
+enqueue_call i v s = if has_byte i s then enqueue_bytes i s v else for_readable i (enqueue v i) s
+
 -- close() of the controller of a host's source; that of a transform stream has none
 abbrev pub finish_by : StreamId → Slots → Owner → Begun
 finish_by i s Host = if_it_can i CloseReadable s
@@ -289,6 +368,18 @@ finish_by i s (HalfOf t) = unsupported s
 
 abbrev pub finish : StreamId → Slots → Begun
 finish i s = finish_by i s (readable_at i s).owner
+
+-- close() of a byte controller throws what ReadableByteStreamControllerClose throws, which has errored the stream
+abbrev pub close_reply : byte.Slots → Reply
+close_reply b = if byte.close_throws b then Throws TypeError else ReplyDone
+
+abbrev pub finish_bytes : StreamId → Slots → Begun
+finish_bytes i s =
+    if byte.can_take (byte_at i s) then begun (close_reply (byte_at i s)) (causes (Readable i CloseReadable ∷ []) s) else throws_type_error s
+
+-- of a stream with a controller of either kind
+abbrev pub finish_call : StreamId → Slots → Begun
+finish_call i s = if has_byte i s then finish_bytes i s else for_readable i (finish i) s
 
 -- error() of the controller of a readable stream, by whose it is
 abbrev pub fail_readable_by : Plain → StreamId → Slots → Owner → Begun
@@ -300,10 +391,11 @@ abbrev pub fail_writable_by : Plain → StreamId → Slots → Owner → Begun
 fail_writable_by reason i s Host = does (Writable i (ErrorIfNeeded reason) ∷ []) s
 fail_writable_by reason i s (HalfOf t) = unsupported s
 
--- the controller of a stream of either kind
+-- the controller of a stream of any kind
 abbrev pub fail : Plain → StreamId → Slots → Begun
 fail reason i s =
     if has_readable i s then fail_readable_by reason i s (readable_at i s).owner
+    else if has_byte i s then does (Readable i (ErrorReadable reason) ∷ []) s
     else for_writable i (λ s. fail_writable_by reason i s (writable_at i s).owner) s
 
 -- terminate() of the controller of a transform stream, by its readable half
@@ -315,14 +407,14 @@ abbrev pub terminate : StreamId → Slots → Begun
 terminate i s = terminate_by s (readable_at i s).owner
 
 abbrev pub desired : StreamId → Slots → Begun
-desired i s = replies (Size (readable_looks.desired_by (readable_at i s) (readable_at i s).state)) s
+desired i s = replies (Size (readable_looks.desired_by (source_at i s) (source_at i s).state)) s
 
 abbrev pub desired_of_writer : StreamId → Slots → Begun
 desired_of_writer i s = replies (Size (writable_looks.desired_by (writable_at i s) (writable_at i s).state)) s
 
 abbrev pub look : StreamId → Slots → Begun
 look i s =
-    if has_readable i s then replies (ReplyState (readable_looks.state_of (readable_at i s))) s
+    if has_source i s then replies (ReplyState (readable_looks.state_of (source_at i s))) s
     else for_writable i (λ s. replies (ReplyState (writable_looks.state_of (writable_at i s))) s) s
 
 abbrev pub outcome_of : Answer → Result Plain Plain
@@ -338,11 +430,50 @@ settle_host h answer s (Some p) =
 -- what is done with a stream that isn't locked, and what is answered of one that is
 abbrev pub unlocked_readable : StreamId → (Slots → Begun) → (StreamId → Slots → Begun) → Slots → Begun
 unlocked_readable i locked free s =
-    for_readable i (λ s. if readable_looks.is_locked (readable_at i s) then locked s else free i s) s
+    for_source i (λ s. if readable_looks.is_locked (source_at i s) then locked s else free i s) s
 
 abbrev pub unlocked_writable : StreamId → (Slots → Begun) → (StreamId → Slots → Begun) → Slots → Begun
 unlocked_writable i locked free s =
     for_writable i (λ s. if writable_looks.is_locked (writable_at i s) then locked s else free i s) s
+
+-- BYOB requests
+
+abbrev pub is_request : RequestId → Option RequestId → Bool
+is_request q None = false
+is_request q (Some r) = nat_eq q.0 r.0
+
+-- byobRequest of a byte controller: the request, with how many bytes have room in the view of the first descriptor. Where there is none, but
+-- a descriptor, it is a new one
+abbrev pub request_by : StreamId → Slots → Option RequestId → List Descriptor → Begun
+request_by i s request [] = replies (ReplyRequest None) s
+request_by i s (Some q) (d ∷ ds) = replies (ReplyRequest (Some (q, room_left d))) s
+request_by i s None (d ∷ ds) =
+    let q : RequestId = record { 0 = length s.byob_requests } in
+    begun (ReplyRequest (Some (q, room_left d)))
+    (causes (Byte i (MakeRequest q) ∷ []) (record s { byob_requests = s.byob_requests ++ i ∷ [] }))
+
+abbrev pub request : StreamId → Slots → Begun
+request i s = request_by i s (byte_at i s).request (byte_at i s).descriptors
+
+abbrev pub thrown_by : Fault → Reply
+thrown_by RangeFault = Throws RangeError
+thrown_by _ = Throws TypeError
+
+-- respond() of the request, of the byte stream i, which may throw what ReadableByteStreamControllerRespond throws
+abbrev pub respond_unless : StreamId → List ℕ → Slots → Option Fault → Begun
+respond_unless i b s None = does (Byte i (RespondBytes b) ∷ []) s
+respond_unless i b s (Some fault) = replies (thrown_by fault) s
+
+abbrev pub respond_to : RequestId → List ℕ → StreamId → Slots → Begun
+respond_to q b i s =
+    if is_request q (byte_at i s).request
+    then respond_unless i b s (respond_throws (length b) (byte_at i s).stream.state (byte_at i s).descriptors)
+    else throws_type_error s
+
+-- of a request that was made; one that was invalidated has no view any more
+abbrev pub respond : RequestId → List ℕ → Slots → Option StreamId → Begun
+respond q b s None = unsupported s
+respond q b s (Some i) = respond_to q b i s
 
 -- pipes and signals
 
@@ -395,13 +526,13 @@ pipe_to source dest prevent signal s =
 -- the ends are unlocked, the source first
 abbrev pub pipe_unlocked : StreamId → StreamId → Prevent → Option SignalId → Slots → Begun
 pipe_unlocked source dest prevent signal s =
-    if readable_looks.is_locked (readable_at source s) then rejected s
+    if readable_looks.is_locked (source_at source s) then rejected s
     else if writable_looks.is_locked (writable_at dest s) then rejected s
     else pipe_to source dest prevent signal s
 
 abbrev pub pipe_call : StreamId → StreamId → Prevent → Option SignalId → Slots → Begun
 pipe_call source dest prevent signal s =
-    for_readable source (for_writable dest (for_signal_where signal (pipe_unlocked source dest prevent signal))) s
+    for_source source (for_writable dest (for_signal_where signal (pipe_unlocked source dest prevent signal))) s
 
 abbrev pub make_signal : Slots → Begun
 make_signal s = begun (ReplySignal (record { 0 = length s.signals })) (nothing (record s { signals = s.signals ++ pipe.new_signal ∷ [] }))
@@ -409,13 +540,16 @@ make_signal s = begun (ReplySignal (record { 0 = length s.signals })) (nothing (
 -- the checks of a call in their order; what it answers and makes, and its effects
 unfoldable pub begin : Call → Slots → Begun
 begin (MakeReadable mark size start) s = make_stream (make_readable mark size start) s
+begin (MakeBytes mark auto start) s = make_stream (make_bytes mark auto start) s
 begin (MakeWritable mark size start) s = make_stream (make_writable mark size start) s
 begin (MakeTransform kind writable_mark readable_mark start) s = make_two (make_transform kind writable_mark readable_mark start) s
 begin (GetReader i) s = unlocked_readable i throws_type_error get_reader s
+begin (GetByob i) s = unlocked_readable i throws_type_error get_byob_of s
 begin (GetWriter i) s = unlocked_writable i throws_type_error get_writer s
 begin (Cancel i reason) s = unlocked_readable i rejected (cancel reason) s
 begin (CancelBy l reason) s = by_reader (cancel reason) rejected s (lock_at l s)
-begin (Read l) s = by_reader read rejected s (lock_at l s)
+begin (Read l) s = by_default_reader read rejected s (lock_at l s)
+begin (ReadInto l room element least) s = read_into_by room element least s (lock_at l s)
 begin (Write l v) s = by_writer (write v) rejected s (lock_at l s)
 begin (Close i) s = unlocked_writable i rejected close s
 begin (CloseBy l) s = by_writer close rejected s (lock_at l s)
@@ -424,11 +558,13 @@ begin (AbortBy l reason) s = by_writer (abort reason) rejected s (lock_at l s)
 begin (Closed l) s = closed_by s (lock_at l s)
 begin (Ready l) s = ready_by s (lock_at l s)
 begin (Release l) s = release l s (lock_at l s)
-begin (Enqueue i v) s = for_readable i (enqueue v i) s
-begin (Finish i) s = for_readable i (finish i) s
+begin (Enqueue i v) s = enqueue_call i v s
+begin (Finish i) s = finish_call i s
 begin (Fail i reason) s = fail reason i s
 begin (Terminate i) s = for_readable i (terminate i) s
-begin (Desired i) s = for_readable i (desired i) s
+begin (Request i) s = for_byte i (request i) s
+begin (Respond q b) s = respond q b s (stream_of_request q s)
+begin (Desired i) s = for_source i (desired i) s
 begin (DesiredBy l) s = by_writer desired_of_writer throws_type_error s (lock_at l s)
 begin (Pipe source dest prevent signal) s = pipe_call source dest prevent signal s
 begin MakeSignal s = make_signal s

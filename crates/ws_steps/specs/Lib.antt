@@ -3,6 +3,8 @@ pub mod Queues
 pub mod Effects
 pub mod Readable
 pub mod ReadableLooks
+pub mod Descriptors
+pub mod Bytes
 pub mod Writable
 pub mod WritableLooks
 pub mod Pipes
@@ -16,5 +18,7 @@ pub mod Calls
 pub mod Run
 pub mod Histories
 pub mod ReadableHistory
+pub mod ByteHistory
 pub mod WritableHistory
 pub mod Laws
+pub mod ByteLaws

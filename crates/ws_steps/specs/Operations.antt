@@ -1,6 +1,10 @@
 -- The operations of one record that stand on the agenda, by their names.
+use Rattle.std.specs.Prelude.{length}
 use Rattle.ws_value.specs.declared.ids.PipeId.{PipeId}
 use Rattle.ws_value.specs.declared.ids.StreamId.{StreamId}
+use Rattle.ws_steps.specs.declared.byte.ByteOperation.{ByteOperation}
+use Rattle.ws_steps.specs.declared.byte.ByteOperation.TheVariants.{InitializeByobReader, Enqueue as EnqueueBytes, PullInto, MakeRequest, Respond}
+use Rattle.ws_steps.specs.declared.byte.ReaderKind.TheVariants.{Default, Byob}
 use Rattle.ws_steps.specs.declared.pipes.Ends.{Ends}
 use Rattle.ws_steps.specs.declared.pipes.PipeOperation.{PipeOperation}
 use Rattle.ws_steps.specs.declared.pipes.PipeOperation.TheVariants.{Look, LookReady, KeepChunk, ReadEnded, WriteChunk, GoOn, WriteEnded, Abort as AbortPipe, ActionSettled, PartSettled, NoParts}
@@ -14,6 +18,7 @@ use Rattle.ws_steps.specs.declared.transform.TransformOperation.{TransformOperat
 use Rattle.ws_steps.specs.declared.transform.TransformOperation.TheVariants.{SinkWrite, WriteGoesOn, TransformChunk, Enqueue as EnqueueByTransform, Enqueued, Error as ErrorTransform, Unblock, Terminate, SourcePull, SinkClose, SinkAbort, SourceCancel, FlushSettled, AbortSettled as SinkAbortSettled, CancelSettled}
 use Rattle.ws_steps.specs.declared.writable.WritableOperation.{WritableOperation}
 use Rattle.ws_steps.specs.declared.writable.WritableOperation.TheVariants.{SetUpWriter, ReleaseWriter, Write, Close as CloseWritable, ClosePropagating, Abort, AbortIfWritable, ErrorIfNeeded, HandOn, StartSettled as WritableStartSettled, WriteSettled, CloseSettled, AbortSettled}
+use Rattle.ws_steps.specs.Bytes as byte
 use Rattle.ws_steps.specs.Pipes as pipe
 use Rattle.ws_steps.specs.Readable as readable
 use Rattle.ws_steps.specs.Transform as transform
@@ -31,6 +36,27 @@ readable_operation i Close a = readable.controller_close i a
 readable_operation i (Error e) a = readable.controller_error i e a
 readable_operation i (StartSettled outcome) a = readable.start_settled i outcome a
 readable_operation i (PullSettled outcome) a = readable.pull_settled i outcome a
+
+-- the same of a stream with a byte controller, which enqueues bytes by an operation of its own
+abbrev pub byte_readable_operation : StreamId → ReadableOperation → byte.Acts → byte.Acts
+byte_readable_operation i (InitializeReader closed) a = byte.reader_initialize Default closed a
+byte_readable_operation i ReleaseReader a = byte.reader_release i a
+byte_readable_operation i Disturb a = byte.in_stream readable.disturb a
+byte_readable_operation i (Read request) a = byte.read i request a
+byte_readable_operation i (Cancel r p) a = byte.stream_cancel i r p a
+byte_readable_operation i (CancelIfReadable r p) a = byte.cancel_if_readable i r p a
+byte_readable_operation i (Enqueue v) a = a
+byte_readable_operation i Close a = byte.controller_close i a
+byte_readable_operation i (Error e) a = byte.controller_error i e a
+byte_readable_operation i (StartSettled outcome) a = byte.start_settled i outcome a
+byte_readable_operation i (PullSettled outcome) a = byte.pull_settled i outcome a
+
+abbrev pub byte_operation : StreamId → ByteOperation → byte.Acts → byte.Acts
+byte_operation i (InitializeByobReader closed) a = byte.reader_initialize Byob closed a
+byte_operation i (EnqueueBytes b) a = byte.controller_enqueue i b a
+byte_operation i (PullInto room element minimum request) a = byte.read_into i (length room) element minimum request a
+byte_operation i (MakeRequest q) a = byte.make_request q a
+byte_operation i (Respond b) a = byte.respond i b a
 
 abbrev pub writable_operation : StreamId → WritableOperation → writable.Acts → writable.Acts
 writable_operation i (SetUpWriter w) a = writable.set_up_writer w a

@@ -7,10 +7,12 @@ use Rattle.ws_value.specs.declared.ids.StreamId.{StreamId}
 use Rattle.ws_value.specs.declared.value.Plain.{Plain}
 use Rattle.ws_value.specs.declared.value.Outcome.{Outcome}
 use Rattle.ws_value.specs.declared.value.Outcome.TheVariants.{Pending, Fulfilled, Given, Finished, Rejected}
+use Rattle.ws_steps.specs.declared.byte.ByteOperation.{ByteOperation}
+use Rattle.ws_steps.specs.declared.byte.ByteOperation.TheVariants.{InitializeByobReader, Enqueue as EnqueueBytes, PullInto, MakeRequest, Respond}
 use Rattle.ws_steps.specs.declared.calls.StartBy.{StartBy}
 use Rattle.ws_steps.specs.declared.calls.StartBy.TheVariants.{Now, Later}
 use Rattle.ws_steps.specs.declared.effects.Effect.{Effect}
-use Rattle.ws_steps.specs.declared.effects.Effect.TheVariants.{Readable, Writable, Pipe, Signal, Transform, StartAlgorithm, PullAlgorithm, CancelAlgorithm, WriteAlgorithm, CloseAlgorithm, AbortAlgorithm, ChunkSteps, CloseSteps, ErrorSteps, Give, Settle, Queue, CallHost}
+use Rattle.ws_steps.specs.declared.effects.Effect.TheVariants.{Readable, Byte, Writable, Pipe, Signal, Transform, StartAlgorithm, PullAlgorithm, CancelAlgorithm, WriteAlgorithm, CloseAlgorithm, AbortAlgorithm, ChunkSteps, CloseSteps, CloseStepsWith, ErrorSteps, Give, Settle, Queue, CallHost}
 use Rattle.ws_steps.specs.declared.effects.Gift.{Gift}
 use Rattle.ws_steps.specs.declared.effects.Gift.TheVariants.{This, Fresh}
 use Rattle.ws_steps.specs.declared.pipes.PipeOperation.{PipeOperation}
@@ -27,10 +29,10 @@ use Rattle.ws_steps.specs.declared.writable.WritableOperation.{WritableOperation
 use Rattle.ws_steps.specs.declared.writable.WritableOperation.TheVariants.{SetUpWriter, ReleaseWriter, Write, Close as CloseWritable, ClosePropagating, Abort, AbortIfWritable, ErrorIfNeeded, HandOn, StartSettled as WritableStartSettled, WriteSettled, CloseSettled, AbortSettled}
 use Rattle.ws_steps.specs.Pipes as pipe
 use Rattle.ws_steps.specs.Promises.{Entry, Table}
-use Rattle.ws_steps.specs.Slots.{Slots, Stream, ReadableStream, WritableStream}
+use Rattle.ws_steps.specs.Slots.{Slots, Stream, ReadableStream, ByteStream, WritableStream}
 
 -- the prices of a turn, a promise, a job or a reaction, an event, a host's number, an entry in the queue of a stream, one in the list of
--- its read or write requests, and a pipe in the list of a signal
+-- its read or write requests, a pipe in the list of a signal, and a descriptor of a byte stream
 pub record Prices : Type 0 where
   pub turn : ℕ
   pub promise : ℕ
@@ -40,6 +42,7 @@ pub record Prices : Type 0 where
   pub queued : ℕ
   pub request : ℕ
   pub member : ℕ
+  pub descriptor : ℕ
 
 -- the price of so many turns, promises, jobs, events, host's numbers, queued entries and requests
 abbrev pub price : Prices → ℕ → ℕ → ℕ → ℕ → ℕ → ℕ → ℕ → ℕ
@@ -64,7 +67,7 @@ abbrev pub readable_price : Prices → ReadableOperation → ℕ
 readable_price π (InitializeReader closed) = price π 1 0 0 0 0 0 0
 readable_price π ReleaseReader = price π 1 0 0 0 0 0 0
 readable_price π Disturb = price π 1 0 0 0 0 0 0
-readable_price π (Read request) = price π 6 1 2 1 1 0 1
+readable_price π (Read request) = price π 6 1 2 1 1 1 1 + π.descriptor
 readable_price π (Cancel r p) = price π 5 2 2 1 1 0 0
 readable_price π (CancelIfReadable r p) = price π 5 2 2 1 1 0 0
 readable_price π (Enqueue v) = price π 4 1 1 1 1 1 0
@@ -72,6 +75,14 @@ readable_price π Close = price π 1 0 0 0 0 0 0
 readable_price π (Error e) = price π 1 0 0 0 0 0 0
 readable_price π (StartSettled outcome) = price π 4 1 1 1 1 0 0
 readable_price π (PullSettled outcome) = price π 4 1 1 1 1 0 0
+
+-- a descriptor keeps the price of an entry, for its bytes may go to the queue
+abbrev pub byte_price : Prices → ByteOperation → ℕ
+byte_price π (InitializeByobReader closed) = price π 1 0 0 0 0 0 0
+byte_price π (EnqueueBytes b) = price π 4 1 1 1 1 1 0
+byte_price π (PullInto room element minimum request) = price π 6 1 2 1 1 1 1 + π.descriptor
+byte_price π (MakeRequest q) = price π 1 0 0 0 0 0 0
+byte_price π (Respond b) = price π 4 1 1 1 1 1 0
 
 -- of who takes a chunk that is handed on: a call of the host's algorithm, or a transform, which may enqueue into its readable half
 abbrev pub taker_price : Prices → Taker → ℕ
@@ -95,7 +106,7 @@ writable_price π (AbortSettled p outcome) = price π 1 0 0 0 0 0 0
 
 -- a look of a pipe, which may read, wait, or shut down with all that its action does
 abbrev pub look_price : Prices → ℕ
-look_price π = price π 14 8 7 3 2 2 1
+look_price π = price π 14 8 7 3 2 2 1 + π.descriptor
 
 -- the abort of a pipe by its signal, which neither reads nor closes
 abbrev pub abort_price : Prices → ℕ
@@ -140,6 +151,7 @@ transform_price π (CancelSettled p r outcome) = price π 8 4 2 1 1 0 0
 
 abbrev pub effect_price : Prices → Effect → ℕ
 effect_price π (Readable i operation) = readable_price π operation
+effect_price π (Byte i operation) = byte_price π operation
 effect_price π (Writable i operation) = writable_price π operation
 effect_price π (Pipe p operation) = pipe_price π operation
 effect_price π (Signal a operation) = signal_price π operation
@@ -152,6 +164,7 @@ effect_price π (CloseAlgorithm i) = price π 4 2 2 1 1 0 0
 effect_price π (AbortAlgorithm i r p) = price π 4 2 2 1 1 0 0
 effect_price π (ChunkSteps i request v) = price π 2 0 1 0 0 0 0
 effect_price π (CloseSteps i request) = price π 2 0 1 0 0 0 0
+effect_price π (CloseStepsWith i request b) = price π 2 0 1 0 0 0 0
 effect_price π (ErrorSteps i request e) = price π 2 0 1 0 0 0 0
 effect_price π (Give gift u) = gift_price π gift
 effect_price π (Settle p outcome) = price π 1 0 0 0 0 0 0
@@ -162,14 +175,15 @@ abbrev pub prices_of : Prices → List Effect → ℕ
 prices_of π [] = 0
 prices_of π (e ∷ es) = effect_price π e + prices_of π es
 
--- what the records keep for later: the steps of each read request that waits, which are paid for when it is asked; and the abort of each
--- pipe of a signal that wasn't triggered, which is paid for when it is added
+-- what the records keep for later: the steps of each read request that waits, which are paid for when it is asked; an entry in the queue for
+-- each descriptor, which is paid for when it is added; and the abort of each pipe of a signal that wasn't triggered, likewise
 
 abbrev pub steps_price : Prices → ℕ
 steps_price π = price π 2 0 1 0 0 0 0
 
 abbrev pub keeps : Prices → Stream → ℕ
 keeps π (ReadableStream r) = each (steps_price π) r.requests
+keeps π (ByteStream b) = each (steps_price π) b.stream.requests + each π.queued b.descriptors
 keeps π (WritableStream w) = 0
 
 abbrev pub all_keep : Prices → List Stream → ℕ
@@ -194,28 +208,31 @@ need π s es = prices_of π es + (all_keep π s.streams + signals_keep π s.sign
 -- price lists with one price
 
 abbrev pub turns_alone : Prices
-turns_alone = record { turn = 1; promise = 0; job = 0; event = 0; host = 0; queued = 0; request = 0; member = 0 }
+turns_alone = record { turn = 1; promise = 0; job = 0; event = 0; host = 0; queued = 0; request = 0; member = 0; descriptor = 0 }
 
 abbrev pub promises_alone : Prices
-promises_alone = record { turn = 0; promise = 1; job = 0; event = 0; host = 0; queued = 0; request = 0; member = 0 }
+promises_alone = record { turn = 0; promise = 1; job = 0; event = 0; host = 0; queued = 0; request = 0; member = 0; descriptor = 0 }
 
 abbrev pub jobs_alone : Prices
-jobs_alone = record { turn = 0; promise = 0; job = 1; event = 0; host = 0; queued = 0; request = 0; member = 0 }
+jobs_alone = record { turn = 0; promise = 0; job = 1; event = 0; host = 0; queued = 0; request = 0; member = 0; descriptor = 0 }
 
 abbrev pub events_alone : Prices
-events_alone = record { turn = 0; promise = 0; job = 0; event = 1; host = 0; queued = 0; request = 0; member = 0 }
+events_alone = record { turn = 0; promise = 0; job = 0; event = 1; host = 0; queued = 0; request = 0; member = 0; descriptor = 0 }
 
 abbrev pub hosts_alone : Prices
-hosts_alone = record { turn = 0; promise = 0; job = 0; event = 0; host = 1; queued = 0; request = 0; member = 0 }
+hosts_alone = record { turn = 0; promise = 0; job = 0; event = 0; host = 1; queued = 0; request = 0; member = 0; descriptor = 0 }
 
 abbrev pub queued_alone : Prices
-queued_alone = record { turn = 0; promise = 0; job = 0; event = 0; host = 0; queued = 1; request = 0; member = 0 }
+queued_alone = record { turn = 0; promise = 0; job = 0; event = 0; host = 0; queued = 1; request = 0; member = 0; descriptor = 0 }
 
 abbrev pub requests_alone : Prices
-requests_alone = record { turn = 0; promise = 0; job = 0; event = 0; host = 0; queued = 0; request = 1; member = 0 }
+requests_alone = record { turn = 0; promise = 0; job = 0; event = 0; host = 0; queued = 0; request = 1; member = 0; descriptor = 0 }
 
 abbrev pub members_alone : Prices
-members_alone = record { turn = 0; promise = 0; job = 0; event = 0; host = 0; queued = 0; request = 0; member = 1 }
+members_alone = record { turn = 0; promise = 0; job = 0; event = 0; host = 0; queued = 0; request = 0; member = 1; descriptor = 0 }
+
+abbrev pub descriptors_alone : Prices
+descriptors_alone = record { turn = 0; promise = 0; job = 0; event = 0; host = 0; queued = 0; request = 0; member = 0; descriptor = 1 }
 
 -- as many turns as effects may take, with all that comes of them
 abbrev pub measure : Slots → List Effect → ℕ
@@ -255,10 +272,11 @@ table_size π t =
     π.promise * length t.entries
     + (π.job * (length t.jobs + reactions_in t.entries) + π.event * (length t.events + unnoted_in t.entries))
 
--- the entries of the queue of a stream, and of its read or write requests
+-- the entries of the queue of a stream, of its read or write requests, and of its descriptors
 abbrev pub entries_of : Prices → Option Stream → ℕ
 entries_of π None = 0
 entries_of π (Some (ReadableStream r)) = each π.queued r.queue + each π.request r.requests
+entries_of π (Some (ByteStream b)) = each π.queued b.queue + each π.request b.stream.requests + each π.descriptor b.descriptors
 entries_of π (Some (WritableStream w)) = each π.queued w.queue + each π.request w.write_requests
 
 -- the pipes of a signal
@@ -282,9 +300,16 @@ own_start π Now = 0
 own_start π Later = price π 0 1 0 0 0 0 0
 
 abbrev pub own_readable : Prices → ReadableOperation → ℕ
-own_readable π (Read request) = price π 0 0 0 0 0 0 1
+own_readable π (Read request) = price π 0 0 0 0 0 0 1 + π.descriptor
 own_readable π (Enqueue v) = price π 0 0 0 0 0 1 0
 own_readable π _ = 0
+
+-- of the entries that it adds to the queue, those of descriptors that it removes aren't its own
+abbrev pub own_byte : Prices → ByteOperation → ℕ
+own_byte π (EnqueueBytes b) = price π 0 0 0 0 0 1 0
+own_byte π (PullInto room element minimum request) = price π 0 0 0 0 0 0 1 + π.descriptor
+own_byte π (Respond b) = price π 0 0 0 0 0 1 0
+own_byte π _ = 0
 
 abbrev pub own_writable : Prices → WritableOperation → ℕ
 own_writable π (Write v p) = price π 0 1 0 0 0 1 1
@@ -325,6 +350,7 @@ own_transform π _ = 0
 
 abbrev pub own : Prices → Effect → ℕ
 own π (Readable i operation) = own_readable π operation
+own π (Byte i operation) = own_byte π operation
 own π (Writable i operation) = own_writable π operation
 own π (Pipe p operation) = own_pipe π operation
 own π (Signal a operation) = own_signal π operation
@@ -337,7 +363,7 @@ own π _ = 0
 
 -- what any call or job may take besides what the records keep. The promise that a reply names takes an event, now or when it settles
 abbrev pub step_price : Prices → ℕ
-step_price π = price π 28 14 11 4 3 4 2 + π.member
+step_price π = price π 28 14 11 4 3 4 2 + (π.member + π.descriptor)
 
 -- what is to be prepared for the next call or job, whichever it is
 abbrev pub room : Prices → Slots → ℕ

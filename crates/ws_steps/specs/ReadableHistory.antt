@@ -10,14 +10,14 @@ use Rattle.ws_steps.specs.declared.calls.Reply.TheVariants.{Done, Promise as Nam
 use Rattle.ws_steps.specs.declared.effects.Effect.{Effect}
 use Rattle.ws_steps.specs.declared.effects.Effect.TheVariants.{Readable, ChunkSteps}
 use Rattle.ws_steps.specs.declared.locks.Lock.{Lock}
-use Rattle.ws_steps.specs.declared.locks.Lock.TheVariants.{Reader, Writer, ReleasedWriter, Inner}
+use Rattle.ws_steps.specs.declared.locks.Lock.TheVariants.{Reader, ByobReader, Writer, ReleasedWriter, Inner}
 use Rattle.ws_steps.specs.declared.queue.Queued.{Queued}
 use Rattle.ws_steps.specs.declared.readable.ReadRequest.{ReadRequest}
 use Rattle.ws_steps.specs.declared.readable.ReadRequest.TheVariants.{Promise, Pipe}
 use Rattle.ws_steps.specs.declared.readable.ReadableOperation.{ReadableOperation}
 use Rattle.ws_steps.specs.declared.readable.ReadableOperation.TheVariants.{ReleaseReader, Enqueue, Read, Cancel, CancelIfReadable}
 use Rattle.ws_steps.specs.Readable as readable
-use Rattle.ws_steps.specs.Slots.{Slots, has_readable, lock_at, readable_at}
+use Rattle.ws_steps.specs.Slots.{Slots, has_source, lock_at, readable_at, source_at}
 use Rattle.ws_steps.specs.Run.{Entry, Called, Worked, Heard, reply_to, step}
 use Rattle.ws_steps.specs.Histories.{is_same, in_step, over}
 
@@ -106,10 +106,10 @@ operation_reads (Read request) s = record no_reads { asked = request ∷ [] }
 operation_reads ReleaseReader s = record no_reads { released = readable.waiting s }
 operation_reads _ s = no_reads
 
--- what is asked of readable stream i, where there is one, by an effect
+-- what is asked of readable stream i, where there is one with a controller of either kind, by an effect
 abbrev pub effect_reads : StreamId → Effect → Slots → Reads
 effect_reads i (Readable j operation) s =
-    if is_same i j && has_readable j s then operation_reads operation (readable_at j s) else no_reads
+    if is_same i j && has_source j s then operation_reads operation (source_at j s) else no_reads
 effect_reads i _ s = no_reads
 
 -- in a step
@@ -138,6 +138,7 @@ abbrev pub asked_with : StreamId → Reply → Option Lock → List PromiseId
 asked_with i reply None = []
 asked_with i reply (Some (Reader None closed)) = []
 asked_with i reply (Some (Reader (Some j) closed)) = if is_same i j then named_by reply else []
+asked_with i reply (Some (ByobReader stream closed)) = []
 asked_with i reply (Some (Writer j)) = []
 asked_with i reply (Some (ReleasedWriter w)) = []
 asked_with i reply (Some Inner) = []

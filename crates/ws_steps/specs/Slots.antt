@@ -1,9 +1,10 @@
 -- The slots of a realm: its records in tables by number, and its promises with their jobs and what the host hears of.
-use Rattle.std.specs.Prelude.{ℕ, nat_lt, Bool, true, false, ◌&&◌, is_some, if◌then◌else◌, List, [], Option, Some, None, slice_get, slice_set}
+use Rattle.std.specs.Prelude.{ℕ, nat_lt, Bool, true, false, ◌&&◌, ◌||◌, is_some, if◌then◌else◌, List, [], Option, Some, None, slice_get, slice_set}
 use Rattle.ws_value.specs.declared.ids.HostId.{HostId}
 use Rattle.ws_value.specs.declared.ids.LockId.{LockId}
 use Rattle.ws_value.specs.declared.ids.PipeId.{PipeId}
 use Rattle.ws_value.specs.declared.ids.PromiseId.{PromiseId}
+use Rattle.ws_value.specs.declared.ids.RequestId.{RequestId}
 use Rattle.ws_value.specs.declared.ids.SignalId.{SignalId}
 use Rattle.ws_value.specs.declared.ids.StreamId.{StreamId}
 use Rattle.ws_steps.specs.declared.effects.Effect.{Effect}
@@ -21,15 +22,17 @@ use Rattle.ws_steps.specs.declared.writable.WritableState.TheVariants.{Closed as
 use Rattle.ws_steps.specs.declared.writable.Writer.{Writer}
 use Rattle.ws_steps.specs.Promises.{Table, no_promises}
 use Rattle.ws_steps.specs.Effects.{Out}
+use Rattle.ws_steps.specs.Bytes as byte
 use Rattle.ws_steps.specs.Pipes as pipe
 use Rattle.ws_steps.specs.Queues.{total_of}
 use Rattle.ws_steps.specs.Readable as readable
 use Rattle.ws_steps.specs.Transform as transform
 use Rattle.ws_steps.specs.Writable as writable
 
--- a stream of either kind
+-- a stream of any kind: a readable stream with a default controller, one with a byte controller, or a writable stream
 pub data Stream : Type 0 where
   ReadableStream : readable.Slots → Stream
+  ByteStream : byte.Slots → Stream
   WritableStream : writable.Slots → Stream
 
 pub record Slots : Type 0 where
@@ -41,16 +44,21 @@ pub record Slots : Type 0 where
   pub promises : Table
   -- the promise of each call of a host's algorithm, until the host settles it
   pub hosts : List (Option PromiseId)
+  -- the stream of each BYOB request
+  pub byob_requests : List StreamId
   -- the calls and jobs that were performed
   pub age : ℕ
 
 -- a new realm
 abbrev pub empty : Slots
-empty = record { streams = []; transforms = []; pipes = []; signals = []; locks = []; promises = no_promises; hosts = []; age = 0 }
+empty = record { streams = []; transforms = []; pipes = []; signals = []; locks = []; promises = no_promises; hosts = []; byob_requests = []; age = 0 }
 
 -- what stands where there is no such stream: one that takes nothing, gives nothing, and has no writer
 abbrev pub no_readable : readable.Slots
 no_readable = record (readable.set_up Host 0 Count) { state = ReadableClosed; reader = Some (record { 0 = 0 }); close_requested = true }
+
+abbrev pub no_byte : byte.Slots
+no_byte = record (byte.set_up 0 0) { stream = no_readable }
 
 abbrev pub no_writable : writable.Slots
 no_writable = record (writable.set_up Host 0 Count) { state = WritableClosed }
@@ -75,35 +83,73 @@ no_pipe =
     (record { 0 = 0 }))
     { phase = Over }
 
+-- whether this is a readable stream with a default controller
 abbrev pub is_readable_stream : Option Stream → Bool
 is_readable_stream None = false
 is_readable_stream (Some (ReadableStream r)) = true
+is_readable_stream (Some (ByteStream b)) = false
 is_readable_stream (Some (WritableStream w)) = false
+
+-- whether this is a readable stream with a byte controller
+abbrev pub is_byte_stream : Option Stream → Bool
+is_byte_stream None = false
+is_byte_stream (Some (ReadableStream r)) = false
+is_byte_stream (Some (ByteStream b)) = true
+is_byte_stream (Some (WritableStream w)) = false
 
 abbrev pub is_writable_stream : Option Stream → Bool
 is_writable_stream None = false
 is_writable_stream (Some (ReadableStream r)) = false
+is_writable_stream (Some (ByteStream b)) = false
 is_writable_stream (Some (WritableStream w)) = true
 
 abbrev pub as_readable : Option Stream → readable.Slots
 as_readable None = no_readable
 as_readable (Some (ReadableStream r)) = r
+as_readable (Some (ByteStream b)) = no_readable
 as_readable (Some (WritableStream w)) = no_readable
+
+abbrev pub as_byte : Option Stream → byte.Slots
+as_byte None = no_byte
+as_byte (Some (ReadableStream r)) = no_byte
+as_byte (Some (ByteStream b)) = b
+as_byte (Some (WritableStream w)) = no_byte
+
+-- how a readable stream looks, whichever its controller is
+abbrev pub as_source : Option Stream → readable.Slots
+as_source None = no_readable
+as_source (Some (ReadableStream r)) = r
+as_source (Some (ByteStream b)) = byte.shown b
+as_source (Some (WritableStream w)) = no_readable
 
 abbrev pub as_writable : Option Stream → writable.Slots
 as_writable None = no_writable
 as_writable (Some (ReadableStream r)) = no_writable
+as_writable (Some (ByteStream b)) = no_writable
 as_writable (Some (WritableStream w)) = w
 
--- whether there is a readable stream, or a writable stream, of this number
+-- whether there is a readable stream with a default controller, one with a byte controller, one with any controller, or a writable stream,
+-- of this number
 abbrev pub has_readable : StreamId → Slots → Bool
 has_readable i s = is_readable_stream (slice_get s.streams i.0)
+
+abbrev pub has_byte : StreamId → Slots → Bool
+has_byte i s = is_byte_stream (slice_get s.streams i.0)
+
+abbrev pub has_source : StreamId → Slots → Bool
+has_source i s = has_readable i s || has_byte i s
 
 abbrev pub has_writable : StreamId → Slots → Bool
 has_writable i s = is_writable_stream (slice_get s.streams i.0)
 
 abbrev pub readable_at : StreamId → Slots → readable.Slots
 readable_at i s = as_readable (slice_get s.streams i.0)
+
+abbrev pub byte_at : StreamId → Slots → byte.Slots
+byte_at i s = as_byte (slice_get s.streams i.0)
+
+abbrev pub source_at : StreamId → Slots → readable.Slots
+source_at i s = as_source (slice_get s.streams i.0)
 
 abbrev pub writable_at : StreamId → Slots → writable.Slots
 writable_at i s = as_writable (slice_get s.streams i.0)
@@ -119,10 +165,15 @@ pending_host (Some waiting) = waiting
 abbrev pub host_at : HostId → Slots → Option PromiseId
 host_at h s = pending_host (slice_get s.hosts h.0)
 
--- whose algorithms the stream of this number performs
+-- the stream of a BYOB request
+abbrev pub stream_of_request : RequestId → Slots → Option StreamId
+stream_of_request q s = slice_get s.byob_requests q.0
+
+-- whose algorithms the stream of this number performs; those of a byte controller are the host's
 abbrev pub owner_of : Option Stream → Owner
 owner_of None = Host
 owner_of (Some (ReadableStream r)) = r.owner
+owner_of (Some (ByteStream b)) = Host
 owner_of (Some (WritableStream w)) = w.owner
 
 abbrev pub owner_at : StreamId → Slots → Owner
@@ -176,7 +227,7 @@ ends_of r w =
 
 -- what a pipe looks at
 abbrev pub ends_at : pipe.Slots → Slots → Ends
-ends_at x s = ends_of (readable_at x.source s) (writable_at x.dest s)
+ends_at x s = ends_of (source_at x.source s) (writable_at x.dest s)
 
 -- what a transform stream with these halves looks at
 abbrev pub halves_of : readable.Slots → writable.Slots → Halves
@@ -222,10 +273,18 @@ found s = record { promises = s.promises; effects = [] }
 abbrev pub put_readable : StreamId → Slots → readable.Acts → Done
 put_readable i s a = put_stream i s (ReadableStream a.slots) a.out
 
--- an operation of a readable stream, where there is one of this number
+-- an operation of a readable stream with a default controller, where there is one of this number
 abbrev pub on_readable : (readable.Acts → readable.Acts) → StreamId → Slots → Done
 on_readable operation i s =
     if has_readable i s then put_readable i s (operation (record { slots = readable_at i s; out = found s })) else nothing s
+
+abbrev pub put_byte : StreamId → Slots → byte.Acts → Done
+put_byte i s a = put_stream i s (ByteStream a.slots) a.out
+
+-- an operation of a readable stream with a byte controller, where there is one of this number
+abbrev pub on_byte : (byte.Acts → byte.Acts) → StreamId → Slots → Done
+on_byte operation i s =
+    if has_byte i s then put_byte i s (operation (record { slots = byte_at i s; out = found s })) else nothing s
 
 abbrev pub put_writable : StreamId → Slots → writable.Acts → Done
 put_writable i s a = put_stream i s (WritableStream a.slots) a.out

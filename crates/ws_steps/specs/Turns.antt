@@ -1,20 +1,20 @@
 -- The row of each effect: what it does, and what it causes. Effects are performed one after another: the first, then those that it
 -- caused, then the others.
-use Rattle.std.specs.Prelude.{ℕ, zero, suc, ◌≡◌, List, [], ◌∷◌, ◌++◌, length, Some, None, Ok, Err}
+use Rattle.std.specs.Prelude.{ℕ, zero, suc, ◌≡◌, if◌then◌else◌, List, [], ◌∷◌, ◌++◌, length, Some, None, Ok, Err}
 use Rattle.ws_value.specs.declared.ids.PromiseId.{PromiseId}
 use Rattle.ws_value.specs.declared.ids.StreamId.{StreamId}
 use Rattle.ws_value.specs.declared.value.Outcome.TheVariants.{Given, Finished}
 use Rattle.ws_value.specs.declared.value.Plain.{Plain}
 use Rattle.ws_value.specs.declared.value.Plain.TheVariants.{Undefined}
 use Rattle.ws_value.specs.declared.value.Value.{Value}
-use Rattle.ws_value.specs.declared.value.Value.TheVariants.{Plain as PlainValue}
+use Rattle.ws_value.specs.declared.value.Value.TheVariants.{Plain as PlainValue, Bytes}
 use Rattle.ws_steps.specs.declared.calls.Event.TheVariants.{Host as HostCalled}
 use Rattle.ws_steps.specs.declared.calls.HostCall.{HostCall}
 use Rattle.ws_steps.specs.declared.calls.HostCall.TheVariants.{Start as HostStart, Pull as HostPull, Cancel as HostCancel, Close as HostClose, Abort as HostAbort}
 use Rattle.ws_steps.specs.declared.calls.StartBy.{StartBy}
 use Rattle.ws_steps.specs.declared.calls.StartBy.TheVariants.{Now, Later}
 use Rattle.ws_steps.specs.declared.effects.Effect.{Effect}
-use Rattle.ws_steps.specs.declared.effects.Effect.TheVariants.{Readable, Writable, Pipe, Signal, Transform, StartAlgorithm, PullAlgorithm, CancelAlgorithm, WriteAlgorithm, CloseAlgorithm, AbortAlgorithm, ChunkSteps, CloseSteps, ErrorSteps, Give, Settle, Queue, CallHost}
+use Rattle.ws_steps.specs.declared.effects.Effect.TheVariants.{Readable, Byte, Writable, Pipe, Signal, Transform, StartAlgorithm, PullAlgorithm, CancelAlgorithm, WriteAlgorithm, CloseAlgorithm, AbortAlgorithm, ChunkSteps, CloseSteps, CloseStepsWith, ErrorSteps, Give, Settle, Queue, CallHost}
 use Rattle.ws_steps.specs.declared.effects.Gift.TheVariants.{This, Fresh}
 use Rattle.ws_steps.specs.declared.effects.Owner.{Owner}
 use Rattle.ws_steps.specs.declared.effects.Owner.TheVariants.{Host, HalfOf}
@@ -24,14 +24,15 @@ use Rattle.ws_steps.specs.declared.pipes.PipeOperation.TheVariants.{KeepChunk, R
 use Rattle.ws_steps.specs.declared.promises.Step.{Step}
 use Rattle.ws_steps.specs.declared.promises.Step.TheVariants.{ReadablePull, ReturnUndefined, WritableWrite, WritableClose, WritableAbort}
 use Rattle.ws_steps.specs.declared.readable.ReadRequest.{ReadRequest}
+use Rattle.ws_steps.specs.declared.readable.ReadableOperation.{ReadableOperation}
 use Rattle.ws_steps.specs.declared.readable.ReadRequest.TheVariants.{Promise, Pipe as PipeRequest}
 use Rattle.ws_steps.specs.declared.transform.Taker.TheVariants.{ToHost}
 use Rattle.ws_steps.specs.declared.transform.TransformOperation.TheVariants.{SinkWrite, SourcePull, SinkClose, SinkAbort, SourceCancel}
 use Rattle.ws_steps.specs.declared.writable.WritableOperation.TheVariants.{HandOn}
 use Rattle.ws_steps.specs.Promises.{next_id, fresh, settle, answer, tell, use_this, use_gift, queue_micro}
-use Rattle.ws_steps.specs.Operations.{readable_operation, writable_operation, pipe_operation, signal_operation, transform_operation}
+use Rattle.ws_steps.specs.Operations.{readable_operation, byte_readable_operation, byte_operation, writable_operation, pipe_operation, signal_operation, transform_operation}
 use Rattle.ws_steps.specs.Places.{measure}
-use Rattle.ws_steps.specs.Slots.{Slots, Done, nothing, causes, with_promises, owner_at, on_readable, on_writable, on_pipe, on_signal, on_transform}
+use Rattle.ws_steps.specs.Slots.{Slots, Done, nothing, causes, with_promises, owner_at, has_byte, on_readable, on_byte, on_writable, on_pipe, on_signal, on_transform}
 
 -- the algorithms of a stream, by whose they are, and what is done with the promise that they give
 
@@ -73,6 +74,11 @@ abbrev pub close_steps : Slots → ReadRequest → Done
 close_steps s (Promise p) = nothing (with_promises (answer p (Finished (PlainValue Undefined)) s.promises) s)
 close_steps s (PipeRequest p) = causes (Pipe p ReadEnded ∷ []) s
 
+-- the close steps of a read-into request with a chunk
+abbrev pub close_steps_with : List ℕ → Slots → ReadRequest → Done
+close_steps_with b s (Promise p) = nothing (with_promises (answer p (Finished (Bytes b)) s.promises) s)
+close_steps_with b s (PipeRequest p) = causes (Pipe p ReadEnded ∷ []) s
+
 abbrev pub error_steps : Plain → Slots → ReadRequest → Done
 error_steps e s (Promise p) = nothing (with_promises (settle p (Err e) s.promises) s)
 error_steps e s (PipeRequest p) = causes (Pipe p ReadEnded ∷ []) s
@@ -86,9 +92,15 @@ call_host call u s =
       hosts = s.hosts ++ Some p ∷ [];
     }
 
+-- an operation that either kind of controller has
+abbrev pub on_source : ReadableOperation → StreamId → Slots → Done
+on_source operation i s =
+    if has_byte i s then on_byte (byte_readable_operation i operation) i s else on_readable (readable_operation i operation) i s
+
 -- what an effect does, and what it causes
 unfoldable pub row : Effect → Slots → Done
-row (Readable i operation) s = on_readable (readable_operation i operation) i s
+row (Readable i operation) s = on_source operation i s
+row (Byte i operation) s = on_byte (byte_operation i operation) i s
 row (Writable i operation) s = on_writable (writable_operation i operation) i s
 row (Pipe p operation) s = on_pipe (λ ends. pipe_operation p ends operation) p s
 row (Signal a operation) s = on_signal (signal_operation operation) a s
@@ -101,6 +113,7 @@ row (CloseAlgorithm i) s = causes (close_algorithm i (React (WritableClose i) No
 row (AbortAlgorithm i r p) s = causes (abort_algorithm i r (React (WritableAbort i p) None) (owner_at i s)) s
 row (ChunkSteps i request v) s = chunk_steps v s request
 row (CloseSteps i request) s = close_steps s request
+row (CloseStepsWith i request b) s = close_steps_with b s request
 row (ErrorSteps i request e) s = error_steps e s request
 row (Give gift u) s = nothing (with_promises (use_gift gift u s.promises) s)
 row (Settle p outcome) s = nothing (with_promises (settle p outcome s.promises) s)

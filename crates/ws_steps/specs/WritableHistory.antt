@@ -14,7 +14,7 @@ use Rattle.ws_steps.specs.declared.calls.Reply.TheVariants.{Promise}
 use Rattle.ws_steps.specs.declared.effects.Effect.{Effect}
 use Rattle.ws_steps.specs.declared.effects.Effect.TheVariants.{Writable, Pipe, CloseAlgorithm}
 use Rattle.ws_steps.specs.declared.locks.Lock.{Lock}
-use Rattle.ws_steps.specs.declared.locks.Lock.TheVariants.{Reader, Writer, ReleasedWriter, Inner}
+use Rattle.ws_steps.specs.declared.locks.Lock.TheVariants.{Reader, ByobReader, Writer, ReleasedWriter, Inner}
 use Rattle.ws_steps.specs.declared.pipes.Phase.{Phase}
 use Rattle.ws_steps.specs.declared.pipes.Phase.TheVariants.{Flowing, Waiting, Acting, Over}
 use Rattle.ws_steps.specs.declared.pipes.PipeOperation.TheVariants.{WriteChunk}
@@ -131,6 +131,7 @@ run_promised i xs s = over [] ◌++◌ (step_promised i) xs s
 abbrev pub written_with : StreamId → Value → Slots → Option Lock → List Value
 written_with i v s None = []
 written_with i v s (Some (Reader stream closed)) = []
+written_with i v s (Some (ByobReader stream closed)) = []
 written_with i v s (Some (Writer j)) = if is_same i j then written_by v (writable_at j s) else []
 written_with i v s (Some (ReleasedWriter w)) = []
 written_with i v s (Some Inner) = []

@@ -1,9 +1,9 @@
 //! What stands on a realm's agenda.
 use crate::{
-    HostCall, Micro, PipeOperation, ReadRequest, ReadableOperation, SignalOperation, StartBy, Step,
-    TransformId, TransformOperation, WritableOperation,
+    ByteOperation, HostCall, Micro, PipeOperation, ReadRequest, ReadableOperation, SignalOperation,
+    StartBy, Step, TransformId, TransformOperation, WritableOperation,
 };
-use ws_value::{PipeId, Plain, PromiseId, SignalId, StreamId, Value};
+use ws_value::{Chunk, PipeId, Plain, PromiseId, SignalId, StreamId, Value};
 
 /// Whose algorithms a stream performs.
 #[derive(Clone, Copy, Debug, PartialEq, Eq)]
@@ -35,8 +35,10 @@ pub enum Use {
 /// What stands on the agenda. While a call or a job is performed nothing but an effect changes what a realm holds, apart from what the call makes and names, and the taking of the job.
 #[derive(Debug, Drop)]
 pub enum Effect {
-    /// An operation of a readable stream.
+    /// An operation of a readable stream, whichever its controller is.
     Readable(StreamId, ReadableOperation),
+    /// An operation that only a byte controller has, of a readable stream with one.
+    Byte(StreamId, ByteOperation),
     /// An operation of a writable stream.
     Writable(StreamId, WritableOperation),
     /// An operation of a pipe.
@@ -59,8 +61,10 @@ pub enum Effect {
     AbortAlgorithm(StreamId, Plain, PromiseId),
     /// The chunk steps of a read request of a stream are performed with a chunk.
     ChunkSteps(StreamId, ReadRequest, Value),
-    /// The close steps of a read request of a stream are performed.
+    /// The close steps of a read request of a stream are performed, and those of a read-into request with undefined.
     CloseSteps(StreamId, ReadRequest),
+    /// The close steps of a read-into request of a stream are performed with a chunk.
+    CloseStepsWith(StreamId, ReadRequest, Chunk),
     /// The error steps of a read request of a stream are performed with a reason.
     ErrorSteps(StreamId, ReadRequest, Plain),
     /// A promise that an algorithm gives is used.

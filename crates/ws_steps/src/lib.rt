@@ -1,6 +1,7 @@
 //! The step table: the words in which a realm's operations are told. The operations themselves are definitions, in `specs/`, a file a section of the Streams Standard.
 #![tactic(auto)]
 
+mod byte;
 mod calls;
 mod effects;
 mod locks;
@@ -11,6 +12,7 @@ mod readable;
 mod transform;
 mod writable;
 
+pub use byte::{ByteOperation, ReaderKind, RoomKind};
 pub use calls::{Answer, Call, Event, Flags, HostCall, Reply, StartBy, StateIs, Thrown, Word};
 pub use effects::{Effect, Gift, Owner, Use};
 pub use locks::Lock;

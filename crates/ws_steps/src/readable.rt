@@ -1,4 +1,4 @@
-//! The parts of a readable stream with a default controller.
+//! The parts of a readable stream.
 ghost use Rattle.std.specs.Prelude.{◌≡◌};
 ghost use Rattle.ws_steps.specs.Queues.{size_of};
 
@@ -43,10 +43,10 @@ pub enum ReadRequest {
     Pipe(PipeId),
 }
 
-/// An operation of a readable stream, as it stands on the agenda. Promises that it answers are told to it.
+/// An operation of a readable stream, as it stands on the agenda: one that either kind of controller has, and the enqueuing of a default controller. Promises that it answers are told to it.
 #[derive(Debug, Drop)]
 pub enum ReadableOperation {
-    /// ReadableStreamReaderGenericInitialize, with the reader's closed promise.
+    /// ReadableStreamReaderGenericInitialize by a default reader, with the reader's closed promise.
     InitializeReader(PromiseId),
     /// ReadableStreamReaderGenericRelease.
     ReleaseReader,
@@ -60,9 +60,9 @@ pub enum ReadableOperation {
     CancelIfReadable(Plain, PromiseId),
     /// ReadableStreamDefaultControllerEnqueue.
     Enqueue(Value),
-    /// ReadableStreamDefaultControllerClose.
+    /// ReadableStreamDefaultControllerClose, ReadableByteStreamControllerClose.
     Close,
-    /// ReadableStreamDefaultControllerError.
+    /// ReadableStreamDefaultControllerError, ReadableByteStreamControllerError.
     Error(Plain),
     /// The controller's reaction to its start algorithm.
     StartSettled(Result<Plain, Plain>),
