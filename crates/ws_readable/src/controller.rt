@@ -27,6 +27,24 @@ impl Readable {
                 || self.queue.total() < u128::from(self.hwm))
     }
 
+    /// Performs the pull algorithm, or, where it is pulling already, pulls again afterwards.
+    pub fn call_pull(&mut self, me: StreamId, fx: &mut Agenda)
+        requires { HasEffectRoom 1 fx.old }
+        ensures row { (p : Seen) → acts_of self.new p fx.new ≡ rows.call_pull me (acts_of self.old p fx.old) }
+        ensures room { self.new.room ≡ self.old.room }
+        ensures effect_room { fx.new.capacity ≡ fx.old.capacity }
+        ensures caused { length fx.new.effects ≤ 1 + length fx.old.effects }
+        ensures requests { self.new.slots.requests ≡ self.old.slots.requests }
+        ensures close_requested { self.new.slots.close_requested ≡ self.old.slots.close_requested }
+    {
+        if self.pulling {
+            self.pull_again = true;
+            return;
+        }
+        self.pulling = true;
+        fx.push(Effect::PullAlgorithm(me));
+    }
+
     /// ReadableStreamDefaultControllerCallPullIfNeeded.
     #[tactic(auto, unfolding(ws_steps::specs::Readable::call_pull_if_needed))]
     pub fn call_pull_if_needed(&mut self, me: StreamId, fx: &mut Agenda)
@@ -36,15 +54,9 @@ impl Readable {
         ensures effect_room { fx.new.capacity ≡ fx.old.capacity }
         ensures caused { length fx.new.effects ≤ 1 + length fx.old.effects }
     {
-        if !self.should_call_pull() {
-            return;
+        if self.should_call_pull() {
+            self.call_pull(me, fx);
         }
-        if self.pulling {
-            self.pull_again = true;
-            return;
-        }
-        self.pulling = true;
-        fx.push(Effect::PullAlgorithm(me));
     }
 
     /// Hands a chunk to the first read request that waits, or else puts it at the end of the queue.
@@ -171,7 +183,8 @@ impl Readable {
         }
     }
 
-    fn wait_for_chunk(&mut self, request: ReadRequest)
+    /// One more request waits.
+    pub fn wait_for_chunk(&mut self, request: ReadRequest)
         requires { HasRequestRoom 1 self.old }
         ensures { self.new ≡ record self.old { slots = after_request_added request self.old.slots } }
     {

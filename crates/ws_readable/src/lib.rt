@@ -5,6 +5,7 @@
 mod controller;
 mod look;
 mod operations;
+mod parts;
 mod reader;
 mod requests;
 mod stream;

@@ -26,6 +26,7 @@ pub fn close_requests(requests: &mut VecDeque<ReadRequest>, me: StreamId, fx: &m
 pub fn error_requests(requests: &mut VecDeque<ReadRequest>, me: StreamId, fx: &mut Agenda, e: Plain)
     requires { HasEffectRoom (deque_len requests.old) fx.old }
     ensures effects { fx.new ≡ record fx.old { effects = fx.old.effects ++ error_all me e requests.old.items } }
+    ensures caused { length fx.new.effects ≡ deque_len requests.old + length fx.old.effects }
     ensures emptied { requests.new.items ≡ [] }
     ensures capacity { deque_capacity requests.new ≡ deque_capacity requests.old }
 {

@@ -1,5 +1,5 @@
 //! The record of a readable stream, and the operations of the stream itself.
-ghost use Rattle.std.specs.Prelude.{◌≡◌, ◌≤◌, ◌+◌, length, IsOk, OnOk};
+ghost use Rattle.std.specs.Prelude.{◌≡◌, ◌≤◌, ◌+◌, length, IsOk, OnOk, true};
 ghost use Rattle.ws_promise.specs.Seen.{HasEffectRoom, Seen, SeenAgenda};
 ghost use Rattle.ws_steps.specs.Readable as rows;
 ghost use Rattle.ws_readable.specs.Seen.{HasRoom, acts_of, request_taken, after_request_taken};
@@ -103,7 +103,7 @@ impl Readable {
     #[tactic(auto, unfolding(ws_steps::specs::Readable::disturb))]
     pub fn disturb(&mut self)
         ensures row { (p : Seen) (fx : SeenAgenda) → acts_of self.new p fx ≡ rows.disturb (acts_of self.old p fx) }
-        ensures room { self.new.room ≡ self.old.room }
+        ensures slots { self.new ≡ record self.old { slots = record self.old.slots { disturbed = true } } }
     {
         self.disturbed = true;
     }
@@ -146,6 +146,7 @@ impl Readable {
         ensures room { self.new.room ≡ self.old.room }
         ensures promise_room { p.new.room ≡ p.old.room }
         ensures effect_room { fx.new.capacity ≡ fx.old.capacity }
+        ensures caused { length fx.new.effects ≤ length self.old.slots.requests + length fx.old.effects }
     {
         self.state = ReadableState::Errored;
         self.stored_error = e;
