@@ -1,0 +1,5 @@
+mod Closing
+mod Elements
+mod Looks
+mod Responding
+mod Serving
