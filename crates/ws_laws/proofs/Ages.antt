@@ -1,7 +1,7 @@
 -- The age of a realm counts its calls and jobs, over every run.
 use Rattle.std.proofs.Common.{◌≡◌, ◌+◌, ℕ, [], ◌∷◌, refl, sym, ◌∙◌, add-zero, arith}
 use Rattle.ws_steps.specs.declared.{calls.Call.{Call}, calls.StartBy.TheVariants.{Now, Later}, calls.Reply.{Reply}, calls.Reply.TheVariants.{Promise}, effects.Effect.{Effect}}
-use Rattle.ws_steps.specs.declared.{effects.Effect.TheVariants.{Readable, Writable, Pipe, Signal, Transform, StartAlgorithm, ChunkSteps, CloseSteps, ErrorSteps}, promises.Job.{Job}}
+use Rattle.ws_steps.specs.declared.{effects.Effect.TheVariants.{Readable, Byte, Writable, Pipe, Signal, Transform, StartAlgorithm, ChunkSteps, CloseSteps, CloseStepsWith, ErrorSteps}, promises.Job.{Job}}
 use Rattle.ws_steps.specs.declared.readable.ReadRequest.TheVariants.{Promise as PromiseRequest, Pipe as PipeRequest}
 use Rattle.std.specs.Prelude.{Option, Some, None, slice_get}
 use Rattle.ws_value.specs.declared.ids.PipeId.{PipeId}
@@ -11,13 +11,14 @@ use Rattle.ws_steps.specs.Operations.{pipe_operation, signal_operation, transfor
 use Rattle.ws_steps.specs.Pipes as pipe
 use Rattle.ws_steps.specs.Transform as transform
 use Rattle.ws_steps.specs.Promises.{next_job}
-use Rattle.ws_steps.specs.Slots.{Slots, Done, has_readable, has_writable, on_pipe_at, on_signal_at, on_transform_at}
+use Rattle.ws_steps.specs.Slots.{Slots, Done, has_writable, on_pipe_at, on_signal_at, on_transform_at}
 use Rattle.ws_steps.specs.Turns.{row, performed, call_host}
 use Rattle.ws_steps.specs.Jobs.{job_begun, begin_job}
 use Rattle.ws_steps.specs.Calls.{begin, named}
 use Rattle.ws_steps.specs.Run.{Called, Worked, step, run, after_call, after_job, performed_in}
 use Rattle.ws_steps.specs.Laws.{EachAgeCounts}
 use Rattle.ws_laws.proofs.Tables.{either}
+use Rattle.ws_laws.proofs.Rows.{byte-leaves, source-leaves}
 use Rattle.ws_laws.proofs.Begin.{begin-makes}
 use Rattle.ws_laws.proofs.Walker.{untold, performed-goes}
 
@@ -35,7 +36,8 @@ transform-age t operation s (Some x) = refl
 
 row-age : (e : Effect) (s : Slots) → (row e s).slots.age ≡ s.age
 unfolding row call_host
-row-age (Readable i operation) s = either (λ (d : Done). d.slots.age ≡ s.age) (has_readable i s) _ _ (λ e. refl) (λ e. refl)
+row-age (Readable i operation) s = source-leaves (λ z. z.age) (λ z x o. refl) i operation s
+row-age (Byte i operation) s = byte-leaves (λ z. z.age) (λ z x o. refl) i operation s
 row-age (Writable i operation) s = either (λ (d : Done). d.slots.age ≡ s.age) (has_writable i s) _ _ (λ e. refl) (λ e. refl)
 row-age (Pipe p operation) s = pipe-age p operation s (slice_get s.pipes p.0)
 row-age (Signal a operation) s = signal-age a operation s (slice_get s.signals a.0)
@@ -47,6 +49,8 @@ row-age (CloseSteps i (PromiseRequest p)) s = refl
 row-age (ErrorSteps i (PromiseRequest p) e) s = refl
 row-age (ChunkSteps i (PipeRequest p) v) s = refl
 row-age (CloseSteps i (PipeRequest p)) s = refl
+row-age (CloseStepsWith i (PromiseRequest p) b) s = refl
+row-age (CloseStepsWith i (PipeRequest p) b) s = refl
 row-age (ErrorSteps i (PipeRequest p) e) s = refl
 row-age _ s = refl
 
@@ -55,7 +59,7 @@ performed-age d = performed-goes tt (λ f g. tt) untold (λ e s. tt) (λ h s es.
 
 pub begin-age : (c : Call) (s : Slots) → (begin c s).done.slots.age ≡ s.age
 begin-age c s =
-    begin-makes (λ z. z.age ≡ s.age) (record { promise = λ z h. h; locks = λ z ls h. h; hosts = λ z hs h. h; pipe = λ z i j p a q h. h; signal = λ z h. h; transform = λ z k i j p h. h; readable = λ z o m b h. h; writable = λ z o m b h. h }) c s refl
+    begin-makes (λ z. z.age ≡ s.age) (record { promise = λ z h. h; locks = λ z ls h. h; hosts = λ z hs h. h; pipe = λ z i j p a q h. h; signal = λ z h. h; transform = λ z k i j p h. h; readable = λ z o m b h. h; bytes = λ z m a h. h; byob_requests = λ z r h. h; writable = λ z o m b h. h }) c s refl
 
 pub named-age : (reply : Reply) (s : Slots) → (named reply s).age ≡ s.age
 named-age (Promise p) s = refl

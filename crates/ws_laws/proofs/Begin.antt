@@ -5,14 +5,15 @@ use Rattle.ws_value.specs.declared.ids.SignalId.{SignalId}
 use Rattle.ws_value.specs.declared.ids.StreamId.{StreamId}
 use Rattle.ws_value.specs.declared.value.Value.{Value}
 use Rattle.ws_steps.specs.declared.{calls.Call.{Call}, calls.Call.TheVariants.{Enqueue as EnqueueCall}, readable.ReadableOperation.TheVariants.{Enqueue}, effects.Effect.{Effect}}
-use Rattle.ws_steps.specs.declared.{effects.Effect.TheVariants.{Readable, Writable, Pipe, Signal, Transform, StartAlgorithm, Give, Settle, Queue, CallHost}, pipes.Prevent.{Prevent}, locks.Lock.{Lock}, promises.Job.{Job}, readable.SizeBy.{SizeBy}}
+use Rattle.ws_steps.specs.declared.{effects.Effect.TheVariants.{Readable, Byte, Writable, Pipe, Signal, Transform, StartAlgorithm, Give, Settle, Queue, CallHost}, pipes.Prevent.{Prevent}, locks.Lock.{Lock}, promises.Job.{Job}, readable.SizeBy.{SizeBy}}
 use Rattle.ws_steps.specs.declared.writable.WritableOperation.TheVariants.{HandOn}
 use Rattle.ws_steps.specs.Promises.{Table, fresh, is_pending_at}
+use Rattle.ws_steps.specs.Bytes as byte
 use Rattle.ws_steps.specs.Pipes as pipes
 use Rattle.ws_steps.specs.Readable as readable
 use Rattle.ws_steps.specs.Transform as transforms
 use Rattle.ws_steps.specs.Writable as writable
-use Rattle.ws_steps.specs.Slots.{Slots, ReadableStream, WritableStream, with_promises, readable_at}
+use Rattle.ws_steps.specs.Slots.{Slots, ReadableStream, ByteStream, WritableStream, with_promises, source_at}
 use Rattle.ws_steps.specs.Jobs.{job_effects}
 use Rattle.ws_steps.specs.Calls.{Begun, begin, add_stream, with_renewed}
 use Rattle.ws_steps.specs.declared.{calls.HostCall.TheVariants.{Start as HostStart}, effects.Owner.{Owner}, transform.Kind.{Kind}, transform.TransformOperation.TheVariants.{Enqueue as EnqueueByTransform, TransformChunk}}
@@ -30,6 +31,8 @@ pub record Makes (Q : Slots → Type 0) : Type 0 where
   pub transform : (s : Slots) (kind : Kind) (writable readable : StreamId) (change : PromiseId) → Q s
       → Q (record s { transforms = s.transforms ++ transforms.set_up kind writable readable change ∷ [] })
   pub readable : (s : Slots) (owner : Owner) (mark : ℕ) (size : SizeBy) → Q s → Q (add_stream (ReadableStream (readable.set_up owner mark size)) s)
+  pub bytes : (s : Slots) (mark auto : ℕ) → Q s → Q (add_stream (ByteStream (byte.set_up mark auto)) s)
+  pub byob_requests : (s : Slots) (requests : List StreamId) → Q s → Q (record s { byob_requests = requests })
   pub writable : (s : Slots) (owner : Owner) (mark : ℕ) (size : SizeBy) → Q s → Q (add_stream (WritableStream (writable.set_up owner mark size)) s)
 
 module _ (Q : Slots → Type 0) (makes : Makes Q) where
@@ -42,12 +45,20 @@ module _ (Q : Slots → Type 0) (makes : Makes Q) where
     unchanged = λ reply. q;
     rejected = makes.promise s q;
     make_readable = λ mark size start. makes.readable s _ mark size q;
+    make_bytes = λ mark auto start. makes.bytes s mark auto q;
+    get_byob = λ i is e. makes.locks _ _ (makes.promise s q);
+    release_byob = λ l closed i e. makes.locks _ _ (renewed-makes s (readable.is_readable (source_at i s).state) q);
+    read_into = λ l i closed room element least e h. makes.promise s q;
+    enqueue_bytes = λ i b e is some can. q;
+    finish_bytes = λ i e is can. q;
+    make_request = λ i reply is. makes.byob_requests s _ q;
+    respond = λ r i b e is can. q;
     make_writable = λ mark size start. makes.writable s _ mark size q;
     make_transform = λ kind m n start.
         makes.promise _ (makes.promise _ (makes.promise _ (makes.promise _ (makes.transform _ kind _ _ _ (makes.readable _ _ n _ (makes.writable s _ m _ q))))));
     get_reader = λ i e. makes.locks _ _ (makes.promise s q);
     get_writer = λ i e. makes.locks _ _ (makes.promise _ (makes.promise s q));
-    release_reader = λ l closed i e. makes.locks _ _ (renewed-makes s (readable.is_readable (readable_at i s).state) q);
+    release_reader = λ l closed i e. makes.locks _ _ (renewed-makes s (readable.is_readable (source_at i s).state) q);
     release_writer = λ l i w e f.
         let t : Table = with_renewed s.promises (is_pending_at w.ready s.promises) in
         makes.locks _ _ (renewed-makes (with_promises t s) (is_pending_at w.closed t) (renewed-makes s (is_pending_at w.ready s.promises) q));
@@ -74,6 +85,7 @@ module _ (Q : Slots → Type 0) (makes : Makes Q) where
 abbrev pub IsFirst : (StreamId → Value → Type 0) → Effect → Type 0
 IsFirst E (Readable i (Enqueue v)) = E i v
 IsFirst E (Readable i operation) = Unit {0}
+IsFirst E (Byte i operation) = Unit {0}
 IsFirst E (Writable i (HandOn taker)) = ⊥
 IsFirst E (Writable i operation) = Unit {0}
 IsFirst E (StartAlgorithm i step start) = Unit {0}

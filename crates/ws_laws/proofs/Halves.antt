@@ -13,17 +13,18 @@ use Rattle.ws_steps.specs.declared.readable.SizeBy.TheVariants.{Count}
 use Rattle.ws_steps.specs.declared.transform.Kind.{Kind}
 use Rattle.ws_steps.specs.declared.transform.TransformId.{TransformId}
 use Rattle.ws_steps.specs.Promises.{next_id, next_job}
+use Rattle.ws_steps.specs.Bytes as byte
 use Rattle.ws_steps.specs.Readable as readable
 use Rattle.ws_steps.specs.Transform as transform
 use Rattle.ws_steps.specs.Writable as writable
-use Rattle.ws_steps.specs.Slots.{Slots, Stream, ReadableStream, WritableStream, Done, empty}
+use Rattle.ws_steps.specs.Slots.{Slots, Stream, ReadableStream, ByteStream, WritableStream, Done, empty}
 use Rattle.ws_steps.specs.Turns.{row, performed}
 use Rattle.ws_steps.specs.Jobs.{job_begun, begin_job}
 use Rattle.ws_steps.specs.Run.{Entry, Called, Worked, Heard, begun_by, step, run}
 use Rattle.ws_steps.specs.Calls.{Begun, begin, named}
 use Rattle.ws_steps.specs.Calls as calls
 use Rattle.ws_laws.proofs.EachCall.{each_call}
-use Rattle.ws_laws.proofs.Shapes.{StreamShape, ReadableOf, WritableOf, TransformShape, stream_shape, transform_shape, stream_shapes, transform_shapes, row-stream_shapes, row-transform_shapes}
+use Rattle.ws_laws.proofs.Shapes.{StreamShape, ReadableOf, BytesOf, WritableOf, TransformShape, stream_shape, transform_shape, stream_shapes, transform_shapes, row-stream_shapes, row-transform_shapes}
 use Rattle.ws_laws.proofs.Walker.{Stays, untold, performed-goes, run-stays}
 
 -- lists that grow
@@ -81,6 +82,13 @@ host-writable xs ts a = record {
   readable = λ i t is. ⊎_elim (λ old. a.readable i t old) (λ new. cc) (get-either xs (WritableOf Host) i.0 (ReadableOf (HalfOf t)) is);
   writable = λ i t is. ⊎_elim (λ old. a.writable i t old) (λ new. cc) (get-either xs (WritableOf Host) i.0 (WritableOf (HalfOf t)) is);
   halves = λ t x is. (get-stays xs (WritableOf Host ∷ []) x.readable.0 _ (a.halves t x is).0, get-stays xs (WritableOf Host ∷ []) x.writable.0 _ (a.halves t x is).1);
+}
+
+host-bytes : (xs : List StreamShape) (ts : List TransformShape) → AreHalves xs ts → AreHalves (xs ++ BytesOf ∷ []) ts
+host-bytes xs ts a = record {
+  readable = λ i t is. ⊎_elim (λ old. a.readable i t old) (λ new. cc) (get-either xs BytesOf i.0 (ReadableOf (HalfOf t)) is);
+  writable = λ i t is. ⊎_elim (λ old. a.writable i t old) (λ new. cc) (get-either xs BytesOf i.0 (WritableOf (HalfOf t)) is);
+  halves = λ t x is. (get-stays xs (BytesOf ∷ []) x.readable.0 _ (a.halves t x is).0, get-stays xs (BytesOf ∷ []) x.writable.0 _ (a.halves t x is).1);
 }
 
 -- and a transform stream
@@ -172,6 +180,14 @@ call-halved c s h = each_call (λ (b : Begun). Halved b.done.slots) c s (record 
   unchanged = λ reply. h;
   rejected = h;
   make_readable = λ mark size start. rw (map-append stream_shape s.streams (ReadableStream (readable.set_up Host mark size) ∷ [])) (host-readable (stream_shapes s) (transform_shapes s) h);
+  make_bytes = λ mark auto start. rw (map-append stream_shape s.streams (ByteStream (byte.set_up mark auto) ∷ [])) (host-bytes (stream_shapes s) (transform_shapes s) h);
+  get_byob = λ i is e. h;
+  release_byob = λ l closed i e. h;
+  read_into = λ l i closed room element least e f. h;
+  enqueue_bytes = λ i b e is some can. h;
+  finish_bytes = λ i e is can. h;
+  make_request = λ i reply is. h;
+  respond = λ q i b e is can. h;
   make_writable = λ mark size start. rw (map-append stream_shape s.streams (WritableStream (writable.set_up Host mark size) ∷ [])) (host-writable (stream_shapes s) (transform_shapes s) h);
   make_transform = λ kind m n start. transform-made kind m n start s h;
   get_reader = λ i e. h;
@@ -223,6 +239,14 @@ call-among c s = each_call (λ (b : Begun). Among (transform_shapes s) (transfor
   unchanged = λ reply t x h. h;
   rejected = λ t x h. h;
   make_readable = λ mark size start t x h. h;
+  make_bytes = λ mark auto start t x h. h;
+  get_byob = λ i is e t x h. h;
+  release_byob = λ l closed i e t x h. h;
+  read_into = λ l i closed room element least e f t x h. h;
+  enqueue_bytes = λ i b e is some can t x h. h;
+  finish_bytes = λ i e is can t x h. h;
+  make_request = λ i reply is t x h. h;
+  respond = λ q i b e is can t x h. h;
   make_writable = λ mark size start t x h. h;
   make_transform = λ kind m n start t x h. rw (map-append transform_shape s.transforms) (get-stays (transform_shapes s) _ t.0 x h);
   get_reader = λ i e t x h. h;

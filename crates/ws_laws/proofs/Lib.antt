@@ -6,6 +6,8 @@ pub mod Outcomes
 pub mod Straight
 pub mod Weights
 pub mod ReadableDoes
+pub mod ByteDoes
+pub mod ByteHands
 pub mod WritableDoes
 pub mod PipeDoes
 pub mod TransformDoes
@@ -16,6 +18,7 @@ pub mod Walker
 pub mod OnReadable
 pub mod Order
 pub mod Shapes
+pub mod StaysBytes
 pub mod Halves
 pub mod Stays
 pub mod Watched

@@ -6,22 +6,24 @@ use Rattle.ws_value.specs.declared.ids.SignalId.{SignalId}
 use Rattle.ws_value.specs.declared.ids.StreamId.{StreamId}
 use Rattle.ws_value.specs.declared.value.Value.{Value}
 use Rattle.ws_steps.specs.declared.{calls.Call.{Call}, effects.Effect.{Effect}}
-use Rattle.ws_steps.specs.declared.effects.Effect.TheVariants.{Readable, Writable, Pipe, Signal, Transform, StartAlgorithm, PullAlgorithm, CancelAlgorithm, WriteAlgorithm, CloseAlgorithm, AbortAlgorithm, ChunkSteps, CloseSteps, ErrorSteps}
+use Rattle.ws_steps.specs.declared.effects.Effect.TheVariants.{Readable, Byte, Writable, Pipe, Signal, Transform, StartAlgorithm, PullAlgorithm, CancelAlgorithm, WriteAlgorithm, CloseAlgorithm, AbortAlgorithm, ChunkSteps, CloseSteps, CloseStepsWith, ErrorSteps}
 use Rattle.ws_steps.specs.declared.{effects.Owner.{Owner}, locks.Lock.{Lock}, promises.Job.{Job}, readable.ReadRequest.{ReadRequest}, readable.ReadRequest.TheVariants.{Promise, Pipe as PipeRequest}}
 use Rattle.ws_steps.specs.declared.{pipes.PipeOperation.{PipeOperation}, pipes.PipeOperation.TheVariants.{KeepChunk, ReadEnded, PartSettled, NoParts}, pipes.SignalOperation.{SignalOperation}}
 use Rattle.ws_steps.specs.declared.{readable.ReadableOperation.{ReadableOperation}, readable.SizeBy.{SizeBy}, transform.TransformId.{TransformId}, transform.TransformOperation.{TransformOperation}}
-use Rattle.ws_steps.specs.Operations.{readable_operation, writable_operation, pipe_operation, signal_operation, transform_operation}
+use Rattle.ws_steps.specs.Operations.{readable_operation, byte_readable_operation, byte_operation, writable_operation, pipe_operation, signal_operation, transform_operation}
+use Rattle.ws_steps.specs.declared.byte.ByteOperation.{ByteOperation}
+use Rattle.ws_steps.specs.Bytes as byte
 use Rattle.ws_steps.specs.Pipes as piping
 use Rattle.ws_steps.specs.Readable as readable
 use Rattle.ws_steps.specs.Transform as transforms
 use Rattle.ws_steps.specs.Writable as writable
-use Rattle.ws_steps.specs.Slots.{Slots, Stream, ReadableStream, WritableStream, Done, found, ends_at, halves_at, on_pipe_at, on_signal_at, on_transform_at, on_readable, has_readable, is_readable_stream, readable_at, as_readable, no_readable, empty}
-use Rattle.ws_steps.specs.Turns.{row}
+use Rattle.ws_steps.specs.Slots.{Slots, Stream, ReadableStream, ByteStream, WritableStream, Done, has_byte, is_byte_stream, on_byte, found, ends_at, halves_at, on_pipe_at, on_signal_at, on_transform_at, on_readable, has_readable, is_readable_stream, readable_at, as_readable, no_readable, empty}
+use Rattle.ws_steps.specs.Turns.{row, on_source}
 use Rattle.ws_steps.specs.Jobs.{job_effects}
 use Rattle.ws_steps.specs.Calls.{begin}
 use Rattle.ws_steps.specs.Run.{Entry, step, run, after_event}
 use Rattle.ws_steps.specs.Histories.{is_same, in_step, over}
-use Rattle.ws_laws.proofs.Tables.{same_id, eq_numbers, unequal_numbers, readable_acts, on_readable-same, on_readable-other, on_writable-there, on_writable-readable, no_readable_there, no_stream, place_last, place_before}
+use Rattle.ws_laws.proofs.Tables.{same_id, eq_numbers, unequal_numbers, readable_acts, on_readable-same, on_writable-there, on_writable-readable, on_writable-byte, on_source-byte, on_source-readable, on_source-other, on_byte-same, on_byte-other, no_readable_there, no_stream, place_last, place_before}
 use Rattle.ws_laws.proofs.Lists.{Each}
 use Rattle.ws_laws.proofs.Rows.{Causes, ChunkCauses, EndCauses, IsNoPipe, row-causes, row-locks, row-pipes, row-streams}
 use Rattle.ws_laws.proofs.Begin.{begin-makes}
@@ -76,22 +78,29 @@ abbrev pub IsNoTransform : Effect → Type 0
 IsNoTransform (Transform t operation) = ⊥
 IsNoTransform _ = Unit {0}
 
-foreign-causes : (i : StreamId) (e : Effect) → IsNoPipe e → IsNoTransform e → IsForeign i e → Causes (IsForeign i) e
-foreign-causes i (Readable j operation) n m f = record { pull = tt; cancel = λ r p. tt; chunk = λ r v. f; close = λ r. f; error = λ r e. f }
-foreign-causes i (Writable j operation) n m f = record { write = tt; close = tt; abort = λ r p. tt; hand_on = λ v. tt; take = λ v t d. tt }
-foreign-causes i (StartAlgorithm j step start) n m f = (λ g u. tt, λ c u. tt)
-foreign-causes i (PullAlgorithm j) n m f = (λ c u. tt, λ t u. tt)
-foreign-causes i (CancelAlgorithm j r p) n m f = (λ c u. tt, λ t u. tt)
-foreign-causes i (WriteAlgorithm j) n m f = (tt, λ t u. tt)
-foreign-causes i (CloseAlgorithm j) n m f = (λ c u. tt, λ t u. tt)
-foreign-causes i (AbortAlgorithm j r p) n m f = (λ c u. tt, λ t u. tt)
-foreign-causes i (Pipe p operation) n m f = absurd n
-foreign-causes i (Transform t operation) n m f = absurd m
-foreign-causes i (Signal a operation) n m f = absurd f
-foreign-causes i (ChunkSteps j request v) n m f = chunk-foreign i v request
-foreign-causes i (CloseSteps j request) n m f = end-foreign i request
-foreign-causes i (ErrorSteps j request e) n m f = end-foreign i request
-foreign-causes i _ n m f = tt
+-- an operation of a byte controller causes what is foreign, where it isn't that of stream i
+abbrev pub IsElsewhere : StreamId → Effect → Type 0
+IsElsewhere i (Byte j operation) = is_same i j ≡ false
+IsElsewhere i _ = Unit {0}
+
+foreign-causes : (i : StreamId) (e : Effect) → IsNoPipe e → IsNoTransform e → IsElsewhere i e → IsForeign i e → Causes (IsForeign i) e
+foreign-causes i (Readable j operation) n m b f = record { pull = tt; cancel = λ r p. tt; chunk = λ r v. f; close = λ r. f; error = λ r e. f }
+foreign-causes i (Byte j operation) n m b f = record { readable = record { pull = tt; cancel = λ r p. tt; chunk = λ r v. b; close = λ r. b; error = λ r e. b }; close_with = λ r c. tt }
+foreign-causes i (CloseStepsWith j request c) n m b f = end-foreign i request
+foreign-causes i (Writable j operation) n m b f = record { write = tt; close = tt; abort = λ r p. tt; hand_on = λ v. tt; take = λ v t d. tt }
+foreign-causes i (StartAlgorithm j step start) n m b f = (λ g u. tt, λ c u. tt)
+foreign-causes i (PullAlgorithm j) n m b f = (λ c u. tt, λ t u. tt)
+foreign-causes i (CancelAlgorithm j r p) n m b f = (λ c u. tt, λ t u. tt)
+foreign-causes i (WriteAlgorithm j) n m b f = (tt, λ t u. tt)
+foreign-causes i (CloseAlgorithm j) n m b f = (λ c u. tt, λ t u. tt)
+foreign-causes i (AbortAlgorithm j r p) n m b f = (λ c u. tt, λ t u. tt)
+foreign-causes i (Pipe p operation) n m b f = absurd n
+foreign-causes i (Transform t operation) n m b f = absurd m
+foreign-causes i (Signal a operation) n m b f = absurd f
+foreign-causes i (ChunkSteps j request v) n m b f = chunk-foreign i v request
+foreign-causes i (CloseSteps j request) n m b f = end-foreign i request
+foreign-causes i (ErrorSteps j request e) n m b f = end-foreign i request
+foreign-causes i _ n m b f = tt
 
 steps-foreign : (i : StreamId) (e : Effect) → AreSteps i e → Causes (IsForeign i) e
 steps-foreign i (ChunkSteps j request v) are = chunk-foreign i v request
@@ -122,11 +131,11 @@ piped p operation s x = pipe_operation p (ends_at x s) operation (record { slots
 abbrev pub transformed : TransformId → TransformOperation → Slots → transforms.Slots → transforms.Acts
 transformed t operation s x = transform_operation t (halves_at x s) operation (record { slots = x; out = found s })
 
--- K and M at a moment
+-- K and M at a moment, where stream i has no byte controller
 pub record Kept {H V : Type 0} (seen : Effect → List V) (i : StreamId) (K : H → Holders → readable.Slots → List V → Type 0) (M : H → Holders → Type 0)
     (h : H) (o : Holders) (streams : List Stream) (es : List Effect) : Type 0 where
-  pub unmade : is_readable_stream (slice_get streams i.0) ≡ false → M h o
-  pub held : K h o (as_readable (slice_get streams i.0)) (all_seen seen es)
+  pub unmade : is_byte_stream (slice_get streams i.0) ≡ false → is_readable_stream (slice_get streams i.0) ≡ false → M h o
+  pub held : is_byte_stream (slice_get streams i.0) ≡ false → K h o (as_readable (slice_get streams i.0)) (all_seen seen es)
 
 -- what is to be shown of K, which is to hold of what has happened to stream i, of who may hold streams, of its record, and of what is seen
 -- of the effects that still stand; of M, which is to hold of what has happened and of the holders where there is no such stream; and of P,
@@ -138,7 +147,7 @@ pub record IsLaw {H V : Type 0} (none : H) (after : H → H → H) (told : Effec
   pub untold : (e : Effect) (s : Slots) → IsForeign i e → told e s ≡ none
   pub operation : (operation : ReadableOperation) (s : Slots) (h : H) (vs : List V) → has_readable i s ≡ true → K h (holders s) (readable_at i s) (seen (Readable i operation) ++ vs)
       → let a : readable.Acts = readable_operation i operation (readable_acts i s) in K (after h (told (Readable i operation) s)) (holders s) a.slots (all_seen seen a.out.effects ++ vs)
-  pub idle : (operation : ReadableOperation) (s : Slots) → has_readable i s ≡ false → told (Readable i operation) s ≡ none
+  pub idle : (operation : ReadableOperation) (s : Slots) → has_byte i s ≡ false → has_readable i s ≡ false → told (Readable i operation) s ≡ none
   pub absent : (operation : ReadableOperation) (h : H) (o : Holders) (vs : List V) → K h o no_readable (seen (Readable i operation) ++ vs) → K h o no_readable vs
   pub steps : (e : Effect) → AreSteps i e → (s : Slots) (h : H) (o : Holders) (r : readable.Slots) (vs : List V) → K h o r (seen e ++ vs) → K (after h (told e s)) o r vs
   pub steps_unmade : (e : Effect) → AreSteps i e → (s : Slots) (h : H) (o : Holders) → M h o → M (after h (told e s)) o
@@ -176,93 +185,132 @@ module _ {H V : Type 0} (none : H) (after : H → H → H) (told : Effect → Sl
   none_seen [] f = refl
   none_seen (e ∷ es) f = rw (law.unseen e f.0, none_seen es f.1) refl
 
-  foreign : (h : H) (s : Slots) (e : Effect) (es : List Effect) → IsNoPipe e → IsNoTransform e → IsForeign i e → has_readable i (row e s).slots ≡ has_readable i s
-      → readable_at i (row e s).slots ≡ readable_at i s → Is h s (e ∷ es) → Is (after h (told e s)) (row e s).slots ((row e s).caused ++ es)
-  foreign h s e es n m f there same k =
-      let caused = none_seen (row e s).caused (row-causes (IsForeign i) e s (foreign-causes i e n m f)) in
-      let held : K h (holders s) (readable_at i s) (all_seen seen es) = rw (law.unseen e f) at k.held in
+  foreign : (h : H) (s : Slots) (e : Effect) (es : List Effect) → IsNoPipe e → IsNoTransform e → IsElsewhere i e → IsForeign i e → has_byte i (row e s).slots ≡ has_byte i s
+      → has_readable i (row e s).slots ≡ has_readable i s → readable_at i (row e s).slots ≡ readable_at i s → Is h s (e ∷ es)
+      → Is (after h (told e s)) (row e s).slots ((row e s).caused ++ es)
+  foreign h s e es n m b f kind there same k =
+      let caused = none_seen (row e s).caused (row-causes (IsForeign i) e s (foreign-causes i e n m b f)) in
       rw (law.untold e s f, law.history.right h, row-locks e s, row-pipes e s n)
-      (record { unmade = λ n. k.unmade (sym there ∙ n); held = rw (same, all_seen-append seen (row e s).caused es, caused) held })
+      (record {
+        unmade = λ c n. k.unmade (sym kind ∙ c) (sym there ∙ n);
+        held = λ c.
+            let held : K h (holders s) (readable_at i s) (all_seen seen es) = rw (law.unseen e f) at k.held (sym kind ∙ c) in
+            rw (same, all_seen-append seen (row e s).caused es, caused) held;
+      })
 
-  here : (operation : ReadableOperation) (h : H) (s : Slots) (es : List Effect) (there : Bool) → there ≡ has_readable i s → Is h s (Readable i operation ∷ es)
+  here : (operation : ReadableOperation) (h : H) (s : Slots) (es : List Effect) (there : Bool) → there ≡ has_readable i s → has_byte i s ≡ false → Is h s (Readable i operation ∷ es)
       → let d : Done = on_readable (readable_operation i operation) i s in Is (after h (told (Readable i operation) s)) d.slots (d.caused ++ es)
-  here operation h s es true e k =
+  here operation h s es true e c k =
       let now = on_readable-same (readable_operation i operation) i s (sym e) in
       let out : readable.Acts = readable_operation i operation (readable_acts i s) in
       record {
-        unmade = λ n. let none : is_readable_stream (Some (ReadableStream out.slots)) ≡ false = rw now at n in cc;
-        held = rw (now, sym e, all_seen-append seen out.out.effects es) (law.operation operation s h (all_seen seen es) (sym e) k.held);
+        unmade = λ b n. let none : is_readable_stream (Some (ReadableStream out.slots)) ≡ false = rw now at n in cc;
+        held = λ b. rw (now, sym e, all_seen-append seen out.out.effects es) (law.operation operation s h (all_seen seen es) (sym e) (k.held c));
       }
-  here operation h s es false e k =
+  here operation h s es false e c k =
       let absent : readable_at i s ≡ no_readable = no_readable_there (slice_get s.streams i.0) (sym e) in
-      rw (law.idle operation s (sym e), law.history.right h, sym e)
-      (record { unmade = k.unmade; held = rw absent (law.absent operation h (holders s) (all_seen seen es) (rw absent at k.held)) })
+      rw (law.idle operation s c (sym e), law.history.right h, sym e)
+      (record { unmade = k.unmade; held = λ b. rw absent (law.absent operation h (holders s) (all_seen seen es) (rw absent at k.held c)) })
+
+  -- of a stream with a byte controller nothing is said
+  spared : (h : H) (s : Slots) (es : List Effect) → has_byte i s ≡ true → Is h s es
+  spared h s es is = record { unmade = λ c n. cc; held = λ c. cc }
+
+  by_kind : (operation : ReadableOperation) (h : H) (s : Slots) (es : List Effect) (kind : Bool) → kind ≡ has_byte i s → Is h s (Readable i operation ∷ es)
+      → let d : Done = on_source operation i s in Is (after h (told (Readable i operation) s)) d.slots (d.caused ++ es)
+  by_kind operation h s es true e k =
+      rw (on_source-byte operation i s (sym e))
+      (spared _ (on_byte (byte_readable_operation i operation) i s).slots _ (ap is_byte_stream (on_byte-same (byte_readable_operation i operation) i s (sym e))))
+  by_kind operation h s es false e k = rw (on_source-readable operation i s (sym e)) (here operation h s es (has_readable i s) refl (sym e) k)
 
   by_place : (j : StreamId) (operation : ReadableOperation) (h : H) (s : Slots) (es : List Effect) (same : Bool) → same ≡ is_same i j → Is h s (Readable j operation ∷ es)
       → Is (after h (told (Readable j operation) s)) (row (Readable j operation) s).slots ((row (Readable j operation) s).caused ++ es)
   unfolding row
   by_place j operation h s es false e k =
-      let other = on_readable-other (readable_operation j operation) j s i (sym e) in
-      foreign h s (Readable j operation) es tt tt (sym e) (ap is_readable_stream other) (ap as_readable other) k
+      let other = on_source-other operation j s i (sym e) in
+      foreign h s (Readable j operation) es tt tt tt (sym e) (ap is_byte_stream other) (ap is_readable_stream other) (ap as_readable other) k
   by_place j operation h s es true e k =
       let is : j ≡ i = sym (same_id i j (sym e)) in
-      rw is (here operation h s es (has_readable i s) refl (rw is at k))
+      rw is (by_kind operation h s es (has_byte i s) refl (rw is at k))
 
-  by_steps : (e : Effect) (h : H) (s : Slots) (es : List Effect) (same : Bool) → IsNoPipe e → IsNoTransform e → (same ≡ true → AreSteps i e) → (same ≡ false → IsForeign i e) → (row e s).slots.streams ≡ s.streams
-      → Is h s (e ∷ es) → Is (after h (told e s)) (row e s).slots ((row e s).caused ++ es)
-  by_steps e h s es false n m here there same k =
-      foreign h s e es n m (there refl) (ap (λ (streams : List Stream). is_readable_stream (slice_get streams i.0)) same) (ap (λ (streams : List Stream). as_readable (slice_get streams i.0)) same) k
-  by_steps e h s es true n m here there same k =
+  -- an operation of the byte controller of stream i, where it has one
+  by_own : (operation : ByteOperation) (h : H) (s : Slots) (es : List Effect) (kind : Bool) → kind ≡ has_byte i s → Is h s (Byte i operation ∷ es)
+      → let d : Done = on_byte (byte_operation i operation) i s in Is (after h (told (Byte i operation) s)) d.slots (d.caused ++ es)
+  by_own operation h s es true e k =
+      spared _ (on_byte (byte_operation i operation) i s).slots _ (ap is_byte_stream (on_byte-same (byte_operation i operation) i s (sym e)))
+  by_own operation h s es false e k =
+      rw (law.untold (Byte i operation) s tt, law.history.right h, sym e)
+      (record { unmade = k.unmade; held = λ c. rw (law.unseen (Byte i operation) tt) at k.held c })
+
+  by_byte : (j : StreamId) (operation : ByteOperation) (h : H) (s : Slots) (es : List Effect) (same : Bool) → same ≡ is_same i j → Is h s (Byte j operation ∷ es)
+      → Is (after h (told (Byte j operation) s)) (row (Byte j operation) s).slots ((row (Byte j operation) s).caused ++ es)
+  unfolding row
+  by_byte j operation h s es false e k =
+      let other = on_byte-other (byte_operation j operation) j s i (sym e) in
+      foreign h s (Byte j operation) es tt tt (sym e) tt (ap is_byte_stream other) (ap is_readable_stream other) (ap as_readable other) k
+  by_byte j operation h s es true e k =
+      let is : j ≡ i = sym (same_id i j (sym e)) in
+      rw is (by_own operation h s es (has_byte i s) refl (rw is at k))
+
+  by_steps : (e : Effect) (h : H) (s : Slots) (es : List Effect) (same : Bool) → IsNoPipe e → IsNoTransform e → IsElsewhere i e → (same ≡ true → AreSteps i e) → (same ≡ false → IsForeign i e)
+      → (row e s).slots.streams ≡ s.streams → Is h s (e ∷ es) → Is (after h (told e s)) (row e s).slots ((row e s).caused ++ es)
+  by_steps e h s es false n m b here there same k =
+      foreign h s e es n m b (there refl) (ap (λ (streams : List Stream). is_byte_stream (slice_get streams i.0)) same) (ap (λ (streams : List Stream). is_readable_stream (slice_get streams i.0)) same)
+      (ap (λ (streams : List Stream). as_readable (slice_get streams i.0)) same) k
+  by_steps e h s es true n m b here there same k =
       let caused = none_seen (row e s).caused (row-causes (IsForeign i) e s (steps-foreign i e (here refl))) in
       rw (row-locks e s, row-pipes e s n) (record {
-        unmade = λ n. law.steps_unmade e (here refl) s h (holders s) (k.unmade (rw (← same) n));
-        held = rw (same, all_seen-append seen (row e s).caused es, caused) (law.steps e (here refl) s h (holders s) (readable_at i s) (all_seen seen es) k.held);
+        unmade = λ c n. law.steps_unmade e (here refl) s h (holders s) (k.unmade (rw (← same) c) (rw (← same) n));
+        held = λ c. rw (same, all_seen-append seen (row e s).caused es, caused) (law.steps e (here refl) s h (holders s) (readable_at i s) (all_seen seen es) (k.held (rw (← same) c)));
       })
 
   pipe_place : (p : PipeId) (operation : PipeOperation) (h : H) (s : Slots) (es : List Effect) (o : Option piping.Slots) → slice_get s.pipes p.0 ≡ o → P s (Pipe p operation ∷ es) → Is h s (Pipe p operation ∷ es)
       → let d : Done = on_pipe_at (λ ends. pipe_operation p ends operation) p s o in Is h d.slots (d.caused ++ es)
-  pipe_place p operation h s es None e known k = record { unmade = k.unmade; held = law.no_pipe p operation h (holders s) (readable_at i s) (all_seen seen es) k.held }
+  pipe_place p operation h s es None e known k = record { unmade = k.unmade; held = λ c. law.no_pipe p operation h (holders s) (readable_at i s) (all_seen seen es) (k.held c) }
   pipe_place p operation h s es (Some x) e known k = record {
-    unmade = λ n. law.pipe_unmade p operation s x e h (k.unmade n);
-    held = rw (all_seen-append seen (piped p operation s x).out.effects es) (law.pipe p operation s x es known e h k.held);
+    unmade = λ c n. law.pipe_unmade p operation s x e h (k.unmade c n);
+    held = λ c. rw (all_seen-append seen (piped p operation s x).out.effects es) (law.pipe p operation s x es known e h (k.held c));
   }
 
   signal_place : (a : SignalId) (operation : SignalOperation) (h : H) (s : Slots) (es : List Effect) (o : Option piping.Signal) → Is h s (Signal a operation ∷ es)
       → let d : Done = on_signal_at (signal_operation operation) a s o in Is h d.slots (d.caused ++ es)
-  signal_place a operation h s es None k = record { unmade = k.unmade; held = law.no_signal a operation h (holders s) (readable_at i s) (all_seen seen es) k.held }
+  signal_place a operation h s es None k = record { unmade = k.unmade; held = λ c. law.no_signal a operation h (holders s) (readable_at i s) (all_seen seen es) (k.held c) }
   signal_place a operation h s es (Some x) k = record {
     unmade = k.unmade;
-    held = rw (all_seen-append seen (signal_operation operation x).effects es) (law.signal a operation x h (holders s) (readable_at i s) (all_seen seen es) k.held);
+    held = λ c. rw (all_seen-append seen (signal_operation operation x).effects es) (law.signal a operation x h (holders s) (readable_at i s) (all_seen seen es) (k.held c));
   }
 
   transform_place : (t : TransformId) (operation : TransformOperation) (h : H) (s : Slots) (es : List Effect) (o : Option transforms.Slots) → slice_get s.transforms t.0 ≡ o
       → P s (Transform t operation ∷ es) → Is h s (Transform t operation ∷ es)
       → let d : Done = on_transform_at (λ halves. transform_operation t halves operation) t s o in Is h d.slots (d.caused ++ es)
-  transform_place t operation h s es None e known k = record { unmade = k.unmade; held = rw (law.unseen (Transform t operation) tt) at k.held }
+  transform_place t operation h s es None e known k = record { unmade = k.unmade; held = λ c. rw (law.unseen (Transform t operation) tt) at k.held c }
   transform_place t operation h s es (Some x) e known k = record {
     unmade = k.unmade;
-    held = rw (all_seen-append seen (transformed t operation s x).out.effects es) (law.transform t operation s x es known e h (rw (law.unseen (Transform t operation) tt) at k.held));
+    held = λ c. rw (all_seen-append seen (transformed t operation s x).out.effects es) (law.transform t operation s x es known e h (rw (law.unseen (Transform t operation) tt) at k.held c));
   }
 
   row-kept : (h : H) (s : Slots) (e : Effect) (es : List Effect) → P s (e ∷ es) → Is h s (e ∷ es) → Is (after h (told e s)) (row e s).slots ((row e s).caused ++ es)
   unfolding row
   row-kept h s (Readable j operation) es known k = by_place j operation h s es (is_same i j) refl k
+  row-kept h s (Byte j operation) es known k = by_byte j operation h s es (is_same i j) refl k
   row-kept h s (Writable j operation) es known k =
-      foreign h s (Writable j operation) es tt tt tt (on_writable-there (writable_operation j operation) j s i (is_same i j) refl) (on_writable-readable (writable_operation j operation) j s i (is_same i j) refl) k
-  row-kept h s (ChunkSteps j request v) es known k = by_steps (ChunkSteps j request v) h s es (is_same i j) tt tt (λ e. e) (λ e. e) (row-streams (ChunkSteps j request v) s tt) k
-  row-kept h s (CloseSteps j request) es known k = by_steps (CloseSteps j request) h s es (is_same i j) tt tt (λ e. e) (λ e. e) (row-streams (CloseSteps j request) s tt) k
-  row-kept h s (ErrorSteps j request r) es known k = by_steps (ErrorSteps j request r) h s es (is_same i j) tt tt (λ e. e) (λ e. e) (row-streams (ErrorSteps j request r) s tt) k
+      foreign h s (Writable j operation) es tt tt tt tt (on_writable-byte (writable_operation j operation) j s i)
+      (on_writable-there (writable_operation j operation) j s i (is_same i j) refl) (on_writable-readable (writable_operation j operation) j s i (is_same i j) refl) k
+  row-kept h s (ChunkSteps j request v) es known k = by_steps (ChunkSteps j request v) h s es (is_same i j) tt tt tt (λ e. e) (λ e. e) (row-streams (ChunkSteps j request v) s tt) k
+  row-kept h s (CloseSteps j request) es known k = by_steps (CloseSteps j request) h s es (is_same i j) tt tt tt (λ e. e) (λ e. e) (row-streams (CloseSteps j request) s tt) k
+  row-kept h s (ErrorSteps j request r) es known k = by_steps (ErrorSteps j request r) h s es (is_same i j) tt tt tt (λ e. e) (λ e. e) (row-streams (ErrorSteps j request r) s tt) k
   row-kept h s (Pipe p operation) es known k = rw (law.pipe_untold p operation s, law.history.right h) (pipe_place p operation h s es (slice_get s.pipes p.0) refl known k)
   row-kept h s (Signal a operation) es known k = rw (law.signal_untold a operation s, law.history.right h) (signal_place a operation h s es (slice_get s.signals a.0) k)
   row-kept h s (Transform t operation) es known k =
       rw (law.untold (Transform t operation) s tt, law.history.right h) (transform_place t operation h s es (slice_get s.transforms t.0) refl known k)
   row-kept h s e es known k =
       let same = row-streams e s tt in
-      foreign h s e es tt tt tt (ap (λ (streams : List Stream). is_readable_stream (slice_get streams i.0)) same) (ap (λ (streams : List Stream). as_readable (slice_get streams i.0)) same) k
+      foreign h s e es tt tt tt tt (ap (λ (streams : List Stream). is_byte_stream (slice_get streams i.0)) same) (ap (λ (streams : List Stream). is_readable_stream (slice_get streams i.0)) same)
+      (ap (λ (streams : List Stream). as_readable (slice_get streams i.0)) same) k
 
   -- a new stream
   appended : (x : Stream) (h : H) (o : Holders) (s : Slots) (here : Bool) → here ≡ nat_eq i.0 (length s.streams) → Kept seen i K M h o s.streams []
-      → (M h o → K h o no_readable [] → K h o (as_readable (Some x)) []) → Kept seen i K M h o (s.streams ++ x ∷ []) []
+      → (is_byte_stream (Some x) ≡ false → M h o → K h o no_readable [] → K h o (as_readable (Some x)) []) → Kept seen i K M h o (s.streams ++ x ∷ []) []
   appended x h o s false n k made =
       let before = place_before s.streams x i.0 (unequal_numbers i.0 (length s.streams) (sym n)) in
       record { unmade = rw before k.unmade; held = rw before k.held }
@@ -271,7 +319,8 @@ module _ {H V : Type 0} (none : H) (after : H → H → H) (told : Effect → Sl
       let before = no_stream i s.streams is in
       let now : slice_get (s.streams ++ x ∷ []) i.0 ≡ Some x = rw is (place_last s.streams x) in
       let none : is_readable_stream (slice_get s.streams i.0) ≡ false = rw before refl in
-      record { unmade = λ f. k.unmade none; held = rw now (made (k.unmade none) (rw before at k.held)) }
+      let no : is_byte_stream (slice_get s.streams i.0) ≡ false = rw before refl in
+      record { unmade = λ c f. k.unmade no none; held = λ c. rw now (made (rw now at c) (k.unmade no none) (rw before at (k.held no))) }
 
   -- and what is known beside it
   abbrev All : H → Slots → List Effect → Type 0
@@ -288,12 +337,14 @@ module _ {H V : Type 0} (none : H) (after : H → H → H) (told : Effect → Sl
         pipe = λ z source dest prevent signal promise k. k;
         signal = λ z k. k;
         transform = λ z kind writable readable change k. k;
-        readable = λ z owner mark size k. appended (ReadableStream (readable.set_up owner mark size)) h (holders s) z (nat_eq i.0 (length z.streams)) refl k (law.made owner mark size h (holders s));
-        writable = λ z owner mark size k. appended (WritableStream (writable.set_up owner mark size)) h (holders s) z (nat_eq i.0 (length z.streams)) refl k (λ m k. k);
+        readable = λ z owner mark size k. appended (ReadableStream (readable.set_up owner mark size)) h (holders s) z (nat_eq i.0 (length z.streams)) refl k (λ c. law.made owner mark size h (holders s));
+        bytes = λ z mark auto k. appended (ByteStream (byte.set_up mark auto)) h (holders s) z (nat_eq i.0 (length z.streams)) refl k (λ c. cc);
+        byob_requests = λ z r k. k;
+        writable = λ z owner mark size k. appended (WritableStream (writable.set_up owner mark size)) h (holders s) z (nat_eq i.0 (length z.streams)) refl k (λ c m k. k);
       }) c s k.0),
       law.known.call s c k.1,
     );
-    job = λ h s job e k. (record { unmade = k.0.unmade; held = law.job job h (holders s) _ k.0.held }, law.known.job s job e k.1);
+    job = λ h s job e k. (record { unmade = k.0.unmade; held = λ c. law.job job h (holders s) _ (k.0.held c) }, law.known.job s job e k.1);
     answered = λ h s p k. (k.0, law.known.answered s p k.1);
     older = λ h s k. (k.0, law.known.older s k.1);
   }
@@ -305,7 +356,7 @@ module _ {H V : Type 0} (none : H) (after : H → H → H) (told : Effect → Sl
   step-kept h s x known k = (step-goes_untold none after law.history told All goes rests h s x (k, known)).0
 
   pub run-kept : (xs : List Entry) → Is (over none after (in_step none after told) xs empty) (run xs empty) []
-  run-kept xs = (run-holds none after law.history told All goes rests xs empty (record { unmade = λ e. law.unmade; held = law.empty }, law.known_first)).0
+  run-kept xs = (run-holds none after law.history told All goes rests xs empty (record { unmade = λ c e. law.unmade; held = λ c. law.empty }, law.known_first)).0
 
 -- where nothing is known beside
 abbrev pub Nothing : Slots → List Effect → Type 0

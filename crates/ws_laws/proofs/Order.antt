@@ -6,7 +6,7 @@ use Rattle.ws_value.specs.declared.ids.StreamId.{StreamId}
 use Rattle.ws_value.specs.declared.value.Value.{Value}
 use Rattle.ws_steps.specs.declared.calls.Call.{Call}
 use Rattle.ws_steps.specs.declared.effects.Effect.{Effect}
-use Rattle.ws_steps.specs.declared.effects.Effect.TheVariants.{Readable, Writable, Pipe, Signal, Transform, StartAlgorithm, PullAlgorithm, CancelAlgorithm, WriteAlgorithm, CloseAlgorithm, AbortAlgorithm, ChunkSteps, CloseSteps, ErrorSteps}
+use Rattle.ws_steps.specs.declared.effects.Effect.TheVariants.{Readable, Byte, Writable, Pipe, Signal, Transform, StartAlgorithm, PullAlgorithm, CancelAlgorithm, WriteAlgorithm, CloseAlgorithm, AbortAlgorithm, ChunkSteps, CloseSteps, CloseStepsWith, ErrorSteps}
 use Rattle.ws_steps.specs.declared.pipes.PipeOperation.{PipeOperation}
 use Rattle.ws_steps.specs.declared.pipes.SignalOperation.{SignalOperation}
 use Rattle.ws_steps.specs.declared.pipes.SignalOperation.TheVariants.{Add, Forget, Trigger}
@@ -49,6 +49,7 @@ not_true false = true
 -- whether an effect may yet lead to a read or to an enqueue
 abbrev pub may_take : Effect → Bool
 may_take (Readable i operation) = is_taking operation
+may_take (Byte i operation) = true
 may_take (Writable i operation) = true
 may_take (WriteAlgorithm i) = true
 may_take (Pipe p operation) = not_true (is_still operation)
@@ -56,9 +57,10 @@ may_take (Signal a operation) = true
 may_take (Transform t operation) = not_true (is_resting operation)
 may_take _ = false
 
--- a read, and an enqueue
+-- a read, and an enqueue, and an operation of a byte controller
 abbrev pub is_stream_take : Effect → Bool
 is_stream_take (Readable i operation) = is_taking operation
+is_stream_take (Byte i operation) = true
 is_stream_take _ = false
 
 abbrev pub IsQuiet : Effect → Type 0
@@ -137,8 +139,10 @@ row-quiet (CloseAlgorithm i) s n = row-causes IsQuiet (CloseAlgorithm i) s (λ c
 row-quiet (AbortAlgorithm i r p) s n = row-causes IsQuiet (AbortAlgorithm i r p) s (λ call u. refl, λ t u. refl)
 row-quiet (StartAlgorithm i step start) s n = row-causes IsQuiet (StartAlgorithm i step start) s (λ g u. refl, λ c u. refl)
 row-quiet (ChunkSteps i request v) s n = row-causes IsQuiet (ChunkSteps i request v) s (chunk-quiet v request)
+row-quiet (CloseStepsWith i request b) s n = row-causes IsQuiet (CloseStepsWith i request b) s (end-quiet request)
 row-quiet (CloseSteps i request) s n = row-causes IsQuiet (CloseSteps i request) s (end-quiet request)
 row-quiet (ErrorSteps i request e) s n = row-causes IsQuiet (ErrorSteps i request e) s (end-quiet request)
+row-quiet (Byte i operation) s n = cc
 row-quiet (Writable i operation) s n = cc
 row-quiet (WriteAlgorithm i) s n = cc
 row-quiet (Signal a operation) s n = cc
@@ -162,10 +166,12 @@ signal-calm (Trigger r) = λ p. tt
 -- a read and an enqueue cause nothing but what is quiet
 take-quiet : (e : Effect) (s : Slots) → is_stream_take e ≡ true → Each IsQuiet (row e s).caused
 take-quiet (Readable i operation) s m = row-causes IsQuiet (Readable i operation) s (record { pull = refl; cancel = λ r p. refl; chunk = λ r v. refl; close = λ r. refl; error = λ r e. refl })
+take-quiet (Byte i operation) s m = row-causes IsQuiet (Byte i operation) s (record { readable = record { pull = refl; cancel = λ r p. refl; chunk = λ r v. refl; close = λ r. refl; error = λ r e. refl }; close_with = λ r b. refl })
 take-quiet _ s m = cc
 
 row-calm : (e : Effect) (s : Slots) → may_take e ≡ true → is_stream_take e ≡ false → Calm (row e s).caused
 row-calm (Readable i operation) s m n = cc
+row-calm (Byte i operation) s m n = cc
 row-calm (Writable i operation) s m n = row-causes IsNoChunk (Writable i operation) s (record { write = tt; close = tt; abort = λ r p. tt; hand_on = λ v. tt; take = λ v t d. tt })
 row-calm (WriteAlgorithm i) s m n = row-causes IsNoChunk (WriteAlgorithm i) s (tt, λ t u. tt)
 row-calm (Pipe p operation) s m n = row-causes IsNoChunk (Pipe p operation) s (pipe-calm p)

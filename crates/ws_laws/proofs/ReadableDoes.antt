@@ -49,7 +49,7 @@ module _ (Q : Out → Type 0) (i : StreamId) (of : OfReadableEnds Q i) where
       either (λ (z : Acts). Q z.out) (should_call_pull a.slots) (call_pull i a) a
       (λ e. either (λ (z : Acts). Q z.out) a.slots.pulling _ _ (λ e. h) (λ e. of.pull a.out h)) (λ e. h)
 
-  close_all-does : (rs : List ReadRequest) (x : Out) → Q x → Q (cause_all (close_all i rs) x)
+  pub close_all-does : (rs : List ReadRequest) (x : Out) → Q x → Q (cause_all (close_all i rs) x)
   close_all-does [] x h = rw (append-nil x.effects) h
   close_all-does (r ∷ rs) x h =
       rw (← append_assoc x.effects (CloseSteps i r ∷ []) (close_all i rs)) (close_all-does rs (cause (CloseSteps i r) x) (of.close x r h))
@@ -63,11 +63,11 @@ module _ (Q : Out → Type 0) (i : StreamId) (of : OfReadableEnds Q i) where
   reader_closes a None h = h
   reader_closes a (Some closed) h = close_all-does a.slots.requests _ (of.settle a.out closed (Ok Undefined) h)
 
-  stream_close-does : (a : Acts) → Does Q a (stream_close i a)
+  pub stream_close-does : (a : Acts) → Does Q a (stream_close i a)
   unfolding stream_close
   stream_close-does a h = reader_closes (record a { slots = record a.slots { state = Closed } }) a.slots.reader h
 
-  reader_errs : (e : Plain) (a : Acts) (reader : Option PromiseId) → Does Q a (error_reader i e a reader)
+  pub reader_errs : (e : Plain) (a : Acts) (reader : Option PromiseId) → Does Q a (error_reader i e a reader)
   reader_errs e a None h = h
   reader_errs e a (Some closed) h = error_all-does e a.slots.requests _ (of.settle a.out closed (Err e) h)
 
@@ -100,7 +100,7 @@ module _ (Q : Out → Type 0) (i : StreamId) (of : OfReadableEnds Q i) where
   pull_ended-does a false h = h
   pull_ended-does a true h = pull-does (record a { slots = record a.slots { pull_again = false } }) h
 
-  settle_closed-does : (closed : PromiseId) (e : Plain) (x : Out) (state : ReadableState) → Q x → Q (settle_closed closed e x state)
+  pub settle_closed-does : (closed : PromiseId) (e : Plain) (x : Out) (state : ReadableState) → Q x → Q (settle_closed closed e x state)
   settle_closed-does closed e x Readable h = h
   settle_closed-does closed e x Closed h = of.settle x closed (Ok Undefined) h
   settle_closed-does closed e x Errored h = of.settle x closed (Err e) h
@@ -110,7 +110,7 @@ module _ (Q : Out → Type 0) (i : StreamId) (of : OfReadableEnds Q i) where
   release_closed-does closed x Closed h = h
   release_closed-does closed x Errored h = h
 
-  release_by-does : (a : Acts) (reader : Option PromiseId) → Does Q a (release_by i a reader)
+  pub release_by-does : (a : Acts) (reader : Option PromiseId) → Does Q a (release_by i a reader)
   release_by-does a None h = h
   release_by-does a (Some closed) h = error_all-does type_error a.slots.requests _ (release_closed-does closed a.out a.slots.state h)
 
@@ -138,7 +138,7 @@ module _ (Q : Out → Type 0) (i : StreamId) (of : OfReadableEnds Q i) where
   ends-do (names.PullSettled (Err e)) a t h = error-does e a h
 
 module _ (Q : Out → Type 0) (i : StreamId) (of : OfReadable Q i) where
-  ends : OfReadableEnds Q i
+  pub ends : OfReadableEnds Q i
   ends = record { settle = of.settle; pull = of.pull; cancel = of.cancel; close = of.close; error = of.error }
 
   accept-does : (v : Value) (a : Acts) (rs : List ReadRequest) → Does Q a (accept_for i v a rs)

@@ -1,6 +1,6 @@
 -- What the row of an effect does beside the operations: what goes on with each change of promises goes on with each effect, other effects
 -- than operations leave the streams, and an effect causes few others.
-use Rattle.std.proofs.Common.{◌≡◌, false, List, [], ◌∷◌, Option, Some, None, Result, refl, slice_get}
+use Rattle.std.proofs.Common.{◌≡◌, ℕ, false, List, [], ◌∷◌, Option, Some, None, Result, refl, slice_get}
 use Rattle.ws_value.specs.declared.ids.PipeId.{PipeId}
 use Rattle.ws_value.specs.declared.ids.PromiseId.{PromiseId}
 use Rattle.ws_value.specs.declared.ids.SignalId.{SignalId}
@@ -10,30 +10,33 @@ use Rattle.ws_value.specs.declared.value.Outcome.TheVariants.{Given, Finished}
 use Rattle.ws_value.specs.declared.value.Plain.{Plain}
 use Rattle.ws_value.specs.declared.value.Plain.TheVariants.{Undefined}
 use Rattle.ws_value.specs.declared.value.Value.{Value}
-use Rattle.ws_value.specs.declared.value.Value.TheVariants.{Plain as PlainValue}
+use Rattle.ws_value.specs.declared.value.Value.TheVariants.{Plain as PlainValue, Bytes}
 use Rattle.std.specs.Prelude.{Err}
 use Rattle.ws_steps.specs.declared.{calls.Event.{Event}, calls.Event.TheVariants.{Signal}, calls.HostCall.{HostCall}, calls.StartBy.{StartBy}, calls.StartBy.TheVariants.{Now, Later}}
+use Rattle.ws_steps.specs.declared.byte.ByteOperation.{ByteOperation}
 use Rattle.ws_steps.specs.declared.effects.Effect.{Effect}
-use Rattle.ws_steps.specs.declared.effects.Effect.TheVariants.{Readable, Writable, Pipe, Signal, Transform, StartAlgorithm, PullAlgorithm, CancelAlgorithm, WriteAlgorithm, CloseAlgorithm, AbortAlgorithm, ChunkSteps, CloseSteps, ErrorSteps, Give, Settle, Queue, CallHost}
+use Rattle.ws_steps.specs.declared.readable.ReadableOperation.{ReadableOperation}
+use Rattle.ws_steps.specs.declared.effects.Effect.TheVariants.{Readable, Byte, Writable, Pipe, Signal, Transform, StartAlgorithm, PullAlgorithm, CancelAlgorithm, WriteAlgorithm, CloseAlgorithm, AbortAlgorithm, ChunkSteps, CloseSteps, CloseStepsWith, ErrorSteps, Give, Settle, Queue, CallHost}
 use Rattle.ws_steps.specs.declared.{effects.Gift.{Gift}, effects.Gift.TheVariants.{This, Fresh}, effects.Owner.{Owner}, effects.Owner.TheVariants.{Host, HalfOf}, effects.Use.{Use}}
 use Rattle.ws_steps.specs.declared.{effects.Use.TheVariants.{React, Resolve}, promises.Reaction.{Reaction}, promises.Reaction.TheVariants.{Perform}, promises.Step.{Step}}
 use Rattle.ws_steps.specs.declared.{readable.ReadRequest.{ReadRequest}, readable.ReadRequest.TheVariants.{Promise, Pipe as PipeRequest}, pipes.PipeOperation.{PipeOperation}, pipes.PipeOperation.TheVariants.{KeepChunk, ReadEnded, Abort}, pipes.SignalOperation.{SignalOperation}, pipes.SignalOperation.TheVariants.{Add, Forget, Trigger}, promises.Micro.{Micro}, transform.Taker.TheVariants.{ToHost}, transform.TransformId.{TransformId}, transform.TransformOperation.{TransformOperation}, writable.WritableOperation.TheVariants.{HandOn}}
 use Rattle.ws_steps.specs.declared.transform.TransformOperation.TheVariants as transforms
 use Rattle.ws_steps.specs.Effects.{Out, cause}
 use Rattle.ws_steps.specs.Promises.{Table, is_pending, fresh, settle, answer, react, follow, queue_micro, tell, next_id, fresh_settled, use_this, use_gift}
-use Rattle.ws_steps.specs.Operations.{readable_operation, writable_operation, pipe_operation, signal_operation, transform_operation}
-use Rattle.ws_steps.specs.Slots.{Slots, Done, nothing, has_readable, has_writable, owner_at, found, ends_at, halves_at, put_readable, put_writable, on_pipe_at, on_signal_at, on_transform_at}
-use Rattle.ws_steps.specs.Turns.{row, start_algorithm, pull_algorithm, cancel_algorithm, write_algorithm, close_algorithm, abort_algorithm, call_host}
+use Rattle.ws_steps.specs.Operations.{readable_operation, byte_readable_operation, byte_operation, writable_operation, pipe_operation, signal_operation, transform_operation}
+use Rattle.ws_steps.specs.Slots.{Slots, Stream, Done, nothing, has_readable, has_byte, has_writable, owner_at, found, ends_at, halves_at, put_readable, put_byte, put_writable, on_readable, on_byte, on_pipe_at, on_signal_at, on_transform_at}
+use Rattle.ws_steps.specs.Turns.{row, start_algorithm, pull_algorithm, cancel_algorithm, write_algorithm, close_algorithm, abort_algorithm, call_host, on_source}
 use Rattle.ws_steps.specs.Writable.{write_to_host}
 use Rattle.ws_steps.specs.Pipes as pipe
 use Rattle.ws_steps.specs.Transform as transform
 use Rattle.ws_steps.specs.Pipes.{abort_all, trigger_unless}
 use Rattle.ws_laws.proofs.Lists.{Each, each-append, each-map}
-use Rattle.ws_laws.proofs.ReadableDoes.{readable-does}
+use Rattle.ws_laws.proofs.ReadableDoes.{OfReadable, readable-does}
+use Rattle.ws_laws.proofs.ByteDoes.{byte_readable-does, byte-does}
 use Rattle.ws_laws.proofs.WritableDoes.{writable-does}
 use Rattle.ws_laws.proofs.PipeDoes.{PipeCauses, pipe-causes, pipe-does}
 use Rattle.ws_laws.proofs.TransformDoes.{TransformCauses, transform-causes, transform-does}
-use Rattle.ws_laws.proofs.Tables.{either, readable_acts, writable_acts}
+use Rattle.ws_laws.proofs.Tables.{either, readable_acts, byte_acts, writable_acts}
 
 -- what goes on with each change of promises
 pub record Changes (T : Table → Type 0) : Type 0 where
@@ -45,7 +48,23 @@ pub record Changes (T : Table → Type 0) : Type 0 where
   pub micro : (t : Table) (m : Micro) → T t → T (queue_micro m t)
   pub tell : (t : Table) (e : Event) → T t → T (tell e t)
 
-module _ (T : Table → Type 0) (changes : Changes T) where
+-- the same but that nothing is answered
+pub record Settlings (T : Table → Type 0) : Type 0 where
+  pub fresh : (t : Table) → T t → T (fresh t)
+  pub settle : (t : Table) (p : PromiseId) (o : Result Plain Plain) → T t → T (settle p o t)
+  pub react : (t : Table) (p : PromiseId) (r : Reaction) → T t → T (react p r t)
+  pub follow : (t : Table) (p q : PromiseId) → T t → T (follow p q t)
+  pub micro : (t : Table) (m : Micro) → T t → T (queue_micro m t)
+  pub tell : (t : Table) (e : Event) → T t → T (tell e t)
+
+-- an effect that answers no read
+abbrev pub IsUnanswered : Effect → Type 0
+IsUnanswered (ChunkSteps i (Promise p) v) = ⊥
+IsUnanswered (CloseSteps i (Promise p)) = ⊥
+IsUnanswered (CloseStepsWith i (Promise p) b) = ⊥
+IsUnanswered _ = Unit {0}
+
+module _ (T : Table → Type 0) (changes : Settlings T) where
   use-changes : (p : PromiseId) (t : Table) (u : Use) → T t → T (use_this p t u)
   use-changes p t (React step derived) h = changes.react t p (Perform step derived) h
   use-changes p t (Resolve q) h = changes.follow t q p h
@@ -72,19 +91,28 @@ module _ (T : Table → Type 0) (changes : Changes T) where
   transform-changes t operation s (Some x) h =
       transform-does T (record { fresh = changes.fresh; settle = changes.settle }) t (halves_at x s) operation (record { slots = x; out = found s }) h
 
-  pub row-changes : (e : Effect) (s : Slots) → T s.promises → T (row e s).slots.promises
+  of-changes : (i : StreamId) → OfReadable (λ (x : Out). T x.promises) i
+  of-changes i = record {
+    settle = λ x p o h. changes.settle x.promises p o h;
+    pull = λ x h. h;
+    cancel = λ x r p h. h;
+    chunk = λ x r v h. h;
+    close = λ x r h. h;
+    error = λ x r e h. h;
+  }
+
+  pub row-settled : (e : Effect) (s : Slots) → IsUnanswered e → T s.promises → T (row e s).slots.promises
   unfolding row call_host
-  row-changes (Readable i operation) s h =
-      either (λ (d : Done). T d.slots.promises) (has_readable i s) (put_readable i s (readable_operation i operation (readable_acts i s))) (nothing s)
-      (λ e. readable-does (λ (x : Out). T x.promises) i (record {
-        settle = λ x p o h. changes.settle x.promises p o h;
-        pull = λ x h. h;
-        cancel = λ x r p h. h;
-        chunk = λ x r v h. h;
-        close = λ x r h. h;
-        error = λ x r e h. h;
-      }) operation (readable_acts i s) h) (λ e. h)
-  row-changes (Writable i operation) s h =
+  row-settled (Readable i operation) s n h =
+      either (λ (d : Done). T d.slots.promises) (has_byte i s) (on_byte (byte_readable_operation i operation) i s) (on_readable (readable_operation i operation) i s)
+      (λ is. either (λ (d : Done). T d.slots.promises) (has_byte i s) (put_byte i s (byte_readable_operation i operation (byte_acts i s))) (nothing s)
+      (λ e. byte_readable-does (λ (x : Out). T x.promises) i (of-changes i) operation (byte_acts i s) h) (λ e. h))
+      (λ isnt. either (λ (d : Done). T d.slots.promises) (has_readable i s) (put_readable i s (readable_operation i operation (readable_acts i s))) (nothing s)
+      (λ e. readable-does (λ (x : Out). T x.promises) i (of-changes i) operation (readable_acts i s) h) (λ e. h))
+  row-settled (Byte i operation) s n h =
+      either (λ (d : Done). T d.slots.promises) (has_byte i s) (put_byte i s (byte_operation i operation (byte_acts i s))) (nothing s)
+      (λ e. byte-does (λ (x : Out). T x.promises) i (of-changes i) (λ x q b h. h) operation (byte_acts i s) h) (λ e. h)
+  row-settled (Writable i operation) s n h =
       either (λ (d : Done). T d.slots.promises) (has_writable i s) (put_writable i s (writable_operation i operation (writable_acts i s))) (nothing s)
       (λ e. writable-does (λ (x : Out). T x.promises) i (record {
         settle = λ x p o h. changes.settle x.promises p o h;
@@ -96,27 +124,61 @@ module _ (T : Table → Type 0) (changes : Changes T) where
         hand_on = λ x v h. h;
         take = λ x v t d h. h;
       }) operation (writable_acts i s) h) (λ e. h)
-  row-changes (Pipe p operation) s h = pipe-changes p operation s (slice_get s.pipes p.0) h
-  row-changes (Signal a operation) s h = signal-changes a operation s (slice_get s.signals a.0) h
-  row-changes (Transform t operation) s h = transform-changes t operation s (slice_get s.transforms t.0) h
-  row-changes (StartAlgorithm i step Now) s h = h
-  row-changes (StartAlgorithm i step Later) s h = changes.fresh s.promises h
-  row-changes (ChunkSteps i (Promise p) v) s h = changes.answer s.promises p (Given v) refl h
-  row-changes (CloseSteps i (Promise p)) s h = changes.answer s.promises p (Finished (PlainValue Undefined)) refl h
-  row-changes (ErrorSteps i (Promise p) e) s h = changes.settle s.promises p (Err e) h
-  row-changes (ChunkSteps i (PipeRequest p) v) s h = h
-  row-changes (CloseSteps i (PipeRequest p)) s h = h
-  row-changes (ErrorSteps i (PipeRequest p) e) s h = h
-  row-changes (Queue m) s h = changes.micro s.promises m h
-  row-changes (Give gift u) s h = gift-changes gift u s.promises h
-  row-changes (Settle p o) s h = changes.settle s.promises p o h
-  row-changes (CallHost call u) s h = use-changes (next_id s.promises) _ u (changes.tell (fresh s.promises) _ (changes.fresh s.promises h))
-  row-changes _ s h = h
+  row-settled (Pipe p operation) s n h = pipe-changes p operation s (slice_get s.pipes p.0) h
+  row-settled (Signal a operation) s n h = signal-changes a operation s (slice_get s.signals a.0) h
+  row-settled (Transform t operation) s n h = transform-changes t operation s (slice_get s.transforms t.0) h
+  row-settled (StartAlgorithm i step Now) s n h = h
+  row-settled (StartAlgorithm i step Later) s n h = changes.fresh s.promises h
+  row-settled (ChunkSteps i (Promise p) v) s n h = absurd n
+  row-settled (CloseSteps i (Promise p)) s n h = absurd n
+  row-settled (CloseStepsWith i (Promise p) b) s n h = absurd n
+  row-settled (CloseStepsWith i (PipeRequest p) b) s n h = h
+  row-settled (ErrorSteps i (Promise p) e) s n h = changes.settle s.promises p (Err e) h
+  row-settled (ChunkSteps i (PipeRequest p) v) s n h = h
+  row-settled (CloseSteps i (PipeRequest p)) s n h = h
+  row-settled (ErrorSteps i (PipeRequest p) e) s n h = h
+  row-settled (Queue m) s n h = changes.micro s.promises m h
+  row-settled (Give gift u) s n h = gift-changes gift u s.promises h
+  row-settled (Settle p o) s n h = changes.settle s.promises p o h
+  row-settled (CallHost call u) s n h = use-changes (next_id s.promises) _ u (changes.tell (fresh s.promises) _ (changes.fresh s.promises h))
+  row-settled _ s n h = h
+
+settlings : (T : Table → Type 0) → Changes T → Settlings T
+settlings T changes =
+    record { fresh = changes.fresh; settle = changes.settle; react = changes.react; follow = changes.follow; micro = changes.micro; tell = changes.tell }
+
+pub row-changes : (T : Table → Type 0) → Changes T → (e : Effect) (s : Slots) → T s.promises → T (row e s).slots.promises
+unfolding row
+row-changes T changes (ChunkSteps i (Promise p) v) s h = changes.answer s.promises p (Given v) refl h
+row-changes T changes (CloseSteps i (Promise p)) s h = changes.answer s.promises p (Finished (PlainValue Undefined)) refl h
+row-changes T changes (CloseStepsWith i (Promise p) b) s h = changes.answer s.promises p (Finished (Bytes b)) refl h
+row-changes T changes e s h = row-settled T (settlings T changes) e s tt h
+
+-- what an operation of a readable stream leaves outside the streams
+
+abbrev pub out_of : Done → Out
+out_of d = record { promises = d.slots.promises; effects = d.caused }
+
+module _ (Q : Out → Type 0) (i : StreamId) (of : OfReadable Q i) where
+  pub source-out : (operation : ReadableOperation) (s : Slots) → Q (found s) → Q (out_of (on_source operation i s))
+  source-out operation s h =
+      either (λ (d : Done). Q (out_of d)) (has_byte i s) (on_byte (byte_readable_operation i operation) i s) (on_readable (readable_operation i operation) i s)
+      (λ is. either (λ (d : Done). Q (out_of d)) (has_byte i s) (put_byte i s (byte_readable_operation i operation (byte_acts i s))) (nothing s)
+      (λ e. byte_readable-does Q i of operation (byte_acts i s) h) (λ e. h))
+      (λ isnt. either (λ (d : Done). Q (out_of d)) (has_readable i s) (put_readable i s (readable_operation i operation (readable_acts i s))) (nothing s)
+      (λ e. readable-does Q i of operation (readable_acts i s) h) (λ e. h))
+
+  pub byte-out : ((x : Out) (q : ReadRequest) (b : List ℕ) → Q x → Q (cause (CloseStepsWith i q b) x)) → (operation : ByteOperation) (s : Slots) → Q (found s)
+      → Q (out_of (on_byte (byte_operation i operation) i s))
+  byte-out close_with operation s h =
+      either (λ (d : Done). Q (out_of d)) (has_byte i s) (put_byte i s (byte_operation i operation (byte_acts i s))) (nothing s)
+      (λ e. byte-does Q i of close_with operation (byte_acts i s) h) (λ e. h)
 
 -- other effects than operations leave all streams
 
 abbrev pub IsApart : Effect → Type 0
 IsApart (Readable i operation) = ⊥
+IsApart (Byte i operation) = ⊥
 IsApart (Writable i operation) = ⊥
 IsApart _ = Unit {0}
 
@@ -138,6 +200,7 @@ transform-streams t operation s (Some x) = refl
 pub row-streams : (e : Effect) (s : Slots) → IsApart e → (row e s).slots.streams ≡ s.streams
 unfolding row call_host
 row-streams (Readable i operation) s apart = absurd apart
+row-streams (Byte i operation) s apart = absurd apart
 row-streams (Writable i operation) s apart = absurd apart
 row-streams (Pipe p operation) s apart = pipe-streams p operation s (slice_get s.pipes p.0)
 row-streams (Signal a operation) s apart = signal-streams a operation s (slice_get s.signals a.0)
@@ -149,6 +212,8 @@ row-streams (CloseSteps i (Promise p)) s apart = refl
 row-streams (ErrorSteps i (Promise p) e) s apart = refl
 row-streams (ChunkSteps i (PipeRequest p) v) s apart = refl
 row-streams (CloseSteps i (PipeRequest p)) s apart = refl
+row-streams (CloseStepsWith i (Promise p) b) s apart = refl
+row-streams (CloseStepsWith i (PipeRequest p) b) s apart = refl
 row-streams (ErrorSteps i (PipeRequest p) e) s apart = refl
 row-streams _ s apart = refl
 
@@ -167,11 +232,23 @@ transform-locks : (t : TransformId) (operation : TransformOperation) (s : Slots)
 transform-locks t operation s None = refl
 transform-locks t operation s (Some x) = refl
 
+-- what an operation of a stream leaves: all but the streams and the promises
+module _ {X : Type 0} (look : Slots → X) (blind : (s : Slots) (streams : List Stream) (t : Table) → look (record s { streams = streams; promises = t }) ≡ look s) where
+  pub byte-leaves : (i : StreamId) (operation : ByteOperation) (s : Slots) → look (on_byte (byte_operation i operation) i s).slots ≡ look s
+  byte-leaves i operation s =
+      either (λ (d : Done). look d.slots ≡ look s) (has_byte i s) (put_byte i s (byte_operation i operation (byte_acts i s))) (nothing s) (λ e. blind s _ _) (λ e. refl)
+
+  pub source-leaves : (i : StreamId) (operation : ReadableOperation) (s : Slots) → look (on_source operation i s).slots ≡ look s
+  source-leaves i operation s =
+      either (λ (d : Done). look d.slots ≡ look s) (has_byte i s) (on_byte (byte_readable_operation i operation) i s) (on_readable (readable_operation i operation) i s)
+      (λ is. either (λ (d : Done). look d.slots ≡ look s) (has_byte i s) (put_byte i s (byte_readable_operation i operation (byte_acts i s))) (nothing s) (λ e. blind s _ _) (λ e. refl))
+      (λ isnt. either (λ (d : Done). look d.slots ≡ look s) (has_readable i s) (put_readable i s (readable_operation i operation (readable_acts i s))) (nothing s) (λ e. blind s _ _) (λ e. refl))
+
 -- each effect leaves all locks
 pub row-locks : (e : Effect) (s : Slots) → (row e s).slots.locks ≡ s.locks
 unfolding row call_host
-row-locks (Readable i operation) s =
-    either (λ (d : Done). d.slots.locks ≡ s.locks) (has_readable i s) (put_readable i s (readable_operation i operation (readable_acts i s))) (nothing s) (λ e. refl) (λ e. refl)
+row-locks (Readable i operation) s = source-leaves (λ z. z.locks) (λ z x o. refl) i operation s
+row-locks (Byte i operation) s = byte-leaves (λ z. z.locks) (λ z x o. refl) i operation s
 row-locks (Writable i operation) s =
     either (λ (d : Done). d.slots.locks ≡ s.locks) (has_writable i s) (put_writable i s (writable_operation i operation (writable_acts i s))) (nothing s) (λ e. refl) (λ e. refl)
 row-locks (Pipe p operation) s = pipe-locks p operation s (slice_get s.pipes p.0)
@@ -184,6 +261,8 @@ row-locks (CloseSteps i (Promise p)) s = refl
 row-locks (ErrorSteps i (Promise p) e) s = refl
 row-locks (ChunkSteps i (PipeRequest p) v) s = refl
 row-locks (CloseSteps i (PipeRequest p)) s = refl
+row-locks (CloseStepsWith i (Promise p) b) s = refl
+row-locks (CloseStepsWith i (PipeRequest p) b) s = refl
 row-locks (ErrorSteps i (PipeRequest p) e) s = refl
 row-locks _ s = refl
 
@@ -205,8 +284,8 @@ transform-pipes t operation s (Some x) = refl
 
 pub row-pipes : (e : Effect) (s : Slots) → IsNoPipe e → (row e s).slots.pipes ≡ s.pipes
 unfolding row call_host
-row-pipes (Readable i operation) s n =
-    either (λ (d : Done). d.slots.pipes ≡ s.pipes) (has_readable i s) (put_readable i s (readable_operation i operation (readable_acts i s))) (nothing s) (λ e. refl) (λ e. refl)
+row-pipes (Readable i operation) s n = source-leaves (λ z. z.pipes) (λ z x o. refl) i operation s
+row-pipes (Byte i operation) s n = byte-leaves (λ z. z.pipes) (λ z x o. refl) i operation s
 row-pipes (Writable i operation) s n =
     either (λ (d : Done). d.slots.pipes ≡ s.pipes) (has_writable i s) (put_writable i s (writable_operation i operation (writable_acts i s))) (nothing s) (λ e. refl) (λ e. refl)
 row-pipes (Pipe p operation) s n = absurd n
@@ -219,6 +298,8 @@ row-pipes (CloseSteps i (Promise p)) s n = refl
 row-pipes (ErrorSteps i (Promise p) e) s n = refl
 row-pipes (ChunkSteps i (PipeRequest p) v) s n = refl
 row-pipes (CloseSteps i (PipeRequest p)) s n = refl
+row-pipes (CloseStepsWith i (Promise p) b) s n = refl
+row-pipes (CloseStepsWith i (PipeRequest p) b) s n = refl
 row-pipes (ErrorSteps i (PipeRequest p) e) s n = refl
 row-pipes _ s n = refl
 
@@ -229,6 +310,11 @@ pub record ReadableCauses (P : Effect → Type 0) (i : StreamId) : Type 0 where
   pub chunk : (request : ReadRequest) (v : Value) → P (ChunkSteps i request v)
   pub close : (request : ReadRequest) → P (CloseSteps i request)
   pub error : (request : ReadRequest) (e : Plain) → P (ErrorSteps i request e)
+
+-- and one of the byte controller of stream i
+pub record ByteCauses (P : Effect → Type 0) (i : StreamId) : Type 0 where
+  pub readable : ReadableCauses P i
+  pub close_with : (request : ReadRequest) (b : List ℕ) → P (CloseStepsWith i request b)
 
 -- and one of writable stream i
 pub record WritableCauses (P : Effect → Type 0) (i : StreamId) : Type 0 where
@@ -259,6 +345,7 @@ AlgorithmCauses P half = ((call : HostCall) (u : Use) → P (CallHost call u)) �
 -- and any effect
 abbrev pub Causes : (Effect → Type 0) → Effect → Type 0
 Causes P (Readable i operation) = ReadableCauses P i
+Causes P (Byte i operation) = ByteCauses P i
 Causes P (Writable i operation) = WritableCauses P i
 Causes P (Pipe p operation) = (source dest : StreamId) (e : Effect) → PipeCauses p source dest e → P e
 Causes P (Signal a operation) = SignalCauses P operation
@@ -271,6 +358,7 @@ Causes P (CloseAlgorithm i) = AlgorithmCauses P (λ u. transforms.SinkClose u)
 Causes P (AbortAlgorithm i r p) = AlgorithmCauses P (λ u. transforms.SinkAbort r u)
 Causes P (ChunkSteps i request v) = ChunkCauses P v request
 Causes P (CloseSteps i request) = EndCauses P request
+Causes P (CloseStepsWith i request b) = EndCauses P request
 Causes P (ErrorSteps i request e) = EndCauses P request
 Causes P _ = Unit {0}
 
@@ -331,18 +419,28 @@ module _ (P : Effect → Type 0) where
   signalled a (Forget p) s (Some x) c = tt
   signalled a (Trigger r) s (Some x) c = triggered r x x.reason c
 
+  pub of-causes : (i : StreamId) → ReadableCauses P i → OfReadable (λ (x : Out). Each P x.effects) i
+  of-causes i c = record {
+    settle = λ x p o h. h;
+    pull = λ x h. each-cause (PullAlgorithm i) c.pull x h;
+    cancel = λ x r p h. each-cause (CancelAlgorithm i r p) (c.cancel r p) x h;
+    chunk = λ x r v h. each-cause (ChunkSteps i r v) (c.chunk r v) x h;
+    close = λ x r h. each-cause (CloseSteps i r) (c.close r) x h;
+    error = λ x r e h. each-cause (ErrorSteps i r e) (c.error r e) x h;
+  }
+
   pub row-causes : (e : Effect) (s : Slots) → Causes P e → Each P (row e s).caused
   unfolding row
   row-causes (Readable i operation) s c =
-      either (λ (d : Done). Each P d.caused) (has_readable i s) (put_readable i s (readable_operation i operation (readable_acts i s))) (nothing s)
-      (λ there. readable-does (λ (x : Out). Each P x.effects) i (record {
-        settle = λ x p o h. h;
-        pull = λ x h. each-cause (PullAlgorithm i) c.pull x h;
-        cancel = λ x r p h. each-cause (CancelAlgorithm i r p) (c.cancel r p) x h;
-        chunk = λ x r v h. each-cause (ChunkSteps i r v) (c.chunk r v) x h;
-        close = λ x r h. each-cause (CloseSteps i r) (c.close r) x h;
-        error = λ x r e h. each-cause (ErrorSteps i r e) (c.error r e) x h;
-      }) operation (readable_acts i s) tt) (λ absent. tt)
+      either (λ (d : Done). Each P d.caused) (has_byte i s) (on_byte (byte_readable_operation i operation) i s) (on_readable (readable_operation i operation) i s)
+      (λ is. either (λ (d : Done). Each P d.caused) (has_byte i s) (put_byte i s (byte_readable_operation i operation (byte_acts i s))) (nothing s)
+      (λ there. byte_readable-does (λ (x : Out). Each P x.effects) i (of-causes i c) operation (byte_acts i s) tt) (λ absent. tt))
+      (λ isnt. either (λ (d : Done). Each P d.caused) (has_readable i s) (put_readable i s (readable_operation i operation (readable_acts i s))) (nothing s)
+      (λ there. readable-does (λ (x : Out). Each P x.effects) i (of-causes i c) operation (readable_acts i s) tt) (λ absent. tt))
+  row-causes (Byte i operation) s c =
+      either (λ (d : Done). Each P d.caused) (has_byte i s) (put_byte i s (byte_operation i operation (byte_acts i s))) (nothing s)
+      (λ there. byte-does (λ (x : Out). Each P x.effects) i (of-causes i c.readable)
+      (λ x q b h. each-cause (CloseStepsWith i q b) (c.close_with q b) x h) operation (byte_acts i s) tt) (λ absent. tt)
   row-causes (Writable i operation) s c =
       either (λ (d : Done). Each P d.caused) (has_writable i s) (put_writable i s (writable_operation i operation (writable_acts i s))) (nothing s)
       (λ there. writable-does (λ (x : Out). Each P x.effects) i (record {
@@ -367,6 +465,8 @@ module _ (P : Effect → Type 0) where
   row-causes (ChunkSteps i (Promise p) v) s c = tt
   row-causes (CloseSteps i (Promise p)) s c = tt
   row-causes (ErrorSteps i (Promise p) e) s c = tt
+  row-causes (CloseStepsWith i (Promise p) b) s c = tt
+  row-causes (CloseStepsWith i (PipeRequest p) b) s c = (c, tt)
   row-causes (ChunkSteps i (PipeRequest p) v) s c = (c, tt)
   row-causes (CloseSteps i (PipeRequest p)) s c = (c, tt)
   row-causes (ErrorSteps i (PipeRequest p) e) s c = (c, tt)

@@ -7,8 +7,9 @@ use Rattle.ws_value.specs.declared.ids.SignalId.{SignalId}
 use Rattle.ws_value.specs.declared.ids.StreamId.{StreamId}
 use Rattle.ws_value.specs.declared.value.Plain.{Plain}
 use Rattle.ws_value.specs.declared.value.Value.{Value}
+use Rattle.ws_steps.specs.declared.byte.ByteOperation.{ByteOperation}
 use Rattle.ws_steps.specs.declared.effects.Effect.{Effect}
-use Rattle.ws_steps.specs.declared.effects.Effect.TheVariants.{Readable as OnReadable, Writable as OnWritable, Pipe, Signal, Transform, StartAlgorithm, ChunkSteps, CloseSteps, ErrorSteps}
+use Rattle.ws_steps.specs.declared.effects.Effect.TheVariants.{Readable as OnReadable, Byte, Writable as OnWritable, Pipe, Signal, Transform, StartAlgorithm, ChunkSteps, CloseSteps, CloseStepsWith, ErrorSteps}
 use Rattle.ws_steps.specs.declared.calls.StartBy.TheVariants.{Now, Later}
 use Rattle.ws_steps.specs.declared.effects.Owner.{Owner}
 use Rattle.ws_steps.specs.declared.effects.Owner.TheVariants.{Host}
@@ -21,24 +22,27 @@ use Rattle.ws_steps.specs.declared.transform.TransformId.{TransformId}
 use Rattle.ws_steps.specs.declared.transform.TransformOperation.{TransformOperation}
 use Rattle.ws_steps.specs.declared.writable.WritableOperation.{WritableOperation}
 use Rattle.ws_steps.specs.declared.writable.WritableOperation.TheVariants as writes
-use Rattle.ws_steps.specs.Operations.{readable_operation, writable_operation, pipe_operation, signal_operation, transform_operation}
+use Rattle.ws_steps.specs.Operations.{readable_operation, byte_readable_operation, byte_operation, writable_operation, pipe_operation, signal_operation, transform_operation}
+use Rattle.ws_steps.specs.Bytes as byte
 use Rattle.ws_steps.specs.Pipes as pipe
 use Rattle.ws_steps.specs.Readable as readable
 use Rattle.ws_steps.specs.Transform as transform
 use Rattle.ws_steps.specs.Writable as writable
-use Rattle.ws_steps.specs.Slots.{Slots, Stream, ReadableStream, WritableStream, Done, found, halves_at, on_pipe_at, on_signal_at, on_transform_at, has_readable, has_writable, readable_at, writable_at, nothing, owner_of, owner_at, put_readable, put_writable}
+use Rattle.ws_steps.specs.Slots.{Slots, Stream, ReadableStream, ByteStream, WritableStream, Done, on_readable, on_byte, has_byte, byte_at, put_byte, found, halves_at, on_pipe_at, on_signal_at, on_transform_at, has_readable, has_writable, readable_at, writable_at, nothing, owner_of, owner_at, put_readable, put_writable}
 use Rattle.ws_steps.specs.Turns.{row, call_host}
-use Rattle.ws_laws.proofs.Tables.{either, readable_acts, writable_acts, readable_there, writable_there}
-use Rattle.ws_laws.proofs.Rows.{row-streams}
+use Rattle.ws_laws.proofs.Tables.{either, readable_acts, byte_acts, writable_acts, readable_there, byte_there, writable_there}
+use Rattle.ws_laws.proofs.Rows.{row-streams, byte-leaves, source-leaves}
 use Rattle.ws_laws.proofs.TransformDoes.{transform-causes}
 
 -- of which kind a stream is, and whose algorithms it performs
 pub data StreamShape : Type 0 where
   ReadableOf : Owner → StreamShape
+  BytesOf : StreamShape
   WritableOf : Owner → StreamShape
 
 abbrev pub stream_shape : Stream → StreamShape
 stream_shape (ReadableStream r) = ReadableOf r.owner
+stream_shape (ByteStream b) = BytesOf
 stream_shape (WritableStream w) = WritableOf w.owner
 
 pub record TransformShape : Type 0 where
@@ -128,13 +132,28 @@ module _ (i : StreamId) where
 
 -- each effect leaves the shapes
 
-readable-shape : (i : StreamId) (operation : ReadableOperation) (s : Slots) → stream_shapes (row (OnReadable i operation) s).slots ≡ stream_shapes s
-unfolding row
-readable-shape i operation s =
+on_byte-shape : (i : StreamId) (operation : byte.Acts → byte.Acts) (s : Slots) → stream_shapes (on_byte operation i s).slots ≡ stream_shapes s
+on_byte-shape i operation s =
+    either (λ (d : Done). stream_shapes d.slots ≡ stream_shapes s) (has_byte i s) (put_byte i s (operation (byte_acts i s))) (nothing s)
+    (λ there. map-set_same stream_shape s.streams i.0 (ByteStream (byte_at i s)) (ByteStream (operation (byte_acts i s)).slots) (byte_there (slice_get s.streams i.0) there) refl)
+    (λ absent. refl)
+
+on_readable-shape : (i : StreamId) (operation : ReadableOperation) (s : Slots) → stream_shapes (on_readable (readable_operation i operation) i s).slots ≡ stream_shapes s
+on_readable-shape i operation s =
     either (λ (d : Done). stream_shapes d.slots ≡ stream_shapes s) (has_readable i s) (put_readable i s (readable_operation i operation (readable_acts i s))) (nothing s)
     (λ there. map-set_same stream_shape s.streams i.0 (ReadableStream (readable_at i s)) (ReadableStream (readable_operation i operation (readable_acts i s)).slots)
     (readable_there (slice_get s.streams i.0) there) (ap ReadableOf (readable-owner i operation (readable_acts i s))))
     (λ absent. refl)
+
+readable-shape : (i : StreamId) (operation : ReadableOperation) (s : Slots) → stream_shapes (row (OnReadable i operation) s).slots ≡ stream_shapes s
+unfolding row
+readable-shape i operation s =
+    either (λ (d : Done). stream_shapes d.slots ≡ stream_shapes s) (has_byte i s) (on_byte (byte_readable_operation i operation) i s) (on_readable (readable_operation i operation) i s)
+    (λ is. on_byte-shape i (byte_readable_operation i operation) s) (λ isnt. on_readable-shape i operation s)
+
+byte-shape : (i : StreamId) (operation : ByteOperation) (s : Slots) → stream_shapes (row (Byte i operation) s).slots ≡ stream_shapes s
+unfolding row
+byte-shape i operation s = on_byte-shape i (byte_operation i operation) s
 
 writable-shape : (i : StreamId) (operation : WritableOperation) (s : Slots) → stream_shapes (row (OnWritable i operation) s).slots ≡ stream_shapes s
 unfolding row
@@ -146,6 +165,7 @@ writable-shape i operation s =
 
 pub row-stream_shapes : (e : Effect) (s : Slots) → stream_shapes (row e s).slots ≡ stream_shapes s
 row-stream_shapes (OnReadable i operation) s = readable-shape i operation s
+row-stream_shapes (Byte i operation) s = byte-shape i operation s
 row-stream_shapes (OnWritable i operation) s = writable-shape i operation s
 row-stream_shapes e s = ap (map stream_shape) (row-streams e s tt)
 
@@ -170,8 +190,8 @@ signal-transforms a operation s (Some x) = refl
 
 pub row-transform_shapes : (e : Effect) (s : Slots) → transform_shapes (row e s).slots ≡ transform_shapes s
 unfolding row call_host
-row-transform_shapes (OnReadable i operation) s =
-    either (λ (d : Done). transform_shapes d.slots ≡ transform_shapes s) (has_readable i s) (put_readable i s (readable_operation i operation (readable_acts i s))) (nothing s) (λ e. refl) (λ e. refl)
+row-transform_shapes (OnReadable i operation) s = source-leaves (λ z. transform_shapes z) (λ z x o. refl) i operation s
+row-transform_shapes (Byte i operation) s = byte-leaves (λ z. transform_shapes z) (λ z x o. refl) i operation s
 row-transform_shapes (OnWritable i operation) s =
     either (λ (d : Done). transform_shapes d.slots ≡ transform_shapes s) (has_writable i s) (put_writable i s (writable_operation i operation (writable_acts i s))) (nothing s) (λ e. refl) (λ e. refl)
 row-transform_shapes (Pipe p operation) s = ap (map transform_shape) (pipe-transforms p operation s (slice_get s.pipes p.0))
@@ -184,6 +204,8 @@ row-transform_shapes (CloseSteps i (Promise p)) s = refl
 row-transform_shapes (ErrorSteps i (Promise p) e) s = refl
 row-transform_shapes (ChunkSteps i (PipeRequest p) v) s = refl
 row-transform_shapes (CloseSteps i (PipeRequest p)) s = refl
+row-transform_shapes (CloseStepsWith i (Promise p) b) s = refl
+row-transform_shapes (CloseStepsWith i (PipeRequest p) b) s = refl
 row-transform_shapes (ErrorSteps i (PipeRequest p) e) s = refl
 row-transform_shapes _ s = refl
 
@@ -198,11 +220,13 @@ map-there f (y ∷ ys) (suc n) x is = map-there f ys n x is
 abbrev shape_owner : Option StreamShape → Owner
 shape_owner None = Host
 shape_owner (Some (ReadableOf o)) = o
+shape_owner (Some BytesOf) = Host
 shape_owner (Some (WritableOf o)) = o
 
 pub owner-told : (xs : List Stream) (n : ℕ) → owner_of (slice_get xs n) ≡ shape_owner (slice_get (map stream_shape xs) n)
 owner-told [] n = refl
 owner-told (ReadableStream r ∷ xs) zero = refl
+owner-told (ByteStream b ∷ xs) zero = refl
 owner-told (WritableStream w ∷ xs) zero = refl
 owner-told (x ∷ xs) (suc n) = owner-told xs n
 

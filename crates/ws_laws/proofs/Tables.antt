@@ -1,9 +1,13 @@
 -- The streams of a realm, by number, after an operation on one of them.
 use Rattle.std.proofs.Common.{◌≡◌, ◌≢◌, ℕ, zero, suc, Bool, true, false, List, [], ◌∷◌, ◌++◌, length, Option, Some, None, if◌then◌else◌, nat_eq, refl, sym, ap, ◌∙◌, arith, slice_get, slice_set}
 use Rattle.ws_value.specs.declared.ids.StreamId.{StreamId}
+use Rattle.ws_steps.specs.declared.readable.ReadableOperation.{ReadableOperation}
+use Rattle.ws_steps.specs.Bytes as byte
 use Rattle.ws_steps.specs.Readable as readable
 use Rattle.ws_steps.specs.Writable as writable
-use Rattle.ws_steps.specs.Slots.{Slots, Stream, ReadableStream, WritableStream, Done, found, on_readable, on_writable, has_readable, has_writable, readable_at, writable_at, is_readable_stream, is_writable_stream, as_readable, as_writable, no_readable, no_writable}
+use Rattle.ws_steps.specs.Slots.{Slots, Stream, ReadableStream, ByteStream, WritableStream, Done, found, on_readable, on_byte, on_writable, has_readable, has_byte, has_writable, readable_at, byte_at, writable_at, is_readable_stream, is_byte_stream, is_writable_stream, as_readable, as_byte, as_source, as_writable, no_readable, no_byte, no_writable, source_at}
+use Rattle.ws_steps.specs.Operations.{readable_operation, byte_readable_operation}
+use Rattle.ws_steps.specs.Turns.{on_source}
 use Rattle.ws_steps.specs.Histories.{is_same}
 
 -- whichever branch is taken
@@ -72,6 +76,12 @@ readable_there o e = grind arith
 pub no_readable_there : (o : Option Stream) → is_readable_stream o ≡ false → as_readable o ≡ no_readable
 no_readable_there o e = grind arith
 
+pub byte_there : (o : Option Stream) → is_byte_stream o ≡ true → o ≡ Some (ByteStream (as_byte o))
+byte_there o e = grind arith
+
+pub no_byte_there : (o : Option Stream) → is_byte_stream o ≡ false → as_byte o ≡ no_byte
+no_byte_there o e = grind arith
+
 pub writable_there : (o : Option Stream) → is_writable_stream o ≡ true → o ≡ Some (WritableStream (as_writable o))
 writable_there o e = grind arith
 
@@ -84,6 +94,10 @@ no_writable_there o e = grind arith
 abbrev pub readable_acts : StreamId → Slots → readable.Acts
 readable_acts j s = record { slots = readable_at j s; out = found s }
 
+-- and one of a byte stream
+abbrev pub byte_acts : StreamId → Slots → byte.Acts
+byte_acts j s = record { slots = byte_at j s; out = found s }
+
 abbrev pub writable_acts : StreamId → Slots → writable.Acts
 writable_acts j s = record { slots = writable_at j s; out = found s }
 
@@ -91,6 +105,11 @@ pub on_readable-same : (operation : readable.Acts → readable.Acts) (j : Stream
     → slice_get (on_readable operation j s).slots.streams j.0 ≡ Some (ReadableStream (operation (readable_acts j s)).slots)
 on_readable-same operation j s h =
     rw h (place_same s.streams j.0 (ReadableStream (readable_at j s)) (ReadableStream (operation (readable_acts j s)).slots) (readable_there (slice_get s.streams j.0) h))
+
+pub on_byte-same : (operation : byte.Acts → byte.Acts) (j : StreamId) (s : Slots) → has_byte j s ≡ true
+    → slice_get (on_byte operation j s).slots.streams j.0 ≡ Some (ByteStream (operation (byte_acts j s)).slots)
+on_byte-same operation j s h =
+    rw h (place_same s.streams j.0 (ByteStream (byte_at j s)) (ByteStream (operation (byte_acts j s)).slots) (byte_there (slice_get s.streams j.0) h))
 
 pub on_writable-same : (operation : writable.Acts → writable.Acts) (j : StreamId) (s : Slots) → has_writable j s ≡ true
     → slice_get (on_writable operation j s).slots.streams j.0 ≡ Some (WritableStream (operation (writable_acts j s)).slots)
@@ -103,6 +122,12 @@ on_readable-other operation j s i n =
     either (λ (d : Done). slice_get d.slots.streams i.0 ≡ slice_get s.streams i.0) (has_readable j s) _ _
     (λ h. place_other s.streams i.0 j.0 _ (unequal_numbers i.0 j.0 n)) (λ h. refl)
 
+pub on_byte-other : (operation : byte.Acts → byte.Acts) (j : StreamId) (s : Slots) (i : StreamId) → is_same i j ≡ false
+    → slice_get (on_byte operation j s).slots.streams i.0 ≡ slice_get s.streams i.0
+on_byte-other operation j s i n =
+    either (λ (d : Done). slice_get d.slots.streams i.0 ≡ slice_get s.streams i.0) (has_byte j s) _ _
+    (λ h. place_other s.streams i.0 j.0 _ (unequal_numbers i.0 j.0 n)) (λ h. refl)
+
 pub on_writable-other : (operation : writable.Acts → writable.Acts) (j : StreamId) (s : Slots) (i : StreamId) → is_same i j ≡ false
     → slice_get (on_writable operation j s).slots.streams i.0 ≡ slice_get s.streams i.0
 on_writable-other operation j s i n =
@@ -113,6 +138,12 @@ pub on_readable-none : (operation : readable.Acts → readable.Acts) (j : Stream
     → slice_get (on_readable operation j s).slots.streams i.0 ≡ None → slice_get s.streams i.0 ≡ None
 on_readable-none operation j s i =
     either (λ (d : Done). slice_get d.slots.streams i.0 ≡ None → slice_get s.streams i.0 ≡ None) (has_readable j s) _ _
+    (λ h. place_none s.streams i.0 j.0 _) (λ h e. e)
+
+pub on_byte-none : (operation : byte.Acts → byte.Acts) (j : StreamId) (s : Slots) (i : StreamId)
+    → slice_get (on_byte operation j s).slots.streams i.0 ≡ None → slice_get s.streams i.0 ≡ None
+on_byte-none operation j s i =
+    either (λ (d : Done). slice_get d.slots.streams i.0 ≡ None → slice_get s.streams i.0 ≡ None) (has_byte j s) _ _
     (λ h. place_none s.streams i.0 j.0 _) (λ h e. e)
 
 pub on_writable-none : (operation : writable.Acts → writable.Acts) (j : StreamId) (s : Slots) (i : StreamId)
@@ -149,3 +180,66 @@ on_readable-writable operation j s i true e =
     rw is (either (λ (d : Done). writable_at j d.slots ≡ writable_at j s) (has_readable j s) _ _
     (λ h. ap as_writable (place_same s.streams j.0 (ReadableStream (readable_at j s)) _ (readable_there (slice_get s.streams j.0) h)) ∙ sym (ap as_writable (readable_there (slice_get s.streams j.0) h)))
     (λ h. refl))
+
+-- an operation on a byte stream leaves each other stream
+
+module _ {X : Type 0} (look : Option Stream → X) (blind : (b c : byte.Slots) → look (Some (ByteStream b)) ≡ look (Some (ByteStream c))) where
+  pub on_byte-look : (operation : byte.Acts → byte.Acts) (j : StreamId) (s : Slots) (i : StreamId) (same : Bool) → same ≡ is_same i j
+      → look (slice_get (on_byte operation j s).slots.streams i.0) ≡ look (slice_get s.streams i.0)
+  on_byte-look operation j s i false n = ap look (on_byte-other operation j s i (sym n))
+  on_byte-look operation j s i true e =
+      let is : i ≡ j = same_id i j (sym e) in
+      rw is (either (λ (d : Done). look (slice_get d.slots.streams j.0) ≡ look (slice_get s.streams j.0)) (has_byte j s) _ _
+      (λ h. ap look (place_same s.streams j.0 (ByteStream (byte_at j s)) _ (byte_there (slice_get s.streams j.0) h)) ∙ (blind _ _ ∙ sym (ap look (byte_there (slice_get s.streams j.0) h))))
+      (λ h. refl))
+
+module _ {X : Type 0} (look : Option Stream → X) (blind : (b c : writable.Slots) → look (Some (WritableStream b)) ≡ look (Some (WritableStream c))) where
+  pub on_writable-look : (operation : writable.Acts → writable.Acts) (j : StreamId) (s : Slots) (i : StreamId) (same : Bool) → same ≡ is_same i j
+      → look (slice_get (on_writable operation j s).slots.streams i.0) ≡ look (slice_get s.streams i.0)
+  on_writable-look operation j s i false n = ap look (on_writable-other operation j s i (sym n))
+  on_writable-look operation j s i true e =
+      let is : i ≡ j = same_id i j (sym e) in
+      rw is (either (λ (d : Done). look (slice_get d.slots.streams j.0) ≡ look (slice_get s.streams j.0)) (has_writable j s) _ _
+      (λ h. ap look (place_same s.streams j.0 (WritableStream (writable_at j s)) _ (writable_there (slice_get s.streams j.0) h)) ∙ (blind _ _ ∙ sym (ap look (writable_there (slice_get s.streams j.0) h))))
+      (λ h. refl))
+
+pub on_writable-byte : (operation : writable.Acts → writable.Acts) (j : StreamId) (s : Slots) (i : StreamId) → has_byte i (on_writable operation j s).slots ≡ has_byte i s
+on_writable-byte operation j s i = on_writable-look is_byte_stream (λ b c. refl) operation j s i (is_same i j) refl
+
+pub on_writable-source : (operation : writable.Acts → writable.Acts) (j : StreamId) (s : Slots) (i : StreamId) → source_at i (on_writable operation j s).slots ≡ source_at i s
+on_writable-source operation j s i = on_writable-look as_source (λ b c. refl) operation j s i (is_same i j) refl
+
+-- an operation that either kind of controller has
+
+pub on_source-byte : (operation : ReadableOperation) (j : StreamId) (s : Slots) → has_byte j s ≡ true → on_source operation j s ≡ on_byte (byte_readable_operation j operation) j s
+on_source-byte operation j s h = rw h refl
+
+pub on_source-readable : (operation : ReadableOperation) (j : StreamId) (s : Slots) → has_byte j s ≡ false → on_source operation j s ≡ on_readable (readable_operation j operation) j s
+on_source-readable operation j s h = rw h refl
+
+pub on_source-other : (operation : ReadableOperation) (j : StreamId) (s : Slots) (i : StreamId) → is_same i j ≡ false
+    → slice_get (on_source operation j s).slots.streams i.0 ≡ slice_get s.streams i.0
+on_source-other operation j s i n =
+    either (λ (d : Done). slice_get d.slots.streams i.0 ≡ slice_get s.streams i.0) (has_byte j s) _ _
+    (λ h. on_byte-other (byte_readable_operation j operation) j s i n) (λ h. on_readable-other (readable_operation j operation) j s i n)
+
+pub on_source-none : (operation : ReadableOperation) (j : StreamId) (s : Slots) (i : StreamId)
+    → slice_get (on_source operation j s).slots.streams i.0 ≡ None → slice_get s.streams i.0 ≡ None
+on_source-none operation j s i =
+    either (λ (d : Done). slice_get d.slots.streams i.0 ≡ None → slice_get s.streams i.0 ≡ None) (has_byte j s) _ _
+    (λ h. on_byte-none (byte_readable_operation j operation) j s i) (λ h. on_readable-none (readable_operation j operation) j s i)
+
+pub on_source-writable : (operation : ReadableOperation) (j : StreamId) (s : Slots) (i : StreamId) → writable_at i (on_source operation j s).slots ≡ writable_at i s
+on_source-writable operation j s i =
+    either (λ (d : Done). writable_at i d.slots ≡ writable_at i s) (has_byte j s) _ _
+    (λ h. on_byte-look as_writable (λ b c. refl) (byte_readable_operation j operation) j s i (is_same i j) refl)
+    (λ h. on_readable-writable (readable_operation j operation) j s i (is_same i j) refl)
+
+pub on_byte-readable : (operation : byte.Acts → byte.Acts) (j : StreamId) (s : Slots) (i : StreamId) → readable_at i (on_byte operation j s).slots ≡ readable_at i s
+on_byte-readable operation j s i = on_byte-look as_readable (λ b c. refl) operation j s i (is_same i j) refl
+
+pub on_byte-there : (operation : byte.Acts → byte.Acts) (j : StreamId) (s : Slots) (i : StreamId) → has_readable i (on_byte operation j s).slots ≡ has_readable i s
+on_byte-there operation j s i = on_byte-look is_readable_stream (λ b c. refl) operation j s i (is_same i j) refl
+
+pub on_byte-writable : (operation : byte.Acts → byte.Acts) (j : StreamId) (s : Slots) (i : StreamId) → writable_at i (on_byte operation j s).slots ≡ writable_at i s
+on_byte-writable operation j s i = on_byte-look as_writable (λ b c. refl) operation j s i (is_same i j) refl

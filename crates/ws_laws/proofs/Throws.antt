@@ -1,11 +1,12 @@
 -- A call that throws changes nothing but the age.
-use Rattle.std.proofs.Common.{◌≡◌, refl, ◌∙◌, ap}
-use Rattle.ws_steps.specs.declared.{calls.Call.{Call}, calls.Reply.{Reply}, calls.Reply.TheVariants.{Throws}, calls.Thrown.{Thrown}}
-use Rattle.ws_steps.specs.Slots.{Slots, Done, nothing}
+use Rattle.std.proofs.Common.{◌≡◌, false, [], ◌∷◌, refl, ◌∙◌, ap}
+use Rattle.ws_value.specs.declared.ids.StreamId.{StreamId}
+use Rattle.ws_steps.specs.declared.{calls.Call.{Call}, calls.Call.TheVariants.{Finish}, calls.Reply.{Reply}, calls.Reply.TheVariants.{Done as ReplyDone, Throws}, effects.Effect.TheVariants.{Readable}, readable.ReadableOperation.TheVariants.{Close}, calls.Thrown.{Thrown}}
+use Rattle.ws_steps.specs.Slots.{Slots, Done, nothing, causes, byte_at}
 use Rattle.ws_steps.specs.Turns.{performed}
-use Rattle.ws_steps.specs.Calls.{Begun, begin, named}
+use Rattle.ws_steps.specs.Calls.{Begun, begin, begun, close_reply, named}
 use Rattle.ws_steps.specs.Run.{older}
-use Rattle.ws_steps.specs.Laws.{EachThrowChangesNothing}
+use Rattle.ws_steps.specs.Laws.{errs, EachThrowChangesNothing}
 use Rattle.ws_room_laws.proofs.Turns.{performed_none}
 use Rattle.ws_laws.proofs.EachCall.{each_call}
 
@@ -13,11 +14,23 @@ use Rattle.ws_laws.proofs.EachCall.{each_call}
 abbrev Idle : Slots → Begun → Type 0
 Idle s b = (t : Thrown) → b.reply ≡ Throws t → b.done ≡ nothing s
 
-throws_nothing : (c : Call) (s : Slots) → Idle s (begin c s)
-throws_nothing c s = each_call (Idle s) c s (record {
+-- the close of a byte stream that doesn't err is done
+close-done : (s : Slots) (i : StreamId) → errs (Finish i) s ≡ false → Idle s (begun (close_reply (byte_at i s)) (causes (Readable i Close ∷ []) s))
+close-done s i calm t h = let same : close_reply (byte_at i s) ≡ ReplyDone = rw calm refl in cc
+
+throws_nothing : (c : Call) (s : Slots) → errs c s ≡ false → Idle s (begin c s)
+throws_nothing c s calm = each_call (Idle s) c s (record {
   unchanged = λ reply t h. refl;
   rejected = λ t h. cc;
   make_readable = λ mark size start t h. cc;
+  make_bytes = λ mark auto start t h. cc;
+  get_byob = λ i is e t h. cc;
+  release_byob = λ l closed i e t h. cc;
+  read_into = λ l i closed room element least e f t h. cc;
+  enqueue_bytes = λ i b e is some can t h. cc;
+  finish_bytes = λ i e is can t h. close-done s i (rw e at calm) t h;
+  make_request = λ i reply is t h. cc;
+  respond = λ q i b e is can t h. cc;
   make_writable = λ mark size start t h. cc;
   make_transform = λ kind m n start t h. cc;
   get_reader = λ i e t h. cc;
@@ -43,6 +56,6 @@ throws_nothing c s = each_call (Idle s) c s (record {
 })
 
 pub each_throw_changes_nothing : EachThrowChangesNothing
-each_throw_changes_nothing c s t h =
+each_throw_changes_nothing c s t calm h =
     ap (λ (r : Reply). older (named r (performed (begin c s).done))) h
-    ∙ (ap (λ (d : Done). older (performed d)) (throws_nothing c s t h) ∙ ap older (performed_none s))
+    ∙ (ap (λ (d : Done). older (performed d)) (throws_nothing c s calm t h) ∙ ap older (performed_none s))

@@ -1,5 +1,6 @@
 pub mod Tables
 pub mod Readables
+pub mod Bytes
 pub mod Writables
 pub mod Pipes
 pub mod Transforms

@@ -78,14 +78,14 @@ module _ (π : Prices) (me : PipeId) where
       let g = signal_act-takes ends b r refl in
       grind (arith, h, g)
 
-  look_by-takes : (ends : Ends) (a : Acts) (s : ReadableState) (d : WritableState) → Takes (price π 13 8 7 3 2 2 1) a (look_by me ends a s d)
+  look_by-takes : (ends : Ends) (a : Acts) (s : ReadableState) (d : WritableState) → Takes (price π 13 8 7 3 2 2 1 + π.descriptor) a (look_by me ends a s d)
   look_by-takes ends a s d = grind (arith, prices-append, shutdown-takes)
 
-  look-takes : (ends : Ends) (a : Acts) → Takes (price π 13 8 7 3 2 2 1) a (look me ends a)
+  look-takes : (ends : Ends) (a : Acts) → Takes (price π 13 8 7 3 2 2 1 + π.descriptor) a (look me ends a)
   unfolding look
   look-takes ends a = let h = look_by-takes ends a ends.source_state ends.dest_state in grind (arith, h)
 
-  go_on-takes : (ends : Ends) (a : Acts) (phase : Phase) → Takes (price π 13 8 7 3 2 2 1) a (go_on_in me ends a phase)
+  go_on-takes : (ends : Ends) (a : Acts) (phase : Phase) → Takes (price π 13 8 7 3 2 2 1 + π.descriptor) a (go_on_in me ends a phase)
   go_on-takes ends a phase = let h = look-takes ends a in let g = proceed-takes ends a in grind (arith, h, g)
 
   write-takes : (a : Acts) (held : Option Value) → Takes (look_price π + price π 13 6 4 1 1 2 1) a (write_held me a held)

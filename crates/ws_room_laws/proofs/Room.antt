@@ -1,35 +1,42 @@
 -- What a call or a job takes, at each moment of it, is within the room that is told beforehand.
 use Rattle.std.proofs.Common.{◌≡◌, ◌≤◌, ℕ, zero, suc, ◌+◌, ◌*◌, Bool, true, false, if◌then◌else◌, List, [], ◌∷◌, ◌++◌, length, Option, Some, None, Result, Err, refl, ap, arith}
-use Rattle.std.specs.Prelude.{slice_get, nat_lt}
+use Rattle.std.specs.Prelude.{slice_get, nat_lt, nat_eq, not, ◌&&◌}
+use Rattle.ws_value.specs.declared.fault.Fault.{Fault}
 use Rattle.ws_value.specs.declared.ids.HostId.{HostId}
 use Rattle.ws_value.specs.declared.ids.LockId.{LockId}
 use Rattle.ws_value.specs.declared.ids.PipeId.{PipeId}
 use Rattle.ws_value.specs.declared.ids.PromiseId.{PromiseId}
+use Rattle.ws_value.specs.declared.ids.RequestId.{RequestId}
 use Rattle.ws_value.specs.declared.ids.SignalId.{SignalId}
 use Rattle.ws_value.specs.declared.ids.StreamId.{StreamId}
 use Rattle.ws_value.specs.declared.value.Plain.{Plain}
 use Rattle.ws_steps.specs.declared.{calls.Answer.{Answer}, calls.Call.{Call}}
 use Rattle.ws_steps.specs.declared.calls.Call.TheVariants as names
-use Rattle.ws_steps.specs.declared.{calls.Reply.{Reply}, calls.Reply.TheVariants.{Done as ReplyDone, Made, MadeTwo, Lock as ReplyLock, Promise, Signal as ReplySignal, Size, State as ReplyState, Throws, TooMany}}
+use Rattle.ws_steps.specs.declared.{calls.Reply.{Reply}, calls.Reply.TheVariants.{Done as ReplyDone, Made, MadeTwo, Lock as ReplyLock, Promise, Signal as ReplySignal, Request as ReplyRequest, Size, State as ReplyState, Throws, TooMany}}
 use Rattle.ws_steps.specs.declared.{calls.Thrown.TheVariants.{TypeError, Unsupported}, calls.StartBy.{StartBy}, calls.StartBy.TheVariants.{Now, Later}, effects.Effect.{Effect}}
-use Rattle.ws_steps.specs.declared.{effects.Effect.TheVariants.{Readable, Writable, Signal as OnSignal, Transform as OnTransform, StartAlgorithm, Settle as SettlePromise}, effects.Owner.{Owner}, effects.Owner.TheVariants.{Host, HalfOf}}
+use Rattle.ws_steps.specs.declared.{effects.Effect.TheVariants.{Readable, Byte, Writable, Signal as OnSignal, Transform as OnTransform, StartAlgorithm, Settle as SettlePromise}, effects.Owner.{Owner}, effects.Owner.TheVariants.{Host, HalfOf}}
 use Rattle.ws_steps.specs.declared.{readable.ReadRequest.TheVariants.{Promise as PromiseRequest}, readable.ReadableOperation.{ReadableOperation}}
 use Rattle.ws_steps.specs.declared.readable.ReadableOperation.TheVariants.{ReleaseReader, Read as ReadChunk, Cancel as CancelStream, Enqueue as EnqueueChunk, Close as CloseReadable, Error as ErrorReadable}
 use Rattle.ws_steps.specs.declared.transform.Kind.{Kind}
 use Rattle.ws_steps.specs.declared.transform.TransformOperation.TheVariants.{Enqueue as EnqueueByTransform, Error as ErrorTransform, Terminate as TerminateTransform}
 use Rattle.ws_steps.specs.declared.writable.WritableOperation.TheVariants.{ReleaseWriter, Write as WriteChunk, Close as CloseStream, Abort as AbortStream, ErrorIfNeeded}
 use Rattle.ws_value.specs.declared.value.Value.{Value}
+use Rattle.ws_value.specs.declared.value.Value.TheVariants.{Plain as PlainValue, Bytes}
+use Rattle.ws_steps.specs.declared.byte.ByteOperation.TheVariants.{Enqueue as EnqueueBytes, PullInto, Respond as RespondBytes}
 use Rattle.ws_steps.specs.Effects.{type_error}
 use Rattle.ws_steps.specs.ReadableLooks as readable_looks
 use Rattle.ws_steps.specs.WritableLooks as writable_looks
-use Rattle.ws_steps.specs.declared.{locks.Lock.{Lock}, locks.Lock.TheVariants.{Reader as ReaderLock, Writer as WriterLock, ReleasedWriter, Inner}, promises.Job.{Job}}
+use Rattle.ws_steps.specs.declared.{locks.Lock.{Lock}, locks.Lock.TheVariants.{Reader as ReaderLock, ByobReader, Writer as WriterLock, ReleasedWriter, Inner}, promises.Job.{Job}}
 use Rattle.ws_steps.specs.declared.{promises.Job.TheVariants.{Reaction, Follow, Settle, Micro as MicroJob}, promises.Micro.TheVariants.{PipeLook, PipeWrite, PipeNoParts}, pipes.Prevent.{Prevent}, pipes.SignalOperation.TheVariants.{Trigger as TriggerSignal}, promises.Step.{Step}}
 use Rattle.ws_steps.specs.declared.{promises.Step.TheVariants.{ReadableStart, WritableStart}, readable.SizeBy.TheVariants.{Count}, writable.Writer.{Writer}}
 use Rattle.ws_steps.specs.Promises.{Table, next_id, fresh, next_job, is_pending_at}
+use Rattle.ws_steps.specs.Bytes as byte
+use Rattle.ws_steps.specs.Descriptors.{Descriptor, room_left, respond_throws}
+use Rattle.ws_steps.specs.Queues.{is_empty}
 use Rattle.ws_steps.specs.Pipes as pipe
 use Rattle.ws_steps.specs.Readable as readable
 use Rattle.ws_steps.specs.Writable as writable
-use Rattle.ws_steps.specs.Slots.{Slots, most_streams, Stream, ReadableStream, WritableStream, Done, causes, has_readable, has_writable, has_signal, readable_at, writable_at, lock_at, host_at}
+use Rattle.ws_steps.specs.Slots.{Slots, most_streams, Stream, ReadableStream, ByteStream, WritableStream, Done, causes, has_readable, has_byte, has_source, has_writable, has_signal, readable_at, byte_at, source_at, stream_of_request, writable_at, lock_at, host_at}
 use Rattle.ws_steps.specs.Places.{Prices, price, each, effect_price, prices_of, keeps, all_keep, signals_keep, need, measure, step_price, room, size, entries_of, members_of, table_size}
 use Rattle.ws_steps.specs.Turns.{row, turns, after_turns, performed, Agenda}
 use Rattle.ws_steps.specs.Jobs.{steps, returned, resolved, job_effects, job_begun, begin_job}
@@ -69,7 +76,7 @@ begun-within π i g n m s d h =
 
 -- what a call takes before the promise that it answers is watched, or a job
 abbrev pub call_price : Prices → ℕ
-call_price π = price π 28 14 11 3 3 4 2 + π.member
+call_price π = price π 28 14 11 3 3 4 2 + (π.member + π.descriptor)
 
 module _ (π : Prices) (i : StreamId) (g : SignalId) (s : Slots) where
   -- a call begins within the room
@@ -101,12 +108,18 @@ module _ (π : Prices) (i : StreamId) (g : SignalId) (s : Slots) where
   for_readable-fits : (j : StreamId) (f : Slots → Begun) → Fits (f s) → Fits (calls.for_readable j f s)
   for_readable-fits j f h = if-fits (has_readable j s) (f s) (calls.unsupported s) h unsupported-fits
 
+  for_byte-fits : (j : StreamId) (f : Slots → Begun) → Fits (f s) → Fits (calls.for_byte j f s)
+  for_byte-fits j f h = if-fits (has_byte j s) (f s) (calls.unsupported s) h unsupported-fits
+
+  for_source-fits : (j : StreamId) (f : Slots → Begun) → Fits (f s) → Fits (calls.for_source j f s)
+  for_source-fits j f h = if-fits (has_source j s) (f s) (calls.unsupported s) h unsupported-fits
+
   for_writable-fits : (j : StreamId) (f : Slots → Begun) → Fits (f s) → Fits (calls.for_writable j f s)
   for_writable-fits j f h = if-fits (has_writable j s) (f s) (calls.unsupported s) h unsupported-fits
 
   unlocked_readable-fits : (j : StreamId) (locked : Slots → Begun) (free : StreamId → Slots → Begun) → Fits (locked s) → Fits (free j s) → Fits (calls.unlocked_readable j locked free s)
   unlocked_readable-fits j locked free l f =
-      for_readable-fits j (λ z. if readable_looks.is_locked (readable_at j z) then locked z else free j z) (if-fits (readable_looks.is_locked (readable_at j s)) (locked s) (free j s) l f)
+      for_source-fits j (λ z. if readable_looks.is_locked (source_at j z) then locked z else free j z) (if-fits (readable_looks.is_locked (source_at j s)) (locked s) (free j s) l f)
 
   unlocked_writable-fits : (j : StreamId) (locked : Slots → Begun) (free : StreamId → Slots → Begun) → Fits (locked s) → Fits (free j s) → Fits (calls.unlocked_writable j locked free s)
   unlocked_writable-fits j locked free l f =
@@ -114,15 +127,26 @@ module _ (π : Prices) (i : StreamId) (g : SignalId) (s : Slots) where
 
   by_reader-fits : (holding : StreamId → Slots → Begun) (free : Slots → Begun) → ((j : StreamId) → Fits (holding j s)) → Fits (free s) → (lock : Option Lock) → Fits (calls.by_reader holding free s lock)
   by_reader-fits holding free h f None = unsupported-fits
-  by_reader-fits holding free h f (Some (ReaderLock (Some j) closed)) = for_readable-fits j (holding j) (h j)
+  by_reader-fits holding free h f (Some (ReaderLock (Some j) closed)) = for_source-fits j (holding j) (h j)
   by_reader-fits holding free h f (Some (ReaderLock None closed)) = f
+  by_reader-fits holding free h f (Some (ByobReader (Some j) closed)) = for_source-fits j (holding j) (h j)
+  by_reader-fits holding free h f (Some (ByobReader None closed)) = f
   by_reader-fits holding free h f (Some (WriterLock j)) = unsupported-fits
   by_reader-fits holding free h f (Some (ReleasedWriter w)) = unsupported-fits
   by_reader-fits holding free h f (Some Inner) = unsupported-fits
 
+  by_default_reader-fits : (holding : StreamId → Slots → Begun) (free : Slots → Begun) → ((j : StreamId) → Fits (holding j s)) → Fits (free s) → (lock : Option Lock) → Fits (calls.by_default_reader holding free s lock)
+  by_default_reader-fits holding free h f lock =
+      if-fits (calls.is_byob_reader lock) (calls.unsupported s) (calls.by_reader holding free s lock) unsupported-fits (by_reader-fits holding free h f lock)
+
+  by_byob_reader-fits : (holding : StreamId → Slots → Begun) (free : Slots → Begun) → ((j : StreamId) → Fits (holding j s)) → Fits (free s) → (lock : Option Lock) → Fits (calls.by_byob_reader holding free s lock)
+  by_byob_reader-fits holding free h f lock =
+      if-fits (calls.is_byob_reader lock) (calls.by_reader holding free s lock) (calls.unsupported s) (by_reader-fits holding free h f lock) unsupported-fits
+
   by_writer-fits : (holding : StreamId → Slots → Begun) (free : Slots → Begun) → ((j : StreamId) → Fits (holding j s)) → Fits (free s) → (lock : Option Lock) → Fits (calls.by_writer holding free s lock)
   by_writer-fits holding free h f None = unsupported-fits
   by_writer-fits holding free h f (Some (ReaderLock stream closed)) = unsupported-fits
+  by_writer-fits holding free h f (Some (ByobReader stream closed)) = unsupported-fits
   by_writer-fits holding free h f (Some (WriterLock j)) = for_writable-fits j (holding j) (h j)
   by_writer-fits holding free h f (Some (ReleasedWriter w)) = f
   by_writer-fits holding free h f (Some Inner) = unsupported-fits
@@ -181,6 +205,9 @@ module _ (π : Prices) (i : StreamId) (g : SignalId) (s : Slots) where
   reader-fits : (j : StreamId) → Fits (calls.get_reader j s)
   reader-fits j = let f = fresh-size π s.promises in omega (arith, f)
 
+  byob-fits : (j : StreamId) → Fits (calls.get_byob j s)
+  byob-fits j = let f = fresh-size π s.promises in omega (arith, f)
+
   writer-fits : (j : StreamId) → Fits (calls.get_writer j s)
   writer-fits j = let f = fresh-size π s.promises in let g = fresh-size π (fresh s.promises) in omega (arith, f, g)
 
@@ -192,9 +219,9 @@ module _ (π : Prices) (i : StreamId) (g : SignalId) (s : Slots) where
   renewed-price t true = omega arith
   renewed-price t false = omega arith
 
-  release_reader-fits : (l : LockId) (closed : PromiseId) (j : StreamId) → Fits (calls.release_reader l closed j s)
-  release_reader-fits l closed j =
-      let kept : Bool = readable.is_readable (readable_at j s).state in
+  release_reader-fits : (released : PromiseId → Lock) (l : LockId) (closed : PromiseId) (j : StreamId) → Fits (calls.release_reader released l closed j s)
+  release_reader-fits released l closed j =
+      let kept : Bool = readable.is_readable (source_at j s).state in
       let f = renewed-size s.promises kept in
       let g = renewed-price s.promises kept in
       let h = prices-append π (calls.reject_renewed s.promises kept) (Readable j ReleaseReader ∷ []) in
@@ -216,8 +243,10 @@ module _ (π : Prices) (i : StreamId) (g : SignalId) (s : Slots) where
 
   release-fits : (l : LockId) (lock : Option Lock) → Fits (calls.release l s lock)
   release-fits l None = unsupported-fits
-  release-fits l (Some (ReaderLock (Some j) closed)) = for_readable-fits j (calls.release_reader l closed j) (release_reader-fits l closed j)
+  release-fits l (Some (ReaderLock (Some j) closed)) = for_source-fits j (calls.release_reader (ReaderLock None) l closed j) (release_reader-fits (ReaderLock None) l closed j)
   release-fits l (Some (ReaderLock None closed)) = replies-fits ReplyDone
+  release-fits l (Some (ByobReader (Some j) closed)) = for_source-fits j (calls.release_reader (ByobReader None) l closed j) (release_reader-fits (ByobReader None) l closed j)
+  release-fits l (Some (ByobReader None closed)) = replies-fits ReplyDone
   release-fits l (Some (WriterLock j)) = of_writer-fits (calls.release_writer l j) (λ w. release_writer-fits l j w) (writable_at j s).writer
   release-fits l (Some (ReleasedWriter w)) = replies-fits ReplyDone
   release-fits l (Some Inner) = unsupported-fits
@@ -225,6 +254,7 @@ module _ (π : Prices) (i : StreamId) (g : SignalId) (s : Slots) where
   closed-fits : (lock : Option Lock) → Fits (calls.closed_by s lock)
   closed-fits None = unsupported-fits
   closed-fits (Some (ReaderLock stream closed)) = replies-fits (Promise closed)
+  closed-fits (Some (ByobReader stream closed)) = replies-fits (Promise closed)
   closed-fits (Some (WriterLock j)) = of_writer-fits (λ w. calls.replies (Promise w.closed)) (λ w. replies-fits (Promise w.closed)) (writable_at j s).writer
   closed-fits (Some (ReleasedWriter w)) = replies-fits (Promise w.closed)
   closed-fits (Some Inner) = unsupported-fits
@@ -232,6 +262,7 @@ module _ (π : Prices) (i : StreamId) (g : SignalId) (s : Slots) where
   ready-fits : (lock : Option Lock) → Fits (calls.ready_by s lock)
   ready-fits None = unsupported-fits
   ready-fits (Some (ReaderLock stream closed)) = unsupported-fits
+  ready-fits (Some (ByobReader stream closed)) = unsupported-fits
   ready-fits (Some (WriterLock j)) = of_writer-fits (λ w. calls.replies (Promise w.ready)) (λ w. replies-fits (Promise w.ready)) (writable_at j s).writer
   ready-fits (Some (ReleasedWriter w)) = replies-fits (Promise w.ready)
   ready-fits (Some Inner) = unsupported-fits
@@ -243,6 +274,17 @@ module _ (π : Prices) (i : StreamId) (g : SignalId) (s : Slots) where
 
   read-fits : (j : StreamId) → Fits (calls.read j s)
   read-fits j = promising-fits (λ p. Readable j (ReadChunk (PromiseRequest p)) ∷ []) (omega arith)
+
+  read_into-fits : (room : List ℕ) (element least : ℕ) (j : StreamId) → Fits (calls.read_into room element least j s)
+  read_into-fits room element least j = promising-fits (λ p. Byte j (PullInto room element (least * element) (PromiseRequest p)) ∷ []) (omega arith)
+
+  read_into_by-fits : (room : List ℕ) (element least : ℕ) (lock : Option Lock) → Fits (calls.read_into_by room element least s lock)
+  read_into_by-fits room element least lock =
+      let empty : Begun = calls.by_byob_reader (λ j. calls.rejected) calls.rejected s lock in
+      let other : Begun = calls.by_byob_reader (calls.read_into room element least) calls.rejected s lock in
+      if-fits (not (calls.is_view (length room) element && nat_eq least 1)) (calls.unsupported s) (if is_empty room then empty else other) unsupported-fits
+      (if-fits (is_empty room) empty other (by_byob_reader-fits (λ j. calls.rejected) calls.rejected (λ j. rejected-fits) rejected-fits lock)
+      (by_byob_reader-fits (calls.read_into room element least) calls.rejected (read_into-fits room element least) rejected-fits lock))
 
   write-fits : (v : Value) (j : StreamId) → Fits (calls.write v j s)
   write-fits v j = promising-fits (λ p. Writable j (WriteChunk v p) ∷ []) (omega arith)
@@ -273,6 +315,41 @@ module _ (π : Prices) (i : StreamId) (g : SignalId) (s : Slots) where
   finish-fits j Host = can-fits j CloseReadable (omega arith)
   finish-fits j (HalfOf t) = unsupported-fits
 
+  enqueue_bytes-fits : (j : StreamId) (v : Value) → Fits (calls.enqueue_bytes j s v)
+  enqueue_bytes-fits j (PlainValue v) = type_error-fits
+  enqueue_bytes-fits j (Bytes b) =
+      if-fits (not (is_empty b) && byte.can_take (byte_at j s)) (calls.does (Byte j (EnqueueBytes b) ∷ []) s) (calls.throws_type_error s)
+      (does-fits (Byte j (EnqueueBytes b) ∷ []) (omega arith)) type_error-fits
+
+  enqueue_call-fits : (j : StreamId) (v : Value) → Fits (calls.enqueue_call j v s)
+  enqueue_call-fits j v =
+      if-fits (has_byte j s) (calls.enqueue_bytes j s v) (calls.for_readable j (calls.enqueue v j) s) (enqueue_bytes-fits j v)
+      (for_readable-fits j (calls.enqueue v j) (enqueue-fits v j (readable_at j s).owner))
+
+  finish_bytes-fits : (j : StreamId) → Fits (calls.finish_bytes j s)
+  finish_bytes-fits j =
+      if-fits (byte.can_take (byte_at j s)) (calls.begun (calls.close_reply (byte_at j s)) (causes (Readable j CloseReadable ∷ []) s)) (calls.throws_type_error s) (omega arith) type_error-fits
+
+  finish_call-fits : (j : StreamId) → Fits (calls.finish_call j s)
+  finish_call-fits j =
+      if-fits (has_byte j s) (calls.finish_bytes j s) (calls.for_readable j (calls.finish j) s) (finish_bytes-fits j)
+      (for_readable-fits j (calls.finish j) (finish-fits j (readable_at j s).owner))
+
+  request-fits : (j : StreamId) (request : Option RequestId) (ds : List Descriptor) → Fits (calls.request_by j s request ds)
+  request-fits j request [] = replies-fits (ReplyRequest None)
+  request-fits j (Some q) (d ∷ ds) = replies-fits (ReplyRequest (Some (q, room_left d)))
+  request-fits j None (d ∷ ds) = omega arith
+
+  respond_unless-fits : (j : StreamId) (b : List ℕ) (fault : Option Fault) → Fits (calls.respond_unless j b s fault)
+  respond_unless-fits j b None = does-fits (Byte j (RespondBytes b) ∷ []) (omega arith)
+  respond_unless-fits j b (Some fault) = replies-fits (calls.thrown_by fault)
+
+  respond-fits : (q : RequestId) (b : List ℕ) (i : Option StreamId) → Fits (calls.respond q b s i)
+  respond-fits q b None = unsupported-fits
+  respond-fits q b (Some j) =
+      let fault : Option Fault = respond_throws (length b) (byte_at j s).stream.state (byte_at j s).descriptors in
+      if-fits (calls.is_request q (byte_at j s).request) (calls.respond_unless j b s fault) (calls.throws_type_error s) (respond_unless-fits j b fault) type_error-fits
+
   fail_readable-fits : (r : Plain) (j : StreamId) (o : Owner) → Fits (calls.fail_readable_by r j s o)
   fail_readable-fits r j Host = does-fits (Readable j (ErrorReadable r) ∷ []) (omega arith)
   fail_readable-fits r j (HalfOf t) = does-fits (OnTransform t (ErrorTransform r) ∷ []) (omega arith)
@@ -284,8 +361,11 @@ module _ (π : Prices) (i : StreamId) (g : SignalId) (s : Slots) where
   fail-fits : (r : Plain) (j : StreamId) → Fits (calls.fail r j s)
   fail-fits r j =
       let failed : Slots → Begun = λ z. calls.fail_writable_by r j z (writable_at j z).owner in
-      if-fits (has_readable j s) (calls.fail_readable_by r j s (readable_at j s).owner) (calls.for_writable j failed s)
-      (fail_readable-fits r j (readable_at j s).owner) (for_writable-fits j failed (fail_writable-fits r j (writable_at j s).owner))
+      let bytes : Begun = calls.does (Readable j (ErrorReadable r) ∷ []) s in
+      if-fits (has_readable j s) (calls.fail_readable_by r j s (readable_at j s).owner) (if has_byte j s then bytes else calls.for_writable j failed s)
+      (fail_readable-fits r j (readable_at j s).owner)
+      (if-fits (has_byte j s) bytes (calls.for_writable j failed s) (does-fits (Readable j (ErrorReadable r) ∷ []) (omega arith))
+      (for_writable-fits j failed (fail_writable-fits r j (writable_at j s).owner)))
 
   terminate-fits : (o : Owner) → Fits (calls.terminate_by s o)
   terminate-fits Host = unsupported-fits
@@ -294,8 +374,8 @@ module _ (π : Prices) (i : StreamId) (g : SignalId) (s : Slots) where
   look-fits : (j : StreamId) → Fits (calls.look j s)
   look-fits j =
       let looked : Slots → Begun = λ z. calls.replies (ReplyState (writable_looks.state_of (writable_at j z))) z in
-      let reply : Reply = ReplyState (readable_looks.state_of (readable_at j s)) in
-      if-fits (has_readable j s) (calls.replies reply s) (calls.for_writable j looked s)
+      let reply : Reply = ReplyState (readable_looks.state_of (source_at j s)) in
+      if-fits (has_source j s) (calls.replies reply s) (calls.for_writable j looked s)
       (replies-fits reply) (for_writable-fits j looked (replies-fits (ReplyState (writable_looks.state_of (writable_at j s)))))
 
   -- pipes and signals
@@ -324,10 +404,10 @@ module _ (π : Prices) (i : StreamId) (g : SignalId) (s : Slots) where
   pipe_call-fits source dest prevent signal =
       let free : Slots → Begun = calls.pipe_unlocked source dest prevent signal in
       let piped : Fits (free s) =
-      if-fits (readable_looks.is_locked (readable_at source s)) (calls.rejected s) (if writable_looks.is_locked (writable_at dest s) then calls.rejected s else calls.pipe_to source dest prevent signal s)
+      if-fits (readable_looks.is_locked (source_at source s)) (calls.rejected s) (if writable_looks.is_locked (writable_at dest s) then calls.rejected s else calls.pipe_to source dest prevent signal s)
       rejected-fits
       (if-fits (writable_looks.is_locked (writable_at dest s)) (calls.rejected s) (calls.pipe_to source dest prevent signal s) rejected-fits (pipe_to-fits source dest prevent signal)) in
-      for_readable-fits source (calls.for_writable dest (calls.for_signal_where signal free))
+      for_source-fits source (calls.for_writable dest (calls.for_signal_where signal free))
       (for_writable-fits dest (calls.for_signal_where signal free) (for_signal_where-fits signal free piped))
 
   append-signals : (xs : List pipe.Signal) → signals_keep π (xs ++ pipe.new_signal ∷ []) ≡ signals_keep π xs
@@ -347,15 +427,21 @@ module _ (π : Prices) (i : StreamId) (g : SignalId) (s : Slots) where
   unfolding begin
   begin-fits (names.MakeReadable mark size start) =
       make-fits (calls.make_readable mark size start) (stream-fits (ReadableStream (readable.set_up Host mark size)) (Made (record { 0 = length s.streams })) (record { 0 = length s.streams }) (ReadableStart (record { 0 = length s.streams })) start refl refl)
+  begin-fits (names.MakeBytes mark auto start) =
+      make-fits (calls.make_bytes mark auto start) (stream-fits (ByteStream (byte.set_up mark auto)) (Made (record { 0 = length s.streams })) (record { 0 = length s.streams }) (ReadableStart (record { 0 = length s.streams })) start refl refl)
   begin-fits (names.MakeWritable mark size start) =
       make-fits (calls.make_writable mark size start) (stream-fits (WritableStream (writable.set_up Host mark size)) (Made (record { 0 = length s.streams })) (record { 0 = length s.streams }) (WritableStart (record { 0 = length s.streams })) start refl refl)
   begin-fits (names.MakeTransform kind m n start) =
       two-fits (calls.make_transform kind m n start) (transform-fits kind m n start (record { 0 = length s.streams }) (record { 0 = length s.streams + 1 }))
   begin-fits (names.GetReader j) = unlocked_readable-fits j calls.throws_type_error calls.get_reader type_error-fits (reader-fits j)
+  begin-fits (names.GetByob j) =
+      unlocked_readable-fits j calls.throws_type_error calls.get_byob_of type_error-fits
+      (if-fits (has_byte j s) (calls.get_byob j s) (calls.throws_type_error s) (byob-fits j) type_error-fits)
   begin-fits (names.GetWriter j) = unlocked_writable-fits j calls.throws_type_error calls.get_writer type_error-fits (writer-fits j)
   begin-fits (names.Cancel j r) = unlocked_readable-fits j calls.rejected (calls.cancel r) rejected-fits (cancel-fits r j)
   begin-fits (names.CancelBy l r) = by_reader-fits (calls.cancel r) calls.rejected (cancel-fits r) rejected-fits (lock_at l s)
-  begin-fits (names.Read l) = by_reader-fits calls.read calls.rejected read-fits rejected-fits (lock_at l s)
+  begin-fits (names.Read l) = by_default_reader-fits calls.read calls.rejected read-fits rejected-fits (lock_at l s)
+  begin-fits (names.ReadInto l room element least) = read_into_by-fits room element least (lock_at l s)
   begin-fits (names.Write l v) = by_writer-fits (calls.write v) calls.rejected (write-fits v) rejected-fits (lock_at l s)
   begin-fits (names.Close j) = unlocked_writable-fits j calls.rejected calls.close rejected-fits (close-fits j)
   begin-fits (names.CloseBy l) = by_writer-fits calls.close calls.rejected close-fits rejected-fits (lock_at l s)
@@ -364,11 +450,13 @@ module _ (π : Prices) (i : StreamId) (g : SignalId) (s : Slots) where
   begin-fits (names.Closed l) = closed-fits (lock_at l s)
   begin-fits (names.Ready l) = ready-fits (lock_at l s)
   begin-fits (names.Release l) = release-fits l (lock_at l s)
-  begin-fits (names.Enqueue j v) = for_readable-fits j (calls.enqueue v j) (enqueue-fits v j (readable_at j s).owner)
-  begin-fits (names.Finish j) = for_readable-fits j (calls.finish j) (finish-fits j (readable_at j s).owner)
+  begin-fits (names.Enqueue j v) = enqueue_call-fits j v
+  begin-fits (names.Finish j) = finish_call-fits j
   begin-fits (names.Fail j r) = fail-fits r j
   begin-fits (names.Terminate j) = for_readable-fits j (calls.terminate j) (terminate-fits (readable_at j s).owner)
-  begin-fits (names.Desired j) = for_readable-fits j (calls.desired j) (replies-fits (calls.desired j s).reply)
+  begin-fits (names.Request j) = for_byte-fits j (calls.request j) (request-fits j (byte_at j s).request (byte_at j s).descriptors)
+  begin-fits (names.Respond q b) = respond-fits q b (stream_of_request q s)
+  begin-fits (names.Desired j) = for_source-fits j (calls.desired j) (replies-fits (calls.desired j s).reply)
   begin-fits (names.DesiredBy l) = by_writer-fits calls.desired_of_writer calls.throws_type_error (λ j. replies-fits (calls.desired_of_writer j s).reply) type_error-fits (lock_at l s)
   begin-fits (names.Pipe source dest prevent signal) = pipe_call-fits source dest prevent signal
   begin-fits names.MakeSignal = signal-fits
@@ -379,14 +467,14 @@ module _ (π : Prices) (i : StreamId) (g : SignalId) (s : Slots) where
 
   -- a job
 
-  steps-price : (step : Step) (outcome : Result Plain Plain) → prices_of π (steps step outcome) ≤ price π 14 8 7 3 2 2 1
+  steps-price : (step : Step) (outcome : Result Plain Plain) → prices_of π (steps step outcome) ≤ price π 14 8 7 3 2 2 1 + π.descriptor
   steps-price step outcome = grind arith
 
   resolved-price : (derived : Option PromiseId) (outcome : Result Plain Plain) → prices_of π (resolved derived outcome) ≤ π.turn
   resolved-price None outcome = omega arith
   resolved-price (Some p) outcome = omega arith
 
-  effects-price : (job : Job) → prices_of π (job_effects job) ≤ price π 28 14 11 4 3 4 2
+  effects-price : (job : Job) → prices_of π (job_effects job) ≤ price π 28 14 11 4 3 4 2 + π.descriptor
   effects-price (Reaction step outcome derived) =
       let a = steps-price step outcome in
       let b = resolved-price derived (returned step outcome) in
@@ -413,6 +501,7 @@ named-size π i g (MadeTwo j k) s = omega arith
 named-size π i g (ReplyLock l) s = omega arith
 named-size π i g (ReplySignal b) s = omega arith
 named-size π i g (Size n) s = omega arith
+named-size π i g (ReplyRequest request) s = omega arith
 named-size π i g (ReplyState looks) s = omega arith
 named-size π i g (Throws t) s = omega arith
 named-size π i g TooMany s = omega arith

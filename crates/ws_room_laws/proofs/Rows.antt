@@ -9,24 +9,27 @@ use Rattle.ws_value.specs.declared.ids.PromiseId.{PromiseId}
 use Rattle.ws_value.specs.declared.value.Plain.{Plain}
 use Rattle.ws_value.specs.declared.value.Plain.TheVariants.{Undefined}
 use Rattle.ws_value.specs.declared.value.Value.{Value}
-use Rattle.ws_value.specs.declared.value.Value.TheVariants.{Plain as PlainValue}
+use Rattle.ws_value.specs.declared.value.Value.TheVariants.{Plain as PlainValue, Bytes}
 use Rattle.ws_steps.specs.declared.{calls.Event.TheVariants.{Host as HostCalled}, calls.HostCall.{HostCall}, calls.StartBy.{StartBy}, calls.StartBy.TheVariants.{Now, Later}}
+use Rattle.ws_steps.specs.declared.byte.ByteOperation.{ByteOperation}
 use Rattle.ws_steps.specs.declared.effects.Effect.{Effect}
-use Rattle.ws_steps.specs.declared.effects.Effect.TheVariants.{Readable, Writable, Pipe, Signal, Transform, StartAlgorithm, PullAlgorithm, CancelAlgorithm, WriteAlgorithm, CloseAlgorithm, AbortAlgorithm, ChunkSteps, CloseSteps, ErrorSteps, Give, Settle, Queue, CallHost}
+use Rattle.ws_steps.specs.declared.effects.Effect.TheVariants.{Readable, Byte, Writable, Pipe, Signal, Transform, StartAlgorithm, PullAlgorithm, CancelAlgorithm, WriteAlgorithm, CloseAlgorithm, AbortAlgorithm, ChunkSteps, CloseSteps, CloseStepsWith, ErrorSteps, Give, Settle, Queue, CallHost}
 use Rattle.ws_steps.specs.declared.{effects.Owner.{Owner}, effects.Owner.TheVariants.{Host, HalfOf}, effects.Use.{Use}, effects.Use.TheVariants.{React}, promises.Step.{Step}}
 use Rattle.ws_steps.specs.declared.{promises.Step.TheVariants.{ReadablePull, ReturnUndefined, WritableClose, WritableAbort}, readable.ReadRequest.{ReadRequest}}
 use Rattle.ws_steps.specs.declared.{readable.ReadRequest.TheVariants.{Promise, Pipe as PipeRequest}, pipes.PipeOperation.{PipeOperation}, pipes.SignalOperation.{SignalOperation}, readable.ReadableOperation.{ReadableOperation}, transform.TransformId.{TransformId}, transform.TransformOperation.{TransformOperation}, writable.WritableOperation.{WritableOperation}}
 use Rattle.ws_steps.specs.Promises.{Table, next_id, fresh, tell}
-use Rattle.ws_steps.specs.Operations.{readable_operation, writable_operation, pipe_operation, signal_operation, transform_operation}
+use Rattle.ws_steps.specs.Operations.{readable_operation, byte_readable_operation, byte_operation, writable_operation, pipe_operation, signal_operation, transform_operation}
+use Rattle.ws_steps.specs.Bytes as byte
 use Rattle.ws_steps.specs.Pipes as pipe
 use Rattle.ws_steps.specs.Readable as readable
 use Rattle.ws_steps.specs.Transform as transform
 use Rattle.ws_steps.specs.Writable as writable
-use Rattle.ws_steps.specs.Slots.{Slots, Stream, ReadableStream, WritableStream, Done, nothing, owner_at, found, ends_at, halves_at, on_readable, on_writable, on_pipe, on_signal, on_transform}
-use Rattle.ws_steps.specs.Places.{Prices, price, each, effect_price, readable_price, writable_price, start_price, prices_of, pipe_price, signal_price, transform_price, keeps, all_keep, signal_keeps, signals_keep, need, turns_alone, measure, table_size, entries_of, members_of, size}
-use Rattle.ws_steps.specs.Turns.{start_algorithm, pull_algorithm, cancel_algorithm, write_algorithm, close_algorithm, abort_algorithm, chunk_steps, close_steps, error_steps, call_host, row}
+use Rattle.ws_steps.specs.Slots.{Slots, Stream, ReadableStream, ByteStream, WritableStream, Done, nothing, owner_at, found, ends_at, halves_at, on_byte, on_writable, on_pipe, on_signal, on_transform}
+use Rattle.ws_steps.specs.Places.{Prices, price, each, effect_price, readable_price, byte_price, writable_price, start_price, prices_of, pipe_price, signal_price, transform_price, keeps, all_keep, signal_keeps, signals_keep, need, turns_alone, measure, table_size, entries_of, members_of, size}
+use Rattle.ws_steps.specs.Turns.{start_algorithm, pull_algorithm, cancel_algorithm, write_algorithm, close_algorithm, abort_algorithm, chunk_steps, close_steps, close_steps_with, error_steps, on_source, call_host, row}
 use Rattle.ws_room_laws.proofs.Tables.{settle-size, given-size, finished-size, fresh-size, tell-size, use-size, gift-size, micro-size}
 use Rattle.ws_room_laws.proofs.Readables.{readable-takes, prices-append}
+use Rattle.ws_room_laws.proofs.Bytes.{byte_readable-takes, byte-takes}
 use Rattle.ws_room_laws.proofs.Writables.{writable-takes}
 use Rattle.ws_room_laws.proofs.Pipes.{pipe-takes, signal-takes}
 use Rattle.ws_room_laws.proofs.Transforms.{transform-takes}
@@ -68,23 +71,26 @@ same-or zero (suc j) = inr (λ e. cc)
 same-or (suc i) zero = inr (λ e. cc)
 same-or (suc i) (suc j) = ⊎_elim (λ e. inl (ap suc e)) (λ f. inr (λ e. f (omega arith))) (same-or i j)
 
--- the entries of the lists of a stream, where one of the queue counts q and a request r
-abbrev entries_by : ℕ → ℕ → Stream → ℕ
-entries_by q r (ReadableStream x) = each q x.queue + each r x.requests
-entries_by q r (WritableStream x) = each q x.queue + each r x.write_requests
+-- the entries of the lists of a stream, where one of the queue counts q, a request r, and a descriptor d
+abbrev entries_by : ℕ → ℕ → ℕ → Stream → ℕ
+entries_by q r d (ReadableStream x) = each q x.queue + each r x.requests
+entries_by q r d (ByteStream x) = each q x.queue + each r x.stream.requests + each d x.descriptors
+entries_by q r d (WritableStream x) = each q x.queue + each r x.write_requests
 
-entries-none : (x : Stream) → entries_by 0 0 x ≡ 0
+entries-none : (x : Stream) → entries_by 0 0 0 x ≡ 0
 entries-none (ReadableStream x) = let a = each-none x.queue in let b = each-none x.requests in omega (arith, a, b)
+entries-none (ByteStream x) = let a = each-none x.queue in let b = each-none x.stream.requests in let c = each-none x.descriptors in omega (arith, a, b, c)
 entries-none (WritableStream x) = let a = each-none x.queue in let b = each-none x.write_requests in omega (arith, a, b)
 
-entries-some : (π : Prices) (x : Stream) → entries_of π (Some x) ≡ entries_by π.queued π.request x
+entries-some : (π : Prices) (x : Stream) → entries_of π (Some x) ≡ entries_by π.queued π.request π.descriptor x
 entries-some π (ReadableStream x) = refl
+entries-some π (ByteStream x) = refl
 entries-some π (WritableStream x) = refl
 
--- what an operation of one stream takes, whichever of the two lists is counted
+-- what an operation of one stream takes, whichever of the lists is counted
 abbrev StreamTakes : Prices → ℕ → Table → Stream → Stream → Table → List Effect → Type 0
-StreamTakes π n t x y u es = (q r : ℕ) → q ≤ π.queued → r ≤ π.request →
-    prices_of π es + keeps π y + entries_by q r y + table_size π u + π.turn ≤ keeps π x + entries_by q r x + table_size π t + n
+StreamTakes π n t x y u es = (q r d : ℕ) → q ≤ π.queued → r ≤ π.request → d ≤ π.descriptor →
+    prices_of π es + keeps π y + entries_by q r d y + table_size π u + π.turn ≤ keeps π x + entries_by q r d x + table_size π t + n
 
 put-takes : (π : Prices) (i j : StreamId) (a : SignalId) (s : Slots) (n : ℕ) (x y : Stream) (u : Table) (es : List Effect) → slice_get s.streams j.0 ≡ Some x → StreamTakes π n s.promises x y u es
     → Takes π i a n s (record { slots = record s { streams = slice_set s.streams j.0 y; promises = u }; caused = es })
@@ -92,14 +98,14 @@ put-takes π i j a s n x y u es is takes =
     let k = keep-set π s.streams j.0 x y is in
     ⊎_elim
     (λ (e : i.0 ≡ j.0).
-    let h = takes π.queued π.request (omega arith) (omega arith) in
+    let h = takes π.queued π.request π.descriptor (omega arith) (omega arith) (omega arith) in
     let before = ap (entries_of π) (ap (slice_get s.streams) e ∙ is) in
     let after = ap (entries_of π) (ap (slice_get (slice_set s.streams j.0 y)) e ∙ get-same s.streams j.0 x y is) in
     let c = entries-some π x in
     let d = entries-some π y in
     omega (arith, h, k, before, after, c, d))
     (λ (f : i.0 ≡ j.0 → ⊥).
-    let h = takes 0 0 (omega arith) (omega arith) in
+    let h = takes 0 0 0 (omega arith) (omega arith) (omega arith) in
     let same = ap (entries_of π) (get-other s.streams j.0 i.0 y f) in
     let c = entries-none x in
     let d = entries-none y in
@@ -115,25 +121,45 @@ readable-least π operation = grind arith
 writable-least : (π : Prices) (operation : WritableOperation) → π.turn ≤ writable_price π operation
 writable-least π operation = grind arith
 
+byte-least : (π : Prices) (operation : ByteOperation) → π.turn ≤ byte_price π operation
+byte-least π operation = grind arith
+
 readable-row : (π : Prices) (i j : StreamId) (a : SignalId) (operation : ReadableOperation) (s : Slots) (o : Option Stream) → slice_get s.streams j.0 ≡ o
-    → Takes π i a (readable_price π operation) s (on_readable (readable_operation j operation) j s)
+    → Takes π i a (readable_price π operation) s (on_source operation j s)
 readable-row π i j a operation s None is = rw is (nothing-takes π i a s (readable_price π operation) (readable-least π operation))
 readable-row π i j a operation s (Some (WritableStream x)) is = rw is (nothing-takes π i a s (readable_price π operation) (readable-least π operation))
 readable-row π i j a operation s (Some (ReadableStream x)) is =
     let z : readable.Acts = record { slots = x; out = found s } in
     let b : readable.Acts = readable_operation j operation z in
     rw is (put-takes π i j a s (readable_price π operation) (ReadableStream x) (ReadableStream b.slots) b.out.promises b.out.effects is
-    (λ q r l m. let h = readable-takes π q r j operation z l m in omega (arith, h)))
+    (λ q r d l m k. let h = readable-takes π q r j operation z l m in omega (arith, h)))
+readable-row π i j a operation s (Some (ByteStream x)) is =
+    let z : byte.Acts = record { slots = x; out = found s } in
+    let b : byte.Acts = byte_readable_operation j operation z in
+    rw is (put-takes π i j a s (readable_price π operation) (ByteStream x) (ByteStream b.slots) b.out.promises b.out.effects is
+    (λ q r d l m k. let h = byte_readable-takes π q r d j operation z l m k in omega (arith, h)))
+
+byte-row : (π : Prices) (i j : StreamId) (a : SignalId) (operation : ByteOperation) (s : Slots) (o : Option Stream) → slice_get s.streams j.0 ≡ o
+    → Takes π i a (byte_price π operation) s (on_byte (byte_operation j operation) j s)
+byte-row π i j a operation s None is = rw is (nothing-takes π i a s (byte_price π operation) (byte-least π operation))
+byte-row π i j a operation s (Some (WritableStream x)) is = rw is (nothing-takes π i a s (byte_price π operation) (byte-least π operation))
+byte-row π i j a operation s (Some (ReadableStream x)) is = rw is (nothing-takes π i a s (byte_price π operation) (byte-least π operation))
+byte-row π i j a operation s (Some (ByteStream x)) is =
+    let z : byte.Acts = record { slots = x; out = found s } in
+    let b : byte.Acts = byte_operation j operation z in
+    rw is (put-takes π i j a s (byte_price π operation) (ByteStream x) (ByteStream b.slots) b.out.promises b.out.effects is
+    (λ q r d l m k. let h = byte-takes π q r d j operation z l m k in omega (arith, h)))
 
 writable-row : (π : Prices) (i j : StreamId) (a : SignalId) (operation : WritableOperation) (s : Slots) (o : Option Stream) → slice_get s.streams j.0 ≡ o
     → Takes π i a (writable_price π operation) s (on_writable (writable_operation j operation) j s)
 writable-row π i j a operation s None is = rw is (nothing-takes π i a s (writable_price π operation) (writable-least π operation))
+writable-row π i j a operation s (Some (ByteStream x)) is = rw is (nothing-takes π i a s (writable_price π operation) (writable-least π operation))
 writable-row π i j a operation s (Some (ReadableStream x)) is = rw is (nothing-takes π i a s (writable_price π operation) (writable-least π operation))
 writable-row π i j a operation s (Some (WritableStream x)) is =
     let z : writable.Acts = record { slots = x; out = found s } in
     let b : writable.Acts = writable_operation j operation z in
     rw is (put-takes π i j a s (writable_price π operation) (WritableStream x) (WritableStream b.slots) b.out.promises b.out.effects is
-    (λ q r l m. let h = writable-takes π q r j operation z l m in omega (arith, h)))
+    (λ q r d l m k. let h = writable-takes π q r j operation z l m in omega (arith, h)))
 
 pipe-least : (π : Prices) (operation : PipeOperation) → π.turn ≤ pipe_price π operation
 pipe-least π operation = grind arith
@@ -223,6 +249,10 @@ closing-row : (π : Prices) (i : StreamId) (a : SignalId) (s : Slots) (request :
 closing-row π i a s (Promise p) = let h = finished-size π p (PlainValue Undefined) s.promises in omega (arith, h)
 closing-row π i a s (PipeRequest p) = omega arith
 
+closing_with-row : (π : Prices) (i : StreamId) (a : SignalId) (b : List ℕ) (s : Slots) (request : ReadRequest) → Takes π i a (price π 2 0 1 0 0 0 0) s (close_steps_with b s request)
+closing_with-row π i a b s (Promise p) = let h = finished-size π p (Bytes b) s.promises in omega (arith, h)
+closing_with-row π i a b s (PipeRequest p) = omega arith
+
 erring-row : (π : Prices) (i : StreamId) (a : SignalId) (e : Plain) (s : Slots) (request : ReadRequest) → Takes π i a (price π 2 0 1 0 0 0 0) s (error_steps e s request)
 erring-row π i a e s (Promise p) = let h = settle-size π p (Err e) s.promises in omega (arith, h)
 erring-row π i a e s (PipeRequest p) = omega arith
@@ -244,6 +274,7 @@ call-row π i a call u s =
 pub row-takes : (π : Prices) (i : StreamId) (a : SignalId) (e : Effect) (s : Slots) → Takes π i a (effect_price π e) s (row e s)
 unfolding row
 row-takes π i a (Readable j operation) s = readable-row π i j a operation s (slice_get s.streams j.0) refl
+row-takes π i a (Byte j operation) s = byte-row π i j a operation s (slice_get s.streams j.0) refl
 row-takes π i a (Writable j operation) s = writable-row π i j a operation s (slice_get s.streams j.0) refl
 row-takes π i a (Pipe p operation) s = pipe-row π i a p operation s (slice_get s.pipes p.0) refl
 row-takes π i a (Signal b operation) s = signal-row π i a b operation s (slice_get s.signals b.0) refl
@@ -256,6 +287,7 @@ row-takes π i a (CloseAlgorithm j) s = let h = close-row π j (React (WritableC
 row-takes π i a (AbortAlgorithm j r p) s = let h = abort-row π j r (React (WritableAbort j p) None) (owner_at j s) in omega (arith, h)
 row-takes π i a (ChunkSteps j request v) s = let h = chunk-row π i a v s request in omega (arith, h)
 row-takes π i a (CloseSteps j request) s = let h = closing-row π i a s request in omega (arith, h)
+row-takes π i a (CloseStepsWith j request b) s = let h = closing_with-row π i a b s request in omega (arith, h)
 row-takes π i a (ErrorSteps j request e) s = let h = erring-row π i a e s request in omega (arith, h)
 row-takes π i a (Give gift u) s = let h = gift-size π s.promises u gift in omega (arith, h)
 row-takes π i a (Settle p outcome) s = let h = settle-size π p outcome s.promises in omega (arith, h)
