@@ -12,28 +12,30 @@ use Rattle.ws_steps.specs.declared.promises.Job.{Job}
 use Rattle.ws_steps.specs.Calls.{Begun, begin}
 use Rattle.ws_steps.specs.Jobs.{job_begun, begin_job}
 use Rattle.ws_steps.specs.Pipes as pipe
-use Rattle.ws_steps.specs.Places.{Prices, all_keep, signals_keep, prices_of, step_price, entries_of, members_of, turns_alone, promises_alone, jobs_alone, events_alone, hosts_alone, queued_alone, requests_alone, members_alone}
+use Rattle.ws_steps.specs.Places.{Prices, all_keep, signals_keep, need, size, prices_of, step_price, entries_of, members_of, turns_alone, promises_alone, jobs_alone, events_alone, hosts_alone, queued_alone, requests_alone, members_alone, descriptors_alone}
 use Rattle.ws_steps.specs.Promises.{after_next_job, next_id, next_job}
+use Rattle.ws_steps.specs.Bytes as byte
 use Rattle.ws_steps.specs.Readable as readable
 use Rattle.ws_steps.specs.Transform as transform
 use Rattle.ws_steps.specs.Writable as writable
 use Rattle.ws_steps.specs.declared.effects.Owner.TheVariants.{Host, HalfOf}
 use Rattle.ws_steps.specs.declared.readable.SizeBy.TheVariants.{Count}
 use Rattle.ws_steps.specs.declared.transform.TransformId.{TransformId}
-use Rattle.ws_steps.specs.Slots.{Slots, Stream, ReadableStream, WritableStream, Done}
+use Rattle.ws_steps.specs.Slots.{Slots, Stream, ReadableStream, ByteStream, WritableStream, Done}
 use Rattle.ws_steps.proofs.PromiseLaws.{length-fresh}
 use Rattle.ws_room_laws.proofs.Room.{Begins as BeginsWithin, begin-fits, job-fits}
 use Rattle.ws_laws.proofs.Begin.{Makes, begin-makes}
 use Rattle.ws_laws.proofs.EachCall.{each_call}
 use Rattle.ws_tables.specs.View.{slots_of, stream_of, signal_of}
-use Rattle.ws_tables.specs.Room.{Places, places_of, queued_in, requested_in, waiting_in, aborts_in, HasLists, AllCovered, AllHaveMembers, AreCounted, IsCounted, HasFewTransforms, HasRoomForAll, IsPrepared, IsResting, IsKept}
-use Rattle.ws_calls.specs.Begin.{IsBegun, Answers, Begins, MakesNone, MakesOne, MakesTwo, MakesSignal, RecordsAfter}
+use Rattle.ws_tables.specs.Room.{Places, places_of, room_of, queued_in, requested_in, described_in, waiting_in, aborts_in, IsWithin, HasLists, HasRooms, AllCovered, AllHaveMembers, AreCounted, IsCounted, HasFewTransforms, HasRoomForAll, IsPrepared, IsResting, IsKept}
+use Rattle.ws_calls.specs.Begin.{IsBegun, IsEmpty, Answers, Begins, MakesNone, MakesOne, MakesTwo, MakesSignal, RecordsAfter}
 use Rattle.ws_tables.specs.declared.tables.Stream.{Stream as StreamRecord}
-use Rattle.ws_tables.specs.declared.tables.Stream.TheVariants.{Readable, Writable}
+use Rattle.ws_tables.specs.declared.tables.Stream.TheVariants.{Readable, Bytes, Writable}
 use Rattle.ws_tables.specs.declared.tables.Tables.{Tables}
 use Rattle.ws_tables.proofs.Counts.{counted-on, next-more}
-use Rattle.ws_tables.proofs.Fits.{Takes, takes, queued-at, requested-at, members-at}
+use Rattle.ws_tables.proofs.Fits.{Takes, takes, within-less, queued-within, members-at}
 use Rattle.ws_tables.proofs.Keeps.{later-is}
+use Rattle.ws_tables.proofs.Turns.{rooms-less, no-rooms}
 
 -- what has begun leaves the places as they are, and makes one stream, or two, or one signal, or none of these
 record Starts (d : Done) (t t' : Tables) : Type 0 where
@@ -54,6 +56,7 @@ which-made (replies.MadeTwo i j) t t' h = inr (inr (inr h))
 which-made (replies.Signal a) t t' h = inr (inr (inl h))
 which-made (replies.Lock l) t t' h = inl h
 which-made (replies.Promise p) t t' h = inl h
+which-made (replies.Request request) t t' h = inl h
 which-made (replies.Size n) t t' h = inl h
 which-made (replies.State looks) t t' h = inl h
 which-made (replies.Throws reason) t t' h = inl h
@@ -69,6 +72,7 @@ added (z ∷ zs) x y (suc i) is = ⊎_elim (λ h. inl h) (λ h. inr (ap suc h.0,
 -- a new stream has no requests
 waits-new : (xs : List StreamRecord) (x : StreamRecord) → requested_in x ≡ 0 → waiting_in (map stream_of (xs ++ x ∷ [])) ≡ waiting_in (map stream_of xs)
 waits-new [] (Readable r) none = omega (arith, none)
+waits-new [] (Bytes b) none = omega (arith, none)
 waits-new [] (Writable w) none = refl
 waits-new (y ∷ ys) x none = let h = waits-new ys x none in omega (arith, h)
 
@@ -114,7 +118,7 @@ kept d t t' start was =
     })
     (λ made. ⊎_elim
     (λ (one : MakesOne t t'). record {
-      waiting = start.waiting ∙ (was.waiting ∙ (sym (waits-new t.streams.items one.stream one.empty.1) ∙ ap (λ xs. waiting_in (map stream_of xs)) (sym one.streams)));
+      waiting = start.waiting ∙ (was.waiting ∙ (sym (waits-new t.streams.items one.stream one.empty.requested) ∙ ap (λ xs. waiting_in (map stream_of xs)) (sym one.streams)));
       covered = rw (one.grown, one.streams) (cover-new t.grown.items t.streams.items one.stream was.covered);
       aborts = start.aborts ∙ (was.aborts ∙ ap (λ v. aborts_in (map signal_of v.items)) (sym one.signals));
       members = rw (one.full, one.signals) was.members;
@@ -134,8 +138,8 @@ kept d t t' start was =
       waiting =
           start.waiting
           ∙ (was.waiting
-          ∙ (sym (waits-new t.streams.items two.first two.first_empty.1)
-          ∙ (sym (waits-new (t.streams.items ++ two.first ∷ []) two.second two.second_empty.1) ∙ ap (λ xs. waiting_in (map stream_of xs)) (sym two.streams))));
+          ∙ (sym (waits-new t.streams.items two.first two.first_empty.requested)
+          ∙ (sym (waits-new (t.streams.items ++ two.first ∷ []) two.second two.second_empty.requested) ∙ ap (λ xs. waiting_in (map stream_of xs)) (sym two.streams))));
       covered = rw (two.grown, two.streams) (cover-two t.grown.items t.streams.items two.first two.second was.covered);
       aborts = start.aborts ∙ (was.aborts ∙ ap (λ v. aborts_in (map signal_of v.items)) (sym two.signals));
       members = rw (two.full, two.signals) was.members;
@@ -145,6 +149,10 @@ kept d t t' start was =
     rest)
     made)
     start.records
+
+within-none : (n : ℕ) → n ≡ 0 → (places : Option ℕ) → IsWithin n places
+within-none n none None = tt
+within-none n none (Some p) = omega (arith, none)
 
 -- what is taken stays within what is prepared for any call or job
 module _ (d : Done) (t t' : Tables) (within : (π : Prices) (i : StreamId) (a : SignalId) → BeginsWithin π i a (all_keep π (slots_of t).streams + signals_keep π (slots_of t).signals + step_price π) (slots_of t) d)
@@ -156,14 +164,23 @@ module _ (d : Done) (t t' : Tables) (within : (π : Prices) (i : StreamId) (a : 
 
   queued-few : t'.streams ≡ t.streams → prices_of queued_alone t'.caused.effects ≤ 4
   queued-few same =
-      let a = took.queued (record { 0 = 0 }) in
-      let q = ap (λ v. entries_of queued_alone (slice_get (map stream_of v.items) 0)) same in
-      omega (arith, a, q)
+      let items = ap (λ v. map stream_of v.items) same in
+      queued-within 4 (slots_of t) (slots_of t') t'.caused.effects items
+      (subst (λ (z : Slots). (i : StreamId) (a : SignalId) → size queued_alone i a z + need queued_alone z t'.caused.effects ≤ size queued_alone i a (slots_of t) + (all_keep queued_alone (slots_of t).streams + signals_keep queued_alone (slots_of t).signals + 4))
+      (sym start.slots)
+      (subst (λ es. (i : StreamId) (a : SignalId) → size queued_alone i a d.slots + need queued_alone d.slots es ≤ size queued_alone i a (slots_of t) + (all_keep queued_alone (slots_of t).streams + signals_keep queued_alone (slots_of t).signals + 4))
+      (sym start.caused) (λ i a. within queued_alone i a)))
 
   requested-few : t'.streams ≡ t.streams → prices_of requests_alone t'.caused.effects ≤ 2
   requested-few same =
       let a = took.requested (record { 0 = 0 }) in
       let q = ap (λ v. entries_of requests_alone (slice_get (map stream_of v.items) 0)) same in
+      omega (arith, a, q)
+
+  described-few : t'.streams ≡ t.streams → prices_of descriptors_alone t'.caused.effects ≤ 1
+  described-few same =
+      let a = took.described (record { 0 = 0 }) in
+      let q = ap (λ v. entries_of descriptors_alone (slice_get (map stream_of v.items) 0)) same in
       omega (arith, a, q)
 
   members-few : t'.signals ≡ t.signals → prices_of members_alone t'.caused.effects ≤ 1
@@ -172,46 +189,71 @@ module _ (d : Done) (t t' : Tables) (within : (π : Prices) (i : StreamId) (a : 
       let q = ap (λ v. members_of members_alone (slice_get (map signal_of v.items) 0)) same in
       omega (arith, a, q)
 
-  -- there are places in the lists
+  -- a stream that there was has places, and a new one needs none
 
-  lists-before : (i : ℕ) (y : StreamRecord) → slice_get t'.streams.items i ≡ Some y → slice_get t.streams.items i ≡ Some y
-      → HasLists (prices_of queued_alone t'.caused.effects) (prices_of requests_alone t'.caused.effects) y
-  lists-before i y is before =
-      let a = took.queued (record { 0 = i }) in
-      let b = took.requested (record { 0 = i }) in
-      let qy = queued-at t'.streams.items i y is in
-      let ry = requested-at t'.streams.items i y is in
-      let h = ready.lists i y before in
-      let qx = queued-at t.streams.items i y before in
-      let rx = requested-at t.streams.items i y before in
-      (omega (arith, h.0, a, qx, qy), omega (arith, h.1, b, rx, ry))
+  abbrev Few : Type 0
+  Few = (prices_of queued_alone t'.caused.effects ≤ 4) × (prices_of requests_alone t'.caused.effects ≤ 2) × (prices_of descriptors_alone t'.caused.effects ≤ 1)
 
-  lists-same : (i : ℕ) (y : StreamRecord) → slice_get t'.streams.items i ≡ Some y → t'.streams ≡ t.streams
-      → HasLists (prices_of queued_alone t'.caused.effects) (prices_of requests_alone t'.caused.effects) y
-  lists-same i y is same = lists-before i y is (ap (λ v. slice_get v.items i) (sym same) ∙ is)
+  abbrev Has : StreamRecord → Type 0
+  Has y = HasLists (prices_of queued_alone t'.caused.effects) (prices_of requests_alone t'.caused.effects) (prices_of descriptors_alone t'.caused.effects) y × HasRooms (prices_of descriptors_alone t'.caused.effects) y
 
-  lists-made : (i : ℕ) (y : StreamRecord) → slice_get t'.streams.items i ≡ Some y → MakesOne t t'
-      → HasLists (prices_of queued_alone t'.caused.effects) (prices_of requests_alone t'.caused.effects) y
-  lists-made i y is one =
-      ⊎_elim (lists-before i y is)
-      (λ h.
-      let q = one.queued in let r = one.requested in
-      let qe = ap queued_in (sym h.1) ∙ one.empty.0 in let re = ap requested_in (sym h.1) ∙ one.empty.1 in
-      (omega (arith, q, qe), omega (arith, r, re)))
+  before-has : Few → (i : ℕ) (y : StreamRecord) → slice_get t.streams.items i ≡ Some y → Has y
+  before-has few i y before =
+      let h = ready.places i y before in
+      let hq = h.0.queue in let hr = h.0.requests in
+      let q = few.0 in let r = few.1 in let n = few.2 in (
+        record {
+          queue = omega (arith, hq, q);
+          requests = omega (arith, hr, r);
+          descriptors = within-less _ _ (room_of y).descriptors (omega (arith, n)) h.0.descriptors;
+        },
+        rooms-less _ _ y n h.1,
+      )
+
+  new-has : prices_of queued_alone t'.caused.effects ≡ 0 → prices_of requests_alone t'.caused.effects ≡ 0 → prices_of descriptors_alone t'.caused.effects ≡ 0 → (x y : StreamRecord) → IsEmpty x → x ≡ y → Has y
+  new-has q r n x y empty same =
+      let eq = ap queued_in (sym same) ∙ empty.queued in let er = ap requested_in (sym same) ∙ empty.requested in let en = ap described_in (sym same) ∙ empty.described in (
+        record {
+          queue = omega (arith, q, eq);
+          requests = omega (arith, r, er);
+          descriptors = within-none (prices_of descriptors_alone t'.caused.effects + described_in y) (omega (arith, n, en)) (room_of y).descriptors;
+        },
+        rooms-less _ 0 y (omega (arith, n)) (no-rooms y),
+      )
+
+  few : Few
+  few =
+      ⊎_elim
+      (λ (none : MakesNone t t'). (queued-few none.streams, requested-few none.streams, described-few none.streams))
+      (λ made. ⊎_elim
+      (λ (one : MakesOne t t'). let q = one.queued in let r = one.requested in let n = one.described in (omega (arith, q), omega (arith, r), omega (arith, n)))
+      (λ rest. ⊎_elim
+      (λ (one : MakesSignal t t'). (queued-few one.streams, requested-few one.streams, described-few one.streams))
+      (λ (two : MakesTwo t t'). let q = two.queued in let r = two.requested in let n = two.described in (omega (arith, q), omega (arith, r), omega (arith, n)))
+      rest)
+      made)
+      start.records
+
+  same-has : (i : ℕ) (y : StreamRecord) → slice_get t'.streams.items i ≡ Some y → t'.streams ≡ t.streams → Has y
+  same-has i y is same = before-has few i y (ap (λ v. slice_get v.items i) (sym same) ∙ is)
+
+  one-has : (i : ℕ) (y : StreamRecord) → slice_get t'.streams.items i ≡ Some y → MakesOne t t' → Has y
+  one-has i y is one =
+      ⊎_elim (before-has few i y) (λ h. new-has one.queued one.requested one.described one.stream y one.empty h.1)
       (added t.streams.items one.stream y i (ap (λ xs. slice_get xs i) (sym one.streams) ∙ is))
 
-  lists-two : (i : ℕ) (y : StreamRecord) → slice_get t'.streams.items i ≡ Some y → MakesTwo t t'
-      → HasLists (prices_of queued_alone t'.caused.effects) (prices_of requests_alone t'.caused.effects) y
-  lists-two i y is two =
-      let new : (x : StreamRecord) → (queued_in x ≡ 0) × (requested_in x ≡ 0) → x ≡ y → HasLists (prices_of queued_alone t'.caused.effects) (prices_of requests_alone t'.caused.effects) y =
-      λ x empty same.
-      let q = two.queued in let r = two.requested in
-      let qe = ap queued_in (sym same) ∙ empty.0 in let re = ap requested_in (sym same) ∙ empty.1 in
-      (omega (arith, q, qe), omega (arith, r, re)) in
+  two-has : (i : ℕ) (y : StreamRecord) → slice_get t'.streams.items i ≡ Some y → MakesTwo t t' → Has y
+  two-has i y is two =
       ⊎_elim
-      (λ before. ⊎_elim (lists-before i y is) (λ h. new two.first two.first_empty h.1) (added t.streams.items two.first y i before))
-      (λ h. new two.second two.second_empty h.1)
+      (λ before. ⊎_elim (before-has few i y) (λ h. new-has two.queued two.requested two.described two.first y two.first_empty h.1) (added t.streams.items two.first y i before))
+      (λ h. new-has two.queued two.requested two.described two.second y two.second_empty h.1)
       (added (t.streams.items ++ two.first ∷ []) two.second y i (ap (λ xs. slice_get xs i) (sym two.streams) ∙ is))
+
+  each-has : (i : ℕ) (y : StreamRecord) → slice_get t'.streams.items i ≡ Some y → Has y
+  each-has i y is =
+      ⊎_elim (λ (none : MakesNone t t'). same-has i y is none.streams)
+      (λ made. ⊎_elim (λ (one : MakesOne t t'). one-has i y is one)
+      (λ rest. ⊎_elim (λ (one : MakesSignal t t'). same-has i y is one.streams) (λ (two : MakesTwo t t'). two-has i y is two) rest) made) start.records
 
   members-before : (i : ℕ) (y : SeenSignal) → slice_get t'.signals.items i ≡ Some y → slice_get t.signals.items i ≡ Some y → HasMemberRoom (prices_of members_alone t'.caused.effects) y
   members-before i y is before =
@@ -242,20 +284,19 @@ module _ (d : Done) (t t' : Tables) (within : (π : Prices) (i : StreamId) (a : 
       let gc = ap (λ (p : Places). p.grown) caps in
       let fc = ap (λ (p : Places). p.full) caps in
       let now = kept d t t' start was in
-      let turns = later-is turns_alone t was in let turns' = later-is turns_alone t' now in
+      let turns = later-is turns_alone t refl was in let turns' = later-is turns_alone t' refl now in
       record {
-        promises = let h = ready.promises.promises in let a = took.promises in let k = later-is promises_alone t was in let k' = later-is promises_alone t' now in omega (arith, h, a, pr, k, k');
-        jobs = let h = ready.jobs in let a = took.jobs in let k = later-is jobs_alone t was in let k' = later-is jobs_alone t' now in omega (arith, h, a, jr, k, k');
-        events = let h = ready.promises.events in let a = took.events in let k = later-is events_alone t was in let k' = later-is events_alone t' now in omega (arith, h, a, er, k, k');
+        promises = let h = ready.promises.promises in let a = took.promises in let k = later-is promises_alone t refl was in let k' = later-is promises_alone t' refl now in omega (arith, h, a, pr, k, k');
+        jobs = let h = ready.jobs in let a = took.jobs in let k = later-is jobs_alone t refl was in let k' = later-is jobs_alone t' refl now in omega (arith, h, a, jr, k, k');
+        events = let h = ready.promises.events in let a = took.events in let k = later-is events_alone t refl was in let k' = later-is events_alone t' refl now in omega (arith, h, a, er, k, k');
         hosts =
-            let h = ready.hosts in let a = took.hosts in let k = later-is hosts_alone t was in let k' = later-is hosts_alone t' now in
+            let h = ready.hosts in let a = took.hosts in let k = later-is hosts_alone t refl was in let k' = later-is hosts_alone t' refl now in
             let l = t.hosts.ok.0 in let l' = t'.hosts.ok.0 in omega (arith, h, a, hc, l, l', k, k');
         caused = let h = ready.caused in let a = took.turns in omega (arith, h, a, ac, turns, turns');
         others = let h = ready.others in let a = took.turns in omega (arith, h, a, oc, turns, turns');
-        lists = λ i y is.
-            ⊎_elim (λ (none : MakesNone t t'). lists-same i y is none.streams)
-            (λ made. ⊎_elim (λ (one : MakesOne t t'). lists-made i y is one)
-            (λ rest. ⊎_elim (λ (one : MakesSignal t t'). lists-same i y is one.streams) (λ (two : MakesTwo t t'). lists-two i y is two) rest) made) start.records;
+        lists = λ i y is. (each-has i y is).0;
+        once = few.2;
+        rooms = λ i y is. (each-has i y is).1;
         grown =
             let h = ready.grown in
             ⊎_elim
@@ -309,6 +350,8 @@ counted-makes = record {
   signal = λ s k. k;
   transform = λ s kind w r p k. k;
   readable = λ s o m b k. k;
+  bytes = λ s m a k. k;
+  byob_requests = λ s r k. k;
   writable = λ s o m b k. k;
 }
 
@@ -327,6 +370,14 @@ begin-few c s few = each_call (λ (b : Begun). HasFewTransforms b.done.slots) c 
   unchanged = λ reply. few;
   rejected = few;
   make_readable = λ mark size start. let a = length-append s.streams (ReadableStream (readable.set_up Host mark size) ∷ []) in omega (arith, a, few);
+  make_bytes = λ mark auto start. let a = length-append s.streams (ByteStream (byte.set_up mark auto) ∷ []) in omega (arith, a, few);
+  get_byob = λ i is e. few;
+  release_byob = λ l closed i e. few;
+  read_into = λ l i closed room element least e h. few;
+  enqueue_bytes = λ i b e is some can. few;
+  finish_bytes = λ i e is can. few;
+  make_request = λ i reply is. few;
+  respond = λ r i b e is can. few;
   make_writable = λ mark size start. let a = length-append s.streams (WritableStream (writable.set_up Host mark size) ∷ []) in omega (arith, a, few);
   make_transform = λ kind m n start.
       let me : TransformId = record { 0 = length s.transforms } in

@@ -1,2 +1,3 @@
 pub mod Beginning
 pub mod Idle
+pub mod Looking

@@ -1,15 +1,20 @@
 -- What calls and jobs begin with, in the places that there are.
-use Rattle.std.specs.Prelude.{◌≡◌, ◌+◌, ◌≤◌, ◌<◌, [], ◌∷◌, ◌++◌, length, Bool, vec_len, vec_capacity}
+use Rattle.std.specs.Prelude.{◌≡◌, ◌+◌, ◌≤◌, ◌<◌, [], ◌∷◌, ◌++◌, length, Bool, None, vec_len, vec_capacity}
+use Rattle.ws_value.specs.declared.ids.PromiseId.{PromiseId}
 use Rattle.ws_pipe.specs.Seen.{SeenSignal}
 use Rattle.ws_promise.specs.Seen.{HasPromiseRoom}
 use Rattle.ws_steps.specs.declared.calls.Reply.{Reply}
-use Rattle.ws_steps.specs.declared.calls.Reply.TheVariants.{Done as ReplyDone, Made, MadeTwo, Lock as ReplyLock, Promise, Signal as ReplySignal, Size, State as ReplyState, Throws, TooMany}
+use Rattle.ws_steps.specs.declared.calls.Reply.TheVariants.{Done as ReplyDone, Made, MadeTwo, Lock as ReplyLock, Promise, Signal as ReplySignal, Request as ReplyRequest, Size, State as ReplyState, Throws, TooMany}
+use Rattle.ws_steps.specs.declared.byte.ReaderKind.{ReaderKind}
+use Rattle.ws_steps.specs.declared.byte.ReaderKind.TheVariants.{Default, Byob}
+use Rattle.ws_steps.specs.declared.locks.Lock.{Lock}
+use Rattle.ws_steps.specs.declared.locks.Lock.TheVariants.{Reader, ByobReader}
 use Rattle.ws_steps.specs.Pipes.{new_signal}
-use Rattle.ws_steps.specs.Places.{prices_of, queued_alone, requests_alone, members_alone}
+use Rattle.ws_steps.specs.Places.{prices_of, queued_alone, requests_alone, members_alone, descriptors_alone}
 use Rattle.ws_steps.specs.Slots.{Done}
 use Rattle.ws_steps.specs.Calls.{Begun, with_renewed, reject_renewed}
 use Rattle.ws_tables.specs.View.{slots_of}
-use Rattle.ws_tables.specs.Room.{places_of, queued_in, requested_in, HasRoomForAll, IsKept, KeepsRecords}
+use Rattle.ws_tables.specs.Room.{places_of, queued_in, requested_in, described_in, HasRoomForAll, IsKept, KeepsRecords}
 use Rattle.ws_tables.specs.declared.tables.Stream.{Stream}
 use Rattle.ws_tables.specs.declared.tables.Tables.{Tables}
 
@@ -28,7 +33,7 @@ pub record CanBegin (t : Tables) : Type 0 where
   pub effects : 7 ≤ t.caused.capacity
   pub locks : vec_len t.locks + 2 ≤ vec_capacity t.locks
 
--- there are places for two streams, one transform stream, one pipe and one signal more; of transform streams there are no more than of
+-- there are places for two streams, one transform stream, one pipe, one signal and one BYOB request more; of transform streams there are no more than of
 -- streams, so there are numbers for them
 pub record CanMake (t : Tables) : Type 0 where
   pub streams : vec_len t.streams + 2 ≤ vec_capacity t.streams
@@ -37,17 +42,25 @@ pub record CanMake (t : Tables) : Type 0 where
   pub few : vec_len t.transforms ≤ vec_len t.streams
   pub pipes : vec_len t.pipes < vec_capacity t.pipes
   pub signals : vec_len t.signals < vec_capacity t.signals
+  pub byob_requests : vec_len t.byob_requests < vec_capacity t.byob_requests
   pub full : vec_len t.full < vec_capacity t.full
+
+-- the lists of a stream are empty
+pub record IsEmpty (x : Stream) : Type 0 where
+  pub queued : queued_in x ≡ 0
+  pub requested : requested_in x ≡ 0
+  pub described : described_in x ≡ 0
 
 -- one stream is made, which has no entries, and what is caused makes none; places are to be made there
 pub record MakesOne (t t' : Tables) : Type 0 where
   pub stream : Stream
-  pub empty : (queued_in stream ≡ 0) × (requested_in stream ≡ 0)
+  pub empty : IsEmpty stream
   pub streams : t'.streams.items ≡ t.streams.items ++ stream ∷ []
   pub grown : t'.grown.items ≡ t.grown.items ++ record { 0 = length t.streams.items } ∷ []
   pub counted : vec_len t'.grown ≡ vec_len t.grown + 1
   pub queued : prices_of queued_alone t'.caused.effects ≡ 0
   pub requested : prices_of requests_alone t'.caused.effects ≡ 0
+  pub described : prices_of descriptors_alone t'.caused.effects ≡ 0
   pub signals : t'.signals ≡ t.signals
   pub full : t'.full ≡ t.full
 
@@ -55,13 +68,14 @@ pub record MakesOne (t t' : Tables) : Type 0 where
 pub record MakesTwo (t t' : Tables) : Type 0 where
   pub first : Stream
   pub second : Stream
-  pub first_empty : (queued_in first ≡ 0) × (requested_in first ≡ 0)
-  pub second_empty : (queued_in second ≡ 0) × (requested_in second ≡ 0)
+  pub first_empty : IsEmpty first
+  pub second_empty : IsEmpty second
   pub streams : t'.streams.items ≡ (t.streams.items ++ first ∷ []) ++ second ∷ []
   pub grown : t'.grown.items ≡ (t.grown.items ++ record { 0 = length t.streams.items } ∷ []) ++ record { 0 = length t.streams.items + 1 } ∷ []
   pub counted : vec_len t'.grown ≡ vec_len t.grown + 2
   pub queued : prices_of queued_alone t'.caused.effects ≡ 0
   pub requested : prices_of requests_alone t'.caused.effects ≡ 0
+  pub described : prices_of descriptors_alone t'.caused.effects ≡ 0
   pub signals : t'.signals ≡ t.signals
   pub full : t'.full ≡ t.full
 
@@ -90,6 +104,7 @@ RecordsAfter (ReplySignal a) t t' = MakesSignal t t'
 RecordsAfter ReplyDone t t' = MakesNone t t'
 RecordsAfter (ReplyLock l) t t' = MakesNone t t'
 RecordsAfter (Promise p) t t' = MakesNone t t'
+RecordsAfter (ReplyRequest request) t t' = MakesNone t t'
 RecordsAfter (Size n) t t' = MakesNone t t'
 RecordsAfter (ReplyState looks) t t' = MakesNone t t'
 RecordsAfter (Throws reason) t t' = MakesNone t t'
@@ -111,6 +126,11 @@ pub record IsBegun (t : Tables) : Type 0 where
   pub others : t.others.items ≡ []
   pub room : HasRoomForAll t.caused.effects t
   pub kept : IsKept t
+
+-- a reader of this kind that was released
+abbrev pub released_by : ReaderKind → PromiseId → Lock
+released_by Default closed = Reader None closed
+released_by Byob closed = ByobReader None closed
 
 -- a promise is renewed unless it is kept: a new one is rejected
 pub record Renews (kept : Bool) (t t' : Tables) : Type 0 where

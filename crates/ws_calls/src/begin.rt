@@ -9,7 +9,7 @@ ghost use Rattle.ws_tables.specs.View.{slots_of};
 ghost use Rattle.ws_calls.specs.Begin.{Answers, CanBegin, CanMake, IsSameBeside};
 
 use crate::jobs::begin_job;
-use crate::{controllers, locks, pipes, readers, streams, transforms, writers};
+use crate::{byob, controllers, locks, pipes, readers, streams, transforms, writers};
 use ws_steps::{Call, Reply};
 use ws_tables::Tables;
 
@@ -29,6 +29,7 @@ fn begin(tables: &mut Tables, call: Call) -> Reply
 {
     match call {
         Call::MakeReadable { hwm, size, start } => streams::make_readable(tables, hwm, size, start),
+        Call::MakeBytes { hwm, auto, start } => streams::make_bytes(tables, hwm, auto, start),
         Call::MakeWritable { hwm, size, start } => streams::make_writable(tables, hwm, size, start),
         Call::MakeTransform {
             kind,
@@ -37,10 +38,17 @@ fn begin(tables: &mut Tables, call: Call) -> Reply
             start,
         } => transforms::make_transform(tables, kind, whwm, rhwm, start),
         Call::GetReader(i) => readers::get_reader(tables, i),
+        Call::GetByob(i) => byob::get_byob(tables, i),
         Call::GetWriter(i) => writers::get_writer(tables, i),
         Call::Cancel(i, reason) => readers::cancel(tables, i, reason),
         Call::CancelBy(l, reason) => readers::cancel_by(tables, l, reason),
         Call::Read(l) => readers::read(tables, l),
+        Call::ReadInto {
+            lock,
+            room,
+            element,
+            least,
+        } => byob::read_into(tables, lock, room, element, least),
         Call::Write(l, chunk) => writers::write(tables, l, chunk),
         Call::Close(i) => writers::close(tables, i),
         Call::CloseBy(l) => writers::close_by(tables, l),
@@ -53,6 +61,8 @@ fn begin(tables: &mut Tables, call: Call) -> Reply
         Call::Finish(i) => controllers::finish(tables, i),
         Call::Fail(i, reason) => controllers::fail(tables, i, reason),
         Call::Terminate(i) => transforms::terminate(tables, i),
+        Call::Request(i) => byob::request(tables, i),
+        Call::Respond(q, bytes) => byob::respond(tables, q, bytes),
         Call::Desired(i) => controllers::desired(tables, i),
         Call::DesiredBy(l) => writers::desired_by(tables, l),
         Call::Pipe {
@@ -82,6 +92,7 @@ fn name(tables: &mut Tables, reply: Reply)
         Reply::MadeTwo(_, _) => {}
         Reply::Lock(_) => {}
         Reply::Signal(_) => {}
+        Reply::Request(_) => {}
         Reply::Size(_) => {}
         Reply::State(_) => {}
         Reply::Throws(_) => {}

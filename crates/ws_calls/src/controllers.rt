@@ -1,13 +1,15 @@
 //! The calls on controllers, and the looks at a stream.
-ghost use Rattle.std.specs.Prelude.{◌≡◌, Result};
+ghost use Rattle.std.specs.Prelude.{◌≡◌, Result, false};
 ghost use Rattle.ws_steps.specs.Calls as calls;
+ghost use Rattle.ws_steps.specs.Slots.{has_readable};
 ghost use Rattle.ws_calls.specs.Begin.{Answers, CanBegin};
 ghost use Rattle.ws_steps.specs.declared.calls.Call.TheVariants as call;
 ghost use Rattle.ws_tables.specs.View.{slots_of};
 
 use crate::replies::{TYPE_ERROR, UNSUPPORTED};
 use ws_steps::{
-    Answer, Effect, Owner, ReadableOperation, Reply, TransformOperation, WritableOperation,
+    Answer, ByteOperation, Effect, Owner, ReadableOperation, Reply, TransformOperation,
+    WritableOperation,
 };
 use ws_tables::Tables;
 use ws_value::{HostId, Plain, StreamId, Value};
@@ -22,13 +24,35 @@ fn outcome_of(answer: Answer) -> Result<Plain, Plain>
     }
 }
 
-#[tactic(auto, unfolding(ws_steps::specs::Calls::begin))]
+/// `controller.enqueue(chunk)` of a byte controller, which takes bytes alone, and some.
+#[tactic(auto, using(crate::proofs::Looking::empty_length))]
+fn enqueue_bytes(tables: &mut Tables, i: StreamId, chunk: Value) -> Reply
+    requires bytes { has_readable i (slots_of tables.old) ≡ false }
+    requires ready { CanBegin tables.old }
+    ensures { Answers (calls.enqueue_call i chunk (slots_of tables.old)) result tables.old tables.new }
+{
+    if !tables.has_byte(i) {
+        return UNSUPPORTED;
+    }
+    let Value::Bytes(bytes) = chunk else {
+        return TYPE_ERROR;
+    };
+    if bytes.is_empty() || !tables.byte(i).can_take() {
+        return TYPE_ERROR;
+    }
+    tables
+        .caused
+        .push(Effect::Byte(i, ByteOperation::Enqueue(bytes)));
+    Reply::Done
+}
+
+#[tactic(auto, using(crate::proofs::Looking::default_no_byte), unfolding(ws_steps::specs::Calls::begin))]
 pub(crate) fn enqueue(tables: &mut Tables, i: StreamId, chunk: Value) -> Reply
     requires ready { CanBegin tables.old }
     ensures { Answers (calls.begin (call.Enqueue i chunk) (slots_of tables.old)) result tables.old tables.new }
 {
     if !tables.has_readable(i) {
-        return UNSUPPORTED;
+        return enqueue_bytes(tables, i, chunk);
     }
     let owner = tables.readable(i).owner();
     if !tables.readable(i).can_close_or_enqueue() {
@@ -45,13 +69,32 @@ pub(crate) fn enqueue(tables: &mut Tables, i: StreamId, chunk: Value) -> Reply
     Reply::Done
 }
 
-#[tactic(auto, unfolding(ws_steps::specs::Calls::begin))]
+/// `controller.close()` of a byte controller. Where the first descriptor has a part of an element it errors the stream, and throws.
+fn finish_bytes(tables: &mut Tables, i: StreamId) -> Reply
+    requires bytes { has_readable i (slots_of tables.old) ≡ false }
+    requires ready { CanBegin tables.old }
+    ensures { Answers (calls.finish_call i (slots_of tables.old)) result tables.old tables.new }
+{
+    if !tables.has_byte(i) {
+        return UNSUPPORTED;
+    }
+    if !tables.byte(i).can_take() {
+        return TYPE_ERROR;
+    }
+    let throws = tables.byte(i).close_throws();
+    tables
+        .caused
+        .push(Effect::Readable(i, ReadableOperation::Close));
+    if throws { TYPE_ERROR } else { Reply::Done }
+}
+
+#[tactic(auto, using(crate::proofs::Looking::default_no_byte), unfolding(ws_steps::specs::Calls::begin))]
 pub(crate) fn finish(tables: &mut Tables, i: StreamId) -> Reply
     requires ready { CanBegin tables.old }
     ensures { Answers (calls.begin (call.Finish i) (slots_of tables.old)) result tables.old tables.new }
 {
     if !tables.has_readable(i) {
-        return UNSUPPORTED;
+        return finish_bytes(tables, i);
     }
     if let Owner::HalfOf(_) = tables.readable(i).owner() {
         return UNSUPPORTED;
@@ -81,6 +124,12 @@ pub(crate) fn fail(tables: &mut Tables, i: StreamId, reason: Plain) -> Reply
         }
         return Reply::Done;
     }
+    if tables.has_byte(i) {
+        tables
+            .caused
+            .push(Effect::Readable(i, ReadableOperation::Error(reason)));
+        return Reply::Done;
+    }
     if !tables.has_writable(i) {
         return UNSUPPORTED;
     }
@@ -96,10 +145,10 @@ pub(crate) fn desired(tables: &mut Tables, i: StreamId) -> Reply
     requires ready { CanBegin tables.old }
     ensures { Answers (calls.begin (call.Desired i) (slots_of tables.old)) result tables.old tables.new }
 {
-    if !tables.has_readable(i) {
+    if !tables.has_source(i) {
         return UNSUPPORTED;
     }
-    let size = tables.readable(i).desired_size();
+    let size = tables.source_desired_size(i);
     Reply::Size(size)
 }
 
@@ -124,8 +173,8 @@ pub(crate) fn state(tables: &mut Tables, i: StreamId) -> Reply
     requires ready { CanBegin tables.old }
     ensures { Answers (calls.begin (call.State i) (slots_of tables.old)) result tables.old tables.new }
 {
-    if tables.has_readable(i) {
-        let state = tables.readable(i).look();
+    if tables.has_source(i) {
+        let state = tables.look_at_source(i);
         return Reply::State(state);
     }
     if !tables.has_writable(i) {

@@ -1,14 +1,14 @@
 //! The calls that readers and writers both have.
 ghost use Rattle.std.specs.Prelude.{◌≡◌, ◌<◌, ◌≤◌, ◌+◌, true, length, vec_len};
 ghost use Rattle.ws_promise.specs.Seen.{HasPromiseRoom};
-ghost use Rattle.ws_steps.specs.Slots.{has_readable};
+ghost use Rattle.ws_steps.specs.Slots.{has_source};
 ghost use Rattle.ws_steps.specs.Calls as calls;
-ghost use Rattle.ws_calls.specs.Begin.{Answers, CanBegin, Renews};
+ghost use Rattle.ws_calls.specs.Begin.{Answers, CanBegin, Renews, released_by};
 ghost use Rattle.ws_steps.specs.declared.calls.Call.TheVariants as call;
 ghost use Rattle.ws_tables.specs.View.{slots_of};
 
 use crate::replies::UNSUPPORTED;
-use ws_steps::{Effect, Lock, ReadableOperation, Reply, WritableOperation, Writer};
+use ws_steps::{Effect, Lock, ReadableOperation, ReaderKind, Reply, WritableOperation, Writer};
 use ws_tables::Tables;
 use ws_value::{Fault, LockId, Plain, PromiseId, StreamId};
 
@@ -30,20 +30,40 @@ fn renew(tables: &mut Tables, promise: PromiseId, kept: bool) -> PromiseId
     renewed
 }
 
-/// A reader lets go of its stream.
-fn release_reader(tables: &mut Tables, l: LockId, closed: PromiseId, i: StreamId) -> Reply
-    requires lock { l.0 < vec_len tables.old.locks }
-    requires there { has_readable i (slots_of tables.old) ≡ true }
-    requires ready { CanBegin tables.old }
-    ensures { Answers (calls.release_reader l closed i (slots_of tables.old)) result tables.old tables.new }
+/// A reader that was released.
+fn released(kind: ReaderKind, closed: PromiseId) -> Lock
+    ensures { result ≡ released_by kind closed }
 {
-    let kept = tables.readable(i).is_readable();
+    match kind {
+        ReaderKind::Default => Lock::Reader {
+            stream: None,
+            closed,
+        },
+        ReaderKind::Byob => Lock::ByobReader {
+            stream: None,
+            closed,
+        },
+    }
+}
+
+/// A reader of this kind lets go of its stream.
+fn release_reader(
+    tables: &mut Tables,
+    l: LockId,
+    kind: ReaderKind,
+    closed: PromiseId,
+    i: StreamId,
+) -> Reply
+    requires lock { l.0 < vec_len tables.old.locks }
+    requires there { has_source i (slots_of tables.old) ≡ true }
+    requires ready { CanBegin tables.old }
+    ensures { Answers (calls.release_reader (released_by kind) l closed i (slots_of tables.old))
+        result tables.old tables.new }
+{
+    let kept = tables.is_source_readable(i);
     let closed = renew(tables, closed, kept);
     let _locks = tables.locks.len();
-    tables.locks[l.0 as usize] = Lock::Reader {
-        stream: None,
-        closed,
-    };
+    tables.locks[l.0 as usize] = released(kind, closed);
     tables
         .caused
         .push(Effect::Readable(i, ReadableOperation::ReleaseReader));
@@ -74,7 +94,9 @@ pub(crate) fn closed(tables: &mut Tables, l: LockId) -> Reply
     ensures { Answers (calls.begin (call.Closed l) (slots_of tables.old)) result tables.old tables.new }
 {
     match tables.lock(l) {
-        Some(Lock::Reader { closed, .. }) => Reply::Promise(closed),
+        Some(Lock::Reader { closed, .. } | Lock::ByobReader { closed, .. }) => {
+            Reply::Promise(closed)
+        }
         Some(Lock::Writer(i)) => match tables.writer(i) {
             Some(writer) => Reply::Promise(writer.closed),
             None => UNSUPPORTED,
@@ -95,7 +117,7 @@ pub(crate) fn ready(tables: &mut Tables, l: LockId) -> Reply
             None => UNSUPPORTED,
         },
         Some(Lock::ReleasedWriter(writer)) => Reply::Promise(writer.ready),
-        Some(Lock::Reader { .. } | Lock::Inner) | None => UNSUPPORTED,
+        Some(Lock::Reader { .. } | Lock::ByobReader { .. } | Lock::Inner) | None => UNSUPPORTED,
     }
 }
 
@@ -111,12 +133,25 @@ pub(crate) fn release(tables: &mut Tables, l: LockId) -> Reply
                 closed,
             },
         ) => {
-            if !tables.has_readable(i) {
+            if !tables.has_source(i) {
                 return UNSUPPORTED;
             }
-            release_reader(tables, l, closed, i)
+            release_reader(tables, l, ReaderKind::Default, closed, i)
         }
-        Some(Lock::Reader { stream: None, .. }) => Reply::Done,
+        Some(
+            Lock::ByobReader {
+                stream: Some(i),
+                closed,
+            },
+        ) => {
+            if !tables.has_source(i) {
+                return UNSUPPORTED;
+            }
+            release_reader(tables, l, ReaderKind::Byob, closed, i)
+        }
+        Some(Lock::Reader { stream: None, .. } | Lock::ByobReader { stream: None, .. }) => {
+            Reply::Done
+        }
         Some(Lock::Writer(i)) => match tables.writer(i) {
             Some(writer) => release_writer(tables, l, i, writer),
             None => UNSUPPORTED,

@@ -1,7 +1,7 @@
 //! The calls that begin pipes, and those on the signals that abort them.
 ghost use Rattle.std.specs.Prelude.{◌≡◌, ◌+◌, ◌≤◌, ◌++◌, length, true};
 ghost use Rattle.ws_steps.specs.Calls as calls;
-ghost use Rattle.ws_steps.specs.Slots.{has_readable, has_writable};
+ghost use Rattle.ws_steps.specs.Slots.{has_source, has_writable};
 ghost use Rattle.ws_calls.specs.Begin.{Answers, CanBegin, CanMake};
 ghost use Rattle.ws_steps.specs.declared.calls.Call.TheVariants as call;
 ghost use Rattle.ws_tables.specs.View.{slots_of};
@@ -106,14 +106,14 @@ fn pipe_unlocked(
     prevent: Prevent,
     signal: Option<SignalId>,
 ) -> Reply
-    requires source { has_readable source (slots_of tables.old) ≡ true }
+    requires source { has_source source (slots_of tables.old) ≡ true }
     requires dest { has_writable dest (slots_of tables.old) ≡ true }
     requires ready { CanBegin tables.old }
     requires room { CanMake tables.old }
     ensures { Answers (calls.pipe_unlocked source dest prevent signal (slots_of tables.old))
         result tables.old tables.new }
 {
-    if tables.readable(source).is_locked() {
+    if tables.is_source_locked(source) {
         return rejected(tables);
     }
     if tables.writable(dest).is_locked() {
@@ -135,7 +135,7 @@ pub(crate) fn pipe(
     ensures { Answers (calls.begin (call.Pipe source dest prevent signal) (slots_of tables.old))
         result tables.old tables.new }
 {
-    if !tables.has_readable(source) {
+    if !tables.has_source(source) {
         return UNSUPPORTED;
     }
     if !tables.has_writable(dest) {

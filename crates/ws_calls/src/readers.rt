@@ -18,16 +18,16 @@ fn cancel_stream(tables: &mut Tables, i: StreamId, reason: Plain) -> Reply
     Reply::Promise(promise)
 }
 
-/// A new reader takes the stream.
+/// A new default reader takes the stream.
 #[tactic(auto, unfolding(ws_steps::specs::Calls::begin))]
 pub(crate) fn get_reader(tables: &mut Tables, i: StreamId) -> Reply
     requires ready { CanBegin tables.old }
     ensures { Answers (calls.begin (call.GetReader i) (slots_of tables.old)) result tables.old tables.new }
 {
-    if !tables.has_readable(i) {
+    if !tables.has_source(i) {
         return UNSUPPORTED;
     }
-    if tables.readable(i).is_locked() {
+    if tables.is_source_locked(i) {
         return TYPE_ERROR;
     }
     let l = LockId(tables.locks.len() as u128);
@@ -45,10 +45,10 @@ pub(crate) fn cancel(tables: &mut Tables, i: StreamId, reason: Plain) -> Reply
     requires ready { CanBegin tables.old }
     ensures { Answers (calls.begin (call.Cancel i reason) (slots_of tables.old)) result tables.old tables.new }
 {
-    if !tables.has_readable(i) {
+    if !tables.has_source(i) {
         return UNSUPPORTED;
     }
-    if tables.readable(i).is_locked() {
+    if tables.is_source_locked(i) {
         return rejected(tables);
     }
     cancel_stream(tables, i, reason)
@@ -64,14 +64,20 @@ pub(crate) fn cancel_by(tables: &mut Tables, l: LockId, reason: Plain) -> Reply
             Lock::Reader {
                 stream: Some(i),
                 ..
+            }
+            | Lock::ByobReader {
+                stream: Some(i),
+                ..
             },
         ) => {
-            if !tables.has_readable(i) {
+            if !tables.has_source(i) {
                 return UNSUPPORTED;
             }
             cancel_stream(tables, i, reason)
         }
-        Some(Lock::Reader { stream: None, .. }) => rejected(tables),
+        Some(Lock::Reader { stream: None, .. } | Lock::ByobReader { stream: None, .. }) => {
+            rejected(tables)
+        }
         Some(Lock::Writer(_) | Lock::ReleasedWriter(_) | Lock::Inner) | None => UNSUPPORTED,
     }
 }
@@ -88,7 +94,7 @@ pub(crate) fn read(tables: &mut Tables, l: LockId) -> Reply
                 ..
             },
         ) => {
-            if !tables.has_readable(i) {
+            if !tables.has_source(i) {
                 return UNSUPPORTED;
             }
             let promise = tables.promises.fresh();
@@ -99,6 +105,7 @@ pub(crate) fn read(tables: &mut Tables, l: LockId) -> Reply
             Reply::Promise(promise)
         }
         Some(Lock::Reader { stream: None, .. }) => rejected(tables),
-        Some(Lock::Writer(_) | Lock::ReleasedWriter(_) | Lock::Inner) | None => UNSUPPORTED,
+        Some(Lock::ByobReader { .. } | Lock::Writer(_) | Lock::ReleasedWriter(_) | Lock::Inner)
+        | None => UNSUPPORTED,
     }
 }

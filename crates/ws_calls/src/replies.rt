@@ -1,4 +1,5 @@
 //! Replies that many calls give.
+ghost use Rattle.std.specs.Prelude.{◌≡◌};
 ghost use Rattle.ws_steps.specs.Calls as calls;
 ghost use Rattle.ws_tables.specs.View.{slots_of};
 ghost use Rattle.ws_calls.specs.Begin.{Answers, CanBegin};
@@ -10,6 +11,16 @@ use ws_value::{Fault, Plain};
 pub(crate) const UNSUPPORTED: Reply = Reply::Throws(Thrown::Unsupported);
 
 pub(crate) const TYPE_ERROR: Reply = Reply::Throws(Thrown::TypeError);
+
+/// What a call throws that an operation of a byte controller lets throw.
+pub(crate) fn thrown_by(fault: Fault) -> Reply
+    ensures { result ≡ calls.thrown_by fault }
+{
+    match fault {
+        Fault::RangeError => Reply::Throws(Thrown::RangeError),
+        _ => TYPE_ERROR,
+    }
+}
 
 /// Answers a promise that is rejected with a TypeError.
 pub(crate) fn rejected(tables: &mut Tables) -> Reply

@@ -4,6 +4,7 @@ ghost use Rattle.ws_steps.specs.declared.calls.Call.TheVariants as call;
 ghost use Rattle.ws_calls.specs.Begin.{Answers, CanBegin, CanMake};
 ghost use Rattle.ws_tables.specs.View.{slots_of};
 
+use ws_byte::ByteStream;
 use ws_readable::Readable;
 use ws_steps::{Effect, Owner, Reply, SizeBy, StartBy, Step};
 use ws_tables::{Stream, Tables};
@@ -26,6 +27,27 @@ pub(crate) fn make_readable(tables: &mut Tables, hwm: u64, size: SizeBy, start: 
     let i = StreamId(tables.streams.len() as u32);
     let stream = Readable::make(tables.alloc, Owner::Host, hwm, size);
     tables.streams.push_reserved(Stream::Readable(stream));
+    tables.grown.push_reserved(i);
+    tables
+        .caused
+        .push(Effect::StartAlgorithm(i, Step::ReadableStart(i), start));
+    Reply::Made(i)
+}
+
+/// `new ReadableStream` over a byte source.
+#[tactic(auto, unfolding(ws_steps::specs::Calls::begin))]
+pub(crate) fn make_bytes(tables: &mut Tables, hwm: u64, auto: u64, start: StartBy) -> Reply
+    requires ready { CanBegin tables.old }
+    requires room { CanMake tables.old }
+    ensures { Answers (calls.begin (call.MakeBytes hwm auto start) (slots_of tables.old))
+        result tables.old tables.new }
+{
+    if tables.streams.len() >= MOST_STREAMS {
+        return Reply::TooMany;
+    }
+    let i = StreamId(tables.streams.len() as u32);
+    let stream = ByteStream::make(tables.alloc, hwm, auto);
+    tables.streams.push_reserved(Stream::Bytes(stream));
     tables.grown.push_reserved(i);
     tables
         .caused

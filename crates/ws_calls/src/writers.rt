@@ -74,7 +74,7 @@ pub(crate) fn write(tables: &mut Tables, l: LockId, chunk: Value) -> Reply
             Reply::Promise(promise)
         }
         Some(Lock::ReleasedWriter(_)) => rejected(tables),
-        Some(Lock::Reader { .. } | Lock::Inner) | None => UNSUPPORTED,
+        Some(Lock::Reader { .. } | Lock::ByobReader { .. } | Lock::Inner) | None => UNSUPPORTED,
     }
 }
 
@@ -105,7 +105,7 @@ pub(crate) fn close_by(tables: &mut Tables, l: LockId) -> Reply
             close_stream(tables, i)
         }
         Some(Lock::ReleasedWriter(_)) => rejected(tables),
-        Some(Lock::Reader { .. } | Lock::Inner) | None => UNSUPPORTED,
+        Some(Lock::Reader { .. } | Lock::ByobReader { .. } | Lock::Inner) | None => UNSUPPORTED,
     }
 }
 
@@ -136,7 +136,7 @@ pub(crate) fn abort_by(tables: &mut Tables, l: LockId, reason: Plain) -> Reply
             abort_stream(tables, i, reason)
         }
         Some(Lock::ReleasedWriter(_)) => rejected(tables),
-        Some(Lock::Reader { .. } | Lock::Inner) | None => UNSUPPORTED,
+        Some(Lock::Reader { .. } | Lock::ByobReader { .. } | Lock::Inner) | None => UNSUPPORTED,
     }
 }
 
@@ -154,6 +154,6 @@ pub(crate) fn desired_by(tables: &mut Tables, l: LockId) -> Reply
             Reply::Size(size)
         }
         Some(Lock::ReleasedWriter(_)) => TYPE_ERROR,
-        Some(Lock::Reader { .. } | Lock::Inner) | None => UNSUPPORTED,
+        Some(Lock::Reader { .. } | Lock::ByobReader { .. } | Lock::Inner) | None => UNSUPPORTED,
     }
 }

@@ -6,8 +6,7 @@ use Rattle.ws_value.specs.declared.ids.PromiseId.{PromiseId}
 use Rattle.ws_value.specs.declared.ids.StreamId.{StreamId}
 use Rattle.ws_value.specs.declared.value.Plain.{Plain}
 use Rattle.ws_steps.specs.declared.effects.Effect.{Effect}
-use Rattle.ws_steps.specs.declared.effects.Effect.TheVariants.{Readable, Writable, Give, Settle as SettlePromise, Queue}
-use Rattle.ws_steps.specs.declared.readable.ReadableOperation.{ReadableOperation}
+use Rattle.ws_steps.specs.declared.effects.Effect.TheVariants.{Writable, Give, Settle as SettlePromise, Queue}
 use Rattle.ws_steps.specs.declared.writable.WritableOperation.{WritableOperation}
 use Rattle.ws_steps.specs.declared.effects.Gift.{Gift}
 use Rattle.ws_steps.specs.declared.effects.Use.{Use}
@@ -17,8 +16,8 @@ use Rattle.ws_steps.specs.declared.promises.Reaction.TheVariants.{Adopt}
 use Rattle.ws_steps.specs.declared.promises.Micro.{Micro}
 use Rattle.ws_steps.specs.Pipes as pipe
 use Rattle.ws_steps.specs.Promises.{Entry, Table, settle, use_gift, queue_micro, taken, after_first, after_next_job, watch}
-use Rattle.ws_steps.specs.Operations.{readable_operation, writable_operation}
-use Rattle.ws_steps.specs.Slots.{Slots, Done, on_readable, on_writable}
+use Rattle.ws_steps.specs.Operations.{writable_operation}
+use Rattle.ws_steps.specs.Slots.{Slots, Done, on_writable}
 use Rattle.ws_steps.specs.Turns.{row}
 use Rattle.ws_steps.proofs.PromiseLaws.{length-fresh}
 use Rattle.ws_room_laws.proofs.Rows.{get-other, same-or}
@@ -56,9 +55,8 @@ module _ (n : ℕ) where
 pub entries-more : (e : Effect) (s : Slots) → length s.promises.entries ≤ length (row e s).slots.promises.entries
 entries-more e s = row-changes (Has (length s.promises.entries)) (has-changes (length s.promises.entries)) e s (omega arith)
 
-pub readable-more : (i : StreamId) (operation : ReadableOperation) (s : Slots) (d : Done) → on_readable (readable_operation i operation) i s ≡ d → length s.promises.entries ≤ length d.slots.promises.entries
-unfolding row
-readable-more i operation s d is = subst (λ (z : Done). length s.promises.entries ≤ length z.slots.promises.entries) is (entries-more (Readable i operation) s)
+pub row-more : (e : Effect) (s : Slots) (d : Done) → row e s ≡ d → length s.promises.entries ≤ length d.slots.promises.entries
+row-more e s d is = subst (λ (z : Done). length s.promises.entries ≤ length z.slots.promises.entries) is (entries-more e s)
 
 pub writable-more : (i : StreamId) (operation : WritableOperation) (s : Slots) (d : Done) → on_writable (writable_operation i operation) i s ≡ d → length s.promises.entries ≤ length d.slots.promises.entries
 unfolding row

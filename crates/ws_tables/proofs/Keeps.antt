@@ -6,7 +6,8 @@ use Rattle.ws_value.specs.declared.value.Plain.{Plain}
 use Rattle.ws_pipe.specs.Seen.{aborts_by, aborts_of}
 use Rattle.ws_steps.specs.Pipes as pipe
 use Rattle.ws_steps.specs.Places.{Prices, each, steps_price, abort_price, all_keep, signal_keeps_by, signal_keeps, signals_keep}
-use Rattle.ws_steps.specs.Slots.{Slots, Stream, ReadableStream, WritableStream}
+use Rattle.ws_steps.specs.Slots.{Slots, Stream, ReadableStream, ByteStream, WritableStream}
+use Rattle.ws_room_laws.proofs.Rows.{each-none}
 use Rattle.ws_tables.specs.View.{slots_of}
 use Rattle.ws_tables.specs.Room.{waits_of, waiting_in, aborts_in, later, IsKept}
 use Rattle.ws_tables.specs.declared.tables.Tables.{Tables}
@@ -22,11 +23,19 @@ kept_in π s = all_keep π s.streams + signals_keep π s.signals
 sum-times : (a b c x y : ℕ) → x ≡ a * c → y ≡ b * c → x + y ≡ (a + b) * c
 sum-times a b c x y h g = omega (arith, h, g)
 
-pub streams-keep-is : (π : Prices) (xs : List Stream) → all_keep π xs ≡ waiting_in xs * steps_price π
-streams-keep-is π [] = omega arith
-streams-keep-is π (ReadableStream r ∷ xs) =
-    sum-times (length r.requests) (waiting_in xs) (steps_price π) (each (steps_price π) r.requests) (all_keep π xs) (each-times (steps_price π) r.requests) (streams-keep-is π xs)
-streams-keep-is π (WritableStream w ∷ xs) = let h = streams-keep-is π xs in omega (arith, h)
+-- where an entry of a queue is for nothing, so are descriptors
+free-each : {A : Type 0} (c : ℕ) (xs : List A) → c ≡ 0 → each c xs ≡ 0
+free-each c xs free = rw free (each-none xs)
+
+pub streams-keep-is : (π : Prices) (xs : List Stream) → π.queued ≡ 0 → all_keep π xs ≡ waiting_in xs * steps_price π
+streams-keep-is π [] free = omega arith
+streams-keep-is π (ReadableStream r ∷ xs) free =
+    sum-times (length r.requests) (waiting_in xs) (steps_price π) (each (steps_price π) r.requests) (all_keep π xs) (each-times (steps_price π) r.requests) (streams-keep-is π xs free)
+streams-keep-is π (ByteStream b ∷ xs) free =
+    let none = free-each π.queued b.descriptors free in
+    let h = sum-times (length b.stream.requests) (waiting_in xs) (steps_price π) (each (steps_price π) b.stream.requests) (all_keep π xs) (each-times (steps_price π) b.stream.requests) (streams-keep-is π xs free) in
+    omega (arith, none, h)
+streams-keep-is π (WritableStream w ∷ xs) free = let h = streams-keep-is π xs free in omega (arith, h)
 
 keeps_by-is : (π : Prices) (ps : List PipeId) (reason : Option Plain) → signal_keeps_by π ps reason ≡ aborts_by ps reason * abort_price π
 keeps_by-is π ps None = each-times (abort_price π) ps
@@ -40,9 +49,9 @@ signals-keep-is π [] = omega arith
 signals-keep-is π (x ∷ xs) =
     sum-times (aborts_of x) (aborts_in xs) (abort_price π) (signal_keeps π x) (signals_keep π xs) (signal-keeps-is π x) (signals-keep-is π xs)
 
-pub later-is : (π : Prices) (t : Tables) → IsKept t → kept_in π (slots_of t) ≡ later π t
-later-is π t kept =
-    let a = streams-keep-is π (slots_of t).streams in
+pub later-is : (π : Prices) (t : Tables) → π.queued ≡ 0 → IsKept t → kept_in π (slots_of t) ≡ later π t
+later-is π t free kept =
+    let a = streams-keep-is π (slots_of t).streams free in
     let b = signals-keep-is π (slots_of t).signals in
     let c = ap (λ n. n * steps_price π) kept.waiting in
     let d = ap (λ n. n * abort_price π) kept.aborts in

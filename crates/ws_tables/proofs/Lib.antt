@@ -1,5 +1,9 @@
+pub mod ByteAuto
+pub mod ByteDid
+pub mod Bytes
 pub mod Counts
 pub mod Fits
+pub mod Held
 pub mod Keeps
 pub mod Loops
 pub mod Places

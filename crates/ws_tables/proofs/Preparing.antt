@@ -1,34 +1,46 @@
 -- Places are made in the lists of streams and signals.
-use Rattle.std.proofs.Common.{◌≡◌, ℕ, ⊎_elim, List, [], length, Some, refl, sym, ap, subst, ◌∙◌, Contains, arith}
+use Rattle.std.proofs.Common.{◌≡◌, ℕ, zero, suc, inl, inr, ⊎_elim, List, [], ◌∷◌, ◌++◌, length, Some, refl, sym, ap, subst, ◌∙◌, Contains, arith}
 use Rattle.std.specs.Prelude.{slice_get, slice_set, Result, Ok, Err, OnOk}
+use Rattle.std.proofs.lemmas.List.Elements.{Contains-append_cases}
 use Rattle.ws_value.specs.declared.ids.SignalId.{SignalId}
 use Rattle.ws_value.specs.declared.ids.StreamId.{StreamId}
 use Rattle.ws_room_laws.proofs.Rows.{get-other, same-or}
 use Rattle.ws_pipe.specs.Seen.{SeenSignal, HasMemberRoom}
-use Rattle.ws_tables.specs.Room.{HasLists, EachHasLists, AllCovered, IsWider, ListsGrow, EachHasMembers, AllHaveMembers, IsRoomier, MembersGrow}
+use Rattle.ws_tables.specs.Room.{HasPlaces, EachHasPlaces, AllCovered, PlacesStay, EachHasMembers, AllHaveMembers, IsRoomier, MembersGrow}
 use Rattle.ws_promise.specs.Seen.{Seen, Grows, HasRoom, jobs_in, events_in}
 use Rattle.ws_steps.specs.Promises.{Table}
 use Rattle.ws_tables.specs.declared.tables.Stream.{Stream}
 use Rattle.ws_tables.proofs.Streams.{put-is}
 
-pub wider-same : (x : Stream) → IsWider x x
-wider-same x = record { queued = refl; requested = refl; queue = omega arith; requests = omega arith }
-
--- one stream got wider
-pub grow-put : (xs : List Stream) (j : ℕ) (x y : Stream) → slice_get xs j ≡ Some x → IsWider x y → ListsGrow xs (slice_set xs j y)
-grow-put xs j x y is wider i z there =
+-- one stream got places
+pub places-put : (xs : List Stream) (j : ℕ) (x y : Stream) → slice_get xs j ≡ Some x → (HasPlaces x → HasPlaces y) → PlacesStay xs (slice_set xs j y)
+places-put xs j x y is stay i z there =
     ⊎_elim
     (λ (same : i ≡ j).
     let z-is : y ≡ z = put-is xs j y z (ap (slice_get (slice_set xs j y)) (sym same) ∙ there) in
-    (x, (ap (slice_get xs) same ∙ is, subst (λ w. IsWider x w) z-is wider)))
-    (λ other. (z, (sym (get-other xs j i y other) ∙ there, wider-same z)))
+    (x, (ap (slice_get xs) same ∙ is, subst (λ w. HasPlaces x → HasPlaces w) z-is stay)))
+    (λ other. (z, (sym (get-other xs j i y other) ∙ there, λ h. h)))
     (same-or i j)
 
 no-more : {X : Type 0} (j : X) → Contains {X = X} [] j → ⊥
 no-more j (k, less, is) = omega (arith, less)
 
+one-of : {X : Type 0} (x y : X) → Contains (x ∷ []) y → y ≡ x
+one-of x y (zero, less, is) = sym is
+one-of x y (suc k, less, is) = absurd (omega arith)
+
+-- one stream of those that wait got places
+pub covered-next : (grown rest : List StreamId) (j : StreamId) (xs ys : List Stream) → grown ≡ rest ++ j ∷ [] → AllCovered grown xs → PlacesStay xs ys
+    → ((x : Stream) → slice_get ys j.0 ≡ Some x → HasPlaces x) → AllCovered rest ys
+covered-next grown rest j xs ys last covered stay made i y there =
+    let before = stay i.0 y there in
+    ⊎_elim (λ h. inl (before.1.1 h))
+    (λ c. ⊎_elim (λ h. inr h) (λ h. inl (made y (ap (λ (k : StreamId). slice_get ys k.0) (sym (one-of j i h)) ∙ there)))
+    (Contains-append_cases rest (j ∷ []) i (subst (λ g. Contains g i) last c)))
+    (covered i before.0 before.1.0)
+
 -- no stream waits for places
-pub all-covered : (grown : List StreamId) (xs : List Stream) → grown ≡ [] → AllCovered grown xs → EachHasLists 4 4 xs
+pub all-covered : (grown : List StreamId) (xs : List Stream) → grown ≡ [] → AllCovered grown xs → EachHasPlaces xs
 all-covered grown xs none covered i x is =
     ⊎_elim (λ h. h) (λ c. absurd (no-more (record { 0 = i }) (subst (λ g. Contains g (record { 0 = i })) none c))) (covered (record { 0 = i }) x is)
 
@@ -69,8 +81,8 @@ on_both (Ok x) P Q a b = (a, b)
 on_both (Err e) P Q a b = tt
 
 -- the stream that is put at a number has the places
-pub made-at : {T E : Type 0} (r : Result T E) (xs : List Stream) (i : StreamId) (y : Stream) → OnOk r (HasLists 4 4 y) → OnOk r ((x : Stream) → slice_get (slice_set xs i.0 y) i.0 ≡ Some x → HasLists 4 4 x)
-made-at r xs i y h = on_ok r (HasLists 4 4 y) _ (λ has x is. subst (HasLists 4 4) (put-is xs i.0 y x is) has) h
+pub made-at : {T E : Type 0} (r : Result T E) (xs : List Stream) (i : StreamId) (y : Stream) → OnOk r (HasPlaces y) → OnOk r ((x : Stream) → slice_get (slice_set xs i.0 y) i.0 ≡ Some x → HasPlaces x)
+made-at r xs i y h = on_ok r (HasPlaces y) _ (λ has x is. subst HasPlaces (put-is xs i.0 y x is) has) h
 
 -- so has the signal
 pub members-made : {T E : Type 0} (r : Result T E) (xs : List SeenSignal) (a : SignalId) (y : SeenSignal) → OnOk r (HasMemberRoom 1 y) → OnOk r ((x : SeenSignal) → slice_get (slice_set xs a.0 y) a.0 ≡ Some x → HasMemberRoom 1 x)

@@ -1,25 +1,26 @@
 -- What an operation of a stream takes of the places of a realm.
-use Rattle.std.proofs.Common.{◌≡◌, ◌≤◌, ◌<◌, ℕ, zero, suc, ◌+◌, ◌-◌, ◌*◌, ◌⊎◌, inl, inr, ⊎_elim, Bool, true, false, not, ◌&&◌, if◌then◌else◌, List, [], ◌∷◌, ◌++◌, length, length-append, map, Some, refl, sym, ap, ◌∙◌, subst, Contains, arith}
+use Rattle.std.proofs.Common.{◌≡◌, ◌≤◌, ◌<◌, ℕ, zero, suc, ◌+◌, ◌-◌, ◌*◌, ◌⊎◌, inl, inr, ⊎_elim, Bool, true, false, not, ◌&&◌, if◌then◌else◌, List, [], ◌∷◌, ◌++◌, length, length-append, map, Option, Some, refl, sym, ap, ◌∙◌, subst, Contains, arith}
 use Rattle.std.specs.Prelude.{slice_get, slice_set, slice_index_or, nat_le}
 use Rattle.std.proofs.lemmas.Bool.{false≢true}
 use Rattle.std.proofs.lemmas.List.Elements.{Contains-append_left, Contains-append_right}
 use Rattle.ws_value.specs.declared.ids.StreamId.{StreamId}
 use Rattle.ws_steps.specs.declared.readable.ReadableOperation.{ReadableOperation}
 use Rattle.ws_steps.specs.declared.writable.WritableOperation.{WritableOperation}
-use Rattle.ws_steps.specs.Operations.{readable_operation, writable_operation}
+use Rattle.ws_steps.specs.declared.byte.ByteOperation.{ByteOperation}
+use Rattle.ws_steps.specs.Operations.{readable_operation, byte_readable_operation, byte_operation, writable_operation}
 use Rattle.ws_steps.specs.Places.{each, prices_of, table_size, turns_alone, queued_alone, requests_alone, members_alone, readable_price, writable_price}
 use Rattle.ws_steps.specs.Readable as readable
 use Rattle.ws_steps.specs.Writable as writable
 use Rattle.ws_steps.specs.declared.effects.Effect.{Effect}
-use Rattle.ws_steps.specs.declared.effects.Effect.TheVariants.{Readable, Writable}
-use Rattle.ws_steps.specs.Slots.{Stream, Done, nothing, is_readable_stream, is_writable_stream, has_readable, has_writable}
+use Rattle.ws_steps.specs.declared.effects.Effect.TheVariants.{Readable, Byte, Writable}
+use Rattle.ws_steps.specs.Slots.{Slots, Stream, Done, nothing, is_readable_stream, is_byte_stream, is_writable_stream, has_readable, has_byte, has_writable, on_readable, on_byte}
 use Rattle.ws_steps.specs.Turns.{row}
 use Rattle.ws_steps.proofs.StreamLaws.{map-set}
 use Rattle.ws_room_laws.proofs.Rows.{each-none, get-other, same-or}
 use Rattle.ws_room_laws.proofs.Readables.{readable-takes}
 use Rattle.ws_room_laws.proofs.Writables.{writable-takes}
 use Rattle.ws_tables.specs.View.{slots_of, stream_of}
-use Rattle.ws_tables.specs.Room.{HasLists, AllCovered, waits_of, waiting_in, Performs}
+use Rattle.ws_tables.specs.Room.{HasPlaces, HasRooms, RoomsStay, AllCovered, waits_of, waiting_in, Performs}
 use Rattle.ws_tables.specs.declared.tables.Tables.{Tables}
 use Rattle.ws_tables.specs.declared.tables.Stream.{Stream as StreamRecord}
 use Rattle.ws_tables.proofs.Keeps.{each-times, waits-one, waits-put}
@@ -30,6 +31,11 @@ pub readable-within : {X : Type 0} (f : X → Stream) (items : List X) (i : ℕ)
 readable-within f [] i there = cc
 readable-within f (x ∷ xs) zero there = omega arith
 readable-within f (x ∷ xs) (suc i) there = let rest = readable-within f xs i there in omega arith
+
+pub byte-within : {X : Type 0} (f : X → Stream) (items : List X) (i : ℕ) → is_byte_stream (slice_get (map f items) i) ≡ true → i < length items
+byte-within f [] i there = cc
+byte-within f (x ∷ xs) zero there = omega arith
+byte-within f (x ∷ xs) (suc i) there = let rest = byte-within f xs i there in omega arith
 
 pub writable-within : {X : Type 0} (f : X → Stream) (items : List X) (i : ℕ) → is_writable_stream (slice_get (map f items) i) ≡ true → i < length items
 writable-within f [] i there = cc
@@ -191,21 +197,47 @@ module _ (grown : List StreamId) (i : StreamId) (y : StreamRecord) where
   still true j h = Contains-append_left grown (i ∷ []) j h
   still false j h = h
 
-  covers : (b : Bool) (xs : List StreamRecord) → AllCovered grown xs → HasLists 4 4 y ⊎ Contains (noted b) i → AllCovered (noted b) (slice_set xs i.0 y)
+  covers : (b : Bool) (xs : List StreamRecord) → AllCovered grown xs → HasPlaces y ⊎ Contains (noted b) i → AllCovered (noted b) (slice_set xs i.0 y)
   covers b xs covered this j x is =
       ⊎_elim
       (λ (same : j.0 ≡ i.0).
       let number : j ≡ i = ap (λ n. record { 0 = n }) same in
-      rw number (subst (λ z. HasLists 4 4 z ⊎ Contains (noted b) i) (put-is xs i.0 y x (ap (slice_get (slice_set xs i.0 y)) (sym same) ∙ is)) this))
+      rw number (subst (λ z. HasPlaces z ⊎ Contains (noted b) i) (put-is xs i.0 y x (ap (slice_get (slice_set xs i.0 y)) (sym same) ∙ is)) this))
       (λ other. ⊎_elim (λ h. inl h) (λ h. inr (still b j h)) (covered j x (sym (get-other xs i.0 j.0 y other) ∙ is)))
       (same-or j.0 i.0)
 
-  pub cover : (had has : Bool) (x : StreamRecord) (xs : List StreamRecord) → AllCovered grown xs → slice_get xs i.0 ≡ Some x → (HasLists 4 4 x → had ≡ true) → (has ≡ true → HasLists 4 4 y)
+  pub cover : (had has : Bool) (x : StreamRecord) (xs : List StreamRecord) → AllCovered grown xs → slice_get xs i.0 ≡ Some x → (HasPlaces x → had ≡ true) → (has ≡ true → HasPlaces y)
       → AllCovered (noted (had && not has)) (slice_set xs i.0 y)
   cover true true x xs covered is before after = covers false xs covered (inl (after refl))
   cover true false x xs covered is before after = covers true xs covered (inr (Contains-append_right grown (i ∷ []) i (0, omega arith, refl)))
   cover false true x xs covered is before after = covers false xs covered (inl (after refl))
   cover false false x xs covered is before after = covers false xs covered (⊎_elim (λ h. absurd (false≢true (before h))) (λ h. inr h) (covered i x is))
+
+-- the row of an operation that either kind of controller has
+
+is-no-byte : (o : Option Stream) → is_readable_stream o ≡ true → is_byte_stream o ≡ false
+is-no-byte o is = grind arith
+
+pub readable-row : (i : StreamId) (operation : ReadableOperation) (s : Slots) → has_readable i s ≡ true → row (Readable i operation) s ≡ on_readable (readable_operation i operation) i s
+unfolding row
+readable-row i operation s there = rw (is-no-byte (slice_get s.streams i.0) there) refl
+
+pub byte_readable-row : (i : StreamId) (operation : ReadableOperation) (s : Slots) → has_byte i s ≡ true → row (Readable i operation) s ≡ on_byte (byte_readable_operation i operation) i s
+unfolding row
+byte_readable-row i operation s there = rw there refl
+
+pub byte-row : (i : StreamId) (operation : ByteOperation) (s : Slots) → row (Byte i operation) s ≡ on_byte (byte_operation i operation) i s
+unfolding row
+byte-row i operation s = refl
+
+-- the rooms of byte streams stay where one stream is put in the place of another that has no more of them
+pub rooms-put : (xs : List StreamRecord) (i : ℕ) (x y : StreamRecord) → slice_get xs i ≡ Some x → ((n : ℕ) → HasRooms n x → HasRooms n y) → RoomsStay xs (slice_set xs i y)
+rooms-put xs i x y is stay n h j z there =
+    ⊎_elim
+    (λ (same : j ≡ i).
+    subst (HasRooms n) (put-is xs i y z (ap (slice_get (slice_set xs i y)) (sym same) ∙ there)) (stay n (h i x is)))
+    (λ other. h j z (sym (get-other xs i j y other) ∙ there))
+    (same-or j i)
 
 -- there is no such record of this number: nothing happens
 
@@ -216,14 +248,19 @@ absent e t row_is quiet = record {
   others = refl;
   places = refl;
   lists = refl;
+  rooms = λ none n h. h;
   grown = rw quiet (omega arith);
   members = refl;
   full = rw quiet (omega arith);
 }
 
-pub readable-absent : (i : StreamId) (operation : ReadableOperation) (t : Tables) → has_readable i (slots_of t) ≡ false → t.caused.effects ≡ [] → Performs (Readable i operation) t t
+pub byte_readable-absent : (i : StreamId) (operation : ReadableOperation) (t : Tables) → has_readable i (slots_of t) ≡ false → has_byte i (slots_of t) ≡ false → t.caused.effects ≡ [] → Performs (Readable i operation) t t
 unfolding row
-readable-absent i operation t none quiet = absent (Readable i operation) t (rw none refl) quiet
+byte_readable-absent i operation t none neither quiet = absent (Readable i operation) t (rw (neither, none) refl) quiet
+
+pub byte-absent : (i : StreamId) (operation : ByteOperation) (t : Tables) → has_byte i (slots_of t) ≡ false → t.caused.effects ≡ [] → Performs (Byte i operation) t t
+unfolding row
+byte-absent i operation t none quiet = absent (Byte i operation) t (rw none refl) quiet
 
 pub writable-absent : (i : StreamId) (operation : WritableOperation) (t : Tables) → has_writable i (slots_of t) ≡ false → t.caused.effects ≡ [] → Performs (Writable i operation) t t
 unfolding row

@@ -1,45 +1,94 @@
 -- The places in memory that a realm has, and those that it may come to need.
-use Rattle.std.specs.Prelude.{ℕ, ◌≡◌, ◌+◌, ◌*◌, ◌≤◌, ◌<◌, ◌⊎◌, List, [], ◌∷◌, ◌++◌, length, map, reverse, Some, Bool, ◌&&◌, not, if◌then◌else◌, Contains, slice_get, vec_len, vec_capacity}
+use Rattle.std.specs.Prelude.{ℕ, ◌≡◌, ◌+◌, ◌*◌, ◌≤◌, ◌<◌, ◌⊎◌, List, [], ◌∷◌, ◌++◌, length, map, reverse, Option, Some, None, Bool, ◌&&◌, not, if◌then◌else◌, ⊤, Contains, slice_get, vec_len, vec_capacity}
 use Rattle.ws_value.specs.declared.ids.SignalId.{SignalId}
 use Rattle.ws_value.specs.declared.ids.StreamId.{StreamId}
 use Rattle.ws_pipe.specs.Seen.{SeenSignal, HasMemberRoom, aborts_of}
 use Rattle.ws_promise.specs.Seen.{Room, HasPromiseRoom, HasJobRoom, HasEventRoom, HasRoom}
-use Rattle.ws_queue.specs.Seen.{Lists}
+use Rattle.ws_byte.specs.Seen.{Lists as ByteLists, HasSpares}
+use Rattle.ws_queue.specs.Seen.{Lists as TwoLists}
 use Rattle.ws_steps.specs.declared.effects.Effect.{Effect}
 use Rattle.ws_steps.specs.Pipes as pipe
-use Rattle.ws_steps.specs.Places.{Prices, own, effect_price, prices_of, steps_price, abort_price, turns_alone, promises_alone, jobs_alone, events_alone, hosts_alone, queued_alone, requests_alone, members_alone}
-use Rattle.ws_steps.specs.Slots.{Slots, Stream as SeenStream, ReadableStream, WritableStream, causes}
+use Rattle.ws_steps.specs.Places.{Prices, own, effect_price, prices_of, steps_price, abort_price, turns_alone, promises_alone, jobs_alone, events_alone, hosts_alone, queued_alone, requests_alone, members_alone, descriptors_alone}
+use Rattle.ws_steps.specs.Slots.{Slots, Stream as SeenStream, ReadableStream, ByteStream, WritableStream, causes}
 use Rattle.ws_steps.specs.Turns.{row, performed}
 use Rattle.ws_tables.specs.View.{slots_of}
 use Rattle.ws_tables.specs.declared.tables.Stream.{Stream}
-use Rattle.ws_tables.specs.declared.tables.Stream.TheVariants.{Readable, Writable}
+use Rattle.ws_tables.specs.declared.tables.Stream.TheVariants.{Readable, Bytes, Writable}
 use Rattle.ws_tables.specs.declared.tables.Tables.{Tables}
 
 -- the lists of a stream: the places that they have, and the entries in them
 
-abbrev pub room_of : Stream → Lists
-room_of (Readable r) = r.room
-room_of (Writable w) = w.room
+-- a byte stream alone has a list of descriptors
+pub record Lists : Type 0 where
+  pub queue : ℕ
+  pub requests : ℕ
+  pub descriptors : Option ℕ
 
+abbrev pub two_lists : TwoLists → Lists
+two_lists l = record { queue = l.queue; requests = l.requests; descriptors = None }
+
+abbrev pub byte_lists : ByteLists → Lists
+byte_lists l = record { queue = l.queue; requests = l.requests; descriptors = Some l.descriptors }
+
+abbrev pub room_of : Stream → Lists
+room_of (Readable r) = two_lists r.room
+room_of (Bytes b) = byte_lists b.room
+room_of (Writable w) = two_lists w.room
+
+-- each descriptor has a place in the queue, to which its bytes may go
 abbrev pub queued_in : Stream → ℕ
 queued_in (Readable r) = length r.slots.queue
+queued_in (Bytes b) = length b.slots.queue + length b.slots.descriptors
 queued_in (Writable w) = length w.slots.queue
 
 abbrev pub requested_in : Stream → ℕ
 requested_in (Readable r) = length r.slots.requests
+requested_in (Bytes b) = length b.slots.stream.requests
 requested_in (Writable w) = length w.slots.write_requests
 
--- there are places for q more entries of the queue and r more requests
-abbrev pub HasLists : ℕ → ℕ → Stream → Type 0
-HasLists q r x = (q + queued_in x ≤ (room_of x).queue) × (r + requested_in x ≤ (room_of x).requests)
+abbrev pub described_in : Stream → ℕ
+described_in (Readable r) = 0
+described_in (Bytes b) = length b.slots.descriptors
+described_in (Writable w) = 0
+
+-- so many have places, where there is such a list
+abbrev pub IsWithin : ℕ → Option ℕ → Type 0
+IsWithin n None = ⊤
+IsWithin n (Some m) = n ≤ m
+
+-- there are places for q more entries of the queue, r more requests and d more descriptors
+pub record HasLists (q r d : ℕ) (x : Stream) : Type 0 where
+  pub queue : q + queued_in x ≤ (room_of x).queue
+  pub requests : r + requested_in x ≤ (room_of x).requests
+  pub descriptors : IsWithin (d + described_in x) (room_of x).descriptors
 
 -- in each stream
-abbrev pub EachHasLists : ℕ → ℕ → List Stream → Type 0
-EachHasLists q r xs = (i : ℕ) (x : Stream) → slice_get xs i ≡ Some x → HasLists q r x
+abbrev pub EachHasLists : ℕ → ℕ → ℕ → List Stream → Type 0
+EachHasLists q r d xs = (i : ℕ) (x : Stream) → slice_get xs i ≡ Some x → HasLists q r d x
 
--- each stream has four places in either list, or places are to be made there
+-- a byte stream whose controller allocates rooms has n of them
+abbrev pub HasRooms : ℕ → Stream → Type 0
+HasRooms n (Readable r) = ⊤
+HasRooms n (Bytes b) = HasSpares n b
+HasRooms n (Writable w) = ⊤
+
+-- and so has each
+abbrev pub EachHasRooms : ℕ → List Stream → Type 0
+EachHasRooms n xs = (i : ℕ) (x : Stream) → slice_get xs i ≡ Some x → HasRooms n x
+
+abbrev pub RoomsStay : List Stream → List Stream → Type 0
+RoomsStay xs ys = (n : ℕ) → EachHasRooms n xs → EachHasRooms n ys
+
+-- a stream has places for what any call or job adds, and more
+abbrev pub HasPlaces : Stream → Type 0
+HasPlaces x = HasLists 4 4 4 x × HasRooms 1 x
+
+abbrev pub EachHasPlaces : List Stream → Type 0
+EachHasPlaces xs = (i : ℕ) (x : Stream) → slice_get xs i ≡ Some x → HasPlaces x
+
+-- each stream has them, or they are to be made there
 abbrev pub AllCovered : List StreamId → List Stream → Type 0
-AllCovered grown xs = (i : StreamId) (x : Stream) → slice_get xs i.0 ≡ Some x → HasLists 4 4 x ⊎ Contains grown i
+AllCovered grown xs = (i : StreamId) (x : Stream) → slice_get xs i.0 ≡ Some x → HasPlaces x ⊎ Contains grown i
 
 abbrev pub IsCovered : Tables → Type 0
 IsCovered t = AllCovered t.grown.items t.streams.items
@@ -83,6 +132,7 @@ places_of t =
 
 abbrev pub waits_of : SeenStream → ℕ
 waits_of (ReadableStream r) = length r.requests
+waits_of (ByteStream b) = length b.stream.requests
 waits_of (WritableStream w) = 0
 
 abbrev pub waiting_in : List SeenStream → ℕ
@@ -126,7 +176,8 @@ pub record HasRoomFor (e : Effect) (t : Tables) : Type 0 where
   pub hosts : own hosts_alone e + vec_len t.hosts ≤ vec_capacity t.hosts
   pub caused : effect_price turns_alone e + later turns_alone t + 6 ≤ t.caused.capacity
   pub others : effect_price turns_alone e + later turns_alone t + 6 ≤ vec_capacity t.others
-  pub lists : EachHasLists (own queued_alone e) (own requests_alone e) t.streams.items
+  pub lists : EachHasLists (own queued_alone e) (own requests_alone e) (own descriptors_alone e) t.streams.items
+  pub rooms : EachHasRooms (own descriptors_alone e) t.streams.items
   pub grown : effect_price queued_alone e + effect_price requests_alone e + vec_len t.grown ≤ vec_capacity t.grown
   pub members : EachHasMembers (own members_alone e) t.signals.items
   pub full : own members_alone e + vec_len t.full ≤ vec_capacity t.full
@@ -139,7 +190,10 @@ pub record HasRoomForAll (es : List Effect) (t : Tables) : Type 0 where
   pub hosts : prices_of hosts_alone es + later hosts_alone t + vec_len t.hosts ≤ vec_capacity t.hosts
   pub caused : prices_of turns_alone es + later turns_alone t + 6 ≤ t.caused.capacity
   pub others : prices_of turns_alone es + later turns_alone t + 6 ≤ vec_capacity t.others
-  pub lists : EachHasLists (prices_of queued_alone es) (prices_of requests_alone es) t.streams.items
+  pub lists : EachHasLists (prices_of queued_alone es) (prices_of requests_alone es) (prices_of descriptors_alone es) t.streams.items
+  -- one descriptor may come yet, at most, and each byte stream has a room for it
+  pub once : prices_of descriptors_alone es ≤ 1
+  pub rooms : EachHasRooms (prices_of descriptors_alone es) t.streams.items
   pub grown : prices_of queued_alone es + prices_of requests_alone es + vec_len t.grown ≤ vec_capacity t.grown
   pub members : EachHasMembers (prices_of members_alone es) t.signals.items
   pub full : prices_of members_alone es + vec_len t.full ≤ vec_capacity t.full
@@ -156,10 +210,11 @@ pub record IsPrepared (t : Tables) : Type 0 where
   pub caused : places_for 2 14 34 t ≤ t.caused.capacity
   pub others : places_for 2 14 34 t ≤ vec_capacity t.others
   pub grown : vec_len t.grown + 6 ≤ vec_capacity t.grown
-  pub lists : EachHasLists 4 4 t.streams.items
+  pub places : EachHasPlaces t.streams.items
   pub full : vec_len t.full < vec_capacity t.full
   pub members : EachHasMembers 1 t.signals.items
   pub locks : vec_len t.locks + 2 ≤ vec_capacity t.locks
+  pub byob_requests : vec_len t.byob_requests < vec_capacity t.byob_requests
   pub streams : vec_len t.streams + 2 ≤ vec_capacity t.streams
   pub transforms : vec_len t.transforms < vec_capacity t.transforms
   pub pipes : vec_len t.pipes < vec_capacity t.pipes
@@ -188,12 +243,13 @@ pub record Performs (e : Effect) (t t' : Tables) : Type 0 where
   pub others : t'.others ≡ t.others
   pub places : places_of t' ≡ places_of t
   pub lists : map room_of t'.streams.items ≡ map room_of t.streams.items
+  pub rooms : own descriptors_alone e ≡ 0 → RoomsStay t.streams.items t'.streams.items
   pub grown : vec_len t'.grown + prices_of queued_alone t'.caused.effects + prices_of requests_alone t'.caused.effects
       ≤ vec_len t.grown + effect_price queued_alone e + effect_price requests_alone e
   pub members : map members_room t'.signals.items ≡ map members_room t.signals.items
   pub full : vec_len t'.full + prices_of members_alone t'.caused.effects ≤ vec_len t.full + effect_price members_alone e
 
--- a stream in which there were four places of each kind, and aren't any more, is noted
+-- a stream that had the places for any call or job, and hasn't any more, is noted
 pub record NotesGrowth (i : StreamId) (had_room has_room : Bool) (t t' : Tables) : Type 0 where
   pub tables : t' ≡ record t { grown = t'.grown }
   pub grown : t'.grown.items ≡ (if had_room && not has_room then t.grown.items ++ i ∷ [] else t.grown.items)
@@ -210,8 +266,12 @@ pub record NotesFull (a : SignalId) (had_room has_room : Bool) (t t' : Tables) :
 abbrev pub CanPutFirst : Tables → Type 0
 CanPutFirst t = vec_len t.others + length t.caused.effects ≤ vec_capacity t.others
 
-pub record PutsFirst (t t' : Tables) : Type 0 where
-  pub others : reverse t'.others.items ≡ t.caused.effects ++ reverse t.others.items
+-- what was caused, before the effects that wait
+abbrev pub effects_of : Tables → List Effect
+effects_of t = t.caused.effects ++ reverse t.others.items
+
+-- none is left of what was caused, and nothing changes but the effects
+pub record TakesOut (t t' : Tables) : Type 0 where
   pub caused : t'.caused.effects ≡ []
   pub slots : slots_of t' ≡ slots_of t
   pub promises : t'.promises ≡ t.promises
@@ -228,19 +288,13 @@ pub record PerformsAll (t t' : Tables) : Type 0 where
 
 -- memory is taken
 
--- the stream of this number, where there is one, has four places in either list
-abbrev pub HasListsAt : StreamId → Tables → Type 0
-HasListsAt i t = (x : Stream) → slice_get t.streams.items i.0 ≡ Some x → HasLists 4 4 x
+-- the stream of this number, where there is one, has places for any call or job
+abbrev pub HasPlacesAt : StreamId → Tables → Type 0
+HasPlacesAt i t = (x : Stream) → slice_get t.streams.items i.0 ≡ Some x → HasPlaces x
 
--- a stream has the same entries, and no fewer places
-pub record IsWider (x y : Stream) : Type 0 where
-  pub queued : queued_in y ≡ queued_in x
-  pub requested : requested_in y ≡ requested_in x
-  pub queue : (room_of x).queue ≤ (room_of y).queue
-  pub requests : (room_of x).requests ≤ (room_of y).requests
-
-abbrev pub ListsGrow : List Stream → List Stream → Type 0
-ListsGrow xs ys = (i : ℕ) (y : Stream) → slice_get ys i ≡ Some y → (x : Stream) × ((slice_get xs i ≡ Some x) × IsWider x y)
+-- each stream that had such places has them
+abbrev pub PlacesStay : List Stream → List Stream → Type 0
+PlacesStay xs ys = (i : ℕ) (y : Stream) → slice_get ys i ≡ Some y → (x : Stream) × ((slice_get xs i ≡ Some x) × (HasPlaces x → HasPlaces y))
 
 -- the signal of this number, where there is one, has a place for one pipe more
 abbrev pub HasMembersAt : SignalId → Tables → Type 0

@@ -1,14 +1,15 @@
 -- What the tables of a realm stand for.
 use Rattle.std.specs.Prelude.{map}
-use Rattle.ws_steps.specs.Slots.{Slots, Stream, ReadableStream, WritableStream}
+use Rattle.ws_steps.specs.Slots.{Slots, Stream, ReadableStream, ByteStream, WritableStream}
 use Rattle.ws_tables.specs.declared.tables.Stream.{Stream as StreamRecord}
-use Rattle.ws_tables.specs.declared.tables.Stream.TheVariants.{Readable, Writable}
+use Rattle.ws_tables.specs.declared.tables.Stream.TheVariants.{Readable, Bytes, Writable}
 use Rattle.ws_pipe.specs.Seen.{SeenSignal}
 use Rattle.ws_steps.specs.Pipes as pipe
 use Rattle.ws_tables.specs.declared.tables.Tables.{Tables}
 
 abbrev pub stream_of : StreamRecord → Stream
 stream_of (Readable r) = ReadableStream r.slots
+stream_of (Bytes b) = ByteStream b.slots
 stream_of (Writable w) = WritableStream w.slots
 
 abbrev pub signal_of : SeenSignal → pipe.Signal
@@ -24,5 +25,6 @@ slots_of t =
       locks = t.locks.items;
       promises = t.promises.table;
       hosts = t.hosts.items;
+      byob_requests = t.byob_requests.items;
       age = t.age;
     }

@@ -8,7 +8,7 @@ use ws_steps::{
     Effect, Event, Gift, HostCall, Owner, PipeOperation, ReadRequest, StartBy, Step, Taker,
     TransformOperation, Use, WritableOperation,
 };
-use ws_value::{HostId, Plain, PromiseId, StreamId, Value};
+use ws_value::{Chunk, HostId, Plain, PromiseId, StreamId, Value};
 
 impl Tables {
     /// The start algorithm's result is undefined, or the host's promise. The start promise is resolved with it, and the step reacts to that.
@@ -172,6 +172,20 @@ impl Tables {
         }
     }
 
+    /// The close steps of a read-into request with a chunk.
+    #[tactic(auto, unfolding(ws_steps::specs::Turns::row))]
+    fn close_steps_with(&mut self, i: StreamId, request: ReadRequest, chunk: Chunk)
+        requires quiet { self.old.caused.effects ≡ [] }
+        requires room { HasRoomFor (effect.CloseStepsWith i request chunk) self.old }
+        ensures performs { Performs (effect.CloseStepsWith i request chunk) self.old self.new }
+        ensures records { KeepsRecords self.old self.new }
+    {
+        match request {
+            ReadRequest::Promise(promise) => self.promises.finish(promise, Value::Bytes(chunk)),
+            ReadRequest::Pipe(p) => self.caused.push(Effect::Pipe(p, PipeOperation::ReadEnded)),
+        }
+    }
+
     #[tactic(auto, unfolding(ws_steps::specs::Turns::row))]
     fn error_steps(&mut self, i: StreamId, request: ReadRequest, e: Plain)
         requires quiet { self.old.caused.effects ≡ [] }
@@ -196,6 +210,7 @@ impl Tables {
     {
         match effect {
             Effect::Readable(i, operation) => self.perform_readable(i, operation),
+            Effect::Byte(i, operation) => self.perform_byte(i, operation),
             Effect::Writable(i, operation) => self.perform_writable(i, operation),
             Effect::Pipe(p, operation) => self.perform_pipe(p, operation),
             Effect::Signal(a, operation) => self.perform_signal(a, operation),
@@ -210,6 +225,9 @@ impl Tables {
             Effect::AbortAlgorithm(i, reason, promise) => self.abort_algorithm(i, reason, promise),
             Effect::ChunkSteps(i, request, chunk) => self.chunk_steps(i, request, chunk),
             Effect::CloseSteps(i, request) => self.close_steps(i, request),
+            Effect::CloseStepsWith(i, request, chunk) => {
+                self.close_steps_with(i, request, chunk)
+            }
             Effect::ErrorSteps(i, request, e) => self.error_steps(i, request, e),
             Effect::Give(gift, u) => self.promises.use_gift(gift, u),
             Effect::Settle(promise, outcome) => self.promises.settle(promise, outcome),

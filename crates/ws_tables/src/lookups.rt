@@ -1,10 +1,10 @@
 //! Objects of a realm by their numbers; the records of a kind are in `kinds`.
 ghost use Rattle.std.specs.Prelude.{◌≡◌, ◌<◌, IfSome, vec_len};
-ghost use Rattle.ws_steps.specs.Slots.{lock_at, host_at, owner_at};
+ghost use Rattle.ws_steps.specs.Slots.{lock_at, host_at, owner_at, stream_of_request};
 
 use crate::tables::{Stream, Tables};
 use ws_steps::{Lock, Owner};
-use ws_value::{HostId, LockId, PromiseId, StreamId};
+use ws_value::{HostId, LockId, PromiseId, RequestId, StreamId};
 
 impl Tables {
     ghost use Rattle.ws_tables.specs.View.{slots_of};
@@ -16,7 +16,7 @@ impl Tables {
         match self.streams.get(i.0 as usize) {
             Some(Stream::Readable(stream)) => stream.owner(),
             Some(Stream::Writable(stream)) => stream.owner(),
-            None => Owner::Host,
+            Some(Stream::Bytes(_)) | None => Owner::Host,
         }
     }
 
@@ -40,5 +40,15 @@ impl Tables {
             return None;
         }
         self.hosts[h.0 as usize]
+    }
+
+    /// The stream of a BYOB request.
+    pub fn stream_of_request(&self, q: RequestId) -> Option<StreamId>
+        ensures { result ≡ stream_of_request q (slots_of self.now) }
+    {
+        if self.byob_requests.len() as u128 <= q.0 {
+            return None;
+        }
+        Some(self.byob_requests[q.0 as usize])
     }
 }

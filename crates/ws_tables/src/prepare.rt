@@ -1,6 +1,6 @@
 //! The taking of memory before a call or a job.
 ghost use Rattle.std.specs.Prelude.{◌≡◌, ◌≤◌, IfOk, OnOk, vec_len, vec_capacity};
-ghost use Rattle.ws_tables.specs.Room.{EachHasLists, EachHasMembers, HasListsAt, HasMembersAt, HaveMembers, IsCovered, IsPrepared, IsResting, ListsGrow, MembersGrow, StaysBesideAgenda, StaysBesideSignals, StaysBesideStreams, places_for};
+ghost use Rattle.ws_tables.specs.Room.{EachHasMembers, EachHasPlaces, HasMembersAt, HasPlacesAt, HaveMembers, IsCovered, IsPrepared, IsResting, MembersGrow, PlacesStay, StaysBesideAgenda, StaysBesideSignals, StaysBesideStreams, places_for};
 
 use crate::kinds::LIST_PLACES;
 use crate::tables::{Stream, Tables};
@@ -22,10 +22,10 @@ impl Tables {
         both.checked_add(more).ok_or(NoMemory)
     }
 
-    /// Makes places in either list of the stream of this number, where there is one.
+    /// Makes places in each list of the stream of this number, where there is one, and a room for a byte stream that allocates rooms.
     fn prepare_stream(&mut self, i: StreamId) -> Result<(), NoMemory>
-        ensures ok { OnOk result (HasListsAt i self.new) }
-        ensures lists { ListsGrow self.old.streams.items self.new.streams.items }
+        ensures ok { OnOk result (HasPlacesAt i self.new) }
+        ensures places { PlacesStay self.old.streams.items self.new.streams.items }
         ensures slots { slots_of self.new ≡ slots_of self.old }
         ensures rest { StaysBesideStreams self.old self.new }
         ensures grown { self.new.grown ≡ self.old.grown }
@@ -35,14 +35,15 @@ impl Tables {
         }
         match &mut self.streams[i.0 as usize] {
             Stream::Readable(stream) => stream.reserve(LIST_PLACES),
+            Stream::Bytes(stream) => stream.reserve(LIST_PLACES),
             Stream::Writable(stream) => stream.reserve(LIST_PLACES),
         }
     }
 
-    /// Makes places in either list of each stream that had fewer.
+    /// Makes places in each list of each stream that had fewer, and a room for each byte stream that allocates rooms and had none.
     fn prepare_streams(&mut self) -> Result<(), NoMemory>
         requires covered { IsCovered self.old }
-        ensures ok { OnOk result (EachHasLists 4 4 self.new.streams.items) }
+        ensures ok { OnOk result (EachHasPlaces self.new.streams.items) }
         ensures empty { OnOk result (vec_len self.new.grown ≡ 0) }
         ensures covered { IsCovered self.new }
         ensures slots { slots_of self.new ≡ slots_of self.old }
@@ -104,7 +105,7 @@ impl Tables {
         Ok(())
     }
 
-    /// Takes all memory that the next call or job can need, whichever it is: what any takes by itself, the steps of each read request that waits, and the abort of each pipe by its signal. `room` of the definitions has the numbers.
+    /// Takes all memory that the next call or job can need, whichever it is: what any takes by itself, the steps of each read request that waits, and the abort of each pipe by its signal. `room` of the definitions has the numbers. Each byte stream whose controller allocates rooms has one ready, for a call or job reads a stream once at most.
     pub fn prepare(&mut self) -> Result<(), NoMemory>
         requires resting { IsResting self.old }
         ensures ok { OnOk result (IsPrepared self.new) }
@@ -120,6 +121,7 @@ impl Tables {
         self.promises.reserve_jobs(jobs)?;
         let hosts = self.places(0, 2, 3)?;
         self.hosts.reserve(hosts)?;
+        self.byob_requests.reserve(1)?;
         self.locks.reserve(2)?;
         self.streams.reserve(2)?;
         self.transforms.reserve(1)?;

@@ -3,6 +3,7 @@ ghost use Rattle.std.specs.Prelude.{◌≡◌, IfOk};
 ghost use Rattle.ws_steps.specs.Slots.{empty};
 
 use std::alloc::Global;
+use ws_byte::ByteStream;
 use ws_pipe::{Pipe, Signal};
 use ws_promise::{Agenda, Promises};
 use ws_readable::Readable;
@@ -11,10 +12,11 @@ use ws_transform::Transform;
 use ws_value::{NoMemory, PromiseId, SignalId, StreamId};
 use ws_writable::Writable;
 
-/// A stream of either kind.
+/// A readable stream with a default controller, one with a byte controller, or a writable stream.
 #[derive(Drop)]
 pub enum Stream {
     Readable(Readable),
+    Bytes(ByteStream),
     Writable(Writable),
 }
 
@@ -30,13 +32,15 @@ pub struct Tables {
     pub promises: Promises,
     /// The promise of each call of a host's algorithm, until the host settles it.
     pub hosts: Vec<Option<PromiseId>>,
+    /// The stream of each BYOB request.
+    pub byob_requests: Vec<StreamId>,
     /// What the effect under way has caused so far.
     pub caused: Agenda,
     /// The effects that wait, the next one last.
     pub others: Vec<Effect>,
     /// How many read requests wait, in all streams.
     pub waiting: usize,
-    /// The streams in whose lists places are to be made before the next call or job.
+    /// The streams in whose lists places are to be made before the next call or job, or which are to get a room to allocate from.
     pub grown: Vec<StreamId>,
     /// How many pipes the signals would abort, if each were triggered.
     pub aborts: usize,
@@ -64,6 +68,7 @@ impl Tables {
             locks: Vec::new(alloc),
             promises: Promises::make(alloc)?,
             hosts: Vec::new(alloc),
+            byob_requests: Vec::new(alloc),
             caused: Agenda::make(alloc)?,
             others: Vec::new(alloc),
             waiting: 0,

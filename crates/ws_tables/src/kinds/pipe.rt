@@ -1,32 +1,19 @@
 //! Pipes.
 ghost use Rattle.std.specs.Prelude.{◌≡◌, []};
-ghost use Rattle.ws_steps.specs.Slots.{ends_of, readable_at, writable_at};
+ghost use Rattle.ws_steps.specs.Slots.{ends_of, source_at, writable_at};
 ghost use Rattle.ws_steps.specs.declared.effects.Effect.TheVariants as effect;
 ghost use Rattle.ws_tables.specs.Room.{HasRoomFor, IsKept, Performs};
 
 use crate::tables::{Stream, Tables};
-use ws_steps::{Ends, PipeOperation, ReadableState, WritableState};
+use ws_steps::{Ends, PipeOperation, WritableState};
 use ws_value::{PipeId, Plain, StreamId};
 
 impl Tables {
     ghost use Rattle.ws_tables.specs.View.{slots_of};
 
-    /// What a pipe looks at of its source: the state, and the stored error.
-    fn source_end(&self, source: StreamId) -> (ReadableState, Plain)
-        ensures { result ≡ record {
-          0 = (readable_at source (slots_of self.now)).state;
-          1 = (readable_at source (slots_of self.now)).stored_error;
-        } }
-    {
-        match self.streams.get(source.0 as usize) {
-            Some(Stream::Readable(stream)) => (stream.state(), stream.stored_error()),
-            Some(Stream::Writable(_)) | None => (ReadableState::Closed, Plain::Undefined),
-        }
-    }
-
     /// What a pipe between these streams looks at.
     fn ends(&self, source: StreamId, dest: StreamId) -> Ends
-        ensures { result ≡ ends_of (readable_at source (slots_of self.now)) (writable_at dest (slots_of self.now)) }
+        ensures { result ≡ ends_of (source_at source (slots_of self.now)) (writable_at dest (slots_of self.now)) }
     {
         let (source_state, source_error) = self.source_end(source);
         match self.streams.get(dest.0 as usize) {
@@ -40,7 +27,7 @@ impl Tables {
                 dest_ready: stream.ready(),
                 dest_abort: stream.answered_abort(),
             },
-            Some(Stream::Readable(_)) | None => Ends {
+            Some(Stream::Readable(_) | Stream::Bytes(_)) | None => Ends {
                 source_state,
                 source_error,
                 dest_state: WritableState::Closed,

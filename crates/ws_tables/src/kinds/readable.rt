@@ -1,4 +1,4 @@
-//! Readable streams.
+//! Readable streams with a default controller.
 ghost use Rattle.std.specs.Prelude.{◌≡◌, [], true};
 ghost use Rattle.ws_steps.specs.Slots.{has_readable, readable_at};
 ghost use Rattle.ws_steps.specs.declared.effects.Effect.TheVariants as effect;
@@ -13,25 +13,25 @@ use ws_value::StreamId;
 impl Tables {
     ghost use Rattle.ws_tables.specs.View.{slots_of};
 
-    /// Whether there is a readable stream of this number.
+    /// Whether there is a readable stream of this number with a default controller.
     pub fn has_readable(&self, i: StreamId) -> bool
         ensures { result ≡ has_readable i (slots_of self.now) }
     {
         matches!(self.streams.get(i.0 as usize), Some(Stream::Readable(_)))
     }
 
-    /// The readable stream of this number.
+    /// The readable stream of this number, which has a default controller.
     pub fn readable(&self, i: StreamId) -> &Readable
         requires { has_readable i (slots_of self.now) ≡ true }
         ensures { result.now.slots ≡ readable_at i (slots_of self.now) }
     {
         match &self.streams[i.0 as usize] {
             Stream::Readable(stream) => stream,
-            Stream::Writable(_) => unreachable!(),
+            Stream::Bytes(_) | Stream::Writable(_) => unreachable!(),
         }
     }
 
-    /// Performs an operation of the readable stream of this number, where there is one.
+    /// Performs an operation of the readable stream of this number, where there is one, whichever its controller is.
     pub(crate) fn perform_readable(&mut self, i: StreamId, operation: ReadableOperation)
         requires quiet { self.old.caused.effects ≡ [] }
         requires room { HasRoomFor (effect.Readable i operation) self.old }
@@ -40,7 +40,7 @@ impl Tables {
         ensures kept { IsKept self.new }
     {
         if !self.has_readable(i) {
-            return;
+            return self.perform_byte_readable(i, operation);
         }
         match &mut self.streams[i.0 as usize] {
             Stream::Readable(stream) => {
@@ -51,7 +51,7 @@ impl Tables {
                 let has_room = stream.has_room(LIST_PLACES);
                 self.note_growth(i, had_room, has_room);
             }
-            Stream::Writable(_) => unreachable!(),
+            Stream::Bytes(_) | Stream::Writable(_) => unreachable!(),
         }
     }
 }

@@ -20,7 +20,9 @@ impl Tables {
     {
         match self.streams.get(writable.0 as usize) {
             Some(Stream::Writable(stream)) => (stream.state(), stream.stored_error()),
-            Some(Stream::Readable(_)) | None => (WritableState::Closed, Plain::Undefined),
+            Some(Stream::Readable(_) | Stream::Bytes(_)) | None => {
+                (WritableState::Closed, Plain::Undefined)
+            }
         }
     }
 
@@ -39,7 +41,7 @@ impl Tables {
                 writable_state,
                 writable_error,
             },
-            Some(Stream::Writable(_)) | None => Halves {
+            Some(Stream::Bytes(_) | Stream::Writable(_)) | None => Halves {
                 can_enqueue: false,
                 should_pull: false,
                 readable_state: ReadableState::Closed,

@@ -27,7 +27,7 @@ impl Tables {
     {
         match &self.streams[i.0 as usize] {
             Stream::Writable(stream) => stream,
-            Stream::Readable(_) => unreachable!(),
+            Stream::Readable(_) | Stream::Bytes(_) => unreachable!(),
         }
     }
 
@@ -37,8 +37,7 @@ impl Tables {
     {
         match self.streams.get(i.0 as usize) {
             Some(Stream::Writable(stream)) => stream.writer(),
-            Some(Stream::Readable(_)) => None,
-            None => None,
+            Some(Stream::Readable(_) | Stream::Bytes(_)) | None => None,
         }
     }
 
@@ -60,7 +59,7 @@ impl Tables {
                 let has_room = stream.has_room(LIST_PLACES);
                 self.note_growth(i, had_room, has_room);
             }
-            Stream::Readable(_) => unreachable!(),
+            Stream::Readable(_) | Stream::Bytes(_) => unreachable!(),
         }
     }
 }

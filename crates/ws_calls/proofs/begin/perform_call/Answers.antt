@@ -19,6 +19,7 @@ begin-reply-requires-clause-room c =
       few = omega (arith, few, many, t.transforms.ok.0, t.streams.ok.0);
       pipes = ready.pipes;
       signals = ready.signals;
+      byob_requests = ready.byob_requests;
       full = ready.full;
     }
 

@@ -1,4 +1,4 @@
-use Rattle.ws_steps.specs.declared.effects.Effect.TheVariants.{Transform, StartAlgorithm, ChunkSteps, CloseSteps, ErrorSteps, CallHost}
+use Rattle.ws_steps.specs.declared.effects.Effect.TheVariants.{Transform, StartAlgorithm, ChunkSteps, CloseSteps, CloseStepsWith, ErrorSteps, CallHost}
 use Rattle.ws_tables.specs.View.{slots_of}
 use Rattle.ws_tables.proofs.Counts.{gift-more, settle-more, micro-more}
 use Rattle.ws_tables.proofs.Places.{kept_by, kept_promises}
@@ -23,6 +23,11 @@ pub returns-in-CloseSteps-clause-kept : goal.returns-in-CloseSteps-clause-kept
 returns-in-CloseSteps-clause-kept c =
     let e = c.close_steps.ensures in
     kept_by (CloseSteps c.in-CloseSteps.i c.in-CloseSteps.request) c.args.self.now c.close_steps.new.self e.performs e.records c.requires.kept
+
+pub returns-in-CloseStepsWith-clause-kept : goal.returns-in-CloseStepsWith-clause-kept
+returns-in-CloseStepsWith-clause-kept c =
+    let e = c.close_steps_with.ensures in
+    kept_by (CloseStepsWith c.in-CloseStepsWith.i c.in-CloseStepsWith.request c.in-CloseStepsWith.chunk) c.args.self.now c.close_steps_with.new.self e.performs e.records c.requires.kept
 
 pub returns-in-ErrorSteps-clause-kept : goal.returns-in-ErrorSteps-clause-kept
 returns-in-ErrorSteps-clause-kept c =

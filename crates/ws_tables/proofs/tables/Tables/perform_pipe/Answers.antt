@@ -6,7 +6,7 @@ use Rattle.ws_steps.specs.declared.effects.Effect.TheVariants.{Pipe}
 use Rattle.ws_steps.specs.declared.pipes.Ends.{Ends}
 use Rattle.ws_steps.specs.Operations.{pipe_operation}
 use Rattle.ws_steps.specs.Pipes as pipe
-use Rattle.ws_steps.specs.Slots.{Slots, Done, found, ends_of, ends_at, readable_at, writable_at, put_pipe}
+use Rattle.ws_steps.specs.Slots.{Slots, Done, found, ends_of, ends_at, source_at, writable_at, put_pipe}
 use Rattle.ws_steps.specs.Turns.{row}
 use Rattle.ws_tables.specs.View.{slots_of}
 use Rattle.ws_tables.proofs.Counts.{entries-more, counted-put}
@@ -32,8 +32,8 @@ ends-are c =
     let is = at c in
     let same : c.index-pipe.result.now ≡ c.index_mut.result.now = cc in
     c.ends-ends.ensures
-    ∙ (ap (λ i. ends_of (readable_at i s) (writable_at c.dest-dest.result s)) c.source-source.ensures
-    ∙ (ap (λ i. ends_of (readable_at c.index-pipe.result.now.source s) (writable_at i s)) c.dest-dest.ensures
+    ∙ (ap (λ i. ends_of (source_at i s) (writable_at c.dest-dest.result s)) c.source-source.ensures
+    ∙ (ap (λ i. ends_of (source_at c.index-pipe.result.now.source s) (writable_at i s)) c.dest-dest.ensures
     ∙ ap (λ (x : pipe.Slots). ends_at x s) same))
 
 -- what the operation leaves and causes
@@ -60,6 +60,7 @@ returns-clause-performs c =
       others = refl;
       places = rw (c.perform.ensures.promise_room, c.perform.ensures.effect_room) refl;
       lists = refl;
+      rooms = λ none n h. h;
       grown = let q = t.queued in let r = t.requested in omega (arith, q, r);
       members = refl;
       full = let m = t.members in omega (arith, m);

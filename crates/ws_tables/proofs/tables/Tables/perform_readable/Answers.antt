@@ -7,19 +7,15 @@ use Rattle.ws_queue.specs.Seen.{Lists}
 use Rattle.ws_steps.specs.Places.{prices_of, readable_price, queued_alone, requests_alone, members_alone}
 use Rattle.ws_readable.specs.Seen.{acts_of}
 use Rattle.ws_steps.specs.Operations.{readable_operation}
-use Rattle.ws_steps.specs.Slots.{Done, on_readable}
+use Rattle.ws_steps.specs.Slots.{Done}
 use Rattle.ws_steps.proofs.StreamLaws.{on_readable-at}
 use Rattle.ws_tables.specs.declared.tables.Stream.TheVariants.{Readable}
 use Rattle.ws_tables.specs.declared.tables.Tables.{Tables}
 use Rattle.ws_tables.specs.View.{slots_of, stream_of}
-use Rattle.ws_tables.specs.Room.{places_of, room_of, members_room, waiting_in, HasFewTransforms, IsCounted}
-use Rattle.ws_tables.proofs.Streams.{readable-within, stands-at, waits-among, waits-after, map-put, ReadableTook, readable-took, has-both, both-have, paid, cover, readable-absent, noted-grown, noted-length}
-use Rattle.ws_tables.proofs.Counts.{counted-on, readable-more, row-few}
+use Rattle.ws_tables.specs.Room.{places_of, two_lists, room_of, members_room, waiting_in, HasFewTransforms, IsCounted}
+use Rattle.ws_tables.proofs.Streams.{readable-within, stands-at, waits-among, waits-after, map-put, rooms-put, ReadableTook, readable-took, has-both, both-have, paid, cover, readable-row, noted-grown, noted-length}
+use Rattle.ws_tables.proofs.Counts.{counted-on, row-more, row-few}
 use Rattle.ws_tables.proofs.tables.Tables.perform_readable.Goals as goal
-
-pub returns-then-not-has_readable-clause-performs : goal.returns-then-not-has_readable-clause-performs
-returns-then-not-has_readable-clause-performs c =
-    readable-absent c.args.i c.args.operation c.args.self.now (sym c.has_readable.ensures ∙ c.if-not-has_readable.true) c.requires.quiet
 
 pub index_mut-requires : goal.index_mut-requires
 index_mut-requires c =
@@ -35,7 +31,7 @@ at c =
 pub perform-requires-clause-room : goal.perform-requires-clause-room
 perform-requires-clause-room c =
     let lists = c.requires.room.lists c.args.i.0 (Readable c.in-Readable.stream) (at c) in
-    record { queue = lists.0; requests = lists.1 }
+    record { queue = lists.queue; requests = lists.requests }
 
 pub perform-requires-clause-effect_room : goal.perform-requires-clause-effect_room
 perform-requires-clause-effect_room c =
@@ -76,7 +72,7 @@ note_growth-requires c = record {
 }
 
 -- what the operation leaves and causes
-left : (c : goal.After-note_growth) → on_readable (readable_operation c.args.i c.args.operation) c.args.i (slots_of c.args.self.now)
+left : (c : goal.After-note_growth) → row (ReadableEffect c.args.i c.args.operation) (slots_of c.args.self.now)
     ≡ record {
       slots = record (slots_of c.args.self.now) { streams = map stream_of (slice_set c.args.self.now.streams.items c.args.i.0 (Readable c.perform.new.self)); promises = c.perform.new.p.table };
       caused = c.perform.new.fx.effects;
@@ -84,13 +80,13 @@ left : (c : goal.After-note_growth) → on_readable (readable_operation c.args.i
 left c =
     let old = c.args.self.now in
     let there = readable-within stream_of old.streams.items c.args.i.0 (sym c.has_readable.ensures ∙ c.if-not-has_readable.false) in
-    on_readable-at stream_of (readable_operation c.args.i c.args.operation) c.args.i (slots_of old) old.streams.items c.index_mut.result.now (Readable c.perform.new.self) c.in-Readable.stream.slots
+    readable-row c.args.i c.args.operation (slots_of old) (sym c.has_readable.ensures ∙ c.if-not-has_readable.false)
+    ∙ on_readable-at stream_of (readable_operation c.args.i c.args.operation) c.args.i (slots_of old) old.streams.items c.index_mut.result.now (Readable c.perform.new.self) c.in-Readable.stream.slots
     (acts_of c.perform.new.self c.perform.new.p c.perform.new.fx) refl there c.index_mut.ensures.value (ap stream_of c.in-Readable.is)
     (c.perform.ensures.row ∙ ap (λ (es : List Effect). readable_operation c.args.i c.args.operation (record { slots = c.in-Readable.stream.slots; out = record { promises = old.promises.table; effects = es } })) c.requires.quiet)
     refl
 
 pub returns-clause-performs : goal.returns-clause-performs
-unfolding row
 returns-clause-performs c =
     let old = c.args.self.now in
     let same = c.note_growth.ensures.tables in
@@ -101,7 +97,8 @@ returns-clause-performs c =
       caused = caused ∙ ap (λ (d : Done). d.caused) (sym (left c));
       others = ap (λ (t : Tables). t.others) same;
       places = ap places_of same ∙ rw (c.perform.ensures.promise_room, c.perform.ensures.effect_room, c.note_growth.ensures.capacity) refl;
-      lists = ap (λ (t : Tables). map room_of t.streams.items) same ∙ map-put room_of old.streams.items c.args.i.0 (Readable c.in-Readable.stream) (Readable c.perform.new.self) (at c.before.before.before.before.before.before) c.perform.ensures.room;
+      lists = ap (λ (t : Tables). map room_of t.streams.items) same ∙ map-put room_of old.streams.items c.args.i.0 (Readable c.in-Readable.stream) (Readable c.perform.new.self) (at c.before.before.before.before.before.before) (ap two_lists c.perform.ensures.room);
+      rooms = λ none. rw (ap (λ (t : Tables). t.streams.items) same) (rooms-put old.streams.items c.args.i.0 (Readable c.in-Readable.stream) (Readable c.perform.new.self) (at c.before.before.before.before.before.before) (λ n h. tt));
       grown =
           let g = noted-grown (vec_len old.grown) (vec_len c.note_growth.new.self.grown) (readable_price queued_alone c.args.operation) (readable_price requests_alone c.args.operation)
           (prices_of queued_alone c.perform.new.fx.effects) (prices_of requests_alone c.perform.new.fx.effects) c.has_room-had_room.result c.has_room-has_room.result
@@ -132,12 +129,14 @@ returns-clause-kept c =
       covered =
           rw (same, c.note_growth.ensures.grown)
           (cover old.grown.items c.args.i (Readable c.perform.new.self) c.has_room-had_room.result c.has_room-has_room.result (Readable c.in-Readable.stream) old.streams.items c.requires.kept.covered is
-          (λ h. c.has_room-had_room.ensures ∙ both-have (length c.in-Readable.stream.slots.queue) c.in-Readable.stream.room.queue (length c.in-Readable.stream.slots.requests) c.in-Readable.stream.room.requests h.0 h.1)
-          (λ has. has-both (length c.perform.new.self.slots.queue) c.perform.new.self.room.queue (length c.perform.new.self.slots.requests) c.perform.new.self.room.requests (sym c.has_room-has_room.ensures ∙ has)));
+          (λ h. c.has_room-had_room.ensures ∙ both-have (length c.in-Readable.stream.slots.queue) c.in-Readable.stream.room.queue (length c.in-Readable.stream.slots.requests) c.in-Readable.stream.room.requests h.0.queue h.0.requests)
+          (λ has.
+          let both = has-both (length c.perform.new.self.slots.queue) c.perform.new.self.room.queue (length c.perform.new.self.slots.requests) c.perform.new.self.room.requests (sym c.has_room-has_room.ensures ∙ has) in
+          (record { queue = both.0; requests = both.1; descriptors = tt }, tt)));
       aborts = rw same c.requires.kept.aborts;
       members = rw same c.requires.kept.members;
       counted =
           subst (λ (t : Tables). IsCounted (slots_of t)) (sym same)
-          (counted-on (length old.promises.table.entries) (length c.perform.new.p.table.entries) old.pipes.items (readable-more c.args.i c.args.operation (slots_of old) _ (left c)) c.requires.kept.counted);
+          (counted-on (length old.promises.table.entries) (length c.perform.new.p.table.entries) old.pipes.items (row-more (ReadableEffect c.args.i c.args.operation) (slots_of old) _ (left c)) c.requires.kept.counted);
       few = subst HasFewTransforms (sym (returns-clause-performs c).slots) (row-few (ReadableEffect c.args.i c.args.operation) (slots_of old) c.requires.kept.few);
     }

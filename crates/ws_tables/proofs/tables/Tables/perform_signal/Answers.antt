@@ -88,6 +88,7 @@ returns-clause-performs c =
       others = ap (λ (t : Tables). t.others) same;
       places = ap places_of same ∙ rw (c.perform.ensures.capacity, c.note_full.ensures.capacity) refl;
       lists = ap (λ (t : Tables). map room_of t.streams.items) same;
+      rooms = λ none n h. rw (ap (λ (t : Tables). t.streams.items) same) h;
       grown =
           let q = ap (prices_of queued_alone) caused in
           let r = ap (prices_of requests_alone) caused in

@@ -54,6 +54,7 @@ returns-clause-performs c =
       others = refl;
       places = rw (c.perform.ensures.promise_room, c.perform.ensures.effect_room) refl;
       lists = refl;
+      rooms = λ none n h. h;
       grown = let q = t.queued in let r = t.requested in omega (arith, q, r);
       members = refl;
       full = let m = t.members in omega (arith, m);

@@ -12,8 +12,8 @@ use Rattle.ws_steps.proofs.StreamLaws.{on_writable-at}
 use Rattle.ws_tables.specs.declared.tables.Stream.TheVariants.{Writable}
 use Rattle.ws_tables.specs.declared.tables.Tables.{Tables}
 use Rattle.ws_tables.specs.View.{slots_of, stream_of}
-use Rattle.ws_tables.specs.Room.{places_of, room_of, members_room, waiting_in, HasFewTransforms, IsCounted}
-use Rattle.ws_tables.proofs.Streams.{writable-within, stands-at, waits-after, map-put, WritableTook, writable-took, has-both, both-have, paid, cover, writable-absent, noted-grown, noted-length}
+use Rattle.ws_tables.specs.Room.{places_of, two_lists, room_of, members_room, waiting_in, HasFewTransforms, IsCounted}
+use Rattle.ws_tables.proofs.Streams.{writable-within, stands-at, waits-after, map-put, rooms-put, WritableTook, writable-took, has-both, both-have, paid, cover, writable-absent, noted-grown, noted-length}
 use Rattle.ws_tables.proofs.Counts.{counted-on, writable-more, row-few}
 use Rattle.ws_tables.proofs.tables.Tables.perform_writable.Goals as goal
 
@@ -35,7 +35,7 @@ at c =
 pub perform-requires-clause-room : goal.perform-requires-clause-room
 perform-requires-clause-room c =
     let lists = c.requires.room.lists c.args.i.0 (Writable c.in-Writable.stream) (at c) in
-    record { promises = c.requires.room.promises; events = c.requires.room.events; queue = lists.0; requests = lists.1 }
+    record { promises = c.requires.room.promises; events = c.requires.room.events; queue = lists.queue; requests = lists.requests }
 
 pub perform-requires-clause-effect_room : goal.perform-requires-clause-effect_room
 perform-requires-clause-effect_room c =
@@ -88,7 +88,8 @@ returns-clause-performs c =
       caused = caused ∙ ap (λ (d : Done). d.caused) (sym (left c));
       others = ap (λ (t : Tables). t.others) same;
       places = ap places_of same ∙ rw (c.perform.ensures.promise_room, c.perform.ensures.effect_room, c.note_growth.ensures.capacity) refl;
-      lists = ap (λ (t : Tables). map room_of t.streams.items) same ∙ map-put room_of old.streams.items c.args.i.0 (Writable c.in-Writable.stream) (Writable c.perform.new.self) (at c.before.before.before.before.before) c.perform.ensures.room;
+      lists = ap (λ (t : Tables). map room_of t.streams.items) same ∙ map-put room_of old.streams.items c.args.i.0 (Writable c.in-Writable.stream) (Writable c.perform.new.self) (at c.before.before.before.before.before) (ap two_lists c.perform.ensures.room);
+      rooms = λ none. rw (ap (λ (t : Tables). t.streams.items) same) (rooms-put old.streams.items c.args.i.0 (Writable c.in-Writable.stream) (Writable c.perform.new.self) (at c.before.before.before.before.before) (λ n h. tt));
       grown =
           let g = noted-grown (vec_len old.grown) (vec_len c.note_growth.new.self.grown) (writable_price queued_alone c.args.operation) (writable_price requests_alone c.args.operation)
           (prices_of queued_alone c.perform.new.fx.effects) (prices_of requests_alone c.perform.new.fx.effects) c.has_room-had_room.result c.has_room-has_room.result
@@ -118,8 +119,10 @@ returns-clause-kept c =
       covered =
           rw (same, c.note_growth.ensures.grown)
           (cover old.grown.items c.args.i (Writable c.perform.new.self) c.has_room-had_room.result c.has_room-has_room.result (Writable c.in-Writable.stream) old.streams.items c.requires.kept.covered is
-          (λ h. c.has_room-had_room.ensures ∙ both-have (length c.in-Writable.stream.slots.queue) c.in-Writable.stream.room.queue (length c.in-Writable.stream.slots.write_requests) c.in-Writable.stream.room.requests h.0 h.1)
-          (λ has. has-both (length c.perform.new.self.slots.queue) c.perform.new.self.room.queue (length c.perform.new.self.slots.write_requests) c.perform.new.self.room.requests (sym c.has_room-has_room.ensures ∙ has)));
+          (λ h. c.has_room-had_room.ensures ∙ both-have (length c.in-Writable.stream.slots.queue) c.in-Writable.stream.room.queue (length c.in-Writable.stream.slots.write_requests) c.in-Writable.stream.room.requests h.0.queue h.0.requests)
+          (λ has.
+          let both = has-both (length c.perform.new.self.slots.queue) c.perform.new.self.room.queue (length c.perform.new.self.slots.write_requests) c.perform.new.self.room.requests (sym c.has_room-has_room.ensures ∙ has) in
+          (record { queue = both.0; requests = both.1; descriptors = tt }, tt)));
       aborts = rw same c.requires.kept.aborts;
       members = rw same c.requires.kept.members;
       counted =

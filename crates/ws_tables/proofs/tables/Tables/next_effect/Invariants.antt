@@ -1,6 +1,6 @@
 use Rattle.std.proofs.Common.{length}
 use Rattle.ws_tables.proofs.Loops.{Putting}
-use Rattle.ws_tables.proofs.tables.Tables.put_first.Given as goal
+use Rattle.ws_tables.proofs.tables.Tables.next_effect.Given as goal
 
 abbrev pub invariant-loop-effect : goal.invariant-loop-effect
 invariant-loop-effect l = Putting l.fn.self l.self

@@ -1,6 +1,6 @@
 use Rattle.std.proofs.Common.{arith}
 use Rattle.ws_tables.proofs.Loops.{one-fewer}
-use Rattle.ws_tables.proofs.tables.Tables.put_first.Goals as goal
+use Rattle.ws_tables.proofs.tables.Tables.next_effect.Goals as goal
 
 pub push_reserved-requires : goal.push_reserved-requires
 push_reserved-requires c =
