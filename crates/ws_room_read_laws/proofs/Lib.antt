@@ -1,0 +1,10 @@
+pub mod Filled
+pub mod Pairs
+pub mod Fair
+pub mod Readings
+pub mod Operations
+pub mod DefaultHands
+pub mod Outcomes
+pub mod Rooms
+pub mod Whole
+mod Worked
