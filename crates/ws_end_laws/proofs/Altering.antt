@@ -3,11 +3,12 @@ use Rattle.std.proofs.Common.{◌≡◌, true, Option, Some, None, Result, refl,
 use Rattle.ws_value.specs.declared.ids.PipeId.{PipeId}
 use Rattle.ws_value.specs.declared.ids.PromiseId.{PromiseId}
 use Rattle.ws_value.specs.declared.ids.SignalId.{SignalId}
+use Rattle.ws_value.specs.declared.ids.StreamId.{StreamId}
 use Rattle.ws_value.specs.declared.value.Outcome.{Outcome}
 use Rattle.ws_value.specs.declared.value.Outcome.TheVariants.{Given, Finished}
 use Rattle.ws_value.specs.declared.value.Plain.{Plain}
 use Rattle.ws_value.specs.declared.value.Plain.TheVariants.{Undefined}
-use Rattle.ws_value.specs.declared.value.Value.TheVariants.{Plain as PlainValue}
+use Rattle.ws_value.specs.declared.value.Value.TheVariants.{Plain as PlainValue, Bytes}
 use Rattle.std.specs.Prelude.{Err}
 use Rattle.ws_steps.specs.declared.{calls.Event.{Event}, calls.Event.TheVariants.{Signal}, calls.StartBy.TheVariants.{Now, Later}}
 use Rattle.ws_steps.specs.declared.effects.Effect.{Effect}
@@ -18,18 +19,20 @@ use Rattle.ws_steps.specs.declared.{readable.ReadRequest.TheVariants.{Promise, P
 use Rattle.ws_steps.specs.declared.{transform.TransformId.{TransformId}, transform.TransformOperation.{TransformOperation}}
 use Rattle.ws_steps.specs.Effects.{Out}
 use Rattle.ws_steps.specs.Promises.{Table, fresh, settle, answer, react, follow, queue_micro, tell, next_id, fresh_settled, use_this, use_gift}
-use Rattle.ws_steps.specs.Operations.{readable_operation, writable_operation, pipe_operation, signal_operation, transform_operation}
-use Rattle.ws_steps.specs.Slots.{Slots, Done, nothing, has_readable, has_writable, found, ends_at, halves_at, put_readable, put_writable, on_pipe_at, on_signal_at, on_transform_at}
+use Rattle.ws_steps.specs.Operations.{writable_operation, pipe_operation, signal_operation, transform_operation}
+use Rattle.ws_steps.specs.Slots.{Slots, Done, nothing, has_writable, found, ends_at, halves_at, put_writable, on_pipe_at, on_signal_at, on_transform_at}
 use Rattle.ws_steps.specs.Turns.{row, call_host}
 use Rattle.ws_steps.specs.Pipes as pipe
 use Rattle.ws_steps.specs.Transform as transform
 use Rattle.ws_steps.specs.Pipes.{abort_all, trigger_unless}
-use Rattle.ws_laws.proofs.ReadableDoes.{readable-does}
 use Rattle.ws_laws.proofs.WritableDoes.{writable-does}
 use Rattle.ws_laws.proofs.PipeDoes.{pipe-does}
 use Rattle.ws_laws.proofs.TransformDoes.{transform-does}
-use Rattle.ws_laws.proofs.Tables.{either, readable_acts, writable_acts}
+use Rattle.ws_laws.proofs.Tables.{either, writable_acts}
 use Rattle.ws_end_laws.proofs.Hearing.{is_well}
+use Rattle.ws_steps.specs.declared.effects.Effect.TheVariants.{Byte, CloseStepsWith}
+use Rattle.ws_laws.proofs.ReadableDoes.{OfReadable}
+use Rattle.ws_laws.proofs.Rows.{source-out, byte-out}
 
 -- what goes on with each change of promises, where a promise is answered
 pub record Alters (T : Table → Type 0) : Type 0 where
@@ -68,18 +71,20 @@ module _ (T : Table → Type 0) (alters : Alters T) where
   transform-alters t operation s (Some x) h =
       transform-does T (record { fresh = alters.fresh; settle = alters.settle }) t (halves_at x s) operation (record { slots = x; out = found s }) h
 
+  of-alters : (i : StreamId) → OfReadable (λ (x : Out). T x.promises) i
+  of-alters i = record {
+    settle = λ x p o h. alters.settle x.promises p o h;
+    pull = λ x h. h;
+    cancel = λ x r p h. h;
+    chunk = λ x r v h. h;
+    close = λ x r h. h;
+    error = λ x r e h. h;
+  }
+
   pub row-alters : (e : Effect) (s : Slots) → T s.promises → T (row e s).slots.promises
   unfolding row call_host
-  row-alters (Readable i operation) s h =
-      either (λ (d : Done). T d.slots.promises) (has_readable i s) (put_readable i s (readable_operation i operation (readable_acts i s))) (nothing s)
-      (λ e. readable-does (λ (x : Out). T x.promises) i (record {
-        settle = λ x p o h. alters.settle x.promises p o h;
-        pull = λ x h. h;
-        cancel = λ x r p h. h;
-        chunk = λ x r v h. h;
-        close = λ x r h. h;
-        error = λ x r e h. h;
-      }) operation (readable_acts i s) h) (λ e. h)
+  row-alters (Readable i operation) s h = source-out (λ (x : Out). T x.promises) i (of-alters i) operation s h
+  row-alters (Byte i operation) s h = byte-out (λ (x : Out). T x.promises) i (of-alters i) (λ x q b h. h) operation s h
   row-alters (Writable i operation) s h =
       either (λ (d : Done). T d.slots.promises) (has_writable i s) (put_writable i s (writable_operation i operation (writable_acts i s))) (nothing s)
       (λ e. writable-does (λ (x : Out). T x.promises) i (record {
@@ -99,9 +104,11 @@ module _ (T : Table → Type 0) (alters : Alters T) where
   row-alters (StartAlgorithm i step Later) s h = alters.fresh s.promises h
   row-alters (ChunkSteps i (Promise p) v) s h = alters.answer s.promises p (Given v) refl h
   row-alters (CloseSteps i (Promise p)) s h = alters.answer s.promises p (Finished (PlainValue Undefined)) refl h
+  row-alters (CloseStepsWith i (Promise p) b) s h = alters.answer s.promises p (Finished (Bytes b)) refl h
   row-alters (ErrorSteps i (Promise p) e) s h = alters.settle s.promises p (Err e) h
   row-alters (ChunkSteps i (PipeRequest p) v) s h = h
   row-alters (CloseSteps i (PipeRequest p)) s h = h
+  row-alters (CloseStepsWith i (PipeRequest p) b) s h = h
   row-alters (ErrorSteps i (PipeRequest p) e) s h = h
   row-alters (Queue m) s h = alters.micro s.promises m h
   row-alters (Give gift u) s h = gift-alters gift u s.promises h

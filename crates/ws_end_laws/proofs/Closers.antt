@@ -34,6 +34,7 @@ use Rattle.ws_lock_laws.specs.LockLaws.{is_of_writer, spares, all_spare}
 use Rattle.ws_lock_laws.proofs.Holding.{pipes-two}
 use Rattle.ws_lock_laws.proofs.Rows.{Balanced, is_there}
 use Rattle.ws_end_laws.proofs.Failing.{is_closer}
+use Rattle.ws_steps.specs.declared.effects.Effect.TheVariants.{Byte, CloseStepsWith}
 
 -- an effect that closes stream j
 abbrev pub closes : StreamId → Effect → Bool
@@ -56,6 +57,7 @@ module _ (j : StreamId) where
 
   none-causes : (e : Effect) → IsNoPipe e → Causes NoClose e
   none-causes (OnReadable i operation) n = record { pull = refl; cancel = λ r q. refl; chunk = λ r v. refl; close = λ r. refl; error = λ r e. refl }
+  none-causes (Byte i operation) n = record { readable = record { pull = refl; cancel = λ r q. refl; chunk = λ r v. refl; close = λ r. refl; error = λ r e. refl }; close_with = λ r b. refl }
   none-causes (OnWritable i operation) n = record { write = refl; close = refl; abort = λ r q. refl; hand_on = λ v. refl; take = λ v t d. refl }
   none-causes (OnPipe q operation) n = absurd n
   none-causes (OnSignal a operation) n = signal-none operation
@@ -73,7 +75,9 @@ module _ (j : StreamId) where
   none-causes (ChunkSteps i (Promise q) v) n = tt
   none-causes (ChunkSteps i (PipeRequest q) v) n = refl
   none-causes (CloseSteps i (Promise q)) n = tt
+  none-causes (CloseStepsWith i (Promise q) b) n = tt
   none-causes (CloseSteps i (PipeRequest q)) n = refl
+  none-causes (CloseStepsWith i (PipeRequest q) b) n = refl
   none-causes (ErrorSteps i (Promise q) e) n = tt
   none-causes (ErrorSteps i (PipeRequest q) e) n = refl
   none-causes _ n = tt

@@ -10,7 +10,7 @@ use Rattle.ws_steps.specs.declared.transform.TransformId.{TransformId}
 use Rattle.ws_steps.specs.declared.writable.{WritableOperation.{WritableOperation}, WritableOperation.TheVariants.{ClosePropagating}}
 use Rattle.ws_steps.specs.Calls.{Begun, begin}
 use Rattle.ws_steps.specs.Histories.{is_same}
-use Rattle.ws_steps.specs.Operations.{readable_operation, writable_operation}
+use Rattle.ws_steps.specs.Operations.{writable_operation}
 use Rattle.ws_steps.specs.Pipes as pipe
 use Rattle.ws_steps.specs.Promises.{Table, use_gift}
 use Rattle.ws_steps.specs.Slots.{Slots, Stream, ReadableStream, WritableStream, is_writable_stream, Done, as_writable, writable_at, has_writable, on_writable, put_writable}
@@ -20,7 +20,7 @@ use Rattle.ws_steps.specs.WritableHistory.{Writes}
 use Rattle.ws_laws.proofs.EachCall.{each_call}
 use Rattle.ws_laws.proofs.Lists.{Each, each-append}
 use Rattle.ws_laws.proofs.Rows.{Causes, SignalCauses, row-causes, row-streams}
-use Rattle.ws_laws.proofs.Tables.{same_id, writable_acts, on_readable-writable, on_writable-same, on_writable-other}
+use Rattle.ws_laws.proofs.Tables.{same_id, writable_acts, on_writable-same, on_writable-other}
 use Rattle.ws_laws.proofs.TransformDoes.{TransformCauses}
 use Rattle.ws_writable_laws.proofs.Agenda.{Kept}
 use Rattle.ws_pipe_laws.specs.PipeHistory.{Course}
@@ -34,6 +34,11 @@ use Rattle.ws_end_laws.proofs.Hearing as hearing
 use Rattle.ws_end_laws.proofs.Hearing.{Heard, Registered, Queued, Well, Made, reaction, reacts-heard}
 use Rattle.ws_end_laws.proofs.Rejections.{IsRejected, rejected-keeps, Asked, asked-operation, close-asked}
 use Rattle.ws_end_laws.proofs.Streaming.{expected}
+use Rattle.ws_steps.specs.declared.effects.Effect.TheVariants.{Byte, CloseStepsWith}
+use Rattle.ws_steps.specs.Slots.{ByteStream}
+use Rattle.ws_steps.specs.declared.byte.ByteOperation.{ByteOperation}
+use Rattle.ws_steps.specs.Operations.{byte_operation}
+use Rattle.ws_laws.proofs.Tables.{on_source-writable, on_byte-writable}
 
 -- what goes on with each effect of what is known of the promise
 
@@ -79,6 +84,7 @@ failing-there j s k = by (slice_get s.streams j.0) k
     by : (o : Option Stream) → Failing (as_writable o) → is_writable_stream o ≡ true
     by None k = let e = k.state in cc
     by (Some (ReadableStream r)) k = let e = k.state in cc
+    by (Some (ByteStream b)) k = let e = k.state in cc
     by (Some (WritableStream w)) k = refl
 
 -- the close is asked of stream j still, or its promise is rejected
@@ -105,7 +111,11 @@ same-asked d j s z same c f = inl (subst (λ (w : writable.Slots). (w.close_requ
 
 readable-asked : (d : PromiseId) (j i : StreamId) (operation : ReadableOperation) (s : Slots) → KeepsAsked d j s (OnReadable i operation)
 unfolding row
-readable-asked d j i operation s h es k c f = same-asked d j s (row (OnReadable i operation) s).slots (on_readable-writable (readable_operation i operation) i s j (is_same j i) refl) c f
+readable-asked d j i operation s h es k c f = same-asked d j s (row (OnReadable i operation) s).slots (on_source-writable operation i s j) c f
+
+byte-asked : (d : PromiseId) (j i : StreamId) (operation : ByteOperation) (s : Slots) → KeepsAsked d j s (Byte i operation)
+unfolding row
+byte-asked d j i operation s h es k c f = same-asked d j s (row (Byte i operation) s).slots (on_byte-writable (byte_operation i operation) i s j) c f
 
 here-asked : (d : PromiseId) (j : StreamId) (operation : WritableOperation) (s : Slots) → KeepsAsked d j s (OnWritable j operation)
 here-asked d j operation s h es k c f =
@@ -122,6 +132,7 @@ writable-asked d j i operation s true n = subst (λ (l : StreamId). KeepsAsked d
 
 row-asked : (d : PromiseId) (j : StreamId) (s : Slots) (e : Effect) → KeepsAsked d j s e
 row-asked d j s (OnReadable i operation) h es k c f = readable-asked d j i operation s h es k c f
+row-asked d j s (Byte i operation) h es k c f = byte-asked d j i operation s h es k c f
 row-asked d j s (OnWritable i operation) h es k c f = writable-asked d j i operation s (is_same j i) refl h es k c f
 row-asked d j s e h es k c f = same-asked d j s (row e s).slots (ap (λ (xs : List Stream). as_writable (slice_get xs j.0)) (row-streams e s tt)) c f
 
@@ -148,6 +159,7 @@ module _ (p : PipeId) where
 
   told-causes : (e : Effect) → Causes (NotTold p) e
   told-causes (OnReadable i operation) = record { pull = tt; cancel = λ r q. tt; chunk = λ r v. tt; close = λ r. tt; error = λ r e. tt }
+  told-causes (Byte i operation) = record { readable = record { pull = tt; cancel = λ r q. tt; chunk = λ r v. tt; close = λ r. tt; error = λ r e. tt }; close_with = λ r b. tt }
   told-causes (OnWritable i operation) = record { write = tt; close = tt; abort = λ r q. tt; hand_on = λ v. tt; take = λ v t d. tt }
   told-causes (OnPipe q operation) = λ source dest e c. pipe-told p q source dest e c
   told-causes (OnSignal a operation) = signal-told operation
@@ -161,7 +173,9 @@ module _ (p : PipeId) where
   told-causes (ChunkSteps i (Promise q) v) = tt
   told-causes (ChunkSteps i (PipeRequest q) v) = tt
   told-causes (CloseSteps i (Promise q)) = tt
+  told-causes (CloseStepsWith i (Promise q) b) = tt
   told-causes (CloseSteps i (PipeRequest q)) = tt
+  told-causes (CloseStepsWith i (PipeRequest q) b) = tt
   told-causes (ErrorSteps i (Promise q) e) = tt
   told-causes (ErrorSteps i (PipeRequest q) e) = tt
   told-causes _ = tt

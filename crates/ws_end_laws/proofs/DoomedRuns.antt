@@ -47,6 +47,7 @@ use Rattle.ws_end_laws.proofs.Finding.{ActsAt, Idle, all_map, all_append}
 use Rattle.ws_end_laws.proofs.Hearing as hearing
 use Rattle.ws_end_laws.proofs.Hearing.{Registered, Queued, Well}
 use Rattle.ws_end_laws.proofs.OpenPromises.{open-of}
+use Rattle.ws_steps.specs.Slots.{ByteStream}
 
 -- while a close is asked of a stream, its promise is pending, between steps
 
@@ -64,6 +65,7 @@ failing-place o k = by o k
     by : (o : Option Stream) → Failing (as_writable o) → o ≡ Some (WritableStream (as_writable o))
     by None k = let e = k.state in cc
     by (Some (ReadableStream r)) k = let e = k.state in cc
+    by (Some (ByteStream b)) k = let e = k.state in cc
     by (Some (WritableStream w)) k = refl
 
 pub asked-pending : (entries : List Entry) (j : StreamId) (d : PromiseId) → let s : Slots = run entries empty in (writable_at j s).close_request ≡ Some d → Failing (writable_at j s) → outcome_at s.promises d ≡ Some Pending
@@ -83,6 +85,8 @@ call-table T f c s k = begin-makes (λ z. T z.promises) (record {
   pipe = λ z source dest prevent signal promise k. k;
   signal = λ z k. k;
   transform = λ z kind i j change k. k;
+  bytes = λ z mark auto k. k;
+  byob_requests = λ z hs k. k;
   readable = λ z owner mark size k. k;
   writable = λ z owner mark size k. k;
 }) c s k

@@ -9,7 +9,7 @@ use Rattle.ws_steps.specs.declared.writable.{WritableState.{WritableState}, Writ
 use Rattle.ws_steps.specs.Operations.{pipe_operation}
 use Rattle.ws_steps.specs.Pipes as pipe
 use Rattle.ws_steps.specs.Promises.{Table}
-use Rattle.ws_steps.specs.Slots.{Slots, ends_at, pipe_at, writable_at, ends_of, readable_at}
+use Rattle.ws_steps.specs.Slots.{Slots, ends_at, pipe_at, writable_at, ends_of, source_at}
 use Rattle.ws_steps.specs.Turns.{Moment}
 use Rattle.ws_steps.specs.Writable as writable
 use Rattle.ws_laws.proofs.PipeDoes.{pipe-causes}
@@ -88,7 +88,7 @@ nor-some a b e = (nor_left a b e, nor_right a b e)
 may-unclosed : (x : pipe.Slots) (s : Slots) → first_condition x.prevent (ends_at x s) ≡ None → Unclosed (writable_at x.dest s)
 may-unclosed x s n =
     let w : writable.Slots = writable_at x.dest s in
-    let k = open-dest (readable_at x.source s).state w.state (writable.is_closing w) x.prevent (ends_at x s) refl refl refl n in
+    let k = open-dest (source_at x.source s).state w.state (writable.is_closing w) x.prevent (ends_at x s) refl refl refl n in
     let c = nor-some (is_some w.close_request) (is_some w.close_in_flight) k.0 in
     record { request = c.0; flight = c.1; state = k.1 }
 
@@ -97,7 +97,7 @@ unclosed-why : (p : PipeId) (m : Moment) (x : pipe.Slots) (w : writable.Slots) (
 unclosed-why p m x w d is same e u = by d e
   where
     first : (writable.is_writable w.state ≡ true) → writes_first (ends_at x m.found) ≡ true
-    first k = let f = u.request in let g = u.flight in let v : writes_first (ends_of (readable_at x.source m.found) w) ≡ true = rw (k, f, g) refl in rw same at v
+    first k = let f = u.request in let g = u.flight in let v : writes_first (ends_of (source_at x.source m.found) w) ≡ true = rw (k, f, g) refl in rw same at v
 
     fails : is_failing w.state ≡ true → Fails p m w
     fails k = record {

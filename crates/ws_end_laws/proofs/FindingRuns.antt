@@ -252,6 +252,8 @@ module _ (p : PipeId) where
         (appended z.pipes y p.0);
     signal = λ z k. k;
     transform = λ z kind i j change k. k;
+    bytes = λ z mark auto k. k;
+    byob_requests = λ z hs k. k;
     readable = λ z owner mark size k. k;
     writable = λ z owner mark size k. k;
   }) c s (inl refl)
@@ -368,7 +370,7 @@ module _ (p : PipeId) where
       let s : Slots = run before empty in
       rested h s (after_event s) (record {
         passing = (passing.rests p).heard (through_in p h) s k.passing;
-        locked = record { first = tt; each = λ d i. let b = k.locked.each d i in record { even = b.even; few = b.few }; waits = waits-heard s k.locked.waits };
+        locked = record { first = tt; each = λ d i. let b = k.locked.each d i in record { even = b.even; few = b.few }; waits = waits-heard s k.locked.waits; told = tt };
         known = λ i. let g = k.known i in (g.0, (writes.rests i).heard g.0 s g.1);
         at = k.at;
       })

@@ -14,7 +14,7 @@ use Rattle.ws_steps.specs.Pipes as pipe
 use Rattle.ws_steps.specs.Promises as promises
 use Rattle.ws_steps.specs.Promises.{Table, next_id, fresh, with_entry, ended, outcome_at, settle, watch}
 use Rattle.ws_steps.specs.Run.{after_call, reply_to, older}
-use Rattle.ws_steps.specs.Slots.{Slots, Done, causes, with_promises, has_readable, has_writable, readable_at, writable_at, on_pipe_at}
+use Rattle.ws_steps.specs.Slots.{Slots, Done, causes, with_promises, has_source, has_writable, source_at, writable_at, on_pipe_at}
 use Rattle.ws_steps.specs.Turns.{row, performed}
 use Rattle.ws_steps.proofs.PromiseLaws.{settle-open, entry_at-fresh_new, entry_at-with_entry_same, length-fresh}
 use Rattle.ws_room_laws.proofs.Turns.{performed_next, performed_none}
@@ -107,28 +107,28 @@ module _ (from to : StreamId) (not_to : Prevent) (by : Option SignalId) (s : Slo
   signal_none None e = cc
   signal_none (Some a) e = rw e refl
 
-  begins : has_readable from s ≡ true → has_writable to s ≡ true → has_signal_where by s ≡ true → begin call s ≡ calls.pipe_unlocked from to not_to by s
+  begins : has_source from s ≡ true → has_writable to s ≡ true → has_signal_where by s ≡ true → begin call s ≡ calls.pipe_unlocked from to not_to by s
   unfolding begin
   begins r w g = rw (r, w) (signal_there by g)
 
-  free_begins : is_some (readable_at from s).reader ≡ false → is_some (writable_at to s).writer ≡ false → calls.pipe_unlocked from to not_to by s ≡ calls.pipe_to from to not_to by s
+  free_begins : is_some (source_at from s).reader ≡ false → is_some (writable_at to s).writer ≡ false → calls.pipe_unlocked from to not_to by s ≡ calls.pipe_to from to not_to by s
   free_begins r w = rw (r, w) refl
 
-  locked_begins : (r w : Bool) → r ≡ is_some (readable_at from s).reader → w ≡ is_some (writable_at to s).writer → r || w ≡ true → calls.pipe_unlocked from to not_to by s ≡ calls.rejected s
+  locked_begins : (r w : Bool) → r ≡ is_some (source_at from s).reader → w ≡ is_some (writable_at to s).writer → r || w ≡ true → calls.pipe_unlocked from to not_to by s ≡ calls.rejected s
   locked_begins true w e f k = rw (← e) refl
   locked_begins false true e f k = rw (← e, ← f) refl
   locked_begins false false e f k = cc
 
-  no_source : has_readable from s ≡ false → begin call s ≡ calls.unsupported s
+  no_source : has_source from s ≡ false → begin call s ≡ calls.unsupported s
   unfolding begin
   no_source r = rw r refl
 
-  no_dest : (r : Bool) → r ≡ has_readable from s → has_writable to s ≡ false → begin call s ≡ calls.unsupported s
+  no_dest : (r : Bool) → r ≡ has_source from s → has_writable to s ≡ false → begin call s ≡ calls.unsupported s
   unfolding begin
   no_dest true r w = rw (← r, w) refl
   no_dest false r w = rw (← r) refl
 
-  no_signal : (r w : Bool) → r ≡ has_readable from s → w ≡ has_writable to s → has_signal_where by s ≡ false → begin call s ≡ calls.unsupported s
+  no_signal : (r w : Bool) → r ≡ has_source from s → w ≡ has_writable to s → has_signal_where by s ≡ false → begin call s ≡ calls.unsupported s
   unfolding begin
   no_signal true true r w g = rw (← r, ← w) (signal_none by g)
   no_signal true false r w g = rw (← r, ← w) refl
@@ -195,11 +195,11 @@ module _ (from to : StreamId) (not_to : Prevent) (by : Option SignalId) (s : Slo
 
   pub is-pipe_call : IsPipeCall from to not_to by s
   is-pipe_call = record {
-    makes = λ r w g l. made-so (begins r w g ∙ free_begins (nor_left (is_some (readable_at from s).reader) (is_some (writable_at to s).writer) l) (nor_right (is_some (readable_at from s).reader) (is_some (writable_at to s).writer) l));
-    locked = λ r w g l. is-rejected call s (begins r w g ∙ locked_begins (is_some (readable_at from s).reader) (is_some (writable_at to s).writer) refl refl l);
+    makes = λ r w g l. made-so (begins r w g ∙ free_begins (nor_left (is_some (source_at from s).reader) (is_some (writable_at to s).writer) l) (nor_right (is_some (source_at from s).reader) (is_some (writable_at to s).writer) l));
+    locked = λ r w g l. is-rejected call s (begins r w g ∙ locked_begins (is_some (source_at from s).reader) (is_some (writable_at to s).writer) refl refl l);
     no_source = λ r. throws (no_source r);
-    no_dest = λ w. throws (no_dest (has_readable from s) refl w);
-    no_signal = λ g. throws (no_signal (has_readable from s) (has_writable to s) refl refl g);
+    no_dest = λ w. throws (no_dest (has_source from s) refl w);
+    no_signal = λ g. throws (no_signal (has_source from s) (has_writable to s) refl refl g);
   }
 
 pub each_pipe_call_makes_a_pipe : EachPipeCallMakesAPipe

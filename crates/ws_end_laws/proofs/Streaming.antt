@@ -7,17 +7,21 @@ use Rattle.ws_steps.specs.declared.writable.{WritableOperation.{WritableOperatio
 use Rattle.ws_steps.specs.declared.readable.ReadableOperation.{ReadableOperation}
 use Rattle.ws_steps.specs.Calls.{begin}
 use Rattle.ws_steps.specs.Histories.{is_same}
-use Rattle.ws_steps.specs.Operations.{readable_operation, writable_operation}
+use Rattle.ws_steps.specs.Operations.{writable_operation}
 use Rattle.ws_steps.specs.Slots.{Slots, Stream, nothing, no_writable, as_writable, writable_at, has_writable, on_writable}
 use Rattle.ws_steps.specs.Turns.{row}
 use Rattle.ws_steps.specs.Writable as writable
 use Rattle.ws_steps.specs.WritableHistory.{Writes}
 use Rattle.ws_laws.proofs.Begin.{begin-makes}
 use Rattle.ws_laws.proofs.Rows.{row-streams}
-use Rattle.ws_laws.proofs.Tables.{same_id, writable_acts, on_readable-writable, on_writable-same, on_writable-other}
+use Rattle.ws_laws.proofs.Tables.{same_id, writable_acts, on_writable-same, on_writable-other}
 use Rattle.ws_writable_laws.proofs.Agenda.{Kept}
 use Rattle.ws_writable_laws.proofs.Expects.{write-expects, start-expects, write_settled-expects, close_settled-expects, abort_settled-expects}
 use Rattle.ws_wrote_laws.proofs.Keeping.{Expected}
+use Rattle.ws_steps.specs.declared.effects.Effect.TheVariants.{Byte}
+use Rattle.ws_steps.specs.declared.byte.ByteOperation.{ByteOperation}
+use Rattle.ws_steps.specs.Operations.{byte_operation}
+use Rattle.ws_laws.proofs.Tables.{on_source-writable, on_byte-writable}
 
 -- what is known tells what an operation may expect of its stream
 pub expected : (i : StreamId) (h : Writes) (es : List Effect) (s : Slots) (operation : WritableOperation) → Kept i h s (OnWritable i operation ∷ es) → Expected operation (writable_at i s)
@@ -35,7 +39,11 @@ module _ (i : StreamId) (W : writable.Slots → Type 0) (C : WritableOperation �
 
   readable_row : (j : StreamId) (operation : ReadableOperation) (s : Slots) → Row s (OnReadable j operation)
   unfolding row
-  readable_row j operation s h es k c w = subst W (sym (on_readable-writable (readable_operation j operation) j s i (is_same i j) refl)) w
+  readable_row j operation s h es k c w = subst W (sym (on_source-writable operation j s i)) w
+
+  byte_row : (j : StreamId) (operation : ByteOperation) (s : Slots) → Row s (Byte j operation)
+  unfolding row
+  byte_row j operation s h es k c w = subst W (sym (on_byte-writable (byte_operation j operation) j s i)) w
 
   there_row : (operation : WritableOperation) (s : Slots) (there : Bool) → has_writable i s ≡ there → Expected operation (writable_at i s) → C operation → W (writable_at i s) → W (writable_at i (on_writable (writable_operation i operation) i s).slots)
   there_row operation s true e x c w = subst (λ (o : Option Stream). W (as_writable o)) (sym (on_writable-same (writable_operation i operation) i s e)) (keeps operation (writable_acts i s) c x w)
@@ -57,6 +65,7 @@ module _ (i : StreamId) (W : writable.Slots → Type 0) (C : WritableOperation �
   -- each effect keeps it
   pub row-keeps : (s : Slots) (e : Effect) → Row s e
   row-keeps s (OnReadable j operation) h es k c w = readable_row j operation s h es k c w
+  row-keeps s (Byte j operation) h es k c w = byte_row j operation s h es k c w
   row-keeps s (OnWritable j operation) h es k c w = writable_row j operation s (is_same i j) refl h es k c w
   row-keeps s e h es k c w = subst (λ (xs : List Stream). W (as_writable (slice_get xs i.0))) (sym (row-streams e s tt)) w
 
@@ -82,6 +91,8 @@ module _ (i : StreamId) (W : writable.Slots → Type 0) (none : W no_writable �
     pipe = λ z source dest prevent signal promise k. k;
     signal = λ z k. k;
     transform = λ z kind i j change k. k;
+    bytes = λ z mark auto k. added z.streams _ k;
+    byob_requests = λ z hs k. k;
     readable = λ z owner mark size k. added z.streams _ k;
     writable = λ z owner mark size k. added z.streams _ k;
   }) c s w

@@ -26,7 +26,7 @@ use Rattle.ws_steps.specs.Effects.{type_error}
 use Rattle.ws_steps.specs.Pipes as pipe
 use Rattle.ws_steps.specs.Promises.{next_id, fresh, outcome_at}
 use Rattle.ws_steps.specs.Run.{after_call, reply_to}
-use Rattle.ws_steps.specs.Slots.{Slots, has_readable, has_writable, has_signal, readable_at, writable_at, signal_at}
+use Rattle.ws_steps.specs.Slots.{Slots, has_source, has_writable, has_signal, source_at, writable_at, signal_at}
 use Rattle.ws_pipe_laws.specs.PipeMoves.{IsNewPipe, IsThere}
 
 -- there is the signal, where one is named
@@ -36,7 +36,7 @@ has_signal_where (Some a) s = has_signal a s
 
 -- the source has a reader, or the destination a writer
 abbrev pub is_either_locked : StreamId → StreamId → Slots → Bool
-is_either_locked from to s = is_some (readable_at from s).reader || is_some (writable_at to s).writer
+is_either_locked from to s = is_some (source_at from s).reader || is_some (writable_at to s).writer
 
 -- nothing of a shutdown is known of it yet
 pub record IsUntouched (y : pipe.Slots) : Type 0 where
@@ -95,11 +95,11 @@ pub record IsRejected (c : Call) (s : Slots) : Type 0 where
 -- what is asked of a pipeTo: where there are its streams and its signal, it makes its pipe where both streams are unlocked, and is rejected where
 -- one is locked; and where one isn't there, it throws
 pub record IsPipeCall (from to : StreamId) (not_to : Prevent) (by : Option SignalId) (s : Slots) : Type 0 where
-  pub makes : has_readable from s ≡ true → has_writable to s ≡ true → has_signal_where by s ≡ true → is_either_locked from to s ≡ false
+  pub makes : has_source from s ≡ true → has_writable to s ≡ true → has_signal_where by s ≡ true → is_either_locked from to s ≡ false
       → MakesItsPipe from to not_to by s
-  pub locked : has_readable from s ≡ true → has_writable to s ≡ true → has_signal_where by s ≡ true → is_either_locked from to s ≡ true
+  pub locked : has_source from s ≡ true → has_writable to s ≡ true → has_signal_where by s ≡ true → is_either_locked from to s ≡ true
       → IsRejected (PipeCall from to not_to by) s
-  pub no_source : has_readable from s ≡ false → reply_to (PipeCall from to not_to by) s ≡ Throws Unsupported
+  pub no_source : has_source from s ≡ false → reply_to (PipeCall from to not_to by) s ≡ Throws Unsupported
   pub no_dest : has_writable to s ≡ false → reply_to (PipeCall from to not_to by) s ≡ Throws Unsupported
   pub no_signal : has_signal_where by s ≡ false → reply_to (PipeCall from to not_to by) s ≡ Throws Unsupported
 

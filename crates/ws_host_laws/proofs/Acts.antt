@@ -25,6 +25,7 @@ use Rattle.ws_host_laws.proofs.Reactions.{JobFits}
 use Rattle.ws_laws.proofs.TransformDoes.{TransformCauses}
 use Rattle.ws_host_laws.proofs.Carried.{Carries, Uses, Own, row-uses}
 use Rattle.ws_host_laws.proofs.Dests.{NoClose}
+use Rattle.ws_steps.specs.declared.effects.Effect.TheVariants.{Byte, CloseStepsWith}
 
 -- the reaction of pipe p to its action
 abbrev pub acts_on : PipeId → Step → Bool
@@ -112,6 +113,8 @@ module _ (p : PipeId) (V : Type 0) where
   pub caused-fit : (e : Effect) (s : Slots) → NotOf p e → Fits p V e → Each (Fits p V) (row e s).caused
   unfolding row
   caused-fit (Readable i operation) s n f = row-causes (Fits p V) (Readable i operation) s (record { pull = tt; cancel = λ r q. tt; chunk = λ r v. tt; close = λ r. tt; error = λ r e. tt })
+  caused-fit (Byte i operation) s n f =
+      row-causes (Fits p V) (Byte i operation) s (record { readable = record { pull = tt; cancel = λ r q. tt; chunk = λ r v. tt; close = λ r. tt; error = λ r e. tt }; close_with = λ r b. tt })
   caused-fit (Writable i operation) s n f = row-causes (Fits p V) (Writable i operation) s (record { write = tt; close = tt; abort = λ r q. tt; hand_on = λ v. refl; take = λ v t d. tt })
   caused-fit (Pipe q operation) s n f = row-causes (Fits p V) (Pipe q operation) s (λ source dest e c. pipe-fits q source dest e n c)
   caused-fit (Signal a operation) s n f = row-causes (Fits p V) (Signal a operation) s (signal-fits operation)
@@ -124,6 +127,7 @@ module _ (p : PipeId) (V : Type 0) where
   caused-fit (AbortAlgorithm i r q) s n f = abort-fits i r (owner_at i s) _ _ refl
   caused-fit (ChunkSteps i request v) s n f = row-causes (Fits p V) (ChunkSteps i request v) s (chunk-fits v request)
   caused-fit (CloseSteps i request) s n f = row-causes (Fits p V) (CloseSteps i request) s (end-fits request)
+  caused-fit (CloseStepsWith i request b) s n f = row-causes (Fits p V) (CloseStepsWith i request b) s (end-fits request)
   caused-fit (ErrorSteps i request e) s n f = row-causes (Fits p V) (ErrorSteps i request e) s (end-fits request)
   caused-fit _ s n f = tt
 
@@ -201,6 +205,7 @@ module _ (i : StreamId) where
 
   closes : (e : Effect) → IsNoPipe e → Causes (NoClose i) e
   closes (Readable j operation) n = record { pull = tt; cancel = λ r q. tt; chunk = λ r v. tt; close = λ r. tt; error = λ r e. tt }
+  closes (Byte j operation) n = record { readable = record { pull = tt; cancel = λ r q. tt; chunk = λ r v. tt; close = λ r. tt; error = λ r e. tt }; close_with = λ r b. tt }
   closes (Writable j operation) n = record { write = tt; close = tt; abort = λ r q. tt; hand_on = λ v. tt; take = λ v t d. tt }
   closes (Pipe q operation) n = absurd n
   closes (Signal a operation) n = signal-closes operation
@@ -213,6 +218,7 @@ module _ (i : StreamId) where
   closes (AbortAlgorithm j r q) n = (λ c u. tt, λ t u. tt)
   closes (ChunkSteps j request v) n = chunk-closes v request
   closes (CloseSteps j request) n = end-closes request
+  closes (CloseStepsWith j request b) n = end-closes request
   closes (ErrorSteps j request e) n = end-closes request
   closes _ n = tt
 

@@ -33,6 +33,8 @@ use Rattle.ws_host_laws.proofs.Hosted.{Sofar, nothing_yet, sofar_then, sofar-his
 use Rattle.ws_host_laws.proofs.Sourced.{UsesIt, Tracked, row-tracked, call-tracked, next-fits, job-tracked, answered-tracked, older-tracked, heard-tracked, tracked_empty}
 use Rattle.ws_host_laws.proofs.Uses.{closes_it, Fits, caused-fit, call-fits, job-effects-fit, fits-weaker}
 use Rattle.ws_host_laws.proofs.Closing.{is_closed_in, closed_in, row-before, added-before}
+use Rattle.ws_steps.specs.Slots.{ByteStream}
+use Rattle.ws_steps.specs.Bytes as byte
 
 module _ (j : StreamId) where
   abbrev W : Sofar → Type 0
@@ -86,6 +88,8 @@ module _ (j : StreamId) where
     pipe = λ z source dest prevent signal promise m. m;
     signal = λ z m. m;
     transform = λ z kind half other change m. m;
+    bytes = λ z mark auto m. λ c. m (added-before z.streams (ByteStream (byte.set_up mark auto)) j.0 refl c);
+    byob_requests = λ z hs m. m;
     readable = λ z owner mark size m. λ c. m (added-before z.streams (ReadableStream (readable.set_up owner mark size)) j.0 refl c);
     writable = λ z owner mark size m. λ c. m (added-before z.streams (WritableStream (writable.set_up owner mark size)) j.0 refl c);
   }) c s k

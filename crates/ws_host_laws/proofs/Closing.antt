@@ -5,26 +5,27 @@ use Rattle.ws_value.specs.declared.ids.StreamId.{StreamId}
 use Rattle.ws_value.specs.declared.value.Plain.{Plain}
 use Rattle.ws_value.specs.declared.value.Value.{Value}
 use Rattle.ws_steps.specs.declared.effects.Effect.{Effect}
-use Rattle.ws_steps.specs.declared.effects.Effect.TheVariants.{Readable, Writable}
+use Rattle.ws_steps.specs.declared.effects.Effect.TheVariants.{Readable, Byte, Writable}
 use Rattle.ws_steps.specs.declared.effects.Owner.{Owner}
 use Rattle.ws_steps.specs.declared.readable.ReadableOperation.{ReadableOperation}
 use Rattle.ws_steps.specs.declared.transform.Taker.{Taker}
 use Rattle.ws_steps.specs.declared.writable.{WritableOperation.{WritableOperation}, WriteRecord.{WriteRecord}, Writer.{Writer}}
 use Rattle.ws_steps.specs.declared.writable.WritableOperation.TheVariants as names
 use Rattle.ws_steps.specs.declared.writable.WriteRecord.TheVariants.{CloseMark}
-use Rattle.ws_steps.specs.Operations.{readable_operation, writable_operation}
+use Rattle.ws_steps.specs.Operations.{readable_operation, byte_readable_operation, byte_operation, writable_operation}
 use Rattle.ws_steps.specs.Queues.{enqueued}
-use Rattle.ws_steps.specs.Slots.{Slots, Stream, ReadableStream, WritableStream, Done, has_readable, has_writable, writable_at, on_readable, on_writable, nothing}
-use Rattle.ws_steps.specs.Turns.{row}
+use Rattle.ws_steps.specs.Slots.{Slots, Stream, ReadableStream, ByteStream, WritableStream, Done, has_byte, on_byte, has_readable, has_writable, writable_at, on_readable, on_writable, nothing}
+use Rattle.ws_steps.specs.Turns.{row, on_source}
 use Rattle.ws_steps.specs.Writable.{Acts, is_closed, reject_close_and_closed, finish_erroring, start_erroring, deal_with_rejection, controller_error_if_needed, update_backpressure, refresh_backpressure, process_write, process_close, process_first, advance_queue, hand_on, write_settled, close_settled, finish_in_flight_close_with_error, start_settled, abort_settled, controller_write, writer_write, controller_close, add_close_request, has_ended, is_closing, fulfil_ready, stream_close, close_with_error_propagation, signalled, stream_abort, abort_if_writable, set_up_writer, writer_release}
 use Rattle.ws_steps.specs.Histories.{is_same}
 use Rattle.ws_laws.proofs.Rows.{row-streams}
-use Rattle.ws_laws.proofs.Tables.{either, is_same-refl, same_id, writable_acts, writable_there, on_readable-same, on_readable-other, on_writable-same, on_writable-other}
+use Rattle.ws_laws.proofs.Tables.{either, is_same-refl, same_id, writable_acts, writable_there, on_readable-same, on_readable-other, on_byte-look, on_writable-same, on_writable-other}
 
 -- whether a writable stream is closed that stands there
 abbrev pub is_closed_in : Option Stream → Bool
 is_closed_in None = false
 is_closed_in (Some (ReadableStream r)) = false
+is_closed_in (Some (ByteStream b)) = false
 is_closed_in (Some (WritableStream w)) = is_closed w.state
 
 abbrev pub closed_in : StreamId → Slots → Bool
@@ -166,6 +167,12 @@ readable-before j i operation s true true e t c =
     let at = on_readable-same (readable_operation i operation) i s (sym t) in
     let n : false ≡ true = ap is_closed_in (sym at) ∙ subst (λ (k : StreamId). closed_in k (on_readable (readable_operation i operation) i s).slots ≡ true) is c in absurd (cc)
 
+source-before : (j i : StreamId) (operation : ReadableOperation) (s : Slots) → Before j s (on_source operation i s).slots
+source-before j i operation s =
+    either (λ (d : Done). Before j s d.slots) (has_byte i s) (on_byte (byte_readable_operation i operation) i s) (on_readable (readable_operation i operation) i s)
+    (λ is c. sym (on_byte-look is_closed_in (λ b d. refl) (byte_readable_operation i operation) i s j (is_same j i) refl) ∙ c)
+    (λ isnt. readable-before j i operation s (is_same j i) (has_readable i s) refl refl)
+
 writable-before : (j i : StreamId) (operation : WritableOperation) (s : Slots) (same there : Bool) → same ≡ is_same j i → there ≡ has_writable i s → (MayClose j (Writable i operation) → ⊥) → Before j s (on_writable (writable_operation i operation) i s).slots
 writable-before j i operation s false there e t n c = rw (on_writable-other (writable_operation i operation) i s j (sym e)) at c
 writable-before j i operation s true false e t n c =
@@ -183,7 +190,8 @@ writable-before j i operation s true true e t n c =
 -- each other effect leaves a stream closed only where it was
 pub row-before : (j : StreamId) (e : Effect) (s : Slots) → (MayClose j e → ⊥) → closed_in j (row e s).slots ≡ true → closed_in j s ≡ true
 unfolding row
-row-before j (Readable i operation) s n = readable-before j i operation s (is_same j i) (has_readable i s) refl refl
+row-before j (Readable i operation) s n = source-before j i operation s
+row-before j (Byte i operation) s n = λ c. sym (on_byte-look is_closed_in (λ b d. refl) (byte_operation i operation) i s j (is_same j i) refl) ∙ c
 row-before j (Writable i operation) s n = writable-before j i operation s (is_same j i) (has_writable i s) refl refl n
 row-before j e s n = λ c. ap (λ (streams : List Stream). is_closed_in (slice_get streams j.0)) (sym (row-streams e s tt)) ∙ c
 

@@ -5,22 +5,21 @@ use Rattle.ws_value.specs.declared.ids.PromiseId.{PromiseId}
 use Rattle.ws_value.specs.declared.ids.StreamId.{StreamId}
 use Rattle.ws_value.specs.declared.value.Plain.{Plain}
 use Rattle.ws_steps.specs.declared.effects.Effect.{Effect}
-use Rattle.ws_steps.specs.declared.effects.Effect.TheVariants.{Readable, Writable}
-use Rattle.ws_steps.specs.declared.readable.ReadableOperation.{ReadableOperation}
+use Rattle.ws_steps.specs.declared.effects.Effect.TheVariants.{Readable, Byte, Writable}
 use Rattle.ws_steps.specs.declared.writable.WritableOperation.{WritableOperation}
 use Rattle.ws_steps.specs.declared.writable.WritableOperation.TheVariants as names
 use Rattle.ws_steps.specs.declared.writable.WritableState.{WritableState}
-use Rattle.ws_steps.specs.Operations.{readable_operation, writable_operation}
+use Rattle.ws_steps.specs.Operations.{byte_operation, writable_operation}
 use Rattle.ws_steps.specs.Promises.{outcome_at, entry_at, is_open_entry}
-use Rattle.ws_steps.specs.Slots.{Slots, Stream, ReadableStream, WritableStream, Done, has_readable, has_writable, writable_at, is_readable_stream, is_writable_stream, as_writable, no_writable, on_readable, on_writable, nothing}
-use Rattle.ws_steps.specs.Turns.{row}
+use Rattle.ws_steps.specs.Slots.{Slots, Stream, ReadableStream, ByteStream, WritableStream, has_writable, writable_at, is_writable_stream, as_writable, no_writable, on_byte, on_writable}
+use Rattle.ws_steps.specs.Turns.{row, on_source}
 use Rattle.ws_steps.specs.Writable as writable
 use Rattle.ws_steps.specs.Writable.{Acts, is_closed, is_closing, has_ended}
 use Rattle.ws_steps.specs.Histories.{is_same}
 use Rattle.ws_steps.specs.Laws.{is_rejected}
 use Rattle.ws_steps.specs.WritableHistory.{Writes}
 use Rattle.ws_laws.proofs.Rows.{row-streams}
-use Rattle.ws_laws.proofs.Tables.{is_same-refl, same_id, writable_acts, writable_there, no_writable_there, on_readable-other, on_writable-same, on_writable-other}
+use Rattle.ws_laws.proofs.Tables.{is_same-refl, same_id, writable_acts, writable_there, no_writable_there, on_writable-same, on_writable-other}
 use Rattle.ws_laws.proofs.WritableDoes.{IsHandOn}
 use Rattle.ws_writable_laws.proofs.Agenda.{Kept, found, Elsewhere, row-leaves, same_or}
 use Rattle.ws_writable_laws.proofs.Expects.{close_settled-expects}
@@ -31,6 +30,7 @@ use Rattle.ws_promise_laws.proofs.Tokens.{names_any}
 use Rattle.ws_host_laws.proofs.Closing.{is_closed_in, closed_in, MayClose, row-before}
 use Rattle.ws_host_laws.proofs.Fates.{is_promise, asks, Neat, Fated, operation-fated, asked-fated}
 use Rattle.ws_host_laws.proofs.Staying.{IsReaction, closed-operation, IsClose, Open, open-operation, started-operation}
+use Rattle.ws_host_laws.proofs.Sources.{byte-spares, source-spares}
 
 module _ (i : StreamId) where
   abbrev w : Slots → writable.Slots
@@ -39,6 +39,7 @@ module _ (i : StreamId) where
   closed_slots : (o : Option Stream) → is_closed_in o ≡ true → (o ≡ Some (WritableStream (as_writable o))) × (is_closed (as_writable o).state ≡ true)
   closed_slots None e = absurd (cc)
   closed_slots (Some (ReadableStream r)) e = absurd (cc)
+  closed_slots (Some (ByteStream b)) e = absurd (cc)
   closed_slots (Some (WritableStream x)) e = (refl, e)
 
   there_writable : (s : Slots) → slice_get s.streams i.0 ≡ Some (WritableStream (w s)) → has_writable i s ≡ true
@@ -88,16 +89,8 @@ module _ (i : StreamId) where
   same-stays : (s z : Slots) → slice_get z.streams i.0 ≡ slice_get s.streams i.0 → Shut s → Shut z
   same-stays s z e c = record { closed = ap is_closed_in e ∙ c.closed; started = ap (λ (o : Option Stream). (as_writable o).started) e ∙ c.started }
 
-  not_readable : (s : Slots) → Shut s → has_readable i s ≡ false
-  not_readable s c = ap is_readable_stream (closed_slots (slice_get s.streams i.0) c.closed).0
-
-  readable-stays : (j : StreamId) (operation : ReadableOperation) (s : Slots) (same : Bool) → same ≡ is_same i j → Shut s → Shut (on_readable (readable_operation j operation) j s).slots
-  readable-stays j operation s false e c = same-stays s (on_readable (readable_operation j operation) j s).slots (on_readable-other (readable_operation j operation) j s i (sym e)) c
-  readable-stays j operation s true e c =
-      let is : i ≡ j = same_id i j (sym e) in
-      let none : has_readable j s ≡ false = subst (λ (k : StreamId). has_readable k s ≡ false) is (not_readable s c) in
-      let same : on_readable (readable_operation j operation) j s ≡ nothing s = rw none refl in
-      subst (λ (d : Done). Shut d.slots) (sym same) c
+  shut_there : (s : Slots) → Shut s → has_writable i s ≡ true
+  shut_there s c = there_writable s (closed_slots (slice_get s.streams i.0) c.closed).0
 
   other-stays : (j : StreamId) (operation : WritableOperation) (s : Slots) → is_same i j ≡ false → Stays s (Writable j operation)
   unfolding row
@@ -105,7 +98,8 @@ module _ (i : StreamId) where
 
   pub row-shut : (s : Slots) (e : Effect) → Stays s e
   unfolding row
-  row-shut s (Readable j operation) es k c = readable-stays j operation s (is_same i j) refl c
+  row-shut s (Readable j operation) es k c = same-stays s (on_source operation j s).slots (source-spares i j s (shut_there s c) operation) c
+  row-shut s (Byte j operation) es k c = same-stays s (on_byte (byte_operation j operation) j s).slots (byte-spares i j s (shut_there s c) (byte_operation j operation)) c
   row-shut s (Writable j operation) es k c = same_or (λ l. Stays s (Writable l operation)) i j (is_same i j) refl (λ n. other-stays j operation s n) (own-stays operation s) es k c
   row-shut s e es k c = same-stays s (row e s).slots (ap (λ (xs : List Stream). slice_get xs i.0) (row-streams e s tt)) c
 
@@ -265,20 +259,10 @@ module _ (i : StreamId) where
   unfolding row
   other-there j operation s n h = same-there s (on_writable (writable_operation j operation) j s).slots (on_writable-other (writable_operation j operation) j s i n) h
 
-  not_both : (o : Option Stream) → is_writable_stream o ≡ true → is_readable_stream o ≡ false
-  not_both o e = grind arith
-
-  readable-there : (j : StreamId) (operation : ReadableOperation) (s : Slots) (same : Bool) → same ≡ is_same i j → has_writable i s ≡ true → has_writable i (on_readable (readable_operation j operation) j s).slots ≡ true
-  readable-there j operation s false e h = same-there s (on_readable (readable_operation j operation) j s).slots (on_readable-other (readable_operation j operation) j s i (sym e)) h
-  readable-there j operation s true e h =
-      let is : i ≡ j = same_id i j (sym e) in
-      let none : has_readable j s ≡ false = subst (λ (k : StreamId). has_readable k s ≡ false) is (not_both (slice_get s.streams i.0) h) in
-      let same : on_readable (readable_operation j operation) j s ≡ nothing s = rw none refl in
-      subst (λ (d : Done). has_writable i d.slots ≡ true) (sym same) h
-
   pub row-there : (s : Slots) (e : Effect) → There s e
   unfolding row
-  row-there s (Readable j operation) h = readable-there j operation s (is_same i j) refl h
+  row-there s (Readable j operation) h = same-there s (on_source operation j s).slots (source-spares i j s h operation) h
+  row-there s (Byte j operation) h = same-there s (on_byte (byte_operation j operation) j s).slots (byte-spares i j s h (byte_operation j operation)) h
   row-there s (Writable j operation) h = same_or (λ l. There s (Writable l operation)) i j (is_same i j) refl (λ n. other-there j operation s n) (own-there operation s) h
   row-there s e h = same-there s (row e s).slots (ap (λ (xs : List Stream). slice_get xs i.0) (row-streams e s tt)) h
 

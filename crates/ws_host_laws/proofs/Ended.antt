@@ -15,7 +15,7 @@ use Rattle.ws_steps.specs.Promises.{Entry as PromiseEntry, Table, live}
 use Rattle.ws_steps.specs.ReadableLooks as readable_looks
 use Rattle.ws_steps.specs.WritableLooks as writable_looks
 use Rattle.ws_steps.specs.Run.{Entry, Called, run, step, moments_in}
-use Rattle.ws_steps.specs.Slots.{Slots, Stream, empty, as_writable, as_pipe, pipe_at, no_writable, is_writable_stream, has_readable, has_signal, has_writable, readable_at, writable_at}
+use Rattle.ws_steps.specs.Slots.{Slots, Stream, empty, as_writable, as_pipe, pipe_at, no_writable, is_writable_stream, has_source, has_signal, has_writable, source_at, writable_at}
 use Rattle.ws_steps.specs.Turns.{Moment}
 use Rattle.ws_steps.specs.Writable as writable
 use Rattle.ws_steps.specs.Writable.{is_closed, is_closing, is_writable}
@@ -108,7 +108,7 @@ module _ (i : StreamId) where
 
   unlocked-close : (source dest : StreamId) (prevent : Prevent) (signal : Option SignalId) (s : Slots) → Closes (pipe_unlocked source dest prevent signal s)
   unlocked-close source dest prevent signal s =
-      either Closes (readable_looks.is_locked (readable_at source s)) (rejected s) _ (λ e. (tt, tt))
+      either Closes (readable_looks.is_locked (source_at source s)) (rejected s) _ (λ e. (tt, tt))
       (λ e. either Closes (writable_looks.is_locked (writable_at dest s)) (rejected s) (pipe_to source dest prevent signal s) (λ f. (tt, tt)) (λ f. to-close source dest prevent signal s))
 
   signal-close : (source dest : StreamId) (prevent : Prevent) (signal at : Option SignalId) (s : Slots) → Closes (for_signal_where at (pipe_unlocked source dest prevent signal) s)
@@ -118,7 +118,7 @@ module _ (i : StreamId) where
   pipe-close : (source dest : StreamId) (prevent : Prevent) (signal : Option SignalId) (s : Slots) → Closes (begin (PipeCall source dest prevent signal) s)
   unfolding begin
   pipe-close source dest prevent signal s =
-      either Closes (has_readable source s) (for_writable dest (for_signal_where signal (pipe_unlocked source dest prevent signal)) s) (unsupported s)
+      either Closes (has_source source s) (for_writable dest (for_signal_where signal (pipe_unlocked source dest prevent signal)) s) (unsupported s)
       (λ e. either Closes (has_writable dest s) (for_signal_where signal (pipe_unlocked source dest prevent signal) s) (unsupported s) (λ f. signal-close source dest prevent signal signal s) (λ f. tt)) (λ e. tt)
 
 -- the ends of a pipe over a run are those of its course

@@ -30,6 +30,7 @@ use Rattle.ws_laws.proofs.Shapes.{TransformShape, transform_shape, transform_sha
 use Rattle.ws_laws.proofs.Tables.{eq_numbers}
 use Rattle.ws_host_laws.proofs.Carried.{Carries}
 use Rattle.ws_host_laws.proofs.Sourced.{UseIs, NoUse}
+use Rattle.ws_steps.specs.declared.effects.Effect.TheVariants.{Byte, CloseStepsWith}
 
 -- the reaction of transform stream t to its flush algorithm
 abbrev pub flushes_it : TransformId → Step → Bool
@@ -185,6 +186,8 @@ module _ (t : TransformId) (r : StreamId) where
   pub caused-fit : (e : Effect) (s : Slots) → IsHosts t r s → Fits e → Each Fits (row e s).caused
   unfolding row
   caused-fit (Readable i operation) s h f = row-causes Fits (Readable i operation) s (record { pull = tt; cancel = λ e q. tt; chunk = λ q v. tt; close = λ q. tt; error = λ q e. tt })
+  caused-fit (Byte i operation) s h f =
+      row-causes Fits (Byte i operation) s (record { readable = record { pull = tt; cancel = λ r q. tt; chunk = λ r v. tt; close = λ r. tt; error = λ r e. tt }; close_with = λ r b. tt })
   caused-fit (Writable i operation) s h f = row-causes Fits (Writable i operation) s (record { write = tt; close = tt; abort = λ e q. tt; hand_on = λ v e. no_true e; take = λ v k d. tt })
   caused-fit (Pipe p operation) s h f = row-causes Fits (Pipe p operation) s pipe-fits-of
     where
@@ -200,6 +203,7 @@ module _ (t : TransformId) (r : StreamId) where
   caused-fit (AbortAlgorithm i e p) s h f = abort-fits i e (owner_at i s) _ refl
   caused-fit (ChunkSteps i request v) s h f = row-causes Fits (ChunkSteps i request v) s (chunk-fits v request)
   caused-fit (CloseSteps i request) s h f = row-causes Fits (CloseSteps i request) s (end-fits request)
+  caused-fit (CloseStepsWith i request b) s h f = row-causes Fits (CloseStepsWith i request b) s (end-fits request)
   caused-fit (ErrorSteps i request e) s h f = row-causes Fits (ErrorSteps i request e) s (end-fits request)
   caused-fit _ s h f = tt
 

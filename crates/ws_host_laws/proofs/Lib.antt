@@ -1,3 +1,4 @@
+pub mod Sources
 pub mod Plain
 pub mod Called
 pub mod Reactions

@@ -41,6 +41,8 @@ use Rattle.ws_host_laws.proofs.Acts.{acts_on, Fits, call-fits, job-effects-fit, 
 use Rattle.ws_host_laws.proofs.Piped.{Source, Told, Calm, Sources}
 use Rattle.ws_host_laws.proofs.PipedRows.{EndWell, effect_ends, Piped, other-row}
 use Rattle.ws_host_laws.proofs.PipedMoves.{own-row}
+use Rattle.ws_steps.specs.Slots.{ByteStream}
+use Rattle.ws_steps.specs.Bytes as byte
 
 -- what stands in a stream's place is the same
 
@@ -169,6 +171,8 @@ module _ (p : PipeId) (i : StreamId) where
     pipe = λ z source dest prevent signal promise m. place-grows z.pipes (pipe.set_up source dest prevent signal promise ∷ []) p.0 x m;
     signal = λ z m. m;
     transform = λ z kind half other change m. m;
+    bytes = λ z mark auto m. m;
+    byob_requests = λ z hs m. m;
     readable = λ z owner mark size m. m;
     writable = λ z owner mark size m. m;
   }) c s k
@@ -181,6 +185,8 @@ module _ (p : PipeId) (i : StreamId) where
     pipe = λ z source dest prevent signal promise m. m;
     signal = λ z m. m;
     transform = λ z kind half other change m. m;
+    bytes = λ z mark auto m. place-grows z.streams (ByteStream (byte.set_up mark auto) ∷ []) i.0 y m;
+    byob_requests = λ z hs m. m;
     readable = λ z owner mark size m. place-grows z.streams (ReadableStream (readable.set_up owner mark size) ∷ []) i.0 y m;
     writable = λ z owner mark size m. place-grows z.streams (WritableStream (writable.set_up owner mark size) ∷ []) i.0 y m;
   }) c s k
@@ -193,6 +199,8 @@ module _ (p : PipeId) (i : StreamId) where
     pipe = λ z source dest prevent signal promise m. m;
     signal = λ z m. m;
     transform = λ z kind half other change m. m;
+    bytes = λ z mark auto m. m;
+    byob_requests = λ z hs m. m;
     readable = λ z owner mark size m. m;
     writable = λ z owner mark size m. m;
   }) c s (keeps-same s.promises)
@@ -205,6 +213,8 @@ module _ (p : PipeId) (i : StreamId) where
     pipe = λ z source dest prevent signal promise m. m;
     signal = λ z m. m;
     transform = λ z kind half other change m. m;
+    bytes = λ z mark auto m. m;
+    byob_requests = λ z hs m. m;
     readable = λ z owner mark size m. m;
     writable = λ z owner mark size m. m;
   }) c s k

@@ -1,5 +1,5 @@
 -- What each effect does to promises but for the two that react, and what it does to the calls that the host hasn't settled.
-use Rattle.std.proofs.Common.{◌≡◌, false, List, [], ◌∷◌, ◌++◌, Option, Some, None, Result, refl, sym, slice_get, append-nil}
+use Rattle.std.proofs.Common.{◌∙◌, ◌≡◌, false, List, [], ◌∷◌, ◌++◌, Option, Some, None, Result, refl, sym, slice_get, append-nil}
 use Rattle.std.specs.Prelude.{Err}
 use Rattle.ws_value.specs.declared.ids.PipeId.{PipeId}
 use Rattle.ws_value.specs.declared.ids.PromiseId.{PromiseId}
@@ -16,16 +16,19 @@ use Rattle.ws_steps.specs.declared.effects.Effect.TheVariants.{Readable, Writabl
 use Rattle.ws_steps.specs.declared.{readable.ReadRequest.TheVariants.{Promise, Pipe as PipeRequest}, pipes.PipeOperation.{PipeOperation}, pipes.SignalOperation.{SignalOperation}, promises.Micro.{Micro}, transform.TransformId.{TransformId}, transform.TransformOperation.{TransformOperation}}
 use Rattle.ws_steps.specs.Effects.{Out}
 use Rattle.ws_steps.specs.Promises.{Table, is_pending, fresh, settle, answer, queue_micro, tell, next_id}
-use Rattle.ws_steps.specs.Operations.{readable_operation, writable_operation, pipe_operation, signal_operation, transform_operation}
-use Rattle.ws_steps.specs.Slots.{Slots, Done, nothing, has_readable, has_writable, found, ends_at, halves_at, put_readable, put_writable, on_pipe_at, on_signal_at, on_transform_at}
+use Rattle.ws_steps.specs.Operations.{writable_operation, pipe_operation, signal_operation, transform_operation}
+use Rattle.ws_steps.specs.Slots.{Slots, Done, nothing, has_writable, found, ends_at, halves_at, put_writable, on_pipe_at, on_signal_at, on_transform_at}
 use Rattle.ws_steps.specs.Turns.{row, call_host}
 use Rattle.ws_steps.specs.Pipes as pipe
 use Rattle.ws_steps.specs.Transform as transform
-use Rattle.ws_laws.proofs.ReadableDoes.{readable-does}
 use Rattle.ws_laws.proofs.WritableDoes.{writable-does}
 use Rattle.ws_laws.proofs.PipeDoes.{pipe-does}
 use Rattle.ws_laws.proofs.TransformDoes.{transform-does}
-use Rattle.ws_laws.proofs.Tables.{either, readable_acts, writable_acts}
+use Rattle.ws_laws.proofs.Tables.{either, writable_acts}
+use Rattle.ws_steps.specs.declared.effects.Effect.TheVariants.{Byte, CloseStepsWith}
+use Rattle.ws_laws.proofs.Rows.{source-out, byte-out, source-leaves, byte-leaves}
+use Rattle.ws_laws.proofs.ReadableDoes.{OfReadable}
+use Rattle.ws_value.specs.declared.value.Value.TheVariants.{Bytes}
 
 -- what goes on with each change of promises but for reactions, followings and the telling of a host call
 pub record Plainly (T : Table → Type 0) : Type 0 where
@@ -59,18 +62,20 @@ module _ (T : Table → Type 0) (does : Plainly T) where
   transform-plainly t operation s (Some x) h =
       transform-does T (record { fresh = does.fresh; settle = does.settle }) t (halves_at x s) operation (record { slots = x; out = found s }) h
 
+  settles : (i : StreamId) → OfReadable (λ (x : Out). T x.promises) i
+  settles i = record {
+    settle = λ x p o h. does.settle x.promises p o h;
+    pull = λ x h. h;
+    cancel = λ x r p h. h;
+    chunk = λ x r v h. h;
+    close = λ x r h. h;
+    error = λ x r e h. h;
+  }
+
   pub row-plainly : (e : Effect) (s : Slots) → IsPlain e → T s.promises → T (row e s).slots.promises
   unfolding row
-  row-plainly (Readable i operation) s n h =
-      either (λ (d : Done). T d.slots.promises) (has_readable i s) (put_readable i s (readable_operation i operation (readable_acts i s))) (nothing s)
-      (λ e. readable-does (λ (x : Out). T x.promises) i (record {
-        settle = λ x p o h. does.settle x.promises p o h;
-        pull = λ x h. h;
-        cancel = λ x r p h. h;
-        chunk = λ x r v h. h;
-        close = λ x r h. h;
-        error = λ x r e h. h;
-      }) operation (readable_acts i s) h) (λ e. h)
+  row-plainly (Readable i operation) s n h = source-out (λ (x : Out). T x.promises) i (settles i) operation s h
+  row-plainly (Byte i operation) s n h = byte-out (λ (x : Out). T x.promises) i (settles i) (λ x q b h. h) operation s h
   row-plainly (Writable i operation) s n h =
       either (λ (d : Done). T d.slots.promises) (has_writable i s) (put_writable i s (writable_operation i operation (writable_acts i s))) (nothing s)
       (λ e. writable-does (λ (x : Out). T x.promises) i (record {
@@ -90,9 +95,11 @@ module _ (T : Table → Type 0) (does : Plainly T) where
   row-plainly (StartAlgorithm i step Later) s n h = does.fresh s.promises h
   row-plainly (ChunkSteps i (Promise p) v) s n h = does.answer s.promises p (Given v) refl h
   row-plainly (CloseSteps i (Promise p)) s n h = does.answer s.promises p (Finished (PlainValue Undefined)) refl h
+  row-plainly (CloseStepsWith i (Promise p) b) s n h = does.answer s.promises p (Finished (Bytes b)) refl h
   row-plainly (ErrorSteps i (Promise p) e) s n h = does.settle s.promises p (Err e) h
   row-plainly (ChunkSteps i (PipeRequest p) v) s n h = h
   row-plainly (CloseSteps i (PipeRequest p)) s n h = h
+  row-plainly (CloseStepsWith i (PipeRequest p) b) s n h = h
   row-plainly (ErrorSteps i (PipeRequest p) e) s n h = h
   row-plainly (Queue m) s n h = does.micro s.promises m h
   row-plainly (Give gift u) s n h = absurd n
@@ -125,9 +132,8 @@ host_added _ s = []
 -- an effect adds the promise of its host call, and leaves the others
 pub row-hosts : (e : Effect) (s : Slots) → (row e s).slots.hosts ≡ s.hosts ++ host_added e s
 unfolding row call_host
-row-hosts (Readable i operation) s =
-    either (λ (d : Done). d.slots.hosts ≡ s.hosts ++ []) (has_readable i s) (put_readable i s (readable_operation i operation (readable_acts i s))) (nothing s)
-    (λ e. sym (append-nil s.hosts)) (λ e. sym (append-nil s.hosts))
+row-hosts (Readable i operation) s = source-leaves (λ z. z.hosts) (λ z x o. refl) i operation s ∙ sym (append-nil s.hosts)
+row-hosts (Byte i operation) s = byte-leaves (λ z. z.hosts) (λ z x o. refl) i operation s ∙ sym (append-nil s.hosts)
 row-hosts (Writable i operation) s =
     either (λ (d : Done). d.slots.hosts ≡ s.hosts ++ []) (has_writable i s) (put_writable i s (writable_operation i operation (writable_acts i s))) (nothing s)
     (λ e. sym (append-nil s.hosts)) (λ e. sym (append-nil s.hosts))
@@ -138,9 +144,11 @@ row-hosts (StartAlgorithm i step Now) s = sym (append-nil s.hosts)
 row-hosts (StartAlgorithm i step Later) s = sym (append-nil s.hosts)
 row-hosts (ChunkSteps i (Promise p) v) s = sym (append-nil s.hosts)
 row-hosts (CloseSteps i (Promise p)) s = sym (append-nil s.hosts)
+row-hosts (CloseStepsWith i (Promise p) b) s = sym (append-nil s.hosts)
 row-hosts (ErrorSteps i (Promise p) e) s = sym (append-nil s.hosts)
 row-hosts (ChunkSteps i (PipeRequest p) v) s = sym (append-nil s.hosts)
 row-hosts (CloseSteps i (PipeRequest p)) s = sym (append-nil s.hosts)
+row-hosts (CloseStepsWith i (PipeRequest p) b) s = sym (append-nil s.hosts)
 row-hosts (ErrorSteps i (PipeRequest p) e) s = sym (append-nil s.hosts)
 row-hosts (CallHost call u) s = refl
 row-hosts _ s = sym (append-nil s.hosts)

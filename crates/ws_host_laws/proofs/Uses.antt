@@ -26,6 +26,7 @@ use Rattle.ws_laws.proofs.Tables.{same_id}
 use Rattle.ws_host_laws.proofs.Carried.{Carries, Uses, Own, row-uses}
 use Rattle.ws_host_laws.proofs.Reactions.{JobFits}
 use Rattle.ws_host_laws.proofs.Sourced as sourced
+use Rattle.ws_steps.specs.declared.effects.Effect.TheVariants.{Byte, CloseStepsWith}
 
 -- the reaction of stream j to its close algorithm
 abbrev pub closes_it : StreamId → Step → Bool
@@ -131,6 +132,8 @@ module _ (j : StreamId) where
     pub caused-fit : (e : Effect) (s : Slots) → owner_at j s ≡ Host → Fits j V e → Each (Fits j V) (row e s).caused
     unfolding row
     caused-fit (Readable i operation) s h f = row-causes (Fits j V) (Readable i operation) s (record { pull = tt; cancel = λ r q. tt; chunk = λ r v. tt; close = λ r. tt; error = λ r e. tt })
+    caused-fit (Byte i operation) s h f =
+        row-causes (Fits j V) (Byte i operation) s (record { readable = record { pull = tt; cancel = λ r q. tt; chunk = λ r v. tt; close = λ r. tt; error = λ r e. tt }; close_with = λ r b. tt })
     caused-fit (Writable i operation) s h f = row-causes (Fits j V) (Writable i operation) s (record { write = tt; close = tt; abort = λ r q. tt; hand_on = λ v e. no_true e; take = λ v t d. tt })
     caused-fit (Pipe p operation) s h f = row-causes (Fits j V) (Pipe p operation) s (pipe-fits p)
     caused-fit (Signal a operation) s h f = row-causes (Fits j V) (Signal a operation) s (signal-fits operation)
@@ -143,6 +146,7 @@ module _ (j : StreamId) where
     caused-fit (AbortAlgorithm i r p) s h f = abort-fits i r (owner_at i s) _ _ refl
     caused-fit (ChunkSteps i request v) s h f = row-causes (Fits j V) (ChunkSteps i request v) s (chunk-fits v request)
     caused-fit (CloseSteps i request) s h f = row-causes (Fits j V) (CloseSteps i request) s (end-fits request)
+    caused-fit (CloseStepsWith i request b) s h f = row-causes (Fits j V) (CloseStepsWith i request b) s (end-fits request)
     caused-fit (ErrorSteps i request e) s h f = row-causes (Fits j V) (ErrorSteps i request e) s (end-fits request)
     caused-fit _ s h f = tt
 

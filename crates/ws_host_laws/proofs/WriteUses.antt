@@ -37,6 +37,7 @@ use Rattle.ws_laws.proofs.Tables.{either, same_id, writable_acts}
 use Rattle.ws_laws.proofs.WritableDoes.{IsHandOn, others-do}
 use Rattle.ws_writable_laws.proofs.Shape.{all, all-append}
 use Rattle.ws_host_laws.specs.HostCalls.{effect_called, write_of, writes_of}
+use Rattle.ws_steps.specs.declared.effects.Effect.TheVariants.{Byte, CloseStepsWith}
 
 -- the reaction of stream j to its write algorithm
 abbrev pub writes_it : StreamId → Step → Bool
@@ -143,6 +144,8 @@ module _ (j : StreamId) where
     pub caused-fit : (e : Effect) (s : Slots) → owner_at j s ≡ Host → NoHalf j s → Fits j V e → Each (Fits j V) (row e s).caused
     unfolding row
     caused-fit (Readable i operation) s h none f = row-causes (Fits j V) (Readable i operation) s (record { pull = tt; cancel = λ r q. tt; chunk = λ r v. tt; close = λ r. tt; error = λ r e. tt })
+    caused-fit (Byte i operation) s h none f =
+        row-causes (Fits j V) (Byte i operation) s (record { readable = record { pull = tt; cancel = λ r q. tt; chunk = λ r v. tt; close = λ r. tt; error = λ r e. tt }; close_with = λ r b. tt })
     caused-fit (Writable i operation) s h none f = row-causes (Fits j V) (Writable i operation) s (record { write = tt; close = tt; abort = λ r q. tt; hand_on = λ v. refl; take = λ v t d. tt })
     caused-fit (Pipe p operation) s h none f = row-causes (Fits j V) (Pipe p operation) s (pipe-fits p)
     caused-fit (Signal a operation) s h none f = row-causes (Fits j V) (Signal a operation) s (signal-fits operation)
@@ -156,6 +159,7 @@ module _ (j : StreamId) where
     caused-fit (AbortAlgorithm i r p) s h none f = abort-fits i r (owner_at i s) _ _ refl
     caused-fit (ChunkSteps i request v) s h none f = row-causes (Fits j V) (ChunkSteps i request v) s (chunk-fits v request)
     caused-fit (CloseSteps i request) s h none f = row-causes (Fits j V) (CloseSteps i request) s (end-fits request)
+    caused-fit (CloseStepsWith i request b) s h none f = row-causes (Fits j V) (CloseStepsWith i request b) s (end-fits request)
     caused-fit (ErrorSteps i request e) s h none f = row-causes (Fits j V) (ErrorSteps i request e) s (end-fits request)
     caused-fit _ s h none f = tt
 
@@ -249,6 +253,9 @@ module _ (j : StreamId) where
   pub row-called : (V : Type 0) (e : Effect) (s : Slots) → Fits j V e → length (writes_of j (effect_called e s)) + all (pends j) (row e s).caused ≡ pends j e + length (effect_writes j e s).acted
   unfolding row hand_on
   row-called V (Readable i operation) s f = zero_called 0 _ 0 0 refl (none_pend _ (row-causes NoPend (Readable i operation) s (record { pull = refl; cancel = λ r q. refl; chunk = λ r v. refl; close = λ r. refl; error = λ r e. refl }))) refl refl
+  row-called V (Byte i operation) s f =
+      zero_called 0 _ 0 0 refl
+      (none_pend _ (row-causes NoPend (Byte i operation) s (record { readable = record { pull = refl; cancel = λ r q. refl; chunk = λ r v. refl; close = λ r. refl; error = λ r e. refl }; close_with = λ r b. refl }))) refl refl
   row-called V (Writable i (HandOn ToHost)) s f = grind (arith, append-nil)
   row-called V (Writable i (HandOn (ToTransform t d))) s f = grind (arith, append-nil, f)
   row-called V (Writable i operation) s f = zero_called 0 _ 0 _ refl (others-pend i operation s (λ u. u)) refl (not_acted i operation s (λ u. u))
@@ -263,6 +270,7 @@ module _ (j : StreamId) where
   row-called V (AbortAlgorithm i r p) s f = zero_called 0 _ 0 0 refl (none_pend _ (abort-pends i r _ (owner_at i s))) refl refl
   row-called V (ChunkSteps i request v) s f = zero_called 0 _ 0 0 refl (none_pend _ (row-causes NoPend (ChunkSteps i request v) s (chunk-pends v request))) refl refl
   row-called V (CloseSteps i request) s f = zero_called 0 _ 0 0 refl (none_pend _ (row-causes NoPend (CloseSteps i request) s (end-pends request))) refl refl
+  row-called V (CloseStepsWith i request b) s f = zero_called 0 _ 0 0 refl (none_pend _ (row-causes NoPend (CloseStepsWith i request b) s (end-pends request))) refl refl
   row-called V (ErrorSteps i request e) s f = zero_called 0 _ 0 0 refl (none_pend _ (row-causes NoPend (ErrorSteps i request e) s (end-pends request))) refl refl
   row-called V (CallHost call u) s f = grind (arith, append-nil)
   row-called V _ s f = refl

@@ -137,6 +137,8 @@ module _ (j : StreamId) where
     pipe = λ z source dest prevent signal promise m. m;
     signal = λ z m. m;
     transform = λ z kind half other change m. m;
+    bytes = λ z mark auto m. m;
+    byob_requests = λ z hs m. m;
     readable = λ z owner mark size m. m;
     writable = λ z owner mark size m. m;
   }) c s k

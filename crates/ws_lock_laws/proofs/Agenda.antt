@@ -1,8 +1,10 @@
 -- What stands on the agenda of the lock of a stream: operations that take it, and that let go of it.
 use Rattle.std.proofs.Common.{◌≡◌, ℕ, List, [], ◌∷◌, refl, arith}
 use Rattle.ws_value.specs.declared.ids.StreamId.{StreamId}
+use Rattle.ws_steps.specs.declared.byte.ByteOperation.{ByteOperation}
+use Rattle.ws_steps.specs.declared.byte.ByteOperation.TheVariants.{InitializeByobReader}
 use Rattle.ws_steps.specs.declared.effects.Effect.{Effect}
-use Rattle.ws_steps.specs.declared.effects.Effect.TheVariants.{Readable as OnReadable, Writable as OnWritable}
+use Rattle.ws_steps.specs.declared.effects.Effect.TheVariants.{Readable as OnReadable, Byte, Writable as OnWritable}
 use Rattle.ws_steps.specs.declared.readable.ReadableOperation.{ReadableOperation}
 use Rattle.ws_steps.specs.declared.readable.ReadableOperation.TheVariants.{InitializeReader, ReleaseReader}
 use Rattle.ws_steps.specs.declared.writable.WritableOperation.{WritableOperation}
@@ -19,12 +21,17 @@ abbrev pub reader_takes : StreamId → StreamId → ReadableOperation → ℕ
 reader_takes i j (InitializeReader closed) = one_if (is_same i j)
 reader_takes i j _ = 0
 
+abbrev pub byob_takes : StreamId → StreamId → ByteOperation → ℕ
+byob_takes i j (InitializeByobReader closed) = one_if (is_same i j)
+byob_takes i j _ = 0
+
 abbrev pub writer_takes : StreamId → StreamId → WritableOperation → ℕ
 writer_takes i j (SetUpWriter w) = one_if (is_same i j)
 writer_takes i j _ = 0
 
 abbrev pub takes : Side → StreamId → Effect → ℕ
 takes Reading i (OnReadable j operation) = reader_takes i j operation
+takes Reading i (Byte j operation) = byob_takes i j operation
 takes Reading i _ = 0
 takes Writing i (OnWritable j operation) = writer_takes i j operation
 takes Writing i _ = 0
@@ -49,6 +56,7 @@ goes Writing i _ = 0
 
 abbrev pub IsNoTake : Effect → Type 0
 IsNoTake (OnReadable j (InitializeReader closed)) = ⊥
+IsNoTake (Byte j (InitializeByobReader closed)) = ⊥
 IsNoTake (OnWritable j (SetUpWriter w)) = ⊥
 IsNoTake _ = Unit {0}
 
@@ -64,6 +72,7 @@ takes_none-all d i (e ∷ es) n = let k = takes_none d i e n.0 in let rest = tak
 abbrev pub IsCalm : Effect → Type 0
 IsCalm (OnReadable j (InitializeReader closed)) = ⊥
 IsCalm (OnReadable j ReleaseReader) = ⊥
+IsCalm (Byte j (InitializeByobReader closed)) = ⊥
 IsCalm (OnWritable j (SetUpWriter w)) = ⊥
 IsCalm (OnWritable j ReleaseWriter) = ⊥
 IsCalm _ = Unit {0}
@@ -82,6 +91,7 @@ goes_none-all d i (e ∷ es) n = let k = goes_none d i e n.0 in let rest = goes_
 abbrev pub TakesFirst : List Effect → Type 0
 TakesFirst [] = Unit {0}
 TakesFirst (OnReadable j (InitializeReader closed) ∷ es) = TakesFirst es
+TakesFirst (Byte j (InitializeByobReader closed) ∷ es) = TakesFirst es
 TakesFirst (OnWritable j (SetUpWriter w) ∷ es) = TakesFirst es
 TakesFirst (e ∷ es) = Each IsNoTake es
 

@@ -1,38 +1,43 @@
 -- A stream without a reader has no read requests, and one that a pipe has none but the pipe's: each effect keeps that. A read stands first
 -- on the agenda, and is of who has the stream.
-use Rattle.std.proofs.Common.{◌≡◌, ℕ, ◌+◌, ◌≤◌, zero, suc, Bool, true, false, nat_eq, is_some, if◌then◌else◌, List, [], ◌∷◌, ◌++◌, Option, Some, None, slice_get, slice_set, refl, sym, ap, subst, ◌∙◌, arith}
+use Rattle.std.proofs.Common.{◌≡◌, ℕ, ◌+◌, ◌≤◌, zero, suc, Bool, true, false, nat_eq, is_some, if◌then◌else◌, List, [], ◌∷◌, ◌++◌, length, ◌&&◌, Option, Some, None, slice_get, slice_set, refl, sym, ap, subst, ◌∙◌, arith}
 use Rattle.ws_value.specs.declared.{ids.PipeId.{PipeId}, ids.StreamId.{StreamId}}
-use Rattle.ws_steps.specs.declared.effects.{Effect.{Effect}, Effect.TheVariants.{Readable as OnReadable, Writable as OnWritable, Pipe as OnPipe}}
+use Rattle.ws_steps.specs.declared.byte.{ByteOperation.{ByteOperation}, ByteOperation.TheVariants.{InitializeByobReader, PullInto, Respond}, ReaderKind.TheVariants.{Default, Byob}}
+use Rattle.ws_steps.specs.declared.effects.{Effect.{Effect}, Effect.TheVariants.{Readable as OnReadable, Byte, Writable as OnWritable, Pipe as OnPipe}}
 use Rattle.ws_steps.specs.declared.pipes.{Phase.TheVariants.{Flowing}, PipeOperation.{PipeOperation}}
 use Rattle.ws_steps.specs.declared.readable.{ReadRequest.{ReadRequest}, ReadRequest.TheVariants.{Promise, Pipe as PipeRequest}, ReadableOperation.{ReadableOperation}, ReadableOperation.TheVariants.{InitializeReader, ReleaseReader, Read}}
 use Rattle.ws_steps.specs.declared.transform.TransformId.{TransformId}
 use Rattle.ws_steps.specs.declared.writable.WritableOperation.{WritableOperation}
 use Rattle.ws_steps.specs.Histories.{is_same}
-use Rattle.ws_steps.specs.Operations.{readable_operation, writable_operation, pipe_operation}
+use Rattle.ws_steps.specs.Operations.{readable_operation, byte_readable_operation, byte_operation, writable_operation, pipe_operation}
+use Rattle.ws_steps.specs.Bytes as byte
 use Rattle.ws_steps.specs.Pipes as pipe
 use Rattle.ws_steps.specs.Readable as readable
-use Rattle.ws_steps.specs.Slots.{Slots, Stream, ReadableStream, WritableStream, Done, ends_at, has_readable, has_writable, readable_at, on_readable, on_writable, on_pipe_at, as_pipe}
-use Rattle.ws_steps.specs.Turns.{row}
+use Rattle.ws_steps.specs.Slots.{Slots, Stream, ReadableStream, ByteStream, WritableStream, Done, ends_at, has_readable, has_byte, has_writable, readable_at, byte_at, on_readable, on_byte, on_writable, on_pipe_at, as_pipe}
+use Rattle.ws_steps.specs.Turns.{row, on_source}
 use Rattle.ws_steps.proofs.PromiseLaws.{slice_get-set_other}
 use Rattle.ws_laws.proofs.Lists.{Each, each-append}
 use Rattle.ws_laws.proofs.PipeDoes.{pipe-causes}
 use Rattle.ws_laws.proofs.Rows.{Causes, IsApart, IsNoPipe, row-causes, row-pipes, row-streams}
-use Rattle.ws_laws.proofs.Tables.{is_same-refl, same_id, eq_numbers, unequal_numbers, readable_acts, readable_there, on_readable-same, on_readable-other, on_writable-same, on_writable-other}
+use Rattle.ws_laws.proofs.Tables.{either, is_same-refl, same_id, eq_numbers, unequal_numbers, readable_acts, byte_acts, readable_there, byte_there, on_readable-same, on_byte-same, on_byte-other, on_source-other, on_writable-same, on_writable-other}
 use Rattle.ws_laws.proofs.TransformDoes.{TransformCauses}
 use Rattle.ws_read_laws.proofs.Line.{operation-reader}
 use Rattle.ws_pipe_laws.specs.PipeMoves.{starting}
-use Rattle.ws_pipe_laws.specs.PipeReads.{one_if}
+use Rattle.ws_pipe_laws.specs.PipeReads.{one_if, is_of}
 use Rattle.ws_lock_laws.specs.Locks.{Reading, has_lock, holders, holds, in_pipes, is_locked}
 use Rattle.ws_lock_laws.proofs.Agenda.{IsNoTake, TakesFirst, takes_none, takes_none-all, takes_behind}
+use Rattle.ws_lock_laws.proofs.ByteReaders.{Look, look, byte_readable-reader, byte-reader}
 use Rattle.ws_lock_laws.proofs.Holding.{pipes-there, pipes-two}
 use Rattle.ws_lock_laws.proofs.PipeReads.{IsNoRead, NoRead, OneRead, Reads, operation-reads}
-use Rattle.ws_lock_laws.proofs.Requests.{count, asked, operation-few, release-none}
+use Rattle.ws_lock_laws.proofs.ReaderKinds.{defaults, byobs, holders-split, HasKind, byte_look, KindHeld, OfKind, MeantAt}
+use Rattle.ws_lock_laws.proofs.Requests.{count, asked, asked_into, operation-few, release-none, byte_readable-few, byte-few, byte_release-none}
 use Rattle.ws_lock_laws.proofs.Rows.{is_there, Balanced}
 
 -- the read requests of a stream
 abbrev pub requests_at : Option Stream → List ReadRequest
 requests_at None = []
 requests_at (Some (ReadableStream r)) = r.requests
+requests_at (Some (ByteStream b)) = b.stream.requests
 requests_at (Some (WritableStream w)) = []
 
 -- each request, and each that isn't the pipe's
@@ -54,10 +59,23 @@ abbrev pub ReadsFirst : List Effect → Type 0
 ReadsFirst [] = Unit {0}
 ReadsFirst (e ∷ es) = Each IsNoRead es
 
--- where the stream is had, and where a pipe has it, it is the pipe's
+-- where a pipe has the stream, the request is the pipe's
+abbrev pub IsOwn : StreamId → Slots → ReadRequest → Type 0
+IsOwn i s request = (p : PipeId) → holds Reading i (as_pipe (slice_get s.pipes p.0)) ≡ true → other p request ≡ 0
+
+-- a read into a room is asked for a promise, by a BYOB reader, and the room has room for the least
+pub record AsksInto (i : StreamId) (room : List ℕ) (element minimum : ℕ) (request : ReadRequest) (s : Slots) : Type 0 where
+  pub some : 1 ≤ byobs i s
+  pub own : IsOwn i s request
+  pub promised : (p : PipeId) → is_of p request ≡ 0
+  pub least : byte.is_least (length room) element minimum ≡ true
+
+-- a read is asked by who has the stream, and a response doesn't throw
 abbrev pub Asks : Slots → List Effect → Type 0
 Asks s [] = Unit {0}
-Asks s (OnReadable i (Read request) ∷ es) = (1 ≤ holders Reading i s) × ((p : PipeId) → holds Reading i (as_pipe (slice_get s.pipes p.0)) ≡ true → other p request ≡ 0)
+Asks s (OnReadable i (Read request) ∷ es) = (1 ≤ defaults i s) × IsOwn i s request
+Asks s (Byte i (PullInto room element minimum request) ∷ es) = AsksInto i room element minimum request s
+Asks s (Byte i (Respond b) ∷ es) = byte.may_respond (length b) (byte_at i s) ≡ true
 Asks s (e ∷ es) = Unit {0}
 
 -- where no read stands
@@ -114,7 +132,20 @@ asked-none s i (Read request) es p asks h = asks.1 p h
 asked-none s i _ es p asks h = refl
 
 read-has : (s : Slots) (i : StreamId) (operation : ReadableOperation) (es : List Effect) → Asks s (OnReadable i operation ∷ es) → (request : ReadRequest) → operation ≡ Read request → 1 ≤ holders Reading i s
-read-has s i operation es asks request e = (subst (λ (z : ReadableOperation). Asks s (OnReadable i z ∷ es)) e asks).0
+read-has s i operation es asks request e = let some = (subst (λ (z : ReadableOperation). Asks s (OnReadable i z ∷ es)) e asks).0 in let split = holders-split i s in omega (arith, some, split)
+
+-- and of an operation of a byte controller
+
+into-asks : (s : Slots) (i : StreamId) (operation : ByteOperation) (es : List Effect) (p : PipeId) → Asks s (Byte i operation ∷ es) → holds Reading i (as_pipe (slice_get s.pipes p.0)) ≡ true → asked_into (other p) i operation ≡ 0
+into-asks s i (PullInto room element minimum request) es p asks h = asks.own p h
+into-asks s i _ es p asks h = refl
+
+into-locked : (s : Slots) (i : StreamId) (operation : ByteOperation) (es : List Effect) → TakesFirst (Byte i operation ∷ es) → Balanced Reading i s (Byte i operation ∷ es) → Asks s (Byte i operation ∷ es)
+    → (room : List ℕ) (element minimum : ℕ) (request : ReadRequest) → operation ≡ PullInto room element minimum request → is_locked Reading i s ≡ true
+into-locked s i operation es t k asks room element minimum request e =
+    let some = (subst (λ (z : ByteOperation). Asks s (Byte i z ∷ es)) e asks).some in
+    let split = holders-split i s in
+    has-locked i s (Byte i (PullInto room element minimum request)) es tt (subst (λ (z : ByteOperation). TakesFirst (Byte i z ∷ es)) e t) (subst (λ (z : ByteOperation). Balanced Reading i s (Byte i z ∷ es)) e k) (omega (arith, some, split))
 
 pub read-locked : (s : Slots) (i : StreamId) (operation : ReadableOperation) (es : List Effect) → TakesFirst (OnReadable i operation ∷ es) → Balanced Reading i s (OnReadable i operation ∷ es) → Asks s (OnReadable i operation ∷ es)
     → (request : ReadRequest) → operation ≡ Read request → is_locked Reading i s ≡ true
@@ -122,9 +153,9 @@ read-locked s i operation es t k asks request e =
     has-locked i s (OnReadable i (Read request)) es tt (subst (λ (z : ReadableOperation). TakesFirst (OnReadable i z ∷ es)) e t) (subst (λ (z : ReadableOperation). Balanced Reading i s (OnReadable i z ∷ es)) e k)
     (read-has s i operation es asks request e)
 
-here-queued : (s : Slots) (i : StreamId) (operation : ReadableOperation) (es : List Effect) → TakesFirst (OnReadable i operation ∷ es) → Balanced Reading i s (OnReadable i operation ∷ es) → Asks s (OnReadable i operation ∷ es)
+default-queued : (s : Slots) (i : StreamId) (operation : ReadableOperation) (es : List Effect) → TakesFirst (OnReadable i operation ∷ es) → Balanced Reading i s (OnReadable i operation ∷ es) → Asks s (OnReadable i operation ∷ es)
     → Queued i (slice_get s.streams i.0) s.pipes → Queued i (slice_get (on_readable (readable_operation i operation) i s).slots.streams i.0) s.pipes
-here-queued s i operation es t k asks q = by (has_readable i s) refl
+default-queued s i operation es t k asks q = by (has_readable i s) refl
   where
     by : (there : Bool) → there ≡ has_readable i s → Queued i (slice_get (on_readable (readable_operation i operation) i s).slots.streams i.0) s.pipes
     by false e = rw (← e) q
@@ -137,12 +168,81 @@ here-queued s i operation es t k asks q = by (has_readable i s) refl
           own = λ p h. own-after i operation (readable_acts i s) p (asked-none s i operation es p asks h) (z.own p h);
         })
 
+-- of a byte stream
+
+free-bytes : (i : StreamId) (operation : ReadableOperation) (a : byte.Acts) → a.out.effects ≡ [] → ((request : ReadRequest) → operation ≡ Read request → is_some a.slots.stream.reader ≡ true)
+    → (is_some a.slots.stream.reader ≡ false → count any a.slots.stream.requests ≤ 0)
+    → is_some (byte_readable_operation i operation a).slots.stream.reader ≡ false → count any (byte_readable_operation i operation a).slots.stream.requests ≤ 0
+free-bytes i (InitializeReader closed) a out asks free z = let now = byte_readable-reader i (InitializeReader closed) a in absurd (cc)
+free-bytes i ReleaseReader a out asks free z = by (is_some a.slots.stream.reader) refl
+  where
+    by : (l : Bool) → l ≡ is_some a.slots.stream.reader → count any (byte_readable_operation i ReleaseReader a).slots.stream.requests ≤ 0
+    by true e = let n = byte_release-none any i a (sym e) in omega (arith, n)
+    by false e = let n = byte_readable-few any i ReleaseReader a out in let f = free (sym e) in omega (arith, n, f)
+free-bytes i (Read request) a out asks free z = let now = byte_readable-reader i (Read request) a in let there = asks request refl in absurd (cc)
+free-bytes i operation a out asks free z =
+    let now = byte_readable-reader i operation a in
+    let few = byte_readable-few any i operation a out in
+    let before = free (sym now ∙ z) in omega (arith, few, before)
+
+free-own : (i : StreamId) (operation : ByteOperation) (a : byte.Acts) → a.out.effects ≡ []
+    → ((room : List ℕ) (element minimum : ℕ) (request : ReadRequest) → operation ≡ PullInto room element minimum request → is_some a.slots.stream.reader ≡ true)
+    → (is_some a.slots.stream.reader ≡ false → count any a.slots.stream.requests ≤ 0)
+    → is_some (byte_operation i operation a).slots.stream.reader ≡ false → count any (byte_operation i operation a).slots.stream.requests ≤ 0
+free-own i (InitializeByobReader closed) a out asks free z = let now = byte-reader i (InitializeByobReader closed) a in absurd (cc)
+free-own i (PullInto room element minimum request) a out asks free z =
+    let now = byte-reader i (PullInto room element minimum request) a in let there = asks room element minimum request refl in absurd (cc)
+free-own i operation a out asks free z =
+    let now = byte-reader i operation a in
+    let few = byte-few any i operation a out in
+    let before = free (sym now ∙ z) in omega (arith, few, before)
+
+source-queued : (s : Slots) (i : StreamId) (operation : ReadableOperation) (es : List Effect) → TakesFirst (OnReadable i operation ∷ es) → Balanced Reading i s (OnReadable i operation ∷ es) → Asks s (OnReadable i operation ∷ es)
+    → has_byte i s ≡ true → Queued i (slice_get s.streams i.0) s.pipes → Queued i (slice_get (on_byte (byte_readable_operation i operation) i s).slots.streams i.0) s.pipes
+source-queued s i operation es t k asks there q =
+    let now = on_byte-same (byte_readable_operation i operation) i s there in
+    let before = byte_there (slice_get s.streams i.0) there in
+    let z : Queued i (Some (ByteStream (byte_at i s))) s.pipes = subst (λ (o : Option Stream). Queued i o s.pipes) before q in
+    rw now (record {
+      free = λ f. free-bytes i operation (byte_acts i s) refl (λ request r. sym (ap (has_lock Reading) before) ∙ read-locked s i operation es t k asks request r) z.free f;
+      own = λ p h. let n = byte_readable-few (other p) i operation (byte_acts i s) refl in let none = asked-none s i operation es p asks h in let few = z.own p h in omega (arith, n, none, few);
+    })
+
+own-queued : (s : Slots) (i : StreamId) (operation : ByteOperation) (es : List Effect) → TakesFirst (Byte i operation ∷ es) → Balanced Reading i s (Byte i operation ∷ es) → Asks s (Byte i operation ∷ es)
+    → Queued i (slice_get s.streams i.0) s.pipes → Queued i (slice_get (on_byte (byte_operation i operation) i s).slots.streams i.0) s.pipes
+own-queued s i operation es t k asks q = by (has_byte i s) refl
+  where
+    by : (there : Bool) → there ≡ has_byte i s → Queued i (slice_get (on_byte (byte_operation i operation) i s).slots.streams i.0) s.pipes
+    by false e = rw (← e) q
+    by true e =
+        let now = on_byte-same (byte_operation i operation) i s (sym e) in
+        let before = byte_there (slice_get s.streams i.0) (sym e) in
+        let z : Queued i (Some (ByteStream (byte_at i s))) s.pipes = subst (λ (o : Option Stream). Queued i o s.pipes) before q in
+        rw now (record {
+          free = λ f. free-own i operation (byte_acts i s) refl (λ room element minimum request r. sym (ap (has_lock Reading) before) ∙ into-locked s i operation es t k asks room element minimum request r) z.free f;
+          own = λ p h. let n = byte-few (other p) i operation (byte_acts i s) refl in let none = into-asks s i operation es p asks h in let few = z.own p h in omega (arith, n, none, few);
+        })
+
+byte-queued : (s : Slots) (i j : StreamId) (operation : ByteOperation) (es : List Effect) (same : Bool) → same ≡ is_same i j → TakesFirst (Byte j operation ∷ es) → Balanced Reading i s (Byte j operation ∷ es) → Asks s (Byte j operation ∷ es)
+    → Queued i (slice_get s.streams i.0) s.pipes → Queued i (slice_get (on_byte (byte_operation j operation) j s).slots.streams i.0) s.pipes
+byte-queued s i j operation es false n t k asks q = rw (on_byte-other (byte_operation j operation) j s i (sym n)) q
+byte-queued s i j operation es true e t k asks q =
+    let is : i ≡ j = same_id i j (sym e) in
+    subst (λ (z : StreamId). TakesFirst (Byte z operation ∷ es) → Balanced Reading i s (Byte z operation ∷ es) → Asks s (Byte z operation ∷ es) → Queued i (slice_get (on_byte (byte_operation z operation) z s).slots.streams i.0) s.pipes) is
+    (λ t k asks. own-queued s i operation es t k asks q) t k asks
+
+here-queued : (s : Slots) (i : StreamId) (operation : ReadableOperation) (es : List Effect) → TakesFirst (OnReadable i operation ∷ es) → Balanced Reading i s (OnReadable i operation ∷ es) → Asks s (OnReadable i operation ∷ es)
+    → Queued i (slice_get s.streams i.0) s.pipes → Queued i (slice_get (on_source operation i s).slots.streams i.0) s.pipes
+here-queued s i operation es t k asks q =
+    either (λ (d : Done). Queued i (slice_get d.slots.streams i.0) s.pipes) (has_byte i s) (on_byte (byte_readable_operation i operation) i s) (on_readable (readable_operation i operation) i s)
+    (λ there. source-queued s i operation es t k asks there q) (λ none. default-queued s i operation es t k asks q)
+
 readable-queued : (s : Slots) (i j : StreamId) (operation : ReadableOperation) (es : List Effect) (same : Bool) → same ≡ is_same i j → TakesFirst (OnReadable j operation ∷ es) → Balanced Reading i s (OnReadable j operation ∷ es) → Asks s (OnReadable j operation ∷ es)
-    → Queued i (slice_get s.streams i.0) s.pipes → Queued i (slice_get (on_readable (readable_operation j operation) j s).slots.streams i.0) s.pipes
-readable-queued s i j operation es false n t k asks q = rw (on_readable-other (readable_operation j operation) j s i (sym n)) q
+    → Queued i (slice_get s.streams i.0) s.pipes → Queued i (slice_get (on_source operation j s).slots.streams i.0) s.pipes
+readable-queued s i j operation es false n t k asks q = rw (on_source-other operation j s i (sym n)) q
 readable-queued s i j operation es true e t k asks q =
     let is : i ≡ j = same_id i j (sym e) in
-    subst (λ (z : StreamId). TakesFirst (OnReadable z operation ∷ es) → Balanced Reading i s (OnReadable z operation ∷ es) → Asks s (OnReadable z operation ∷ es) → Queued i (slice_get (on_readable (readable_operation z operation) z s).slots.streams i.0) s.pipes) is
+    subst (λ (z : StreamId). TakesFirst (OnReadable z operation ∷ es) → Balanced Reading i s (OnReadable z operation ∷ es) → Asks s (OnReadable z operation ∷ es) → Queued i (slice_get (on_source operation z s).slots.streams i.0) s.pipes) is
     (λ t k asks. here-queued s i operation es t k asks q) t k asks
 
 writable-queued : (s : Slots) (i j : StreamId) (operation : WritableOperation) (same : Bool) → same ≡ is_same i j → Queued i (slice_get s.streams i.0) s.pipes
@@ -251,6 +351,7 @@ pub row-queued : (s : Slots) (e : Effect) (es : List Effect) → TakesFirst (e �
     → EachQueued s → EachQueued (row e s).slots
 unfolding row
 row-queued s (OnReadable j operation) es t b asks before k i = rw (row-pipes (OnReadable j operation) s tt) (readable-queued s i j operation es (is_same i j) refl t (b i) asks (k i))
+row-queued s (Byte j operation) es t b asks before k i = rw (row-pipes (Byte j operation) s tt) (byte-queued s i j operation es (is_same i j) refl t (b i) asks (k i))
 row-queued s (OnWritable j operation) es t b asks before k i = rw (row-pipes (OnWritable j operation) s tt) (writable-queued s i j operation (is_same i j) refl (k i))
 row-queued s (OnPipe p operation) es t b asks before k i = by (slice_get s.pipes p.0) refl
   where
@@ -258,3 +359,41 @@ row-queued s (OnPipe p operation) es t b asks before k i = by (slice_get s.pipes
     by None e = k i
     by (Some x) e = pipe-queued i (slice_get s.streams i.0) s.pipes p x (pipe_operation p (ends_at x s) operation (starting x s.promises)).slots e (before p operation refl i x e) (k i)
 row-queued s e es t b asks before k i = apart-queued s e tt tt k i
+
+-- what is asked is meant
+
+read_meant : (b : byte.Slots) → is_some b.stream.reader ≡ true → b.reader_kind ≡ Default → byte.may_read b ≡ true
+read_meant b l k = grind (arith, l, k)
+
+into_meant : (b : byte.Slots) → is_some b.stream.reader ≡ true → b.reader_kind ≡ Byob → byte.may_pull_into b ≡ true
+into_meant b l k = grind (arith, l, k)
+
+module _ (i : StreamId) (s : Slots) (there : has_byte i s ≡ true) where
+  before_look : slice_get s.streams i.0 ≡ Some (ByteStream (byte_at i s))
+  before_look = byte_there (slice_get s.streams i.0) there
+
+  kind-here : (es : List Effect) → OfKind i s es → HasKind (look (byte_at i s)) (byobs i s) (defaults i s)
+  kind-here es k = subst (λ (o : Option Look). KindHeld o (byobs i s) (defaults i s)) (ap byte_look before_look) k.kind
+
+  locked-here : is_locked Reading i s ≡ true → is_some (byte_at i s).stream.reader ≡ true
+  locked-here l = sym (ap (has_lock Reading) before_look) ∙ l
+
+pub read-meant : (i : StreamId) (s : Slots) (q : ReadRequest) (es : List Effect) → TakesFirst (OnReadable i (Read q) ∷ es) → Balanced Reading i s (OnReadable i (Read q) ∷ es) → OfKind i s (OnReadable i (Read q) ∷ es) → Asks s (OnReadable i (Read q) ∷ es)
+    → has_byte i s ≡ true → byte.may_read (byte_at i s) ≡ true
+read-meant i s q es t b k asks there =
+    let l = locked-here i s there (read-locked s i (Read q) es t b asks q refl) in
+    read_meant (byte_at i s) l ((kind-here i s there _ k).default l asks.0)
+
+into-meant : (i : StreamId) (s : Slots) (room : List ℕ) (element minimum : ℕ) (q : ReadRequest) (es : List Effect) → let e : Effect = Byte i (PullInto room element minimum q) in
+    TakesFirst (e ∷ es) → Balanced Reading i s (e ∷ es) → OfKind i s (e ∷ es) → Asks s (e ∷ es) → has_byte i s ≡ true → (byte.may_pull_into (byte_at i s) && byte.is_least (length room) element minimum) ≡ true
+into-meant i s room element minimum q es t b k asks there =
+    let l = locked-here i s there (into-locked s i (PullInto room element minimum q) es t b asks room element minimum q refl) in
+    rw (into_meant (byte_at i s) l ((kind-here i s there _ k).byob l asks.some)) asks.least
+
+pub asks-meant : (s : Slots) (e : Effect) (es : List Effect) → TakesFirst (e ∷ es) → ((i : StreamId) → Balanced Reading i s (e ∷ es)) → ((i : StreamId) → OfKind i s (e ∷ es)) → Asks s (e ∷ es) → MeantAt s e
+asks-meant s (OnReadable i (Read q)) es t b k asks = read-meant i s q es t (b i) (k i) asks
+asks-meant s (OnReadable i operation) es t b k asks = λ there. tt
+asks-meant s (Byte i (PullInto room element minimum q)) es t b k asks = into-meant i s room element minimum q es t (b i) (k i) asks
+asks-meant s (Byte i (Respond b)) es t n k asks = λ there. asks
+asks-meant s (Byte i operation) es t b k asks = λ there. tt
+asks-meant s e es t b k asks = tt

@@ -1,12 +1,13 @@
 -- Who has the lock of a stream as calls and jobs begin.
-use Rattle.std.proofs.Common.{◌≡◌, ◌⊎◌, inl, inr, ⊎_elim, ℕ, ◌+◌, Bool, true, false, nat_eq, is_some, List, [], ◌∷◌, ◌++◌, length, Option, Some, None, slice_get, refl, sym, ap, arith}
+use Rattle.std.proofs.Common.{◌≡◌, ◌⊎◌, inl, inr, ⊎_elim, ℕ, ◌+◌, Bool, true, false, nat_eq, is_some, List, [], ◌∷◌, ◌++◌, length, Option, Some, None, slice_get, refl, sym, ap, ◌∙◌, arith}
 use Rattle.ws_value.specs.declared.{ids.LockId.{LockId}, ids.PipeId.{PipeId}, ids.PromiseId.{PromiseId}, ids.SignalId.{SignalId}, ids.StreamId.{StreamId}, value.Plain.{Plain}}
+use Rattle.ws_steps.specs.declared.byte.ByteOperation.TheVariants.{InitializeByobReader}
 use Rattle.ws_steps.specs.declared.calls.Call.{Call}
 use Rattle.ws_steps.specs.declared.calls.Call.TheVariants.{GetWriter}
 use Rattle.ws_steps.specs.declared.calls.{Reply.{Reply}, Reply.TheVariants.{Lock as ReplyLock}, StartBy.{StartBy}, StartBy.TheVariants.{Now as StartNow, Later}}
 use Rattle.ws_steps.specs.declared.effects.Effect.{Effect}
-use Rattle.ws_steps.specs.declared.effects.Effect.TheVariants.{Readable as OnReadable, Writable as OnWritable}
-use Rattle.ws_steps.specs.declared.{locks.Lock.{Lock}, locks.Lock.TheVariants.{Reader, Writer as WriterLock, ReleasedWriter, Inner}, promises.Job.{Job}, pipes.Prevent.{Prevent}}
+use Rattle.ws_steps.specs.declared.effects.Effect.TheVariants.{Readable as OnReadable, Byte, Writable as OnWritable}
+use Rattle.ws_steps.specs.declared.{locks.Lock.{Lock}, locks.Lock.TheVariants.{Reader, ByobReader, Writer as WriterLock, ReleasedWriter, Inner}, promises.Job.{Job}, pipes.Prevent.{Prevent}}
 use Rattle.ws_steps.specs.declared.{effects.Owner.{Owner}, effects.Owner.TheVariants.{Host, HalfOf}, readable.SizeBy.{SizeBy}, readable.SizeBy.TheVariants.{Count}, transform.Kind.{Kind}, transform.TransformId.{TransformId}}
 use Rattle.ws_steps.specs.declared.readable.ReadableOperation.TheVariants.{InitializeReader, ReleaseReader, Disturb}
 use Rattle.ws_steps.specs.declared.writable.{WritableOperation.TheVariants.{SetUpWriter, ReleaseWriter}, Writer.{Writer}}
@@ -17,10 +18,13 @@ use Rattle.ws_steps.specs.Jobs.{job_effects}
 use Rattle.ws_steps.specs.Pipes as pipe
 use Rattle.ws_steps.specs.Promises.{Table, next_id, fresh, is_pending_at}
 use Rattle.ws_steps.specs.Readable as readable
-use Rattle.ws_steps.specs.Slots.{Slots, Stream, ReadableStream, WritableStream, with_promises, has_writable, readable_at, writable_at, as_readable, as_writable, is_writable_stream, lock_at}
+use Rattle.ws_steps.specs.Slots.{Slots, Stream, ReadableStream, WritableStream, with_promises, has_writable, source_at, writable_at, as_source, as_writable, is_writable_stream, lock_at}
+use Rattle.ws_steps.specs.Turns.{row}
 use Rattle.ws_steps.specs.Writable as writable
 use Rattle.ws_laws.proofs.EachCall.{each_call}
 use Rattle.ws_laws.proofs.Lists.{Each, each-append, each-map}
+use Rattle.ws_laws.proofs.Rows.{row-causes}
+use Rattle.ws_laws.proofs.StaysBytes.{row-byte}
 use Rattle.ws_laws.proofs.Tables.{either, eq_numbers, unequal_numbers, same_id, no_stream, place_last, place_before}
 use Rattle.ws_laws.proofs.Truth.{false_true}
 use Rattle.ws_writable_laws.proofs.Shape.{all, all-append}
@@ -28,7 +32,9 @@ use Rattle.ws_pipe_laws.specs.PipeReads.{one_if}
 use Rattle.ws_lock_laws.specs.Locks.{Side, Reading, Writing, end_of, has, has_lock, holders, in_locks, is_locked}
 use Rattle.ws_lock_laws.proofs.Agenda.{takes, goes, IsNoTake, IsCalm, calm_takes, takes_none-all, goes_none-all, TakesFirst, takes_first}
 use Rattle.ws_lock_laws.proofs.Holding.{locks-append, locks-set, pipes-append}
-use Rattle.ws_lock_laws.proofs.Rows.{is_there, Balanced}
+use Rattle.ws_lock_laws.proofs.Rows.{is_there, Balanced, IsToldBytes, take-causes}
+use Rattle.ws_steps.specs.Slots.{ByteStream}
+use Rattle.ws_steps.specs.Bytes as byte
 
 -- jobs take no lock, and let go of none
 
@@ -37,19 +43,19 @@ job-calm job = grind arith
 
 -- a call that takes locks does that first
 
-renewed-calm : (t : Table) (kept : Bool) → Each IsCalm (calls.reject_renewed t kept)
+pub renewed-calm : (t : Table) (kept : Bool) → Each IsCalm (calls.reject_renewed t kept)
 renewed-calm t kept = grind arith
 
-begins-calm : (me : PipeId) (a b : PromiseId) (signal : Option SignalId) (reason : Option Plain) → Each IsCalm (calls.pipe_begins me a b signal reason)
+pub begins-calm : (me : PipeId) (a b : PromiseId) (signal : Option SignalId) (reason : Option Plain) → Each IsCalm (calls.pipe_begins me a b signal reason)
 begins-calm me a b signal (Some r) = (tt, tt)
 begins-calm me a b None None = grind arith
 begins-calm me a b (Some g) None = grind arith
 
-start-calm : (q : PromiseId) (j : StreamId) (start : StartBy) → IsCalm (calls.start_transform q j start)
+pub start-calm : (q : PromiseId) (j : StreamId) (start : StartBy) → IsCalm (calls.start_transform q j start)
 start-calm q j StartNow = tt
 start-calm q j Later = tt
 
-no_takes : (es : List Effect) → Each IsCalm es → Each IsNoTake es
+pub no_takes : (es : List Effect) → Each IsCalm es → Each IsNoTake es
 no_takes es c = each-map IsCalm IsNoTake calm_takes es c
 
 pub call-first : (c : Call) (s : Slots) → TakesFirst (begin c s).done.caused
@@ -58,10 +64,20 @@ call-first c s = each_call (λ (b : Begun). TakesFirst b.done.caused) c s (recor
   rejected = tt;
   make_readable = λ mark size start. tt;
   make_writable = λ mark size start. tt;
+  get_byob = λ i is e. tt;
+  release_byob = λ l closed i e.
+      let kept : Bool = readable.is_readable (source_at i s).state in
+      takes_first _ (each-append IsNoTake (calls.reject_renewed s.promises kept) (OnReadable i ReleaseReader ∷ []) (no_takes _ (renewed-calm s.promises kept)) (tt, tt));
+  read_into = λ l i closed room element least e f. tt;
+  enqueue_bytes = λ i b e is some can. tt;
+  finish_bytes = λ i e is can. tt;
+  make_request = λ i reply is. tt;
+  respond = λ r i b e is can. tt;
+  make_bytes = λ mark auto start. tt;
   get_reader = λ i e. tt;
   get_writer = λ i e. tt;
   release_reader = λ l closed i e.
-      let kept : Bool = readable.is_readable (readable_at i s).state in
+      let kept : Bool = readable.is_readable (source_at i s).state in
       takes_first _ (each-append IsNoTake (calls.reject_renewed s.promises kept) (OnReadable i ReleaseReader ∷ []) (no_takes _ (renewed-calm s.promises kept)) (tt, tt));
   release_writer = λ l i w e f.
       let ready : Bool = is_pending_at w.ready s.promises in
@@ -91,9 +107,71 @@ call-first c s = each_call (λ (b : Begun). TakesFirst b.done.caused) c s (recor
   settle = λ h answer q e. tt;
 })
 
+-- a BYOB reader comes to a stream that has a byte controller
+
+no_take-told : (z : Slots) (e : Effect) → IsNoTake e → IsToldBytes z e
+no_take-told z e n = grind (arith, n)
+
+pub told_all : (z : Slots) (es : List Effect) → Each IsNoTake es → Each (IsToldBytes z) es
+told_all z es n = each-map IsNoTake (IsToldBytes z) (no_take-told z) es n
+
+told-later : (s : Slots) (e f : Effect) → IsToldBytes s f → IsToldBytes (row e s).slots f
+told-later s e (Byte j (InitializeByobReader c)) t = row-byte j e s ∙ t
+told-later s e _ t = tt
+
+pub row-told : (s : Slots) (e : Effect) (es : List Effect) → Each (IsToldBytes s) (e ∷ es) → Each (IsToldBytes (row e s).slots) ((row e s).caused ++ es)
+row-told s e es k =
+    let z : Slots = (row e s).slots in
+    each-append (IsToldBytes z) (row e s).caused es (told_all z (row e s).caused (row-causes IsNoTake e s (take-causes e))) (each-map (IsToldBytes s) (IsToldBytes z) (told-later s e) es k.1)
+
+pub call-told : (c : Call) (s : Slots) → Each (IsToldBytes (begin c s).done.slots) (begin c s).done.caused
+call-told c s = each_call (λ (b : Begun). Each (IsToldBytes b.done.slots) b.done.caused) c s (record {
+  unchanged = λ reply. tt;
+  rejected = (tt, tt);
+  make_readable = λ mark size start. (tt, tt);
+  make_writable = λ mark size start. (tt, tt);
+  get_byob = λ i is e. (is, tt);
+  release_byob = λ l closed i e. told_all (calls.release_reader (ByobReader None) l closed i s).done.slots _ (each-append IsNoTake (calls.reject_renewed s.promises (readable.is_readable (source_at i s).state)) (OnReadable i ReleaseReader ∷ []) (no_takes _ (renewed-calm s.promises (readable.is_readable (source_at i s).state))) (tt, tt));
+  read_into = λ l i closed room element least e f. (tt, tt);
+  enqueue_bytes = λ i b e is some can. (tt, tt);
+  finish_bytes = λ i e is can. (tt, tt);
+  make_request = λ i reply is. (tt, tt);
+  respond = λ r i b e is can. (tt, tt);
+  make_bytes = λ mark auto start. (tt, tt);
+  get_reader = λ i e. (tt, tt);
+  get_writer = λ i e. (tt, tt);
+  release_reader = λ l closed i e. told_all (calls.release_reader (Reader None) l closed i s).done.slots _ (each-append IsNoTake (calls.reject_renewed s.promises (readable.is_readable (source_at i s).state)) (OnReadable i ReleaseReader ∷ []) (no_takes _ (renewed-calm s.promises (readable.is_readable (source_at i s).state))) (tt, tt));
+  release_writer = λ l i w e f.
+      let ready : Bool = is_pending_at w.ready s.promises in
+      let t : Table = calls.with_renewed s.promises ready in
+      let closed : Bool = is_pending_at w.closed t in
+      told_all (calls.release_writer l i w s).done.slots _ (each-append IsNoTake (calls.reject_renewed s.promises ready) _ (no_takes _ (renewed-calm s.promises ready))
+      (each-append IsNoTake (calls.reject_renewed t closed) (OnWritable i ReleaseWriter ∷ []) (no_takes _ (renewed-calm t closed)) (tt, tt)));
+  cancel = λ reason i. (tt, tt);
+  read = λ l i closed e f. (tt, tt);
+  write = λ l v i e. (tt, tt);
+  close = λ i. (tt, tt);
+  abort = λ reason i e. (tt, tt);
+  make_transform = λ kind m n start.
+      let first : Effect = calls.start_transform (next_id (fresh s.promises)) (record { 0 = length s.streams + 1 }) start in
+      (tt, (tt, (tt, (tt, (no_take-told (calls.make_transform kind m n start (record { 0 = length s.streams }) (record { 0 = length s.streams + 1 }) s).done.slots first (calm_takes first (start-calm (next_id (fresh s.promises)) (record { 0 = length s.streams + 1 }) start)), tt)))));
+  enqueue = λ i v e o can. (tt, tt);
+  enqueue_half = λ i t v e o can. (tt, tt);
+  fail_half = λ t reason. (tt, tt);
+  terminate = λ t. (tt, tt);
+  finish = λ i. (tt, tt);
+  fail_readable = λ i reason. (tt, tt);
+  fail_writable = λ i reason. (tt, tt);
+  pipe = λ source dest prevent signal e f l m.
+      (tt, (tt, (tt, told_all (calls.pipe_to source dest prevent signal s).done.slots _ (no_takes _ (begins-calm (record { 0 = length s.pipes }) (next_id s.promises) (next_id (fresh (fresh s.promises))) signal (calls.reason_of signal s))))));
+  make_signal = tt;
+  trigger = λ a reason. (tt, tt);
+  settle = λ h answer q e. (tt, tt);
+})
+
 -- a stream that isn't locked
 
-pub free_reader : (o : Option Stream) → is_some (as_readable o).reader ≡ false → (has_lock Reading o ≡ false) × (is_there Reading o ≡ true)
+pub free_reader : (o : Option Stream) → is_some (as_source o).reader ≡ false → (has_lock Reading o ≡ false) × (is_there Reading o ≡ true)
 free_reader o e = grind (arith, e)
 
 free_writer : (o : Option Stream) → is_writable_stream o ≡ true → is_some (as_writable o).writer ≡ false → (has_lock Writing o ≡ false) × (is_there Writing o ≡ true)
@@ -167,6 +245,10 @@ no_has : (d : Side) (i : StreamId) (closed : PromiseId) → has d i (Reader None
 no_has Reading i closed = refl
 no_has Writing i closed = refl
 
+no_byob : (d : Side) (i : StreamId) (closed : PromiseId) → has d i (ByobReader None closed) ≡ false
+no_byob Reading i closed = refl
+no_byob Writing i closed = refl
+
 no_released : (d : Side) (i : StreamId) (w : Writer) → has d i (ReleasedWriter w) ≡ false
 no_released Reading i w = refl
 no_released Writing i w = refl
@@ -174,6 +256,10 @@ no_released Writing i w = refl
 new_readable : (d : Side) (owner : Owner) (mark : ℕ) (size : SizeBy) → has_lock d (Some (ReadableStream (readable.set_up owner mark size))) ≡ false
 new_readable Reading owner mark size = refl
 new_readable Writing owner mark size = refl
+
+new_bytes : (d : Side) (mark auto : ℕ) → has_lock d (Some (ByteStream (byte.set_up mark auto))) ≡ false
+new_bytes Reading mark auto = refl
+new_bytes Writing mark auto = refl
 
 new_writable : (d : Side) (owner : Owner) (mark : ℕ) (size : SizeBy) → has_lock d (Some (WritableStream (writable.set_up owner mark size))) ≡ false
 new_writable Reading owner mark size = refl
@@ -192,10 +278,11 @@ IsOther _ = Unit {0}
 
 gets_none : (c : Call) (s : Slots) → IsOther c → gets_writer (begin c s).reply (begin c s).done.caused ≡ false
 unfolding begin
-gets_none c s o = grind (arith, o)
+gets_none (GetWriter i) s o = absurd o
+gets_none c s o = grind arith
 
 module _ (i : StreamId) where
-  get_reader-balanced : (d : Side) (j : StreamId) (s : Slots) → is_some (readable_at j s).reader ≡ false → Balanced d i s [] → Balanced d i (calls.get_reader j s).done.slots (calls.get_reader j s).done.caused
+  get_reader-balanced : (d : Side) (j : StreamId) (s : Slots) → is_some (source_at j s).reader ≡ false → Balanced d i s [] → Balanced d i (calls.get_reader j s).done.slots (calls.get_reader j s).done.caused
   get_reader-balanced Reading j s free k =
       let n = locks-append Reading i s.locks (Reader (Some j) (next_id s.promises)) in
       enters Reading i s k (calls.get_reader j s).done.slots _ (is_same i j) (omega (arith, n)) refl (omega arith) refl
@@ -203,6 +290,15 @@ module _ (i : StreamId) where
   get_reader-balanced Writing j s free k =
       let n = locks-append Writing i s.locks (Reader (Some j) (next_id s.promises)) in
       enters Writing i s k (calls.get_reader j s).done.slots _ false (omega (arith, n)) refl refl refl (λ e. absurd (cc))
+
+  get_byob-balanced : (d : Side) (j : StreamId) (s : Slots) → is_some (source_at j s).reader ≡ false → Balanced d i s [] → Balanced d i (calls.get_byob j s).done.slots (calls.get_byob j s).done.caused
+  get_byob-balanced Reading j s free k =
+      let n = locks-append Reading i s.locks (ByobReader (Some j) (next_id s.promises)) in
+      enters Reading i s k (calls.get_byob j s).done.slots _ (is_same i j) (omega (arith, n)) refl (omega arith) refl
+      (λ e. let f = free_reader (slice_get s.streams j.0) free in rw (same_id i j e) f)
+  get_byob-balanced Writing j s free k =
+      let n = locks-append Writing i s.locks (ByobReader (Some j) (next_id s.promises)) in
+      enters Writing i s k (calls.get_byob j s).done.slots _ false (omega (arith, n)) refl refl refl (λ e. absurd (cc))
 
   get_writer-balanced : (d : Side) (j : StreamId) (s : Slots) → has_writable j s ≡ true → is_some (writable_at j s).writer ≡ false → Balanced d i s [] → Balanced d i (calls.get_writer j s).done.slots (calls.get_writer j s).done.caused
   get_writer-balanced Writing j s there free k =
@@ -222,20 +318,23 @@ module _ (i : StreamId) where
   reader_leaves Reading j closed = omega arith
   reader_leaves Writing j closed = refl
 
+  byob_leaves : (d : Side) (j : StreamId) (closed : PromiseId) → all (goes d i) (OnReadable j ReleaseReader ∷ []) ≡ one_if (has d i (ByobReader (Some j) closed))
+  byob_leaves Reading j closed = omega arith
+  byob_leaves Writing j closed = refl
+
   writer_leaves : (d : Side) (j : StreamId) → all (goes d i) (OnWritable j ReleaseWriter ∷ []) ≡ one_if (has d i (WriterLock j))
   writer_leaves Reading j = refl
   writer_leaves Writing j = omega arith
 
-  release_reader-balanced : (d : Side) (l : LockId) (closed : PromiseId) (j : StreamId) (s : Slots) → lock_at l s ≡ Some (Reader (Some j) closed) → Balanced d i s []
-      → Balanced d i (calls.release_reader l closed j s).done.slots (calls.release_reader l closed j s).done.caused
-  release_reader-balanced d l closed j s e k =
-      let kept : Bool = readable.is_readable (readable_at j s).state in
-      let new : Lock = Reader None (calls.renewed closed s.promises kept) in
-      let set = locks-set d i l.0 s.locks (Reader (Some j) closed) new e in
-      let none = ap one_if (no_has d i (calls.renewed closed s.promises kept)) in
+  release_reader-balanced : (d : Side) (l : LockId) (closed : PromiseId) (j : StreamId) (s : Slots) (old : Lock) (released : PromiseId → Lock) → all (goes d i) (OnReadable j ReleaseReader ∷ []) ≡ one_if (has d i old)
+      → ((p : PromiseId) → has d i (released p) ≡ false) → lock_at l s ≡ Some old → Balanced d i s [] → Balanced d i (calls.release_reader released l closed j s).done.slots (calls.release_reader released l closed j s).done.caused
+  release_reader-balanced d l closed j s old released own gone_of e k =
+      let kept : Bool = readable.is_readable (source_at j s).state in
+      let new : Lock = released (calls.renewed closed s.promises kept) in
+      let set = locks-set d i l.0 s.locks old new e in
+      let none = ap one_if (gone_of (calls.renewed closed s.promises kept)) in
       let gone = renewed-goes d s.promises kept (OnReadable j ReleaseReader ∷ []) in
-      let own = reader_leaves d j closed in
-      leaves d i s k (calls.release_reader l closed j s).done.slots (calls.release_reader l closed j s).done.caused (omega (arith, set, none, gone, own)) refl refl
+      leaves d i s k (calls.release_reader released l closed j s).done.slots (calls.release_reader released l closed j s).done.caused (omega (arith, set, none, gone, own)) refl refl
       (each-append IsNoTake (calls.reject_renewed s.promises kept) (OnReadable j ReleaseReader ∷ []) (no_takes _ (renewed-calm s.promises kept)) (tt, tt))
 
   release_writer-balanced : (d : Side) (l : LockId) (j : StreamId) (w : Writer) (s : Slots) → lock_at l s ≡ Some (WriterLock j) → Balanced d i s []
@@ -266,12 +365,12 @@ module _ (i : StreamId) where
   first_goes Reading source dest closed w es n = omega (arith, n)
   first_goes Writing source dest closed w es n = omega (arith, n)
 
-  end_free : (d : Side) (source dest : StreamId) (s : Slots) (x : pipe.Slots) → x.source ≡ source → x.dest ≡ dest → is_some (readable_at source s).reader ≡ false → has_writable dest s ≡ true → is_some (writable_at dest s).writer ≡ false
+  end_free : (d : Side) (source dest : StreamId) (s : Slots) (x : pipe.Slots) → x.source ≡ source → x.dest ≡ dest → is_some (source_at source s).reader ≡ false → has_writable dest s ≡ true → is_some (writable_at dest s).writer ≡ false
       → is_same i (end_of d x) ≡ true → (is_locked d i s ≡ false) × (is_there d (slice_get s.streams i.0) ≡ true)
   end_free Reading source dest s x e f free there writer same = let g = free_reader (slice_get s.streams source.0) free in rw (same_id i x.source same, e) g
   end_free Writing source dest s x e f free there writer same = let g = free_writer (slice_get s.streams dest.0) there writer in rw (same_id i x.dest same, f) g
 
-  pipe-balanced : (d : Side) (source dest : StreamId) (prevent : Prevent) (signal : Option SignalId) (s : Slots) → is_some (readable_at source s).reader ≡ false → has_writable dest s ≡ true → is_some (writable_at dest s).writer ≡ false
+  pipe-balanced : (d : Side) (source dest : StreamId) (prevent : Prevent) (signal : Option SignalId) (s : Slots) → is_some (source_at source s).reader ≡ false → has_writable dest s ≡ true → is_some (writable_at dest s).writer ≡ false
       → Balanced d i s [] → Balanced d i (calls.pipe_to source dest prevent signal s).done.slots (calls.pipe_to source dest prevent signal s).done.caused
   pipe-balanced d source dest prevent signal s free there writer k =
       let t : Table = s.promises in
@@ -324,9 +423,17 @@ module _ (i : StreamId) where
         rejected = inl (quiet _ _ refl refl refl (tt, tt));
         make_readable = λ mark size start. inl (made d i s k (ReadableStream (readable.set_up Host mark size)) _ (new_readable d Host mark size) (tt, tt));
         make_writable = λ mark size start. inl (made d i s k (WritableStream (writable.set_up Host mark size)) _ (new_writable d Host mark size) (tt, tt));
+        get_byob = λ j is e. inl (get_byob-balanced d j s e k);
+        release_byob = λ l closed j e. inl (release_reader-balanced d l closed j s (ByobReader (Some j) closed) (ByobReader None) (byob_leaves d j closed) (no_byob d i) e k);
+        read_into = λ l j closed room element least e f. inl (quiet _ _ refl refl refl (tt, tt));
+        enqueue_bytes = λ j b e is some can. inl (quiet _ _ refl refl refl (tt, tt));
+        finish_bytes = λ j e is can. inl (quiet _ _ refl refl refl (tt, tt));
+        make_request = λ j reply is. inl (quiet _ _ refl refl refl (tt, tt));
+        respond = λ r j b e is can. inl (quiet _ _ refl refl refl (tt, tt));
+        make_bytes = λ mark auto start. inl (made d i s k (ByteStream (byte.set_up mark auto)) _ (new_bytes d mark auto) (tt, tt));
         get_reader = λ j e. inl (get_reader-balanced d j s e k);
         get_writer = λ j e. inr refl;
-        release_reader = λ l closed j e. inl (release_reader-balanced d l closed j s e k);
+        release_reader = λ l closed j e. inl (release_reader-balanced d l closed j s (Reader (Some j) closed) (Reader None) (reader_leaves d j closed) (no_has d i) e k);
         release_writer = λ l j w e f. inl (release_writer-balanced d l j w s e k);
         cancel = λ reason j. inl (quiet _ _ refl refl refl (tt, tt));
         read = λ l j closed e f. inl (quiet _ _ refl refl refl (tt, tt));

@@ -1,9 +1,13 @@
+pub mod ByteReaders
+pub mod ByteRequests
 pub mod Holding
 pub mod Writers
 pub mod Agenda
 pub mod Piping
 pub mod Rows
+pub mod ReaderKinds
 pub mod Begins
+pub mod KindBegins
 pub mod Runs
 pub mod Owning
 pub mod PipeReads
@@ -11,5 +15,6 @@ pub mod Requests
 pub mod Asking
 pub mod Under
 pub mod Underway
+pub mod IntoAsks
 pub mod Sources
 mod Worked

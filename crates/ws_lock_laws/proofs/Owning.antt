@@ -1,24 +1,27 @@
 -- A pipe that isn't over has both its ends, and no call of the host has to do with them.
-use Rattle.std.proofs.Common.{◌≡◌, ◌≢◌, ℕ, ◌+◌, ◌≤◌, Bool, true, false, is_some, List, [], ◌∷◌, ◌++◌, length, Option, Some, None, slice_get, refl, sym, ap, ◌∙◌, arith}
+use Rattle.std.proofs.Common.{◌≡◌, ◌≢◌, ℕ, ◌+◌, ◌*◌, ◌≤◌, Bool, true, false, not, ◌&&◌, nat_eq, is_some, List, [], ◌∷◌, ◌++◌, length, Option, Some, None, slice_get, refl, sym, ap, ◌∙◌, arith}
 use Rattle.ws_value.specs.declared.{ids.LockId.{LockId}, ids.PipeId.{PipeId}, ids.PromiseId.{PromiseId}, ids.SignalId.{SignalId}, ids.StreamId.{StreamId}, value.Plain.{Plain}}
+use Rattle.ws_steps.specs.declared.byte.ByteOperation.{ByteOperation}
+use Rattle.ws_steps.specs.declared.byte.ByteOperation.TheVariants.{InitializeByobReader, PullInto}
 use Rattle.ws_steps.specs.declared.calls.Call.{Call}
-use Rattle.ws_steps.specs.declared.calls.Call.TheVariants.{GetReader, GetWriter, Cancel, CancelBy, Read, Write, Close, CloseBy, Abort, AbortBy, Release, Pipe}
+use Rattle.ws_steps.specs.declared.calls.Call.TheVariants.{GetReader, GetByob, GetWriter, Cancel, CancelBy, Read, ReadInto, Write, Close, CloseBy, Abort, AbortBy, Release, Pipe}
 use Rattle.ws_steps.specs.declared.effects.Effect.{Effect}
-use Rattle.ws_steps.specs.declared.effects.Effect.TheVariants.{Readable as OnReadable, Writable as OnWritable}
-use Rattle.ws_steps.specs.declared.{locks.Lock.{Lock}, locks.Lock.TheVariants.{Reader, Writer as WriterLock, ReleasedWriter, Inner}, pipes.Prevent.{Prevent}}
+use Rattle.ws_steps.specs.declared.effects.Effect.TheVariants.{Readable as OnReadable, Byte, Writable as OnWritable}
+use Rattle.ws_steps.specs.declared.{locks.Lock.{Lock}, locks.Lock.TheVariants.{Reader, ByobReader, Writer as WriterLock, ReleasedWriter, Inner}, pipes.Prevent.{Prevent}}
 use Rattle.ws_steps.specs.declared.readable.ReadableOperation.{ReadableOperation}
 use Rattle.ws_steps.specs.declared.readable.ReadableOperation.TheVariants.{InitializeReader, ReleaseReader, Read as ReadChunk, Cancel as CancelStream}
 use Rattle.ws_steps.specs.declared.readable.ReadRequest.TheVariants.{Promise}
 use Rattle.ws_steps.specs.declared.writable.{WritableOperation.{WritableOperation}, WritableOperation.TheVariants.{ReleaseWriter}, Writer.{Writer}}
 use Rattle.ws_steps.specs.declared.writable.WritableOperation.TheVariants as write
 use Rattle.ws_steps.specs.Calls as calls
-use Rattle.ws_steps.specs.Calls.{Begun, begin, by_reader, by_writer, for_readable, for_writable, unlocked_readable, unlocked_writable, abort_unless, for_signal_where, pipe_unlocked}
+use Rattle.ws_steps.specs.Calls.{Begun, begin, by_reader, is_byob_reader, by_default_reader, by_byob_reader, by_writer, for_source, for_writable, unlocked_readable, unlocked_writable, abort_unless, for_signal_where, pipe_unlocked}
 use Rattle.ws_steps.specs.Histories.{is_same}
 use Rattle.ws_steps.specs.Pipes as pipe
+use Rattle.ws_steps.specs.Queues.{is_empty}
 use Rattle.ws_steps.specs.Promises.{Table, next_id, fresh, is_pending_at}
 use Rattle.ws_steps.specs.Readable as readable
 use Rattle.ws_steps.specs.Run.{Entry, run}
-use Rattle.ws_steps.specs.Slots.{Slots, Stream, empty, has_readable, has_writable, has_signal, readable_at, writable_at, as_readable, as_writable, lock_at, as_pipe}
+use Rattle.ws_steps.specs.Slots.{Slots, Stream, empty, has_byte, has_source, has_writable, has_signal, source_at, writable_at, as_source, as_writable, lock_at, as_pipe}
 use Rattle.ws_steps.specs.Writable as writable
 use Rattle.ws_laws.proofs.Tables.{either, is_same-refl, same_id}
 use Rattle.ws_laws.proofs.Truth.{false_true}
@@ -31,7 +34,7 @@ use Rattle.ws_lock_laws.proofs.Runs.{run-locked}
 
 -- a locked stream isn't one that isn't
 
-locked_reader : (o : Option Stream) → is_some (as_readable o).reader ≡ false → has_lock Reading o ≡ false
+locked_reader : (o : Option Stream) → is_some (as_source o).reader ≡ false → has_lock Reading o ≡ false
 locked_reader o e = grind (arith, e)
 
 locked_writer : (o : Option Stream) → is_some (as_writable o).writer ≡ false → has_lock Writing o ≡ false
@@ -45,6 +48,9 @@ module _ (source dest : StreamId) where
 
   one_reader : (i : StreamId) (operation : ReadableOperation) → is_same i source ≡ false → spares source dest (OnReadable i operation) ≡ true
   one_reader i operation n = grind (arith, n)
+
+  one_byob : (i : StreamId) (operation : ByteOperation) → is_same i source ≡ false → spares source dest (Byte i operation) ≡ true
+  one_byob i operation n = grind (arith, n)
 
   one_writer : (i : StreamId) (operation : WritableOperation) → is_same i dest ≡ false → spares source dest (OnWritable i operation) ≡ true
   one_writer i operation n = grind (arith, n)
@@ -62,11 +68,12 @@ module _ (source dest : StreamId) where
   begins-spares me a b (Some g) None = refl
 
   module _ (s : Slots) (source_locked : is_locked Reading source s ≡ true) (dest_locked : is_locked Writing dest s ≡ true)
-      (no_reader : (l : LockId) (closed : PromiseId) → lock_at l s ≢ Some (Reader (Some source) closed)) (no_writer : (l : LockId) → lock_at l s ≢ Some (WriterLock dest)) where
-    free_source : (i : StreamId) (same : Bool) → same ≡ is_same i source → is_some (readable_at i s).reader ≡ false → is_same i source ≡ false
+      (no_reader : (l : LockId) (closed : PromiseId) → lock_at l s ≢ Some (Reader (Some source) closed)) (no_byob_reader : (l : LockId) (closed : PromiseId) → lock_at l s ≢ Some (ByobReader (Some source) closed))
+      (no_writer : (l : LockId) → lock_at l s ≢ Some (WriterLock dest)) where
+    free_source : (i : StreamId) (same : Bool) → same ≡ is_same i source → is_some (source_at i s).reader ≡ false → is_same i source ≡ false
     free_source i false n e = sym n
     free_source i true n e =
-        let free : is_some (readable_at source s).reader ≡ false = rw (← same_id i source (sym n)) e in
+        let free : is_some (source_at source s).reader ≡ false = rw (← same_id i source (sym n)) e in
         false_true (is_locked Reading source s) source_locked (locked_reader (slice_get s.streams source.0) free)
 
     free_dest : (i : StreamId) (same : Bool) → same ≡ is_same i dest → is_some (writable_at i s).writer ≡ false → is_same i dest ≡ false
@@ -79,22 +86,26 @@ module _ (source dest : StreamId) where
     read_apart l i closed false n e = sym n
     read_apart l i closed true n e = absurd (no_reader l closed (e ∙ ap (λ (j : StreamId). Some (Reader (Some j) closed)) (same_id i source (sym n))))
 
+    byob_apart : (l : LockId) (i : StreamId) (closed : PromiseId) (same : Bool) → same ≡ is_same i source → lock_at l s ≡ Some (ByobReader (Some i) closed) → is_same i source ≡ false
+    byob_apart l i closed false n e = sym n
+    byob_apart l i closed true n e = absurd (no_byob_reader l closed (e ∙ ap (λ (j : StreamId). Some (ByobReader (Some j) closed)) (same_id i source (sym n))))
+
     write_apart : (l : LockId) (i : StreamId) (same : Bool) → same ≡ is_same i dest → lock_at l s ≡ Some (WriterLock i) → is_same i dest ≡ false
     write_apart l i false n e = sym n
     write_apart l i true n e = absurd (no_writer l (e ∙ ap (λ (j : StreamId). Some (WriterLock j)) (same_id i dest (sym n))))
 
     -- checks of calls
 
-    there_readable : (i : StreamId) (operation : Slots → Begun) → Spares (operation s) → Spares (for_readable i operation s)
-    there_readable i operation k = either Spares (has_readable i s) _ _ (λ h. k) (λ h. refl)
+    there_source : (i : StreamId) (operation : Slots → Begun) → Spares (operation s) → Spares (for_source i operation s)
+    there_source i operation k = either Spares (has_source i s) _ _ (λ h. k) (λ h. refl)
 
     there_writable : (i : StreamId) (operation : Slots → Begun) → Spares (operation s) → Spares (for_writable i operation s)
     there_writable i operation k = either Spares (has_writable i s) _ _ (λ h. k) (λ h. refl)
 
     free_readable : (i : StreamId) (locked : Slots → Begun) (operation : StreamId → Slots → Begun) → Spares (locked s) → (is_same i source ≡ false → Spares (operation i s)) → Spares (unlocked_readable i locked operation s)
     free_readable i locked operation l k =
-        either Spares (has_readable i s) _ _
-        (λ h. either Spares (is_some (readable_at i s).reader) _ _ (λ e. l) (λ e. k (free_source i (is_same i source) refl e))) (λ h. refl)
+        either Spares (has_source i s) _ _
+        (λ h. either Spares (is_some (source_at i s).reader) _ _ (λ e. l) (λ e. k (free_source i (is_same i source) refl e))) (λ h. refl)
 
     free_writable : (i : StreamId) (locked : Slots → Begun) (operation : StreamId → Slots → Begun) → Spares (locked s) → (is_same i dest ≡ false → Spares (operation i s)) → Spares (unlocked_writable i locked operation s)
     free_writable i locked operation l k =
@@ -104,22 +115,36 @@ module _ (source dest : StreamId) where
     with_reader : (holding : StreamId → Slots → Begun) (free : Slots → Begun) (l : LockId) (lock : Option Lock) → lock_at l s ≡ lock → ((i : StreamId) → is_same i source ≡ false → Spares (holding i s)) → Spares (free s)
         → Spares (by_reader holding free s lock)
     with_reader holding free l None e k f = refl
-    with_reader holding free l (Some (Reader (Some i) closed)) e k f = there_readable i (holding i) (k i (read_apart l i closed (is_same i source) refl e))
+    with_reader holding free l (Some (Reader (Some i) closed)) e k f = there_source i (holding i) (k i (read_apart l i closed (is_same i source) refl e))
     with_reader holding free l (Some (Reader None closed)) e k f = f
+    with_reader holding free l (Some (ByobReader (Some i) closed)) e k f = there_source i (holding i) (k i (byob_apart l i closed (is_same i source) refl e))
+    with_reader holding free l (Some (ByobReader None closed)) e k f = f
     with_reader holding free l (Some (WriterLock i)) e k f = refl
     with_reader holding free l (Some (ReleasedWriter w)) e k f = refl
     with_reader holding free l (Some Inner) e k f = refl
+
+    with_default : (holding : StreamId → Slots → Begun) (free : Slots → Begun) (l : LockId) (lock : Option Lock) → lock_at l s ≡ lock → ((i : StreamId) → is_same i source ≡ false → Spares (holding i s)) → Spares (free s)
+        → Spares (by_default_reader holding free s lock)
+    with_default holding free l lock e k f = either Spares (is_byob_reader lock) (calls.unsupported s) (by_reader holding free s lock) (λ h. refl) (λ h. with_reader holding free l lock e k f)
+
+    with_byob : (holding : StreamId → Slots → Begun) (free : Slots → Begun) (l : LockId) (lock : Option Lock) → lock_at l s ≡ lock → ((i : StreamId) → is_same i source ≡ false → Spares (holding i s)) → Spares (free s)
+        → Spares (by_byob_reader holding free s lock)
+    with_byob holding free l lock e k f = either Spares (is_byob_reader lock) (by_reader holding free s lock) (calls.unsupported s) (λ h. with_reader holding free l lock e k f) (λ h. refl)
 
     with_writer : (holding : StreamId → Slots → Begun) (free : Slots → Begun) (l : LockId) (lock : Option Lock) → lock_at l s ≡ lock → ((i : StreamId) → is_same i dest ≡ false → Spares (holding i s)) → Spares (free s)
         → Spares (by_writer holding free s lock)
     with_writer holding free l None e k f = refl
     with_writer holding free l (Some (Reader stream closed)) e k f = refl
+    with_writer holding free l (Some (ByobReader stream closed)) e k f = refl
     with_writer holding free l (Some (WriterLock i)) e k f = there_writable i (holding i) (k i (write_apart l i (is_same i dest) refl e))
     with_writer holding free l (Some (ReleasedWriter w)) e k f = f
     with_writer holding free l (Some Inner) e k f = refl
 
     alone_reader : (i : StreamId) (operation : ReadableOperation) → is_same i source ≡ false → all_spare source dest (OnReadable i operation ∷ []) ≡ true
     alone_reader i operation n = rw (one_reader i operation n) refl
+
+    alone_byob : (i : StreamId) (operation : ByteOperation) → is_same i source ≡ false → all_spare source dest (Byte i operation ∷ []) ≡ true
+    alone_byob i operation n = rw (one_byob i operation n) refl
 
     alone_writer : (i : StreamId) (operation : WritableOperation) → is_same i dest ≡ false → all_spare source dest (OnWritable i operation ∷ []) ≡ true
     alone_writer i operation n = rw (one_writer i operation n) refl
@@ -128,13 +153,19 @@ module _ (source dest : StreamId) where
     aborts reason i None n = alone_writer i (write.Abort reason (next_id s.promises)) n
     aborts reason i (Some p) n = refl
 
+    leaves : (i : StreamId) → is_same i source ≡ false → let kept : Bool = readable.is_readable (source_at i s).state in all_spare source dest (calls.reject_renewed s.promises kept ++ OnReadable i ReleaseReader ∷ []) ≡ true
+    leaves i n =
+        let kept : Bool = readable.is_readable (source_at i s).state in
+        spares-append (calls.reject_renewed s.promises kept) (OnReadable i ReleaseReader ∷ []) (renewed-spares s.promises kept) (alone_reader i ReleaseReader n)
+
     releases : (l : LockId) (lock : Option Lock) → lock_at l s ≡ lock → Spares (calls.release l s lock)
     releases l None e = refl
     releases l (Some (Reader (Some i) closed)) e =
-        there_readable i (calls.release_reader l closed i)
-        (spares-append (calls.reject_renewed s.promises (readable.is_readable (readable_at i s).state)) (OnReadable i ReleaseReader ∷ []) (renewed-spares s.promises (readable.is_readable (readable_at i s).state))
-        (alone_reader i ReleaseReader (read_apart l i closed (is_same i source) refl e)))
+        there_source i (calls.release_reader (Reader None) l closed i) (leaves i (read_apart l i closed (is_same i source) refl e))
     releases l (Some (Reader None closed)) e = refl
+    releases l (Some (ByobReader (Some i) closed)) e =
+        there_source i (calls.release_reader (ByobReader None) l closed i) (leaves i (byob_apart l i closed (is_same i source) refl e))
+    releases l (Some (ByobReader None closed)) e = refl
     releases l (Some (WriterLock i)) e = by (writable_at i s).writer
       where
         by : (w : Option Writer) → Spares (calls.of_writer (calls.release_writer l i) s w)
@@ -156,12 +187,12 @@ module _ (source dest : StreamId) where
 
     pipes : (from to : StreamId) (prevent : Prevent) (signal : Option SignalId) → Spares (calls.pipe_call from to prevent signal s)
     pipes from to prevent signal =
-        there_readable from (for_writable to (for_signal_where signal (pipe_unlocked from to prevent signal)))
+        there_source from (for_writable to (for_signal_where signal (pipe_unlocked from to prevent signal)))
         (there_writable to (for_signal_where signal (pipe_unlocked from to prevent signal)) (by signal))
       where
         unlocked : Spares (pipe_unlocked from to prevent signal s)
         unlocked =
-            either Spares (is_some (readable_at from s).reader) _ _ (λ e. refl)
+            either Spares (is_some (source_at from s).reader) _ _ (λ e. refl)
             (λ e. either Spares (is_some (writable_at to s).writer) _ _ (λ f. refl)
             (λ f. pipes_to from to prevent signal (free_source from (is_same from source) refl e) (free_dest to (is_same to dest) refl f)))
 
@@ -169,13 +200,22 @@ module _ (source dest : StreamId) where
         by None = unlocked
         by (Some a) = either Spares (has_signal a s) _ _ (λ e. unlocked) (λ e. refl)
 
+    reads_into : (l : LockId) (room : List ℕ) (element least : ℕ) → Spares (calls.read_into_by room element least s (lock_at l s))
+    reads_into l room element least =
+        either Spares (not (calls.is_view (length room) element && nat_eq least 1)) (calls.unsupported s) _ (λ h. refl)
+        (λ h. either Spares (is_empty room) (by_byob_reader (λ i. calls.rejected) calls.rejected s (lock_at l s)) (by_byob_reader (calls.read_into room element least) calls.rejected s (lock_at l s))
+        (λ g. with_byob (λ i. calls.rejected) calls.rejected l (lock_at l s) refl (λ i n. refl) refl)
+        (λ g. with_byob (calls.read_into room element least) calls.rejected l (lock_at l s) refl (λ i n. alone_byob i (PullInto room element (least * element) (Promise (next_id s.promises))) n) refl))
+
     -- calls that have to do with no lock
     abbrev IsApart : Call → Type 0
     IsApart (GetReader i) = ⊥
+    IsApart (GetByob i) = ⊥
     IsApart (GetWriter i) = ⊥
     IsApart (Cancel i reason) = ⊥
     IsApart (CancelBy l reason) = ⊥
     IsApart (Read l) = ⊥
+    IsApart (ReadInto l room element least) = ⊥
     IsApart (Write l v) = ⊥
     IsApart (Close i) = ⊥
     IsApart (CloseBy l) = ⊥
@@ -187,15 +227,20 @@ module _ (source dest : StreamId) where
 
     apart : (c : Call) → IsApart c → Spares (begin c s)
     unfolding begin
+    apart (GetReader i) a = absurd a
     apart c a = grind (arith, a)
 
     each_call : (c : Call) → Spares (begin c s)
     unfolding begin
     each_call (GetReader i) = free_readable i calls.throws_type_error calls.get_reader refl (λ n. alone_reader i (InitializeReader (next_id s.promises)) n)
+    each_call (GetByob i) =
+        free_readable i calls.throws_type_error calls.get_byob_of refl
+        (λ n. either Spares (has_byte i s) (calls.get_byob i s) (calls.throws_type_error s) (λ h. alone_byob i (InitializeByobReader (next_id s.promises)) n) (λ h. refl))
     each_call (GetWriter i) = free_writable i calls.throws_type_error calls.get_writer refl (λ n. alone_writer i (write.SetUpWriter (record { ready = next_id s.promises; closed = next_id (fresh s.promises) })) n)
     each_call (Cancel i reason) = free_readable i calls.rejected (calls.cancel reason) refl (λ n. alone_reader i (CancelStream reason (next_id s.promises)) n)
     each_call (CancelBy l reason) = with_reader (calls.cancel reason) calls.rejected l (lock_at l s) refl (λ i n. alone_reader i (CancelStream reason (next_id s.promises)) n) refl
-    each_call (Read l) = with_reader calls.read calls.rejected l (lock_at l s) refl (λ i n. alone_reader i (ReadChunk (Promise (next_id s.promises))) n) refl
+    each_call (ReadInto l room element least) = reads_into l room element least
+    each_call (Read l) = with_default calls.read calls.rejected l (lock_at l s) refl (λ i n. alone_reader i (ReadChunk (Promise (next_id s.promises))) n) refl
     each_call (Write l v) = with_writer (calls.write v) calls.rejected l (lock_at l s) refl (λ i n. alone_writer i (write.Write v (next_id s.promises)) n) refl
     each_call (Close i) = free_writable i calls.rejected calls.close refl (λ n. alone_writer i (write.Close (next_id s.promises)) n)
     each_call (CloseBy l) = with_writer calls.close calls.rejected l (lock_at l s) refl (λ i n. alone_writer i (write.Close (next_id s.promises)) n) refl
@@ -230,13 +275,16 @@ owned entries p x e over =
     let dest = end-owned entries Writing p x e over in
     let no_reader : (l : LockId) (closed : PromiseId) → lock_at l s ≢ Some (Reader (Some x.source) closed) =
     λ l closed f. let n = locks-there Reading x.source l.0 s.locks (Reader (Some x.source) closed) f in let self = ap one_if (is_same-refl x.source) in let none = source.1 in omega (arith, n, self, none) in
+    let no_byob_reader : (l : LockId) (closed : PromiseId) → lock_at l s ≢ Some (ByobReader (Some x.source) closed) =
+    λ l closed f. let n = locks-there Reading x.source l.0 s.locks (ByobReader (Some x.source) closed) f in let self = ap one_if (is_same-refl x.source) in let none = source.1 in omega (arith, n, self, none) in
     let no_writer : (l : LockId) → lock_at l s ≢ Some (WriterLock x.dest) =
     λ l f. let n = locks-there Writing x.dest l.0 s.locks (WriterLock x.dest) f in let self = ap one_if (is_same-refl x.dest) in let none = dest.1 in omega (arith, n, self, none) in
     record {
       locked = λ d. (end-owned entries d p x e over).0;
       no_reader = no_reader;
+      no_byob_reader = no_byob_reader;
       no_writer = no_writer;
-      calls = each_call x.source x.dest s source.0 dest.0 no_reader no_writer;
+      calls = each_call x.source x.dest s source.0 dest.0 no_reader no_byob_reader no_writer;
     }
 
 pub each_pipe_owns_its_ends : EachPipeOwnsItsEnds

@@ -1,7 +1,8 @@
 -- An operation of a pipe causes no read, or a read and nothing else, where the pipe flows.
 use Rattle.std.proofs.Common.{◌≡◌, ◌-◌, true, false, not, ◌&&◌, ◌||◌, nat_eq, if◌then◌else◌, [], ◌∷◌, Option, Some, None, Result, Ok, Err, refl, arith}
 use Rattle.ws_value.specs.declared.{ids.PipeId.{PipeId}, ids.PromiseId.{PromiseId}, ids.StreamId.{StreamId}, value.Plain.{Plain}, value.Plain.TheVariants.{Undefined}, value.Value.{Value}}
-use Rattle.ws_steps.specs.declared.effects.{Effect.{Effect}, Effect.TheVariants.{Readable as OnReadable}}
+use Rattle.ws_steps.specs.declared.byte.ByteOperation.TheVariants.{PullInto, Respond}
+use Rattle.ws_steps.specs.declared.effects.{Effect.{Effect}, Effect.TheVariants.{Readable as OnReadable, Byte}}
 use Rattle.ws_steps.specs.declared.pipes.{Action.{Action}, Action.TheVariants.{AbortDest, CancelSource, CloseDest, BySignal}, Ends.{Ends}, Phase.{Phase}, Phase.TheVariants.{Flowing, Waiting, Acting, Over}}
 use Rattle.ws_steps.specs.declared.pipes.{PipeOperation.{PipeOperation}, PipeOperation.TheVariants.{Look, LookReady, KeepChunk, ReadEnded, WriteChunk, GoOn, WriteEnded, Abort as AbortPipe, ActionSettled, PartSettled, NoParts}}
 use Rattle.ws_steps.specs.declared.readable.{ReadRequest.TheVariants.{Pipe as PipeRequest}, ReadableOperation.TheVariants.{Read}, ReadableState.{ReadableState}, ReadableState.TheVariants.{Readable, Closed, Errored}}
@@ -15,9 +16,11 @@ use Rattle.ws_laws.proofs.Lists.{Each, each-append}
 use Rattle.ws_laws.proofs.Tables.{either}
 use Rattle.ws_pipe_laws.specs.PipeMoves.{starting}
 
--- no read
+-- no read, and no response
 abbrev pub IsNoRead : Effect → Type 0
 IsNoRead (OnReadable i (Read request)) = ⊥
+IsNoRead (Byte i (PullInto room element minimum request)) = ⊥
+IsNoRead (Byte i (Respond b)) = ⊥
 IsNoRead _ = Unit {0}
 
 pub data Reads (me : PipeId) (source : StreamId) (b : Acts) : Type 0 where

@@ -1,13 +1,19 @@
 -- The read requests of a readable stream, each of some weight, after an operation: none comes but by a read, and none stays where a reader
 -- goes.
-use Rattle.std.proofs.Common.{◌≡◌, ℕ, ◌+◌, ◌≤◌, true, false, is_some, List, [], ◌∷◌, ◌++◌, Ok, Err, refl, arith}
+use Rattle.std.proofs.Common.{◌≡◌, ℕ, ◌+◌, ◌≤◌, true, false, is_some, List, [], ◌∷◌, ◌++◌, Ok, Err, refl, ap, arith}
 use Rattle.ws_value.specs.declared.{ids.PromiseId.{PromiseId}, ids.StreamId.{StreamId}}
 use Rattle.ws_value.specs.declared.value.{Plain.{Plain}, Value.{Value}}
+use Rattle.ws_steps.specs.declared.byte.ByteOperation.{ByteOperation}
+use Rattle.ws_steps.specs.declared.byte.ByteOperation.TheVariants.{PullInto}
+use Rattle.ws_steps.specs.declared.effects.Effect.{Effect}
+use Rattle.ws_steps.specs.declared.effects.Effect.TheVariants.{ChunkSteps, CloseSteps, CloseStepsWith, ErrorSteps}
 use Rattle.ws_steps.specs.declared.queue.Queued.{Queued}
 use Rattle.ws_steps.specs.declared.readable.{ReadRequest.{ReadRequest}, ReadableOperation.{ReadableOperation}, ReadableState.{ReadableState}, ReadableState.TheVariants.{Readable, Closed, Errored}}
 use Rattle.ws_steps.specs.declared.readable.ReadableOperation.TheVariants as names
-use Rattle.ws_steps.specs.Operations.{readable_operation}
+use Rattle.ws_steps.specs.Bytes as byte
+use Rattle.ws_steps.specs.Operations.{readable_operation, byte_readable_operation, byte_operation}
 use Rattle.ws_steps.specs.Readable.{Acts, waiting, call_pull_if_needed, accept_for, accept, controller_enqueue, stream_close, stream_error, close_if_empty, controller_close, controller_error, after_take, pull_from, pull_steps, read_by, default_reader_read, reader_generic_initialize, disturb, cancel_readable_by, cancel_if_readable, start_settled, pull_settled, cancel_steps, cancel_by, stream_cancel, reader_release}
+use Rattle.ws_laws.proofs.ByteHands.{sum_of, Weighs, given_read, given_into, byte_readable-hands, byte-hands}
 
 module _ (w : ReadRequest → ℕ) where
   abbrev pub count : List ReadRequest → ℕ
@@ -102,3 +108,49 @@ module _ (w : ReadRequest → ℕ) where
     pub release-none : (a : Acts) → is_some a.slots.reader ≡ true → count (reader_release me a).slots.requests ≡ 0
     unfolding reader_release
     release-none a e = grind (arith, e)
+
+-- of a byte stream, by what is given to it
+
+abbrev steps_weigh : (ReadRequest → ℕ) → Effect → ℕ
+steps_weigh w (ChunkSteps i q v) = w q
+steps_weigh w (CloseSteps i q) = w q
+steps_weigh w (CloseStepsWith i q b) = w q
+steps_weigh w (ErrorSteps i q e) = w q
+steps_weigh w _ = 0
+
+steps-weigh : (w : ReadRequest → ℕ) (me : StreamId) → Weighs me w (steps_weigh w)
+steps-weigh w me = record { chunk = λ q v. refl; close = λ q. refl; close_with = λ q b. refl; error = λ q e. refl; pull = refl; cancel = λ r p. refl }
+
+count-sum : (w : ReadRequest → ℕ) (rs : List ReadRequest) → sum_of w rs ≡ count w rs
+count-sum w [] = refl
+count-sum w (r ∷ rs) = let n = count-sum w rs in omega (arith, n)
+
+module _ (w : ReadRequest → ℕ) (me : StreamId) where
+  abbrev pub asked_into : ByteOperation → ℕ
+  asked_into (PullInto room element minimum request) = w request
+  asked_into _ = 0
+
+  given-read : (operation : ReadableOperation) → given_read w operation ≡ asked w operation
+  given-read operation = grind arith
+
+  given-into : (operation : ByteOperation) → given_into w operation ≡ asked_into operation
+  given-into operation = grind arith
+
+  fewer-by : (n m : ℕ) (a b : byte.Acts) → a.out.effects ≡ [] → n ≡ m → sum_of w b.slots.stream.requests + sum_of (steps_weigh w) b.out.effects ≤ (sum_of w a.slots.stream.requests + sum_of (steps_weigh w) a.out.effects) + n
+      → count w b.slots.stream.requests ≤ count w a.slots.stream.requests + m
+  fewer-by n m a b none e h =
+      let x = count-sum w b.slots.stream.requests in
+      let y = count-sum w a.slots.stream.requests in
+      let z = ap (sum_of (steps_weigh w)) none in omega (arith, x, y, z, e, h)
+
+  pub byte_readable-few : (operation : ReadableOperation) (a : byte.Acts) → a.out.effects ≡ [] → count w (byte_readable_operation me operation a).slots.stream.requests ≤ count w a.slots.stream.requests + asked w operation
+  byte_readable-few operation a none =
+      fewer-by (given_read w operation) (asked w operation) a (byte_readable_operation me operation a) none (given-read operation) (byte_readable-hands me w (steps_weigh w) (steps-weigh w me) operation a)
+
+  pub byte-few : (operation : ByteOperation) (a : byte.Acts) → a.out.effects ≡ [] → count w (byte_operation me operation a).slots.stream.requests ≤ count w a.slots.stream.requests + asked_into operation
+  byte-few operation a none =
+      fewer-by (given_into w operation) (asked_into operation) a (byte_operation me operation a) none (given-into operation) (byte-hands me w (steps_weigh w) (steps-weigh w me) operation a)
+
+  pub byte_release-none : (a : byte.Acts) → is_some a.slots.stream.reader ≡ true → count w (byte.reader_release me a).slots.stream.requests ≡ 0
+  unfolding byte.reader_release
+  byte_release-none a e = release-none w me (record { slots = a.slots.stream; out = a.out }) e

@@ -1,15 +1,18 @@
 -- The reads that wait at streams over every run: none where there is no reader, and at the source of a pipe its own alone, one where it is
 -- reading.
 use Rattle.std.proofs.Common.{◌≡◌, ◌⊎◌, inl, inr, ⊎_elim, ℕ, zero, suc, ◌+◌, ◌≤◌, Bool, true, false, nat_eq, if◌then◌else◌, is_some, List, [], ◌∷◌, ◌++◌, length, All, Option, Some, None, slice_get, refl, sym, ap, subst, arith}
+use Rattle.std.specs.Prelude.{is_none}
 use Rattle.std.proofs.lemmas.List.Elements.{All-nil, All-cons}
-use Rattle.ws_value.specs.declared.{ids.LockId.{LockId}, ids.PipeId.{PipeId}, ids.PromiseId.{PromiseId}, ids.SignalId.{SignalId}, ids.StreamId.{StreamId}, value.Plain.{Plain}}
-use Rattle.ws_steps.specs.declared.calls.{Call.{Call}, StartBy.{StartBy}, StartBy.TheVariants.{Now, Later}}
+use Rattle.ws_value.specs.declared.{ids.PipeId.{PipeId}, ids.PromiseId.{PromiseId}, ids.SignalId.{SignalId}, ids.StreamId.{StreamId}, value.Plain.{Plain}}
+use Rattle.ws_steps.specs.declared.byte.ByteOperation.{ByteOperation}
+use Rattle.ws_steps.specs.declared.calls.{Call.{Call}, Call.TheVariants.{ReadInto}, StartBy.{StartBy}, StartBy.TheVariants.{Now, Later}}
 use Rattle.ws_steps.specs.declared.effects.Effect.{Effect}
-use Rattle.ws_steps.specs.declared.effects.Effect.TheVariants.{Readable as OnReadable, Writable as OnWritable, Pipe as OnPipe}
-use Rattle.ws_steps.specs.declared.{effects.Owner.TheVariants.{Host, HalfOf}, locks.Lock.TheVariants.{Reader}, promises.Job.{Job}, pipes.PipeOperation.{PipeOperation}, pipes.Prevent.{Prevent}}
-use Rattle.ws_steps.specs.declared.readable.{ReadRequest.{ReadRequest}, ReadRequest.TheVariants.{Promise, Pipe as PipeRequest}, ReadableOperation.{ReadableOperation}, ReadableOperation.TheVariants.{ReleaseReader, Read}}
+use Rattle.ws_steps.specs.declared.effects.Effect.TheVariants.{Readable as OnReadable, Byte, Writable as OnWritable, Pipe as OnPipe}
+use Rattle.ws_steps.specs.declared.{effects.Owner.TheVariants.{Host, HalfOf}, locks.Lock.TheVariants.{Reader, ByobReader}, promises.Job.{Job}, pipes.PipeOperation.{PipeOperation}, pipes.Prevent.{Prevent}}
+use Rattle.ws_steps.specs.declared.readable.{ReadRequest.{ReadRequest}, ReadRequest.TheVariants.{Promise, Pipe as PipeRequest}, ReadableOperation.{ReadableOperation}, ReadableOperation.TheVariants.{ReleaseReader}}
 use Rattle.ws_steps.specs.declared.{readable.SizeBy.TheVariants.{Count}, transform.TransformId.{TransformId}}
 use Rattle.ws_steps.specs.declared.writable.WritableOperation.TheVariants.{ReleaseWriter}
+use Rattle.ws_steps.specs.ByteLaws.{EachByteStreamIsMeant}
 use Rattle.ws_steps.specs.Calls as calls
 use Rattle.ws_steps.specs.Calls.{Begun, begin}
 use Rattle.ws_steps.specs.Histories.{is_same}
@@ -19,7 +22,7 @@ use Rattle.ws_steps.specs.Pipes as pipe
 use Rattle.ws_steps.specs.Promises.{Table, next_id, fresh, is_pending_at, after_next_job}
 use Rattle.ws_steps.specs.Readable as readable
 use Rattle.ws_steps.specs.Run.{Entry, run}
-use Rattle.ws_steps.specs.Slots.{Slots, Stream, ReadableStream, WritableStream, empty, with_promises, ends_at, readable_at, as_readable, lock_at, as_pipe}
+use Rattle.ws_steps.specs.Slots.{Slots, Stream, ReadableStream, ByteStream, WritableStream, empty, with_promises, ends_at, source_at, as_byte, as_source, as_pipe}
 use Rattle.ws_steps.specs.Turns.{row}
 use Rattle.ws_steps.specs.Writable as writable
 use Rattle.ws_laws.proofs.Begin.{begin-makes}
@@ -36,15 +39,18 @@ use Rattle.ws_pipe_laws.proofs.Reading.{of_effect, no_answer}
 use Rattle.ws_lock_laws.specs.Locks.{Reading, holds, is_locked}
 use Rattle.ws_lock_laws.specs.LockLaws.{EachSourceIsReadByItsPipe, EachReadingHasOneRead}
 use Rattle.ws_lock_laws.proofs.Agenda.{goes}
-use Rattle.ws_lock_laws.proofs.Asking.{requests_at, any, other, Queued, ReadsFirst, Asks, none-first, none-asks, EachQueued, row-queued, pipe-asks, other-silent, holds_before, one_at_most}
-use Rattle.ws_lock_laws.proofs.Begins.{free_reader}
-use Rattle.ws_lock_laws.proofs.Holding.{locks-there, pipes-there}
+use Rattle.ws_lock_laws.proofs.Asking.{requests_at, any, other, Queued, ReadsFirst, Asks, none-first, none-asks, EachQueued, row-queued, pipe-asks, other-silent, asks-meant, holds_before}
+use Rattle.ws_lock_laws.proofs.Begins.{free_reader, job-calm, no_takes}
+use Rattle.ws_lock_laws.proofs.IntoAsks.{reader-asks, into-asks}
+use Rattle.ws_lock_laws.proofs.KindBegins.{call-kind}
 use Rattle.ws_lock_laws.proofs.PipeReads.{IsNoRead}
 use Rattle.ws_lock_laws.proofs.Piping.{operation-goes}
+use Rattle.ws_lock_laws.proofs.ReaderKinds.{OfKind, KindHeld, byte_look, defaults, byobs, default_none-all, byob_none-all, row-kind}
 use Rattle.ws_lock_laws.proofs.Requests.{count}
-use Rattle.ws_lock_laws.proofs.Rows.{is_there, Balanced, ending_over}
+use Rattle.ws_lock_laws.proofs.Rows.{Balanced, ending_over}
 use Rattle.ws_lock_laws.proofs.Runs.{Locked, locked-stays, run-locked}
-use Rattle.ws_lock_laws.proofs.Underway.{Under, has_held, reads_now, Finds, finds, row-under}
+use Rattle.ws_lock_laws.proofs.Underway.{Under, has_held, reads_now, Finds, finds, FindsBytes, finds-bytes, row-under}
+use Rattle.ws_steps.specs.Bytes as byte
 
 -- at each moment of a run
 record Known (s : Slots) (es : List Effect) : Type 0 where
@@ -53,6 +59,7 @@ record Known (s : Slots) (es : List Effect) : Type 0 where
   asks : Asks s es
   queued : EachQueued s
   under : (p : PipeId) → Under p s es
+  kinds : (i : StreamId) → OfKind i s es
 
 -- each effect
 
@@ -77,11 +84,15 @@ row-known s e es k =
       first = asks.0;
       asks = asks.1;
       queued = row-queued s e es k.locked.first (λ i. k.locked.each Reading i) k.asks (before s e es k.locked.waits) k.queued;
-      under = λ p. row-under p s e es (λ i operation is. by p i operation is) (k.under p);
+      under = λ p. row-under p s e es (λ i operation is. by p i operation is) (λ i operation is. bytes p i operation is) (k.under p);
+      kinds = λ i. row-kind i s e es k.locked.first k.locked.waits (k.locked.each Reading i) (asks-meant s e es k.locked.first (k.locked.each Reading) k.kinds k.asks) (k.kinds i);
     }
   where
     by : (p : PipeId) (i : StreamId) (operation : ReadableOperation) → e ≡ OnReadable i operation → Finds p i operation s
-    by p i operation is = let l : Known s (OnReadable i operation ∷ es) = subst (λ (z : Effect). Known s (z ∷ es)) is k in finds p i operation s es l.locked.first (l.locked.each Reading i) l.asks l.queued
+    by p i operation is = let l : Known s (OnReadable i operation ∷ es) = subst (λ (z : Effect). Known s (z ∷ es)) is k in finds p i operation s es l.locked.first (l.locked.each Reading i) (l.kinds i) l.asks l.queued
+
+    bytes : (p : PipeId) (i : StreamId) (operation : ByteOperation) → e ≡ Byte i operation → FindsBytes p i operation s
+    bytes p i operation is = let l : Known s (Byte i operation ∷ es) = subst (λ (z : Effect). Known s (z ∷ es)) is k in finds-bytes p i operation s es (l.locked.each Reading i) l.asks l.queued
 
 -- calls and jobs
 
@@ -103,35 +114,32 @@ start-silent q j Later = tt
 job-silent : (job : Job) → Each IsNoRead (job_effects job)
 job-silent job = grind arith
 
--- a reader that has the stream asks, and no pipe has it
-reader-asks : (s : Slots) (l : LockId) (i : StreamId) (closed q : PromiseId) → lock_at l s ≡ Some (Reader (Some i) closed) → Balanced Reading i s [] → Asks s (OnReadable i (Read (Promise q)) ∷ [])
-reader-asks s l i closed q e b =
-    let n = locks-there Reading i l.0 s.locks (Reader (Some i) closed) e in
-    let self = ap one_if (is_same-refl i) in
-    (omega (arith, n, self), λ p h. by p (slice_get s.pipes p.0) refl h)
-  where
-    by : (p : PipeId) (o : Option pipe.Slots) → slice_get s.pipes p.0 ≡ o → holds Reading i (as_pipe o) ≡ true → other p (Promise q) ≡ 0
-    by p None f h = absurd (cc)
-    by p (Some x) f h =
-        let n = locks-there Reading i l.0 s.locks (Reader (Some i) closed) e in
-        let self = ap one_if (is_same-refl i) in
-        let m = pipes-there Reading i p.0 s.pipes x f in
-        let one = ap one_if h in
-        let few = b.few in
-        let most = one_at_most (is_there Reading (slice_get s.streams i.0)) in
-        absurd (omega (arith, n, self, m, one, few, most))
+-- other calls than a read into a room
+abbrev IsNoInto : Call → Type 0
+IsNoInto (ReadInto l room element least) = ⊥
+IsNoInto _ = Unit {0}
 
-call-asks : (c : Call) (s : Slots) → ((i : StreamId) → Balanced Reading i s []) → ReadsFirst (begin c s).done.caused × Asks (begin c s).done.slots (begin c s).done.caused
-call-asks c s k = each_call (λ (b : Begun). ReadsFirst b.done.caused × Asks b.done.slots b.done.caused) c s (record {
+other-asks : (c : Call) (s : Slots) → IsNoInto c → ((i : StreamId) → Balanced Reading i s []) → ReadsFirst (begin c s).done.caused × Asks (begin c s).done.slots (begin c s).done.caused
+other-asks c s other k = each_call (λ (b : Begun). ReadsFirst b.done.caused × Asks b.done.slots b.done.caused) c s (record {
   unchanged = λ reply. (tt, tt);
   rejected = (tt, tt);
   make_readable = λ mark size start. (tt, tt);
   make_writable = λ mark size start. (tt, tt);
+  get_byob = λ i is e. (tt, tt);
+  release_byob = λ l closed i e.
+      let kept : Bool = readable.is_readable (source_at i s).state in
+      silent (calls.release_reader (ByobReader None) l closed i s).done.slots _ (each-append IsNoRead (calls.reject_renewed s.promises kept) (OnReadable i ReleaseReader ∷ []) (renewed-silent s.promises kept) (tt, tt));
+  read_into = λ l i closed room element least e f. absurd (subst IsNoInto e other);
+  enqueue_bytes = λ i b e is some can. (tt, tt);
+  finish_bytes = λ i e is can. (tt, tt);
+  make_request = λ i reply is. (tt, tt);
+  respond = λ r i b e is can. (tt, ap is_none can);
+  make_bytes = λ mark auto start. (tt, tt);
   get_reader = λ i e. (tt, tt);
   get_writer = λ i e. (tt, tt);
   release_reader = λ l closed i e.
-      let kept : Bool = readable.is_readable (readable_at i s).state in
-      silent (calls.release_reader l closed i s).done.slots _ (each-append IsNoRead (calls.reject_renewed s.promises kept) (OnReadable i ReleaseReader ∷ []) (renewed-silent s.promises kept) (tt, tt));
+      let kept : Bool = readable.is_readable (source_at i s).state in
+      silent (calls.release_reader (Reader None) l closed i s).done.slots _ (each-append IsNoRead (calls.reject_renewed s.promises kept) (OnReadable i ReleaseReader ∷ []) (renewed-silent s.promises kept) (tt, tt));
   release_writer = λ l i w e f.
       let ready : Bool = is_pending_at w.ready s.promises in
       let t : Table = calls.with_renewed s.promises ready in
@@ -158,6 +166,10 @@ call-asks c s k = each_call (λ (b : Begun). ReadsFirst b.done.caused × Asks b.
   settle = λ h answer q e. (tt, tt);
 })
 
+call-asks : (c : Call) (s : Slots) → ((i : StreamId) → Balanced Reading i s []) → ReadsFirst (begin c s).done.caused × Asks (begin c s).done.slots (begin c s).done.caused
+call-asks (ReadInto l room element least) s k = into-asks room element least s l k
+call-asks c s k = other-asks c s tt k
+
 -- a pipe takes a source without requests
 
 appended : (ps : List pipe.Slots) (y : pipe.Slots) (n : ℕ) → (slice_get (ps ++ y ∷ []) n ≡ slice_get ps n) ⊎ ((slice_get ps n ≡ None) × (slice_get (ps ++ y ∷ []) n ≡ Some y))
@@ -173,7 +185,7 @@ other_few p (r ∷ rs) = let n = one r in let rest = other_few p rs in omega (ar
     one : (r : ReadRequest) → other p r ≤ 1
     one r = grind arith
 
-pipe-made : (i : StreamId) (source dest : StreamId) (prevent : Prevent) (signal : Option SignalId) (promise : PromiseId) (s : Slots) → is_some (readable_at source s).reader ≡ false → Queued i (slice_get s.streams i.0) s.pipes
+pipe-made : (i : StreamId) (source dest : StreamId) (prevent : Prevent) (signal : Option SignalId) (promise : PromiseId) (s : Slots) → is_some (source_at source s).reader ≡ false → Queued i (slice_get s.streams i.0) s.pipes
     → Queued i (slice_get s.streams i.0) (s.pipes ++ pipe.set_up source dest prevent signal promise ∷ [])
 pipe-made i source dest prevent signal promise s free k = record { free = k.free; own = λ p h. by p h (appended s.pipes y p.0) }
   where
@@ -206,6 +218,14 @@ call-queued c s k = each_call (λ (b : Begun). EachQueued b.done.slots) c s (rec
   rejected = k;
   make_readable = λ mark size start i. stream-made i (ReadableStream (readable.set_up Host mark size)) s refl (k i);
   make_writable = λ mark size start i. stream-made i (WritableStream (writable.set_up Host mark size)) s refl (k i);
+  get_byob = λ i is e. k;
+  release_byob = λ l closed i e. k;
+  read_into = λ l i closed room element least e f. k;
+  enqueue_bytes = λ i b e is some can. k;
+  finish_bytes = λ i e is can. k;
+  make_request = λ i reply is. k;
+  respond = λ r i b e is can. k;
+  make_bytes = λ mark auto start i. stream-made i (ByteStream (byte.set_up mark auto)) s refl (k i);
   get_reader = λ i e. k;
   get_writer = λ i e. k;
   release_reader = λ l closed i e. k;
@@ -258,9 +278,17 @@ module _ (p : PipeId) where
     rejected = refl;
     make_readable = λ mark size start. refl;
     make_writable = λ mark size start. refl;
+    get_byob = λ i is e. refl;
+    release_byob = λ l closed i e. renewed-none s.promises (readable.is_readable (source_at i s).state) _ refl;
+    read_into = λ l i closed room element least e f. refl;
+    enqueue_bytes = λ i b e is some can. refl;
+    finish_bytes = λ i e is can. refl;
+    make_request = λ i reply is. refl;
+    respond = λ r i b e is can. refl;
+    make_bytes = λ mark auto start. refl;
     get_reader = λ i e. refl;
     get_writer = λ i e. refl;
-    release_reader = λ l closed i e. renewed-none s.promises (readable.is_readable (readable_at i s).state) _ refl;
+    release_reader = λ l closed i e. renewed-none s.promises (readable.is_readable (source_at i s).state) _ refl;
     release_writer = λ l i w e f.
         let ready : Bool = is_pending_at w.ready s.promises in
         let t : Table = calls.with_renewed s.promises ready in
@@ -310,18 +338,30 @@ module _ (p : PipeId) where
         pipe = λ z source dest prevent signal promise k. pipe-under z source dest prevent signal promise k;
         signal = λ z k. k;
         transform = λ z kind i j change k. k;
+        bytes = λ z mark auto k. stream-under z _ refl k;
+        byob_requests = λ z hs k. k;
         readable = λ z owner mark size k. stream-under z _ refl k;
         writable = λ z owner mark size k. stream-under z _ refl k;
       }) c s k in
       let n = call-none c s in
       omega (arith, m, n)
 
+job-kind : (i : StreamId) (job : Job) (s : Slots) (t : Table) → OfKind i s [] → OfKind i (with_promises t s) (job_effects job)
+job-kind i job s t k =
+    let none = no_takes (job_effects job) (job-calm job) in
+    let d = default_none-all i (job_effects job) none in
+    let b = byob_none-all i (job_effects job) none in
+    record { default_taken = omega (arith, d); byob_taken = omega (arith, b); kind = k.kind }
+
+same-kind : (i : StreamId) (s z : Slots) → z.locks ≡ s.locks → z.pipes ≡ s.pipes → z.streams ≡ s.streams → OfKind i s [] → OfKind i z []
+same-kind i s z locks pipes streams k = rw (locks, pipes, streams) (record { default_taken = k.default_taken; byob_taken = k.byob_taken; kind = k.kind })
+
 known-stays : Stays Known
 known-stays = record {
   row = row-known;
   call = λ s c k.
       let asks = call-asks c s (λ i. k.locked.each Reading i) in
-      record { locked = locked-stays.call s c k.locked; first = asks.0; asks = asks.1; queued = call-queued c s k.queued; under = λ p. call-under p s c (k.under p) };
+      record { locked = locked-stays.call s c k.locked; first = asks.0; asks = asks.1; queued = call-queued c s k.queued; under = λ p. call-under p s c (k.under p); kinds = λ i. call-kind i c s (k.kinds i) };
   job = λ s job e k.
       let asks = silent (with_promises (after_next_job s.promises) s) (job_effects job) (job-silent job) in
       record {
@@ -330,23 +370,25 @@ known-stays = record {
         asks = asks.1;
         queued = k.queued;
         under = λ p. let w = k.under p in let n = job-none p job in omega (arith, w, n);
+        kinds = λ i. job-kind i job s (after_next_job s.promises) (k.kinds i);
       };
-  answered = λ s p k. record { locked = locked-stays.answered s p k.locked; first = tt; asks = tt; queued = k.queued; under = k.under };
-  older = λ s k. record { locked = locked-stays.older s k.locked; first = tt; asks = tt; queued = k.queued; under = k.under };
+  answered = λ s p k. record { locked = locked-stays.answered s p k.locked; first = tt; asks = tt; queued = k.queued; under = k.under; kinds = λ i. same-kind i s _ refl refl refl (k.kinds i) };
+  older = λ s k. record { locked = locked-stays.older s k.locked; first = tt; asks = tt; queued = k.queued; under = k.under; kinds = λ i. same-kind i s _ refl refl refl (k.kinds i) };
 }
 
 run-known : (entries : List Entry) → Known (run entries empty) []
 run-known entries =
     run-stays Known known-stays
     (λ s k. record {
-      locked = record { first = tt; each = λ d i. let b = k.locked.each d i in record { even = b.even; few = b.few }; waits = waits-heard s k.locked.waits };
+      locked = record { first = tt; each = λ d i. let b = k.locked.each d i in record { even = b.even; few = b.few }; waits = waits-heard s k.locked.waits; told = tt };
       first = tt;
       asks = tt;
       queued = k.queued;
       under = k.under;
+      kinds = λ i. same-kind i s _ refl refl refl (k.kinds i);
     })
     entries empty
-    (record { locked = run-locked []; first = tt; asks = tt; queued = λ i. record { free = λ f. omega arith; own = λ p h. omega arith }; under = λ p. refl })
+    (record { locked = run-locked []; first = tt; asks = tt; queued = λ i. record { free = λ f. omega arith; own = λ p h. omega arith }; under = λ p. refl; kinds = λ i. record { default_taken = omega arith; byob_taken = omega arith; kind = tt } })
 
 -- the laws
 
@@ -362,9 +404,10 @@ own_all p (r ∷ rs) n = All-cons (λ r. r ≡ PipeRequest p) r rs (one r (omega
     one (Promise q) n = absurd (omega (arith, n))
     one (PipeRequest q) n = number q (nat_eq p.0 q.0) refl n
 
-same_requests : (o : Option Stream) → requests_at o ≡ (as_readable o).requests
+same_requests : (o : Option Stream) → requests_at o ≡ (as_source o).requests
 same_requests None = refl
 same_requests (Some (ReadableStream r)) = refl
+same_requests (Some (ByteStream b)) = refl
 same_requests (Some (WritableStream w)) = refl
 
 holds-own : (x : pipe.Slots) → is_over x.phase ≡ false → holds Reading x.source x ≡ true
@@ -383,3 +426,12 @@ under_of n (Some x) w = omega (arith, w)
 
 pub each_reading_has_one_read : EachReadingHasOneRead
 each_reading_has_one_read entries p = let s : Slots = run entries empty in under_of (in_streams p s.streams) (slice_get s.pipes p.0) ((run-known entries).under p)
+
+meant_at : (o : Option Stream) (m n : ℕ) → KindHeld (byte_look o) m n → (as_byte o).astray ≡ false
+meant_at None m n k = refl
+meant_at (Some (ReadableStream r)) m n k = refl
+meant_at (Some (ByteStream b)) m n k = k.straight
+meant_at (Some (WritableStream w)) m n k = refl
+
+pub each_byte_stream_is_meant : EachByteStreamIsMeant
+each_byte_stream_is_meant entries i = let s : Slots = run entries empty in meant_at (slice_get s.streams i.0) (byobs i s) (defaults i s) ((run-known entries).kinds i).kind

@@ -1,8 +1,11 @@
 -- The reads of a pipe that are under way are as many after an operation as its record says: of a pipe, and of a readable stream, which hands
 -- each request on.
-use Rattle.std.proofs.Common.{◌≡◌, ℕ, ◌+◌, ◌-◌, true, false, ◌||◌, nat_eq, if◌then◌else◌, List, [], ◌∷◌, ◌++◌, length, Option, Some, Result, Ok, Err, refl, ap, arith}
+use Rattle.std.proofs.Common.{◌≡◌, ℕ, ◌+◌, ◌-◌, true, false, ◌||◌, nat_eq, if◌then◌else◌, List, [], ◌∷◌, ◌++◌, length, Option, Some, Result, Ok, Err, refl, ap, ◌∙◌, arith}
 use Rattle.ws_value.specs.declared.{ids.PipeId.{PipeId}, ids.PromiseId.{PromiseId}, ids.StreamId.{StreamId}}
 use Rattle.ws_value.specs.declared.value.{Plain.{Plain}, Value.{Value}}
+use Rattle.ws_steps.specs.declared.byte.ByteOperation.{ByteOperation}
+use Rattle.ws_steps.specs.declared.byte.ByteOperation.TheVariants.{InitializeByobReader}
+use Rattle.ws_steps.specs.declared.effects.Effect.{Effect}
 use Rattle.ws_steps.specs.declared.effects.Effect.TheVariants.{ChunkSteps, CancelAlgorithm}
 use Rattle.ws_steps.specs.declared.pipes.{Action.{Action}, Action.TheVariants.{CancelSource, BySignal}, Ends.{Ends}, Phase.{Phase}, Phase.TheVariants.{Flowing, Waiting, Acting, Over}}
 use Rattle.ws_steps.specs.declared.pipes.{PipeOperation.{PipeOperation}, PipeOperation.TheVariants.{Look, LookReady, KeepChunk, ReadEnded, WriteChunk, GoOn, WriteEnded, Abort as AbortPipe, ActionSettled, PartSettled, NoParts}}
@@ -10,8 +13,9 @@ use Rattle.ws_steps.specs.declared.queue.Queued.{Queued}
 use Rattle.ws_steps.specs.declared.readable.{ReadRequest.{ReadRequest}, ReadableOperation.{ReadableOperation}, ReadableState.{ReadableState}, ReadableState.TheVariants.{Readable, Closed, Errored}}
 use Rattle.ws_steps.specs.declared.readable.ReadableOperation.TheVariants as names
 use Rattle.ws_steps.specs.declared.writable.{WritableState.{WritableState}, WritableState.TheVariants.{Writable, Erroring, Errored as WritableErrored, Closed as WritableClosed}}
+use Rattle.ws_steps.specs.Bytes as byte
 use Rattle.ws_steps.specs.Effects.{type_error}
-use Rattle.ws_steps.specs.Operations.{readable_operation, pipe_operation}
+use Rattle.ws_steps.specs.Operations.{readable_operation, byte_readable_operation, byte_operation, pipe_operation}
 use Rattle.ws_pipe_laws.specs.PipeMoves.{starting}
 use Rattle.ws_pipe_laws.specs.PipeReads.{is_of}
 use Rattle.ws_steps.specs.Pipes.{Slots, Acts, finalize, proceed, is_flowing, shutdown, unless, read_or_wait, look_by, look, look_ready, go_on_in, go_on, keep_chunk, read_ended, write_held, write_chunk, write_ended, action_settled, part_settled, no_parts, abort}
@@ -19,10 +23,13 @@ use Rattle.ws_steps.specs.Promises.{Table}
 use Rattle.ws_steps.specs.Readable as readable
 use Rattle.ws_steps.specs.Readable.{close_all, error_all, waiting, call_pull_if_needed, accept_for, accept, controller_enqueue, stream_close, stream_error, close_if_empty, controller_close, controller_error, after_take, pull_from, pull_steps, read_by, default_reader_read, reader_generic_initialize, disturb, cancel_readable_by, cancel_if_readable, start_settled, pull_settled, cancel_steps, cancel_by, stream_cancel, reader_release}
 use Rattle.ws_steps.specs.Writable.{is_closed}
+use Rattle.ws_laws.proofs.ByteHands.{sum_of, Weighs, given_read, given_into}
 use Rattle.ws_laws.proofs.Tables.{either}
+use Rattle.ws_laws.proofs.Truth.{false_true}
 use Rattle.ws_writable_laws.proofs.Shape.{all, all-append}
 use Rattle.ws_pipe_laws.specs.PipeReads.{held_values, one_if, in_requests}
-use Rattle.ws_pipe_laws.proofs.Reading.{is_answer, of_readable, of_effect, reads, Steady, finalize-steady, proceed-steady, shutdown-steady}
+use Rattle.ws_pipe_laws.proofs.Reading.{is_answer, of_readable, of_byte, of_effect, reads, Steady, finalize-steady, proceed-steady, shutdown-steady}
+use Rattle.ws_lock_laws.proofs.ByteRequests as requests
 
 -- an operation of the pipe itself, where n of its reads are elsewhere
 
@@ -211,3 +218,47 @@ module _ (p : PipeId) (me : StreamId) where
   readable-hands (names.StartSettled (Err e)) a first = erring-hands e a
   readable-hands (names.PullSettled (Ok v)) a first = let h = pull-hands (record a { slots = record a.slots { pulling = false; pull_again = false } }) in grind (arith, h)
   readable-hands (names.PullSettled (Err e)) a first = erring-hands e a
+
+-- of a byte stream
+
+sum-requests : (p : PipeId) (rs : List ReadRequest) → sum_of (is_of p) rs ≡ in_requests p rs
+sum-requests p [] = refl
+sum-requests p (q ∷ qs) = let n = sum-requests p qs in omega (arith, n)
+
+sum-effects : (p : PipeId) (es : List Effect) → sum_of (of_effect p) es ≡ all (of_effect p) es
+sum-effects p [] = refl
+sum-effects p (e ∷ es) = let n = sum-effects p es in omega (arith, n)
+
+weighs : (p : PipeId) (me : StreamId) → Weighs me (is_of p) (of_effect p)
+weighs p me = record { chunk = λ q x. refl; close = λ q. refl; close_with = λ q b. refl; error = λ q e. refl; pull = refl; cancel = λ r q. refl }
+
+given-read : (p : PipeId) (operation : ReadableOperation) → given_read (is_of p) operation ≡ of_readable p operation
+given-read p operation = grind arith
+
+given-into : (p : PipeId) (operation : ByteOperation) → given_into (is_of p) operation ≡ of_byte p operation
+given-into p operation = grind arith
+
+module _ (p : PipeId) (me : StreamId) where
+  abbrev pub HandsBytes : ℕ → byte.Acts → byte.Acts → Type 0
+  HandsBytes n a b = in_requests p b.slots.stream.requests + all (of_effect p) b.out.effects ≡ in_requests p a.slots.stream.requests + all (of_effect p) a.out.effects + n
+
+  summed : (n m : ℕ) (a b : byte.Acts) → n ≡ m → sum_of (is_of p) b.slots.stream.requests + sum_of (of_effect p) b.out.effects ≡ (sum_of (is_of p) a.slots.stream.requests + sum_of (of_effect p) a.out.effects) + n → HandsBytes m a b
+  summed n m a b same h =
+      let c = sum-requests p b.slots.stream.requests in
+      let d = sum-requests p a.slots.stream.requests in
+      let e = sum-effects p b.out.effects in
+      let f = sum-effects p a.out.effects in omega (arith, c, d, e, f, same, h)
+
+  pub byte_readable-hands : (operation : ReadableOperation) (a : byte.Acts) → ((closed : PromiseId) → operation ≡ names.InitializeReader closed → in_requests p a.slots.stream.requests ≡ 0)
+      → ((request : ReadRequest) → operation ≡ names.Read request → byte.may_read a.slots ≡ true) → HandsBytes (of_readable p operation) a (byte_readable_operation me operation a)
+  byte_readable-hands operation a first meant =
+      summed (given_read (is_of p) operation) (of_readable p operation) a (byte_readable_operation me operation a) (given-read p operation)
+      (requests.byte_readable-hands me (is_of p) (of_effect p) (weighs p me) operation a
+      (record { none = λ c e. sum-requests p a.slots.stream.requests ∙ first c e; meant = λ q e m. false_true (byte.may_read a.slots) (meant q e) m }))
+
+  pub byte-hands : (operation : ByteOperation) (a : byte.Acts) → ((closed : PromiseId) → operation ≡ InitializeByobReader closed → in_requests p a.slots.stream.requests ≡ 0)
+      → of_byte p operation ≡ 0 → HandsBytes (of_byte p operation) a (byte_operation me operation a)
+  byte-hands operation a first none =
+      summed (given_into (is_of p) operation) (of_byte p operation) a (byte_operation me operation a) (given-into p operation)
+      (requests.byte-hands me (is_of p) (of_effect p) (weighs p me) operation a
+      (record { none = λ c e. sum-requests p a.slots.stream.requests ∙ first c e; given = given-into p operation ∙ none }))

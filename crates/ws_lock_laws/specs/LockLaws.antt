@@ -4,10 +4,12 @@ use Rattle.ws_value.specs.declared.ids.LockId.{LockId}
 use Rattle.ws_value.specs.declared.ids.PipeId.{PipeId}
 use Rattle.ws_value.specs.declared.ids.PromiseId.{PromiseId}
 use Rattle.ws_value.specs.declared.ids.StreamId.{StreamId}
+use Rattle.ws_steps.specs.declared.byte.ByteOperation.{ByteOperation}
+use Rattle.ws_steps.specs.declared.byte.ByteOperation.TheVariants.{InitializeByobReader, PullInto}
 use Rattle.ws_steps.specs.declared.calls.Call.{Call}
 use Rattle.ws_steps.specs.declared.effects.Effect.{Effect}
-use Rattle.ws_steps.specs.declared.effects.Effect.TheVariants.{Readable as OnReadable, Writable as OnWritable}
-use Rattle.ws_steps.specs.declared.locks.Lock.TheVariants.{Reader, Writer}
+use Rattle.ws_steps.specs.declared.effects.Effect.TheVariants.{Readable as OnReadable, Byte, Writable as OnWritable}
+use Rattle.ws_steps.specs.declared.locks.Lock.TheVariants.{Reader, ByobReader, Writer}
 use Rattle.ws_steps.specs.declared.readable.ReadRequest.TheVariants.{Pipe as PipeRequest}
 use Rattle.ws_steps.specs.declared.readable.ReadableOperation.{ReadableOperation}
 use Rattle.ws_steps.specs.declared.readable.ReadableOperation.TheVariants.{InitializeReader, ReleaseReader, Disturb, Read, Cancel, CancelIfReadable}
@@ -17,7 +19,7 @@ use Rattle.ws_steps.specs.Calls.{begin}
 use Rattle.ws_steps.specs.Histories.{is_same}
 use Rattle.ws_steps.specs.Pipes as pipe
 use Rattle.ws_steps.specs.Run.{Entry, run}
-use Rattle.ws_steps.specs.Slots.{Slots, empty, lock_at, pipe_at, readable_at}
+use Rattle.ws_steps.specs.Slots.{Slots, empty, lock_at, pipe_at, source_at}
 use Rattle.ws_pipe_laws.specs.PipeHistory.{is_over}
 use Rattle.ws_pipe_laws.specs.PipeReads.{one_if, held_values, in_streams}
 use Rattle.ws_lock_laws.specs.Locks.{Side, end_of, holders, is_locked}
@@ -37,6 +39,12 @@ is_of_reader (Cancel r p) = true
 is_of_reader (CancelIfReadable r p) = true
 is_of_reader _ = false
 
+-- and of a byte stream and its BYOB reader
+abbrev pub is_of_byob_reader : ByteOperation → Bool
+is_of_byob_reader (InitializeByobReader closed) = true
+is_of_byob_reader (PullInto room element minimum request) = true
+is_of_byob_reader _ = false
+
 -- and of a writable stream and its writer
 abbrev pub is_of_writer : WritableOperation → Bool
 is_of_writer (SetUpWriter w) = true
@@ -51,6 +59,7 @@ is_of_writer _ = false
 -- effects that aren't an operation of this source's reader, nor one of this destination's writer
 abbrev pub spares : StreamId → StreamId → Effect → Bool
 spares source dest (OnReadable i operation) = not (is_of_reader operation && is_same i source)
+spares source dest (Byte i operation) = not (is_of_byob_reader operation && is_same i source)
 spares source dest (OnWritable i operation) = not (is_of_writer operation && is_same i dest)
 spares source dest _ = true
 
@@ -58,11 +67,12 @@ abbrev pub all_spare : StreamId → StreamId → List Effect → Bool
 all_spare source dest [] = true
 all_spare source dest (e ∷ es) = spares source dest e && all_spare source dest es
 
--- Both ends of a pipe are locked. No reader has its source, and no writer its destination. And no call of the host, whichever it is, begins
+-- Both ends of a pipe are locked. No reader of either kind has its source, and no writer its destination. And no call of the host, whichever it is, begins
 -- with a read, a cancel or a release of its source, or with a write, a close, an abort or a release of its destination, or locks one of them
 pub record Owns (s : Slots) (x : pipe.Slots) : Type 0 where
   pub locked : (d : Side) → is_locked d (end_of d x) s ≡ true
   pub no_reader : (l : LockId) (closed : PromiseId) → lock_at l s ≢ Some (Reader (Some x.source) closed)
+  pub no_byob_reader : (l : LockId) (closed : PromiseId) → lock_at l s ≢ Some (ByobReader (Some x.source) closed)
   pub no_writer : (l : LockId) → lock_at l s ≢ Some (Writer x.dest)
   pub calls : (c : Call) → all_spare x.source x.dest (begin c s).done.caused ≡ true
 
@@ -81,7 +91,7 @@ NoTwoPipesShareAnEnd =
 abbrev pub EachSourceIsReadByItsPipe : Type 0
 EachSourceIsReadByItsPipe =
     (entries : List Entry) (p : PipeId) → let s : Slots = run entries empty in let x : pipe.Slots = pipe_at p s in
-    is_over x.phase ≡ false → All (λ r. r ≡ PipeRequest p) (readable_at x.source s).requests
+    is_over x.phase ≡ false → All (λ r. r ≡ PipeRequest p) (source_at x.source s).requests
 
 -- in every run, where a pipe is reading, one read of it waits, or it holds the chunk of one; and where it isn't, none waits, and it holds none
 abbrev pub EachReadingHasOneRead : Type 0

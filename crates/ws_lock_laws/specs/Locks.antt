@@ -2,10 +2,10 @@
 use Rattle.std.specs.Prelude.{ℕ, ◌+◌, Bool, false, not, ◌&&◌, is_some, List, [], ◌∷◌, Option, Some, None, slice_get}
 use Rattle.ws_value.specs.declared.ids.StreamId.{StreamId}
 use Rattle.ws_steps.specs.declared.locks.Lock.{Lock}
-use Rattle.ws_steps.specs.declared.locks.Lock.TheVariants.{Reader, Writer, ReleasedWriter, Inner}
+use Rattle.ws_steps.specs.declared.locks.Lock.TheVariants.{Reader, ByobReader, Writer, ReleasedWriter, Inner}
 use Rattle.ws_steps.specs.Histories.{is_same}
 use Rattle.ws_steps.specs.Pipes as pipe
-use Rattle.ws_steps.specs.Slots.{Slots, Stream, ReadableStream, WritableStream}
+use Rattle.ws_steps.specs.Slots.{Slots, Stream, ReadableStream, ByteStream, WritableStream}
 use Rattle.ws_pipe_laws.specs.PipeHistory.{is_over}
 use Rattle.ws_pipe_laws.specs.PipeReads.{one_if}
 
@@ -18,10 +18,13 @@ pub data Side : Type 0 where
 abbrev pub has : Side → StreamId → Lock → Bool
 has Reading i (Reader (Some j) closed) = is_same i j
 has Reading i (Reader None closed) = false
+has Reading i (ByobReader (Some j) closed) = is_same i j
+has Reading i (ByobReader None closed) = false
 has Reading i (Writer j) = false
 has Reading i (ReleasedWriter w) = false
 has Reading i Inner = false
 has Writing i (Reader stream closed) = false
+has Writing i (ByobReader stream closed) = false
 has Writing i (Writer j) = is_same i j
 has Writing i (ReleasedWriter w) = false
 has Writing i Inner = false
@@ -51,8 +54,10 @@ holders d i s = in_locks d i s.locks + in_pipes d i s.pipes
 abbrev pub has_lock : Side → Option Stream → Bool
 has_lock d None = false
 has_lock Reading (Some (ReadableStream r)) = is_some r.reader
+has_lock Reading (Some (ByteStream b)) = is_some b.stream.reader
 has_lock Reading (Some (WritableStream w)) = false
 has_lock Writing (Some (ReadableStream r)) = false
+has_lock Writing (Some (ByteStream b)) = false
 has_lock Writing (Some (WritableStream w)) = is_some w.writer
 
 abbrev pub is_locked : Side → StreamId → Slots → Bool

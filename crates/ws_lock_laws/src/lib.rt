@@ -2,13 +2,14 @@
 #![tactic(auto)]
 
 ghost use Rattle.ws_lock_laws.specs.LockLaws.{EachLockHasOneHolder, EachPipeOwnsItsEnds, NoTwoPipesShareAnEnd, EachReadingHasOneRead, EachSourceIsReadByItsPipe};
+ghost use Rattle.ws_steps.specs.ByteLaws.{EachByteStreamIsMeant};
 
 /// In every run, of each stream: a readable stream has a reader where one reader or pipe has the stream, and it has none where none has it; and so a writable stream and its writer. Two never have it. A reader or a writer has its stream until it is released, and a pipe has its two streams until it is over.
 pub fn each_lock_has_one_holder()
     ensures { EachLockHasOneHolder }
 {}
 
-/// In every run, of each pipe that isn't over: its source and its destination are locked, no reader has its source, and no writer has its destination. So no call of the host, whichever it is, reads from its source, cancels, releases or locks it, or writes to its destination, closes, aborts, releases or locks it.
+/// In every run, of each pipe that isn't over: its source and its destination are locked, no reader of either kind has its source, and no writer has its destination. So no call of the host, whichever it is, reads from its source, cancels, releases or locks it, or writes to its destination, closes, aborts, releases or locks it.
 pub fn each_pipe_owns_its_ends()
     ensures { EachPipeOwnsItsEnds }
 {}
@@ -26,4 +27,9 @@ pub fn each_source_is_read_by_its_pipe()
 /// In every run, where a pipe is reading, one read of it waits at a stream, or it holds the chunk of one; and where it isn't, none waits, and it holds none.
 pub fn each_reading_has_one_read()
     ensures { EachReadingHasOneRead }
+{}
+
+/// In every run, no reader, read or response was asked of a byte stream that isn't meant for it: a reader comes only where there is none, a read of a readable stream is one of its reader and of the kind of that, into a room that has room for the least, and a response is one that doesn't throw.
+pub fn each_byte_stream_is_meant()
+    ensures { EachByteStreamIsMeant }
 {}

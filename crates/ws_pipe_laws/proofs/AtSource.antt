@@ -23,6 +23,20 @@ use Rattle.ws_laws.proofs.Tables.{either, readable_acts, writable_acts, readable
 use Rattle.ws_writable_laws.proofs.Shape.{all, all-append}
 use Rattle.ws_pipe_laws.proofs.Reading.{of_readable, of_effect, IsNone, none-all, readable-hands}
 use Rattle.ws_pipe_laws.proofs.PassingRuns.{streams-set, IsIdle, idle-causes}
+use Rattle.ws_steps.specs.declared.effects.Effect.TheVariants.{CloseStepsWith}
+use Rattle.ws_steps.specs.Slots.{ByteStream, has_byte, byte_at, on_byte, put_byte}
+use Rattle.ws_steps.specs.Turns.{on_source}
+use Rattle.ws_steps.specs.declared.effects.Effect.TheVariants.{Byte}
+use Rattle.ws_steps.specs.declared.byte.ByteOperation.{ByteOperation}
+use Rattle.ws_steps.specs.Operations.{byte_operation, byte_readable_operation}
+use Rattle.ws_laws.proofs.ByteDoes.{byte_readable-does}
+use Rattle.ws_laws.proofs.Tables.{byte_acts, byte_there}
+use Rattle.ws_laws.proofs.Rows.{of-causes, ReadableCauses}
+use Rattle.ws_laws.proofs.ReadableDoes.{readable-does}
+use Rattle.ws_pipe_laws.proofs.Reading.{ByteHands, byte_given, byte_readable_given, of_byte}
+use Rattle.ws_steps.specs.Effects.{Out}
+use Rattle.ws_steps.specs.Bytes as byte
+use Rattle.ws_steps.specs.Turns.{close_steps_with}
 
 -- the reads in streams but the one of this number
 
@@ -62,8 +76,10 @@ module _ (p : PipeId) where
   -- the reads of the pipe that an effect leads on elsewhere than at stream j
   abbrev pub off : StreamId → Effect → ℕ
   off j (OnReadable i operation) = if is_same j i then 0 else of_readable p operation
+  off j (Byte i operation) = if is_same j i then 0 else of_byte p operation
   off j (ChunkSteps i request v) = if is_same j i then 0 else is_of p request
   off j (CloseSteps i request) = if is_same j i then 0 else is_of p request
+  off j (CloseStepsWith i request b) = if is_same j i then 0 else is_of p request
   off j (ErrorSteps i request e) = if is_same j i then 0 else is_of p request
   off j _ = 0
 
@@ -73,8 +89,10 @@ module _ (p : PipeId) where
 
   pub off_few : (j : StreamId) (e : Effect) → off j e ≤ of_effect p e
   off_few j (OnReadable i operation) = fewer_or (is_same j i) (of_readable p operation)
+  off_few j (Byte i operation) = fewer_or (is_same j i) (of_byte p operation)
   off_few j (ChunkSteps i request v) = fewer_or (is_same j i) (is_of p request)
   off_few j (CloseSteps i request) = fewer_or (is_same j i) (is_of p request)
+  off_few j (CloseStepsWith i request b) = fewer_or (is_same j i) (is_of p request)
   off_few j (ErrorSteps i request e) = fewer_or (is_same j i) (is_of p request)
   off_few j e = omega arith
 
@@ -133,29 +151,77 @@ module _ (p : PipeId) where
   off_all j [] n = refl
   off_all j (e ∷ es) n = let a = n.0 in let b = off_all j es n.1 in omega (arith, a, b)
 
-  pub readable-off : (j i : StreamId) (operation : ReadableOperation) (s : Slots) (same : Bool) → is_same j i ≡ same
+  default-causes : (Q : Effect → Type 0) (i : StreamId) (operation : ReadableOperation) (s : Slots) → ReadableCauses Q i → Each Q (on_readable (readable_operation i operation) i s).caused
+  default-causes Q i operation s c =
+      either (λ (d : Done). Each Q d.caused) (has_readable i s) (put_readable i s (readable_operation i operation (readable_acts i s))) (nothing s)
+      (λ there. readable-does (λ (x : Out). Each Q x.effects) i (of-causes Q i c) operation (readable_acts i s) tt) (λ absent. tt)
+
+  byte-causes : (Q : Effect → Type 0) (i : StreamId) (operation : ReadableOperation) (s : Slots) → ReadableCauses Q i → Each Q (on_byte (byte_readable_operation i operation) i s).caused
+  byte-causes Q i operation s c =
+      either (λ (d : Done). Each Q d.caused) (has_byte i s) (put_byte i s (byte_readable_operation i operation (byte_acts i s))) (nothing s)
+      (λ there. byte_readable-does (λ (x : Out). Each Q x.effects) i (of-causes Q i c) operation (byte_acts i s) tt) (λ absent. tt)
+
+  default-off : (j i : StreamId) (operation : ReadableOperation) (s : Slots) (same : Bool) → is_same j i ≡ same
       → Off j s (if same then 0 else of_readable p operation) (on_readable (readable_operation i operation) i s)
   unfolding row
-  readable-off j i operation s true e =
+  default-off j i operation s true e =
       let b : readable.Acts = readable_operation i operation (readable_acts i s) in
-      let n : Each (OffNone j) (row (OnReadable i operation) s).caused = row-causes (OffNone j) (OnReadable i operation) s
+      let n : Each (OffNone j) (on_readable (readable_operation i operation) i s).caused = default-causes (OffNone j) i operation s
       (record { pull = refl; cancel = λ r q. refl; chunk = λ request v. rw e refl; close = λ request. rw e refl; error = λ request r. rw e refl }) in
-      let none = off_none j (row (OnReadable i operation) s).caused n in
+      let none = off_none j (on_readable (readable_operation i operation) i s).caused n in
       let is : j.0 ≡ i.0 = eq_numbers j.0 i.0 e in
       either (λ (d : Done). all (off j) d.caused ≡ 0 → Off j s 0 d) (has_readable i s) (put_readable i s b) (nothing s)
       (λ h m. let k = except-same p j.0 s.streams (ReadableStream b.slots) in let f = ap (λ (n : ℕ). except p j.0 (slice_set s.streams n (ReadableStream b.slots))) is in omega (arith, m, k, f))
       (λ h m. omega (arith, m)) none
-  readable-off j i operation s false e =
+  default-off j i operation s false e =
       let b : readable.Acts = readable_operation i operation (readable_acts i s) in
-      let n : Each (OffAll j) (row (OnReadable i operation) s).caused = row-causes (OffAll j) (OnReadable i operation) s
+      let n : Each (OffAll j) (on_readable (readable_operation i operation) i s).caused = default-causes (OffAll j) i operation s
       (record { pull = refl; cancel = λ r q. refl; chunk = λ request v. rw e refl; close = λ request. rw e refl; error = λ request r. rw e refl }) in
-      let same = off_all j (row (OnReadable i operation) s).caused n in
+      let same = off_all j (on_readable (readable_operation i operation) i s).caused n in
       let h = readable-hands p i operation (readable_acts i s) in
       either (λ (d : Done). all (off j) d.caused ≡ all (of_effect p) d.caused → Off j s (of_readable p operation) d) (has_readable i s) (put_readable i s b) (nothing s)
       (λ there m.
       let k = except-set p j.0 s.streams i.0 (ReadableStream (readable_at i s)) (ReadableStream b.slots) (unequal_numbers j.0 i.0 e) (readable_there (slice_get s.streams i.0) there) in
       omega (arith, m, h, k))
       (λ there m. omega (arith, m)) same
+
+  -- of a byte stream
+  on_byte-off : (n : ℕ) (j i : StreamId) (operation : byte.Acts → byte.Acts) (s : Slots) (same : Bool) → is_same j i ≡ same → ByteHands p n (byte_acts i s) (operation (byte_acts i s))
+      → (same ≡ true → Each (OffNone j) (on_byte operation i s).caused) → (same ≡ false → Each (OffAll j) (on_byte operation i s).caused) → Off j s (if same then 0 else n) (on_byte operation i s)
+  on_byte-off n j i operation s true e h none all_of =
+      let b : byte.Acts = operation (byte_acts i s) in
+      let is : j.0 ≡ i.0 = eq_numbers j.0 i.0 e in
+      either (λ (d : Done). all (off j) d.caused ≡ 0 → Off j s 0 d) (has_byte i s) (put_byte i s b) (nothing s)
+      (λ h m. let k = except-same p j.0 s.streams (ByteStream b.slots) in let f = ap (λ (n : ℕ). except p j.0 (slice_set s.streams n (ByteStream b.slots))) is in omega (arith, m, k, f))
+      (λ h m. omega (arith, m)) (off_none j (on_byte operation i s).caused (none refl))
+  on_byte-off n j i operation s false e h none all_of =
+      let b : byte.Acts = operation (byte_acts i s) in
+      either (λ (d : Done). all (off j) d.caused ≡ all (of_effect p) d.caused → Off j s n d) (has_byte i s) (put_byte i s b) (nothing s)
+      (λ there m.
+      let k = except-set p j.0 s.streams i.0 (ByteStream (byte_at i s)) (ByteStream b.slots) (unequal_numbers j.0 i.0 e) (byte_there (slice_get s.streams i.0) there) in
+      omega (arith, m, h, k))
+      (λ there m. omega (arith, m)) (off_all j (on_byte operation i s).caused (all_of refl))
+
+  pub byte-off : (j i : StreamId) (operation : ByteOperation) (s : Slots) (same : Bool) → is_same j i ≡ same → Off j s (if same then 0 else of_byte p operation) (on_byte (byte_operation i operation) i s)
+  unfolding row
+  byte-off j i operation s same e =
+      on_byte-off (of_byte p operation) j i (byte_operation i operation) s same e (byte_given p i operation (byte_acts i s))
+      (λ is. row-causes (OffNone j) (Byte i operation) s (record {
+        readable = record { pull = refl; cancel = λ r q. refl; chunk = λ request v. rw (e, is) refl; close = λ request. rw (e, is) refl; error = λ request r. rw (e, is) refl };
+        close_with = λ request b. rw (e, is) refl;
+      }))
+      (λ is. row-causes (OffAll j) (Byte i operation) s (record {
+        readable = record { pull = refl; cancel = λ r q. refl; chunk = λ request v. rw (e, is) refl; close = λ request. rw (e, is) refl; error = λ request r. rw (e, is) refl };
+        close_with = λ request b. rw (e, is) refl;
+      }))
+
+  pub readable-off : (j i : StreamId) (operation : ReadableOperation) (s : Slots) (same : Bool) → is_same j i ≡ same → Off j s (if same then 0 else of_readable p operation) (on_source operation i s)
+  readable-off j i operation s same e =
+      either (Off j s (if same then 0 else of_readable p operation)) (has_byte i s) (on_byte (byte_readable_operation i operation) i s) (on_readable (readable_operation i operation) i s)
+      (λ there. on_byte-off (of_readable p operation) j i (byte_readable_operation i operation) s same e (byte_readable_given p i operation (byte_acts i s))
+      (λ is. byte-causes (OffNone j) i operation s (record { pull = refl; cancel = λ r q. refl; chunk = λ request v. rw (e, is) refl; close = λ request. rw (e, is) refl; error = λ request r. rw (e, is) refl }))
+      (λ is. byte-causes (OffAll j) i operation s (record { pull = refl; cancel = λ r q. refl; chunk = λ request v. rw (e, is) refl; close = λ request. rw (e, is) refl; error = λ request r. rw (e, is) refl })))
+      (λ absent. default-off j i operation s same e)
 
   pub writable-off : (j i : StreamId) (operation : WritableOperation) (s : Slots) (same : Bool) → is_same j i ≡ same → except p j.0 (on_writable (writable_operation i operation) i s).slots.streams ≡ except p j.0 s.streams
   writable-off j i operation s true e =
@@ -187,6 +253,10 @@ module _ (p : PipeId) where
   close-off j s (Promise q) n = omega arith
   close-off j s (PipeRequest q) n = omega arith
 
+  pub close_with-off : (j : StreamId) (b : List ℕ) (s : Slots) (request : ReadRequest) (n : ℕ) → Off j s n (close_steps_with b s request)
+  close_with-off j b s (Promise q) n = omega arith
+  close_with-off j b s (PipeRequest q) n = omega arith
+
   pub error-off : (j : StreamId) (e : Plain) (s : Slots) (request : ReadRequest) (n : ℕ) → Off j s n (error_steps e s request)
   error-off j e s (Promise q) n = omega arith
   error-off j e s (PipeRequest q) n = omega arith
@@ -195,9 +265,11 @@ module _ (p : PipeId) where
   unfolding row
   row-off j s (OnPipe q operation) n = absurd n
   row-off j s (OnReadable i operation) n = readable-off j i operation s (is_same j i) refl
+  row-off j s (Byte i operation) n = byte-off j i operation s (is_same j i) refl
   row-off j s (OnWritable i operation) n = idle-off j s (OnWritable i operation) tt (writable-off j i operation s (is_same j i) refl)
   row-off j s (ChunkSteps i request v) n = chunk-off j v s request (off j (ChunkSteps i request v))
   row-off j s (CloseSteps i request) n = close-off j s request (off j (CloseSteps i request))
+  row-off j s (CloseStepsWith i request b) n = close_with-off j b s request (off j (CloseStepsWith i request b))
   row-off j s (ErrorSteps i request e) n = error-off j e s request (off j (ErrorSteps i request e))
   row-off j s e n = apart-off j s e tt tt
 
@@ -227,5 +299,7 @@ module _ (p : PipeId) where
       zero_or false = refl
   own_off source q dest (ChunkSteps i request v) c = absurd c
   own_off source q dest (CloseSteps i request) c = absurd c
+  own_off source q dest (CloseStepsWith i request b) c = absurd c
   own_off source q dest (ErrorSteps i request e) c = absurd c
+  own_off source q dest (Byte i operation) c = absurd c
   own_off source q dest _ c = refl

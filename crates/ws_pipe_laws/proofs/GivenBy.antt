@@ -31,6 +31,10 @@ use Rattle.ws_pipe_laws.specs.PipeHistory.{Through, nothing_through, through_the
 use Rattle.ws_pipe_laws.proofs.Reading.{of_effect, IsNone, none-all, other-none}
 use Rattle.ws_pipe_laws.proofs.PassingRuns.{through_history, has_held, Place, place_same, appended, Few, IsIdle, call-none, job-none, call-is, pipe-made, stream-made, Is, goes}
 use Rattle.ws_pipe_laws.proofs.AtSource.{except, except_few, except-append, off, all_off, kept_of, kept, none_kept, KeepsNone, each_none, pipe_keeps, Off, OffNone, off_none, idle-none, row-off, Only, OnlyAt, other-only, own_off}
+use Rattle.ws_steps.specs.declared.effects.Effect.TheVariants.{CloseStepsWith}
+use Rattle.ws_steps.specs.Turns.{close_steps_with}
+use Rattle.ws_steps.specs.declared.effects.Effect.TheVariants.{Byte}
+use Rattle.ws_steps.specs.declared.byte.ByteOperation.{ByteOperation}
 
 module _ (p : PipeId) (i : StreamId) where
   -- what stream i gave to the pipe, where the pipe read this, and is about to keep that
@@ -87,6 +91,10 @@ module _ (p : PipeId) (i : StreamId) where
   close_kept : (s : Slots) (request : ReadRequest) → kept p (close_steps s request).caused ≡ []
   close_kept s (Promise q) = refl
   close_kept s (PipeRequest q) = refl
+
+  close_with_kept : (b : List ℕ) (s : Slots) (request : ReadRequest) → kept p (close_steps_with b s request).caused ≡ []
+  close_with_kept b s (Promise q) = refl
+  close_with_kept b s (PipeRequest q) = refl
 
   error_kept : (e : Plain) (s : Slots) (request : ReadRequest) → kept p (error_steps e s request).caused ≡ []
   error_kept e s (Promise q) = refl
@@ -218,6 +226,14 @@ module _ (p : PipeId) (i : StreamId) where
       each_none p (row (OnReadable j operation) s).caused
       (row-causes (KeepsNone p) (OnReadable j operation) s (record { pull = refl; cancel = λ r q. refl; chunk = λ request v. refl; close = λ request. refl; error = λ request r. refl }))
 
+  byte_kept : (j : StreamId) (operation : ByteOperation) (s : Slots) → kept p (row (Byte j operation) s).caused ≡ []
+  byte_kept j operation s =
+      each_none p (row (Byte j operation) s).caused
+      (row-causes (KeepsNone p) (Byte j operation) s (record {
+        readable = record { pull = refl; cancel = λ r q. refl; chunk = λ request v. refl; close = λ request. refl; error = λ request r. refl };
+        close_with = λ request b. refl;
+      }))
+
   idle_kept : (s : Slots) (e : Effect) → IsIdle p e → kept p (row e s).caused ≡ []
   idle_kept s e n = let c = idle-none p s e n in none_kept p (row e s).caused (omega (arith, c))
 
@@ -225,10 +241,12 @@ module _ (p : PipeId) (i : StreamId) where
   unfolding row
   row-rest h s (OnPipe q operation) es k = pipe_row h s q operation es (nat_eq p.0 q.0) refl k
   row-rest h s (OnReadable j operation) es k = apart_row h s (OnReadable j operation) es tt refl refl refl (readable_kept j operation s) k
+  row-rest h s (Byte j operation) es k = apart_row h s (Byte j operation) es tt refl refl refl (byte_kept j operation s) k
   row-rest h s (ChunkSteps j (Promise q) v) es k = apart_row h s (ChunkSteps j (Promise q) v) es tt (none_or (is_same i j)) refl refl refl k
   row-rest h s (ChunkSteps j (PipeRequest q) v) es k =
       (other-only p (place s) s (ChunkSteps j (PipeRequest q) v) es (λ l. row-off p l s (ChunkSteps j (PipeRequest q) v) tt) k.1.0, chunk-given h s j q v es (nat_eq p.0 q.0) refl k)
   row-rest h s (CloseSteps j request) es k = apart_row h s (CloseSteps j request) es tt refl refl refl (close_kept s request) k
+  row-rest h s (CloseStepsWith j request b) es k = apart_row h s (CloseStepsWith j request b) es tt refl refl refl (close_with_kept b s request) k
   row-rest h s (ErrorSteps j request e) es k = apart_row h s (ErrorSteps j request e) es tt refl refl refl (error_kept e s request) k
   row-rest h s e es k = apart_row h s e es tt refl refl refl (idle_kept s e tt) k
 
@@ -273,6 +291,8 @@ module _ (p : PipeId) (i : StreamId) where
         pipe = λ z source dest prevent signal promise k. (pipe-made p h.through z source dest prevent signal promise k.0, made_rest h z source dest prevent signal promise k);
         signal = λ z k. k;
         transform = λ z kind i j change k. k;
+        bytes = λ z mark auto k. (stream-made p h.through z _ refl k.0, stream_rest h z _ refl k.1);
+        byob_requests = λ z hs k. k;
         readable = λ z owner mark size k. (stream-made p h.through z _ refl k.0, stream_rest h z _ refl k.1);
         writable = λ z owner mark size k. (stream-made p h.through z _ refl k.0, stream_rest h z _ refl k.1);
       }) c s k in

@@ -32,8 +32,18 @@ use Rattle.ws_laws.proofs.Tables.{either, readable_acts, writable_acts, readable
 use Rattle.ws_laws.proofs.Walker.{IsHistory, GoesUntold, RestsUntold, run-holds}
 use Rattle.ws_writable_laws.proofs.Shape.{all, all-append}
 use Rattle.ws_pipe_laws.specs.PipeHistory.{Through, nothing_through, through_then, operation_through, effect_through, run_through}
-use Rattle.ws_pipe_laws.proofs.Reading.{is_answer, of_readable, of_effect, Within, operation-within, IsNone, none-all, no_answer, other-none, transform-none, readable-hands}
+use Rattle.ws_pipe_laws.proofs.Reading.{is_answer, of_readable, of_effect, Within, operation-within, IsNone, none-all, no_answer, other-none, transform-none, readable-hands, of_byte, ByteHands, byte_readable_given, byte_given}
 use Rattle.ws_pipe_laws.proofs.Passing.{operation-passing}
+use Rattle.ws_steps.specs.Slots.{source_at}
+use Rattle.ws_steps.specs.declared.effects.Effect.TheVariants.{CloseStepsWith}
+use Rattle.ws_steps.specs.Slots.{ByteStream, has_byte, byte_at, on_byte, put_byte}
+use Rattle.ws_steps.specs.Turns.{on_source}
+use Rattle.ws_steps.specs.declared.effects.Effect.TheVariants.{Byte}
+use Rattle.ws_steps.specs.declared.byte.ByteOperation.{ByteOperation}
+use Rattle.ws_steps.specs.Operations.{byte_operation, byte_readable_operation}
+use Rattle.ws_laws.proofs.Tables.{byte_acts, byte_there}
+use Rattle.ws_steps.specs.Bytes as byte
+use Rattle.ws_steps.specs.Turns.{close_steps_with}
 
 pub through_history : IsHistory nothing_through through_then
 through_history = record {
@@ -94,13 +104,29 @@ module _ (p : PipeId) where
   carried : (s : Slots) (e : Effect) (es : List Effect) → IsNoPipe e → Carries s (of_effect p e) (row e s) → Few s (e ∷ es) → Few (row e s).slots ((row e s).caused ++ es)
   carried s e es n k w = let c = all-append (of_effect p) (row e s).caused es in rw (row-pipes e s n) (omega (arith, k, c, w))
 
-  readable-carries : (i : StreamId) (operation : ReadableOperation) (s : Slots) → Carries s (of_readable p operation) (on_readable (readable_operation i operation) i s)
-  readable-carries i operation s =
+  default-carries : (i : StreamId) (operation : ReadableOperation) (s : Slots) → Carries s (of_readable p operation) (on_readable (readable_operation i operation) i s)
+  default-carries i operation s =
       let b : readable.Acts = readable_operation i operation (readable_acts i s) in
       let h = readable-hands p i operation (readable_acts i s) in
       either (Carries s (of_readable p operation)) (has_readable i s) (put_readable i s b) (nothing s)
       (λ e. let k = streams-set p s.streams i.0 (ReadableStream (readable_at i s)) (ReadableStream b.slots) (readable_there (slice_get s.streams i.0) e) in omega (arith, h, k))
       (λ e. omega arith)
+
+  on_byte-carries : (n : ℕ) (i : StreamId) (operation : byte.Acts → byte.Acts) (s : Slots) → ByteHands p n (byte_acts i s) (operation (byte_acts i s)) → Carries s n (on_byte operation i s)
+  on_byte-carries n i operation s h =
+      let b : byte.Acts = operation (byte_acts i s) in
+      either (Carries s n) (has_byte i s) (put_byte i s b) (nothing s)
+      (λ e. let k = streams-set p s.streams i.0 (ByteStream (byte_at i s)) (ByteStream b.slots) (byte_there (slice_get s.streams i.0) e) in omega (arith, h, k))
+      (λ e. omega arith)
+
+  byte-carries : (i : StreamId) (operation : ByteOperation) (s : Slots) → Carries s (of_byte p operation) (on_byte (byte_operation i operation) i s)
+  byte-carries i operation s = on_byte-carries (of_byte p operation) i (byte_operation i operation) s (byte_given p i operation (byte_acts i s))
+
+  readable-carries : (i : StreamId) (operation : ReadableOperation) (s : Slots) → Carries s (of_readable p operation) (on_source operation i s)
+  readable-carries i operation s =
+      either (Carries s (of_readable p operation)) (has_byte i s) (on_byte (byte_readable_operation i operation) i s) (on_readable (readable_operation i operation) i s)
+      (λ is. on_byte-carries (of_readable p operation) i (byte_readable_operation i operation) s (byte_readable_given p i operation (byte_acts i s)))
+      (λ isnt. default-carries i operation s)
 
   signal-none : (operation : SignalOperation) → SignalCauses (IsNone p) operation
   signal-none (Trigger r) = λ q. no_answer (nat_eq p.0 q.0)
@@ -110,14 +136,17 @@ module _ (p : PipeId) where
   -- effects that lead no read on
   abbrev pub IsIdle : Effect → Type 0
   IsIdle (OnReadable i operation) = ⊥
+  IsIdle (Byte i operation) = ⊥
   IsIdle (OnPipe q operation) = ⊥
   IsIdle (ChunkSteps i request v) = ⊥
   IsIdle (CloseSteps i request) = ⊥
+  IsIdle (CloseStepsWith i request b) = ⊥
   IsIdle (ErrorSteps i request e) = ⊥
   IsIdle _ = Unit {0}
 
   pub idle-causes : (e : Effect) → IsIdle e → Causes (IsNone p) e
   idle-causes (OnReadable j operation) n = absurd n
+  idle-causes (Byte j operation) n = absurd n
   idle-causes (OnWritable j operation) n = record { write = refl; close = refl; abort = λ r q. refl; hand_on = λ v. refl; take = λ v t d. refl }
   idle-causes (OnPipe q operation) n = absurd n
   idle-causes (OnSignal a operation) n = signal-none operation
@@ -130,6 +159,7 @@ module _ (p : PipeId) where
   idle-causes (AbortAlgorithm j r q) n = (λ c u. refl, λ t u. refl)
   idle-causes (ChunkSteps j request v) n = absurd n
   idle-causes (CloseSteps j request) n = absurd n
+  idle-causes (CloseStepsWith j request b) n = absurd n
   idle-causes (ErrorSteps j request e) n = absurd n
   idle-causes _ n = tt
 
@@ -152,6 +182,10 @@ module _ (p : PipeId) where
   close-carries : (s : Slots) (request : ReadRequest) → Carries s (is_of p request) (close_steps s request)
   close-carries s (Promise q) = omega arith
   close-carries s (PipeRequest q) = omega arith
+
+  close_with-carries : (b : List ℕ) (s : Slots) (request : ReadRequest) → Carries s (is_of p request) (close_steps_with b s request)
+  close_with-carries b s (Promise q) = omega arith
+  close_with-carries b s (PipeRequest q) = omega arith
 
   error-carries : (e : Plain) (s : Slots) (request : ReadRequest) → Carries s (is_of p request) (error_steps e s request)
   error-carries e s (Promise q) = omega arith
@@ -185,9 +219,11 @@ module _ (p : PipeId) where
   unfolding row
   row-few s (OnPipe q operation) es w = pipe-few q operation s es (slice_get s.pipes q.0) (nat_eq p.0 q.0) refl refl w
   row-few s (OnReadable i operation) es w = carried s (OnReadable i operation) es tt (readable-carries i operation s) w
+  row-few s (Byte i operation) es w = carried s (Byte i operation) es tt (byte-carries i operation s) w
   row-few s (OnWritable i operation) es w = carried s (OnWritable i operation) es tt (idle-carries s (OnWritable i operation) tt (writable-streams i operation s)) w
   row-few s (ChunkSteps i request v) es w = carried s (ChunkSteps i request v) es tt (chunk-carries v s request) w
   row-few s (CloseSteps i request) es w = carried s (CloseSteps i request) es tt (close-carries s request) w
+  row-few s (CloseStepsWith i request b) es w = carried s (CloseStepsWith i request b) es tt (close_with-carries b s request) w
   row-few s (ErrorSteps i request e) es w = carried s (ErrorSteps i request e) es tt (error-carries e s request) w
   row-few s e es w = carried s e es tt (apart-carries s e tt tt) w
 
@@ -253,9 +289,17 @@ module _ (p : PipeId) where
     rejected = refl;
     make_readable = λ mark size start. refl;
     make_writable = λ mark size start. refl;
+    get_byob = λ i is e. refl;
+    release_byob = λ l closed i e. renewed-none s.promises (readable.is_readable (source_at i s).state) _ refl;
+    read_into = λ l i closed room element least e f. refl;
+    enqueue_bytes = λ i b e is some can. refl;
+    finish_bytes = λ i e is can. refl;
+    make_request = λ i reply is. refl;
+    respond = λ r i b e is can. refl;
+    make_bytes = λ mark auto start. refl;
     get_reader = λ i e. refl;
     get_writer = λ i e. refl;
-    release_reader = λ l closed i e. renewed-none s.promises (readable.is_readable (readable_at i s).state) _ refl;
+    release_reader = λ l closed i e. renewed-none s.promises (readable.is_readable (source_at i s).state) _ refl;
     release_writer = λ l i w e f.
         let ready : Bool = is_pending_at w.ready s.promises in
         let t : Table = calls.with_renewed s.promises ready in
@@ -313,6 +357,8 @@ module _ (p : PipeId) where
         pipe = λ z source dest prevent signal promise k. pipe-made h z source dest prevent signal promise k;
         signal = λ z k. k;
         transform = λ z kind i j change k. k;
+        bytes = λ z mark auto k. stream-made h z _ refl k;
+        byob_requests = λ z hs k. k;
         readable = λ z owner mark size k. stream-made h z _ refl k;
         writable = λ z owner mark size k. stream-made h z _ refl k;
       }) c s k in

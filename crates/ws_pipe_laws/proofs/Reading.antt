@@ -20,11 +20,18 @@ use Rattle.ws_steps.specs.Promises.{Table}
 use Rattle.ws_steps.specs.Readable as readable
 use Rattle.ws_steps.specs.Readable.{close_all, error_all, waiting, call_pull_if_needed, accept_for, accept, controller_enqueue, stream_close, stream_error, close_if_empty, controller_close, controller_error, after_take, pull_from, pull_steps, read_by, default_reader_read, reader_generic_initialize, disturb, cancel_readable_by, cancel_if_readable, start_settled, pull_settled, cancel_steps, cancel_by, stream_cancel, reader_release}
 use Rattle.ws_steps.specs.Writable.{is_writable, is_closed}
+use Rattle.ws_steps.specs.declared.byte.ByteOperation.TheVariants.{PullInto}
+use Rattle.ws_laws.proofs.ByteHands.{sum_of, Weighs, given_read, given_into, byte_readable-hands, byte-hands}
 use Rattle.ws_laws.proofs.Lists.{Each}
 use Rattle.ws_laws.proofs.PipeDoes.{PipeCauses}
 use Rattle.ws_laws.proofs.Tables.{either}
 use Rattle.ws_laws.proofs.TransformDoes.{TransformCauses}
 use Rattle.ws_writable_laws.proofs.Shape.{all, all-append}
+use Rattle.ws_steps.specs.declared.effects.Effect.TheVariants.{CloseStepsWith}
+use Rattle.ws_steps.specs.declared.effects.Effect.TheVariants.{Byte}
+use Rattle.ws_steps.specs.declared.byte.ByteOperation.{ByteOperation}
+use Rattle.ws_steps.specs.Operations.{byte_operation, byte_readable_operation}
+use Rattle.ws_steps.specs.Bytes as byte
 
 -- an answer to a read of the pipe
 abbrev pub is_answer : PipeOperation → ℕ
@@ -36,12 +43,18 @@ abbrev pub of_readable : PipeId → ReadableOperation → ℕ
 of_readable p (names.Read request) = is_of p request
 of_readable p _ = 0
 
+abbrev pub of_byte : PipeId → ByteOperation → ℕ
+of_byte p (PullInto room element minimum request) = is_of p request
+of_byte p _ = 0
+
 -- the reads of pipe p that an effect leads on
 abbrev pub of_effect : PipeId → Effect → ℕ
 of_effect p (OnReadable i operation) = of_readable p operation
+of_effect p (Byte i operation) = of_byte p operation
 of_effect p (OnPipe q operation) = if nat_eq p.0 q.0 then is_answer operation else 0
 of_effect p (ChunkSteps i request v) = is_of p request
 of_effect p (CloseSteps i request) = is_of p request
+of_effect p (CloseStepsWith i request b) = is_of p request
 of_effect p (ErrorSteps i request e) = is_of p request
 of_effect p _ = 0
 
@@ -206,7 +219,9 @@ other-none p q n source dest (OnPipe r GoOn) c = no_answer (nat_eq p.0 r.0)
 other-none p q n source dest (OnPipe r operation) c = absurd c
 other-none p q n source dest (ChunkSteps i request v) c = absurd c
 other-none p q n source dest (CloseSteps i request) c = absurd c
+other-none p q n source dest (CloseStepsWith i request b) c = absurd c
 other-none p q n source dest (ErrorSteps i request e) c = absurd c
+other-none p q n source dest (Byte i operation) c = absurd c
 other-none p q n source dest _ c = refl
 
 -- an operation of a transform stream
@@ -215,7 +230,9 @@ transform-none p t writable readable (OnReadable i (names.Read request)) c = abs
 transform-none p t writable readable (OnPipe q operation) c = absurd c
 transform-none p t writable readable (ChunkSteps i request v) c = absurd c
 transform-none p t writable readable (CloseSteps i request) c = absurd c
+transform-none p t writable readable (CloseStepsWith i request b) c = absurd c
 transform-none p t writable readable (ErrorSteps i request e) c = absurd c
+transform-none p t writable readable (Byte i operation) c = absurd c
 transform-none p t writable readable _ c = refl
 
 -- operations of readable streams hand each request on
@@ -323,3 +340,39 @@ module _ (p : PipeId) (me : StreamId) where
   readable-hands (names.StartSettled (Err e)) a = erring-hands e a
   readable-hands (names.PullSettled (Ok v)) a = let h = pull-hands (record a { slots = record a.slots { pulling = false; pull_again = false } }) in grind (arith, h)
   readable-hands (names.PullSettled (Err e)) a = erring-hands e a
+
+-- an operation of a byte stream
+
+sum-requests : (p : PipeId) (rs : List ReadRequest) → sum_of (is_of p) rs ≡ in_requests p rs
+sum-requests p [] = refl
+sum-requests p (q ∷ qs) = let n = sum-requests p qs in omega (arith, n)
+
+sum-effects : (p : PipeId) (es : List Effect) → sum_of (of_effect p) es ≡ all (of_effect p) es
+sum-effects p [] = refl
+sum-effects p (e ∷ es) = let n = sum-effects p es in omega (arith, n)
+
+weighs : (p : PipeId) (me : StreamId) → Weighs me (is_of p) (of_effect p)
+weighs p me = record { chunk = λ q x. refl; close = λ q. refl; close_with = λ q b. refl; error = λ q e. refl; pull = refl; cancel = λ r q. refl }
+
+abbrev pub ByteHands : PipeId → ℕ → byte.Acts → byte.Acts → Type 0
+ByteHands p n a b = in_requests p b.slots.stream.requests + all (of_effect p) b.out.effects ≤ in_requests p a.slots.stream.requests + all (of_effect p) a.out.effects + n
+
+summed : (p : PipeId) (n : ℕ) (a b : byte.Acts)
+    → sum_of (is_of p) b.slots.stream.requests + sum_of (of_effect p) b.out.effects ≤ sum_of (is_of p) a.slots.stream.requests + sum_of (of_effect p) a.out.effects + n → ByteHands p n a b
+summed p n a b h =
+    let c = sum-requests p b.slots.stream.requests in
+    let d = sum-requests p a.slots.stream.requests in
+    let e = sum-effects p b.out.effects in
+    let f = sum-effects p a.out.effects in omega (arith, c, d, e, f, h)
+
+given-read : (p : PipeId) (operation : ReadableOperation) → given_read (is_of p) operation ≡ of_readable p operation
+given-read p operation = grind arith
+
+given-into : (p : PipeId) (operation : ByteOperation) → given_into (is_of p) operation ≡ of_byte p operation
+given-into p operation = grind arith
+
+pub byte_readable_given : (p : PipeId) (me : StreamId) (operation : ReadableOperation) (a : byte.Acts) → ByteHands p (of_readable p operation) a (byte_readable_operation me operation a)
+byte_readable_given p me operation a = summed p (of_readable p operation) a (byte_readable_operation me operation a) (rw (← given-read p operation) (byte_readable-hands me (is_of p) (of_effect p) (weighs p me) operation a))
+
+pub byte_given : (p : PipeId) (me : StreamId) (operation : ByteOperation) (a : byte.Acts) → ByteHands p (of_byte p operation) a (byte_operation me operation a)
+byte_given p me operation a = summed p (of_byte p operation) a (byte_operation me operation a) (rw (← given-into p operation) (byte-hands me (is_of p) (of_effect p) (weighs p me) operation a))

@@ -24,7 +24,7 @@ use Rattle.ws_steps.specs.Pipes.{Acts, finalize, act_by_signal, act_by, act, pro
 use Rattle.ws_steps.specs.Promises.{Table, next_id, fresh, next_job, is_pending_at}
 use Rattle.ws_steps.specs.Readable as readable
 use Rattle.ws_steps.specs.Run.{Entry, Called, Worked, Heard, step}
-use Rattle.ws_steps.specs.Slots.{Slots, Done, ends_at, readable_at, pipe_at, as_pipe, on_pipe_at}
+use Rattle.ws_steps.specs.Slots.{Slots, Done, ends_at, pipe_at, as_pipe, on_pipe_at}
 use Rattle.ws_steps.specs.Turns.{row, moments, performed}
 use Rattle.ws_steps.proofs.PromiseLaws.{slice_get-set_other}
 use Rattle.ws_laws.proofs.EachCall.{each_call}
@@ -36,6 +36,8 @@ use Rattle.ws_laws.proofs.TransformDoes.{TransformCauses}
 use Rattle.ws_laws.proofs.Walker.{IsHistory, performed-goes, nothing-told}
 use Rattle.ws_pipe_laws.proofs.Starts.{each_read_may_start, no_other_starts_a_read}
 use Rattle.ws_pipe_laws.proofs.Unpiped.{IsUnpiped, operation-unpiped}
+use Rattle.ws_steps.specs.Slots.{source_at}
+use Rattle.ws_steps.specs.declared.effects.Effect.TheVariants.{Byte, CloseStepsWith}
 
 -- an operation that looks, or goes on to one that does; and one that may end the flowing
 abbrev looks : PipeOperation → Bool
@@ -104,6 +106,7 @@ module _ (p : PipeId) where
 
   causes-end : (e : Effect) → IsNoEnd e → Causes IsNoEnd e
   causes-end (OnReadable j operation) n = record { pull = tt; cancel = λ r q. tt; chunk = λ r v. tt; close = λ r. tt; error = λ r e. tt }
+  causes-end (Byte j operation) n = record { readable = record { pull = tt; cancel = λ r q. tt; chunk = λ r v. tt; close = λ r. tt; error = λ r e. tt }; close_with = λ r b. tt }
   causes-end (OnWritable j operation) n = record { write = tt; close = tt; abort = λ r q. tt; hand_on = λ v. tt; take = λ v t d. tt }
   causes-end (Pipe q operation) n = pipe-end q
   causes-end (Signal a (Trigger r)) n = absurd n
@@ -118,6 +121,7 @@ module _ (p : PipeId) where
   causes-end (AbortAlgorithm j r q) n = (λ c u. tt, λ t u. tt)
   causes-end (ChunkSteps j request v) n = chunk-end v request
   causes-end (CloseSteps j request) n = end-end request
+  causes-end (CloseStepsWith j request b) n = end-end request
   causes-end (ErrorSteps j request e) n = end-end request
   causes-end _ n = tt
 
@@ -148,6 +152,7 @@ module _ (p : PipeId) where
 
   causes-look : (e : Effect) → IsNoPipe e → Causes IsNoLook e
   causes-look (OnReadable j operation) n = record { pull = tt; cancel = λ r q. tt; chunk = λ r v. tt; close = λ r. tt; error = λ r e. tt }
+  causes-look (Byte j operation) n = record { readable = record { pull = tt; cancel = λ r q. tt; chunk = λ r v. tt; close = λ r. tt; error = λ r e. tt }; close_with = λ r b. tt }
   causes-look (OnWritable j operation) n = record { write = tt; close = tt; abort = λ r q. tt; hand_on = λ v. tt; take = λ v t d. tt }
   causes-look (Pipe q operation) n = absurd n
   causes-look (Signal a operation) n = signal-look operation
@@ -160,6 +165,7 @@ module _ (p : PipeId) where
   causes-look (AbortAlgorithm j r q) n = (λ c u. tt, λ t u. tt)
   causes-look (ChunkSteps j request v) n = chunk-look v request
   causes-look (CloseSteps j request) n = end-look request
+  causes-look (CloseStepsWith j request b) n = end-look request
   causes-look (ErrorSteps j request e) n = end-look request
   causes-look _ n = tt
 
@@ -362,9 +368,17 @@ module _ (p : PipeId) where
     rejected = (tt, tt);
     make_readable = λ mark size start. (tt, tt);
     make_writable = λ mark size start. (tt, tt);
+    get_byob = λ i is e. (tt, tt);
+    release_byob = λ l closed i e. renewed-look s.promises (readable.is_readable (source_at i s).state) (OnReadable i ReleaseReader ∷ []) (tt, tt);
+    read_into = λ l i closed room element least e f. (tt, tt);
+    enqueue_bytes = λ i b e is some can. (tt, tt);
+    finish_bytes = λ i e is can. (tt, tt);
+    make_request = λ i reply is. (tt, tt);
+    respond = λ r i b e is can. (tt, tt);
+    make_bytes = λ mark auto start. (tt, tt);
     get_reader = λ i e. (tt, tt);
     get_writer = λ i e. (tt, tt);
-    release_reader = λ l closed i e. renewed-look s.promises (readable.is_readable (readable_at i s).state) (OnReadable i ReleaseReader ∷ []) (tt, tt);
+    release_reader = λ l closed i e. renewed-look s.promises (readable.is_readable (source_at i s).state) (OnReadable i ReleaseReader ∷ []) (tt, tt);
     release_writer = λ l i w e f.
         let ready : Bool = is_pending_at w.ready s.promises in
         let t : Table = calls.with_renewed s.promises ready in

@@ -7,16 +7,18 @@ use Rattle.ws_steps.specs.declared.effects.Effect.TheVariants.{Readable, Writabl
 use Rattle.ws_steps.specs.declared.pipes.{PipeOperation.{PipeOperation}, PipeOperation.TheVariants.{Abort as AbortPipe}, SignalOperation.{SignalOperation}, SignalOperation.TheVariants.{Add, Forget, Trigger}}
 use Rattle.ws_steps.specs.declared.readable.ReadRequest.TheVariants.{Promise, Pipe as PipeRequest}
 use Rattle.ws_steps.specs.declared.transform.{TransformId.{TransformId}, TransformOperation.{TransformOperation}}
-use Rattle.ws_steps.specs.Operations.{readable_operation, writable_operation, pipe_operation, signal_operation, transform_operation}
+use Rattle.ws_steps.specs.Operations.{writable_operation, pipe_operation, signal_operation, transform_operation}
 use Rattle.ws_steps.specs.Pipes as pipe
 use Rattle.ws_steps.specs.Pipes.{abort_all, trigger_unless, new_signal}
-use Rattle.ws_steps.specs.Slots.{Slots, Done, nothing, has_readable, has_writable, put_readable, put_writable, as_signal, signal_at, on_pipe_at, on_signal_at, on_transform_at}
+use Rattle.ws_steps.specs.Slots.{Slots, Done, nothing, has_writable, put_writable, as_signal, signal_at, on_pipe_at, on_signal_at, on_transform_at}
 use Rattle.ws_steps.specs.Transform as transform
 use Rattle.ws_steps.specs.Turns.{row, call_host}
 use Rattle.ws_laws.proofs.Begin.{begin-makes}
-use Rattle.ws_laws.proofs.Tables.{either, readable_acts, writable_acts}
+use Rattle.ws_laws.proofs.Tables.{either, writable_acts}
 use Rattle.ws_laws.proofs.Walker.{Stays, run-stays}
 use Rattle.ws_pipe_laws.specs.SignalLaws.{EachTriggerAbortsInOrder, EachReasonStays}
+use Rattle.ws_steps.specs.declared.effects.Effect.TheVariants.{Byte, CloseStepsWith}
+use Rattle.ws_laws.proofs.Rows.{source-leaves, byte-leaves}
 
 aborts_map : (r : Plain) (ps : List PipeId) → abort_all r ps ≡ map (λ p. Pipe p (AbortPipe r)) ps
 aborts_map r [] = refl
@@ -83,8 +85,8 @@ transform-signals t operation s (Some x) = refl
 
 pub row-signals : (e : Effect) (s : Slots) → IsNoSignal e → (row e s).slots.signals ≡ s.signals
 unfolding row call_host
-row-signals (Readable i operation) s n =
-    either (λ (d : Done). d.slots.signals ≡ s.signals) (has_readable i s) (put_readable i s (readable_operation i operation (readable_acts i s))) (nothing s) (λ e. refl) (λ e. refl)
+row-signals (Readable i operation) s n = source-leaves (λ z. z.signals) (λ z x o. refl) i operation s
+row-signals (Byte i operation) s n = byte-leaves (λ z. z.signals) (λ z x o. refl) i operation s
 row-signals (Writable i operation) s n =
     either (λ (d : Done). d.slots.signals ≡ s.signals) (has_writable i s) (put_writable i s (writable_operation i operation (writable_acts i s))) (nothing s) (λ e. refl) (λ e. refl)
 row-signals (Pipe p operation) s n = pipe-signals p operation s (slice_get s.pipes p.0)
@@ -94,9 +96,11 @@ row-signals (StartAlgorithm i step Now) s n = refl
 row-signals (StartAlgorithm i step Later) s n = refl
 row-signals (ChunkSteps i (Promise p) v) s n = refl
 row-signals (CloseSteps i (Promise p)) s n = refl
+row-signals (CloseStepsWith i (Promise p) b) s n = refl
 row-signals (ErrorSteps i (Promise p) e) s n = refl
 row-signals (ChunkSteps i (PipeRequest p) v) s n = refl
 row-signals (CloseSteps i (PipeRequest p)) s n = refl
+row-signals (CloseStepsWith i (PipeRequest p) b) s n = refl
 row-signals (ErrorSteps i (PipeRequest p) e) s n = refl
 row-signals _ s n = refl
 
@@ -148,6 +152,8 @@ module _ (a : SignalId) (q : Plain) where
       pipe = λ z source dest prevent signal promise k. k;
       signal = λ z k. last_reason z.signals a.0 new_signal q k;
       transform = λ z kind i j change k. k;
+      bytes = λ z mark auto k. k;
+      byob_requests = λ z hs k. k;
       readable = λ z owner mark size k. k;
       writable = λ z owner mark size k. k;
     }) c s h;

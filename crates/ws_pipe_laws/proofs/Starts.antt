@@ -21,6 +21,7 @@ use Rattle.ws_laws.proofs.PipeDoes.{PipeCauses, IsQuiet}
 use Rattle.ws_laws.proofs.Rows.{Causes, ChunkCauses, EndCauses, SignalCauses, row-causes}
 use Rattle.ws_laws.proofs.Tables.{either, eq_numbers}
 use Rattle.ws_laws.proofs.TransformDoes.{TransformCauses}
+use Rattle.ws_steps.specs.declared.effects.Effect.TheVariants.{Byte, CloseStepsWith}
 
 -- a shutdown starts no read
 module _ (me : PipeId) where
@@ -202,6 +203,7 @@ module _ (p : PipeId) where
 
   none-causes : (e : Effect) → ((o : PipeOperation) → e ≢ OnPipe p o) → Causes IsNone e
   none-causes (OnReadable j operation) n = record { pull = tt; cancel = λ r q. tt; chunk = λ r v. tt; close = λ r. tt; error = λ r e. tt }
+  none-causes (Byte j operation) n = record { readable = record { pull = tt; cancel = λ r q. tt; chunk = λ r v. tt; close = λ r. tt; error = λ r e. tt }; close_with = λ r b. tt }
   none-causes (OnWritable j operation) n = record { write = tt; close = tt; abort = λ r q. tt; hand_on = λ v. tt; take = λ v t d. tt }
   none-causes (OnPipe q operation) n = pipe-none q (other_pipe q operation n (nat_eq p.0 q.0) refl)
   none-causes (Signal a operation) n = signal-none operation
@@ -214,6 +216,7 @@ module _ (p : PipeId) where
   none-causes (AbortAlgorithm j r q) n = (λ c u. tt, λ t u. tt)
   none-causes (ChunkSteps j request v) n = chunk-none v request
   none-causes (CloseSteps j request) n = end-none request
+  none-causes (CloseStepsWith j request b) n = end-none request
   none-causes (ErrorSteps j request e) n = end-none request
   none-causes _ n = tt
 

@@ -27,6 +27,7 @@ use Rattle.ws_laws.proofs.TransformDoes.{TransformCauses}
 use Rattle.ws_laws.proofs.Walker.{performed-goes, nothing-told, step-goes_untold}
 use Rattle.ws_pipe_laws.specs.PipeReads.{held_values, EachStepPasses}
 use Rattle.ws_pipe_laws.proofs.PassingRuns.{through_history, Is, goes, rests, each_is, passing_of}
+use Rattle.ws_steps.specs.declared.effects.Effect.TheVariants.{Byte, CloseStepsWith}
 
 module _ (p : PipeId) where
   -- no write of the pipe
@@ -59,6 +60,7 @@ module _ (p : PipeId) where
   -- no effect causes one
   none-causes : (e : Effect) → Causes IsNoWrite e
   none-causes (OnReadable j operation) = record { pull = tt; cancel = λ r q. tt; chunk = λ r v. tt; close = λ r. tt; error = λ r e. tt }
+  none-causes (Byte j operation) = record { readable = record { pull = tt; cancel = λ r q. tt; chunk = λ r v. tt; close = λ r. tt; error = λ r e. tt }; close_with = λ r b. tt }
   none-causes (OnWritable j operation) = record { write = tt; close = tt; abort = λ r q. tt; hand_on = λ v. tt; take = λ v t d. tt }
   none-causes (OnPipe q operation) = pipe-none q
   none-causes (OnSignal a operation) = signal-none operation
@@ -71,6 +73,7 @@ module _ (p : PipeId) where
   none-causes (AbortAlgorithm j r q) = (λ c u. tt, λ t u. tt)
   none-causes (ChunkSteps j request v) = chunk-none v request
   none-causes (CloseSteps j request) = end-none request
+  none-causes (CloseStepsWith j request b) = end-none request
   none-causes (ErrorSteps j request e) = end-none request
   none-causes _ = tt
 

@@ -152,6 +152,7 @@ in_requests p (q ∷ qs) = is_of p q + in_requests p qs
 
 abbrev pub in_stream : PipeId → realm.Stream → ℕ
 in_stream p (realm.ReadableStream r) = in_requests p r.requests
+in_stream p (realm.ByteStream b) = in_requests p b.stream.requests
 in_stream p (realm.WritableStream w) = 0
 
 abbrev pub in_streams : PipeId → List realm.Stream → ℕ

@@ -1,7 +1,7 @@
 -- The reactions to a pipe's writes, with the jobs and the operations that they lead to, are at most its writes that haven't settled.
 use Rattle.std.proofs.Common.{◌≡◌, ℕ, zero, suc, ◌+◌, ◌≤◌, Bool, true, false, nat_eq, List, [], ◌∷◌, ◌++◌, length, Option, Some, None, Result, Ok, Err, slice_get, slice_set, refl, sym, ap, subst, if◌then◌else◌, arith}
 use Rattle.ws_value.specs.declared.ids.{PipeId.{PipeId}, PromiseId.{PromiseId}, SignalId.{SignalId}, StreamId.{StreamId}}
-use Rattle.ws_value.specs.declared.value.{Outcome.TheVariants.{Given, Finished}, Plain.{Plain}, Plain.TheVariants.{Undefined}, Value.{Value}, Value.TheVariants.{Plain as PlainValue}}
+use Rattle.ws_value.specs.declared.value.{Outcome.TheVariants.{Given, Finished}, Plain.{Plain}, Plain.TheVariants.{Undefined}, Value.{Value}, Value.TheVariants.{Plain as PlainValue, Bytes}}
 use Rattle.ws_steps.specs.declared.{calls.Call.{Call}, calls.HostCall.{HostCall}, calls.Event.TheVariants.{Signal as SignalEvent}, calls.StartBy.{StartBy}, calls.StartBy.TheVariants.{Now, Later}}
 use Rattle.ws_steps.specs.declared.effects.Effect.{Effect}
 use Rattle.ws_steps.specs.declared.effects.Effect.TheVariants.{Readable as OnReadable, Writable as OnWritable, Pipe as OnPipe, Signal as OnSignal, Transform as OnTransform, StartAlgorithm, PullAlgorithm, CancelAlgorithm, WriteAlgorithm, CloseAlgorithm, AbortAlgorithm, ChunkSteps, CloseSteps, ErrorSteps, Give, Settle, Queue, CallHost}
@@ -17,13 +17,13 @@ use Rattle.ws_steps.specs.Calls as calls
 use Rattle.ws_steps.specs.Calls.{Begun, begin}
 use Rattle.ws_steps.specs.Effects.{Out, cause, settling}
 use Rattle.ws_steps.specs.Jobs.{job_effects, steps, resolved, returned}
-use Rattle.ws_steps.specs.Operations.{readable_operation, writable_operation, pipe_operation, signal_operation, transform_operation}
+use Rattle.ws_steps.specs.Operations.{writable_operation, pipe_operation, signal_operation, transform_operation}
 use Rattle.ws_steps.specs.Pipes as pipe
 use Rattle.ws_steps.specs.Pipes.{Acts, causing, with_slots, reacts, forgetting, finalize, ending, act_with, abort_dest, abort_part, cancel_part, parts_of, reacts_to_all, waiting_for, wait_for_all, act_by_signal, act_by, act, proceed, is_flowing, shut_down, shutdown, unless, wait_for_ready, read_or_wait, look_by, look, look_ready, go_on_in, go_on, keep_chunk, read_ended, write, write_in, write_held, write_chunk, write_ended, action_settled, settle_whole, part_settled, no_parts, abort, abort_all}
 use Rattle.ws_steps.specs.Promises.{Table, next_id, fresh, next_job, after_next_job, is_pending_at, watch}
 use Rattle.ws_steps.specs.Run.{after_event}
 use Rattle.ws_steps.specs.Readable as readable
-use Rattle.ws_steps.specs.Slots.{Slots, Done, nothing, causes, found, ends_at, empty, with_promises, has_readable, has_writable, readable_at, owner_at, on_readable, on_writable, put_readable, put_writable, on_pipe_at, on_signal_at, on_transform_at, halves_at}
+use Rattle.ws_steps.specs.Slots.{Slots, Done, nothing, causes, found, ends_at, empty, with_promises, has_writable, owner_at, on_writable, put_writable, on_pipe_at, on_signal_at, on_transform_at, halves_at}
 use Rattle.ws_steps.specs.Transform as transform
 use Rattle.ws_steps.specs.Turns.{row, call_host, start_algorithm, pull_algorithm, cancel_algorithm, write_algorithm, close_algorithm, abort_algorithm, chunk_steps, close_steps, error_steps}
 use Rattle.ws_steps.specs.Writable.{write_to_host}
@@ -31,8 +31,7 @@ use Rattle.ws_steps.proofs.PromiseLaws.{slice_get-set_other}
 use Rattle.ws_laws.proofs.Begin.{begin-makes}
 use Rattle.ws_laws.proofs.EachCall.{each_call}
 use Rattle.ws_laws.proofs.PipeDoes.{OfPipe, pipe-does}
-use Rattle.ws_laws.proofs.ReadableDoes.{readable-does}
-use Rattle.ws_laws.proofs.Tables.{either, eq_numbers, unequal_numbers, readable_acts, writable_acts}
+use Rattle.ws_laws.proofs.Tables.{either, eq_numbers, unequal_numbers, writable_acts}
 use Rattle.ws_laws.proofs.TransformDoes.{transform-does}
 use Rattle.ws_laws.proofs.Walker.{Stays}
 use Rattle.ws_laws.proofs.Weights.{weigh, taken_off, weigh-fresh, weigh-settle, weigh-answer, weigh-micro, weigh-next, weigh-watch}
@@ -57,6 +56,16 @@ use Rattle.ws_promise_laws.proofs.PipeActs as acts
 use Rattle.ws_promise_laws.proofs.Tokens as tokens
 use Rattle.ws_pipe_laws.proofs.Reading.{no_answer}
 use Rattle.ws_pipe_write_laws.proofs.Paying.{is_ended, pays, Covered, operation-covered, PaysNone, none-paid, other-paid}
+use Rattle.ws_steps.specs.Slots.{source_at}
+use Rattle.ws_steps.specs.declared.effects.Effect.TheVariants.{CloseStepsWith}
+use Rattle.ws_steps.specs.Slots.{on_byte}
+use Rattle.ws_steps.specs.Turns.{on_source}
+use Rattle.ws_steps.specs.declared.effects.Effect.TheVariants.{Byte}
+use Rattle.ws_steps.specs.declared.byte.ByteOperation.{ByteOperation}
+use Rattle.ws_steps.specs.Operations.{byte_operation}
+use Rattle.ws_laws.proofs.ReadableDoes.{OfReadable}
+use Rattle.ws_laws.proofs.Rows.{source-out, byte-out, out_of, source-leaves, byte-leaves}
+use Rattle.ws_steps.specs.Turns.{close_steps_with}
 
 -- the writes of the pipe in a place that haven't settled
 abbrev pub unsettled_of : Option pipe.Slots → ℕ
@@ -124,18 +133,27 @@ module _ (p : PipeId) where
   settles-light : (t : Table) (x : Out) (q : PromiseId) (o : Result Plain Plain) → Light t x → Light t (settling q o x)
   settles-light t x q o h = let k = weigh-settle (of_reaction (of_write p)) q o x.promises in omega (arith, h, k)
 
-  readable-carries : (i : StreamId) (operation : ReadableOperation) (s : Slots) → Carries s 0 (on_readable (readable_operation i operation) i s)
-  readable-carries i operation s =
-      let t : Table = s.promises in
-      let h : Light t (readable_operation i operation (readable_acts i s)).out = readable-does (Light t) i (record {
+  of_readable : (t : Table) (i : StreamId) → OfReadable (Light t) i
+  of_readable t i =
+      record {
         settle = λ x q o h. settles-light t x q o h;
         pull = λ x h. causes-light t x (PullAlgorithm i) refl h;
         cancel = λ x r q h. causes-light t x (CancelAlgorithm i r q) refl h;
         chunk = λ x request v h. causes-light t x (ChunkSteps i request v) refl h;
         close = λ x request h. causes-light t x (CloseSteps i request) refl h;
         error = λ x request e h. causes-light t x (ErrorSteps i request e) refl h;
-      }) operation (readable_acts i s) (omega arith) in
-      either (Carries s 0) (has_readable i s) (put_readable i s (readable_operation i operation (readable_acts i s))) (nothing s) (λ e. (refl, omega (arith, h))) (λ e. (refl, omega arith))
+      }
+
+  readable-carries : (i : StreamId) (operation : ReadableOperation) (s : Slots) → Carries s 0 (on_source operation i s)
+  readable-carries i operation s =
+      let h : Light s.promises (out_of (on_source operation i s)) = source-out (Light s.promises) i (of_readable s.promises i) operation s (omega arith) in
+      (source-leaves (λ z. z.pipes) (λ z x o. refl) i operation s, omega (arith, h))
+
+  byte-carries : (i : StreamId) (operation : ByteOperation) (s : Slots) → Carries s 0 (on_byte (byte_operation i operation) i s)
+  byte-carries i operation s =
+      let h : Light s.promises (out_of (on_byte (byte_operation i operation) i s)) =
+      byte-out (Light s.promises) i (of_readable s.promises i) (λ x q b h. causes-light s.promises x (CloseStepsWith i q b) refl h) operation s (omega arith) in
+      (byte-leaves (λ z. z.pipes) (λ z x o. refl) i operation s, omega (arith, h))
 
   writable-carries : (i : StreamId) (operation : WritableOperation) (s : Slots) → Carries s 0 (on_writable (writable_operation i operation) i s)
   writable-carries i operation s =
@@ -188,6 +206,10 @@ module _ (p : PipeId) where
   close-carries s (Promise q) = let k = weigh-answer (of_reaction (of_write p)) q (Finished (PlainValue Undefined)) s.promises in (refl, omega (arith, k))
   close-carries s (PipeRequest q) = let n = no_answer (nat_eq p.0 q.0) in (refl, omega (arith, n))
 
+  close_with-carries : (s : Slots) (b : List ℕ) (request : ReadRequest) → Carries s 0 (close_steps_with b s request)
+  close_with-carries s b (Promise q) = let k = weigh-answer (of_reaction (of_write p)) q (Finished (Bytes b)) s.promises in (refl, omega (arith, k))
+  close_with-carries s b (PipeRequest q) = let n = no_answer (nat_eq p.0 q.0) in (refl, omega (arith, n))
+
   error-carries : (e : Plain) (s : Slots) (request : ReadRequest) → Carries s 0 (error_steps e s request)
   error-carries e s (Promise q) = let k = weigh-settle (of_reaction (of_write p)) q (Err e) s.promises in (refl, omega (arith, k))
   error-carries e s (PipeRequest q) = let n = no_answer (nat_eq p.0 q.0) in (refl, omega (arith, n))
@@ -222,6 +244,7 @@ module _ (p : PipeId) where
   unfolding row
   row-owes s (OnPipe q operation) es w = pipe_waits q operation s es (slice_get s.pipes q.0) (nat_eq p.0 q.0) refl refl w
   row-owes s (OnReadable i operation) es w = carried s (OnReadable i operation) es (readable-carries i operation s) w
+  row-owes s (Byte i operation) es w = carried s (Byte i operation) es (byte-carries i operation s) w
   row-owes s (OnWritable i operation) es w = carried s (OnWritable i operation) es (writable-carries i operation s) w
   row-owes s (OnSignal a operation) es w = carried s (OnSignal a operation) es (signal-carries a operation s (slice_get s.signals a.0)) w
   row-owes s (OnTransform t operation) es w = carried s (OnTransform t operation) es (transform-carries t operation s (slice_get s.transforms t.0)) w
@@ -233,6 +256,7 @@ module _ (p : PipeId) where
   row-owes s (AbortAlgorithm i r q) es w = carried s (AbortAlgorithm i r q) es (aborts-on i r q s (owner_at i s)) w
   row-owes s (ChunkSteps i request v) es w = carried s (ChunkSteps i request v) es (chunk-carries v s request) w
   row-owes s (CloseSteps i request) es w = carried s (CloseSteps i request) es (close-carries s request) w
+  row-owes s (CloseStepsWith i request b) es w = carried s (CloseStepsWith i request b) es (close_with-carries s b request) w
   row-owes s (ErrorSteps i request e) es w = carried s (ErrorSteps i request e) es (error-carries e s request) w
   row-owes s (Give gift u) es w = let k = weight-gift (of_write p) gift u s.promises in omega (arith, k, w)
   row-owes s (Settle q o) es w = let k = weigh-settle (of_reaction (of_write p)) q o s.promises in omega (arith, k, w)
@@ -259,6 +283,8 @@ module _ (p : PipeId) where
     pipe = λ z source dest prevent signal promise k. (let l = k.0 in let m = grown z.pipes (pipe.set_up source dest prevent signal promise) p.0 in omega (arith, l, m), k.1);
     signal = λ z k. k;
     transform = λ z kind i j change k. k;
+    bytes = λ z mark auto k. k;
+    byob_requests = λ z hs k. k;
     readable = λ z owner mark size k. k;
     writable = λ z owner mark size k. k;
   }) c s (omega arith, omega arith)
@@ -282,9 +308,17 @@ module _ (p : PipeId) where
     rejected = refl;
     make_readable = λ mark size start. refl;
     make_writable = λ mark size start. refl;
+    get_byob = λ i is e. refl;
+    release_byob = λ l closed i e. renewed-none s.promises (readable.is_readable (source_at i s).state) _ refl;
+    read_into = λ l i closed room element least e f. refl;
+    enqueue_bytes = λ i b e is some can. refl;
+    finish_bytes = λ i e is can. refl;
+    make_request = λ i reply is. refl;
+    respond = λ r i b e is can. refl;
+    make_bytes = λ mark auto start. refl;
     get_reader = λ i e. refl;
     get_writer = λ i e. refl;
-    release_reader = λ l closed i e. renewed-none s.promises (readable.is_readable (readable_at i s).state) _ refl;
+    release_reader = λ l closed i e. renewed-none s.promises (readable.is_readable (source_at i s).state) _ refl;
     release_writer = λ l i w e f.
         let ready : Bool = is_pending_at w.ready s.promises in
         let t : Table = calls.with_renewed s.promises ready in

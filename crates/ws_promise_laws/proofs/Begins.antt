@@ -1,11 +1,13 @@
 -- What calls and jobs begin with: promises that they make stand in their first effects.
 use Rattle.std.proofs.Common.{◌≡◌, ℕ, ◌+◌, ◌≤◌, zero, suc, Bool, true, false, not, nat_eq, List, [], ◌∷◌, ◌++◌, length, Option, Some, None, Result, Err, slice_get, slice_set, refl, sym, ap, arith, Ok}
+use Rattle.std.specs.Prelude.{◌*◌}
 use Rattle.ws_value.specs.declared.ids.HostId.{HostId}
 use Rattle.ws_value.specs.declared.ids.PipeId.{PipeId}
 use Rattle.ws_value.specs.declared.ids.PromiseId.{PromiseId}
 use Rattle.ws_value.specs.declared.ids.SignalId.{SignalId}
 use Rattle.ws_value.specs.declared.ids.StreamId.{StreamId}
 use Rattle.ws_value.specs.declared.value.Plain.{Plain}
+use Rattle.ws_steps.specs.declared.byte.ByteOperation.TheVariants.{PullInto}
 use Rattle.ws_steps.specs.declared.{calls.Answer.{Answer}, calls.Call.{Call}, effects.Effect.{Effect}, effects.Effect.TheVariants.{Settle as SettleEffect, Readable, Writable}}
 use Rattle.ws_steps.specs.declared.{promises.Job.{Job}, promises.Job.TheVariants.{Reaction as ReactionJob, Follow, Settle, Micro as MicroJob}, promises.Micro.TheVariants.{PipeLook, PipeWrite, PipeNoParts}, pipes.Prevent.{Prevent}}
 use Rattle.ws_steps.specs.declared.promises.Step.{Step}
@@ -24,7 +26,7 @@ use Rattle.ws_steps.specs.declared.{readable.ReadableOperation.TheVariants.{Rele
 use Rattle.ws_steps.specs.Calls.{Begun, begin, add_stream, promising, does, look}
 use Rattle.ws_steps.specs.Jobs.{job_effects, steps, resolved, returned}
 use Rattle.ws_steps.specs.Promises.{Table, fresh, next_id, next_job, after_next_job, is_pending_at}
-use Rattle.ws_steps.specs.Slots.{Slots, Stream, ReadableStream, WritableStream, with_promises, writable_at, readable_at, as_writable, host_at, pending_host}
+use Rattle.ws_steps.specs.Slots.{Slots, Stream, ReadableStream, WritableStream, with_promises, writable_at, as_writable, host_at, pending_host}
 use Rattle.ws_laws.proofs.EachCall.{each_call}
 use Rattle.ws_laws.proofs.Tables.{eq_numbers, unequal_numbers, place_last, place_before}
 use Rattle.ws_promise_laws.proofs.Holds.{holds-less, when}
@@ -34,6 +36,9 @@ use Rattle.ws_promise_laws.proofs.Realm.{Sound, sound-less, in_stream, loose_in_
 use Rattle.ws_promise_laws.proofs.Rows.{sound-promises}
 use Rattle.ws_promise_laws.proofs.Streams.{Calm, is_awaited, in_pipe}
 use Rattle.ws_promise_laws.proofs.Tokens.{names, names_any, in_step, in_hand, in_effects, in_effects-append}
+use Rattle.ws_steps.specs.Slots.{ByteStream, source_at}
+use Rattle.ws_steps.specs.declared.effects.Effect.TheVariants.{Byte}
+use Rattle.ws_steps.specs.Bytes as byte
 
 abbrev none : PromiseId → ℕ
 none x = 0
@@ -178,6 +183,18 @@ begin-sound c s k = each_call Begins c s (record {
   unchanged = λ reply. k;
   rejected = promising-sound (λ p. SettleEffect p (Err type_error) ∷ []) s (λ x p. omega arith) k;
   make_readable = λ mark size start. sound-less none _ _ (λ x. omega arith) (added-sound (ReadableStream (readable.set_up Host mark size)) s (λ x. refl) (λ x. refl) (λ e. refl) k);
+  make_bytes = λ mark auto start. sound-less none _ _ (λ x. omega arith) (added-sound (ByteStream (byte.set_up mark auto)) s (λ x. refl) (λ x. refl) (λ e. refl) k);
+  get_byob = λ i is e. sound-less (λ x. 0 + names x (next_id s.promises)) _ _ (λ x. omega arith) (locked-sound _ _ _ (fresh-sound none s k));
+  release_byob = λ l closed i e.
+      let kept : Bool = readable.is_readable (source_at i s).state in
+      let first : List Effect = calls.reject_renewed s.promises kept in
+      sound-less (λ x. 0 + in_effects x first) _ _ (λ x. let n = in_effects-append x first (Readable i ReleaseReader ∷ []) in omega arith)
+      (locked-sound _ _ _ (renewed-sound none s kept k));
+  read_into = λ l i closed room element least e f. promising-sound (λ p. Byte i (PullInto room element (least * element) (Promise p)) ∷ []) s (λ x p. omega arith) k;
+  enqueue_bytes = λ i b e is some can. sound-less none _ s (λ x. omega arith) k;
+  finish_bytes = λ i e is can. sound-less none _ s (λ x. omega arith) k;
+  make_request = λ i reply is. record { holds = holds-less (λ x. 0 + firm_in x s) (loosely_in s) _ (loosely_in s) s.promises k.holds (λ x. omega arith) (λ x. omega arith); calm = k.calm };
+  respond = λ q i b e is can. sound-less none _ s (λ x. omega arith) k;
   make_writable = λ mark size start. sound-less none _ _ (λ x. omega arith) (added-sound (WritableStream (writable.set_up Host mark size)) s (λ x. let n = when_none (is_awaited (writable.set_up Host mark size)) in omega arith)
       (λ x. let n = when_none (not (is_awaited (writable.set_up Host mark size))) in omega arith) (λ e. refl) k);
   get_reader = λ i e. sound-less (λ x. 0 + names x (next_id s.promises)) _ _ (λ x. omega arith) (locked-sound _ _ _ (fresh-sound none s k));
@@ -186,7 +203,7 @@ begin-sound c s k = each_call Begins c s (record {
       sound-less (λ x. (0 + names x (next_id s.promises)) + names x (next_id t.promises)) _ _ (λ x. omega arith)
       (locked-sound _ _ _ (fresh-sound (λ x. 0 + names x (next_id s.promises)) t (fresh-sound none s k)));
   release_reader = λ l closed i e.
-      let kept : Bool = readable.is_readable (readable_at i s).state in
+      let kept : Bool = readable.is_readable (source_at i s).state in
       let first : List Effect = calls.reject_renewed s.promises kept in
       sound-less (λ x. 0 + in_effects x first) _ _ (λ x. let n = in_effects-append x first (Readable i ReleaseReader ∷ []) in omega arith)
       (locked-sound _ _ _ (renewed-sound none s kept k));

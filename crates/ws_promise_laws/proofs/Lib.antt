@@ -6,6 +6,7 @@ pub mod Following
 pub mod Streams
 pub mod Transforming
 pub mod Readables
+pub mod Bytes
 pub mod Piping
 pub mod PipeActs
 pub mod Acting

@@ -1,9 +1,13 @@
 -- The promise that a reply names is there, in every run: a new one, one of a reader or a writer, or one that an abort was answered before.
 -- So the promises that are watched are those that replies named.
 use Rattle.std.proofs.Common.{◌≡◌, ℕ, ◌+◌, ◌≤◌, ◌<◌, zero, suc, Bool, true, false, not, ◌||◌, is_some, if◌then◌else◌, List, [], ◌∷◌, ◌++◌, length, Option, Some, None, slice_get, slice_set, refl, sym, ap, subst, ◌∙◌, arith}
+use Rattle.std.specs.Prelude.{◌&&◌, nat_eq}
+use Rattle.ws_steps.specs.Queues.{is_empty}
+use Rattle.ws_steps.specs.declared.calls.Reply.{Reply}
+use Rattle.ws_steps.specs.declared.calls.Call.TheVariants.{Request, Respond}
 use Rattle.ws_value.specs.declared.{ids.HostId.{HostId}, ids.LockId.{LockId}, ids.SignalId.{SignalId}, ids.PromiseId.{PromiseId}, ids.StreamId.{StreamId}, value.Plain.{Plain}, value.Value.{Value}}
 use Rattle.ws_steps.specs.declared.{calls.Answer.{Answer}, calls.Call.{Call}, pipes.Prevent.{Prevent}, readable.ReadableOperation.{ReadableOperation}, readable.ReadableOperation.TheVariants.{Enqueue as EnqueueChunk, Close as CloseReadable}}
-use Rattle.ws_steps.specs.declared.calls.Call.TheVariants.{MakeReadable, MakeWritable, MakeTransform, Terminate, GetReader, GetWriter, Cancel, CancelBy, Read, Write, Close, CloseBy, Abort, AbortBy, Closed, Ready, Release, Enqueue, Finish, Fail, Desired, DesiredBy, Pipe, MakeSignal, Trigger, Settle, State, Step}
+use Rattle.ws_steps.specs.declared.calls.Call.TheVariants.{MakeReadable, MakeBytes, MakeWritable, MakeTransform, Terminate, GetReader, GetByob, GetWriter, Cancel, CancelBy, Read, ReadInto, Write, Close, CloseBy, Abort, AbortBy, Closed, Ready, Release, Enqueue, Finish, Fail, Desired, DesiredBy, Pipe, MakeSignal, Trigger, Settle, State, Step}
 use Rattle.ws_steps.specs.declared.calls.Reply.TheVariants.{Promise as Named}
 use Rattle.ws_steps.specs.declared.{effects.Effect.{Effect}, effects.Owner.{Owner}, effects.Owner.TheVariants.{Host, HalfOf}, locks.Lock.{Lock}, locks.Lock.TheVariants.{Reader as ReaderLock, Writer as WriterLock, ReleasedWriter, Inner}, writable.PendingAbort.{PendingAbort}, writable.Writer.{Writer}}
 use Rattle.ws_steps.specs.Calls as calls
@@ -30,12 +34,21 @@ use Rattle.ws_promise_laws.proofs.Realm.{Sound, in_stream, loose_in_stream, in_a
 use Rattle.ws_promise_laws.proofs.Runs.{Straight, straight-stays, straight-heard, straight-empty}
 use Rattle.ws_promise_laws.proofs.Streams.{in_writable, loose_in, of_abort, of_closed, of_ready, is_alive, is_awaited}
 use Rattle.ws_promise_laws.proofs.Tokens.{one_if}
+use Rattle.ws_value.specs.declared.ids.RequestId.{RequestId}
+use Rattle.ws_value.specs.declared.fault.Fault.{Fault}
+use Rattle.ws_steps.specs.Descriptors.{Descriptor, respond_throws}
+use Rattle.ws_steps.specs.Slots.{stream_of_request}
+use Rattle.ws_value.specs.declared.value.Value.TheVariants.{Plain as PlainValue, Bytes}
+use Rattle.ws_steps.specs.Slots.{ByteStream, has_byte, byte_at, has_source, source_at}
+use Rattle.ws_steps.specs.declared.locks.Lock.TheVariants.{ByobReader}
+use Rattle.ws_steps.specs.Bytes as byte
 
 -- locks
 
 -- the promises of a lock are there
 abbrev OfLock : Table → Lock → Type 0
 OfLock t (ReaderLock stream closed) = is_there closed t ≡ true
+OfLock t (ByobReader stream closed) = is_there closed t ≡ true
 OfLock t (WriterLock i) = Unit {0}
 OfLock t (ReleasedWriter w) = (is_there w.ready t ≡ true) × (is_there w.closed t ≡ true)
 OfLock t Inner = Unit {0}
@@ -47,6 +60,7 @@ OfLocks t (l ∷ ls) = OfLock t l × OfLocks t ls
 
 lock-later : (t z : Table) (l : Lock) → Stands t z → OfLock t l → OfLock z l
 lock-later t z (ReaderLock stream closed) k h = k.there closed h
+lock-later t z (ByobReader stream closed) k h = k.there closed h
 lock-later t z (WriterLock i) k h = tt
 lock-later t z (ReleasedWriter w) k h = (k.there w.ready h.0, k.there w.closed h.1)
 lock-later t z Inner k h = tt
@@ -97,6 +111,7 @@ in_all-there h (suc n) (s ∷ ss) y e = let rest = in_all-there h n ss y e in om
 in_realm : (p : PromiseId) (s : Slots) (n : ℕ) (place : Option Stream) → slice_get s.streams n ≡ place → 1 ≤ in_writable p (as_writable place) + loose_in p (as_writable place) → 1 ≤ firm_in p s + loosely_in s p
 in_realm p s n None e stands = absurd (omega arith)
 in_realm p s n (Some (ReadableStream r)) e stands = absurd (omega arith)
+in_realm p s n (Some (ByteStream b)) e stands = absurd (omega arith)
 in_realm p s n (Some (WritableStream w)) e stands =
     let a = in_all-there (in_stream p) n s.streams (WritableStream w) e in
     let b = in_all-there (loose_in_stream p) n s.streams (WritableStream w) e in
@@ -147,21 +162,37 @@ Begins b = Answers b.reply b.done.slots.promises
 
 by_reader-begins : (holding : StreamId → Slots → Begun) (free : Slots → Begun) (s : Slots) (o : Option Lock) → ((i : StreamId) → Begins (holding i s)) → Begins (free s) → Begins (by_reader holding free s o)
 by_reader-begins holding free s None h f = tt
-by_reader-begins holding free s (Some (ReaderLock (Some i) closed)) h f = either Begins (has_readable i s) _ _ (λ e. h i) (λ e. tt)
+by_reader-begins holding free s (Some (ReaderLock (Some i) closed)) h f = either Begins (has_source i s) _ _ (λ e. h i) (λ e. tt)
 by_reader-begins holding free s (Some (ReaderLock None closed)) h f = f
+by_reader-begins holding free s (Some (ByobReader (Some i) closed)) h f = either Begins (has_source i s) _ _ (λ e. h i) (λ e. tt)
+by_reader-begins holding free s (Some (ByobReader None closed)) h f = f
 by_reader-begins holding free s (Some (WriterLock i)) h f = tt
 by_reader-begins holding free s (Some (ReleasedWriter w)) h f = tt
 by_reader-begins holding free s (Some Inner) h f = tt
 
+by_default-begins : (holding : StreamId → Slots → Begun) (free : Slots → Begun) (s : Slots) (o : Option Lock) → ((i : StreamId) → Begins (holding i s)) → Begins (free s) → Begins (calls.by_default_reader holding free s o)
+by_default-begins holding free s o h f = either Begins (calls.is_byob_reader o) _ _ (λ e. tt) (λ e. by_reader-begins holding free s o h f)
+
+by_byob-begins : (holding : StreamId → Slots → Begun) (free : Slots → Begun) (s : Slots) (o : Option Lock) → ((i : StreamId) → Begins (holding i s)) → Begins (free s) → Begins (calls.by_byob_reader holding free s o)
+by_byob-begins holding free s o h f = either Begins (calls.is_byob_reader o) _ _ (λ e. by_reader-begins holding free s o h f) (λ e. tt)
+
+read_into-begins : (room : List ℕ) (element least : ℕ) (s : Slots) (o : Option Lock) → Begins (calls.read_into_by room element least s o)
+read_into-begins room element least s o =
+    either Begins (not (calls.is_view (length room) element && nat_eq least 1)) _ _ (λ e. tt)
+    (λ e. either Begins (is_empty room) _ _
+    (λ f. by_byob-begins (λ i. calls.rejected) calls.rejected s o (λ i. next-there s.promises) (next-there s.promises))
+    (λ f. by_byob-begins (calls.read_into room element least) calls.rejected s o (λ i. next-there s.promises) (next-there s.promises)))
+
 by_writer-begins : (holding : StreamId → Slots → Begun) (free : Slots → Begun) (s : Slots) (o : Option Lock) → ((i : StreamId) → Begins (holding i s)) → Begins (free s) → Begins (by_writer holding free s o)
 by_writer-begins holding free s None h f = tt
 by_writer-begins holding free s (Some (ReaderLock stream closed)) h f = tt
+by_writer-begins holding free s (Some (ByobReader stream closed)) h f = tt
 by_writer-begins holding free s (Some (WriterLock i)) h f = either Begins (has_writable i s) _ _ (λ e. h i) (λ e. tt)
 by_writer-begins holding free s (Some (ReleasedWriter w)) h f = f
 by_writer-begins holding free s (Some Inner) h f = tt
 
 unlocked_readable-begins : (locked : Slots → Begun) (free : StreamId → Slots → Begun) (s : Slots) (i : StreamId) → Begins (locked s) → Begins (free i s) → Begins (calls.unlocked_readable i locked free s)
-unlocked_readable-begins locked free s i l f = either Begins (has_readable i s) _ _ (λ e. either Begins (readable_looks.is_locked (readable_at i s)) _ _ (λ g. l) (λ g. f)) (λ e. tt)
+unlocked_readable-begins locked free s i l f = either Begins (has_source i s) _ _ (λ e. either Begins (readable_looks.is_locked (source_at i s)) _ _ (λ g. l) (λ g. f)) (λ e. tt)
 
 unlocked_writable-begins : (locked : Slots → Begun) (free : StreamId → Slots → Begun) (s : Slots) (i : StreamId) → Begins (locked s) → Begins (free i s) → Begins (calls.unlocked_writable i locked free s)
 unlocked_writable-begins locked free s i l f = either Begins (has_writable i s) _ _ (λ e. either Begins (writable_looks.is_locked (writable_at i s)) _ _ (λ g. l) (λ g. f)) (λ e. tt)
@@ -177,6 +208,7 @@ of_writer-begins operation s (Some w) h = h w refl
 closed-begins : (s : Slots) (l : LockId) (o : Option Lock) → lock_at l s ≡ o → Known s → Begins (closed_by s o)
 closed-begins s l None e k = tt
 closed-begins s l (Some (ReaderLock stream closed)) e k = lock_in s.promises s.locks l.0 (ReaderLock stream closed) k.locks e
+closed-begins s l (Some (ByobReader stream closed)) e k = lock_in s.promises s.locks l.0 (ByobReader stream closed) k.locks e
 closed-begins s l (Some (WriterLock i)) e k = of_writer-begins (λ w. calls.replies (Named w.closed)) s (writable_at i s).writer (λ w f. closed-there s i w k f)
 closed-begins s l (Some (ReleasedWriter w)) e k = (lock_in s.promises s.locks l.0 (ReleasedWriter w) k.locks e).1
 closed-begins s l (Some Inner) e k = tt
@@ -184,14 +216,17 @@ closed-begins s l (Some Inner) e k = tt
 ready-begins : (s : Slots) (l : LockId) (o : Option Lock) → lock_at l s ≡ o → Known s → Begins (ready_by s o)
 ready-begins s l None e k = tt
 ready-begins s l (Some (ReaderLock stream closed)) e k = tt
+ready-begins s l (Some (ByobReader stream closed)) e k = tt
 ready-begins s l (Some (WriterLock i)) e k = of_writer-begins (λ w. calls.replies (Named w.ready)) s (writable_at i s).writer (λ w f. ready-there s i w k f)
 ready-begins s l (Some (ReleasedWriter w)) e k = (lock_in s.promises s.locks l.0 (ReleasedWriter w) k.locks e).0
 ready-begins s l (Some Inner) e k = tt
 
 release-begins : (s : Slots) (l : LockId) (o : Option Lock) → Begins (calls.release l s o)
 release-begins s l None = tt
-release-begins s l (Some (ReaderLock (Some i) closed)) = either Begins (has_readable i s) _ _ (λ e. tt) (λ e. tt)
+release-begins s l (Some (ReaderLock (Some i) closed)) = either Begins (has_source i s) _ _ (λ e. tt) (λ e. tt)
 release-begins s l (Some (ReaderLock None closed)) = tt
+release-begins s l (Some (ByobReader (Some i) closed)) = either Begins (has_source i s) _ _ (λ e. tt) (λ e. tt)
+release-begins s l (Some (ByobReader None closed)) = tt
 release-begins s l (Some (WriterLock i)) = of_writer-begins (calls.release_writer l i) s (writable_at i s).writer (λ w f. tt)
 release-begins s l (Some (ReleasedWriter w)) = tt
 release-begins s l (Some Inner) = tt
@@ -199,7 +234,7 @@ release-begins s l (Some Inner) = tt
 -- a pipe's promise is the last that its call makes
 pipe-begins : (source dest : StreamId) (prevent : Prevent) (signal : Option SignalId) (s : Slots) → Begins (calls.pipe_unlocked source dest prevent signal s)
 pipe-begins source dest prevent signal s =
-    either Begins (readable_looks.is_locked (readable_at source s)) _ _ (λ e. next-there s.promises)
+    either Begins (readable_looks.is_locked (source_at source s)) _ _ (λ e. next-there s.promises)
     (λ e. either Begins (writable_looks.is_locked (writable_at dest s)) _ _ (λ f. next-there s.promises) (λ f. next-there (fresh (fresh (fresh s.promises)))))
 
 signal-begins : (signal : Option SignalId) (operation : Slots → Begun) (s : Slots) → Begins (operation s) → Begins (calls.for_signal_where signal operation s)
@@ -214,6 +249,32 @@ host-begins h answer s (Some p) = tt
 
 if_it_can-begins : (s : Slots) (i : StreamId) (operation : ReadableOperation) → Begins (calls.if_it_can i operation s)
 if_it_can-begins s i operation = either Begins (readable.can_close_or_enqueue (readable_at i s)) _ _ (λ f. tt) (λ f. tt)
+
+-- nor do those of byte controllers
+
+enqueue_bytes-begins : (i : StreamId) (s : Slots) (v : Value) → Begins (calls.enqueue_bytes i s v)
+enqueue_bytes-begins i s (PlainValue v) = tt
+enqueue_bytes-begins i s (Bytes b) = either Begins (not (is_empty b) && byte.can_take (byte_at i s)) _ _ (λ e. tt) (λ e. tt)
+
+close-names : (b : byte.Slots) (t : Table) → Answers (calls.close_reply b) t
+close-names b t = either (λ (reply : Reply). Answers reply t) (byte.close_throws b) _ _ (λ e. tt) (λ e. tt)
+
+request-begins : (i : StreamId) (s : Slots) (request : Option RequestId) (ds : List Descriptor) → Begins (calls.request_by i s request ds)
+request-begins i s request [] = tt
+request-begins i s (Some q) (d ∷ ds) = tt
+request-begins i s None (d ∷ ds) = tt
+
+thrown-names : (fault : Fault) (t : Table) → Answers (calls.thrown_by fault) t
+thrown-names fault t = grind arith
+
+respond_unless-begins : (i : StreamId) (b : List ℕ) (s : Slots) (fault : Option Fault) → Begins (calls.respond_unless i b s fault)
+respond_unless-begins i b s None = tt
+respond_unless-begins i b s (Some fault) = thrown-names fault s.promises
+
+respond-begins : (q : RequestId) (b : List ℕ) (s : Slots) (i : Option StreamId) → Begins (calls.respond q b s i)
+respond-begins q b s None = tt
+respond-begins q b s (Some i) =
+    either Begins (calls.is_request q (byte_at i s).request) _ _ (λ e. respond_unless-begins i b s (respond_throws (length b) (byte_at i s).stream.state (byte_at i s).descriptors)) (λ e. tt)
 
 enqueue-begins : (v : Value) (i : StreamId) (s : Slots) (owner : Owner) → Begins (calls.enqueue_by v i s owner)
 enqueue-begins v i s Host = if_it_can-begins s i (EnqueueChunk v)
@@ -239,13 +300,18 @@ terminate-begins s (HalfOf t) = tt
 call-answers : (c : Call) (s : Slots) → Known s → Begins (begin c s)
 unfolding begin
 call-answers (MakeReadable mark size start) s k = either Begins (nat_lt (length s.streams) most_streams) _ _ (λ e. tt) (λ e. tt)
+call-answers (MakeBytes mark auto start) s k = either Begins (nat_lt (length s.streams) most_streams) _ _ (λ e. tt) (λ e. tt)
+call-answers (GetByob i) s k = unlocked_readable-begins calls.throws_type_error calls.get_byob_of s i tt (either Begins (has_byte i s) _ _ (λ e. tt) (λ e. tt))
+call-answers (ReadInto l room element least) s k = read_into-begins room element least s (lock_at l s)
+call-answers (Request i) s k = either Begins (has_byte i s) _ _ (λ e. request-begins i s (byte_at i s).request (byte_at i s).descriptors) (λ e. tt)
+call-answers (Respond q b) s k = respond-begins q b s (stream_of_request q s)
 call-answers (MakeWritable mark size start) s k = either Begins (nat_lt (length s.streams) most_streams) _ _ (λ e. tt) (λ e. tt)
 call-answers (MakeTransform kind m n start) s k = either Begins (nat_lt (length s.streams + 1) most_streams) _ _ (λ e. tt) (λ e. tt)
 call-answers (GetReader i) s k = unlocked_readable-begins calls.throws_type_error calls.get_reader s i tt tt
 call-answers (GetWriter i) s k = unlocked_writable-begins calls.throws_type_error calls.get_writer s i tt tt
 call-answers (Cancel i reason) s k = unlocked_readable-begins calls.rejected (calls.cancel reason) s i (next-there s.promises) (next-there s.promises)
 call-answers (CancelBy l reason) s k = by_reader-begins (calls.cancel reason) calls.rejected s (lock_at l s) (λ i. next-there s.promises) (next-there s.promises)
-call-answers (Read l) s k = by_reader-begins calls.read calls.rejected s (lock_at l s) (λ i. next-there s.promises) (next-there s.promises)
+call-answers (Read l) s k = by_default-begins calls.read calls.rejected s (lock_at l s) (λ i. next-there s.promises) (next-there s.promises)
 call-answers (Write l v) s k = by_writer-begins (calls.write v) calls.rejected s (lock_at l s) (λ i. next-there s.promises) (next-there s.promises)
 call-answers (Close i) s k = unlocked_writable-begins calls.rejected calls.close s i (next-there s.promises) (next-there s.promises)
 call-answers (CloseBy l) s k = by_writer-begins calls.close calls.rejected s (lock_at l s) (λ i. next-there s.promises) (next-there s.promises)
@@ -256,21 +322,21 @@ call-answers (AbortBy l reason) s k =
 call-answers (Closed l) s k = closed-begins s l (lock_at l s) refl k
 call-answers (Ready l) s k = ready-begins s l (lock_at l s) refl k
 call-answers (Release l) s k = release-begins s l (lock_at l s)
-call-answers (Enqueue i v) s k = either Begins (has_readable i s) _ _ (λ e. enqueue-begins v i s (readable_at i s).owner) (λ e. tt)
-call-answers (Finish i) s k = either Begins (has_readable i s) _ _ (λ e. finish-begins i s (readable_at i s).owner) (λ e. tt)
+call-answers (Enqueue i v) s k = either Begins (has_byte i s) _ _ (λ is. enqueue_bytes-begins i s v) (λ isnt. either Begins (has_readable i s) _ _ (λ e. enqueue-begins v i s (readable_at i s).owner) (λ e. tt))
+call-answers (Finish i) s k = either Begins (has_byte i s) _ _ (λ is. either Begins (byte.can_take (byte_at i s)) _ _ (λ can. close-names (byte_at i s) s.promises) (λ cannot. tt)) (λ isnt. either Begins (has_readable i s) _ _ (λ e. finish-begins i s (readable_at i s).owner) (λ e. tt))
 call-answers (Fail i reason) s k =
-    either Begins (has_readable i s) _ _ (λ e. fail_readable-begins reason i s (readable_at i s).owner) (λ e. either Begins (has_writable i s) _ _ (λ f. fail_writable-begins reason i s (writable_at i s).owner) (λ f. tt))
+    either Begins (has_readable i s) _ _ (λ e. fail_readable-begins reason i s (readable_at i s).owner) (λ e. either Begins (has_byte i s) _ _ (λ is. tt) (λ isnt. either Begins (has_writable i s) _ _ (λ f. fail_writable-begins reason i s (writable_at i s).owner) (λ f. tt)))
 call-answers (Terminate i) s k = either Begins (has_readable i s) _ _ (λ e. terminate-begins s (readable_at i s).owner) (λ e. tt)
-call-answers (Desired i) s k = either Begins (has_readable i s) _ _ (λ e. tt) (λ e. tt)
+call-answers (Desired i) s k = either Begins (has_source i s) _ _ (λ e. tt) (λ e. tt)
 call-answers (DesiredBy l) s k = by_writer-begins calls.desired_of_writer calls.throws_type_error s (lock_at l s) (λ i. tt) tt
 call-answers (Pipe source dest prevent signal) s k =
-    either Begins (has_readable source s) _ _
+    either Begins (has_source source s) _ _
     (λ e. either Begins (has_writable dest s) _ _ (λ f. signal-begins signal (calls.pipe_unlocked source dest prevent signal) s (pipe-begins source dest prevent signal s)) (λ f. tt))
     (λ e. tt)
 call-answers MakeSignal s k = tt
 call-answers (Trigger a reason) s k = either Begins (has_signal a s) _ _ (λ e. tt) (λ e. tt)
 call-answers (Settle h answer) s k = host-begins h answer s (host_at h s)
-call-answers (State i) s k = either Begins (has_readable i s) _ _ (λ e. tt) (λ e. either Begins (has_writable i s) _ _ (λ f. tt) (λ f. tt))
+call-answers (State i) s k = either Begins (has_source i s) _ _ (λ e. tt) (λ e. either Begins (has_writable i s) _ _ (λ f. tt) (λ f. tt))
 call-answers Step s k = tt
 
 -- what a call makes
@@ -299,11 +365,22 @@ begin-locks c s k =
       unchanged = λ reply. k.locks;
       rejected = new;
       make_readable = λ mark size start. k.locks;
+      make_bytes = λ mark auto start. k.locks;
+      get_byob = λ i is e. locks-append (fresh t) s.locks (ByobReader (Some i) (next_id t) ∷ []) new (next-there t, tt);
+      release_byob = λ l closed i e.
+          let kept : Bool = readable.is_readable (source_at i s).state in
+          locks-set (with_renewed t kept) s.locks l.0 (ByobReader None (renewed closed t kept)) (later (with_renewed t kept) (renewed-stands t kept))
+          (renewed-there closed t kept (lock_in t s.locks l.0 (ByobReader (Some i) closed) k.locks e));
+      read_into = λ l i closed room element least e f. new;
+      enqueue_bytes = λ i b e is some can. k.locks;
+      finish_bytes = λ i e is can. k.locks;
+      make_request = λ i reply is. k.locks;
+      respond = λ q i b e is can. k.locks;
       make_writable = λ mark size start. k.locks;
       get_reader = λ i e. locks-append (fresh t) s.locks (ReaderLock (Some i) (next_id t) ∷ []) new (next-there t, tt);
       get_writer = λ i e. locks-append (fresh (fresh t)) s.locks (WriterLock i ∷ []) (later (fresh (fresh t)) two) (tt, tt);
       release_reader = λ l closed i e.
-          let kept : Bool = readable.is_readable (readable_at i s).state in
+          let kept : Bool = readable.is_readable (source_at i s).state in
           locks-set (with_renewed t kept) s.locks l.0 (ReaderLock None (renewed closed t kept)) (later (with_renewed t kept) (renewed-stands t kept))
           (renewed-there closed t kept (lock_in t s.locks l.0 (ReaderLock (Some i) closed) k.locks e));
       release_writer = λ l i w e f.

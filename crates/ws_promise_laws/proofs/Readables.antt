@@ -22,31 +22,31 @@ use Rattle.ws_promise_laws.proofs.Settling.{holds-settle}
 use Rattle.ws_promise_laws.proofs.Streams.{in_requests, in_readable, Reads}
 
 -- how often a promise stands in the stream and its effects
-abbrev here : PromiseId → Acts → ℕ
+abbrev pub here : PromiseId → Acts → ℕ
 here x a = in_readable x a.slots + in_effects x a.out.effects
 
 -- nothing is settled, and no promise stands more often than it did and was given
-reads-less : (f l g : PromiseId → ℕ) (a b : Acts) → b.out.promises ≡ a.out.promises → ((x : PromiseId) → here x b ≤ here x a + g x) → Reads (λ x. f x + g x) l a → Reads f l b
+pub reads-less : (f l g : PromiseId → ℕ) (a b : Acts) → b.out.promises ≡ a.out.promises → ((x : PromiseId) → here x b ≤ here x a + g x) → Reads (λ x. f x + g x) l a → Reads f l b
 reads-less f l g a b e n k =
     rw e (holds-less (λ x. (f x + g x) + here x a) l (λ x. f x + here x b) l a.out.promises k (λ x. let m = n x in omega arith) (λ x. let m = n x in omega arith))
 
 -- a promise is settled, and stands there no more
-reads-settle : (f l g : PromiseId → ℕ) (q : PromiseId) (o : Result Plain Plain) (a b : Acts) → b.out.promises ≡ settle q o a.out.promises → ((x : PromiseId) → here x b + names x q ≤ here x a + g x)
+pub reads-settle : (f l g : PromiseId → ℕ) (q : PromiseId) (o : Result Plain Plain) (a b : Acts) → b.out.promises ≡ settle q o a.out.promises → ((x : PromiseId) → here x b + names x q ≤ here x a + g x)
     → Reads (λ x. f x + g x) l a → Reads f l b
 reads-settle f l g q o a b e n k =
     rw e (holds-settle (λ x. (f x + g x) + here x a) l (λ x. f x + here x b) l q o a.out.promises k (λ x. let m = n x in omega arith) (λ x. let m = n x in omega arith))
 
 -- where nothing is given
-reads-given : (f l : PromiseId → ℕ) (a : Acts) → Reads f l a → Reads (λ x. f x + 0) l a
+pub reads-given : (f l : PromiseId → ℕ) (a : Acts) → Reads f l a → Reads (λ x. f x + 0) l a
 reads-given f l a k = holds-less (λ x. f x + here x a) l (λ x. (f x + 0) + here x a) l a.out.promises k (λ x. omega arith) (λ x. omega arith)
 
-ungiven : (f l : PromiseId → ℕ) (a : Acts) → Reads (λ x. f x + 0) l a → Reads f l a
+pub ungiven : (f l : PromiseId → ℕ) (a : Acts) → Reads (λ x. f x + 0) l a → Reads f l a
 ungiven f l a k = holds-less (λ x. (f x + 0) + here x a) l (λ x. f x + here x a) l a.out.promises k (λ x. omega arith) (λ x. omega arith)
 
-reads-quiet : (f l : PromiseId → ℕ) (a b : Acts) → b.out.promises ≡ a.out.promises → ((x : PromiseId) → here x b ≤ here x a) → Reads f l a → Reads f l b
+pub reads-quiet : (f l : PromiseId → ℕ) (a b : Acts) → b.out.promises ≡ a.out.promises → ((x : PromiseId) → here x b ≤ here x a) → Reads f l a → Reads f l b
 reads-quiet f l a b e n k = reads-less f l (λ x. 0) a b e (λ x. let m = n x in omega arith) (reads-given f l a k)
 
-in_close_all : (x : PromiseId) (me : StreamId) (rs : List ReadRequest) → in_effects x (close_all me rs) ≡ in_requests x rs
+pub in_close_all : (x : PromiseId) (me : StreamId) (rs : List ReadRequest) → in_effects x (close_all me rs) ≡ in_requests x rs
 in_close_all x me [] = refl
 in_close_all x me (r ∷ rs) = let n = in_close_all x me rs in omega arith
 
@@ -54,7 +54,7 @@ in_error_all : (x : PromiseId) (me : StreamId) (e : Plain) (rs : List ReadReques
 in_error_all x me e [] = refl
 in_error_all x me e (r ∷ rs) = let n = in_error_all x me e rs in omega arith
 
-in_requests-append : (x : PromiseId) (rs : List ReadRequest) (r : ReadRequest) → in_requests x (rs ++ r ∷ []) ≡ in_requests x rs + of_request x r
+pub in_requests-append : (x : PromiseId) (rs : List ReadRequest) (r : ReadRequest) → in_requests x (rs ++ r ∷ []) ≡ in_requests x rs + of_request x r
 in_requests-append x [] r = omega arith
 in_requests-append x (q ∷ rs) r = let n = in_requests-append x rs r in omega arith
 
@@ -67,11 +67,11 @@ close_reader-reads f l me a (Some c) r e k =
     reads-settle f l (λ x. 0) c (Ok Undefined) a (close_reader me (record a { slots = record a.slots { state = Closed } }) (Some c)) refl
     (λ x. grind (arith, in_effects-append, in_close_all)) (reads-given f l a k)
 
-stream_close-reads : (f l : PromiseId → ℕ) (me : StreamId) (a : Acts) → is_readable a.slots.state ≡ true → Reads f l a → Reads f l (stream_close me a)
+pub stream_close-reads : (f l : PromiseId → ℕ) (me : StreamId) (a : Acts) → is_readable a.slots.state ≡ true → Reads f l a → Reads f l (stream_close me a)
 unfolding stream_close
 stream_close-reads f l me a e k = close_reader-reads f l me a a.slots.reader refl e k
 
-error_reader-reads : (f l : PromiseId → ℕ) (me : StreamId) (r : Plain) (a : Acts) (reader : Option PromiseId) → reader ≡ a.slots.reader → is_readable a.slots.state ≡ true → Reads f l a
+pub error_reader-reads : (f l : PromiseId → ℕ) (me : StreamId) (r : Plain) (a : Acts) (reader : Option PromiseId) → reader ≡ a.slots.reader → is_readable a.slots.state ≡ true → Reads f l a
     → Reads f l (error_reader me r (record a { slots = record a.slots { state = Errored; stored_error = r } }) reader)
 error_reader-reads f l me r a None h e k =
     reads-quiet f l a (error_reader me r (record a { slots = record a.slots { state = Errored; stored_error = r } }) None) refl (λ x. grind arith) k
@@ -161,7 +161,7 @@ initialize_by f l c a Closed e k =
 initialize_by f l c a Errored e k =
     reads-settle f l (λ x. names x c) c (Err a.slots.stored_error) a (record { slots = record a.slots { reader = Some c; requests = [] }; out = settle_closed c a.slots.stored_error a.out Errored }) refl (λ x. grind arith) k
 
-initialize-reads : (f l : PromiseId → ℕ) (c : PromiseId) (a : Acts) → Reads (λ x. f x + names x c) l a → Reads f l (reader_generic_initialize c a)
+pub initialize-reads : (f l : PromiseId → ℕ) (c : PromiseId) (a : Acts) → Reads (λ x. f x + names x c) l a → Reads f l (reader_generic_initialize c a)
 unfolding reader_generic_initialize
 initialize-reads f l c a k = initialize_by f l c a a.slots.state refl k
 
@@ -178,7 +178,7 @@ unlocked-reads f l me c a Readable e r k =
 unlocked-reads f l me c a Closed e r k = reads-quiet f l a (unlocked me c a Closed) refl (λ x. grind (arith, in_effects-append, in_error_all)) k
 unlocked-reads f l me c a Errored e r k = reads-quiet f l a (unlocked me c a Errored) refl (λ x. grind (arith, in_effects-append, in_error_all)) k
 
-released-reads : (f l : PromiseId → ℕ) (me : StreamId) (a : Acts) (reader : Option PromiseId) → a.slots.reader ≡ reader → Reads f l a → Reads f l (release_by me a reader)
+pub released-reads : (f l : PromiseId → ℕ) (me : StreamId) (a : Acts) (reader : Option PromiseId) → a.slots.reader ≡ reader → Reads f l a → Reads f l (release_by me a reader)
 released-reads f l me a None r k = k
 released-reads f l me a (Some c) r k = unlocked-reads f l me c a a.slots.state refl r k
 

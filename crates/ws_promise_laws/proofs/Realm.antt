@@ -16,17 +16,28 @@ use Rattle.ws_laws.proofs.Tables.{readable_there, writable_there, readable_acts,
 use Rattle.ws_promise_laws.proofs.Holds.{Holds, holds-less}
 use Rattle.ws_promise_laws.proofs.Piping.{pipes, PipeExpects}
 use Rattle.ws_promise_laws.proofs.Readables.{reads}
+use Rattle.ws_promise_laws.proofs.Bytes.{Keeps, bytes, byte_reads}
+use Rattle.ws_promise_laws.proofs.Tokens.{of_byte}
+use Rattle.ws_laws.proofs.Tables.{either}
 use Rattle.ws_promise_laws.proofs.Streams.{in_readable, in_writable, loose_in, in_pipe, in_transform, Calm, Reads, Writes, Pipes, Transforms}
 use Rattle.ws_promise_laws.proofs.Tokens.{names_any, of_readable, of_writable, of_transform, in_effects}
 use Rattle.ws_promise_laws.proofs.Transforming.{transforms}
 use Rattle.ws_promise_laws.proofs.WritableAsks.{Expects, writes}
+use Rattle.ws_steps.specs.Slots.{ByteStream, has_byte, byte_at, on_byte, put_byte}
+use Rattle.ws_steps.specs.Turns.{on_source}
+use Rattle.ws_steps.specs.declared.byte.ByteOperation.{ByteOperation}
+use Rattle.ws_steps.specs.Operations.{byte_operation, byte_readable_operation}
+use Rattle.ws_laws.proofs.Tables.{on_byte-writable, byte_acts, byte_there}
+use Rattle.ws_steps.specs.Bytes as byte
 
 abbrev pub in_stream : PromiseId → Stream → ℕ
 in_stream x (ReadableStream r) = in_readable x r
+in_stream x (ByteStream b) = in_readable x b.stream
 in_stream x (WritableStream w) = in_writable x w
 
 abbrev pub loose_in_stream : PromiseId → Stream → ℕ
 loose_in_stream x (ReadableStream r) = 0
+loose_in_stream x (ByteStream b) = 0
 loose_in_stream x (WritableStream w) = loose_in x w
 
 -- so much for each stream
@@ -134,6 +145,56 @@ on_readable_by f i operation s false e calm k =
 pub on_readable-sound : (f : PromiseId → ℕ) (i : StreamId) (operation : ReadableOperation) (s : Slots) → Sound (λ x. f x + of_readable x operation) s → Leaves f (on_readable (readable_operation i operation) i s)
 on_readable-sound f i operation s k =
     on_readable_by f i operation s (has_readable i s) refl (λ j. rw (on_readable-writable (readable_operation i operation) i s j (is_same j i) refl) (k.calm j)) k
+
+-- operations on byte streams, which are given so much
+
+byte_sound : (f g : PromiseId → ℕ) (i : StreamId) (operation : byte.Acts → byte.Acts) (s : Slots) → ((h l : PromiseId → ℕ) (a : byte.Acts) → Keeps (λ x. h x + g x) l a → Keeps h l (operation a))
+    → has_byte i s ≡ true → Sound (λ x. f x + g x) s → ((j : StreamId) → Calm (writable_at j (put_byte i s (operation (byte_acts i s))).slots)) → Leaves f (put_byte i s (operation (byte_acts i s)))
+byte_sound f g i operation s keeps e k calm =
+    let old : Stream = ByteStream (byte_at i s) in
+    let y : byte.Acts = operation (byte_acts i s) in
+    let there : slice_get s.streams i.0 ≡ Some old = byte_there (slice_get s.streams i.0) e in
+    let before : Keeps (λ x. beside f i s x + g x) (loosely_beside i s) (byte_acts i s) =
+    holds-less _ (loosely_in s) (λ x. (beside f i s x + g x) + (in_readable x (byte_at i s).stream + 0)) (loosely_beside i s) s.promises k.holds
+    (λ x. let c = in_all-set (in_stream x) i.0 s.streams old blank there in omega arith)
+    (λ x. let c = in_all-set (in_stream x) i.0 s.streams old blank there in let d = in_all-set (loose_in_stream x) i.0 s.streams old blank there in omega arith) in
+    record {
+      holds =
+          holds-less (λ x. beside f i s x + (in_readable x y.slots.stream + in_effects x y.out.effects)) (loosely_beside i s) _ _ y.out.promises (keeps (beside f i s) (loosely_beside i s) (byte_acts i s) before)
+          (λ x.
+          let b = in_all-set (in_stream x) i.0 s.streams old blank there in
+          let c = in_all-set (in_stream x) i.0 s.streams old (ByteStream y.slots) there in
+          omega arith)
+          (λ x.
+          let b = in_all-set (in_stream x) i.0 s.streams old blank there in
+          let c = in_all-set (in_stream x) i.0 s.streams old (ByteStream y.slots) there in
+          let d = in_all-set (loose_in_stream x) i.0 s.streams old blank there in
+          let e = in_all-set (loose_in_stream x) i.0 s.streams old (ByteStream y.slots) there in
+          omega arith);
+      calm = calm;
+    }
+
+on_byte_by : (f g : PromiseId → ℕ) (i : StreamId) (operation : byte.Acts → byte.Acts) (s : Slots) → ((h l : PromiseId → ℕ) (a : byte.Acts) → Keeps (λ x. h x + g x) l a → Keeps h l (operation a)) → (there : Bool) → there ≡ has_byte i s
+    → ((j : StreamId) → Calm (writable_at j (on_byte operation i s).slots)) → Sound (λ x. f x + g x) s → Leaves f (on_byte operation i s)
+on_byte_by f g i operation s keeps true e calm k =
+    let same : on_byte operation i s ≡ put_byte i s (operation (byte_acts i s)) = rw (← e) refl in
+    rw same (byte_sound f g i operation s keeps (sym e) k (rw same at calm))
+on_byte_by f g i operation s keeps false e calm k =
+    let same : on_byte operation i s ≡ nothing s = rw (← e) refl in
+    rw same (sound-less (λ x. f x + g x) (λ x. f x + 0) s (λ x. omega arith) k)
+
+on_byte_with : (f g : PromiseId → ℕ) (i : StreamId) (operation : byte.Acts → byte.Acts) (s : Slots) → ((h l : PromiseId → ℕ) (a : byte.Acts) → Keeps (λ x. h x + g x) l a → Keeps h l (operation a))
+    → Sound (λ x. f x + g x) s → Leaves f (on_byte operation i s)
+on_byte_with f g i operation s keeps k = on_byte_by f g i operation s keeps (has_byte i s) refl (λ j. rw (on_byte-writable operation i s j) (k.calm j)) k
+
+pub on_byte-sound : (f : PromiseId → ℕ) (i : StreamId) (operation : ByteOperation) (s : Slots) → Sound (λ x. f x + of_byte x operation) s → Leaves f (on_byte (byte_operation i operation) i s)
+on_byte-sound f i operation s k = on_byte_with f (λ x. of_byte x operation) i (byte_operation i operation) s (λ h l a n. bytes h l i operation a n) k
+
+pub on_source-sound : (f : PromiseId → ℕ) (i : StreamId) (operation : ReadableOperation) (s : Slots) → Sound (λ x. f x + of_readable x operation) s → Leaves f (on_source operation i s)
+on_source-sound f i operation s k =
+    either (Leaves f) (has_byte i s) (on_byte (byte_readable_operation i operation) i s) (on_readable (readable_operation i operation) i s)
+    (λ is. on_byte_with f (λ x. of_readable x operation) i (byte_readable_operation i operation) s (λ h l a n. byte_reads h l i operation a n) k)
+    (λ isnt. on_readable-sound f i operation s k)
 
 -- operations on writable streams
 

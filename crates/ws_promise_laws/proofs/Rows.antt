@@ -9,7 +9,7 @@ use Rattle.ws_value.specs.declared.value.Outcome.TheVariants.{Given, Finished}
 use Rattle.ws_value.specs.declared.value.Plain.{Plain}
 use Rattle.ws_value.specs.declared.value.Plain.TheVariants.{Undefined}
 use Rattle.ws_value.specs.declared.value.Value.{Value}
-use Rattle.ws_value.specs.declared.value.Value.TheVariants.{Plain as PlainValue}
+use Rattle.ws_value.specs.declared.value.Value.TheVariants.{Plain as PlainValue, Bytes}
 use Rattle.ws_steps.specs.declared.{calls.Event.TheVariants.{Host as HostCalled}, calls.HostCall.{HostCall}, calls.StartBy.{StartBy}, calls.StartBy.TheVariants.{Now, Later}}
 use Rattle.ws_steps.specs.declared.effects.Effect.{Effect}
 use Rattle.ws_steps.specs.declared.effects.Effect.TheVariants.{Readable, Writable, Pipe, Signal, Transform, StartAlgorithm, PullAlgorithm, CancelAlgorithm, WriteAlgorithm, CloseAlgorithm, AbortAlgorithm, ChunkSteps, CloseSteps, ErrorSteps, Give, Settle, Queue, CallHost}
@@ -27,10 +27,12 @@ use Rattle.ws_promise_laws.proofs.Holds.{Holds, holds-less}
 use Rattle.ws_promise_laws.proofs.Piping.{PipeExpects}
 use Rattle.ws_promise_laws.proofs.Settling.{holds-fresh, holds-fresh_settled}
 use Rattle.ws_promise_laws.proofs.Reacting.{holds-react, holds-told, holds-micro}
-use Rattle.ws_promise_laws.proofs.Realm.{Sound, Leaves, sound-less, in_hosts, firm_in, loosely_in, on_readable-sound, on_writable-sound, on_pipe-sound, on_transform-sound}
+use Rattle.ws_promise_laws.proofs.Realm.{Sound, Leaves, sound-less, in_hosts, firm_in, loosely_in, on_source-sound, on_byte-sound, on_writable-sound, on_pipe-sound, on_transform-sound}
 use Rattle.ws_promise_laws.proofs.Settling.{holds-settle, holds-answer}
 use Rattle.ws_promise_laws.proofs.Tokens.{names, of_request, of_use, of_effect, in_effects, in_step}
 use Rattle.ws_promise_laws.proofs.WritableAsks.{Expects}
+use Rattle.ws_steps.specs.Turns.{close_steps_with}
+use Rattle.ws_steps.specs.declared.effects.Effect.TheVariants.{Byte, CloseStepsWith}
 
 -- what is to be known before an effect
 abbrev pub Expected : Effect → Slots → Type 0
@@ -144,13 +146,18 @@ close-sound : (f : PromiseId → ℕ) (s : Slots) (request : ReadRequest) → So
 close-sound f s (Promise p) k = answer-sound f p (Finished (PlainValue Undefined)) s refl k
 close-sound f s (PipeRequest p) k = k
 
+close_with-sound : (f : PromiseId → ℕ) (b : List ℕ) (s : Slots) (request : ReadRequest) → Sound (λ x. f x + of_request x request) s → Leaves f (close_steps_with b s request)
+close_with-sound f b s (Promise p) k = answer-sound f p (Finished (Bytes b)) s refl k
+close_with-sound f b s (PipeRequest p) k = k
+
 error-sound : (f : PromiseId → ℕ) (e : Plain) (s : Slots) (request : ReadRequest) → Sound (λ x. f x + of_request x request) s → Leaves f (error_steps e s request)
 error-sound f e s (Promise p) k = settle-sound f p (Err e) s k
 error-sound f e s (PipeRequest p) k = k
 
 pub row-sound : (f : PromiseId → ℕ) (e : Effect) (s : Slots) → Expected e s → Sound (λ x. f x + of_effect x e) s → Leaves f (row e s)
 unfolding row
-row-sound f (Readable i operation) s e k = on_readable-sound f i operation s k
+row-sound f (Readable i operation) s e k = on_source-sound f i operation s k
+row-sound f (Byte i operation) s e k = on_byte-sound f i operation s k
 row-sound f (Writable i operation) s e k = on_writable-sound f i operation s e k
 row-sound f (Pipe p operation) s e k = on_pipe-sound f p operation s (slice_get s.pipes p.0) refl e k
 row-sound f (Signal a operation) s e k = signal-sound f a operation s (slice_get s.signals a.0) k
@@ -163,6 +170,7 @@ row-sound f (CloseAlgorithm i) s e k = sound-less (λ x. f x + 0) _ s (λ x. let
 row-sound f (AbortAlgorithm i r p) s e k = sound-less (λ x. f x + names x p) _ s (λ x. let n = aborts x i r (React (WritableAbort i p) None) (owner_at i s) in omega arith) k
 row-sound f (ChunkSteps i request v) s e k = chunk-sound f v s request k
 row-sound f (CloseSteps i request) s e k = close-sound f s request k
+row-sound f (CloseStepsWith i request b) s e k = close_with-sound f b s request k
 row-sound f (ErrorSteps i request r) s e k = error-sound f r s request k
 row-sound f (Give gift u) s e k =
     sound-promises (λ x. f x + of_use x u) (λ x. f x + 0) s (use_gift gift u s.promises)

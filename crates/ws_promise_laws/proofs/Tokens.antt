@@ -1,8 +1,10 @@
 -- How often a promise stands where it is to be settled: in effects, in reactions and in jobs.
 use Rattle.std.proofs.Common.{◌≡◌, ℕ, ◌+◌, Bool, true, false, nat_eq, List, [], ◌∷◌, ◌++◌, Option, Some, None, arith}
 use Rattle.ws_value.specs.declared.ids.PromiseId.{PromiseId}
+use Rattle.ws_steps.specs.declared.byte.ByteOperation.{ByteOperation}
+use Rattle.ws_steps.specs.declared.byte.ByteOperation.TheVariants.{InitializeByobReader, PullInto}
 use Rattle.ws_steps.specs.declared.effects.Effect.{Effect}
-use Rattle.ws_steps.specs.declared.effects.Effect.TheVariants.{Readable, Writable, Pipe, Signal, Transform, StartAlgorithm, PullAlgorithm, CancelAlgorithm, WriteAlgorithm, CloseAlgorithm, AbortAlgorithm, ChunkSteps, CloseSteps, ErrorSteps, Give, Settle as SettleEffect, Queue, CallHost}
+use Rattle.ws_steps.specs.declared.effects.Effect.TheVariants.{Readable, Byte, Writable, Pipe, Signal, Transform, StartAlgorithm, PullAlgorithm, CancelAlgorithm, WriteAlgorithm, CloseAlgorithm, AbortAlgorithm, ChunkSteps, CloseSteps, CloseStepsWith, ErrorSteps, Give, Settle as SettleEffect, Queue, CallHost}
 use Rattle.ws_steps.specs.declared.{effects.Use.{Use}, effects.Use.TheVariants.{React, Resolve}, promises.Job.{Job}}
 use Rattle.ws_steps.specs.declared.{promises.Job.TheVariants.{Reaction as ReactionJob, Follow, Settle, Micro as MicroJob}, promises.Reaction.{Reaction}}
 use Rattle.ws_steps.specs.declared.{promises.Reaction.TheVariants.{Perform, Adopt}, promises.Step.{Step}, promises.Step.TheVariants.{WritableAbort, TransformChanged, TransformFlushed, TransformAborted, TransformCancelled}, readable.ReadRequest.{ReadRequest}}
@@ -69,6 +71,11 @@ of_readable x (Cancel r p) = names x p
 of_readable x (CancelIfReadable r p) = names x p
 of_readable x _ = 0
 
+abbrev pub of_byte : PromiseId → ByteOperation → ℕ
+of_byte x (InitializeByobReader closed) = names x closed
+of_byte x (PullInto room element minimum request) = of_request x request
+of_byte x _ = 0
+
 abbrev pub of_writable : PromiseId → WritableOperation → ℕ
 of_writable x (SetUpWriter w) = names x w.ready + names x w.closed
 of_writable x (Write v p) = names x p
@@ -95,6 +102,7 @@ of_transform x _ = 0
 
 abbrev pub of_effect : PromiseId → Effect → ℕ
 of_effect x (Readable i operation) = of_readable x operation
+of_effect x (Byte i operation) = of_byte x operation
 of_effect x (Writable i operation) = of_writable x operation
 of_effect x (Pipe p operation) = 0
 of_effect x (Signal a operation) = 0
@@ -107,6 +115,7 @@ of_effect x (CloseAlgorithm i) = 0
 of_effect x (AbortAlgorithm i r p) = names x p
 of_effect x (ChunkSteps i request v) = of_request x request
 of_effect x (CloseSteps i request) = of_request x request
+of_effect x (CloseStepsWith i request b) = of_request x request
 of_effect x (ErrorSteps i request e) = of_request x request
 of_effect x (Give gift u) = of_use x u
 of_effect x (SettleEffect p outcome) = names x p

@@ -40,10 +40,10 @@ module _ (t : Table) (e : Plain) where
   all-told (x ∷ xs) a = All-cons IsTold x xs (All-head IsDone (done_of e x) (map (done_of e) xs) a) (all-told xs (All-tail IsDone (done_of e x) (map (done_of e) xs) a))
 
 pub each_read_is_answered : EachReadIsAnswered
-each_read_is_answered entries i =
+each_read_is_answered entries i kind =
     let s : Slots = run entries empty in
     let r : readable.Slots = readable_at i s in
-    let k = (run-now i entries).held in
+    let k = (run-now i entries).held kind in
     let told : map (done_of r.stored_error) k.line.answered ≡ run_done i entries empty = k.line.told ∙ append-nil (run_done i entries empty) in
     record {
       answered = k.line.answered;

@@ -6,13 +6,13 @@ use Rattle.ws_value.specs.declared.value.Value.{Value}
 use Rattle.ws_value.specs.declared.{ids.LockId.{LockId}, ids.PipeId.{PipeId}, ids.PromiseId.{PromiseId}, ids.StreamId.{StreamId}}
 use Rattle.ws_steps.specs.declared.{calls.Call.{Call}, calls.Call.TheVariants.{Read as ReadCall}, effects.Effect.{Effect}}
 use Rattle.ws_steps.specs.declared.effects.Effect.TheVariants.{Readable, Writable, Pipe, Signal, Transform, StartAlgorithm, PullAlgorithm, CancelAlgorithm, WriteAlgorithm, CloseAlgorithm, AbortAlgorithm, ChunkSteps, CloseSteps, ErrorSteps}
-use Rattle.ws_steps.specs.declared.{locks.Lock.{Lock}, locks.Lock.TheVariants.{Reader, Writer, ReleasedWriter, Inner}, promises.Job.{Job}, transform.TransformId.{TransformId}}
+use Rattle.ws_steps.specs.declared.{locks.Lock.{Lock}, locks.Lock.TheVariants.{Reader, ByobReader, Writer, ReleasedWriter, Inner}, promises.Job.{Job}, transform.TransformId.{TransformId}}
 use Rattle.ws_steps.specs.declared.{readable.ReadRequest.{ReadRequest}, readable.ReadRequest.TheVariants.{Promise, Pipe as PipeRequest}, pipes.SignalOperation.{SignalOperation}, pipes.SignalOperation.TheVariants.{Add, Forget, Trigger}, readable.ReadableOperation.{ReadableOperation}, readable.ReadableOperation.TheVariants.{Read}}
 use Rattle.ws_steps.specs.Promises.{next_job}
-use Rattle.ws_steps.specs.Slots.{Slots, Done, causes, empty, has_readable, readable_at, lock_at}
+use Rattle.ws_steps.specs.Slots.{Slots, Done, causes, empty, has_source, source_at, lock_at}
 use Rattle.ws_steps.specs.Turns.{row, moments}
 use Rattle.ws_steps.specs.Jobs.{job_effects, job_begun, begin_job}
-use Rattle.ws_steps.specs.Calls.{Begun, begin, unsupported, by_reader}
+use Rattle.ws_steps.specs.Calls.{Begun, begin, unsupported, by_default_reader}
 use Rattle.ws_steps.specs.Calls as calls
 use Rattle.ws_steps.specs.Run.{Entry, Called, Worked, Heard, step, run}
 use Rattle.ws_steps.specs.Histories.{is_same, along}
@@ -29,6 +29,7 @@ use Rattle.ws_laws.proofs.Walker.{IsHistory, performed-goes}
 use Rattle.ws_read_laws.proofs.Line.{same_reads}
 use Rattle.ws_read_laws.proofs.Told.{reads-assoc}
 use Rattle.ws_read_laws.proofs.Runs.{reader-there}
+use Rattle.ws_steps.specs.declared.effects.Effect.TheVariants.{Byte, CloseStepsWith}
 
 -- effects that ask no read for a promise
 abbrev Quiet : Effect → Type 0
@@ -58,6 +59,7 @@ transform-quiet t writable readable _ c = tt
 
 quiet-causes : (e : Effect) → Causes Quiet e
 quiet-causes (Readable j operation) = record { pull = tt; cancel = λ r p. tt; chunk = λ r v. tt; close = λ r. tt; error = λ r e. tt }
+quiet-causes (Byte j operation) = record { readable = record { pull = tt; cancel = λ r p. tt; chunk = λ r v. tt; close = λ r. tt; error = λ r e. tt }; close_with = λ r b. tt }
 quiet-causes (Writable j operation) = record { write = tt; close = tt; abort = λ r p. tt; hand_on = λ v. tt; take = λ v t d. tt }
 quiet-causes (Pipe p operation) = pipe-quiet p
 quiet-causes (Signal a operation) = signal-quiet operation
@@ -70,11 +72,12 @@ quiet-causes (CloseAlgorithm j) = (λ c u. tt, λ t u. tt)
 quiet-causes (AbortAlgorithm j r p) = (λ c u. tt, λ t u. tt)
 quiet-causes (ChunkSteps j request v) = chunk-quiet v request
 quiet-causes (CloseSteps j request) = end-quiet request
+quiet-causes (CloseStepsWith j request b) = end-quiet request
 quiet-causes (ErrorSteps j request e) = end-quiet request
 quiet-causes _ = tt
 
-operation-asks : (i j : StreamId) (operation : ReadableOperation) (s : Slots) → promises_of (operation_reads operation (readable_at j s)).asked ≡ [] → promises_of (effect_reads i (Readable j operation) s).asked ≡ []
-operation-asks i j operation s e = either (λ (f : Reads). promises_of f.asked ≡ []) (is_same i j && has_readable j s) (operation_reads operation (readable_at j s)) no_reads (λ h. e) (λ h. refl)
+operation-asks : (i j : StreamId) (operation : ReadableOperation) (s : Slots) → promises_of (operation_reads operation (source_at j s)).asked ≡ [] → promises_of (effect_reads i (Readable j operation) s).asked ≡ []
+operation-asks i j operation s e = either (λ (f : Reads). promises_of f.asked ≡ []) (is_same i j && has_source j s) (operation_reads operation (source_at j s)) no_reads (λ h. e) (λ h. refl)
 
 quiet-told : (i : StreamId) (e : Effect) (s : Slots) → Quiet e → promises_of (effect_reads i e s).asked ≡ []
 quiet-told i (Readable j (Read (Promise p))) s quiet = absurd quiet
@@ -102,7 +105,7 @@ none-asked i d quiet =
     (more ∙ (ap (λ ps. ps ++ promises_of (effect_reads i e s).asked) k.0 ∙ quiet-told i e s k.1.0), each-append Quiet (row e s).caused es (row-causes Quiet e s (quiet-causes e)) k.1.1))
     no_reads d (refl, quiet)).0
 
-one-asked : (i j : StreamId) (p : PromiseId) (s : Slots) → has_readable j s ≡ true → promises_of (asked i (causes (Readable j (Read (Promise p)) ∷ []) s)) ≡ (if is_same i j then p ∷ [] else [])
+one-asked : (i j : StreamId) (p : PromiseId) (s : Slots) → has_source j s ≡ true → promises_of (asked i (causes (Readable j (Read (Promise p)) ∷ []) s)) ≡ (if is_same i j then p ∷ [] else [])
 one-asked i j p s there =
     let e : Effect = Readable j (Read (Promise p)) in
     let rest : Done = causes ((row e s).caused ++ []) (row e s).slots in
@@ -116,14 +119,15 @@ one-asked i j p s there =
     by true e = rw (e, there) refl
     by false e = rw e refl
 
-read-asks : (i : StreamId) (s : Slots) (o : Option Lock) → let b : Begun = by_reader calls.read calls.rejected s o in promises_of (asked i b.done) ≡ asked_with i b.reply o
+read-asks : (i : StreamId) (s : Slots) (o : Option Lock) → let b : Begun = by_default_reader calls.read calls.rejected s o in promises_of (asked i b.done) ≡ asked_with i b.reply o
 read-asks i s None = none-asked i (unsupported s).done tt
 read-asks i s (Some (Reader None closed)) = none-asked i (calls.rejected s).done (tt, tt)
 read-asks i s (Some (Reader (Some j) closed)) =
     let o : Option Lock = Some (Reader (Some j) closed) in
-    either (λ (b : Begun). promises_of (asked i b.done) ≡ asked_with i b.reply o) (has_readable j s) (calls.read j s) (unsupported s)
+    either (λ (b : Begun). promises_of (asked i b.done) ≡ asked_with i b.reply o) (has_source j s) (calls.read j s) (unsupported s)
     (λ there. one-asked i j _ (calls.read j s).done.slots there)
     (λ none. none-asked i (unsupported s).done tt ∙ either (λ (ps : List PromiseId). [] ≡ ps) (is_same i j) [] [] (λ e. refl) (λ e. refl))
+read-asks i s (Some (ByobReader stream closed)) = none-asked i (unsupported s).done tt
 read-asks i s (Some (Writer j)) = none-asked i (unsupported s).done tt
 read-asks i s (Some (ReleasedWriter w)) = none-asked i (unsupported s).done tt
 read-asks i s (Some Inner) = none-asked i (unsupported s).done tt
@@ -173,7 +177,7 @@ run-asks i (x ∷ xs) s =
     promises-append (step_reads i s x).asked (run_reads i xs (step s x)).asked ∙ (rw (a, b) refl)
 
 -- a call that reads by a reader which has a stream
-pub begins-read : (s : Slots) (l : LockId) (i : StreamId) (p : PromiseId) → lock_at l s ≡ Some (Reader (Some i) p) → has_readable i s ≡ true → begin (ReadCall l) s ≡ calls.read i s
+pub begins-read : (s : Slots) (l : LockId) (i : StreamId) (p : PromiseId) → lock_at l s ≡ Some (Reader (Some i) p) → has_source i s ≡ true → begin (ReadCall l) s ≡ calls.read i s
 unfolding begin
 begins-read s l i p e there = rw (e, there) refl
 

@@ -25,10 +25,12 @@ use Rattle.ws_laws.proofs.PipeDoes.{PipeCauses}
 use Rattle.ws_laws.proofs.Rows.{SignalCauses, row-causes}
 use Rattle.ws_laws.proofs.TransformDoes.{TransformCauses}
 use Rattle.ws_laws.proofs.Walker.{Stays}
+use Rattle.ws_steps.specs.declared.effects.Effect.TheVariants.{Byte, CloseStepsWith}
 
 abbrev pub IsNoSteps : Effect → Type 0
 IsNoSteps (ChunkSteps i request v) = ⊥
 IsNoSteps (CloseSteps i request) = ⊥
+IsNoSteps (CloseStepsWith i request b) = ⊥
 IsNoSteps (ErrorSteps i request e) = ⊥
 IsNoSteps _ = Unit {0}
 
@@ -94,19 +96,22 @@ row-quiet e s n = all-quiet (row e s).caused (row-ordered s e (some_chunk ∷ []
 
 take-quiet : (e : Effect) (s : Slots) → is_stream_take e ≡ true → Each IsQuiet (row e s).caused
 take-quiet (Readable i operation) s m = row-causes IsQuiet (Readable i operation) s (record { pull = refl; cancel = λ r p. refl; chunk = λ r v. refl; close = λ r. refl; error = λ r e. refl })
+take-quiet (Byte i operation) s m = row-causes IsQuiet (Byte i operation) s (record { readable = record { pull = refl; cancel = λ r p. refl; chunk = λ r v. refl; close = λ r. refl; error = λ r e. refl }; close_with = λ r b. refl })
 take-quiet _ s m = cc
 
--- of those that aren't, only a read and an enqueue cause steps, and nothing but what is quiet
+-- of those that aren't, only a read, an enqueue and an operation of a byte controller cause steps, and nothing but what is quiet
 
 pipe-none : (p : PipeId) (source dest : StreamId) (e : Effect) → PipeCauses p source dest e → IsNoSteps e
 pipe-none p source dest (ChunkSteps i request v) c = absurd c
 pipe-none p source dest (CloseSteps i request) c = absurd c
+pipe-none p source dest (CloseStepsWith i request b) c = absurd c
 pipe-none p source dest (ErrorSteps i request r) c = absurd c
 pipe-none p source dest _ c = tt
 
 transform-none : (t : TransformId) (writable readable : StreamId) (e : Effect) → TransformCauses t writable readable e → IsNoSteps e
 transform-none t writable readable (ChunkSteps i request v) c = absurd c
 transform-none t writable readable (CloseSteps i request) c = absurd c
+transform-none t writable readable (CloseStepsWith i request b) c = absurd c
 transform-none t writable readable (ErrorSteps i request r) c = absurd c
 transform-none t writable readable _ c = tt
 
@@ -117,6 +122,7 @@ signal-none (Trigger r) = λ p. tt
 
 row-none : (e : Effect) (s : Slots) → may_take e ≡ true → is_stream_take e ≡ false → NoSteps (row e s).caused
 row-none (Readable i operation) s m n = cc
+row-none (Byte i operation) s m n = cc
 row-none (Writable i operation) s m n = row-causes IsNoSteps (Writable i operation) s (record { write = tt; close = tt; abort = λ r p. tt; hand_on = λ v. tt; take = λ v t d. tt })
 row-none (WriteAlgorithm i) s m n = row-causes IsNoSteps (WriteAlgorithm i) s (tt, λ t u. tt)
 row-none (Pipe p operation) s m n = row-causes IsNoSteps (Pipe p operation) s (pipe-none p)
@@ -136,6 +142,7 @@ row-by s e es true true t d o = quiet-first (row e s).caused es (take-quiet e s 
 first-none : (E : StreamId → Value → Type 0) (e : Effect) → IsFirst E e → IsNoSteps e
 first-none E (ChunkSteps i request v) f = absurd f
 first-none E (CloseSteps i request) f = absurd f
+first-none E (CloseStepsWith i request b) f = absurd f
 first-none E (ErrorSteps i request r) f = absurd f
 first-none E _ f = tt
 

@@ -1,5 +1,5 @@
 -- A read of a stream that has ended, or by a reader that was released, is answered within its call.
-use Rattle.std.proofs.Common.{◌≡◌, true, false, List, [], ◌∷◌, ◌++◌, Some, None, Result, Err, slice_set, refl, ap, ◌∙◌, arith}
+use Rattle.std.proofs.Common.{◌≡◌, true, false, List, [], ◌∷◌, ◌++◌, Some, None, Result, Err, slice_get, slice_set, Bool, refl, ap, ◌∙◌, arith}
 use Rattle.std.specs.Option.{option_map}
 use Rattle.ws_value.specs.declared.{ids.LockId.{LockId}, ids.PromiseId.{PromiseId}, ids.StreamId.{StreamId}}
 use Rattle.ws_value.specs.declared.value.{Outcome.{Outcome}, Outcome.TheVariants.{Finished, Rejected}, Plain.{Plain}, Plain.TheVariants.{Undefined}, Value.TheVariants.{Plain as PlainValue}}
@@ -10,13 +10,15 @@ use Rattle.ws_steps.specs.Calls.{Begun, begin, named, promising}
 use Rattle.ws_steps.specs.Effects.{type_error}
 use Rattle.ws_steps.specs.Laws.{IsAnswered, ReadsOfTheEnded}
 use Rattle.ws_steps.specs.Promises.{Entry, Table, next_id, fresh, ended, with_entry, outcome_at, is_pending, settle, answer, watch}
-use Rattle.ws_steps.specs.Readable.{default_reader_read}
+use Rattle.ws_steps.specs.Readable.{default_reader_read, disturb}
 use Rattle.ws_steps.specs.Run.{older, run}
-use Rattle.ws_steps.specs.Slots.{Slots, ReadableStream, Done, causes, empty, has_readable, readable_at, lock_at, with_promises}
+use Rattle.ws_steps.specs.Bytes as byte
+use Rattle.ws_steps.specs.Slots.{Slots, ReadableStream, ByteStream, Done, causes, empty, has_readable, has_byte, has_source, readable_at, byte_at, source_at, lock_at, with_promises}
 use Rattle.ws_steps.specs.Turns.{row, performed}
 use Rattle.ws_steps.proofs.PromiseLaws.{settle-open, answer-open, entry_at-fresh_new, entry_at-with_entry_same, length-fresh}
 use Rattle.ws_room_laws.proofs.Turns.{performed_next, performed_none}
 use Rattle.ws_laws.proofs.Outcomes.{keeps-watch}
+use Rattle.ws_read_laws.proofs.SourceLooks.{looks-default, looks-byte, default-there}
 use Rattle.ws_read_laws.proofs.Asked.{begins-read}
 use Rattle.ws_read_laws.proofs.Runs.{reader-there}
 
@@ -56,18 +58,41 @@ is_answered s y l effects o e f n h =
       ap (λ (b : Begun). outcome_at (older (named b.reply (performed b.done))).promises p) e ∙ (ap (λ (z : Slots). outcome_at (watch p z.promises) p) f ∙ (keeps-watch p y.promises).outcome p o n h),
     )
 
+-- a read is performed: it causes this, and leaves these slots, with the promises as they were
+record Asks (i : StreamId) (p : PromiseId) (f : Effect) (s : Slots) : Type 0 where
+  left : Slots
+  row : row (OnReadable i (ReadChunk (Promise p))) s ≡ causes (f ∷ []) left
+  promises : left.promises ≡ s.promises
+
 -- the stream is disturbed
 abbrev disturbed : StreamId → Slots → Slots
 disturbed i s = record s { streams = slice_set s.streams i.0 (ReadableStream (record (readable_at i s) { disturbed = true })) }
 
-closed_row : (i : StreamId) (p : PromiseId) (s : Slots) → has_readable i s ≡ true → (readable_at i s).state ≡ Closed → row (OnReadable i (ReadChunk (Promise p))) s ≡ causes (CloseSteps i (Promise p) ∷ []) (disturbed i s)
-unfolding row default_reader_read
-closed_row i p s there e = rw (there, e) refl
+abbrev disturbed_bytes : StreamId → Slots → Slots
+disturbed_bytes i s = record s { streams = slice_set s.streams i.0 (ByteStream (record (byte_at i s) { stream = record (byte_at i s).stream { disturbed = true } })) }
 
-errored_row : (i : StreamId) (p : PromiseId) (s : Slots) → has_readable i s ≡ true → (readable_at i s).state ≡ Errored
-    → row (OnReadable i (ReadChunk (Promise p))) s ≡ causes (ErrorSteps i (Promise p) (readable_at i s).stored_error ∷ []) (disturbed i s)
-unfolding row default_reader_read
-errored_row i p s there e = rw (there, e) refl
+closed_row : (i : StreamId) (p : PromiseId) (s : Slots) (kind : Bool) → has_byte i s ≡ kind → has_source i s ≡ true → (source_at i s).state ≡ Closed → Asks i p (CloseSteps i (Promise p)) s
+unfolding row default_reader_read disturb byte.read byte.default_reader_read
+closed_row i p s true b there e =
+    let state : (byte_at i s).stream.state ≡ Closed = rw looks-byte at e in
+    record { left = disturbed_bytes i s; row = rw (b, state) refl; promises = refl }
+closed_row i p s false b there e =
+    let is : has_readable i s ≡ true = default-there (has_readable i s) (has_byte i s) there b in
+    let same : source_at i s ≡ readable_at i s = looks-default (slice_get s.streams i.0) b in
+    let state : (readable_at i s).state ≡ Closed = rw same at e in
+    record { left = disturbed i s; row = rw (b, is, state) refl; promises = refl }
+
+errored_row : (i : StreamId) (p : PromiseId) (s : Slots) (kind : Bool) → has_byte i s ≡ kind → has_source i s ≡ true → (source_at i s).state ≡ Errored → Asks i p (ErrorSteps i (Promise p) (source_at i s).stored_error) s
+unfolding row default_reader_read disturb byte.read byte.default_reader_read
+errored_row i p s true b there e =
+    let same : source_at i s ≡ byte.shown (byte_at i s) = looks-byte (slice_get s.streams i.0) b in
+    let state : (byte_at i s).stream.state ≡ Errored = rw same at e in
+    record { left = disturbed_bytes i s; row = rw (same, b, state) refl; promises = refl }
+errored_row i p s false b there e =
+    let is : has_readable i s ≡ true = default-there (has_readable i s) (has_byte i s) there b in
+    let same : source_at i s ≡ readable_at i s = looks-default (slice_get s.streams i.0) b in
+    let state : (readable_at i s).state ≡ Errored = rw same at e in
+    record { left = disturbed i s; row = rw (same, b, is, state) refl; promises = refl }
 
 close_row : (i : StreamId) (p : PromiseId) (s : Slots) → row (CloseSteps i (Promise p)) s ≡ causes [] (with_promises (answer p (Finished (PlainValue Undefined)) s.promises) s)
 unfolding row
@@ -97,17 +122,18 @@ reads_of_the_ended = record {
       let s : Slots = run entries empty in
       let there = reader-there i entries l closed e in
       let p : PromiseId = next_id s.promises in
-      let z : Slots = disturbed i (with_new s) in
+      let asks = closed_row i p (with_new s) (has_byte i s) refl there state in
       is_answered s _ l (asking i) (Finished (PlainValue Undefined)) (begins-read s l i closed e there)
-      (two_turns (OnReadable i (ReadChunk (Promise p))) (CloseSteps i (Promise p)) (with_new s) z _ (closed_row i p (with_new s) there state) (close_row i p z)) refl (new_answered (Finished (PlainValue Undefined)) s.promises);
+      (two_turns (OnReadable i (ReadChunk (Promise p))) (CloseSteps i (Promise p)) (with_new s) asks.left _ asks.row (close_row i p asks.left)) refl
+      (rw asks.promises (new_answered (Finished (PlainValue Undefined)) s.promises));
   errored = λ entries l i closed e state.
       let s : Slots = run entries empty in
       let there = reader-there i entries l closed e in
       let p : PromiseId = next_id s.promises in
-      let r : Plain = (readable_at i s).stored_error in
-      let z : Slots = disturbed i (with_new s) in
+      let r : Plain = (source_at i s).stored_error in
+      let asks = errored_row i p (with_new s) (has_byte i s) refl there state in
       is_answered s _ l (asking i) (Rejected r) (begins-read s l i closed e there)
-      (two_turns (OnReadable i (ReadChunk (Promise p))) (ErrorSteps i (Promise p) r) (with_new s) z _ (errored_row i p (with_new s) there state) (error_row i p r z)) refl (new_rejected r s.promises);
+      (two_turns (OnReadable i (ReadChunk (Promise p))) (ErrorSteps i (Promise p) r) (with_new s) asks.left _ asks.row (error_row i p r asks.left)) refl (rw asks.promises (new_rejected r s.promises));
   released = λ entries l closed e.
       let s : Slots = run entries empty in
       let p : PromiseId = next_id s.promises in

@@ -2,7 +2,7 @@
 -- hasn't.
 use Rattle.std.proofs.Common.{◌≡◌, ℕ, ◌+◌, ◌≤◌, zero, suc, Bool, true, false, List, [], ◌∷◌, ◌++◌, Option, Some, None, slice_get, slice_set, refl, arith}
 use Rattle.ws_value.specs.declared.{ids.StreamId.{StreamId}}
-use Rattle.ws_steps.specs.declared.{locks.Lock.{Lock}, locks.Lock.TheVariants.{Reader, Writer, ReleasedWriter, Inner}, readable.ReadableOperation.{ReadableOperation}, readable.ReadableOperation.TheVariants.{InitializeReader, ReleaseReader, Read}}
+use Rattle.ws_steps.specs.declared.{locks.Lock.{Lock}, locks.Lock.TheVariants.{Reader, ByobReader, Writer, ReleasedWriter, Inner}, readable.ReadableOperation.{ReadableOperation}, readable.ReadableOperation.TheVariants.{InitializeReader, ReleaseReader, Read}}
 use Rattle.ws_steps.specs.Histories.{is_same}
 use Rattle.ws_steps.specs.Pipes as pipe
 use Rattle.ws_steps.specs.Queues.{is_empty}
@@ -18,6 +18,8 @@ use Rattle.ws_read_laws.proofs.Marks.{Mark, Stands, Steps, Aborts, Looks, pendin
 abbrev pub has : StreamId → Lock → ℕ
 has i (Reader (Some j) closed) = one_if (is_same i j)
 has i (Reader None closed) = 0
+has i (ByobReader (Some j) closed) = one_if (is_same i j)
+has i (ByobReader None closed) = 0
 has i (Writer j) = 0
 has i (ReleasedWriter w) = 0
 has i Inner = 0

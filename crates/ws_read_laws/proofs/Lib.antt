@@ -1,3 +1,4 @@
+pub mod SourceLooks
 pub mod Marks
 pub mod Line
 pub mod Holding

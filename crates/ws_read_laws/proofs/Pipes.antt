@@ -21,6 +21,7 @@ use Rattle.ws_read_laws.proofs.Holding.{readers, holds, holding, holding-set, so
 use Rattle.ws_read_laws.proofs.Piping.{operation-fits}
 use Rattle.ws_read_laws.proofs.Marks.{Mark, Stands, Aborts, pipe_mark, signal_mark, marks, pending, pending-append}
 use Rattle.ws_read_laws.proofs.Told.{Told, Held, Unmade}
+use Rattle.ws_steps.specs.declared.effects.Effect.TheVariants.{CloseStepsWith}
 
 module _ (i : StreamId) where
   -- operations of pipes
@@ -33,6 +34,7 @@ module _ (i : StreamId) where
   effect_pending p source dest (OnPipe q operation) c = ap pending (sym (append-nil (pipe_mark operation))) ∙ mark_pending operation []
   effect_pending p source dest (ChunkSteps j request v) c = absurd c
   effect_pending p source dest (CloseSteps j request) c = absurd c
+  effect_pending p source dest (CloseStepsWith j request b) c = absurd c
   effect_pending p source dest (ErrorSteps j request e) c = absurd c
   effect_pending p source dest (OnSignal a operation) c = signal_pending operation
     where

@@ -2,14 +2,14 @@
 use Rattle.std.proofs.Common.{◌≡◌, ℕ, ◌+◌, ◌≤◌, Bool, true, false, List, [], ◌∷◌, ◌++◌, length, Option, Some, None, if◌then◌else◌, refl, ap, ◌∙◌, arith}
 use Rattle.ws_value.specs.declared.{ids.LockId.{LockId}, ids.PromiseId.{PromiseId}, ids.StreamId.{StreamId}}
 use Rattle.ws_steps.specs.declared.{calls.Call.{Call}, calls.Call.TheVariants.{Read as ReadCall}, calls.Reply.{Reply}, calls.Reply.TheVariants.{Promise as Named}}
-use Rattle.ws_steps.specs.declared.{locks.Lock.{Lock}, locks.Lock.TheVariants.{Reader, Writer, ReleasedWriter, Inner}, promises.Job.{Job}, promises.Job.TheVariants.{Reaction as ReactionJob, Follow, Settle, Micro as MicroJob}, promises.Reaction.TheVariants.{Adopt}, promises.Micro.{Micro}}
-use Rattle.ws_steps.specs.Calls.{Begun, begin, unsupported, by_reader, named}
+use Rattle.ws_steps.specs.declared.{locks.Lock.{Lock}, locks.Lock.TheVariants.{Reader, ByobReader, Writer, ReleasedWriter, Inner}, promises.Job.{Job}, promises.Job.TheVariants.{Reaction as ReactionJob, Follow, Settle, Micro as MicroJob}, promises.Reaction.TheVariants.{Adopt}, promises.Micro.{Micro}}
+use Rattle.ws_steps.specs.Calls.{Begun, begin, unsupported, by_default_reader, named}
 use Rattle.ws_steps.specs.Calls as calls
 use Rattle.ws_steps.specs.Histories.{is_same}
 use Rattle.ws_steps.specs.Jobs.{job_begun, begin_job}
 use Rattle.ws_steps.specs.Laws.{RiseFrom}
 use Rattle.ws_steps.specs.Promises.{Entry, Table, next_id, react, taken, after_first, after_next_job, next_job, watch, queue_micro}
-use Rattle.ws_steps.specs.Slots.{Slots, Done, has_readable, lock_at}
+use Rattle.ws_steps.specs.Slots.{Slots, Done, has_source, lock_at}
 use Rattle.ws_steps.specs.Turns.{performed}
 use Rattle.ws_steps.specs.ReadableHistory.{named_by, asked_with, call_asked, asked_in_step, asked_by_calls}
 use Rattle.ws_steps.specs.Run.{Entry as Step, Called, Worked, Heard, step, reply_to}
@@ -84,6 +84,8 @@ module _ (n : ℕ) where
     pipe = λ z source dest prevent signal promise k. k;
     signal = λ z k. k;
     transform = λ z kind i j change k. k;
+    bytes = λ z mark auto k. k;
+    byob_requests = λ z hs k. k;
     readable = λ z owner mark size k. k;
     writable = λ z owner mark size k. k;
   }) c s k
@@ -127,12 +129,13 @@ named-between l j s true e =
     let made : count (begin (ReadCall l) s).done.slots ≡ count s + 1 = ap (λ (b : Begun). count b.done.slots) e ∙ length-fresh s.promises in
     rw one (self (count s), called-made (count s + 1) (ReadCall l) s (omega arith))
 
-read-between : (i : StreamId) (l : LockId) (s : Slots) (o : Option Lock) → begin (ReadCall l) s ≡ by_reader calls.read calls.rejected s o → Between (count s) (count (step s (Called (ReadCall l)))) (asked_with i (reply_to (ReadCall l) s) o)
+read-between : (i : StreamId) (l : LockId) (s : Slots) (o : Option Lock) → begin (ReadCall l) s ≡ by_default_reader calls.read calls.rejected s o → Between (count s) (count (step s (Called (ReadCall l)))) (asked_with i (reply_to (ReadCall l) s) o)
 read-between i l s None e = more (ReadCall l) s
 read-between i l s (Some (Reader None closed)) e = more (ReadCall l) s
 read-between i l s (Some (Reader (Some j) closed)) e =
     either (Between (count s) (count (step s (Called (ReadCall l))))) (is_same i j) (named_by (reply_to (ReadCall l) s)) []
-    (λ same. named-between l j s (has_readable j s) e) (λ other. more (ReadCall l) s)
+    (λ same. named-between l j s (has_source j s) e) (λ other. more (ReadCall l) s)
+read-between i l s (Some (ByobReader stream closed)) e = more (ReadCall l) s
 read-between i l s (Some (Writer j)) e = more (ReadCall l) s
 read-between i l s (Some (ReleasedWriter w)) e = more (ReadCall l) s
 read-between i l s (Some Inner) e = more (ReadCall l) s

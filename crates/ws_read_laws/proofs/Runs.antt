@@ -3,11 +3,12 @@ use Rattle.std.proofs.Common.{◌≡◌, ℕ, ◌+◌, ◌≤◌, Bool, true, fa
 use Rattle.std.proofs.lemmas.List.Elements.{All-nil}
 use Rattle.ws_value.specs.declared.{ids.PipeId.{PipeId}, ids.PromiseId.{PromiseId}, ids.SignalId.{SignalId}, ids.StreamId.{StreamId}, ids.LockId.{LockId}}
 use Rattle.ws_value.specs.declared.value.{Plain.{Plain}}
-use Rattle.ws_steps.specs.declared.{calls.Call.{Call}, calls.StartBy.{StartBy}, calls.StartBy.TheVariants.{Now as StartNow, Later}, effects.Effect.{Effect}, effects.Effect.TheVariants.{Readable as OnReadable, Writable, Pipe as OnPipe, Signal as OnSignal, ChunkSteps, CloseSteps, ErrorSteps}}
-use Rattle.ws_steps.specs.declared.{locks.Lock.{Lock}, locks.Lock.TheVariants.{Reader, Writer, ReleasedWriter, Inner}, promises.Job.{Job}}
+use Rattle.ws_steps.specs.declared.{calls.Call.{Call}, calls.StartBy.{StartBy}, calls.StartBy.TheVariants.{Now as StartNow, Later}, effects.Effect.{Effect}, effects.Effect.TheVariants.{Readable as OnReadable, Byte, Writable, Pipe as OnPipe, Signal as OnSignal, ChunkSteps, CloseSteps, ErrorSteps}}
+use Rattle.ws_steps.specs.declared.{locks.Lock.{Lock}, locks.Lock.TheVariants.{Reader, ByobReader, Writer, ReleasedWriter, Inner}, promises.Job.{Job}}
 use Rattle.ws_steps.specs.declared.{readable.ReadRequest.{ReadRequest}, readable.ReadRequest.TheVariants.{Promise}, readable.ReadableOperation.{ReadableOperation}, readable.ReadableOperation.TheVariants.{InitializeReader, ReleaseReader, Read, Cancel, Enqueue, Close, Error}}
 use Rattle.ws_steps.specs.declared.{readable.ReadableState.TheVariants.{Closed}, writable.WritableOperation.TheVariants.{ReleaseWriter}}
 use Rattle.ws_steps.specs.declared.pipes.{PipeOperation.{PipeOperation}, Prevent.{Prevent}}
+use Rattle.ws_steps.specs.declared.byte.ByteOperation.TheVariants.{InitializeByobReader}
 use Rattle.ws_steps.specs.Histories.{is_same}
 use Rattle.ws_steps.specs.Jobs.{job_effects}
 use Rattle.ws_steps.specs.Calls.{Begun, begin, renewed, with_renewed, reject_renewed, start_transform, pipe_to, pipe_begins, reason_of}
@@ -15,7 +16,7 @@ use Rattle.ws_steps.specs.Pipes as pipe
 use Rattle.ws_steps.specs.Pipes.{abort_all, trigger_unless}
 use Rattle.ws_steps.specs.Promises.{Table, next_id, fresh, is_pending_at}
 use Rattle.ws_steps.specs.Readable as readable
-use Rattle.ws_steps.specs.Slots.{Slots, Stream, Done as Begins, empty, has_readable, lock_at, readable_at, as_readable, no_readable}
+use Rattle.ws_steps.specs.Slots.{Slots, Stream, Done as Begins, empty, has_readable, has_byte, has_source, lock_at, source_at, readable_at, as_readable, no_readable}
 use Rattle.ws_steps.specs.Run.{Entry, run}
 use Rattle.ws_steps.specs.ReadableHistory.{run_flow, run_reads}
 use Rattle.ws_steps.specs.Laws.{Allows}
@@ -29,6 +30,7 @@ use Rattle.ws_laws.proofs.Walker.{Stays}
 use Rattle.ws_promise_laws.proofs.Acting.{EachWaits, waits-stays, waits-heard, none-waits}
 use Rattle.ws_promise_laws.proofs.Tokens.{one_if}
 use Rattle.ws_read_laws.proofs.Behind.{InOrder, order-stays}
+use Rattle.ws_read_laws.proofs.SourceLooks.{looks-default, default-no_byte, default-there}
 use Rattle.ws_read_laws.proofs.Holding.{has, readers, readers-append, readers-set, readers-there, sources, holding-append, sources-append, owners, Clear, IsOther, AllOther, other-pending, other-clear}
 use Rattle.ws_readable_laws.proofs.Runs as flows
 use Rattle.ws_read_laws.proofs.Marks.{Mark, Stands, Aborts, pipe_mark, marks, pending}
@@ -55,10 +57,11 @@ module _ (i : StreamId) where
   others_by : (h : Told) (o z : Holders) (streams : List Stream) (es : List Effect) → owners i z ≡ owners i o → readers i z.locks + sources i z.pipes ≡ readers i o.locks + sources i o.pipes → AllOther (all_seen (marks i) es)
       → Now h o streams [] → Now h z streams es
   others_by h o z streams es same sames all k =
-      let held = other-held h o (as_readable (slice_get streams i.0)) (all_seen (marks i) es) all k.held in
       record {
-        unmade = λ n. let u = k.unmade n in record { free = sames ∙ u.free; unasked = u.unasked };
-        held = record { line = held.line; given = held.given; clear = rw same held.clear };
+        unmade = λ b n. let u = k.unmade b n in record { free = sames ∙ u.free; unasked = u.unasked };
+        held = λ b.
+            let held = other-held h o (as_readable (slice_get streams i.0)) (all_seen (marks i) es) all (k.held b) in
+            record { line = held.line; given = held.given; clear = rw same held.clear };
       }
 
   -- where the pipes stay
@@ -83,35 +86,56 @@ module _ (i : StreamId) where
   at_most_one n true a = a
   at_most_one n false a = omega arith
 
-  comes : (h : Told) (j : StreamId) (s : Slots) (closed : PromiseId) (same : Bool) → is_same i j ≡ same → is_some (readable_at j s).reader ≡ false → Now h (holders s) s.streams []
+  -- where stream i has no byte controller, its reader is the one that is seen
+  unlocked : (j : StreamId) (s : Slots) → is_same i j ≡ true → is_some (source_at j s).reader ≡ false → has_byte i s ≡ false → is_some (readable_at i s).reader ≡ false
+  unlocked j s e free b =
+      let here : is_some (source_at i s).reader ≡ false = rw (same_id i j e) free in
+      let same : source_at i s ≡ readable_at i s = looks-default (slice_get s.streams i.0) b in
+      rw same at here
+
+  comes : (h : Told) (j : StreamId) (s : Slots) (closed : PromiseId) (same : Bool) → is_same i j ≡ same → is_some (source_at j s).reader ≡ false → Now h (holders s) s.streams []
       → Now h (record { locks = s.locks ++ Reader (Some j) closed ∷ []; pipes = s.pipes }) s.streams (OnReadable j (InitializeReader closed) ∷ [])
   comes h j s closed false e free k =
       others h s.locks (s.locks ++ Reader (Some j) closed ∷ []) s.pipes s.streams (OnReadable j (InitializeReader closed) ∷ [])
       (let n = readers-append i s.locks (Reader (Some j) closed) in let m = has-own j closed false e in omega arith) (elsewhere j (InitializeReader closed) e) k
   comes h j s closed true e free k =
-      let here : is_some (readable_at i s).reader ≡ false = rw (same_id i j e) free in
       let n = readers-append i s.locks (Reader (Some j) closed) in
       let m = has-own j closed true e in
-      let none : owners i (holders s) ≤ one_if (is_some (readable_at i s).reader) = k.held.clear in
-      let zero : owners i (holders s) ≤ 0 = rw here at none in
       record {
-        unmade = λ f. let none : is_some no_readable.reader ≡ false = rw (no_readable_there (slice_get s.streams i.0) f) at here in cc;
-        held = rw (alone j (InitializeReader closed) e) (record { line = k.held.line; given = k.held.given; clear = (here, (refl, omega (arith, n, m, zero))) });
+        unmade = λ b f.
+            let here = unlocked j s e free b in
+            let none : is_some no_readable.reader ≡ false = rw (no_readable_there (slice_get s.streams i.0) f) at here in cc;
+        held = λ b.
+            let here = unlocked j s e free b in
+            let none : owners i (holders s) ≤ one_if (is_some (readable_at i s).reader) = (k.held b).clear in
+            let zero : owners i (holders s) ≤ 0 = rw here at none in
+            rw (alone j (InitializeReader closed) e) (record { line = (k.held b).line; given = (k.held b).given; clear = (here, (refl, omega (arith, n, m, zero))) });
       }
 
-  goes : (h : Told) (l : LockId) (j : StreamId) (s : Slots) (closed p : PromiseId) (first : List Effect) (same : Bool) → is_same i j ≡ same → lock_at l s ≡ Some (Reader (Some j) closed) → all_seen (marks i) first ≡ [] → Now h (holders s) s.streams []
-      → Now h (record { locks = slice_set s.locks l.0 (Reader None p); pipes = s.pipes }) s.streams (first ++ OnReadable j ReleaseReader ∷ [])
-  goes h l j s closed p first false e at_l none k =
-      others h s.locks (slice_set s.locks l.0 (Reader None p)) s.pipes s.streams (first ++ OnReadable j ReleaseReader ∷ [])
-      (let n = readers-set i l.0 s.locks (Reader (Some j) closed) (Reader None p) at_l in let m = has-own j closed false e in omega arith)
+  -- a BYOB reader comes, where the stream has a byte controller
+  byob-comes : (h : Told) (j : StreamId) (s : Slots) (closed : PromiseId) (same : Bool) → is_same i j ≡ same → has_byte j s ≡ true → Now h (holders s) s.streams []
+      → Now h (record { locks = s.locks ++ ByobReader (Some j) closed ∷ []; pipes = s.pipes }) s.streams (Byte j (InitializeByobReader closed) ∷ [])
+  byob-comes h j s closed false e is k =
+      others h s.locks (s.locks ++ ByobReader (Some j) closed ∷ []) s.pipes s.streams (Byte j (InitializeByobReader closed) ∷ [])
+      (let n = readers-append i s.locks (ByobReader (Some j) closed) in let m = has-own j closed false e in omega arith) tt k
+  byob-comes h j s closed true e is k =
+      let here : has_byte i s ≡ true = rw (same_id i j e) is in
+      record { unmade = λ b. false_true (has_byte i s) here b; held = λ b. false_true (has_byte i s) here b }
+
+  -- a reader of either kind goes
+  goes : (h : Told) (l : LockId) (j : StreamId) (s : Slots) (old new : Lock) (first : List Effect) (same : Bool) → is_same i j ≡ same → has i old ≡ one_if same → has i new ≡ 0 → lock_at l s ≡ Some old → all_seen (marks i) first ≡ []
+      → Now h (holders s) s.streams [] → Now h (record { locks = slice_set s.locks l.0 new; pipes = s.pipes }) s.streams (first ++ OnReadable j ReleaseReader ∷ [])
+  goes h l j s old new first false e m z at_l none k =
+      others h s.locks (slice_set s.locks l.0 new) s.pipes s.streams (first ++ OnReadable j ReleaseReader ∷ [])
+      (let n = readers-set i l.0 s.locks old new at_l in omega arith)
       (rw (all_seen-append, none) (elsewhere j ReleaseReader e)) k
-  goes h l j s closed p first true e at_l none k =
-      let n = readers-set i l.0 s.locks (Reader (Some j) closed) (Reader None p) at_l in
-      let m = has-own j closed true e in
-      let most : owners i (holders s) ≤ 1 = at_most_one (owners i (holders s)) (is_some (readable_at i s).reader) k.held.clear in
+  goes h l j s old new first true e m z at_l none k =
+      let n = readers-set i l.0 s.locks old new at_l in
       record {
-        unmade = λ f. let u = k.unmade f in record { free = let z = u.free in omega (arith, z, n, m); unasked = u.unasked };
-        held = rw (all_seen-append, none, alone j ReleaseReader e) (record { line = k.held.line; given = k.held.given; clear = (refl, (refl, omega (arith, n, m, most))) });
+        unmade = λ b f. let u = k.unmade b f in record { free = let y = u.free in omega (arith, y, n, m, z); unasked = u.unasked };
+        held = λ b.
+            let most : owners i (holders s) ≤ 1 = at_most_one (owners i (holders s)) (is_some (readable_at i s).reader) (k.held b).clear in
+            rw (all_seen-append, none, alone j ReleaseReader e) (record { line = (k.held b).line; given = (k.held b).given; clear = (refl, (refl, omega (arith, n, m, z, most))) });
       }
 
   asked : (h : Told) (l : LockId) (j : StreamId) (s : Slots) (closed : PromiseId) (r : ReadRequest) (same : Bool) → is_same i j ≡ same → lock_at l s ≡ Some (Reader (Some j) closed) → Now h (holders s) s.streams []
@@ -120,8 +144,12 @@ module _ (i : StreamId) where
   asked h l j s closed r true e at_l k =
       let n = readers-there i l.0 s.locks (Reader (Some j) closed) at_l in
       let m = has-own j closed true e in
-      let there = some_reader (owners i (holders s)) (is_some (readable_at i s).reader) (omega (arith, n, m)) k.held.clear in
-      record { unmade = k.unmade; held = rw (alone j (Read r) e) (record { line = k.held.line; given = k.held.given; clear = (there, (refl, k.held.clear)) }) }
+      record {
+        unmade = k.unmade;
+        held = λ b.
+            let there = some_reader (owners i (holders s)) (is_some (readable_at i s).reader) (omega (arith, n, m)) (k.held b).clear in
+            rw (alone j (Read r) e) (record { line = (k.held b).line; given = (k.held b).given; clear = (there, (refl, (k.held b).clear)) });
+      }
 
   renewed-unseen : (t : Table) (kept : Bool) → all_seen (marks i) (reject_renewed t kept) ≡ []
   renewed-unseen t true = refl
@@ -153,7 +181,7 @@ module _ (i : StreamId) where
   inner_readers [] = refl
   inner_readers (l ∷ ls) = let n = inner_readers ls in omega (arith, n)
 
-  pipe_comes : (h : Told) (source dest : StreamId) (prevent : Prevent) (signal : Option SignalId) (s : Slots) (same : Bool) → is_same i source ≡ same → has_readable source s ≡ true → is_some (readable_at source s).reader ≡ false
+  pipe_comes : (h : Told) (source dest : StreamId) (prevent : Prevent) (signal : Option SignalId) (s : Slots) (same : Bool) → is_same i source ≡ same → has_source source s ≡ true → is_some (source_at source s).reader ≡ false
       → Now h (holders s) s.streams [] → let d : Begins = (pipe_to source dest prevent signal s).done in Now h (holders d.slots) s.streams d.caused
   pipe_comes h source dest prevent signal s false e there free k =
       let d : Begins = (pipe_to source dest prevent signal s).done in
@@ -172,18 +200,18 @@ module _ (i : StreamId) where
       let c = inner_readers s.locks in
       let m = begins_marks (record { 0 = length s.pipes }) (next_id s.promises) (next_id (fresh (fresh s.promises))) signal (reason_of signal s) in
       let bs : List Mark = aborting (reason_of signal s) in
-      let here : is_some (readable_at i s).reader ≡ false = rw (same_id i source e) free in
-      let made : has_readable i s ≡ true = rw (same_id i source e) there in
-      let none : owners i (holders s) ≤ one_if (is_some (readable_at i s).reader) = k.held.clear in
-      let zero : owners i (holders s) ≤ 0 = rw here at none in
       let pend : pending bs ≡ [] = other-pending bs (begins_other (reason_of signal s)) in
       record {
-        unmade = λ f. false_true (has_readable i s) made f;
-        held = rw (e, m) (record {
-          line = rw pend k.held.line;
-          given = k.held.given;
-          clear = (here, (pend, (tt, (pend, begins_clear (owners i (holders d.slots)) (reason_of signal s) (omega (arith, a, c, one, zero))))));
-        });
+        unmade = λ b f. let made : has_source i s ≡ true = rw (same_id i source e) there in false_true (has_readable i s) (default-there (has_readable i s) (has_byte i s) made b) f;
+        held = λ b.
+            let here = unlocked source s e free b in
+            let none : owners i (holders s) ≤ one_if (is_some (readable_at i s).reader) = (k.held b).clear in
+            let zero : owners i (holders s) ≤ 0 = rw here at none in
+            rw (e, m) (record {
+              line = rw pend (k.held b).line;
+              given = (k.held b).given;
+              clear = (here, (pend, (tt, (pend, begins_clear (owners i (holders d.slots)) (reason_of signal s) (omega (arith, a, c, one, zero))))));
+            });
       }
 
   start_others : (q : PromiseId) (j : StreamId) (start : StartBy) → AllOther (all_seen (marks i) (start_transform q j start ∷ []))
@@ -196,9 +224,17 @@ module _ (i : StreamId) where
     rejected = λ k. others h s.locks s.locks s.pipes _ _ refl tt k;
     make_readable = λ hwm size start k. others h s.locks s.locks s.pipes _ _ refl tt k;
     make_writable = λ hwm size start k. others h s.locks s.locks s.pipes _ _ refl tt k;
+    get_byob = λ j is free k. byob-comes h j s (next_id s.promises) (is_same i j) refl is k;
+    release_byob = λ l closed j e k. goes h l j s (ByobReader (Some j) closed) (ByobReader None _) (reject_renewed s.promises (readable.is_readable (source_at j s).state)) (is_same i j) refl refl refl e (renewed-unseen s.promises (readable.is_readable (source_at j s).state)) k;
+    read_into = λ l j closed room element least e f k. others h s.locks s.locks s.pipes s.streams _ refl tt k;
+    enqueue_bytes = λ j b e is some can k. others h s.locks s.locks s.pipes s.streams _ refl tt k;
+    finish_bytes = λ j e is can k. others h s.locks s.locks s.pipes s.streams _ refl (one_other j Close tt) k;
+    make_request = λ j reply is k. others h s.locks s.locks s.pipes s.streams _ refl tt k;
+    respond = λ r j b e is can k. others h s.locks s.locks s.pipes s.streams _ refl tt k;
+    make_bytes = λ hwm auto start k. others h s.locks s.locks s.pipes _ _ refl tt k;
     get_reader = λ j free k. comes h j s (next_id s.promises) (is_same i j) refl free k;
     get_writer = λ j free k. others h s.locks (s.locks ++ Writer j ∷ []) s.pipes s.streams _ (let n = readers-append i s.locks (Writer j) in omega arith) tt k;
-    release_reader = λ l closed j e k. goes h l j s closed _ (reject_renewed s.promises (readable.is_readable (readable_at j s).state)) (is_same i j) refl e (renewed-unseen s.promises (readable.is_readable (readable_at j s).state)) k;
+    release_reader = λ l closed j e k. goes h l j s (Reader (Some j) closed) (Reader None _) (reject_renewed s.promises (readable.is_readable (source_at j s).state)) (is_same i j) refl refl refl e (renewed-unseen s.promises (readable.is_readable (source_at j s).state)) k;
     release_writer = λ l j w e f k.
         let ready : Bool = is_pending_at w.ready s.promises in
         let t : Table = with_renewed s.promises ready in
@@ -250,8 +286,8 @@ module _ (i : StreamId) where
   untold (OnSignal a operation) s f = absurd f
   untold _ s f = refl
 
-  idle : (operation : ReadableOperation) (s : Slots) → has_readable i s ≡ false → told i (OnReadable i operation) s ≡ no_told
-  idle operation s none = rw (flows.nothing_there i operation s none, is_same-refl i, none) refl
+  idle : (operation : ReadableOperation) (s : Slots) → has_byte i s ≡ false → has_readable i s ≡ false → told i (OnReadable i operation) s ≡ no_told
+  idle operation s kind none = rw (flows.nothing_there i operation s none, is_same-refl i, none, kind) refl
 
   -- what is known beside: the action of each pipe is awaited once, and the steps of requests stand in order
   abbrev Known : Slots → List Effect → Type 0
@@ -271,7 +307,8 @@ module _ (i : StreamId) where
     history = is_history;
     unseen = unseen;
     untold = untold;
-    operation = λ operation s h ms there k. rw (is_same-refl i, there) (operation-held i operation s h ms there (rw (is_same-refl i) at k));
+    operation = λ operation s h ms there k.
+        rw (is_same-refl i, there, looks-default (slice_get s.streams i.0) (default-no_byte (slice_get s.streams i.0) there)) (operation-held i operation s h ms there (rw (is_same-refl i) at k));
     idle = idle;
     absent = λ operation h o ms k. absent-held i operation h o ms (rw (is_same-refl i) at k);
     steps = steps-held i;
@@ -313,13 +350,14 @@ module _ (i : StreamId) where
   run-now entries = rw over-parts at (on_readable.run-kept no_told told_then (told i) (marks i) i (Held i) (Unmade i) Known law entries)
 
   -- a reader's stream is there
-  pub reader-there : (entries : List Entry) (l : LockId) (p : PromiseId) → let s : Slots = run entries empty in lock_at l s ≡ Some (Reader (Some i) p) → has_readable i s ≡ true
-  reader-there entries l p e = by (has_readable i (run entries empty)) refl
+  pub reader-there : (entries : List Entry) (l : LockId) (p : PromiseId) → let s : Slots = run entries empty in lock_at l s ≡ Some (Reader (Some i) p) → has_source i s ≡ true
+  reader-there entries l p e = by (has_readable i (run entries empty)) (has_byte i (run entries empty)) refl refl
     where
-      by : (there : Bool) → has_readable i (run entries empty) ≡ there → has_readable i (run entries empty) ≡ true
-      by true f = f
-      by false f =
+      by : (there kind : Bool) → has_readable i (run entries empty) ≡ there → has_byte i (run entries empty) ≡ kind → has_source i (run entries empty) ≡ true
+      by true kind f b = rw f refl
+      by false true f b = rw (f, b) refl
+      by false false f b =
           let n = readers-there i l.0 (run entries empty).locks (Reader (Some i) p) e in
           let m = has-own i p true (is_same-refl i) in
-          let none = ((run-now entries).unmade f).free in
+          let none = ((run-now entries).unmade b f).free in
           absurd (omega (arith, n, m, none))

@@ -23,6 +23,7 @@ use Rattle.ws_read_laws.proofs.Behind.{IsNoSteps, NoSteps, InOrder, after-active
 use Rattle.ws_read_laws.proofs.Holding.{owners, Clear, IsOther, other-finds}
 use Rattle.ws_read_laws.proofs.Marks.{Mark, Stands, pipe_mark, signal_mark, marks, pending}
 use Rattle.ws_read_laws.proofs.Told.{Told, Held}
+use Rattle.ws_steps.specs.declared.effects.Effect.TheVariants.{CloseStepsWith}
 
 module _ (i : StreamId) where
   -- where no steps stand, none is still to be performed
@@ -39,6 +40,7 @@ module _ (i : StreamId) where
   no_pending (OnSignal a operation) ms n = signal_pending operation ms
   no_pending (ChunkSteps j request v) ms n = absurd n
   no_pending (CloseSteps j request) ms n = absurd n
+  no_pending (CloseStepsWith j request b) ms n = absurd n
   no_pending (ErrorSteps j request e) ms n = absurd n
   no_pending _ ms n = refl
 

@@ -8,7 +8,7 @@ use Rattle.ws_steps.specs.declared.{readable.ReadRequest.{ReadRequest}, readable
 use Rattle.ws_steps.specs.Laws.{HasOutcome}
 use Rattle.ws_steps.specs.Promises.{Entry, Table, entry_at, outcome_at, is_open_entry}
 use Rattle.ws_steps.specs.Run.{Entry as Step, run}
-use Rattle.ws_steps.specs.Slots.{Slots, Stream, ReadableStream, WritableStream, empty, readable_at, as_readable}
+use Rattle.ws_steps.specs.Slots.{Slots, Stream, ReadableStream, ByteStream, WritableStream, empty, readable_at, as_readable}
 use Rattle.ws_promise_laws.proofs.Holds.{named}
 use Rattle.ws_promise_laws.proofs.Names.{in_all-there}
 use Rattle.ws_promise_laws.proofs.Realm.{in_stream, firm_in}
@@ -31,6 +31,7 @@ open-pending (Some e) n = by e.outcome refl
 in_realm : (p : PromiseId) (s : Slots) (n : ℕ) (place : Option Stream) → slice_get s.streams n ≡ place → in_requests p (as_readable place).requests ≤ firm_in p s
 in_realm p s n None e = omega arith
 in_realm p s n (Some (ReadableStream r)) e = let m = in_all-there (in_stream p) n s.streams (ReadableStream r) e in omega arith
+in_realm p s n (Some (ByteStream b)) e = omega arith
 in_realm p s n (Some (WritableStream w)) e = omega arith
 
 waits-pending : (entries : List Step) (i : StreamId) (p : PromiseId) → let s : Slots = run entries empty in 1 ≤ in_requests p (readable_at i s).requests → outcome_at s.promises p ≡ Some Pending

@@ -1,14 +1,17 @@
 -- What enters a readable stream that isn't a half of an identity transform is what calls that are answered Done enqueue: no other call, no
 -- job and no effect causes an enqueue into it.
-use Rattle.std.proofs.Common.{◌≡◌, Bool, true, false, List, [], ◌∷◌, ◌++◌, map, Option, Some, None, ℕ, zero, suc, if◌then◌else◌, slice_get, refl, sym, ap, ◌∙◌, append-nil, subst, arith}
+use Rattle.std.proofs.Common.{◌≡◌, Bool, true, false, List, [], ◌∷◌, ◌++◌, map, Option, Some, None, ℕ, zero, suc, not, ◌&&◌, if◌then◌else◌, slice_get, refl, sym, ap, ◌∙◌, append-nil, subst, arith}
 use Rattle.ws_value.specs.declared.ids.PipeId.{PipeId}
 use Rattle.ws_value.specs.declared.ids.PromiseId.{PromiseId}
 use Rattle.ws_value.specs.declared.ids.StreamId.{StreamId}
 use Rattle.ws_value.specs.declared.value.Value.{Value}
+use Rattle.ws_value.specs.declared.value.Value.TheVariants.{Plain as PlainValue, Bytes}
+use Rattle.ws_steps.specs.declared.byte.ByteOperation.TheVariants.{Enqueue as EnqueueBytes}
+use Rattle.ws_steps.specs.declared.{calls.Reply.{Reply}, calls.Reply.TheVariants.{Done as ReplyDone}}
 use Rattle.ws_steps.specs.declared.readable.ReadRequest.TheVariants.{Promise, Pipe as PipeRequest}
 use Rattle.ws_steps.specs.declared.pipes.SignalOperation.TheVariants.{Add, Forget, Trigger}
 use Rattle.ws_steps.specs.declared.{calls.Call.{Call}, calls.Call.TheVariants.{Enqueue as EnqueueCall}, effects.Effect.{Effect}}
-use Rattle.ws_steps.specs.declared.effects.Effect.TheVariants.{Readable, Writable, Pipe, Signal, Transform, StartAlgorithm, PullAlgorithm, CancelAlgorithm, WriteAlgorithm, CloseAlgorithm, AbortAlgorithm, ChunkSteps, CloseSteps, ErrorSteps}
+use Rattle.ws_steps.specs.declared.effects.Effect.TheVariants.{Readable, Byte, Writable, Pipe, Signal, Transform, StartAlgorithm, PullAlgorithm, CancelAlgorithm, WriteAlgorithm, CloseAlgorithm, AbortAlgorithm, ChunkSteps, CloseSteps, CloseStepsWith, ErrorSteps}
 use Rattle.ws_steps.specs.declared.{effects.Owner.{Owner}, effects.Owner.TheVariants.{Host, HalfOf}, promises.Job.{Job}, readable.ReadableOperation.TheVariants.{Enqueue}}
 use Rattle.ws_steps.specs.declared.transform.Halves.{Halves}
 use Rattle.ws_steps.specs.declared.transform.Kind.{Kind}
@@ -18,10 +21,12 @@ use Rattle.ws_steps.specs.declared.transform.TransformOperation.{TransformOperat
 use Rattle.ws_steps.specs.declared.transform.TransformOperation.TheVariants as names
 use Rattle.ws_steps.specs.Operations.{transform_operation}
 use Rattle.ws_steps.specs.Promises.{next_job}
+use Rattle.ws_steps.specs.Bytes as byte
+use Rattle.ws_steps.specs.Queues.{is_empty}
 use Rattle.ws_steps.specs.Readable as readable
 use Rattle.ws_steps.specs.Transform as transform
 use Rattle.ws_steps.specs.Transform.{Acts}
-use Rattle.ws_steps.specs.Slots.{Slots, Stream, ReadableStream, WritableStream, Done, causes, empty, found, halves_at, on_transform_at, as_readable, as_transform, has_readable, readable_at, transform_at}
+use Rattle.ws_steps.specs.Slots.{Slots, Stream, ReadableStream, ByteStream, WritableStream, Done, has_byte, byte_at, causes, empty, found, halves_at, on_transform_at, as_readable, as_transform, has_readable, readable_at, transform_at}
 use Rattle.ws_steps.specs.Turns.{row, moments}
 use Rattle.ws_steps.specs.Jobs.{job_effects, job_begun, begin_job}
 use Rattle.ws_steps.specs.Calls.{Begun, begin, unsupported}
@@ -37,6 +42,7 @@ use Rattle.ws_laws.proofs.Rows.{Causes, row-causes, row-streams}
 use Rattle.ws_laws.proofs.PipeDoes.{PipeCauses}
 use Rattle.ws_laws.proofs.Begin.{IsFirst, Enqueues, Never, begin-first, job-first}
 use Rattle.ws_laws.proofs.Shapes.{ReadableOf, TransformShape, stream_shape, stream_shapes, transform_shape, transform_shapes, map-there, row-transform_shapes}
+use Rattle.ws_laws.proofs.StaysBytes.{no-byte-before}
 use Rattle.ws_laws.proofs.Halves.{Among, Halved, step-among, step-shapes, step-halved, run-halved, run-among, halved-empty}
 use Rattle.ws_laws.proofs.Walker.{performed-goes}
 use Rattle.ws_readable_laws.proofs.Runs.{is_history, nothing_flows}
@@ -111,6 +117,9 @@ module _ (i : StreamId) where
 
   quiet-causes : (e : Effect) → IsOther e → Causes Quiet e
   quiet-causes (Readable j operation) n = record { pull = tt; cancel = λ r p. tt; chunk = λ r v. tt; close = λ r. tt; error = λ r e. tt }
+  quiet-causes (Byte j operation) n = record { readable = record { pull = tt; cancel = λ r p. tt; chunk = λ r v. tt; close = λ r. tt; error = λ r e. tt }; close_with = λ r b. tt }
+  quiet-causes (CloseStepsWith j (Promise p) b) n = tt
+  quiet-causes (CloseStepsWith j (PipeRequest p) b) n = tt
   quiet-causes (Writable j operation) n = record { write = tt; close = tt; abort = λ r p. tt; hand_on = λ v. tt; take = λ v t d. tt }
   quiet-causes (StartAlgorithm j step start) n = (λ g u. tt, λ c u. tt)
   quiet-causes (PullAlgorithm j) n = (λ c u. tt, λ t u. tt)
@@ -214,12 +223,39 @@ module _ (i : StreamId) where
       (calls.does (Transform t (names.Enqueue v) ∷ []) s) (calls.throws_type_error s)
       (λ can. enqueued-half t j v s (slice_get s.transforms t.0) refl half.0 half.1.0 half.1.1 apart can) (λ cannot. none-of s)
 
-  call_accepted : (c : Call) (s : Slots) → Halved s → Apart (transform_shapes s) → Apart (transform_shapes (begin c s).done.slots) → enters (begin c s).done ≡ accepted_by i c (begin c s).reply
+  -- what is enqueued into a stream with a byte controller enters another stream than i
+  bytes-quiet : (j : StreamId) (b : List ℕ) (s : Slots) → Apart (transform_shapes s) → enters (causes (Byte j (EnqueueBytes b) ∷ []) s) ≡ []
+  bytes-quiet j b s apart = none_enters (causes (Byte j (EnqueueBytes b) ∷ []) s) (tt, tt) apart
+
+  other-accepted : (j : StreamId) (v : Value) (reply : Reply) (same : Bool) → same ≡ is_same i j → same ≡ false → accepted_by i (EnqueueCall j v) reply ≡ []
+  other-accepted j v reply true e n = cc
+  other-accepted j v ReplyDone false e n = rw (← e) refl
+  other-accepted j v _ false e n = refl
+
+  is-other : (j : StreamId) (s : Slots) (same : Bool) → same ≡ is_same i j → has_byte j s ≡ true → has_byte i s ≡ false → same ≡ false
+  is-other j s true e is kind = let at : i ≡ j = same_id i j (sym e) in let wrong : has_byte j s ≡ false = rw (← at) kind in cc
+  is-other j s false e is kind = refl
+
+  bytes-enter : (j : StreamId) (v : Value) (s : Slots) → Apart (transform_shapes s) → enters (calls.enqueue_bytes j s v).done ≡ []
+  bytes-enter j (PlainValue v) s apart = none-of s
+  bytes-enter j (Bytes b) s apart =
+      either (λ (c : Begun). enters c.done ≡ []) (not (is_empty b) && byte.can_take (byte_at j s)) (calls.does (Byte j (EnqueueBytes b) ∷ []) s) (calls.throws_type_error s)
+      (λ can. bytes-quiet j b s apart) (λ cannot. none-of s)
+
+  bytes-accepted : (j : StreamId) (v : Value) (s : Slots) → has_byte j s ≡ true → has_byte i s ≡ false → Apart (transform_shapes s)
+      → enters (calls.enqueue_bytes j s v).done ≡ accepted_by i (EnqueueCall j v) (calls.enqueue_bytes j s v).reply
+  bytes-accepted j v s is kind apart =
+      let none = other-accepted j v (calls.enqueue_bytes j s v).reply (is_same i j) refl (is-other j s (is_same i j) refl is kind) in
+      rw none (bytes-enter j v s apart)
+
+  call_accepted : (c : Call) (s : Slots) → has_byte i s ≡ false → Halved s → Apart (transform_shapes s) → Apart (transform_shapes (begin c s).done.slots) → enters (begin c s).done ≡ accepted_by i c (begin c s).reply
   unfolding begin
-  call_accepted (EnqueueCall j v) s halved apart later =
-      either (λ (b : Begun). enters b.done ≡ accepted_by i (EnqueueCall j v) b.reply) (has_readable j s) (calls.enqueue v j s) (unsupported s)
-      (λ there. by-owner j v s (readable_at j s).owner there refl halved apart) (λ absent. none-of s)
-  call_accepted c s halved apart later =
+  call_accepted (EnqueueCall j v) s kind halved apart later =
+      either (λ (b : Begun). enters b.done ≡ accepted_by i (EnqueueCall j v) b.reply) (has_byte j s) (calls.enqueue_bytes j s v) (calls.for_readable j (calls.enqueue v j) s)
+      (λ is. bytes-accepted j v s is kind apart)
+      (λ isnt. either (λ (b : Begun). enters b.done ≡ accepted_by i (EnqueueCall j v) b.reply) (has_readable j s) (calls.enqueue v j s) (unsupported s)
+      (λ there. by-owner j v s (readable_at j s).owner there refl halved apart) (λ absent. none-of s))
+  call_accepted c s kind halved apart later =
       none_enters (begin c s).done (each-map (IsFirst (Enqueues c)) Quiet (first_quiet (Enqueues c) (λ j v e. cc)) (begin c s).done.caused (begin-first c s)) later
 
   job_quiet : (s : Slots) (job : Option Job) → All (job_begun s job).caused
@@ -233,25 +269,26 @@ module _ (i : StreamId) where
   earlier : (ts us : List TransformShape) → Among ts us → Apart us → Apart ts
   earlier ts us among apart = λ t x h k. apart t x (among t x h) k
 
-  entry_accepted : (x : Entry) (s : Slots) → Halved s → Apart (transform_shapes (step s x)) → (step_flow i s x).entered ≡ accepted_in_step i s x
+  entry_accepted : (x : Entry) (s : Slots) → has_byte i s ≡ false → Halved s → Apart (transform_shapes (step s x)) → (step_flow i s x).entered ≡ accepted_in_step i s x
   unfolding begin_job
-  entry_accepted (Called c) s halved apart =
-      call_accepted c s halved (earlier _ _ (step-among (Called c) s) apart) (subst Apart (step-shapes (Called c) s) apart)
-  entry_accepted Worked s halved apart =
+  entry_accepted (Called c) s kind halved apart =
+      call_accepted c s kind halved (earlier _ _ (step-among (Called c) s) apart) (subst Apart (step-shapes (Called c) s) apart)
+  entry_accepted Worked s kind halved apart =
       none_enters (begin_job s) (job_quiet s (next_job s.promises)) (job_apart s (next_job s.promises) (earlier _ _ (step-among Worked s) apart))
-  entry_accepted Heard s halved apart = none-of s
+  entry_accepted Heard s kind halved apart = none-of s
 
-  run_accepted : (xs : List Entry) (s : Slots) → Halved s → Apart (transform_shapes (run xs s)) → (run_flow i xs s).entered ≡ accepted i xs s
-  run_accepted [] s halved apart = refl
-  run_accepted (x ∷ xs) s halved apart =
-      let a = entry_accepted x s halved (earlier _ _ (run-among xs (step s x)) apart) in
-      let b = run_accepted xs (step s x) (step-halved x s halved) apart in rw (a, b) refl
+  run_accepted : (xs : List Entry) (s : Slots) → has_byte i (run xs s) ≡ false → Halved s → Apart (transform_shapes (run xs s)) → (run_flow i xs s).entered ≡ accepted i xs s
+  run_accepted [] s kind halved apart = refl
+  run_accepted (x ∷ xs) s kind halved apart =
+      let a = entry_accepted x s (no-byte-before i (x ∷ xs) s kind) halved (earlier _ _ (run-among xs (step s x)) apart) in
+      let b = run_accepted xs (step s x) kind (step-halved x s halved) apart in rw (a, b) refl
 
   -- where none but the host enqueues into a stream, it is no half of an identity transform
 
   owner-there : (xs : List Stream) (n : ℕ) (o : Owner) → slice_get (map stream_shape xs) n ≡ Some (ReadableOf o) → (as_readable (slice_get xs n)).owner ≡ o
   owner-there [] n o is = cc
   owner-there (ReadableStream r ∷ xs) zero o is = cc
+  owner-there (ByteStream b ∷ xs) zero o is = cc
   owner-there (WritableStream w ∷ xs) zero o is = cc
   owner-there (x ∷ xs) (suc n) o is = owner-there xs n o is
 
@@ -273,4 +310,4 @@ module _ (i : StreamId) where
   host-apart s halved host = λ t x is kind. no-half s t x halved host is kind (is_same i x.readable) refl
 
 pub entered_was_accepted : EnteredWasAccepted
-entered_was_accepted entries i = λ host. run_accepted i entries empty halved-empty (host-apart i (run entries empty) (run-halved entries empty halved-empty) host)
+entered_was_accepted entries i = λ kind host. run_accepted i entries empty kind halved-empty (host-apart i (run entries empty) (run-halved entries empty halved-empty) host)

@@ -4,17 +4,17 @@ use Rattle.ws_value.specs.declared.ids.StreamId.{StreamId}
 use Rattle.ws_value.specs.declared.value.Value.{Value}
 use Rattle.ws_steps.specs.declared.calls.Call.{Call}
 use Rattle.ws_steps.specs.declared.effects.Effect.{Effect}
-use Rattle.ws_steps.specs.declared.effects.Effect.TheVariants.{Readable as OnReadable, Writable as OnWritable, StartAlgorithm, ChunkSteps, Give, Settle, Queue, CallHost}
+use Rattle.ws_steps.specs.declared.effects.Effect.TheVariants.{Readable as OnReadable, Byte, Writable as OnWritable, StartAlgorithm, ChunkSteps, Give, Settle, Queue, CallHost}
 use Rattle.ws_steps.specs.declared.promises.Job.{Job}
 use Rattle.ws_steps.specs.declared.readable.ReadableOperation.{ReadableOperation}
 use Rattle.ws_steps.specs.declared.readable.ReadableOperation.TheVariants as names
 use Rattle.ws_steps.specs.declared.readable.ReadableState.{ReadableState}
 use Rattle.ws_steps.specs.declared.readable.ReadableState.TheVariants.{Readable, Closed, Errored}
-use Rattle.ws_steps.specs.Operations.{readable_operation, writable_operation}
+use Rattle.ws_steps.specs.Operations.{readable_operation, byte_readable_operation, byte_operation, writable_operation}
 use Rattle.ws_steps.specs.Promises.{next_job}
 use Rattle.ws_steps.specs.Readable as readable
 use Rattle.ws_steps.specs.Readable.{Acts, is_readable, call_pull_if_needed, accept, controller_enqueue, stream_close, stream_error, close_if_empty, controller_close, controller_error, after_take, pull_from, pull_steps, read_by, default_reader_read, disturb, reader_generic_initialize, start_settled, pull_ended, pull_settled, cancel_steps, cancel_by, stream_cancel, cancel_readable_by, cancel_if_readable, release_by, reader_release}
-use Rattle.ws_steps.specs.Slots.{Slots, Stream, Done, has_readable, readable_at, as_readable}
+use Rattle.ws_steps.specs.Slots.{Slots, Stream, Done, has_readable, has_byte, is_readable_stream, is_byte_stream, readable_at, as_readable, on_readable, on_byte}
 use Rattle.ws_steps.specs.Turns.{row, moments}
 use Rattle.ws_steps.specs.Jobs.{job_begun, begin_job}
 use Rattle.ws_steps.specs.Calls.{Begun, begin}
@@ -24,7 +24,7 @@ use Rattle.ws_steps.specs.ReadableHistory.{Flow, no_flow, flow_then, operation_f
 use Rattle.ws_laws.proofs.EachCall.{each_call}
 use Rattle.ws_laws.proofs.Lists.{Each, each-append}
 use Rattle.ws_laws.proofs.Rows.{row-causes, row-streams}
-use Rattle.ws_laws.proofs.Tables.{either, same_id, readable_acts, on_readable-same, on_readable-other, on_writable-readable}
+use Rattle.ws_laws.proofs.Tables.{either, same_id, readable_acts, on_readable-same, on_source-other, on_byte-readable, on_writable-readable}
 use Rattle.ws_laws.proofs.Walker.{performed-goes}
 use Rattle.ws_readable_laws.proofs.Runs.{is_history, nothing_flows}
 
@@ -32,6 +32,9 @@ use Rattle.ws_readable_laws.proofs.Runs.{is_history, nothing_flows}
 
 abbrev HasEnded : Acts → Type 0
 HasEnded a = is_readable a.slots.state ≡ false
+
+readable-no-byte : (o : Option Stream) → is_readable_stream o ≡ true → is_byte_stream o ≡ false
+readable-no-byte o is = grind (arith, is)
 
 module _ (i : StreamId) where
   pull-ends : (a : Acts) → HasEnded a → HasEnded (call_pull_if_needed i a)
@@ -92,17 +95,21 @@ module _ (i : StreamId) where
   own-over : (operation : ReadableOperation) (s : Slots) (there : Bool) → there ≡ has_readable i s → IsOver s → IsOver (row (OnReadable i operation) s).slots
   unfolding row
   own-over operation s true e n =
-      rw (on_readable-same (readable_operation i operation) i s (sym e)) (operation-ends operation (readable_acts i s) n)
-  own-over operation s false e n = rw (← e) n
+      let none : has_byte i s ≡ false = readable-no-byte (slice_get s.streams i.0) (sym e) in
+      rw (none, on_readable-same (readable_operation i operation) i s (sym e)) (operation-ends operation (readable_acts i s) n)
+  own-over operation s false e n =
+      either (λ (d : Done). IsOver d.slots) (has_byte i s) (on_byte (byte_readable_operation i operation) i s) (on_readable (readable_operation i operation) i s)
+      (λ is. rw (on_byte-readable (byte_readable_operation i operation) i s i) n) (λ isnt. rw (← e) n)
 
   by-over : (j : StreamId) (operation : ReadableOperation) (s : Slots) (same : Bool) → same ≡ is_same i j → IsOver s → IsOver (row (OnReadable j operation) s).slots
   unfolding row
   by-over j operation s true e n = rw (sym (same_id i j (sym e))) (own-over operation s (has_readable i s) refl n)
-  by-over j operation s false e n = rw (ap as_readable (on_readable-other (readable_operation j operation) j s i (sym e))) n
+  by-over j operation s false e n = rw (ap as_readable (on_source-other operation j s i (sym e))) n
 
   row-over : (e : Effect) (s : Slots) → IsOver s → IsOver (row e s).slots
   unfolding row
   row-over (OnReadable j operation) s n = by-over j operation s (is_same i j) refl n
+  row-over (Byte j operation) s n = rw (on_byte-readable (byte_operation j operation) j s i) n
   row-over (OnWritable j operation) s n = rw (on_writable-readable (writable_operation j operation) j s i (is_same i j) refl) n
   row-over e s n = rw (ap (λ (xs : List Stream). as_readable (slice_get xs i.0)) (row-streams e s tt)) n
 
@@ -175,6 +182,14 @@ module _ (i : StreamId) where
     unchanged = λ reply. inl refl;
     rejected = inl refl;
     make_readable = λ mark size start. inr (tt, tt);
+    make_bytes = λ mark auto start. inr (tt, tt);
+    get_byob = λ i is e. inl refl;
+    release_byob = λ l closed i e. inl refl;
+    read_into = λ l i closed room element least e h. inl refl;
+    enqueue_bytes = λ i b e is some can. inl refl;
+    finish_bytes = λ i e is can. inl refl;
+    make_request = λ i reply is. inl refl;
+    respond = λ q i b e is can. inl refl;
     make_writable = λ mark size start. inr (tt, tt);
     make_transform = λ kind m n start. inr (grind arith);
     get_reader = λ i e. inl refl;

@@ -379,7 +379,7 @@ module _ (i : StreamId) where
     unseen = unseen;
     untold = untold;
     operation = λ operation s h ms there k. rw (is_same-refl i) (taking_keeps operation s h ms (is_taking operation) refl (rw (is_same-refl i) at k));
-    idle = nothing_there i;
+    idle = λ operation s kind absent. nothing_there i operation s absent;
     absent = λ operation h locks ms k. absent_keeps h ms (is_taking operation) (rw (is_same-refl i) at k);
     transform = λ t operation s x es known e h k. transform_keeps t operation s x es (is_resting operation) refl known h (readable_at i s) k;
     pipe = λ p operation s x es known e h k. piped_keeps p operation s x h (readable_at i s) (all_seen (mark i) es) k;
@@ -391,7 +391,7 @@ module _ (i : StreamId) where
     signal_untold = λ a operation s. refl;
     steps = λ e same s h locks r ms k. steps_keep e same s h r ms k;
     steps_unmade = λ e same s h locks n. not_cancelled e same s h n;
-    call = λ c s h k. record { unmade = k.unmade; held = first_keeps _ (each-any (Enqueues c) _ (begin-first c s)) h _ k.held };
+    call = λ c s h k. record { unmade = k.unmade; held = λ kind. first_keeps _ (each-any (Enqueues c) _ (begin-first c s)) h _ (k.held kind) };
     job = λ job h locks r k. first_keeps _ (each-any Never _ (job-first job)) h r k;
     made = λ owner hwm size h locks n k. made owner hwm size h n k;
     empty = record { held = record { dropped = []; balanced = record { all = refl; live = λ e. refl; whole = λ c e. refl; gone = λ e. refl; fit = λ e. refl; asked = omega arith } }; clear = tt };
@@ -423,5 +423,5 @@ lawful h r k = record {
 }
 
 pub each_readable_is_lawful : EachReadableIsLawful
-each_readable_is_lawful entries i =
-    let s : Slots = run entries empty in lawful (run_flow i entries empty) (readable_at i s) (between (run_flow i entries empty) (readable_at i s) (run-kept i entries).held)
+each_readable_is_lawful entries i kind =
+    let s : Slots = run entries empty in lawful (run_flow i entries empty) (readable_at i s) (between (run_flow i entries empty) (readable_at i s) ((run-kept i entries).held kind))

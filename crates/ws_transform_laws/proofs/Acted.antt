@@ -28,6 +28,7 @@ use Rattle.ws_laws.proofs.WritableDoes.{IsHandOn}
 use Rattle.ws_transform_laws.specs.TransformHistory.{is_same_transform, effect_transformed}
 use Rattle.ws_transform_laws.proofs.Ordering.{first-told, first-none}
 use Rattle.ws_transform_laws.proofs.Prompt.{IsPlain, Placed, others-plain}
+use Rattle.ws_steps.specs.declared.effects.Effect.TheVariants.{Byte, CloseStepsWith}
 
 abbrev pub IsWritable : Effect → Type 0
 IsWritable (OnWritable j operation) = Unit {0}
@@ -90,6 +91,9 @@ module _ (t : TransformId) where
 
   pub row-idle : (e : Effect) (s : Slots) → (IsWritable e → ⊥) → pending (row e s).caused ≡ []
   row-idle (OnReadable j operation) s n = idle-pending (row (OnReadable j operation) s).caused (row-causes Idle (OnReadable j operation) s (record { pull = refl; cancel = λ r q. refl; chunk = λ r v. refl; close = λ r. refl; error = λ r e. refl }))
+  row-idle (Byte j operation) s n =
+      idle-pending (row (Byte j operation) s).caused
+      (row-causes Idle (Byte j operation) s (record { readable = record { pull = refl; cancel = λ r q. refl; chunk = λ r v. refl; close = λ r. refl; error = λ r e. refl }; close_with = λ r b. refl }))
   row-idle (OnWritable j operation) s n = absurd (n tt)
   row-idle (OnPipe q operation) s n = idle-pending (row (OnPipe q operation) s).caused (row-causes Idle (OnPipe q operation) s (pipe-idle q))
   row-idle (OnSignal a operation) s n = idle-pending (row (OnSignal a operation) s).caused (row-causes Idle (OnSignal a operation) s (signal-idle operation))
@@ -102,6 +106,7 @@ module _ (t : TransformId) where
   row-idle (AbortAlgorithm j r q) s n = idle-pending (row (AbortAlgorithm j r q) s).caused (row-causes Idle (AbortAlgorithm j r q) s (λ c u. refl, λ y u. refl))
   row-idle (ChunkSteps j r v) s n = idle-pending (row (ChunkSteps j r v) s).caused (row-causes Idle (ChunkSteps j r v) s (chunk-idle v r))
   row-idle (CloseSteps j r) s n = idle-pending (row (CloseSteps j r) s).caused (row-causes Idle (CloseSteps j r) s (end-idle r))
+  row-idle (CloseStepsWith j r b) s n = idle-pending (row (CloseStepsWith j r b) s).caused (row-causes Idle (CloseStepsWith j r b) s (end-idle r))
   row-idle (ErrorSteps j r e) s n = idle-pending (row (ErrorSteps j r e) s).caused (row-causes Idle (ErrorSteps j r e) s (end-idle r))
   row-idle e s n = idle-pending (row e s).caused (row-causes Idle e s tt)
 

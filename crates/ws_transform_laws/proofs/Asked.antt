@@ -13,7 +13,7 @@ use Rattle.ws_steps.specs.declared.readable.ReadableOperation.{ReadableOperation
 use Rattle.ws_steps.specs.declared.writable.WritableOperation.{WritableOperation}
 use Rattle.ws_steps.specs.declared.transform.Halves.{Halves}
 use Rattle.ws_steps.specs.Effects.{Out, cause}
-use Rattle.ws_steps.specs.Operations.{readable_operation, writable_operation, pipe_operation, signal_operation, transform_operation}
+use Rattle.ws_steps.specs.Operations.{writable_operation, pipe_operation, signal_operation, transform_operation}
 use Rattle.ws_steps.specs.Pipes as pipe
 use Rattle.ws_steps.specs.Pipes.{abort_all}
 use Rattle.ws_steps.specs.Transform as transform
@@ -24,14 +24,20 @@ use Rattle.ws_steps.specs.declared.readable.ReadRequest.TheVariants.{Promise, Pi
 use Rattle.ws_steps.specs.Turns.{row, start_algorithm, pull_algorithm, cancel_algorithm, write_algorithm, close_algorithm, abort_algorithm}
 use Rattle.ws_laws.proofs.Lists.{Each}
 use Rattle.ws_laws.proofs.PipeDoes.{IsStepOf, PipeCauses, pipe-causes}
-use Rattle.ws_laws.proofs.ReadableDoes.{readable-does}
-use Rattle.ws_laws.proofs.Tables.{either, readable_acts, writable_acts}
+use Rattle.ws_laws.proofs.Tables.{either, writable_acts}
 use Rattle.ws_laws.proofs.WritableDoes.{writable-does}
-use Rattle.ws_steps.specs.Slots.{Slots, Done, nothing, found, ends_at, halves_at, owner_at, has_readable, has_writable, put_readable, put_writable, on_readable, on_writable, on_pipe_at, on_signal_at, on_transform_at}
+use Rattle.ws_steps.specs.Slots.{Slots, Done, nothing, found, ends_at, halves_at, owner_at, has_writable, put_writable, on_writable, on_pipe_at, on_signal_at, on_transform_at}
 use Rattle.ws_writable_laws.proofs.Shape.{all, all-append}
 use Rattle.ws_transform_laws.specs.TransformHistory.{is_same_transform}
 use Rattle.ws_writable_laws.proofs.Shape.{leads_to, of_transform}
 use Rattle.ws_transform_laws.proofs.Waited.{changing}
+use Rattle.ws_steps.specs.declared.effects.Effect.TheVariants.{Byte, CloseStepsWith}
+use Rattle.ws_steps.specs.declared.byte.ByteOperation.{ByteOperation}
+use Rattle.ws_steps.specs.Operations.{byte_operation}
+use Rattle.ws_steps.specs.Slots.{on_byte}
+use Rattle.ws_steps.specs.Turns.{on_source}
+use Rattle.ws_laws.proofs.ReadableDoes.{OfReadable}
+use Rattle.ws_laws.proofs.Rows.{source-out, byte-out}
 
 module _ (t : TransformId) where
   abbrev pub asks_sink : Effect → Bool
@@ -101,17 +107,21 @@ module _ (t : TransformId) where
         take = λ x v u d h. causing-none s x (OnTransform u (names.TransformChunk v d)) refl h;
       }) operation (writable_acts j s) refl) (λ none. refl)
 
-  pub other-readable : (s : Slots) (j : StreamId) (operation : ReadableOperation) → none_of s (on_readable (readable_operation j operation) j s).caused ≡ 0
-  other-readable s j operation =
-      either (λ (d : Done). none_of s d.caused ≡ 0) (has_readable j s) (put_readable j s (readable_operation j operation (readable_acts j s))) (nothing s)
-      (λ there. readable-does (λ (x : Out). none_of s x.effects ≡ 0) j (record {
-        settle = λ x p o h. h;
-        pull = λ x h. causing-none s x (PullAlgorithm j) refl h;
-        cancel = λ x c p h. causing-none s x (CancelAlgorithm j c p) refl h;
-        chunk = λ x q v h. causing-none s x (ChunkSteps j q v) refl h;
-        close = λ x q h. causing-none s x (CloseSteps j q) refl h;
-        error = λ x q e h. causing-none s x (ErrorSteps j q e) refl h;
-      }) operation (readable_acts j s) refl) (λ none. refl)
+  others-none : (s : Slots) (j : StreamId) → OfReadable (λ (x : Out). none_of s x.effects ≡ 0) j
+  others-none s j = record {
+    settle = λ x p o h. h;
+    pull = λ x h. causing-none s x (PullAlgorithm j) refl h;
+    cancel = λ x c p h. causing-none s x (CancelAlgorithm j c p) refl h;
+    chunk = λ x q v h. causing-none s x (ChunkSteps j q v) refl h;
+    close = λ x q h. causing-none s x (CloseSteps j q) refl h;
+    error = λ x q e h. causing-none s x (ErrorSteps j q e) refl h;
+  }
+
+  pub other-readable : (s : Slots) (j : StreamId) (operation : ReadableOperation) → none_of s (on_source operation j s).caused ≡ 0
+  other-readable s j operation = source-out (λ (x : Out). none_of s x.effects ≡ 0) j (others-none s j) operation s refl
+
+  pub bytes-none : (s : Slots) (j : StreamId) (operation : ByteOperation) → none_of s (on_byte (byte_operation j operation) j s).caused ≡ 0
+  bytes-none s j operation = byte-out (λ (x : Out). none_of s x.effects ≡ 0) j (others-none s j) (λ x q b h. causing-none s x (CloseStepsWith j q b) refl h) operation s refl
 
   -- algorithms, by whose they are
 
@@ -143,6 +153,7 @@ module _ (t : TransformId) where
   pub row-none : (e : Effect) (s : Slots) → asks_sink e ≡ false → leads_to (changing t) e ≡ 0 → none_of s (row e s).caused ≡ 0
   unfolding row
   row-none (OnReadable j operation) s o n = other-readable s j operation
+  row-none (Byte j operation) s o n = bytes-none s j operation
   row-none (OnWritable j operation) s o n = writable-none s j operation
   row-none (OnPipe p operation) s o n = pipe-none s p operation (slice_get s.pipes p.0)
   row-none (OnSignal a operation) s o n = signal-none s a operation (slice_get s.signals a.0)
@@ -155,8 +166,10 @@ module _ (t : TransformId) where
   row-none (AbortAlgorithm j c p) s o n = abort-none s j c p (owner_at j s)
   row-none (ChunkSteps j (Promise p) v) s o n = refl
   row-none (CloseSteps j (Promise p)) s o n = refl
+  row-none (CloseStepsWith j (Promise p) b) s o n = refl
   row-none (ErrorSteps j (Promise p) e) s o n = refl
   row-none (ChunkSteps j (PipeRequest p) v) s o n = refl
   row-none (CloseSteps j (PipeRequest p)) s o n = refl
+  row-none (CloseStepsWith j (PipeRequest p) b) s o n = refl
   row-none (ErrorSteps j (PipeRequest p) e) s o n = refl
   row-none _ s o n = refl

@@ -6,15 +6,17 @@ use Rattle.ws_steps.specs.declared.effects.Effect.TheVariants.{Readable as OnRea
 use Rattle.ws_steps.specs.declared.readable.ReadRequest.TheVariants.{Promise, Pipe as PipeRequest}
 use Rattle.ws_steps.specs.declared.transform.{Halves.{Halves}, TransformId.{TransformId}, TransformOperation.{TransformOperation}}
 use Rattle.ws_steps.specs.declared.transform.TransformOperation.TheVariants as names
-use Rattle.ws_steps.specs.Operations.{readable_operation, writable_operation, transform_operation}
+use Rattle.ws_steps.specs.Operations.{writable_operation, transform_operation}
 use Rattle.ws_steps.specs.Slots as realm
 use Rattle.ws_steps.specs.Slots.{Done, nothing, found, halves_at, has_readable, has_writable, put_readable, put_writable, on_transform_at, transform_at, as_transform}
 use Rattle.ws_steps.specs.Transform.{Slots, Acts, set_backpressure, enqueue, enqueued, transform_error, terminate, transform_chunk, sink_write, write_goes_on, source_pull, sink_close, sink_abort, source_cancel, flush_settled, abort_settled, cancel_settled}
 use Rattle.ws_steps.specs.Turns.{row, call_host}
 use Rattle.ws_steps.proofs.PromiseLaws.{slice_get-set_other}
-use Rattle.ws_laws.proofs.Tables.{either, readable_acts, writable_acts, eq_numbers, unequal_numbers}
+use Rattle.ws_laws.proofs.Tables.{either, writable_acts, eq_numbers, unequal_numbers}
 use Rattle.ws_transform_laws.specs.TransformHistory.{is_same_transform}
 use Rattle.ws_transform_laws.proofs.Changing.{place-same, pipe-transforms, signal-transforms}
+use Rattle.ws_steps.specs.declared.effects.Effect.TheVariants.{Byte, CloseStepsWith}
+use Rattle.ws_laws.proofs.Rows.{source-leaves, byte-leaves}
 
 -- an operation that may change the backpressure
 abbrev pub IsTurning : TransformOperation → Type 0
@@ -100,7 +102,8 @@ transform-keeps t u operation s n = by (is_same_transform t u) refl
 
 pub row-keeps : (t : TransformId) (e : Effect) (s : realm.Slots) → (IsTurned t e → ⊥) → pressed t (row e s).slots ≡ pressed t s
 unfolding row call_host
-row-keeps t (OnReadable i operation) s n = either (λ (d : Done). pressed t d.slots ≡ pressed t s) (has_readable i s) (put_readable i s (readable_operation i operation (readable_acts i s))) (nothing s) (λ e. refl) (λ e. refl)
+row-keeps t (OnReadable i operation) s n = source-leaves (λ z. pressed t z) (λ z x o. refl) i operation s
+row-keeps t (Byte i operation) s n = byte-leaves (λ z. pressed t z) (λ z x o. refl) i operation s
 row-keeps t (OnWritable i operation) s n = either (λ (d : Done). pressed t d.slots ≡ pressed t s) (has_writable i s) (put_writable i s (writable_operation i operation (writable_acts i s))) (nothing s) (λ e. refl) (λ e. refl)
 row-keeps t (OnPipe p operation) s n = ap (λ (ts : List Slots). (as_transform (slice_get ts t.0)).backpressure) (pipe-transforms p operation s (slice_get s.pipes p.0))
 row-keeps t (OnSignal a operation) s n = ap (λ (ts : List Slots). (as_transform (slice_get ts t.0)).backpressure) (signal-transforms a operation s (slice_get s.signals a.0))
@@ -109,8 +112,10 @@ row-keeps t (StartAlgorithm i step Now) s n = refl
 row-keeps t (StartAlgorithm i step Later) s n = refl
 row-keeps t (ChunkSteps i (Promise p) v) s n = refl
 row-keeps t (CloseSteps i (Promise p)) s n = refl
+row-keeps t (CloseStepsWith i (Promise p) b) s n = refl
 row-keeps t (ErrorSteps i (Promise p) e) s n = refl
 row-keeps t (ChunkSteps i (PipeRequest p) v) s n = refl
 row-keeps t (CloseSteps i (PipeRequest p)) s n = refl
+row-keeps t (CloseStepsWith i (PipeRequest p) b) s n = refl
 row-keeps t (ErrorSteps i (PipeRequest p) e) s n = refl
 row-keeps t _ s n = refl

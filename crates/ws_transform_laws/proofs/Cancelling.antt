@@ -32,13 +32,22 @@ use Rattle.ws_laws.proofs.Tables.{eq_numbers, readable_there, on_readable-same}
 use Rattle.ws_transform_laws.proofs.Entering.{Reads}
 use Rattle.ws_laws.proofs.Lists.{Each}
 use Rattle.ws_laws.proofs.PipeDoes.{IsStepOf, PipeCauses, pipe-causes}
-use Rattle.ws_laws.proofs.ReadableDoes.{readable-does}
 use Rattle.ws_laws.proofs.Tables.{either, readable_acts, writable_acts}
 use Rattle.ws_laws.proofs.WritableDoes.{writable-does}
 use Rattle.ws_transform_laws.proofs.Wanting.{IsNoPull, Causes, Rests, Cancels, Pulls, PullsFirst, PullsLast, operation-causes}
-use Rattle.ws_steps.specs.Slots.{Slots, Done, nothing, found, ends_at, halves_at, owner_at, has_readable, has_writable, put_readable, put_writable, on_readable, on_writable, on_pipe_at, on_signal_at, on_transform_at}
+use Rattle.ws_steps.specs.Slots.{Slots, Done, nothing, found, ends_at, halves_at, owner_at, has_readable, has_writable, put_writable, on_readable, on_writable, on_pipe_at, on_signal_at, on_transform_at}
 use Rattle.ws_writable_laws.proofs.Shape.{one_if, of_use, all, all-append}
 use Rattle.ws_transform_laws.specs.TransformHistory.{is_same_transform}
+use Rattle.ws_steps.specs.declared.effects.Effect.TheVariants.{Byte, CloseStepsWith}
+use Rattle.ws_steps.specs.declared.byte.ByteOperation.{ByteOperation}
+use Rattle.ws_steps.specs.Operations.{byte_operation}
+use Rattle.ws_steps.specs.Slots.{has_byte, put_byte, on_byte}
+use Rattle.ws_steps.specs.Turns.{on_source}
+use Rattle.ws_laws.proofs.Tables.{byte_acts}
+use Rattle.ws_laws.proofs.ReadableDoes.{OfReadable}
+use Rattle.ws_laws.proofs.ByteDoes.{byte-does}
+use Rattle.ws_laws.proofs.Rows.{source-out}
+use Rattle.ws_transform_laws.proofs.Sources.{byte-host}
 
 abbrev pub is_half : TransformId → Owner → Bool
 is_half t Host = false
@@ -48,6 +57,9 @@ module _ (t : TransformId) where
   -- whether a stream performs the algorithms of the transform stream
   abbrev pub mine : Slots → StreamId → Bool
   mine s j = is_half t (owner_at j s)
+
+  pub not-mine : (s : Slots) (j : StreamId) → has_byte j s ≡ true → mine s j ≡ false
+  not-mine s j is = ap (is_half t) (byte-host j s is)
 
   -- the reaction to the cancel algorithm that the cancel of the readable half performed
   abbrev pub is_cancelled : Step → ℕ
@@ -135,21 +147,28 @@ module _ (t : TransformId) where
         take = λ x v u d h. causing-none s x (OnTransform u (names.TransformChunk v d)) refl h;
       }) operation (writable_acts j s) refl) (λ none. refl)
 
-  pub other-readable : (s : Slots) (j : StreamId) (operation : ReadableOperation) → mine s j ≡ false → none_of s (on_readable (readable_operation j operation) j s).caused ≡ 0
-  other-readable s j operation m =
-      either (λ (d : Done). none_of s d.caused ≡ 0) (has_readable j s) (put_readable j s (readable_operation j operation (readable_acts j s))) (nothing s)
-      (λ there. readable-does (λ (x : Out). none_of s x.effects ≡ 0) j (record {
-        settle = λ x p o h. h;
-        pull = λ x h. causing-none s x (PullAlgorithm j) refl h;
-        cancel = λ x c p h. causing-none s x (CancelAlgorithm j c p) (rw m refl) h;
-        chunk = λ x q v h. causing-none s x (ChunkSteps j q v) refl h;
-        close = λ x q h. causing-none s x (CloseSteps j q) refl h;
-        error = λ x q e h. causing-none s x (ErrorSteps j q e) refl h;
-      }) operation (readable_acts j s) refl) (λ none. refl)
+  others-none : (s : Slots) (j : StreamId) → mine s j ≡ false → OfReadable (λ (x : Out). none_of s x.effects ≡ 0) j
+  others-none s j m = record {
+    settle = λ x p o h. h;
+    pull = λ x h. causing-none s x (PullAlgorithm j) refl h;
+    cancel = λ x c p h. causing-none s x (CancelAlgorithm j c p) (rw m refl) h;
+    chunk = λ x q v h. causing-none s x (ChunkSteps j q v) refl h;
+    close = λ x q h. causing-none s x (CloseSteps j q) refl h;
+    error = λ x q e h. causing-none s x (ErrorSteps j q e) refl h;
+  }
+
+  pub other-readable : (s : Slots) (j : StreamId) (operation : ReadableOperation) → mine s j ≡ false → none_of s (on_source operation j s).caused ≡ 0
+  other-readable s j operation m = source-out (λ (x : Out). none_of s x.effects ≡ 0) j (others-none s j m) operation s refl
+
+  pub bytes-none : (s : Slots) (j : StreamId) (operation : ByteOperation) → none_of s (on_byte (byte_operation j operation) j s).caused ≡ 0
+  bytes-none s j operation =
+      either (λ (d : Done). none_of s d.caused ≡ 0) (has_byte j s) (put_byte j s (byte_operation j operation (byte_acts j s))) (nothing s)
+      (λ is. byte-does (λ (x : Out). none_of s x.effects ≡ 0) j (others-none s j (not-mine s j is)) (λ x q b h. causing-none s x (CloseStepsWith j q b) refl h) operation (byte_acts j s) refl) (λ none. refl)
 
   no-pull : (s : Slots) (e : Effect) → IsNoPull e → cancels s e ≡ 0
   no-pull s (ChunkSteps j q v) n = refl
   no-pull s (CloseSteps j q) n = refl
+  no-pull s (CloseStepsWith j q b) n = refl
   no-pull s (ErrorSteps j q e) n = refl
   no-pull s _ n = absurd n
 
@@ -210,12 +229,12 @@ module _ (t : TransformId) where
             let same : h.0 ≡ x.0 = cc in
             sym x.1.1 ∙ (sym (ap (λ (y : TransformShape). y.readable) same) ∙ h.1.1)
 
-    readable-none : (s : Slots) (j : StreamId) (operation : ReadableOperation) → Halved s → Reads t r s → can_close_or_enqueue (readable_at r (row (OnReadable j operation) s).slots) ≡ true → none_of s (row (OnReadable j operation) s).caused ≡ 0
-    unfolding row
-    readable-none s j operation halved h can = by (mine s j) (has_readable j s) refl refl
+    default-none : (s : Slots) (j : StreamId) (operation : ReadableOperation) → Halved s → Reads t r s → has_byte j s ≡ false → can_close_or_enqueue (readable_at r (on_readable (readable_operation j operation) j s).slots) ≡ true
+        → none_of s (on_readable (readable_operation j operation) j s).caused ≡ 0
+    default-none s j operation halved h isnt can = by (mine s j) (has_readable j s) refl refl
       where
         by : (m there : Bool) → m ≡ mine s j → there ≡ has_readable j s → none_of s (on_readable (readable_operation j operation) j s).caused ≡ 0
-        by false there e f = other-readable s j operation (sym e)
+        by false there e f = let k : none_of s (on_source operation j s).caused ≡ 0 = other-readable s j operation (sym e) in rw isnt at k
         by true false e f = rw (← f) refl
         by true true e f =
             let is : j ≡ r = half-here s j halved h (sym f) (sym e) in
@@ -223,9 +242,18 @@ module _ (t : TransformId) where
             let open_ : can_close_or_enqueue (readable_operation j operation (readable_acts j s)).slots ≡ true = rw at at (rw (← is) at can) in
             rw (← f) (open-none s j (readable_operation j operation (readable_acts j s)).slots (readable_operation j operation (readable_acts j s)).out.effects open_ (operation-causes j operation (readable_acts j s) refl))
 
+    readable-none : (s : Slots) (j : StreamId) (operation : ReadableOperation) → Halved s → Reads t r s → can_close_or_enqueue (readable_at r (row (OnReadable j operation) s).slots) ≡ true → none_of s (row (OnReadable j operation) s).caused ≡ 0
+    unfolding row
+    readable-none s j operation halved h can = by (has_byte j s) refl
+      where
+        by : (b : Bool) → b ≡ has_byte j s → none_of s (on_source operation j s).caused ≡ 0
+        by true e = other-readable s j operation (not-mine s j (sym e))
+        by false e = rw (← e) (default-none s j operation halved h (sym e) (rw (← e) at can))
+
     pub row-none : (e : Effect) (s : Slots) → Halved s → Reads t r s → can_close_or_enqueue (readable_at r (row e s).slots) ≡ true → cancels s e ≡ 0 → none_of s (row e s).caused ≡ 0
     unfolding row
     row-none (OnReadable j operation) s halved h can n = readable-none s j operation halved h can
+    row-none (Byte j operation) s halved h can n = bytes-none s j operation
     row-none (OnWritable j operation) s halved h can n = writable-none s j operation
     row-none (OnPipe p operation) s halved h can n = pipe-none s p operation (slice_get s.pipes p.0)
     row-none (OnSignal a operation) s halved h can n = signal-none s a operation (slice_get s.signals a.0)
@@ -238,9 +266,11 @@ module _ (t : TransformId) where
     row-none (AbortAlgorithm j c p) s halved h can n = abort-none s j c p (owner_at j s)
     row-none (ChunkSteps j (Promise p) v) s halved h can n = refl
     row-none (CloseSteps j (Promise p)) s halved h can n = refl
+    row-none (CloseStepsWith j (Promise p) b) s halved h can n = refl
     row-none (ErrorSteps j (Promise p) e) s halved h can n = refl
     row-none (ChunkSteps j (PipeRequest p) v) s halved h can n = refl
     row-none (CloseSteps j (PipeRequest p)) s halved h can n = refl
+    row-none (CloseStepsWith j (PipeRequest p) b) s halved h can n = refl
     row-none (ErrorSteps j (PipeRequest p) e) s halved h can n = refl
     row-none _ s halved h can n = refl
 
@@ -248,6 +278,7 @@ module _ (t : TransformId) where
   pub none-owned : (e : Effect) (s : Slots) → ((j : StreamId) → mine s j ≡ false) → cancels s e ≡ 0 → none_of s (row e s).caused ≡ 0
   unfolding row
   none-owned (OnReadable j operation) s o n = other-readable s j operation (o j)
+  none-owned (Byte j operation) s o n = bytes-none s j operation
   none-owned (OnWritable j operation) s o n = writable-none s j operation
   none-owned (OnPipe p operation) s o n = pipe-none s p operation (slice_get s.pipes p.0)
   none-owned (OnSignal a operation) s o n = signal-none s a operation (slice_get s.signals a.0)
@@ -260,8 +291,10 @@ module _ (t : TransformId) where
   none-owned (AbortAlgorithm j c p) s o n = abort-none s j c p (owner_at j s)
   none-owned (ChunkSteps j (Promise p) v) s o n = refl
   none-owned (CloseSteps j (Promise p)) s o n = refl
+  none-owned (CloseStepsWith j (Promise p) b) s o n = refl
   none-owned (ErrorSteps j (Promise p) e) s o n = refl
   none-owned (ChunkSteps j (PipeRequest p) v) s o n = refl
   none-owned (CloseSteps j (PipeRequest p)) s o n = refl
+  none-owned (CloseStepsWith j (PipeRequest p) b) s o n = refl
   none-owned (ErrorSteps j (PipeRequest p) e) s o n = refl
   none-owned _ s o n = refl

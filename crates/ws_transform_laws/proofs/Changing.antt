@@ -11,7 +11,7 @@ use Rattle.ws_steps.specs.declared.readable.{ReadRequest.TheVariants.{Promise, P
 use Rattle.ws_steps.specs.declared.transform.{Halves.{Halves}, TransformId.{TransformId}, TransformOperation.{TransformOperation}}
 use Rattle.ws_steps.specs.declared.transform.TransformOperation.TheVariants as names
 use Rattle.ws_steps.specs.declared.writable.{WritableState.{WritableState}, WritableState.TheVariants.{Writable as IsWritable, Erroring, Errored as WritableErrored, Closed as WritableClosed}}
-use Rattle.ws_steps.specs.Operations.{readable_operation, writable_operation, pipe_operation, signal_operation, transform_operation}
+use Rattle.ws_steps.specs.Operations.{writable_operation, pipe_operation, signal_operation, transform_operation}
 use Rattle.ws_steps.specs.Pipes as pipe
 use Rattle.ws_steps.specs.Promises.{fresh, settle}
 use Rattle.ws_steps.specs.Slots as realm
@@ -19,7 +19,9 @@ use Rattle.ws_steps.specs.Slots.{Done, nothing, found, halves_at, has_readable, 
 use Rattle.ws_steps.specs.Transform.{Slots, Acts, done, set_backpressure, unblock, differs, enqueue, enqueued, transform_error, terminate, transform_chunk, perform_transform, wait_for_change, sink_write, write_in, write_goes_on, source_pull, finish_by, sink_close, sink_abort, source_cancel, flushed_in, flush_settled, aborted_in, abort_settled, cancelled_in, cancel_settled}
 use Rattle.ws_steps.specs.Turns.{row, call_host}
 use Rattle.ws_steps.proofs.PromiseLaws.{slice_get-set_other}
-use Rattle.ws_laws.proofs.Tables.{either, readable_acts, writable_acts, eq_numbers, unequal_numbers}
+use Rattle.ws_laws.proofs.Tables.{either, writable_acts, eq_numbers, unequal_numbers}
+use Rattle.ws_steps.specs.declared.effects.Effect.TheVariants.{Byte, CloseStepsWith}
+use Rattle.ws_laws.proofs.Rows.{source-leaves, byte-leaves}
 
 abbrev pub Turned : Acts → Acts → Type 0
 Turned a b = ((b.slots.change ≡ a.slots.change) × (b.slots.backpressure ≡ a.slots.backpressure)) ⊎ (b.out.promises ≡ fresh (settle a.slots.change done a.out.promises))
@@ -133,8 +135,8 @@ signal-transforms a operation s (Some x) = refl
 
 pub row-turns : (t : TransformId) (e : Effect) (x : Slots) (s : realm.Slots) → slice_get s.transforms t.0 ≡ Some x → Turns t x s (row e s).slots
 unfolding row call_host
-row-turns t (OnReadable i operation) x s there =
-    either (λ (d : Done). Turns t x s d.slots) (has_readable i s) (put_readable i s (readable_operation i operation (readable_acts i s))) (nothing s) (λ e. kept t x s _ refl there) (λ e. kept t x s s refl there)
+row-turns t (OnReadable i operation) x s there = kept t x s _ (source-leaves (λ z. z.transforms) (λ z y o. refl) i operation s) there
+row-turns t (Byte i operation) x s there = kept t x s _ (byte-leaves (λ z. z.transforms) (λ z y o. refl) i operation s) there
 row-turns t (OnWritable i operation) x s there =
     either (λ (d : Done). Turns t x s d.slots) (has_writable i s) (put_writable i s (writable_operation i operation (writable_acts i s))) (nothing s) (λ e. kept t x s _ refl there) (λ e. kept t x s s refl there)
 row-turns t (OnPipe p operation) x s there = kept t x s _ (pipe-transforms p operation s (slice_get s.pipes p.0)) there
@@ -144,8 +146,10 @@ row-turns t (StartAlgorithm i step Now) x s there = kept t x s _ refl there
 row-turns t (StartAlgorithm i step Later) x s there = kept t x s _ refl there
 row-turns t (ChunkSteps i (Promise p) v) x s there = kept t x s _ refl there
 row-turns t (CloseSteps i (Promise p)) x s there = kept t x s _ refl there
+row-turns t (CloseStepsWith i (Promise p) b) x s there = kept t x s _ refl there
 row-turns t (ErrorSteps i (Promise p) e) x s there = kept t x s _ refl there
 row-turns t (ChunkSteps i (PipeRequest p) v) x s there = kept t x s _ refl there
 row-turns t (CloseSteps i (PipeRequest p)) x s there = kept t x s _ refl there
+row-turns t (CloseStepsWith i (PipeRequest p) b) x s there = kept t x s _ refl there
 row-turns t (ErrorSteps i (PipeRequest p) e) x s there = kept t x s _ refl there
 row-turns t _ x s there = kept t x s _ refl there

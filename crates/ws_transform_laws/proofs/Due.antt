@@ -32,6 +32,7 @@ use Rattle.ws_laws.proofs.TransformDoes.{TransformCauses}
 use Rattle.ws_transform_laws.specs.TransformHistory.{is_same_transform, is_changed}
 use Rattle.ws_transform_laws.proofs.Backpressure.{pressed}
 use Rattle.ws_transform_laws.proofs.Prompt.{IsPlain, may_carry, plain-caused, call-plain, job-plain}
+use Rattle.ws_steps.specs.declared.effects.Effect.TheVariants.{Byte, CloseStepsWith}
 
 -- an effect by which no write goes on
 abbrev pub IsNoGoing : Effect → Type 0
@@ -61,6 +62,7 @@ transform-rests u w r _ c = tt
 
 rests-causes : (e : Effect) → Causes IsNoGoing e
 rests-causes (OnReadable j operation) = record { pull = tt; cancel = λ c p. tt; chunk = λ q v. tt; close = λ q. tt; error = λ q e. tt }
+rests-causes (Byte j operation) = record { readable = record { pull = tt; cancel = λ c p. tt; chunk = λ q v. tt; close = λ q. tt; error = λ q e. tt }; close_with = λ r b. tt }
 rests-causes (OnWritable j operation) = record { write = tt; close = tt; abort = λ c p. tt; hand_on = λ v. tt; take = λ v u d. tt }
 rests-causes (OnPipe p operation) = pipe-rests p
 rests-causes (OnSignal a operation) = signal-rests operation
@@ -73,6 +75,7 @@ rests-causes (CloseAlgorithm j) = (λ c u. tt, λ y u. tt)
 rests-causes (AbortAlgorithm j c p) = (λ c u. tt, λ y u. tt)
 rests-causes (ChunkSteps j q v) = chunk-rests v q
 rests-causes (CloseSteps j q) = end-rests q
+rests-causes (CloseStepsWith j q b) = end-rests q
 rests-causes (ErrorSteps j q e) = end-rests q
 rests-causes _ = tt
 

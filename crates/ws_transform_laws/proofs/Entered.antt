@@ -1,5 +1,5 @@
 -- What enters the readable half of a transform stream in each step of every run.
-use Rattle.std.proofs.Common.{◌≡◌, ℕ, zero, suc, Bool, true, false, ◌&&◌, nat_eq, if◌then◌else◌, List, [], ◌∷◌, ◌++◌, map, Option, Some, None, slice_get, refl, sym, ap, ◌∙◌, arith, append_assoc, append-nil}
+use Rattle.std.proofs.Common.{◌≡◌, ℕ, zero, suc, Bool, true, false, ◌&&◌, not, nat_eq, if◌then◌else◌, List, [], ◌∷◌, ◌++◌, map, Option, Some, None, slice_get, refl, sym, ap, ◌∙◌, arith, append_assoc, append-nil}
 use Rattle.ws_value.specs.declared.ids.{StreamId.{StreamId}}
 use Rattle.ws_value.specs.declared.value.Value.{Value}
 use Rattle.ws_steps.specs.declared.calls.{Call.{Call}, Call.TheVariants.{Enqueue as EnqueueCall}}
@@ -28,8 +28,14 @@ use Rattle.ws_laws.proofs.Tables.{either, same_id, is_same-refl, eq_numbers, rea
 use Rattle.ws_laws.proofs.Walker.{IsHistory, performed-goes}
 use Rattle.ws_transform_laws.specs.TransformHistory.{is_same_transform, effect_enqueued, step_enqueued}
 use Rattle.ws_transform_laws.specs.TransformLaws.{EachStepEnters, JobsEnterNothing}
-use Rattle.ws_transform_laws.proofs.Entering.{Quiet, Enter, entering_of, entering, entering-append, quiet-entering, quiet-enter, enter-append, Reads, row-goes}
+use Rattle.ws_transform_laws.proofs.Entering.{Quiet, Enter, entering_of, entering, entering-append, quiet-entering, quiet-enter, enter-append, Reads, not-bytes, row-goes}
 use Rattle.ws_transform_laws.proofs.Told.{Both, neither, both_then, are_both, along-map}
+use Rattle.ws_steps.specs.declared.effects.Effect.TheVariants.{Byte}
+use Rattle.ws_steps.specs.declared.byte.ByteOperation.TheVariants.{Enqueue as EnqueueBytes}
+use Rattle.ws_steps.specs.Slots.{has_byte, byte_at}
+use Rattle.ws_steps.specs.Queues.{is_empty}
+use Rattle.ws_steps.specs.Bytes as byte
+use Rattle.ws_value.specs.declared.value.Value.TheVariants.{Plain as PlainValue, Bytes}
 
 module _ (t : TransformId) (r : StreamId) where
   abbrev told : Effect → Slots → Both
@@ -102,11 +108,25 @@ module _ (t : TransformId) (r : StreamId) where
       either (λ (b : Begun). Starts b (accepted_by r (EnqueueCall j v) b.reply)) (can_close_or_enqueue (readable_at j s)) (calls.does (OnTransform u (names.Enqueue v) ∷ []) s) (calls.throws_type_error s)
       (λ can. ((λ here. rw (same_id r j (sym same ∙ here)) can, tt), rw same (sym (append-nil (if is_same r j then v ∷ [] else []))))) (λ cannot. (tt, refl))
 
+  -- a byte stream is another
+  by-bytes : (j : StreamId) (v : Value) (s : Slots) → is_same r j ≡ false → Starts (calls.enqueue_bytes j s v) (accepted_by r (EnqueueCall j v) (calls.enqueue_bytes j s v).reply)
+  by-bytes j (PlainValue v) s n = (tt, refl)
+  by-bytes j (Bytes b) s n =
+      either (λ (x : Begun). Starts x (accepted_by r (EnqueueCall j (Bytes b)) x.reply)) (not (is_empty b) && byte.can_take (byte_at j s)) (calls.does (Byte j (EnqueueBytes b) ∷ []) s) (calls.throws_type_error s)
+      (λ can. ((tt, tt), rw n refl)) (λ cannot. (tt, refl))
+
+  bytes-were : (j : StreamId) (v : Value) (s : Slots) → Reads t r (calls.enqueue_bytes j s v).done.slots → Reads t r s
+  bytes-were j (PlainValue v) s k = k
+  bytes-were j (Bytes b) s k =
+      either (λ (x : Begun). Reads t r x.done.slots → Reads t r s) (not (is_empty b) && byte.can_take (byte_at j s)) (calls.does (Byte j (EnqueueBytes b) ∷ []) s) (calls.throws_type_error s) (λ e x. x) (λ e x. x) k
+
   call-starts : (c : Call) (s : Slots) → Halved s → Reads t r (begin c s).done.slots → Starts (begin c s) (accepted_by r c (begin c s).reply)
   unfolding begin
   call-starts (EnqueueCall j v) s halved h =
-      either (λ (b : Begun). Reads t r b.done.slots → Starts b (accepted_by r (EnqueueCall j v) b.reply)) (has_readable j s) (calls.enqueue v j s) (unsupported s)
-      (λ there k. by-owner j v s (readable_at j s).owner there refl halved (was (readable_at j s).owner k)) (λ absent k. (tt, refl)) h
+      either (λ (b : Begun). Reads t r b.done.slots → Starts b (accepted_by r (EnqueueCall j v) b.reply)) (has_byte j s) (calls.enqueue_bytes j s v) (calls.for_readable j (calls.enqueue v j) s)
+      (λ is k. by-bytes j v s (not-bytes t r s j halved (bytes-were j v s k) is))
+      (λ isnt. either (λ (b : Begun). Reads t r b.done.slots → Starts b (accepted_by r (EnqueueCall j v) b.reply)) (has_readable j s) (calls.enqueue v j s) (unsupported s)
+      (λ there k. by-owner j v s (readable_at j s).owner there refl halved (was (readable_at j s).owner k)) (λ absent k. (tt, refl))) h
     where
       was : (owner : Owner) → Reads t r (calls.enqueue_by v j s owner).done.slots → Reads t r s
       was Host k = either (λ (b : Begun). Reads t r b.done.slots → Reads t r s) (can_close_or_enqueue (readable_at j s)) (calls.does (OnReadable j (Enqueue v) ∷ []) s) (calls.throws_type_error s) (λ e x. x) (λ e x. x) k

@@ -23,6 +23,9 @@ use Rattle.ws_laws.proofs.Rows.{Causes, row-causes}
 use Rattle.ws_laws.proofs.Shapes.{StreamShape, ReadableOf, TransformShape, stream_shapes, transform_shapes, transform_shape, map-there}
 use Rattle.ws_laws.proofs.Tables.{either, same_id, is_same-refl, eq_numbers}
 use Rattle.ws_transform_laws.specs.TransformHistory.{is_same_transform, enqueues, effect_enqueued}
+use Rattle.ws_steps.specs.declared.effects.Effect.TheVariants.{Byte, CloseStepsWith}
+use Rattle.ws_steps.specs.Slots.{has_byte}
+use Rattle.ws_laws.proofs.StaysBytes.{bytes-told}
 
 module _ (t : TransformId) (r : StreamId) where
   -- an effect that leads to no enqueue into the stream by an enqueue that stands on the agenda
@@ -106,6 +109,7 @@ module _ (t : TransformId) (r : StreamId) where
 
   quiet-causes : (e : Effect) → IsOther e → Causes Quiet e
   quiet-causes (OnReadable j operation) n = readable-quiet j operation
+  quiet-causes (Byte j operation) n = record { readable = record { pull = tt; cancel = λ c p. tt; chunk = λ c v. tt; close = λ c. tt; error = λ c e. tt }; close_with = λ c b. tt }
   quiet-causes (OnWritable j operation) n = record { write = tt; close = tt; abort = λ c p. tt; hand_on = λ v. tt; take = λ v u d. tt }
   quiet-causes (StartAlgorithm j step start) n = (λ g u. tt, λ c u. tt)
   quiet-causes (PullAlgorithm j) n = (λ c u. tt, λ y u. tt)
@@ -121,7 +125,9 @@ module _ (t : TransformId) (r : StreamId) where
   quiet-causes (ChunkSteps j (Promise p) v) n = tt
   quiet-causes (ChunkSteps j (PipeRequest p) v) n = tt
   quiet-causes (CloseSteps j (Promise p)) n = tt
+  quiet-causes (CloseStepsWith j (Promise p) b) n = tt
   quiet-causes (CloseSteps j (PipeRequest p)) n = tt
+  quiet-causes (CloseStepsWith j (PipeRequest p) b) n = tt
   quiet-causes (ErrorSteps j (Promise p) e) n = tt
   quiet-causes (ErrorSteps j (PipeRequest p) e) n = tt
   quiet-causes _ n = tt
@@ -170,12 +176,28 @@ module _ (t : TransformId) (r : StreamId) where
   abbrev pub Reads : Slots → Type 0
   Reads s = (x : TransformShape) × ((slice_get (transform_shapes s) t.0 ≡ Some x) × (x.readable ≡ r))
 
+  half-shape : (s : Slots) → Halved s → Reads s → slice_get (stream_shapes s) r.0 ≡ Some (ReadableOf (HalfOf t))
+  half-shape s halved h = rw (← h.1.1) (halved.halves t h.0 h.1.0).0
+
+  -- and so it has a default controller
+  pub reads-default : (s : Slots) → Halved s → Reads s → has_byte r s ≡ false
+  reads-default s halved h = bytes-told s.streams r.0 ∙ rw (half-shape s halved h) refl
+
+  pub not-bytes : (s : Slots) (j : StreamId) → Halved s → Reads s → has_byte j s ≡ true → is_same r j ≡ false
+  not-bytes s j halved h is = by (is_same r j) refl
+    where
+      by : (b : Bool) → b ≡ is_same r j → is_same r j ≡ false
+      by false e = sym e
+      by true e =
+          let none = reads-default s halved h in
+          let yes : has_byte r s ≡ true = rw (same_id r j (sym e)) is in absurd (cc)
+
   self : (k : ℕ) → nat_eq k k ≡ true
   self k = grind arith
 
   no-other : (s : Slots) (u : TransformId) (y : transform.Slots) → Halved s → Reads s → slice_get s.transforms u.0 ≡ Some y → is_same_transform t u ≡ false → is_same r y.readable ≡ true → {A : Type 0} → A
   no-other s u y halved h is n same =
-      let mine : slice_get (stream_shapes s) r.0 ≡ Some (ReadableOf (HalfOf t)) = rw (← h.1.1) (halved.halves t h.0 h.1.0).0 in
+      let mine = half-shape s halved h in
       let other = (halved.halves u (transform_shape y) (map-there transform_shape s.transforms u.0 y is)).0 in
       let at : r ≡ y.readable = same_id r y.readable same in
       let both : ◌≡◌ {A = Option StreamShape} (Some (ReadableOf (HalfOf t))) (Some (ReadableOf (HalfOf u))) = sym mine ∙ (ap (λ (k : StreamId). slice_get (stream_shapes s) k.0) at ∙ other) in

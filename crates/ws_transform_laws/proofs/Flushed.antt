@@ -28,6 +28,7 @@ use Rattle.ws_laws.proofs.Walker.{IsHistory, performed-goes}
 use Rattle.ws_transform_laws.specs.TransformHistory.{is_same_transform, effect_closings, step_closings, is_flushed}
 use Rattle.ws_transform_laws.specs.TransformLaws.{FlushesClose}
 use Rattle.ws_transform_laws.proofs.Entering.{Reads, apart}
+use Rattle.ws_steps.specs.declared.effects.Effect.TheVariants.{Byte, CloseStepsWith}
 
 module _ (t : TransformId) (r : StreamId) where
   -- an effect that closes the stream neither now nor by what it causes
@@ -48,6 +49,7 @@ module _ (t : TransformId) (r : StreamId) where
 
   calm-causes : (e : Effect) → IsOther e → Causes Calm e
   calm-causes (OnReadable j operation) n = record { pull = tt; cancel = λ c p. tt; chunk = λ c v. tt; close = λ c. tt; error = λ c e. tt }
+  calm-causes (Byte j operation) n = record { readable = record { pull = tt; cancel = λ c p. tt; chunk = λ c v. tt; close = λ c. tt; error = λ c e. tt }; close_with = λ r b. tt }
   calm-causes (OnWritable j operation) n = record { write = tt; close = tt; abort = λ c p. tt; hand_on = λ v. tt; take = λ v u d. tt }
   calm-causes (StartAlgorithm j step start) n = (λ g u. tt, λ c u. tt)
   calm-causes (PullAlgorithm j) n = (λ c u. tt, λ y u. tt)
@@ -63,7 +65,9 @@ module _ (t : TransformId) (r : StreamId) where
   calm-causes (ChunkSteps j (Promise p) v) n = tt
   calm-causes (ChunkSteps j (PipeRequest p) v) n = tt
   calm-causes (CloseSteps j (Promise p)) n = tt
+  calm-causes (CloseStepsWith j (Promise p) b) n = tt
   calm-causes (CloseSteps j (PipeRequest p)) n = tt
+  calm-causes (CloseStepsWith j (PipeRequest p) b) n = tt
   calm-causes (ErrorSteps j (Promise p) e) n = tt
   calm-causes (ErrorSteps j (PipeRequest p) e) n = tt
   calm-causes _ n = tt

@@ -16,7 +16,7 @@ use Rattle.ws_steps.specs.Jobs.{job_effects}
 use Rattle.ws_steps.specs.Operations.{writable_operation}
 use Rattle.ws_steps.specs.Promises.{next_job, after_next_job, watch}
 use Rattle.ws_steps.specs.Run.{older, after_event}
-use Rattle.ws_steps.specs.Slots.{Slots, Stream, ReadableStream, WritableStream, Done, empty, nothing, owner_at, has_writable, writable_at, as_writable, is_writable_stream, with_promises, put_writable}
+use Rattle.ws_steps.specs.Slots.{Slots, Stream, ReadableStream, ByteStream, WritableStream, Done, empty, nothing, owner_at, has_writable, writable_at, as_writable, is_writable_stream, with_promises, put_writable}
 use Rattle.ws_steps.specs.Transform as transform
 use Rattle.ws_steps.specs.Turns.{row}
 use Rattle.ws_steps.specs.Writable as writable
@@ -41,6 +41,7 @@ use Rattle.ws_transform_laws.proofs.Waiting.{Waits, Queued, waits-changes, queue
 none_needs : (o : Option Stream) → is_writable_stream o ≡ false → needs (as_writable o) ≡ true → {A : Type 0} → A
 none_needs None e n = cc
 none_needs (Some (ReadableStream r)) e n = cc
+none_needs (Some (ByteStream b)) e n = cc
 none_needs (Some (WritableStream w)) e n = cc
 
 pub map-from : {X Y : Type 0} (f : X → Y) (xs : List X) (k : ℕ) (y : Y) → slice_get (map f xs) k ≡ Some y → (x : X) × ((slice_get xs k ≡ Some x) × (f x ≡ y))
@@ -243,6 +244,8 @@ module _ (i : StreamId) (t : TransformId) where
         pipe = λ z source dest prevent signal promise k. staged-on z _ [] refl (record { transforms = λ x e. e; waits = λ f p w. w; queued = λ f q. q }) k;
         signal = λ z k. staged-on z _ [] refl (record { transforms = λ x e. e; waits = λ f p w. w; queued = λ f q. q }) k;
         transform = λ z kind w r change k. staged-on z _ [] refl (record { transforms = λ x e. get-stays z.transforms _ t.0 x e; waits = λ f p w. w; queued = λ f q. q }) k;
+        bytes = λ z mark auto k. added z _ (nat_eq i.0 (length z.streams)) refl refl k;
+        byob_requests = λ z hs k. staged-on z _ [] refl (record { transforms = λ x e. e; waits = λ f p w. w; queued = λ f q. q }) k;
         readable = λ z o mark size k. added z _ (nat_eq i.0 (length z.streams)) refl refl k;
         writable = λ z o mark size k. added z _ (nat_eq i.0 (length z.streams)) refl refl k;
       }) c s k owner n in

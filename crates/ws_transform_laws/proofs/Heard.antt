@@ -170,6 +170,14 @@ module _ (t : TransformId) (r : StreamId) where
     make_readable = λ mark size start. added-grown s _;
     make_writable = λ mark size start. added-grown s _;
     make_transform = λ kind m n start. made-grown s kind m n start;
+    get_byob = λ j is e. same-grown s _ refl refl;
+    release_byob = λ l closed j e. same-grown s _ refl refl;
+    read_into = λ l j closed room element least e f. same-grown s _ refl refl;
+    enqueue_bytes = λ j b e is some can. same-grown s s refl refl;
+    finish_bytes = λ j e is can. same-grown s s refl refl;
+    make_request = λ j reply is. same-grown s _ refl refl;
+    respond = λ r j b e is can. same-grown s s refl refl;
+    make_bytes = λ mark auto start. added-grown s _;
     get_reader = λ j e. same-grown s _ refl refl;
     get_writer = λ j e. same-grown s _ refl refl;
     release_reader = λ l closed j e. same-grown s _ refl refl;
@@ -200,6 +208,8 @@ module _ (t : TransformId) (r : StreamId) where
     pipe = λ z source dest prevent signal promise k. k;
     signal = λ z k. k;
     transform = λ z kind w y change k. k;
+    bytes = λ z mark auto k. k;
+    byob_requests = λ z hs k. k;
     readable = λ z o mark size k. k;
     writable = λ z o mark size k. k;
   }) c s refl

@@ -1,7 +1,7 @@
 -- The host hears of a chunk as its transform algorithm is called, and of none otherwise.
 use Rattle.std.proofs.Common.{◌≡◌, List, [], ◌∷◌, ◌++◌, Option, Some, None, Result, slice_get, refl, sym, ap, ◌∙◌, arith, append_assoc, append-nil}
 use Rattle.ws_value.specs.declared.ids.{HostId.{HostId}, PromiseId.{PromiseId}, StreamId.{StreamId}, SignalId.{SignalId}, PipeId.{PipeId}}
-use Rattle.ws_value.specs.declared.value.{Outcome.{Outcome}, Outcome.TheVariants.{Given, Finished}, Plain.{Plain}, Plain.TheVariants.{Undefined}, Value.{Value}, Value.TheVariants.{Plain as PlainValue}}
+use Rattle.ws_value.specs.declared.value.{Outcome.{Outcome}, Outcome.TheVariants.{Given, Finished}, Plain.{Plain}, Plain.TheVariants.{Undefined}, Value.{Value}, Value.TheVariants.{Plain as PlainValue, Bytes}}
 use Rattle.ws_steps.specs.declared.calls.{Event.{Event}, Event.TheVariants.{Host as HostCalled, Signal as SignalEvent}, HostCall.{HostCall}, StartBy.TheVariants.{Now, Later}}
 use Rattle.ws_steps.specs.declared.effects.{Effect.{Effect}, Gift.{Gift}, Use.{Use}}
 use Rattle.ws_steps.specs.declared.effects.Effect.TheVariants.{Readable as OnReadable, Writable as OnWritable, Pipe as OnPipe, Signal as OnSignal, Transform as OnTransform, StartAlgorithm, ChunkSteps, CloseSteps, ErrorSteps, Give, Settle as SettlePromise, Queue, CallHost}
@@ -10,18 +10,20 @@ use Rattle.ws_steps.specs.declared.promises.{Job.{Job}, Micro.{Micro}, Reaction.
 use Rattle.ws_steps.specs.declared.readable.ReadRequest.TheVariants.{Promise, Pipe as PipeRequest}
 use Rattle.ws_steps.specs.declared.transform.{TransformId.{TransformId}, TransformOperation.{TransformOperation}}
 use Rattle.ws_steps.specs.Effects.{Out}
-use Rattle.ws_steps.specs.Operations.{readable_operation, writable_operation, pipe_operation, signal_operation, transform_operation}
+use Rattle.ws_steps.specs.Operations.{writable_operation, pipe_operation, signal_operation, transform_operation}
 use Rattle.ws_steps.specs.Pipes as pipe
 use Rattle.ws_steps.specs.Promises.{Table, fresh, settle, answer, tell, react, follow, unfollow, queue_micro, use_this, use_gift, taken, after_next_job, watch}
-use Rattle.ws_steps.specs.Slots.{Slots, Done, found, ends_at, halves_at, has_readable, has_writable, nothing, put_readable, put_writable, on_pipe_at, on_signal_at, on_transform_at}
+use Rattle.ws_steps.specs.Slots.{Slots, Done, found, ends_at, halves_at, has_writable, nothing, put_writable, on_pipe_at, on_signal_at, on_transform_at}
 use Rattle.ws_steps.specs.Transform as transform
 use Rattle.ws_steps.specs.Turns.{row, call_host}
 use Rattle.ws_laws.proofs.PipeDoes.{pipe-does}
-use Rattle.ws_laws.proofs.ReadableDoes.{readable-does}
-use Rattle.ws_laws.proofs.Tables.{either, readable_acts, writable_acts}
+use Rattle.ws_laws.proofs.Tables.{either, writable_acts}
 use Rattle.ws_laws.proofs.TransformDoes.{transform-does}
 use Rattle.ws_laws.proofs.WritableDoes.{writable-does}
 use Rattle.ws_transform_laws.specs.TransformHistory.{heard_transform, heard_transforms}
+use Rattle.ws_steps.specs.declared.effects.Effect.TheVariants.{Byte, CloseStepsWith}
+use Rattle.ws_laws.proofs.Rows.{source-out, byte-out}
+use Rattle.ws_laws.proofs.ReadableDoes.{OfReadable}
 
 abbrev pub IsCall : Effect → Type 0
 IsCall (CallHost call u) = Unit {0}
@@ -113,19 +115,22 @@ module _ (r : StreamId) where
   transform-heard t operation s (Some x) =
       transform-does (λ z. heard z ≡ heard s.promises) (record { fresh = λ z h. fresh-heard z ∙ h; settle = λ z p o h. settle-heard p o z ∙ h }) t (halves_at x s) operation (record { slots = x; out = found s }) refl
 
+  settles-heard : (j : StreamId) (t : Table) → OfReadable (λ (x : Out). heard x.promises ≡ heard t) j
+  settles-heard j t = record {
+    settle = λ x p o h. settle-heard p o x.promises ∙ h;
+    pull = λ x h. h;
+    cancel = λ x c p h. h;
+    chunk = λ x q v h. h;
+    close = λ x q h. h;
+    error = λ x q e h. h;
+  }
+
   -- any other effect
   pub row-heard : (e : Effect) (s : Slots) → (IsCall e → ⊥) → heard (row e s).slots.promises ≡ heard s.promises
   unfolding row
-  row-heard (OnReadable j operation) s n =
-      either (λ (d : Done). heard d.slots.promises ≡ heard s.promises) (has_readable j s) (put_readable j s (readable_operation j operation (readable_acts j s))) (nothing s)
-      (λ there. readable-does (λ (x : Out). heard x.promises ≡ heard s.promises) j (record {
-        settle = λ x p o h. settle-heard p o x.promises ∙ h;
-        pull = λ x h. h;
-        cancel = λ x c p h. h;
-        chunk = λ x q v h. h;
-        close = λ x q h. h;
-        error = λ x q e h. h;
-      }) operation (readable_acts j s) refl) (λ none. refl)
+  row-heard (OnReadable j operation) s n = source-out (λ (x : Out). heard x.promises ≡ heard s.promises) j (settles-heard j s.promises) operation s refl
+  row-heard (Byte j operation) s n =
+      byte-out (λ (x : Out). heard x.promises ≡ heard s.promises) j (settles-heard j s.promises) (λ x q b h. h) operation s refl
   row-heard (OnWritable j operation) s n =
       either (λ (d : Done). heard d.slots.promises ≡ heard s.promises) (has_writable j s) (put_writable j s (writable_operation j operation (writable_acts j s))) (nothing s)
       (λ there. writable-does (λ (x : Out). heard x.promises ≡ heard s.promises) j (record {
@@ -145,9 +150,11 @@ module _ (r : StreamId) where
   row-heard (StartAlgorithm j step Later) s n = fresh-heard s.promises
   row-heard (ChunkSteps j (Promise p) v) s n = answer-heard p (Given v) s.promises
   row-heard (CloseSteps j (Promise p)) s n = answer-heard p (Finished (PlainValue Undefined)) s.promises
+  row-heard (CloseStepsWith j (Promise p) b) s n = answer-heard p (Finished (Bytes b)) s.promises
   row-heard (ErrorSteps j (Promise p) e) s n = settle-heard p _ s.promises
   row-heard (ChunkSteps j (PipeRequest p) v) s n = refl
   row-heard (CloseSteps j (PipeRequest p)) s n = refl
+  row-heard (CloseStepsWith j (PipeRequest p) b) s n = refl
   row-heard (ErrorSteps j (PipeRequest p) e) s n = refl
   row-heard (Queue m) s n = micro-heard m s.promises
   row-heard (Give gift u) s n = gift-heard gift u s.promises

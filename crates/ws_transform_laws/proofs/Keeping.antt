@@ -6,17 +6,19 @@ use Rattle.ws_steps.specs.declared.effects.Effect.TheVariants.{Readable as OnRea
 use Rattle.ws_steps.specs.declared.readable.ReadRequest.TheVariants.{Promise, Pipe as PipeRequest}
 use Rattle.ws_steps.specs.declared.transform.{Halves.{Halves}, TransformId.{TransformId}, TransformOperation.{TransformOperation}}
 use Rattle.ws_steps.specs.declared.transform.TransformOperation.TheVariants as names
-use Rattle.ws_steps.specs.Operations.{readable_operation, writable_operation, transform_operation}
+use Rattle.ws_steps.specs.Operations.{writable_operation, transform_operation}
 use Rattle.ws_steps.specs.Slots as realm
 use Rattle.ws_steps.specs.Slots.{Done, nothing, found, halves_at, has_readable, has_writable, put_readable, put_writable, on_transform_at, transform_at, as_transform}
 use Rattle.ws_steps.specs.Transform.{Slots, Acts, enqueue, transform_error, terminate, transform_chunk, sink_write, write_goes_on, sink_close, sink_abort, source_cancel, flush_settled, abort_settled, cancel_settled}
 use Rattle.ws_steps.specs.Turns.{row, call_host}
 use Rattle.ws_steps.proofs.PromiseLaws.{slice_get-set_other}
-use Rattle.ws_laws.proofs.Tables.{either, readable_acts, writable_acts, eq_numbers, unequal_numbers}
+use Rattle.ws_laws.proofs.Tables.{either, writable_acts, eq_numbers, unequal_numbers}
 use Rattle.ws_transform_laws.specs.TransformHistory.{is_same_transform}
 use Rattle.ws_transform_laws.proofs.Changing.{place-same, pipe-transforms, signal-transforms}
 use Rattle.ws_value.specs.declared.ids.PromiseId.{PromiseId}
 use Rattle.ws_transform_laws.proofs.Backpressure.{IsTurning, IsTurned}
+use Rattle.ws_steps.specs.declared.effects.Effect.TheVariants.{Byte, CloseStepsWith}
+use Rattle.ws_laws.proofs.Rows.{source-leaves, byte-leaves}
 
 operation-keeps : (me : TransformId) (halves : Halves) (operation : TransformOperation) (a : Acts) → (IsTurning operation → ⊥) → (transform_operation me halves operation a).slots.change ≡ a.slots.change
 unfolding transform_error terminate enqueue transform_chunk sink_write write_goes_on sink_close sink_abort source_cancel flush_settled abort_settled cancel_settled
@@ -75,7 +77,8 @@ transform-keeps t u operation s n = by (is_same_transform t u) refl
 
 pub row-change : (t : TransformId) (e : Effect) (s : realm.Slots) → (IsTurned t e → ⊥) → change_at t (row e s).slots ≡ change_at t s
 unfolding row call_host
-row-change t (OnReadable i operation) s n = either (λ (d : Done). change_at t d.slots ≡ change_at t s) (has_readable i s) (put_readable i s (readable_operation i operation (readable_acts i s))) (nothing s) (λ e. refl) (λ e. refl)
+row-change t (OnReadable i operation) s n = source-leaves (λ z. change_at t z) (λ z x o. refl) i operation s
+row-change t (Byte i operation) s n = byte-leaves (λ z. change_at t z) (λ z x o. refl) i operation s
 row-change t (OnWritable i operation) s n = either (λ (d : Done). change_at t d.slots ≡ change_at t s) (has_writable i s) (put_writable i s (writable_operation i operation (writable_acts i s))) (nothing s) (λ e. refl) (λ e. refl)
 row-change t (OnPipe p operation) s n = ap (λ (ts : List Slots). (as_transform (slice_get ts t.0)).change) (pipe-transforms p operation s (slice_get s.pipes p.0))
 row-change t (OnSignal a operation) s n = ap (λ (ts : List Slots). (as_transform (slice_get ts t.0)).change) (signal-transforms a operation s (slice_get s.signals a.0))
@@ -84,8 +87,10 @@ row-change t (StartAlgorithm i step Now) s n = refl
 row-change t (StartAlgorithm i step Later) s n = refl
 row-change t (ChunkSteps i (Promise p) v) s n = refl
 row-change t (CloseSteps i (Promise p)) s n = refl
+row-change t (CloseStepsWith i (Promise p) b) s n = refl
 row-change t (ErrorSteps i (Promise p) e) s n = refl
 row-change t (ChunkSteps i (PipeRequest p) v) s n = refl
 row-change t (CloseSteps i (PipeRequest p)) s n = refl
+row-change t (CloseStepsWith i (PipeRequest p) b) s n = refl
 row-change t (ErrorSteps i (PipeRequest p) e) s n = refl
 row-change t _ s n = refl

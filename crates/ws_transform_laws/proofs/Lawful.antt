@@ -14,14 +14,14 @@ use Rattle.ws_steps.specs.Laws.{IsLawfulWritable}
 use Rattle.ws_steps.specs.Operations.{writable_operation}
 use Rattle.ws_steps.specs.Promises.{after_next_job}
 use Rattle.ws_steps.specs.Run.{Entry, run}
-use Rattle.ws_steps.specs.Slots.{Slots, Stream, ReadableStream, WritableStream, empty, no_writable, owner_at, has_writable, writable_at, as_writable, is_writable_stream, with_promises, on_writable}
+use Rattle.ws_steps.specs.Slots.{Slots, Stream, ReadableStream, ByteStream, WritableStream, empty, no_writable, owner_at, has_writable, writable_at, as_writable, is_writable_stream, with_promises, on_writable}
 use Rattle.ws_steps.specs.Turns.{row}
 use Rattle.ws_steps.specs.Writable as writable
 use Rattle.ws_steps.specs.Writable.{has_ended, is_closed}
 use Rattle.ws_steps.specs.WritableHistory.{Writes, no_writes, writes_then, todo, effect_writes, operation_writes, run_writes}
 use Rattle.ws_laws.proofs.Begin.{IsFirst, Enqueues, Never, begin-first, job-first, begin-makes}
 use Rattle.ws_laws.proofs.Lists.{Each}
-use Rattle.ws_laws.proofs.Shapes.{StreamShape, ReadableOf, WritableOf, stream_shape, row-stream_shapes, row-owner}
+use Rattle.ws_laws.proofs.Shapes.{StreamShape, ReadableOf, BytesOf, WritableOf, stream_shape, row-stream_shapes, row-owner}
 use Rattle.ws_laws.proofs.Tables.{is_same-refl, eq_numbers, unequal_numbers, place_last, place_before, no_stream, no_writable_there, writable_there, writable_acts, on_writable-same}
 use Rattle.ws_laws.proofs.Weights.{of_job}
 use Rattle.ws_laws.proofs.Walker as walker
@@ -68,11 +68,13 @@ half-owner i t s there is = let at = writable_there (slice_get s.streams i.0) th
 abbrev pub shape_writable : Option StreamShape → Bool
 shape_writable None = false
 shape_writable (Some (ReadableOf o)) = false
+shape_writable (Some BytesOf) = false
 shape_writable (Some (WritableOf o)) = true
 
 pub writable-told : (xs : List Stream) (n : ℕ) → is_writable_stream (slice_get xs n) ≡ shape_writable (slice_get (map stream_shape xs) n)
 writable-told [] n = refl
 writable-told (ReadableStream r ∷ xs) zero = refl
+writable-told (ByteStream b ∷ xs) zero = refl
 writable-told (WritableStream w ∷ xs) zero = refl
 writable-told (x ∷ xs) (suc n) = writable-told xs n
 
@@ -281,6 +283,8 @@ module _ (i : StreamId) (t : TransformId) where
         pipe = λ z source dest prevent signal promise k. k;
         signal = λ z k. k;
         transform = λ z kind w r change k. k;
+        bytes = λ z mark auto k. added h z _ (nat_eq i.0 (length z.streams)) refl (λ no. cc) k;
+        byob_requests = λ z hs k. k;
         readable = λ z o mark size k. added h z _ (nat_eq i.0 (length z.streams)) refl (λ no. cc) k;
         writable = λ z o mark size k. added h z _ (nat_eq i.0 (length z.streams)) refl (λ yes. refl) k;
       }) c s k)

@@ -1,3 +1,4 @@
+pub mod Sources
 pub mod Waiting
 pub mod Need
 pub mod Changing

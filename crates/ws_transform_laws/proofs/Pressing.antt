@@ -17,18 +17,25 @@ use Rattle.ws_steps.specs.Turns.{row, pull_algorithm}
 use Rattle.ws_laws.proofs.Halves.{Halved}
 use Rattle.ws_laws.proofs.Lists.{Each, each-append, each-map}
 use Rattle.ws_laws.proofs.PipeDoes.{PipeCauses}
-use Rattle.ws_laws.proofs.ReadableDoes.{readable-does}
+use Rattle.ws_laws.proofs.ReadableDoes.{OfReadable, readable-does}
 use Rattle.ws_laws.proofs.Rows.{Causes, row-causes}
 use Rattle.ws_laws.proofs.Tables.{either, is_same-refl, same_id, eq_numbers, readable_acts, on_readable-same}
 use Rattle.ws_writable_laws.proofs.Shape.{one_if}
 use Rattle.ws_transform_laws.specs.TransformHistory.{is_same_transform}
 use Rattle.ws_transform_laws.proofs.Backpressure.{IsTurning, pressed, row-keeps, IsTurned}
-use Rattle.ws_transform_laws.proofs.Cancelling.{half-here, is_half}
-use Rattle.ws_transform_laws.proofs.Entering.{Reads, mine, apart}
+use Rattle.ws_transform_laws.proofs.Cancelling.{half-here, is_half, not-mine}
+use Rattle.ws_transform_laws.proofs.Entering.{Reads, mine, apart, reads-default, not-bytes}
 use Rattle.ws_transform_laws.proofs.Shutting.{readable-stays, can, Fine, unblocks-shut}
 use Rattle.ws_transform_laws.proofs.Telling.{owned, owned-stays, IsCalm, Calms, IsMild, Front, tells, unwanted, Fits, Fronts, Enters, Leaves, leaves-calm, away, mild-front, calm-front, calm-pulls, calms-on, tells-append, self}
 use Rattle.ws_transform_laws.proofs.Wanting as wanting
 use Rattle.ws_transform_laws.proofs.Wanting.{IsNoPull, IsEnding, Rests, Cancels, Pulls, PullsFirst, PullsLast, IsFew, Moved, Finds, operation-moved, enqueue-few}
+use Rattle.ws_steps.specs.declared.effects.Effect.TheVariants.{Byte, CloseStepsWith}
+use Rattle.ws_steps.specs.declared.byte.ByteOperation.{ByteOperation}
+use Rattle.ws_steps.specs.Operations.{byte_operation, byte_readable_operation}
+use Rattle.ws_steps.specs.Slots.{has_byte, put_byte, on_byte}
+use Rattle.ws_steps.specs.Turns.{on_source}
+use Rattle.ws_laws.proofs.Tables.{byte_acts}
+use Rattle.ws_laws.proofs.ByteDoes.{byte_readable-does, byte-does}
 
 module _ (t : TransformId) (r : StreamId) where
   -- an enqueue into the readable half
@@ -47,8 +54,10 @@ module _ (t : TransformId) (r : StreamId) where
   unfolding row
   enters-row v s rest k =
       let z : Slots = (row (OnReadable r (Enqueue v)) s).slots in
-      let few : Each IsFewHere (on_readable (readable_operation r (Enqueue v)) r s).caused =
-      either (λ (d : Done). Each IsFewHere d.caused) (has_readable r s) (put_readable r s (readable_operation r (Enqueue v) (readable_acts r s))) (nothing s) (λ there. enqueue-few r v (readable_acts r s) refl) (λ none. tt) in
+      let few : Each IsFewHere (on_source (Enqueue v) r s).caused =
+      either (λ (d : Done). Each IsFewHere d.caused) (has_byte r s) (on_byte (byte_readable_operation r (Enqueue v)) r s) (on_readable (readable_operation r (Enqueue v)) r s)
+      (λ is. either (λ (d : Done). Each IsFewHere d.caused) (has_byte r s) (put_byte r s (byte_readable_operation r (Enqueue v) (byte_acts r s))) (nothing s) (λ there. tt) (λ none. tt))
+      (λ isnt. either (λ (d : Done). Each IsFewHere d.caused) (has_readable r s) (put_readable r s (readable_operation r (Enqueue v) (readable_acts r s))) (nothing s) (λ there. enqueue-few r v (readable_acts r s) refl) (λ none. tt)) in
       Fronts (mild-front t r z (row (OnReadable r (Enqueue v)) s).caused (OnTransform t names.Enqueued ∷ rest) (each-map IsFewHere (IsMild t r) few-mild (row (OnReadable r (Enqueue v)) s).caused few) (inr (inr (self t r t.0, calms-on t r s (OnReadable r (Enqueue v)) rest k))))
       (λ none. told-some (row (OnReadable r (Enqueue v)) s).caused rest none)
     where
@@ -57,12 +66,16 @@ module _ (t : TransformId) (r : StreamId) where
 
   -- another operation of the readable half
 
+  refused : {A : Type 0} (b : Bool) → b ≡ false → b ≡ true → A
+  refused b e f = cc
+
   rests-calm : (s : Slots) (cs : List Effect) → Each IsNoPull cs → Calms t r s cs
   rests-calm s cs n = each-map IsNoPull (IsCalm t r s) one cs n
     where
       one : (e : Effect) → IsNoPull e → IsCalm t r s e
       one (ChunkSteps j q v) k = tt
       one (CloseSteps j q) k = tt
+      one (CloseStepsWith j q b) k = tt
       one (ErrorSteps j q e) k = tt
       one _ k = absurd k
 
@@ -72,6 +85,7 @@ module _ (t : TransformId) (r : StreamId) where
       one : (e : Effect) → IsEnding e → IsCalm t r s e
       one (CancelAlgorithm j c p) k = tt
       one (CloseSteps j q) k = tt
+      one (CloseStepsWith j q b) k = tt
       one _ k = absurd k
 
   calm-fits : (z : Slots) (cs es : List Effect) → Calms t r z cs → Calms t r z es → (unwanted t r z ≡ true → pressed t z ≡ true) → Fits t r z (cs ++ es)
@@ -92,34 +106,48 @@ module _ (t : TransformId) (r : StreamId) where
   caused-fits z cs es (PullsFirst q v w e) k claim = rw e (wanted-fits z (PullAlgorithm r ∷ ChunkSteps r q v ∷ es) (inr (inl (is_same-refl r, inl (tt, k)))) w)
   caused-fits z cs es (PullsLast q v w e) k claim = rw e (wanted-fits z (ChunkSteps r q v ∷ PullAlgorithm r ∷ es) (inr (inl (tt, inr (inl (is_same-refl r, calm-front t r z es k))))) w)
 
-  pub own-row : (operation : ReadableOperation) (s : Slots) (es : List Effect) → Finds r operation (readable_at r s) → Calms t r s es → (unwanted t r s ≡ true → pressed t s ≡ true)
+  pub own-row : (operation : ReadableOperation) (s : Slots) (es : List Effect) → has_byte r s ≡ false → Finds r operation (readable_at r s) → Calms t r s es → (unwanted t r s ≡ true → pressed t s ≡ true)
       → Fits t r (row (OnReadable r operation) s).slots ((row (OnReadable r operation) s).caused ++ es)
   unfolding row
-  own-row operation s es finds k claim =
+  own-row operation s es isnt finds k claim =
       let e : Effect = OnReadable r operation in
       let keeps : pressed t (row e s).slots ≡ pressed t s = row-keeps t e s (λ u. u) in
-      either (λ (d : Done). pressed t d.slots ≡ pressed t s → Calms t r d.slots es → Fits t r d.slots (d.caused ++ es)) (has_readable r s) (put_readable r s (readable_operation r operation (readable_acts r s))) (nothing s)
+      either (λ (d : Done). pressed t d.slots ≡ pressed t s → Calms t r d.slots es → Fits t r d.slots (d.caused ++ es)) (has_byte r s) (on_byte (byte_readable_operation r operation) r s) (on_readable (readable_operation r operation) r s)
+      (λ is. refused (has_byte r s) isnt is)
+      (λ default. either (λ (d : Done). pressed t d.slots ≡ pressed t s → Calms t r d.slots es → Fits t r d.slots (d.caused ++ es)) (has_readable r s) (put_readable r s (readable_operation r operation (readable_acts r s))) (nothing s)
       (λ there same c.
       let m = operation-moved r operation (unwanted t r s) (readable_acts r s) finds (record { unwanted = λ n. n; quiet = refl }) in
       let z : Slots = (put_readable r s (readable_operation r operation (readable_acts r s))).slots in
       let at : readable_at r z ≡ (readable_operation r operation (readable_acts r s)).slots = ap as_readable (rw there at (on_readable-same (readable_operation r operation) r s there)) in
       caused-fits z (readable_operation r operation (readable_acts r s)).out.effects es (rw at m.causes) c (λ n. same ∙ claim (m.unwanted (rw at at n))))
-      (λ none same c. calm-fits s [] es tt k claim)
+      (λ none same c. calm-fits s [] es tt k claim))
       keeps (calms-on t r s e es k)
 
   -- an operation of another readable stream
 
-  other-calm : (s z : Slots) (j : StreamId) (operation : ReadableOperation) → (has_readable j s ≡ true → owned t r z j ≡ false) → is_same r j ≡ false → Calms t r z (on_readable (readable_operation j operation) j s).caused
-  other-calm s z j operation o n =
-      either (λ (d : Done). Calms t r z d.caused) (has_readable j s) (put_readable j s (readable_operation j operation (readable_acts j s))) (nothing s)
-      (λ there. readable-does (λ (x : Out). Calms t r z x.effects) j (record {
-        settle = λ x p q h. h;
-        pull = λ x h. each-append (IsCalm t r z) x.effects (PullAlgorithm j ∷ []) h ((o there, n), tt);
-        cancel = λ x c p h. each-append (IsCalm t r z) x.effects (CancelAlgorithm j c p ∷ []) h (tt, tt);
-        chunk = λ x q v h. each-append (IsCalm t r z) x.effects (ChunkSteps j q v ∷ []) h (tt, tt);
-        close = λ x q h. each-append (IsCalm t r z) x.effects (CloseSteps j q ∷ []) h (tt, tt);
-        error = λ x q e h. each-append (IsCalm t r z) x.effects (ErrorSteps j q e ∷ []) h (tt, tt);
-      }) operation (readable_acts j s) tt) (λ none. tt)
+  others-calm : (z : Slots) (j : StreamId) → owned t r z j ≡ false → is_same r j ≡ false → OfReadable (λ (x : Out). Calms t r z x.effects) j
+  others-calm z j o n = record {
+    settle = λ x p q h. h;
+    pull = λ x h. each-append (IsCalm t r z) x.effects (PullAlgorithm j ∷ []) h ((o, n), tt);
+    cancel = λ x c p h. each-append (IsCalm t r z) x.effects (CancelAlgorithm j c p ∷ []) h (tt, tt);
+    chunk = λ x q v h. each-append (IsCalm t r z) x.effects (ChunkSteps j q v ∷ []) h (tt, tt);
+    close = λ x q h. each-append (IsCalm t r z) x.effects (CloseSteps j q ∷ []) h (tt, tt);
+    error = λ x q e h. each-append (IsCalm t r z) x.effects (ErrorSteps j q e ∷ []) h (tt, tt);
+  }
+
+  other-calm : (s z : Slots) (j : StreamId) (operation : ReadableOperation) → (has_readable j s ≡ true → owned t r z j ≡ false) → (has_byte j s ≡ true → owned t r z j ≡ false) → is_same r j ≡ false
+      → Calms t r z (on_source operation j s).caused
+  other-calm s z j operation o p n =
+      either (λ (d : Done). Calms t r z d.caused) (has_byte j s) (on_byte (byte_readable_operation j operation) j s) (on_readable (readable_operation j operation) j s)
+      (λ is. either (λ (d : Done). Calms t r z d.caused) (has_byte j s) (put_byte j s (byte_readable_operation j operation (byte_acts j s))) (nothing s)
+      (λ there. byte_readable-does (λ (x : Out). Calms t r z x.effects) j (others-calm z j (p there) n) operation (byte_acts j s) tt) (λ none. tt))
+      (λ isnt. either (λ (d : Done). Calms t r z d.caused) (has_readable j s) (put_readable j s (readable_operation j operation (readable_acts j s))) (nothing s)
+      (λ there. readable-does (λ (x : Out). Calms t r z x.effects) j (others-calm z j (o there) n) operation (readable_acts j s) tt) (λ none. tt))
+
+  bytes-calm : (s z : Slots) (j : StreamId) (operation : ByteOperation) → (has_byte j s ≡ true → owned t r z j ≡ false) → (has_byte j s ≡ true → is_same r j ≡ false) → Calms t r z (on_byte (byte_operation j operation) j s).caused
+  bytes-calm s z j operation o n =
+      either (λ (d : Done). Calms t r z d.caused) (has_byte j s) (put_byte j s (byte_operation j operation (byte_acts j s))) (nothing s)
+      (λ there. byte-does (λ (x : Out). Calms t r z x.effects) j (others-calm z j (o there) (n there)) (λ x q b h. each-append (IsCalm t r z) x.effects (CloseStepsWith j q b ∷ []) h (tt, tt)) operation (byte_acts j s) tt) (λ none. tt)
 
   not-owned : (s : Slots) (j : StreamId) → Halved s → Reads t r s → is_same r j ≡ false → has_readable j s ≡ true → owned t r s j ≡ false
   not-owned s j halved h n there = by (owned t r s j) refl
@@ -228,12 +256,14 @@ module _ (t : TransformId) (r : StreamId) where
 
   abbrev IsOther : Effect → Type 0
   IsOther (OnReadable j operation) = ⊥
+  IsOther (Byte j operation) = ⊥
   IsOther (OnTransform u operation) = ⊥
   IsOther (PullAlgorithm j) = ⊥
   IsOther _ = Unit {0}
 
   other-causes : (z : Slots) (e : Effect) → IsOther e → Causes (IsCalm t r z) e
   other-causes z (OnReadable j operation) n = absurd n
+  other-causes z (Byte j operation) n = absurd n
   other-causes z (OnTransform u operation) n = absurd n
   other-causes z (PullAlgorithm j) n = absurd n
   other-causes z (OnWritable j operation) n = record { write = tt; close = tt; abort = λ c p. tt; hand_on = λ v. tt; take = λ v u d. tt }
@@ -249,7 +279,9 @@ module _ (t : TransformId) (r : StreamId) where
   other-causes z (ChunkSteps j (Promise p) v) n = tt
   other-causes z (ChunkSteps j (PipeRequest p) v) n = tt
   other-causes z (CloseSteps j (Promise p)) n = tt
+  other-causes z (CloseStepsWith j (Promise p) b) n = tt
   other-causes z (CloseSteps j (PipeRequest p)) n = tt
+  other-causes z (CloseStepsWith j (PipeRequest p) b) n = tt
   other-causes z (ErrorSteps j (Promise p) e) n = tt
   other-causes z (ErrorSteps j (PipeRequest p) e) n = tt
   other-causes z _ n = tt
@@ -316,11 +348,15 @@ module _ (t : TransformId) (r : StreamId) where
       by true e =
           let is : r ≡ j = same_id r j (sym e) in
           subst (λ (i : StreamId). Fits t r (row (OnReadable i operation) s).slots ((row (OnReadable i operation) s).caused ++ es)) is
-          (own-row operation s es (finds (is_same-refl r) operation (ap (λ (i : StreamId). OnReadable i operation) (sym is))) k claim)
+          (own-row operation s es (reads-default t r s halved h) (finds (is_same-refl r) operation (ap (λ (i : StreamId). OnReadable i operation) (sym is))) k claim)
       by false e =
           let n : is_same r j ≡ false = sym e in
           let l : Leaves t r (OnReadable j operation) s = away t r (OnReadable j operation) s (λ o is. let at : j ≡ r = cc in let yes : is_same r j ≡ true = rw at (is_same-refl r) in absurd (cc)) (λ u. u) in
-          leaves-calm t r (OnReadable j operation) s es l (other-calm s (row (OnReadable j operation) s).slots j operation (λ there. owned-stays t r s (OnReadable j operation) j ∙ not-owned s j halved h n there) n) k claim
+          leaves-calm t r (OnReadable j operation) s es l (other-calm s (row (OnReadable j operation) s).slots j operation (λ there. owned-stays t r s (OnReadable j operation) j ∙ not-owned s j halved h n there)
+          (λ there. owned-stays t r s (OnReadable j operation) j ∙ not-mine t s j there) n) k claim
+  calm-row (Byte j operation) s es halved h f finds c k claim =
+      leaves-calm t r (Byte j operation) s es (away t r (Byte j operation) s (λ o is. cc) (λ u. u))
+      (bytes-calm s (row (Byte j operation) s).slots j operation (λ there. owned-stays t r s (Byte j operation) j ∙ not-mine t s j there) (λ there. not-bytes t r s j halved h there)) k claim
   calm-row (OnTransform u operation) s es halved h f finds c k claim = transform-calm u operation s es halved h f c k claim
   calm-row (PullAlgorithm j) s es halved h f finds c k claim =
       leaves-calm t r (PullAlgorithm j) s es (away t r (PullAlgorithm j) s (λ o is. cc) (λ u. u)) (pull-calm s j _ (owner_at j s) c.0) k claim

@@ -34,6 +34,7 @@ use Rattle.ws_laws.proofs.Shapes.{ReadableOf, WritableOf, TransformShape, stream
 use Rattle.ws_laws.proofs.Tables.{either, writable_acts}
 use Rattle.ws_laws.proofs.Walker.{Stays}
 use Rattle.ws_laws.proofs.WritableDoes.{IsHandOn, others-do}
+use Rattle.ws_steps.specs.declared.effects.Effect.TheVariants.{Byte, CloseStepsWith}
 
 -- whether an effect carries a chunk from the writable half of a transform stream, or to the host's algorithm of one
 abbrev pub IsPlain : Effect → Type 0
@@ -223,6 +224,8 @@ on_transform-plain s t operation (Some x) c = transform-plain t (halves_at x s) 
 pub plain-caused : (e : Effect) (s : Slots) → may_carry e ≡ false → Each IsPlain (row e s).caused
 unfolding row
 plain-caused (OnReadable j operation) s c = row-causes IsPlain (OnReadable j operation) s (record { pull = tt; cancel = λ r q. tt; chunk = λ r v. tt; close = λ r. tt; error = λ r e. tt })
+plain-caused (Byte j operation) s c =
+    row-causes IsPlain (Byte j operation) s (record { readable = record { pull = tt; cancel = λ r q. tt; chunk = λ r v. tt; close = λ r. tt; error = λ r e. tt }; close_with = λ r b. tt })
 plain-caused (OnWritable j (HandOn taker)) s c = cc
 plain-caused (OnWritable j operation) s c = others-plain s j operation (λ u. u)
 plain-caused (OnPipe q operation) s c = row-causes IsPlain (OnPipe q operation) s (pipe-plain q)
@@ -236,6 +239,7 @@ plain-caused (CloseAlgorithm j) s c = close-plain j _ (owner_at j s)
 plain-caused (AbortAlgorithm j r q) s c = abort-plain j r _ (owner_at j s)
 plain-caused (ChunkSteps j r v) s c = row-causes IsPlain (ChunkSteps j r v) s (chunk-plain v r)
 plain-caused (CloseSteps j r) s c = row-causes IsPlain (CloseSteps j r) s (end-plain r)
+plain-caused (CloseStepsWith j r b) s c = row-causes IsPlain (CloseStepsWith j r b) s (end-plain r)
 plain-caused (ErrorSteps j r e) s c = row-causes IsPlain (ErrorSteps j r e) s (end-plain r)
 plain-caused _ s c = tt
 

@@ -21,7 +21,7 @@ use Rattle.ws_laws.proofs.Halves.{Halved}
 use Rattle.ws_laws.proofs.Lists.{Each}
 use Rattle.ws_laws.proofs.PipeDoes.{PipeCauses}
 use Rattle.ws_laws.proofs.Rows.{Causes, row-causes, row-streams}
-use Rattle.ws_laws.proofs.Tables.{either, is_same-refl, same_id, readable_acts, on_readable-same, on_readable-other, no_readable_there, on_writable-readable}
+use Rattle.ws_laws.proofs.Tables.{either, is_same-refl, same_id, readable_acts, on_readable-same, no_readable_there, on_writable-readable}
 use Rattle.ws_laws.proofs.Weights.{weigh-fresh, weigh-settle, weigh-answer, weigh-micro}
 use Rattle.ws_writable_laws.proofs.Agenda.{weight-tell, weight-gift, weight-host}
 use Rattle.ws_writable_laws.proofs.Shape.{all-append, weight, of_reaction}
@@ -30,6 +30,12 @@ use Rattle.ws_transform_laws.proofs.Cancelling.{is_cancelled, cancels, none_of, 
 use Rattle.ws_transform_laws.proofs.Entering.{Reads, mine}
 use Rattle.ws_transform_laws.proofs.Sparing.{row-spares}
 use Rattle.ws_transform_laws.proofs.Wanting.{operation-shut}
+use Rattle.ws_steps.specs.declared.effects.Effect.TheVariants.{Byte, CloseStepsWith}
+use Rattle.ws_steps.specs.Operations.{byte_operation, byte_readable_operation}
+use Rattle.ws_steps.specs.Slots.{has_byte, on_byte}
+use Rattle.ws_steps.specs.Turns.{on_source}
+use Rattle.ws_laws.proofs.Tables.{on_byte-readable}
+use Rattle.ws_transform_laws.proofs.Sources.{byte-unread, source-apart}
 
 -- what a stream can take, over an effect
 
@@ -41,19 +47,22 @@ pub readable-stays : (r : StreamId) (e : Effect) (s : Slots) → ((operation : R
 unfolding row
 readable-stays r (OnReadable j operation) s n = by (is_same r j) refl
   where
-    by : (same : Bool) → same ≡ is_same r j → readable_at r (on_readable (readable_operation j operation) j s).slots ≡ readable_at r s
+    by : (same : Bool) → same ≡ is_same r j → readable_at r (on_source operation j s).slots ≡ readable_at r s
     by true e = absurd (n operation (ap (λ (k : StreamId). OnReadable k operation) (sym (same_id r j (sym e)))))
-    by false e = ap as_readable (on_readable-other (readable_operation j operation) j s r (sym e))
+    by false e = source-apart operation j s r (sym e)
+readable-stays r (Byte j operation) s n = on_byte-readable (byte_operation j operation) j s r
 readable-stays r (OnWritable j operation) s n = on_writable-readable (writable_operation j operation) j s r (is_same r j) refl
 readable-stays r e s n = ap (λ xs. as_readable (slice_get xs r.0)) (row-streams e s tt)
 
 own-shut : (r : StreamId) (operation : ReadableOperation) (s : Slots) → can r s ≡ false → can r (row (OnReadable r operation) s).slots ≡ false
 unfolding row
 own-shut r operation s e =
-    either (λ (d : Done). can r d.slots ≡ false) (has_readable r s) (put_readable r s (readable_operation r operation (readable_acts r s))) (nothing s)
+    either (λ (d : Done). can r d.slots ≡ false) (has_byte r s) (on_byte (byte_readable_operation r operation) r s) (on_readable (readable_operation r operation) r s)
+    (λ is. ap (λ x. can_close_or_enqueue x) (on_byte-readable (byte_readable_operation r operation) r s r) ∙ e)
+    (λ isnt. either (λ (d : Done). can r d.slots ≡ false) (has_readable r s) (put_readable r s (readable_operation r operation (readable_acts r s))) (nothing s)
     (λ there.
     let at : readable_at r (put_readable r s (readable_operation r operation (readable_acts r s))).slots ≡ (readable_operation r operation (readable_acts r s)).slots = ap as_readable (rw there at (on_readable-same (readable_operation r operation) r s there)) in
-    rw at (operation-shut r operation (readable_acts r s) e)) (λ none. e)
+    rw at (operation-shut r operation (readable_acts r s) e)) (λ none. e))
 
 pub row-shut : (r : StreamId) (e : Effect) (s : Slots) → can r s ≡ false → can r (row e s).slots ≡ false
 row-shut r (OnReadable j operation) s e = by (is_same r j) refl
@@ -174,6 +183,7 @@ module _ (t : TransformId) (r : StreamId) where
 
   plain-causes : (e : Effect) → IsOther e → Causes IsPlain e
   plain-causes (OnReadable j operation) n = record { pull = tt; cancel = λ c p. tt; chunk = λ c v. tt; close = λ c. tt; error = λ c e. tt }
+  plain-causes (Byte j operation) n = record { readable = record { pull = tt; cancel = λ c p. tt; chunk = λ c v. tt; close = λ c. tt; error = λ c e. tt }; close_with = λ r b. tt }
   plain-causes (OnWritable j operation) n = record { write = tt; close = tt; abort = λ c p. tt; hand_on = λ v. tt; take = λ v u d. tt }
   plain-causes (StartAlgorithm j step start) n = (λ g u. tt, λ c u. tt)
   plain-causes (PullAlgorithm j) n = (λ c u. tt, λ y u. tt)
@@ -189,7 +199,9 @@ module _ (t : TransformId) (r : StreamId) where
   plain-causes (ChunkSteps j (Promise p) v) n = tt
   plain-causes (ChunkSteps j (PipeRequest p) v) n = tt
   plain-causes (CloseSteps j (Promise p)) n = tt
+  plain-causes (CloseStepsWith j (Promise p) b) n = tt
   plain-causes (CloseSteps j (PipeRequest p)) n = tt
+  plain-causes (CloseStepsWith j (PipeRequest p) b) n = tt
   plain-causes (ErrorSteps j (Promise p) e) n = tt
   plain-causes (ErrorSteps j (PipeRequest p) e) n = tt
   plain-causes _ n = tt
@@ -283,10 +295,12 @@ module _ (t : TransformId) (r : StreamId) where
   ended-by : (operation : ReadableOperation) (s : Slots) → ends (OnReadable r operation) ≡ true → can r (row (OnReadable r operation) s).slots ≡ false
   unfolding row
   ended-by operation s k =
-      either (λ (d : Done). can r d.slots ≡ false) (has_readable r s) (put_readable r s (readable_operation r operation (readable_acts r s))) (nothing s)
+      either (λ (d : Done). can r d.slots ≡ false) (has_byte r s) (on_byte (byte_readable_operation r operation) r s) (on_readable (readable_operation r operation) r s)
+      (λ is. ap (λ x. can_close_or_enqueue x) (on_byte-readable (byte_readable_operation r operation) r s r ∙ byte-unread r s is))
+      (λ isnt. either (λ (d : Done). can r d.slots ≡ false) (has_readable r s) (put_readable r s (readable_operation r operation (readable_acts r s))) (nothing s)
       (λ there.
       let at : readable_at r (put_readable r s (readable_operation r operation (readable_acts r s))).slots ≡ (readable_operation r operation (readable_acts r s)).slots = ap as_readable (rw there at (on_readable-same (readable_operation r operation) r s there)) in
-      rw at (ending operation (readable_acts r s) k)) (λ none. rw (no_readable_there (slice_get s.streams r.0) none) refl)
+      rw at (ending operation (readable_acts r s) k)) (λ none. rw (no_readable_there (slice_get s.streams r.0) none) refl))
     where
       ending : (operation : ReadableOperation) (a : readable.Acts) → ends (OnReadable r operation) ≡ true → can_close_or_enqueue (readable_operation r operation a).slots ≡ false
       ending Close a k = close-shuts r a

@@ -1,7 +1,7 @@
 -- Effects that use no promise that an algorithm gives, and what goes on with them.
 use Rattle.std.proofs.Common.{Option, Some, None, Result, slice_get}
 use Rattle.ws_value.specs.declared.ids.{PipeId.{PipeId}, PromiseId.{PromiseId}, SignalId.{SignalId}, StreamId.{StreamId}}
-use Rattle.ws_value.specs.declared.value.{Outcome.{Outcome}, Outcome.TheVariants.{Given, Finished}, Plain.{Plain}, Plain.TheVariants.{Undefined}, Value.TheVariants.{Plain as PlainValue}}
+use Rattle.ws_value.specs.declared.value.{Outcome.{Outcome}, Outcome.TheVariants.{Given, Finished}, Plain.{Plain}, Plain.TheVariants.{Undefined}, Value.TheVariants.{Plain as PlainValue, Bytes}}
 use Rattle.ws_steps.specs.declared.calls.{Event.TheVariants.{Signal as SignalEvent}, StartBy.TheVariants.{Now, Later}}
 use Rattle.ws_steps.specs.declared.effects.{Effect.{Effect}, Effect.TheVariants.{Readable as OnReadable, Writable as OnWritable, Pipe as OnPipe, Signal as OnSignal, Transform as OnTransform, StartAlgorithm, ChunkSteps, CloseSteps, ErrorSteps, Give, Settle as SettlePromise, Queue, CallHost}}
 use Rattle.ws_steps.specs.declared.pipes.{PipeOperation.{PipeOperation}, SignalOperation.{SignalOperation}}
@@ -9,17 +9,19 @@ use Rattle.ws_steps.specs.declared.promises.Micro.{Micro}
 use Rattle.ws_steps.specs.declared.readable.ReadRequest.TheVariants.{Promise, Pipe as PipeRequest}
 use Rattle.ws_steps.specs.declared.transform.{TransformId.{TransformId}, TransformOperation.{TransformOperation}}
 use Rattle.ws_steps.specs.Effects.{Out}
-use Rattle.ws_steps.specs.Operations.{readable_operation, writable_operation, pipe_operation, signal_operation, transform_operation}
+use Rattle.ws_steps.specs.Operations.{writable_operation, pipe_operation, signal_operation, transform_operation}
 use Rattle.ws_steps.specs.Pipes as pipe
 use Rattle.ws_steps.specs.Promises.{Table, fresh, settle, answer, tell, queue_micro}
-use Rattle.ws_steps.specs.Slots.{Slots, Done, found, ends_at, halves_at, has_readable, has_writable, nothing, put_readable, put_writable, on_pipe_at, on_signal_at, on_transform_at}
+use Rattle.ws_steps.specs.Slots.{Slots, Done, found, ends_at, halves_at, has_writable, nothing, put_writable, on_pipe_at, on_signal_at, on_transform_at}
 use Rattle.ws_steps.specs.Transform as transform
 use Rattle.ws_steps.specs.Turns.{row}
 use Rattle.ws_laws.proofs.PipeDoes.{pipe-does}
-use Rattle.ws_laws.proofs.ReadableDoes.{readable-does}
-use Rattle.ws_laws.proofs.Tables.{either, readable_acts, writable_acts}
+use Rattle.ws_laws.proofs.Tables.{either, writable_acts}
 use Rattle.ws_laws.proofs.TransformDoes.{transform-does}
 use Rattle.ws_laws.proofs.WritableDoes.{writable-does}
+use Rattle.ws_steps.specs.declared.effects.Effect.TheVariants.{Byte, CloseStepsWith}
+use Rattle.ws_laws.proofs.Rows.{source-out, byte-out}
+use Rattle.ws_laws.proofs.ReadableDoes.{OfReadable}
 
 abbrev pub IsUsing : Effect → Type 0
 IsUsing (Give gift u) = Unit {0}
@@ -46,18 +48,20 @@ module _ (T : Table → Type 0) (of : Spares T) where
   by-transform t operation s None h = h
   by-transform t operation s (Some x) h = transform-does T (record { fresh = of.fresh; settle = of.settle }) t (halves_at x s) operation (record { slots = x; out = found s }) h
 
+  settles : (j : StreamId) → OfReadable (λ (x : Out). T x.promises) j
+  settles j = record {
+    settle = λ x p o h. of.settle x.promises p o h;
+    pull = λ x h. h;
+    cancel = λ x c p h. h;
+    chunk = λ x q v h. h;
+    close = λ x q h. h;
+    error = λ x q e h. h;
+  }
+
   pub row-spares : (e : Effect) (s : Slots) → (IsUsing e → ⊥) → T s.promises → T (row e s).slots.promises
   unfolding row
-  row-spares (OnReadable j operation) s n h =
-      either (λ (d : Done). T d.slots.promises) (has_readable j s) (put_readable j s (readable_operation j operation (readable_acts j s))) (nothing s)
-      (λ there. readable-does (λ (x : Out). T x.promises) j (record {
-        settle = λ x p o h. of.settle x.promises p o h;
-        pull = λ x h. h;
-        cancel = λ x c p h. h;
-        chunk = λ x q v h. h;
-        close = λ x q h. h;
-        error = λ x q e h. h;
-      }) operation (readable_acts j s) h) (λ none. h)
+  row-spares (OnReadable j operation) s n h = source-out (λ (x : Out). T x.promises) j (settles j) operation s h
+  row-spares (Byte j operation) s n h = byte-out (λ (x : Out). T x.promises) j (settles j) (λ x q b h. h) operation s h
   row-spares (OnWritable j operation) s n h =
       either (λ (d : Done). T d.slots.promises) (has_writable j s) (put_writable j s (writable_operation j operation (writable_acts j s))) (nothing s)
       (λ there. writable-does (λ (x : Out). T x.promises) j (record {
@@ -77,9 +81,11 @@ module _ (T : Table → Type 0) (of : Spares T) where
   row-spares (StartAlgorithm j step Later) s n h = of.fresh s.promises h
   row-spares (ChunkSteps j (Promise p) v) s n h = of.answer s.promises p (Given v) h
   row-spares (CloseSteps j (Promise p)) s n h = of.answer s.promises p (Finished (PlainValue Undefined)) h
+  row-spares (CloseStepsWith j (Promise p) b) s n h = of.answer s.promises p (Finished (Bytes b)) h
   row-spares (ErrorSteps j (Promise p) e) s n h = of.settle s.promises p _ h
   row-spares (ChunkSteps j (PipeRequest p) v) s n h = h
   row-spares (CloseSteps j (PipeRequest p)) s n h = h
+  row-spares (CloseStepsWith j (PipeRequest p) b) s n h = h
   row-spares (ErrorSteps j (PipeRequest p) e) s n h = h
   row-spares (Queue m) s n h = of.micro s.promises m h
   row-spares (Give gift u) s n h = absurd (n tt)

@@ -161,6 +161,14 @@ module _ (i : StreamId) (t : TransformId) where
     make_readable = λ mark size start. added h s _ k;
     make_writable = λ mark size start. added h s _ k;
     make_transform = λ kind m n start. made h s kind m n start k;
+    get_byob = λ j is e. same-even h s _ refl refl k;
+    release_byob = λ l closed j e. same-even h s _ refl refl k;
+    read_into = λ l j closed room element least e f. same-even h s _ refl refl k;
+    enqueue_bytes = λ j b e is some can. k;
+    finish_bytes = λ j e is can. k;
+    make_request = λ j reply is. same-even h s _ refl refl k;
+    respond = λ r j b e is can. k;
+    make_bytes = λ mark auto start. added h s _ k;
     get_reader = λ j e. same-even h s _ refl refl k;
     get_writer = λ j e. same-even h s _ refl refl k;
     release_reader = λ l closed j e. same-even h s _ refl refl k;

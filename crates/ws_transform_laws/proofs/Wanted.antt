@@ -1,5 +1,5 @@
 -- Over every run, where a transform stream has no backpressure its readable half wants a chunk.
-use Rattle.std.proofs.Common.{◌≡◌, inl, inr, Bool, true, false, not, List, [], ◌∷◌, ◌++◌, Option, Some, None, slice_get, refl, sym, subst, ap, ◌∙◌, arith}
+use Rattle.std.proofs.Common.{◌≡◌, inl, inr, Bool, true, false, not, ◌||◌, if◌then◌else◌, List, [], ◌∷◌, ◌++◌, Option, Some, None, slice_get, refl, sym, subst, ap, ◌∙◌, arith}
 use Rattle.ws_value.specs.declared.ids.{StreamId.{StreamId}}
 use Rattle.ws_steps.specs.declared.effects.{Effect.{Effect}, Owner.{Owner}, Owner.TheVariants.{Host, HalfOf}}
 use Rattle.ws_steps.specs.declared.effects.Effect.TheVariants.{Readable as OnReadable, CancelAlgorithm}
@@ -7,17 +7,17 @@ use Rattle.ws_steps.specs.declared.readable.{ReadRequest.{ReadRequest}, Readable
 use Rattle.ws_steps.specs.declared.transform.TransformId.{TransformId}
 use Rattle.ws_steps.specs.Histories.{is_same}
 use Rattle.ws_steps.specs.Readable.{waiting}
-use Rattle.ws_steps.specs.ReadableHistory.{Reads, reads_then, effect_reads}
-use Rattle.ws_steps.specs.Slots.{Slots, Stream, ReadableStream, WritableStream, owner_at, has_readable, readable_at}
+use Rattle.ws_steps.specs.ReadableHistory.{Reads, no_reads, reads_then, operation_reads, effect_reads}
+use Rattle.ws_steps.specs.Slots.{Slots, Stream, ReadableStream, ByteStream, WritableStream, is_readable_stream, is_byte_stream, as_readable, as_source, owner_at, readable_at}
 use Rattle.ws_steps.specs.Transform as transform
 use Rattle.ws_steps.specs.Turns.{row}
 use Rattle.ws_laws.proofs.Halves.{Halved, halved-stays}
 use Rattle.ws_laws.proofs.Shapes.{ReadableOf, WritableOf, TransformShape, stream_shape, map-there, stream_shapes, transform_shapes, transform_shape, owner-told, row-transform_shapes}
-use Rattle.ws_laws.proofs.Tables.{eq_numbers, is_same-refl, no_readable_there}
+use Rattle.ws_laws.proofs.Tables.{eq_numbers, is_same-refl}
 use Rattle.ws_writable_laws.proofs.Shape.{one_if, all-append, weight}
 use Rattle.ws_transform_laws.specs.TransformHistory.{is_same_transform}
 use Rattle.ws_transform_laws.proofs.Cancelling.{is_half, is_cancelled, mine, cancels, none_of, none-owned}
-use Rattle.ws_transform_laws.proofs.Entering.{Reads as IsRead}
+use Rattle.ws_transform_laws.proofs.Entering.{Reads as IsRead, reads-default}
 use Rattle.ws_transform_laws.proofs.Halving.{map-from}
 use Rattle.ws_transform_laws.proofs.Pressing.{calm-row, own-row, enters-row}
 use Rattle.ws_transform_laws.proofs.Shutting.{can, Uncancelled, Fine, row-uncancelled, row-fine, row-weight}
@@ -51,11 +51,13 @@ module _ (t : TransformId) (r : StreamId) where
 
   -- a reader that is released had no read that waited
   released-none : (s : Slots) → (effect_reads r (OnReadable r ReleaseReader) s).released ≡ [] → waiting (readable_at r s) ≡ []
-  released-none s e = by (has_readable r s) refl
+  released-none s e = by (slice_get s.streams r.0) (rw (is_same-refl r) at e)
     where
-      by : (there : Bool) → there ≡ has_readable r s → waiting (readable_at r s) ≡ []
-      by true f = rw (is_same-refl r, ← f) at e
-      by false f = rw (no_readable_there (slice_get s.streams r.0) (sym f)) refl
+      by : (o : Option Stream) → (if is_readable_stream o || is_byte_stream o then operation_reads ReleaseReader (as_source o) else no_reads).released ≡ [] → waiting (as_readable o) ≡ []
+      by None e = refl
+      by (Some (ReadableStream x)) e = e
+      by (Some (ByteStream b)) e = refl
+      by (Some (WritableStream w)) e = refl
 
   never : {A : Type 0} (b : Bool) → b ≡ false → b ≡ true → A
   never b e f = cc
@@ -81,7 +83,7 @@ module _ (t : TransformId) (r : StreamId) where
   fits-row : (s : Slots) (e : Effect) (es : List Effect) → Halved s → IsRead t r s → Fine t r (not (can r s)) (e ∷ es) → (effect_reads r e s).released ≡ [] → Fits t r s (e ∷ es) → After s (e ∷ es)
   fits-row s e es halved h f rel (Fronts k claim) = front-row s e es halved h f rel k claim
   fits-row s e es halved h f rel (Enters v rest eq k) = subst (After s) (sym eq) (enters-row t r v s rest k)
-  fits-row s e es halved h f rel (Opens p rest eq none k claim) = subst (After s) (sym eq) (own-row t r (InitializeReader p) s rest none k claim)
+  fits-row s e es halved h f rel (Opens p rest eq none k claim) = subst (After s) (sym eq) (own-row t r (InitializeReader p) s rest (reads-default t r s halved h) none k claim)
 
   -- a transform stream that isn't made yet
   none-owns : (s : Slots) → Halved s → slice_get (transform_shapes s) t.0 ≡ None → (j : StreamId) → mine t s j ≡ false
@@ -100,6 +102,7 @@ module _ (t : TransformId) (r : StreamId) where
 
       by : (o : Option Stream) → o ≡ slice_get s.streams j.0 → mine t s j ≡ false
       by None e = rw (← e) refl
+      by (Some (ByteStream b)) e = rw (← e) refl
       by (Some (ReadableStream x)) e =
           rw (← e) (absent x.owner (λ u is. let h = halved.readable j u (map-there stream_shape s.streams j.0 (ReadableStream x) (sym e) ∙ ap (λ (o : Owner). Some (ReadableOf o)) is) in (h.0, h.1.0)))
       by (Some (WritableStream x)) e =

@@ -16,7 +16,7 @@ use Rattle.ws_steps.specs.Promises.{Table, is_pending_at, next_id, fresh, next_j
 use Rattle.ws_steps.specs.Readable as readable
 use Rattle.ws_steps.specs.ReadableHistory.{Reads, no_reads, reads_then, effect_reads}
 use Rattle.ws_steps.specs.Run.{run, older, after_event}
-use Rattle.ws_steps.specs.Slots.{Slots, Stream, ReadableStream, WritableStream, empty, as_readable, as_transform, readable_at, with_promises}
+use Rattle.ws_steps.specs.Slots.{Slots, Stream, ReadableStream, ByteStream, WritableStream, has_byte, source_at, empty, as_readable, as_transform, readable_at, with_promises}
 use Rattle.ws_steps.specs.Transform as transform
 use Rattle.ws_steps.specs.Writable as writable
 use Rattle.ws_laws.proofs.EachCall.{each_call}
@@ -32,11 +32,13 @@ use Rattle.ws_transform_laws.specs.TransformHistory.{wants, wants_none}
 use Rattle.ws_transform_laws.specs.TransformLaws.{NoBackpressureIsWanted}
 use Rattle.ws_transform_laws.proofs.Backpressure.{pressed}
 use Rattle.ws_transform_laws.proofs.Cancelling.{is_cancelled, none_of}
-use Rattle.ws_transform_laws.proofs.Entering.{Reads as IsRead}
+use Rattle.ws_transform_laws.proofs.Entering.{Reads as IsRead, reads-default}
 use Rattle.ws_transform_laws.proofs.Halving.{map-from}
 use Rattle.ws_transform_laws.proofs.Shutting.{can, IsPlain, plain-fine}
 use Rattle.ws_transform_laws.proofs.Telling.{Calms, unwanted, Fits, Fronts, Enters, Opens, calm-front, calm-pulls}
 use Rattle.ws_transform_laws.proofs.Wanted.{Known, row-known}
+use Rattle.ws_steps.specs.declared.locks.Lock.TheVariants.{Reader as ReaderLock, ByobReader}
+use Rattle.ws_transform_laws.proofs.Sources.{source-default}
 
 module _ (t : TransformId) (r : StreamId) where
   -- at rest there is backpressure where nothing is wanted
@@ -150,6 +152,7 @@ module _ (t : TransformId) (r : StreamId) where
 
   half-owner : (y : Stream) → stream_shape y ≡ ReadableOf (HalfOf t) → (as_readable (Some y)).owner ≡ HalfOf t
   half-owner (ReadableStream x) e = cc
+  half-owner (ByteStream x) e = cc
   half-owner (WritableStream x) e = cc
 
   not-hosted : (s : Slots) (j : StreamId) → Halved s → IsRead t r s → (readable_at j s).owner ≡ Host → is_same r j ≡ false
@@ -163,19 +166,20 @@ module _ (t : TransformId) (r : StreamId) where
           let wrong : HalfOf t ≡ Host = sym owner ∙ (ap (λ (k : StreamId). (readable_at k s).owner) (same_id r j (sym e)) ∙ host) in cc
 
   -- a reader comes to a stream that has none
-  open-fits : (z : Slots) (j : StreamId) (p : PromiseId) (rest : List Effect) → is_some (readable_at j z).reader ≡ false → Calms t r z rest → (unwanted t r z ≡ true → pressed t z ≡ true) → Fits t r z (OnReadable j (InitializeReader p) ∷ rest)
-  open-fits z j p rest free c claim = by (is_same r j) refl
+  open-fits : (z : Slots) (j : StreamId) (p : PromiseId) (rest : List Effect) → has_byte r z ≡ false → is_some (source_at j z).reader ≡ false → Calms t r z rest → (unwanted t r z ≡ true → pressed t z ≡ true)
+      → Fits t r z (OnReadable j (InitializeReader p) ∷ rest)
+  open-fits z j p rest isnt free c claim = by (is_same r j) refl
     where
       by : (b : Bool) → b ≡ is_same r j → Fits t r z (OnReadable j (InitializeReader p) ∷ rest)
       by true e =
           let is : r ≡ j = same_id r j (sym e) in
-          Opens p rest (ap (λ (k : StreamId). OnReadable k (InitializeReader p) ∷ rest) (sym is)) (rw (← is) at free) c claim
+          Opens p rest (ap (λ (k : StreamId). OnReadable k (InitializeReader p) ∷ rest) (sym is)) (rw (source-default r z isnt) at (rw (← is) at free)) c claim
       by false e = calm-fits z (OnReadable j (InitializeReader p) ∷ rest) (sym e, c) claim
 
-  calls-open : (h : Reads) (s z : Slots) (j : StreamId) (p : PromiseId) (rest : List Effect) → Known t r h s [] → Halved z → z.streams ≡ s.streams → z.transforms ≡ s.transforms → lighter s.promises z.promises → is_some (readable_at j s).reader ≡ false
+  calls-open : (h : Reads) (s z : Slots) (j : StreamId) (p : PromiseId) (rest : List Effect) → Known t r h s [] → Halved z → z.streams ≡ s.streams → z.transforms ≡ s.transforms → lighter s.promises z.promises → is_some (source_at j s).reader ≡ false
       → Begins z (OnReadable j (InitializeReader p) ∷ rest) → Calms t r z rest → Known t r h z (OnReadable j (InitializeReader p) ∷ rest)
   calls-open h s z j p rest k halved e f w free b c =
-      let n = b.none in carried h s z (OnReadable j (InitializeReader p) ∷ rest) (same s z _ halved e f (omega arith) b.plain) (λ m claim. open-fits z j p rest (rw (← e) at free) c claim) k
+      let n = b.none in carried h s z (OnReadable j (InitializeReader p) ∷ rest) (same s z _ halved e f (omega arith) b.plain) (λ m claim. open-fits z j p rest (reads-default t r z halved m) (rw (← e) at free) c claim) k
 
   -- a stream is made
   added : (h : Reads) (s : Slots) (y : Stream) (cs : List Effect) → Known t r h s [] → Halved (add_stream y s) → Begins (add_stream y s) cs → Calms t r (add_stream y s) cs → Known t r h (add_stream y s) cs
@@ -256,11 +260,22 @@ module _ (t : TransformId) (r : StreamId) where
         let b = start-begins (calls.make_transform kind m n start (record { 0 = length s.streams }) (record { 0 = length s.streams + 1 }) s).done.slots (next_id (fresh s.promises)) (record { 0 = length s.streams + 1 }) start in
         let z = b.0.none in
         made h s kind m n start k halved (record { none = omega arith; plain = (tt, (tt, (tt, (tt, b.0.plain)))) }) (tt, (tt, (tt, (tt, b.1))));
+    get_byob = λ j is e halved. calls-same h s _ _ k halved refl refl (fresh-lighter s.promises) (one _ _ refl tt) (λ m. (tt, tt));
+    release_byob = λ l closed j e halved.
+        let kept : Bool = readable.is_readable (source_at j s).state in
+        let z : Slots = (calls.release_reader (ByobReader None) l closed j s).done.slots in
+        calls-same h s z _ k halved refl refl (renewed-lighter s.promises kept) (renewed-begins z s.promises kept _ (one z _ refl tt)) (λ m. renewed-calms z s.promises kept _ (tt, tt));
+    read_into = λ l j closed room element least e f halved. calls-same h s _ _ k halved refl refl (fresh-lighter s.promises) (one _ _ refl tt) (λ m. (tt, tt));
+    enqueue_bytes = λ j b e is some can halved. calls-same h s s _ k halved refl refl (omega arith) (one _ _ refl tt) (λ m. (tt, tt));
+    finish_bytes = λ j e is can halved. calls-same h s s _ k halved refl refl (omega arith) (one _ _ refl tt) (λ m. (tt, tt));
+    make_request = λ j reply is halved. calls-same h s _ _ k halved refl refl (omega arith) (one _ _ refl tt) (λ m. (tt, tt));
+    respond = λ r j b e is can halved. calls-same h s s _ k halved refl refl (omega arith) (one _ _ refl tt) (λ m. (tt, tt));
+    make_bytes = λ mark auto start halved. added h s _ _ k halved (one _ _ refl tt) (tt, tt);
     get_reader = λ j e halved. calls-open h s _ j _ [] k halved refl refl (fresh-lighter s.promises) e (one _ _ refl tt) tt;
     get_writer = λ j e halved. calls-same h s _ _ k halved refl refl (two-lighter s.promises) (one _ _ refl tt) (λ m. (tt, tt));
     release_reader = λ l closed j e halved.
-        let kept : Bool = readable.is_readable (readable_at j s).state in
-        let z : Slots = (calls.release_reader l closed j s).done.slots in
+        let kept : Bool = readable.is_readable (source_at j s).state in
+        let z : Slots = (calls.release_reader (ReaderLock None) l closed j s).done.slots in
         calls-same h s z _ k halved refl refl (renewed-lighter s.promises kept) (renewed-begins z s.promises kept _ (one z _ refl tt)) (λ m. renewed-calms z s.promises kept _ (tt, tt));
     release_writer = λ l j w e f halved.
         let ready : Bool = is_pending_at w.ready s.promises in

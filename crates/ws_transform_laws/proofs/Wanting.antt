@@ -16,17 +16,20 @@ use Rattle.ws_steps.specs.Readable as readable
 use Rattle.ws_laws.proofs.Lists.{Each, each-append}
 use Rattle.ws_laws.proofs.Tables.{either}
 use Rattle.ws_transform_laws.specs.TransformHistory.{wants_none}
+use Rattle.ws_steps.specs.declared.effects.Effect.TheVariants.{CloseStepsWith}
 
 abbrev pub IsNoPull : Effect → Type 0
 IsNoPull (PullAlgorithm j) = ⊥
 IsNoPull (ChunkSteps j q v) = Unit {0}
 IsNoPull (CloseSteps j q) = Unit {0}
+IsNoPull (CloseStepsWith j q b) = Unit {0}
 IsNoPull (ErrorSteps j q e) = Unit {0}
 IsNoPull _ = ⊥
 
 abbrev pub IsEnding : Effect → Type 0
 IsEnding (CancelAlgorithm j c p) = Unit {0}
 IsEnding (CloseSteps j q) = Unit {0}
+IsEnding (CloseStepsWith j q b) = Unit {0}
 IsEnding _ = ⊥
 
 -- what an operation of stream i causes: it pulls at most once, with no more beside than the steps of one request that gets its chunk

@@ -32,6 +32,7 @@ use Rattle.ws_transform_laws.proofs.Waiting.{Waits}
 use Rattle.ws_writable_laws.proofs.Shape.{one_if}
 use Rattle.ws_want_laws.proofs.Ears.{IsPending, pending-react}
 use Rattle.ws_want_laws.proofs.Holding.{IsHalf, written-half}
+use Rattle.ws_steps.specs.declared.effects.Effect.TheVariants.{Byte, CloseStepsWith}
 
 self : (k : ℕ) → nat_eq k k ≡ true
 self k = grind arith
@@ -130,6 +131,7 @@ module _ (t : TransformId) (i r : StreamId) where
   pub row-asked : (e : Effect) (s : Slots) → IsSole s → Asked (row e s).caused
   unfolding row
   row-asked (OnReadable j operation) s h = row-causes IsAsked (OnReadable j operation) s (record { pull = tt; cancel = λ c p. tt; chunk = λ q v. tt; close = λ q. tt; error = λ q e. tt })
+  row-asked (Byte j operation) s h = row-causes IsAsked (Byte j operation) s (record { readable = record { pull = tt; cancel = λ c p. tt; chunk = λ q v. tt; close = λ q. tt; error = λ q e. tt }; close_with = λ q b. tt })
   row-asked (OnWritable j operation) s h = row-causes IsAsked (OnWritable j operation) s (record { write = tt; close = tt; abort = λ c p. tt; hand_on = λ v. tt; take = λ v u d. tt })
   row-asked (OnPipe p operation) s h = row-causes IsAsked (OnPipe p operation) s (pipe-asked p)
   row-asked (OnSignal a operation) s h = row-causes IsAsked (OnSignal a operation) s (signal-asked operation)
@@ -142,6 +144,7 @@ module _ (t : TransformId) (i r : StreamId) where
   row-asked (AbortAlgorithm j c p) s h = abort-asked j c _ (owner_at j s)
   row-asked (ChunkSteps j q v) s h = row-causes IsAsked (ChunkSteps j q v) s (chunk-asked v q)
   row-asked (CloseSteps j q) s h = row-causes IsAsked (CloseSteps j q) s (end-asked q)
+  row-asked (CloseStepsWith j q b) s h = row-causes IsAsked (CloseStepsWith j q b) s (end-asked q)
   row-asked (ErrorSteps j q e) s h = row-causes IsAsked (ErrorSteps j q e) s (end-asked q)
   row-asked _ s h = tt
 
@@ -246,6 +249,8 @@ module _ (t : TransformId) (i r : StreamId) where
     pub caused-closing : (e : Effect) → Halved s → IsHalf t i s → IsSole s → IsClosing s V e → (e ≡ CloseAlgorithm i → V) → Closing s V (row e s).caused
     unfolding row
     caused-closing (OnReadable j operation) halved h g k v = row-causes (IsClosing s V) (OnReadable j operation) s (record { pull = tt; cancel = λ c p. tt; chunk = λ q v. tt; close = λ q. tt; error = λ q e. tt })
+    caused-closing (Byte j operation) halved h g k v =
+        row-causes (IsClosing s V) (Byte j operation) s (record { readable = record { pull = tt; cancel = λ c p. tt; chunk = λ q v. tt; close = λ q. tt; error = λ q e. tt }; close_with = λ q b. tt })
     caused-closing (OnWritable j operation) halved h g k v = writable-closing j operation halved h
     caused-closing (OnPipe p operation) halved h g k v = row-causes (IsClosing s V) (OnPipe p operation) s (pipe-closing p)
     caused-closing (OnSignal a operation) halved h g k v = row-causes (IsClosing s V) (OnSignal a operation) s (signal-closing operation)
@@ -258,6 +263,7 @@ module _ (t : TransformId) (i r : StreamId) where
     caused-closing (AbortAlgorithm j c p) halved h g k v = abort-closing j c _ (owner_at j s)
     caused-closing (ChunkSteps j q x) halved h g k v = row-causes (IsClosing s V) (ChunkSteps j q x) s (chunk-closing x q)
     caused-closing (CloseSteps j q) halved h g k v = row-causes (IsClosing s V) (CloseSteps j q) s (end-closing q)
+    caused-closing (CloseStepsWith j q b) halved h g k v = row-causes (IsClosing s V) (CloseStepsWith j q b) s (end-closing q)
     caused-closing (ErrorSteps j q e) halved h g k v = row-causes (IsClosing s V) (ErrorSteps j q e) s (end-closing q)
     caused-closing _ halved h g k v = tt
 

@@ -41,6 +41,7 @@ use Rattle.ws_steps.specs.Histories.{is_same}
 use Rattle.ws_steps.specs.declared.promises.Step.TheVariants.{TransformAborted, TransformCancelled}
 use Rattle.ws_laws.proofs.Begin.{begin-makes}
 use Rattle.ws_transform_laws.proofs.Halving.{map-from}
+use Rattle.ws_steps.specs.declared.effects.Effect.TheVariants.{Byte, CloseStepsWith}
 
 self : (k : ℕ) → nat_eq k k ≡ true
 self k = grind arith
@@ -145,6 +146,8 @@ call-stream c s k y at = begin-makes (λ z. slice_get z.streams k ≡ Some y) (r
   pipe = λ z source dest prevent signal promise h. h;
   signal = λ z h. h;
   transform = λ z kind w q change h. h;
+  bytes = λ z mark auto h. get-stays z.streams _ k y h;
+  byob_requests = λ z hs h. h;
   readable = λ z o mark size h. get-stays z.streams _ k y h;
   writable = λ z o mark size h. get-stays z.streams _ k y h;
 }) c s at
@@ -287,6 +290,8 @@ module _ (t : TransformId) (i r : StreamId) where
         → ((c : Plain) (p : PromiseId) → e ≡ AbortAlgorithm i c p → V) → EndingOf s V (row e s).caused
     unfolding row
     caused-ending (OnReadable j operation) halved h g k v = row-causes (IsEnding s V) (OnReadable j operation) s (record { pull = tt; cancel = λ c p. tt; chunk = λ q v. tt; close = λ q. tt; error = λ q e. tt })
+    caused-ending (Byte j operation) halved h g k v =
+        row-causes (IsEnding s V) (Byte j operation) s (record { readable = record { pull = tt; cancel = λ c p. tt; chunk = λ q v. tt; close = λ q. tt; error = λ q e. tt }; close_with = λ q b. tt })
     caused-ending (OnWritable j operation) halved h g k v = writable-ending j operation halved h
     caused-ending (OnPipe p operation) halved h g k v = row-causes (IsEnding s V) (OnPipe p operation) s (pipe-ending p)
     caused-ending (OnSignal a operation) halved h g k v = row-causes (IsEnding s V) (OnSignal a operation) s (signal-ending operation)
@@ -299,6 +304,7 @@ module _ (t : TransformId) (i r : StreamId) where
     caused-ending (AbortAlgorithm j c p) halved h g k v = algorithm-ending j c _ (owner_at j s) (λ m. v c p (ap (λ (n : StreamId). AbortAlgorithm n c p) (k m)))
     caused-ending (ChunkSteps j q x) halved h g k v = row-causes (IsEnding s V) (ChunkSteps j q x) s (chunk-ending x q)
     caused-ending (CloseSteps j q) halved h g k v = row-causes (IsEnding s V) (CloseSteps j q) s (end-ending q)
+    caused-ending (CloseStepsWith j q b) halved h g k v = row-causes (IsEnding s V) (CloseStepsWith j q b) s (end-ending q)
     caused-ending (ErrorSteps j q e) halved h g k v = row-causes (IsEnding s V) (ErrorSteps j q e) s (end-ending q)
     caused-ending _ halved h g k v = tt
 

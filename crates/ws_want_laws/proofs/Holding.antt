@@ -35,6 +35,7 @@ use Rattle.ws_transform_laws.proofs.Telling.{owned-stays}
 use Rattle.ws_want_laws.proofs.Bound.{one, tokens, some-token, token-pending}
 use Rattle.ws_want_laws.proofs.Ears.{Ear, Told, Led, Resolves, hears, tells, tells_any, gives, ear-weighs, ear-row}
 use Rattle.ws_want_laws.proofs.Results.{of_used, all_in_hand, in_hand, Makes, on-sink, on-going, row-weighs, spared-weighs}
+use Rattle.ws_steps.specs.declared.effects.Effect.TheVariants.{Byte, CloseStepsWith}
 
 self : (k : ℕ) → nat_eq k k ≡ true
 self k = grind arith
@@ -102,6 +103,8 @@ module _ (t : TransformId) (i : StreamId) where
   caused-faithful : (s : Slots) (e : Effect) → Halved s → IsHalf s → IsFaithful s e → Faithful s (row e s).caused
   unfolding row
   caused-faithful s (OnReadable j operation) halved h k = row-causes (IsFaithful s) (OnReadable j operation) s (record { pull = tt; cancel = λ c p. tt; chunk = λ q v. tt; close = λ q. tt; error = λ q e. tt })
+  caused-faithful s (Byte j operation) halved h k =
+      row-causes (IsFaithful s) (Byte j operation) s (record { readable = record { pull = tt; cancel = λ c p. tt; chunk = λ q v. tt; close = λ q. tt; error = λ q e. tt }; close_with = λ q b. tt })
   caused-faithful s (OnWritable j operation) halved h k = writable-faithful s j operation halved h
   caused-faithful s (OnPipe p operation) halved h k = row-causes (IsFaithful s) (OnPipe p operation) s (pipe-faithful s p)
   caused-faithful s (OnSignal a operation) halved h k = row-causes (IsFaithful s) (OnSignal a operation) s (signal-faithful s operation)
@@ -114,6 +117,7 @@ module _ (t : TransformId) (i : StreamId) where
   caused-faithful s (AbortAlgorithm j c p) halved h k = row-causes (IsFaithful s) (AbortAlgorithm j c p) s (λ c u. tt, λ y u. tt)
   caused-faithful s (ChunkSteps j r v) halved h k = row-causes (IsFaithful s) (ChunkSteps j r v) s (chunk-faithful s v r)
   caused-faithful s (CloseSteps j r) halved h k = row-causes (IsFaithful s) (CloseSteps j r) s (end-faithful s r)
+  caused-faithful s (CloseStepsWith j r b) halved h k = row-causes (IsFaithful s) (CloseStepsWith j r b) s (end-faithful s r)
   caused-faithful s (ErrorSteps j r e) halved h k = row-causes (IsFaithful s) (ErrorSteps j r e) s (end-faithful s r)
   caused-faithful s _ halved h k = tt
 

@@ -32,6 +32,7 @@ use Rattle.ws_laws.proofs.WritableDoes.{IsHandOn, others-do}
 use Rattle.ws_writable_laws.proofs.Shape.{all, all-append}
 use Rattle.ws_transform_laws.specs.TransformHistory.{is_same_transform}
 use Rattle.ws_transform_laws.proofs.Sparing.{IsUsing, row-spares}
+use Rattle.ws_steps.specs.declared.effects.Effect.TheVariants.{Byte, CloseStepsWith}
 
 module _ (t : TransformId) (P : PromiseId → ℕ) where
   -- so much of it in a reaction
@@ -207,6 +208,7 @@ module _ (t : TransformId) (P : PromiseId → ℕ) where
   pub row-same : (e : Effect) (s : Slots) → (Makes e → ⊥) → all_in_hand (row e s).caused ≤ in_hand e
   unfolding row
   row-same (OnReadable j operation) s n = none-less _ _ (each-bare _ (row-causes IsBare (OnReadable j operation) s (record { pull = refl; cancel = λ c p. refl; chunk = λ q v. refl; close = λ q. refl; error = λ q e. refl })))
+  row-same (Byte j operation) s n = none-less _ _ (each-bare _ (row-causes IsBare (Byte j operation) s (record { readable = record { pull = refl; cancel = λ c p. refl; chunk = λ q v. refl; close = λ q. refl; error = λ q e. refl }; close_with = λ q b. refl })))
   row-same (OnWritable j operation) s n = writable-same s j operation
   row-same (OnPipe p operation) s n = none-less _ _ (each-bare _ (row-causes IsBare (OnPipe p operation) s (pipe-bare p)))
   row-same (OnSignal a operation) s n = none-less _ _ (each-bare _ (row-causes IsBare (OnSignal a operation) s (signal-bare operation)))
@@ -219,6 +221,7 @@ module _ (t : TransformId) (P : PromiseId → ℕ) where
   row-same (AbortAlgorithm j c p) s n = none-less _ _ (abort-bare j c p (owner_at j s))
   row-same (ChunkSteps j r v) s n = none-less _ _ (each-bare _ (row-causes IsBare (ChunkSteps j r v) s (chunk-bare v r)))
   row-same (CloseSteps j r) s n = none-less _ _ (each-bare _ (row-causes IsBare (CloseSteps j r) s (end-bare r)))
+  row-same (CloseStepsWith j r b) s n = none-less _ _ (each-bare _ (row-causes IsBare (CloseStepsWith j r b) s (end-bare r)))
   row-same (ErrorSteps j r e) s n = none-less _ _ (each-bare _ (row-causes IsBare (ErrorSteps j r e) s (end-bare r)))
   row-same _ s n = omega arith
 

@@ -36,6 +36,13 @@ use Rattle.ws_want_laws.proofs.Holding.{IsHalf, Few}
 use Rattle.ws_want_laws.proofs.Results.{in_hand}
 use Rattle.ws_want_laws.proofs.Waitings.{waits-none}
 use Rattle.ws_want_laws.proofs.Zone.{Zone, Outside, Inside, IsChunk, marks, marks_in}
+use Rattle.ws_steps.specs.declared.effects.Effect.TheVariants.{Byte}
+use Rattle.ws_steps.specs.declared.byte.ByteOperation.TheVariants.{Enqueue as EnqueueBytes}
+use Rattle.ws_steps.specs.Slots.{has_byte, byte_at}
+use Rattle.ws_steps.specs.Queues.{is_empty}
+use Rattle.ws_steps.specs.Bytes as byte
+use Rattle.ws_value.specs.declared.value.Value.TheVariants.{Plain as PlainValue, Bytes}
+use Rattle.std.specs.Prelude.{not, ◌&&◌}
 
 self : (k : ℕ) → nat_eq k k ≡ true
 self k = grind arith
@@ -119,11 +126,20 @@ module _ (t : TransformId) (i r : StreamId) where
       either (λ (b : Begun). Meanwhile (EnqueueCall j v) s b ≡ [] → Zone t b.done.slots b.done.caused) (can_close_or_enqueue (readable_at j s)) (calls.does (OnTransform u (names_of.Enqueue v) ∷ []) s) (calls.throws_type_error s)
       (λ can n. enters-zone s j v u halved h there is n) (λ cannot n. Outside refl) none
 
+  -- an enqueue of bytes tells no transform stream
+  bytes-zone : (s : Slots) (j : StreamId) (v : Value) → let b : Begun = calls.enqueue_bytes j s v in Zone t b.done.slots b.done.caused
+  bytes-zone s j (PlainValue v) = Outside refl
+  bytes-zone s j (Bytes b) =
+      either (λ (x : Begun). Zone t x.done.slots x.done.caused) (not (is_empty b) && byte.can_take (byte_at j s)) (calls.does (Byte j (EnqueueBytes b) ∷ []) s) (calls.throws_type_error s)
+      (λ can. Outside refl) (λ cannot. Outside refl)
+
   call-zone : (s : Slots) (c : Call) → Halved s → IsRight s → step_meanwhile t r s (Called c) ≡ [] → Zone t (begin c s).done.slots (begin c s).done.caused
   unfolding begin
   call-zone s (EnqueueCall j v) halved h none =
-      either (λ (b : Begun). Meanwhile (EnqueueCall j v) s b ≡ [] → Zone t b.done.slots b.done.caused) (has_readable j s) (calls.enqueue v j s) (unsupported s)
-      (λ there n. by-owner s j v (readable_at j s).owner halved h there refl n) (λ absent n. Outside refl) none
+      either (λ (b : Begun). Meanwhile (EnqueueCall j v) s b ≡ [] → Zone t b.done.slots b.done.caused) (has_byte j s) (calls.enqueue_bytes j s v) (calls.for_readable j (calls.enqueue v j) s)
+      (λ is n. bytes-zone s j v)
+      (λ isnt. either (λ (b : Begun). Meanwhile (EnqueueCall j v) s b ≡ [] → Zone t b.done.slots b.done.caused) (has_readable j s) (calls.enqueue v j s) (unsupported s)
+      (λ there n. by-owner s j v (readable_at j s).owner halved h there refl n) (λ absent n. Outside refl)) none
   call-zone s c halved h none = Outside (first-unmarked (Enqueues c) (λ j v e. cc) (begin c s).done.caused (begin-first c s) (call-untold c s))
 
   -- a transform stream that is there stays
@@ -135,6 +151,8 @@ module _ (t : TransformId) (i r : StreamId) where
     pipe = λ z source dest prevent signal promise k. k;
     signal = λ z k. k;
     transform = λ z kind w q change k. get-stays z.transforms _ t.0 x k;
+    bytes = λ z mark auto k. k;
+    byob_requests = λ z hs k. k;
     readable = λ z o mark size k. k;
     writable = λ z o mark size k. k;
   }) c s at

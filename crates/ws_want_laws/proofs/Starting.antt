@@ -39,6 +39,9 @@ use Rattle.ws_transform_laws.proofs.Waiting.{Queued}
 use Rattle.ws_want_laws.proofs.Answering.{IsSole}
 use Rattle.ws_want_laws.proofs.Ears.{open-pending, Ear, Told, Led, Resolves, Follows, follows, follow-queues, gives, tells, ear-row}
 use Rattle.ws_want_laws.proofs.Holding.{IsHalf}
+use Rattle.ws_steps.specs.Slots.{ByteStream}
+use Rattle.ws_steps.specs.declared.effects.Effect.TheVariants.{Byte, CloseStepsWith}
+use Rattle.ws_steps.specs.Bytes as byte
 
 self : (k : ℕ) → nat_eq k k ≡ true
 self k = grind arith
@@ -134,6 +137,7 @@ module _ (r : StreamId) where
   pub caused-other : (e : Effect) (s : Slots) → IsStarting e → Others (row e s).caused
   unfolding row
   caused-other (OnReadable j operation) s k = row-causes IsOther (OnReadable j operation) s (record { pull = tt; cancel = λ c p. tt; chunk = λ q v. tt; close = λ q. tt; error = λ q e. tt })
+  caused-other (Byte j operation) s k = row-causes IsOther (Byte j operation) s (record { readable = record { pull = tt; cancel = λ c p. tt; chunk = λ q v. tt; close = λ q. tt; error = λ q e. tt }; close_with = λ q b. tt })
   caused-other (OnWritable j operation) s k = row-causes IsOther (OnWritable j operation) s (record { write = tt; close = tt; abort = λ c p. tt; hand_on = λ v. tt; take = λ v u d. tt })
   caused-other (OnPipe p operation) s k = row-causes IsOther (OnPipe p operation) s (pipe-other p)
   caused-other (OnSignal a operation) s k = row-causes IsOther (OnSignal a operation) s (signal-other operation)
@@ -146,6 +150,7 @@ module _ (r : StreamId) where
   caused-other (AbortAlgorithm j c p) s k = abort-other j c _ (owner_at j s)
   caused-other (ChunkSteps j q v) s k = row-causes IsOther (ChunkSteps j q v) s (chunk-other v q)
   caused-other (CloseSteps j q) s k = row-causes IsOther (CloseSteps j q) s (end-other q)
+  caused-other (CloseStepsWith j q b) s k = row-causes IsOther (CloseStepsWith j q b) s (end-other q)
   caused-other (ErrorSteps j q e) s k = row-causes IsOther (ErrorSteps j q e) s (end-other q)
   caused-other _ s k = tt
 
@@ -232,6 +237,8 @@ call-shape k x c s h = begin-makes (λ z. slice_get (stream_shapes z) k ≡ Some
   pipe = λ z source dest prevent signal promise h. h;
   signal = λ z h. h;
   transform = λ z kind w q change h. h;
+  bytes = λ z mark auto h. grown k x z _ h;
+  byob_requests = λ z hs h. h;
   readable = λ z o mark size h. grown k x z _ h;
   writable = λ z o mark size h. grown k x z _ h;
 }) c s h
@@ -327,6 +334,14 @@ module _ (t : TransformId) (i r : StreamId) where
     make_readable = λ mark size start. plain-own _ (λ o. (new-other s (ReadableStream (readable.set_up Host mark size)) (add_stream (ReadableStream (readable.set_up Host mark size)) s) refl (λ e. cc) o, tt));
     make_writable = λ mark size start. plain-own _ (λ o. (new-other s (WritableStream (writable.set_up Host mark size)) (add_stream (WritableStream (writable.set_up Host mark size)) s) refl (λ e. cc) o, tt));
     make_transform = λ kind m n start. made-by kind m n start s;
+    get_byob = λ j is e. plain _ (grind arith);
+    release_byob = λ l closed j e. plain _ (grind arith);
+    read_into = λ l j closed room element least e f. plain _ (grind arith);
+    enqueue_bytes = λ j b e is some can. plain _ (grind arith);
+    finish_bytes = λ j e is can. plain _ (grind arith);
+    make_request = λ j reply is. plain _ (grind arith);
+    respond = λ r j b e is can. plain _ (grind arith);
+    make_bytes = λ mark auto start. plain-own _ (λ o. (new-other s (ByteStream (byte.set_up mark auto)) (add_stream (ByteStream (byte.set_up mark auto)) s) refl (λ e. cc) o, tt));
     get_reader = λ j e. plain _ (grind arith);
     get_writer = λ j e. plain _ (grind arith);
     release_reader = λ l closed j e. plain _ (grind arith);

@@ -16,7 +16,7 @@ use Rattle.ws_steps.specs.Slots.{Slots, empty, has_readable, readable_at}
 use Rattle.ws_steps.specs.Transform as transform
 use Rattle.ws_laws.proofs.Halves.{Halved, halved-empty, run-halved, run-among}
 use Rattle.ws_laws.proofs.Lists.{append_none}
-use Rattle.ws_laws.proofs.Shapes.{StreamShape, ReadableOf, TransformShape, stream_shapes, transform_shapes, transform_shape, map-there}
+use Rattle.ws_laws.proofs.Shapes.{StreamShape, ReadableOf, BytesOf, TransformShape, stream_shape, stream_shapes, transform_shapes, transform_shape, map-there}
 use Rattle.ws_laws.proofs.Walker as walker
 use Rattle.ws_host_laws.specs.HostCalls.{step_called, run_called, called}
 use Rattle.ws_transform_laws.proofs.Told.{along-map}
@@ -32,6 +32,14 @@ use Rattle.ws_steps.specs.Readable.{can_close_or_enqueue}
 use Rattle.ws_laws.proofs.Tables.{either, same_id}
 use Rattle.ws_steps.specs.Calls.{Begun, begin, unsupported}
 use Rattle.ws_transform_laws.proofs.Waited.{all_waiting}
+use Rattle.ws_steps.specs.declared.effects.Effect.TheVariants.{Byte}
+use Rattle.ws_steps.specs.declared.byte.ByteOperation.TheVariants.{Enqueue as EnqueueBytes}
+use Rattle.ws_steps.specs.Slots.{ByteStream, has_byte, byte_at}
+use Rattle.ws_laws.proofs.Tables.{byte_there}
+use Rattle.ws_steps.specs.Queues.{is_empty}
+use Rattle.ws_steps.specs.Bytes as byte
+use Rattle.ws_value.specs.declared.value.Value.TheVariants.{Plain as PlainValue, Bytes}
+use Rattle.std.specs.Prelude.{not, ◌&&◌}
 
 module _ (t : TransformId) (i r : StreamId) where
   -- what happens in a step, and the host calls of it
@@ -77,7 +85,17 @@ module _ (t : TransformId) (i r : StreamId) where
 
   -- nothing is accepted by a half that can take no chunk
 
-  module _ (s : Slots) (shut : can_close_or_enqueue (readable_at r s) ≡ false) where
+  -- the readable half has a default controller
+  whole-default : (s : Slots) → IsWhole t i r s → has_byte r s ≡ false
+  whole-default s g = by (has_byte r s) refl
+    where
+      by : (b : Bool) → b ≡ has_byte r s → has_byte r s ≡ false
+      by false e = sym e
+      by true e =
+          let at : slice_get (stream_shapes s) r.0 ≡ Some BytesOf = map-there stream_shape s.streams r.0 (ByteStream (byte_at r s)) (byte_there (slice_get s.streams r.0) (sym e)) in
+          let wrong : BytesOf ≡ ReadableOf (HalfOf t) = g.0.1.1 BytesOf at in cc
+
+  module _ (s : Slots) (shut : can_close_or_enqueue (readable_at r s) ≡ false) (default : has_byte r s ≡ false) where
     taken-none : (j : StreamId) (v : Value) → can_close_or_enqueue (readable_at j s) ≡ true → (if is_same r j then v ∷ [] else []) ≡ []
     taken-none j v can = by (is_same r j) refl
       where
@@ -94,10 +112,24 @@ module _ (t : TransformId) (i r : StreamId) where
     owner-none j v (HalfOf u) =
         either (IsNone j v) (can_close_or_enqueue (readable_at j s)) (calls.does (OnTransform u (names_of.Enqueue v) ∷ []) s) (calls.throws_type_error s) (λ can. taken-none j v can) (λ cannot. refl)
 
+    -- a byte stream is another
+    apart : (j : StreamId) → has_byte j s ≡ true → is_same r j ≡ false
+    apart j is = by (is_same r j) refl
+      where
+        by : (b : Bool) → b ≡ is_same r j → is_same r j ≡ false
+        by false e = sym e
+        by true e = let yes : has_byte r s ≡ true = rw (same_id r j (sym e)) is in absurd (cc)
+
+    bytes-none : (j : StreamId) (v : Value) → is_same r j ≡ false → IsNone j v (calls.enqueue_bytes j s v)
+    bytes-none j (PlainValue v) n = refl
+    bytes-none j (Bytes b) n =
+        either (IsNone j (Bytes b)) (not (is_empty b) && byte.can_take (byte_at j s)) (calls.does (Byte j (EnqueueBytes b) ∷ []) s) (calls.throws_type_error s) (λ can. rw n refl) (λ cannot. refl)
+
     call-none : (c : Call) → accepted_by r c (begin c s).reply ≡ []
     unfolding begin
     call-none (EnqueueCall j v) =
-        either (IsNone j v) (has_readable j s) (calls.enqueue v j s) (unsupported s) (λ there. owner-none j v (readable_at j s).owner) (λ absent. refl)
+        either (IsNone j v) (has_byte j s) (calls.enqueue_bytes j s v) (calls.for_readable j (calls.enqueue v j) s) (λ is. bytes-none j v (apart j is))
+        (λ isnt. either (IsNone j v) (has_readable j s) (calls.enqueue v j s) (unsupported s) (λ there. owner-none j v (readable_at j s).owner) (λ absent. refl))
     call-none c = refl
 
     accepted-none : (x : Entry) → accepted_in_step r s x ≡ []
@@ -118,7 +150,7 @@ module _ (t : TransformId) (i r : StreamId) where
 
       by : (a b : Bool) → a ≡ is_answering r h.calls s → b ≡ has_open (is_cancel_of r) h.calls s.hosts → step_meanwhile t r s x ≡ []
       by true b f m = free (answering-none t i r h s k.answers (sym f))
-      by false true f m = ⊎_elim free (λ shut. none (accepted-none s shut x)) (cancelling-none t i r h s k g (sym m))
+      by false true f m = ⊎_elim free (λ shut. none (accepted-none s shut (whole-default s g) x)) (cancelling-none t i r h s k g (sym m))
       by false false f m = none (rw (← f, ← m) at e)
 
   meanwhile-none : (xs : List Entry) (h : Past) (s : Slots) → IsCancels t i r h s [] → IsWhole t i r (run xs s) → unasked_since r h.calls xs s ≡ []

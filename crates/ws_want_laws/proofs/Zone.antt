@@ -10,19 +10,20 @@ use Rattle.ws_steps.specs.declared.readable.{ReadRequest.{ReadRequest}, ReadRequ
 use Rattle.ws_steps.specs.declared.transform.{Halves.{Halves}, Kind.{Kind}, Kind.TheVariants.{Identity, Host as HostKind}, TransformId.{TransformId}, TransformOperation.{TransformOperation}}
 use Rattle.ws_steps.specs.declared.transform.TransformOperation.TheVariants as names
 use Rattle.ws_steps.specs.Jobs.{job_effects}
-use Rattle.ws_steps.specs.Operations.{readable_operation, pipe_operation, transform_operation}
+use Rattle.ws_steps.specs.Operations.{readable_operation, byte_readable_operation, pipe_operation, transform_operation}
 use Rattle.ws_steps.specs.Pipes as pipe
 use Rattle.ws_steps.specs.Readable as readable
-use Rattle.ws_steps.specs.Slots.{Slots, Done, nothing, found, halves_at, owner_at, has_readable, put_readable, on_pipe_at, on_transform_at}
+use Rattle.ws_steps.specs.Slots.{Slots, Done, nothing, found, halves_at, owner_at, has_readable, has_byte, put_readable, put_byte, on_readable, on_byte, on_pipe_at, on_transform_at}
 use Rattle.ws_steps.specs.Transform as transform
 use Rattle.ws_steps.specs.Turns.{row, pull_algorithm}
 use Rattle.ws_laws.proofs.Lists.{Each, each-append}
 use Rattle.ws_laws.proofs.PipeDoes.{PipeCauses}
 use Rattle.ws_laws.proofs.Rows.{ChunkCauses, EndCauses, SignalCauses, row-causes}
-use Rattle.ws_laws.proofs.Tables.{either, readable_acts}
+use Rattle.ws_laws.proofs.Tables.{either, readable_acts, byte_acts}
 use Rattle.ws_writable_laws.proofs.Shape.{one_if, all, all-append, leads_to, of_use}
 use Rattle.ws_transform_laws.specs.TransformHistory.{is_same_transform}
 use Rattle.ws_transform_laws.proofs.Waited.{changing, all_waiting, row-waiting}
+use Rattle.ws_steps.specs.declared.effects.Effect.TheVariants.{Byte, CloseStepsWith}
 
 module _ (t : TransformId) where
   -- an effect that tells the transform stream of an enqueue, or leads to one
@@ -78,6 +79,7 @@ module _ (t : TransformId) where
   pub row-unmarked : (e : Effect) (s : Slots) → IsQuiet e → marks_in (row e s).caused ≡ 0
   unfolding row
   row-unmarked (OnReadable j operation) s q = each-unmarked _ (row-causes IsUnmarked (OnReadable j operation) s (record { pull = refl; cancel = λ c p. refl; chunk = λ q v. refl; close = λ q. refl; error = λ q e. refl }))
+  row-unmarked (Byte j operation) s q = each-unmarked _ (row-causes IsUnmarked (Byte j operation) s (record { readable = record { pull = refl; cancel = λ c p. refl; chunk = λ q v. refl; close = λ q. refl; error = λ q e. refl }; close_with = λ q b. refl }))
   row-unmarked (OnWritable j operation) s q = each-unmarked _ (row-causes IsUnmarked (OnWritable j operation) s (record { write = refl; close = refl; abort = λ c p. refl; hand_on = λ v. refl; take = λ v u d. refl }))
   row-unmarked (OnPipe p operation) s q = each-unmarked _ (row-causes IsUnmarked (OnPipe p operation) s (pipe-unmarked p))
   row-unmarked (OnSignal a operation) s q = each-unmarked _ (row-causes IsUnmarked (OnSignal a operation) s (signal-unmarked operation))
@@ -90,6 +92,7 @@ module _ (t : TransformId) where
   row-unmarked (AbortAlgorithm j c p) s q = each-unmarked _ (row-causes IsUnmarked (AbortAlgorithm j c p) s (λ c u. refl, λ y u. refl))
   row-unmarked (ChunkSteps j r v) s q = each-unmarked _ (row-causes IsUnmarked (ChunkSteps j r v) s (chunk-unmarked v r))
   row-unmarked (CloseSteps j r) s q = each-unmarked _ (row-causes IsUnmarked (CloseSteps j r) s (end-unmarked r))
+  row-unmarked (CloseStepsWith j r b) s q = each-unmarked _ (row-causes IsUnmarked (CloseStepsWith j r b) s (end-unmarked r))
   row-unmarked (ErrorSteps j r e) s q = each-unmarked _ (row-causes IsUnmarked (ErrorSteps j r e) s (end-unmarked r))
   row-unmarked _ s q = refl
 
@@ -134,8 +137,10 @@ module _ (t : TransformId) where
   pub row-enters : (e : Effect) (s : Slots) → IsEntering e → Enterings (row e s).caused
   unfolding row
   row-enters (OnReadable j (Enqueue v)) s k =
-      either (λ (d : Done). Enterings d.caused) (has_readable j s) (put_readable j s (readable_operation j (Enqueue v) (readable_acts j s))) (nothing s)
-      (λ there. readable-enters j v (readable_acts j s) refl) (λ none. tt)
+      either (λ (d : Done). Enterings d.caused) (has_byte j s) (on_byte (byte_readable_operation j (Enqueue v)) j s) (on_readable (readable_operation j (Enqueue v)) j s)
+      (λ is. either (λ (d : Done). Enterings d.caused) (has_byte j s) (put_byte j s (byte_readable_operation j (Enqueue v) (byte_acts j s))) (nothing s) (λ there. tt) (λ none. tt))
+      (λ isnt. either (λ (d : Done). Enterings d.caused) (has_readable j s) (put_readable j s (readable_operation j (Enqueue v) (readable_acts j s))) (nothing s)
+      (λ there. readable-enters j v (readable_acts j s) refl) (λ none. tt))
   row-enters (OnTransform u operation) s k = own-enters s u operation (slice_get s.transforms u.0) k
   row-enters (PullAlgorithm j) s k = pull-enters j (owner_at j s)
   row-enters (ChunkSteps j (Promise p) v) s k = tt

@@ -9,7 +9,7 @@ use Rattle.ws_value.specs.declared.value.Value.{Value}
 use Rattle.ws_steps.specs.declared.effects.Effect.{Effect}
 use Rattle.ws_steps.specs.Promises.{Table, fresh, settle, tell, use_this, use_gift}
 use Rattle.ws_steps.specs.Writable as writable
-use Rattle.ws_steps.specs.Slots.{Slots, Done, found as found_outside, ends_at, halves_at, owner_at, on_pipe_at, on_signal_at, on_transform_at, writable_at, on_readable, on_writable, as_writable, WritableStream, nothing, put_writable, no_writable, has_writable}
+use Rattle.ws_steps.specs.Slots.{Slots, Done, found as found_outside, ends_at, halves_at, owner_at, on_pipe_at, on_signal_at, on_transform_at, writable_at, on_writable, as_writable, WritableStream, nothing, put_writable, no_writable, has_writable}
 use Rattle.ws_steps.specs.WritableHistory.{Writes, no_writes, writes_then, effect_writes, first_chunk, operation_writes}
 use Rattle.ws_steps.specs.declared.{calls.Event.{Event}, calls.Event.TheVariants.{Host as HostCalled, Signal}, calls.HostCall.{HostCall}}
 use Rattle.ws_steps.specs.declared.effects.Effect.TheVariants.{Readable, Writable, Pipe, Signal, Transform, Queue, PullAlgorithm, CancelAlgorithm, WriteAlgorithm, CloseAlgorithm, AbortAlgorithm, ChunkSteps, CloseSteps, ErrorSteps, StartAlgorithm, Give, CallHost}
@@ -18,20 +18,18 @@ use Rattle.ws_steps.specs.declared.{effects.Owner.{Owner}, effects.Owner.TheVari
 use Rattle.ws_steps.specs.declared.{transform.TransformId.{TransformId}, transform.TransformOperation.{TransformOperation}, transform.TransformOperation.TheVariants.{TransformChunk}}
 use Rattle.ws_steps.specs.declared.writable.WritableOperation.{WritableOperation}
 use Rattle.ws_steps.specs.Effects.{Out, cause, settling}
-use Rattle.ws_steps.specs.Operations.{readable_operation, writable_operation, pipe_operation, signal_operation, transform_operation}
+use Rattle.ws_steps.specs.Operations.{writable_operation, pipe_operation, signal_operation, transform_operation}
 use Rattle.ws_steps.specs.Pipes as pipe
 use Rattle.ws_steps.specs.Pipes.{abort_all}
-use Rattle.ws_steps.specs.Readable as readable
 use Rattle.ws_steps.specs.Writable.{write_to_host, Acts, hand_on_first, hand_on}
 use Rattle.ws_steps.specs.Transform as transform
 use Rattle.ws_steps.specs.Turns.{call_host, chunk_steps, close_steps, error_steps, row, pull_algorithm, cancel_algorithm, write_algorithm, close_algorithm, abort_algorithm}
 use Rattle.ws_steps.specs.Histories.{is_same}
 use Rattle.ws_steps.specs.declared.{writable.WritableOperation.TheVariants.{HandOn}}
-use Rattle.ws_laws.proofs.Tables.{either, readable_acts, writable_acts, on_writable-other, on_writable-none, on_readable-none, on_readable-writable, is_same-refl, same_id, on_writable-same, no_writable_there}
+use Rattle.ws_laws.proofs.Tables.{either, writable_acts, on_writable-other, on_writable-none, is_same-refl, same_id, on_writable-same, no_writable_there}
 use Rattle.ws_laws.proofs.Halves.{Halved, halved-stays}
 use Rattle.ws_laws.proofs.Lists.{Each}
 use Rattle.ws_laws.proofs.PipeDoes.{IsStepOf, PipeCauses, OfPipe, pipe-causes, pipe-does}
-use Rattle.ws_laws.proofs.ReadableDoes.{readable-does}
 use Rattle.ws_laws.proofs.TransformDoes.{transform-does}
 use Rattle.ws_laws.proofs.WritableDoes.{writable-does, IsHandOn}
 use Rattle.ws_laws.proofs.Weights.{weigh, weigh-micro, weigh-fresh, weigh-settle, weigh-react, weigh-follow, weigh-answer}
@@ -39,6 +37,15 @@ use Rattle.ws_writable_laws.proofs.Shape.{is_start, is_write, is_close, is_abort
 use Rattle.ws_writable_laws.proofs.Transforms.{IsPlain, transform-leads, transform-hands, transform-alone, start-plain, write-plain, close-plain, abort-plain, weight-transform}
 use Rattle.ws_writable_laws.proofs.Operations.{Due, Held, Less, with_effects, so_far, later_effects, fine-less, Fine, handed, chunk_handed, writes-nothing, with_operation, operation-held}
 use Rattle.ws_writable_laws.proofs.Handed.{NoHalf, no-half, nothing_chunk, nothing_handed, same-handed, acting, writes-acted, owned-held}
+use Rattle.ws_steps.specs.Slots.{on_byte}
+use Rattle.ws_steps.specs.Turns.{on_source, close_steps_with}
+use Rattle.ws_steps.specs.declared.effects.Effect.TheVariants.{Byte, CloseStepsWith}
+use Rattle.ws_steps.specs.declared.byte.ByteOperation.{ByteOperation}
+use Rattle.ws_steps.specs.Operations.{byte_operation}
+use Rattle.ws_laws.proofs.ReadableDoes.{OfReadable}
+use Rattle.ws_laws.proofs.Rows.{source-out, byte-out, out_of}
+use Rattle.ws_laws.proofs.Tables.{on_source-none, on_source-writable, on_byte-none, on_byte-writable}
+use Rattle.ws_steps.specs.Bytes as byte
 
 -- what is under way among the promises
 abbrev pub among : StreamId → Table → Due
@@ -183,21 +190,34 @@ settles-outside i same t x p o q = (q.0, lightly t x.promises (settle p o x.prom
 pub same_weight : (t : Table) → Lightens t t
 same_weight t f = omega arith
 
-readable-leaves : (i j : StreamId) (operation : ReadableOperation) (s : Slots)
-    → Leaves i (Readable j operation) s (on_readable (readable_operation j operation) j s).slots (on_readable (readable_operation j operation) j s).caused
+-- what an operation of a readable stream causes and settles
+of-outside : (i j : StreamId) (t : Table) → OfReadable (Outside i false t) j
+of-outside i j t = record {
+  settle = λ x p o q. settles-outside i false t x p o q;
+  pull = λ x q. causes-outside i false t x (PullAlgorithm j) (λ n. refl) q;
+  cancel = λ x r p q. causes-outside i false t x (CancelAlgorithm j r p) (λ n. refl) q;
+  chunk = λ x request v q. causes-outside i false t x (ChunkSteps j request v) (λ n. refl) q;
+  close = λ x request q. causes-outside i false t x (CloseSteps j request) (λ n. refl) q;
+  error = λ x request e q. causes-outside i false t x (ErrorSteps j request e) (λ n. refl) q;
+}
+
+readable-leaves : (i j : StreamId) (operation : ReadableOperation) (s : Slots) → Leaves i (Readable j operation) s (on_source operation j s).slots (on_source operation j s).caused
 readable-leaves i j operation s =
-    let op : readable.Acts → readable.Acts = readable_operation j operation in
     let t : Table = s.promises in
-    let outside : Outside i false t (op (readable_acts j s)).out = readable-does (Outside i false t) j (record {
-      settle = λ x p o q. settles-outside i false t x p o q;
-      pull = λ x q. causes-outside i false t x (PullAlgorithm j) (λ n. refl) q;
-      cancel = λ x r p q. causes-outside i false t x (CancelAlgorithm j r p) (λ n. refl) q;
-      chunk = λ x request v q. causes-outside i false t x (ChunkSteps j request v) (λ n. refl) q;
-      close = λ x request q. causes-outside i false t x (CloseSteps j request) (λ n. refl) q;
-      error = λ x request e q. causes-outside i false t x (ErrorSteps j request e) (λ n. refl) q;
-    }) operation (readable_acts j s) (λ n. refl, same_weight t) in
-    let none = outside.0 refl in
-    clear-leaves i (Readable j operation) s (on_readable op j s).slots (on_readable op j s).caused (on_readable-none op j s i) (on_readable-writable op j s i (is_same i j) refl) (λ f. let l = outside.1 f in grind arith) (grind arith) refl
+    let d : Done = on_source operation j s in
+    let outside : Outside i false t (out_of d) = source-out (Outside i false t) j (of-outside i j t) operation s (λ n. refl, same_weight t) in
+    let none : all (mass i) d.caused ≡ 0 = outside.0 refl in
+    clear-leaves i (Readable j operation) s d.slots d.caused (on_source-none operation j s i) (on_source-writable operation j s i) (λ f. let l : weight f d.slots.promises ≤ weight f t = outside.1 f in omega (arith, l)) none refl
+
+byte-leaves : (i j : StreamId) (operation : ByteOperation) (s : Slots) → let d : Done = on_byte (byte_operation j operation) j s in Leaves i (Byte j operation) s d.slots d.caused
+byte-leaves i j operation s =
+    let t : Table = s.promises in
+    let op : byte.Acts → byte.Acts = byte_operation j operation in
+    let d : Done = on_byte op j s in
+    let outside : Outside i false t (out_of d) =
+    byte-out (Outside i false t) j (of-outside i j t) (λ x q b h. causes-outside i false t x (CloseStepsWith j q b) (λ n. refl) h) operation s (λ n. refl, same_weight t) in
+    let none : all (mass i) d.caused ≡ 0 = outside.0 refl in
+    clear-leaves i (Byte j operation) s d.slots d.caused (on_byte-none op j s i) (on_byte-writable op j s i) (λ f. let l : weight f d.slots.promises ≤ weight f t = outside.1 f in omega (arith, l)) none refl
 
 writable-outside : (i j : StreamId) (operation : WritableOperation) (s : Slots) → Outside i (is_same i j) s.promises (writable_operation j operation (writable_acts j s)).out
 writable-outside i j operation s =
@@ -385,6 +405,10 @@ closing-leaves : (i j : StreamId) (s : Slots) (request : ReadRequest) → Leaves
 closing-leaves i j s (Promise p) = grind (arith, weigh-answer)
 closing-leaves i j s (PipeRequest p) = grind arith
 
+closing_with-leaves : (i j : StreamId) (b : List ℕ) (s : Slots) (request : ReadRequest) → Leaves i (CloseStepsWith j request b) s (close_steps_with b s request).slots (close_steps_with b s request).caused
+closing_with-leaves i j b s (Promise p) = grind (arith, weigh-answer)
+closing_with-leaves i j b s (PipeRequest p) = grind arith
+
 erring-leaves : (i j : StreamId) (e : Plain) (s : Slots) (request : ReadRequest) → Leaves i (ErrorSteps j request e) s (error_steps e s request).slots (error_steps e s request).caused
 erring-leaves i j e s (Promise p) = grind (arith, weigh-settle)
 erring-leaves i j e s (PipeRequest p) = grind arith
@@ -443,6 +467,7 @@ write-leaves i j s (HalfOf t) true e is =
 pub row-leaves : (i : StreamId) (e : Effect) (s : Slots) → Elsewhere i e → Leaves i e s (row e s).slots (row e s).caused
 unfolding row call_host
 row-leaves i (Readable j operation) s x = readable-leaves i j operation s
+row-leaves i (Byte j operation) s x = byte-leaves i j operation s
 row-leaves i (Writable j operation) s x = elsewhere-leaves i j operation s x
 row-leaves i (Pipe p operation) s x = pipe-leaves i p operation s (slice_get s.pipes p.0)
 row-leaves i (Transform t operation) s x = transform-leaves i t operation s (slice_get s.transforms t.0) refl
@@ -454,6 +479,7 @@ row-leaves i (AbortAlgorithm j r p) s x = abort-leaves i j r p s (owner_at j s)
 row-leaves i (Signal a operation) s x = signal-leaves i a operation s (slice_get s.signals a.0)
 row-leaves i (ChunkSteps j request v) s x = chunk-leaves i j v s request
 row-leaves i (CloseSteps j request) s x = closing-leaves i j s request
+row-leaves i (CloseStepsWith j request b) s x = closing_with-leaves i j b s request
 row-leaves i (ErrorSteps j request e) s x = erring-leaves i j e s request
 row-leaves i (Queue m) s x = grind (arith, weigh-micro)
 row-leaves i (StartAlgorithm j step start) s x = grind (arith, weigh-fresh)

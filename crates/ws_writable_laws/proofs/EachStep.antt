@@ -5,7 +5,7 @@ use Rattle.ws_value.specs.declared.value.Value.{Value}
 use Rattle.ws_steps.specs.declared.{effects.Effect.{Effect}, effects.Effect.TheVariants.{Readable, Writable, StartAlgorithm, Give, Settle, CallHost}, effects.Owner.TheVariants.{Host}, writable.WritableOperation.{WritableOperation}, calls.Call.{Call}, promises.Job.{Job}}
 use Rattle.ws_steps.specs.Writable as writable
 use Rattle.ws_steps.specs.Writable.{Acts, has_ended, is_errored, is_closed, set_up_writer, writer_release, writer_write, stream_close, close_with_error_propagation, stream_abort, abort_if_writable, controller_error_if_needed, hand_on, start_settled, write_settled, close_settled, abort_settled, finish_in_flight_close, finish_in_flight_close_with_error, deal_with_rejection, finish_erroring, advance_queue, refresh_backpressure, update_backpressure, reject_close_and_closed, process_write, process_close, start_erroring, controller_write, controller_close}
-use Rattle.ws_steps.specs.Operations.{readable_operation, writable_operation}
+use Rattle.ws_steps.specs.Operations.{writable_operation}
 use Rattle.ws_steps.specs.Promises.{next_job}
 use Rattle.ws_steps.specs.Histories.{is_same}
 use Rattle.ws_steps.specs.Slots.{Slots, Done, nothing, empty, owner_at, has_writable, put_writable, as_writable, writable_at}
@@ -19,12 +19,15 @@ use Rattle.ws_steps.specs.Laws.{IsWritableStep, EachWritableStep}
 use Rattle.ws_laws.proofs.EachCall.{each_call}
 use Rattle.ws_laws.proofs.Lists.{Each, each-append, append_cancel, append_none}
 use Rattle.ws_laws.proofs.Rows.{Causes, row-causes, row-streams}
-use Rattle.ws_laws.proofs.Tables.{either, same_id, writable_acts, on_readable-writable, on_writable-other, on_writable-same}
+use Rattle.ws_laws.proofs.Tables.{either, same_id, writable_acts, on_writable-other, on_writable-same}
 use Rattle.ws_laws.proofs.Walker.{performed-goes}
 use Rattle.ws_writable_laws.proofs.Shape.{Core, core_of, Told}
 use Rattle.ws_writable_laws.proofs.Operations.{so_far-nothing}
 use Rattle.ws_writable_laws.proofs.Agenda.{Kept, same_or}
 use Rattle.ws_writable_laws.proofs.Runs.{is_history, step-kept, run-kept, hosted_at, host-before, resting, closed_whole}
+use Rattle.ws_steps.specs.declared.effects.Effect.TheVariants.{Byte}
+use Rattle.ws_steps.specs.Operations.{byte_operation}
+use Rattle.ws_laws.proofs.Tables.{on_source-writable, on_byte-writable}
 
 -- nothing is written to a stream that has ended
 
@@ -38,7 +41,8 @@ ended-operation i operation a e = grind arith
 
 pub row-ended : (i : StreamId) (e : Effect) (s : Slots) → has_ended (writable_at i s).state ≡ true → has_ended (writable_at i (row e s).slots).state ≡ true
 unfolding row
-row-ended i (Readable j operation) s ended = rw (on_readable-writable (readable_operation j operation) j s i (is_same i j) refl) ended
+row-ended i (Readable j operation) s ended = rw (on_source-writable operation j s i) ended
+row-ended i (Byte j operation) s ended = rw (on_byte-writable (byte_operation j operation) j s i) ended
 row-ended i (Writable j operation) s ended =
     same_or (λ l. has_ended (writable_at i (row (Writable l operation) s).slots).state ≡ true) i j (is_same i j) refl
     (λ other. rw (ap as_writable (on_writable-other (writable_operation j operation) j s i other)) ended)
@@ -91,6 +95,14 @@ call_none i s c e =
       unchanged = λ reply. inr e;
       rejected = inr e;
       make_readable = λ mark size start. inl (tt, tt);
+      make_bytes = λ mark auto start. inl (tt, tt);
+      get_byob = λ j is f. inr e;
+      release_byob = λ l closed j f. inr e;
+      read_into = λ l j closed room element least f g. inr e;
+      enqueue_bytes = λ j b f is some can. inr e;
+      finish_bytes = λ j f is can. inr e;
+      make_request = λ j reply is. inr e;
+      respond = λ q j b f is can. inr e;
       make_writable = λ mark size start. inl (tt, tt);
       make_transform = λ kind m n start. inl (grind arith);
       get_reader = λ j f. inr e;

@@ -3,7 +3,7 @@ use Rattle.std.proofs.Common.{◌≡◌, Option, List, [], ◌++◌, None, slice
 use Rattle.ws_value.specs.declared.ids.StreamId.{StreamId}
 use Rattle.ws_value.specs.declared.value.Value.{Value}
 use Rattle.ws_steps.specs.Writable as writable
-use Rattle.ws_steps.specs.Slots.{Slots, owner_at, as_writable, Stream, ReadableStream, WritableStream, owner_of, no_writable}
+use Rattle.ws_steps.specs.Slots.{Slots, owner_at, as_writable, Stream, ReadableStream, ByteStream, WritableStream, owner_of, no_writable}
 use Rattle.ws_steps.specs.WritableHistory.{Writes, no_writes, writes_then, first_chunk}
 use Rattle.ws_steps.specs.declared.{effects.Owner.{Owner}, effects.Owner.TheVariants.{Host, HalfOf}}
 use Rattle.ws_steps.specs.declared.{transform.Taker.{Taker}, transform.Taker.TheVariants.{ToHost, ToTransform}, transform.TransformId.{TransformId}}
@@ -61,6 +61,7 @@ owner-handed x y w (HalfOf t) o same = half-handed x y w t o
 pub same-handed : (x y : ℕ) (o : Option Stream) → (owner_of o ≡ Host → x ≡ y) → SameHanded x y (as_writable o)
 same-handed x y None same = none-handed x y
 same-handed x y (Some (ReadableStream r)) same = none-handed x y
+same-handed x y (Some (ByteStream b)) same = none-handed x y
 same-handed x y (Some (WritableStream w)) same = owner-handed x y w w.owner refl same
 
 -- the chunk of the write in flight is handed on: it counted as handed on before

@@ -15,7 +15,7 @@ use Rattle.ws_steps.specs.declared.{writable.WritableOperation.{WritableOperatio
 use Rattle.ws_steps.specs.declared.{promises.Step.TheVariants.{ReadablePull, ReturnUndefined, WritableClose, WritableAbort}, effects.Use.TheVariants.{React}}
 use Rattle.ws_steps.specs.declared.{transform.Taker.{Taker}, transform.Taker.TheVariants.{ToHost, ToTransform}, transform.TransformId.{TransformId}, transform.TransformOperation.{TransformOperation}}
 use Rattle.ws_steps.specs.Effects.{Out, cause}
-use Rattle.ws_steps.specs.Operations.{readable_operation, writable_operation, pipe_operation, signal_operation, transform_operation}
+use Rattle.ws_steps.specs.Operations.{writable_operation, pipe_operation, signal_operation, transform_operation}
 use Rattle.ws_steps.specs.Promises.{Table, fresh, settle, answer, react, follow, unfollow, use_this, use_gift, queue_micro, tell, taken, after_next_job, watch}
 use Rattle.ws_steps.specs.declared.{pipes.PipeOperation.{PipeOperation}, pipes.SignalOperation.{SignalOperation}, pipes.SignalOperation.TheVariants.{Add, Forget, Trigger}, promises.Micro.{Micro}, readable.ReadRequest.TheVariants.{Promise, Pipe as PipeRequest}}
 use Rattle.ws_steps.specs.Pipes as pipe
@@ -23,7 +23,7 @@ use Rattle.ws_steps.specs.Pipes.{abort_all}
 use Rattle.ws_steps.specs.Transform as transform
 use Rattle.ws_steps.specs.Writable as writable
 use Rattle.ws_steps.specs.Writable.{hand_on, hand_on_first}
-use Rattle.ws_steps.specs.Slots.{Slots, Done, found, ends_at, halves_at, owner_at, on_pipe_at, on_signal_at, on_transform_at, nothing, empty, with_promises, on_readable, on_writable, writable_at}
+use Rattle.ws_steps.specs.Slots.{Slots, Done, found, ends_at, halves_at, owner_at, on_pipe_at, on_signal_at, on_transform_at, nothing, empty, with_promises, on_writable, writable_at}
 use Rattle.ws_steps.specs.Turns.{row, call_host, moments, pull_algorithm, cancel_algorithm, write_algorithm, close_algorithm, abort_algorithm}
 use Rattle.ws_steps.specs.Jobs.{job_effects}
 use Rattle.ws_steps.specs.Calls.{Begun, begin}
@@ -37,7 +37,7 @@ use Rattle.ws_laws.proofs.Walker as walker
 use Rattle.ws_laws.proofs.Walker.{GoesUntold, performed-goes}
 use Rattle.ws_writable_laws.proofs.Handed.{NoHalf, no-half}
 use Rattle.ws_writable_laws.proofs.Runs.{nothing-writes, is_history, call-was, run-was}
-use Rattle.ws_laws.proofs.Tables.{readable_acts, writable_acts, same_id}
+use Rattle.ws_laws.proofs.Tables.{writable_acts, same_id}
 use Rattle.ws_laws.proofs.Lists.{Each, each-append, each-map}
 use Rattle.ws_laws.proofs.Begin.{IsFirst, Enqueues, Never, begin-first, job-first}
 use Rattle.ws_laws.proofs.Halves.{Halved, halved-stays, halved-empty, step-halved}
@@ -45,9 +45,15 @@ use Rattle.ws_laws.proofs.Rows.{SignalCauses, row-causes}
 use Rattle.ws_laws.proofs.Shapes.{row-owner}
 use Rattle.ws_laws.proofs.TransformDoes.{TransformCauses, transform-causes, transform-does}
 use Rattle.ws_laws.proofs.PipeDoes.{PipeCauses, pipe-causes, pipe-does}
-use Rattle.ws_laws.proofs.ReadableDoes.{readable-does}
 use Rattle.ws_laws.proofs.WritableDoes.{IsHandOn, others-do}
 use Rattle.ws_writable_laws.proofs.Operations.{later_effects}
+use Rattle.ws_steps.specs.Slots.{on_byte}
+use Rattle.ws_steps.specs.Turns.{on_source}
+use Rattle.ws_steps.specs.declared.effects.Effect.TheVariants.{Byte, CloseStepsWith}
+use Rattle.ws_steps.specs.declared.byte.ByteOperation.{ByteOperation}
+use Rattle.ws_steps.specs.Operations.{byte_operation}
+use Rattle.ws_laws.proofs.ReadableDoes.{OfReadable}
+use Rattle.ws_laws.proofs.Rows.{source-out, byte-out, out_of}
 
 -- a way to hear of a host's write and close algorithms: what a call of one tells, and what a history told
 pub record Ear : Type 0 where
@@ -167,19 +173,32 @@ module _ (i : StreamId) (ear : Ear) where
   abbrev Silent : Table → Out → Type 0
   Silent t x = (heard x.promises ≡ heard t) × (of_effects x.effects ≡ [])
 
-  readable-hears : (j : StreamId) (operation : ReadableOperation) (s : Slots)
-      → Hears (Readable j operation) s (on_readable (readable_operation j operation) j s).slots (on_readable (readable_operation j operation) j s).caused
+  of-silent : (j : StreamId) (t : Table) → OfReadable (Silent t) j
+  of-silent j t = record {
+    settle = λ x p o h. (settle-heard p o x.promises ∙ h.0, h.1);
+    pull = λ x h. (h.0, causing (PullAlgorithm j) x refl h.1);
+    cancel = λ x r p h. (h.0, causing (CancelAlgorithm j r p) x refl h.1);
+    chunk = λ x request v h. (h.0, causing (ChunkSteps j request v) x refl h.1);
+    close = λ x request h. (h.0, causing (CloseSteps j request) x refl h.1);
+    error = λ x request e h. (h.0, causing (ErrorSteps j request e) x refl h.1);
+  }
+
+  readable-hears : (j : StreamId) (operation : ReadableOperation) (s : Slots) → Hears (Readable j operation) s (on_source operation j s).slots (on_source operation j s).caused
   readable-hears j operation s =
-      let done : Silent s.promises (readable_operation j operation (readable_acts j s)).out =
-      readable-does (Silent s.promises) j (record {
-        settle = λ x p o h. (settle-heard p o x.promises ∙ h.0, h.1);
-        pull = λ x h. (h.0, causing (PullAlgorithm j) x refl h.1);
-        cancel = λ x r p h. (h.0, causing (CancelAlgorithm j r p) x refl h.1);
-        chunk = λ x request v h. (h.0, causing (ChunkSteps j request v) x refl h.1);
-        close = λ x request h. (h.0, causing (CloseSteps j request) x refl h.1);
-        error = λ x request e h. (h.0, causing (ErrorSteps j request e) x refl h.1);
-      }) operation (readable_acts j s) (refl, refl) in
-      let m = ear.none in grind (arith, none_later, append-nil)
+      let d : Done = on_source operation j s in
+      let done : Silent s.promises (out_of d) = source-out (Silent s.promises) j (of-silent j s.promises) operation s (refl, refl) in
+      let told : heard d.slots.promises ≡ heard s.promises = done.0 in
+      let none : of_effects d.caused ≡ [] = done.1 in
+      let m = ear.none in grind (arith, none_later, append-nil, told, none)
+
+  byte-hears : (j : StreamId) (operation : ByteOperation) (s : Slots) → let d : Done = on_byte (byte_operation j operation) j s in Hears (Byte j operation) s d.slots d.caused
+  byte-hears j operation s =
+      let d : Done = on_byte (byte_operation j operation) j s in
+      let done : Silent s.promises (out_of d) =
+      byte-out (Silent s.promises) j (of-silent j s.promises) (λ x q b h. (h.0, causing (CloseStepsWith j q b) x refl h.1)) operation s (refl, refl) in
+      let told : heard d.slots.promises ≡ heard s.promises = done.0 in
+      let none : of_effects d.caused ≡ [] = done.1 in
+      let m = ear.none in grind (arith, none_later, append-nil, told, none)
 
   others-hear : (j : StreamId) (operation : WritableOperation) (s : Slots) → (IsHandOn operation → ⊥)
       → Hears (Writable j operation) s (on_writable (writable_operation j operation) j s).slots (on_writable (writable_operation j operation) j s).caused
@@ -298,6 +317,7 @@ module _ (i : StreamId) (ear : Ear) where
   row-hears : (e : Effect) (s : Slots) → owner_at i s ≡ Host → HandsToHost e → Hears e s (row e s).slots (row e s).caused
   unfolding row
   row-hears (Readable j operation) s o n = readable-hears j operation s
+  row-hears (Byte j operation) s o n = byte-hears j operation s
   row-hears (Writable j (HandOn taker)) s o n = hand_on-hears j taker s n
   row-hears (Writable j operation) s o n = others-hear j operation s (λ u. u)
   row-hears (Transform t operation) s o n = transform-hears t operation s (slice_get s.transforms t.0)
@@ -311,6 +331,8 @@ module _ (i : StreamId) (ear : Ear) where
   row-hears (ChunkSteps j (PipeRequest p) v) s o n = let m = ear.none in grind (arith, append-nil)
   row-hears (CloseSteps j (Promise p)) s o n = let m = ear.none in grind (arith, append-nil, answer-heard)
   row-hears (CloseSteps j (PipeRequest p)) s o n = let m = ear.none in grind (arith, append-nil)
+  row-hears (CloseStepsWith j (Promise p) b) s o n = let m = ear.none in grind (arith, append-nil, answer-heard)
+  row-hears (CloseStepsWith j (PipeRequest p) b) s o n = let m = ear.none in grind (arith, append-nil)
   row-hears (ErrorSteps j (Promise p) e) s o n = let m = ear.none in grind (arith, append-nil, settle-heard)
   row-hears (ErrorSteps j (PipeRequest p) e) s o n = let m = ear.none in grind (arith, append-nil)
   row-hears (Queue m) s o u = let n = ear.none in grind (arith, append-nil, micro-heard)
@@ -352,6 +374,10 @@ module _ (i : StreamId) (ear : Ear) where
   unfolding row
   row-host (Transform t operation) s apart = transform-host t operation s (slice_get s.transforms t.0) refl apart
   row-host (Readable j operation) s apart = row-causes HandsToHost (Readable j operation) s (record { pull = tt; cancel = λ r p. tt; chunk = λ r v. tt; close = λ r. tt; error = λ r e. tt })
+  row-host (Byte j operation) s apart =
+      row-causes HandsToHost (Byte j operation) s (record { readable = record { pull = tt; cancel = λ r p. tt; chunk = λ r v. tt; close = λ r. tt; error = λ r e. tt }; close_with = λ r b. tt })
+  row-host (CloseStepsWith j (Promise p) b) s apart = tt
+  row-host (CloseStepsWith j (PipeRequest p) b) s apart = (tt, tt)
   row-host (Writable j operation) s apart = row-causes HandsToHost (Writable j operation) s (record { write = tt; close = tt; abort = λ r p. tt; hand_on = λ v. tt; take = λ v t d. tt })
   row-host (Pipe p operation) s apart = row-causes HandsToHost (Pipe p operation) s (pipe-host p)
   row-host (SignalEffect a operation) s apart = row-causes HandsToHost (SignalEffect a operation) s (signal-host operation)

@@ -14,7 +14,7 @@ use Rattle.ws_steps.specs.Promises.{Table, fresh, next_id, next_job, after_next_
 use Rattle.ws_steps.specs.Readable as readable
 use Rattle.ws_steps.specs.Writable as writable
 use Rattle.ws_steps.specs.Writable.{is_closing, is_closed}
-use Rattle.ws_steps.specs.Slots.{Slots, Stream, ReadableStream, WritableStream, empty, owner_at, owner_of, with_promises, readable_at, writable_at, as_writable, no_writable}
+use Rattle.ws_steps.specs.Slots.{Slots, Stream, ReadableStream, WritableStream, empty, owner_at, owner_of, with_promises, writable_at, as_writable, no_writable}
 use Rattle.ws_steps.specs.Jobs.{job_effects}
 use Rattle.ws_steps.specs.Calls.{Begun, begin}
 use Rattle.ws_steps.specs.Calls as calls
@@ -33,6 +33,8 @@ use Rattle.ws_laws.proofs.Weights.{weigh, taken_off, weigh-fresh, weigh-next, we
 use Rattle.ws_writable_laws.proofs.Shape.{one_if, Core, core_of, is_host, Shape, Told, is_start, is_write, is_close, is_abort, leads_to, hands, closes, all, mass, of_reaction, weight}
 use Rattle.ws_writable_laws.proofs.Operations.{Due, handed, Fine, with_effects, so_far, so_far-nothing, writes-nothing}
 use Rattle.ws_writable_laws.proofs.Agenda.{none_behind, among, Unmade, Kept, kept-lighter, massless, Lightens, lightly, same_weight, lightens-fresh, row-kept}
+use Rattle.ws_steps.specs.Slots.{ByteStream, source_at}
+use Rattle.ws_steps.specs.Bytes as byte
 
 -- changes between steps and where one begins
 
@@ -53,6 +55,15 @@ added_other : (i : StreamId) (h : Writes) (s : Slots) (y : Stream) (cs : List Ef
 added_other i h s y cs n m halved k =
     let same = place_before s.streams y i.0 n in
     clear-kept i h s (calls.add_stream y s) cs (λ e. sym same ∙ e) (ap as_writable same) (same_weight s.promises) m halved k
+
+added_bytes : (i : StreamId) (h : Writes) (s : Slots) (b : byte.Slots) (cs : List Effect) (here : Bool) → here ≡ nat_eq i.0 (length s.streams) → all (mass i) cs ≡ 0 → Halved (calls.add_stream (ByteStream b) s) → Kept i h s []
+    → Kept i h (calls.add_stream (ByteStream b) s) cs
+added_bytes i h s b cs false e m halved k = added_other i h s (ByteStream b) cs (unequal_numbers i.0 (length s.streams) (sym e)) m halved k
+added_bytes i h s b cs true e m halved k =
+    let at_end : i.0 ≡ length s.streams = eq_numbers i.0 (length s.streams) (sym e) in
+    let before = no_stream i s.streams at_end in
+    let after : slice_get (s.streams ++ ByteStream b ∷ []) i.0 ≡ Some (ByteStream b) = rw at_end (place_last s.streams (ByteStream b)) in
+    clear-kept i h s (calls.add_stream (ByteStream b) s) cs (λ n. cc) (ap as_writable after ∙ sym (ap as_writable before)) (same_weight s.promises) m halved k
 
 added_readable : (i : StreamId) (h : Writes) (s : Slots) (r : readable.Slots) (cs : List Effect) (here : Bool) → here ≡ nat_eq i.0 (length s.streams) → all (mass i) cs ≡ 0 → Halved (calls.add_stream (ReadableStream r) s) → Kept i h s [] → Kept i h (calls.add_stream (ReadableStream r) s) cs
 added_readable i h s r cs false e m halved k = added_other i h s (ReadableStream r) cs (unequal_numbers i.0 (length s.streams) (sym e)) m halved k
@@ -189,11 +200,19 @@ call-kept i h s c k =
       unchanged = λ reply o. k;
       rejected = λ o. still-kept i h s (with_promises (fresh s.promises) s) _ refl (lightens-fresh s.promises) refl o k;
       make_readable = λ mark size start o. added_readable i h s (readable.set_up Host mark size) _ (nat_eq i.0 (length s.streams)) refl refl o k;
+      make_bytes = λ mark auto start o. added_bytes i h s (byte.set_up mark auto) _ (nat_eq i.0 (length s.streams)) refl refl o k;
+      get_byob = λ j is e o. still-kept i h s _ _ refl (lightens-fresh s.promises) refl o k;
+      release_byob = λ l closed j e o. still-kept i h s _ _ refl (renewed-lightens s.promises (readable.is_readable (source_at j s).state)) (renewed-clear i s.promises (readable.is_readable (source_at j s).state) _ refl) o k;
+      read_into = λ l j closed room element least e f o. still-kept i h s _ _ refl (lightens-fresh s.promises) refl o k;
+      enqueue_bytes = λ j b e is some can o. still-kept i h s s _ refl (same_weight s.promises) refl o k;
+      finish_bytes = λ j e is can o. still-kept i h s s _ refl (same_weight s.promises) refl o k;
+      make_request = λ j reply is o. still-kept i h s _ _ refl (same_weight s.promises) refl o k;
+      respond = λ q j b e is can o. still-kept i h s s _ refl (same_weight s.promises) refl o k;
       make_writable = λ mark size start o. added_writable i (record { 0 = length s.streams }) mark size start h s (is_same i (record { 0 = length s.streams })) refl refl o k;
       make_transform = λ kind m n start o. transform-kept i h kind m n start s (nat_eq i.0 (length s.streams)) (nat_eq i.0 (length (s.streams ++ First i h kind m n start s ∷ []))) refl refl o k;
       get_reader = λ j e o. still-kept i h s _ _ refl (lightens-fresh s.promises) refl o k;
       get_writer = λ j e o. still-kept i h s _ _ refl (lightly s.promises (fresh s.promises) (fresh (fresh s.promises)) (lightens-fresh s.promises) (lightens-fresh (fresh s.promises))) refl o k;
-      release_reader = λ l closed j e o. still-kept i h s _ _ refl (renewed-lightens s.promises (readable.is_readable (readable_at j s).state)) (renewed-clear i s.promises (readable.is_readable (readable_at j s).state) _ refl) o k;
+      release_reader = λ l closed j e o. still-kept i h s _ _ refl (renewed-lightens s.promises (readable.is_readable (source_at j s).state)) (renewed-clear i s.promises (readable.is_readable (source_at j s).state) _ refl) o k;
       release_writer = λ l j w e f o.
           let ready : Bool = is_pending_at w.ready s.promises in
           let t : Table = calls.with_renewed s.promises ready in
@@ -285,6 +304,7 @@ run-kept entries i = walker.run-holds no_writes writes_then is_history (effect_w
 hosted-owner : (o : Option Stream) → owner_of o ≡ Host → is_host (as_writable o).owner ≡ true
 hosted-owner None e = refl
 hosted-owner (Some (ReadableStream r)) e = refl
+hosted-owner (Some (ByteStream b)) e = refl
 hosted-owner (Some (WritableStream w)) e = rw e refl
 
 pub hosted_at : (i : StreamId) (s : Slots) → owner_at i s ≡ Host → (core_of (writable_at i s)).hosted ≡ true
@@ -306,6 +326,14 @@ call-was i first s c k = each_call (λ (b : Begun). WasHost i first b.done.slots
   unchanged = λ reply. k;
   rejected = k;
   make_readable = λ mark size start o. k (before s (ReadableStream (readable.set_up Host mark size)) i (slice_get s.streams i.0) refl o);
+  make_bytes = λ mark auto start o. k (before s (ByteStream (byte.set_up mark auto)) i (slice_get s.streams i.0) refl o);
+  get_byob = λ j is e. k;
+  release_byob = λ l closed j e. k;
+  read_into = λ l j closed room element least e f. k;
+  enqueue_bytes = λ j b e is some can. k;
+  finish_bytes = λ j e is can. k;
+  make_request = λ j reply is. k;
+  respond = λ q j b e is can. k;
   make_writable = λ mark size start o. k (before s (WritableStream (writable.set_up Host mark size)) i (slice_get s.streams i.0) refl o);
   make_transform = λ kind m n start o.
       let w : Stream = WritableStream (writable.set_up (HalfOf (record { 0 = length s.transforms })) m Count) in

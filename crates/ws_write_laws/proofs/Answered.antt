@@ -32,6 +32,8 @@ use Rattle.ws_laws.proofs.Rows.{row-causes}
 use Rattle.ws_laws.proofs.EachCall.{each_call}
 use Rattle.ws_laws.proofs.Walker.{IsHistory, performed-goes}
 use Rattle.ws_write_laws.proofs.Piped.{Quiet, quiet-causes, row-quiet}
+use Rattle.ws_steps.specs.Slots.{ByteStream}
+use Rattle.ws_steps.specs.declared.locks.Lock.TheVariants.{ByobReader}
 
 -- what is written to a stream and with which promises, and what pipes write to it and with which promises
 record Said : Type 0 where
@@ -252,6 +254,7 @@ promised_is (v ∷ vs) p = refl
 absent : (v : Value) (o : Option Stream) → is_writable_stream o ≡ false → written_by v (as_writable o) ≡ []
 absent v None e = refl
 absent v (Some (ReadableStream r)) e = refl
+absent v (Some (ByteStream b)) e = refl
 absent v (Some (WritableStream w)) e = cc
 
 abbrev Begins : StreamId → List Value → Begun → Type 0
@@ -269,6 +272,7 @@ appended i j v s =
 write-begins : (i : StreamId) (v : Value) (s : Slots) (o : Option Lock) → Begins i (written_with i v s o) (by_writer (calls.write v) calls.rejected s o)
 write-begins i v s None = none-begins i [] (unsupported s) refl tt
 write-begins i v s (Some (Reader stream closed)) = none-begins i [] (unsupported s) refl tt
+write-begins i v s (Some (ByobReader stream closed)) = none-begins i [] (unsupported s) refl tt
 write-begins i v s (Some (Writer j)) =
     let vs : List Value = if is_same i j then written_by v (writable_at j s) else [] in
     either (Begins i vs) (has_writable j s) (calls.write v j s) (unsupported s)

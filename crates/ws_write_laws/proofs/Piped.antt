@@ -19,6 +19,7 @@ use Rattle.std.proofs.Common.{slice_get}
 use Rattle.ws_laws.proofs.Lists.{Each, each-append}
 use Rattle.ws_laws.proofs.TransformDoes.{TransformCauses}
 use Rattle.ws_laws.proofs.Rows.{Causes, ChunkCauses, EndCauses, SignalCauses, row-causes}
+use Rattle.ws_steps.specs.declared.effects.Effect.TheVariants.{Byte, CloseStepsWith}
 
 -- effects that neither write nor have a pipe write
 abbrev pub Quiet : Effect → Type 0
@@ -103,6 +104,7 @@ transform-quiet t writable readable _ c = tt
 
 pub quiet-causes : (e : Effect) → IsNoPipe e → Causes Quiet e
 quiet-causes (Readable j operation) n = record { pull = tt; cancel = λ r p. tt; chunk = λ r v. tt; close = λ r. tt; error = λ r e. tt }
+quiet-causes (Byte j operation) n = record { readable = record { pull = tt; cancel = λ r p. tt; chunk = λ r v. tt; close = λ r. tt; error = λ r e. tt }; close_with = λ r b. tt }
 quiet-causes (Writable j operation) n = record { write = tt; close = tt; abort = λ r p. tt; hand_on = λ v. tt; take = λ v t d. tt }
 quiet-causes (Pipe p operation) n = absurd n
 quiet-causes (Signal a operation) n = signal_quiet operation
@@ -115,6 +117,7 @@ quiet-causes (CloseAlgorithm j) n = (λ c u. tt, λ t u. tt)
 quiet-causes (AbortAlgorithm j r p) n = (λ c u. tt, λ t u. tt)
 quiet-causes (ChunkSteps j request v) n = chunk-quiet v request
 quiet-causes (CloseSteps j request) n = end-quiet request
+quiet-causes (CloseStepsWith j request b) n = end-quiet request
 quiet-causes (ErrorSteps j request e) n = end-quiet request
 quiet-causes _ n = tt
 

@@ -33,6 +33,8 @@ use Rattle.ws_promise_laws.proofs.Runs.{none_goes_astray}
 use Rattle.ws_laws.proofs.Straight.{straight_before}
 use Rattle.ws_write_laws.proofs.Lines.{line}
 use Rattle.ws_write_laws.proofs.Lined.{Lined, lined-later, Knows, operation-lined, none_left}
+use Rattle.ws_steps.specs.Slots.{ByteStream}
+use Rattle.ws_steps.specs.Bytes as byte
 
 -- what is known where an operation stands at the front of the agenda
 knows : (i : StreamId) (h : Writes) (operation : WritableOperation) (es : List Effect) (s : Slots) → Kept i h s (Writable i operation ∷ es) → Knows h operation (writable_at i s)
@@ -201,6 +203,8 @@ call-lined i h c s l =
       pipe = λ z source dest prevent signal promise m. m;
       signal = λ z m. m;
       transform = λ z kind half other change m. m;
+      bytes = λ z mark auto m. added i h z (ByteStream (byte.set_up mark auto)) refl refl m;
+      byob_requests = λ z hosts m. m;
       readable = λ z owner mark size m. added i h z (ReadableStream (readable.set_up owner mark size)) refl refl m;
       writable = λ z owner mark size m. added i h z (WritableStream (writable.set_up owner mark size)) refl refl m;
     }) c s l

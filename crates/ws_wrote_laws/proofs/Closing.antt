@@ -5,17 +5,16 @@ use Rattle.ws_steps.specs.declared.calls.{Call.{Call}, Reply.{Reply}, Reply.TheV
 use Rattle.ws_steps.specs.declared.effects.{Effect.{Effect}, Owner.TheVariants.{Host}}
 use Rattle.ws_steps.specs.declared.pipes.{Phase.TheVariants.{Flowing}}
 use Rattle.ws_steps.specs.declared.promises.Job.{Job}
-use Rattle.ws_steps.specs.declared.readable.{ReadableOperation.{ReadableOperation}, ReadableState.{ReadableState}, ReadableState.TheVariants.{Readable, Closed, Errored}, SizeBy.TheVariants.{Count}}
+use Rattle.ws_steps.specs.declared.readable.{ReadableState.{ReadableState}, ReadableState.TheVariants.{Readable, Closed, Errored}, SizeBy.TheVariants.{Count}}
 use Rattle.ws_steps.specs.Calls.{Begun, begin, named}
 use Rattle.ws_steps.specs.Histories.{along}
 use Rattle.ws_steps.specs.Jobs.{job_effects, job_begun, begin_job}
-use Rattle.ws_steps.specs.Operations.{readable_operation}
 use Rattle.ws_steps.specs.Pipes as pipe
 use Rattle.ws_steps.specs.Promises.{next_job}
 use Rattle.ws_steps.specs.Readable as readable
 use Rattle.ws_steps.specs.Readable.{is_readable, call_pull_if_needed, accept, controller_enqueue, stream_close, stream_error, close_if_empty, controller_close, controller_error, after_take, pull_steps, default_reader_read, reader_generic_initialize, disturb, cancel_if_readable, start_settled, pull_settled, cancel_steps, stream_cancel, reader_release}
 use Rattle.ws_steps.specs.Run.{Entry, Called, Worked, Heard, run, step}
-use Rattle.ws_steps.specs.Slots.{Slots, ReadableStream, Done, nothing, empty, as_pipe, pipe_at, readable_at}
+use Rattle.ws_steps.specs.Slots.{Slots, has_source, Done, nothing, empty, as_pipe, pipe_at, source_at}
 use Rattle.ws_steps.specs.Turns.{Moment, row, moments, performed}
 use Rattle.ws_laws.proofs.Begin.{begin-makes}
 use Rattle.ws_laws.proofs.EachCall.{each_call}
@@ -32,9 +31,9 @@ use Rattle.ws_lock_laws.specs.Locks.{Reading}
 use Rattle.ws_lock_laws.proofs.Owning.{each_pipe_owns_its_ends}
 use Rattle.ws_wrote_laws.specs.WroteLaws.{EachPipeWithoutAnErrorPassedAll}
 use Rattle.ws_wrote_laws.proofs.Fronts.{pipe_there, over-operation, run-append}
-use Rattle.ws_wrote_laws.proofs.Keeping.{IsReadable, pipe-kept, readable-kept, row-stands}
+use Rattle.ws_wrote_laws.proofs.Keeping.{pipe-kept, row-stands}
 use Rattle.ws_wrote_laws.proofs.Looking.{IsNoLook, Front, Agenda, row-agenda, Sure, row-sure, job-front}
-use Rattle.ws_wrote_laws.proofs.Sources.{source_there, each_ended_source_is_passed_on}
+use Rattle.ws_wrote_laws.proofs.Sources.{source_there, closed-kept, each_ended_source_is_passed_on}
 
 pub all_moments-append : (P : Moment → Type 0) (ms : List Moment) (m : Moment) → AllMoments P ms → P m → AllMoments P (ms ++ m ∷ [])
 all_moments-append P [] m a q = (q, tt)
@@ -74,7 +73,7 @@ module _ (p : PipeId) (i : StreamId) (r : readable.Slots) (C : Type 0) (closed :
   done-sure : (d : Done) → SureAt d.slots → EachWaits d.slots d.caused → Agenda p i C d.slots d.caused → Ends d
   done-sure d k w g = let e = performed-goes [] ◌++◌ moments_history effect_moment Is row-is [] d (tt, (k, (w, g))) in (e.0, e.1.0)
 
-  job-sure : (s : Slots) (job : Option Job) → job ≡ next_job s.promises → EachWaits s [] → readable_at i s ≡ r → SureAt s → Ends (job_begun s job)
+  job-sure : (s : Slots) (job : Option Job) → job ≡ next_job s.promises → EachWaits s [] → source_at i s ≡ r → SureAt s → Ends (job_begun s job)
   job-sure s None e w same k = done-sure (nothing s) k w (inl tt)
   job-sure s (Some job) e w same k =
       done-sure (job_begun s (Some job)) k (waits-stays.job s job (sym e) w)
@@ -93,7 +92,7 @@ module _ (p : PipeId) (i : StreamId) (r : readable.Slots) (C : Type 0) (closed :
   none-stepped : (s : Slots) → AllMoments SureAfter (along [] ◌++◌ effect_moment (moments (nothing s)))
   none-stepped s = subst (AllMoments SureAfter) (sym (nothing-told [] ◌++◌ moments_history effect_moment s)) tt
 
-  pub other-sure : (s : Slots) (x : Entry) → ((c : Call) → x ≡ Called c → ⊥) → EachWaits s [] → readable_at i s ≡ r → SureAt s → Stepped s x
+  pub other-sure : (s : Slots) (x : Entry) → ((c : Call) → x ≡ Called c → ⊥) → EachWaits s [] → source_at i s ≡ r → SureAt s → Stepped s x
   unfolding begin_job
   other-sure s (Called c) n w same k = absurd (n c refl)
   other-sure s Worked n w same k = job-sure s (next_job s.promises) refl w same k
@@ -111,21 +110,19 @@ module _ (p : PipeId) (i : StreamId) (r : readable.Slots) (C : Type 0) (closed :
             ⊎_elim (λ (f : slice_get (z.pipes ++ y ∷ []) p.0 ≡ slice_get z.pipes p.0). f ∙ k) (λ (f : (slice_get z.pipes p.0 ≡ None) × (slice_get (z.pipes ++ y ∷ []) p.0 ≡ Some y)). absurd (cc)) (appended z.pipes y p.0);
         signal = λ z k. k;
         transform = λ z kind i j change k. k;
+        bytes = λ z mark auto k. k;
+        byob_requests = λ z hs k. k;
         readable = λ z owner mark size k. k;
         writable = λ z owner mark size k. k;
       }) c s e in
       subst (Sure p i C) (sym m) k
 
-  pub there-sure : (s : Slots) (y : Entry) (x : pipe.Slots) → slice_get s.pipes p.0 ≡ Some x → EachWaits s [] → readable_at i s ≡ r → Sure p i C (Some x) → Stepped s y
+  pub there-sure : (s : Slots) (y : Entry) (x : pipe.Slots) → slice_get s.pipes p.0 ≡ Some x → EachWaits s [] → source_at i s ≡ r → Sure p i C (Some x) → Stepped s y
   there-sure s (Called c) x e w same k = call-sure s c w (begins-sure c s x e k)
   there-sure s Worked x e w same k = other-sure s Worked (λ c f. cc) w same (subst (Sure p i C) (sym e) k)
   there-sure s Heard x e w same k = other-sure s Heard (λ c f. cc) w same (subst (Sure p i C) (sym e) k)
 
 -- runs
-
-closed-operation : (i : StreamId) (operation : ReadableOperation) (a : readable.Acts) → has_closed a.slots.state ≡ true → has_closed (readable_operation i operation a).slots.state ≡ true
-unfolding call_pull_if_needed accept controller_enqueue stream_close stream_error close_if_empty controller_close controller_error after_take pull_steps default_reader_read reader_generic_initialize disturb cancel_if_readable start_settled pull_settled cancel_steps stream_cancel reader_release
-closed-operation i operation a e = grind (arith, e)
 
 closed_ended : (s : ReadableState) → has_closed s ≡ true → is_readable s ≡ false
 closed_ended Readable e = cc
@@ -156,6 +153,8 @@ module _ (p : PipeId) where
         (λ (f : (slice_get z.pipes p.0 ≡ None) × (slice_get (z.pipes ++ y ∷ []) p.0 ≡ Some y)). subst Fresh (sym f.1) refl) (appended z.pipes y p.0);
     signal = λ z k. k;
     transform = λ z kind i j change k. k;
+    bytes = λ z mark auto k. k;
+    byob_requests = λ z hs k. k;
     readable = λ z owner mark size k. k;
     writable = λ z owner mark size k. k;
   }) c s (subst Fresh (sym e) tt)
@@ -165,19 +164,17 @@ module _ (p : PipeId) where
   fresh_sure (Some x) f = (refl, inl f)
 
   abbrev Closes : Slots → pipe.Slots → Type 0
-  Closes s x = (x.phase ≡ Flowing) ⊎ (x.error ≡ None → has_closed (readable_at x.source s).state ≡ true)
+  Closes s x = (x.phase ≡ Flowing) ⊎ (x.error ≡ None → has_closed (source_at x.source s).state ≡ true)
 
   abbrev Whole : Slots → Type 0
   Whole s = (x : pipe.Slots) → slice_get s.pipes p.0 ≡ Some x → is_over x.phase ≡ false → Closes s x
 
-  stands : (before : List Entry) (x : pipe.Slots) → let s : Slots = run before empty in slice_get s.pipes p.0 ≡ Some x → is_over x.phase ≡ false → IsReadable x.source (λ r. Unit {0}) s
+  stands : (before : List Entry) (x : pipe.Slots) → let s : Slots = run before empty in slice_get s.pipes p.0 ≡ Some x → is_over x.phase ≡ false → has_source x.source s ≡ true
   stands before x e over =
       let s : Slots = run before empty in
-      let is : pipe_at p s ≡ x = ap as_pipe e in (
-        subst (λ (y : pipe.Slots). is_over y.phase ≡ false → (slice_get s.streams y.source.0) ≡ Some (ReadableStream (readable_at y.source s))) is
-            (λ o. source_there (slice_get s.streams (pipe_at p s).source.0) ((each_pipe_owns_its_ends before p o).locked Reading)) over,
-        tt,
-      )
+      let is : pipe_at p s ≡ x = ap as_pipe e in
+      subst (λ (y : pipe.Slots). is_over y.phase ≡ false → has_source y.source s ≡ true) is
+      (λ o. source_there (slice_get s.streams (pipe_at p s).source.0) ((each_pipe_owns_its_ends before p o).locked Reading)) over
 
   -- it was not over before a step
   not_over : (s : Slots) (y : Entry) (x z : pipe.Slots) → slice_get s.pipes p.0 ≡ Some x → slice_get (step s y).pipes p.0 ≡ Some z → is_over z.phase ≡ false → is_over x.phase ≡ false
@@ -194,12 +191,12 @@ module _ (p : PipeId) where
       let s : Slots = run before empty in
       let i : StreamId = x.source in
       let own : is_over x.phase ≡ false = not_over s y x z e f over in
-      let k = there-sure p i (readable_at i s) (has_closed (readable_at i s).state ≡ true) (λ c. c) s y x e (waits-run before) refl (refl, h x e own) in
-      let after : (z.source ≡ i) × ((z.phase ≡ Flowing) ⊎ (z.error ≡ None → has_closed (readable_at i s).state ≡ true)) = subst (Sure p i (has_closed (readable_at i s).state ≡ true)) f k.1 in
+      let k = there-sure p i (source_at i s) (has_closed (source_at i s).state ≡ true) (λ c. c) s y x e (waits-run before) refl (refl, h x e own) in
+      let after : (z.source ≡ i) × ((z.phase ≡ Flowing) ⊎ (z.error ≡ None → has_closed (source_at i s).state ≡ true)) = subst (Sure p i (has_closed (source_at i s).state ≡ true)) f k.1 in
       ⊎_elim (λ (g : z.phase ≡ Flowing). inl g)
-      (λ (g : z.error ≡ None → has_closed (readable_at i s).state ≡ true). inr (λ n.
-      let c = readable-kept i (λ r. has_closed r.state ≡ true) (closed-operation i) (y ∷ []) s ((stands before x e own).0, g n) in
-      subst (λ (j : StreamId). has_closed (readable_at j (step s y)).state ≡ true) (sym after.0) c.1)) after.1
+      (λ (g : z.error ≡ None → has_closed (source_at i s).state ≡ true). inr (λ n.
+      let c = closed-kept i before y (stands before x e own) (g n) in
+      subst (λ (j : StreamId). has_closed (source_at j (step s y)).state ≡ true) (sym after.0) c)) after.1
 
   call-whole : (before : List Entry) (c : Call) → let s : Slots = run before empty in slice_get s.pipes p.0 ≡ None → Whole (step s (Called c))
   call-whole before c e z f over =
@@ -214,7 +211,7 @@ module _ (p : PipeId) where
   source_is : (before : List Entry) (y : Entry) (i : StreamId) (z : pipe.Slots) → let s : Slots = run before empty in slice_get s.pipes p.0 ≡ None → ((c : Call) → y ≡ Called c → ⊥) → slice_get (step s y).pipes p.0 ≡ Some z → z.source ≡ i
   source_is before y i z e n f =
       let s : Slots = run before empty in
-      let k = other-sure p i (readable_at i s) (Unit {0}) (λ c. tt) s y n (waits-run before) refl (subst (Sure p i (Unit {0})) (sym e) tt) in
+      let k = other-sure p i (source_at i s) (Unit {0}) (λ c. tt) s y n (waits-run before) refl (subst (Sure p i (Unit {0})) (sym e) tt) in
       let after : (z.source ≡ i) × ((z.phase ≡ Flowing) ⊎ (z.error ≡ None → Unit {0})) = subst (Sure p i (Unit {0})) f k.1 in
       after.0
 
@@ -255,7 +252,7 @@ each_pipe_without_an_error_passed_all before after x p ms ns m over split begins
     let s : Slots = run before empty in
     let y : pipe.Slots = pipe_at p s in
     let i : StreamId = y.source in
-    let r : readable.Slots = readable_at i s in
+    let r : readable.Slots = source_at i s in
     let e : slice_get s.pipes p.0 ≡ Some y = pipe_there (slice_get s.pipes p.0) over in
     let k = there-sure p i r (has_closed r.state ≡ true) (λ c. c) s x y e (waits-run before) refl (refl, run-whole p before y e over) in
     let at = all_moments-at (SureAfter p i r (has_closed r.state ≡ true) (λ c. c)) ms ns m (subst (AllMoments (SureAfter p i r (has_closed r.state ≡ true) (λ c. c))) split k.0) in

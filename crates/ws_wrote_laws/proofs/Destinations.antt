@@ -5,7 +5,7 @@ use Rattle.ws_value.specs.declared.value.{Plain.{Plain}, Value.{Value}}
 use Rattle.ws_steps.specs.declared.calls.{Call.{Call}, Call.TheVariants.{Write as WriteCall}}
 use Rattle.ws_steps.specs.declared.effects.Effect.{Effect}
 use Rattle.ws_steps.specs.declared.effects.Effect.TheVariants.{Readable as OnReadable, Writable as OnWritable, Pipe as OnPipe, Signal as OnSignal, Transform as OnTransform, StartAlgorithm, PullAlgorithm, CancelAlgorithm, WriteAlgorithm, CloseAlgorithm, AbortAlgorithm, ChunkSteps, CloseSteps, ErrorSteps}
-use Rattle.ws_steps.specs.declared.{locks.Lock.{Lock}, locks.Lock.TheVariants.{Reader, Writer, ReleasedWriter, Inner}}
+use Rattle.ws_steps.specs.declared.{locks.Lock.{Lock}, locks.Lock.TheVariants.{Reader, Writer, ReleasedWriter, Inner, ByobReader}}
 use Rattle.ws_steps.specs.declared.pipes.{Phase.{Phase}, Phase.TheVariants.{Over}, PipeOperation.TheVariants.{WriteChunk, GoOn}, SignalOperation.{SignalOperation}, SignalOperation.TheVariants.{Add, Forget, Trigger}}
 use Rattle.ws_steps.specs.declared.promises.{Job.{Job}, Job.TheVariants.{Reaction as ReactionJob, Follow, Settle as SettleJob, Micro as MicroJob}, Micro.TheVariants.{PipeLook, PipeWrite, PipeNoParts}, Step.{Step}}
 use Rattle.ws_steps.specs.declared.readable.{ReadRequest.{ReadRequest}, ReadRequest.TheVariants.{Promise, Pipe as PipeRequest}}
@@ -37,6 +37,7 @@ use Rattle.ws_lock_laws.specs.Locks.{Writing}
 use Rattle.ws_lock_laws.specs.LockLaws.{Owns}
 use Rattle.ws_lock_laws.proofs.Owning.{each_pipe_owns_its_ends, no_two_pipes_share_an_end}
 use Rattle.ws_wrote_laws.specs.WroteLaws.{EachDestinationIsItsPipes}
+use Rattle.ws_steps.specs.declared.effects.Effect.TheVariants.{Byte, CloseStepsWith}
 
 -- what is written in a step is what its call writes, and then what pipes write
 
@@ -92,6 +93,7 @@ transform-none t writable readable _ c = tt
 
 none-causes : (e : Effect) → Causes IsNoWrite e
 none-causes (OnReadable j operation) = record { pull = tt; cancel = λ r q. tt; chunk = λ r v. tt; close = λ r. tt; error = λ r e. tt }
+none-causes (Byte j operation) = record { readable = record { pull = tt; cancel = λ r q. tt; chunk = λ r v. tt; close = λ r. tt; error = λ r e. tt }; close_with = λ r b. tt }
 none-causes (OnWritable j operation) = record { write = tt; close = tt; abort = λ r q. tt; hand_on = λ v. tt; take = λ v t d. tt }
 none-causes (OnPipe q operation) = pipe-none q
 none-causes (OnSignal a operation) = signal-none operation
@@ -104,6 +106,7 @@ none-causes (CloseAlgorithm j) = (λ c u. tt, λ t u. tt)
 none-causes (AbortAlgorithm j r q) = (λ c u. tt, λ t u. tt)
 none-causes (ChunkSteps j request v) = chunk-none v request
 none-causes (CloseSteps j request) = end-none request
+none-causes (CloseStepsWith j request b) = end-none request
 none-causes (ErrorSteps j request e) = end-none request
 none-causes _ = tt
 
@@ -175,6 +178,7 @@ module _ (entries : List Entry) (p : PipeId) (over : is_over (pipe_at p (run ent
   with_none : (v : Value) (l : LockId) (o : Option Lock) → lock_at l s ≡ o → written_with i v s o ≡ []
   with_none v l None e = refl
   with_none v l (Some (Reader stream closed)) e = refl
+  with_none v l (Some (ByobReader stream closed)) e = refl
   with_none v l (Some (Writer j)) e = rw (apart i j (λ f. owns.no_writer l (e ∙ ap (λ (k : StreamId). Some (Writer k)) (sym f)))) refl
   with_none v l (Some (ReleasedWriter closed)) e = refl
   with_none v l (Some Inner) e = refl

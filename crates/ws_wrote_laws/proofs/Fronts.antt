@@ -11,7 +11,7 @@ use Rattle.ws_steps.specs.Operations.{writable_operation, pipe_operation}
 use Rattle.ws_steps.specs.Pipes as pipe
 use Rattle.ws_steps.specs.Promises.{Table}
 use Rattle.ws_steps.specs.Run.{Entry, run, step}
-use Rattle.ws_steps.specs.Slots.{Slots, Stream, ReadableStream, WritableStream, empty, as_pipe, pipe_at, as_writable, writable_at, owner_at}
+use Rattle.ws_steps.specs.Slots.{Slots, Stream, ReadableStream, ByteStream, WritableStream, empty, as_pipe, pipe_at, as_writable, writable_at, owner_at}
 use Rattle.ws_steps.specs.Writable as writable
 use Rattle.ws_steps.specs.Writable.{has_ended, set_up_writer, writer_release, writer_write, stream_close, close_with_error_propagation, stream_abort, abort_if_writable, controller_error_if_needed, hand_on, start_settled, write_settled, close_settled, abort_settled, finish_in_flight_close, finish_in_flight_close_with_error, deal_with_rejection, finish_erroring, advance_queue, refresh_backpressure, update_backpressure, reject_close_and_closed, process_write, process_close, start_erroring, controller_write, controller_close}
 use Rattle.ws_steps.specs.WritableHistory.{Writes, written_unless, no_writes, writes_then, todo, step_writes, run_writes}
@@ -121,6 +121,7 @@ pipe_there (Some x) e = refl
 pub stream_there : (o : Option Stream) → has_lock Writing o ≡ true → o ≡ Some (WritableStream (as_writable o))
 stream_there None e = cc
 stream_there (Some (ReadableStream r)) e = cc
+stream_there (Some (ByteStream b)) e = cc
 stream_there (Some (WritableStream w)) e = refl
 
 -- lists

@@ -12,7 +12,7 @@ use Rattle.ws_steps.specs.Operations.{pipe_operation}
 use Rattle.ws_steps.specs.Pipes as pipe
 use Rattle.ws_steps.specs.Promises.{Table, next_job}
 use Rattle.ws_steps.specs.Run.{Entry, Called, Worked, Heard, run, step}
-use Rattle.ws_steps.specs.Slots.{Slots, Done, nothing, empty, ends_at, as_pipe, pipe_at, readable_at, on_pipe_at}
+use Rattle.ws_steps.specs.Slots.{Slots, Done, nothing, empty, ends_at, as_pipe, pipe_at, source_at, on_pipe_at}
 use Rattle.ws_steps.specs.Turns.{Moment, row, moments}
 use Rattle.ws_steps.proofs.PromiseLaws.{slice_get-set_other}
 use Rattle.ws_laws.proofs.Begin.{begin-makes}
@@ -133,6 +133,8 @@ module _ (p : PipeId) where
         (λ (f : (slice_get z.pipes p.0 ≡ None) × (slice_get (z.pipes ++ y ∷ []) p.0 ≡ Some y)). subst (Known h) (sym f.1) (inl refl)) (appended z.pipes y p.0);
     signal = λ z k. k;
     transform = λ z kind i j change k. k;
+    bytes = λ z mark auto k. k;
+    byob_requests = λ z hs k. k;
     readable = λ z owner mark size k. k;
     writable = λ z owner mark size k. k;
   }) c s k
@@ -245,9 +247,9 @@ module _ (p : PipeId) where
         let sure : (z.source ≡ i) × ((z.phase ≡ Flowing) ⊎ (z.error ≡ None → ⊥)) = subst (Sure p i ⊥) l.1.0 at in
         ⊎_elim (λ (g : z.phase ≡ Flowing). false_true (is_live z.phase) (ap is_live g) l.1.1.0) (λ (g : z.error ≡ None → ⊥). g l.1.1.1) sure.1
 
-    source_at : (i : StreamId) → slice_get s.pipes p.0 ≡ None → ((c : Call) → x ≡ Called c → ⊥) → step_moments s x ≡ first ++ m ∷ rest → (left m a).0.source ≡ i
-    source_at i e n split =
-        let r = readable_at i s in
+    source_is : (i : StreamId) → slice_get s.pipes p.0 ≡ None → ((c : Call) → x ≡ Called c → ⊥) → step_moments s x ≡ first ++ m ∷ rest → (left m a).0.source ≡ i
+    source_is i e n split =
+        let r = source_at i s in
         let k = other-sure p i r (Unit {0}) (λ c. tt) s x n (waits-run before) refl (subst (Sure p i (Unit {0})) (sym e) tt) in
         let at = all_moments-at (SureAfter p i r (Unit {0}) (λ c. tt)) first rest m (subst (AllMoments (SureAfter p i r (Unit {0}) (λ c. tt))) split k.0) in
         let l = left m a in
@@ -257,8 +259,8 @@ module _ (p : PipeId) where
 
     not_made : slice_get s.pipes p.0 ≡ None → ((c : Call) → x ≡ Called c → ⊥) → step_moments s x ≡ first ++ m ∷ rest → ⊥
     not_made e n split =
-        let f = ap (λ (j : StreamId). j.0) (source_at (record { 0 = 0 }) e n split) in
-        let g = ap (λ (j : StreamId). j.0) (source_at (record { 0 = 1 }) e n split) in
+        let f = ap (λ (j : StreamId). j.0) (source_is (record { 0 = 0 }) e n split) in
+        let g = ap (λ (j : StreamId). j.0) (source_is (record { 0 = 1 }) e n split) in
         absurd (omega (arith, f, g))
 
     over_none : (y : pipe.Slots) → slice_get s.pipes p.0 ≡ Some y → is_over y.phase ≡ true → step_moments s x ≡ first ++ m ∷ rest → ⊥

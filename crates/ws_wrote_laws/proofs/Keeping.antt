@@ -14,7 +14,7 @@ use Rattle.ws_steps.specs.Pipes as pipe
 use Rattle.ws_steps.specs.Promises.{Table}
 use Rattle.ws_steps.specs.Readable as readable
 use Rattle.ws_steps.specs.Run.{Entry, run}
-use Rattle.ws_steps.specs.Slots.{Slots, Stream, ReadableStream, WritableStream, empty, ends_at, as_pipe, pipe_at, on_pipe_at, on_readable, on_writable, has_readable, has_writable, writable_at, as_writable, as_readable, readable_at, is_readable_stream, is_writable_stream}
+use Rattle.ws_steps.specs.Slots.{Slots, Stream, ReadableStream, WritableStream, empty, ends_at, as_pipe, pipe_at, on_pipe_at, on_writable, has_readable, has_writable, writable_at, as_writable, as_readable, readable_at, is_readable_stream, is_writable_stream}
 use Rattle.ws_steps.specs.Turns.{row}
 use Rattle.ws_steps.specs.Writable as writable
 use Rattle.ws_steps.specs.Writable.{has_ended}
@@ -22,7 +22,7 @@ use Rattle.ws_steps.specs.WritableHistory.{Writes, no_writes, writes_then, effec
 use Rattle.ws_steps.proofs.PromiseLaws.{slice_get-set_other}
 use Rattle.ws_laws.proofs.Begin.{begin-makes}
 use Rattle.ws_laws.proofs.Rows.{row-pipes, row-streams}
-use Rattle.ws_laws.proofs.Tables.{eq_numbers, unequal_numbers, same_id, readable_acts, writable_acts, on_readable-other, on_readable-same, on_writable-other, on_writable-same}
+use Rattle.ws_laws.proofs.Tables.{eq_numbers, unequal_numbers, same_id, readable_acts, writable_acts, on_readable-same, on_writable-other, on_writable-same}
 use Rattle.ws_laws.proofs.Walker.{Stays, GoesUntold, RestsUntold, run-stays, run-goes_untold}
 use Rattle.ws_writable_laws.proofs.Agenda.{Kept}
 use Rattle.ws_writable_laws.proofs.Expects.{Marked, write-expects, start-expects, write_settled-expects, close_settled-expects, abort_settled-expects}
@@ -30,6 +30,12 @@ use Rattle.ws_writable_laws.proofs.Runs as writes
 use Rattle.ws_writable_laws.proofs.Runs.{run-kept}
 use Rattle.ws_pipe_laws.specs.PipeMoves.{starting}
 use Rattle.ws_pipe_laws.proofs.PassingRuns.{place_same, appended}
+use Rattle.ws_steps.specs.Slots.{has_byte, on_byte, is_byte_stream, Done}
+use Rattle.ws_steps.specs.Turns.{on_source}
+use Rattle.ws_steps.specs.declared.effects.Effect.TheVariants.{Byte}
+use Rattle.ws_steps.specs.declared.byte.ByteOperation.{ByteOperation}
+use Rattle.ws_steps.specs.Operations.{byte_operation}
+use Rattle.ws_laws.proofs.Tables.{on_source-other, on_source-readable, on_byte-other}
 
 -- a pipe
 
@@ -89,6 +95,8 @@ module _ (p : PipeId) (P : pipe.Slots → Type 0) (keeps : (ends : Ends) (operat
     pipe = λ z source dest prevent signal promise k. made z.pipes (pipe.set_up source dest prevent signal promise) k;
     signal = λ z k. k;
     transform = λ z kind i j change k. k;
+    bytes = λ z mark auto k. k;
+    byob_requests = λ z hs k. k;
     readable = λ z owner mark size k. k;
     writable = λ z owner mark size k. k;
   }) c s k
@@ -147,13 +155,22 @@ module _ (i : StreamId) (W : writable.Slots → Type 0) (keeps : (operation : Wr
   elsewhere s z e k = record { slots = k.slots; there = e ∙ k.there; is = k.is }
 
   -- no operation of a readable stream finds it
-  own_readable : (operation : ReadableOperation) (s : Slots) → Among s.streams → Among (on_readable (readable_operation i operation) i s).slots.streams
-  own_readable operation s k = let none : has_readable i s ≡ false = ap is_readable_stream k.there in rw none k
+  own_source : (operation : ReadableOperation) (s : Slots) → Among s.streams → Among (on_source operation i s).slots.streams
+  own_source operation s k =
+      let none : has_readable i s ≡ false = ap is_readable_stream k.there in let apart : has_byte i s ≡ false = ap is_byte_stream k.there in rw (apart, none) k
+
+  own_byte : (operation : ByteOperation) (s : Slots) → Among s.streams → Among (on_byte (byte_operation i operation) i s).slots.streams
+  own_byte operation s k = let apart : has_byte i s ≡ false = ap is_byte_stream k.there in rw apart k
 
   readable_row : (j : StreamId) (operation : ReadableOperation) (s : Slots) (same : Bool) → is_same i j ≡ same → Among s.streams → Among (row (OnReadable j operation) s).slots.streams
   unfolding row
-  readable_row j operation s false n k = elsewhere s (on_readable (readable_operation j operation) j s).slots (on_readable-other (readable_operation j operation) j s i n) k
-  readable_row j operation s true n k = subst (λ (l : StreamId). Among (on_readable (readable_operation l operation) l s).slots.streams) (same_id i j n) (own_readable operation s k)
+  readable_row j operation s false n k = elsewhere s (on_source operation j s).slots (on_source-other operation j s i n) k
+  readable_row j operation s true n k = subst (λ (l : StreamId). Among (on_source operation l s).slots.streams) (same_id i j n) (own_source operation s k)
+
+  byte_row : (j : StreamId) (operation : ByteOperation) (s : Slots) (same : Bool) → is_same i j ≡ same → Among s.streams → Among (row (Byte j operation) s).slots.streams
+  unfolding row
+  byte_row j operation s false n k = elsewhere s (on_byte (byte_operation j operation) j s).slots (on_byte-other (byte_operation j operation) j s i n) k
+  byte_row j operation s true n k = subst (λ (l : StreamId). Among (on_byte (byte_operation l operation) l s).slots.streams) (same_id i j n) (own_byte operation s k)
 
   own_writable : (operation : WritableOperation) (s : Slots) → Expected operation (writable_at i s) → Among s.streams → Among (on_writable (writable_operation i operation) i s).slots.streams
   own_writable operation s x k =
@@ -178,6 +195,7 @@ module _ (i : StreamId) (W : writable.Slots → Type 0) (keeps : (operation : Wr
 
   row-among : (s : Slots) (e : Effect) → Row s e
   row-among s (OnReadable j operation) h es x k = readable_row j operation s (is_same i j) refl k
+  row-among s (Byte j operation) h es x k = byte_row j operation s (is_same i j) refl k
   row-among s (OnWritable j operation) h es x k = writable_row j operation s (is_same i j) refl h es x k
   row-among s e h es x k = subst Among (sym (row-streams e s tt)) k
 
@@ -197,6 +215,8 @@ module _ (i : StreamId) (W : writable.Slots → Type 0) (keeps : (operation : Wr
     pipe = λ z source dest prevent signal promise k. k;
     signal = λ z k. k;
     transform = λ z kind i j change k. k;
+    bytes = λ z mark auto k. added z.streams _ k;
+    byob_requests = λ z hs k. k;
     readable = λ z owner mark size k. added z.streams _ k;
     writable = λ z owner mark size k. added z.streams _ k;
   }) c s k
@@ -249,19 +269,30 @@ module _ (i : StreamId) (R : readable.Slots → Type 0) (keeps : (operation : Re
   writes_row j operation s false n k = apart s (on_writable (writable_operation j operation) j s).slots (on_writable-other (writable_operation j operation) j s i n) k
   writes_row j operation s true n k = subst (λ (l : StreamId). Within (on_writable (writable_operation l operation) l s).slots.streams) (same_id i j n) (no_writable operation s k)
 
-  reads_here : (operation : ReadableOperation) (s : Slots) → Within s.streams → Within (on_readable (readable_operation i operation) i s).slots.streams
+  reads_here : (operation : ReadableOperation) (s : Slots) → Within s.streams → Within (on_source operation i s).slots.streams
   reads_here operation s k =
       let here : has_readable i s ≡ true = rw (k.there) refl in
+      let apart : has_byte i s ≡ false = ap is_byte_stream k.there in
       let is : R (readable_at i s) = subst (λ (o : Option Stream). R (as_readable o)) (sym k.there) k.is in
-      record { slots = (readable_operation i operation (readable_acts i s)).slots; there = on_readable-same (readable_operation i operation) i s here; is = keeps operation (readable_acts i s) is }
+      subst (λ (d : Done). Within d.slots.streams) (sym (on_source-readable operation i s apart))
+      (record { slots = (readable_operation i operation (readable_acts i s)).slots; there = on_readable-same (readable_operation i operation) i s here; is = keeps operation (readable_acts i s) is })
 
   reads_row : (j : StreamId) (operation : ReadableOperation) (s : Slots) (same : Bool) → is_same i j ≡ same → Within s.streams → Within (row (OnReadable j operation) s).slots.streams
   unfolding row
-  reads_row j operation s false n k = apart s (on_readable (readable_operation j operation) j s).slots (on_readable-other (readable_operation j operation) j s i n) k
-  reads_row j operation s true n k = subst (λ (l : StreamId). Within (on_readable (readable_operation l operation) l s).slots.streams) (same_id i j n) (reads_here operation s k)
+  reads_row j operation s false n k = apart s (on_source operation j s).slots (on_source-other operation j s i n) k
+  reads_row j operation s true n k = subst (λ (l : StreamId). Within (on_source operation l s).slots.streams) (same_id i j n) (reads_here operation s k)
+
+  bytes_here : (operation : ByteOperation) (s : Slots) → Within s.streams → Within (on_byte (byte_operation i operation) i s).slots.streams
+  bytes_here operation s k = let none : has_byte i s ≡ false = ap is_byte_stream k.there in rw none k
+
+  bytes_row : (j : StreamId) (operation : ByteOperation) (s : Slots) (same : Bool) → is_same i j ≡ same → Within s.streams → Within (row (Byte j operation) s).slots.streams
+  unfolding row
+  bytes_row j operation s false n k = apart s (on_byte (byte_operation j operation) j s).slots (on_byte-other (byte_operation j operation) j s i n) k
+  bytes_row j operation s true n k = subst (λ (l : StreamId). Within (on_byte (byte_operation l operation) l s).slots.streams) (same_id i j n) (bytes_here operation s k)
 
   row-within : (s : Slots) (e : Effect) → Within s.streams → Within (row e s).slots.streams
   row-within s (OnReadable j operation) k = reads_row j operation s (is_same i j) refl k
+  row-within s (Byte j operation) k = bytes_row j operation s (is_same i j) refl k
   row-within s (OnWritable j operation) k = writes_row j operation s (is_same i j) refl k
   row-within s e k = subst Within (sym (row-streams e s tt)) k
 
@@ -281,6 +312,8 @@ module _ (i : StreamId) (R : readable.Slots → Type 0) (keeps : (operation : Re
     pipe = λ z source dest prevent signal promise k. k;
     signal = λ z k. k;
     transform = λ z kind i j change k. k;
+    bytes = λ z mark auto k. more z.streams _ k;
+    byob_requests = λ z hs k. k;
     readable = λ z owner mark size k. more z.streams _ k;
     writable = λ z owner mark size k. more z.streams _ k;
   }) c s k

@@ -9,13 +9,13 @@ use Rattle.ws_steps.specs.declared.promises.{Step.{Step}, Step.TheVariants.{Read
 use Rattle.ws_steps.specs.declared.readable.{ReadRequest.{ReadRequest}, ReadRequest.TheVariants.{Promise, Pipe as PipeRequest}, ReadableOperation.TheVariants.{Enqueue}}
 use Rattle.ws_steps.specs.declared.transform.{TransformId.{TransformId}, TransformOperation.{TransformOperation}, TransformOperation.TheVariants.{SinkWrite, TransformChunk, Enqueued, SourcePull, SinkClose, SinkAbort, SourceCancel}, Halves.{Halves}}
 use Rattle.ws_steps.specs.Jobs.{job_effects, resolved, returned, steps}
-use Rattle.ws_steps.specs.Operations.{readable_operation, writable_operation, pipe_operation, transform_operation}
+use Rattle.ws_steps.specs.Operations.{readable_operation, byte_readable_operation, writable_operation, pipe_operation, transform_operation}
 use Rattle.ws_steps.specs.Pipes as pipe
 use Rattle.ws_steps.specs.Pipes.{Acts, finalize, act_by_signal, act_by, act, proceed, shutdown, look_by, look, look_ready, go_on_in, go_on, keep_chunk, read_ended, write_held, write_in, write_chunk, write_ended, action_settled, part_settled, no_parts, abort}
 use Rattle.ws_steps.specs.Promises.{Table}
 use Rattle.ws_steps.specs.Readable as readable
 use Rattle.ws_steps.specs.Readable.{call_pull_if_needed, accept, controller_enqueue}
-use Rattle.ws_steps.specs.Slots.{Slots, Stream, Done, nothing, found, ends_at, halves_at, has_readable, as_readable, put_readable, on_pipe_at, on_readable, on_transform_at, readable_at}
+use Rattle.ws_steps.specs.Slots.{Slots, Stream, Done, nothing, found, ends_at, halves_at, has_readable, has_byte, is_readable_stream, is_byte_stream, as_readable, as_byte, as_source, put_readable, put_byte, on_pipe_at, on_readable, on_byte, on_transform_at, source_at}
 use Rattle.ws_steps.specs.Transform as transform
 use Rattle.ws_steps.specs.Histories.{is_same}
 use Rattle.ws_steps.specs.Turns.{row}
@@ -23,7 +23,8 @@ use Rattle.ws_steps.proofs.PromiseLaws.{slice_get-set_other}
 use Rattle.ws_laws.proofs.Lists.{Each, each-append, each-map}
 use Rattle.ws_laws.proofs.PipeDoes.{is_looking, IsQuiet, pipe-quiet, pipe-causes}
 use Rattle.ws_laws.proofs.Rows.{Causes, ChunkCauses, EndCauses, SignalCauses, IsNoPipe, row-causes, row-pipes, row-streams}
-use Rattle.ws_laws.proofs.Tables.{either, same_id, eq_numbers, unequal_numbers, readable_acts, on_readable-same, on_readable-other, on_writable-readable}
+use Rattle.ws_steps.specs.Turns.{on_source}
+use Rattle.ws_laws.proofs.Tables.{either, same_id, eq_numbers, unequal_numbers, readable_acts, byte_acts, on_readable-same, on_readable-other, on_byte-same, on_byte-other, on_writable-source}
 use Rattle.ws_laws.proofs.TransformDoes.{TransformCauses}
 use Rattle.ws_laws.proofs.Truth.{false_true}
 use Rattle.ws_promise_laws.proofs.Acting.{EachWaits, Waits}
@@ -34,6 +35,7 @@ use Rattle.ws_pipe_laws.specs.PipeMoves.{starting, IsNamed, Move, MoveRests, Mov
 use Rattle.ws_pipe_laws.proofs.Moves.{each_pipe_moves}
 use Rattle.ws_pipe_laws.proofs.PassingRuns.{place_same}
 use Rattle.ws_pipe_laws.proofs.Unpiped.{IsUnpiped, operation-unpiped}
+use Rattle.ws_steps.specs.declared.effects.Effect.TheVariants.{Byte, CloseStepsWith}
 
 -- effects that don't look, and those that close no readable stream and lead to none that does, nor to one that looks: a write to the half of
 -- a transform stream may enqueue into the other half
@@ -65,6 +67,7 @@ IsCalm (CloseAlgorithm j) = Unit {0}
 IsCalm (AbortAlgorithm j r q) = Unit {0}
 IsCalm (ChunkSteps j request v) = Unit {0}
 IsCalm (CloseSteps j request) = Unit {0}
+IsCalm (CloseStepsWith j request b) = Unit {0}
 IsCalm (ErrorSteps j request r) = Unit {0}
 IsCalm (Give gift u) = Unit {0}
 IsCalm (Settle q o) = Unit {0}
@@ -102,6 +105,7 @@ row-calm (OnPipe q operation) s c = pipe-calm q operation s (slice_get s.pipes q
 row-calm (OnTransform t operation) s c = transform-calm t operation s (slice_get s.transforms t.0) c
 row-calm (OnReadable j operation) s c =
     row-causes IsCalm (OnReadable j operation) s (record { pull = tt; cancel = λ r q. tt; chunk = λ request v. tt; close = λ request. tt; error = λ request r. tt })
+row-calm (Byte j operation) s c = absurd c
 row-calm (OnWritable j operation) s c =
     row-causes IsCalm (OnWritable j operation) s (record { write = tt; close = tt; abort = λ r q. tt; hand_on = λ v. tt; take = λ v t d. tt })
 row-calm (PullAlgorithm j) s c = row-causes IsCalm (PullAlgorithm j) s (λ h u. tt, λ t u. tt)
@@ -111,6 +115,7 @@ row-calm (CloseAlgorithm j) s c = row-causes IsCalm (CloseAlgorithm j) s (λ h u
 row-calm (AbortAlgorithm j r q) s c = row-causes IsCalm (AbortAlgorithm j r q) s (λ h u. tt, λ t u. tt)
 row-calm (ChunkSteps j request v) s c = row-causes IsCalm (ChunkSteps j request v) s (chunk-calm v request)
 row-calm (CloseSteps j request) s c = row-causes IsCalm (CloseSteps j request) s (end-calm request)
+row-calm (CloseStepsWith j request b) s c = row-causes IsCalm (CloseStepsWith j request b) s (end-calm request)
 row-calm (ErrorSteps j request r) s c = row-causes IsCalm (ErrorSteps j request r) s (end-calm request)
 row-calm (StartAlgorithm j step start) s c = absurd c
 row-calm (OnSignal a operation) s c = absurd c
@@ -120,23 +125,43 @@ enqueue-state : (j : StreamId) (v : Value) (a : readable.Acts) → (controller_e
 unfolding controller_enqueue accept call_pull_if_needed
 enqueue-state j v a = grind arith
 
-enqueued-state : (i j : StreamId) (v : Value) (s : Slots) (same : Bool) → is_same i j ≡ same → (readable_at i (on_readable (readable_operation j (Enqueue v)) j s).slots).state ≡ (readable_at i s).state
-enqueued-state i j v s false n = ap (λ (o : Option Stream). (as_readable o).state) (on_readable-other (readable_operation j (Enqueue v)) j s i n)
-enqueued-state i j v s true e =
+default_is : (o : Option Stream) → is_readable_stream o ≡ true → (as_source o).state ≡ (as_readable o).state
+default_is o e = grind (arith, e)
+
+byte_is : (o : Option Stream) → is_byte_stream o ≡ true → (as_source o).state ≡ (as_byte o).stream.state
+byte_is o e = grind (arith, e)
+
+default-state : (i j : StreamId) (v : Value) (s : Slots) (same : Bool) → is_same i j ≡ same → (source_at i (on_readable (readable_operation j (Enqueue v)) j s).slots).state ≡ (source_at i s).state
+default-state i j v s false n = ap (λ (o : Option Stream). (as_source o).state) (on_readable-other (readable_operation j (Enqueue v)) j s i n)
+default-state i j v s true e =
     rw (same_id i j e)
-    (either (λ (d : Done). (readable_at j d.slots).state ≡ (readable_at j s).state) (has_readable j s) (put_readable j s (readable_operation j (Enqueue v) (readable_acts j s))) (nothing s)
+    (either (λ (d : Done). (source_at j d.slots).state ≡ (source_at j s).state) (has_readable j s) (put_readable j s (readable_operation j (Enqueue v) (readable_acts j s))) (nothing s)
     (λ h.
-    let now : (readable_at j (put_readable j s (readable_operation j (Enqueue v) (readable_acts j s))).slots).state ≡ (readable_operation j (Enqueue v) (readable_acts j s)).slots.state =
-    ap (λ (o : Option Stream). (as_readable o).state) (rw h at (on_readable-same (readable_operation j (Enqueue v)) j s h)) in
-    now ∙ enqueue-state j v (readable_acts j s))
+    let now : (source_at j (put_readable j s (readable_operation j (Enqueue v) (readable_acts j s))).slots).state ≡ (readable_operation j (Enqueue v) (readable_acts j s)).slots.state =
+    ap (λ (o : Option Stream). (as_source o).state) (rw h at (on_readable-same (readable_operation j (Enqueue v)) j s h)) in
+    now ∙ (enqueue-state j v (readable_acts j s) ∙ sym (default_is (slice_get s.streams j.0) h)))
     (λ h. refl))
 
-calm-state : (i : StreamId) (e : Effect) (s : Slots) → IsCalm e → (readable_at i (row e s).slots).state ≡ (readable_at i s).state
+-- a byte stream has no such operation
+byte-state : (i j : StreamId) (v : Value) (s : Slots) (same : Bool) → is_same i j ≡ same → (source_at i (on_byte (byte_readable_operation j (Enqueue v)) j s).slots).state ≡ (source_at i s).state
+byte-state i j v s false n = ap (λ (o : Option Stream). (as_source o).state) (on_byte-other (byte_readable_operation j (Enqueue v)) j s i n)
+byte-state i j v s true e =
+    rw (same_id i j e)
+    (either (λ (d : Done). (source_at j d.slots).state ≡ (source_at j s).state) (has_byte j s) (put_byte j s (byte_readable_operation j (Enqueue v) (byte_acts j s))) (nothing s)
+    (λ h. ap (λ (o : Option Stream). (as_source o).state) (rw h at (on_byte-same (byte_readable_operation j (Enqueue v)) j s h)) ∙ sym (byte_is (slice_get s.streams j.0) h))
+    (λ h. refl))
+
+enqueued-state : (i j : StreamId) (v : Value) (s : Slots) (same : Bool) → is_same i j ≡ same → (source_at i (on_source (Enqueue v) j s).slots).state ≡ (source_at i s).state
+enqueued-state i j v s same e =
+    either (λ (d : Done). (source_at i d.slots).state ≡ (source_at i s).state) (has_byte j s) _ _ (λ h. byte-state i j v s same e) (λ h. default-state i j v s same e)
+
+calm-state : (i : StreamId) (e : Effect) (s : Slots) → IsCalm e → (source_at i (row e s).slots).state ≡ (source_at i s).state
 unfolding row
-calm-state i (OnWritable j operation) s c = ap (λ (r : readable.Slots). r.state) (on_writable-readable (writable_operation j operation) j s i (is_same i j) refl)
+calm-state i (OnWritable j operation) s c = ap (λ (r : readable.Slots). r.state) (on_writable-source (writable_operation j operation) j s i)
 calm-state i (OnReadable j (Enqueue v)) s c = enqueued-state i j v s (is_same i j) refl
 calm-state i (OnReadable j operation) s c = absurd c
-calm-state i e s c = ap (λ (xs : List Stream). (as_readable (slice_get xs i.0)).state) (row-streams e s tt)
+calm-state i (Byte j operation) s c = absurd c
+calm-state i e s c = ap (λ (xs : List Stream). (as_source (slice_get xs i.0)).state) (row-streams e s tt)
 
 chunk-look : (v : Value) (request : ReadRequest) → ChunkCauses IsNoLook v request
 chunk-look v (Promise q) = tt
@@ -157,6 +182,7 @@ transform-look t writable readable _ c = tt
 
 look-causes : (e : Effect) → IsNoPipe e → Causes IsNoLook e
 look-causes (OnReadable j operation) n = record { pull = tt; cancel = λ r q. tt; chunk = λ r v. tt; close = λ r. tt; error = λ r e. tt }
+look-causes (Byte j operation) n = record { readable = record { pull = tt; cancel = λ r q. tt; chunk = λ r v. tt; close = λ r. tt; error = λ r e. tt }; close_with = λ r b. tt }
 look-causes (OnWritable j operation) n = record { write = tt; close = tt; abort = λ r q. tt; hand_on = λ v. tt; take = λ v t d. tt }
 look-causes (OnPipe q operation) n = absurd n
 look-causes (OnSignal a operation) n = signal-look operation
@@ -169,6 +195,7 @@ look-causes (CloseAlgorithm j) n = (λ c u. tt, λ t u. tt)
 look-causes (AbortAlgorithm j r q) n = (λ c u. tt, λ t u. tt)
 look-causes (ChunkSteps j request v) n = chunk-look v request
 look-causes (CloseSteps j request) n = end-look request
+look-causes (CloseStepsWith j request b) n = end-look request
 look-causes (ErrorSteps j request e) n = end-look request
 look-causes _ n = tt
 
@@ -239,7 +266,7 @@ acting_phase x n f = let m : 1 ≤ 0 = rw f at n in absurd (omega (arith, m))
 module _ (p : PipeId) (i : StreamId) (C : Type 0) where
   -- where the source is closed, it was so
   abbrev pub WasClosed : Slots → Type 0
-  WasClosed s = has_closed (readable_at i s).state ≡ true → C
+  WasClosed s = has_closed (source_at i s).state ≡ true → C
 
   abbrev pub Agenda : Slots → List Effect → Type 0
   Agenda s es = Each IsNoLook es ⊎ (WasClosed s × Front es)
@@ -248,7 +275,7 @@ module _ (p : PipeId) (i : StreamId) (C : Type 0) where
   unfolding row
   write-agenda q s es was n =
       let d : Done = on_pipe_at (λ ends. write_chunk q) q s (slice_get s.pipes q.0) in
-      let kept : has_closed (readable_at i d.slots).state ≡ has_closed (readable_at i s).state = ap (λ (xs : List Stream). has_closed (as_readable (slice_get xs i.0)).state) (row-streams (OnPipe q WriteChunk) s tt) in
+      let kept : has_closed (source_at i d.slots).state ≡ has_closed (source_at i s).state = ap (λ (xs : List Stream). has_closed (as_source (slice_get xs i.0)).state) (row-streams (OnPipe q WriteChunk) s tt) in
       ⊎_elim (λ (m : Each IsNoLook (d.caused ++ es)). inl m) (λ (f : Front (d.caused ++ es)). inr ((λ c. was (sym kept ∙ c)), f)) (write-front q s (slice_get s.pipes q.0) es n)
 
   looking-none : (q : PipeId) (operation : PipeOperation) (s : Slots) (es : List Effect) → (operation ≡ WriteChunk → ⊥) → Each IsNoLook es → Each IsNoLook ((row (OnPipe q operation) s).caused ++ es)
@@ -313,9 +340,9 @@ module _ (p : PipeId) (i : StreamId) (C : Type 0) where
       rw (place_same s.pipes p.0 x b.slots e)
       (source ∙ k.0, move-still (ends_at x s) operation x s.promises b looked settled (each_pipe_moves p (ends_at x s) operation x s.promises) k.1)
     where
-      looked : is_look operation ≡ true → has_closed (readable_at x.source s).state ≡ true → C
+      looked : is_look operation ≡ true → has_closed (source_at x.source s).state ≡ true → C
       looked l c =
-          looks_now p operation s es g (look_looking operation l) (subst (λ (j : StreamId). has_closed (readable_at j s).state ≡ true) k.0 c)
+          looks_now p operation s es g (look_looking operation l) (subst (λ (j : StreamId). has_closed (source_at j s).state ≡ true) k.0 c)
 
       settled : (o : Result Plain Plain) → operation ≡ ActionSettled o → x.phase ≡ Flowing → ⊥
       settled o is f =

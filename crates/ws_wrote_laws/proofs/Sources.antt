@@ -1,5 +1,5 @@
 -- A pipe whose source has ended reads nothing more, and so all that it read is passed on once it acts.
-use Rattle.std.proofs.Common.{◌≡◌, ◌≢◌, Bool, true, false, if◌then◌else◌, List, [], ◌∷◌, ◌++◌, Option, Some, None, slice_get, refl, sym, ap, subst, ◌∙◌, append_assoc, append-nil, arith}
+use Rattle.std.proofs.Common.{◌≡◌, ◌≢◌, Bool, true, false, ◌||◌, if◌then◌else◌, List, [], ◌∷◌, ◌++◌, Option, Some, None, slice_get, refl, sym, ap, subst, ◌∙◌, append_assoc, append-nil, arith}
 use Rattle.ws_value.specs.declared.{ids.PipeId.{PipeId}, ids.StreamId.{StreamId}, value.Value.{Value}}
 use Rattle.ws_steps.specs.declared.effects.{Effect.{Effect}, Effect.TheVariants.{ChunkSteps}}
 use Rattle.ws_steps.specs.declared.pipes.{Ends.{Ends}, PipeOperation.{PipeOperation}}
@@ -12,14 +12,16 @@ use Rattle.ws_steps.specs.Readable as readable
 use Rattle.ws_steps.specs.Readable.{is_readable, call_pull_if_needed, accept, controller_enqueue, stream_close, stream_error, close_if_empty, controller_close, controller_error, after_take, pull_steps, default_reader_read, reader_generic_initialize, disturb, cancel_if_readable, start_settled, pull_settled, cancel_steps, stream_cancel, reader_release}
 use Rattle.ws_steps.specs.ReadableHistory.{no_flow, flow_then, effect_flow, step_flow}
 use Rattle.ws_steps.specs.Run.{Entry, run, step, moments_in}
-use Rattle.ws_steps.specs.Slots.{Slots, Stream, ReadableStream, WritableStream, empty, as_readable, pipe_at, readable_at}
+use Rattle.ws_steps.specs.Slots.{Slots, Stream, ReadableStream, ByteStream, WritableStream, empty, is_readable_stream, is_byte_stream, as_readable, as_byte, as_source, has_byte, has_source, pipe_at, readable_at, byte_at, source_at}
 use Rattle.ws_steps.specs.Turns.{Moment}
 use Rattle.ws_laws.proofs.Lists.{append_cancel, append_none}
 use Rattle.ws_laws.proofs.PipeDoes.{pipe-causes}
 use Rattle.ws_laws.proofs.Tables.{is_same-refl}
 use Rattle.ws_laws.proofs.Walker.{IsHistory}
+use Rattle.ws_byte_laws.proofs.Ended.{IsNoChunkOf, run-none}
+use Rattle.ws_byte_laws.proofs.Sound.{run-sound}
 use Rattle.ws_readable_laws.proofs.EachStep.{each_readable_step}
-use Rattle.ws_pipe_laws.specs.PipeHistory.{is_over, Through, nothing_through, through_then, effect_through, step_through, run_through, given_for, effect_given, step_given, run_given, effect_moment, step_moments, run_moments}
+use Rattle.ws_pipe_laws.specs.PipeHistory.{has_closed, is_over, Through, nothing_through, through_then, effect_through, step_through, run_through, given_for, effect_given, step_given, run_given, effect_moment, step_moments, run_moments}
 use Rattle.ws_pipe_laws.specs.PipeMoves.{starting}
 use Rattle.ws_pipe_laws.specs.PipeReads.{held_values}
 use Rattle.ws_pipe_laws.specs.PipeWrites.{AllSince}
@@ -44,10 +46,27 @@ not_readable Readable e = cc
 not_readable Closed e = λ f. cc
 not_readable Errored e = λ f. cc
 
-pub source_there : (o : Option Stream) → has_lock Reading o ≡ true → o ≡ Some (ReadableStream (as_readable o))
+pub source_there : (o : Option Stream) → has_lock Reading o ≡ true → (is_readable_stream o || is_byte_stream o) ≡ true
 source_there None e = cc
 source_there (Some (ReadableStream r)) e = refl
+source_there (Some (ByteStream b)) e = refl
 source_there (Some (WritableStream w)) e = cc
+
+-- a stream with a default controller
+default_there : (o : Option Stream) → (is_readable_stream o || is_byte_stream o) ≡ true → is_byte_stream o ≡ false → o ≡ Some (ReadableStream (as_readable o))
+default_there None e n = cc
+default_there (Some (ReadableStream r)) e n = refl
+default_there (Some (ByteStream b)) e n = cc
+default_there (Some (WritableStream w)) e n = cc
+
+default_is : (o : Option Stream) → is_byte_stream o ≡ false → as_source o ≡ as_readable o
+default_is o n = grind (arith, n)
+
+byte_is : (o : Option Stream) → is_byte_stream o ≡ true → (as_source o).state ≡ (as_byte o).stream.state
+byte_is o is = grind (arith, is)
+
+no_byte_there : (o : Option Stream) (r : readable.Slots) → o ≡ Some (ReadableStream r) → is_byte_stream o ≡ false
+no_byte_there o r e = rw e refl
 
 module _ (i : StreamId) (p : PipeId) where
   one_given : (request : ReadRequest) (v : Value) (b : Bool) → (if b then record no_flow { given = v ∷ [] } else no_flow).given ≡ [] → (if b then given_for p request v else []) ≡ []
@@ -73,11 +92,57 @@ module _ (i : StreamId) (p : PipeId) where
   none_given : (zs before : List Entry) (s : Slots) → run before empty ≡ s → IsReadable i HasEnded s → run_given i p zs s ≡ []
   none_given [] before s e k = refl
   none_given (x ∷ zs) before s e k =
-      let flow : (step_flow i s x).given ≡ [] = subst (GivesNone x) e (λ n. ((each_readable_step before x i).ended n).1) (not_readable (readable_at i s).state k.1) in
+      let after : IsReadable i HasEnded (step s x) = readable-kept i HasEnded (ended-operation i) (x ∷ []) s k in
+      let default : has_byte i (step (run before empty) x) ≡ false = rw e (no_byte_there (slice_get (step s x).streams i.0) (readable_at i (step s x)) after.0) in
+      let flow : (step_flow i s x).given ≡ [] = subst (GivesNone x) e (λ n. ((each_readable_step before x i default).ended n).1) (not_readable (readable_at i s).state k.1) in
       let first : step_given i p s x ≡ [] = along_none (moments_in s x) flow in
       let next : run (before ++ x ∷ []) empty ≡ step s x = run-append before (x ∷ []) empty ∙ ap (λ (z : Slots). step z x) e in
-      let rest : run_given i p zs (step s x) ≡ [] = none_given zs (before ++ x ∷ []) (step s x) next (readable-kept i HasEnded (ended-operation i) (x ∷ []) s k) in
+      let rest : run_given i p zs (step s x) ≡ [] = none_given zs (before ++ x ∷ []) (step s x) next after in
       rw (first, rest) refl
+
+  -- of a byte stream
+  byte_none : (e : Effect) (s : Slots) → IsNoChunkOf i e → effect_given i p e s ≡ []
+  byte_none (ChunkSteps j request v) s n = rw n refl
+  byte_none e s n = refl
+
+  source_none : (zs before : List Entry) → let s : Slots = run before empty in has_source i s ≡ true → is_readable (source_at i s).state ≡ false → run_given i p zs s ≡ []
+  source_none zs before there ended = by (has_byte i (run before empty)) refl
+    where
+      by : (is : Bool) → has_byte i (run before empty) ≡ is → run_given i p zs (run before empty) ≡ []
+      by true is =
+          let s : Slots = run before empty in
+          let over : is_readable (byte_at i s).stream.state ≡ false = ap is_readable (sym (byte_is (slice_get s.streams i.0) is)) ∙ ended in
+          (run-none i (byte_at i s).stream.state over (effect_given i p) byte_none zs s (is, refl) (run-sound i before empty (λ e. cc))).0
+      by false isnt =
+          let s : Slots = run before empty in
+          let same : source_at i s ≡ readable_at i s = default_is (slice_get s.streams i.0) isnt in
+          none_given zs before s refl (default_there (slice_get s.streams i.0) there isnt, ap (λ (r : readable.Slots). is_readable r.state) (sym same) ∙ ended)
+
+-- a source that is closed stays so
+closed-operation : (i : StreamId) (operation : ReadableOperation) (a : readable.Acts) → has_closed a.slots.state ≡ true → has_closed (readable_operation i operation a).slots.state ≡ true
+unfolding call_pull_if_needed accept controller_enqueue stream_close stream_error close_if_empty controller_close controller_error after_take pull_steps default_reader_read reader_generic_initialize disturb cancel_if_readable start_settled pull_settled cancel_steps stream_cancel reader_release
+closed-operation i operation a e = grind (arith, e)
+
+is_closed : (state : ReadableState) → has_closed state ≡ true → state ≡ Closed
+is_closed Readable e = cc
+is_closed Closed e = refl
+is_closed Errored e = cc
+
+pub closed-kept : (i : StreamId) (before : List Entry) (x : Entry) → let s : Slots = run before empty in has_source i s ≡ true → has_closed (source_at i s).state ≡ true → has_closed (source_at i (step s x)).state ≡ true
+closed-kept i before x there c = by (has_byte i (run before empty)) refl
+  where
+    by : (is : Bool) → has_byte i (run before empty) ≡ is → has_closed (source_at i (step (run before empty) x)).state ≡ true
+    by true is =
+        let s : Slots = run before empty in
+        let state : (byte_at i s).stream.state ≡ Closed = is_closed (byte_at i s).stream.state (ap has_closed (sym (byte_is (slice_get s.streams i.0) is)) ∙ c) in
+        let k = (run-none i Closed refl (effect_given i (record { 0 = 0 })) (byte_none i (record { 0 = 0 })) (x ∷ []) s (is, state) (run-sound i before empty (λ e. cc))).1 in
+        ap has_closed (byte_is (slice_get (step s x).streams i.0) k.0 ∙ k.1)
+    by false isnt =
+        let s : Slots = run before empty in
+        let same : source_at i s ≡ readable_at i s = default_is (slice_get s.streams i.0) isnt in
+        let k = readable-kept i (λ r. has_closed r.state ≡ true) (closed-operation i) (x ∷ []) s (default_there (slice_get s.streams i.0) there isnt, ap (λ (r : readable.Slots). has_closed r.state) (sym same) ∙ c) in
+        let after : source_at i (step s x) ≡ readable_at i (step s x) = default_is (slice_get (step s x).streams i.0) (no_byte_there (slice_get (step s x).streams i.0) (readable_at i (step s x)) k.0) in
+        ap (λ (r : readable.Slots). has_closed r.state) after ∙ k.1
 
 values_history : IsHistory {H = List Value} [] ◌++◌
 values_history = record { left = λ f. refl; right = λ f. append-nil f; assoc = λ f g h. append_assoc f g h }
@@ -86,12 +151,12 @@ source-operation : (p : PipeId) (d : StreamId) (ends : Ends) (operation : PipeOp
 source-operation p d ends operation x t e = (pipe-causes p ends operation (starting x t) tt).0 ∙ e
 
 -- so the pipe reads nothing
-none_read : (p : PipeId) (before zs : List Entry) → let s : Slots = run before empty in is_over (pipe_at p s).phase ≡ false → is_readable (readable_at (pipe_at p s).source s).state ≡ false → (run_through p zs s).read ≡ []
+none_read : (p : PipeId) (before zs : List Entry) → let s : Slots = run before empty in is_over (pipe_at p s).phase ≡ false → is_readable (source_at (pipe_at p s).source s).state ≡ false → (run_through p zs s).read ≡ []
 none_read p before zs over ended =
     let s : Slots = run before empty in
     let i : StreamId = (pipe_at p s).source in
-    let there : slice_get s.streams i.0 ≡ Some (ReadableStream (readable_at i s)) = source_there (slice_get s.streams i.0) ((each_pipe_owns_its_ends before p over).locked Reading) in
-    let none : run_given i p zs s ≡ [] = none_given i p zs before s refl (there, ended) in
+    let there : has_source i s ≡ true = source_there (slice_get s.streams i.0) ((each_pipe_owns_its_ends before p over).locked Reading) in
+    let none : run_given i p zs s ≡ [] = source_none i p zs before there ended in
     let h : Through = run_through p before empty in
     let g : Through = run_through p zs s in
     let same : (pipe_at p (run (before ++ zs) empty)).source ≡ i =

@@ -8,7 +8,7 @@ use Rattle.ws_steps.specs.Laws.{IsPrefixOf}
 use Rattle.ws_steps.specs.Pipes as pipe
 use Rattle.ws_steps.specs.Readable.{is_readable}
 use Rattle.ws_steps.specs.Run.{Entry, run}
-use Rattle.ws_steps.specs.Slots.{Slots, empty, ends_at, pipe_at, readable_at, writable_at}
+use Rattle.ws_steps.specs.Slots.{Slots, empty, ends_at, pipe_at, source_at, writable_at}
 use Rattle.ws_steps.specs.Turns.{Moment}
 use Rattle.ws_steps.specs.Writable as writable
 use Rattle.ws_steps.specs.WritableHistory.{Writes, todo, step_writes, run_writes}
@@ -66,7 +66,7 @@ EachEndedSourceIsPassedOn =
     (before after : List Entry) (x : Entry) (p : PipeId) (ms ns : List Moment) (m : Moment)
     → let s : Slots = run before empty in
     let y : pipe.Slots = pipe_at p s in
-    is_over y.phase ≡ false → is_readable (readable_at y.source s).state ≡ false → step_moments s x ≡ ms ++ m ∷ ns → BeginsToAct p m
+    is_over y.phase ≡ false → is_readable (source_at y.source s).state ≡ false → step_moments s x ≡ ms ++ m ∷ ns → BeginsToAct p m
     → IsPassedOn (run_through p (before ++ x ∷ after) empty)
 
 -- In every run, of a pipe whose shutdown has no error as it begins its action, or ends without one, and that waited, or whose destination was
@@ -76,7 +76,7 @@ EachPipeWithoutAnErrorPassedAll =
     (before after : List Entry) (x : Entry) (p : PipeId) (ms ns : List Moment) (m : Moment)
     → let s : Slots = run before empty in
     is_over (pipe_at p s).phase ≡ false → step_moments s x ≡ ms ++ m ∷ ns → BeginsToAct p m → (pipe_at p (leaves m)).error ≡ None
-    → (has_closed (readable_at (pipe_at p s).source s).state ≡ true) × IsPassedOn (run_through p (before ++ x ∷ after) empty)
+    → (has_closed (source_at (pipe_at p s).source s).state ≡ true) × IsPassedOn (run_through p (before ++ x ∷ after) empty)
 
 -- where pipe p begins its action at this moment, or ends without one, it waited, or its destination was writable and not closing
 abbrev pub WritesFirst : PipeId → Moment → Type 0

@@ -1,0 +1,195 @@
+-- The kind of the reader of a byte stream as calls begin.
+use Rattle.std.proofs.Common.{◌≡◌, ℕ, ◌+◌, ◌≤◌, Bool, true, false, nat_eq, is_some, List, [], ◌∷◌, ◌++◌, length, Option, Some, None, slice_get, refl, sym, ap, arith}
+use Rattle.ws_value.specs.declared.{ids.LockId.{LockId}, ids.PipeId.{PipeId}, ids.PromiseId.{PromiseId}, ids.SignalId.{SignalId}, ids.StreamId.{StreamId}}
+use Rattle.ws_steps.specs.declared.calls.{Call.{Call}, StartBy.{StartBy}}
+use Rattle.ws_steps.specs.declared.effects.Effect.{Effect}
+use Rattle.ws_steps.specs.declared.effects.Effect.TheVariants.{Readable as OnReadable, Writable as OnWritable}
+use Rattle.ws_steps.specs.declared.{effects.Owner.TheVariants.{Host, HalfOf}, locks.Lock.{Lock}, locks.Lock.TheVariants.{Reader, ByobReader, Writer as WriterLock, ReleasedWriter, Inner}}
+use Rattle.ws_steps.specs.declared.{pipes.Prevent.{Prevent}, readable.SizeBy.TheVariants.{Count}, transform.Kind.{Kind}, transform.TransformId.{TransformId}, writable.Writer.{Writer}}
+use Rattle.ws_steps.specs.declared.readable.ReadableOperation.TheVariants.{ReleaseReader}
+use Rattle.ws_steps.specs.declared.writable.WritableOperation.TheVariants.{ReleaseWriter}
+use Rattle.ws_steps.specs.Bytes as byte
+use Rattle.ws_steps.specs.Calls as calls
+use Rattle.ws_steps.specs.Calls.{Begun, begin, add_stream}
+use Rattle.ws_steps.specs.Histories.{is_same}
+use Rattle.ws_steps.specs.Pipes as pipe
+use Rattle.ws_steps.specs.Promises.{Table, next_id, fresh, is_pending_at}
+use Rattle.ws_steps.specs.Readable as readable
+use Rattle.ws_steps.specs.Slots.{Slots, Stream, ReadableStream, ByteStream, WritableStream, source_at, lock_at}
+use Rattle.ws_steps.specs.Writable as writable
+use Rattle.ws_laws.proofs.EachCall.{each_call}
+use Rattle.ws_laws.proofs.Lists.{Each, each-append}
+use Rattle.ws_laws.proofs.Tables.{eq_numbers, unequal_numbers, same_id, place_last, place_before}
+use Rattle.ws_writable_laws.proofs.Shape.{all}
+use Rattle.ws_pipe_laws.specs.PipeReads.{one_if}
+use Rattle.ws_lock_laws.specs.Locks.{Reading, has_lock, is_locked}
+use Rattle.ws_lock_laws.proofs.Agenda.{IsNoTake, calm_takes}
+use Rattle.ws_lock_laws.proofs.Begins.{no_takes, renewed-calm, begins-calm, start-calm, free_reader}
+use Rattle.ws_lock_laws.proofs.Holding.{pipes-append}
+use Rattle.ws_lock_laws.proofs.ReaderKinds.{has_default, has_byob, count_locks, count-append, count-set, defaults, byobs, takes_default, takes_byob, default_none-all, byob_none-all, byte_look, KindHeld, OfKind, fewer}
+
+-- a stream that isn't locked may be had by any
+free-held : (o : Option Stream) (m n x y : ℕ) → has_lock Reading o ≡ false → KindHeld (byte_look o) m n → KindHeld (byte_look o) x y
+free-held None m n x y f k = tt
+free-held (Some (ReadableStream r)) m n x y f k = tt
+free-held (Some (ByteStream b)) m n x y f k = record { straight = k.straight; byob = λ l. cc; default = λ l. cc }
+free-held (Some (WritableStream w)) m n x y f k = tt
+
+inner-count : (f : Lock → Bool) (ls : List Lock) → f Inner ≡ false → count_locks f (ls ++ Inner ∷ Inner ∷ []) ≡ count_locks f ls
+inner-count f [] e = rw e refl
+inner-count f (l ∷ ls) e = let n = inner-count f ls e in omega (arith, n)
+
+new-bytes : (mark auto m n : ℕ) → KindHeld (byte_look (Some (ByteStream (byte.set_up mark auto)))) m n
+new-bytes mark auto m n = record { straight = refl; byob = λ l. cc; default = λ l. cc }
+
+module _ (i : StreamId) (s : Slots) (k : OfKind i s []) where
+  -- some let go of the stream, and none takes it
+  leaves : (z : Slots) (es : List Effect) → byobs i z ≤ byobs i s → defaults i z ≤ defaults i s → z.streams ≡ s.streams → all (takes_default i) es ≡ 0 → all (takes_byob i) es ≡ 0 → OfKind i z es
+  leaves z es b d streams m n = record {
+    default_taken = omega (arith, m);
+    byob_taken = omega (arith, n);
+    kind = rw streams (fewer (byte_look (slice_get s.streams i.0)) (byobs i s) (defaults i s) (byobs i z) (defaults i z) b d k.kind);
+  }
+
+  quiet : (z : Slots) (es : List Effect) → z.locks ≡ s.locks → z.pipes ≡ s.pipes → z.streams ≡ s.streams → Each IsNoTake es → OfKind i z es
+  quiet z es locks pipes streams none = leaves z es (rw locks (omega arith)) (rw (locks, pipes) (omega arith)) streams (default_none-all i es none) (byob_none-all i es none)
+
+  -- one takes the stream where none had it
+  enters : (z : Slots) (es : List Effect) (m n : ℕ) → byobs i z ≡ byobs i s + m → defaults i z ≡ defaults i s + n → z.streams ≡ s.streams → all (takes_default i) es ≡ n → all (takes_byob i) es ≡ m → is_locked Reading i s ≡ false → OfKind i z es
+  enters z es m n b d streams p q free = record {
+    default_taken = omega (arith, d, p);
+    byob_taken = omega (arith, b, q);
+    kind = rw streams (free-held (slice_get s.streams i.0) (byobs i s) (defaults i s) (byobs i z) (defaults i z) free k.kind);
+  }
+
+  default-enters : (z : Slots) (es : List Effect) (same : Bool) → byobs i z ≡ byobs i s → defaults i z ≡ defaults i s + one_if same → z.streams ≡ s.streams → all (takes_default i) es ≡ one_if same → all (takes_byob i) es ≡ 0
+      → (same ≡ true → is_locked Reading i s ≡ false) → OfKind i z es
+  default-enters z es false b d streams p q free = leaves z es (omega (arith, b)) (omega (arith, d)) streams p q
+  default-enters z es true b d streams p q free = enters z es 0 1 (omega (arith, b)) d streams p q (free refl)
+
+  byob-enters : (z : Slots) (es : List Effect) (same : Bool) → byobs i z ≡ byobs i s + one_if same → defaults i z ≡ defaults i s → z.streams ≡ s.streams → all (takes_default i) es ≡ 0 → all (takes_byob i) es ≡ one_if same
+      → (same ≡ true → is_locked Reading i s ≡ false) → OfKind i z es
+  byob-enters z es false b d streams p q free = leaves z es (omega (arith, b)) (omega (arith, d)) streams p q
+  byob-enters z es true b d streams p q free = enters z es 1 0 b (omega (arith, d)) streams p q (free refl)
+
+  -- a new stream
+  made : (x : Stream) (es : List Effect) → ((m n : ℕ) → KindHeld (byte_look (Some x)) m n) → Each IsNoTake es → OfKind i (add_stream x s) es
+  made x es new none = record {
+    default_taken = let m = default_none-all i es none in omega (arith, m);
+    byob_taken = let m = byob_none-all i es none in omega (arith, m);
+    kind = by (nat_eq i.0 (length s.streams)) refl;
+  }
+    where
+      by : (here : Bool) → here ≡ nat_eq i.0 (length s.streams) → KindHeld (byte_look (slice_get (s.streams ++ x ∷ []) i.0)) (byobs i s) (defaults i s)
+      by false n = rw (place_before s.streams x i.0 (unequal_numbers i.0 (length s.streams) (sym n))) k.kind
+      by true e =
+          let is = eq_numbers i.0 (length s.streams) (sym e) in
+          let now : slice_get (s.streams ++ x ∷ []) i.0 ≡ Some x = rw is (place_last s.streams x) in rw now (new (byobs i s) (defaults i s))
+
+  unlocked : (j : StreamId) → is_some (source_at j s).reader ≡ false → is_same i j ≡ true → is_locked Reading i s ≡ false
+  unlocked j free same = rw (same_id i j same) (free_reader (slice_get s.streams j.0) free).0
+
+  -- a reader goes
+  released : (l : LockId) (j : StreamId) (closed : PromiseId) (old : Lock) (new : PromiseId → Lock) → lock_at l s ≡ Some old → ((p : PromiseId) → (has_default i (new p) ≡ false) × (has_byob i (new p) ≡ false))
+      → OfKind i (calls.release_reader new l closed j s).done.slots (calls.release_reader new l closed j s).done.caused
+  released l j closed old new e none =
+      let kept : Bool = readable.is_readable (source_at j s).state in
+      let next : Lock = new (calls.renewed closed s.promises kept) in
+      let m = count-set (has_default i) l.0 s.locks old next e in
+      let n = count-set (has_byob i) l.0 s.locks old next e in
+      let x = ap one_if (none (calls.renewed closed s.promises kept)).0 in
+      let y = ap one_if (none (calls.renewed closed s.promises kept)).1 in
+      let none_taken = each-append IsNoTake (calls.reject_renewed s.promises kept) (OnReadable j ReleaseReader ∷ []) (no_takes _ (renewed-calm s.promises kept)) (tt, tt) in
+      leaves (calls.release_reader new l closed j s).done.slots (calls.release_reader new l closed j s).done.caused (omega (arith, n, y)) (omega (arith, m, x)) refl (default_none-all i _ none_taken) (byob_none-all i _ none_taken)
+
+  writer-released : (l : LockId) (j : StreamId) (w : Writer) → lock_at l s ≡ Some (WriterLock j) → OfKind i (calls.release_writer l j w s).done.slots (calls.release_writer l j w s).done.caused
+  writer-released l j w e =
+      let ready : Bool = is_pending_at w.ready s.promises in
+      let t : Table = calls.with_renewed s.promises ready in
+      let closed : Bool = is_pending_at w.closed t in
+      let next : Lock = ReleasedWriter (record { ready = calls.renewed w.ready s.promises ready; closed = calls.renewed w.closed t closed }) in
+      let m = count-set (has_default i) l.0 s.locks (WriterLock j) next e in
+      let n = count-set (has_byob i) l.0 s.locks (WriterLock j) next e in
+      let none_taken =
+      each-append IsNoTake (calls.reject_renewed s.promises ready) (calls.reject_renewed t closed ++ OnWritable j ReleaseWriter ∷ []) (no_takes _ (renewed-calm s.promises ready))
+      (each-append IsNoTake (calls.reject_renewed t closed) (OnWritable j ReleaseWriter ∷ []) (no_takes _ (renewed-calm t closed)) (tt, tt)) in
+      leaves (calls.release_writer l j w s).done.slots (calls.release_writer l j w s).done.caused (omega (arith, n)) (omega (arith, m)) refl (default_none-all i _ none_taken) (byob_none-all i _ none_taken)
+
+  -- a pipe takes its source
+  piped : (source dest : StreamId) (prevent : Prevent) (signal : Option SignalId) → is_some (source_at source s).reader ≡ false
+      → OfKind i (calls.pipe_to source dest prevent signal s).done.slots (calls.pipe_to source dest prevent signal s).done.caused
+  piped source dest prevent signal free =
+      let t : Table = s.promises in
+      let w : Writer = record { ready = next_id (fresh t); closed = next_id (fresh (fresh t)) } in
+      let x : pipe.Slots = pipe.set_up source dest prevent signal (next_id (fresh (fresh (fresh t)))) in
+      let me : PipeId = record { 0 = length s.pipes } in
+      let last : List Effect = calls.pipe_begins me (next_id t) w.closed signal (calls.reason_of signal s) in
+      let calm = no_takes last (begins-calm me (next_id t) w.closed signal (calls.reason_of signal s)) in
+      let d = default_none-all i last calm in
+      let b = byob_none-all i last calm in
+      let m = inner-count (has_default i) s.locks refl in
+      let n = inner-count (has_byob i) s.locks refl in
+      let p = pipes-append Reading i s.pipes x in
+      default-enters (calls.pipe_to source dest prevent signal s).done.slots (calls.pipe_to source dest prevent signal s).done.caused (is_same i source) (omega (arith, n)) (omega (arith, m, p)) refl (omega (arith, d)) (omega (arith, b)) (unlocked source free)
+
+-- the two halves of a transform stream
+halved : (i : StreamId) (s : Slots) → OfKind i s [] → (kind : Kind) (m n : ℕ) (start : StartBy) (j l : StreamId) → OfKind i (calls.make_transform kind m n start j l s).done.slots (calls.make_transform kind m n start j l s).done.caused
+halved i s k kind m n start j l =
+    let me : TransformId = record { 0 = length s.transforms } in
+    let w : Stream = WritableStream (writable.set_up (HalfOf me) m Count) in
+    let r : Stream = ReadableStream (readable.set_up (HalfOf me) n Count) in
+    let first : Effect = calls.start_transform (next_id (fresh s.promises)) l start in
+    let one : OfKind i (add_stream w s) [] = made i s k w [] (λ m n. tt) tt in
+    let two = made i (add_stream w s) one r (calls.make_transform kind m n start j l s).done.caused (λ m n. tt)
+    (tt, (tt, (tt, (tt, (calm_takes first (start-calm (next_id (fresh s.promises)) l start), tt))))) in
+    record { default_taken = two.default_taken; byob_taken = two.byob_taken; kind = two.kind }
+
+pub call-kind : (i : StreamId) (c : Call) (s : Slots) → OfKind i s [] → OfKind i (begin c s).done.slots (begin c s).done.caused
+call-kind i c s k =
+    let still : (z : Slots) (es : List Effect) → z.locks ≡ s.locks → z.pipes ≡ s.pipes → z.streams ≡ s.streams → Each IsNoTake es → OfKind i z es = quiet i s k in
+    each_call (λ (b : Begun). OfKind i b.done.slots b.done.caused) c s (record {
+      unchanged = λ reply. k;
+      rejected = still _ _ refl refl refl (tt, tt);
+      make_readable = λ mark size start. made i s k (ReadableStream (readable.set_up Host mark size)) _ (λ m n. tt) (tt, tt);
+      make_bytes = λ mark auto start. made i s k (ByteStream (byte.set_up mark auto)) _ (new-bytes mark auto) (tt, tt);
+      make_writable = λ mark size start. made i s k (WritableStream (writable.set_up Host mark size)) _ (λ m n. tt) (tt, tt);
+      make_transform = λ kind m n start. halved i s k kind m n start (record { 0 = length s.streams }) (record { 0 = length s.streams + 1 });
+      get_reader = λ j free.
+          let l : Lock = Reader (Some j) (next_id s.promises) in
+          let m = count-append (has_default i) s.locks l in
+          let n = count-append (has_byob i) s.locks l in
+          default-enters i s k (calls.get_reader j s).done.slots (calls.get_reader j s).done.caused (is_same i j) (omega (arith, n)) (omega (arith, m)) refl (omega arith) refl (unlocked i s k j free);
+      get_byob = λ j is free.
+          let l : Lock = ByobReader (Some j) (next_id s.promises) in
+          let m = count-append (has_default i) s.locks l in
+          let n = count-append (has_byob i) s.locks l in
+          byob-enters i s k (calls.get_byob j s).done.slots (calls.get_byob j s).done.caused (is_same i j) (omega (arith, n)) (omega (arith, m)) refl refl (omega arith) (unlocked i s k j free);
+      get_writer = λ j free.
+          let m = count-append (has_default i) s.locks (WriterLock j) in
+          let n = count-append (has_byob i) s.locks (WriterLock j) in
+          leaves i s k (calls.get_writer j s).done.slots (calls.get_writer j s).done.caused (omega (arith, n)) (omega (arith, m)) refl refl refl;
+      release_reader = λ l closed j e. released i s k l j closed (Reader (Some j) closed) (Reader None) e (λ p. (refl, refl));
+      release_byob = λ l closed j e. released i s k l j closed (ByobReader (Some j) closed) (ByobReader None) e (λ p. (refl, refl));
+      release_writer = λ l j w e f. writer-released i s k l j w e;
+      cancel = λ reason j. still _ _ refl refl refl (tt, tt);
+      read = λ l j closed e f. still _ _ refl refl refl (tt, tt);
+      read_into = λ l j closed room element least e f. still _ _ refl refl refl (tt, tt);
+      write = λ l v j e. still _ _ refl refl refl (tt, tt);
+      close = λ j. still _ _ refl refl refl (tt, tt);
+      abort = λ reason j e. still _ _ refl refl refl (tt, tt);
+      enqueue = λ j v e o can. still _ _ refl refl refl (tt, tt);
+      enqueue_half = λ j t v e o can. still _ _ refl refl refl (tt, tt);
+      enqueue_bytes = λ j b e is some can. still _ _ refl refl refl (tt, tt);
+      finish = λ j. still _ _ refl refl refl (tt, tt);
+      finish_bytes = λ j e is can. still _ _ refl refl refl (tt, tt);
+      make_request = λ j reply is. still _ _ refl refl refl (tt, tt);
+      respond = λ r j b e is can. still _ _ refl refl refl (tt, tt);
+      fail_readable = λ j reason. still _ _ refl refl refl (tt, tt);
+      fail_writable = λ j reason. still _ _ refl refl refl (tt, tt);
+      fail_half = λ t reason. still _ _ refl refl refl (tt, tt);
+      terminate = λ t. still _ _ refl refl refl (tt, tt);
+      pipe = λ source dest prevent signal e f free writer. piped i s k source dest prevent signal free;
+      make_signal = still _ _ refl refl refl tt;
+      trigger = λ a reason. still _ _ refl refl refl (tt, tt);
+      settle = λ h answer q e. still _ _ refl refl refl (tt, tt);
+    })
