@@ -7,7 +7,7 @@ use Rattle.ws_value.specs.declared.fault.Fault.TheVariants.{TypeError, RangeErro
 use Rattle.ws_value.specs.declared.ids.TeeId.{TeeId}
 use Rattle.ws_value.specs.declared.value.Plain.{Plain}
 use Rattle.ws_value.specs.declared.value.Plain.TheVariants.{Undefined, Number, Fault as FaultReason, Pair, Local}
-use Rattle.ws_reason_laws.proofs.Answers.{bad_of}
+use Rattle.ws_reason_laws.proofs.Weights.{bad_of}
 
 -- the same fault, and the same reason
 

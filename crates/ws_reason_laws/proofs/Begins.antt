@@ -1,5 +1,5 @@
 -- What calls begin with keeps that nothing bad stands anywhere, where the reasons that they give aren't bad.
-use Rattle.std.proofs.Common.{◌≡◌, ℕ, suc, ◌+◌, ◌≤◌, ◌<◌, Bool, true, false, nat_eq, nat_lt, ◌&&◌, if◌then◌else◌, List, [], ◌∷◌, ◌++◌, length, Option, Some, None, Result, Ok, Err, slice_get, refl, ap, subst, ◌∙◌, arith}
+use Rattle.std.proofs.Common.{◌≡◌, ℕ, suc, ◌+◌, ◌*◌, ◌≤◌, ◌<◌, Bool, true, false, nat_eq, nat_lt, ◌&&◌, if◌then◌else◌, List, [], ◌∷◌, ◌++◌, length, Option, Some, None, Result, Ok, Err, slice_get, refl, ap, subst, ◌∙◌, arith}
 use Rattle.ws_value.specs.declared.ids.PipeId.{PipeId}
 use Rattle.ws_value.specs.declared.ids.PromiseId.{PromiseId}
 use Rattle.ws_value.specs.declared.ids.SignalId.{SignalId}
@@ -29,7 +29,7 @@ use Rattle.ws_steps.specs.Pipes as pipe
 use Rattle.ws_steps.specs.Promises.{Table, fresh, is_pending_at}
 use Rattle.ws_steps.specs.Readable as readable
 use Rattle.ws_steps.specs.Readable.{is_readable}
-use Rattle.ws_steps.specs.Slots.{Slots, Stream, ReadableStream, WritableStream, with_promises, readable_at, as_signal}
+use Rattle.ws_steps.specs.Slots.{Slots, Stream, ReadableStream, WritableStream, with_promises, as_signal}
 use Rattle.ws_steps.specs.Transform as transform
 use Rattle.ws_steps.specs.Writable as writable
 use Rattle.ws_laws.proofs.EachCall.{each_call}
@@ -38,6 +38,11 @@ use Rattle.ws_reason_laws.proofs.Known.{Badness, class, Known, known-new, known-
 use Rattle.ws_reason_laws.proofs.Readables.{effects-append}
 use Rattle.ws_reason_laws.proofs.Rows.{in_signal, signal-there}
 use Rattle.ws_reason_laws.proofs.Weights.{Class, of_reason, soft, settles, in_effects, in_stream, in_streams, in_pipe, in_pipes, in_signals, of_kind, in_transform, in_transforms, in_slots, in_table, loud, AllGood, count}
+use Rattle.ws_steps.specs.Slots.{ByteStream}
+use Rattle.ws_steps.specs.Bytes as byte
+use Rattle.ws_steps.specs.Slots.{source_at}
+use Rattle.ws_steps.specs.declared.effects.Effect.TheVariants.{Byte}
+use Rattle.ws_steps.specs.declared.byte.ByteOperation.TheVariants.{PullInto}
 
 -- what calls give: the reasons in their first effects
 
@@ -306,6 +311,19 @@ module _ (bad : Badness) (me : PipeId) (own : Option ℕ) (s : Slots) (known : K
         rejected = λ b n. promising-known (λ p. Settle p (Err type_error) ∷ []) false (λ f p e. let z = settles_one f p.0 type_error e in omega (arith, z));
         make_readable = λ mark size start b n. plain-known _ _ refl (λ f g. let a = streams-append (class bad me f) s.streams (ReadableStream (readable.set_up Host mark size)) in omega (arith, g, a));
         make_writable = λ mark size start b n. plain-known _ _ refl (λ f g. let a = streams-append (class bad me f) s.streams (WritableStream (writable.set_up Host mark size)) in omega (arith, g, a));
+        get_byob = λ i is e b n.
+            let c = fresh-count s.promises in
+            known-next bad me own s _ [] _ (λ i. false) known (omega (arith, c))
+            (λ f news g.
+            let one = soft_one f (count s.promises) (news (count s.promises) (omega arith) (omega (arith, c))) in
+            let t = fresh-keeps (class bad me f) s.promises (omega (arith, g)) in omega (arith, g, one, t));
+        release_byob = λ l closed i e b n. release_reader-known i _ (is_readable (source_at i s).state);
+        read_into = λ l i closed room element least e h b n. promising-known (λ p. Byte i (PullInto room element (least * element) (PromiseRequest p)) ∷ []) false (λ f p e. let z = soft_one f p.0 e in omega (arith, z));
+        enqueue_bytes = λ i bytes e is some can b n. plain-known s _ refl (λ f g. omega (arith, g));
+        finish_bytes = λ i e is can b n. plain-known s _ refl (λ f g. omega (arith, g));
+        make_request = λ i reply is b n. plain-known _ _ refl (λ f g. omega (arith, g));
+        respond = λ r i bytes e is can b n. plain-known s _ refl (λ f g. omega (arith, g));
+        make_bytes = λ mark auto start b n. plain-known _ _ refl (λ f g. let a = streams-append (class bad me f) s.streams (ByteStream (byte.set_up mark auto)) in omega (arith, g, a));
         get_reader = λ i e b n.
             let c = fresh-count s.promises in
             known-next bad me own s _ [] _ (λ i. false) known (omega (arith, c))
@@ -320,7 +338,7 @@ module _ (bad : Badness) (me : PipeId) (own : Option ℕ) (s : Slots) (known : K
             let one = soft_one f (count s.promises) (news (count s.promises) (omega arith) (omega (arith, c, d))) in
             let two = soft_one f (count (fresh s.promises)) (news (count (fresh s.promises)) (omega (arith, c)) (omega (arith, d))) in
             let t = fresh-keeps (class bad me f) (fresh s.promises) (fresh-keeps (class bad me f) s.promises (omega (arith, g))) in omega (arith, g, one, two, t));
-        release_reader = λ l closed i e b n. release_reader-known i _ (is_readable (readable_at i s).state);
+        release_reader = λ l closed i e b n. release_reader-known i _ (is_readable (source_at i s).state);
         release_writer = λ l i w e h b n. release_writer-known i _ (is_pending_at w.ready s.promises) (is_pending_at w.closed (with_renewed s.promises (is_pending_at w.ready s.promises)));
         cancel = λ reason i b n. promising-known (λ p. Readable i (Cancel reason p) ∷ []) false (λ f p e. omega (arith, b));
         read = λ l i closed e h b n. promising-known (λ p. Readable i (Read (PromiseRequest p)) ∷ []) false (λ f p e. let z = soft_one f p.0 e in omega (arith, z));

@@ -1,20 +1,20 @@
 -- What calls bring through transform streams: no more than a TypeError and the reasons of cancels, and nothing where there is none.
-use Rattle.std.proofs.Common.{◌≡◌, ℕ, zero, suc, ◌+◌, Bool, true, false, ◌||◌, nat_lt, if◌then◌else◌, List, [], ◌∷◌, ◌++◌, length, map, Option, Some, None, slice_get, refl, sym, ap, ◌∙◌, append_assoc, arith}
+use Rattle.std.proofs.Common.{◌≡◌, ℕ, zero, suc, ◌+◌, ◌*◌, Bool, true, false, not, ◌&&◌, ◌||◌, nat_eq, nat_lt, if◌then◌else◌, List, [], ◌∷◌, ◌++◌, length, map, Option, Some, None, slice_get, refl, sym, ap, ◌∙◌, append_assoc, arith}
 use Rattle.ws_value.specs.declared.ids.StreamId.{StreamId}
 use Rattle.ws_value.specs.declared.value.Plain.{Plain}
 use Rattle.ws_steps.specs.declared.calls.Call.{Call}
-use Rattle.ws_steps.specs.declared.calls.Call.TheVariants.{MakeTransform, Cancel, CancelBy, Terminate, Pipe}
+use Rattle.ws_steps.specs.declared.calls.Call.TheVariants.{MakeTransform, Cancel, CancelBy, Terminate, Pipe, ReadInto, Finish}
 use Rattle.ws_steps.specs.declared.effects.Owner.{Owner}
 use Rattle.ws_steps.specs.declared.effects.Owner.TheVariants.{Host, HalfOf}
 use Rattle.ws_steps.specs.declared.locks.Lock.{Lock}
-use Rattle.ws_steps.specs.declared.locks.Lock.TheVariants.{Reader}
+use Rattle.ws_steps.specs.declared.locks.Lock.TheVariants.{Reader, ByobReader}
 use Rattle.ws_steps.specs.declared.transform.Kind.{Kind}
 use Rattle.ws_steps.specs.declared.transform.Kind.TheVariants.{Identity}
-use Rattle.ws_steps.specs.Calls.{begin}
+use Rattle.ws_steps.specs.Calls.{begin, is_view}
 use Rattle.ws_steps.specs.Effects.{type_error}
 use Rattle.ws_steps.specs.ReadableLooks as readable_looks
 use Rattle.ws_steps.specs.Run.{Entry, Called, Worked, Heard, step, run}
-use Rattle.ws_steps.specs.Slots.{Slots, Stream, ReadableStream, WritableStream, most_streams, empty, readable_at, writable_at, as_readable, lock_at}
+use Rattle.ws_steps.specs.Slots.{Slots, Stream, ReadableStream, ByteStream, WritableStream, most_streams, empty, has_byte, readable_at, byte_at, source_at, writable_at, as_readable, lock_at}
 use Rattle.ws_steps.specs.Transform as transform
 use Rattle.ws_steps.specs.Writable.{is_closed, is_closing}
 use Rattle.ws_steps.specs.WritableLooks as writable_looks
@@ -22,7 +22,10 @@ use Rattle.ws_laws.proofs.Halves as halves
 use Rattle.ws_laws.proofs.Halves.{step-shapes, run-among, step-halved, halved-empty}
 use Rattle.ws_laws.proofs.Shapes.{TransformShape, ReadableOf, stream_shape, transform_shape, transform_shapes}
 use Rattle.ws_reason_laws.specs.Origins.{is_half, to_half, to_half_of, by_kind, through_of, through}
-use Rattle.ws_reason_laws.specs.Reasons.{cancel_of, cancels}
+use Rattle.ws_reason_laws.specs.Reasons.{cancel_of, cancels, BringsNothing, pull_errs, erred_with, erred_by, erred_by_read, erred}
+use Rattle.ws_steps.specs.declared.byte.RoomKind.TheVariants.{ForByob}
+use Rattle.ws_steps.specs.Bytes as byte
+use Rattle.ws_steps.specs.Queues.{is_empty}
 use Rattle.ws_reason_laws.proofs.Among.{same_reason, is_among}
 
 pub among-append : (r : Plain) (xs ys : List Plain) → is_among r (xs ++ ys) ≡ (is_among r xs || is_among r ys)
@@ -55,6 +58,7 @@ cancel-among r reason false half e = half-among r reason half e
 
 reader-among : (r reason : Plain) (s : Slots) (lock : Option Lock) → Among r (to_half_of reason s lock) (reason ∷ [])
 reader-among r reason s (Some (Reader (Some i) closed)) e = half-among r reason (is_half (readable_at i s).owner) e
+reader-among r reason s (Some (ByobReader (Some i) closed)) e = half-among r reason (is_half (readable_at i s).owner) e
 reader-among r reason s _ e = grind (arith, e)
 
 pipe-among : (r : Plain) (a b c d half : Bool) → Among r (if a then [] else if b then [] else if c then [] else if d then if half then type_error ∷ [] else [] else []) []
@@ -64,13 +68,26 @@ kind-among : (r : Plain) (kind : Kind) (s : Slots) → Among r (by_kind kind s) 
 kind-among r Identity s e = error-among r (nat_lt (length s.streams + 1) most_streams) e
 kind-among r _ s e = grind (arith, e)
 
+read-among : (r : Plain) (room element minimum : ℕ) (s : Slots) (lock : Option Lock) → Among r (erred_by_read room element minimum s lock) []
+read-among r room element minimum s (Some (ByobReader (Some i) closed)) e =
+    error-among r (has_byte i s && pull_errs (record { filled = []; room = room; minimum = minimum; element = element; room_kind = ForByob }) (byte_at i s)) e
+read-among r room element minimum s _ e = grind (arith, e)
+
+if-among : (r : Plain) (test : Bool) (xs : List Plain) → Among r xs [] → Among r (if test then xs else []) []
+if-among r true xs a e = a e
+if-among r false xs a e = grind (arith, e)
+
 call-among : (r : Plain) (c : Call) (s : Slots) → Among r (through_of c s) (cancel_of c)
-call-among r (Cancel i reason) s e = cancel-among r reason (readable_looks.is_locked (readable_at i s)) (is_half (readable_at i s).owner) e
+call-among r (Cancel i reason) s e = cancel-among r reason (readable_looks.is_locked (source_at i s)) (is_half (readable_at i s).owner) e
 call-among r (CancelBy l reason) s e = reader-among r reason s (lock_at l s) e
 call-among r (Terminate i) s e = error-among r (is_half (readable_at i s).owner) e
 call-among r (Pipe i j prevent signal) s e =
-    pipe-among r (readable_looks.is_locked (readable_at i s)) (writable_looks.is_locked (writable_at j s)) prevent.cancel (is_closing (writable_at j s) || is_closed (writable_at j s).state) (is_half (readable_at i s).owner) e
+    pipe-among r (readable_looks.is_locked (source_at i s)) (writable_looks.is_locked (writable_at j s)) prevent.cancel (is_closing (writable_at j s) || is_closed (writable_at j s).state) (is_half (readable_at i s).owner) e
 call-among r (MakeTransform kind m n start) s e = kind-among r kind s e
+call-among r (Finish i) s e = error-among r (has_byte i s && byte.close_throws (byte_at i s)) e
+call-among r (ReadInto l room element least) s e =
+    if-among r (is_view (length room) element && (nat_eq least 1 && not (is_empty room))) (erred_by_read (length room) element (least * element) s (lock_at l s))
+    (read-among r (length room) element (least * element) s (lock_at l s)) e
 call-among r c s e = grind (arith, e)
 
 joined : (a b t x y : Bool) → (a ≡ true → (t || x) ≡ true) → (b ≡ true → (t || y) ≡ true) → (a || b) ≡ true → (t || (x || y)) ≡ true
@@ -120,6 +137,7 @@ host-none o e h = let n : is_half Host ≡ true = ap is_half e ∙ h in cc
 shape-there : (xs : List Stream) (n : ℕ) (o : Owner) → (as_readable (slice_get xs n)).owner ≡ o → is_half o ≡ true → slice_get (map stream_shape xs) n ≡ Some (ReadableOf o)
 shape-there [] n o e h = host-none o e h
 shape-there (ReadableStream r ∷ xs) zero o e h = ap (λ (w : Owner). Some (ReadableOf w)) e
+shape-there (ByteStream b ∷ xs) zero o e h = host-none o e h
 shape-there (WritableStream w ∷ xs) zero o e h = host-none o e h
 shape-there (x ∷ xs) (suc n) o e h = shape-there xs n o e h
 
@@ -140,32 +158,71 @@ module _ (s : Slots) (halved : halves.Halved s) (none : s.transforms ≡ []) whe
 
   reader-none : (r : Plain) (lock : Option Lock) → to_half_of r s lock ≡ []
   reader-none r (Some (Reader (Some i) closed)) = half-none i r
+  reader-none r (Some (ByobReader (Some i) closed)) = half-none i r
   reader-none r _ = refl
 
-  call-none : (c : Call) → (begin c s).done.slots.transforms ≡ [] → through_of c s ≡ []
+  call-erred : (c : Call) → (begin c s).done.slots.transforms ≡ [] → through_of c s ≡ erred_by c s
   unfolding begin
-  call-none (Cancel i reason) n = rw (no_half i) (same (readable_looks.is_locked (readable_at i s)))
+  call-erred (Cancel i reason) n = rw (no_half i) (same (readable_looks.is_locked (source_at i s)))
     where
       same : (b : Bool) → ◌≡◌ {A = List Plain} (if b then [] else []) []
       same true = refl
       same false = refl
-  call-none (CancelBy l reason) n = reader-none reason (lock_at l s)
-  call-none (Terminate i) n = half-none i type_error
-  call-none (Pipe i j prevent signal) n = let h = half-none i type_error in grind (arith, h)
-  call-none (MakeTransform kind writable_mark readable_mark start) n = kind-none kind n
+  call-erred (CancelBy l reason) n = reader-none reason (lock_at l s)
+  call-erred (Finish i) n = refl
+  call-erred (ReadInto l room element least) n = refl
+  call-erred (Terminate i) n = half-none i type_error
+  call-erred (Pipe i j prevent signal) n = let h = half-none i type_error in grind (arith, h)
+  call-erred (MakeTransform kind writable_mark readable_mark start) n = kind-none kind n
     where
       kind-none : (kind : Kind) → (begin (MakeTransform kind writable_mark readable_mark start) s).done.slots.transforms ≡ [] → by_kind kind s ≡ []
       kind-none kind n = grind (arith, n, none)
-  call-none c n = refl
+  call-erred c n = refl
 
-pub through-none : (xs : List Entry) (s : Slots) → halves.Halved s → (run xs s).transforms ≡ [] → through xs s ≡ []
-through-none [] s h n = refl
-through-none (Called c ∷ xs) s h n =
-    let a = call-none s h (none_before (Called c ∷ xs) s n) c (none_begun c xs s n) in
-    let b = through-none xs (step s (Called c)) (step-halved (Called c) s h) n in
+pub through_erred : (xs : List Entry) (s : Slots) → halves.Halved s → (run xs s).transforms ≡ [] → through xs s ≡ erred xs s
+through_erred [] s h n = refl
+through_erred (Called c ∷ xs) s h n =
+    let a = call-erred s h (none_before (Called c ∷ xs) s n) c (none_begun c xs s n) in
+    let b = through_erred xs (step s (Called c)) (step-halved (Called c) s h) n in
     rw (a, b) refl
-through-none (Worked ∷ xs) s h n = through-none xs (step s Worked) (step-halved Worked s h) n
-through-none (Heard ∷ xs) s h n = through-none xs (step s Heard) (step-halved Heard s h) n
+through_erred (Worked ∷ xs) s h n = through_erred xs (step s Worked) (step-halved Worked s h) n
+through_erred (Heard ∷ xs) s h n = through_erred xs (step s Heard) (step-halved Heard s h) n
 
-pub none-through : (entries : List Entry) → (run entries empty).transforms ≡ [] → through entries empty ≡ []
-none-through entries n = through-none entries empty halved-empty n
+-- where there is no transform stream nothing was brought in but TypeErrors into byte streams
+pub through-erred : (entries : List Entry) → (run entries empty).transforms ≡ [] → through entries empty ≡ erred entries empty
+through-erred entries n = through_erred entries empty halved-empty n
+
+pub none-through : (entries : List Entry) → BringsNothing entries → through entries empty ≡ []
+none-through entries b = through-erred entries b.transforms ∙ b.erred
+
+one_error : (r : Plain) (test : Bool) → is_among r (erred_with test) ≡ true → same_reason type_error r ≡ true
+one_error r true e = grind (arith, e)
+one_error r false e = grind (arith, e)
+
+read_error : (r : Plain) (room element minimum : ℕ) (s : Slots) (lock : Option Lock) → is_among r (erred_by_read room element minimum s lock) ≡ true → same_reason type_error r ≡ true
+read_error r room element minimum s (Some (ByobReader (Some i) closed)) e =
+    one_error r (has_byte i s && pull_errs (record { filled = []; room = room; minimum = minimum; element = element; room_kind = ForByob }) (byte_at i s)) e
+read_error r room element minimum s _ e = grind (arith, e)
+
+if_error : (r : Plain) (test : Bool) (xs : List Plain) → (is_among r xs ≡ true → same_reason type_error r ≡ true) → is_among r (if test then xs else []) ≡ true → same_reason type_error r ≡ true
+if_error r true xs a e = a e
+if_error r false xs a e = grind (arith, e)
+
+either_one : (a b t : Bool) → (a ≡ true → t ≡ true) → (b ≡ true → t ≡ true) → (a || b) ≡ true → t ≡ true
+either_one true b t f g e = f refl
+either_one false b t f g e = g e
+
+call_erred-among : (r : Plain) (c : Call) (s : Slots) → is_among r (erred_by c s) ≡ true → same_reason type_error r ≡ true
+call_erred-among r (Finish i) s e = one_error r (has_byte i s && byte.close_throws (byte_at i s)) e
+call_erred-among r (ReadInto l room element least) s e =
+    if_error r (is_view (length room) element && (nat_eq least 1 && not (is_empty room))) (erred_by_read (length room) element (least * element) s (lock_at l s))
+    (read_error r (length room) element (least * element) s (lock_at l s)) e
+call_erred-among r c s e = grind (arith, e)
+
+pub erred-among : (r : Plain) (xs : List Entry) (s : Slots) → is_among r (erred xs s) ≡ true → same_reason type_error r ≡ true
+erred-among r [] s e = grind (arith, e)
+erred-among r (Called c ∷ xs) s e =
+    let a = among-append r (erred_by c s) (erred xs (step s (Called c))) in
+    either_one (is_among r (erred_by c s)) (is_among r (erred xs (step s (Called c)))) (same_reason type_error r) (call_erred-among r c s) (erred-among r xs (step s (Called c))) (rw a at e)
+erred-among r (Worked ∷ xs) s e = erred-among r xs (step s Worked) e
+erred-among r (Heard ∷ xs) s e = erred-among r xs (step s Heard) e

@@ -12,11 +12,11 @@ use Rattle.ws_steps.specs.declared.pipes.Prevent.{Prevent}
 use Rattle.ws_steps.specs.Effects.{type_error}
 use Rattle.ws_steps.specs.Promises.{outcome_at}
 use Rattle.ws_steps.specs.Run.{Entry, Called, Worked, Heard, run, reply_to}
-use Rattle.ws_steps.specs.Slots.{Slots, empty, readable_at, writable_at}
+use Rattle.ws_steps.specs.Slots.{Slots, empty, source_at, writable_at}
 use Rattle.ws_reason_laws.specs.Origins.{through, origins}
-use Rattle.ws_reason_laws.specs.Reasons.{reason_of, given, failure_of, failures, cancel_of, cancels, IsFree, EachReasonWasGiven, EachReasonWasAFailure, EachStoredErrorWasAFailure}
+use Rattle.ws_reason_laws.specs.Reasons.{reason_of, given, failure_of, failures, cancel_of, cancels, IsFree, EachReasonWasGiven, EachReasonWasAFailure, EachStoredErrorWasAFailure, BringsNothing}
 use Rattle.ws_reason_laws.proofs.Among.{same_reason, reason_same, is_among, among_contained, contained_among}
-use Rattle.ws_reason_laws.proofs.Brought.{among-append, through-among, none-through}
+use Rattle.ws_reason_laws.proofs.Brought.{among-append, through-among, none-through, through-erred, erred-among}
 use Rattle.ws_reason_laws.proofs.Given.{reason-has-an-origin}
 use Rattle.ws_reason_laws.proofs.Stored.{stored-error-has-an-origin}
 
@@ -43,20 +43,27 @@ module _ (entries : List Entry) (r : Plain) where
   origin-either c = subst (λ (b : Bool). b ≡ true) (among-append r (failures entries) (through entries empty)) (contained_among r (origins entries) c)
 
   -- where none did
-  none-brought : (run entries empty).transforms ≡ [] → is_among r (through entries empty) ≡ false
+  none-brought : BringsNothing entries → is_among r (through entries empty) ≡ false
   none-brought n = rw (none-through entries n) refl
 
-  -- it is a failure, where only one that wasn't brought through is meant
-  pub was-failure : (Contains (type_error ∷ cancels entries) r → (run entries empty).transforms ≡ []) → Contains (origins entries) r → Contains (failures entries) r
-  was-failure but c = by (is_among r (through entries empty)) refl
+  -- where there is no transform stream, what came in is a TypeError
+  brought-error : (run entries empty).transforms ≡ [] → is_among r (through entries empty) ≡ true → same_reason type_error r ≡ true
+  brought-error n e = erred-among r entries empty (rw (through-erred entries n) at e)
+
+  -- it is a failure, where only one that wasn't brought in is meant
+  pub was-failure : (Contains (cancels entries) r → (run entries empty).transforms ≡ []) → (r ≡ type_error → BringsNothing entries) → Contains (origins entries) r → Contains (failures entries) r
+  was-failure but nor c = by (is_among r (through entries empty)) refl (same_reason type_error r) refl
     where
-      by : (b : Bool) → is_among r (through entries empty) ≡ b → Contains (failures entries) r
-      by false e = let o = origin-either c in let h : is_among r (failures entries) ≡ true = grind (arith, o, e) in among_contained r (failures entries) h
-      by true e =
-          let n = none-brought (but (among_contained r (type_error ∷ cancels entries) (through-among r entries empty e))) in
+      by : (b : Bool) → is_among r (through entries empty) ≡ b → (d : Bool) → same_reason type_error r ≡ d → Contains (failures entries) r
+      by false e d f = let o = origin-either c in let h : is_among r (failures entries) ≡ true = grind (arith, o, e) in among_contained r (failures entries) h
+      by true e true f = let n = none-brought (nor (sym (reason_same type_error r f))) in cc
+      by true e false f =
+          let o = through-among r entries empty e in
+          let h : is_among r (cancels entries) ≡ true = grind (arith, o, f) in
+          let g = brought-error (but (among_contained r (cancels entries) h)) e in
           cc
 
-  pub was-given : (r ≡ type_error → (run entries empty).transforms ≡ []) → Contains (origins entries) r → Contains (given entries) r
+  pub was-given : (r ≡ type_error → BringsNothing entries) → Contains (origins entries) r → Contains (given entries) r
   was-given but c = by (is_among r (through entries empty)) refl (same_reason type_error r) refl
     where
       g : (is_among r (failures entries) || is_among r (cancels entries)) ≡ true → Contains (given entries) r
@@ -77,8 +84,8 @@ free-origin opening xs i j prevent signal q r free reply out =
     (λ e. record { closing = free.not_closing; closed = free.not_closed }) out
 
 pub reason-was-a-failure : EachReasonWasAFailure
-reason-was-a-failure opening xs i j prevent signal q r free reply but out =
-    was-failure (opening ++ Called (Pipe i j prevent signal) ∷ xs) r but (free-origin opening xs i j prevent signal q r free reply out)
+reason-was-a-failure opening xs i j prevent signal q r free reply but nor out =
+    was-failure (opening ++ Called (Pipe i j prevent signal) ∷ xs) r but nor (free-origin opening xs i j prevent signal q r free reply out)
 
 pub reason-was-given : EachReasonWasGiven
 reason-was-given opening xs i j prevent signal q r free reply but out =
@@ -86,6 +93,6 @@ reason-was-given opening xs i j prevent signal q r free reply but out =
 
 pub stored-error-was-a-failure : EachStoredErrorWasAFailure
 stored-error-was-a-failure = record {
-  readable = λ entries i but e. was-failure entries (readable_at i (run entries empty)).stored_error but (stored-error-has-an-origin.readable entries i e);
-  writable = λ entries i but e. was-failure entries (writable_at i (run entries empty)).stored_error but (stored-error-has-an-origin.writable entries i e);
+  readable = λ entries i but nor e. was-failure entries (source_at i (run entries empty)).stored_error but nor (stored-error-has-an-origin.readable entries i e);
+  writable = λ entries i but nor e. was-failure entries (writable_at i (run entries empty)).stored_error but nor (stored-error-has-an-origin.writable entries i e);
 }

@@ -23,6 +23,7 @@ use Rattle.ws_steps.specs.Slots.{Slots, empty}
 use Rattle.ws_pipe_laws.proofs.Kept.{each_pipe_stays}
 use Rattle.ws_reason_laws.specs.Origins.{through, origins, AreUnlocked, IsOpen, EachReasonHasAnOrigin}
 use Rattle.ws_reason_laws.specs.Reasons.{failures}
+use Rattle.ws_laws.proofs.Halves.{halved-empty}
 use Rattle.ws_reason_laws.proofs.Among.{same_reason, reason_same, reason_self, is_among, bad_unless, all-good, good_among, among_contained}
 use Rattle.ws_reason_laws.proofs.Answers.{bad_call, bad-append}
 use Rattle.ws_reason_laws.proofs.Begins.{own-known}
@@ -121,7 +122,7 @@ unfolding in_table
 known-empty bad me = record { hands = λ i. true; mine = tt; good = λ f same. refl }
 
 pub whole-empty : (bad : Badness) (me : PipeId) → Whole bad me None empty []
-whole-empty bad me = record { moment = moment-empty; halved = λ i y e. cc; opens = λ p x e m g. cc; known = known-empty bad me }
+whole-empty bad me = record { moment = moment-empty; halved = λ i y e. cc; opens = λ p x e m g. cc; known = known-empty bad me; halves = halved-empty; erring = tt }
 
 -- what a promise that hands on was rejected with
 

@@ -7,10 +7,10 @@ use Rattle.ws_steps.specs.declared.calls.Reply.{Reply}
 use Rattle.ws_steps.specs.declared.calls.Reply.TheVariants.{Promise}
 use Rattle.ws_steps.specs.Calls.{begin, named}
 use Rattle.ws_steps.specs.Run.{Entry, Called, step, run}
-use Rattle.ws_steps.specs.Slots.{Slots, Stream, Done, owner_at, has_readable, readable_at}
+use Rattle.ws_steps.specs.Slots.{Slots, Stream, Done, owner_at, has_readable, readable_at, has_source, ReadableStream, ByteStream, WritableStream}
 use Rattle.ws_steps.specs.Turns.{row, performed}
 use Rattle.ws_laws.proofs.Begin.{begin-makes}
-use Rattle.ws_laws.proofs.Shapes.{StreamShape, ReadableOf, WritableOf, stream_shape, stream_shapes, owner-told, row-stream_shapes, map-there}
+use Rattle.ws_laws.proofs.Shapes.{StreamShape, ReadableOf, BytesOf, WritableOf, stream_shape, stream_shapes, owner-told, row-stream_shapes, map-there}
 use Rattle.ws_laws.proofs.Tables.{readable_there}
 use Rattle.ws_laws.proofs.Walker as walker
 use Rattle.ws_laws.proofs.Walker.{Stays, performed-goes, untold}
@@ -18,6 +18,7 @@ use Rattle.ws_reason_laws.specs.Origins.{is_half}
 
 abbrev half_shape : StreamShape → Bool
 half_shape (ReadableOf o) = is_half o
+half_shape BytesOf = false
 half_shape (WritableOf o) = is_half o
 
 abbrev half_there : Option StreamShape → Bool
@@ -42,10 +43,20 @@ module _ (half : ℕ → Bool) (s : Slots) (h : Halved half s) (i : StreamId) wh
       by : (o : Option StreamShape) → slice_get (stream_shapes s) i.0 ≡ o → half i.0 ≡ true
       by None f = let a = owner-told s.streams i.0 in let b : is_half (owner_at i s) ≡ false = rw (a, f) refl in cc
       by (Some (ReadableOf o)) f = let a = owner-told s.streams i.0 in let b : is_half (owner_at i s) ≡ is_half o = rw (a, f) refl in h i (ReadableOf o) f ∙ (sym b ∙ e)
+      by (Some BytesOf) f = let a = owner-told s.streams i.0 in let b : is_half (owner_at i s) ≡ false = rw (a, f) refl in cc
       by (Some (WritableOf o)) f = let a = owner-told s.streams i.0 in let b : is_half (owner_at i s) ≡ is_half o = rw (a, f) refl in h i (WritableOf o) f ∙ (sym b ∙ e)
 
   pub halved-readable : has_readable i s ≡ true → half i.0 ≡ is_half (readable_at i s).owner
   halved-readable there = h i (ReadableOf (readable_at i s).owner) (map-there stream_shape s.streams i.0 _ (readable_there (slice_get s.streams i.0) there))
+
+  pub halved-source : has_source i s ≡ true → half i.0 ≡ is_half (readable_at i s).owner
+  halved-source there = by (slice_get s.streams i.0) refl
+    where
+      by : (o : Option Stream) → slice_get s.streams i.0 ≡ o → half i.0 ≡ is_half (readable_at i s).owner
+      by None e = let n : false ≡ true = rw e at there in cc
+      by (Some (ReadableStream r)) e = halved-readable (rw e refl)
+      by (Some (ByteStream b)) e = h i BytesOf (map-there stream_shape s.streams i.0 (ByteStream b) e) ∙ (rw e refl)
+      by (Some (WritableStream w)) e = let n : false ≡ true = rw e at there in cc
 
 pub halved-row : (half : ℕ → Bool) (e : Effect) (s : Slots) → Halved half s → Halved half (row e s).slots
 halved-row half e s h i y f = h i y (ap (λ (ys : List StreamShape). slice_get ys i.0) (sym (row-stream_shapes e s)) ∙ f)
@@ -69,6 +80,8 @@ stands-call i y c s h =
       pipe = λ z source dest prevent signal promise h. h;
       signal = λ z h. h;
       transform = λ z kind w r change h. h;
+      bytes = λ z mark auto h. more z.streams i.0 _ y h;
+      byob_requests = λ z hs h. h;
       readable = λ z o mark size h. more z.streams i.0 _ y h;
       writable = λ z o mark size h. more z.streams i.0 _ y h;
     }) c s h

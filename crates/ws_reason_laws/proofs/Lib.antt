@@ -1,6 +1,8 @@
 pub mod Weights
 pub mod InTable
 pub mod Readables
+pub mod Bytes
+pub mod Erring
 pub mod Writables
 pub mod Pipes
 pub mod Transforms
@@ -25,3 +27,4 @@ pub mod FirstPipe
 pub mod Untransformed
 mod Worked
 mod WorkedThrough
+mod WorkedBytes

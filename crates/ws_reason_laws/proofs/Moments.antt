@@ -1,30 +1,30 @@
 -- What is known of locks, promises and writable streams at each moment of a run.
-use Rattle.std.proofs.Common.{◌≡◌, ◌+◌, ◌≤◌, Bool, true, false, nat_eq, is_some, List, [], ◌∷◌, ◌++◌, length, Option, Some, Result, slice_get, refl, sym, ap, subst, arith}
+use Rattle.std.proofs.Common.{◌≡◌, ℕ, zero, suc, ◌+◌, ◌≤◌, Bool, true, false, nat_eq, is_some, List, [], ◌∷◌, ◌++◌, length, Option, Some, Result, slice_get, map, refl, sym, ap, subst, ◌∙◌, arith}
 use Rattle.ws_value.specs.declared.ids.PromiseId.{PromiseId}
 use Rattle.ws_value.specs.declared.ids.StreamId.{StreamId}
 use Rattle.ws_value.specs.declared.value.Plain.{Plain}
 use Rattle.ws_steps.specs.declared.calls.Call.{Call}
 use Rattle.ws_steps.specs.declared.effects.Effect.{Effect}
-use Rattle.ws_steps.specs.declared.effects.Effect.TheVariants.{Readable, Writable, Pipe}
+use Rattle.ws_steps.specs.declared.effects.Effect.TheVariants.{Readable, Byte, Writable, Pipe}
 use Rattle.ws_steps.specs.declared.pipes.PipeOperation.TheVariants as pipe_names
 use Rattle.ws_steps.specs.declared.promises.Job.{Job}
-use Rattle.ws_steps.specs.declared.readable.ReadableOperation.{ReadableOperation}
 use Rattle.ws_steps.specs.declared.writable.WritableOperation.{WritableOperation}
 use Rattle.ws_steps.specs.declared.writable.WritableOperation.TheVariants as names
 use Rattle.ws_steps.specs.Calls.{begin, add_stream}
 use Rattle.ws_steps.specs.Histories.{is_same}
 use Rattle.ws_steps.specs.Jobs.{job_effects}
-use Rattle.ws_steps.specs.Operations.{readable_operation, writable_operation}
+use Rattle.ws_steps.specs.Operations.{byte_operation, writable_operation}
 use Rattle.ws_steps.specs.Promises.{next_job, after_next_job, watch}
 use Rattle.ws_steps.specs.Run.{older, after_event}
-use Rattle.ws_steps.specs.Slots.{Slots, Stream, ReadableStream, WritableStream, Done, nothing, empty, is_writable_stream, as_writable, has_readable, has_writable, writable_at, on_readable, on_writable, put_readable, put_writable, with_promises}
+use Rattle.ws_steps.specs.Slots.{Slots, Stream, ReadableStream, ByteStream, WritableStream, Done, nothing, empty, is_writable_stream, as_writable, has_writable, writable_at, on_writable, put_writable, with_promises}
 use Rattle.ws_steps.specs.Turns.{row}
 use Rattle.ws_steps.specs.Writable as writable
 use Rattle.ws_steps.specs.Writable.{is_closed, has_ended}
 use Rattle.ws_steps.specs.WritableHistory.{Writes as History, no_writes, writes_then, effect_writes}
 use Rattle.ws_laws.proofs.Begin.{begin-makes}
 use Rattle.ws_laws.proofs.Rows.{row-streams}
-use Rattle.ws_laws.proofs.Tables.{either, same_id, readable_acts, writable_acts, on_readable-same, on_readable-other, on_writable-same, on_writable-other, place_last, place_before, eq_numbers, unequal_numbers}
+use Rattle.ws_laws.proofs.Shapes.{StreamShape, WritableOf, stream_shape, row-stream_shapes}
+use Rattle.ws_laws.proofs.Tables.{either, same_id, writable_acts, on_source-writable, on_byte-writable, on_writable-same, on_writable-other, place_last, place_before, eq_numbers, unequal_numbers}
 use Rattle.ws_laws.proofs.Truth.{or_right}
 use Rattle.ws_lock_laws.proofs.Runs.{Locked, locked-stays, run-locked}
 use Rattle.ws_promise_laws.proofs.Acting.{EachWaits, waits-heard, waits-expects}
@@ -180,27 +180,26 @@ moment-fits i (names.HandOn taker) s es m there = tt
 abbrev EachRested : Slots → Type 0
 EachRested s = (i : StreamId) → has_writable i s ≡ true → Rested i (writable_at i s)
 
+-- a stream that is writable stays so
+abbrev writable_shape : Option StreamShape → Bool
+writable_shape (Some (WritableOf o)) = true
+writable_shape _ = false
+
+writable-told : (xs : List Stream) (n : ℕ) → is_writable_stream (slice_get xs n) ≡ writable_shape (slice_get (map stream_shape xs) n)
+writable-told [] n = refl
+writable-told (ReadableStream r ∷ xs) zero = refl
+writable-told (ByteStream b ∷ xs) zero = refl
+writable-told (WritableStream w ∷ xs) zero = refl
+writable-told (x ∷ xs) (suc n) = writable-told xs n
+
+row-there : (i : StreamId) (e : Effect) (s : Slots) → has_writable i (row e s).slots ≡ has_writable i s
+row-there i e s =
+    writable-told (row e s).slots.streams i.0 ∙ (ap (λ (ys : List StreamShape). writable_shape (slice_get ys i.0)) (row-stream_shapes e s) ∙ sym (writable-told s.streams i.0))
+
 -- the place of a stream is the same
 same-rested : (i : StreamId) (s z : Slots) → slice_get z.streams i.0 ≡ slice_get s.streams i.0 → (has_writable i s ≡ true → Rested i (writable_at i s)) → has_writable i z ≡ true → Rested i (writable_at i z)
 same-rested i s z e r there =
     subst (λ (o : Option Stream). Rested i (as_writable o)) (sym e) (r (subst (λ (o : Option Stream). is_writable_stream o ≡ true) e there))
-
-readable-rested : (i j : StreamId) (operation : ReadableOperation) (s : Slots) (same : Bool) → same ≡ is_same i j → (has_writable i s ≡ true → Rested i (writable_at i s))
-    → has_writable i (on_readable (readable_operation j operation) j s).slots ≡ true → Rested i (writable_at i (on_readable (readable_operation j operation) j s).slots)
-readable-rested i j operation s false e r = λ there.
-    same-rested i s (on_readable (readable_operation j operation) j s).slots (on_readable-other (readable_operation j operation) j s i (sym e)) r there
-readable-rested i j operation s true e r =
-    either (λ (d : Done). has_writable i d.slots ≡ true → Rested i (writable_at i d.slots)) (has_readable j s) (put_readable j s (readable_operation j operation (readable_acts j s))) (nothing s)
-    (λ h there.
-    let is : i ≡ j = same_id i j (sym e) in
-    let z : slice_get (put_readable j s (readable_operation j operation (readable_acts j s))).slots.streams j.0 ≡ Some (ReadableStream (readable_operation j operation (readable_acts j s)).slots) =
-    rw h at (on_readable-same (readable_operation j operation) j s h) in
-    let f : is_writable_stream (slice_get (put_readable j s (readable_operation j operation (readable_acts j s))).slots.streams j.0) ≡ true = subst (λ (l : StreamId). has_writable l (put_readable j s (readable_operation j operation (readable_acts j s))).slots ≡ true) is there in
-    absurd (none (subst (λ (o : Option Stream). is_writable_stream o ≡ true) z f)))
-    (λ h. r)
-  where
-    none : false ≡ true → ⊥
-    none e = cc
 
 writable-rested : (i j : StreamId) (operation : WritableOperation) (s : Slots) (same : Bool) → same ≡ is_same i j → Flies j operation (writable_at j s) → EachRested s
     → has_writable i (on_writable (writable_operation j operation) j s).slots ≡ true → Rested i (writable_at i (on_writable (writable_operation j operation) j s).slots)
@@ -219,7 +218,8 @@ writable-rested i j operation s true e f r =
 
 rested-row : (s : Slots) (e : Effect) (es : List Effect) → Moment s (e ∷ es) → EachRested (row e s).slots
 unfolding row
-rested-row s (Readable j operation) es m i there = readable-rested i j operation s (is_same i j) refl (m.rested i) there
+rested-row s (Readable j operation) es m i there = rw (on_source-writable operation j s i) (m.rested i (sym (row-there i (Readable j operation) s) ∙ there))
+rested-row s (Byte j operation) es m i there = rw (on_byte-writable (byte_operation j operation) j s i) (m.rested i (sym (row-there i (Byte j operation) s) ∙ there))
 rested-row s (Writable j operation) es m i there = writable-rested i j operation s (is_same i j) refl (moment-flies j operation s es m) m.rested there
 rested-row s e es m i there = same-rested i s (row e s).slots (ap (λ (xs : List Stream). slice_get xs i.0) (row-streams e s tt)) (m.rested i) there
 
@@ -255,6 +255,8 @@ begin-rested c s r =
       pipe = λ z source dest prevent signal promise k. k;
       signal = λ z k. k;
       transform = λ z kind i j change k. k;
+      bytes = λ z mark auto k. added-rested z _ (λ i e. cc) k;
+      byob_requests = λ z hs k. k;
       readable = λ z owner mark size k. added-rested z _ (λ i e. cc) k;
       writable = λ z owner mark size k. added-rested z _ (λ i e. record { requested = λ f. cc; started = λ f. cc }) k;
     }) c s r
@@ -295,7 +297,7 @@ moment-older s m = record {
 
 pub moment-heard : (s : Slots) → Moment s [] → Moment (after_event s) []
 moment-heard s m = record {
-  locked = record { first = tt; each = λ d i. let b = m.locked.each d i in record { even = b.even; few = b.few }; waits = waits-heard s m.locked.waits };
+  locked = record { first = tt; each = λ d i. let b = m.locked.each d i in record { even = b.even; few = b.few }; waits = waits-heard s m.locked.waits; told = tt };
   written = λ i. ((m.written i).0, (rests i).heard (m.written i).0 s (m.written i).1);
   sound = record { holds = holds-told (λ x. 0 + firm_in x s) (loosely_in s) _ s.promises m.sound.holds; calm = m.sound.calm };
   rested = m.rested;

@@ -14,7 +14,7 @@ use Rattle.ws_steps.specs.Effects.{type_error}
 use Rattle.ws_steps.specs.Pipes as pipe
 use Rattle.ws_steps.specs.Promises.{next_id, fresh}
 use Rattle.ws_steps.specs.ReadableLooks as readable_looks
-use Rattle.ws_steps.specs.Slots.{Slots, has_readable, has_writable, has_signal, readable_at, writable_at}
+use Rattle.ws_steps.specs.Slots.{Slots, has_source, has_writable, has_signal, readable_at, source_at, writable_at}
 use Rattle.ws_steps.specs.Writable.{is_closed, is_closing}
 use Rattle.ws_steps.specs.WritableLooks as writable_looks
 use Rattle.ws_laws.proofs.Tables.{either, eq_numbers}
@@ -23,13 +23,12 @@ use Rattle.ws_pipe_laws.proofs.Courses.{appended}
 use Rattle.ws_pipe_laws.proofs.Made.{each_pipe_begins_flowing}
 use Rattle.ws_writable_laws.proofs.Shape.{all}
 use Rattle.ws_reason_laws.specs.Origins.{is_half, to_half, by_pipe, through_of}
-use Rattle.ws_reason_laws.proofs.Answers.{bad_of}
 use Rattle.ws_reason_laws.proofs.Asking.{asks, goes}
 use Rattle.ws_reason_laws.proofs.Closings.{Opened}
-use Rattle.ws_reason_laws.proofs.Halved.{Halved, halved-readable}
+use Rattle.ws_reason_laws.proofs.Halved.{Halved, halved-source}
 use Rattle.ws_reason_laws.proofs.Known.{Badness}
 use Rattle.ws_reason_laws.proofs.Opening.{NewOpens}
-use Rattle.ws_reason_laws.proofs.Weights.{minds}
+use Rattle.ws_reason_laws.proofs.Weights.{bad_of, minds}
 
 some_pipe : (v w : pipe.Slots) → ◌≡◌ {A = Option pipe.Slots} (Some v) (Some w) → v ≡ w
 some_pipe v w e = cc
@@ -71,20 +70,20 @@ module _ (mind : StreamId → Prevent → Bool) (p : PipeId) (s : Slots) where
         asks_none h = grind (arith, h)
 
     -- a pipe is made where both ends are there and unlocked
-    pipe-opens : (has_readable i s ≡ true → readable_looks.is_locked (readable_at i s) ≡ false → writable_looks.is_locked (writable_at j s) ≡ false → mind i prevent ≡ true → Opened j (writable_at j s))
+    pipe-opens : (has_source i s ≡ true → readable_looks.is_locked (source_at i s) ≡ false → writable_looks.is_locked (writable_at j s) ≡ false → mind i prevent ≡ true → Opened j (writable_at j s))
         → NewOpens mind p (Pipe i j prevent signal) s
     unfolding begin
     pipe-opens ready =
-        either (Opening mind p s) (has_readable i s) _ _
+        either (Opening mind p s) (has_source i s) _ _
         (λ there. either (Opening mind p s) (has_writable j s) _ _ (λ e. signalled there signal refl) (λ e. same-opens (calls.unsupported s) refl))
         (λ e. same-opens (calls.unsupported s) refl)
       where
-        both : has_readable i s ≡ true → Opening mind p s (calls.pipe_unlocked i j prevent signal s)
+        both : has_source i s ≡ true → Opening mind p s (calls.pipe_unlocked i j prevent signal s)
         both there =
-            either (Opening mind p s) (readable_looks.is_locked (readable_at i s)) _ _ (λ e. same-opens (calls.rejected s) refl)
+            either (Opening mind p s) (readable_looks.is_locked (source_at i s)) _ _ (λ e. same-opens (calls.rejected s) refl)
             (λ free. either (Opening mind p s) (writable_looks.is_locked (writable_at j s)) _ _ (λ e. same-opens (calls.rejected s) refl) (λ unlocked. made-opens (ready there free unlocked)))
 
-        signalled : has_readable i s ≡ true → (a : Option SignalId) → signal ≡ a → Opening mind p s (calls.for_signal_where a (calls.pipe_unlocked i j prevent signal) s)
+        signalled : has_source i s ≡ true → (a : Option SignalId) → signal ≡ a → Opening mind p s (calls.for_signal_where a (calls.pipe_unlocked i j prevent signal) s)
         signalled there None e = both there
         signalled there (Some a) e = either (Opening mind p s) (has_signal a s) _ _ (λ e. both there) (λ e. same-opens (calls.unsupported s) refl)
 
@@ -94,10 +93,10 @@ module _ (bad : Badness) (me : PipeId) (s : Slots) (halved : Halved bad.half s) 
 
   -- where what comes through transform streams isn't bad, another pipe minds only where its destination is neither closing nor closed
   minding-opened : (p : PipeId) (i j : StreamId) (prevent : Prevent) → nat_eq p.0 me.0 ≡ false → bad_of bad.of (by_pipe i j prevent s) ≡ 0
-      → has_readable i s ≡ true → readable_looks.is_locked (readable_at i s) ≡ false → writable_looks.is_locked (writable_at j s) ≡ false → mind p i prevent ≡ true
+      → has_source i s ≡ true → readable_looks.is_locked (source_at i s) ≡ false → writable_looks.is_locked (writable_at j s) ≡ false → mind p i prevent ≡ true
       → Opened j (writable_at j s)
   minding-opened p i j prevent other h there free unlocked m =
-      let e = halved-readable bad.half s halved i there in
+      let e = halved-source bad.half s halved i there in
       by (is_closing (writable_at j s)) refl (is_closed (writable_at j s).state) refl
       (λ z.
       let g : bad_of bad.of (if is_half (readable_at i s).owner then type_error ∷ [] else []) ≡ 0 = given h z free unlocked (not_prevented m other) in
@@ -106,7 +105,7 @@ module _ (bad : Badness) (me : PipeId) (s : Slots) (halved : Halved bad.half s) 
       not_prevented : mind p i prevent ≡ true → nat_eq p.0 me.0 ≡ false → prevent.cancel ≡ false
       not_prevented m other = grind (arith, m, other)
 
-      given : bad_of bad.of (by_pipe i j prevent s) ≡ 0 → (is_closing (writable_at j s) || is_closed (writable_at j s).state) ≡ true → readable_looks.is_locked (readable_at i s) ≡ false
+      given : bad_of bad.of (by_pipe i j prevent s) ≡ 0 → (is_closing (writable_at j s) || is_closed (writable_at j s).state) ≡ true → readable_looks.is_locked (source_at i s) ≡ false
           → writable_looks.is_locked (writable_at j s) ≡ false → prevent.cancel ≡ false → bad_of bad.of (to_half i type_error s) ≡ 0
       given h z free unlocked c = rw (free, unlocked, c, z) at h
 

@@ -5,7 +5,7 @@ use Rattle.ws_value.specs.declared.ids.PipeId.{PipeId}
 use Rattle.ws_value.specs.declared.ids.StreamId.{StreamId}
 use Rattle.ws_steps.specs.declared.calls.Call.{Call}
 use Rattle.ws_steps.specs.declared.effects.Effect.{Effect}
-use Rattle.ws_steps.specs.declared.effects.Effect.TheVariants.{Readable, Writable, Pipe}
+use Rattle.ws_steps.specs.declared.effects.Effect.TheVariants.{Readable, Byte, Writable, Pipe}
 use Rattle.ws_steps.specs.declared.pipes.Phase.{Phase}
 use Rattle.ws_steps.specs.declared.pipes.PipeOperation.{PipeOperation}
 use Rattle.ws_steps.specs.declared.pipes.Prevent.{Prevent}
@@ -14,7 +14,8 @@ use Rattle.ws_steps.specs.declared.writable.WritableOperation.{WritableOperation
 use Rattle.ws_steps.specs.Calls.{begin, add_stream}
 use Rattle.ws_steps.specs.Histories.{is_same}
 use Rattle.ws_steps.specs.Jobs.{job_effects}
-use Rattle.ws_steps.specs.Operations.{readable_operation, writable_operation, pipe_operation}
+use Rattle.ws_steps.specs.declared.byte.ByteOperation.{ByteOperation}
+use Rattle.ws_steps.specs.Operations.{byte_operation, writable_operation, pipe_operation}
 use Rattle.ws_steps.specs.Pipes as pipe
 use Rattle.ws_steps.specs.Slots.{Slots, Stream, Done, nothing, as_writable, no_writable, has_writable, writable_at, put_writable, on_writable, on_pipe_at, ends_at, found}
 use Rattle.ws_steps.specs.Turns.{row}
@@ -23,7 +24,7 @@ use Rattle.ws_laws.proofs.Begin.{begin-makes}
 use Rattle.ws_laws.proofs.Lists.{Each}
 use Rattle.ws_laws.proofs.PipeDoes.{PipeCauses, pipe-causes}
 use Rattle.ws_laws.proofs.Rows.{Causes, IsNoPipe, row-causes, row-pipes, row-streams}
-use Rattle.ws_laws.proofs.Tables.{either, same_id, is_same-refl, eq_numbers, unequal_numbers, writable_acts, on_readable-writable, on_writable-same, on_writable-other, place_before, no_stream}
+use Rattle.ws_laws.proofs.Tables.{either, same_id, is_same-refl, eq_numbers, unequal_numbers, writable_acts, on_source-writable, on_byte-writable, on_writable-same, on_writable-other, place_before, no_stream}
 use Rattle.ws_lock_laws.specs.Locks.{Writing, holds}
 use Rattle.ws_lock_laws.specs.LockLaws.{spares, all_spare}
 use Rattle.ws_lock_laws.proofs.Holding.{pipes-two}
@@ -178,12 +179,17 @@ module _ (minds : StreamId → Prevent → Bool) (me : PipeId) (s : Slots) (es :
 
   row_readable : (i : StreamId) (operation : _) (j : StreamId) → Opened j (writable_at j s) → Opened j (writable_at j (row (Readable i operation) s).slots)
   unfolding row
-  row_readable i operation j o = rw (on_readable-writable (readable_operation i operation) i s j (is_same j i) refl) o
+  row_readable i operation j o = rw (on_source-writable operation i s j) o
+
+  row_byte : (i : StreamId) (operation : ByteOperation) (j : StreamId) → Opened j (writable_at j s) → Opened j (writable_at j (row (Byte i operation) s).slots)
+  unfolding row
+  row_byte i operation j o = rw (on_byte-writable (byte_operation i operation) i s j) o
 
   pub row-opens : (e : Effect) → Moment s (e ∷ es) → Opens minds me s (e ∷ es) → Opens minds me (row e s).slots ((row e s).caused ++ es)
   row-opens (Pipe q operation) m k = pipe-opens q operation (nat_eq me.0 q.0) refl m k
   row-opens (Writable i operation) m k = rest-opens (Writable i operation) tt (row_writable i operation m) k
   row-opens (Readable i operation) m k = rest-opens (Readable i operation) tt (λ j z o. row_readable i operation j o) k
+  row-opens (Byte i operation) m k = rest-opens (Byte i operation) tt (λ j z o. row_byte i operation j o) k
   row-opens e m k = rest-opens e tt (λ j z o. subst (λ (xs : List Stream). Opened j (as_writable (slice_get xs j.0))) (sym (row-streams e s tt)) o) k
 
 -- calls
@@ -234,6 +240,8 @@ module _ (me : PipeId) (y : pipe.Slots) where
         pipe = λ z source dest prevent signal promise k. (piped z (pipe.set_up source dest prevent signal promise) k.0, k.1);
         signal = λ z k. k;
         transform = λ z kind i j change k. k;
+        bytes = λ z mark auto k. added z _ k;
+        byob_requests = λ z hs k. k;
         readable = λ z owner mark size k. added z _ k;
         writable = λ z owner mark size k. added z _ k;
       }) c s k
@@ -248,6 +256,8 @@ begin-there me y c s k =
       pipe = λ z source dest prevent signal promise k. piped me y z (pipe.set_up source dest prevent signal promise) k;
       signal = λ z k. k;
       transform = λ z kind i j change k. k;
+      bytes = λ z mark auto k. k;
+      byob_requests = λ z hs k. k;
       readable = λ z owner mark size k. k;
       writable = λ z owner mark size k. k;
     }) c s k

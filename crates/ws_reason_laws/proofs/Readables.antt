@@ -25,24 +25,24 @@ pub effects-append : (k : Class) (xs ys : List Effect) → in_effects k (xs ++ y
 effects-append k [] ys = omega arith
 effects-append k (x ∷ xs) ys = let h = effects-append k xs ys in omega (arith, h)
 
-requests-append : (k : Class) (xs ys : List ReadRequest) → in_requests k (xs ++ ys) ≡ in_requests k xs + in_requests k ys
+pub requests-append : (k : Class) (xs ys : List ReadRequest) → in_requests k (xs ++ ys) ≡ in_requests k xs + in_requests k ys
 requests-append k [] ys = omega arith
 requests-append k (x ∷ xs) ys = let h = requests-append k xs ys in omega (arith, h)
 
 module _ (k : Class) (me : StreamId) where
-  close_all-good : (rs : List ReadRequest) → in_effects k (close_all me rs) ≡ 0
+  pub close_all-good : (rs : List ReadRequest) → in_effects k (close_all me rs) ≡ 0
   close_all-good [] = refl
   close_all-good (r ∷ rs) = let h = close_all-good rs in omega (arith, h)
 
-  error_all-good : (e : Plain) (rs : List ReadRequest) → in_effects k (error_all me e rs) ≡ in_requests k rs
+  pub error_all-good : (e : Plain) (rs : List ReadRequest) → in_effects k (error_all me e rs) ≡ in_requests k rs
   error_all-good e [] = refl
   error_all-good e (r ∷ rs) = let h = error_all-good e rs in omega (arith, h)
 
   -- nothing bad stands in it
-  abbrev Good : Acts → Type 0
+  abbrev pub Good : Acts → Type 0
   Good a = in_readable k a.slots + (in_table k a.out.promises + in_effects k a.out.effects) ≡ 0
 
-  pull-good : (a : Acts) → Good a → Good (call_pull_if_needed me a)
+  pub pull-good : (a : Acts) → Good a → Good (call_pull_if_needed me a)
   unfolding call_pull_if_needed
   pull-good a h = grind (arith, h, effects-append)
 
@@ -58,11 +58,11 @@ module _ (k : Class) (me : StreamId) where
       let d = effects-append k a.out.effects (close_all me a.slots.requests) in
       omega (arith, h, s, c, d)
 
-  close-good : (a : Acts) → Good a → Good (stream_close me a)
+  pub close-good : (a : Acts) → Good a → Good (stream_close me a)
   unfolding stream_close
   close-good a h = close_reader-good (record a { slots = record a.slots { state = Closed } }) a.slots.reader (omega (arith, h)) (omega (arith, h))
 
-  error_reader-good : (e : Plain) (a : Acts) (r : Option PromiseId) → in_reader k r ≡ 0 → k.bad e ≡ 0 → Good a → Good (error_reader me e a r)
+  pub error_reader-good : (e : Plain) (a : Acts) (r : Option PromiseId) → in_reader k r ≡ 0 → k.bad e ≡ 0 → Good a → Good (error_reader me e a r)
   error_reader-good e a None z b h = h
   error_reader-good e a (Some closed) z b h =
       let s = settle-good k closed (Err e) a.out.promises (omega (arith, h)) b in
@@ -70,7 +70,7 @@ module _ (k : Class) (me : StreamId) where
       let d = effects-append k a.out.effects (error_all me e a.slots.requests) in
       omega (arith, h, s, c, d)
 
-  error-good : (e : Plain) (a : Acts) → k.bad e ≡ 0 → Good a → Good (stream_error me e a)
+  pub error-good : (e : Plain) (a : Acts) → k.bad e ≡ 0 → Good a → Good (stream_error me e a)
   unfolding stream_error
   error-good e a b h =
       error_reader-good e (record a { slots = record a.slots { state = Errored; stored_error = e } }) a.slots.reader (omega (arith, h)) b (omega (arith, h, b))
@@ -111,7 +111,7 @@ module _ (k : Class) (me : StreamId) where
   read_by-good r a Closed e z h = grind (arith, h, effects-append)
   read_by-good r a Errored e z h = grind (arith, h, z, effects-append)
 
-  release_by-good : (a : Acts) (r : Option PromiseId) → in_reader k r ≡ 0 → Good a → Good (release_by me a r)
+  pub release_by-good : (a : Acts) (r : Option PromiseId) → in_reader k r ≡ 0 → Good a → Good (release_by me a r)
   release_by-good a None z h = h
   release_by-good a (Some closed) z h =
       let s = settle_soft k closed (Err type_error) a.out.promises (omega (arith, h)) z in
@@ -141,7 +141,7 @@ module _ (k : Class) (me : StreamId) where
   ended-good a false h = h
   ended-good a true h = pull-good (record a { slots = record a.slots { pull_again = false } }) h
 
-  initialize-good : (closed : PromiseId) (a : Acts) → in_reader k (Some closed) ≡ 0 → Good a → Good (reader_generic_initialize closed a)
+  pub initialize-good : (closed : PromiseId) (a : Acts) → in_reader k (Some closed) ≡ 0 → Good a → Good (reader_generic_initialize closed a)
   unfolding reader_generic_initialize
   initialize-good closed a z h = grind (arith, h, z, settle_soft)
 

@@ -8,7 +8,7 @@ use Rattle.ws_value.specs.declared.value.Outcome.TheVariants.{Given, Finished}
 use Rattle.ws_value.specs.declared.value.Plain.{Plain}
 use Rattle.ws_value.specs.declared.value.Plain.TheVariants.{Undefined}
 use Rattle.ws_value.specs.declared.value.Value.{Value}
-use Rattle.ws_value.specs.declared.value.Value.TheVariants.{Plain as PlainValue}
+use Rattle.ws_value.specs.declared.value.Value.TheVariants.{Plain as PlainValue, Bytes}
 use Rattle.ws_steps.specs.declared.calls.Event.TheVariants.{Host as HostCalled}
 use Rattle.ws_steps.specs.declared.calls.HostCall.{HostCall}
 use Rattle.ws_steps.specs.declared.calls.StartBy.{StartBy}
@@ -39,17 +39,28 @@ use Rattle.ws_steps.specs.Promises.{Table, next_id, fresh, fresh_settled, settle
 use Rattle.ws_steps.specs.Readable as readable
 use Rattle.ws_steps.specs.Transform as transform
 use Rattle.ws_steps.specs.Writable as writable
-use Rattle.ws_steps.specs.Slots.{Slots, Stream, ReadableStream, WritableStream, Done, nothing, found, has_readable, has_writable, readable_at, writable_at, as_readable, as_writable, owner_at, put_readable, put_writable, on_readable, on_writable, on_pipe_at, on_signal_at, on_transform_at, ends_at, halves_at}
+use Rattle.ws_steps.specs.Slots.{Slots, Stream, ReadableStream, WritableStream, Done, nothing, found, has_readable, has_writable, readable_at, writable_at, as_readable, as_source, as_writable, owner_at, put_readable, put_writable, on_readable, on_writable, on_pipe_at, on_signal_at, on_transform_at, ends_at, halves_at}
 use Rattle.ws_steps.specs.Turns.{row, start_algorithm, pull_algorithm, cancel_algorithm, write_algorithm, close_algorithm, abort_algorithm, chunk_steps, close_steps, error_steps, call_host}
 use Rattle.ws_laws.proofs.Rows.{Changes, row-changes}
 use Rattle.ws_laws.proofs.Tables.{either, readable_there, writable_there, readable_acts, writable_acts}
 use Rattle.ws_reason_laws.specs.Origins.{is_half}
 use Rattle.ws_reason_laws.proofs.InTable.{settle-keeps, settle_soft, fresh-keeps, fresh_settled-keeps, tell-keeps, answer-keeps, micro-keeps, use-keeps, settle-count, answer-count, fresh-count, react-count, follow-count, micro-count, use-count}
 use Rattle.ws_reason_laws.proofs.Pipes.{Finds, hands_on, pipe-good}
-use Rattle.ws_reason_laws.proofs.Readables.{effects-append, readable-good}
+use Rattle.ws_steps.specs.Effects.{type_error}
+use Rattle.ws_reason_laws.proofs.Bytes.{inner, byte_readable-good, byte-good}
+use Rattle.ws_reason_laws.proofs.Erring.{errs}
+use Rattle.ws_reason_laws.proofs.Readables.{Good, effects-append, readable-good}
 use Rattle.ws_reason_laws.proofs.Transforms.{transform-good}
-use Rattle.ws_reason_laws.proofs.Weights.{Class, of_result, of_reason, cancelled, of_step, soft, loud, loud_one, settles, in_table, in_request, uses, of_use, gives, of_readable, of_writable, of_pipe, of_signal, of_transform, in_effect, in_effects, is_errored, in_readable, has_error, in_writable, in_stream, in_streams, in_pipe, in_pipes, in_signals, minds, in_ends, in_transform, in_transforms, in_halves, in_slots, AllGood, count}
+use Rattle.ws_reason_laws.proofs.Weights.{Class, of_result, of_reason, cancelled, of_step, soft, loud, loud_one, settles, in_table, in_request, uses, of_use, gives, of_readable, of_byte, of_writable, of_pipe, of_signal, of_transform, in_effect, in_effects, is_errored, in_readable, has_error, in_writable, in_stream, in_streams, in_pipe, in_pipes, in_signals, minds, in_ends, in_transform, in_transforms, in_halves, in_slots, AllGood, count}
 use Rattle.ws_reason_laws.proofs.Writables.{Expects, writable-good}
+use Rattle.ws_steps.specs.declared.effects.Effect.TheVariants.{CloseStepsWith}
+use Rattle.ws_steps.specs.Slots.{ByteStream, has_byte, byte_at, on_byte, put_byte}
+use Rattle.ws_steps.specs.Turns.{on_source, close_steps_with}
+use Rattle.ws_steps.specs.declared.effects.Effect.TheVariants.{Byte}
+use Rattle.ws_steps.specs.declared.byte.ByteOperation.{ByteOperation}
+use Rattle.ws_steps.specs.Operations.{byte_operation, byte_readable_operation}
+use Rattle.ws_laws.proofs.Tables.{byte_acts, byte_there}
+use Rattle.ws_steps.specs.Bytes as byte
 
 -- places
 
@@ -118,6 +129,8 @@ transform-there k (x ∷ xs) (suc i) h = transform-there k xs i (omega (arith, h
 abbrev pub Fits : (Plain → ℕ) → (ℕ → Bool) → PipeId → Effect → Slots → Type 0
 Fits bad half me (Writable i operation) s = has_writable i s ≡ true → Expects operation (writable_at i s)
 Fits bad half me (Pipe p operation) s = (x : pipe.Slots) → slice_get s.pipes p.0 ≡ Some x → Finds (minds bad half me p x.source x.prevent) (ends_at x s) x
+Fits bad half me (Readable i operation) s = errs (Readable i operation) s ≡ true → bad type_error ≡ 0
+Fits bad half me (Byte i operation) s = errs (Byte i operation) s ≡ true → bad type_error ≡ 0
 Fits bad half me (CancelAlgorithm i r p) s = is_half (owner_at i s) ≡ true → half i.0 ≡ true
 Fits bad half me _ s = Unit {0}
 
@@ -129,15 +142,23 @@ kind _ = true
 
 -- what a pipe finds
 
-pub source-good : (k : Class) (o : Option Stream) → in_place k o ≡ 0 → (if is_errored (as_readable o).state then k.bad (as_readable o).stored_error else 0) ≡ 0
+pub source-good : (k : Class) (o : Option Stream) → in_place k o ≡ 0 → (if is_errored (as_source o).state then k.bad (as_source o).stored_error else 0) ≡ 0
 source-good k None h = refl
 source-good k (Some (ReadableStream x)) h = omega (arith, h)
+source-good k (Some (ByteStream x)) h = omega (arith, h)
 source-good k (Some (WritableStream x)) h = refl
+
+half-good : (k : Class) (o : Option Stream) → in_place k o ≡ 0 → (if is_errored (as_readable o).state then k.bad (as_readable o).stored_error else 0) ≡ 0
+half-good k None h = refl
+half-good k (Some (ReadableStream x)) h = omega (arith, h)
+half-good k (Some (ByteStream x)) h = refl
+half-good k (Some (WritableStream x)) h = refl
 
 pub dest-good : (k : Class) (o : Option Stream) → in_place k o ≡ 0
     → (if has_error (as_writable o).state then k.bad (as_writable o).stored_error else 0) + loud_one k (writable.answered_abort (as_writable o)) ≡ 0
 dest-good k None h = refl
 dest-good k (Some (ReadableStream x)) h = refl
+dest-good k (Some (ByteStream x)) h = refl
 dest-good k (Some (WritableStream x)) h = grind (arith, h)
 
 ends-good : (k : Class) (x : pipe.Slots) (s : Slots) → in_slots k s ≡ 0 → in_ends k (ends_at x s) ≡ 0
@@ -148,7 +169,7 @@ ends-good k x s h =
 
 halves-good : (k : Class) (x : transform.Slots) (s : Slots) → in_slots k s ≡ 0 → in_halves k (halves_at x s) ≡ 0
 halves-good k x s h =
-    let a = source-good k (slice_get s.streams x.readable.0) (stream-there k s.streams x.readable.0 (omega (arith, h))) in
+    let a = half-good k (slice_get s.streams x.readable.0) (stream-there k s.streams x.readable.0 (omega (arith, h))) in
     let b = dest-good k (slice_get s.streams x.writable.0) (stream-there k s.streams x.writable.0 (omega (arith, h))) in
     omega (arith, a, b)
 
@@ -191,8 +212,8 @@ module _ (k : Class) (m : ℕ) where
   new_soft : (s : Slots) → News s false → count s.promises < m → soft k (count s.promises) ≡ 0
   new_soft s f l = let e = f (count s.promises) (omega arith) l in grind (arith, e)
 
-  readable-row : (i : StreamId) (operation : ReadableOperation) (s : Slots) → in_slots k s ≡ 0 → of_readable k i operation ≡ 0 → Row (on_readable (readable_operation i operation) i s)
-  readable-row i operation s h f =
+  default-row : (i : StreamId) (operation : ReadableOperation) (s : Slots) → in_slots k s ≡ 0 → of_readable k i operation ≡ 0 → Row (on_readable (readable_operation i operation) i s)
+  default-row i operation s h f =
       either Row (has_readable i s) (put_readable i s (readable_operation i operation (readable_acts i s))) (nothing s)
       (λ e.
       let there : in_readable k (readable_at i s) ≡ 0 = subst (λ (o : Option Stream). in_place k o ≡ 0) (readable_there (slice_get s.streams i.0) e) (stream-there k s.streams i.0 (omega (arith, h))) in
@@ -201,6 +222,28 @@ module _ (k : Class) (m : ℕ) where
       let z = streams-set k s.streams i.0 (ReadableStream y.slots) (omega (arith, h)) (omega (arith, g)) in
       omega (arith, h, g, z))
       (λ e. omega (arith, h))
+
+  -- an operation of a byte stream, which keeps that nothing bad stands in it
+  on_byte-row : (i : StreamId) (operation : byte.Acts → byte.Acts) (s : Slots) → in_slots k s ≡ 0
+      → (has_byte i s ≡ true → Good k i (inner (byte_acts i s)) → Good k i (inner (operation (byte_acts i s)))) → Row (on_byte operation i s)
+  on_byte-row i operation s h keeps =
+      either Row (has_byte i s) (put_byte i s (operation (byte_acts i s))) (nothing s)
+      (λ e.
+      let there : in_readable k (byte_at i s).stream ≡ 0 = subst (λ (o : Option Stream). in_place k o ≡ 0) (byte_there (slice_get s.streams i.0) e) (stream-there k s.streams i.0 (omega (arith, h))) in
+      let y : byte.Acts = operation (byte_acts i s) in
+      let g = keeps e (omega (arith, h, there)) in
+      let z = streams-set k s.streams i.0 (ByteStream y.slots) (omega (arith, h)) (omega (arith, g)) in
+      omega (arith, h, g, z))
+      (λ e. omega (arith, h))
+
+  readable-row : (i : StreamId) (operation : ReadableOperation) (s : Slots) → in_slots k s ≡ 0 → of_readable k i operation ≡ 0 → (errs (Readable i operation) s ≡ true → k.bad type_error ≡ 0) → Row (on_source operation i s)
+  readable-row i operation s h f x =
+      either Row (has_byte i s) (on_byte (byte_readable_operation i operation) i s) (on_readable (readable_operation i operation) i s)
+      (λ there. on_byte-row i (byte_readable_operation i operation) s h (λ e g. byte_readable-good k i operation (byte_acts i s) f (λ r. x (rw (e, r) refl)) g))
+      (λ absent. default-row i operation s h f)
+
+  byte-row : (i : StreamId) (operation : ByteOperation) (s : Slots) → in_slots k s ≡ 0 → of_byte k operation ≡ 0 → (errs (Byte i operation) s ≡ true → k.bad type_error ≡ 0) → Row (on_byte (byte_operation i operation) i s)
+  byte-row i operation s h f x = on_byte-row i (byte_operation i operation) s h (λ e g. byte-good k i operation (byte_acts i s) f (λ r. x (rw (e, r) refl)) g)
 
   writable-row : (i : StreamId) (operation : WritableOperation) (s : Slots) → in_slots k s ≡ 0 → of_writable k operation ≡ 0 → (has_writable i s ≡ true → Expects operation (writable_at i s)) → News s false → Until (on_writable (writable_operation i operation) i s)
   writable-row i operation s h f x l =
@@ -330,13 +373,18 @@ module _ (k : Class) (m : ℕ) where
   close-row s (Promise p) h = let a = answer-keeps k p (Finished (PlainValue Undefined)) s.promises (omega (arith, h)) refl in omega (arith, h, a)
   close-row s (PipeRequest p) h = omega (arith, h)
 
+  close_with-row : (b : List ℕ) (s : Slots) (request : ReadRequest) → in_slots k s ≡ 0 → Row (close_steps_with b s request)
+  close_with-row b s (Promise p) h = let a = answer-keeps k p (Finished (Bytes b)) s.promises (omega (arith, h)) refl in omega (arith, h, a)
+  close_with-row b s (PipeRequest p) h = omega (arith, h)
+
   error-row : (e : Plain) (s : Slots) (request : ReadRequest) → in_slots k s ≡ 0 → in_request k request ≡ 0 → Row (error_steps e s request)
   error-row e s (Promise p) h f = let a = settle_soft k p (Err e) s.promises (omega (arith, h)) f in omega (arith, h, a)
   error-row e s (PipeRequest p) h f = omega (arith, h)
 
   pub row-good : (e : Effect) (s : Slots) → in_slots k s ≡ 0 → in_effect k e ≡ 0 → Fits k.bad k.half k.me e s → News s (kind e) → Until (row e s)
   unfolding row
-  row-good (Readable i operation) s h f x l q = readable-row i operation s h f
+  row-good (Readable i operation) s h f x l q = readable-row i operation s h f x
+  row-good (Byte i operation) s h f x l q = byte-row i operation s h f x
   row-good (Writable i operation) s h f x l q = writable-row i operation s h f x l q
   row-good (Pipe p operation) s h f x l q = pipe-row p operation s (slice_get s.pipes p.0) refl h f x l q
   row-good (Signal a operation) s h f x l q = signal-row a operation s (slice_get s.signals a.0) refl h f
@@ -349,6 +397,7 @@ module _ (k : Class) (m : ℕ) where
   row-good (AbortAlgorithm i r p) s h f x l q = promises-row s s.promises s.hosts _ h (omega (arith, h)) (aborts i r (React (WritableAbort i p) None) (owner_at i s) f refl)
   row-good (ChunkSteps i request v) s h f x l q = chunk-row v s request h
   row-good (CloseSteps i request) s h f x l q = close-row s request h
+  row-good (CloseStepsWith i request b) s h f x l q = close_with-row b s request h
   row-good (ErrorSteps i request e) s h f x l q = error-row e s request h f
   row-good (Give gift u) s h f x l q = promises-row s (use_gift gift u s.promises) s.hosts [] h (give-row gift u s h f l q) refl
   row-good (Settle p o) s h f x l q = promises-row s (settle p o s.promises) s.hosts [] h (settle-keeps k p o s.promises (omega (arith, h)) f) refl

@@ -4,10 +4,11 @@ use Rattle.ws_value.specs.declared.ids.PipeId.{PipeId}
 use Rattle.ws_value.specs.declared.ids.PromiseId.{PromiseId}
 use Rattle.ws_value.specs.declared.ids.StreamId.{StreamId}
 use Rattle.ws_steps.specs.declared.calls.Call.{Call}
+use Rattle.ws_steps.specs.declared.calls.Call.TheVariants.{ReadInto, Finish}
 use Rattle.ws_steps.specs.declared.calls.Reply.{Reply}
 use Rattle.ws_steps.specs.declared.calls.Reply.TheVariants.{Promise}
 use Rattle.ws_steps.specs.declared.effects.Effect.{Effect}
-use Rattle.ws_steps.specs.declared.effects.Effect.TheVariants.{Writable as OnWritable, Pipe as OnPipe, CancelAlgorithm}
+use Rattle.ws_steps.specs.declared.effects.Effect.TheVariants.{Readable as OnReadable, Byte, Writable as OnWritable, Pipe as OnPipe, CancelAlgorithm}
 use Rattle.ws_steps.specs.declared.pipes.PipeOperation.{PipeOperation}
 use Rattle.ws_steps.specs.declared.pipes.Prevent.{Prevent}
 use Rattle.ws_steps.specs.declared.promises.Job.{Job}
@@ -19,15 +20,17 @@ use Rattle.ws_steps.specs.Run.{Entry, Called, Worked, Heard, step, run, older, a
 use Rattle.ws_steps.specs.Slots.{Slots, Done, empty, writable_at, as_pipe, with_promises, ends_at}
 use Rattle.ws_steps.specs.Turns.{row, performed}
 use Rattle.ws_steps.specs.Writable.{is_closed, is_closing}
+use Rattle.ws_laws.proofs.Halves as halves
 use Rattle.ws_laws.proofs.Walker.{performed-goes, untold}
 use Rattle.ws_lock_laws.specs.LockLaws.{all_spare}
 use Rattle.ws_lock_laws.proofs.Owning.{each_pipe_owns_its_ends}
 use Rattle.ws_pipe_laws.specs.PipeHistory.{is_over}
 use Rattle.ws_reason_laws.specs.Origins.{through_of, through}
-use Rattle.ws_reason_laws.specs.Reasons.{failure_of, failures}
-use Rattle.ws_reason_laws.proofs.Answers.{bad_of, bad_call, bad-append, begun-kinds, begun-good}
+use Rattle.ws_reason_laws.specs.Reasons.{failure_of, failures, erred_by}
+use Rattle.ws_reason_laws.proofs.Answers.{bad_call, bad-append, begun-kinds, begun-good}
 use Rattle.ws_reason_laws.proofs.Asking.{goes}
 use Rattle.ws_reason_laws.proofs.Begins.{kinds-known, call-known}
+use Rattle.ws_reason_laws.proofs.Erring.{Erring, erring-row, erring-call, erring-job}
 use Rattle.ws_reason_laws.proofs.Halved.{Halved, halved-owner, halved-row, halved-begun}
 use Rattle.ws_reason_laws.proofs.Known.{Badness, Known, row-known, job-known, watch-known, older-known, event-known}
 use Rattle.ws_reason_laws.proofs.Moments.{Moment, moment-row, moment-call, moment-job, moment-watch, moment-older, moment-heard, moment-fits}
@@ -35,7 +38,7 @@ use Rattle.ws_reason_laws.proofs.Newly.{each-opens}
 use Rattle.ws_reason_laws.proofs.Opening.{Opens, NewOpens, row-opens, call-opens, job-opens}
 use Rattle.ws_reason_laws.proofs.Pipes.{Finds}
 use Rattle.ws_reason_laws.proofs.Rows.{Fits}
-use Rattle.ws_reason_laws.proofs.Weights.{minds}
+use Rattle.ws_reason_laws.proofs.Weights.{bad_of, minds}
 
 -- what holds at each moment of a run, where reasons are weighed, `me` is the pipe that is looked at, and `own` its promise once it is made
 pub record Whole (bad : Badness) (me : PipeId) (own : Option ℕ) (s : Slots) (es : List Effect) : Type 0 where
@@ -43,6 +46,8 @@ pub record Whole (bad : Badness) (me : PipeId) (own : Option ℕ) (s : Slots) (e
   pub halved : Halved bad.half s
   pub opens : (p : PipeId) → Opens (minds bad.of bad.half me p) p s es
   pub known : Known bad me own s es
+  pub halves : halves.Halved s
+  pub erring : Erring bad.of s es
 
 flows_goes : (x : pipe.Slots) → pipe.is_flowing x.phase ≡ true → goes x.phase ≡ true
 flows_goes x f = grind (arith, f)
@@ -65,6 +70,8 @@ module _ (bad : Badness) (me : PipeId) (own : Option ℕ) where
   fits : (s : Slots) (e : Effect) (es : List Effect) → W s (e ∷ es) → Fits bad.of bad.half me e s
   fits s (OnWritable i operation) es w = λ there. moment-fits i operation s es w.moment there
   fits s (OnPipe p operation) es w = λ x there. finds p operation s es (w.opens p) x there
+  fits s (OnReadable i operation) es w = w.erring.0
+  fits s (Byte i operation) es w = w.erring.0
   fits s (CancelAlgorithm i r p) es w = halved-owner bad.half s w.halved i
   fits s e es w = tt
 
@@ -74,6 +81,8 @@ module _ (bad : Badness) (me : PipeId) (own : Option ℕ) where
     halved = halved-row bad.half e s w.halved;
     opens = λ p. row-opens (Mind p) p s es e w.moment (w.opens p);
     known = row-known bad me own s e es (fits s e es w) w.known;
+    halves = halves.halved-stays.row s e es w.halves;
+    erring = erring-row bad.of s e es w.halves w.erring;
   }
 
   performed-whole : (d : Done) → W d.slots d.caused → W (performed d) []
@@ -82,10 +91,10 @@ module _ (bad : Badness) (me : PipeId) (own : Option ℕ) where
   -- between effects
 
   older-whole : (s : Slots) → W s [] → W (older s) []
-  older-whole s w = record { moment = moment-older s w.moment; halved = w.halved; opens = w.opens; known = older-known bad me own s w.known }
+  older-whole s w = record { moment = moment-older s w.moment; halved = w.halved; opens = w.opens; known = older-known bad me own s w.known; halves = w.halves; erring = tt }
 
   watch-whole : (s : Slots) (p : PromiseId) → W s [] → W (with_promises (watch p s.promises) s) []
-  watch-whole s p w = record { moment = moment-watch s p w.moment; halved = w.halved; opens = w.opens; known = watch-known bad me own s p w.known }
+  watch-whole s p w = record { moment = moment-watch s p w.moment; halved = w.halved; opens = w.opens; known = watch-known bad me own s p w.known; halves = w.halves; erring = tt }
 
   named-whole : (reply : Reply) (s : Slots) → W s [] → W (named reply s) []
   named-whole (Promise p) s w = watch-whole s p w
@@ -107,10 +116,12 @@ module _ (bad : Badness) (me : PipeId) (own : Option ℕ) where
         halved = w.halved;
         opens = λ p. job-opens (Mind p) p job s (with_promises (after_next_job s.promises) s) refl refl (w.opens p);
         known = job-known bad me own s job e w.known;
+        halves = w.halves;
+        erring = erring-job bad.of job (with_promises (after_next_job s.promises) s);
       }
 
   heard-whole : (s : Slots) → W s [] → W (after_event s) []
-  heard-whole s w = record { moment = moment-heard s w.moment; halved = w.halved; opens = w.opens; known = event-known bad me own s w.known }
+  heard-whole s w = record { moment = moment-heard s w.moment; halved = w.halved; opens = w.opens; known = event-known bad me own s w.known; halves = w.halves; erring = tt }
 
 -- the ends of the pipe are its own, so no call asks its destination to close
 
@@ -147,6 +158,11 @@ first-good bad (Called c) xs s =
 first-good bad Worked xs s = omega arith
 first-good bad Heard xs s = omega arith
 
+erred-part : (bad : Badness) (c : Call) (s : Slots) → bad_of bad.of (through_of c s) ≡ 0 → bad_of bad.of (erred_by c s) ≡ 0
+erred-part bad (Finish i) s h = h
+erred-part bad (ReadInto l room element least) s h = h
+erred-part bad c s h = refl
+
 module _ (bad : Badness) (me : PipeId) (own : Option ℕ) where
   pub call-whole : (pre : List Entry) (c : Call) → bad_call bad c (run pre empty) ≡ 0 → Halved bad.half (begin c (run pre empty)).done.slots → NewOpens (Mind bad me own me) me c (run pre empty) → (new : Option ℕ)
       → Known bad me new (begin c (run pre empty)).done.slots (begin c (run pre empty)).done.caused → Whole bad me own (run pre empty) [] → Whole bad me new (step (run pre empty) (Called c)) []
@@ -157,6 +173,8 @@ module _ (bad : Badness) (me : PipeId) (own : Option ℕ) where
         halved = there;
         opens = λ p. call-opens (Mind bad me own p) p c s (w.opens p) (λ x e g. spared pre p c x e g) (each-opens bad me s w.halved c (omega (arith, h)) opens p);
         known = known;
+        halves = halves.halved-stays.call s c w.halves;
+        erring = erring-call bad.of s c (erred-part bad c s (omega (arith, h)));
       })
 
   called-known : (c : Call) (s : Slots) → bad_call bad c s ≡ 0 → Whole bad me own s [] → Known bad me own (begin c s).done.slots (begin c s).done.caused

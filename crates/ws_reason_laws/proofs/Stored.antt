@@ -7,7 +7,7 @@ use Rattle.ws_steps.specs.declared.readable.ReadableState.{ReadableState}
 use Rattle.ws_steps.specs.declared.readable.ReadableState.TheVariants.{Errored}
 use Rattle.ws_steps.specs.declared.writable.WritableState.{WritableState}
 use Rattle.ws_steps.specs.Run.{Entry, run}
-use Rattle.ws_steps.specs.Slots.{Slots, empty, readable_at, writable_at}
+use Rattle.ws_steps.specs.Slots.{Slots, empty, source_at, writable_at}
 use Rattle.ws_steps.specs.Writable.{is_erroring, is_errored}
 use Rattle.ws_reason_laws.specs.Origins.{origins, EachStoredErrorHasAnOrigin}
 use Rattle.ws_reason_laws.proofs.Among.{good_among, among_contained}
@@ -45,12 +45,12 @@ module _ (entries : List Entry) (i : StreamId) where
   has_origin : (r : Plain) → bad.of r ≡ 0 → Contains (origins entries) r
   has_origin r h = among_contained r (origins entries) (good_among (origins entries) r h)
 
-  readable-stored : (readable_at i s).state ≡ Errored → Contains (origins entries) (readable_at i s).stored_error
+  readable-stored : (source_at i s).state ≡ Errored → Contains (origins entries) (source_at i s).stored_error
   readable-stored e =
       let g = streams-good in
       let k : Class = class bad me g.0 in
       let h = source-good k (slice_get s.streams i.0) (stream-there k s.streams i.0 g.1) in
-      has_origin (readable_at i s).stored_error (errored-bad (readable_at i s).state (bad.of (readable_at i s).stored_error) e h)
+      has_origin (source_at i s).stored_error (errored-bad (source_at i s).state (bad.of (source_at i s).stored_error) e h)
 
   writable-stored : (is_erroring (writable_at i s).state || is_errored (writable_at i s).state) ≡ true → Contains (origins entries) (writable_at i s).stored_error
   writable-stored e =

@@ -9,8 +9,10 @@ use Rattle.ws_value.specs.declared.ids.StreamId.{StreamId}
 use Rattle.ws_value.specs.declared.value.Outcome.{Outcome}
 use Rattle.ws_value.specs.declared.value.Outcome.TheVariants.{Rejected}
 use Rattle.ws_value.specs.declared.value.Plain.{Plain}
+use Rattle.ws_steps.specs.declared.byte.ByteOperation.{ByteOperation}
+use Rattle.ws_steps.specs.declared.byte.ByteOperation.TheVariants as byte_names
 use Rattle.ws_steps.specs.declared.effects.Effect.{Effect}
-use Rattle.ws_steps.specs.declared.effects.Effect.TheVariants.{Readable as OnReadable, Writable as OnWritable, Pipe as OnPipe, Signal as OnSignal, Transform as OnTransform, StartAlgorithm, CancelAlgorithm, AbortAlgorithm, ErrorSteps, Give, Settle as SettleEffect, CallHost}
+use Rattle.ws_steps.specs.declared.effects.Effect.TheVariants.{Readable as OnReadable, Byte, Writable as OnWritable, Pipe as OnPipe, Signal as OnSignal, Transform as OnTransform, StartAlgorithm, CancelAlgorithm, AbortAlgorithm, ErrorSteps, Give, Settle as SettleEffect, CallHost}
 use Rattle.ws_steps.specs.declared.effects.Gift.{Gift}
 use Rattle.ws_steps.specs.declared.effects.Gift.TheVariants.{This, Fresh}
 use Rattle.ws_steps.specs.declared.effects.Use.{Use}
@@ -50,7 +52,7 @@ use Rattle.ws_steps.specs.Effects.{type_error}
 use Rattle.ws_steps.specs.Pipes as pipe
 use Rattle.ws_steps.specs.Promises.{Entry, Table}
 use Rattle.ws_steps.specs.Readable as readable
-use Rattle.ws_steps.specs.Slots.{Slots, Stream, ReadableStream, WritableStream}
+use Rattle.ws_steps.specs.Slots.{Slots, Stream, ReadableStream, ByteStream, WritableStream}
 use Rattle.ws_steps.specs.Transform as transform
 use Rattle.ws_steps.specs.Writable as writable
 
@@ -79,6 +81,11 @@ abbrev pub of_step : Class → Step → ℕ
 of_step k (TransformAborted t p r) = k.bad r
 of_step k (TransformCancelled t p r) = k.bad r
 of_step k _ = 0
+
+-- how bad reasons are, together
+abbrev pub bad_of : (Plain → ℕ) → List Plain → ℕ
+bad_of bad [] = 0
+bad_of bad (r ∷ rs) = bad r + bad_of bad rs
 
 -- 0 where the promise of this number hands on, and where it doesn't
 
@@ -172,6 +179,11 @@ of_readable k i (StartSettled o) = of_result k o
 of_readable k i (PullSettled o) = of_result k o
 of_readable k i _ = 0
 
+abbrev pub of_byte : Class → ByteOperation → ℕ
+of_byte k (byte_names.InitializeByobReader closed) = soft k closed.0
+of_byte k (byte_names.PullInto room element minimum request) = in_request k request
+of_byte k _ = 0
+
 abbrev pub of_writable : Class → WritableOperation → ℕ
 of_writable k (write.SetUpWriter w) = soft k w.ready.0 + soft k w.closed.0
 of_writable k (write.Write v p) = soft k p.0
@@ -210,6 +222,7 @@ of_transform k _ = 0
 
 abbrev pub in_effect : Class → Effect → ℕ
 in_effect k (OnReadable i operation) = of_readable k i operation
+in_effect k (Byte i operation) = of_byte k operation
 in_effect k (OnWritable i operation) = of_writable k operation
 in_effect k (OnPipe p operation) = of_pipe k operation
 in_effect k (OnSignal a operation) = of_signal k operation
@@ -261,6 +274,7 @@ in_writable k x = (if has_error x.state then k.bad x.stored_error else 0) + (in_
 
 abbrev pub in_stream : Class → Stream → ℕ
 in_stream k (ReadableStream x) = in_readable k x
+in_stream k (ByteStream x) = in_readable k x.stream
 in_stream k (WritableStream x) = in_writable k x
 
 abbrev pub in_streams : Class → List Stream → ℕ

@@ -1,5 +1,5 @@
 -- Where the reason comes from with which a pipe's promise is rejected.
-use Rattle.std.specs.Prelude.{◌≡◌, true, false, ◌||◌, List, [], ◌∷◌, ◌++◌, Option, Some, Contains}
+use Rattle.std.specs.Prelude.{ℕ, ◌*◌, ◌≡◌, Bool, true, false, not, ◌&&◌, ◌||◌, nat_eq, if◌then◌else◌, List, [], ◌∷◌, ◌++◌, length, Option, Some, Contains}
 use Rattle.ws_value.specs.declared.ids.PromiseId.{PromiseId}
 use Rattle.ws_value.specs.declared.ids.SignalId.{SignalId}
 use Rattle.ws_value.specs.declared.ids.StreamId.{StreamId}
@@ -8,15 +8,22 @@ use Rattle.ws_value.specs.declared.value.Plain.{Plain}
 use Rattle.ws_steps.specs.declared.calls.Answer.{Answer}
 use Rattle.ws_steps.specs.declared.calls.Answer.TheVariants.{Ok as AnswerOk, Fail as AnswerFail}
 use Rattle.ws_steps.specs.declared.calls.Call.{Call}
-use Rattle.ws_steps.specs.declared.calls.Call.TheVariants.{Cancel, CancelBy, Abort, AbortBy, Fail, Pipe, Trigger, Settle}
+use Rattle.ws_steps.specs.declared.calls.Call.TheVariants.{Cancel, CancelBy, ReadInto, Abort, AbortBy, Finish, Fail, Pipe, Trigger, Settle}
 use Rattle.ws_steps.specs.declared.calls.Reply.TheVariants.{Promise}
+use Rattle.ws_steps.specs.declared.byte.RoomKind.TheVariants.{ForByob}
+use Rattle.ws_steps.specs.declared.locks.Lock.{Lock}
+use Rattle.ws_steps.specs.declared.locks.Lock.TheVariants.{ByobReader}
 use Rattle.ws_steps.specs.declared.pipes.Prevent.{Prevent}
 use Rattle.ws_steps.specs.declared.readable.ReadableState.TheVariants.{Errored}
+use Rattle.ws_steps.specs.Bytes as byte
+use Rattle.ws_steps.specs.Calls.{is_view}
+use Rattle.ws_steps.specs.Descriptors.{Descriptor, fill_from_queue}
 use Rattle.ws_steps.specs.Effects.{type_error}
 use Rattle.ws_steps.specs.Promises.{outcome_at}
+use Rattle.ws_steps.specs.Queues.{is_empty}
 use Rattle.ws_steps.specs.ReadableLooks as readable_looks
-use Rattle.ws_steps.specs.Run.{Entry, Called, Worked, Heard, reply_to, run}
-use Rattle.ws_steps.specs.Slots.{Slots, empty, has_readable, has_writable, readable_at, writable_at}
+use Rattle.ws_steps.specs.Run.{Entry, Called, Worked, Heard, step, reply_to, run}
+use Rattle.ws_steps.specs.Slots.{Slots, empty, has_byte, has_source, has_writable, byte_at, source_at, writable_at, lock_at}
 use Rattle.ws_steps.specs.Writable.{is_closed, is_closing, is_erroring, is_errored}
 use Rattle.ws_steps.specs.WritableLooks as writable_looks
 
@@ -73,42 +80,77 @@ cancels (Called c ∷ xs) = cancel_of c ++ cancels xs
 cancels (Worked ∷ xs) = cancels xs
 cancels (Heard ∷ xs) = cancels xs
 
+-- Two calls store a TypeError in a byte stream: a close where bytes of a part of an element were filled, and a read into a room that the bytes
+-- which are queued don't fill as far as it wants, once a close was requested
+
+-- whether a read into this room stores one
+abbrev pub pull_errs : Descriptor → byte.Slots → Bool
+pull_errs d b = is_empty b.descriptors && (not (is_empty b.queue) && (b.stream.close_requested && not (fill_from_queue d b.queue).ready))
+
+abbrev pub erred_with : Bool → List Plain
+erred_with errs = if errs then type_error ∷ [] else []
+
+abbrev pub erred_by_read : ℕ → ℕ → ℕ → Slots → Option Lock → List Plain
+erred_by_read room element minimum s (Some (ByobReader (Some i) closed)) =
+    erred_with (has_byte i s && pull_errs (record { filled = []; room = room; minimum = minimum; element = element; room_kind = ForByob }) (byte_at i s))
+erred_by_read room element minimum s _ = []
+
+-- the TypeError that a call stores in a byte stream
+abbrev pub erred_by : Call → Slots → List Plain
+erred_by (Finish i) s = erred_with (has_byte i s && byte.close_throws (byte_at i s))
+erred_by (ReadInto l room element least) s =
+    if is_view (length room) element && (nat_eq least 1 && not (is_empty room)) then erred_by_read (length room) element (least * element) s (lock_at l s) else []
+erred_by _ s = []
+
+-- those of a run
+abbrev pub erred : List Entry → Slots → List Plain
+erred [] s = []
+erred (Called c ∷ xs) s = erred_by c s ++ erred xs (step s (Called c))
+erred (Worked ∷ xs) s = erred xs (step s Worked)
+erred (Heard ∷ xs) s = erred xs (step s Heard)
+
 -- a pipe may be made from stream i to stream j: they are there and unlocked, and the destination is neither closing nor closed
 pub record IsFree (i j : StreamId) (s : Slots) : Type 0 where
-  pub source : has_readable i s ≡ true
+  pub source : has_source i s ≡ true
   pub dest : has_writable j s ≡ true
-  pub source_unlocked : readable_looks.is_locked (readable_at i s) ≡ false
+  pub source_unlocked : readable_looks.is_locked (source_at i s) ≡ false
   pub dest_unlocked : writable_looks.is_locked (writable_at j s) ≡ false
   pub not_closing : is_closing (writable_at j s) ≡ false
   pub not_closed : is_closed (writable_at j s).state ≡ false
 
+-- in a run no transform stream was made, and no call stored a TypeError in a byte stream
+pub record BringsNothing (entries : List Entry) : Type 0 where
+  pub transforms : (run entries empty).transforms ≡ []
+  pub erred : erred entries empty ≡ []
+
 -- In every run, whatever else the host does in it: a pipe that was made between two such ends rejects its promise only with a reason that a
 -- call of the run gave; but with a TypeError also where there is a transform stream, since the writable half of one that is terminated fails with
--- that, which no call gives
+-- that, which no call gives, or where a call stored one in a byte stream
 abbrev pub EachReasonWasGiven : Type 0
 EachReasonWasGiven =
     (opening xs : List Entry) (i j : StreamId) (prevent : Prevent) (signal : Option SignalId) (q : PromiseId) (r : Plain)
     → let s : Slots = run opening empty in let entries : List Entry = opening ++ Called (Pipe i j prevent signal) ∷ xs in
     IsFree i j s → reply_to (Pipe i j prevent signal) s ≡ Promise q
-    → (r ≡ type_error → (run entries empty).transforms ≡ [])
+    → (r ≡ type_error → BringsNothing entries)
     → outcome_at (run entries empty).promises q ≡ Some (Rejected r) → Contains (given entries) r
 
--- and never with that of a cancel alone, where there is no transform stream: the reason with which the readable half of one is cancelled is the
--- error of its writable half
+-- and never with that of a cancel alone, nor with a TypeError that no call gave, where there is no transform stream and no call stored one in a byte
+-- stream: the reason with which the readable half of a transform stream is cancelled is the error of its writable half
 abbrev pub EachReasonWasAFailure : Type 0
 EachReasonWasAFailure =
     (opening xs : List Entry) (i j : StreamId) (prevent : Prevent) (signal : Option SignalId) (q : PromiseId) (r : Plain)
     → let s : Slots = run opening empty in let entries : List Entry = opening ++ Called (Pipe i j prevent signal) ∷ xs in
     IsFree i j s → reply_to (Pipe i j prevent signal) s ≡ Promise q
-    → (Contains (type_error ∷ cancels entries) r → (run entries empty).transforms ≡ [])
+    → (Contains (cancels entries) r → (run entries empty).transforms ≡ []) → (r ≡ type_error → BringsNothing entries)
     → outcome_at (run entries empty).promises q ≡ Some (Rejected r) → Contains (failures entries) r
 
 -- in every run, the error that a stream has stored is the reason of a failure: of a readable stream that is errored, and of a writable stream that
--- is erroring or errored. Where there is a transform stream it may be a TypeError, or the reason of a cancel
+-- is erroring or errored. Where there is a transform stream it may be a TypeError, or the reason of a cancel; and a TypeError where a call stored
+-- one in a byte stream
 pub record EachStoredErrorWasAFailure : Type 0 where
   pub readable : (entries : List Entry) (i : StreamId) → let s : Slots = run entries empty in
-      (Contains (type_error ∷ cancels entries) (readable_at i s).stored_error → s.transforms ≡ [])
-      → (readable_at i s).state ≡ Errored → Contains (failures entries) (readable_at i s).stored_error
+      (Contains (cancels entries) (source_at i s).stored_error → s.transforms ≡ []) → ((source_at i s).stored_error ≡ type_error → BringsNothing entries)
+      → (source_at i s).state ≡ Errored → Contains (failures entries) (source_at i s).stored_error
   pub writable : (entries : List Entry) (i : StreamId) → let s : Slots = run entries empty in
-      (Contains (type_error ∷ cancels entries) (writable_at i s).stored_error → s.transforms ≡ [])
+      (Contains (cancels entries) (writable_at i s).stored_error → s.transforms ≡ []) → ((writable_at i s).stored_error ≡ type_error → BringsNothing entries)
       → (is_erroring (writable_at i s).state || is_errored (writable_at i s).state) ≡ true → Contains (failures entries) (writable_at i s).stored_error
