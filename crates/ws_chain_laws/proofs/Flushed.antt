@@ -19,7 +19,7 @@ use Rattle.ws_host_laws.proofs.Flushed.{each_flush_was_settled}
 use Rattle.ws_laws.proofs.Tables.{eq_numbers}
 use Rattle.ws_link_laws.specs.Link.{OfTransform, silence, ear_by, half_enters}
 use Rattle.ws_link_laws.specs.Sound.{IsHosts}
-use Rattle.ws_chain_laws.specs.Chain.{source_of, dest_of, transform_of, IsChain}
+use Rattle.ws_chain_laws.specs.Chain.{Origin, source_of, dest_of, transform_of, IsChain}
 use Rattle.ws_chain_laws.specs.Laws.{next_enters}
 use Rattle.ws_chain_laws.specs.Outcomes.{Flushes, BringsNothing, BringsTheEnd, EachEndWasFlushed}
 use Rattle.ws_chain_laws.proofs.Numbers.{unlike}
@@ -37,7 +37,7 @@ kind : (job : Job) → Kind job
 kind (Reaction (TransformFlushed t p) (Ok v) derived) = Flush_ t p v derived refl
 kind job = Other (λ t. refl)
 
-module _ (n : ℕ) (entries : List Entry) (c : IsChain n (run entries empty)) (k : ℕ) (less : suc k ≤ n) where
+module _ (origin : Origin) (n : ℕ) (entries : List Entry) (c : IsChain origin n (run entries empty)) (k : ℕ) (less : suc k ≤ n) where
   abbrev s : Slots
   s = run entries empty
 
@@ -80,7 +80,7 @@ module _ (n : ℕ) (entries : List Entry) (c : IsChain n (run entries empty)) (k
       by-kind (Other f) = BringsNothing (ap (next_enters (suc k)) e ∙ f t)
 
 pub each_end_was_flushed : EachEndWasFlushed
-each_end_was_flushed n entries c = record {
+each_end_was_flushed origin n entries c = record {
   source = source-none (next_job (run entries empty).promises);
-  half = λ k less. brought n entries c k less (next_job (run entries empty).promises) refl;
+  half = λ k less. brought origin n entries c k less (next_job (run entries empty).promises) refl;
 }

@@ -2,6 +2,7 @@ pub mod Keeps
 mod Lists
 mod Numbers
 mod Young
+mod Firsts
 mod Making
 mod Ready
 pub mod Begins

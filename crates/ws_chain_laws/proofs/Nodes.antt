@@ -8,8 +8,8 @@ use Rattle.ws_steps.specs.declared.calls.HostCall.TheVariants.{Write, Close, Tra
 use Rattle.ws_steps.specs.Histories.{is_same}
 use Rattle.ws_laws.proofs.Tables.{eq_numbers}
 use Rattle.ws_flow.specs.Told.{Open, Closed, Told, told}
-use Rattle.ws_link_laws.specs.Link.{OfSink, OfTransform, silence, heard_call}
-use Rattle.ws_chain_laws.specs.Chain.{source_of, dest_of, transform_of, ear_of, call_enters}
+use Rattle.ws_link_laws.specs.Link.{OfSink, OfTransform, silence, heard_call, lets_in}
+use Rattle.ws_chain_laws.specs.Chain.{Origin, FromChunks, FromBytes, giver, source_of, dest_of, transform_of, ear_of, call_enters}
 use Rattle.ws_chain_laws.specs.Nodes.{only_at, EachNodesCallLeaves, EachNodesCallBrings, EachEventIsHeardAtOneLink}
 use Rattle.ws_chain_laws.proofs.Numbers.{unlike, same_where}
 
@@ -28,41 +28,48 @@ each_nodes_call_leaves n = record {
 same-source : (k m : ℕ) → is_same (source_of k) (source_of m) ≡ nat_eq k m
 same-source k m = same_where (2 * k) (2 * m) k m (λ e. ap (λ (x : ℕ). 2 * x) e) (λ e. omega (arith, e))
 
-settle-brings : (k : ℕ) → (h : _) (answer : _) → call_enters k (Settle h answer) ≡ silence
-settle-brings zero h answer = refl
-settle-brings (suc k) h answer = refl
+settle-brings : (origin : Origin) (k : ℕ) → (h : _) (answer : _) → call_enters origin k (Settle h answer) ≡ silence
+settle-brings origin zero h answer = refl
+settle-brings origin (suc k) h answer = refl
 
-fail-brings : (k : ℕ) → (i : StreamId) (reason : _) → call_enters k (Fail i reason) ≡ silence
-fail-brings zero i reason = refl
-fail-brings (suc k) i reason = refl
+fail-brings : (origin : Origin) (k : ℕ) → (i : StreamId) (reason : _) → call_enters origin k (Fail i reason) ≡ silence
+fail-brings origin zero i reason = refl
+fail-brings origin (suc k) i reason = refl
 
-trigger-brings : (k : ℕ) → (a : _) (reason : _) → call_enters k (Trigger a reason) ≡ silence
-trigger-brings zero a reason = refl
-trigger-brings (suc k) a reason = refl
+trigger-brings : (origin : Origin) (k : ℕ) → (a : _) (reason : _) → call_enters origin k (Trigger a reason) ≡ silence
+trigger-brings origin zero a reason = refl
+trigger-brings origin (suc k) a reason = refl
 
 choose : (t : Told Value) (b c : Bool) → b ≡ c → (if b then t else silence) ≡ (if c then t else silence)
 choose t b c e = ap (λ (x : Bool). if x then t else silence) e
 
-enqueue-brings : (k m : ℕ) (v : Value) → call_enters k (Enqueue (source_of m) v) ≡ only_at m (told (v ∷ []) Open) k
-enqueue-brings zero m v = choose (told (v ∷ []) Open) (is_same (source_of 0) (source_of m)) (nat_eq 0 m) (same-source 0 m)
-enqueue-brings (suc k) m v = choose (told (v ∷ []) Open) (is_same (source_of (suc k)) (source_of m)) (nat_eq (suc k) m) (same-source (suc k) m)
+enqueue-brings : (origin : Origin) (k m : ℕ) (v : Value) → call_enters origin k (Enqueue (source_of m) v) ≡ only_at m (lets_in (giver origin m) v) k
+enqueue-brings origin k m v = by (nat_eq k m) refl
+  where
+    by : (b : Bool) → nat_eq k m ≡ b → (if is_same (source_of k) (source_of m) then lets_in (giver origin k) v else silence) ≡ (if nat_eq k m then lets_in (giver origin m) v else silence)
+    by true e =
+        let is : k ≡ m = eq_numbers k m e in
+        ap (λ (x : Bool). if x then lets_in (giver origin k) v else silence) (same-source k m) ∙ rw (e, is) refl
+    by false e = ap (λ (x : Bool). if x then lets_in (giver origin k) v else silence) (same-source k m) ∙ rw e refl
 
-finish-brings : (k : ℕ) → call_enters k (Finish (source_of 0)) ≡ only_at 0 (told [] Closed) k
-finish-brings zero = refl
-finish-brings (suc k) = let u : nat_eq (suc k) 0 ≡ false = unlike (suc k) 0 (λ e. omega (arith, e)) in rw u refl
+finish-brings : (origin : Origin) (k : ℕ) → call_enters origin k (Finish (source_of 0)) ≡ only_at 0 (told [] Closed) k
+finish-brings FromChunks zero = refl
+finish-brings FromBytes zero = refl
+finish-brings origin (suc k) = let u : nat_eq (suc k) 0 ≡ false = unlike (suc k) 0 (λ e. omega (arith, e)) in rw u refl
 
-terminate-brings : (k m : ℕ) → call_enters k (Terminate (source_of (suc m))) ≡ only_at (suc m) (told [] Closed) k
-terminate-brings zero m = let u : nat_eq 0 (suc m) ≡ false = unlike 0 (suc m) (λ e. omega (arith, e)) in rw u refl
-terminate-brings (suc k) m = choose (told [] Closed) (is_same (source_of (suc k)) (source_of (suc m))) (nat_eq (suc k) (suc m)) (same-source (suc k) (suc m))
+terminate-brings : (origin : Origin) (k m : ℕ) → call_enters origin k (Terminate (source_of (suc m))) ≡ only_at (suc m) (told [] Closed) k
+terminate-brings FromChunks zero m = let u : nat_eq 0 (suc m) ≡ false = unlike 0 (suc m) (λ e. omega (arith, e)) in rw u refl
+terminate-brings FromBytes zero m = let u : nat_eq 0 (suc m) ≡ false = unlike 0 (suc m) (λ e. omega (arith, e)) in rw u refl
+terminate-brings origin (suc k) m = choose (told [] Closed) (is_same (source_of (suc k)) (source_of (suc m))) (nat_eq (suc k) (suc m)) (same-source (suc k) (suc m))
 
 pub each_nodes_call_brings : EachNodesCallBrings
-each_nodes_call_brings k = record {
-  settle = settle-brings k;
-  enqueue = enqueue-brings k;
-  finish = finish-brings k;
-  terminate = terminate-brings k;
-  fail = fail-brings k;
-  trigger = trigger-brings k;
+each_nodes_call_brings origin k = record {
+  settle = settle-brings origin k;
+  enqueue = enqueue-brings origin k;
+  finish = finish-brings origin k;
+  terminate = terminate-brings origin k;
+  fail = fail-brings origin k;
+  trigger = trigger-brings origin k;
 }
 
 -- what the host hears

@@ -18,34 +18,36 @@ use Rattle.ws_steps.specs.Histories.{is_same}
 use Rattle.ws_steps.specs.Pipes as pipe
 use Rattle.ws_steps.specs.Promises.{next_id, fresh}
 use Rattle.ws_steps.specs.Run.{Called, after_call}
-use Rattle.ws_steps.specs.Slots.{Slots, WritableStream, most_streams, owner_of, owner_at, has_readable, has_writable, as_signal}
+use Rattle.ws_steps.specs.Slots.{Slots, WritableStream, most_streams, owner_of, owner_at, has_source, has_writable, as_signal}
 use Rattle.ws_steps.specs.Writable as writable
 use Rattle.ws_laws.proofs.Lists.{Each}
 use Rattle.ws_laws.proofs.Tables.{place_last}
-use Rattle.ws_link_laws.specs.Link.{OfTransform, ear_by, ear_at, leaves}
+use Rattle.ws_link_laws.specs.Link.{OfTransform, ear_by, ear_at, giver_at, leaves}
 use Rattle.ws_link_laws.specs.Sound.{IsHosts, IsLink, IsFree, IsThere}
 use Rattle.ws_link_laws.proofs.Begins as begins
 use Rattle.ws_link_laws.proofs.Begins.{link-begins}
 use Rattle.ws_link_laws.proofs.Free.{free-called}
-use Rattle.ws_link_laws.proofs.Owners.{source-stays, sink-stays, ear-stays}
+use Rattle.ws_link_laws.proofs.Owners.{giver-stays, sink-stays, ear-stays}
 use Rattle.ws_link_laws.proofs.Pipelines.{opened-sink}
 use Rattle.ws_link_laws.proofs.Steps.{link-called}
 use Rattle.ws_link_laws.proofs.Unheard.{fresh-unheard}
-use Rattle.ws_chain_laws.specs.Chain.{source_of, dest_of, link_of, transform_of, giver, taker, ear_of}
+use Rattle.ws_chain_laws.specs.Chain.{Origin, source_of, dest_of, link_of, transform_of, giver, taker, ear_of}
 use Rattle.ws_chain_laws.specs.Opening.{nothing_prevented, piping}
+use Rattle.ws_chain_laws.proofs.Firsts.{OnlyFirst, first-append, called-first}
 use Rattle.ws_chain_laws.proofs.Lists.{all-get, all-last, length-last, split}
 use Rattle.ws_chain_laws.proofs.Making.{Made, performed-owner}
 use Rattle.ws_chain_laws.proofs.Numbers.{unlike, alike}
 use Rattle.ws_chain_laws.proofs.Young.{YoungStream, YoungPipe, Untriggered, Young, Mild, called-young}
 
 -- of n + 1 pipes so many are made; and there are so many signals
-pub record Ready (n c j : ℕ) (s : Slots) : Type 0 where
+pub record Ready (origin : Origin) (n c j : ℕ) (s : Slots) : Type 0 where
   pub links : (k : ℕ) → suc k ≤ j → IsLink (source_of k) (dest_of k) (link_of k) s
   pub free : (k : ℕ) → j ≤ k → k ≤ n → IsFree (source_of k) (dest_of k) s
-  pub gives : (k : ℕ) → k ≤ n → owner_at (source_of k) s ≡ giver k
+  pub gives : (k : ℕ) → k ≤ n → giver_at (source_of k) s ≡ giver origin k
   pub takes : (k : ℕ) → k ≤ n → owner_at (dest_of k) s ≡ taker n k
   pub hears : (k : ℕ) → k ≤ n → ear_at (dest_of k) s ≡ ear_of n k
   pub young : Young c j s
+  pub first : OnlyFirst s.streams
 
 -- numbers
 
@@ -57,7 +59,7 @@ lt_of a b e = grind (arith, e)
 
 -- the sink is made
 
-module _ (n : ℕ) (s : Slots) (d : Made n s) (few : 2 * n + 1 < most_streams) where
+module _ (origin : Origin) (n : ℕ) (s : Slots) (d : Made origin n s) (few : 2 * n + 1 < most_streams) where
   abbrev j : StreamId
   j = record { 0 = length s.streams }
 
@@ -117,28 +119,29 @@ module _ (n : ℕ) (s : Slots) (d : Made n s) (few : 2 * n + 1 < most_streams) w
         quiet = d.young.quiet;
       }
 
-  there : (k : ℕ) → k ≤ n → has_readable (source_of k) s ≡ true
-  there k l = split (λ (m : ℕ). has_readable (source_of m) s ≡ true) n k l d.opened.there (λ less. (d.free k less).source)
+  there : (k : ℕ) → k ≤ n → has_source (source_of k) s ≡ true
+  there k l = split (λ (m : ℕ). has_source (source_of m) s ≡ true) n k l d.opened.there (λ less. (d.free k less).source)
 
-  pub ready-sink : Ready n 0 0 z
+  pub ready-sink : Ready origin n 0 0 z
   ready-sink = record {
     links = λ k l. absurd (omega (arith, l));
     free = λ k a l. split (λ (m : ℕ). IsFree (source_of m) (dest_of m) z) n k l (subst (λ (i : StreamId). IsFree (source_of n) i z) j-is (opened-sink (source_of n) s 1 Count Now d.opened room)) (λ less. free-called (source_of k) (dest_of k) s c (d.free k less) refl);
-    gives = λ k l. source-stays (source_of k) (Called c ∷ []) s (there k l) ∙ d.gives k l;
+    gives = λ k l. giver-stays (source_of k) (Called c ∷ []) s (there k l) ∙ d.gives k l;
     takes = λ k l. split (λ (m : ℕ). owner_at (dest_of m) z ≡ taker n m) n k l last-taker (λ less. sink-stays (dest_of k) (Called c ∷ []) s (d.free k less).sink ∙ (d.takes k less ∙ taker-is k less));
     hears = λ k l. split (λ (m : ℕ). ear_at (dest_of m) z ≡ ear_of n m) n k l last-ear (λ less. ear-stays (dest_of k) (Called c ∷ []) s (d.free k less).sink (d.free k less).sink_owner ∙ (d.hears k less ∙ ear-is k less));
     young = sink-young;
+    first = called-first c s (rw is (first-append s.streams (WritableStream w) refl d.first));
   }
 
 -- what is there stays
 
 record Ends (k : ℕ) (s : Slots) : Type 0 where
-  source : has_readable (source_of k) s ≡ true
+  source : has_source (source_of k) s ≡ true
   sink : has_writable (dest_of k) s ≡ true
   owner : IsHosts s (owner_at (dest_of k) s)
 
-ends-of : (n c j : ℕ) (s : Slots) → Ready n c j s → (k : ℕ) → k ≤ n → Ends k s
-ends-of n c j s r k l = by (nat_le j k) refl
+ends-of : (origin : Origin) (n c j : ℕ) (s : Slots) → Ready origin n c j s → (k : ℕ) → k ≤ n → Ends k s
+ends-of origin n c j s r k l = by (nat_le j k) refl
   where
     by : (x : Bool) → nat_le j k ≡ x → Ends k s
     by true e = let f = r.free k (le_of j k e) l in record { source = f.source; sink = f.sink; owner = f.sink_owner }
@@ -146,19 +149,20 @@ ends-of n c j s r k l = by (nat_le j k) refl
 
 -- a signal is made
 
-pub ready-signal : (n : ℕ) (s : Slots) → Ready n 0 0 s → Ready n 1 0 (after_call MakeSignal s)
+pub ready-signal : (origin : Origin) (n : ℕ) (s : Slots) → Ready origin n 0 0 s → Ready origin n 1 0 (after_call MakeSignal s)
 unfolding begin
-ready-signal n s r = record {
+ready-signal origin n s r = record {
   links = λ k l. absurd (omega (arith, l));
   free = λ k a l. free-called (source_of k) (dest_of k) s MakeSignal (r.free k a l) refl;
-  gives = λ k l. source-stays (source_of k) (Called MakeSignal ∷ []) s (ends-of n 0 0 s r k l).source ∙ r.gives k l;
-  takes = λ k l. sink-stays (dest_of k) (Called MakeSignal ∷ []) s (ends-of n 0 0 s r k l).sink ∙ r.takes k l;
-  hears = λ k l. ear-stays (dest_of k) (Called MakeSignal ∷ []) s (ends-of n 0 0 s r k l).sink (ends-of n 0 0 s r k l).owner ∙ r.hears k l;
+  gives = λ k l. giver-stays (source_of k) (Called MakeSignal ∷ []) s (ends-of origin n 0 0 s r k l).source ∙ r.gives k l;
+  takes = λ k l. sink-stays (dest_of k) (Called MakeSignal ∷ []) s (ends-of origin n 0 0 s r k l).sink ∙ r.takes k l;
+  hears = λ k l. ear-stays (dest_of k) (Called MakeSignal ∷ []) s (ends-of origin n 0 0 s r k l).sink (ends-of origin n 0 0 s r k l).owner ∙ r.hears k l;
   young =
       let e = r.young.count in
       let m = length-last s.signals pipe.new_signal in
       called-young 1 0 MakeSignal s
       (record { streams = r.young.streams; pipes = r.young.pipes; signals = all-last Untriggered s.signals pipe.new_signal r.young.signals refl; count = omega (arith, m, e); piped = r.young.piped; quiet = r.young.quiet }) tt;
+  first = called-first MakeSignal s r.first;
 }
 
 -- a pipe is made
@@ -169,7 +173,7 @@ leaves-other k j n signal =
     let b : is_same (dest_of k) (dest_of j) ≡ false = unlike (2 * k + 1) (2 * j + 1) (λ e. n (omega (arith, e))) in
     rw (a, b) refl
 
-module _ (n c j : ℕ) (s : Slots) (r : Ready n c j s) (less : j ≤ n) (signal : Option SignalId) (there : IsThere signal s) where
+module _ (origin : Origin) (n c j : ℕ) (s : Slots) (r : Ready origin n c j s) (less : j ≤ n) (signal : Option SignalId) (there : IsThere signal s) where
   abbrev call : Call
   call = piping signal j
 
@@ -222,15 +226,16 @@ module _ (n c j : ℕ) (s : Slots) (r : Ready n c j s) (less : j ≤ n) (signal 
           }
 
   ends : (k : ℕ) → k ≤ n → Ends k s
-  ends k l = ends-of n c j s r k l
+  ends k l = ends-of origin n c j s r k l
 
-  pub ready-pipe : Ready n c (suc j) to
+  pub ready-pipe : Ready origin n c (suc j) to
   ready-pipe = record {
     links = λ k l. split (λ (m : ℕ). IsLink (source_of m) (dest_of m) (link_of m) to) j k (omega (arith, l)) new-link
         (λ below. (link-called (source_of k) (dest_of k) (link_of k) s call (r.links k below) (leaves-other k j (λ e. omega (arith, e, below)) signal)).0);
     free = λ k a l. free-called (source_of k) (dest_of k) s call (r.free k (omega (arith, a)) l) (leaves-other k j (λ e. omega (arith, e, a)) signal);
-    gives = λ k l. source-stays (source_of k) (Called call ∷ []) s (ends k l).source ∙ r.gives k l;
+    gives = λ k l. giver-stays (source_of k) (Called call ∷ []) s (ends k l).source ∙ r.gives k l;
     takes = λ k l. sink-stays (dest_of k) (Called call ∷ []) s (ends k l).sink ∙ r.takes k l;
     hears = λ k l. ear-stays (dest_of k) (Called call ∷ []) s (ends k l).sink (ends k l).owner ∙ r.hears k l;
     young = pipe-young;
+    first = called-first call s (rw is-begun r.first);
   }

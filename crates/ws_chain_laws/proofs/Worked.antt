@@ -1,12 +1,13 @@
 -- A chain of one transform stream at work: a chunk is brought to its first link, the host hears of it there and brings two to the next, of which it
 -- hears of the first at the sink.
 use Rattle.std.proofs.Common.{◌≡◌, ℕ, zero, suc, false, [], ◌∷◌, ◌++◌, List, refl}
-use Rattle.ws_value.specs.declared.value.{Plain.TheVariants.{Undefined}, Value.{Value}, Value.TheVariants.{Plain}}
+use Rattle.ws_value.specs.declared.value.{Plain.TheVariants.{Undefined}, Value.{Value}, Value.TheVariants.{Plain, Bytes}}
 use Rattle.ws_steps.specs.declared.calls.Call.TheVariants.{Enqueue}
 use Rattle.ws_steps.specs.Promises.{fresh, settle, answer, react, follow, queue_micro, unfollow, use_gift, after_next_job, watch}
 use Rattle.ws_steps.specs.Turns.{call_host, row, turns, performed}
 use Rattle.ws_steps.specs.Jobs.{begin_job}
 use Rattle.ws_steps.specs.Calls.{begin}
+use Rattle.ws_steps.specs.Bytes as byte
 use Rattle.ws_steps.specs.Readable as readable
 use Rattle.ws_steps.specs.Writable as writable
 use Rattle.ws_steps.specs.Pipes as pipe
@@ -14,7 +15,7 @@ use Rattle.ws_steps.specs.Transform as transform
 use Rattle.ws_steps.specs.Run.{Entry, Called, Worked, Heard, run}
 use Rattle.ws_flow.specs.Told.{Open, told}
 use Rattle.ws_link_laws.specs.Link.{silence}
-use Rattle.ws_chain_laws.specs.Chain.{source_of, behind_at}
+use Rattle.ws_chain_laws.specs.Chain.{FromChunks, FromBytes, source_of, behind_at}
 use Rattle.ws_chain_laws.specs.Opening.{chained}
 use Rattle.ws_chain_laws.specs.Runs.{brought_to, heard_from}
 
@@ -37,11 +38,25 @@ first = Called (Enqueue (source_of 0) v) ∷ (jobs 24 ++ heard 4)
 abbrev both : List Entry
 both = first ++ Called (Enqueue (source_of 1) v) ∷ Called (Enqueue (source_of 1) v) ∷ (jobs 24 ++ heard 4)
 
-worked : (brought_to 0 both (chained 1 false) ≡ told (v ∷ []) Open)
-    × ((heard_from 1 0 both (chained 1 false) ≡ told (v ∷ []) Open)
-    × ((brought_to 1 both (chained 1 false) ≡ told (v ∷ v ∷ []) Open)
-    × ((heard_from 1 1 both (chained 1 false) ≡ told (v ∷ []) Open)
-    × ((behind_at 0 (run both (chained 1 false)) ≡ silence)
-    × (behind_at 1 (run both (chained 1 false)) ≡ told (v ∷ []) Open)))))
+worked : (brought_to FromChunks 0 both (chained FromChunks 1 false) ≡ told (v ∷ []) Open)
+    × ((heard_from 1 0 both (chained FromChunks 1 false) ≡ told (v ∷ []) Open)
+    × ((brought_to FromChunks 1 both (chained FromChunks 1 false) ≡ told (v ∷ v ∷ []) Open)
+    × ((heard_from 1 1 both (chained FromChunks 1 false) ≡ told (v ∷ []) Open)
+    × ((behind_at 0 (run both (chained FromChunks 1 false)) ≡ silence)
+    × (behind_at 1 (run both (chained FromChunks 1 false)) ≡ told (v ∷ []) Open)))))
 unfolding fresh settle answer react follow queue_micro unfollow use_gift after_next_job watch readable.call_pull_if_needed readable.accept readable.controller_enqueue readable.stream_close readable.stream_error readable.close_if_empty readable.controller_close readable.controller_error readable.after_take readable.pull_steps readable.default_reader_read readable.disturb readable.reader_generic_initialize readable.start_settled readable.pull_settled readable.cancel_steps readable.stream_cancel readable.cancel_if_readable readable.reader_release writable.ensure_rejected writable.settle_pending writable.update_backpressure writable.refresh_backpressure writable.reject_close_and_closed writable.finish_erroring writable.start_erroring writable.deal_with_rejection writable.controller_error_if_needed writable.process_write writable.process_close writable.advance_queue writable.hand_on writable.write_settled writable.finish_in_flight_close writable.finish_in_flight_close_with_error writable.close_settled writable.start_settled writable.abort_settled writable.controller_write writable.writer_write writable.controller_close writable.stream_close writable.close_with_error_propagation writable.stream_abort writable.abort_if_writable writable.set_up_writer writable.writer_release pipe.finalize pipe.act_by_signal pipe.act pipe.proceed pipe.shutdown pipe.look pipe.look_ready pipe.go_on pipe.keep_chunk pipe.read_ended pipe.write_chunk pipe.write_ended pipe.action_settled pipe.part_settled pipe.no_parts pipe.abort transform.set_backpressure transform.unblock transform.transform_error transform.terminate transform.enqueue transform.enqueued transform.transform_chunk transform.sink_write transform.write_goes_on transform.source_pull transform.sink_close transform.sink_abort transform.source_cancel transform.flush_settled transform.abort_settled transform.cancel_settled call_host row turns performed begin_job begin
 worked = (refl, (refl, (refl, (refl, (refl, refl)))))
+
+-- from a byte source: what isn't bytes, and no bytes, aren't brought, and bytes are
+
+abbrev b : Value
+b = Bytes (7 ∷ [])
+
+abbrev bytes : List Entry
+bytes = Called (Enqueue (source_of 0) v) ∷ Called (Enqueue (source_of 0) (Bytes [])) ∷ Called (Enqueue (source_of 0) b) ∷ (jobs 24 ++ heard 4)
+
+bytes_worked : (brought_to FromBytes 0 bytes (chained FromBytes 1 false) ≡ told (b ∷ []) Open)
+    × ((heard_from 1 0 bytes (chained FromBytes 1 false) ≡ told (b ∷ []) Open)
+    × (behind_at 0 (run bytes (chained FromBytes 1 false)) ≡ silence))
+unfolding byte.call_pull_if_needed byte.stream_close byte.controller_error byte.handle_queue_drain byte.pull_steps byte.default_reader_read byte.controller_close byte.controller_enqueue byte.start_settled byte.pull_settled byte.stream_cancel byte.cancel_if_readable byte.reader_release byte.reader_initialize byte.read fresh settle answer react follow queue_micro unfollow use_gift after_next_job watch readable.call_pull_if_needed readable.accept readable.controller_enqueue readable.stream_close readable.stream_error readable.close_if_empty readable.controller_close readable.controller_error readable.after_take readable.pull_steps readable.default_reader_read readable.disturb readable.reader_generic_initialize readable.start_settled readable.pull_settled readable.cancel_steps readable.stream_cancel readable.cancel_if_readable readable.reader_release writable.ensure_rejected writable.settle_pending writable.update_backpressure writable.refresh_backpressure writable.reject_close_and_closed writable.finish_erroring writable.start_erroring writable.deal_with_rejection writable.controller_error_if_needed writable.process_write writable.process_close writable.advance_queue writable.hand_on writable.write_settled writable.finish_in_flight_close writable.finish_in_flight_close_with_error writable.close_settled writable.start_settled writable.abort_settled writable.controller_write writable.writer_write writable.controller_close writable.stream_close writable.close_with_error_propagation writable.stream_abort writable.abort_if_writable writable.set_up_writer writable.writer_release pipe.finalize pipe.act_by_signal pipe.act pipe.proceed pipe.shutdown pipe.look pipe.look_ready pipe.go_on pipe.keep_chunk pipe.read_ended pipe.write_chunk pipe.write_ended pipe.action_settled pipe.part_settled pipe.no_parts pipe.abort transform.set_backpressure transform.unblock transform.transform_error transform.terminate transform.enqueue transform.enqueued transform.transform_chunk transform.sink_write transform.write_goes_on transform.source_pull transform.sink_close transform.sink_abort transform.source_cancel transform.flush_settled transform.abort_settled transform.cancel_settled call_host row turns performed begin_job begin
+bytes_worked = (refl, (refl, refl))

@@ -1,5 +1,5 @@
 -- A realm in which nothing has gone on: streams were made and piped, and no job was performed.
-use Rattle.std.proofs.Common.{◌≡◌, ℕ, false, List, [], ◌∷◌, ◌++◌, length, Option, Some, None, slice_get, refl, ◌∙◌}
+use Rattle.std.proofs.Common.{◌≡◌, ℕ, false, List, [], ◌∷◌, ◌++◌, length, Option, Some, None, slice_get, refl, ◌∙◌, arith}
 use Rattle.ws_value.specs.declared.ids.SignalId.{SignalId}
 use Rattle.ws_value.specs.declared.ids.PipeId.{PipeId}
 use Rattle.ws_value.specs.declared.ids.StreamId.{StreamId}
@@ -18,17 +18,18 @@ use Rattle.ws_steps.specs.declared.readable.SizeBy.TheVariants.{Count}
 use Rattle.ws_steps.specs.declared.writable.WritableOperation.{WritableOperation}
 use Rattle.ws_steps.specs.declared.writable.WritableOperation.TheVariants as writes
 use Rattle.ws_steps.specs.declared.writable.WritableState.TheVariants.{Writable}
+use Rattle.ws_steps.specs.Bytes as byte
 use Rattle.ws_steps.specs.Calls.{begin, named}
 use Rattle.ws_steps.specs.Effects.{Out}
-use Rattle.ws_steps.specs.Operations.{readable_operation, writable_operation, signal_operation}
+use Rattle.ws_steps.specs.Operations.{readable_operation, byte_readable_operation, writable_operation, signal_operation}
 use Rattle.ws_steps.specs.Pipes as pipe
 use Rattle.ws_steps.specs.Readable as readable
 use Rattle.ws_steps.specs.Run.{after_call}
-use Rattle.ws_steps.specs.Slots.{Slots, Stream, ReadableStream, WritableStream, Done, nothing, has_readable, has_writable, readable_at, writable_at, put_stream, put_readable, put_writable, on_signal_at}
+use Rattle.ws_steps.specs.Slots.{Slots, Stream, ReadableStream, ByteStream, WritableStream, Done, nothing, has_readable, has_byte, has_writable, readable_at, byte_at, writable_at, put_stream, put_readable, put_byte, put_writable, on_readable, on_byte, on_signal_at}
 use Rattle.ws_steps.specs.Turns.{row, performed}
 use Rattle.ws_steps.specs.Writable as writable
 use Rattle.ws_laws.proofs.Lists.{Each, each-append}
-use Rattle.ws_laws.proofs.Tables.{either, readable_acts, writable_acts, readable_there, writable_there}
+use Rattle.ws_laws.proofs.Tables.{either, readable_acts, byte_acts, writable_acts, readable_there, byte_there, writable_there}
 use Rattle.ws_room_laws.proofs.Turns.{performed-kept}
 use Rattle.ws_link_laws.specs.Link.{Ear, silence, unheard}
 use Rattle.ws_link_laws.proofs.Unheard.{row-unheard, watch-unheard}
@@ -48,6 +49,7 @@ pub record YoungSink (w : writable.Slots) : Type 0 where
 
 abbrev pub YoungStream : Stream → Type 0
 YoungStream (ReadableStream r) = YoungSource r
+YoungStream (ByteStream b) = YoungSource (byte.shown b)
 YoungStream (WritableStream w) = YoungSink w
 
 pub record YoungPipe (x : pipe.Slots) : Type 0 where
@@ -87,6 +89,13 @@ source-mild i (reads.InitializeReader p) a m y = (record { state = y.state; queu
 source-mild i reads.Disturb a m y = (record { state = y.state; queue = y.queue; request = y.request }, refl)
 source-mild i _ a m y = absurd m
 
+bytes-mild : (i : StreamId) (operation : ReadableOperation) (a : byte.Acts) → Mild (OnReadable i operation) → YoungSource (byte.shown a.slots)
+    → let b : byte.Acts = byte_readable_operation i operation a in YoungSource (byte.shown b.slots) × (b.out.effects ≡ a.out.effects)
+unfolding byte.reader_initialize readable.reader_generic_initialize readable.disturb
+bytes-mild i (reads.InitializeReader p) a m y = grind (arith, y)
+bytes-mild i reads.Disturb a m y = grind (arith, y)
+bytes-mild i _ a m y = absurd m
+
 sink-mild : (i : StreamId) (operation : WritableOperation) (a : writable.Acts) → Mild (OnWritable i operation) → YoungSink a.slots
     → let b : writable.Acts = writable_operation i operation a in YoungSink b.slots × (b.out.effects ≡ a.out.effects)
 unfolding writable.set_up_writer
@@ -124,12 +133,19 @@ module _ (c p : ℕ) where
   row-after : (e : Effect) (s : Slots) → Young c p s → Mild e → After c p (row e s)
   unfolding row
   row-after (OnReadable i operation) s y m =
-      either (λ (d : Done). After c p d) (has_readable i s) (put_readable i s (readable_operation i operation (readable_acts i s))) (nothing s)
+      either (λ (d : Done). After c p d) (has_byte i s) (on_byte (byte_readable_operation i operation) i s) (on_readable (readable_operation i operation) i s)
+      (λ is. either (λ (d : Done). After c p d) (has_byte i s) (put_byte i s (byte_readable_operation i operation (byte_acts i s))) (nothing s)
+      (λ there.
+      let old : YoungSource (byte.shown (byte_at i s)) = all-get YoungStream s.streams i.0 (ByteStream (byte_at i s)) y.streams (byte_there (slice_get s.streams i.0) there) in
+      let h = bytes-mild i operation (byte_acts i s) m old in
+      put-after i s (ByteStream (byte_readable_operation i operation (byte_acts i s)).slots) (byte_readable_operation i operation (byte_acts i s)).out y h.0 h.1)
+      (λ absent. same-after [] s s y refl refl refl tt))
+      (λ none. either (λ (d : Done). After c p d) (has_readable i s) (put_readable i s (readable_operation i operation (readable_acts i s))) (nothing s)
       (λ there.
       let old : YoungSource (readable_at i s) = all-get YoungStream s.streams i.0 (ReadableStream (readable_at i s)) y.streams (readable_there (slice_get s.streams i.0) there) in
       let h = source-mild i operation (readable_acts i s) m old in
       put-after i s (ReadableStream (readable_operation i operation (readable_acts i s)).slots) (readable_operation i operation (readable_acts i s)).out y h.0 h.1)
-      (λ absent. same-after [] s s y refl refl refl tt)
+      (λ absent. same-after [] s s y refl refl refl tt))
   row-after (OnWritable i operation) s y m =
       either (λ (d : Done). After c p d) (has_writable i s) (put_writable i s (writable_operation i operation (writable_acts i s))) (nothing s)
       (λ there.

@@ -1,4 +1,5 @@
--- A chain of links in one realm: from a source of the host's own through n transform streams of the host's kind to a sink of the host's own.
+-- A chain of links in one realm: from a source of the host's own, with a controller of either kind, through n transform streams of the host's kind
+-- to a sink of the host's own.
 -- Link k goes by pipe k from stream 2k to stream 2k + 1. The source is stream 0, transform stream k takes chunks by stream 2k + 1 and gives
 -- them by stream 2k + 2, and the sink is stream 2n + 1.
 use Rattle.std.specs.Prelude.{ℕ, zero, suc, ◌+◌, ◌*◌, ◌≤◌, ◌≡◌, nat_eq, true, if◌then◌else◌}
@@ -14,7 +15,7 @@ use Rattle.ws_steps.specs.declared.transform.TransformId.{TransformId}
 use Rattle.ws_steps.specs.Slots.{Slots, owner_at}
 use Rattle.ws_flow.specs.Told.{Told}
 use Rattle.ws_link_laws.specs.Link as link
-use Rattle.ws_link_laws.specs.Link.{Ear, OfSink, OfTransform, ear_at, behind, leaves}
+use Rattle.ws_link_laws.specs.Link.{Ear, OfSink, OfTransform, Giver, OfSource, OfByteSource, OfHalf, silence, ear_at, giver_at, behind, leaves}
 use Rattle.ws_link_laws.specs.Room.{HasRoom}
 use Rattle.ws_link_laws.specs.Sound.{IsLink}
 
@@ -30,12 +31,21 @@ link_of k = record { 0 = k }
 abbrev pub transform_of : ℕ → TransformId
 transform_of k = record { 0 = k }
 
--- by whose algorithms the stream performs from which link k comes
-abbrev pub giver : ℕ → Owner
-giver zero = Host
-giver (suc k) = HalfOf (transform_of k)
+-- which controller the source has: a default controller, or a byte controller
+pub data Origin : Type 0 where
+  FromChunks : Origin
+  FromBytes : Origin
 
--- and the one into which it goes, where there are n transform streams
+abbrev pub first_giver : Origin → Giver
+first_giver FromChunks = OfSource
+first_giver FromBytes = OfByteSource
+
+-- by what chunks come to the stream from which link k comes
+abbrev pub giver : Origin → ℕ → Giver
+giver origin zero = first_giver origin
+giver origin (suc k) = OfHalf (transform_of k)
+
+-- by whose algorithms the one performs into which it goes, where there are n transform streams
 abbrev pub taker : ℕ → ℕ → Owner
 taker n k = if nat_eq k n then Host else HalfOf (transform_of k)
 
@@ -48,19 +58,20 @@ abbrev pub behind_at : ℕ → Slots → Told Value
 behind_at k s = behind (source_of k) (dest_of k) (link_of k) s
 
 -- Each of them is a link with room for one chunk
-pub record IsChain (n : ℕ) (s : Slots) : Type 0 where
+pub record IsChain (origin : Origin) (n : ℕ) (s : Slots) : Type 0 where
   pub links : (k : ℕ) → k ≤ n → IsLink (source_of k) (dest_of k) (link_of k) s
   pub room : (k : ℕ) → k ≤ n → HasRoom (dest_of k) (link_of k) s
-  pub gives : (k : ℕ) → k ≤ n → owner_at (source_of k) s ≡ giver k
+  pub gives : (k : ℕ) → k ≤ n → giver_at (source_of k) s ≡ giver origin k
   pub takes : (k : ℕ) → k ≤ n → owner_at (dest_of k) s ≡ taker n k
   pub hears : (k : ℕ) → k ≤ n → ear_at (dest_of k) s ≡ ear_of n k
 
 -- what a call, and a job, brings to the stream from which link k comes, and what an event tells of the one into which it goes
-abbrev pub call_enters : ℕ → Call → Told Value
-call_enters k c = link.enters (giver k) (source_of k) c
+abbrev pub call_enters : Origin → ℕ → Call → Told Value
+call_enters origin k c = link.enters (giver origin k) (source_of k) c
 
 abbrev pub job_enters : ℕ → Job → Told Value
-job_enters k job = link.job_enters (giver k) job
+job_enters zero job = silence
+job_enters (suc k) job = link.half_enters (transform_of k) job
 
 abbrev pub heard_at : ℕ → ℕ → Event → Told Value
 heard_at n k e = link.heard_of (ear_of n k) e

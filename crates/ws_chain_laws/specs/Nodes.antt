@@ -12,8 +12,8 @@ use Rattle.ws_steps.specs.declared.calls.Call.TheVariants.{Enqueue, Finish, Fail
 use Rattle.ws_steps.specs.declared.calls.Event.TheVariants.{Host as HostCalled, Settled, Signal as Signalled}
 use Rattle.ws_steps.specs.declared.calls.HostCall.TheVariants.{Start, Pull, Cancel, Write, Close, Abort, Transform, Flush, CancelTransform}
 use Rattle.ws_flow.specs.Told.{Open, Closed, Told, told}
-use Rattle.ws_link_laws.specs.Link.{silence}
-use Rattle.ws_chain_laws.specs.Chain.{source_of, dest_of, call_enters, heard_at, LeavesChain}
+use Rattle.ws_link_laws.specs.Link.{silence, lets_in}
+use Rattle.ws_chain_laws.specs.Chain.{Origin, giver, source_of, dest_of, call_enters, heard_at, LeavesChain}
 
 -- all of these leave each link alone
 pub record LeaveChain (n : ℕ) : Type 0 where
@@ -31,17 +31,18 @@ EachNodesCallLeaves = (n : ℕ) → LeaveChain n
 abbrev pub only_at : ℕ → Told Value → ℕ → Told Value
 only_at m t k = if nat_eq k m then t else silence
 
--- what they bring: the chunk that is enqueued, the end of the source that is finished, and that of a transform stream that is terminated
-pub record Bring (k : ℕ) : Type 0 where
-  pub settle : (h : HostId) (answer : Answer) → call_enters k (Settle h answer) ≡ silence
-  pub enqueue : (m : ℕ) (v : Value) → call_enters k (Enqueue (source_of m) v) ≡ only_at m (told (v ∷ []) Open) k
-  pub finish : call_enters k (Finish (source_of 0)) ≡ only_at 0 (told [] Closed) k
-  pub terminate : (m : ℕ) → call_enters k (Terminate (source_of (suc m))) ≡ only_at (suc m) (told [] Closed) k
-  pub fail : (i : StreamId) (reason : Plain) → call_enters k (Fail i reason) ≡ silence
-  pub trigger : (a : SignalId) (reason : Plain) → call_enters k (Trigger a reason) ≡ silence
+-- what they bring: the chunk that is enqueued, where the stream lets it in, the end of the source that is finished, and that of a transform
+-- stream that is terminated
+pub record Bring (origin : Origin) (k : ℕ) : Type 0 where
+  pub settle : (h : HostId) (answer : Answer) → call_enters origin k (Settle h answer) ≡ silence
+  pub enqueue : (m : ℕ) (v : Value) → call_enters origin k (Enqueue (source_of m) v) ≡ only_at m (lets_in (giver origin m) v) k
+  pub finish : call_enters origin k (Finish (source_of 0)) ≡ only_at 0 (told [] Closed) k
+  pub terminate : (m : ℕ) → call_enters origin k (Terminate (source_of (suc m))) ≡ only_at (suc m) (told [] Closed) k
+  pub fail : (i : StreamId) (reason : Plain) → call_enters origin k (Fail i reason) ≡ silence
+  pub trigger : (a : SignalId) (reason : Plain) → call_enters origin k (Trigger a reason) ≡ silence
 
 abbrev pub EachNodesCallBrings : Type 0
-EachNodesCallBrings = (k : ℕ) → Bring k
+EachNodesCallBrings = (origin : Origin) (k : ℕ) → Bring origin k
 
 -- what the host hears: a write, or the close, of the sink, and a chunk, or the flush, of one transform stream; and nothing of other events
 pub record Hears (n k : ℕ) : Type 0 where

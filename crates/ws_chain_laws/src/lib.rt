@@ -1,4 +1,4 @@
-//! Laws of a chain of links in one realm: a source of the host's own, transform streams whose algorithms are the host's, and a sink of the host's own, with a pipe from each of them to the next.
+//! Laws of a chain of links in one realm: a source of the host's own, with a default controller or with a byte controller that allocates no rooms, transform streams whose algorithms are the host's, and a sink of the host's own, with a pipe from each of them to the next.
 #![tactic(auto)]
 
 ghost use Rattle.ws_chain_laws.specs.Nodes.{EachEventIsHeardAtOneLink, EachNodesCallBrings, EachNodesCallLeaves};
@@ -27,7 +27,7 @@ pub fn each_event_keeps_chain()
     ensures { EachEventKeepsChain }
 {}
 
-/// A source, any number of transform streams for which there is room, and a sink are made, perhaps a signal, and then the pipes between them, of which the last one has the signal. This is a chain, and nothing lies behind any of its links. Each pipe is answered a promise, which is watched.
+/// A source with a controller of either kind, any number of transform streams for which there is room, and a sink are made, perhaps a signal, and then the pipes between them, of which the last one has the signal. This is a chain, and nothing lies behind any of its links. Each pipe is answered a promise, which is watched.
 pub fn each_chain_begins()
     ensures { EachChainBegins }
 {}
@@ -37,7 +37,7 @@ pub fn each_nodes_call_leaves()
     ensures { EachNodesCallLeaves }
 {}
 
-/// Of these calls an enqueue brings its chunk to one link, a finish of the source the end to the first, and a termination of a transform stream the end to the link that comes from it. The others bring nothing.
+/// Of these calls an enqueue brings its chunk to one link, unless that is the first, from a byte source, and the chunk isn't bytes or is empty, a finish of the source the end to the first, and a termination of a transform stream the end to the link that comes from it. The others bring nothing.
 pub fn each_nodes_call_brings()
     ensures { EachNodesCallBrings }
 {}

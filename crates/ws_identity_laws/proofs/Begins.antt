@@ -14,7 +14,7 @@ use Rattle.ws_steps.specs.Histories.{is_same}
 use Rattle.ws_steps.specs.Pipes as pipe
 use Rattle.ws_steps.specs.Promises.{next_id, fresh}
 use Rattle.ws_steps.specs.Run.{Called, older}
-use Rattle.ws_steps.specs.Slots.{Slots, Done, readable_at, writable_at, pipe_at, as_pipe}
+use Rattle.ws_steps.specs.Slots.{Slots, Done, source_at, writable_at, pipe_at, as_pipe}
 use Rattle.ws_steps.specs.Turns.{performed}
 use Rattle.ws_flow.specs.Told.{Told, then_told, IsShortOf}
 use Rattle.ws_flow.proofs.Told.{then_empty, short_refl}
@@ -108,12 +108,13 @@ module _ (i j : StreamId) (prevent : Prevent) (signal : Option SignalId) (s : Sl
       record {
         state = record {
           source = free.source;
+          bare = free.bare;
           sink = free.sink;
           there = rw at here;
           from = ap (λ (z : pipe.Slots). z.source) at;
           into = ap (λ (z : pipe.Slots). z.dest) at;
           apart = apart;
-          source_fits = free-source p (readable_at i s) free.unread free.requests;
+          source_fits = free-source p (source_at i s) free.unread free.requests;
           sink_fits = free-sink (writable_at j s) (writable_at j s).state free.queue free.close_request free.close_in_flight;
           closes = rw at tt;
         };
@@ -126,7 +127,7 @@ module _ (i j : StreamId) (prevent : Prevent) (signal : Option SignalId) (s : Sl
       }
 
   abbrev t : Told Value
-  t = then_told (in_sink (writable_at j s)) (in_source (readable_at i s))
+  t = then_told (in_sink (writable_at j s)) (in_source (source_at i s))
 
   begun-told : lies_on i j p d.slots d.caused ≡ t
   begun-told =

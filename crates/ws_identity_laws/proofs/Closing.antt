@@ -1,12 +1,12 @@
 -- No call closes the readable half of a transform stream but one that terminates it.
-use Rattle.std.proofs.Common.{◌≡◌, ℕ, ◌+◌, Bool, true, false, nat_lt, if◌then◌else◌, length, Option, Some, None, slice_get, refl, sym, ap, ◌∙◌}
+use Rattle.std.proofs.Common.{◌≡◌, ℕ, ◌+◌, Bool, true, false, not, ◌&&◌, nat_eq, nat_lt, if◌then◌else◌, List, [], ◌∷◌, length, Option, Some, None, slice_get, refl, sym, ap, ◌∙◌}
 use Rattle.ws_value.specs.declared.ids.{HostId.{HostId}, LockId.{LockId}, PipeId.{PipeId}, PromiseId.{PromiseId}, SignalId.{SignalId}, StreamId.{StreamId}}
 use Rattle.ws_value.specs.declared.value.{Plain.{Plain}, Value.{Value}}
 use Rattle.ws_steps.specs.declared.calls.{Answer.{Answer}, Call.{Call}, Reply.{Reply}, StartBy.{StartBy}, StartBy.TheVariants.{Now, Later}}
-use Rattle.ws_steps.specs.declared.calls.Call.TheVariants.{MakeReadable, MakeWritable, MakeTransform, GetReader, GetWriter, Cancel, CancelBy, Read, Write, Close, CloseBy, Abort, AbortBy, Closed, Ready, Release, Enqueue, Finish, Fail, Terminate, Desired, DesiredBy, Pipe, MakeSignal, Trigger, Settle, State, Step}
+use Rattle.ws_steps.specs.declared.calls.Call.TheVariants.{MakeReadable, MakeBytes, MakeWritable, MakeTransform, GetReader, GetByob, ReadInto, Request, Respond, GetWriter, Cancel, CancelBy, Read, Write, Close, CloseBy, Abort, AbortBy, Closed, Ready, Release, Enqueue, Finish, Fail, Terminate, Desired, DesiredBy, Pipe, MakeSignal, Trigger, Settle, State, Step}
 use Rattle.ws_steps.specs.declared.calls.Reply.TheVariants.{Promise, State as ReplyState}
 use Rattle.ws_steps.specs.declared.effects.{Owner.{Owner}, Owner.TheVariants.{Host, HalfOf}}
-use Rattle.ws_steps.specs.declared.locks.{Lock.{Lock}, Lock.TheVariants.{Reader as ReaderLock, Writer as WriterLock, ReleasedWriter, Inner}}
+use Rattle.ws_steps.specs.declared.locks.{Lock.{Lock}, Lock.TheVariants.{Reader as ReaderLock, ByobReader, Writer as WriterLock, ReleasedWriter, Inner}}
 use Rattle.ws_steps.specs.declared.pipes.Prevent.{Prevent}
 use Rattle.ws_steps.specs.declared.transform.{TransformId.{TransformId}}
 use Rattle.ws_steps.specs.declared.writable.Writer.{Writer}
@@ -18,7 +18,7 @@ use Rattle.ws_steps.specs.Readable as readable
 use Rattle.ws_steps.specs.Readable.{can_close_or_enqueue}
 use Rattle.ws_steps.specs.ReadableLooks as readable_looks
 use Rattle.ws_steps.specs.Run.{Called}
-use Rattle.ws_steps.specs.Slots.{Slots, ReadableStream, most_streams, has_readable, has_writable, has_signal, readable_at, writable_at, lock_at, host_at}
+use Rattle.ws_steps.specs.Slots.{Slots, ReadableStream, most_streams, has_readable, has_byte, has_source, has_writable, has_signal, readable_at, byte_at, source_at, writable_at, lock_at, host_at, stream_of_request}
 use Rattle.ws_steps.specs.Writable as writable
 use Rattle.ws_steps.specs.WritableLooks as writable_looks
 use Rattle.ws_laws.proofs.Halves.{Halved, halved-stays}
@@ -27,9 +27,15 @@ use Rattle.ws_laws.proofs.Shapes.{StreamShape, ReadableOf, TransformShape, strea
 use Rattle.ws_laws.proofs.Tables.{either, same_id, is_same-refl, eq_numbers, readable_there}
 use Rattle.ws_laws.proofs.Truth.{not_false}
 use Rattle.ws_transform_laws.specs.TransformHistory.{is_same_transform, step_closings}
-use Rattle.ws_transform_laws.proofs.Entering.{Reads}
+use Rattle.ws_transform_laws.proofs.Entering.{Reads, not-bytes}
 use Rattle.ws_transform_laws.proofs.Flushed.{Calm, All, none-closes}
 use Rattle.ws_identity_laws.specs.Through.{spares}
+use Rattle.ws_steps.specs.Bytes as byte
+use Rattle.ws_value.specs.declared.fault.Fault.{Fault}
+use Rattle.ws_steps.specs.Queues.{is_empty}
+use Rattle.ws_steps.specs.Descriptors.{Descriptor, respond_throws}
+use Rattle.ws_value.specs.declared.ids.RequestId.{RequestId}
+use Rattle.ws_value.specs.declared.value.Value.TheVariants.{Plain as PlainValue, Bytes}
 
 -- stream r is the readable half of transform stream t
 module _ (t : TransformId) (r : StreamId) (s : Slots) (halved : Halved s) (reads : Reads t r s) where
@@ -75,20 +81,41 @@ module _ (t : TransformId) (r : StreamId) (s : Slots) (halved : Halved s) (reads
   for_readable : (k : StreamId) (operation : Slots → Begun) → (has_readable k s ≡ true → P (operation s)) → P (calls.for_readable k operation s)
   for_readable k operation h = either P (has_readable k s) (operation s) (calls.unsupported s) h (λ e. tt)
 
+  for_source : (k : StreamId) (operation : Slots → Begun) → P (operation s) → P (calls.for_source k operation s)
+  for_source k operation h = either P (has_source k s) (operation s) (calls.unsupported s) (λ e. h) (λ e. tt)
+
+  for_byte : (k : StreamId) (operation : Slots → Begun) → P (operation s) → P (calls.for_byte k operation s)
+  for_byte k operation h = either P (has_byte k s) (operation s) (calls.unsupported s) (λ e. h) (λ e. tt)
+
   for_writable : (k : StreamId) (operation : Slots → Begun) → P (operation s) → P (calls.for_writable k operation s)
   for_writable k operation h = either P (has_writable k s) (operation s) (calls.unsupported s) (λ e. h) (λ e. tt)
 
   by_reader : (holding : StreamId → Slots → Begun) (free : Slots → Begun) → ((k : StreamId) → P (holding k s)) → P (free s) → (o : Option Lock) → P (calls.by_reader holding free s o)
   by_reader holding free h f None = tt
-  by_reader holding free h f (Some (ReaderLock (Some k) closed)) = for_readable k (holding k) (λ e. h k)
+  by_reader holding free h f (Some (ReaderLock (Some k) closed)) = for_source k (holding k) (h k)
   by_reader holding free h f (Some (ReaderLock None closed)) = f
+  by_reader holding free h f (Some (ByobReader (Some k) closed)) = for_source k (holding k) (h k)
+  by_reader holding free h f (Some (ByobReader None closed)) = f
   by_reader holding free h f (Some (WriterLock k)) = tt
   by_reader holding free h f (Some (ReleasedWriter w)) = tt
   by_reader holding free h f (Some Inner) = tt
 
+  by_default_reader : (holding : StreamId → Slots → Begun) (free : Slots → Begun) → ((k : StreamId) → P (holding k s)) → P (free s) → (o : Option Lock) → P (calls.by_default_reader holding free s o)
+  by_default_reader holding free h f o = either P (calls.is_byob_reader o) (calls.unsupported s) (calls.by_reader holding free s o) (λ e. tt) (λ e. by_reader holding free h f o)
+
+  by_byob_reader : (holding : StreamId → Slots → Begun) (free : Slots → Begun) → ((k : StreamId) → P (holding k s)) → P (free s) → (o : Option Lock) → P (calls.by_byob_reader holding free s o)
+  by_byob_reader holding free h f o = either P (calls.is_byob_reader o) (calls.by_reader holding free s o) (calls.unsupported s) (λ e. by_reader holding free h f o) (λ e. tt)
+
+  reads_into : (room : List ℕ) (element least : ℕ) (o : Option Lock) → P (calls.read_into_by room element least s o)
+  reads_into room element least o =
+      either P (not (calls.is_view (length room) element && nat_eq least 1)) (calls.unsupported s) _ (λ e. tt)
+      (λ e. either P (is_empty room) (calls.by_byob_reader (λ k. calls.rejected) calls.rejected s o) (calls.by_byob_reader (calls.read_into room element least) calls.rejected s o)
+      (λ f. by_byob_reader (λ k. calls.rejected) calls.rejected (λ k. rejected) rejected o) (λ f. by_byob_reader (calls.read_into room element least) calls.rejected (λ k. (tt, tt)) rejected o))
+
   by_writer : (holding : StreamId → Slots → Begun) (free : Slots → Begun) → ((k : StreamId) → P (holding k s)) → P (free s) → (o : Option Lock) → P (calls.by_writer holding free s o)
   by_writer holding free h f None = tt
   by_writer holding free h f (Some (ReaderLock stream closed)) = tt
+  by_writer holding free h f (Some (ByobReader stream closed)) = tt
   by_writer holding free h f (Some (WriterLock k)) = for_writable k (holding k) (h k)
   by_writer holding free h f (Some (ReleasedWriter w)) = f
   by_writer holding free h f (Some Inner) = tt
@@ -100,6 +127,7 @@ module _ (t : TransformId) (r : StreamId) (s : Slots) (halved : Halved s) (reads
   closed_by : (o : Option Lock) → P (calls.closed_by s o)
   closed_by None = tt
   closed_by (Some (ReaderLock stream closed)) = tt
+  closed_by (Some (ByobReader stream closed)) = tt
   closed_by (Some (WriterLock k)) = of_writer (λ w. calls.replies (Promise w.closed)) (writable_at k s).writer (λ w. tt)
   closed_by (Some (ReleasedWriter w)) = tt
   closed_by (Some Inner) = tt
@@ -107,6 +135,7 @@ module _ (t : TransformId) (r : StreamId) (s : Slots) (halved : Halved s) (reads
   ready_by : (o : Option Lock) → P (calls.ready_by s o)
   ready_by None = tt
   ready_by (Some (ReaderLock stream closed)) = tt
+  ready_by (Some (ByobReader stream closed)) = tt
   ready_by (Some (WriterLock k)) = of_writer (λ w. calls.replies (Promise w.ready)) (writable_at k s).writer (λ w. tt)
   ready_by (Some (ReleasedWriter w)) = tt
   ready_by (Some Inner) = tt
@@ -115,8 +144,8 @@ module _ (t : TransformId) (r : StreamId) (s : Slots) (halved : Halved s) (reads
   renewed u true = tt
   renewed u false = (tt, tt)
 
-  releases_reader : (l : LockId) (closed : PromiseId) (k : StreamId) → P (calls.release_reader l closed k s)
-  releases_reader l closed k = let kept : Bool = readable.is_readable (readable_at k s).state in each-append (Calm t r) (calls.reject_renewed s.promises kept) _ (renewed s.promises kept) (tt, tt)
+  releases_reader : (released : PromiseId → Lock) (l : LockId) (closed : PromiseId) (k : StreamId) → P (calls.release_reader released l closed k s)
+  releases_reader released l closed k = let kept : Bool = readable.is_readable (source_at k s).state in each-append (Calm t r) (calls.reject_renewed s.promises kept) _ (renewed s.promises kept) (tt, tt)
 
   releases_writer : (l : LockId) (k : StreamId) (w : Writer) → P (calls.release_writer l k w s)
   releases_writer l k w =
@@ -127,8 +156,10 @@ module _ (t : TransformId) (r : StreamId) (s : Slots) (halved : Halved s) (reads
 
   release : (l : LockId) (o : Option Lock) → P (calls.release l s o)
   release l None = tt
-  release l (Some (ReaderLock (Some k) closed)) = for_readable k (calls.release_reader l closed k) (λ e. releases_reader l closed k)
+  release l (Some (ReaderLock (Some k) closed)) = for_source k (calls.release_reader (ReaderLock None) l closed k) (releases_reader (ReaderLock None) l closed k)
   release l (Some (ReaderLock None closed)) = tt
+  release l (Some (ByobReader (Some k) closed)) = for_source k (calls.release_reader (ByobReader None) l closed k) (releases_reader (ByobReader None) l closed k)
+  release l (Some (ByobReader None closed)) = tt
   release l (Some (WriterLock k)) = of_writer (calls.release_writer l k) (writable_at k s).writer (λ w. releases_writer l k w)
   release l (Some (ReleasedWriter w)) = tt
   release l (Some Inner) = tt
@@ -143,7 +174,7 @@ module _ (t : TransformId) (r : StreamId) (s : Slots) (halved : Halved s) (reads
 
   unlocked_readable : (k : StreamId) (locked : Slots → Begun) (free : StreamId → Slots → Begun) → P (locked s) → P (free k s) → P (calls.unlocked_readable k locked free s)
   unlocked_readable k locked free l f =
-      for_readable k (λ s. if readable_looks.is_locked (readable_at k s) then locked s else free k s) (λ e. either P (readable_looks.is_locked (readable_at k s)) (locked s) (free k s) (λ e. l) (λ e. f))
+      for_source k (λ s. if readable_looks.is_locked (source_at k s) then locked s else free k s) (either P (readable_looks.is_locked (source_at k s)) (locked s) (free k s) (λ e. l) (λ e. f))
 
   unlocked_writable : (k : StreamId) (locked : Slots → Begun) (free : StreamId → Slots → Begun) → P (locked s) → P (free k s) → P (calls.unlocked_writable k locked free s)
   unlocked_writable k locked free l f =
@@ -162,7 +193,7 @@ module _ (t : TransformId) (r : StreamId) (s : Slots) (halved : Halved s) (reads
     where
       free : P (calls.pipe_unlocked source dest prevent signal s)
       free =
-          either P (readable_looks.is_locked (readable_at source s)) (calls.rejected s) (if writable_looks.is_locked (writable_at dest s) then calls.rejected s else calls.pipe_to source dest prevent signal s) (λ e. rejected)
+          either P (readable_looks.is_locked (source_at source s)) (calls.rejected s) (if writable_looks.is_locked (writable_at dest s) then calls.rejected s else calls.pipe_to source dest prevent signal s) (λ e. rejected)
           (λ e. either P (writable_looks.is_locked (writable_at dest s)) (calls.rejected s) (calls.pipe_to source dest prevent signal s) (λ f. rejected) (λ f. pipe_to source dest prevent signal))
 
       by : (o : Option SignalId) → P (calls.for_signal_where o (calls.pipe_unlocked source dest prevent signal) s)
@@ -176,6 +207,28 @@ module _ (t : TransformId) (r : StreamId) (s : Slots) (halved : Halved s) (reads
   enqueues : (k : StreamId) (v : Value) (o : Owner) → P (calls.enqueue_by v k s o)
   enqueues k v Host = either P (can_close_or_enqueue (readable_at k s)) _ _ (λ e. (tt, tt)) (λ e. tt)
   enqueues k v (HalfOf a) = either P (can_close_or_enqueue (readable_at k s)) _ _ (λ e. (tt, tt)) (λ e. tt)
+
+  -- a byte controller
+
+  enqueues_bytes : (k : StreamId) (v : Value) → P (calls.enqueue_bytes k s v)
+  enqueues_bytes k (PlainValue v) = tt
+  enqueues_bytes k (Bytes b) = either P (not (is_empty b) && byte.can_take (byte_at k s)) _ _ (λ e. (tt, tt)) (λ e. tt)
+
+  finishes_bytes : (k : StreamId) → has_byte k s ≡ true → P (calls.finish_bytes k s)
+  finishes_bytes k is = either P (byte.can_take (byte_at k s)) _ _ (λ e. (not-bytes t r s k halved reads is, tt)) (λ e. tt)
+
+  requests : (k : StreamId) (q : Option RequestId) (ds : List Descriptor) → P (calls.request_by k s q ds)
+  requests k q [] = tt
+  requests k (Some q) (d ∷ ds) = tt
+  requests k None (d ∷ ds) = (tt, tt)
+
+  responds : (q : RequestId) (b : List ℕ) (o : Option StreamId) → P (calls.respond q b s o)
+  responds q b None = tt
+  responds q b (Some k) = either P (calls.is_request q (byte_at k s).request) _ _ (λ e. by (respond_throws (length b) (byte_at k s).stream.state (byte_at k s).descriptors)) (λ e. tt)
+    where
+      by : (o : Option Fault) → P (calls.respond_unless k b s o)
+      by None = (tt, tt)
+      by (Some f) = tt
 
   finishes : (k : StreamId) (o : Owner) → has_readable k s ≡ true → (readable_at k s).owner ≡ o → P (calls.finish_by k s o)
   finishes k Host there own = either P (can_close_or_enqueue (readable_at k s)) _ _ (λ e. (own-apart k there own, tt)) (λ e. tt)
@@ -196,13 +249,17 @@ module _ (t : TransformId) (r : StreamId) (s : Slots) (halved : Halved s) (reads
   pub call-calm : (c : Call) → spares r c ≡ true → P (begin c s)
   unfolding begin
   call-calm (MakeReadable mark size start) l = either P (nat_lt (length s.streams) most_streams) _ _ (λ e. (tt, tt)) (λ e. tt)
+  call-calm (MakeBytes mark auto start) l = either P (nat_lt (length s.streams) most_streams) _ _ (λ e. (tt, tt)) (λ e. tt)
   call-calm (MakeWritable mark size start) l = either P (nat_lt (length s.streams) most_streams) _ _ (λ e. (tt, tt)) (λ e. tt)
   call-calm (MakeTransform kind m n start) l = either P (nat_lt (length s.streams + 1) most_streams) _ _ (λ e. (tt, (tt, (tt, (tt, (starts (next_id (fresh s.promises)) (record { 0 = length s.streams + 1 }) start, tt)))))) (λ e. tt)
   call-calm (GetReader k) l = unlocked_readable k calls.throws_type_error calls.get_reader tt (tt, tt)
+  call-calm (GetByob k) l =
+      unlocked_readable k calls.throws_type_error calls.get_byob_of tt (either P (has_byte k s) (calls.get_byob k s) (calls.throws_type_error s) (λ e. (tt, tt)) (λ e. tt))
   call-calm (GetWriter k) l = unlocked_writable k calls.throws_type_error calls.get_writer tt (tt, tt)
   call-calm (Cancel k reason) l = unlocked_readable k calls.rejected (calls.cancel reason) rejected (tt, tt)
   call-calm (CancelBy n reason) l = by_reader (calls.cancel reason) calls.rejected (λ k. (tt, tt)) rejected (lock_at n s)
-  call-calm (Read n) l = by_reader calls.read calls.rejected (λ k. (tt, tt)) rejected (lock_at n s)
+  call-calm (ReadInto n room element least) l = reads_into room element least (lock_at n s)
+  call-calm (Read n) l = by_default_reader calls.read calls.rejected (λ k. (tt, tt)) rejected (lock_at n s)
   call-calm (Write n v) l = by_writer (calls.write v) calls.rejected (λ k. (tt, tt)) rejected (lock_at n s)
   call-calm (Close k) l = unlocked_writable k calls.rejected calls.close rejected (tt, tt)
   call-calm (CloseBy n) l = by_writer calls.close calls.rejected (λ k. (tt, tt)) rejected (lock_at n s)
@@ -211,21 +268,25 @@ module _ (t : TransformId) (r : StreamId) (s : Slots) (halved : Halved s) (reads
   call-calm (Closed n) l = closed_by (lock_at n s)
   call-calm (Ready n) l = ready_by (lock_at n s)
   call-calm (Release n) l = release n (lock_at n s)
-  call-calm (Enqueue k v) l = for_readable k (λ z. calls.enqueue_by v k z (readable_at k z).owner) (λ e. enqueues k v (readable_at k s).owner)
-  call-calm (Finish k) l = for_readable k (λ z. calls.finish_by k z (readable_at k z).owner) (λ e. finishes k (readable_at k s).owner e refl)
+  call-calm (Enqueue k v) l =
+      either P (has_byte k s) (calls.enqueue_bytes k s v) _ (λ e. enqueues_bytes k v) (λ e. for_readable k (λ z. calls.enqueue_by v k z (readable_at k z).owner) (λ e. enqueues k v (readable_at k s).owner))
+  call-calm (Finish k) l =
+      either P (has_byte k s) (calls.finish_bytes k s) _ (λ e. finishes_bytes k e) (λ e. for_readable k (λ z. calls.finish_by k z (readable_at k z).owner) (λ e. finishes k (readable_at k s).owner e refl))
   call-calm (Fail k reason) l =
       either P (has_readable k s) _ _ (λ e. fails_readable reason k (readable_at k s).owner)
-      (λ e. for_writable k (λ s. calls.fail_writable_by reason k s (writable_at k s).owner) (fails_writable reason k (writable_at k s).owner))
+      (λ e. either P (has_byte k s) _ _ (λ f. (tt, tt)) (λ f. for_writable k (λ s. calls.fail_writable_by reason k s (writable_at k s).owner) (fails_writable reason k (writable_at k s).owner)))
   call-calm (Terminate k) l = for_readable k (λ z. calls.terminate_by z (readable_at k z).owner) (λ e. terminates k (readable_at k s).owner e refl (not_false (is_same r k) l))
-  call-calm (Desired k) l = for_readable k (calls.desired k) (λ e. tt)
+  call-calm (Request k) l = for_byte k (calls.request k) (requests k (byte_at k s).request (byte_at k s).descriptors)
+  call-calm (Respond q b) l = responds q b (stream_of_request q s)
+  call-calm (Desired k) l = for_source k (calls.desired k) tt
   call-calm (DesiredBy n) l = by_writer calls.desired_of_writer calls.throws_type_error (λ k. tt) tt (lock_at n s)
   call-calm (Pipe source dest prevent signal) l =
-      for_readable source (calls.for_writable dest (calls.for_signal_where signal (calls.pipe_unlocked source dest prevent signal)))
-      (λ e. for_writable dest (calls.for_signal_where signal (calls.pipe_unlocked source dest prevent signal)) (pipe_where source dest prevent signal))
+      for_source source (calls.for_writable dest (calls.for_signal_where signal (calls.pipe_unlocked source dest prevent signal)))
+      (for_writable dest (calls.for_signal_where signal (calls.pipe_unlocked source dest prevent signal)) (pipe_where source dest prevent signal))
   call-calm MakeSignal l = tt
   call-calm (Trigger a reason) l = either P (has_signal a s) _ _ (λ e. (tt, tt)) (λ e. tt)
   call-calm (Settle h answer) l = settle_host h answer (host_at h s)
-  call-calm (State k) l = either P (has_readable k s) _ _ (λ e. tt) (λ e. for_writable k (λ s. calls.replies (ReplyState (writable_looks.state_of (writable_at k s))) s) tt)
+  call-calm (State k) l = either P (has_source k s) _ _ (λ e. tt) (λ e. for_writable k (λ s. calls.replies (ReplyState (writable_looks.state_of (writable_at k s))) s) tt)
   call-calm Step l = tt
 
 -- so a call that spares it closes it in no step

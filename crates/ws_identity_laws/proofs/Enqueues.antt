@@ -17,7 +17,7 @@ use Rattle.ws_transform_laws.proofs.Shutting.{can}
 use Rattle.ws_identity_laws.specs.Through.{run_enqueued, Enqueues, EachIdentityEnqueues}
 use Rattle.ws_identity_laws.proofs.Acting.{run-last, acted-transformed}
 use Rattle.ws_identity_laws.proofs.Taking.{Passes, Took, performed-took, performed-shut, performed-idle}
-use Rattle.ws_identity_laws.proofs.Through.{There, there-step, there-begun, stepped, shut-begun}
+use Rattle.ws_identity_laws.proofs.Through.{There, there-step, there-begun, stepped, shut-begun, default-begun}
 
 prefix-both : (xs a b : List Value) → IsPrefixOf a b → IsPrefixOf (xs ++ a) (xs ++ b)
 prefix-both xs a b (rest, e) = (rest, append_assoc xs a rest ∙ ap (λ vs. xs ++ vs) e)
@@ -42,13 +42,15 @@ module _ (t : TransformId) (x : transform.Slots) (identity : x.kind ≡ Identity
       let s : Slots = run xs empty in
       let d : Done = begun_by s entry in
       let half : Passes t r d.slots = (transform_shape x, (there-begun t x identity entry s at, (refl, identity))) in
-      let took : Took t r d = performed-took t r d half in
+      let halved = run-halved xs empty halved-empty in
+      let default = default-begun t x identity entry s halved at in
+      let took : Took t r d = performed-took t r d half default in
       let acted : (step_writes w s entry).acted ≡ step_transformed t s entry = acted-transformed t w xs entry (transform_shape x, (at, refl)) in
       let after : can r (step s entry) ≡ can r (performed d) = ap (λ (ys : List Stream). can_close_or_enqueue (as_readable (slice_get ys r.0))) (stepped entry s) in
       record {
         all = λ c. took.all (sym after ∙ c) ∙ sym acted;
         front = rw acted took.front;
-        none = λ c. let b = shut-begun t x identity entry s (run-halved xs empty halved-empty) at c in (performed-idle t r d half b, after ∙ (performed-shut t r d b).1);
+        none = λ c. let b = shut-begun t x identity entry s halved at c in (performed-idle t r d half b, after ∙ (performed-shut t r d default b).1);
       }
 
   record Run (entries : List Entry) (s : Slots) : Type 0 where

@@ -37,6 +37,7 @@ use Rattle.ws_writable_laws.proofs.Shape.{one_if, of_use, of_reaction, weight}
 use Rattle.ws_transform_laws.specs.TransformHistory.{is_same_transform, is_flushed}
 use Rattle.ws_transform_laws.proofs.Sparing.{row-spares}
 use Rattle.ws_link_laws.proofs.Turns.{signal-each}
+use Rattle.ws_steps.specs.declared.effects.Effect.TheVariants.{Byte, CloseStepsWith}
 
 abbrev is_half : TransformId → Owner → Bool
 is_half t Host = false
@@ -151,6 +152,8 @@ module _ (t : TransformId) (w : StreamId) where
   row-none : (e : Effect) (s : Slots) → Halved s → Fits s → IsOther e → IsNone s e → None_of s (row e s).caused
   unfolding row
   row-none (OnReadable j operation) s halved fits o n = row-causes (IsNone s) (OnReadable j operation) s (record { pull = refl; cancel = λ c p. refl; chunk = λ q v. refl; close = λ q. refl; error = λ q c. refl })
+  row-none (Byte j operation) s halved fits o n =
+      row-causes (IsNone s) (Byte j operation) s (record { readable = record { pull = refl; cancel = λ c p. refl; chunk = λ q v. refl; close = λ q. refl; error = λ q c. refl }; close_with = λ q b. refl })
   row-none (OnWritable j operation) s halved fits o n = by (has_writable j s) refl
     where
       by : (there : Bool) → there ≡ has_writable j s → None_of s (row (OnWritable j operation) s).caused
@@ -167,9 +170,11 @@ module _ (t : TransformId) (w : StreamId) where
   row-none (AbortAlgorithm j c p) s halved fits o n = abort-none s j c p (owner_at j s)
   row-none (ChunkSteps j (Promise p) v) s halved fits o n = tt
   row-none (CloseSteps j (Promise p)) s halved fits o n = tt
+  row-none (CloseStepsWith j (Promise p) b) s halved fits o n = tt
   row-none (ErrorSteps j (Promise p) e) s halved fits o n = tt
   row-none (ChunkSteps j (PipeRequest p) v) s halved fits o n = (refl, tt)
   row-none (CloseSteps j (PipeRequest p)) s halved fits o n = (refl, tt)
+  row-none (CloseStepsWith j (PipeRequest p) b) s halved fits o n = (refl, tt)
   row-none (ErrorSteps j (PipeRequest p) e) s halved fits o n = (refl, tt)
   row-none _ s halved fits o n = tt
 
@@ -235,6 +240,8 @@ module _ (t : TransformId) (w : StreamId) where
     pipe = λ z source dest prevent signal promise k. k;
     signal = λ z k. k;
     transform = λ z kind v r change k. k;
+    bytes = λ z mark auto k. k;
+    byob_requests = λ z hs k. k;
     readable = λ z o mark size k. k;
     writable = λ z o mark size k. k;
   }) c s (omega arith)

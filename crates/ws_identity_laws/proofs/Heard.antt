@@ -1,13 +1,14 @@
 -- What the host hears at the end of a way is a first part of what it enqueued at its beginning.
-use Rattle.std.proofs.Common.{◌≡◌, ℕ, zero, suc, ◌+◌, ◌<◌, true, List, [], ◌∷◌, ◌++◌, refl, sym, ap, ◌∙◌, arith, append_assoc, append-nil}
+use Rattle.std.proofs.Common.{◌≡◌, ℕ, zero, suc, ◌+◌, ◌<◌, Bool, true, false, slice_get, List, [], ◌∷◌, ◌++◌, refl, sym, ap, ◌∙◌, arith, append_assoc, append-nil}
 use Rattle.ws_value.specs.declared.{ids.PipeId.{PipeId}, ids.StreamId.{StreamId}}
 use Rattle.ws_value.specs.declared.value.Value.{Value}
-use Rattle.ws_steps.specs.declared.effects.Owner.TheVariants.{Host}
+use Rattle.ws_steps.specs.declared.effects.Owner.{Owner}
+use Rattle.ws_steps.specs.declared.effects.Owner.TheVariants.{Host, HalfOf}
 use Rattle.ws_steps.specs.Histories.{in_step, over, run_events}
 use Rattle.ws_steps.specs.Laws.{IsPrefixOf, enqueued_by_host}
-use Rattle.ws_steps.specs.ReadableHistory.{Flow, no_flow, flow_then, effect_flow, run_flow, accepted}
+use Rattle.ws_steps.specs.ReadableHistory.{Flow, no_flow, flow_then, effect_flow, run_flow, accepted_in_step, accepted}
 use Rattle.ws_steps.specs.Run.{Entry, run, step}
-use Rattle.ws_steps.specs.Slots.{Slots, empty, has_readable, has_writable, owner_at, readable_at}
+use Rattle.ws_steps.specs.Slots.{Slots, empty, has_readable, has_byte, has_source, has_writable, owner_at, readable_at}
 use Rattle.ws_steps.specs.WritableHistory.{Writes, no_writes, writes_then, step_writes, run_writes, heard_writes, heard_closes}
 use Rattle.ws_flow.specs.Told.{Mark, Open, Closed, Lost, Told, told, then_told, IsFront, IsShortOf}
 use Rattle.ws_laws.proofs.Walker.{IsHistory}
@@ -17,12 +18,15 @@ use Rattle.ws_writable_laws.proofs.HeardCloses.{closes_were_heard}
 use Rattle.ws_writable_laws.proofs.Runs.{is_history}
 use Rattle.ws_transform_laws.proofs.Told.{over-map}
 use Rattle.ws_link_laws.proofs.Hosts.{source-owner}
-use Rattle.ws_link_laws.proofs.Owners.{source-stays, sink-stays}
+use Rattle.ws_link_laws.specs.Link.{OfByteSource, giver_by, giver_at}
+use Rattle.ws_link_laws.proofs.Owners.{source-stays, sink-stays, giver-stays}
+use Rattle.ws_link_laws.proofs.SourceTurns.{is_default}
 use Rattle.ws_identity_laws.specs.Heard.{IsHeard, IsUnused, EachWayIsHeard}
 use Rattle.ws_identity_laws.specs.Passing.{ending, run_acts, run_takes}
 use Rattle.ws_identity_laws.specs.Through.{Middle, IsWay, lies_along, all_leave_way}
 use Rattle.ws_identity_laws.proofs.Acting.{each_act_is_told}
 use Rattle.ws_identity_laws.proofs.Entered.{each_take_is_told}
+use Rattle.ws_identity_laws.proofs.TakenBytes.{each_take_of_bytes_is_told}
 use Rattle.ws_identity_laws.proofs.Ways.{run-more, each_way_passes}
 
 -- what happens in two runs, one after the other
@@ -41,6 +45,28 @@ entered-append i xs ys s =
     let b : (run_flow i ys (run xs s)).entered ≡ over [] ◌++◌ seen ys (run xs s) = f ys (run xs s) in
     f (xs ++ ys) s ∙ (over-append [] ◌++◌ are_lists seen xs ys s ∙ rw (a, b) refl)
 
+accepted-append : (i : StreamId) (xs ys : List Entry) (s : Slots) → accepted i (xs ++ ys) s ≡ accepted i xs s ++ accepted i ys (run xs s)
+accepted-append i [] ys s = refl
+accepted-append i (x ∷ xs) ys s =
+    ap (λ vs. accepted_in_step i s x ++ vs) (accepted-append i xs ys (step s x)) ∙ sym (append_assoc (accepted_in_step i s x) (accepted i xs (step s x)) (accepted i ys (run xs (step s x))))
+
+-- a source without a byte controller never has one
+
+no-giver : (o : Owner) → giver_by false o ≡ OfByteSource → ⊥
+no-giver Host e = cc
+no-giver (HalfOf t) e = cc
+
+default-stays : (i : StreamId) (entries : List Entry) (s : Slots) → has_source i s ≡ true → has_byte i s ≡ false → has_byte i (run entries s) ≡ false
+default-stays i entries s there none = by (has_byte i (run entries s)) refl
+  where
+    by : (b : Bool) → b ≡ has_byte i (run entries s) → has_byte i (run entries s) ≡ false
+    by false e = sym e
+    by true e =
+        let same = giver-stays i entries s there in
+        let before : giver_at i s ≡ giver_by false (owner_at i s) = rw none refl in
+        let after : giver_at i (run entries s) ≡ OfByteSource = rw (← e) refl in
+        absurd (no-giver (owner_at i s) (sym before ∙ (sym same ∙ after)))
+
 -- what was told before anything is a first part of it
 
 short-front : (x : Told Value) (m : Mark) (y : Told Value) → m ≡ x.mark → IsShortOf x y → IsFront x.items y.items
@@ -53,7 +79,7 @@ front-of vs Open z y h = let f = short-front (told (vs ++ z.items) z.mark) z.mar
 front-of vs Closed z y h = ([], append-nil vs ∙ sym h.0)
 front-of vs Lost z y h = (h.0, sym h.1)
 
-module _ (xs entries : List Entry) (i : StreamId) (p : PipeId) (ms : List Middle) (k : StreamId) (u : IsUnused i p ms k xs) (l : all_leave_way i ms k entries ≡ true) (source : has_readable i (run xs empty) ≡ true) (sink : has_writable k (run xs empty) ≡ true) where
+module _ (xs entries : List Entry) (i : StreamId) (p : PipeId) (ms : List Middle) (k : StreamId) (u : IsUnused i p ms k xs) (l : all_leave_way i ms k entries ≡ true) (source : has_source i (run xs empty) ≡ true) (sink : has_writable k (run xs empty) ≡ true) where
   abbrev s : Slots
   s = run xs empty
 
@@ -106,10 +132,18 @@ module _ (xs entries : List Entry) (i : StreamId) (p : PipeId) (ms : List Middle
   hosted : (ys : List Entry) → owner_at i (run ys empty) ≡ Host → has_readable i (run ys empty) ≡ true → enqueued_by_host (run ys empty) (readable_at i (run ys empty)).owner ≡ true
   hosted ys own there = let o : (readable_at i (run ys empty)).owner ≡ Host = sym (source-owner i (run ys empty) there) ∙ own in rw o refl
 
-  takes : has_readable i (run zs empty) ≡ true → (run_takes i entries s).items ≡ accepted i zs empty
-  takes there =
-      let none : (run_flow i xs empty).entered ≡ [] = entered_was_accepted xs i (hosted xs u.source source) ∙ u.accepted in
-      each_take_is_told s entries i ∙ (ap (λ vs. vs ++ (run_flow i entries s).entered) (sym none) ∙ (sym (entered-append i xs entries empty) ∙ entered_was_accepted zs i (hosted zs source-then there)))
+  takes : has_source i (run zs empty) ≡ true → (run_takes i entries s).items ≡ accepted i zs empty
+  takes there = by (has_byte i s) refl
+    where
+      by : (b : Bool) → b ≡ has_byte i s → (run_takes i entries s).items ≡ accepted i zs empty
+      by false e =
+          let then : has_byte i (run entries s) ≡ false = default-stays i entries s source (sym e) in
+          let after : has_byte i (run zs empty) ≡ false = ap (has_byte i) last ∙ then in
+          let first = hosted xs u.source (is_default (slice_get s.streams i.0) source (sym e)) in
+          let second = hosted zs source-then (is_default (slice_get (run zs empty).streams i.0) there after) in
+          let none : (run_flow i xs empty).entered ≡ [] = entered_was_accepted xs i (sym e) first ∙ u.accepted in
+          each_take_is_told s entries i then ∙ (ap (λ vs. vs ++ (run_flow i entries s).entered) (sym none) ∙ (sym (entered-append i xs entries empty) ∙ entered_was_accepted zs i after second))
+      by true e = each_take_of_bytes_is_told s entries i (sym e) ∙ (ap (λ vs. vs ++ accepted i entries s) (sym u.accepted) ∙ sym (accepted-append i xs entries empty))
 
   short : IsShortOf (then_told (told acted (ending closes)) (lies_along i p ms k zs)) (run_takes i entries s)
   short =
@@ -121,7 +155,7 @@ module _ (xs entries : List Entry) (i : StreamId) (p : PipeId) (ms : List Middle
   whole zero e some h = absurd (omega (arith, some))
   whole (suc n) e some h = sym h.0
 
-  pub is-heard : has_readable i (run zs empty) ≡ true → IsHeard i k zs
+  pub is-heard : has_source i (run zs empty) ≡ true → IsHeard i k zs
   is-heard there =
       let t = takes there in
       record {
@@ -129,7 +163,7 @@ module _ (xs entries : List Entry) (i : StreamId) (p : PipeId) (ms : List Middle
         whole = λ some. heard ∙ (whole closes refl (rw heard-closes at some) short ∙ t);
       }
 
-pub way-source : (i : StreamId) (p : PipeId) (ms : List Middle) (k : StreamId) (s : Slots) → IsWay i p ms k s → has_readable i s ≡ true
+pub way-source : (i : StreamId) (p : PipeId) (ms : List Middle) (k : StreamId) (s : Slots) → IsWay i p ms k s → has_source i s ≡ true
 way-source i p [] k s w = w.source
 way-source i p (m ∷ ms) k s w = w.0.source
 

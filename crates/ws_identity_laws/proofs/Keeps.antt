@@ -52,6 +52,7 @@ each_link_is_any i j p s l = record {
   into = l.into;
   apart = l.apart;
   locks = l.locks;
+  bare = l.bare;
   elsewhere = l.elsewhere;
   source_fits = l.source_fits;
   sink_fits = l.sink_fits;

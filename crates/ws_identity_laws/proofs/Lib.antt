@@ -1,3 +1,5 @@
+pub mod ByteShut
+pub mod Takes
 pub mod Standing
 pub mod SourceTurns
 pub mod SinkTurns
@@ -14,6 +16,7 @@ pub mod Ways
 pub mod Begins
 pub mod Free
 pub mod Entered
+pub mod TakenBytes
 pub mod Heard
 pub mod Enqueues
 pub mod Young

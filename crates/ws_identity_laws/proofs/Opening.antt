@@ -2,10 +2,12 @@
 use Rattle.std.proofs.Common.{◌≡◌, ℕ, zero, suc, ◌+◌, Bool, true, false, not, ◌&&◌, nat_lt, List, [], ◌∷◌, ◌++◌, length, Option, Some, None, slice_get, slice_set, refl, sym, ap, subst, ◌∙◌, arith}
 use Rattle.ws_value.specs.declared.ids.{PipeId.{PipeId}, StreamId.{StreamId}}
 use Rattle.ws_steps.specs.declared.calls.{Call.{Call}, Reply.{Reply}, Reply.TheVariants.{Promise}, StartBy.{StartBy}, StartBy.TheVariants.{Now, Later}}
-use Rattle.ws_steps.specs.declared.calls.Call.TheVariants.{MakeReadable, MakeWritable, MakeTransform, Pipe}
+use Rattle.ws_steps.specs.declared.calls.Call.TheVariants.{MakeReadable, MakeBytes, MakeWritable, MakeTransform, Pipe}
 use Rattle.ws_steps.specs.declared.effects.{Effect.{Effect}, Owner.TheVariants.{Host, HalfOf}}
 use Rattle.ws_steps.specs.declared.effects.Effect.TheVariants.{Pipe as OnPipe, StartAlgorithm, Give, Settle, CallHost}
 use Rattle.ws_steps.specs.declared.pipes.Prevent.{Prevent}
+use Rattle.ws_steps.specs.Bytes as byte
+use Rattle.ws_steps.specs.Bytes.{shown}
 use Rattle.ws_steps.specs.Calls as calls
 use Rattle.ws_steps.specs.Calls.{Begun, begin, named}
 use Rattle.ws_steps.specs.Histories.{is_same}
@@ -14,7 +16,7 @@ use Rattle.ws_steps.specs.Promises.{next_id, fresh}
 use Rattle.ws_steps.specs.Readable as readable
 use Rattle.ws_steps.specs.Readable.{can_close_or_enqueue}
 use Rattle.ws_steps.specs.Run.{Entry, Called, Worked, Heard, run, step, older, after_call}
-use Rattle.ws_steps.specs.Slots.{Slots, Stream, ReadableStream, WritableStream, Done, empty, most_streams, owner_at, has_readable, has_writable, readable_at, writable_at, pipe_at, on_pipe_at}
+use Rattle.ws_steps.specs.Slots.{Slots, Stream, ReadableStream, ByteStream, WritableStream, Done, empty, most_streams, owner_at, has_readable, has_byte, has_source, has_writable, byte_at, source_at, readable_at, writable_at, is_readable_stream, is_byte_stream, pipe_at, on_pipe_at}
 use Rattle.ws_steps.specs.Turns.{row, call_host, performed}
 use Rattle.ws_steps.specs.Writable as writable
 use Rattle.ws_steps.specs.WritableHistory.{Writes}
@@ -26,30 +28,37 @@ use Rattle.ws_steps.specs.declared.transform.TransformId.{TransformId}
 use Rattle.ws_transform_laws.proofs.Lawful.{shape_writable, writable-told}
 use Rattle.ws_identity_laws.proofs.Entered.{shape_readable, readable-told}
 use Rattle.ws_laws.proofs.Shapes.{ReadableOf, WritableOf, stream_shapes, transform_shape, map-there}
-use Rattle.ws_laws.proofs.Tables.{either, readable_there, writable_there}
+use Rattle.ws_laws.proofs.Tables.{either, readable_there, byte_there, writable_there}
 use Rattle.ws_laws.proofs.Truth.{and_left, and_right}
 use Rattle.ws_room_laws.proofs.Turns.{performed-kept}
 use Rattle.ws_writable_laws.proofs.Heard.{acted_was_heard}
 use Rattle.ws_writable_laws.proofs.HeardCloses.{closes_were_heard}
 use Rattle.ws_link_laws.specs.Laws.{all_leave}
 use Rattle.ws_link_laws.specs.Link.{silence, lies}
+use Rattle.ws_link_laws.specs.Sound.{IsBare}
+use Rattle.ws_link_laws.proofs.SourceTurns.{default-bare}
 use Rattle.ws_link_laws.proofs.Owners.{source-stays, sink-stays}
 use Rattle.ws_identity_laws.specs.Ends.{IsAnyLink, IsAnyFree}
 use Rattle.ws_identity_laws.specs.Opening.{makes, all_make, EachNewPairIsFree, pipes_of, IsNumbered, AllIdentity, apart_from, all_apart, EachWayOpens}
 use Rattle.ws_identity_laws.specs.Through.{IsIdentity, Middle, IsWay, lies_along}
 use Rattle.ws_identity_laws.proofs.Begins.{each_any_link_begins, is_begun}
 use Rattle.ws_identity_laws.proofs.Free.{each_any_free_pair_stays}
-use Rattle.ws_identity_laws.proofs.Heard.{way-source}
 use Rattle.ws_identity_laws.proofs.Keeps.{each_link_passes}
 use Rattle.ws_identity_laws.proofs.Through.{identity-stays}
 use Rattle.ws_identity_laws.proofs.Ways.{run-more}
-use Rattle.ws_identity_laws.proofs.Young.{AllOf, all-get, all-last, YoungSource, YoungSink, YoungStream, YoungPipe, Young, opens, all_open, opened-run}
+use Rattle.ws_identity_laws.proofs.Young.{AllOf, all-get, all-last, YoungSource, YoungSink, YoungStream, YoungPipe, Young, source-of, source-young, opens, all_open, opened-run}
 
 -- streams that were only made
 
 record FreshSource (r : readable.Slots) : Type 0 where
   unread : r.reader ≡ None
   requests : r.requests ≡ []
+
+-- no reader with a room has it, unless its controller allocates rooms
+record FreshBytes (b : byte.Slots) : Type 0 where
+  source : FreshSource (shown b)
+  descriptors : b.descriptors ≡ []
+  reader : byte.has_byob_reader b ≡ false
 
 record FreshSink (w : writable.Slots) : Type 0 where
   unwritten : w.writer ≡ None
@@ -59,6 +68,7 @@ record FreshSink (w : writable.Slots) : Type 0 where
 
 abbrev FreshStream : Stream → Type 0
 FreshStream (ReadableStream r) = FreshSource r
+FreshStream (ByteStream b) = FreshBytes b
 FreshStream (WritableStream w) = FreshSink w
 
 record Fresh (s : Slots) : Type 0 where
@@ -110,6 +120,9 @@ module _ (s : Slots) (f : Fresh s) where
   unfolding begin
   call-fresh (MakeReadable mark size start) l =
       either P (nat_lt (length s.streams) most_streams) _ _ (λ e. (record { streams = all-last FreshStream s.streams _ f.streams (record { unread = refl; requests = refl }); pipes = f.pipes; locks = f.locks }, (tt, tt))) (λ e. (f, tt))
+  call-fresh (MakeBytes mark auto start) l =
+      either P (nat_lt (length s.streams) most_streams) _ _
+      (λ e. (record { streams = all-last FreshStream s.streams _ f.streams (record { source = record { unread = refl; requests = refl }; descriptors = refl; reader = refl }); pipes = f.pipes; locks = f.locks }, (tt, tt))) (λ e. (f, tt))
   call-fresh (MakeWritable mark size start) l =
       either P (nat_lt (length s.streams) most_streams) _ _ (λ e. (record { streams = all-last FreshStream s.streams _ f.streams (record { unwritten = refl; queue = refl; request = refl; flight = refl }); pipes = f.pipes; locks = f.locks }, (tt, tt))) (λ e. (f, tt))
   call-fresh (MakeTransform kind m n start) l =
@@ -140,17 +153,27 @@ made-fresh (Called c ∷ xs) s l f =
 made-fresh (Worked ∷ xs) s l f = absurd (cc)
 made-fresh (Heard ∷ xs) s l f = absurd (cc)
 
+bare-fresh : (i : StreamId) (s : Slots) → AllOf FreshStream s.streams → (byte_at i s).auto ≡ 0 → IsBare (byte_at i s)
+bare-fresh i s f rooms = by (has_byte i s) refl
+  where
+    by : (b : Bool) → b ≡ has_byte i s → IsBare (byte_at i s)
+    by false e = default-bare i s (sym e)
+    by true e =
+        let k : FreshBytes (byte_at i s) = all-get FreshStream s.streams i.0 (ByteStream (byte_at i s)) f (byte_there (slice_get s.streams i.0) (sym e)) in
+        record { auto = rooms; descriptors = k.descriptors; reader = k.reader }
+
 pub each_new_pair_is_free : EachNewPairIsFree
-each_new_pair_is_free xs i j l there there_too =
+each_new_pair_is_free xs i j l there rooms there_too =
     let s : Slots = run xs empty in
     let f = made-fresh xs empty l (record { streams = tt; pipes = refl; locks = refl }) in
-    let from : FreshSource (readable_at i s) = all-get FreshStream s.streams i.0 (ReadableStream (readable_at i s)) f.streams (readable_there (slice_get s.streams i.0) there) in
+    let from : FreshSource (source_at i s) = source-of FreshStream FreshSource (λ r k. k) (λ b k. k.source) s.streams i.0 f.streams there in
     let into : FreshSink (writable_at j s) = all-get FreshStream s.streams j.0 (WritableStream (writable_at j s)) f.streams (writable_there (slice_get s.streams j.0) there_too) in
     let locks = f.locks in
     let pipes = f.pipes in
     record {
       reached = (xs, refl);
       source = there;
+      bare = bare-fresh i s f.streams rooms;
       sink = there_too;
       unread = from.unread;
       unwritten = into.unwritten;
@@ -166,7 +189,7 @@ each_new_pair_is_free xs i j l there there_too =
 
 link-silent : (i j : StreamId) (p : PipeId) (s : Slots) → IsAnyLink i j p s → Young s → lies i j p s ≡ silence
 link-silent i j p s l y =
-    let from : YoungSource (readable_at i s) = all-get YoungStream s.streams i.0 (ReadableStream (readable_at i s)) y.streams (readable_there (slice_get s.streams i.0) l.source) in
+    let from : YoungSource (source_at i s) = source-young i s y.streams l.source in
     let into : YoungSink (writable_at j s) = all-get YoungStream s.streams j.0 (WritableStream (writable_at j s)) y.streams (writable_there (slice_get s.streams j.0) l.sink) in
     let by : YoungPipe (pipe_at p s) = all-get YoungPipe s.pipes p.0 (pipe_at p s) y.pipes l.there in
     rw (from.state, from.queue, from.request, into.state, into.queue, into.flight, by.phase, by.held) refl
@@ -176,12 +199,30 @@ can-young r s there y =
     let from : YoungSource (readable_at r s) = all-get YoungStream s.streams r.0 (ReadableStream (readable_at r s)) y.streams (readable_there (slice_get s.streams r.0) there) in
     rw (from.state, from.request) refl
 
+-- the halves of an identity are there
+
+halves-there : (t : TransformId) (w r : StreamId) (s : Slots) → Halved s → IsIdentity t w r s → (has_writable w s ≡ true) × (has_readable r s ≡ true)
+halves-there t w r s halved is =
+    let h = halved.halves t (transform_shape is.stream) (map-there transform_shape s.transforms t.0 is.stream is.there) in
+    let a : slice_get (stream_shapes s) w.0 ≡ Some (WritableOf (HalfOf t)) = subst (λ (j : StreamId). slice_get (stream_shapes s) j.0 ≡ Some (WritableOf (HalfOf t))) is.writable h.1 in
+    let b : slice_get (stream_shapes s) r.0 ≡ Some (ReadableOf (HalfOf t)) = subst (λ (j : StreamId). slice_get (stream_shapes s) j.0 ≡ Some (ReadableOf (HalfOf t))) is.readable h.0 in
+    (writable-told s.streams w.0 ∙ ap shape_writable a, readable-told s.streams r.0 ∙ ap shape_readable b)
+
+-- and the readable one is a source without a byte controller
+
+source-there : (r : StreamId) (s : Slots) → has_readable r s ≡ true → has_source r s ≡ true
+source-there r s there = grind (arith, there)
+
+no-byte : (o : Option Stream) → is_readable_stream o ≡ true → is_byte_stream o ≡ false
+no-byte o there = grind (arith, there)
+
 way-silent : (xs : List Entry) (i : StreamId) (p : PipeId) (ms : List Middle) (k : StreamId) → all_open xs ≡ true → IsWay i p ms k (run xs empty) → lies_along i p ms k xs ≡ silence
 way-silent xs i p [] k l w = link-silent i k p (run xs empty) w (opened-run xs empty i k l (record { streams = tt; pipes = tt })).young
 way-silent xs i p (m ∷ ms) k l w =
     let o = opened-run xs empty i m.writable l (record { streams = tt; pipes = tt }) in
     let one = link-silent i m.writable p (run xs empty) w.0 o.young in
-    let can = can-young m.readable (run xs empty) (way-source m.readable m.out ms k (run xs empty) w.1.1) o.young in
+    let h = halves-there m.number m.writable m.readable (run xs empty) (run-halved xs empty halved-empty) w.1.0 in
+    let can = can-young m.readable (run xs empty) h.1 o.young in
     let none = o.none in
     let rest = way-silent xs m.readable m.out ms k l w.1.1 in
     rw (rest, can, none, one) refl
@@ -265,25 +306,19 @@ way-opens (m ∷ ms) i k n prevent s e (f, g) ids num a =
     let identity = identity-stays m.number w r (c ∷ pipes_of r ms k prevent) s ids.0 in
     (kept, (identity, subst (λ (q : PipeId). IsWay r q ms k (run (pipes_of r ms k prevent) z)) (sym out) rest))
 
--- the halves of an identity are there
-
-halves-there : (t : TransformId) (w r : StreamId) (s : Slots) → Halved s → IsIdentity t w r s → (has_writable w s ≡ true) × (has_readable r s ≡ true)
-halves-there t w r s halved is =
-    let h = halved.halves t (transform_shape is.stream) (map-there transform_shape s.transforms t.0 is.stream is.there) in
-    let a : slice_get (stream_shapes s) w.0 ≡ Some (WritableOf (HalfOf t)) = subst (λ (j : StreamId). slice_get (stream_shapes s) j.0 ≡ Some (WritableOf (HalfOf t))) is.writable h.1 in
-    let b : slice_get (stream_shapes s) r.0 ≡ Some (ReadableOf (HalfOf t)) = subst (λ (j : StreamId). slice_get (stream_shapes s) j.0 ≡ Some (ReadableOf (HalfOf t))) is.readable h.0 in
-    (writable-told s.streams w.0 ∙ ap shape_writable a, readable-told s.streams r.0 ∙ ap shape_readable b)
-
-all-free : (xs : List Entry) (i : StreamId) (ms : List Middle) (k : StreamId) → all_make xs ≡ true → has_readable i (run xs empty) ≡ true → has_writable k (run xs empty) ≡ true → AllIdentity ms (run xs empty) → AllFree i ms k (run xs empty)
-all-free xs i [] k l there there_too ids = each_new_pair_is_free xs i k l there there_too
-all-free xs i (m ∷ ms) k l there there_too ids =
+all-free : (xs : List Entry) (i : StreamId) (ms : List Middle) (k : StreamId) → all_make xs ≡ true → has_source i (run xs empty) ≡ true → (byte_at i (run xs empty)).auto ≡ 0 → has_writable k (run xs empty) ≡ true → AllIdentity ms (run xs empty) → AllFree i ms k (run xs empty)
+all-free xs i [] k l there rooms there_too ids = each_new_pair_is_free xs i k l there rooms there_too
+all-free xs i (m ∷ ms) k l there rooms there_too ids =
     let h = halves-there m.number m.writable m.readable (run xs empty) (run-halved xs empty halved-empty) ids.0 in
-    (each_new_pair_is_free xs i m.writable l there h.0, all-free xs m.readable ms k l h.1 there_too ids.1)
+    let source : has_source m.readable (run xs empty) ≡ true = source-there m.readable (run xs empty) h.1 in
+    let none : (byte_at m.readable (run xs empty)).auto ≡ 0 = (default-bare m.readable (run xs empty) (no-byte (slice_get (run xs empty).streams m.readable.0) h.1)).auto in
+    (each_new_pair_is_free xs i m.writable l there rooms h.0, all-free xs m.readable ms k l source none there_too ids.1)
 
 -- these calls are such as only open
 
 make-opens : (c : Call) → makes c ≡ true → opens c ≡ true
 make-opens (MakeReadable mark size start) l = refl
+make-opens (MakeBytes mark auto start) l = refl
 make-opens (MakeWritable mark size start) l = refl
 make-opens (MakeTransform kind m n start) l = refl
 make-opens c l = absurd (cc)
@@ -308,7 +343,7 @@ each_way_opens xs i k ms prevent d =
     let zs : List Entry = xs ++ pipes in
     let last : run zs empty ≡ run pipes s = run-more xs pipes empty in
     let fresh_pipes = (made-fresh xs empty d.made (record { streams = tt; pipes = refl; locks = refl })).pipes in
-    let way = way-opens ms i k 0 prevent s (ap length fresh_pipes) (all-free xs i ms k d.made d.source d.sink d.between) d.between d.numbered d.apart in
+    let way = way-opens ms i k 0 prevent s (ap length fresh_pipes) (all-free xs i ms k d.made d.source d.no_rooms d.sink d.between) d.between d.numbered d.apart in
     let now : IsWay i (record { 0 = 0 }) ms k (run zs empty) = subst (λ (z : Slots). IsWay i (record { 0 = 0 }) ms k z) (sym last) way in
     let all = makes-open xs pipes d.made (pipes-open i ms k prevent) in
     let o = opened-run zs empty i k all (record { streams = tt; pipes = tt }) in

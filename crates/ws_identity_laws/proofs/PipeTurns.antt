@@ -11,7 +11,7 @@ use Rattle.ws_steps.specs.declared.readable.ReadableState.TheVariants.{Closed as
 use Rattle.ws_steps.specs.Operations.{pipe_operation}
 use Rattle.ws_steps.specs.Pipes as pipe
 use Rattle.ws_steps.specs.Readable as readable
-use Rattle.ws_steps.specs.Slots.{Slots, Done, ends_at, readable_at, writable_at, pipe_at, as_pipe, on_pipe_at}
+use Rattle.ws_steps.specs.Slots.{Slots, Done, ends_at, source_at, writable_at, pipe_at, as_pipe, on_pipe_at}
 use Rattle.ws_steps.specs.Turns.{row}
 use Rattle.ws_steps.specs.WritableHistory.{writes_then, effect_writes}
 use Rattle.ws_steps.proofs.PromiseLaws.{slice_get-set_other}
@@ -60,7 +60,7 @@ module _ (i j : StreamId) (p : PipeId) (s : Slots) (operation : PipeOperation) (
   C = tells (chunks p) es
 
   abbrev Q : Told Value
-  Q = in_source (readable_at i s)
+  Q = in_source (source_at i s)
 
   abbrev K : Told Value
   K = then_told (in_sink (writable_at j s)) (tells (writes j) es)
@@ -89,7 +89,7 @@ module _ (i j : StreamId) (p : PipeId) (s : Slots) (operation : PipeOperation) (
 
   finds : Finds (ends_at x s) K Q
   finds = record {
-    closed = λ c. source_closed (readable_at i s) (rw h.state.from at c);
+    closed = λ c. source_closed (source_at i s) (rw h.state.from at c);
     shut = λ c. shut_more (in_sink (writable_at j s)) (tells (writes j) es) (sink_shut (writable_at j s) h.state.sink_fits (rw h.state.into at c));
   }
 
@@ -105,7 +105,7 @@ module _ (i j : StreamId) (p : PipeId) (s : Slots) (operation : PipeOperation) (
 
   kept : PipeKept j operation (ends_at x s) K Q C x b
   kept =
-      pipe_keeps p j operation (ends_at x s) K Q C x s.promises finds h.state.into (subst (λ (k : StreamId). Closes x.phase x.action ((readable_at k s).state ≡ ReadableClosed)) (sym h.state.from) h.state.closes) (λ l. (still l).chunks) room
+      pipe_keeps p j operation (ends_at x s) K Q C x s.promises finds h.state.into (subst (λ (k : StreamId). Closes x.phase x.action ((source_at k s).state ≡ ReadableClosed)) (sym h.state.from) h.state.closes) (λ l. (still l).chunks) room
 
   either-way : (tells (writes j) b.out.effects ≡ silence) ⊎ (tells (writes j) es ≡ silence)
   either-way = by (is_looking operation) refl
@@ -117,6 +117,7 @@ module _ (i j : StreamId) (p : PipeId) (s : Slots) (operation : PipeOperation) (
   state : State i j p z
   state = record {
     source = rw streams h.state.source;
+    bare = rw streams h.state.bare;
     sink = rw streams h.state.sink;
     there = rw at here;
     from = rw at (causes.0 ∙ h.state.from);
@@ -124,7 +125,7 @@ module _ (i j : StreamId) (p : PipeId) (s : Slots) (operation : PipeOperation) (
     apart = rw placed (apart-set i j p p s.pipes x b.slots h.state.there causes.0 causes.1.0 h.state.apart);
     source_fits = rw streams h.state.source_fits;
     sink_fits = rw streams h.state.sink_fits;
-    closes = rw (at, streams) (subst (λ (k : StreamId). Closes b.slots.phase b.slots.action ((readable_at k s).state ≡ ReadableClosed)) h.state.from kept.closes);
+    closes = rw (at, streams) (subst (λ (k : StreamId). Closes b.slots.phase b.slots.action ((source_at k s).state ≡ ReadableClosed)) h.state.from kept.closes);
   }
 
   off-caused : all (off p i) b.out.effects ≡ 0
@@ -205,6 +206,7 @@ module _ (i j : StreamId) (p : PipeId) (s : Slots) (q : PipeId) (operation : Pip
         stands = record {
           state = record {
             source = rw a.streams h.state.source;
+            bare = rw a.streams h.state.bare;
             sink = rw a.streams h.state.sink;
             there = rw same (a.here ∙ h.state.there);
             from = rw same h.state.from;

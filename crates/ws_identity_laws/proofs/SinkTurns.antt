@@ -15,7 +15,7 @@ use Rattle.ws_steps.specs.declared.writable.WriteRecord.TheVariants.{Chunk, InFl
 use Rattle.ws_steps.specs.Histories.{is_same}
 use Rattle.ws_steps.specs.Operations.{writable_operation}
 use Rattle.ws_steps.specs.Queues.{first_value}
-use Rattle.ws_steps.specs.Slots.{Slots, owner_at, readable_at, writable_at, pipe_at, as_writable}
+use Rattle.ws_steps.specs.Slots.{Slots, owner_at, byte_at, source_at, writable_at, pipe_at, as_byte, as_writable}
 use Rattle.ws_steps.specs.Turns.{row}
 use Rattle.ws_steps.specs.Writable as writable
 use Rattle.ws_steps.specs.Writable.{hand_on_first, hand_on}
@@ -24,7 +24,7 @@ use Rattle.ws_flow.specs.Told.{Open, Told, told, then_told, IsShortOf}
 use Rattle.ws_flow.proofs.Told.{then_empty, short_refl}
 use Rattle.ws_laws.proofs.Lists.{Each, each-append}
 use Rattle.ws_laws.proofs.Rows.{row-causes, row-pipes}
-use Rattle.ws_laws.proofs.Tables.{is_same-refl, same_id, writable_acts, on_writable-same, on_writable-other, on_writable-readable, on_writable-there}
+use Rattle.ws_laws.proofs.Tables.{is_same-refl, same_id, writable_acts, on_writable-same, on_writable-other, on_writable-source, on_writable-look}
 use Rattle.ws_laws.proofs.WritableDoes.{IsHandOn}
 use Rattle.ws_pipe_laws.proofs.AtSource.{off-only, row-off}
 use Rattle.ws_pipe_laws.proofs.PassingRuns.{row-few}
@@ -43,6 +43,7 @@ use Rattle.ws_link_laws.proofs.Standing.{IsInner, IsNotLast, at_end-append, Stat
 use Rattle.ws_link_laws.proofs.Telling.{tells, IsSilent, silent-all, hands, written, writes, chunks}
 use Rattle.ws_identity_laws.specs.Passing.{acts_of, effect_acts}
 use Rattle.ws_identity_laws.proofs.Standing.{Stands, Turned, way, lies_on, split}
+use Rattle.ws_link_laws.proofs.Hosts.{row-sources}
 
 -- by whom a chunk is taken that is handed on
 abbrev ear_of : StreamId → WritableOperation → Ear
@@ -125,9 +126,13 @@ module _ (i j : StreamId) (p : PipeId) (s : Slots) (k : StreamId) (operation : W
   pipes : z.pipes ≡ s.pipes
   pipes = row-pipes e s tt
 
-  source-same : readable_at i z ≡ readable_at i s
+  source-same : source_at i z ≡ source_at i s
   unfolding row
-  source-same = on_writable-readable (writable_operation k operation) k s i (is_same i k) refl
+  source-same = on_writable-source (writable_operation k operation) k s i
+
+  bytes-same : byte_at i z ≡ byte_at i s
+  unfolding row
+  bytes-same = on_writable-look as_byte (λ b c. refl) (writable_operation k operation) k s i (is_same i k) refl
 
   stands-by : State i j p z → Stands i j p s (e ∷ es) → Stands i j p z (cs ++ es)
   stands-by st h = record {
@@ -144,7 +149,8 @@ module _ (i j : StreamId) (p : PipeId) (s : Slots) (k : StreamId) (operation : W
   state-by : (w : writable.Slots) → writable_at j z ≡ w → State i j p s → SinkFits w → State i j p z
   unfolding row
   state-by w same st fits = record {
-    source = on_writable-there (writable_operation k operation) k s i (is_same i k) refl ∙ st.source;
+    source = row-sources i e s ∙ st.source;
+    bare = rw bytes-same st.bare;
     sink = writable-there (writable_operation k operation) k s j st.sink;
     there = rw pipes st.there;
     from = rw pipes st.from;
@@ -156,7 +162,7 @@ module _ (i j : StreamId) (p : PipeId) (s : Slots) (k : StreamId) (operation : W
   }
 
   abbrev rest : Told Value
-  rest = in_pipe (pipe_at p s) (then_told (tells (chunks p) es) (in_source (readable_at i s)))
+  rest = in_pipe (pipe_at p s) (then_told (tells (chunks p) es) (in_source (source_at i s)))
 
   -- what lies, where nothing but the destination changes
   told-by : (w : writable.Slots) → writable_at j z ≡ w → IsShortOf (then_told (effect_acts j e s) (way (in_sink w) (tells (writes j) es) rest)) (way (in_sink (writable_at j s)) (then_told (writes j e) (tells (writes j) es)) rest)

@@ -5,7 +5,7 @@ use Rattle.ws_value.specs.declared.ids.StreamId.{StreamId}
 use Rattle.ws_value.specs.declared.value.Value.{Value}
 use Rattle.ws_steps.specs.declared.effects.Effect.{Effect}
 use Rattle.ws_steps.specs.declared.transform.TransformId.{TransformId}
-use Rattle.ws_steps.specs.Slots.{Slots, readable_at, writable_at, pipe_at}
+use Rattle.ws_steps.specs.Slots.{Slots, source_at, writable_at, pipe_at}
 use Rattle.ws_steps.specs.Turns.{row}
 use Rattle.ws_steps.specs.WritableHistory.{Writes}
 use Rattle.ws_flow.specs.Told.{Open, Told, then_told, IsShortOf}
@@ -35,7 +35,7 @@ way K W P = then_told K (then_told W P)
 
 -- what lies on the link, with these effects on the agenda
 abbrev pub lies_on : StreamId → StreamId → PipeId → Slots → List Effect → Told Value
-lies_on i j p s es = way (in_sink (writable_at j s)) (tells (writes j) es) (in_pipe (pipe_at p s) (then_told (tells (chunks p) es) (in_source (readable_at i s))))
+lies_on i j p s es = way (in_sink (writable_at j s)) (tells (writes j) es) (in_pipe (pipe_at p s) (then_told (tells (chunks p) es) (in_source (source_at i s))))
 
 pub lies_on-nothing : (i j : StreamId) (p : PipeId) (s : Slots) → lies_on i j p s [] ≡ lies i j p s
 lies_on-nothing i j p s = refl
@@ -44,7 +44,7 @@ lies_on-nothing i j p s = refl
 abbrev pub now : StreamId → StreamId → PipeId → Slots → List Effect → List Effect → Told Value
 now i j p z cs es =
     way (in_sink (writable_at j z)) (then_told (tells (writes j) cs) (tells (writes j) es))
-    (in_pipe (pipe_at p z) (then_told (then_told (tells (chunks p) cs) (tells (chunks p) es)) (in_source (readable_at i z))))
+    (in_pipe (pipe_at p z) (then_told (then_told (tells (chunks p) cs) (tells (chunks p) es)) (in_source (source_at i z))))
 
 pub split : (i j : StreamId) (p : PipeId) (z : Slots) (cs es : List Effect) → lies_on i j p z (cs ++ es) ≡ now i j p z cs es
 split i j p z cs es = rw (tells-append (writes j) cs es, tells-append (chunks p) cs es) refl

@@ -15,25 +15,25 @@ use Rattle.ws_steps.specs.Histories.{along}
 use Rattle.ws_steps.specs.Jobs.{job_effects, job_begun, begin_job}
 use Rattle.ws_steps.specs.Promises.{next_job, after_next_job, watch}
 use Rattle.ws_steps.specs.Run.{Entry, Called, Worked, Heard, step, older, after_call, after_job, after_event}
-use Rattle.ws_steps.specs.Slots.{Slots, Done, with_promises, owner_at, pipe_at, as_pipe, as_readable, as_writable}
+use Rattle.ws_steps.specs.Slots.{Slots, Done, with_promises, pipe_at, as_pipe, as_writable}
 use Rattle.ws_steps.specs.Turns.{row, performed, moments}
 use Rattle.ws_flow.specs.Told.{Told, then_told, IsShortOf}
 use Rattle.ws_flow.proofs.Told.{then_assoc, then_empty, short_refl, short_trans, short_same, short_as, short_left, short_right}
 use Rattle.ws_laws.proofs.Lists.{Each, each-map}
 use Rattle.ws_laws.proofs.Rows.{row-locks}
-use Rattle.ws_laws.proofs.Tables.{readable_there, writable_there}
+use Rattle.ws_laws.proofs.Tables.{writable_there}
 use Rattle.ws_laws.proofs.Walker.{IsHistory, performed-goes, nothing-told}
 use Rattle.ws_pipe_laws.proofs.AtSource.{all_off}
 use Rattle.ws_pipe_laws.proofs.PassingRuns.{call-none, job-none, call-is}
 use Rattle.ws_transform_laws.proofs.Halving.{going}
 use Rattle.ws_transform_laws.proofs.Told.{along-map}
-use Rattle.ws_link_laws.specs.Link.{silence, lies, leaves, enters}
+use Rattle.ws_link_laws.specs.Link.{silence, lies, leaves, giver_at, enters}
 use Rattle.ws_link_laws.specs.Sound.{IsReached, all_spare}
 use Rattle.ws_link_laws.proofs.Calls.{IsOuter, outer-inner, outer-last, outer-writes, outer-chunks, Begins, call-begins}
 use Rattle.ws_link_laws.proofs.Hosts.{reached-halved}
 use Rattle.ws_link_laws.proofs.Pipes.{rank}
 use Rattle.ws_link_laws.proofs.Standing.{IsInner, IsNotLast, state-same}
-use Rattle.ws_link_laws.proofs.Steps.{reached-step, reached-going, reached-few, reached-is, elsewhere-is, append_ends, Grown, call-grown, grown-state, job-inner, job-writes, job-chunks, job-ends}
+use Rattle.ws_link_laws.proofs.Steps.{reached-step, reached-going, reached-few, reached-is, elsewhere-is, append_ends, Grown, call-grown, source_there, grown-source, grown-state, job-inner, job-writes, job-chunks, job-ends}
 use Rattle.ws_link_laws.proofs.Telling.{tells, IsSilent, silent-all, writes, chunks}
 use Rattle.ws_identity_laws.specs.Ends.{IsAnyLink}
 use Rattle.ws_identity_laws.specs.Passing.{effect_acts, step_acts, effect_takes, step_takes}
@@ -50,6 +50,7 @@ link-stands i j p s l =
     record {
       state = record {
         source = l.source;
+        bare = l.bare;
         sink = l.sink;
         there = l.there;
         from = l.from;
@@ -74,6 +75,7 @@ stands-link i j p s r a h =
     record {
       reached = r;
       source = h.state.source;
+      bare = h.state.bare;
       sink = h.state.sink;
       there = h.state.there;
       from = h.state.from;
@@ -224,7 +226,7 @@ link-worked i j p s l =
 
 link-grown : (i j : StreamId) (p : PipeId) (s : Slots) → Stands i j p s [] → Grown i j p s s
 link-grown i j p s h = record {
-  source = readable_there (slice_get s.streams i.0) h.state.source;
+  source = source_there (slice_get s.streams i.0) h.state.source;
   sink = writable_there (slice_get s.streams j.0) h.state.sink;
   there = h.state.there;
   only = let w = h.only in omega (arith, w);
@@ -240,7 +242,7 @@ module _ (i j : StreamId) (p : PipeId) (s : Slots) (c : Call) (l : IsAnyLink i j
   before : Stands i j p s []
   before = link-stands i j p s l
 
-  begins : Begins i j p s (enters (owner_at i s) i c) (begin c s)
+  begins : Begins i j p s (enters (giver_at i s) i c) (begin c s)
   begins = call-begins i j p s l.source (reached-halved s l.reached) l.locks l.apart c leave
 
   grown : Grown i j p s d.slots
@@ -276,7 +278,7 @@ module _ (i j : StreamId) (p : PipeId) (s : Slots) (c : Call) (l : IsAnyLink i j
       }
 
   begun-told : lies_on i j p d.slots d.caused ≡ t
-  begun-told = rw (begun-writes, begun-chunks, ap as_pipe grown.there, ap as_readable grown.source, ap as_writable grown.sink) refl
+  begun-told = rw (begun-writes, begun-chunks, ap as_pipe grown.there, grown-source i j p s d.slots grown l.source, ap as_writable grown.sink) refl
 
   begun : From i j p t d.slots.locks none d.slots d.caused
   begun = record { stands = begun-stands; short = rw (begun-told, then_empty t) (short_refl t); same = refl }
@@ -298,6 +300,7 @@ quiet-link : (i j : StreamId) (p : PipeId) (s z : Slots) → IsReached z → z.s
 quiet-link i j p s z r e f g l = record {
   reached = r;
   source = rw e l.source;
+  bare = rw e l.bare;
   sink = rw e l.sink;
   there = rw f l.there;
   from = rw f l.from;

@@ -3,7 +3,7 @@
 use Rattle.std.proofs.Common.{◌≡◌, ◌⊎◌, inl, inr, ℕ, zero, suc, ◌+◌, ◌<◌, Bool, true, false, ◌&&◌, if◌then◌else◌, List, [], ◌∷◌, ◌++◌, map, Option, Some, None, slice_get, refl, sym, ap, subst, ◌∙◌, arith, append_assoc, append-nil}
 use Rattle.ws_value.specs.declared.{ids.StreamId.{StreamId}, value.Value.{Value}}
 use Rattle.ws_steps.specs.declared.effects.Effect.{Effect}
-use Rattle.ws_steps.specs.declared.effects.Effect.TheVariants.{Readable as OnReadable, Transform as OnTransform, ChunkSteps}
+use Rattle.ws_steps.specs.declared.effects.Effect.TheVariants.{Readable as OnReadable, Byte as OnByte, Transform as OnTransform, ChunkSteps}
 use Rattle.ws_steps.specs.declared.readable.{ReadableOperation.{ReadableOperation}, ReadableOperation.TheVariants.{Enqueue, Close}}
 use Rattle.ws_steps.specs.declared.transform.{Kind.TheVariants.{Identity}, TransformId.{TransformId}, TransformOperation.TheVariants.{TransformChunk}}
 use Rattle.ws_steps.specs.Histories.{is_same, along}
@@ -11,19 +11,22 @@ use Rattle.ws_steps.specs.Operations.{readable_operation}
 use Rattle.ws_steps.specs.Readable as readable
 use Rattle.ws_steps.specs.Readable.{can_close_or_enqueue}
 use Rattle.ws_steps.specs.ReadableHistory.{Flow, no_flow, flow_then, effect_flow}
-use Rattle.ws_steps.specs.Slots.{Slots, Stream, ReadableStream, WritableStream, Done, has_readable, readable_at, as_readable, is_readable_stream, transform_at, as_transform, on_readable}
+use Rattle.ws_steps.specs.Slots.{Slots, Stream, ReadableStream, ByteStream, WritableStream, Done, has_readable, has_byte, readable_at, as_readable, is_readable_stream, transform_at, as_transform, on_readable}
 use Rattle.ws_steps.specs.Transform as transform
 use Rattle.ws_steps.specs.Turns.{row, performed, moments}
 use Rattle.ws_flow.specs.Told.{Open, Closed, Told, then_told, IsFront}
 use Rattle.ws_flow.proofs.Told.{then_assoc, then_empty}
 use Rattle.ws_laws.proofs.Shapes.{TransformShape, transform_shapes, transform_shape, row-transform_shapes}
-use Rattle.ws_laws.proofs.Tables.{either, same_id, is_same-refl, readable_acts, on_readable-same}
+use Rattle.ws_laws.proofs.Tables.{either, same_id, is_same-refl, readable_acts, on_readable-same, on_source-readable}
 use Rattle.ws_laws.proofs.Walker.{IsHistory, performed-goes}
 use Rattle.ws_transform_laws.specs.TransformHistory.{is_same_transform, effect_transformed, enqueues, effect_enqueued, effect_closings}
 use Rattle.ws_transform_laws.proofs.Shutting.{can, row-shut, can-before}
 use Rattle.ws_transform_laws.proofs.Told.{along-map}
-use Rattle.ws_link_laws.specs.Link.{silence}
+use Rattle.ws_link_laws.specs.Link.{OfSource, silence}
 use Rattle.ws_identity_laws.specs.Passing.{effect_takes}
+use Rattle.ws_laws.proofs.StaysBytes.{row-byte}
+use Rattle.ws_link_laws.specs.Entering.{entered}
+use Rattle.ws_identity_laws.proofs.Takes.{default-takes, default-none}
 
 at-shape : (ts : List transform.Slots) (k : ℕ) (x : TransformShape) → slice_get (map transform_shape ts) k ≡ Some x → transform_shape (as_transform (slice_get ts k)) ≡ x
 at-shape [] k x e = cc
@@ -38,6 +41,7 @@ close-shuts r a = grind arith
 pub takes-there : (o : Option Stream) → can_close_or_enqueue (as_readable o) ≡ true → is_readable_stream o ≡ true
 takes-there None e = cc
 takes-there (Some (ReadableStream r)) e = refl
+takes-there (Some (ByteStream b)) e = cc
 takes-there (Some (WritableStream w)) e = cc
 
 -- transform stream t is an identity, and stream r its readable half
@@ -118,43 +122,52 @@ module _ (t : TransformId) (r : StreamId) where
   other-one j operation s n = quiet-one (OnReadable j operation) s (rw n refl) (rw n refl)
 
   -- of the half, which can take nothing
-  shut-one : (operation : ReadableOperation) (s : Slots) → can r s ≡ false → (effect_takes r (OnReadable r operation) s ≡ silence) × ((effect_flow r (OnReadable r operation) s).entered ≡ [])
-  shut-one (Enqueue v) s n = let same = is_same-refl r in rw (same, n) (refl, refl)
-  shut-one operation s n = let same = is_same-refl r in rw (same, n) (refl, refl)
+  shut-one : (operation : ReadableOperation) (s : Slots) → has_byte r s ≡ false → can r s ≡ false → (effect_takes r (OnReadable r operation) s ≡ silence) × ((effect_flow r (OnReadable r operation) s).entered ≡ [])
+  shut-one (Enqueue v) s none n = let same = is_same-refl r in (default-takes r (Enqueue v) s none ∙ rw n refl, rw (same, n) refl)
+  shut-one operation s none n = let same = is_same-refl r in (default-takes r operation s none ∙ rw n refl, rw same refl)
 
-  close-shut : (s : Slots) → can r s ≡ true → can r (row (OnReadable r Close) s).slots ≡ false
+  close-shut : (s : Slots) → has_byte r s ≡ false → can r s ≡ true → can r (row (OnReadable r Close) s).slots ≡ false
   unfolding row
-  close-shut s c =
+  close-shut s none c =
       let there : has_readable r s ≡ true = takes-there (slice_get s.streams r.0) c in
       let at : readable_at r (on_readable (readable_operation r Close) r s).slots ≡ (readable_operation r Close (readable_acts r s)).slots = ap as_readable (on_readable-same (readable_operation r Close) r s there) in
-      rw at (close-shuts r (readable_acts r s))
+      ap (λ (d : Done). can r d.slots) (on_source-readable Close r s none) ∙ (ap (λ x. can_close_or_enqueue x) at ∙ close-shuts r (readable_acts r s))
+
+  opens : (operation : ReadableOperation) (s : Slots) → has_byte r s ≡ false → can r s ≡ true → effect_takes r (OnReadable r operation) s ≡ entered OfSource operation
+  opens operation s none c = default-takes r operation s none ∙ rw c refl
 
   -- and which can
-  open-one : (operation : ReadableOperation) (s : Slots) → can r s ≡ true → One (OnReadable r operation) s
-  open-one (Enqueue v) s c = let same = is_same-refl r in record { items = rw (same, c) refl; fine = inl (rw (same, c) refl); shut = λ n. absurd (cc) }
-  open-one Close s c =
+  open-one : (operation : ReadableOperation) (s : Slots) → has_byte r s ≡ false → can r s ≡ true → One (OnReadable r operation) s
+  open-one (Enqueue v) s none c =
       let same = is_same-refl r in
-      record { items = rw (same, c) refl; fine = inr (rw (same, c) refl, (close-shut s c, rw same (omega arith))); shut = λ n. absurd (cc) }
-  open-one operation s c = let same = is_same-refl r in quiet-one (OnReadable r operation) s (rw (same, c) refl) (rw same refl)
+      let k = opens (Enqueue v) s none c in
+      record { items = ap (λ (x : Told Value). x.items) k ∙ rw (same, c) refl; fine = inl (ap (λ (x : Told Value). x.mark) k); shut = λ n. absurd (cc) }
+  open-one Close s none c =
+      let same = is_same-refl r in
+      let k = opens Close s none c in
+      record { items = ap (λ (x : Told Value). x.items) k ∙ rw same refl; fine = inr (ap (λ (x : Told Value). x.mark) k, (close-shut s none c, rw same (omega arith))); shut = λ n. absurd (cc) }
+  open-one operation s none c = let same = is_same-refl r in quiet-one (OnReadable r operation) s (opens operation s none c) (rw same refl)
 
-  own-one : (operation : ReadableOperation) (s : Slots) → One (OnReadable r operation) s
-  own-one operation s = by (can r s) refl
+  own-one : (operation : ReadableOperation) (s : Slots) → has_byte r s ≡ false → One (OnReadable r operation) s
+  own-one operation s none = by (can r s) refl
     where
       by : (b : Bool) → b ≡ can r s → One (OnReadable r operation) s
-      by true c = open-one operation s (sym c)
-      by false c = let k = shut-one operation s (sym c) in quiet-one (OnReadable r operation) s k.0 k.1
+      by true c = open-one operation s none (sym c)
+      by false c = let k = shut-one operation s none (sym c) in quiet-one (OnReadable r operation) s k.0 k.1
 
-  readable-one : (j : StreamId) (operation : ReadableOperation) (s : Slots) → One (OnReadable j operation) s
-  readable-one j operation s = by (is_same r j) refl
+  readable-one : (j : StreamId) (operation : ReadableOperation) (s : Slots) → has_byte r s ≡ false → One (OnReadable j operation) s
+  readable-one j operation s none = by (is_same r j) refl
     where
       by : (same : Bool) → same ≡ is_same r j → One (OnReadable j operation) s
       by false n = other-one j operation s (sym n)
-      by true n = let is : r ≡ j = same_id r j (sym n) in subst (λ (k : StreamId). One (OnReadable k operation) s) is (own-one operation s)
+      by true n = let is : r ≡ j = same_id r j (sym n) in subst (λ (k : StreamId). One (OnReadable k operation) s) is (own-one operation s none)
 
-  pub each-one : (e : Effect) (s : Slots) → One e s
-  each-one (OnReadable j operation) s = readable-one j operation s
-  each-one (ChunkSteps j request v) s = quiet-one (ChunkSteps j request v) s refl (either (λ (f : Flow). f.entered ≡ []) (is_same r j) (record no_flow { given = v ∷ [] }) no_flow (λ e. refl) (λ e. refl))
-  each-one e s = quiet-one e s refl refl
+  -- of a half that has a default controller
+  pub each-one : (e : Effect) (s : Slots) → has_byte r s ≡ false → One e s
+  each-one (OnReadable j operation) s none = readable-one j operation s none
+  each-one (OnByte j operation) s none = quiet-one (OnByte j operation) s (default-none r operation j s none) refl
+  each-one (ChunkSteps j request v) s none = quiet-one (ChunkSteps j request v) s refl (either (λ (f : Flow). f.entered ≡ []) (is_same r j) (record no_flow { given = v ∷ [] }) no_flow (λ e. refl) (λ e. refl))
+  each-one e s none = quiet-one e s refl refl
 
   -- what it enqueues of what it transforms
   passed : (e : Effect) (s : Slots) → Passes s → (can r s ≡ true → effect_enqueued t e s ≡ effect_transformed t e s) × (can r s ≡ false → effect_enqueued t e s ≡ [])
@@ -173,6 +186,7 @@ module _ (t : TransformId) (r : StreamId) where
 
   record Takes (h : Taken) (s : Slots) (es : List Effect) : Type 0 where
     half : Passes s
+    default : has_byte r s ≡ false
     items : h.takes.items ≡ h.entered
     fine : Fine h.takes h.closings s
     all : can r s ≡ true → h.enqueued ≡ h.transformed
@@ -197,11 +211,12 @@ module _ (t : TransformId) (r : StreamId) where
 
   row-takes : (h : Taken) (s : Slots) (e : Effect) (es : List Effect) → Takes h s (e ∷ es) → Takes (then_taken h (taken_told e s)) (row e s).slots ((row e s).caused ++ es)
   row-takes h s e es k =
-      let one = each-one e s in
+      let one = each-one e s k.default in
       let pass = passed e s k.half in
       let n = fine-next h.takes (effect_takes r e s) h.closings (effect_closings r e s) s (row e s).slots h.entered (effect_flow r e s).entered k.items one.items k.fine one.fine one.shut (row-shut r e s) in
       record {
         half = (k.half.0, (ap (λ (vs : List TransformShape). slice_get vs t.0) (row-transform_shapes e s) ∙ k.half.1.0, k.half.1.1));
+        default = row-byte r e s ∙ k.default;
         items = n.0;
         fine = n.1;
         all = λ c. let b = can-before r e s c in let one_ = k.all b in let two = pass.0 b in rw (one_, two) refl;
@@ -237,26 +252,27 @@ module _ (t : TransformId) (r : StreamId) where
     pub all : can r (performed d) ≡ true → along [] ◌++◌ (effect_enqueued t) (moments d) ≡ along [] ◌++◌ (effect_transformed t) (moments d)
     pub front : IsFront (along [] ◌++◌ (effect_enqueued t) (moments d)) (along [] ◌++◌ (effect_transformed t) (moments d))
 
-  pub performed-took : (d : Done) → Passes d.slots → Took d
-  performed-took d half =
+  pub performed-took : (d : Done) → Passes d.slots → has_byte r d.slots ≡ false → Took d
+  performed-took d half default =
       let all = along nothing then_taken taken_told (moments d) in
       let k = subst (λ (h : Taken). Takes h (performed d) []) (are_taken.left all ∙ told-of d)
-      (performed-goes nothing then_taken are_taken taken_told Takes row-takes nothing d (record { half = half; items = refl; fine = inl refl; all = λ c. refl; front = ([], refl) })) in
+      (performed-goes nothing then_taken are_taken taken_told Takes row-takes nothing d (record { half = half; default = default; items = refl; fine = inl refl; all = λ c. refl; front = ([], refl) })) in
       record { items = k.items; fine = k.fine; all = k.all; front = k.front }
 
   -- where it can take nothing
 
   record Shut (h : Told Value) (s : Slots) (es : List Effect) : Type 0 where
     shut : can r s ≡ false
+    default : has_byte r s ≡ false
     none : h ≡ silence
 
   are_told : IsHistory {H = Told Value} silence then_told
   are_told = record { left = λ h. refl; right = then_empty; assoc = then_assoc }
 
-  pub performed-shut : (d : Done) → can r d.slots ≡ false → (along silence then_told (effect_takes r) (moments d) ≡ silence) × (can r (performed d) ≡ false)
-  performed-shut d n =
+  pub performed-shut : (d : Done) → has_byte r d.slots ≡ false → can r d.slots ≡ false → (along silence then_told (effect_takes r) (moments d) ≡ silence) × (can r (performed d) ≡ false)
+  performed-shut d default n =
       let k = performed-goes silence then_told are_told (effect_takes r) Shut
-      (λ h s e es k. record { shut = row-shut r e s k.shut; none = let a = k.none in let b = (each-one e s).shut k.shut in rw (a, b) refl }) silence d (record { shut = n; none = refl }) in
+      (λ h s e es k. record { shut = row-shut r e s k.shut; default = row-byte r e s ∙ k.default; none = let a = k.none in let b = (each-one e s k.default).shut k.shut in rw (a, b) refl }) silence d (record { shut = n; default = default; none = refl }) in
       (k.none, k.shut)
 
   record Idle (h : List Value) (s : Slots) (es : List Effect) : Type 0 where

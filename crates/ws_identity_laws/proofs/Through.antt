@@ -27,7 +27,7 @@ use Rattle.ws_room_laws.proofs.Turns.{performed_none}
 use Rattle.ws_writable_laws.proofs.Runs.{is_history}
 use Rattle.ws_transform_laws.specs.TransformHistory.{step_closings, effect_closings, step_enqueued, step_transformed}
 use Rattle.ws_transform_laws.proofs.Entered.{step-enters}
-use Rattle.ws_transform_laws.proofs.Entering.{Reads}
+use Rattle.ws_transform_laws.proofs.Entering.{Reads, reads-default}
 use Rattle.ws_transform_laws.proofs.Flushed.{flushes_close}
 use Rattle.ws_transform_laws.proofs.Halving.{map-from}
 use Rattle.ws_transform_laws.proofs.Shutting.{can}
@@ -39,6 +39,7 @@ use Rattle.ws_identity_laws.proofs.Closing.{call-closes}
 use Rattle.ws_identity_laws.proofs.Flushing.{flush-closed}
 use Rattle.ws_identity_laws.proofs.Keeps.{joined}
 use Rattle.ws_identity_laws.proofs.Taking.{Took, performed-took, performed-shut}
+use Rattle.ws_steps.specs.Slots.{has_byte, is_byte_stream}
 
 -- what is told of these
 
@@ -75,6 +76,8 @@ begun-place n y (Called c) s e = begin-makes (λ z. slice_get z.streams n ≡ So
   pipe = λ z source dest prevent signal promise k. k;
   signal = λ z k. k;
   transform = λ z kind v r change k. k;
+  bytes = λ z mark auto k. get-stays z.streams _ n y k;
+  byob_requests = λ z hs k. k;
   readable = λ z o mark size k. get-stays z.streams _ n y k;
   writable = λ z o mark size k. get-stays z.streams _ n y k;
 }) c s e
@@ -124,6 +127,20 @@ module _ (t : TransformId) (x : transform.Slots) (identity : x.kind ≡ Identity
       by (Some y) f g = let p = begun-place r.0 y entry s (sym f) in rw p g
       by None f g = let y = map-from stream_shape s.streams r.0 _ half in let z = y.1.0 in cc
 
+  -- and it has a default controller
+  pub default-begun : (entry : Entry) (s : Slots) → Halved s → There s → has_byte r (begun_by s entry).slots ≡ false
+  default-begun entry s halved at = by (slice_get s.streams r.0) refl
+    where
+      half : slice_get (stream_shapes s) r.0 ≡ Some (ReadableOf (HalfOf t))
+      half = (halved.halves t (transform_shape x) at).0
+
+      default : has_byte r s ≡ false
+      default = reads-default t r s halved (transform_shape x, (at, refl))
+
+      by : (o : Option Stream) → o ≡ slice_get s.streams r.0 → has_byte r (begun_by s entry).slots ≡ false
+      by (Some y) f = let p = begun-place r.0 y entry s (sym f) in ap is_byte_stream p ∙ (ap is_byte_stream f ∙ default)
+      by None f = let y = map-from stream_shape s.streams r.0 _ half in let z = y.1.0 in cc
+
   -- what happens in one entry
   module _ (xs : List Entry) (entry : Entry) (at : There (run xs empty)) (spare : entry_spares r entry ≡ true) where
     abbrev s : Slots
@@ -148,7 +165,7 @@ module _ (t : TransformId) (x : transform.Slots) (identity : x.kind ≡ Identity
     reads = (transform_shape x, (there-step entry s at, refl))
 
     took : Took t r d
-    took = performed-took t r d (transform_shape x, (there-begun entry s at, (refl, identity)))
+    took = performed-took t r d (transform_shape x, (there-begun entry s at, (refl, identity))) (default-begun entry s halved at)
 
     after-can : can r (step s entry) ≡ can r (performed d)
     after-can = ap (λ (ys : List Stream). can_close_or_enqueue (as_readable (slice_get ys r.0))) (stepped entry s)
@@ -185,7 +202,7 @@ module _ (t : TransformId) (x : transform.Slots) (identity : x.kind ≡ Identity
     -- it can take nothing
     shut-passes : can r s ≡ false → Goal false
     shut-passes e =
-        let k = performed-shut t r d (shut-begun entry s halved at e) in
+        let k = performed-shut t r d (default-begun entry s halved at) (shut-begun entry s halved at e) in
         let none = k.0 in
         let after : can r (step s entry) ≡ false = after-can ∙ k.1 in
         rw (none, after) (short_refl (told [] Lost))

@@ -38,9 +38,10 @@ use Rattle.ws_link_laws.proofs.TransformTurns.{caused-writes, caused-chunks, cau
 use Rattle.ws_link_laws.proofs.Turns.{and_false, signal-each}
 use Rattle.ws_identity_laws.specs.Passing.{effect_acts, effect_takes}
 use Rattle.ws_identity_laws.proofs.Standing.{Stands, Turned, lies_on, split}
-use Rattle.ws_identity_laws.proofs.SourceTurns.{readable-turned}
+use Rattle.ws_identity_laws.proofs.SourceTurns.{readable-turned, byte-turned}
 use Rattle.ws_identity_laws.proofs.SinkTurns.{stands-kept, writable-turned}
 use Rattle.ws_identity_laws.proofs.PipeTurns.{pipe-turned}
+use Rattle.ws_steps.specs.declared.effects.Effect.TheVariants.{Byte, CloseStepsWith}
 
 -- an effect that is no operation of an end or of a pipe, and passes on what it brings
 record Passing (i j : StreamId) (p : PipeId) (n : ℕ) (e : Effect) (cs : List Effect) : Type 0 where
@@ -152,6 +153,7 @@ closes-turned i j p s k es h = by (is_same j k) refl
 pub row-turned : (i j : StreamId) (p : PipeId) (s : Slots) (e : Effect) (es : List Effect) → Stands i j p s (e ∷ es) → Turned i j p s e es
 unfolding row
 row-turned i j p s (OnReadable k operation) es h = readable-turned i j p s k operation es h
+row-turned i j p s (Byte k operation) es h = byte-turned i j p s k operation es h
 row-turned i j p s (OnWritable k operation) es h = writable-turned i j p s k operation es h
 row-turned i j p s (OnPipe q operation) es h = pipe-turned i j p s q operation es h
 row-turned i j p s (OnSignal a operation) es h = passing-turned i j p s (OnSignal a operation) es tt tt h refl refl (signal-passing i j p (rank (pipe_at p s).phase) a operation s)
@@ -168,7 +170,9 @@ row-turned i j p s (ChunkSteps k (PipeRequest q) v) es h =
     passing-turned i j p s (ChunkSteps k (PipeRequest q) v) es tt tt h refl refl
     (record { writes = refl; chunks = then_empty (chunks p (ChunkSteps k (PipeRequest q) v)); inner = (tt, tt); last = (and_false (nat_eq p.0 q.0), tt) })
 row-turned i j p s (CloseSteps k (Promise q)) es h = passing-turned i j p s (CloseSteps k (Promise q)) es tt tt h refl refl (record { writes = refl; chunks = refl; inner = tt; last = tt })
+row-turned i j p s (CloseStepsWith k (Promise q) b) es h = passing-turned i j p s (CloseStepsWith k (Promise q) b) es tt tt h refl refl (record { writes = refl; chunks = refl; inner = tt; last = tt })
 row-turned i j p s (CloseSteps k (PipeRequest q)) es h = passing-turned i j p s (CloseSteps k (PipeRequest q)) es tt tt h refl refl (record { writes = refl; chunks = refl; inner = (tt, tt); last = (and_false (nat_eq p.0 q.0), tt) })
+row-turned i j p s (CloseStepsWith k (PipeRequest q) b) es h = passing-turned i j p s (CloseStepsWith k (PipeRequest q) b) es tt tt h refl refl (record { writes = refl; chunks = refl; inner = (tt, tt); last = (and_false (nat_eq p.0 q.0), tt) })
 row-turned i j p s (ErrorSteps k (Promise q) r) es h = passing-turned i j p s (ErrorSteps k (Promise q) r) es tt tt h refl refl (record { writes = refl; chunks = refl; inner = tt; last = tt })
 row-turned i j p s (ErrorSteps k (PipeRequest q) r) es h = passing-turned i j p s (ErrorSteps k (PipeRequest q) r) es tt tt h refl refl (record { writes = refl; chunks = refl; inner = (tt, tt); last = (and_false (nat_eq p.0 q.0), tt) })
 row-turned i j p s (Give gift u) es h = passing-turned i j p s (Give gift u) es tt tt h refl refl (record { writes = refl; chunks = refl; inner = tt; last = tt })

@@ -19,12 +19,12 @@ run-more [] ys s = refl
 run-more (x ∷ xs) ys s = run-more xs ys (step s x)
 
 -- one way after another: a goes out of it, m goes over from one to the other, and e comes in
-pub chained : (a L2 L0 m L1 R0 e : Told Value) → IsShortOf (then_told a L2) (then_told L0 m) → IsShortOf (then_told m L1) (then_told R0 e) → IsShortOf (then_told a (then_told L2 L1)) (then_told (then_told L0 R0) e)
-chained a L2 L0 m L1 R0 e f g =
-    short_same (then_told a (then_told L2 L1)) (then_told (then_told a L2) L1) _ (sym (then_assoc a L2 L1))
-    (short_trans (then_told (then_told a L2) L1) (then_told (then_told L0 m) L1) _ (short_right (then_told a L2) (then_told L0 m) L1 f)
-    (short_same (then_told (then_told L0 m) L1) (then_told L0 (then_told m L1)) _ (then_assoc L0 m L1)
-    (short_as (then_told L0 (then_told m L1)) (then_told L0 (then_told R0 e)) _ (sym (then_assoc L0 R0 e)) (short_left L0 (then_told m L1) (then_told R0 e) g))))
+pub chained : (a x y m z w e : Told Value) → IsShortOf (then_told a x) (then_told y m) → IsShortOf (then_told m z) (then_told w e) → IsShortOf (then_told a (then_told x z)) (then_told (then_told y w) e)
+chained a x y m z w e f g =
+    short_same (then_told a (then_told x z)) (then_told (then_told a x) z) _ (sym (then_assoc a x z))
+    (short_trans (then_told (then_told a x) z) (then_told (then_told y m) z) _ (short_right (then_told a x) (then_told y m) z f)
+    (short_same (then_told (then_told y m) z) (then_told y (then_told m z)) _ (then_assoc y m z)
+    (short_as (then_told y (then_told m z)) (then_told y (then_told w e)) _ (sym (then_assoc y w e)) (short_left y (then_told m z) (then_told w e) g))))
 
 -- a way, by its first link
 way-passes : (xs entries : List Entry) (i : StreamId) (p : PipeId) (ms : List Middle) (k : StreamId) → IsWay i p ms k (run xs empty) → all_leave_way i ms k entries ≡ true → PassesWay i p ms k xs entries

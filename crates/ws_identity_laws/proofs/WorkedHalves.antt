@@ -2,10 +2,10 @@
 use Rattle.std.proofs.Common.{◌≡◌, ℕ, zero, suc, true, false, [], ◌∷◌, ◌++◌, List, None, refl}
 use Rattle.ws_value.specs.declared.{ids.PipeId.{PipeId}, ids.StreamId.{StreamId}, ids.LockId.{LockId}}
 use Rattle.ws_steps.specs.declared.transform.TransformId.{TransformId}
-use Rattle.ws_value.specs.declared.value.{Plain.TheVariants.{Undefined}, Value.{Value}, Value.TheVariants.{Plain}}
+use Rattle.ws_value.specs.declared.value.{Plain.TheVariants.{Undefined}, Value.{Value}, Value.TheVariants.{Plain, Bytes}}
 use Rattle.ws_steps.specs.declared.calls.Answer.TheVariants.{Ok}
 use Rattle.ws_steps.specs.declared.calls.Call.{Call}
-use Rattle.ws_steps.specs.declared.calls.Call.TheVariants.{MakeReadable, MakeWritable, MakeTransform, GetWriter, Write, CloseBy, Cancel, Enqueue, Finish, Fail, Terminate, Pipe, Settle}
+use Rattle.ws_steps.specs.declared.calls.Call.TheVariants.{MakeReadable, MakeBytes, MakeWritable, MakeTransform, GetWriter, Write, CloseBy, Cancel, Enqueue, Finish, Fail, Terminate, Pipe, Settle}
 use Rattle.ws_steps.specs.declared.calls.StartBy.TheVariants.{Now}
 use Rattle.ws_steps.specs.declared.pipes.Prevent.{Prevent}
 use Rattle.ws_steps.specs.declared.readable.SizeBy.TheVariants.{Count}
@@ -14,7 +14,9 @@ use Rattle.ws_steps.specs.Promises.{fresh, settle, answer, react, follow, queue_
 use Rattle.ws_steps.specs.Turns.{call_host, row, turns, performed, moments_of, moments}
 use Rattle.ws_steps.specs.Jobs.{begin_job}
 use Rattle.ws_steps.specs.Calls.{begin}
+use Rattle.ws_steps.specs.Bytes as byte
 use Rattle.ws_steps.specs.Readable as readable
+use Rattle.ws_steps.specs.ReadableHistory.{run_flow, accepted}
 use Rattle.ws_steps.specs.Writable as writable
 use Rattle.ws_steps.specs.Pipes as pipe
 use Rattle.ws_steps.specs.Transform as transform
@@ -114,7 +116,7 @@ made_from = Called (MakeTransform Identity 1 0 Now) ∷ Called (MakeWritable 1 C
 
 from_identity-free : IsAnyFree s1 s2 (run made_from empty)
 unfolding fresh settle answer react follow queue_micro unfollow use_gift after_next_job watch readable.call_pull_if_needed readable.accept readable.controller_enqueue readable.stream_close readable.stream_error readable.close_if_empty readable.controller_close readable.controller_error readable.after_take readable.pull_steps readable.default_reader_read readable.disturb readable.reader_generic_initialize readable.start_settled readable.pull_settled readable.cancel_steps readable.stream_cancel readable.cancel_if_readable readable.reader_release writable.ensure_rejected writable.settle_pending writable.update_backpressure writable.refresh_backpressure writable.reject_close_and_closed writable.finish_erroring writable.start_erroring writable.deal_with_rejection writable.controller_error_if_needed writable.process_write writable.process_close writable.advance_queue writable.hand_on writable.write_settled writable.finish_in_flight_close writable.finish_in_flight_close_with_error writable.close_settled writable.start_settled writable.abort_settled writable.controller_write writable.writer_write writable.controller_close writable.stream_close writable.close_with_error_propagation writable.stream_abort writable.abort_if_writable writable.set_up_writer writable.writer_release pipe.finalize pipe.act_by_signal pipe.act pipe.proceed pipe.shutdown pipe.look pipe.look_ready pipe.go_on pipe.keep_chunk pipe.read_ended pipe.write_chunk pipe.write_ended pipe.action_settled pipe.part_settled pipe.no_parts pipe.abort transform.set_backpressure transform.unblock transform.transform_error transform.terminate transform.enqueue transform.enqueued transform.transform_chunk transform.sink_write transform.write_goes_on transform.source_pull transform.sink_close transform.sink_abort transform.source_cancel transform.flush_settled transform.abort_settled transform.cancel_settled call_host row turns performed begin_job begin moments_of moments
-from_identity-free = record { reached = (made_from, refl); source = refl; sink = refl; unread = refl; unwritten = refl; locks = refl; apart = refl; requests = refl; queue = refl; close_request = refl; close_in_flight = refl }
+from_identity-free = record { reached = (made_from, refl); source = refl; bare = record { auto = refl; descriptors = refl; reader = refl }; sink = refl; unread = refl; unwritten = refl; locks = refl; apart = refl; requests = refl; queue = refl; close_request = refl; close_in_flight = refl }
 
 from_identity-link : IsAnyLink s1 s2 p0 from_identity
 unfolding fresh settle answer react follow queue_micro unfollow use_gift after_next_job watch readable.call_pull_if_needed readable.accept readable.controller_enqueue readable.stream_close readable.stream_error readable.close_if_empty readable.controller_close readable.controller_error readable.after_take readable.pull_steps readable.default_reader_read readable.disturb readable.reader_generic_initialize readable.start_settled readable.pull_settled readable.cancel_steps readable.stream_cancel readable.cancel_if_readable readable.reader_release writable.ensure_rejected writable.settle_pending writable.update_backpressure writable.refresh_backpressure writable.reject_close_and_closed writable.finish_erroring writable.start_erroring writable.deal_with_rejection writable.controller_error_if_needed writable.process_write writable.process_close writable.advance_queue writable.hand_on writable.write_settled writable.finish_in_flight_close writable.finish_in_flight_close_with_error writable.close_settled writable.start_settled writable.abort_settled writable.controller_write writable.writer_write writable.controller_close writable.stream_close writable.close_with_error_propagation writable.stream_abort writable.abort_if_writable writable.set_up_writer writable.writer_release pipe.finalize pipe.act_by_signal pipe.act pipe.proceed pipe.shutdown pipe.look pipe.look_ready pipe.go_on pipe.keep_chunk pipe.read_ended pipe.write_chunk pipe.write_ended pipe.action_settled pipe.part_settled pipe.no_parts pipe.abort transform.set_backpressure transform.unblock transform.transform_error transform.terminate transform.enqueue transform.enqueued transform.transform_chunk transform.sink_write transform.write_goes_on transform.source_pull transform.sink_close transform.sink_abort transform.source_cancel transform.flush_settled transform.abort_settled transform.cancel_settled call_host row turns performed begin_job begin moments_of moments
@@ -201,11 +203,11 @@ both = run (Called (piped s2 s3) ∷ []) first
 
 made-first : IsAnyFree s0 s1 (run made empty)
 unfolding fresh settle answer react follow queue_micro unfollow use_gift after_next_job watch readable.call_pull_if_needed readable.accept readable.controller_enqueue readable.stream_close readable.stream_error readable.close_if_empty readable.controller_close readable.controller_error readable.after_take readable.pull_steps readable.default_reader_read readable.disturb readable.reader_generic_initialize readable.start_settled readable.pull_settled readable.cancel_steps readable.stream_cancel readable.cancel_if_readable readable.reader_release writable.ensure_rejected writable.settle_pending writable.update_backpressure writable.refresh_backpressure writable.reject_close_and_closed writable.finish_erroring writable.start_erroring writable.deal_with_rejection writable.controller_error_if_needed writable.process_write writable.process_close writable.advance_queue writable.hand_on writable.write_settled writable.finish_in_flight_close writable.finish_in_flight_close_with_error writable.close_settled writable.start_settled writable.abort_settled writable.controller_write writable.writer_write writable.controller_close writable.stream_close writable.close_with_error_propagation writable.stream_abort writable.abort_if_writable writable.set_up_writer writable.writer_release pipe.finalize pipe.act_by_signal pipe.act pipe.proceed pipe.shutdown pipe.look pipe.look_ready pipe.go_on pipe.keep_chunk pipe.read_ended pipe.write_chunk pipe.write_ended pipe.action_settled pipe.part_settled pipe.no_parts pipe.abort transform.set_backpressure transform.unblock transform.transform_error transform.terminate transform.enqueue transform.enqueued transform.transform_chunk transform.sink_write transform.write_goes_on transform.source_pull transform.sink_close transform.sink_abort transform.source_cancel transform.flush_settled transform.abort_settled transform.cancel_settled call_host row turns performed begin_job begin moments_of moments
-made-first = record { reached = (made, refl); source = refl; sink = refl; unread = refl; unwritten = refl; locks = refl; apart = refl; requests = refl; queue = refl; close_request = refl; close_in_flight = refl }
+made-first = record { reached = (made, refl); source = refl; bare = record { auto = refl; descriptors = refl; reader = refl }; sink = refl; unread = refl; unwritten = refl; locks = refl; apart = refl; requests = refl; queue = refl; close_request = refl; close_in_flight = refl }
 
 made-last : IsAnyFree s2 s3 (run made empty)
 unfolding fresh settle answer react follow queue_micro unfollow use_gift after_next_job watch readable.call_pull_if_needed readable.accept readable.controller_enqueue readable.stream_close readable.stream_error readable.close_if_empty readable.controller_close readable.controller_error readable.after_take readable.pull_steps readable.default_reader_read readable.disturb readable.reader_generic_initialize readable.start_settled readable.pull_settled readable.cancel_steps readable.stream_cancel readable.cancel_if_readable readable.reader_release writable.ensure_rejected writable.settle_pending writable.update_backpressure writable.refresh_backpressure writable.reject_close_and_closed writable.finish_erroring writable.start_erroring writable.deal_with_rejection writable.controller_error_if_needed writable.process_write writable.process_close writable.advance_queue writable.hand_on writable.write_settled writable.finish_in_flight_close writable.finish_in_flight_close_with_error writable.close_settled writable.start_settled writable.abort_settled writable.controller_write writable.writer_write writable.controller_close writable.stream_close writable.close_with_error_propagation writable.stream_abort writable.abort_if_writable writable.set_up_writer writable.writer_release pipe.finalize pipe.act_by_signal pipe.act pipe.proceed pipe.shutdown pipe.look pipe.look_ready pipe.go_on pipe.keep_chunk pipe.read_ended pipe.write_chunk pipe.write_ended pipe.action_settled pipe.part_settled pipe.no_parts pipe.abort transform.set_backpressure transform.unblock transform.transform_error transform.terminate transform.enqueue transform.enqueued transform.transform_chunk transform.sink_write transform.write_goes_on transform.source_pull transform.sink_close transform.sink_abort transform.source_cancel transform.flush_settled transform.abort_settled transform.cancel_settled call_host row turns performed begin_job begin moments_of moments
-made-last = record { reached = (made, refl); source = refl; sink = refl; unread = refl; unwritten = refl; locks = refl; apart = refl; requests = refl; queue = refl; close_request = refl; close_in_flight = refl }
+made-last = record { reached = (made, refl); source = refl; bare = record { auto = refl; descriptors = refl; reader = refl }; sink = refl; unread = refl; unwritten = refl; locks = refl; apart = refl; requests = refl; queue = refl; close_request = refl; close_in_flight = refl }
 
 -- the two pipes make a way
 first-link : IsAnyLink s0 s1 p0 first
@@ -254,6 +256,7 @@ unfolding fresh settle answer react follow queue_micro unfollow use_gift after_n
 whole-may = record {
   made = refl;
   source = refl;
+  no_rooms = refl;
   sink = refl;
   own = refl;
   own_sink = refl;
@@ -264,3 +267,42 @@ whole-may = record {
 
 whole-opens : IsUnused s0 p0 (m ∷ []) s3 whole
 whole-opens = each_way_opens made s0 s3 (m ∷ []) keen whole-may
+
+-- from a byte stream through an identity to a sink: what it takes in are chunks of bytes, of which the history of a default controller tells nothing
+
+abbrev made_bytes : List Entry
+made_bytes = Called (MakeBytes 0 0 Now) ∷ Called (MakeTransform Identity 1 0 Now) ∷ Called (MakeWritable 1 Count Now) ∷ []
+
+bytes-may : MayLead s0 (m ∷ []) s3 made_bytes
+unfolding fresh settle answer react follow queue_micro unfollow use_gift after_next_job watch readable.call_pull_if_needed readable.accept readable.controller_enqueue readable.stream_close readable.stream_error readable.close_if_empty readable.controller_close readable.controller_error readable.after_take readable.pull_steps readable.default_reader_read readable.disturb readable.reader_generic_initialize readable.start_settled readable.pull_settled readable.cancel_steps readable.stream_cancel readable.cancel_if_readable readable.reader_release writable.ensure_rejected writable.settle_pending writable.update_backpressure writable.refresh_backpressure writable.reject_close_and_closed writable.finish_erroring writable.start_erroring writable.deal_with_rejection writable.controller_error_if_needed writable.process_write writable.process_close writable.advance_queue writable.hand_on writable.write_settled writable.finish_in_flight_close writable.finish_in_flight_close_with_error writable.close_settled writable.start_settled writable.abort_settled writable.controller_write writable.writer_write writable.controller_close writable.stream_close writable.close_with_error_propagation writable.stream_abort writable.abort_if_writable writable.set_up_writer writable.writer_release pipe.finalize pipe.act_by_signal pipe.act pipe.proceed pipe.shutdown pipe.look pipe.look_ready pipe.go_on pipe.keep_chunk pipe.read_ended pipe.write_chunk pipe.write_ended pipe.action_settled pipe.part_settled pipe.no_parts pipe.abort transform.set_backpressure transform.unblock transform.transform_error transform.terminate transform.enqueue transform.enqueued transform.transform_chunk transform.sink_write transform.write_goes_on transform.source_pull transform.sink_close transform.sink_abort transform.source_cancel transform.flush_settled transform.abort_settled transform.cancel_settled call_host row turns performed begin_job begin moments_of moments
+bytes-may = record {
+  made = refl;
+  source = refl;
+  no_rooms = refl;
+  sink = refl;
+  own = refl;
+  own_sink = refl;
+  between = (record { stream = transform_at t0 (run made_bytes empty); there = refl; kind = refl; writable = refl; readable = refl }, tt);
+  numbered = (refl, tt);
+  apart = refl;
+}
+
+abbrev whole_bytes : List Entry
+whole_bytes = made_bytes ++ (Called (piped s0 s1) ∷ Called (piped s2 s3) ∷ [])
+
+bytes-open : IsUnused s0 p0 (m ∷ []) s3 whole_bytes
+bytes-open = each_way_opens made_bytes s0 s3 (m ∷ []) keen bytes-may
+
+abbrev chunk : Value
+chunk = Bytes (1 ∷ [])
+
+abbrev bytes_through : List Entry
+bytes_through = Called (Enqueue s0 chunk) ∷ (jobs 20 ++ (Called (Finish s0) ∷ jobs 20))
+
+bytes_pass : let both_bytes : Slots = run whole_bytes empty in
+    (run_takes s0 bytes_through both_bytes ≡ told (chunk ∷ []) Closed)
+    × ((accepted s0 bytes_through both_bytes ≡ chunk ∷ [])
+    × (((run_flow s0 bytes_through both_bytes).entered ≡ [])
+    × (run_acts s3 bytes_through both_bytes ≡ told (chunk ∷ []) Open)))
+unfolding fresh settle answer react follow queue_micro unfollow use_gift after_next_job watch readable.call_pull_if_needed readable.accept readable.controller_enqueue readable.stream_close readable.stream_error readable.close_if_empty readable.controller_close readable.controller_error readable.after_take readable.pull_steps readable.default_reader_read readable.disturb readable.reader_generic_initialize readable.start_settled readable.pull_settled readable.cancel_steps readable.stream_cancel readable.cancel_if_readable readable.reader_release writable.ensure_rejected writable.settle_pending writable.update_backpressure writable.refresh_backpressure writable.reject_close_and_closed writable.finish_erroring writable.start_erroring writable.deal_with_rejection writable.controller_error_if_needed writable.process_write writable.process_close writable.advance_queue writable.hand_on writable.write_settled writable.finish_in_flight_close writable.finish_in_flight_close_with_error writable.close_settled writable.start_settled writable.abort_settled writable.controller_write writable.writer_write writable.controller_close writable.stream_close writable.close_with_error_propagation writable.stream_abort writable.abort_if_writable writable.set_up_writer writable.writer_release pipe.finalize pipe.act_by_signal pipe.act pipe.proceed pipe.shutdown pipe.look pipe.look_ready pipe.go_on pipe.keep_chunk pipe.read_ended pipe.write_chunk pipe.write_ended pipe.action_settled pipe.part_settled pipe.no_parts pipe.abort transform.set_backpressure transform.unblock transform.transform_error transform.terminate transform.enqueue transform.enqueued transform.transform_chunk transform.sink_write transform.write_goes_on transform.source_pull transform.sink_close transform.sink_abort transform.source_cancel transform.flush_settled transform.abort_settled transform.cancel_settled call_host row turns performed begin_job begin moments_of moments byte.call_pull_if_needed byte.stream_close byte.controller_error byte.handle_queue_drain byte.pull_steps byte.default_reader_read byte.controller_close byte.controller_enqueue byte.start_settled byte.pull_settled byte.stream_cancel byte.cancel_if_readable byte.reader_release byte.reader_initialize byte.read
+bytes_pass = (refl, (refl, (refl, refl)))

@@ -1,8 +1,9 @@
 -- A realm in which streams were only made and piped: nothing went on in them.
-use Rattle.std.proofs.Common.{◌≡◌, ℕ, zero, suc, ◌+◌, Bool, true, false, ◌&&◌, nat_lt, List, [], ◌∷◌, ◌++◌, length, Some, None, slice_get, slice_set, refl, sym, ◌∙◌}
+use Rattle.std.proofs.Common.{◌≡◌, ℕ, zero, suc, ◌+◌, Bool, true, false, ◌&&◌, ◌||◌, nat_lt, List, [], ◌∷◌, ◌++◌, length, is_none, Some, None, slice_get, slice_set, refl, sym, ◌∙◌}
 use Rattle.ws_value.specs.declared.ids.StreamId.{StreamId}
 use Rattle.ws_steps.specs.declared.calls.{Call.{Call}, Reply.{Reply}, Reply.TheVariants.{Promise}, StartBy.{StartBy}, StartBy.TheVariants.{Now, Later}}
-use Rattle.ws_steps.specs.declared.calls.Call.TheVariants.{MakeReadable, MakeWritable, MakeTransform, Pipe}
+use Rattle.ws_steps.specs.declared.calls.Call.TheVariants.{MakeReadable, MakeBytes, MakeWritable, MakeTransform, Pipe}
+use Rattle.ws_steps.specs.declared.byte.ReaderKind.TheVariants.{Default}
 use Rattle.ws_steps.specs.declared.effects.Effect.{Effect}
 use Rattle.ws_steps.specs.declared.effects.Effect.TheVariants.{Readable as OnReadable, Writable as OnWritable, StartAlgorithm, Give, Settle, Queue, CallHost}
 use Rattle.ws_steps.specs.declared.pipes.{Phase.TheVariants.{Flowing}, Prevent.{Prevent}}
@@ -10,24 +11,26 @@ use Rattle.ws_steps.specs.declared.readable.{ReadableOperation.{ReadableOperatio
 use Rattle.ws_steps.specs.declared.readable.ReadableOperation.TheVariants as reads
 use Rattle.ws_steps.specs.declared.writable.{WritableOperation.{WritableOperation}, WritableState.TheVariants.{Writable}}
 use Rattle.ws_steps.specs.declared.writable.WritableOperation.TheVariants as writes
+use Rattle.ws_steps.specs.Bytes as byte
+use Rattle.ws_steps.specs.Bytes.{shown}
 use Rattle.ws_steps.specs.Calls as calls
 use Rattle.ws_steps.specs.Calls.{Begun, begin, named, add_stream}
 use Rattle.ws_steps.specs.Effects.{Out}
 use Rattle.ws_steps.specs.Histories.{is_same, along}
-use Rattle.ws_steps.specs.Operations.{readable_operation, writable_operation}
+use Rattle.ws_steps.specs.Operations.{readable_operation, byte_readable_operation, writable_operation}
 use Rattle.ws_steps.specs.Pipes as pipe
 use Rattle.ws_steps.specs.Promises.{next_id, fresh}
 use Rattle.ws_steps.specs.Readable as readable
 use Rattle.ws_steps.specs.ReadableHistory.{accepted_by, accepted}
 use Rattle.ws_steps.specs.ReadableLooks as readable_looks
 use Rattle.ws_steps.specs.Run.{Entry, Called, Worked, Heard, run, step, reply_to}
-use Rattle.ws_steps.specs.Slots.{Slots, Stream, ReadableStream, WritableStream, Done, nothing, has_readable, has_writable, readable_at, writable_at, most_streams, put_stream, put_readable, put_writable}
+use Rattle.ws_steps.specs.Slots.{Slots, Stream, ReadableStream, ByteStream, WritableStream, Done, nothing, has_readable, has_byte, has_source, has_writable, readable_at, byte_at, source_at, writable_at, as_source, is_readable_stream, is_byte_stream, most_streams, put_stream, put_readable, put_byte, put_writable, on_readable, on_byte}
 use Rattle.ws_steps.specs.Turns.{row, call_host, performed, moments}
 use Rattle.ws_steps.specs.Writable as writable
 use Rattle.ws_steps.specs.WritableHistory.{Writes, no_writes, writes_then, effect_writes, run_writes}
 use Rattle.ws_steps.specs.WritableLooks as writable_looks
 use Rattle.ws_laws.proofs.Lists.{Each, each-append}
-use Rattle.ws_laws.proofs.Tables.{either, readable_acts, writable_acts, readable_there, writable_there}
+use Rattle.ws_laws.proofs.Tables.{either, readable_acts, byte_acts, writable_acts, readable_there, byte_there, writable_there}
 use Rattle.ws_laws.proofs.Truth.{and_left, and_right}
 use Rattle.ws_laws.proofs.Walker.{performed-goes}
 use Rattle.ws_writable_laws.proofs.Runs.{is_history}
@@ -52,6 +55,15 @@ pub all-last : {A : Type 0} (P : A → Type 0) (xs : List A) (y : A) → AllOf P
 all-last P [] y a p = (p, tt)
 all-last P (x ∷ xs) y a p = (a.0, all-last P xs y a.1 p)
 
+-- what is so of each stream is so of one that gives chunks, as it shows itself
+pub source-of : (P : Stream → Type 0) (Q : readable.Slots → Type 0) → ((r : readable.Slots) → P (ReadableStream r) → Q r) → ((b : byte.Slots) → P (ByteStream b) → Q (shown b)) → (xs : List Stream) (n : ℕ) → AllOf P xs
+    → is_readable_stream (slice_get xs n) || is_byte_stream (slice_get xs n) ≡ true → Q (as_source (slice_get xs n))
+source-of P Q f g [] n a there = cc
+source-of P Q f g (ReadableStream r ∷ xs) zero a there = f r a.0
+source-of P Q f g (ByteStream b ∷ xs) zero a there = g b a.0
+source-of P Q f g (WritableStream w ∷ xs) zero a there = cc
+source-of P Q f g (x ∷ xs) (suc n) a there = source-of P Q f g xs n a.1 there
+
 -- streams and pipes in which nothing went on
 
 pub record YoungSource (r : readable.Slots) : Type 0 where
@@ -66,7 +78,11 @@ pub record YoungSink (w : writable.Slots) : Type 0 where
 
 abbrev pub YoungStream : Stream → Type 0
 YoungStream (ReadableStream r) = YoungSource r
+YoungStream (ByteStream b) = YoungSource (shown b)
 YoungStream (WritableStream w) = YoungSink w
+
+pub source-young : (i : StreamId) (s : Slots) → AllOf YoungStream s.streams → has_source i s ≡ true → YoungSource (source_at i s)
+source-young i s y there = source-of YoungStream YoungSource (λ r k. k) (λ b k. k) s.streams i.0 y there
 
 pub record YoungPipe (x : pipe.Slots) : Type 0 where
   pub phase : x.phase ≡ Flowing
@@ -96,6 +112,18 @@ source-mild i (reads.InitializeReader p) a m y = (record { state = y.state; queu
 source-mild i reads.Disturb a m y = (record { state = y.state; queue = y.queue; request = y.request }, refl)
 source-mild i _ a m y = absurd m
 
+byte-mild : (i : StreamId) (operation : ReadableOperation) (a : byte.Acts) → Mild (OnReadable i operation) → YoungSource (shown a.slots)
+    → let b : byte.Acts = byte_readable_operation i operation a in YoungSource (shown b.slots) × (b.out.effects ≡ a.out.effects)
+unfolding byte.reader_initialize readable.reader_generic_initialize readable.disturb
+byte-mild i (reads.InitializeReader p) a m y = by (is_none a.slots.stream.reader)
+  where
+    by : (meant : Bool) → let b : byte.Acts = byte.if_meant meant (byte.in_stream (readable.reader_generic_initialize p) (byte.with_slots (record a.slots { reader_kind = Default }) a)) a in
+        YoungSource (shown b.slots) × (b.out.effects ≡ a.out.effects)
+    by true = (record { state = y.state; queue = y.queue; request = y.request }, rw y.state refl)
+    by false = (record { state = y.state; queue = y.queue; request = y.request }, refl)
+byte-mild i reads.Disturb a m y = (record { state = y.state; queue = y.queue; request = y.request }, refl)
+byte-mild i _ a m y = absurd m
+
 sink-mild : (i : StreamId) (operation : WritableOperation) (a : writable.Acts) → Mild (OnWritable i operation) → YoungSink a.slots
     → let b : writable.Acts = writable_operation i operation a in YoungSink b.slots × (b.out.effects ≡ a.out.effects)
 unfolding writable.set_up_writer
@@ -113,15 +141,28 @@ same-after es s z y e f m = record { streams = rw e y.streams; pipes = rw f y.pi
 put-after : (i : StreamId) (s : Slots) (x : Stream) (out : Out) → Young s → YoungStream x → out.effects ≡ [] → After (put_stream i s x out)
 put-after i s x out y young e = record { streams = all-set YoungStream s.streams i.0 x y.streams young; pipes = y.pipes; mild = rw e tt }
 
-row-after : (e : Effect) (s : Slots) → Young s → Mild e → After (row e s)
-unfolding row call_host
-row-after (OnReadable i operation) s y m =
+readable-after : (i : StreamId) (operation : ReadableOperation) (s : Slots) → Young s → Mild (OnReadable i operation) → After (on_readable (readable_operation i operation) i s)
+readable-after i operation s y m =
     either After (has_readable i s) (put_readable i s (readable_operation i operation (readable_acts i s))) (nothing s)
     (λ there.
     let old : YoungSource (readable_at i s) = all-get YoungStream s.streams i.0 (ReadableStream (readable_at i s)) y.streams (readable_there (slice_get s.streams i.0) there) in
     let h = source-mild i operation (readable_acts i s) m old in
     put-after i s (ReadableStream (readable_operation i operation (readable_acts i s)).slots) (readable_operation i operation (readable_acts i s)).out y h.0 h.1)
     (λ absent. same-after [] s s y refl refl tt)
+
+byte-after : (i : StreamId) (operation : ReadableOperation) (s : Slots) → Young s → Mild (OnReadable i operation) → After (on_byte (byte_readable_operation i operation) i s)
+byte-after i operation s y m =
+    either After (has_byte i s) (put_byte i s (byte_readable_operation i operation (byte_acts i s))) (nothing s)
+    (λ there.
+    let old : YoungSource (shown (byte_at i s)) = all-get YoungStream s.streams i.0 (ByteStream (byte_at i s)) y.streams (byte_there (slice_get s.streams i.0) there) in
+    let h = byte-mild i operation (byte_acts i s) m old in
+    put-after i s (ByteStream (byte_readable_operation i operation (byte_acts i s)).slots) (byte_readable_operation i operation (byte_acts i s)).out y h.0 h.1)
+    (λ absent. same-after [] s s y refl refl tt)
+
+row-after : (e : Effect) (s : Slots) → Young s → Mild e → After (row e s)
+unfolding row call_host
+row-after (OnReadable i operation) s y m =
+    either After (has_byte i s) (on_byte (byte_readable_operation i operation) i s) (on_readable (readable_operation i operation) i s) (λ there. byte-after i operation s y m) (λ isnt. readable-after i operation s y m)
 row-after (OnWritable i operation) s y m =
     either After (has_writable i s) (put_writable i s (writable_operation i operation (writable_acts i s))) (nothing s)
     (λ there.
@@ -169,6 +210,7 @@ performed-young j d y m =
 
 abbrev pub opens : Call → Bool
 opens (MakeReadable mark size start) = true
+opens (MakeBytes mark auto start) = true
 opens (MakeWritable mark size start) = true
 opens (MakeTransform kind m n start) = true
 opens (Pipe source dest prevent None) = true
@@ -187,13 +229,15 @@ module _ (s : Slots) (y : Young s) where
 
   pipe_unlocked : (source dest : StreamId) (prevent : Prevent) → P (calls.pipe_unlocked source dest prevent None s)
   pipe_unlocked source dest prevent =
-      either P (readable_looks.is_locked (readable_at source s)) (calls.rejected s) _ (λ e. rejected)
+      either P (readable_looks.is_locked (source_at source s)) (calls.rejected s) _ (λ e. rejected)
       (λ e. either P (writable_looks.is_locked (writable_at dest s)) (calls.rejected s) (calls.pipe_to source dest prevent None s) (λ f. rejected)
       (λ f. (record { streams = y.streams; pipes = all-last YoungPipe s.pipes _ y.pipes (record { phase = refl; held = refl }) }, (tt, (tt, (tt, (tt, (tt, (tt, tt)))))))))
 
   call-young : (c : Call) → opens c ≡ true → P (begin c s)
   unfolding begin
   call-young (MakeReadable mark size start) l =
+      either P (nat_lt (length s.streams) most_streams) _ _ (λ e. (record { streams = all-last YoungStream s.streams _ y.streams (record { state = refl; queue = refl; request = refl }); pipes = y.pipes }, (tt, tt))) (λ e. (y, tt))
+  call-young (MakeBytes mark auto start) l =
       either P (nat_lt (length s.streams) most_streams) _ _ (λ e. (record { streams = all-last YoungStream s.streams _ y.streams (record { state = refl; queue = refl; request = refl }); pipes = y.pipes }, (tt, tt))) (λ e. (y, tt))
   call-young (MakeWritable mark size start) l =
       either P (nat_lt (length s.streams) most_streams) _ _ (λ e. (record { streams = all-last YoungStream s.streams _ y.streams (record { state = refl; queue = refl; flight = refl }); pipes = y.pipes }, (tt, tt))) (λ e. (y, tt))
@@ -207,7 +251,7 @@ module _ (s : Slots) (y : Young s) where
         (tt, (tt, (tt, (tt, starts start)))),
       )) (λ e. (y, tt))
   call-young (Pipe source dest prevent None) l =
-      either P (has_readable source s) _ _ (λ e. either P (has_writable dest s) _ _ (λ f. pipe_unlocked source dest prevent) (λ f. (y, tt))) (λ e. (y, tt))
+      either P (has_source source s) _ _ (λ e. either P (has_writable dest s) _ _ (λ f. pipe_unlocked source dest prevent) (λ f. (y, tt))) (λ e. (y, tt))
   call-young c l = absurd (cc)
 
 named-young : (reply : Reply) (s : Slots) → Young s → Young (named reply s)
@@ -224,6 +268,7 @@ all_open (Heard ∷ xs) = false
 
 none-accepted : (i : StreamId) (c : Call) (reply : Reply) → opens c ≡ true → accepted_by i c reply ≡ []
 none-accepted i (MakeReadable mark size start) reply l = refl
+none-accepted i (MakeBytes mark auto start) reply l = refl
 none-accepted i (MakeWritable mark size start) reply l = refl
 none-accepted i (MakeTransform kind m n start) reply l = refl
 none-accepted i (Pipe source dest prevent None) reply l = refl

@@ -7,7 +7,7 @@ use Rattle.ws_steps.specs.declared.calls.Call.{Call}
 use Rattle.ws_steps.specs.declared.calls.Call.TheVariants.{Pipe}
 use Rattle.ws_steps.specs.declared.pipes.Prevent.{Prevent}
 use Rattle.ws_steps.specs.Run.{Entry, Called, run, after_call}
-use Rattle.ws_steps.specs.Slots.{Slots, readable_at, writable_at}
+use Rattle.ws_steps.specs.Slots.{Slots, source_at, writable_at}
 use Rattle.ws_flow.specs.Told.{then_told, IsShortOf}
 use Rattle.ws_link_laws.specs.Laws.{all_leave}
 use Rattle.ws_link_laws.specs.Link.{in_sink, in_source, lies}
@@ -35,7 +35,7 @@ EachLinkIsAny = (i j : StreamId) (p : PipeId) (s : Slots) → IsLink i j p s →
 pub record BeginsAnyLink (i j : StreamId) (p : PipeId) (s : Slots) (call : Call) : Type 0 where
   pub link : IsAnyLink i j p (after_call call s)
   pub short : IsShortOf (then_told (step_acts j s (Called call)) (lies i j p (after_call call s)))
-      (then_told (then_told (in_sink (writable_at j s)) (in_source (readable_at i s))) (step_takes i s (Called call)))
+      (then_told (then_told (in_sink (writable_at j s)) (in_source (source_at i s))) (step_takes i s (Called call)))
 
 -- a pipe between two free streams makes them a link, whatever its options and its signal
 abbrev pub EachAnyLinkBegins : Type 0

@@ -2,12 +2,12 @@
 use Rattle.std.specs.Prelude.{◌≡◌, ℕ, suc, Bool, true, false, not, ◌&&◌, List, [], ◌∷◌, ◌++◌, None}
 use Rattle.ws_value.specs.declared.ids.StreamId.{StreamId}
 use Rattle.ws_steps.specs.declared.calls.Call.{Call}
-use Rattle.ws_steps.specs.declared.calls.Call.TheVariants.{MakeReadable, MakeWritable, MakeTransform, Pipe}
+use Rattle.ws_steps.specs.declared.calls.Call.TheVariants.{MakeReadable, MakeBytes, MakeWritable, MakeTransform, Pipe}
 use Rattle.ws_steps.specs.declared.effects.Owner.TheVariants.{Host}
 use Rattle.ws_steps.specs.declared.pipes.Prevent.{Prevent}
 use Rattle.ws_steps.specs.Histories.{is_same}
 use Rattle.ws_steps.specs.Run.{Entry, Called, Worked, Heard, run}
-use Rattle.ws_steps.specs.Slots.{Slots, empty, owner_at, has_readable, has_writable}
+use Rattle.ws_steps.specs.Slots.{Slots, empty, owner_at, has_source, has_writable, byte_at}
 use Rattle.ws_identity_laws.specs.Ends.{IsAnyFree}
 use Rattle.ws_identity_laws.specs.Heard.{IsUnused}
 use Rattle.ws_identity_laws.specs.Through.{IsIdentity, Middle}
@@ -16,6 +16,7 @@ use Rattle.ws_identity_laws.specs.Through.{IsIdentity, Middle}
 
 abbrev pub makes : Call → Bool
 makes (MakeReadable mark size start) = true
+makes (MakeBytes mark auto start) = true
 makes (MakeWritable mark size start) = true
 makes (MakeTransform kind m n start) = true
 makes _ = false
@@ -26,10 +27,11 @@ all_make (Called c ∷ xs) = makes c && all_make xs
 all_make (Worked ∷ xs) = false
 all_make (Heard ∷ xs) = false
 
--- where streams were only made, each that gives chunks and each that takes them may be linked
+-- where streams were only made, each that gives chunks and each that takes them may be linked; but for one with a byte controller that allocates
+-- rooms
 abbrev pub EachNewPairIsFree : Type 0
 EachNewPairIsFree =
-    (xs : List Entry) (i j : StreamId) → let s : Slots = run xs empty in all_make xs ≡ true → has_readable i s ≡ true → has_writable j s ≡ true → IsAnyFree i j s
+    (xs : List Entry) (i j : StreamId) → let s : Slots = run xs empty in all_make xs ≡ true → has_source i s ≡ true → (byte_at i s).auto ≡ 0 → has_writable j s ≡ true → IsAnyFree i j s
 
 -- the pipes of a way from i on, one after another, and their numbers
 
@@ -59,7 +61,8 @@ all_apart i (m ∷ ms) k = apart_from i m.writable m.readable ms k && all_apart 
 -- streams that were made, which a way may lead through
 pub record MayLead (i : StreamId) (ms : List Middle) (k : StreamId) (xs : List Entry) : Type 0 where
   pub made : all_make xs ≡ true
-  pub source : has_readable i (run xs empty) ≡ true
+  pub source : has_source i (run xs empty) ≡ true
+  pub no_rooms : (byte_at i (run xs empty)).auto ≡ 0
   pub sink : has_writable k (run xs empty) ≡ true
   pub own : owner_at i (run xs empty) ≡ Host
   pub own_sink : owner_at k (run xs empty) ≡ Host

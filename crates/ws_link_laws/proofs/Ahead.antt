@@ -56,6 +56,7 @@ use Rattle.ws_transform_laws.proofs.Lawful.{row-has}
 use Rattle.ws_link_laws.specs.Link.{Ear, OfSink, OfTransform, silence, ear_by, ear_at, heard_call}
 use Rattle.ws_link_laws.proofs.Hosts.{Hosts, hosts-row, row-ear, sink-there, AtSink, OwnSink, OtherSink, at-sink}
 use Rattle.ws_link_laws.proofs.Telling.{is_in, tells, taken, hands}
+use Rattle.ws_steps.specs.declared.effects.Effect.TheVariants.{Byte, CloseStepsWith}
 
 -- to whom the destination's chunks are handed on
 abbrev pub Fits : Ear → StreamId → Taker → Type 0
@@ -214,6 +215,10 @@ on_transform-front w t operation s (Some x) = transform-front w t (halves_at x s
 row-front : (w : Ear) (e : Effect) (s : Slots) → Front w (row e s).caused
 unfolding row
 row-front w (OnReadable k operation) s = late-front w _ (row-causes (IsLate w) (OnReadable k operation) s (record { pull = (refl, refl); cancel = λ r q. (refl, refl); chunk = λ request v. (refl, refl); close = λ request. (refl, refl); error = λ request r. (refl, refl) }))
+row-front w (Byte k operation) s = late-front w _ (row-causes (IsLate w) (Byte k operation) s (record {
+  readable = record { pull = (refl, refl); cancel = λ r q. (refl, refl); chunk = λ request v. (refl, refl); close = λ request. (refl, refl); error = λ request r. (refl, refl) };
+  close_with = λ r b. (refl, refl);
+}))
 row-front w (OnWritable k operation) s =
     either (λ (d : Done). Front w d.caused) (has_writable k s) (put_writable k s (writable_operation k operation (writable_acts k s))) (nothing s)
     (λ there. operation-front w k operation (writable_acts k s) refl) (λ absent. tt)
@@ -230,7 +235,9 @@ row-front w (AbortAlgorithm k r q) s = abort-front w k r _ (owner_at k s)
 row-front w (ChunkSteps k (Promise q) v) s = tt
 row-front w (ChunkSteps k (PipeRequest q) v) s = tt
 row-front w (CloseSteps k (Promise q)) s = tt
+row-front w (CloseStepsWith k (Promise q) b) s = tt
 row-front w (CloseSteps k (PipeRequest q)) s = tt
+row-front w (CloseStepsWith k (PipeRequest q) b) s = tt
 row-front w (ErrorSteps k (Promise q) r) s = tt
 row-front w (ErrorSteps k (PipeRequest q) r) s = tt
 row-front w _ s = tt
@@ -252,6 +259,7 @@ transform-flush w t m r e c = grind (arith, c)
 
 flush-causes : (w : Ear) (e : Effect) → IsNoClosing e → Causes (NoFlush w) e
 flush-causes w (OnReadable k operation) n = record { pull = refl; cancel = λ r q. refl; chunk = λ request v. refl; close = λ request. refl; error = λ request r. refl }
+flush-causes w (Byte k operation) n = record { readable = record { pull = refl; cancel = λ r q. refl; chunk = λ request v. refl; close = λ request. refl; error = λ request r. refl }; close_with = λ r b. refl }
 flush-causes w (OnWritable k operation) n = record { write = refl; close = refl; abort = λ r q. refl; hand_on = λ v. refl; take = λ v t d. refl }
 flush-causes w (OnPipe q operation) n = λ source dest e c. pipe-flush w q source dest e c
 flush-causes w (OnSignal a operation) n = signal-each (NoFlush w) operation (λ q r. refl)
@@ -265,7 +273,9 @@ flush-causes w (AbortAlgorithm k r q) n = (λ c u. refl, λ t u. refl)
 flush-causes w (ChunkSteps k (Promise q) v) n = tt
 flush-causes w (ChunkSteps k (PipeRequest q) v) n = refl
 flush-causes w (CloseSteps k (Promise q)) n = tt
+flush-causes w (CloseStepsWith k (Promise q) b) n = tt
 flush-causes w (CloseSteps k (PipeRequest q)) n = refl
+flush-causes w (CloseStepsWith k (PipeRequest q) b) n = refl
 flush-causes w (ErrorSteps k (Promise q) r) n = tt
 flush-causes w (ErrorSteps k (PipeRequest q) r) n = refl
 flush-causes w _ n = tt
@@ -377,6 +387,10 @@ module _ (i j : StreamId) (s : Slots) (h : Hosts i j s) where
   row-caused : (e : Effect) → Each (Placed j w (row e s).slots) (row e s).caused
   unfolding row
   row-caused (OnReadable k operation) = row-causes (Placed j w (row (OnReadable k operation) s).slots) (OnReadable k operation) s (record { pull = tt; cancel = λ r q. tt; chunk = λ request v. tt; close = λ request. tt; error = λ request r. tt })
+  row-caused (Byte k operation) = row-causes (Placed j w (row (Byte k operation) s).slots) (Byte k operation) s (record {
+    readable = record { pull = tt; cancel = λ r q. tt; chunk = λ request v. tt; close = λ request. tt; error = λ request r. tt };
+    close_with = λ r b. tt;
+  })
   row-caused (OnWritable k operation) = by (has_writable k s) refl
     where
       by : (there : Bool) → there ≡ has_writable k s → Each (Placed j w (row (OnWritable k operation) s).slots) (row (OnWritable k operation) s).caused
@@ -394,7 +408,9 @@ module _ (i j : StreamId) (s : Slots) (h : Hosts i j s) where
   row-caused (ChunkSteps k (Promise q) v) = tt
   row-caused (ChunkSteps k (PipeRequest q) v) = (tt, tt)
   row-caused (CloseSteps k (Promise q)) = tt
+  row-caused (CloseStepsWith k (Promise q) b) = tt
   row-caused (CloseSteps k (PipeRequest q)) = (tt, tt)
+  row-caused (CloseStepsWith k (PipeRequest q) b) = (tt, tt)
   row-caused (ErrorSteps k (Promise q) r) = tt
   row-caused (ErrorSteps k (PipeRequest q) r) = (tt, tt)
   row-caused _ = tt

@@ -17,7 +17,7 @@ use Rattle.ws_steps.specs.Pipes as pipe
 use Rattle.ws_steps.specs.Promises.{Table, next_id, fresh}
 use Rattle.ws_steps.specs.Readable as readable
 use Rattle.ws_steps.specs.Run.{Called, after_call}
-use Rattle.ws_steps.specs.Slots.{Slots, Done, owner_at, readable_at, writable_at, pipe_at, as_pipe}
+use Rattle.ws_steps.specs.Slots.{Slots, Done, writable_at, pipe_at, as_pipe}
 use Rattle.ws_steps.specs.Turns.{performed}
 use Rattle.ws_steps.specs.Writable as writable
 use Rattle.ws_flow.specs.Told.{Told, then_told, IsShortOf}
@@ -38,6 +38,8 @@ use Rattle.ws_link_laws.proofs.Pipes.{rank}
 use Rattle.ws_link_laws.proofs.Standing.{IsInner, IsNotLast, Sound}
 use Rattle.ws_link_laws.proofs.Calls.{spare-append}
 use Rattle.ws_link_laws.proofs.Steps.{From, performed-from, older-from, named-from, from-link, reached-step, reached-going, reached-few, reached-is, append_ends}
+use Rattle.ws_link_laws.specs.Link.{giver_at}
+use Rattle.ws_steps.specs.Slots.{source_at}
 
 -- one more at the end of a table
 
@@ -136,7 +138,7 @@ module _ (i j : StreamId) (prevent : Prevent) (signal : Option SignalId) (s : Sl
   begins-chunks None None = (refl, (refl, (refl, tt)))
   begins-chunks None (Some g) = (refl, (refl, (refl, (refl, tt))))
 
-  begins-coming : (reason : Option Plain) (o : Option SignalId) → Each (IsSilent (coming (owner_at i s) i)) (calls.pipe_begins p (next_id s.promises) (next_id (fresh (fresh s.promises))) o reason)
+  begins-coming : (reason : Option Plain) (o : Option SignalId) → Each (IsSilent (coming (giver_at i s) i)) (calls.pipe_begins p (next_id s.promises) (next_id (fresh (fresh s.promises))) o reason)
   begins-coming (Some r) o = (refl, tt)
   begins-coming None None = (refl, (refl, (refl, tt)))
   begins-coming None (Some g) = (refl, (refl, (refl, (refl, tt))))
@@ -167,12 +169,13 @@ module _ (i j : StreamId) (prevent : Prevent) (signal : Option SignalId) (s : Sl
       record {
         state = record {
           source = free.source;
+          bare = free.bare;
           sink = free.sink;
           there = rw at here;
           from = ap (λ (z : pipe.Slots). z.source) at;
           into = ap (λ (z : pipe.Slots). z.dest) at;
           apart = apart;
-          source_fits = free-source p (readable_at i s) free.unread free.requests;
+          source_fits = free-source p (source_at i s) free.unread free.requests;
           sink_fits = free-sink (writable_at j s) (writable_at j s).state free.queue free.close_request free.close_in_flight;
           closes = rw at tt;
         };
@@ -191,7 +194,7 @@ module _ (i j : StreamId) (prevent : Prevent) (signal : Option SignalId) (s : Sl
       }
 
   abbrev pub t : Told Value
-  t = then_told (unheard (ear_at j s) s.promises.events) (then_told (in_sink (writable_at j s)) (in_source (readable_at i s)))
+  t = then_told (unheard (ear_at j s) s.promises.events) (then_told (in_sink (writable_at j s)) (in_source (source_at i s)))
 
   fresh-heard : unheard (ear_at j s) d.slots.promises.events ≡ unheard (ear_at j s) s.promises.events
   fresh-heard =
@@ -206,8 +209,8 @@ module _ (i j : StreamId) (prevent : Prevent) (signal : Option SignalId) (s : Sl
         late-silent (ear_at j s) d.caused ((refl, refl), ((refl, refl), ((refl, refl), begins-late (ear_at j s) (calls.reason_of signal s) signal))),
         silent-all (writes j) d.caused (refl, (rw (if_same (is_same j j)) refl, (refl, begins-writes (calls.reason_of signal s) signal))),
         silent-all (chunks p) d.caused (refl, (refl, (refl, begins-chunks (calls.reason_of signal s) signal))),
-        silent-all (coming (owner_at i s) i) d.caused (if_same (is_same i i), (refl, (if_same (is_same i i), begins-coming (calls.reason_of signal s) signal))),
-        then_empty (in_source (readable_at i s)),
+        silent-all (coming (giver_at i s) i) d.caused (if_same (is_same i i), (refl, (if_same (is_same i i), begins-coming (calls.reason_of signal s) signal))),
+        then_empty (in_source (source_at i s)),
       ) refl
 
   pub begun : From i j p t d.slots.locks d.slots d.caused

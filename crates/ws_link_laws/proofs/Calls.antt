@@ -1,28 +1,32 @@
 -- What calls begin with that leave a link alone.
-use Rattle.std.proofs.Common.{◌≡◌, ◌≢◌, ◌⊎◌, inl, inr, ℕ, zero, suc, ◌+◌, Bool, true, false, not, nat_eq, nat_lt, if◌then◌else◌, List, [], ◌∷◌, ◌++◌, length, Option, Some, None, Err, slice_get, slice_set, refl, sym, ap, ◌∙◌, arith}
+use Rattle.std.proofs.Common.{◌≡◌, ◌≢◌, ◌⊎◌, inl, inr, ℕ, zero, suc, ◌+◌, Bool, true, false, not, ◌&&◌, ◌||◌, ◌*◌, nat_eq, nat_lt, if◌then◌else◌, List, [], ◌∷◌, ◌++◌, length, Option, Some, None, Err, slice_get, slice_set, refl, sym, ap, ◌∙◌, arith}
 use Rattle.ws_value.specs.declared.ids.HostId.{HostId}
 use Rattle.ws_value.specs.declared.ids.LockId.{LockId}
 use Rattle.ws_value.specs.declared.ids.PipeId.{PipeId}
 use Rattle.ws_value.specs.declared.ids.PromiseId.{PromiseId}
+use Rattle.ws_value.specs.declared.ids.RequestId.{RequestId}
 use Rattle.ws_value.specs.declared.ids.SignalId.{SignalId}
 use Rattle.ws_value.specs.declared.ids.StreamId.{StreamId}
 use Rattle.ws_value.specs.declared.value.Plain.{Plain}
 use Rattle.ws_value.specs.declared.value.Value.{Value}
+use Rattle.ws_value.specs.declared.value.Value.TheVariants.{Plain as PlainValue, Bytes}
+use Rattle.ws_value.specs.declared.fault.Fault.{Fault}
+use Rattle.ws_steps.specs.declared.byte.ByteOperation.TheVariants.{InitializeByobReader, Enqueue as EnqueueBytes, PullInto, Respond as RespondBytes}
 use Rattle.ws_steps.specs.declared.calls.Answer.{Answer}
 use Rattle.ws_steps.specs.declared.calls.Call.{Call}
-use Rattle.ws_steps.specs.declared.calls.Call.TheVariants.{MakeReadable, MakeWritable, MakeTransform, GetReader, GetWriter, Cancel, CancelBy, Read, Write, Close, CloseBy, Abort, AbortBy, Closed, Ready, Release, Enqueue, Finish, Fail, Terminate, Desired, DesiredBy, Pipe, MakeSignal, Trigger, Settle, State, Step}
+use Rattle.ws_steps.specs.declared.calls.Call.TheVariants.{MakeReadable, MakeBytes, GetByob, ReadInto, Request, Respond, MakeWritable, MakeTransform, GetReader, GetWriter, Cancel, CancelBy, Read, Write, Close, CloseBy, Abort, AbortBy, Closed, Ready, Release, Enqueue, Finish, Fail, Terminate, Desired, DesiredBy, Pipe, MakeSignal, Trigger, Settle, State, Step}
 use Rattle.ws_steps.specs.declared.calls.Reply.{Reply}
-use Rattle.ws_steps.specs.declared.calls.Reply.TheVariants.{Done as ReplyDone, Promise, State as ReplyState, Throws, TooMany}
+use Rattle.ws_steps.specs.declared.calls.Reply.TheVariants.{Done as ReplyDone, Promise, Request as ReplyRequest, State as ReplyState, Throws, TooMany}
 use Rattle.ws_steps.specs.declared.calls.Thrown.TheVariants.{TypeError, Unsupported}
 use Rattle.ws_steps.specs.declared.calls.HostCall.TheVariants.{Start as HostStart}
 use Rattle.ws_steps.specs.declared.calls.StartBy.{StartBy}
 use Rattle.ws_steps.specs.declared.calls.StartBy.TheVariants.{Now, Later}
 use Rattle.ws_steps.specs.declared.effects.Effect.{Effect}
-use Rattle.ws_steps.specs.declared.effects.Effect.TheVariants.{Readable as OnReadable, Writable as OnWritable, Pipe as OnPipe, Signal as OnSignal, Transform as OnTransform, CloseAlgorithm, ChunkSteps, Settle as SettlePromise, CallHost}
+use Rattle.ws_steps.specs.declared.effects.Effect.TheVariants.{Readable as OnReadable, Byte as OnByte, Writable as OnWritable, Pipe as OnPipe, Signal as OnSignal, Transform as OnTransform, CloseAlgorithm, ChunkSteps, Settle as SettlePromise, CallHost}
 use Rattle.ws_steps.specs.declared.effects.Owner.{Owner}
 use Rattle.ws_steps.specs.declared.effects.Owner.TheVariants.{Host, HalfOf}
 use Rattle.ws_steps.specs.declared.locks.Lock.{Lock}
-use Rattle.ws_steps.specs.declared.locks.Lock.TheVariants.{Reader as ReaderLock, Writer as WriterLock, ReleasedWriter, Inner}
+use Rattle.ws_steps.specs.declared.locks.Lock.TheVariants.{Reader as ReaderLock, ByobReader, Writer as WriterLock, ReleasedWriter, Inner}
 use Rattle.ws_steps.specs.declared.pipes.PipeOperation.TheVariants.{Abort as AbortPipe}
 use Rattle.ws_steps.specs.declared.pipes.Prevent.{Prevent}
 use Rattle.ws_steps.specs.declared.pipes.SignalOperation.TheVariants.{Trigger as TriggerSignal}
@@ -35,31 +39,36 @@ use Rattle.ws_steps.specs.declared.writable.WritableOperation.TheVariants.{SetUp
 use Rattle.ws_steps.specs.declared.writable.Writer.{Writer}
 use Rattle.ws_steps.specs.Calls as calls
 use Rattle.ws_steps.specs.Calls.{Begun, begin}
+use Rattle.ws_steps.specs.Bytes as byte
+use Rattle.ws_steps.specs.Descriptors.{Descriptor, respond_throws}
 use Rattle.ws_steps.specs.Effects.{type_error}
 use Rattle.ws_steps.specs.Histories.{is_same}
 use Rattle.ws_steps.specs.Pipes as pipe
 use Rattle.ws_steps.specs.Promises.{Table, next_id, fresh, is_pending_at}
+use Rattle.ws_steps.specs.Queues.{is_empty}
 use Rattle.ws_steps.specs.Readable as readable
 use Rattle.ws_steps.specs.Readable.{can_close_or_enqueue}
 use Rattle.ws_steps.specs.ReadableLooks as readable_looks
 use Rattle.ws_steps.specs.WritableLooks as writable_looks
-use Rattle.ws_steps.specs.Slots.{Slots, most_streams, has_readable, has_writable, has_signal, owner_at, readable_at, writable_at, pipe_at, lock_at, host_at}
+use Rattle.ws_steps.specs.Slots.{Slots, Stream, is_readable_stream, is_byte_stream, most_streams, causes, has_readable, has_byte, has_source, has_writable, has_signal, owner_at, readable_at, byte_at, source_at, as_source, stream_of_request, writable_at, pipe_at, lock_at, host_at}
 use Rattle.ws_steps.specs.Writable as writable
 use Rattle.ws_flow.specs.Told.{Open, Closed as Ended, Told, told, then_told, IsShortOf}
 use Rattle.ws_flow.proofs.Told.{then_empty, short_refl}
 use Rattle.ws_laws.proofs.Halves.{Halved}
 use Rattle.ws_laws.proofs.Lists.{Each, each-append}
-use Rattle.ws_laws.proofs.Tables.{either, eq_numbers, is_same-refl, same_id}
+use Rattle.ws_laws.proofs.Tables.{either, eq_numbers, is_same-refl, same_id, readable_there, byte_there}
 use Rattle.ws_laws.proofs.Truth.{not_false, and_left, and_right}
-use Rattle.ws_link_laws.specs.Link.{Ear, silence, in_sink, in_source, in_pipe, ear_at, unheard, behind, enters, leaves}
+use Rattle.ws_link_laws.specs.Link.{Ear, Giver, OfSource, OfByteSource, OfHalf, silence, in_sink, in_source, in_pipe, ear_at, unheard, behind, giver_by, giver_at, lets_in, enters, leaves}
+use Rattle.ws_link_laws.specs.Entering.{chunk_in, bytes_in}
 use Rattle.ws_link_laws.specs.Sound.{spares, all_spare, AreApart, IsApart}
 use Rattle.ws_link_laws.proofs.Telling.{is_of, if_same, tells, IsSilent, silent-all, writes, chunks, coming}
-use Rattle.ws_link_laws.proofs.Hosts.{source-owner, one-readable}
+use Rattle.ws_link_laws.proofs.Hosts.{source-owner, half-giver, one-readable}
 use Rattle.ws_link_laws.proofs.Ahead.{IsLate, Placed}
 use Rattle.ws_link_laws.proofs.Unheard.{fresh-unheard}
 use Rattle.ws_link_laws.proofs.Sinks.{shut}
 use Rattle.ws_link_laws.proofs.Standing.{IsInner, IsNotLast}
 use Rattle.ws_pipe_laws.proofs.PassingRuns.{appended}
+use Rattle.ws_link_laws.proofs.SourceTurns.{is_default}
 
 -- effects with which a call begins that leaves the link alone
 abbrev pub IsOuter : StreamId → StreamId → Effect → Type 0
@@ -67,6 +76,8 @@ IsOuter i j (OnReadable k (InitializeReader closed)) = is_same i k ≡ false
 IsOuter i j (OnReadable k (ReadChunk request)) = is_same i k ≡ false
 IsOuter i j (OnReadable k (CancelStream r q)) = is_same i k ≡ false
 IsOuter i j (OnReadable k (CancelIfReadable r q)) = is_same i k ≡ false
+IsOuter i j (OnByte k (InitializeByobReader closed)) = is_same i k ≡ false
+IsOuter i j (OnByte k (EnqueueBytes b)) = is_empty b ≡ false
 IsOuter i j (OnWritable k (SetUpWriter w)) = is_same j k ≡ false
 IsOuter i j (OnWritable k (WriteChunk v q)) = is_same j k ≡ false
 IsOuter i j (OnWritable k (CloseStream q)) = is_same j k ≡ false
@@ -122,6 +133,14 @@ spare-append i j (k ∷ ls) ms a b =
     let d = spare-append i j ls ms (and_right (spares i j k) (all_spare i j ls) a) b in
     rw (c, d) refl
 
+-- a stream isn't of both kinds, and one that is there is of one
+
+neither : (a b : Bool) → a ≡ false → b ≡ false → a || b ≡ true → ⊥
+neither a b e f g = grind (arith, e, f, g)
+
+no_default : (o : Option Stream) → is_byte_stream o ≡ true → is_readable_stream o ≡ false
+no_default o e = grind (arith, e)
+
 -- where the source takes nothing, what is behind the host has come to an end
 
 then_shut : (x y : Told Value) → y.mark ≢ Open → (then_told x y).mark ≢ Open
@@ -133,9 +152,9 @@ source_shut r e = grind (arith, e)
 pipe_shut : (x : pipe.Slots) (y : Told Value) → y.mark ≢ Open → (in_pipe x y).mark ≢ Open
 pipe_shut x y n = grind (arith, n)
 
-behind-shut : (i j : StreamId) (p : PipeId) (s : Slots) → can_close_or_enqueue (readable_at i s) ≡ false → (behind i j p s).mark ≢ Open
+behind-shut : (i j : StreamId) (p : PipeId) (s : Slots) → can_close_or_enqueue (source_at i s) ≡ false → (behind i j p s).mark ≢ Open
 behind-shut i j p s e =
-    then_shut (unheard (ear_at j s) s.promises.events) _ (then_shut (in_sink (writable_at j s)) _ (pipe_shut (pipe_at p s) (in_source (readable_at i s)) (source_shut (readable_at i s) e)))
+    then_shut (unheard (ear_at j s) s.promises.events) _ (then_shut (in_sink (writable_at j s)) _ (pipe_shut (pipe_at p s) (in_source (source_at i s)) (source_shut (source_at i s) e)))
 
 -- what a call begins with, that enters t
 
@@ -144,9 +163,9 @@ pub record Begins (i j : StreamId) (p : PipeId) (s : Slots) (t : Told Value) (b 
   pub apart : AreApart i j p b.done.slots.pipes
   pub heard : (w : Ear) → unheard w b.done.slots.promises.events ≡ unheard w s.promises.events
   pub outer : Each (IsOuter i j) b.done.caused
-  pub comes : IsShortOf (then_told (behind i j p s) (tells (coming (owner_at i s) i) b.done.caused)) (then_told (behind i j p s) t)
+  pub comes : IsShortOf (then_told (behind i j p s) (tells (coming (giver_at i s) i) b.done.caused)) (then_told (behind i j p s) t)
 
-module _ (i j : StreamId) (p : PipeId) (s : Slots) (here : has_readable i s ≡ true) (halved : Halved s) (locks : all_spare i j s.locks ≡ true) (apart : AreApart i j p s.pipes) where
+module _ (i j : StreamId) (p : PipeId) (s : Slots) (here : has_source i s ≡ true) (halved : Halved s) (locks : all_spare i j s.locks ≡ true) (apart : AreApart i j p s.pipes) where
   abbrev P : Begun → Type 0
   P b = Begins i j p s silence b
 
@@ -154,35 +173,44 @@ module _ (i j : StreamId) (p : PipeId) (s : Slots) (here : has_readable i s ≡ 
   unchanged reply = record { locks = locks; apart = apart; heard = λ w. refl; outer = tt; comes = short_refl _ }
 
   -- a call that causes effects of others, and changes no more than these
-  quietly : (b : Begun) → all_spare i j b.done.slots.locks ≡ true → AreApart i j p b.done.slots.pipes → ((w : Ear) → unheard w b.done.slots.promises.events ≡ unheard w s.promises.events) → Each (IsOuter i j) b.done.caused → Each (IsSilent (coming (owner_at i s) i)) b.done.caused → P b
-  quietly b l a h o c = record { locks = l; apart = a; heard = h; outer = o; comes = rw (silent-all (coming (owner_at i s) i) b.done.caused c) (short_refl _) }
+  quietly : (b : Begun) → all_spare i j b.done.slots.locks ≡ true → AreApart i j p b.done.slots.pipes → ((w : Ear) → unheard w b.done.slots.promises.events ≡ unheard w s.promises.events) → Each (IsOuter i j) b.done.caused → Each (IsSilent (coming (giver_at i s) i)) b.done.caused → P b
+  quietly b l a h o c = record { locks = l; apart = a; heard = h; outer = o; comes = rw (silent-all (coming (giver_at i s) i) b.done.caused c) (short_refl _) }
 
-  promising : (f : PromiseId → List Effect) → Each (IsOuter i j) (f (next_id s.promises)) → Each (IsSilent (coming (owner_at i s) i)) (f (next_id s.promises)) → P (calls.promising f s)
+  promising : (f : PromiseId → List Effect) → Each (IsOuter i j) (f (next_id s.promises)) → Each (IsSilent (coming (giver_at i s) i)) (f (next_id s.promises)) → P (calls.promising f s)
   promising f o c = quietly (calls.promising f s) locks apart (λ w. fresh-unheard w s.promises) o c
 
-  does : (es : List Effect) → Each (IsOuter i j) es → Each (IsSilent (coming (owner_at i s) i)) es → P (calls.does es s)
+  does : (es : List Effect) → Each (IsOuter i j) es → Each (IsSilent (coming (giver_at i s) i)) es → P (calls.does es s)
   does es o c = quietly (calls.does es s) locks apart (λ w. refl) o c
 
   rejected : P (calls.rejected s)
   rejected = promising (λ q. SettlePromise q (Err type_error) ∷ []) (tt, tt) (refl, tt)
 
-  for_readable : (k : StreamId) (operation : Slots → Begun) → P (operation s) → P (calls.for_readable k operation s)
-  for_readable k operation h = either P (has_readable k s) (operation s) (calls.unsupported s) (λ e. h) (λ e. unchanged (Throws Unsupported))
+  for_source : (k : StreamId) (operation : Slots → Begun) → P (operation s) → P (calls.for_source k operation s)
+  for_source k operation h = either P (has_source k s) (operation s) (calls.unsupported s) (λ e. h) (λ e. unchanged (Throws Unsupported))
 
   for_writable : (k : StreamId) (operation : Slots → Begun) → P (operation s) → P (calls.for_writable k operation s)
   for_writable k operation h = either P (has_writable k s) (operation s) (calls.unsupported s) (λ e. h) (λ e. unchanged (Throws Unsupported))
 
   by_reader : (holding : StreamId → Slots → Begun) (free : Slots → Begun) → ((k : StreamId) → is_same i k ≡ false → P (holding k s)) → P (free s) → (n : ℕ) (o : Option Lock) → slice_get s.locks n ≡ o → P (calls.by_reader holding free s o)
   by_reader holding free h f n None e = unchanged (Throws Unsupported)
-  by_reader holding free h f n (Some (ReaderLock (Some k) closed)) e = for_readable k (holding k) (h k (not_false (is_same i k) (spare-at i j n s.locks (ReaderLock (Some k) closed) locks e)))
+  by_reader holding free h f n (Some (ReaderLock (Some k) closed)) e = for_source k (holding k) (h k (not_false (is_same i k) (spare-at i j n s.locks (ReaderLock (Some k) closed) locks e)))
   by_reader holding free h f n (Some (ReaderLock None closed)) e = f
+  by_reader holding free h f n (Some (ByobReader (Some k) closed)) e = for_source k (holding k) (h k (not_false (is_same i k) (spare-at i j n s.locks (ByobReader (Some k) closed) locks e)))
+  by_reader holding free h f n (Some (ByobReader None closed)) e = f
   by_reader holding free h f n (Some (WriterLock k)) e = unchanged (Throws Unsupported)
   by_reader holding free h f n (Some (ReleasedWriter w)) e = unchanged (Throws Unsupported)
   by_reader holding free h f n (Some Inner) e = unchanged (Throws Unsupported)
 
+  by_default : (holding : StreamId → Slots → Begun) (free : Slots → Begun) → ((k : StreamId) → is_same i k ≡ false → P (holding k s)) → P (free s) → (n : ℕ) (o : Option Lock) → slice_get s.locks n ≡ o → P (calls.by_default_reader holding free s o)
+  by_default holding free h f n o e = either P (calls.is_byob_reader o) (calls.unsupported s) (calls.by_reader holding free s o) (λ b. unchanged (Throws Unsupported)) (λ b. by_reader holding free h f n o e)
+
+  by_byob : (holding : StreamId → Slots → Begun) (free : Slots → Begun) → ((k : StreamId) → is_same i k ≡ false → P (holding k s)) → P (free s) → (n : ℕ) (o : Option Lock) → slice_get s.locks n ≡ o → P (calls.by_byob_reader holding free s o)
+  by_byob holding free h f n o e = either P (calls.is_byob_reader o) (calls.by_reader holding free s o) (calls.unsupported s) (λ b. by_reader holding free h f n o e) (λ b. unchanged (Throws Unsupported))
+
   by_writer : (holding : StreamId → Slots → Begun) (free : Slots → Begun) → ((k : StreamId) → is_same j k ≡ false → P (holding k s)) → P (free s) → (n : ℕ) (o : Option Lock) → slice_get s.locks n ≡ o → P (calls.by_writer holding free s o)
   by_writer holding free h f n None e = unchanged (Throws Unsupported)
   by_writer holding free h f n (Some (ReaderLock stream closed)) e = unchanged (Throws Unsupported)
+  by_writer holding free h f n (Some (ByobReader stream closed)) e = unchanged (Throws Unsupported)
   by_writer holding free h f n (Some (WriterLock k)) e = for_writable k (holding k) (h k (not_false (is_same j k) (spare-at i j n s.locks (WriterLock k) locks e)))
   by_writer holding free h f n (Some (ReleasedWriter w)) e = f
   by_writer holding free h f n (Some Inner) e = unchanged (Throws Unsupported)
@@ -194,6 +222,7 @@ module _ (i j : StreamId) (p : PipeId) (s : Slots) (here : has_readable i s ≡ 
   closed_by : (o : Option Lock) → P (calls.closed_by s o)
   closed_by None = unchanged (Throws Unsupported)
   closed_by (Some (ReaderLock stream closed)) = unchanged (Promise closed)
+  closed_by (Some (ByobReader stream closed)) = unchanged (Promise closed)
   closed_by (Some (WriterLock k)) = of_writer (λ w. calls.replies (Promise w.closed)) (writable_at k s).writer (λ w. unchanged (Promise w.closed))
   closed_by (Some (ReleasedWriter w)) = unchanged (Promise w.closed)
   closed_by (Some Inner) = unchanged (Throws Unsupported)
@@ -201,6 +230,7 @@ module _ (i j : StreamId) (p : PipeId) (s : Slots) (here : has_readable i s ≡ 
   ready_by : (o : Option Lock) → P (calls.ready_by s o)
   ready_by None = unchanged (Throws Unsupported)
   ready_by (Some (ReaderLock stream closed)) = unchanged (Throws Unsupported)
+  ready_by (Some (ByobReader stream closed)) = unchanged (Throws Unsupported)
   ready_by (Some (WriterLock k)) = of_writer (λ w. calls.replies (Promise w.ready)) (writable_at k s).writer (λ w. unchanged (Promise w.ready))
   ready_by (Some (ReleasedWriter w)) = unchanged (Promise w.ready)
   ready_by (Some Inner) = unchanged (Throws Unsupported)
@@ -211,7 +241,7 @@ module _ (i j : StreamId) (p : PipeId) (s : Slots) (here : has_readable i s ≡ 
   renewed-outer t true = tt
   renewed-outer t false = (tt, tt)
 
-  renewed-coming : (t : Table) (kept : Bool) → Each (IsSilent (coming (owner_at i s) i)) (calls.reject_renewed t kept)
+  renewed-coming : (t : Table) (kept : Bool) → Each (IsSilent (coming (giver_at i s) i)) (calls.reject_renewed t kept)
   renewed-coming t true = tt
   renewed-coming t false = (refl, tt)
 
@@ -219,12 +249,12 @@ module _ (i j : StreamId) (p : PipeId) (s : Slots) (here : has_readable i s ≡ 
   renewed-heard w t true = refl
   renewed-heard w t false = fresh-unheard w t
 
-  releases_reader : (l : LockId) (closed : PromiseId) (k : StreamId) → P (calls.release_reader l closed k s)
-  releases_reader l closed k =
-      let kept : Bool = readable.is_readable (readable_at k s).state in
-      quietly (calls.release_reader l closed k s) (spare-set i j l.0 s.locks _ locks refl) apart (λ w. renewed-heard w s.promises kept)
+  releases_reader : (released : PromiseId → Lock) → ((q : PromiseId) → spares i j (released q) ≡ true) → (l : LockId) (closed : PromiseId) (k : StreamId) → P (calls.release_reader released l closed k s)
+  releases_reader released spared l closed k =
+      let kept : Bool = readable.is_readable (source_at k s).state in
+      quietly (calls.release_reader released l closed k s) (spare-set i j l.0 s.locks _ locks (spared (calls.renewed closed s.promises kept))) apart (λ w. renewed-heard w s.promises kept)
       (each-append (IsOuter i j) (calls.reject_renewed s.promises kept) _ (renewed-outer s.promises kept) (tt, tt))
-      (each-append (IsSilent (coming (owner_at i s) i)) (calls.reject_renewed s.promises kept) _ (renewed-coming s.promises kept) (if_same (is_same i k), tt))
+      (each-append (IsSilent (coming (giver_at i s) i)) (calls.reject_renewed s.promises kept) _ (renewed-coming s.promises kept) (if_same (is_same i k), tt))
 
   releases_writer : (l : LockId) (k : StreamId) (w : Writer) → P (calls.release_writer l k w s)
   releases_writer l k w =
@@ -233,12 +263,14 @@ module _ (i j : StreamId) (p : PipeId) (s : Slots) (here : has_readable i s ≡ 
       let closed : Bool = is_pending_at w.closed t in
       quietly (calls.release_writer l k w s) (spare-set i j l.0 s.locks _ locks refl) apart (λ w. renewed-heard w t closed ∙ renewed-heard w s.promises ready)
       (each-append (IsOuter i j) (calls.reject_renewed s.promises ready) _ (renewed-outer s.promises ready) (each-append (IsOuter i j) (calls.reject_renewed t closed) _ (renewed-outer t closed) (tt, tt)))
-      (each-append (IsSilent (coming (owner_at i s) i)) (calls.reject_renewed s.promises ready) _ (renewed-coming s.promises ready) (each-append (IsSilent (coming (owner_at i s) i)) (calls.reject_renewed t closed) _ (renewed-coming t closed) (refl, tt)))
+      (each-append (IsSilent (coming (giver_at i s) i)) (calls.reject_renewed s.promises ready) _ (renewed-coming s.promises ready) (each-append (IsSilent (coming (giver_at i s) i)) (calls.reject_renewed t closed) _ (renewed-coming t closed) (refl, tt)))
 
   release : (l : LockId) (o : Option Lock) → P (calls.release l s o)
   release l None = unchanged (Throws Unsupported)
-  release l (Some (ReaderLock (Some k) closed)) = for_readable k (calls.release_reader l closed k) (releases_reader l closed k)
+  release l (Some (ReaderLock (Some k) closed)) = for_source k (calls.release_reader (ReaderLock None) l closed k) (releases_reader (ReaderLock None) (λ q. refl) l closed k)
   release l (Some (ReaderLock None closed)) = unchanged ReplyDone
+  release l (Some (ByobReader (Some k) closed)) = for_source k (calls.release_reader (ByobReader None) l closed k) (releases_reader (ByobReader None) (λ q. refl) l closed k)
+  release l (Some (ByobReader None closed)) = unchanged ReplyDone
   release l (Some (WriterLock k)) = of_writer (calls.release_writer l k) (writable_at k s).writer (λ w. releases_writer l k w)
   release l (Some (ReleasedWriter w)) = unchanged ReplyDone
   release l (Some Inner) = unchanged (Throws Unsupported)
@@ -255,7 +287,7 @@ module _ (i j : StreamId) (p : PipeId) (s : Slots) (here : has_readable i s ≡ 
 
   unlocked_readable : (k : StreamId) (locked : Slots → Begun) (free : StreamId → Slots → Begun) → P (locked s) → P (free k s) → P (calls.unlocked_readable k locked free s)
   unlocked_readable k locked free l f =
-      for_readable k (λ s. if readable_looks.is_locked (readable_at k s) then locked s else free k s) (either P (readable_looks.is_locked (readable_at k s)) (locked s) (free k s) (λ e. l) (λ e. f))
+      for_source k (λ s. if readable_looks.is_locked (source_at k s) then locked s else free k s) (either P (readable_looks.is_locked (source_at k s)) (locked s) (free k s) (λ e. l) (λ e. f))
 
   unlocked_writable : (k : StreamId) (locked : Slots → Begun) (free : StreamId → Slots → Begun) → P (locked s) → P (free k s) → P (calls.unlocked_writable k locked free s)
   unlocked_writable k locked free l f =
@@ -268,7 +300,7 @@ module _ (i j : StreamId) (p : PipeId) (s : Slots) (here : has_readable i s ≡ 
   begins-outer me a b None None = (tt, (tt, (tt, tt)))
   begins-outer me a b (Some g) None = (tt, (tt, (tt, (tt, tt))))
 
-  begins-coming : (me : PipeId) (a b : PromiseId) (signal : Option SignalId) (reason : Option Plain) → Each (IsSilent (coming (owner_at i s) i)) (calls.pipe_begins me a b signal reason)
+  begins-coming : (me : PipeId) (a b : PromiseId) (signal : Option SignalId) (reason : Option Plain) → Each (IsSilent (coming (giver_at i s) i)) (calls.pipe_begins me a b signal reason)
   begins-coming me a b signal (Some r) = (refl, tt)
   begins-coming me a b None None = (refl, (refl, (refl, tt)))
   begins-coming me a b (Some g) None = (refl, (refl, (refl, (refl, tt))))
@@ -296,7 +328,7 @@ module _ (i j : StreamId) (p : PipeId) (s : Slots) (here : has_readable i s ≡ 
     where
       free : P (calls.pipe_unlocked source dest prevent signal s)
       free =
-          either P (readable_looks.is_locked (readable_at source s)) (calls.rejected s) (if writable_looks.is_locked (writable_at dest s) then calls.rejected s else calls.pipe_to source dest prevent signal s) (λ e. rejected)
+          either P (readable_looks.is_locked (source_at source s)) (calls.rejected s) (if writable_looks.is_locked (writable_at dest s) then calls.rejected s else calls.pipe_to source dest prevent signal s) (λ e. rejected)
           (λ e. either P (writable_looks.is_locked (writable_at dest s)) (calls.rejected s) (calls.pipe_to source dest prevent signal s) (λ f. rejected) (λ f. pipe_to source dest prevent signal a b))
 
       by : (o : Option SignalId) → P (calls.for_signal_where o (calls.pipe_unlocked source dest prevent signal) s)
@@ -319,83 +351,214 @@ module _ (i j : StreamId) (p : PipeId) (s : Slots) (here : has_readable i s ≡ 
       by true n = f (same_id i k (sym n))
 
   -- where nothing can enter stream k
-  full : (k : StreamId) (t : Told Value) → (is_same i k ≡ false → t ≡ silence) → can_close_or_enqueue (readable_at k s) ≡ false → (t ≡ silence) ⊎ ((behind i j p s).mark ≢ Open)
+  full : (k : StreamId) (t : Told Value) → (is_same i k ≡ false → t ≡ silence) → can_close_or_enqueue (source_at k s) ≡ false → (t ≡ silence) ⊎ ((behind i j p s).mark ≢ Open)
   full k t elsewhere e = enters-or k t elsewhere (λ is. inr (behind-shut i j p s (rw is e)))
 
-  lets_in : (t : Told Value) (e : Effect) → IsOuter i j e → coming (owner_at i s) i e ≡ t → Begins i j p s t (calls.does (e ∷ []) s)
-  lets_in t e o c = record { locks = locks; apart = apart; heard = λ w. refl; outer = (o, tt); comes = rw (then_empty (coming (owner_at i s) i e), c) (short_refl (then_told (behind i j p s) t)) }
+  brings : (t : Told Value) (reply : Reply) (e : Effect) → IsOuter i j e → coming (giver_at i s) i e ≡ t → Begins i j p s t (calls.begun reply (causes (e ∷ []) s))
+  brings t reply e o c = record { locks = locks; apart = apart; heard = λ w. refl; outer = (o, tt); comes = rw (then_empty (coming (giver_at i s) i e), c) (short_refl (then_told (behind i j p s) t)) }
 
-  -- by whose a stream is, that is there
-  for_owner : (k : StreamId) (t : Told Value) (operation : Slots → Owner → Begun) → (is_same i k ≡ false → t ≡ silence) → ((o : Owner) → has_readable k s ≡ true → owner_at k s ≡ o → Begins i j p s t (operation s o))
+  -- what enters is told by what the source is, where that is stream k
+
+  own-or : (k : StreamId) (t : Giver → Told Value) (u : Told Value) (g : Giver) → (i ≡ k → giver_at i s ≡ g) → (is_same i k ≡ false → t (giver_at i s) ≡ u) → t g ≡ u → t (giver_at i s) ≡ u
+  own-or k t u g own elsewhere h = by (is_same i k) refl
+    where
+      by : (same : Bool) → same ≡ is_same i k → t (giver_at i s) ≡ u
+      by false n = elsewhere (sym n)
+      by true n = rw (own (same_id i k (sym n))) h
+
+  default-is : (k : StreamId) (o : Owner) → has_byte k s ≡ false → owner_at k s ≡ o → i ≡ k → giver_at i s ≡ giver_by false o
+  default-is k o none owner is = rw (is, none, owner) refl
+
+  bytes-is : (k : StreamId) → has_byte k s ≡ true → i ≡ k → giver_at i s ≡ OfByteSource
+  bytes-is k there is = rw (is, there) refl
+
+  -- a stream with a default controller, by whose it is
+
+  default-full : (k : StreamId) → has_readable k s ≡ true → can_close_or_enqueue (readable_at k s) ≡ false → can_close_or_enqueue (source_at k s) ≡ false
+  default-full k there e = rw (ap as_source (readable_there (slice_get s.streams k.0) there)) e
+
+  for_owner : (k : StreamId) (t : Told Value) (operation : Slots → Owner → Begun) → has_byte k s ≡ false → (is_same i k ≡ false → t ≡ silence) → ((o : Owner) → has_readable k s ≡ true → owner_at k s ≡ o → Begins i j p s t (operation s o))
       → Begins i j p s t (calls.for_readable k (λ z. operation z (readable_at k z).owner) s)
-  for_owner k t operation elsewhere f =
+  for_owner k t operation none elsewhere f =
       either (Begins i j p s t) (has_readable k s) (operation s (readable_at k s).owner) (calls.unsupported s)
       (λ there. f (readable_at k s).owner there (source-owner k s there))
-      (λ absent. refused t (Throws Unsupported) (enters-or k t elsewhere (λ is. let there : has_readable k s ≡ true = rw is at here in absurd (cc))))
+      (λ absent. refused t (Throws Unsupported) (enters-or k t elsewhere (λ is. let there : has_source k s ≡ true = rw is at here in absurd (neither (has_readable k s) (has_byte k s) absent none there))))
 
   -- the readable half of a transform stream is one
-  half-is : (k : StreamId) (a : TransformId) → has_readable k s ≡ true → owner_at k s ≡ HalfOf a → is_of (owner_at i s) a ≡ is_same i k
-  half-is k a there owner = by (is_same i k) refl
+  half-is : (k : StreamId) (a : TransformId) → has_readable k s ≡ true → has_byte k s ≡ false → owner_at k s ≡ HalfOf a → is_of (giver_at i s) a ≡ is_same i k
+  half-is k a there none owner = by (is_same i k) refl
     where
-      by_owner : (o : Owner) → o ≡ owner_at i s → is_same i k ≡ false → (b : Bool) → b ≡ is_of o a → is_of o a ≡ false
-      by_owner Host e n b f = refl
-      by_owner (HalfOf u) e n false f = sym f
-      by_owner (HalfOf u) e n true f =
+      by_giver : (g : Giver) → g ≡ giver_at i s → is_same i k ≡ false → (b : Bool) → b ≡ is_of g a → is_of g a ≡ false
+      by_giver OfSource e n b f = refl
+      by_giver OfByteSource e n b f = refl
+      by_giver (OfHalf u) e n false f = sym f
+      by_giver (OfHalf u) e n true f =
           let is : u ≡ a = ap (λ (m : ℕ). record { 0 = m }) (eq_numbers u.0 a.0 (sym f)) in
-          let one : i ≡ k = one-readable i k a s halved here there (sym e ∙ ap HalfOf is) owner in
+          let own = half-giver (has_byte i s) (owner_at i s) u (sym e) in
+          let one : i ≡ k = one-readable i k a s halved (is_default (slice_get s.streams i.0) here own.0) there (own.1 ∙ ap HalfOf is) owner in
           let same : is_same i k ≡ true = rw one (is_same-refl k) in cc
 
-      by : (same : Bool) → same ≡ is_same i k → is_of (owner_at i s) a ≡ is_same i k
-      by false n = by_owner (owner_at i s) refl (sym n) (is_of (owner_at i s) a) refl ∙ n
+      by : (same : Bool) → same ≡ is_same i k → is_of (giver_at i s) a ≡ is_same i k
+      by false n = by_giver (giver_at i s) refl (sym n) (is_of (giver_at i s) a) refl ∙ n
       by true n =
-          let is : i ≡ k = same_id i k (sym n) in
-          let mine : owner_at i s ≡ HalfOf a = rw is owner in
+          let mine : giver_at i s ≡ OfHalf a = default-is k (HalfOf a) none owner (same_id i k (sym n)) in
           let self : nat_eq a.0 a.0 ≡ true = grind arith in
           rw (mine, self) n
 
-  enqueues : (k : StreamId) (v : Value) (o : Owner) → has_readable k s ≡ true → owner_at k s ≡ o → Begins i j p s (enters (owner_at i s) i (Enqueue k v)) (calls.enqueue_by v k s o)
-  enqueues k v Host there owner =
-      either (Begins i j p s (enters (owner_at i s) i (Enqueue k v))) (can_close_or_enqueue (readable_at k s)) _ _
-      (λ e. lets_in (enters (owner_at i s) i (Enqueue k v)) (OnReadable k (EnqueueChunk v)) tt refl)
-      (λ e. refused (enters (owner_at i s) i (Enqueue k v)) (Throws TypeError) (full k (enters (owner_at i s) i (Enqueue k v)) (λ d. rw d refl) e))
-  enqueues k v (HalfOf a) there owner =
-      either (Begins i j p s (enters (owner_at i s) i (Enqueue k v))) (can_close_or_enqueue (readable_at k s)) _ _
-      (λ e. lets_in (enters (owner_at i s) i (Enqueue k v)) (OnTransform a (EnqueueByTransform v)) tt (rw (half-is k a there owner) refl))
-      (λ e. refused (enters (owner_at i s) i (Enqueue k v)) (Throws TypeError) (full k (enters (owner_at i s) i (Enqueue k v)) (λ d. rw d refl) e))
+  chunk-comes : (k : StreamId) (v : Value) (o : Owner) → has_byte k s ≡ false → owner_at k s ≡ o → coming (giver_at i s) i (OnReadable k (EnqueueChunk v)) ≡ enters (giver_at i s) i (Enqueue k v)
+  chunk-comes k v o none owner = by (is_same i k) refl
+    where
+      lets : (w : Owner) → chunk_in (giver_by false w) v ≡ lets_in (giver_by false w) v
+      lets Host = refl
+      lets (HalfOf a) = refl
+
+      by : (same : Bool) → same ≡ is_same i k → (if is_same i k then chunk_in (giver_at i s) v else silence) ≡ (if is_same i k then lets_in (giver_at i s) v else silence)
+      by false n = rw (← n) refl
+      by true n = let own = default-is k o none owner (same_id i k (sym n)) in rw (← n, own) (lets o)
+
+  half-comes : (k : StreamId) (v : Value) (a : TransformId) → has_readable k s ≡ true → has_byte k s ≡ false → owner_at k s ≡ HalfOf a → coming (giver_at i s) i (OnTransform a (EnqueueByTransform v)) ≡ enters (giver_at i s) i (Enqueue k v)
+  half-comes k v a there none owner = by (is_same i k) refl
+    where
+      by : (same : Bool) → same ≡ is_same i k → (if is_of (giver_at i s) a then told (v ∷ []) Open else silence) ≡ (if is_same i k then lets_in (giver_at i s) v else silence)
+      by false n = let h = half-is k a there none owner in rw (h, ← n) refl
+      by true n =
+          let h = half-is k a there none owner in
+          let own = default-is k (HalfOf a) none owner (same_id i k (sym n)) in
+          rw (h, ← n, own) refl
+
+  enqueue-elsewhere : (k : StreamId) (v : Value) (g : Giver) → is_same i k ≡ false → enters g i (Enqueue k v) ≡ silence
+  enqueue-elsewhere k v g d = rw d refl
+
+  enqueues : (k : StreamId) (v : Value) → has_byte k s ≡ false → (o : Owner) → has_readable k s ≡ true → owner_at k s ≡ o → Begins i j p s (enters (giver_at i s) i (Enqueue k v)) (calls.enqueue_by v k s o)
+  enqueues k v none Host there owner =
+      let t : Told Value = enters (giver_at i s) i (Enqueue k v) in
+      either (Begins i j p s t) (can_close_or_enqueue (readable_at k s)) _ _
+      (λ e. brings t ReplyDone (OnReadable k (EnqueueChunk v)) tt (chunk-comes k v Host none owner))
+      (λ e. refused t (Throws TypeError) (full k t (enqueue-elsewhere k v (giver_at i s)) (default-full k there e)))
+  enqueues k v none (HalfOf a) there owner =
+      let t : Told Value = enters (giver_at i s) i (Enqueue k v) in
+      either (Begins i j p s t) (can_close_or_enqueue (readable_at k s)) _ _
+      (λ e. brings t ReplyDone (OnTransform a (EnqueueByTransform v)) tt (half-comes k v a there none owner))
+      (λ e. refused t (Throws TypeError) (full k t (enqueue-elsewhere k v (giver_at i s)) (default-full k there e)))
+
+  -- bytes are enqueued into a byte stream
+
+  none-enters : (k : StreamId) (v : Value) → has_byte k s ≡ true → lets_in OfByteSource v ≡ silence → enters (giver_at i s) i (Enqueue k v) ≡ silence
+  none-enters k v there none = own-or k (λ g. enters g i (Enqueue k v)) silence OfByteSource (bytes-is k there) (enqueue-elsewhere k v (giver_at i s)) (rw (none, if_same (is_same i k)) refl)
+
+  bytes-come : (k : StreamId) (b : List ℕ) → has_byte k s ≡ true → coming (giver_at i s) i (OnByte k (EnqueueBytes b)) ≡ enters (giver_at i s) i (Enqueue k (Bytes b))
+  bytes-come k b there = by (is_same i k) refl
+    where
+      by : (same : Bool) → same ≡ is_same i k → (if is_same i k then bytes_in (giver_at i s) b else silence) ≡ (if is_same i k then lets_in (giver_at i s) (Bytes b) else silence)
+      by false n = rw (← n) refl
+      by true n = let own = bytes-is k there (same_id i k (sym n)) in rw (← n, own) refl
+
+  bytes-full : (k : StreamId) → has_byte k s ≡ true → byte.can_take (byte_at k s) ≡ false → can_close_or_enqueue (source_at k s) ≡ false
+  bytes-full k there e = rw (ap as_source (byte_there (slice_get s.streams k.0) there)) e
+
+  bytes-refused : (k : StreamId) (b : List ℕ) → has_byte k s ≡ true → not (is_empty b) && byte.can_take (byte_at k s) ≡ false → (enters (giver_at i s) i (Enqueue k (Bytes b)) ≡ silence) ⊎ ((behind i j p s).mark ≢ Open)
+  bytes-refused k [] there e = inl (none-enters k (Bytes []) there refl)
+  bytes-refused k (n ∷ ns) there e = full k (enters (giver_at i s) i (Enqueue k (Bytes (n ∷ ns)))) (enqueue-elsewhere k (Bytes (n ∷ ns)) (giver_at i s)) (bytes-full k there e)
+
+  enqueues_bytes : (k : StreamId) (v : Value) → has_byte k s ≡ true → Begins i j p s (enters (giver_at i s) i (Enqueue k v)) (calls.enqueue_bytes k s v)
+  enqueues_bytes k (PlainValue v) there = refused (enters (giver_at i s) i (Enqueue k (PlainValue v))) (Throws TypeError) (inl (none-enters k (PlainValue v) there refl))
+  enqueues_bytes k (Bytes b) there =
+      let t : Told Value = enters (giver_at i s) i (Enqueue k (Bytes b)) in
+      either (Begins i j p s t) (not (is_empty b) && byte.can_take (byte_at k s)) _ _
+      (λ e. brings t ReplyDone (OnByte k (EnqueueBytes b)) (some (is_empty b) (byte.can_take (byte_at k s)) e) (bytes-come k b there))
+      (λ e. refused t (Throws TypeError) (bytes-refused k b there e))
+    where
+      some : (x y : Bool) → not x && y ≡ true → x ≡ false
+      some true y e = cc
+      some false y e = refl
 
   -- the host finishes a source of its own, and terminates a transform stream
 
-  finish-elsewhere : (k : StreamId) (o : Owner) → is_same i k ≡ false → enters o i (Finish k) ≡ silence
-  finish-elsewhere k Host d = rw d refl
-  finish-elsewhere k (HalfOf a) d = refl
+  finish-elsewhere : (k : StreamId) (g : Giver) → is_same i k ≡ false → enters g i (Finish k) ≡ silence
+  finish-elsewhere k OfSource d = rw d refl
+  finish-elsewhere k OfByteSource d = rw d refl
+  finish-elsewhere k (OfHalf a) d = refl
 
-  terminate-elsewhere : (k : StreamId) (o : Owner) → is_same i k ≡ false → enters o i (Terminate k) ≡ silence
-  terminate-elsewhere k Host d = refl
-  terminate-elsewhere k (HalfOf a) d = rw d refl
+  terminate-elsewhere : (k : StreamId) (g : Giver) → is_same i k ≡ false → enters g i (Terminate k) ≡ silence
+  terminate-elsewhere k OfSource d = refl
+  terminate-elsewhere k OfByteSource d = refl
+  terminate-elsewhere k (OfHalf a) d = rw d refl
 
-  -- what enters is told by whose the source is, where that is stream k
-  own-or : (k : StreamId) (t : Owner → Told Value) (u : Told Value) (o : Owner) → owner_at k s ≡ o → (is_same i k ≡ false → t (owner_at i s) ≡ u) → t o ≡ u → t (owner_at i s) ≡ u
-  own-or k t u o owner elsewhere h = by (is_same i k) refl
+  end-comes : (k : StreamId) (g : Giver) → (i ≡ k → giver_at i s ≡ g) → enters g i (Finish k) ≡ (if is_same i k then told [] Ended else silence) → enters (giver_at i s) i (Finish k) ≡ coming (giver_at i s) i (OnReadable k CloseReadable)
+  end-comes k g own e = own-or k (λ o. enters o i (Finish k)) (if is_same i k then told [] Ended else silence) g own (λ d. finish-elsewhere k (giver_at i s) d ∙ rw d refl) e
+
+  finishes : (k : StreamId) → has_byte k s ≡ false → (o : Owner) → has_readable k s ≡ true → owner_at k s ≡ o → Begins i j p s (enters (giver_at i s) i (Finish k)) (calls.finish_by k s o)
+  finishes k none Host there owner =
+      let t : Told Value = enters (giver_at i s) i (Finish k) in
+      either (Begins i j p s t) (can_close_or_enqueue (readable_at k s)) _ _ (λ e. brings t ReplyDone (OnReadable k CloseReadable) tt (sym (end-comes k OfSource (default-is k Host none owner) refl)))
+      (λ e. refused t (Throws TypeError) (full k t (finish-elsewhere k (giver_at i s)) (default-full k there e)))
+  finishes k none (HalfOf a) there owner =
+      refused (enters (giver_at i s) i (Finish k)) (Throws Unsupported) (inl (own-or k (λ g. enters g i (Finish k)) silence (OfHalf a) (default-is k (HalfOf a) none owner) (finish-elsewhere k (giver_at i s)) refl))
+
+  finishes_bytes : (k : StreamId) → has_byte k s ≡ true → Begins i j p s (enters (giver_at i s) i (Finish k)) (calls.finish_bytes k s)
+  finishes_bytes k there =
+      let t : Told Value = enters (giver_at i s) i (Finish k) in
+      either (Begins i j p s t) (byte.can_take (byte_at k s)) _ _
+      (λ e. brings t (calls.close_reply (byte_at k s)) (OnReadable k CloseReadable) tt (sym (end-comes k OfByteSource (bytes-is k there) refl)))
+      (λ e. refused t (Throws TypeError) (full k t (finish-elsewhere k (giver_at i s)) (bytes-full k there e)))
+
+  terminates : (k : StreamId) → has_byte k s ≡ false → (o : Owner) → has_readable k s ≡ true → owner_at k s ≡ o → Begins i j p s (enters (giver_at i s) i (Terminate k)) (calls.terminate_by s o)
+  terminates k none Host there owner =
+      refused (enters (giver_at i s) i (Terminate k)) (Throws Unsupported) (inl (own-or k (λ g. enters g i (Terminate k)) silence OfSource (default-is k Host none owner) (terminate-elsewhere k (giver_at i s)) refl))
+  terminates k none (HalfOf a) there owner =
+      let same : enters (giver_at i s) i (Terminate k) ≡ (if is_same i k then told [] Ended else silence) =
+      own-or k (λ g. enters g i (Terminate k)) (if is_same i k then told [] Ended else silence) (OfHalf a) (default-is k (HalfOf a) none owner) (λ d. terminate-elsewhere k (giver_at i s) d ∙ rw d refl) refl in
+      brings (enters (giver_at i s) i (Terminate k)) ReplyDone (OnTransform a TerminateTransform) tt (rw (half-is k a there none owner) (sym same))
+
+  -- a byte stream isn't terminated
+  terminate_call : (k : StreamId) → Begins i j p s (enters (giver_at i s) i (Terminate k)) (calls.for_readable k (calls.terminate k) s)
+  terminate_call k = by (has_byte k s) refl
     where
-      by : (same : Bool) → same ≡ is_same i k → t (owner_at i s) ≡ u
-      by false n = elsewhere (sym n)
-      by true n = let is : i ≡ k = same_id i k (sym n) in let mine : owner_at i s ≡ o = rw is owner in rw mine h
+      by : (b : Bool) → b ≡ has_byte k s → Begins i j p s (enters (giver_at i s) i (Terminate k)) (calls.for_readable k (calls.terminate k) s)
+      by false e = for_owner k (enters (giver_at i s) i (Terminate k)) calls.terminate_by (sym e) (terminate-elsewhere k (giver_at i s)) (terminates k (sym e))
+      by true e =
+          rw (no_default (slice_get s.streams k.0) (sym e))
+          (refused (enters (giver_at i s) i (Terminate k)) (Throws Unsupported) (inl (own-or k (λ g. enters g i (Terminate k)) silence OfByteSource (bytes-is k (sym e)) (terminate-elsewhere k (giver_at i s)) refl)))
 
-  finishes : (k : StreamId) (o : Owner) → has_readable k s ≡ true → owner_at k s ≡ o → Begins i j p s (enters (owner_at i s) i (Finish k)) (calls.finish_by k s o)
-  finishes k Host there owner =
-      let t : Told Value = enters (owner_at i s) i (Finish k) in
-      let same : t ≡ coming (owner_at i s) i (OnReadable k CloseReadable) =
-      own-or k (λ o. enters o i (Finish k)) (coming (owner_at i s) i (OnReadable k CloseReadable)) Host owner (λ d. finish-elsewhere k (owner_at i s) d ∙ rw d refl) refl in
-      either (Begins i j p s t) (can_close_or_enqueue (readable_at k s)) _ _ (λ e. lets_in t (OnReadable k CloseReadable) tt (sym same))
-      (λ e. refused t (Throws TypeError) (full k t (finish-elsewhere k (owner_at i s)) e))
-  finishes k (HalfOf a) there owner = refused (enters (owner_at i s) i (Finish k)) (Throws Unsupported) (inl (own-or k (λ o. enters o i (Finish k)) silence (HalfOf a) owner (finish-elsewhere k (owner_at i s)) refl))
+  enqueue_call : (k : StreamId) (v : Value) → Begins i j p s (enters (giver_at i s) i (Enqueue k v)) (calls.enqueue_call k v s)
+  enqueue_call k v =
+      either (Begins i j p s (enters (giver_at i s) i (Enqueue k v))) (has_byte k s) (calls.enqueue_bytes k s v) _ (enqueues_bytes k v)
+      (λ none. for_owner k (enters (giver_at i s) i (Enqueue k v)) (calls.enqueue_by v k) none (enqueue-elsewhere k v (giver_at i s)) (enqueues k v none))
 
-  terminates : (k : StreamId) (o : Owner) → has_readable k s ≡ true → owner_at k s ≡ o → Begins i j p s (enters (owner_at i s) i (Terminate k)) (calls.terminate_by s o)
-  terminates k Host there owner = refused (enters (owner_at i s) i (Terminate k)) (Throws Unsupported) (inl (own-or k (λ o. enters o i (Terminate k)) silence Host owner (terminate-elsewhere k (owner_at i s)) refl))
-  terminates k (HalfOf a) there owner =
-      let same : enters (owner_at i s) i (Terminate k) ≡ (if is_same i k then told [] Ended else silence) =
-      own-or k (λ o. enters o i (Terminate k)) (if is_same i k then told [] Ended else silence) (HalfOf a) owner (λ d. terminate-elsewhere k (owner_at i s) d ∙ rw d refl) refl in
-      lets_in (enters (owner_at i s) i (Terminate k)) (OnTransform a TerminateTransform) tt (rw (half-is k a there owner) (sym same))
+  finish_call : (k : StreamId) → Begins i j p s (enters (giver_at i s) i (Finish k)) (calls.finish_call k s)
+  finish_call k =
+      either (Begins i j p s (enters (giver_at i s) i (Finish k))) (has_byte k s) (calls.finish_bytes k s) _ (finishes_bytes k)
+      (λ none. for_owner k (enters (giver_at i s) i (Finish k)) (calls.finish_by k) none (finish-elsewhere k (giver_at i s)) (finishes k none))
+
+  -- BYOB requests
+
+  request_by : (k : StreamId) (request : Option RequestId) (ds : List Descriptor) → P (calls.request_by k s request ds)
+  request_by k request [] = unchanged (ReplyRequest None)
+  request_by k (Some q) (d ∷ ds) = unchanged (calls.request_by k s (Some q) (d ∷ ds)).reply
+  request_by k None (d ∷ ds) = quietly (calls.request_by k s None (d ∷ ds)) locks apart (λ w. refl) (tt, tt) (if_same (is_same i k), tt)
+
+  respond_unless : (k : StreamId) (b : List ℕ) (o : Option Fault) → P (calls.respond_unless k b s o)
+  respond_unless k b None = does (OnByte k (RespondBytes b) ∷ []) (tt, tt) (if_same (is_same i k), tt)
+  respond_unless k b (Some fault) = unchanged (calls.thrown_by fault)
+
+  respond_to : (q : RequestId) (b : List ℕ) (o : Option StreamId) → P (calls.respond q b s o)
+  respond_to q b None = unchanged (Throws Unsupported)
+  respond_to q b (Some k) =
+      either P (calls.is_request q (byte_at k s).request) (calls.respond_unless k b s (respond_throws (length b) (byte_at k s).stream.state (byte_at k s).descriptors)) (calls.throws_type_error s)
+      (λ e. respond_unless k b (respond_throws (length b) (byte_at k s).stream.state (byte_at k s).descriptors)) (λ e. unchanged (Throws TypeError))
+
+  get_byob_of : (k : StreamId) → not (is_same i k) ≡ true → P (calls.get_byob_of k s)
+  get_byob_of k l =
+      either P (has_byte k s) (calls.get_byob k s) (calls.throws_type_error s)
+      (λ e. quietly (calls.get_byob k s) (spare-append i j s.locks _ locks (rw l refl)) apart (λ w. fresh-unheard w s.promises) (not_false (is_same i k) l, tt) (if_same (is_same i k), tt))
+      (λ e. unchanged (Throws TypeError))
+
+  read_into_by : (room : List ℕ) (element least : ℕ) (n : ℕ) (o : Option Lock) → slice_get s.locks n ≡ o → P (calls.read_into_by room element least s o)
+  read_into_by room element least n o e =
+      either P (not (calls.is_view (length room) element && nat_eq least 1)) (calls.unsupported s) _ (λ c. unchanged (Throws Unsupported))
+      (λ c. either P (is_empty room) (calls.by_byob_reader (λ k. calls.rejected) calls.rejected s o) (calls.by_byob_reader (calls.read_into room element least) calls.rejected s o)
+      (λ d. by_byob (λ k. calls.rejected) calls.rejected (λ k n. rejected) rejected n o e)
+      (λ d. by_byob (calls.read_into room element least) calls.rejected (λ k n. promising (λ q. OnByte k (PullInto room element (least * element) (PromiseRequest q)) ∷ []) (tt, tt) (if_same (is_same i k), tt)) rejected n o e))
 
   -- calls on transform streams
 
@@ -403,7 +566,7 @@ module _ (i j : StreamId) (p : PipeId) (s : Slots) (here : has_readable i s ≡ 
   starts-outer q k Now = tt
   starts-outer q k Later = tt
 
-  starts-coming : (q : PromiseId) (k : StreamId) (start : StartBy) → IsSilent (coming (owner_at i s) i) (calls.start_transform q k start)
+  starts-coming : (q : PromiseId) (k : StreamId) (start : StartBy) → IsSilent (coming (giver_at i s) i) (calls.start_transform q k start)
   starts-coming q k Now = refl
   starts-coming q k Later = refl
 
@@ -417,27 +580,31 @@ module _ (i j : StreamId) (p : PipeId) (s : Slots) (here : has_readable i s ≡ 
 
   fails_readable : (reason : Plain) (k : StreamId) (o : Owner) → P (calls.fail_readable_by reason k s o)
   fails_readable reason k Host = does (OnReadable k (ErrorReadable reason) ∷ []) (tt, tt) (if_same (is_same i k), tt)
-  fails_readable reason k (HalfOf a) = does (OnTransform a (ErrorTransform reason) ∷ []) (tt, tt) (if_same (is_of (owner_at i s) a), tt)
+  fails_readable reason k (HalfOf a) = does (OnTransform a (ErrorTransform reason) ∷ []) (tt, tt) (if_same (is_of (giver_at i s) a), tt)
 
   fails_writable : (reason : Plain) (k : StreamId) (o : Owner) → P (calls.fail_writable_by reason k s o)
   fails_writable reason k Host = does (OnWritable k (ErrorIfNeeded reason) ∷ []) (tt, tt) (refl, tt)
   fails_writable reason k (HalfOf a) = unchanged (Throws Unsupported)
 
   -- each call
-  pub call-begins : (c : Call) → leaves i j c ≡ true → Begins i j p s (enters (owner_at i s) i c) (begin c s)
+  pub call-begins : (c : Call) → leaves i j c ≡ true → Begins i j p s (enters (giver_at i s) i c) (begin c s)
   unfolding begin
   call-begins (MakeReadable mark size start) l = either P (nat_lt (length s.streams) most_streams) _ _ (λ e. quietly (calls.make_readable mark size start (record { 0 = length s.streams }) s) locks apart (λ w. refl) (tt, tt) (refl, tt)) (λ e. unchanged TooMany)
+  call-begins (MakeBytes mark auto start) l =
+      either P (nat_lt (length s.streams) most_streams) _ _ (λ e. quietly (calls.make_bytes mark auto start (record { 0 = length s.streams }) s) locks apart (λ w. refl) (tt, tt) (refl, tt)) (λ e. unchanged TooMany)
   call-begins (MakeWritable mark size start) l = either P (nat_lt (length s.streams) most_streams) _ _ (λ e. quietly (calls.make_writable mark size start (record { 0 = length s.streams }) s) locks apart (λ w. refl) (tt, tt) (refl, tt)) (λ e. unchanged TooMany)
   call-begins (MakeTransform kind m n start) l = either P (nat_lt (length s.streams + 1) most_streams) _ _ (λ e. make_transform kind m n start) (λ e. unchanged TooMany)
   call-begins (GetReader k) l =
       unlocked_readable k calls.throws_type_error calls.get_reader (unchanged (Throws TypeError))
       (quietly (calls.get_reader k s) (spare-append i j s.locks _ locks (rw l refl)) apart (λ w. fresh-unheard w s.promises) (not_false (is_same i k) l, tt) (if_same (is_same i k), tt))
+  call-begins (GetByob k) l = unlocked_readable k calls.throws_type_error calls.get_byob_of (unchanged (Throws TypeError)) (get_byob_of k l)
   call-begins (GetWriter k) l =
       unlocked_writable k calls.throws_type_error calls.get_writer (unchanged (Throws TypeError))
       (quietly (calls.get_writer k s) (spare-append i j s.locks _ locks (rw l refl)) apart (λ w. fresh-unheard w (fresh s.promises) ∙ fresh-unheard w s.promises) (not_false (is_same j k) l, tt) (refl, tt))
   call-begins (Cancel k reason) l = unlocked_readable k calls.rejected (calls.cancel reason) rejected (promising (λ q. OnReadable k (CancelStream reason q) ∷ []) (not_false (is_same i k) l, tt) (if_same (is_same i k), tt))
   call-begins (CancelBy n reason) l = by_reader (calls.cancel reason) calls.rejected (λ k d. promising (λ q. OnReadable k (CancelStream reason q) ∷ []) (d, tt) (if_same (is_same i k), tt)) rejected n.0 (lock_at n s) refl
-  call-begins (Read n) l = by_reader calls.read calls.rejected (λ k d. promising (λ q. OnReadable k (ReadChunk (PromiseRequest q)) ∷ []) (d, tt) (if_same (is_same i k), tt)) rejected n.0 (lock_at n s) refl
+  call-begins (Read n) l = by_default calls.read calls.rejected (λ k d. promising (λ q. OnReadable k (ReadChunk (PromiseRequest q)) ∷ []) (d, tt) (if_same (is_same i k), tt)) rejected n.0 (lock_at n s) refl
+  call-begins (ReadInto n room element least) l = read_into_by room element least n.0 (lock_at n s) refl
   call-begins (Write n v) l = by_writer (calls.write v) calls.rejected (λ k d. promising (λ q. OnWritable k (WriteChunk v q) ∷ []) (d, tt) (refl, tt)) rejected n.0 (lock_at n s) refl
   call-begins (Close k) l = unlocked_writable k calls.rejected calls.close rejected (promising (λ q. OnWritable k (CloseStream q) ∷ []) (not_false (is_same j k) l, tt) (refl, tt))
   call-begins (CloseBy n) l = by_writer calls.close calls.rejected (λ k d. promising (λ q. OnWritable k (CloseStream q) ∷ []) (d, tt) (refl, tt)) rejected n.0 (lock_at n s) refl
@@ -446,23 +613,26 @@ module _ (i j : StreamId) (p : PipeId) (s : Slots) (here : has_readable i s ≡ 
   call-begins (Closed n) l = closed_by (lock_at n s)
   call-begins (Ready n) l = ready_by (lock_at n s)
   call-begins (Release n) l = release n (lock_at n s)
-  call-begins (Enqueue k v) l = for_owner k (enters (owner_at i s) i (Enqueue k v)) (calls.enqueue_by v k) (λ d. rw d refl) (enqueues k v)
-  call-begins (Finish k) l = for_owner k (enters (owner_at i s) i (Finish k)) (calls.finish_by k) (finish-elsewhere k (owner_at i s)) (finishes k)
+  call-begins (Enqueue k v) l = enqueue_call k v
+  call-begins (Finish k) l = finish_call k
   call-begins (Fail k reason) l =
       either P (has_readable k s) _ _ (λ e. fails_readable reason k (readable_at k s).owner)
-      (λ e. for_writable k (λ s. calls.fail_writable_by reason k s (writable_at k s).owner) (fails_writable reason k (writable_at k s).owner))
-  call-begins (Terminate k) l = for_owner k (enters (owner_at i s) i (Terminate k)) calls.terminate_by (terminate-elsewhere k (owner_at i s)) (terminates k)
-  call-begins (Desired k) l = for_readable k (calls.desired k) (unchanged (calls.desired k s).reply)
+      (λ e. either P (has_byte k s) _ _ (λ f. does (OnReadable k (ErrorReadable reason) ∷ []) (tt, tt) (if_same (is_same i k), tt))
+      (λ f. for_writable k (λ s. calls.fail_writable_by reason k s (writable_at k s).owner) (fails_writable reason k (writable_at k s).owner)))
+  call-begins (Terminate k) l = terminate_call k
+  call-begins (Request k) l = either P (has_byte k s) _ _ (λ e. request_by k (byte_at k s).request (byte_at k s).descriptors) (λ e. unchanged (Throws Unsupported))
+  call-begins (Respond q b) l = respond_to q b (stream_of_request q s)
+  call-begins (Desired k) l = for_source k (calls.desired k) (unchanged (calls.desired k s).reply)
   call-begins (DesiredBy n) l = by_writer calls.desired_of_writer calls.throws_type_error (λ k d. unchanged (calls.desired_of_writer k s).reply) (unchanged (Throws TypeError)) n.0 (lock_at n s) refl
   call-begins (Pipe source dest prevent signal) l =
       let a = not_false (is_same i source) (and_left (not (is_same i source)) (not (is_same j dest)) l) in
       let b = not_false (is_same j dest) (and_right (not (is_same i source)) (not (is_same j dest)) l) in
-      for_readable source (calls.for_writable dest (calls.for_signal_where signal (calls.pipe_unlocked source dest prevent signal)))
+      for_source source (calls.for_writable dest (calls.for_signal_where signal (calls.pipe_unlocked source dest prevent signal)))
       (for_writable dest (calls.for_signal_where signal (calls.pipe_unlocked source dest prevent signal)) (pipe_where source dest prevent signal a b))
   call-begins MakeSignal l = quietly (calls.make_signal s) locks apart (λ w. refl) tt tt
   call-begins (Trigger a reason) l = either P (has_signal a s) _ _ (λ e. does (OnSignal a (TriggerSignal reason) ∷ []) (tt, tt) (refl, tt)) (λ e. unchanged (Throws Unsupported))
   call-begins (Settle h answer) l = settle_host h answer (host_at h s)
   call-begins (State k) l =
-      either P (has_readable k s) _ _ (λ e. unchanged (ReplyState (readable_looks.state_of (readable_at k s))))
+      either P (has_source k s) _ _ (λ e. unchanged (ReplyState (readable_looks.state_of (source_at k s))))
       (λ e. for_writable k (λ s. calls.replies (ReplyState (writable_looks.state_of (writable_at k s))) s) (unchanged (ReplyState (writable_looks.state_of (writable_at k s)))))
   call-begins Step l = unchanged ReplyDone

@@ -1,10 +1,12 @@
 -- What is about to enter a source enters it, each in its turn.
-use Rattle.std.proofs.Common.{◌≡◌, ◌⊎◌, inl, inr, Bool, true, false, nat_eq, List, [], ◌∷◌, ◌++◌, Option, Some, None, Ok, Err, slice_get, refl, sym, ap, subst, ◌∙◌, append-nil, arith}
+use Rattle.std.proofs.Common.{◌≡◌, ◌≢◌, ◌⊎◌, inl, inr, ℕ, Bool, true, false, nat_eq, List, [], ◌∷◌, ◌++◌, Option, Some, None, Ok, Err, slice_get, refl, sym, ap, subst, ◌∙◌, append-nil, arith}
 use Rattle.ws_value.specs.declared.ids.PipeId.{PipeId}
 use Rattle.ws_value.specs.declared.ids.PromiseId.{PromiseId}
 use Rattle.ws_value.specs.declared.ids.StreamId.{StreamId}
 use Rattle.ws_value.specs.declared.value.Plain.{Plain}
 use Rattle.ws_value.specs.declared.value.Value.{Value}
+use Rattle.ws_value.specs.declared.value.Value.TheVariants.{Plain as PlainValue, Bytes}
+use Rattle.ws_steps.specs.declared.byte.ByteOperation.TheVariants.{Enqueue as EnqueueBytes}
 use Rattle.ws_steps.specs.declared.calls.Call.{Call}
 use Rattle.ws_steps.specs.declared.calls.Call.TheVariants.{Enqueue as EnqueueCall}
 use Rattle.ws_steps.specs.declared.calls.Reply.TheVariants.{Done as ReplyDone, Throws}
@@ -26,6 +28,7 @@ use Rattle.ws_steps.specs.declared.transform.TransformId.{TransformId}
 use Rattle.ws_steps.specs.declared.transform.TransformOperation.{TransformOperation}
 use Rattle.ws_steps.specs.declared.transform.TransformOperation.TheVariants as names
 use Rattle.ws_steps.specs.declared.writable.WritableState.{WritableState}
+use Rattle.ws_steps.specs.Bytes as byte
 use Rattle.ws_steps.specs.Calls as calls
 use Rattle.ws_steps.specs.Calls.{Begun, begin}
 use Rattle.ws_steps.specs.Histories.{along}
@@ -34,7 +37,7 @@ use Rattle.ws_steps.specs.Operations.{transform_operation}
 use Rattle.ws_steps.specs.Promises.{Table, next_job}
 use Rattle.ws_steps.specs.Readable.{can_close_or_enqueue}
 use Rattle.ws_steps.specs.Run.{Called, Worked, run, step}
-use Rattle.ws_steps.specs.Slots.{Slots, Done, empty, halves_at, has_readable, owner_at, readable_at, on_transform_at}
+use Rattle.ws_steps.specs.Slots.{Slots, Done, empty, halves_at, has_readable, has_byte, has_source, owner_at, readable_at, byte_at, source_at, as_source, on_transform_at}
 use Rattle.ws_steps.specs.Transform as transform
 use Rattle.ws_steps.specs.Transform.{Acts, set_backpressure, unblock, transform_error, terminate, enqueue, enqueued, transform_by, transform_chunk, sink_write, write_in, write_goes_on, source_pull, finish_by, sink_close, sink_abort, source_cancel, flushed_in, flush_settled, aborted_in, abort_settled, cancelled_in, cancel_settled}
 use Rattle.ws_steps.specs.Turns.{row, moments}
@@ -43,29 +46,30 @@ use Rattle.ws_flow.proofs.Told.{then_assoc, then_empty}
 use Rattle.ws_laws.proofs.Lists.{Each, each-append}
 use Rattle.ws_laws.proofs.PipeDoes.{PipeCauses}
 use Rattle.ws_laws.proofs.Rows.{Causes, SignalCauses, row-causes}
-use Rattle.ws_laws.proofs.Shapes.{row-owner}
-use Rattle.ws_laws.proofs.Tables.{is_same-refl}
+use Rattle.ws_laws.proofs.Tables.{is_same-refl, byte_there}
 use Rattle.ws_laws.proofs.Walker as walker
 use Rattle.ws_laws.proofs.Walker.{IsHistory}
-use Rattle.ws_link_laws.specs.Entering.{effect_lets, step_lets, EachJobLetsIn, EnqueueLetsIn, EachEnqueueLetsIn}
-use Rattle.ws_link_laws.specs.Link.{silence, next_enters}
+use Rattle.ws_link_laws.specs.Entering.{chunk_in, effect_lets, step_lets, EachJobLetsIn, EnqueueLetsIn, EachEnqueueLetsIn}
+use Rattle.ws_link_laws.specs.Link.{in_source, Giver, OfByteSource, silence, giver_by, giver_at, lets_in, next_enters}
 use Rattle.ws_link_laws.proofs.Calls.{source_shut}
-use Rattle.ws_link_laws.proofs.Hosts.{Source, reached-source, source-row, source-same, source-owner}
+use Rattle.ws_link_laws.proofs.Hosts.{Source, row-giver, reached-source, source-row, source-same, source-owner}
 use Rattle.ws_link_laws.proofs.Steps.{job-coming}
 use Rattle.ws_link_laws.proofs.Telling.{if_same, tells, tells-append, IsSilent, silent-all, is_of, coming}
-use Rattle.ws_link_laws.proofs.TransformTurns.{Lets, AsAsked, IsLost, lets-at}
+use Rattle.ws_link_laws.proofs.TransformTurns.{Lets, AsAsked, IsLost, lets-at, default-source}
+use Rattle.ws_link_laws.proofs.SourceTurns.{is_default}
+use Rattle.ws_steps.specs.declared.effects.Effect.TheVariants.{Byte, CloseStepsWith}
 
 -- only the first effect lets something in
-abbrev Lone : Owner → StreamId → List Effect → Type 0
+abbrev Lone : Giver → StreamId → List Effect → Type 0
 Lone o i [] = Unit {0}
 Lone o i (e ∷ es) = Each (IsSilent (coming o i)) es
 
-lone-next : (o : Owner) (i : StreamId) (cs es : List Effect) → Lone o i cs → Each (IsSilent (coming o i)) es → Lone o i (cs ++ es)
+lone-next : (o : Giver) (i : StreamId) (cs es : List Effect) → Lone o i cs → Each (IsSilent (coming o i)) es → Lone o i (cs ++ es)
 lone-next o i [] [] f l = tt
 lone-next o i [] (e ∷ es) f l = l.1
 lone-next o i (c ∷ cs) es f l = each-append (IsSilent (coming o i)) cs es f l
 
-lone-silent : (o : Owner) (i : StreamId) (cs : List Effect) → Each (IsSilent (coming o i)) cs → Lone o i cs
+lone-silent : (o : Giver) (i : StreamId) (cs : List Effect) → Each (IsSilent (coming o i)) cs → Lone o i cs
 lone-silent o i [] l = tt
 lone-silent o i (c ∷ cs) l = l.1
 
@@ -75,7 +79,7 @@ abbrev IsNoTransform : Effect → Type 0
 IsNoTransform (OnTransform t operation) = ⊥
 IsNoTransform _ = Unit {0}
 
-pipe-coming : (o : Owner) (i : StreamId) (q : PipeId) (source dest : StreamId) (e : Effect) → PipeCauses q source dest e → IsSilent (coming o i) e
+pipe-coming : (o : Giver) (i : StreamId) (q : PipeId) (source dest : StreamId) (e : Effect) → PipeCauses q source dest e → IsSilent (coming o i) e
 pipe-coming o i q source dest e c = grind (arith, c)
 
 signal-each : (P : Effect → Type 0) (operation : SignalOperation) → ((q : PipeId) (r : Plain) → P (OnPipe q (piped.Abort r))) → SignalCauses P operation
@@ -83,8 +87,9 @@ signal-each P (Trigger r) f = λ q. f q r
 signal-each P (Add q) f = tt
 signal-each P (Forget q) f = tt
 
-coming-causes : (o : Owner) (i : StreamId) (e : Effect) → IsNoTransform e → Causes (IsSilent (coming o i)) e
+coming-causes : (o : Giver) (i : StreamId) (e : Effect) → IsNoTransform e → Causes (IsSilent (coming o i)) e
 coming-causes o i (OnReadable k operation) n = record { pull = refl; cancel = λ r q. refl; chunk = λ request v. refl; close = λ request. refl; error = λ request r. refl }
+coming-causes o i (Byte k operation) n = record { readable = record { pull = refl; cancel = λ r q. refl; chunk = λ request v. refl; close = λ request. refl; error = λ request r. refl }; close_with = λ r b. refl }
 coming-causes o i (OnWritable k operation) n = record { write = refl; close = refl; abort = λ r q. refl; hand_on = λ v. refl; take = λ v t d. if_same (is_of o t) }
 coming-causes o i (OnPipe q operation) n = λ source dest e c. pipe-coming o i q source dest e c
 coming-causes o i (OnSignal a operation) n = signal-each (IsSilent (coming o i)) operation (λ q r. refl)
@@ -98,14 +103,16 @@ coming-causes o i (AbortAlgorithm k r q) n = (λ c u. refl, λ t u. if_same (is_
 coming-causes o i (ChunkSteps k (Promise q) v) n = tt
 coming-causes o i (ChunkSteps k (PipeRequest q) v) n = refl
 coming-causes o i (CloseSteps k (Promise q)) n = tt
+coming-causes o i (CloseStepsWith k (Promise q) b) n = tt
 coming-causes o i (CloseSteps k (PipeRequest q)) n = refl
+coming-causes o i (CloseStepsWith k (PipeRequest q) b) n = refl
 coming-causes o i (ErrorSteps k (Promise q) r) n = tt
 coming-causes o i (ErrorSteps k (PipeRequest q) r) n = refl
 coming-causes o i _ n = tt
 
 -- and an operation of a transform stream what it brings, or not its end
 
-module _ (o : Owner) (i : StreamId) (me : TransformId) (halves : Halves) (x : transform.Slots) (t : Table) where
+module _ (o : Giver) (i : StreamId) (me : TransformId) (halves : Halves) (x : transform.Slots) (t : Table) where
   abbrev a : Acts
   a = record { slots = x; out = record { promises = t; effects = [] } }
 
@@ -147,32 +154,32 @@ module _ (o : Owner) (i : StreamId) (me : TransformId) (halves : Halves) (x : tr
 
 -- an effect lets in what it brings, or leaves it to what it causes; or its end is lost
 pub data Brings (i : StreamId) (s : Slots) (e : Effect) : Type 0 where
-  Passes : then_told (effect_lets i e s) (tells (coming (owner_at i s) i) (row e s).caused) ≡ coming (owner_at i s) i e → Brings i s e
-  Drops : effect_lets i e s ≡ silence → tells (coming (owner_at i s) i) (row e s).caused ≡ silence → coming (owner_at i s) i e ≡ told [] Closed → Brings i s e
+  Passes : then_told (effect_lets i e s) (tells (coming (giver_at i s) i) (row e s).caused) ≡ coming (giver_at i s) i e → Brings i s e
+  Drops : effect_lets i e s ≡ silence → tells (coming (giver_at i s) i) (row e s).caused ≡ silence → coming (giver_at i s) i e ≡ told [] Closed → Brings i s e
 
-other-lets : (i : StreamId) (s : Slots) (e : Effect) → IsNoTransform e → effect_lets i e s ≡ coming (owner_at i s) i e
+other-lets : (i : StreamId) (s : Slots) (e : Effect) → IsNoTransform e → effect_lets i e s ≡ coming (giver_at i s) i e
 other-lets i s e n = grind (arith, n)
 
 plain-brings : (i : StreamId) (s : Slots) (e : Effect) → IsNoTransform e → Brings i s e
 plain-brings i s e n =
     let cs : List Effect = (row e s).caused in
-    let none : tells (coming (owner_at i s) i) cs ≡ silence = silent-all (coming (owner_at i s) i) cs (row-causes (IsSilent (coming (owner_at i s) i)) e s (coming-causes (owner_at i s) i e n)) in
+    let none : tells (coming (giver_at i s) i) cs ≡ silence = silent-all (coming (giver_at i s) i) cs (row-causes (IsSilent (coming (giver_at i s) i)) e s (coming-causes (giver_at i s) i e n)) in
     Passes (rw (none, then_empty (effect_lets i e s)) (other-lets i s e n))
 
-lets-brings : (i : StreamId) (s : Slots) (t : TransformId) (operation : TransformOperation) → Lets (owner_at i s) i (readable_at i s) (OnTransform t operation) (row (OnTransform t operation) s).caused → Brings i s (OnTransform t operation)
+lets-brings : (i : StreamId) (s : Slots) (t : TransformId) (operation : TransformOperation) → Lets (giver_at i s) i (source_at i s) (OnTransform t operation) (row (OnTransform t operation) s).caused → Brings i s (OnTransform t operation)
 lets-brings i s t operation (AsAsked same) = Passes same
 lets-brings i s t operation (IsLost lost none end) = Drops refl none end
 
-transform-lone : (i : StreamId) (s : Slots) (t : TransformId) (operation : TransformOperation) (o : Option transform.Slots) → Lone (owner_at i s) i (on_transform_at (λ halves. transform_operation t halves operation) t s o).caused
+transform-lone : (i : StreamId) (s : Slots) (t : TransformId) (operation : TransformOperation) (o : Option transform.Slots) → Lone (giver_at i s) i (on_transform_at (λ halves. transform_operation t halves operation) t s o).caused
 transform-lone i s t operation None = tt
-transform-lone i s t operation (Some x) = operation-lone (owner_at i s) i t (halves_at x s) x s.promises operation
+transform-lone i s t operation (Some x) = operation-lone (giver_at i s) i t (halves_at x s) x s.promises operation
 
 record Brought (i : StreamId) (s : Slots) (e : Effect) : Type 0 where
   brings : Brings i s e
-  lone : Lone (owner_at i s) i (row e s).caused
+  lone : Lone (giver_at i s) i (row e s).caused
 
 plain-brought : (i : StreamId) (s : Slots) (e : Effect) → IsNoTransform e → Brought i s e
-plain-brought i s e n = record { brings = plain-brings i s e n; lone = lone-silent (owner_at i s) i (row e s).caused (row-causes (IsSilent (coming (owner_at i s) i)) e s (coming-causes (owner_at i s) i e n)) }
+plain-brought i s e n = record { brings = plain-brings i s e n; lone = lone-silent (giver_at i s) i (row e s).caused (row-causes (IsSilent (coming (giver_at i s) i)) e s (coming-causes (giver_at i s) i e n)) }
 
 row-brought : (i : StreamId) (s : Slots) (e : Effect) → Source i s → Brought i s e
 unfolding row
@@ -197,25 +204,25 @@ dropped t h (inr e) = inr (e ∙ then_assoc h (told [] Closed) (told [] Closed))
 module _ (i : StreamId) (t : Told Value) where
   record Comes (h : Told Value) (s : Slots) (es : List Effect) : Type 0 where
     source : Source i s
-    lone : Lone (owner_at i s) i es
-    sums : Sums t (then_told h (tells (coming (owner_at i s) i) es))
+    lone : Lone (giver_at i s) i es
+    sums : Sums t (then_told h (tells (coming (giver_at i s) i) es))
 
-  summed : (h : Told Value) (s : Slots) (e : Effect) (es : List Effect) → Brings i s e → tells (coming (owner_at i s) i) es ≡ silence → Sums t (then_told h (tells (coming (owner_at i s) i) (e ∷ es)))
-      → Sums t (then_told (then_told h (effect_lets i e s)) (tells (coming (owner_at i s) i) ((row e s).caused ++ es)))
+  summed : (h : Told Value) (s : Slots) (e : Effect) (es : List Effect) → Brings i s e → tells (coming (giver_at i s) i) es ≡ silence → Sums t (then_told h (tells (coming (giver_at i s) i) (e ∷ es)))
+      → Sums t (then_told (then_told h (effect_lets i e s)) (tells (coming (giver_at i s) i) ((row e s).caused ++ es)))
   summed h s e es (Passes same) none k =
-      let was : Sums t (then_told h (then_told (coming (owner_at i s) i e) silence)) = rw none at k in
-      rw (tells-append (coming (owner_at i s) i) (row e s).caused es, none, passed h (effect_lets i e s) (coming (owner_at i s) i e) (tells (coming (owner_at i s) i) (row e s).caused) same) was
+      let was : Sums t (then_told h (then_told (coming (giver_at i s) i e) silence)) = rw none at k in
+      rw (tells-append (coming (giver_at i s) i) (row e s).caused es, none, passed h (effect_lets i e s) (coming (giver_at i s) i e) (tells (coming (giver_at i s) i) (row e s).caused) same) was
   summed h s e es (Drops quiet quietly end) none k =
       let was : Sums t (then_told h (told [] Closed)) = rw end at k in
-      rw (tells-append (coming (owner_at i s) i) (row e s).caused es, none, quiet, quietly, then_empty h, then_empty h) (dropped t h was)
+      rw (tells-append (coming (giver_at i s) i) (row e s).caused es, none, quiet, quietly, then_empty h, then_empty h) (dropped t h was)
 
   row-comes : (h : Told Value) (s : Slots) (e : Effect) (es : List Effect) → Comes h s (e ∷ es) → Comes (then_told h (effect_lets i e s)) (row e s).slots ((row e s).caused ++ es)
   row-comes h s e es k =
       let b = row-brought i s e k.source in
       record {
         source = source-row i e s k.source;
-        lone = rw (row-owner i e s) (lone-next (owner_at i s) i (row e s).caused es b.lone k.lone);
-        sums = rw (row-owner i e s) (summed h s e es b.brings (silent-all (coming (owner_at i s) i) es k.lone) k.sums);
+        lone = rw (row-giver i e s) (lone-next (giver_at i s) i (row e s).caused es b.lone k.lone);
+        sums = rw (row-giver i e s) (summed h s e es b.brings (silent-all (coming (giver_at i s) i) es k.lone) k.sums);
       }
 
   told-history : IsHistory silence then_told
@@ -229,25 +236,25 @@ module _ (i : StreamId) (t : Told Value) where
 
 -- a job
 
-job-lone : (o : Owner) (i : StreamId) (job : Job) → Lone o i (job_effects job)
+job-lone : (o : Giver) (i : StreamId) (job : Job) → Lone o i (job_effects job)
 job-lone o i job = grind arith
 
-enters-two : (o : Owner) (job : Option Job) → (next_enters o job ≡ silence) ⊎ (next_enters o job ≡ told [] Closed)
+enters-two : (o : Giver) (job : Option Job) → (next_enters o job ≡ silence) ⊎ (next_enters o job ≡ told [] Closed)
 enters-two o job = grind arith
 
 none-or : (t x : Told Value) → (t ≡ silence) ⊎ (t ≡ told [] Closed) → Sums t x → (x ≡ silence) ⊎ (x ≡ t)
 none-or t x w k = grind (arith, append-nil, w, k)
 
-job-comes : (i : StreamId) (s : Slots) (job : Option Job) → Source i s → Comes i (next_enters (owner_at i s) job) silence (job_begun s job).slots (job_begun s job).caused
+job-comes : (i : StreamId) (s : Slots) (job : Option Job) → Source i s → Comes i (next_enters (giver_at i s) job) silence (job_begun s job).slots (job_begun s job).caused
 job-comes i s None h = record { source = h; lone = tt; sums = inl refl }
-job-comes i s (Some job) h = record { source = source-same i s _ refl refl h; lone = job-lone (owner_at i s) i job; sums = inl (job-coming (owner_at i s) i job) }
+job-comes i s (Some job) h = record { source = source-same i s _ refl refl h; lone = job-lone (giver_at i s) i job; sums = inl (job-coming (giver_at i s) i job) }
 
 pub each_job_lets_in : EachJobLetsIn
 unfolding begin_job
 each_job_lets_in entries i there hosts =
     let s : Slots = run entries empty in
-    let t : Told Value = next_enters (owner_at i s) (next_job s.promises) in
-    none-or t (step_lets i s Worked) (enters-two (owner_at i s) (next_job s.promises))
+    let t : Told Value = next_enters (giver_at i s) (next_job s.promises) in
+    none-or t (step_lets i s Worked) (enters-two (giver_at i s) (next_job s.promises))
     (performed-sums i t (job_begun s (next_job s.promises)) (job-comes i s (next_job s.promises) (reached-source i s (entries, refl) there hosts)))
 
 -- a call that enqueues
@@ -256,33 +263,76 @@ sums-open : (t x : Told Value) → t.mark ≡ Open → Sums t x → x ≡ t
 sums-open t x e (inl k) = k
 sums-open t x e (inr k) = grind (arith, append-nil, e, k)
 
-module _ (i : StreamId) (v : Value) (s : Slots) (there : has_readable i s ≡ true) (h : Source i s) where
+-- a stream with a default controller lets in any chunk, and a half too
+
+default-chunk : (o : Owner) (v : Value) → chunk_in (giver_by false o) v ≡ told (v ∷ []) Open
+default-chunk Host v = refl
+default-chunk (HalfOf t) v = refl
+
+module _ (i : StreamId) (v : Value) (s : Slots) (there : has_source i s ≡ true) (h : Source i s) where
   abbrev c : Call
   c = EnqueueCall i v
 
+  abbrev Ended : Type 0
+  Ended = (lets_in (giver_at i s) v ≡ silence) ⊎ ((in_source (source_at i s)).mark ≢ Open)
+
   -- it asks the stream, or its transform stream, or it throws
   pub data Asks : Type 0 where
-    Does : (e : Effect) → begin c s ≡ calls.does (e ∷ []) s → coming (owner_at i s) i e ≡ told (v ∷ []) Open → Asks
-    Refuses : begin c s ≡ calls.throws_type_error s → can_close_or_enqueue (readable_at i s) ≡ false → Asks
+    Does : (e : Effect) → begin c s ≡ calls.does (e ∷ []) s → coming (giver_at i s) i e ≡ told (v ∷ []) Open → Asks
+    Refuses : begin c s ≡ calls.throws_type_error s → Ended → Asks
 
-  begins-so : begin c s ≡ calls.enqueue_by v i s (readable_at i s).owner
-  unfolding begin
-  begins-so = rw there refl
+  module _ (none : has_byte i s ≡ false) where
+    default : has_readable i s ≡ true
+    default = is_default (slice_get s.streams i.0) there none
 
-  asks-host : (can : Bool) → can ≡ can_close_or_enqueue (readable_at i s) → Host ≡ (readable_at i s).owner → Asks
-  asks-host true e o = Does (OnReadable i (EnqueueChunk v)) (begins-so ∙ rw (← o, ← e) refl) (rw (is_same-refl i) refl)
-  asks-host false e o = Refuses (begins-so ∙ rw (← o, ← e) refl) (sym e)
+    begins-so : begin c s ≡ calls.enqueue_by v i s (readable_at i s).owner
+    unfolding begin
+    begins-so = rw (none, default) refl
 
-  asks-half : (t : TransformId) (can : Bool) → can ≡ can_close_or_enqueue (readable_at i s) → HalfOf t ≡ (readable_at i s).owner → Asks
-  asks-half t true e o =
-      let own : owner_at i s ≡ HalfOf t = source-owner i s there ∙ sym o in
-      let self : nat_eq t.0 t.0 ≡ true = grind arith in
-      Does (OnTransform t (names.Enqueue v)) (begins-so ∙ rw (← o, ← e) refl) (rw (own, self) refl)
-  asks-half t false e o = Refuses (begins-so ∙ rw (← o, ← e) refl) (sym e)
+    gives : giver_at i s ≡ giver_by false (owner_at i s)
+    gives = rw none refl
 
-  asks : (o : Owner) → o ≡ (readable_at i s).owner → Asks
-  asks Host e = asks-host (can_close_or_enqueue (readable_at i s)) refl e
-  asks (HalfOf t) e = asks-half t (can_close_or_enqueue (readable_at i s)) refl e
+    full : can_close_or_enqueue (readable_at i s) ≡ false → Ended
+    full e = let same : source_at i s ≡ readable_at i s = default-source (slice_get s.streams i.0) none in inr (rw same (source_shut (readable_at i s) e))
+
+    asks-host : (can : Bool) → can ≡ can_close_or_enqueue (readable_at i s) → Host ≡ (readable_at i s).owner → Asks
+    asks-host true e o = let d = default-chunk (owner_at i s) v in Does (OnReadable i (EnqueueChunk v)) (begins-so ∙ rw (← o, ← e) refl) (rw (is_same-refl i, gives) d)
+    asks-host false e o = Refuses (begins-so ∙ rw (← o, ← e) refl) (full (sym e))
+
+    asks-half : (t : TransformId) (can : Bool) → can ≡ can_close_or_enqueue (readable_at i s) → HalfOf t ≡ (readable_at i s).owner → Asks
+    asks-half t true e o =
+        let own : owner_at i s ≡ HalfOf t = source-owner i s default ∙ sym o in
+        let self : nat_eq t.0 t.0 ≡ true = grind arith in
+        Does (OnTransform t (names.Enqueue v)) (begins-so ∙ rw (← o, ← e) refl) (rw (gives, own, self) refl)
+    asks-half t false e o = Refuses (begins-so ∙ rw (← o, ← e) refl) (full (sym e))
+
+    asks-default : (o : Owner) → o ≡ (readable_at i s).owner → Asks
+    asks-default Host e = asks-host (can_close_or_enqueue (readable_at i s)) refl e
+    asks-default (HalfOf t) e = asks-half t (can_close_or_enqueue (readable_at i s)) refl e
+
+  module _ (here : has_byte i s ≡ true) where
+    begins-bytes : begin c s ≡ calls.enqueue_bytes i s v
+    unfolding begin
+    begins-bytes = rw here refl
+
+    bytes-give : giver_at i s ≡ OfByteSource
+    bytes-give = rw here refl
+
+    bytes-full : byte.can_take (byte_at i s) ≡ false → (in_source (source_at i s)).mark ≢ Open
+    bytes-full e = rw (ap as_source (byte_there (slice_get s.streams i.0) here)) (source_shut (byte.shown (byte_at i s)) e)
+
+    asks-some : (n : ℕ) (ns : List ℕ) → Bytes (n ∷ ns) ≡ v → (can : Bool) → can ≡ byte.can_take (byte_at i s) → Asks
+    asks-some n ns is true e = Does (Byte i (EnqueueBytes (n ∷ ns))) (begins-bytes ∙ rw (← is, ← e) refl) (rw (is_same-refl i, bytes-give, ← is) refl)
+    asks-some n ns is false e = Refuses (begins-bytes ∙ rw (← is, ← e) refl) (inr (bytes-full (sym e)))
+
+    asks-bytes : (w : Value) → w ≡ v → Asks
+    asks-bytes (PlainValue x) is = Refuses (begins-bytes ∙ rw (← is) refl) (inl (rw (bytes-give, ← is) refl))
+    asks-bytes (Bytes []) is = Refuses (begins-bytes ∙ rw (← is) refl) (inl (rw (bytes-give, ← is) refl))
+    asks-bytes (Bytes (n ∷ ns)) is = asks-some n ns is (byte.can_take (byte_at i s)) refl
+
+  asks : (b : Bool) → b ≡ has_byte i s → Asks
+  asks false e = asks-default (sym e) (readable_at i s).owner refl
+  asks true e = asks-bytes (sym e) v refl
 
   -- what is let in where the call begins so
   lets-so : (b : Begun) (t : Told Value) → begin c s ≡ b → t.mark ≡ Open → Comes i t silence b.done.slots b.done.caused → step_lets i s (Called c) ≡ t
@@ -290,16 +340,16 @@ module _ (i : StreamId) (v : Value) (s : Slots) (there : has_readable i s ≡ tr
 
   lets-by : Asks → EnqueueLetsIn i v s
   lets-by (Does e is brings) = record {
-    done = λ r. lets-so (calls.does (e ∷ []) s) (told (v ∷ []) Open) is refl (record { source = h; lone = tt; sums = inl (then_empty (coming (owner_at i s) i e) ∙ brings) });
+    done = λ r. lets-so (calls.does (e ∷ []) s) (told (v ∷ []) Open) is refl (record { source = h; lone = tt; sums = inl (then_empty (coming (giver_at i s) i e) ∙ brings) });
     throws = λ n. absurd (n (ap (λ (b : Begun). b.reply) is));
   }
-  lets-by (Refuses is cannot) = record {
+  lets-by (Refuses is ended) = record {
     done = λ r. let no : Throws TypeError ≡ ReplyDone = sym (ap (λ (b : Begun). b.reply) is) ∙ r in cc;
-    throws = λ n. (lets-so (calls.throws_type_error s) silence is refl (record { source = h; lone = tt; sums = inl refl }), source_shut (readable_at i s) cannot);
+    throws = λ n. (lets-so (calls.throws_type_error s) silence is refl (record { source = h; lone = tt; sums = inl refl }), ended);
   }
 
 pub each_enqueue_lets_in : EachEnqueueLetsIn
 each_enqueue_lets_in entries i v there hosts =
     let s : Slots = run entries empty in
     let h = reached-source i s (entries, refl) there hosts in
-    lets-by i v s there h (asks i v s there h (readable_at i s).owner refl)
+    lets-by i v s there h (asks i v s there h (has_byte i s) refl)

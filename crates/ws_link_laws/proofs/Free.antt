@@ -5,6 +5,8 @@ use Rattle.ws_value.specs.declared.ids.StreamId.{StreamId}
 use Rattle.ws_steps.specs.declared.calls.Call.{Call}
 use Rattle.ws_steps.specs.declared.calls.Reply.{Reply}
 use Rattle.ws_steps.specs.declared.calls.Reply.TheVariants.{Promise as ReplyPromise}
+use Rattle.ws_steps.specs.declared.byte.ByteOperation.{ByteOperation}
+use Rattle.ws_steps.specs.declared.byte.ByteOperation.TheVariants.{InitializeByobReader}
 use Rattle.ws_steps.specs.declared.effects.Effect.{Effect}
 use Rattle.ws_steps.specs.declared.effects.Effect.TheVariants.{Readable as OnReadable, Writable as OnWritable, Pipe as OnPipe, Signal as OnSignal, Transform as OnTransform, StartAlgorithm, PullAlgorithm, CancelAlgorithm, WriteAlgorithm, CloseAlgorithm, AbortAlgorithm, ChunkSteps, CloseSteps, ErrorSteps}
 use Rattle.ws_steps.specs.declared.locks.Lock.{Lock}
@@ -21,13 +23,13 @@ use Rattle.ws_steps.specs.Calls.{Begun, begin, add_stream}
 use Rattle.ws_steps.specs.declared.transform.TransformId.{TransformId}
 use Rattle.ws_steps.specs.Histories.{is_same}
 use Rattle.ws_steps.specs.Jobs.{job_effects, job_begun, begin_job}
-use Rattle.ws_steps.specs.Operations.{readable_operation, writable_operation, pipe_operation}
+use Rattle.ws_steps.specs.Operations.{readable_operation, byte_readable_operation, byte_operation, writable_operation, pipe_operation}
 use Rattle.ws_steps.specs.Pipes as pipe
 use Rattle.ws_steps.specs.Promises.{next_job}
 use Rattle.ws_steps.specs.Readable as readable
 use Rattle.ws_steps.specs.Readable.{call_pull_if_needed, accept, controller_enqueue, stream_close, stream_error, close_if_empty, controller_close, controller_error, disturb, cancel_if_readable, start_settled, pull_settled, cancel_steps, stream_cancel, reader_release}
 use Rattle.ws_steps.specs.Run.{Entry, Called, Worked, Heard, step, run, after_call, after_job}
-use Rattle.ws_steps.specs.Slots.{Slots, Stream, ReadableStream, WritableStream, Done, has_readable, has_writable, owner_of, owner_at, readable_at, writable_at, is_readable_stream, is_writable_stream, as_readable, as_writable, ends_at, on_pipe_at}
+use Rattle.ws_steps.specs.Slots.{Slots, Stream, ReadableStream, WritableStream, Done, has_readable, has_writable, owner_of, readable_at, writable_at, is_writable_stream, as_writable, ends_at, on_pipe_at}
 use Rattle.ws_steps.specs.Turns.{row, performed}
 use Rattle.ws_steps.specs.Writable as writable
 use Rattle.ws_steps.specs.Writable.{update_backpressure, refresh_backpressure, reject_close_and_closed, finish_erroring, start_erroring, deal_with_rejection, controller_error_if_needed, process_write, process_close, advance_queue, hand_on, write_settled, finish_in_flight_close, finish_in_flight_close_with_error, close_settled, abort_settled, stream_abort, abort_if_writable, writer_release}
@@ -38,7 +40,7 @@ use Rattle.ws_laws.proofs.Lists.{Each, each-append, each-map}
 use Rattle.ws_laws.proofs.PipeDoes.{PipeCauses, pipe-causes}
 use Rattle.ws_laws.proofs.Rows.{Causes, SignalCauses, IsApart, IsNoPipe, row-causes, row-pipes, row-streams, row-locks}
 use Rattle.ws_laws.proofs.Shapes.{stream_shape, transform_shape}
-use Rattle.ws_laws.proofs.Tables.{readable_acts, writable_acts, is_same-refl, same_id, readable_there, writable_there, on_readable-same, on_readable-other, on_readable-writable, on_writable-same, on_writable-other, on_writable-readable, on_writable-there}
+use Rattle.ws_laws.proofs.Tables.{readable_acts, byte_acts, writable_acts, is_same-refl, same_id, readable_there, byte_there, writable_there, on_readable-same, on_byte-same, on_byte-other, on_byte-writable, on_source-byte, on_source-readable, on_source-other, on_source-writable, on_writable-same, on_writable-other, on_writable-source, on_writable-look}
 use Rattle.ws_laws.proofs.TransformDoes.{TransformCauses}
 use Rattle.ws_laws.proofs.Truth.{and_left, and_right}
 use Rattle.ws_room_laws.proofs.Turns.{performed-kept}
@@ -49,15 +51,23 @@ use Rattle.ws_link_laws.specs.Sound.{all_apart, all_spare, AreApart, IsFree}
 use Rattle.ws_link_laws.specs.Sound as sound
 use Rattle.ws_link_laws.proofs.Begins.{apart_at}
 use Rattle.ws_link_laws.proofs.Calls.{IsOuter, Begins, call-begins}
-use Rattle.ws_link_laws.proofs.Hosts.{Hosts, source-owner, sink-owner, reached-hosts, hosts-same, hosts-grown, hosts-row}
-use Rattle.ws_link_laws.proofs.SourceTurns.{readable-leaves, readable-there}
+use Rattle.ws_link_laws.proofs.Hosts.{Hosts, sink-owner, reached-hosts, hosts-same, hosts-grown, hosts-row}
+use Rattle.ws_link_laws.proofs.SourceTurns.{default-bare, is_default}
 use Rattle.ws_link_laws.proofs.SinkTurns.{writable-there}
-use Rattle.ws_link_laws.proofs.Steps.{place-append, reached-step}
+use Rattle.ws_link_laws.proofs.Steps.{place-append, stream_at, source_there, reached-step}
+use Rattle.ws_steps.specs.Slots.{ByteStream}
+use Rattle.ws_steps.specs.declared.effects.Effect.TheVariants.{Byte, CloseStepsWith}
+use Rattle.ws_steps.specs.Bytes as byte
+use Rattle.ws_link_laws.specs.Link.{giver_at}
+use Rattle.ws_link_laws.proofs.Hosts.{row-sources, row-sinks}
+use Rattle.ws_link_laws.specs.Sound.{IsBare}
+use Rattle.ws_steps.specs.Slots.{has_byte, byte_at, has_source, source_at, is_byte_stream, as_byte, as_source}
 
 -- effects by which nobody takes the source or the destination, reads from the one or writes to the other
 abbrev pub IsFar : StreamId → StreamId → Effect → Type 0
 IsFar i j (OnReadable k (reads.InitializeReader closed)) = is_same i k ≡ false
 IsFar i j (OnReadable k (reads.Read request)) = is_same i k ≡ false
+IsFar i j (Byte k (InitializeByobReader closed)) = is_same i k ≡ false
 IsFar i j (OnWritable k (writes.SetUpWriter w)) = is_same j k ≡ false
 IsFar i j (OnWritable k (writes.Write v q)) = is_same j k ≡ false
 IsFar i j (OnWritable k (writes.Close q)) = is_same j k ≡ false
@@ -80,6 +90,7 @@ transform-far i j t w r e c = grind (arith, c)
 
 far-causes : (i j : StreamId) (e : Effect) → IsNoPipe e → Causes (IsFar i j) e
 far-causes i j (OnReadable k operation) n = record { pull = tt; cancel = λ r q. tt; chunk = λ request v. tt; close = λ request. tt; error = λ request r. tt }
+far-causes i j (Byte k operation) n = record { readable = record { pull = tt; cancel = λ r q. tt; chunk = λ request v. tt; close = λ request. tt; error = λ request r. tt }; close_with = λ r b. tt }
 far-causes i j (OnWritable k operation) n = record { write = tt; close = tt; abort = λ r q. tt; hand_on = λ v. tt; take = λ v t d. tt }
 far-causes i j (OnPipe q operation) n = absurd n
 far-causes i j (OnSignal a operation) n = signal-far i j operation
@@ -93,7 +104,9 @@ far-causes i j (AbortAlgorithm k r q) n = (λ c u. tt, λ t u. tt)
 far-causes i j (ChunkSteps k (Promise q) v) n = tt
 far-causes i j (ChunkSteps k (PipeRequest q) v) n = tt
 far-causes i j (CloseSteps k (Promise q)) n = tt
+far-causes i j (CloseStepsWith k (Promise q) b) n = tt
 far-causes i j (CloseSteps k (PipeRequest q)) n = tt
+far-causes i j (CloseStepsWith k (PipeRequest q) b) n = tt
 far-causes i j (ErrorSteps k (Promise q) r) n = tt
 far-causes i j (ErrorSteps k (PipeRequest q) r) n = tt
 far-causes i j _ n = tt
@@ -119,6 +132,23 @@ source-free i j (reads.InitializeReader closed) a n f = let s = is_same-refl i i
 source-free i j (reads.Read request) a n f = let s = is_same-refl i in absurd (cc)
 source-free i j operation a n f = grind (arith, f)
 
+-- a bare byte stream that nobody took stays one
+
+pub record FreeBytes (b : byte.Slots) : Type 0 where
+  pub bare : IsBare b
+  pub free : FreeSource (byte.shown b)
+
+pub bare-free : (i j : StreamId) (operation : ReadableOperation) (a : byte.Acts) → IsFar i j (OnReadable i operation) → FreeBytes a.slots → FreeBytes (byte_readable_operation i operation a).slots
+unfolding readable.stream_close readable.stream_error readable.disturb readable.reader_release byte.call_pull_if_needed byte.stream_close byte.controller_error byte.controller_close byte.stream_cancel byte.cancel_if_readable byte.start_settled byte.pull_settled byte.reader_release
+bare-free i j (reads.InitializeReader closed) a n f = let s = is_same-refl i in absurd (cc)
+bare-free i j (reads.Read request) a n f = let s = is_same-refl i in absurd (cc)
+bare-free i j operation a n f = grind (arith, f)
+
+pub bytes-free : (i j : StreamId) (operation : ByteOperation) (a : byte.Acts) → IsFar i j (Byte i operation) → FreeBytes a.slots → FreeBytes (byte_operation i operation a).slots
+unfolding readable.disturb byte.call_pull_if_needed byte.controller_enqueue byte.read_into byte.byob_reader_read byte.pull_into byte.respond
+bytes-free i j (InitializeByobReader closed) a n f = let s = is_same-refl i in absurd (cc)
+bytes-free i j operation a n f = grind (arith, f)
+
 pub sink-free : (i j : StreamId) (operation : WritableOperation) (a : writable.Acts) → IsFar i j (OnWritable j operation) → FreeSink a.slots → FreeSink (writable_operation j operation a).slots
 unfolding update_backpressure refresh_backpressure reject_close_and_closed finish_erroring start_erroring deal_with_rejection controller_error_if_needed process_write process_close advance_queue hand_on writable.start_settled write_settled finish_in_flight_close finish_in_flight_close_with_error close_settled abort_settled stream_abort abort_if_writable writer_release
 sink-free i j (writes.SetUpWriter w) a n f = let s = is_same-refl j in absurd (cc)
@@ -130,9 +160,10 @@ sink-free i j operation a n f = grind (arith, f)
 -- at each moment
 
 pub record Unused (i j : StreamId) (locks : List Lock) (s : Slots) (es : List Effect) : Type 0 where
-  pub source : has_readable i s ≡ true
+  pub source : has_source i s ≡ true
+  pub bare : IsBare (byte_at i s)
   pub sink : has_writable j s ≡ true
-  pub from : FreeSource (readable_at i s)
+  pub from : FreeSource (source_at i s)
   pub into : FreeSink (writable_at j s)
   pub hosts : Hosts i j s
   pub apart : all_apart i j s.pipes ≡ true
@@ -150,30 +181,98 @@ apart-set i j (z ∷ xs) (suc n) x y e f g a =
 pub row-far : (i j : StreamId) (e : Effect) (s : Slots) (es : List Effect) → IsNoPipe e → Each (IsFar i j) (e ∷ es) → Each (IsFar i j) ((row e s).caused ++ es)
 row-far i j e s es n f = each-append (IsFar i j) (row e s).caused es (row-causes (IsFar i j) e s (far-causes i j e n)) f.1
 
+-- the source, by its record
+
+abbrev FreeAt : StreamId → Slots → Type 0
+FreeAt i s = IsBare (byte_at i s) × FreeSource (source_at i s)
+
+default-at : (i : StreamId) (z : Slots) (r : readable.Slots) → slice_get z.streams i.0 ≡ Some (ReadableStream r) → FreeSource r → FreeAt i z
+default-at i z r e f = (default-bare i z (ap is_byte_stream e), rw (ap as_source e) f)
+
+bytes-at : (i : StreamId) (z : Slots) (b : byte.Slots) → slice_get z.streams i.0 ≡ Some (ByteStream b) → FreeBytes b → FreeAt i z
+bytes-at i z b e f = (rw (ap as_byte e) f.bare, rw (ap as_source e) f.free)
+
+was-default : (i : StreamId) (s : Slots) → has_readable i s ≡ true → FreeAt i s → FreeSource (readable_at i s)
+was-default i s there f = rw (ap as_source (readable_there (slice_get s.streams i.0) there)) at f.1
+
+was-bytes : (i : StreamId) (s : Slots) → has_byte i s ≡ true → FreeAt i s → FreeBytes (byte_at i s)
+was-bytes i s there f = record { bare = f.0; free = rw (ap as_source (byte_there (slice_get s.streams i.0) there)) at f.1 }
+
+asked-free : (i j : StreamId) (operation : ReadableOperation) (s : Slots) → has_source i s ≡ true → IsFar i j (OnReadable i operation) → FreeAt i s → FreeAt i (row (OnReadable i operation) s).slots
+unfolding row
+asked-free i j operation s here far f = by (has_byte i s) refl
+  where
+    by : (b : Bool) → b ≡ has_byte i s → FreeAt i (row (OnReadable i operation) s).slots
+    by false e =
+        let there : has_readable i s ≡ true = is_default (slice_get s.streams i.0) here (sym e) in
+        let to = readable_operation i operation in
+        let at = ap (λ (d : Done). slice_get d.slots.streams i.0) (on_source-readable operation i s (sym e)) ∙ on_readable-same to i s there in
+        default-at i (row (OnReadable i operation) s).slots (to (readable_acts i s)).slots at (source-free i j operation (readable_acts i s) far (was-default i s there f))
+    by true e =
+        let to = byte_readable_operation i operation in
+        let at = ap (λ (d : Done). slice_get d.slots.streams i.0) (on_source-byte operation i s (sym e)) ∙ on_byte-same to i s (sym e) in
+        bytes-at i (row (OnReadable i operation) s).slots (to (byte_acts i s)).slots at (bare-free i j operation (byte_acts i s) far (was-bytes i s (sym e) f))
+
+told-free : (i j : StreamId) (operation : ByteOperation) (s : Slots) → IsFar i j (Byte i operation) → FreeAt i s → FreeAt i (row (Byte i operation) s).slots
+unfolding row
+told-free i j operation s far f = by (has_byte i s) refl
+  where
+    by : (b : Bool) → b ≡ has_byte i s → FreeAt i (row (Byte i operation) s).slots
+    by false e = rw (← e) f
+    by true e =
+        let to = byte_operation i operation in
+        bytes-at i (row (Byte i operation) s).slots (to (byte_acts i s)).slots (on_byte-same to i s (sym e)) (bytes-free i j operation (byte_acts i s) far (was-bytes i s (sym e) f))
+
+stays-free : (i : StreamId) (s z : Slots) → slice_get z.streams i.0 ≡ slice_get s.streams i.0 → FreeAt i s → FreeAt i z
+stays-free i s z e f = (rw e f.0, rw e f.1)
+
 readable-unused : (i j : StreamId) (locks : List Lock) (k : StreamId) (operation : ReadableOperation) (s : Slots) (es : List Effect) → Unused i j locks s (OnReadable k operation ∷ es) → Unused i j locks (row (OnReadable k operation) s).slots ((row (OnReadable k operation) s).caused ++ es)
 unfolding row
 readable-unused i j locks k operation s es u =
     let e : Effect = OnReadable k operation in
-    let to = readable_operation k operation in
+    let free = by (is_same i k) refl in
     record {
-      source = readable-there to k s i u.source;
-      sink = readable-leaves to k s j u.sink;
-      from = by (is_same i k) refl;
-      into = rw (on_readable-writable to k s j (is_same j k) refl) u.into;
+      source = row-sources i e s ∙ u.source;
+      bare = free.0;
+      sink = row-sinks j e s ∙ u.sink;
+      from = free.1;
+      into = rw (on_source-writable operation k s j) u.into;
       hosts = hosts-row i j e s u.hosts;
       apart = rw (row-pipes e s tt) u.apart;
       same = row-locks e s ∙ u.same;
       far = row-far i j e s es tt u.far;
     }
   where
-    by : (same : Bool) → same ≡ is_same i k → FreeSource (readable_at i (row (OnReadable k operation) s).slots)
-    by false n = rw (ap as_readable (on_readable-other (readable_operation k operation) k s i (sym n))) u.from
+    by : (same : Bool) → same ≡ is_same i k → FreeAt i (row (OnReadable k operation) s).slots
+    by false n = stays-free i s (row (OnReadable k operation) s).slots (on_source-other operation k s i (sym n)) (u.bare, u.from)
     by true n =
         let is : i ≡ k = same_id i k (sym n) in
         let far : IsFar i j (OnReadable i operation) = subst (λ (x : StreamId). IsFar i j (OnReadable x operation)) (sym is) u.far.0 in
-        let free = source-free i j operation (readable_acts i s) far u.from in
-        let now = ap as_readable (on_readable-same (readable_operation i operation) i s u.source) in
-        rw (← is, now) free
+        subst (λ (x : StreamId). FreeAt i (row (OnReadable x operation) s).slots) is (asked-free i j operation s u.source far (u.bare, u.from))
+
+byte-unused : (i j : StreamId) (locks : List Lock) (k : StreamId) (operation : ByteOperation) (s : Slots) (es : List Effect) → Unused i j locks s (Byte k operation ∷ es) → Unused i j locks (row (Byte k operation) s).slots ((row (Byte k operation) s).caused ++ es)
+unfolding row
+byte-unused i j locks k operation s es u =
+    let e : Effect = Byte k operation in
+    let free = by (is_same i k) refl in
+    record {
+      source = row-sources i e s ∙ u.source;
+      bare = free.0;
+      sink = row-sinks j e s ∙ u.sink;
+      from = free.1;
+      into = rw (on_byte-writable (byte_operation k operation) k s j) u.into;
+      hosts = hosts-row i j e s u.hosts;
+      apart = rw (row-pipes e s tt) u.apart;
+      same = row-locks e s ∙ u.same;
+      far = row-far i j e s es tt u.far;
+    }
+  where
+    by : (same : Bool) → same ≡ is_same i k → FreeAt i (row (Byte k operation) s).slots
+    by false n = stays-free i s (row (Byte k operation) s).slots (on_byte-other (byte_operation k operation) k s i (sym n)) (u.bare, u.from)
+    by true n =
+        let is : i ≡ k = same_id i k (sym n) in
+        let far : IsFar i j (Byte i operation) = subst (λ (x : StreamId). IsFar i j (Byte x operation)) (sym is) u.far.0 in
+        subst (λ (x : StreamId). FreeAt i (row (Byte x operation) s).slots) is (told-free i j operation s far (u.bare, u.from))
 
 writable-unused : (i j : StreamId) (locks : List Lock) (k : StreamId) (operation : WritableOperation) (s : Slots) (es : List Effect) → Unused i j locks s (OnWritable k operation ∷ es) → Unused i j locks (row (OnWritable k operation) s).slots ((row (OnWritable k operation) s).caused ++ es)
 unfolding row
@@ -181,9 +280,10 @@ writable-unused i j locks k operation s es u =
     let e : Effect = OnWritable k operation in
     let to = writable_operation k operation in
     record {
-      source = on_writable-there to k s i (is_same i k) refl ∙ u.source;
+      source = row-sources i e s ∙ u.source;
+      bare = rw (on_writable-look as_byte (λ b c. refl) to k s i (is_same i k) refl) u.bare;
       sink = writable-there to k s j u.sink;
-      from = rw (on_writable-readable to k s i (is_same i k) refl) u.from;
+      from = rw (on_writable-source to k s i) u.from;
       into = by (is_same j k) refl;
       hosts = hosts-row i j e s u.hosts;
       apart = rw (row-pipes e s tt) u.apart;
@@ -205,13 +305,14 @@ unfolding row
 pipe-unused i j locks q operation s es u = by (slice_get s.pipes q.0) refl
   where
     by : (o : Option pipe.Slots) → slice_get s.pipes q.0 ≡ o → let d : Done = on_pipe_at (λ ends. pipe_operation q ends operation) q s o in Unused i j locks d.slots (d.caused ++ es)
-    by None e = record { source = u.source; sink = u.sink; from = u.from; into = u.into; hosts = u.hosts; apart = u.apart; same = u.same; far = u.far.1 }
+    by None e = record { source = u.source; bare = u.bare; sink = u.sink; from = u.from; into = u.into; hosts = u.hosts; apart = u.apart; same = u.same; far = u.far.1 }
     by (Some x) e =
         let b : pipe.Acts = pipe_operation q (ends_at x s) operation (starting x s.promises) in
         let c = pipe-causes q (ends_at x s) operation (starting x s.promises) tt in
         let a = apart_at i j s.pipes q.0 x u.apart e in
         record {
           source = u.source;
+          bare = u.bare;
           sink = u.sink;
           from = u.from;
           into = u.into;
@@ -224,6 +325,7 @@ pipe-unused i j locks q operation s es u = by (slice_get s.pipes q.0) refl
 apart-unused : (i j : StreamId) (locks : List Lock) (e : Effect) (s : Slots) (es : List Effect) → IsApart e → IsNoPipe e → Unused i j locks s (e ∷ es) → Unused i j locks (row e s).slots ((row e s).caused ++ es)
 apart-unused i j locks e s es a n u = record {
   source = rw (row-streams e s a) u.source;
+  bare = rw (row-streams e s a) u.bare;
   sink = rw (row-streams e s a) u.sink;
   from = rw (row-streams e s a) u.from;
   into = rw (row-streams e s a) u.into;
@@ -235,6 +337,7 @@ apart-unused i j locks e s es a n u = record {
 
 row-unused : (i j : StreamId) (locks : List Lock) (e : Effect) (s : Slots) (es : List Effect) → Unused i j locks s (e ∷ es) → Unused i j locks (row e s).slots ((row e s).caused ++ es)
 row-unused i j locks (OnReadable k operation) s es u = readable-unused i j locks k operation s es u
+row-unused i j locks (Byte k operation) s es u = byte-unused i j locks k operation s es u
 row-unused i j locks (OnWritable k operation) s es u = writable-unused i j locks k operation s es u
 row-unused i j locks (OnPipe q operation) s es u = pipe-unused i j locks q operation s es u
 row-unused i j locks e s es u = apart-unused i j locks e s es tt tt u
@@ -247,6 +350,7 @@ performed-unused i j locks d u = performed-kept (λ ms s es. Unused i j locks s 
 free-unused : (i j : StreamId) (s : Slots) → IsFree i j s → Unused i j s.locks s []
 free-unused i j s f = record {
   source = f.source;
+  bare = f.bare;
   sink = f.sink;
   from = record { unread = f.unread; requests = f.requests };
   into = record { unwritten = f.unwritten; queue = f.queue; request = f.close_request; flight = f.close_in_flight };
@@ -260,6 +364,7 @@ unused-free : (i j : StreamId) (locks : List Lock) (s z : Slots) → sound.IsRea
 unused-free i j locks s z r e d f g a u = record {
   reached = r;
   source = rw e u.source;
+  bare = rw e u.bare;
   sink = rw e u.sink;
   source_owner = (hosts-same i j s z (ap (map stream_shape) e) (ap (map transform_shape) d) u.hosts).source_kind;
   sink_owner = (hosts-same i j s z (ap (map stream_shape) e) (ap (map transform_shape) d) u.hosts).sink_kind;
@@ -275,7 +380,7 @@ unused-free i j locks s z r e d f g a u = record {
 
 begun-unused : (i j : StreamId) (s : Slots) (o : Option Job) → IsFree i j s → Unused i j s.locks (job_begun s o).slots (job_begun s o).caused
 begun-unused i j s None f = free-unused i j s f
-begun-unused i j s (Some job) f = let u = free-unused i j s f in record { source = u.source; sink = u.sink; from = u.from; into = u.into; hosts = hosts-same i j s _ refl refl u.hosts; apart = u.apart; same = refl; far = job-far i j job }
+begun-unused i j s (Some job) f = let u = free-unused i j s f in record { source = u.source; bare = u.bare; sink = u.sink; from = u.from; into = u.into; hosts = hosts-same i j s _ refl refl u.hosts; apart = u.apart; same = refl; far = job-far i j job }
 
 pub free-worked : (i j : StreamId) (s : Slots) → IsFree i j s → IsFree i j (after_job s)
 unfolding begin_job
@@ -295,6 +400,14 @@ few-pipes c s =
       make_readable = λ mark size start. l;
       make_writable = λ mark size start. l;
       make_transform = λ kind m n start. l;
+      get_byob = λ i is e. l;
+      release_byob = λ n closed i e. l;
+      read_into = λ n i closed room element least e f. l;
+      enqueue_bytes = λ i b e is some can. l;
+      finish_bytes = λ i e is can. l;
+      make_request = λ i reply is. l;
+      respond = λ r i b e is can. l;
+      make_bytes = λ mark auto start. l;
       get_reader = λ i e. l;
       get_writer = λ i e. l;
       release_reader = λ n closed i e. l;
@@ -334,11 +447,11 @@ all_of i j (x ∷ xs) f = let a = f 0 x refl in let b = all_of i j xs (λ n y e.
 
 -- what a call makes leaves what there was
 record Kept (i j : StreamId) (s z : Slots) : Type 0 where
-  source : slice_get z.streams i.0 ≡ Some (ReadableStream (readable_at i s))
+  source : slice_get z.streams i.0 ≡ Some (stream_at i s)
   sink : slice_get z.streams j.0 ≡ Some (WritableStream (writable_at j s))
 
 stream-kept : (i j : StreamId) (s z : Slots) (y : Stream) → Kept i j s z → Kept i j s (add_stream y z)
-stream-kept i j s z y k = record { source = place-append z.streams y (ReadableStream (readable_at i s)) i.0 k.source; sink = place-append z.streams y (WritableStream (writable_at j s)) j.0 k.sink }
+stream-kept i j s z y k = record { source = place-append z.streams y (stream_at i s) i.0 k.source; sink = place-append z.streams y (WritableStream (writable_at j s)) j.0 k.sink }
 
 call-kept : (i j : StreamId) (c : Call) (s : Slots) → IsFree i j s → Kept i j s (begin c s).done.slots
 call-kept i j c s f = begin-makes (Kept i j s) (record {
@@ -348,9 +461,11 @@ call-kept i j c s f = begin-makes (Kept i j s) (record {
   pipe = λ z source dest prevent signal promise k. record { source = k.source; sink = k.sink };
   signal = λ z k. record { source = k.source; sink = k.sink };
   transform = λ z kind w r change k. record { source = k.source; sink = k.sink };
+  bytes = λ z mark auto k. stream-kept i j s z (ByteStream (byte.set_up mark auto)) k;
+  byob_requests = λ z hs k. record { source = k.source; sink = k.sink };
   readable = λ z owner mark size k. stream-kept i j s z (ReadableStream (readable.set_up owner mark size)) k;
   writable = λ z owner mark size k. stream-kept i j s z (WritableStream (writable.set_up owner mark size)) k;
-}) c s (record { source = readable_there (slice_get s.streams i.0) f.source; sink = writable_there (slice_get s.streams j.0) f.sink })
+}) c s (record { source = source_there (slice_get s.streams i.0) f.source; sink = writable_there (slice_get s.streams j.0) f.sink })
 
 -- a call after whose effects nobody has them
 pub unused-called : (i j : StreamId) (locks : List Lock) (s : Slots) (c : Call) → sound.IsReached s → all_spare i j locks ≡ true → Unused i j locks (begin c s).done.slots (begin c s).done.caused → IsFree i j (after_call c s)
@@ -374,7 +489,7 @@ module _ (i j : StreamId) (s : Slots) (c : Call) (f : IsFree i j s) (leave : lea
   hosts : Hosts i j s
   hosts = reached-hosts i j s f.reached f.source f.sink f.source_owner f.sink_owner
 
-  begins : Begins i j none s (enters (owner_at i s) i c) (begin c s)
+  begins : Begins i j none s (enters (giver_at i s) i c) (begin c s)
   begins = call-begins i j none s f.source hosts.halved f.locks (λ n x e m. apart_at i j s.pipes n x f.apart e) c leave
 
   kept : Kept i j s d.slots
@@ -383,13 +498,17 @@ module _ (i j : StreamId) (s : Slots) (c : Call) (f : IsFree i j s) (leave : lea
   apart : all_apart i j d.slots.pipes ≡ true
   apart = all_of i j d.slots.pipes (λ n x e. begins.apart n x e (λ m. let l = place_below d.slots.pipes n x e in let k = few-pipes c s in absurd (omega (arith, l, k, m))))
 
+  at : slice_get d.slots.streams i.0 ≡ slice_get s.streams i.0
+  at = kept.source ∙ sym (source_there (slice_get s.streams i.0) f.source)
+
   begun : Unused i j d.slots.locks d.slots d.caused
   begun = record {
-    source = ap is_readable_stream kept.source;
+    source = rw at f.source;
+    bare = rw at f.bare;
     sink = ap is_writable_stream kept.sink;
-    from = rw (ap as_readable kept.source) (record { unread = f.unread; requests = f.requests });
+    from = rw at (record { unread = f.unread; requests = f.requests });
     into = rw (ap as_writable kept.sink) (record { unwritten = f.unwritten; queue = f.queue; request = f.close_request; flight = f.close_in_flight });
-    hosts = hosts-grown i j s d.slots kept.source kept.sink (ap owner_of kept.source ∙ sym (source-owner i s f.source)) (ap owner_of kept.sink ∙ sym (sink-owner j s f.sink)) (call-among c s) (halved-stays.call s c hosts.halved) hosts;
+    hosts = hosts-grown i j s d.slots (rw at f.source) kept.sink (ap owner_of at) (ap owner_of kept.sink ∙ sym (sink-owner j s f.sink)) (call-among c s) (halved-stays.call s c hosts.halved) hosts;
     apart = apart;
     same = refl;
     far = each-map (IsOuter i j) (IsFar i j) (outer-far i j) d.caused begins.outer;

@@ -1,5 +1,5 @@
 -- A link has room for one chunk over any run that leaves it alone.
-use Rattle.std.proofs.Common.{◌≡◌, ℕ, zero, suc, ◌+◌, ◌≤◌, true, List, [], ◌∷◌, length, Option, Some, None, slice_get, refl, ap, arith}
+use Rattle.std.proofs.Common.{◌≡◌, ℕ, zero, suc, ◌+◌, ◌≤◌, ◌||◌, true, List, [], ◌∷◌, length, Option, Some, None, slice_get, refl, ap, arith}
 use Rattle.ws_value.specs.declared.ids.PipeId.{PipeId}
 use Rattle.ws_value.specs.declared.ids.PromiseId.{PromiseId}
 use Rattle.ws_value.specs.declared.ids.SignalId.{SignalId}
@@ -23,13 +23,12 @@ use Rattle.ws_steps.specs.Pipes as pipe
 use Rattle.ws_steps.specs.Promises.{next_id, fresh, next_job}
 use Rattle.ws_steps.specs.Queues.{total_of}
 use Rattle.ws_steps.specs.Run.{Entry, Called, Worked, Heard, step, run, older, after_call, after_job}
-use Rattle.ws_steps.specs.Slots.{Slots, Stream, ReadableStream, Done, readable_at, writable_at, pipe_at, as_writable, as_pipe}
+use Rattle.ws_steps.specs.Slots.{Slots, Stream, ReadableStream, ByteStream, WritableStream, Done, is_readable_stream, is_byte_stream, as_source, writable_at, pipe_at, as_writable, as_pipe}
 use Rattle.ws_steps.specs.Turns.{performed}
 use Rattle.ws_laws.proofs.Lists.{Each, each-map}
-use Rattle.ws_laws.proofs.Tables.{readable_there}
 use Rattle.ws_laws.proofs.Truth.{and_left, and_right}
 use Rattle.ws_room_laws.proofs.Turns.{performed-kept}
-use Rattle.ws_pipe_laws.specs.PipeReads.{held_values, in_stream, in_streams, one_if}
+use Rattle.ws_pipe_laws.specs.PipeReads.{held_values, in_requests, in_stream, in_streams, one_if}
 use Rattle.ws_pipe_laws.proofs.PassingRuns.{Few}
 use Rattle.ws_writable_laws.proofs.Shape.{all}
 use Rattle.ws_link_laws.specs.Laws.{entry_leaves, all_leave}
@@ -42,7 +41,7 @@ use Rattle.ws_link_laws.proofs.Standing.{Sound}
 use Rattle.ws_link_laws.proofs.Turns.{row-turned}
 use Rattle.ws_link_laws.proofs.Calls.{IsOuter}
 use Rattle.ws_link_laws.proofs.Steps as steps
-use Rattle.ws_link_laws.proofs.Steps.{link-called, link-worked, link-sound}
+use Rattle.ws_link_laws.proofs.Steps.{the_stream, stream_at, source_there, link-called, link-worked, link-sound}
 use Rattle.ws_link_laws.proofs.Keeps.{entry-keeps}
 use Rattle.ws_link_laws.proofs.Begins as begins
 
@@ -131,14 +130,22 @@ requests_there p (z ∷ xs) (suc n) x e = let h = requests_there p xs n x e in o
 few_there : (p : PipeId) (s : Slots) (x : pipe.Slots) → slice_get s.pipes p.0 ≡ Some x → Few p s [] → in_streams p s.streams + length (held_values x.held) ≤ one_if x.reading
 few_there p s x e w = let f : in_streams p s.streams + 0 + length (held_values x.held) ≤ one_if x.reading = rw e at w in omega (arith, f)
 
+-- how the requests of a stream are seen
+requests-of : (p : PipeId) (o : Option Stream) → is_readable_stream o || is_byte_stream o ≡ true → in_stream p (the_stream o) ≡ in_requests p (as_source o).requests
+requests-of p None e = cc
+requests-of p (Some (ReadableStream r)) e = refl
+requests-of p (Some (ByteStream b)) e = refl
+requests-of p (Some (WritableStream w)) e = cc
+
 one-place : (i j : StreamId) (p : PipeId) (s : Slots) → IsLink i j p s → HasRoom j p s → taken_places i j p s ≤ 1
 one-place i j p s l h =
     let so = link-sound i j p s l in
     let a = places_total (writable_at j s).queue h.sized in
     let b = few_there p s (pipe_at p s) l.there so.few in
-    let c = requests_there p s.streams i.0 (ReadableStream (readable_at i s)) (readable_there (slice_get s.streams i.0) l.source) in
+    let c = requests_there p s.streams i.0 (stream_at i s) (source_there (slice_get s.streams i.0) l.source) in
+    let d = requests-of p (slice_get s.streams i.0) l.source in
     let r = h.room in
-    omega (arith, a, b, c, r)
+    omega (arith, a, b, c, d, r)
 
 pub each_link_has_room : EachLinkHasRoom
 each_link_has_room i j p s entries l h e = let k = run-room i j p entries s l e h in record { room = k.1; one = one-place i j p (run entries s) k.0 k.1 }

@@ -1,5 +1,5 @@
 -- Whose the ends of a link are: the host's own, or halves of transform streams of the host's kind. No effect changes it.
-use Rattle.std.proofs.Common.{◌≡◌, ℕ, zero, suc, Bool, true, false, nat_eq, List, [], ◌∷◌, map, Option, Some, None, slice_get, refl, sym, ap, subst, ◌∙◌, arith}
+use Rattle.std.proofs.Common.{◌≡◌, ℕ, zero, suc, Bool, true, false, ◌||◌, nat_eq, List, [], ◌∷◌, map, Option, Some, None, slice_get, refl, sym, ap, subst, ◌∙◌, arith}
 use Rattle.ws_value.specs.declared.ids.StreamId.{StreamId}
 use Rattle.ws_steps.specs.declared.calls.HostCall.{HostCall}
 use Rattle.ws_steps.specs.declared.effects.Effect.{Effect}
@@ -8,14 +8,14 @@ use Rattle.ws_steps.specs.declared.effects.Owner.TheVariants.{Host, HalfOf}
 use Rattle.ws_steps.specs.declared.transform.Kind.TheVariants.{Host as HostKind}
 use Rattle.ws_steps.specs.declared.transform.TransformId.{TransformId}
 use Rattle.ws_steps.specs.Histories.{is_same}
-use Rattle.ws_steps.specs.Slots.{Slots, Stream, ReadableStream, WritableStream, empty, is_writable_stream, no_transform, as_transform, has_readable, has_writable, owner_of, owner_at, readable_at, writable_at, transform_at}
+use Rattle.ws_steps.specs.Slots.{Slots, Stream, ReadableStream, ByteStream, WritableStream, empty, is_readable_stream, is_byte_stream, is_writable_stream, no_transform, as_transform, has_readable, has_source, has_byte, has_writable, owner_of, owner_at, readable_at, writable_at, transform_at}
 use Rattle.ws_steps.specs.Transform as transform
 use Rattle.ws_steps.specs.Turns.{row}
 use Rattle.ws_laws.proofs.Halves.{Among, Halved, halved-empty, run-halved}
-use Rattle.ws_laws.proofs.Shapes.{StreamShape, ReadableOf, WritableOf, TransformShape, stream_shape, transform_shape, stream_shapes, transform_shapes, map-there, owner-told, row-owner, row-stream_shapes, row-transform_shapes}
+use Rattle.ws_laws.proofs.Shapes.{StreamShape, ReadableOf, BytesOf, WritableOf, TransformShape, stream_shape, transform_shape, stream_shapes, transform_shapes, map-there, owner-told, row-owner, row-stream_shapes, row-transform_shapes}
 use Rattle.ws_laws.proofs.Tables.{eq_numbers, unequal_numbers, same_id, readable_there, writable_there}
 use Rattle.ws_laws.proofs.TransformDoes.{IsCallOf}
-use Rattle.ws_link_laws.specs.Link.{Ear, OfSink, OfTransform, silence, ear_by, ear_at, heard_call}
+use Rattle.ws_link_laws.specs.Link.{Ear, OfSink, OfTransform, Giver, OfSource, OfByteSource, OfHalf, silence, ear_by, ear_at, heard_call, giver_by, giver_at}
 use Rattle.ws_link_laws.specs.Sound.{IsReached, IsHosts}
 use Rattle.ws_link_laws.proofs.Telling.{is_of, is_in}
 
@@ -37,6 +37,67 @@ shape-same t s z e = transform-told z.transforms t.0 ∙ (ap (λ (ts : List Tran
 
 pub owner-same : (i : StreamId) (s z : Slots) → stream_shapes z ≡ stream_shapes s → owner_at i z ≡ owner_at i s
 owner-same i s z e = let a = owner-told z.streams i.0 in let b = owner-told s.streams i.0 in rw (a, b, e) refl
+
+-- by what chunks come to a source is told by its shape
+
+abbrev pub shape_giver : Option StreamShape → Giver
+shape_giver None = OfSource
+shape_giver (Some (ReadableOf o)) = giver_by false o
+shape_giver (Some BytesOf) = OfByteSource
+shape_giver (Some (WritableOf o)) = giver_by false o
+
+pub giver-told : (xs : List Stream) (n : ℕ) → giver_by (is_byte_stream (slice_get xs n)) (owner_of (slice_get xs n)) ≡ shape_giver (slice_get (map stream_shape xs) n)
+giver-told [] n = refl
+giver-told (ReadableStream r ∷ xs) zero = refl
+giver-told (ByteStream b ∷ xs) zero = refl
+giver-told (WritableStream w ∷ xs) zero = refl
+giver-told (x ∷ xs) (suc n) = giver-told xs n
+
+pub giver-same : (i : StreamId) (s z : Slots) → stream_shapes z ≡ stream_shapes s → giver_at i z ≡ giver_at i s
+giver-same i s z e = giver-told z.streams i.0 ∙ (ap (λ (ys : List StreamShape). shape_giver (slice_get ys i.0)) e ∙ sym (giver-told s.streams i.0))
+
+pub row-giver : (i : StreamId) (e : Effect) (s : Slots) → giver_at i (row e s).slots ≡ giver_at i s
+row-giver i e s = giver-same i s (row e s).slots (row-stream_shapes e s)
+
+-- of which kind a stream is, too
+
+abbrev is_writable_shape : Option StreamShape → Bool
+is_writable_shape None = false
+is_writable_shape (Some (ReadableOf o)) = false
+is_writable_shape (Some BytesOf) = false
+is_writable_shape (Some (WritableOf o)) = true
+
+abbrev is_source_shape : Option StreamShape → Bool
+is_source_shape None = false
+is_source_shape (Some (ReadableOf o)) = true
+is_source_shape (Some BytesOf) = true
+is_source_shape (Some (WritableOf o)) = false
+
+sink-told : (xs : List Stream) (n : ℕ) → is_writable_stream (slice_get xs n) ≡ is_writable_shape (slice_get (map stream_shape xs) n)
+sink-told [] n = refl
+sink-told (ReadableStream r ∷ xs) zero = refl
+sink-told (ByteStream b ∷ xs) zero = refl
+sink-told (WritableStream w ∷ xs) zero = refl
+sink-told (x ∷ xs) (suc n) = sink-told xs n
+
+source-told : (xs : List Stream) (n : ℕ) → is_readable_stream (slice_get xs n) || is_byte_stream (slice_get xs n) ≡ is_source_shape (slice_get (map stream_shape xs) n)
+source-told [] n = refl
+source-told (ReadableStream r ∷ xs) zero = refl
+source-told (ByteStream b ∷ xs) zero = refl
+source-told (WritableStream w ∷ xs) zero = refl
+source-told (x ∷ xs) (suc n) = source-told xs n
+
+pub row-sinks : (j : StreamId) (e : Effect) (s : Slots) → has_writable j (row e s).slots ≡ has_writable j s
+row-sinks j e s = sink-told (row e s).slots.streams j.0 ∙ (ap (λ (ys : List StreamShape). is_writable_shape (slice_get ys j.0)) (row-stream_shapes e s) ∙ sym (sink-told s.streams j.0))
+
+pub row-sources : (i : StreamId) (e : Effect) (s : Slots) → has_source i (row e s).slots ≡ has_source i s
+row-sources i e s = source-told (row e s).slots.streams i.0 ∙ (ap (λ (ys : List StreamShape). is_source_shape (slice_get ys i.0)) (row-stream_shapes e s) ∙ sym (source-told s.streams i.0))
+
+-- a half is no byte stream, and its own transform stream's
+pub half-giver : (b : Bool) (o : Owner) (t : TransformId) → giver_by b o ≡ OfHalf t → (b ≡ false) × (o ≡ HalfOf t)
+half-giver true o t e = cc
+half-giver false Host t e = cc
+half-giver false (HalfOf u) t e = (refl, cc)
 
 abbrev SameShape : Slots → Slots → Owner → Type 0
 SameShape s z Host = Unit {0}
@@ -77,9 +138,14 @@ abbrev map_shape : Option Stream → Option StreamShape
 map_shape None = None
 map_shape (Some x) = Some (stream_shape x)
 
+abbrev pub giver_shape : Giver → StreamShape
+giver_shape OfSource = ReadableOf Host
+giver_shape OfByteSource = BytesOf
+giver_shape (OfHalf t) = ReadableOf (HalfOf t)
+
 -- the two ends, and each transform stream has halves of its own
 pub record Hosts (i j : StreamId) (s : Slots) : Type 0 where
-  pub source : slice_get (stream_shapes s) i.0 ≡ Some (ReadableOf (owner_at i s))
+  pub source : slice_get (stream_shapes s) i.0 ≡ Some (giver_shape (giver_at i s))
   pub sink : slice_get (stream_shapes s) j.0 ≡ Some (WritableOf (owner_at j s))
   pub source_kind : IsHosts s (owner_at i s)
   pub sink_kind : IsHosts s (owner_at j s)
@@ -87,7 +153,7 @@ pub record Hosts (i j : StreamId) (s : Slots) : Type 0 where
 
 -- the one of them from which chunks come
 pub record Source (i : StreamId) (s : Slots) : Type 0 where
-  pub shape : slice_get (stream_shapes s) i.0 ≡ Some (ReadableOf (owner_at i s))
+  pub shape : slice_get (stream_shapes s) i.0 ≡ Some (giver_shape (giver_at i s))
   pub kind : IsHosts s (owner_at i s)
   pub halved : Halved s
 
@@ -96,8 +162,28 @@ hosts-source i j s h = record { shape = h.source; kind = h.source_kind; halved =
 
 -- from their records, and back
 
-pub source-shape : (i : StreamId) (s z : Slots) → slice_get z.streams i.0 ≡ Some (ReadableStream (readable_at i s)) → slice_get (stream_shapes z) i.0 ≡ Some (ReadableOf (owner_at i z))
-source-shape i s z e = map-there stream_shape z.streams i.0 (ReadableStream (readable_at i s)) e ∙ ap (λ (w : Owner). Some (ReadableOf w)) (sym (ap owner_of e))
+shape-there : (xs : List Stream) (n : ℕ) → slice_get (map stream_shape xs) n ≡ map_shape (slice_get xs n)
+shape-there [] n = refl
+shape-there (x ∷ xs) zero = refl
+shape-there (x ∷ xs) (suc n) = shape-there xs n
+
+shape-owned : (o : Owner) → ReadableOf o ≡ giver_shape (giver_by false o)
+shape-owned Host = refl
+shape-owned (HalfOf t) = refl
+
+source_shape : (o : Option Stream) → is_readable_stream o || is_byte_stream o ≡ true → map_shape o ≡ Some (giver_shape (giver_by (is_byte_stream o) (owner_of o)))
+source_shape None e = cc
+source_shape (Some (ReadableStream r)) e = ap (λ (x : StreamShape). Some x) (shape-owned r.owner)
+source_shape (Some (ByteStream b)) e = refl
+source_shape (Some (WritableStream w)) e = cc
+
+pub source-shape : (i : StreamId) (s : Slots) → has_source i s ≡ true → slice_get (stream_shapes s) i.0 ≡ Some (giver_shape (giver_at i s))
+source-shape i s e = shape-there s.streams i.0 ∙ source_shape (slice_get s.streams i.0) e
+
+pub readable-shape : (i : StreamId) (s : Slots) → has_readable i s ≡ true → slice_get (stream_shapes s) i.0 ≡ Some (ReadableOf (owner_at i s))
+readable-shape i s e =
+    let there = readable_there (slice_get s.streams i.0) e in
+    map-there stream_shape s.streams i.0 (ReadableStream (readable_at i s)) there ∙ ap (λ (w : Owner). Some (ReadableOf w)) (sym (ap owner_of there))
 
 pub sink-shape : (j : StreamId) (s z : Slots) → slice_get z.streams j.0 ≡ Some (WritableStream (writable_at j s)) → slice_get (stream_shapes z) j.0 ≡ Some (WritableOf (owner_at j z))
 sink-shape j s z e = map-there stream_shape z.streams j.0 (WritableStream (writable_at j s)) e ∙ ap (λ (w : Owner). Some (WritableOf w)) (sym (ap owner_of e))
@@ -111,9 +197,9 @@ sink-owner j s there = ap owner_of (writable_there (slice_get s.streams j.0) the
 pub reached-halved : (s : Slots) → IsReached s → Halved s
 reached-halved s (xs, e) = rw e (run-halved xs empty halved-empty)
 
-pub reached-hosts : (i j : StreamId) (s : Slots) → IsReached s → has_readable i s ≡ true → has_writable j s ≡ true → IsHosts s (owner_at i s) → IsHosts s (owner_at j s) → Hosts i j s
+pub reached-hosts : (i j : StreamId) (s : Slots) → IsReached s → has_source i s ≡ true → has_writable j s ≡ true → IsHosts s (owner_at i s) → IsHosts s (owner_at j s) → Hosts i j s
 reached-hosts i j s r a b o p = record {
-  source = source-shape i s s (readable_there (slice_get s.streams i.0) a);
+  source = source-shape i s a;
   sink = sink-shape j s s (writable_there (slice_get s.streams j.0) b);
   source_kind = o;
   sink_kind = p;
@@ -125,25 +211,22 @@ reached-hosts i j s r a b o p = record {
 write_by : (o : Option Stream) (w : Owner) → map_shape o ≡ Some (WritableOf w) → is_writable_stream o ≡ true
 write_by None w e = cc
 write_by (Some (ReadableStream r)) w e = cc
+write_by (Some (ByteStream b)) w e = cc
 write_by (Some (WritableStream r)) w e = refl
-
-shape-there : (xs : List Stream) (n : ℕ) → slice_get (map stream_shape xs) n ≡ map_shape (slice_get xs n)
-shape-there [] n = refl
-shape-there (x ∷ xs) zero = refl
-shape-there (x ∷ xs) (suc n) = shape-there xs n
 
 pub sink-there : (i j : StreamId) (s : Slots) → Hosts i j s → has_writable j s ≡ true
 sink-there i j s h = write_by (slice_get s.streams j.0) (owner_at j s) (sym (shape-there s.streams j.0) ∙ h.sink)
 
-pub reached-source : (i : StreamId) (s : Slots) → IsReached s → has_readable i s ≡ true → IsHosts s (owner_at i s) → Source i s
-reached-source i s r a o = record { shape = source-shape i s s (readable_there (slice_get s.streams i.0) a); kind = o; halved = reached-halved s r }
+pub reached-source : (i : StreamId) (s : Slots) → IsReached s → has_source i s ≡ true → IsHosts s (owner_at i s) → Source i s
+reached-source i s r a o = record { shape = source-shape i s a; kind = o; halved = reached-halved s r }
 
 -- each effect leaves them so
 
 pub source-same : (i : StreamId) (s z : Slots) → stream_shapes z ≡ stream_shapes s → transform_shapes z ≡ transform_shapes s → Source i s → Source i z
 source-same i s z e f h =
     let a = owner-same i s z e in
-    record { shape = rw (e, a) h.shape; kind = rw a (hosts-shaped s z (owner_at i s) (same-shapes s z (owner_at i s) f) h.kind); halved = rw (e, f) h.halved }
+    let g = giver-same i s z e in
+    record { shape = rw (e, g) h.shape; kind = rw a (hosts-shaped s z (owner_at i s) (same-shapes s z (owner_at i s) f) h.kind); halved = rw (e, f) h.halved }
 
 pub source-row : (i : StreamId) (e : Effect) (s : Slots) → Source i s → Source i (row e s).slots
 source-row i e s h = source-same i s (row e s).slots (row-stream_shapes e s) (row-transform_shapes e s) h
@@ -152,8 +235,9 @@ pub hosts-same : (i j : StreamId) (s z : Slots) → stream_shapes z ≡ stream_s
 hosts-same i j s z e f h =
     let a = owner-same i s z e in
     let b = owner-same j s z e in
+    let g = giver-same i s z e in
     record {
-      source = rw (e, a) h.source;
+      source = rw (e, g) h.source;
       sink = rw (e, b) h.sink;
       source_kind = rw a (hosts-shaped s z (owner_at i s) (same-shapes s z (owner_at i s) f) h.source_kind);
       sink_kind = rw b (hosts-shaped s z (owner_at j s) (same-shapes s z (owner_at j s) f) h.sink_kind);
@@ -165,10 +249,10 @@ hosts-row i j e s h = hosts-same i j s (row e s).slots (row-stream_shapes e s) (
 
 -- and what is made beside them
 
-pub hosts-grown : (i j : StreamId) (s z : Slots) → slice_get z.streams i.0 ≡ Some (ReadableStream (readable_at i s)) → slice_get z.streams j.0 ≡ Some (WritableStream (writable_at j s)) → owner_at i z ≡ owner_at i s → owner_at j z ≡ owner_at j s
+pub hosts-grown : (i j : StreamId) (s z : Slots) → has_source i z ≡ true → slice_get z.streams j.0 ≡ Some (WritableStream (writable_at j s)) → owner_at i z ≡ owner_at i s → owner_at j z ≡ owner_at j s
     → Among (transform_shapes s) (transform_shapes z) → Halved z → Hosts i j s → Hosts i j z
 hosts-grown i j s z e f a b m halved h = record {
-  source = source-shape i s z e;
+  source = source-shape i z e;
   sink = sink-shape j s z f;
   source_kind = rw a (hosts-shaped s z (owner_at i s) (grown-shape s z (owner_at i s) m h.source_kind) h.source_kind);
   sink_kind = rw b (hosts-shaped s z (owner_at j s) (grown-shape s z (owner_at j s) m h.sink_kind) h.sink_kind);
@@ -195,12 +279,12 @@ unequal_transforms : (t k : TransformId) → nat_eq t.0 k.0 ≡ false → t ≡ 
 unequal_transforms t k e is = unequal_numbers t.0 k.0 e (ap (λ (x : TransformId). x.0) is)
 
 -- what transform stream k is to a source: it is the source's own, or another
-pub data AtSource (i : StreamId) (o : Owner) (k : TransformId) (x : transform.Slots) : Type 0 where
-  OwnSource : is_of o k ≡ true → x.readable ≡ i → x.kind ≡ HostKind → AtSource i o k x
-  OtherSource : is_of o k ≡ false → is_same i x.readable ≡ false → AtSource i o k x
+pub data AtSource (i : StreamId) (g : Giver) (k : TransformId) (x : transform.Slots) : Type 0 where
+  OwnSource : is_of g k ≡ true → x.readable ≡ i → x.kind ≡ HostKind → AtSource i g k x
+  OtherSource : is_of g k ≡ false → is_same i x.readable ≡ false → AtSource i g k x
 
-pub at-source : (i : StreamId) (s : Slots) (k : TransformId) (x : transform.Slots) → Source i s → slice_get s.transforms k.0 ≡ Some x → AtSource i (owner_at i s) k x
-at-source i s k x h e = by (owner_at i s) refl h.shape h.kind
+pub at-source : (i : StreamId) (s : Slots) (k : TransformId) (x : transform.Slots) → Source i s → slice_get s.transforms k.0 ≡ Some x → AtSource i (giver_at i s) k x
+at-source i s k x h e = by (giver_at i s) refl h.shape
   where
     there : slice_get (transform_shapes s) k.0 ≡ Some (transform_shape x)
     there = map-there transform_shape s.transforms k.0 x e
@@ -211,16 +295,19 @@ at-source i s k x h e = by (owner_at i s) refl h.shape h.kind
     own : slice_get (stream_shapes s) i.0 ≡ Some (ReadableOf (HalfOf k)) → x.readable ≡ i
     own shape = let y = h.halved.readable i k shape in let same : y.0 ≡ transform_shape x = (let a = there in let f = y.1.0 in cc) in let g = y.1.1 in ap (λ (z : TransformShape). z.readable) (sym same) ∙ g
 
-    by_number : (t : TransformId) → slice_get (stream_shapes s) i.0 ≡ Some (ReadableOf (HalfOf t)) → IsHosts s (HalfOf t) → (b : Bool) → b ≡ nat_eq t.0 k.0 → AtSource i (HalfOf t) k x
+    by_number : (t : TransformId) → slice_get (stream_shapes s) i.0 ≡ Some (ReadableOf (HalfOf t)) → IsHosts s (HalfOf t) → (b : Bool) → b ≡ nat_eq t.0 k.0 → AtSource i (OfHalf t) k x
     by_number t shape kind true n =
         let is : t ≡ k = same_transform t k (sym n) in
         let at : transform_at t s ≡ x = rw (is, e) refl in
         OwnSource (sym n) (own (rw is at shape)) (rw at at kind)
     by_number t shape kind false n = OtherSource (sym n) (unlike i x.readable (ReadableOf (HalfOf t)) (ReadableOf (HalfOf k)) (stream_shapes s) shape half (λ f. let is : t ≡ k = cc in unequal_transforms t k (sym n) is))
 
-    by : (o : Owner) → o ≡ owner_at i s → slice_get (stream_shapes s) i.0 ≡ Some (ReadableOf o) → IsHosts s o → AtSource i o k x
-    by Host f shape kind = OtherSource refl (unlike i x.readable (ReadableOf Host) (ReadableOf (HalfOf k)) (stream_shapes s) shape half (λ f. cc))
-    by (HalfOf t) f shape kind = by_number t shape kind (nat_eq t.0 k.0) refl
+    by : (g : Giver) → g ≡ giver_at i s → slice_get (stream_shapes s) i.0 ≡ Some (giver_shape g) → AtSource i g k x
+    by OfSource f shape = OtherSource refl (unlike i x.readable (ReadableOf Host) (ReadableOf (HalfOf k)) (stream_shapes s) shape half (λ f. cc))
+    by OfByteSource f shape = OtherSource refl (unlike i x.readable BytesOf (ReadableOf (HalfOf k)) (stream_shapes s) shape half (λ f. cc))
+    by (OfHalf t) f shape =
+        let own : owner_at i s ≡ HalfOf t = (half-giver (has_byte i s) (owner_at i s) t (sym f)).1 in
+        by_number t shape (rw own at h.kind) (nat_eq t.0 k.0) refl
 
 -- what it is to a destination
 pub data AtSink (j : StreamId) (w : Ear) (k : TransformId) (x : transform.Slots) : Type 0 where
@@ -268,9 +355,10 @@ at-sink i j s k x h e = by (owner_at j s) refl h.sink h.sink_kind
 
 -- a transform stream that isn't there is neither's
 
-none-of : (s : Slots) (k : TransformId) (o : Owner) → slice_get s.transforms k.0 ≡ None → IsHosts s o → is_of o k ≡ false
-none-of s k Host e h = refl
-none-of s k (HalfOf t) e h = by (nat_eq t.0 k.0) refl
+none-of : (s : Slots) (k : TransformId) (b : Bool) (o : Owner) → slice_get s.transforms k.0 ≡ None → IsHosts s o → is_of (giver_by b o) k ≡ false
+none-of s k true o e h = refl
+none-of s k false Host e h = refl
+none-of s k false (HalfOf t) e h = by (nat_eq t.0 k.0) refl
   where
     by : (b : Bool) → b ≡ nat_eq t.0 k.0 → nat_eq t.0 k.0 ≡ false
     by false n = sym n
@@ -280,21 +368,21 @@ none-of s k (HalfOf t) e h = by (nat_eq t.0 k.0) refl
         let kind : no_transform.kind ≡ HostKind = rw none at h in
         cc
 
-in-of : (j : StreamId) (s : Slots) (k : TransformId) (o : Owner) → is_in (ear_by j s o) k ≡ is_of o k
+in-of : (j : StreamId) (s : Slots) (k : TransformId) (o : Owner) → is_in (ear_by j s o) k ≡ is_of (giver_by false o) k
 in-of j s k Host = refl
 in-of j s k (HalfOf t) = refl
 
-pub no-source : (i : StreamId) (s : Slots) (k : TransformId) → Source i s → slice_get s.transforms k.0 ≡ None → is_of (owner_at i s) k ≡ false
-no-source i s k h e = none-of s k (owner_at i s) e h.kind
+pub no-source : (i : StreamId) (s : Slots) (k : TransformId) → Source i s → slice_get s.transforms k.0 ≡ None → is_of (giver_at i s) k ≡ false
+no-source i s k h e = none-of s k (has_byte i s) (owner_at i s) e h.kind
 
 pub no-sink : (i j : StreamId) (s : Slots) (k : TransformId) → Hosts i j s → slice_get s.transforms k.0 ≡ None → is_in (ear_at j s) k ≡ false
-no-sink i j s k h e = in-of j s k (owner_at j s) ∙ none-of s k (owner_at j s) e h.sink_kind
+no-sink i j s k h e = in-of j s k (owner_at j s) ∙ none-of s k false (owner_at j s) e h.sink_kind
 
 -- a transform stream has one readable half
 pub one-readable : (i k : StreamId) (t : TransformId) (s : Slots) → Halved s → has_readable i s ≡ true → has_readable k s ≡ true → owner_at i s ≡ HalfOf t → owner_at k s ≡ HalfOf t → i ≡ k
 one-readable i k t s halved a b o p =
-    let x = halved.readable i t (source-shape i s s (readable_there (slice_get s.streams i.0) a) ∙ ap (λ (w : Owner). Some (ReadableOf w)) o) in
-    let y = halved.readable k t (source-shape k s s (readable_there (slice_get s.streams k.0) b) ∙ ap (λ (w : Owner). Some (ReadableOf w)) p) in
+    let x = halved.readable i t (readable-shape i s a ∙ ap (λ (w : Owner). Some (ReadableOf w)) o) in
+    let y = halved.readable k t (readable-shape k s b ∙ ap (λ (w : Owner). Some (ReadableOf w)) p) in
     let e = x.1.0 in
     let f = y.1.0 in
     let same : x.0 ≡ y.0 = cc in

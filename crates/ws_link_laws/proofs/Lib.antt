@@ -3,6 +3,7 @@ pub mod Hosts
 pub mod Ahead
 pub mod Sinks
 pub mod Sources
+pub mod ByteSources
 pub mod Pipes
 pub mod Unheard
 pub mod Moves

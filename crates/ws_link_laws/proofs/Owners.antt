@@ -3,16 +3,17 @@ use Rattle.std.proofs.Common.{◌≡◌, ℕ, zero, suc, true, List, [], ◌∷�
 use Rattle.ws_value.specs.declared.ids.StreamId.{StreamId}
 use Rattle.ws_steps.specs.declared.effects.Effect.{Effect}
 use Rattle.ws_steps.specs.Run.{Entry, run}
-use Rattle.ws_steps.specs.Slots.{Slots, Stream, owner_at, has_readable, has_writable}
+use Rattle.ws_steps.specs.Slots.{Slots, Stream, owner_at, has_writable}
 use Rattle.ws_laws.proofs.Begin.{begin-makes}
 use Rattle.ws_laws.proofs.Halves.{run-among}
 use Rattle.ws_laws.proofs.Shapes.{StreamShape, stream_shape, stream_shapes, owner-told, row-stream_shapes}
-use Rattle.ws_laws.proofs.Tables.{readable_there, writable_there}
+use Rattle.ws_laws.proofs.Tables.{writable_there}
 use Rattle.ws_laws.proofs.Walker as walker
 use Rattle.ws_laws.proofs.Walker.{Stays}
-use Rattle.ws_link_laws.specs.Link.{ear_at}
+use Rattle.ws_link_laws.specs.Link.{ear_at, giver_at}
 use Rattle.ws_link_laws.specs.Sound.{IsHosts}
-use Rattle.ws_link_laws.proofs.Hosts.{source-shape, sink-shape, ear-same, grown-shape}
+use Rattle.ws_link_laws.proofs.Hosts.{giver_shape, giver-told, source-shape, sink-shape, ear-same, grown-shape}
+use Rattle.ws_steps.specs.Slots.{has_source}
 
 abbrev Stands : StreamId → StreamShape → Slots → List Effect → Type 0
 Stands k y s es = slice_get (stream_shapes s) k.0 ≡ Some y
@@ -32,6 +33,8 @@ stands-stays k y = record {
     pipe = λ z source dest prevent signal promise h. h;
     signal = λ z h. h;
     transform = λ z kind w r change h. h;
+    bytes = λ z mark auto h. more z.streams k.0 _ y h;
+    byob_requests = λ z hs h. h;
     readable = λ z o mark size h. more z.streams k.0 _ y h;
     writable = λ z o mark size h. more z.streams k.0 _ y h;
   }) c s h;
@@ -47,8 +50,17 @@ stands-run k y xs s h =
     let b = owner-told s.streams k.0 in
     rw (a, b, after, h) refl
 
-pub source-stays : (i : StreamId) (xs : List Entry) (s : Slots) → has_readable i s ≡ true → owner_at i (run xs s) ≡ owner_at i s
-source-stays i xs s there = stands-run i _ xs s (source-shape i s s (readable_there (slice_get s.streams i.0) there))
+pub source-stays : (i : StreamId) (xs : List Entry) (s : Slots) → has_source i s ≡ true → owner_at i (run xs s) ≡ owner_at i s
+source-stays i xs s there = stands-run i _ xs s (source-shape i s there)
+
+pub giver-stays : (i : StreamId) (xs : List Entry) (s : Slots) → has_source i s ≡ true → giver_at i (run xs s) ≡ giver_at i s
+giver-stays i xs s there =
+    let y : StreamShape = giver_shape (giver_at i s) in
+    let now = source-shape i s there in
+    let after = walker.run-stays (Stands i y) (stands-stays i y) (λ z g. g) xs s now in
+    let a = giver-told (run xs s).streams i.0 in
+    let b = giver-told s.streams i.0 in
+    rw (a, b, after, now) refl
 
 pub sink-stays : (j : StreamId) (xs : List Entry) (s : Slots) → has_writable j s ≡ true → owner_at j (run xs s) ≡ owner_at j s
 sink-stays j xs s there = stands-run j _ xs s (sink-shape j s s (writable_there (slice_get s.streams j.0) there))

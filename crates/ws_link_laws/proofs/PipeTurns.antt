@@ -4,7 +4,6 @@ use Rattle.ws_value.specs.declared.ids.PipeId.{PipeId}
 use Rattle.ws_value.specs.declared.ids.StreamId.{StreamId}
 use Rattle.ws_value.specs.declared.value.Value.{Value}
 use Rattle.ws_steps.specs.declared.effects.Effect.{Effect}
-use Rattle.ws_steps.specs.declared.effects.Owner.{Owner}
 use Rattle.ws_steps.specs.declared.effects.Effect.TheVariants.{Pipe as OnPipe}
 use Rattle.ws_steps.specs.declared.pipes.PipeOperation.{PipeOperation}
 use Rattle.ws_steps.specs.declared.pipes.PipeOperation.TheVariants as names
@@ -15,7 +14,7 @@ use Rattle.ws_steps.specs.Pipes as pipe
 use Rattle.ws_steps.specs.Pipes.{write_chunk}
 use Rattle.ws_steps.specs.Promises.{Table}
 use Rattle.ws_steps.specs.Readable as readable
-use Rattle.ws_steps.specs.Slots.{Slots, Done, ends_at, owner_at, readable_at, writable_at, pipe_at, as_pipe, on_pipe_at}
+use Rattle.ws_steps.specs.Slots.{Slots, Done, ends_at, source_at, writable_at, pipe_at, as_pipe, on_pipe_at}
 use Rattle.ws_steps.specs.Turns.{row}
 use Rattle.ws_steps.specs.Writable as writable
 use Rattle.ws_steps.specs.Writable.{is_writable, is_closing}
@@ -24,7 +23,6 @@ use Rattle.ws_flow.specs.Told.{Open, Closed, Told, told, then_told}
 use Rattle.ws_flow.proofs.Told.{short_refl}
 use Rattle.ws_laws.proofs.Lists.{Each, each-append, each-map}
 use Rattle.ws_laws.proofs.PipeDoes.{PipeCauses, pipe-causes, is_looking}
-use Rattle.ws_laws.proofs.Shapes.{row-owner}
 use Rattle.ws_laws.proofs.Tables.{eq_numbers, unequal_numbers}
 use Rattle.ws_pipe_laws.specs.PipeMoves.{starting}
 use Rattle.ws_pipe_laws.specs.PipeReads.{held_values}
@@ -42,6 +40,8 @@ use Rattle.ws_link_laws.proofs.Pipes.{rank, chunk_in, IsCalm, IsNoGo, is_writing
 use Rattle.ws_link_laws.proofs.Moves.{pipe-passes}
 use Rattle.ws_link_laws.proofs.SourceTurns.{Turned}
 use Rattle.ws_link_laws.proofs.Standing.{IsInner, inner-later, IsNotLast, IsStill, AtEnd, at_end-append, State, Sound, split}
+use Rattle.ws_link_laws.specs.Link.{giver_at, Giver}
+use Rattle.ws_link_laws.proofs.Hosts.{row-giver}
 
 -- what a pipe causes calls nothing, brings no chunk to a pipe, and lets nothing into a stream
 
@@ -51,7 +51,7 @@ caused-hands w q source dest e c = grind (arith, c)
 pub caused-chunks : (p q : PipeId) (source dest : StreamId) (e : Effect) → PipeCauses q source dest e → IsSilent (chunks p) e
 caused-chunks p q source dest e c = grind (arith, c)
 
-caused-coming : (o : Owner) (i : StreamId) (q : PipeId) (source dest : StreamId) (e : Effect) → PipeCauses q source dest e → IsSilent (coming o i) e
+caused-coming : (o : Giver) (i : StreamId) (q : PipeId) (source dest : StreamId) (e : Effect) → PipeCauses q source dest e → IsSilent (coming o i) e
 caused-coming o i q source dest e c = grind (arith, c)
 
 -- a pipe to another destination writes nothing to j
@@ -147,7 +147,7 @@ module _ (i j : StreamId) (p : PipeId) (s : Slots) (operation : PipeOperation) (
   C = tells (chunks p) es
 
   abbrev Q : Told Value
-  Q = then_told (in_source (readable_at i s)) (tells (coming (owner_at i s) i) es)
+  Q = then_told (in_source (source_at i s)) (tells (coming (giver_at i s) i) es)
 
   abbrev K : Told Value
   K = then_told (in_sink (writable_at j s)) (tells (writes j) es)
@@ -176,7 +176,7 @@ module _ (i j : StreamId) (p : PipeId) (s : Slots) (operation : PipeOperation) (
 
   finds : Finds (ends_at x s) K Q
   finds = record {
-    closed = λ c. in_source_closed (readable_at i s) (tells (coming (owner_at i s) i) es) (rw h.state.from at c);
+    closed = λ c. in_source_closed (source_at i s) (tells (coming (giver_at i s) i) es) (rw h.state.from at c);
     shut = λ c. shut_more (in_sink (writable_at j s)) (tells (writes j) es) (sink_shut (writable_at j s) h.state.sink_fits (rw h.state.into at c));
   }
 
@@ -192,7 +192,7 @@ module _ (i j : StreamId) (p : PipeId) (s : Slots) (operation : PipeOperation) (
 
   kept : PipeKept j operation (ends_at x s) K Q C x b
   kept =
-      pipe_keeps p j operation (ends_at x s) K Q C x s.promises finds h.state.into (subst (λ (k : StreamId). Closes x.phase x.action ((readable_at k s).state ≡ ReadableClosed)) (sym h.state.from) h.state.closes) (λ l. (still l).chunks) room
+      pipe_keeps p j operation (ends_at x s) K Q C x s.promises finds h.state.into (subst (λ (k : StreamId). Closes x.phase x.action ((source_at k s).state ≡ ReadableClosed)) (sym h.state.from) h.state.closes) (λ l. (still l).chunks) room
 
   either-way : (tells (writes j) b.out.effects ≡ silence) ⊎ (tells (writes j) es ≡ silence)
   either-way = by (is_looking operation) refl
@@ -204,6 +204,7 @@ module _ (i j : StreamId) (p : PipeId) (s : Slots) (operation : PipeOperation) (
   state : State i j p z
   state = record {
     source = rw streams h.state.source;
+    bare = rw streams h.state.bare;
     sink = rw streams h.state.sink;
     there = rw at here;
     from = rw at (causes.0 ∙ h.state.from);
@@ -211,7 +212,7 @@ module _ (i j : StreamId) (p : PipeId) (s : Slots) (operation : PipeOperation) (
     apart = rw placed (apart-set i j p p s.pipes x b.slots h.state.there causes.0 causes.1.0 h.state.apart);
     source_fits = rw streams h.state.source_fits;
     sink_fits = rw streams h.state.sink_fits;
-    closes = rw (at, streams) (subst (λ (k : StreamId). Closes b.slots.phase b.slots.action ((readable_at k s).state ≡ ReadableClosed)) h.state.from kept.closes);
+    closes = rw (at, streams) (subst (λ (k : StreamId). Closes b.slots.phase b.slots.action ((source_at k s).state ≡ ReadableClosed)) h.state.from kept.closes);
   }
 
   off-caused : all (off p i) b.out.effects ≡ 0
@@ -235,14 +236,14 @@ module _ (i j : StreamId) (p : PipeId) (s : Slots) (operation : PipeOperation) (
         rw (
           split i j p z cs es,
           row-ear j e s,
-          row-owner i e s,
+          row-giver i e s,
           row-unheard (ear_at j s) e s tt,
           caused,
           at,
           streams,
           silent-all (hands (ear_at j s)) b.out.effects (each-map _ (IsSilent (hands (ear_at j s))) (caused-hands (ear_at j s) p x.source x.dest) b.out.effects causes.1.1),
           silent-all (chunks p) b.out.effects (each-map _ (IsSilent (chunks p)) (caused-chunks p p x.source x.dest) b.out.effects causes.1.1),
-          silent-all (coming (owner_at i s) i) b.out.effects (each-map _ (IsSilent (coming (owner_at i s) i)) (caused-coming (owner_at i s) i p x.source x.dest) b.out.effects causes.1.1),
+          silent-all (coming (giver_at i s) i) b.out.effects (each-map _ (IsSilent (coming (giver_at i s) i)) (caused-coming (giver_at i s) i p x.source x.dest) b.out.effects causes.1.1),
         )
         (pipe-passes (unheard (ear_at j s) s.promises.events) (tells (hands (ear_at j s)) es) (in_sink (writable_at j s)) (tells (writes j) es) (tells (writes j) b.out.effects) (in_pipe b.slots (then_told C Q)) _ either-way (rw (own_chunk operation) kept.short));
   }
@@ -265,7 +266,7 @@ module _ (i j : StreamId) (p : PipeId) (s : Slots) (q : PipeId) (operation : Pip
     hands : tells (hands (ear_at j s)) d.caused ≡ silence
     writes : tells (writes j) d.caused ≡ silence
     chunks : tells (chunks p) d.caused ≡ silence
-    coming : tells (coming (owner_at i s) i) d.caused ≡ silence
+    coming : tells (coming (giver_at i s) i) d.caused ≡ silence
     inner : Each (IsInner i j p (rank (pipe_at p s).phase)) d.caused
     last : Each (IsNotLast p) d.caused
     off : all (off p i) d.caused ≡ 0
@@ -284,7 +285,7 @@ module _ (i j : StreamId) (p : PipeId) (s : Slots) (q : PipeId) (operation : Pip
         hands = silent-all (hands (ear_at j s)) b.out.effects (each-map _ (IsSilent (hands (ear_at j s))) (caused-hands (ear_at j s) q x.source x.dest) b.out.effects c.1.1);
         writes = silent-all (writes j) b.out.effects (each-map _ (IsSilent (writes j)) (λ u k. other-writes j q x.source x.dest u far.1 k) b.out.effects c.1.1);
         chunks = silent-all (chunks p) b.out.effects (each-map _ (IsSilent (chunks p)) (caused-chunks p q x.source x.dest) b.out.effects c.1.1);
-        coming = silent-all (coming (owner_at i s) i) b.out.effects (each-map _ (IsSilent (coming (owner_at i s) i)) (caused-coming (owner_at i s) i q x.source x.dest) b.out.effects c.1.1);
+        coming = silent-all (coming (giver_at i s) i) b.out.effects (each-map _ (IsSilent (coming (giver_at i s) i)) (caused-coming (giver_at i s) i q x.source x.dest) b.out.effects c.1.1);
         inner = each-map _ (IsInner i j p (rank (pipe_at p s).phase)) (λ u k. other-inner i j p (rank (pipe_at p s).phase) q x.source x.dest u far.0 k) b.out.effects c.1.1;
         last = each-map _ (IsNotLast p) (λ u k. other-last p q x.source x.dest u n k) b.out.effects c.1.1;
         off = let a = all_off p i b.out.effects in omega (arith, a, none);
@@ -302,6 +303,7 @@ module _ (i j : StreamId) (p : PipeId) (s : Slots) (q : PipeId) (operation : Pip
         sound = record {
           state = record {
             source = rw a.streams h.state.source;
+            bare = rw a.streams h.state.bare;
             sink = rw a.streams h.state.sink;
             there = rw same (a.here ∙ h.state.there);
             from = rw same h.state.from;
@@ -317,7 +319,7 @@ module _ (i j : StreamId) (p : PipeId) (s : Slots) (q : PipeId) (operation : Pip
           inner = rw same (each-append (IsInner i j p (rank (pipe_at p s).phase)) cs es a.inner h.inner.1);
           ends = at_end-append j p cs es a.last h.ends.1;
         };
-        short = rw (split i j p z cs es, row-ear j e s, row-owner i e s, row-unheard (ear_at j s) e s tt, a.hands, a.writes, a.chunks, a.coming, same, a.streams, other_chunk p q operation n) (short_refl _);
+        short = rw (split i j p z cs es, row-ear j e s, row-giver i e s, row-unheard (ear_at j s) e s tt, a.hands, a.writes, a.chunks, a.coming, same, a.streams, other_chunk p q operation n) (short_refl _);
       }
 
 pub pipe-turned : (i j : StreamId) (p : PipeId) (s : Slots) (q : PipeId) (operation : PipeOperation) (es : List Effect) → Sound i j p s (OnPipe q operation ∷ es) → Turned i j p s (OnPipe q operation) es

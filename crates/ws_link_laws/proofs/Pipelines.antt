@@ -5,7 +5,7 @@ use Rattle.ws_value.specs.declared.ids.PipeId.{PipeId}
 use Rattle.ws_value.specs.declared.ids.PromiseId.{PromiseId}
 use Rattle.ws_value.specs.declared.ids.StreamId.{StreamId}
 use Rattle.ws_steps.specs.declared.calls.Call.{Call}
-use Rattle.ws_steps.specs.declared.calls.Call.TheVariants.{MakeReadable, MakeWritable, MakeTransform}
+use Rattle.ws_steps.specs.declared.calls.Call.TheVariants.{MakeReadable, MakeBytes, MakeWritable, MakeTransform}
 use Rattle.ws_steps.specs.declared.calls.StartBy.{StartBy}
 use Rattle.ws_steps.specs.declared.calls.StartBy.TheVariants.{Now, Later}
 use Rattle.ws_steps.specs.declared.effects.Effect.{Effect}
@@ -24,7 +24,7 @@ use Rattle.ws_steps.specs.Pipes as pipe
 use Rattle.ws_steps.specs.Promises.{next_id, fresh, settle, answer, react, follow, unfollow, use_gift, queue_micro, after_next_job, watch}
 use Rattle.ws_steps.specs.Readable as readable
 use Rattle.ws_steps.specs.Run.{Called, run, older, after_call}
-use Rattle.ws_steps.specs.Slots.{Slots, ReadableStream, WritableStream, Done, empty, most_streams, owner_of, owner_at, has_readable, readable_at, is_readable_stream, is_writable_stream, as_readable, as_writable, on_pipe_at}
+use Rattle.ws_steps.specs.Slots.{Slots, ReadableStream, WritableStream, Done, empty, most_streams, owner_of, owner_at, is_byte_stream, is_writable_stream, as_source, as_writable, on_pipe_at}
 use Rattle.ws_steps.specs.Transform as transform
 use Rattle.ws_steps.specs.Turns.{row, turns, call_host, performed}
 use Rattle.ws_steps.specs.Writable as writable
@@ -32,29 +32,38 @@ use Rattle.ws_laws.proofs.Halves.{Among, Halved, call-among, get-last, halved-st
 use Rattle.ws_laws.proofs.Lists.{Each}
 use Rattle.ws_laws.proofs.Rows.{row-pipes}
 use Rattle.ws_laws.proofs.Shapes.{transform_shapes}
-use Rattle.ws_laws.proofs.Tables.{readable_there, writable_there, place_last}
+use Rattle.ws_laws.proofs.Tables.{writable_there, place_last}
 use Rattle.ws_room_laws.proofs.Turns.{performed-kept}
-use Rattle.ws_link_laws.specs.Sound.{IsReached, IsHosts, IsFree}
+use Rattle.ws_link_laws.specs.Sound.{IsReached, IsHosts, IsBare, IsFree}
 use Rattle.ws_link_laws.proofs.Free.{IsFar, FreeSink, Unused, performed-unused, unused-called}
-use Rattle.ws_link_laws.proofs.Hosts.{Hosts, source-shape, sink-shape, source-owner, hosts-shaped, grown-shape, reached-halved}
-use Rattle.ws_link_laws.proofs.Steps.{place-append}
+use Rattle.ws_link_laws.proofs.Hosts.{Hosts, source-shape, sink-shape, hosts-shaped, grown-shape, reached-halved}
+use Rattle.ws_link_laws.proofs.Steps.{place-append, stream_at, source_there}
+use Rattle.ws_link_laws.proofs.SourceTurns.{default-bare}
 use Rattle.ws_link_laws.proofs.Worked.{s0}
+use Rattle.ws_steps.specs.Slots.{byte_at, has_source, source_at}
 
 -- streams are made, and nobody has any of them: the last that gives chunks is i
 pub record Opened (i : StreamId) (s : Slots) : Type 0 where
   pub reached : IsReached s
-  pub there : has_readable i s ≡ true
+  pub there : has_source i s ≡ true
+  pub bare : IsBare (byte_at i s)
   pub kind : IsHosts s (owner_at i s)
-  pub unread : (readable_at i s).reader ≡ None
-  pub requests : (readable_at i s).requests ≡ []
+  pub unread : (source_at i s).reader ≡ None
+  pub requests : (source_at i s).requests ≡ []
   pub locks : s.locks ≡ []
   pub pipes : s.pipes ≡ []
 
 -- a source is made first
 pub opened-source : (m : ℕ) (x : SizeBy) (a : StartBy) → Opened s0 (run (Called (MakeReadable m x a) ∷ []) empty)
 unfolding fresh settle answer react follow unfollow use_gift queue_micro after_next_job watch call_host row turns performed begin_job begin
-opened-source m x Now = record { reached = (Called (MakeReadable m x Now) ∷ [], refl); there = refl; kind = tt; unread = refl; requests = refl; locks = refl; pipes = refl }
-opened-source m x Later = record { reached = (Called (MakeReadable m x Later) ∷ [], refl); there = refl; kind = tt; unread = refl; requests = refl; locks = refl; pipes = refl }
+opened-source m x Now = record { reached = (Called (MakeReadable m x Now) ∷ [], refl); there = refl; bare = record { auto = refl; descriptors = refl; reader = refl }; kind = tt; unread = refl; requests = refl; locks = refl; pipes = refl }
+opened-source m x Later = record { reached = (Called (MakeReadable m x Later) ∷ [], refl); there = refl; bare = record { auto = refl; descriptors = refl; reader = refl }; kind = tt; unread = refl; requests = refl; locks = refl; pipes = refl }
+
+-- or a byte source that allocates no rooms
+pub opened-bytes : (m : ℕ) (a : StartBy) → Opened s0 (run (Called (MakeBytes m 0 a) ∷ []) empty)
+unfolding fresh settle answer react follow unfollow use_gift queue_micro after_next_job watch call_host row turns performed begin_job begin
+opened-bytes m Now = record { reached = (Called (MakeBytes m 0 Now) ∷ [], refl); there = refl; bare = record { auto = refl; descriptors = refl; reader = refl }; kind = tt; unread = refl; requests = refl; locks = refl; pipes = refl }
+opened-bytes m Later = record { reached = (Called (MakeBytes m 0 Later) ∷ [], refl); there = refl; bare = record { auto = refl; descriptors = refl; reader = refl }; kind = tt; unread = refl; requests = refl; locks = refl; pipes = refl }
 
 -- no pipe is made but by a call
 
@@ -91,14 +100,17 @@ length-last [] y = refl
 length-last (x ∷ xs) y = let h = length-last xs y in omega (arith, h)
 
 -- where stream i, of which the end is as it was, and stream j, which is new, stand in z
-module _ (i j : StreamId) (s z : Slots) (o : Opened i s) (w : writable.Slots) (at : slice_get z.streams i.0 ≡ Some (ReadableStream (readable_at i s))) (new : slice_get z.streams j.0 ≡ Some (WritableStream w))
+module _ (i j : StreamId) (s z : Slots) (o : Opened i s) (w : writable.Slots) (at : slice_get z.streams i.0 ≡ Some (stream_at i s)) (new : slice_get z.streams j.0 ≡ Some (WritableStream w))
     (among : Among (transform_shapes s) (transform_shapes z)) (halved : Halved z) where
+  same : slice_get z.streams i.0 ≡ slice_get s.streams i.0
+  same = at ∙ sym (source_there (slice_get s.streams i.0) o.there)
+
   same-owner : owner_at i z ≡ owner_at i s
-  same-owner = ap owner_of at ∙ sym (source-owner i s o.there)
+  same-owner = ap owner_of same
 
   old-hosts : IsHosts z (owner_at j z) → Hosts i j z
   old-hosts kind = record {
-    source = source-shape i z z (readable_there (slice_get z.streams i.0) (ap is_readable_stream at));
+    source = source-shape i z (rw same o.there);
     sink = sink-shape j z z (writable_there (slice_get z.streams j.0) (ap is_writable_stream new));
     source_kind = rw same-owner (hosts-shaped s z (owner_at i s) (grown-shape s z (owner_at i s) among o.kind) o.kind);
     sink_kind = kind;
@@ -107,9 +119,10 @@ module _ (i j : StreamId) (s z : Slots) (o : Opened i s) (w : writable.Slots) (a
 
   old-unused : (es : List Effect) → IsHosts z (owner_at j z) → FreeSink w → z.locks ≡ [] → z.pipes ≡ [] → Each (IsFar i j) es → Unused i j [] z es
   old-unused es kind free locks pipes far = record {
-    source = ap is_readable_stream at;
+    source = rw same o.there;
+    bare = rw same o.bare;
     sink = ap is_writable_stream new;
-    from = rw (ap as_readable at) (record { unread = o.unread; requests = o.requests });
+    from = rw same (record { unread = o.unread; requests = o.requests });
     into = rw (ap as_writable new) free;
     hosts = old-hosts kind;
     apart = rw pipes refl;
@@ -137,7 +150,7 @@ module _ (i : StreamId) (s : Slots) (o : Opened i s) (n : ℕ) (y : SizeBy) (a :
       let w : writable.Slots = writable.set_up Host n y in
       let among : Among (transform_shapes s) (transform_shapes b.done.slots) = rw is at (call-among c s) in
       let halved : Halved b.done.slots = rw is at (halved-stays.call s c (reached-halved s o.reached)) in
-      let at : slice_get b.done.slots.streams i.0 ≡ Some (ReadableStream (readable_at i s)) = place-append s.streams (WritableStream w) (ReadableStream (readable_at i s)) i.0 (readable_there (slice_get s.streams i.0) o.there) in
+      let at : slice_get b.done.slots.streams i.0 ≡ Some (stream_at i s) = place-append s.streams (WritableStream w) (stream_at i s) i.0 (source_there (slice_get s.streams i.0) o.there) in
       let new : slice_get b.done.slots.streams j.0 ≡ Some (WritableStream w) = place_last s.streams (WritableStream w) in
       made-free i j s c b is o.reached
       (old-unused i j s b.done.slots o w at new among halved b.done.caused (rw (ap owner_of new) tt) (record { unwritten = refl; queue = refl; request = refl; flight = refl }) o.locks o.pipes (tt, tt))
@@ -175,10 +188,10 @@ module _ (i : StreamId) (s : Slots) (o : Opened i s) (m n : ℕ) (a : StartBy) (
   unfolding begin
   is_two = rw room refl
 
-  at-old : slice_get z.streams i.0 ≡ Some (ReadableStream (readable_at i s))
+  at-old : slice_get z.streams i.0 ≡ Some (stream_at i s)
   at-old =
-      place-append (s.streams ++ WritableStream wt ∷ []) (ReadableStream rt) (ReadableStream (readable_at i s)) i.0
-      (place-append s.streams (WritableStream wt) (ReadableStream (readable_at i s)) i.0 (readable_there (slice_get s.streams i.0) o.there))
+      place-append (s.streams ++ WritableStream wt ∷ []) (ReadableStream rt) (stream_at i s) i.0
+      (place-append s.streams (WritableStream wt) (stream_at i s) i.0 (source_there (slice_get s.streams i.0) o.there))
 
   at-taking : slice_get z.streams jw.0 ≡ Some (WritableStream wt)
   at-taking = place-append (s.streams ++ WritableStream wt ∷ []) (ReadableStream rt) (WritableStream wt) jw.0 (place_last s.streams (WritableStream wt))
@@ -207,12 +220,13 @@ module _ (i : StreamId) (s : Slots) (o : Opened i s) (m n : ℕ) (a : StartBy) (
 
   giving-unused : Unused jr jw [] z bt.done.caused
   giving-unused = record {
-    source = ap is_readable_stream at-giving;
+    source = rw at-giving refl;
+    bare = default-bare jr z (ap is_byte_stream at-giving);
     sink = ap is_writable_stream at-taking;
-    from = rw (ap as_readable at-giving) (record { unread = refl; requests = refl });
+    from = rw (ap as_source at-giving) (record { unread = refl; requests = refl });
     into = rw (ap as_writable at-taking) (record { unwritten = refl; queue = refl; request = refl; flight = refl });
     hosts = record {
-      source = source-shape jr z z (readable_there (slice_get z.streams jr.0) (ap is_readable_stream at-giving));
+      source = source-shape jr z (rw at-giving refl);
       sink = sink-shape jw z z (writable_there (slice_get z.streams jw.0) (ap is_writable_stream at-taking));
       source_kind = rw (ap owner_of at-giving) own-kind;
       sink_kind = rw (ap owner_of at-taking) own-kind;
@@ -230,6 +244,7 @@ module _ (i : StreamId) (s : Slots) (o : Opened i s) (m n : ℕ) (a : StartBy) (
         record {
           reached = pair.reached;
           there = pair.source;
+          bare = pair.bare;
           kind = pair.source_owner;
           unread = pair.unread;
           requests = pair.requests;

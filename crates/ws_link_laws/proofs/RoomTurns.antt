@@ -26,7 +26,7 @@ use Rattle.ws_steps.specs.declared.writable.WritableState.{WritableState}
 use Rattle.ws_steps.specs.declared.writable.WritableState.TheVariants.{Writable, Erroring, Errored as WritableErrored, Closed as WritableClosed}
 use Rattle.ws_steps.specs.declared.transform.TransformId.{TransformId}
 use Rattle.ws_steps.specs.Histories.{is_same}
-use Rattle.ws_steps.specs.Operations.{readable_operation, writable_operation, pipe_operation}
+use Rattle.ws_steps.specs.Operations.{byte_operation, writable_operation, pipe_operation}
 use Rattle.ws_steps.specs.Pipes as pipe
 use Rattle.ws_steps.specs.Pipes.{Slots as PipeSlots, finalize, act_by_signal, act, proceed, is_flowing, shut_down, shutdown, wait_for_ready, read_or_wait, look_by, look, look_ready, go_on_in, go_on, keep_chunk, read_ended, write_held, write_chunk, write_ended, action_settled, part_settled, no_parts, abort}
 use Rattle.ws_steps.specs.Promises.{Table}
@@ -40,7 +40,7 @@ use Rattle.ws_flow.specs.Told.{Told, then_told}
 use Rattle.ws_laws.proofs.Lists.{Each, each-map, append_none}
 use Rattle.ws_laws.proofs.PipeDoes.{PipeCauses, pipe-causes, is_looking}
 use Rattle.ws_laws.proofs.Rows.{Causes, SignalCauses, IsNoPipe, IsApart, row-causes, row-pipes, row-streams}
-use Rattle.ws_laws.proofs.Tables.{either, is_same-refl, same_id, eq_numbers, unequal_numbers, writable_acts, on_readable-writable, on_writable-same, on_writable-other}
+use Rattle.ws_laws.proofs.Tables.{either, is_same-refl, same_id, eq_numbers, unequal_numbers, writable_acts, on_byte-writable, on_source-writable, on_writable-same, on_writable-other}
 use Rattle.ws_laws.proofs.TransformDoes.{TransformCauses}
 use Rattle.ws_laws.proofs.Truth.{and_right}
 use Rattle.ws_pipe_laws.specs.PipeMoves.{starting}
@@ -52,6 +52,7 @@ use Rattle.ws_link_laws.specs.Room.{Sized}
 use Rattle.ws_link_laws.proofs.Rooms.{more_in, RoomKept, sink_room}
 use Rattle.ws_link_laws.proofs.Standing.{IsStill, Sound}
 use Rattle.ws_link_laws.proofs.Telling.{tells, writes}
+use Rattle.ws_steps.specs.declared.effects.Effect.TheVariants.{Byte, CloseStepsWith}
 
 -- the chunks that are on their way to the destination
 abbrev pub more_on : StreamId → Effect → ℕ
@@ -201,6 +202,7 @@ transform-more j t w r e c = grind (arith, c)
 
 more-causes : (j : StreamId) (e : Effect) → IsNoPipe e → Causes (IsNoMore j) e
 more-causes j (OnReadable k operation) n = record { pull = refl; cancel = λ r q. refl; chunk = λ request v. refl; close = λ request. refl; error = λ request r. refl }
+more-causes j (Byte k operation) n = record { readable = record { pull = refl; cancel = λ r q. refl; chunk = λ request v. refl; close = λ request. refl; error = λ request r. refl }; close_with = λ r b. refl }
 more-causes j (OnWritable k operation) n = record { write = refl; close = refl; abort = λ r q. refl; hand_on = λ v. refl; take = λ v t d. refl }
 more-causes j (OnPipe q operation) n = absurd n
 more-causes j (OnSignal a operation) n = signal-more j operation
@@ -214,7 +216,9 @@ more-causes j (AbortAlgorithm k r q) n = (λ c u. refl, λ t u. refl)
 more-causes j (ChunkSteps k (Promise q) v) n = tt
 more-causes j (ChunkSteps k (PipeRequest q) v) n = refl
 more-causes j (CloseSteps k (Promise q)) n = tt
+more-causes j (CloseStepsWith k (Promise q) b) n = tt
 more-causes j (CloseSteps k (PipeRequest q)) n = refl
+more-causes j (CloseStepsWith k (PipeRequest q) b) n = refl
 more-causes j (ErrorSteps k (Promise q) r) n = tt
 more-causes j (ErrorSteps k (PipeRequest q) r) n = refl
 more-causes j _ n = tt
@@ -364,7 +368,9 @@ apart-room j p e s es a n r = still-room j p e s es (rw (row-streams e s a) refl
 pub row-room : (i j : StreamId) (p : PipeId) (e : Effect) (s : Slots) (es : List Effect) → Sound i j p s (e ∷ es) → Room j p s (e ∷ es) → Room j p (row e s).slots ((row e s).caused ++ es)
 unfolding row
 row-room i j p (OnReadable k operation) s es so r =
-    still-room j p (OnReadable k operation) s es (on_readable-writable (readable_operation k operation) k s j (is_same j k) refl) (rw (row-pipes (OnReadable k operation) s tt) refl) (caused-more j (OnReadable k operation) s tt) r
+    still-room j p (OnReadable k operation) s es (on_source-writable operation k s j) (rw (row-pipes (OnReadable k operation) s tt) refl) (caused-more j (OnReadable k operation) s tt) r
+row-room i j p (Byte k operation) s es so r =
+    still-room j p (Byte k operation) s es (on_byte-writable (byte_operation k operation) k s j) (rw (row-pipes (Byte k operation) s tt) refl) (caused-more j (Byte k operation) s tt) r
 row-room i j p (OnWritable k operation) s es so r = writable-room i j p k operation s es so r
 row-room i j p (OnPipe q operation) s es so r = pipe-room i j p q operation s es so r
 row-room i j p e s es so r = apart-room j p e s es tt tt r

@@ -16,7 +16,7 @@ use Rattle.ws_steps.specs.declared.writable.WritableState.{WritableState}
 use Rattle.ws_steps.specs.declared.writable.WritableState.TheVariants.{Writable, Erroring, Errored, Closed}
 use Rattle.ws_steps.specs.Histories.{is_same}
 use Rattle.ws_steps.specs.Operations.{writable_operation}
-use Rattle.ws_steps.specs.Slots.{Slots, has_writable, owner_at, readable_at, writable_at, pipe_at, is_writable_stream, as_writable, on_writable}
+use Rattle.ws_steps.specs.Slots.{Slots, has_writable, owner_at, byte_at, source_at, writable_at, pipe_at, is_writable_stream, as_byte, as_writable, on_writable}
 use Rattle.ws_steps.specs.Turns.{row}
 use Rattle.ws_steps.specs.Writable as writable
 use Rattle.ws_steps.specs.WritableHistory.{Writes}
@@ -24,8 +24,7 @@ use Rattle.ws_flow.specs.Told.{Told, then_told, IsShortOf}
 use Rattle.ws_flow.proofs.Told.{short_refl}
 use Rattle.ws_laws.proofs.Lists.{Each, each-append}
 use Rattle.ws_laws.proofs.Rows.{row-causes, row-pipes}
-use Rattle.ws_laws.proofs.Shapes.{row-owner}
-use Rattle.ws_laws.proofs.Tables.{is_same-refl, same_id, writable_acts, on_writable-same, on_writable-other, on_writable-readable, on_writable-there}
+use Rattle.ws_laws.proofs.Tables.{is_same-refl, same_id, writable_acts, on_writable-same, on_writable-other, on_writable-source, on_writable-look}
 use Rattle.ws_pipe_laws.proofs.AtSource.{off-only, row-off}
 use Rattle.ws_pipe_laws.proofs.PassingRuns.{row-few}
 use Rattle.ws_writable_laws.proofs.Agenda.{found}
@@ -34,10 +33,10 @@ use Rattle.ws_writable_laws.proofs.Operations.{same_once}
 use Rattle.ws_writable_laws.proofs.Shape.{leads}
 use Rattle.ws_transform_laws.proofs.Halving.{Going}
 use Rattle.ws_transform_laws.proofs.Lawful.{half-owner, known-half, settled-led}
-use Rattle.ws_link_laws.specs.Link.{silence, in_sink, in_source, in_pipe, ear_at, unheard}
+use Rattle.ws_link_laws.specs.Link.{silence, in_sink, in_source, in_pipe, ear_at, giver_at, unheard}
 use Rattle.ws_link_laws.specs.Sound.{SinkFits}
 use Rattle.ws_link_laws.proofs.Ahead.{Ahead, ahead-kept, ahead-silent, row-ahead, other-silent}
-use Rattle.ws_link_laws.proofs.Hosts.{row-ear, sink-owner, sink-there}
+use Rattle.ws_link_laws.proofs.Hosts.{row-ear, row-giver, row-sources, sink-owner, sink-there}
 use Rattle.ws_link_laws.proofs.Telling.{is_of, if_same, tells, IsSilent, silent-all, hands, written, writes, chunks, coming, behind_on}
 use Rattle.ws_link_laws.proofs.Unheard.{row-unheard}
 use Rattle.ws_link_laws.proofs.Sinks.{InFlightOr, Needs, SinkKept, sink_keeps}
@@ -112,8 +111,8 @@ module _ (i j : StreamId) (p : PipeId) (s : Slots) (k : StreamId) (operation : W
   quiet-chunks : tells (chunks p) cs ≡ silence
   quiet-chunks = silent-all (chunks p) cs (row-causes (IsSilent (chunks p)) e s (record { write = refl; close = refl; abort = λ r q. refl; hand_on = λ v. refl; take = λ v t d. refl }))
 
-  quiet-coming : tells (coming (owner_at i s) i) cs ≡ silence
-  quiet-coming = silent-all (coming (owner_at i s) i) cs (row-causes (IsSilent (coming (owner_at i s) i)) e s (record { write = refl; close = refl; abort = λ r q. refl; hand_on = λ v. refl; take = λ v t d. if_same (is_of (owner_at i s) t) }))
+  quiet-coming : tells (coming (giver_at i s) i) cs ≡ silence
+  quiet-coming = silent-all (coming (giver_at i s) i) cs (row-causes (IsSilent (coming (giver_at i s) i)) e s (record { write = refl; close = refl; abort = λ r q. refl; hand_on = λ v. refl; take = λ v t d. if_same (is_of (giver_at i s) t) }))
 
   inner-caused : (n : ℕ) → Each (IsInner i j p n) cs
   inner-caused n = row-causes (IsInner i j p n) e s (record { write = tt; close = tt; abort = λ r q. tt; hand_on = λ v. tt; take = λ v t d. tt })
@@ -124,9 +123,13 @@ module _ (i j : StreamId) (p : PipeId) (s : Slots) (k : StreamId) (operation : W
   pipes : z.pipes ≡ s.pipes
   pipes = row-pipes e s tt
 
-  source-same : readable_at i z ≡ readable_at i s
+  source-same : source_at i z ≡ source_at i s
   unfolding row
-  source-same = on_writable-readable (writable_operation k operation) k s i (is_same i k) refl
+  source-same = on_writable-source (writable_operation k operation) k s i
+
+  bytes-same : byte_at i z ≡ byte_at i s
+  unfolding row
+  bytes-same = on_writable-look as_byte (λ b c. refl) (writable_operation k operation) k s i (is_same i k) refl
 
   sound-by : State i j p z → Sound i j p s (e ∷ es) → Sound i j p z (cs ++ es)
   sound-by st h = record {
@@ -142,7 +145,8 @@ module _ (i j : StreamId) (p : PipeId) (s : Slots) (k : StreamId) (operation : W
   state-by : (w : writable.Slots) → writable_at j z ≡ w → State i j p s → SinkFits w → State i j p z
   unfolding row
   state-by w same st fits = record {
-    source = on_writable-there (writable_operation k operation) k s i (is_same i k) refl ∙ st.source;
+    source = row-sources i e s ∙ st.source;
+    bare = rw bytes-same st.bare;
     sink = writable-there (writable_operation k operation) k s j st.sink;
     there = rw pipes st.there;
     from = rw pipes st.from;
@@ -156,13 +160,13 @@ module _ (i j : StreamId) (p : PipeId) (s : Slots) (k : StreamId) (operation : W
   -- what is told, where nothing but the destination and the calls of its algorithms change
 
   abbrev rest : Told Value
-  rest = in_pipe (pipe_at p s) (then_told (tells (chunks p) es) (then_told (in_source (readable_at i s)) (tells (coming (owner_at i s) i) es)))
+  rest = in_pipe (pipe_at p s) (then_told (tells (chunks p) es) (then_told (in_source (source_at i s)) (tells (coming (giver_at i s) i) es)))
 
   told-by : (w : writable.Slots) → writable_at j z ≡ w
       → IsShortOf (line (unheard (ear_at j s) s.promises.events) (then_told (tells (hands (ear_at j s)) cs) (tells (hands (ear_at j s)) es)) (in_sink w) (tells (writes j) es) rest)
       (line (unheard (ear_at j s) s.promises.events) (tells (hands (ear_at j s)) es) (in_sink (writable_at j s)) (then_told (writes j e) (tells (writes j) es)) rest)
       → IsShortOf (behind_on i j p z (cs ++ es)) (behind_on i j p s (e ∷ es))
-  told-by w same h = rw (split i j p z cs es, row-ear j e s, row-owner i e s, row-unheard (ear_at j s) e s tt, quiet-writes, quiet-chunks, quiet-coming, source-same, pipes, same) h
+  told-by w same h = rw (split i j p z cs es, row-ear j e s, row-giver i e s, row-unheard (ear_at j s) e s tt, quiet-writes, quiet-chunks, quiet-coming, source-same, pipes, same) h
 
 -- an operation of another stream
 

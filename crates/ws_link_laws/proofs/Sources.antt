@@ -17,10 +17,10 @@ use Rattle.ws_steps.specs.Effects.{Out, type_error}
 use Rattle.ws_steps.specs.Operations.{readable_operation}
 use Rattle.ws_steps.specs.Promises.{Table}
 use Rattle.ws_steps.specs.Readable.{Slots, Acts, waiting, close_all, error_all, close_reader, error_reader, release_closed, call_pull_if_needed, accept, controller_enqueue, stream_close, stream_error, close_if_empty, controller_close, controller_error, after_take, pull_steps, default_reader_read, reader_generic_initialize, disturb, cancel_if_readable, start_settled, pull_settled, cancel_steps, stream_cancel, release_by, reader_release}
-use Rattle.ws_flow.specs.Told.{then_told, IsShortOf}
+use Rattle.ws_flow.specs.Told.{Told, then_told, IsShortOf}
 use Rattle.ws_flow.proofs.Told.{short_refl, then_empty}
 use Rattle.ws_pipe_laws.specs.PipeReads.{is_of}
-use Rattle.ws_link_laws.specs.Link.{silence, values, in_source}
+use Rattle.ws_link_laws.specs.Link.{OfSource, silence, values, in_source}
 use Rattle.ws_link_laws.specs.Sound.{Owned, NoneWaits, SourceFits}
 use Rattle.ws_link_laws.specs.Entering.{entered}
 use Rattle.ws_link_laws.proofs.Telling.{tells, tells-append, lost_short, chunks}
@@ -39,29 +39,33 @@ abbrev pub IsOwn : PipeId → ReadableOperation → Type 0
 IsOwn p (Read request) = is_of p request ≡ 1
 IsOwn p _ = Unit {0}
 
-pub record SourceKept (p : PipeId) (op : ReadableOperation) (x : Slots) (o : Acts) : Type 0 where
-  pub fits : SourceFits p o.slots
-  pub short : is_cancel op ≡ false → IsShortOf (then_told (tells (chunks p) o.out.effects) (in_source o.slots)) (then_told (in_source x) (entered op))
-  pub cancelled : is_cancel op ≡ true → tells (chunks p) o.out.effects ≡ silence
-  pub stays : x.state ≡ Closed → o.slots.state ≡ Closed
+-- what is told of a source that was x and is y, of effects that were caused meanwhile, where e was let in, or where it was cancelled
+pub record SourceKept (p : PipeId) (e : Told Value) (cancels : Bool) (x y : Slots) (effects : List Effect) : Type 0 where
+  pub fits : SourceFits p y
+  pub short : cancels ≡ false → IsShortOf (then_told (tells (chunks p) effects) (in_source y)) (then_told (in_source x) e)
+  pub cancelled : cancels ≡ true → tells (chunks p) effects ≡ silence
+  pub stays : x.state ≡ Closed → y.state ≡ Closed
+
+abbrev pub OperationKept : PipeId → ReadableOperation → Slots → Acts → Type 0
+OperationKept p op x o = SourceKept p (entered OfSource op) (is_cancel op) x o.slots o.out.effects
 
 abbrev pub SourceKeeps : PipeId → StreamId → ReadableOperation → Slots → Table → Type 0
-SourceKeeps p me op x t = SourceFits p x → IsOwn p op → SourceKept p op x (readable_operation me op (starting x t))
+SourceKeeps p me op x t = SourceFits p x → IsOwn p op → OperationKept p op x (readable_operation me op (starting x t))
 
 -- appending
 
-owned-append : (p : PipeId) (xs ys : List ReadRequest) → Owned p xs → Owned p ys → Owned p (xs ++ ys)
+pub owned-append : (p : PipeId) (xs ys : List ReadRequest) → Owned p xs → Owned p ys → Owned p (xs ++ ys)
 owned-append p [] ys a b = b
 owned-append p (x ∷ xs) ys a b = (a.0, owned-append p xs ys a.1 b)
 
-chunks-append : (p : PipeId) (xs ys : List Effect) → tells (chunks p) (xs ++ ys) ≡ then_told (tells (chunks p) xs) (tells (chunks p) ys)
+pub chunks-append : (p : PipeId) (xs ys : List Effect) → tells (chunks p) (xs ++ ys) ≡ then_told (tells (chunks p) xs) (tells (chunks p) ys)
 chunks-append p xs ys = tells-append (chunks p) xs ys
 
-closes_chunks : (p : PipeId) (me : StreamId) (qs : List ReadRequest) → tells (chunks p) (close_all me qs) ≡ silence
+pub closes_chunks : (p : PipeId) (me : StreamId) (qs : List ReadRequest) → tells (chunks p) (close_all me qs) ≡ silence
 closes_chunks p me [] = refl
 closes_chunks p me (q ∷ qs) = rw (closes_chunks p me qs) refl
 
-errors_chunks : (p : PipeId) (me : StreamId) (e : Plain) (qs : List ReadRequest) → tells (chunks p) (error_all me e qs) ≡ silence
+pub errors_chunks : (p : PipeId) (me : StreamId) (e : Plain) (qs : List ReadRequest) → tells (chunks p) (error_all me e qs) ≡ silence
 errors_chunks p me e [] = refl
 errors_chunks p me e (q ∷ qs) = rw (errors_chunks p me e qs) refl
 
@@ -78,14 +82,14 @@ pub record EndsIn (p : PipeId) (ended : ReadableState) (x : Slots) (b : Acts) : 
   pub owned : Owned p x.requests → Owned p b.slots.requests
   pub waits : NoneWaits (waiting x) x.queue → NoneWaits (waiting b.slots) b.slots.queue
 
-none_waits : (r : Option PromiseId) (rs : List ReadRequest) (queue : List (Queued Value)) → rs ≡ [] → NoneWaits (if is_some r then rs else []) queue
+pub none_waits : (r : Option PromiseId) (rs : List ReadRequest) (queue : List (Queued Value)) → rs ≡ [] → NoneWaits (if is_some r then rs else []) queue
 none_waits r rs queue e = grind (arith, e)
 
 closed-in : (p : PipeId) (me : StreamId) (x : Slots) (t : Table) (o : Option PromiseId) → o ≡ x.reader → EndsIn p Closed x (close_reader me (starting (record x { state = Closed }) t) o)
 closed-in p me x t None e = record { quiet = refl; state = refl; queue = refl; owned = λ h. h; waits = λ h. h }
 closed-in p me x t (Some c) e = record { quiet = closes_chunks p me x.requests; state = refl; queue = refl; owned = λ h. tt; waits = λ h. none_waits x.reader [] x.queue refl }
 
-closes : (p : PipeId) (me : StreamId) (x : Slots) (t : Table) → EndsIn p Closed x (stream_close me (starting x t))
+pub closes : (p : PipeId) (me : StreamId) (x : Slots) (t : Table) → EndsIn p Closed x (stream_close me (starting x t))
 unfolding stream_close
 closes p me x t = closed-in p me x t x.reader refl
 
@@ -93,14 +97,14 @@ errored-in : (p : PipeId) (me : StreamId) (r : Plain) (x : Slots) (t : Table) (o
 errored-in p me r x t None e = record { quiet = refl; state = refl; queue = refl; owned = λ h. h; waits = λ h. h }
 errored-in p me r x t (Some c) e = record { quiet = errors_chunks p me r x.requests; state = refl; queue = refl; owned = λ h. tt; waits = λ h. none_waits x.reader [] x.queue refl }
 
-errs : (p : PipeId) (me : StreamId) (r : Plain) (x : Slots) (t : Table) → EndsIn p Errored x (stream_error me r (starting x t))
+pub errs : (p : PipeId) (me : StreamId) (r : Plain) (x : Slots) (t : Table) → EndsIn p Errored x (stream_error me r (starting x t))
 unfolding stream_error
 errs p me r x t = errored-in p me r x t x.reader refl
 
-released-in : (closed : PromiseId) (out : Out) (state : ReadableState) → (release_closed closed out state).effects ≡ out.effects
+pub released-in : (closed : PromiseId) (out : Out) (state : ReadableState) → (release_closed closed out state).effects ≡ out.effects
 released-in closed out state = grind arith
 
-no_waits : (rs : List ReadRequest) → NoneWaits rs []
+pub no_waits : (rs : List ReadRequest) → NoneWaits rs []
 no_waits rs = grind arith
 
 -- operations
@@ -117,14 +121,14 @@ close_keeps : (p : PipeId) (me : StreamId) (x : Slots) (t : Table) → SourceKee
 unfolding controller_close close_if_empty
 close_keeps p me x t f g = let c = closes p me (record x { close_requested = true }) t in grind (arith, append-nil, short_refl, c)
 
-error_keeps_for : (p : PipeId) (me : StreamId) (e : Plain) (op : ReadableOperation) (x : Slots) (t : Table) → entered op ≡ silence → is_cancel op ≡ false → SourceFits p x → SourceKept p op x (controller_error me e (starting x t))
+error_keeps_for : (p : PipeId) (me : StreamId) (e : Plain) (op : ReadableOperation) (x : Slots) (t : Table) → entered OfSource op ≡ silence → is_cancel op ≡ false → SourceFits p x → OperationKept p op x (controller_error me e (starting x t))
 unfolding controller_error
 error_keeps_for p me e op x t n m f =
     let c = errs p me e (record x { queue = [] }) t in
     let w = no_waits (waiting (record x { queue = [] })) in
     grind (arith, append-nil, short_refl, lost_short, c, n, m, w)
 
-cancel_keeps_for : (p : PipeId) (me : StreamId) (r : Plain) (q : PromiseId) (op : ReadableOperation) (x : Slots) (t : Table) → is_cancel op ≡ true → SourceFits p x → SourceKept p op x (stream_cancel me r q (starting x t))
+cancel_keeps_for : (p : PipeId) (me : StreamId) (r : Plain) (q : PromiseId) (op : ReadableOperation) (x : Slots) (t : Table) → is_cancel op ≡ true → SourceFits p x → OperationKept p op x (stream_cancel me r q (starting x t))
 unfolding stream_cancel cancel_steps
 cancel_keeps_for p me r q op x t n f =
     let y : Slots = record x { disturbed = true } in
@@ -159,7 +163,7 @@ release_keeps : (p : PipeId) (me : StreamId) (x : Slots) (t : Table) → SourceK
 unfolding reader_release
 release_keeps p me x t f g = by x.reader
   where
-    by : (o : Option PromiseId) → SourceKept p ReleaseReader x (release_by me (starting x t) o)
+    by : (o : Option PromiseId) → OperationKept p ReleaseReader x (release_by me (starting x t) o)
     by None = record { fits = f; short = λ c. rw (then_empty (in_source x)) (short_refl (in_source x)); cancelled = λ c. absurd (cc); stays = λ c. c }
     by (Some c) =
         let e = released-in c (starting x t).out x.state in

@@ -3,8 +3,9 @@ use Rattle.std.proofs.Common.{◌≡◌, ◌⊎◌, inl, inr, ℕ, zero, suc, �
 use Rattle.ws_value.specs.declared.ids.PipeId.{PipeId}
 use Rattle.ws_value.specs.declared.ids.StreamId.{StreamId}
 use Rattle.ws_value.specs.declared.value.Value.{Value}
+use Rattle.ws_steps.specs.declared.byte.ByteOperation.TheVariants.{InitializeByobReader, Enqueue as EnqueueBytes}
 use Rattle.ws_steps.specs.declared.effects.Effect.{Effect}
-use Rattle.ws_steps.specs.declared.effects.Effect.TheVariants.{Readable as OnReadable, Writable as OnWritable, Pipe as OnPipe, ChunkSteps}
+use Rattle.ws_steps.specs.declared.effects.Effect.TheVariants.{Readable as OnReadable, Byte as OnByte, Writable as OnWritable, Pipe as OnPipe, ChunkSteps}
 use Rattle.ws_steps.specs.declared.pipes.PipeOperation.TheVariants.{KeepChunk}
 use Rattle.ws_steps.specs.declared.readable.ReadRequest.{ReadRequest}
 use Rattle.ws_steps.specs.declared.readable.ReadRequest.TheVariants.{Promise, Pipe as PipeRequest}
@@ -12,7 +13,8 @@ use Rattle.ws_steps.specs.declared.readable.ReadableOperation.TheVariants.{Read,
 use Rattle.ws_steps.specs.declared.readable.ReadableState.TheVariants.{Closed as ReadableClosed}
 use Rattle.ws_steps.specs.declared.writable.WritableOperation.TheVariants.{Close}
 use Rattle.ws_steps.specs.Histories.{is_same}
-use Rattle.ws_steps.specs.Slots.{Slots, has_readable, has_writable, owner_at, readable_at, writable_at, pipe_at}
+use Rattle.ws_steps.specs.Queues.{is_empty}
+use Rattle.ws_steps.specs.Slots.{Slots, has_source, has_writable, byte_at, source_at, writable_at, pipe_at}
 use Rattle.ws_flow.specs.Told.{Told, then_told}
 use Rattle.ws_laws.proofs.Lists.{Each}
 use Rattle.ws_laws.proofs.PipeDoes.{is_looking}
@@ -22,19 +24,21 @@ use Rattle.ws_pipe_laws.proofs.PassingRuns.{Few, reads_now}
 use Rattle.ws_pipe_laws.proofs.Reading.{of_effect}
 use Rattle.ws_pipe_laws.specs.PipeReads as reads
 use Rattle.ws_writable_laws.proofs.Shape.{all, all-append}
-use Rattle.ws_link_laws.specs.Link.{silence, in_sink, in_source, in_pipe, ear_at, unheard}
-use Rattle.ws_link_laws.specs.Sound.{AreApart, SourceFits, SinkFits, Closes}
+use Rattle.ws_link_laws.specs.Link.{silence, in_sink, in_source, in_pipe, ear_at, giver_at, unheard}
+use Rattle.ws_link_laws.specs.Sound.{AreApart, IsBare, SourceFits, SinkFits, Closes}
 use Rattle.ws_link_laws.proofs.Ahead.{Ahead}
 use Rattle.ws_link_laws.proofs.Telling.{tells, tells-append, hands, writes, chunk_for, chunks, coming, behind_on}
 use Rattle.ws_link_laws.proofs.Pipes.{rank}
 use Rattle.ws_link_laws.proofs.Moves.{line}
 
--- what may stand on the agenda, with a pipe that is n far: at the source only the pipe's reads, and a cancel only once it acts; and no close
--- of the destination but the pipe's
+-- what may stand on the agenda, with a pipe that is n far: at the source only the pipe's reads, and a cancel only once it acts; no BYOB reader
+-- takes it, and bytes that are enqueued are some; and no close of the destination but the pipe's
 abbrev pub IsInner : StreamId → StreamId → PipeId → ℕ → Effect → Type 0
 IsInner i j p n (OnReadable k (Read request)) = is_same i k ≡ true → is_of p request ≡ 1
 IsInner i j p n (OnReadable k (Cancel r q)) = is_same i k ≡ true → 2 ≤ n
 IsInner i j p n (OnReadable k (CancelIfReadable r q)) = is_same i k ≡ true → 2 ≤ n
+IsInner i j p n (OnByte k (InitializeByobReader c)) = is_same i k ≡ false
+IsInner i j p n (OnByte k (EnqueueBytes b)) = is_empty b ≡ false
 IsInner i j p n (OnWritable k (Close q)) = is_same j k ≡ false
 IsInner i j p n _ = Unit {0}
 
@@ -70,19 +74,21 @@ at_end-append j p (c ∷ cs) es n a = (λ e. let f = n.0 in absurd (cc), at_end-
 
 -- what holds of the records of a link
 pub record State (i j : StreamId) (p : PipeId) (s : Slots) : Type 0 where
-  pub source : has_readable i s ≡ true
+  pub source : has_source i s ≡ true
+  pub bare : IsBare (byte_at i s)
   pub sink : has_writable j s ≡ true
   pub there : slice_get s.pipes p.0 ≡ Some (pipe_at p s)
   pub from : (pipe_at p s).source ≡ i
   pub into : (pipe_at p s).dest ≡ j
   pub apart : AreApart i j p s.pipes
-  pub source_fits : SourceFits p (readable_at i s)
+  pub source_fits : SourceFits p (source_at i s)
   pub sink_fits : SinkFits (writable_at j s)
-  pub closes : Closes (pipe_at p s).phase (pipe_at p s).action ((readable_at i s).state ≡ ReadableClosed)
+  pub closes : Closes (pipe_at p s).phase (pipe_at p s).action ((source_at i s).state ≡ ReadableClosed)
 
 pub state-same : (i j : StreamId) (p : PipeId) (s z : Slots) → z.streams ≡ s.streams → z.pipes ≡ s.pipes → State i j p s → State i j p z
 state-same i j p s z e f k = record {
   source = rw e k.source;
+  bare = rw e k.bare;
   sink = rw e k.sink;
   there = rw f k.there;
   from = rw f k.from;
@@ -106,10 +112,10 @@ pub record Sound (i j : StreamId) (p : PipeId) (s : Slots) (es : List Effect) : 
 abbrev pub now : StreamId → StreamId → PipeId → Slots → List Effect → List Effect → Told Value
 now i j p z cs es =
     line (unheard (ear_at j z) z.promises.events) (then_told (tells (hands (ear_at j z)) cs) (tells (hands (ear_at j z)) es)) (in_sink (writable_at j z)) (then_told (tells (writes j) cs) (tells (writes j) es))
-    (in_pipe (pipe_at p z) (then_told (then_told (tells (chunks p) cs) (tells (chunks p) es)) (then_told (in_source (readable_at i z)) (then_told (tells (coming (owner_at i z) i) cs) (tells (coming (owner_at i z) i) es)))))
+    (in_pipe (pipe_at p z) (then_told (then_told (tells (chunks p) cs) (tells (chunks p) es)) (then_told (in_source (source_at i z)) (then_told (tells (coming (giver_at i z) i) cs) (tells (coming (giver_at i z) i) es)))))
 
 pub split : (i j : StreamId) (p : PipeId) (z : Slots) (cs es : List Effect) → behind_on i j p z (cs ++ es) ≡ now i j p z cs es
-split i j p z cs es = rw (tells-append (hands (ear_at j z)) cs es, tells-append (writes j) cs es, tells-append (chunks p) cs es, tells-append (coming (owner_at i z) i) cs es) refl
+split i j p z cs es = rw (tells-append (hands (ear_at j z)) cs es, tells-append (writes j) cs es, tells-append (chunks p) cs es, tells-append (coming (giver_at i z) i) cs es) refl
 
 -- one chunk at most is on its way to the pipe
 

@@ -1,5 +1,5 @@
 -- A call, a job and the taking of an event keep a link.
-use Rattle.std.proofs.Common.{◌≡◌, ℕ, zero, suc, ◌≤◌, true, false, is_some, List, [], ◌∷◌, ◌++◌, map, Option, Some, None, slice_get, refl, sym, ap, ◌∙◌, arith}
+use Rattle.std.proofs.Common.{◌≡◌, ℕ, zero, suc, ◌≤◌, true, false, ◌||◌, is_some, List, [], ◌∷◌, ◌++◌, map, Option, Some, None, slice_get, refl, sym, ap, ◌∙◌, arith}
 use Rattle.ws_value.specs.declared.ids.PipeId.{PipeId}
 use Rattle.ws_value.specs.declared.ids.PromiseId.{PromiseId}
 use Rattle.ws_value.specs.declared.ids.StreamId.{StreamId}
@@ -9,7 +9,6 @@ use Rattle.ws_steps.specs.declared.calls.Event.{Event}
 use Rattle.ws_steps.specs.declared.calls.Reply.{Reply}
 use Rattle.ws_steps.specs.declared.calls.Reply.TheVariants.{Promise}
 use Rattle.ws_steps.specs.declared.effects.Effect.{Effect}
-use Rattle.ws_steps.specs.declared.effects.Owner.{Owner}
 use Rattle.ws_steps.specs.declared.transform.TransformId.{TransformId}
 use Rattle.ws_steps.specs.declared.locks.Lock.{Lock}
 use Rattle.ws_steps.specs.declared.pipes.Phase.{Phase}
@@ -21,7 +20,7 @@ use Rattle.ws_steps.specs.Pipes as pipe
 use Rattle.ws_steps.specs.Promises.{next_job, after_next_job, watch}
 use Rattle.ws_steps.specs.Readable as readable
 use Rattle.ws_steps.specs.Run.{Entry, Called, Worked, Heard, step, run, older, after_call, after_job, after_event, first_event, later_events}
-use Rattle.ws_steps.specs.Slots.{Slots, Stream, ReadableStream, WritableStream, Done, empty, with_promises, owner_of, owner_at, readable_at, writable_at, pipe_at, is_readable_stream, is_writable_stream, as_readable, as_writable, as_pipe}
+use Rattle.ws_steps.specs.Slots.{Slots, Stream, ReadableStream, WritableStream, Done, empty, with_promises, owner_of, owner_at, writable_at, pipe_at, is_readable_stream, is_writable_stream, as_writable, as_pipe}
 use Rattle.ws_steps.specs.Turns.{row, performed}
 use Rattle.ws_steps.specs.Writable as writable
 use Rattle.ws_steps.specs.WritableHistory.{Writes, no_writes, writes_then, effect_writes, run_writes}
@@ -33,7 +32,7 @@ use Rattle.ws_laws.proofs.Lists.{Each, each-map}
 use Rattle.ws_laws.proofs.Rows.{row-locks}
 use Rattle.ws_laws.proofs.Shapes.{stream_shape, transform_shape}
 use Rattle.ws_laws.proofs.Walker as walker
-use Rattle.ws_laws.proofs.Tables.{readable_there, writable_there}
+use Rattle.ws_laws.proofs.Tables.{writable_there}
 use Rattle.ws_room_laws.proofs.Turns.{performed-kept}
 use Rattle.ws_pipe_laws.specs.PipeHistory.{Through, run_through}
 use Rattle.ws_pipe_laws.specs.PipeReads.{in_stream}
@@ -44,13 +43,17 @@ use Rattle.ws_transform_laws.proofs.Halving.{Going, going, going-rests, none-goi
 use Rattle.ws_link_laws.specs.Link.{silence, in_sink, in_source, held_items, piped_by, in_pipe, lies, Ear, ear_at, heard_of, unheard, behind, enters, job_enters, next_enters, leaves}
 use Rattle.ws_link_laws.specs.Sound.{IsReached, all_spare, elsewhere, AreApart, IsLink}
 use Rattle.ws_link_laws.proofs.Ahead.{Ahead, IsLate, Placed, flushes, late-silent, late-front, late-first}
-use Rattle.ws_link_laws.proofs.Hosts.{Hosts, source-owner, sink-owner, reached-hosts, hosts-same, hosts-grown, ear-same, grown-shape}
+use Rattle.ws_link_laws.proofs.Hosts.{Hosts, sink-owner, reached-hosts, hosts-same, hosts-grown, ear-same, grown-shape}
 use Rattle.ws_link_laws.proofs.Telling.{if_same, tells, IsSilent, silent-all, writes, chunks, coming, behind_on, behind_on-nothing}
 use Rattle.ws_link_laws.proofs.Unheard.{next-unheard, watch-unheard}
 use Rattle.ws_link_laws.proofs.Pipes.{rank}
 use Rattle.ws_link_laws.proofs.Standing.{IsInner, IsNotLast, IsStill, AtEnd, State, state-same, Sound}
 use Rattle.ws_link_laws.proofs.Turns.{row-turned}
 use Rattle.ws_link_laws.proofs.Calls.{IsOuter, outer-inner, outer-last, outer-late, outer-placed, outer-writes, outer-chunks, Begins, call-begins}
+use Rattle.ws_steps.specs.Slots.{ByteStream}
+use Rattle.ws_steps.specs.Bytes as byte
+use Rattle.ws_link_laws.specs.Link.{Giver, giver_at}
+use Rattle.ws_steps.specs.Slots.{no_readable, has_source, source_at, is_byte_stream}
 
 -- where the realm came from
 
@@ -85,6 +88,7 @@ link-sound i j p s l =
     record {
       state = record {
         source = l.source;
+        bare = l.bare;
         sink = l.sink;
         there = l.there;
         from = l.from;
@@ -108,6 +112,7 @@ sound-link i j p s r a h =
     record {
       reached = r;
       source = h.state.source;
+      bare = h.state.bare;
       sink = h.state.sink;
       source_owner = h.ahead.hosts.source_kind;
       sink_owner = h.ahead.hosts.sink_kind;
@@ -207,7 +212,7 @@ pub job-chunks : (p : PipeId) (job : Job) → Each (IsSilent (chunks p)) (job_ef
 job-chunks p job = grind arith
 
 -- nothing comes but the end, after a flush that went well
-pub job-coming : (o : Owner) (i : StreamId) (job : Job) → tells (coming o i) (job_effects job) ≡ job_enters o job
+pub job-coming : (o : Giver) (i : StreamId) (job : Job) → tells (coming o i) (job_effects job) ≡ job_enters o job
 job-coming o i job = grind (arith, if_same, then_empty)
 
 still-none : (j : StreamId) (p : PipeId) → IsStill j p []
@@ -229,7 +234,7 @@ begun-ahead i j s job e a =
       first = late-first (ear_at j s) (is_some (writable_at j z).close_in_flight) (job_effects job) (each-map (IsLate (ear_at j s)) (λ e. flushes (ear_at j s) e ≡ false) (λ e l. l.1) (job_effects job) late);
     }
 
-pub begun-from : (i j : StreamId) (p : PipeId) (s : Slots) (o : Option Job) → o ≡ next_job s.promises → Sound i j p s [] → From i j p (then_told (behind i j p s) (next_enters (owner_at i s) o)) s.locks (job_begun s o).slots (job_begun s o).caused
+pub begun-from : (i j : StreamId) (p : PipeId) (s : Slots) (o : Option Job) → o ≡ next_job s.promises → Sound i j p s [] → From i j p (then_told (behind i j p s) (next_enters (giver_at i s) o)) s.locks (job_begun s o).slots (job_begun s o).caused
 begun-from i j p s None e h = record { sound = h; short = rw (behind_on-nothing i j p s, then_empty (behind i j p s)) (short_refl (behind i j p s)); same = refl }
 begun-from i j p s (Some job) e h =
     let z : Slots = with_promises (after_next_job s.promises) s in
@@ -250,18 +255,18 @@ begun-from i j p s (Some job) e h =
         late-silent (ear_at j s) (job_effects job) (job-late (ear_at j s) job),
         silent-all (writes j) (job_effects job) (job-writes j job),
         silent-all (chunks p) (job_effects job) (job-chunks p job),
-        job-coming (owner_at i s) i job,
+        job-coming (giver_at i s) i job,
         next-unheard (ear_at j s) s.promises,
-        comes-last (unheard (ear_at j s) s.promises.events) (in_sink (writable_at j s)) (pipe_at p s) (in_source (readable_at i s)) (job_enters (owner_at i s) job),
-      ) (short_refl (then_told (behind i j p s) (job_enters (owner_at i s) job)));
+        comes-last (unheard (ear_at j s) s.promises.events) (in_sink (writable_at j s)) (pipe_at p s) (in_source (source_at i s)) (job_enters (giver_at i s) job),
+      ) (short_refl (then_told (behind i j p s) (job_enters (giver_at i s) job)));
       same = refl;
     }
 
 -- a job, or none, keeps a link, and lets nothing in but the end that it brings
-pub link-worked : (i j : StreamId) (p : PipeId) (s : Slots) → IsLink i j p s → IsLink i j p (after_job s) × IsShortOf (behind i j p (after_job s)) (then_told (behind i j p s) (next_enters (owner_at i s) (next_job s.promises)))
+pub link-worked : (i j : StreamId) (p : PipeId) (s : Slots) → IsLink i j p s → IsLink i j p (after_job s) × IsShortOf (behind i j p (after_job s)) (then_told (behind i j p s) (next_enters (giver_at i s) (next_job s.promises)))
 unfolding begin_job
 link-worked i j p s l =
-    let t : Told Value = then_told (behind i j p s) (next_enters (owner_at i s) (next_job s.promises)) in
+    let t : Told Value = then_told (behind i j p s) (next_enters (giver_at i s) (next_job s.promises)) in
     let b = begun-from i j p s (next_job s.promises) refl (link-sound i j p s l) in
     from-link i j p t s.locks (after_job s) (reached-step s Worked l.reached) l.locks
     (older-from i j p t s.locks (performed (job_begun s (next_job s.promises))) (performed-from i j p t s.locks (job_begun s (next_job s.promises)) b))
@@ -273,16 +278,29 @@ place-append [] y x n e = cc
 place-append (z ∷ xs) y x zero e = e
 place-append (z ∷ xs) y x (suc n) e = place-append xs y x n e
 
+-- the stream of this number, where there is one
+
+abbrev pub the_stream : Option Stream → Stream
+the_stream None = ReadableStream no_readable
+the_stream (Some x) = x
+
+abbrev pub stream_at : StreamId → Slots → Stream
+stream_at i s = the_stream (slice_get s.streams i.0)
+
+pub source_there : (o : Option Stream) → is_readable_stream o || is_byte_stream o ≡ true → o ≡ Some (the_stream o)
+source_there None e = cc
+source_there (Some x) e = refl
+
 -- what a call makes leaves what there was
 pub record Grown (i j : StreamId) (p : PipeId) (s z : Slots) : Type 0 where
-  pub source : slice_get z.streams i.0 ≡ Some (ReadableStream (readable_at i s))
+  pub source : slice_get z.streams i.0 ≡ Some (stream_at i s)
   pub sink : slice_get z.streams j.0 ≡ Some (WritableStream (writable_at j s))
   pub there : slice_get z.pipes p.0 ≡ Some (pipe_at p s)
   pub only : except p i.0 z.streams ≤ 0
 
 stream-grown : (i j : StreamId) (p : PipeId) (s z : Slots) (y : Stream) → in_stream p y ≡ 0 → Grown i j p s z → Grown i j p s (add_stream y z)
 stream-grown i j p s z y n g = record {
-  source = place-append z.streams y (ReadableStream (readable_at i s)) i.0 g.source;
+  source = place-append z.streams y (stream_at i s) i.0 g.source;
   sink = place-append z.streams y (WritableStream (writable_at j s)) j.0 g.sink;
   there = g.there;
   only = let a = except-append p i.0 z.streams y n in let w = g.only in omega (arith, a, w);
@@ -296,29 +314,35 @@ call-grown i j p c s z g = begin-makes (Grown i j p s) (record {
   pipe = λ z source dest prevent signal promise g. record { source = g.source; sink = g.sink; there = place-append z.pipes _ (pipe_at p s) p.0 g.there; only = g.only };
   signal = λ z g. record { source = g.source; sink = g.sink; there = g.there; only = g.only };
   transform = λ z kind w r change g. record { source = g.source; sink = g.sink; there = g.there; only = g.only };
+  bytes = λ z mark auto g. stream-grown i j p s z (ByteStream (byte.set_up mark auto)) refl g;
+  byob_requests = λ z hs g. record { source = g.source; sink = g.sink; there = g.there; only = g.only };
   readable = λ z owner mark size g. stream-grown i j p s z (ReadableStream (readable.set_up owner mark size)) refl g;
   writable = λ z owner mark size g. stream-grown i j p s z (WritableStream (writable.set_up owner mark size)) refl g;
 }) c z g
 
 link-grown : (i j : StreamId) (p : PipeId) (s : Slots) → Sound i j p s [] → Grown i j p s s
 link-grown i j p s h = record {
-  source = readable_there (slice_get s.streams i.0) h.state.source;
+  source = source_there (slice_get s.streams i.0) h.state.source;
   sink = writable_there (slice_get s.streams j.0) h.state.sink;
   there = h.state.there;
   only = let w = h.only in omega (arith, w);
 }
 
+pub grown-source : (i j : StreamId) (p : PipeId) (s z : Slots) → Grown i j p s z → has_source i s ≡ true → slice_get z.streams i.0 ≡ slice_get s.streams i.0
+grown-source i j p s z g there = g.source ∙ sym (source_there (slice_get s.streams i.0) there)
+
 pub grown-state : (i j : StreamId) (p : PipeId) (s z : Slots) → Grown i j p s z → AreApart i j p z.pipes → State i j p s → State i j p z
 grown-state i j p s z g a st = record {
-  source = ap is_readable_stream g.source;
+  source = rw (grown-source i j p s z g st.source) st.source;
+  bare = rw (grown-source i j p s z g st.source) st.bare;
   sink = ap is_writable_stream g.sink;
   there = rw (ap as_pipe g.there) g.there;
   from = rw (ap as_pipe g.there) st.from;
   into = rw (ap as_pipe g.there) st.into;
   apart = a;
-  source_fits = rw (ap as_readable g.source) st.source_fits;
+  source_fits = rw (grown-source i j p s z g st.source) st.source_fits;
   sink_fits = rw (ap as_writable g.sink) st.sink_fits;
-  closes = rw (ap as_pipe g.there, ap as_readable g.source) st.closes;
+  closes = rw (ap as_pipe g.there, grown-source i j p s z g st.source) st.closes;
 }
 
 pub reached-is : (s : Slots) (p : PipeId) → IsReached s → (h : Through) × Is p h s []
@@ -333,12 +357,12 @@ module _ (i j : StreamId) (p : PipeId) (s : Slots) (c : Call) (l : IsLink i j p 
   d = (begin c s).done
 
   abbrev pub t : Told Value
-  t = then_told (behind i j p s) (enters (owner_at i s) i c)
+  t = then_told (behind i j p s) (enters (giver_at i s) i c)
 
   before : Sound i j p s []
   before = link-sound i j p s l
 
-  pub begins : Begins i j p s (enters (owner_at i s) i c) (begin c s)
+  pub begins : Begins i j p s (enters (giver_at i s) i c) (begin c s)
   begins = call-begins i j p s l.source before.ahead.hosts.halved l.locks l.apart c leave
 
   pub grown : Grown i j p s d.slots
@@ -354,8 +378,14 @@ module _ (i j : StreamId) (p : PipeId) (s : Slots) (c : Call) (l : IsLink i j p 
 
   -- whose the ends are
 
+  at-source : slice_get d.slots.streams i.0 ≡ slice_get s.streams i.0
+  at-source = grown-source i j p s d.slots grown l.source
+
   same-source : owner_at i d.slots ≡ owner_at i s
-  same-source = ap owner_of grown.source ∙ sym (source-owner i s l.source)
+  same-source = ap owner_of at-source
+
+  same-giver : giver_at i d.slots ≡ giver_at i s
+  same-giver = rw at-source refl
 
   same-sink : owner_at j d.slots ≡ owner_at j s
   same-sink = ap owner_of grown.sink ∙ sym (sink-owner j s l.sink)
@@ -368,7 +398,7 @@ module _ (i j : StreamId) (p : PipeId) (s : Slots) (c : Call) (l : IsLink i j p 
 
   pub begun-ahead_of : Ahead i j d.slots d.caused
   begun-ahead_of = record {
-    hosts = hosts-grown i j s d.slots grown.source grown.sink same-source same-sink (call-among c s) (halved-stays.call s c before.ahead.hosts.halved) before.ahead.hosts;
+    hosts = hosts-grown i j s d.slots (rw at-source l.source) grown.sink same-source same-sink (call-among c s) (halved-stays.call s c before.ahead.hosts.halved) before.ahead.hosts;
     history = before.ahead.history;
     going = λ t. (going j t).call before.ahead.history s c (before.ahead.going t);
     placed = rw same-ear (each-map (IsOuter i j) (Placed j (ear_at j s) d.slots) (outer-placed (ear_at j s) d.slots i j) d.caused begins.outer);
@@ -397,10 +427,10 @@ module _ (i j : StreamId) (p : PipeId) (s : Slots) (c : Call) (l : IsLink i j p 
         ends = append_ends j p d.caused begun-last;
       }
 
-  begun-told : behind_on i j p d.slots d.caused ≡ then_told (behind i j p s) (tells (coming (owner_at i s) i) d.caused)
+  begun-told : behind_on i j p d.slots d.caused ≡ then_told (behind i j p s) (tells (coming (giver_at i s) i) d.caused)
   begun-told =
-      rw (same-ear, same-source, late-silent (ear_at j s) d.caused begun-late, begun-writes, begun-chunks, begins.heard (ear_at j s), ap as_pipe grown.there, ap as_readable grown.source, ap as_writable grown.sink)
-      (comes-last (unheard (ear_at j s) s.promises.events) (in_sink (writable_at j s)) (pipe_at p s) (in_source (readable_at i s)) (tells (coming (owner_at i s) i) d.caused))
+      rw (same-ear, same-giver, late-silent (ear_at j s) d.caused begun-late, begun-writes, begun-chunks, begins.heard (ear_at j s), ap as_pipe grown.there, at-source, ap as_writable grown.sink)
+      (comes-last (unheard (ear_at j s) s.promises.events) (in_sink (writable_at j s)) (pipe_at p s) (in_source (source_at i s)) (tells (coming (giver_at i s) i) d.caused))
 
   pub begun : From i j p t d.slots.locks d.slots d.caused
   begun = record { sound = begun-sound; short = rw begun-told begins.comes; same = refl }
@@ -412,7 +442,7 @@ module _ (i j : StreamId) (p : PipeId) (s : Slots) (c : Call) (l : IsLink i j p 
       (older-from i j p t d.slots.locks z (named-from i j p t d.slots.locks (begin c s).reply (performed d) (performed-from i j p t d.slots.locks d begun)))
 
 -- a call that leaves the link alone keeps it, and brings what it enters
-pub link-called : (i j : StreamId) (p : PipeId) (s : Slots) (c : Call) → IsLink i j p s → leaves i j c ≡ true → IsLink i j p (after_call c s) × IsShortOf (behind i j p (after_call c s)) (then_told (behind i j p s) (enters (owner_at i s) i c))
+pub link-called : (i j : StreamId) (p : PipeId) (s : Slots) (c : Call) → IsLink i j p s → leaves i j c ≡ true → IsLink i j p (after_call c s) × IsShortOf (behind i j p (after_call c s)) (then_told (behind i j p s) (enters (giver_at i s) i c))
 link-called i j p s c l leave = called i j p s c l leave
 
 -- what the host does between steps
@@ -421,6 +451,7 @@ quiet-link : (i j : StreamId) (p : PipeId) (s z : Slots) → IsReached z → z.s
 quiet-link i j p s z r e d f g l = let h = reached-hosts i j s l.reached l.source l.sink l.source_owner l.sink_owner in record {
   reached = r;
   source = rw e l.source;
+  bare = rw e l.bare;
   sink = rw e l.sink;
   source_owner = (hosts-same i j s z (ap (map stream_shape) e) (ap (map transform_shape) d) h).source_kind;
   sink_owner = (hosts-same i j s z (ap (map stream_shape) e) (ap (map transform_shape) d) h).sink_kind;

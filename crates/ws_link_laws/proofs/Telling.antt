@@ -4,9 +4,7 @@ use Rattle.ws_value.specs.declared.ids.PipeId.{PipeId}
 use Rattle.ws_value.specs.declared.ids.StreamId.{StreamId}
 use Rattle.ws_value.specs.declared.value.Value.{Value}
 use Rattle.ws_steps.specs.declared.effects.Effect.{Effect}
-use Rattle.ws_steps.specs.declared.effects.Effect.TheVariants.{Readable as OnReadable, Writable as OnWritable, Pipe as OnPipe, Transform as OnTransform, ChunkSteps, CallHost}
-use Rattle.ws_steps.specs.declared.effects.Owner.{Owner}
-use Rattle.ws_steps.specs.declared.effects.Owner.TheVariants.{Host, HalfOf}
+use Rattle.ws_steps.specs.declared.effects.Effect.TheVariants.{Readable as OnReadable, Byte as OnByte, Writable as OnWritable, Pipe as OnPipe, Transform as OnTransform, ChunkSteps, CallHost}
 use Rattle.ws_steps.specs.declared.pipes.PipeOperation.TheVariants.{KeepChunk}
 use Rattle.ws_steps.specs.declared.readable.ReadRequest.{ReadRequest}
 use Rattle.ws_steps.specs.declared.readable.ReadRequest.TheVariants.{Promise, Pipe as PipeRequest}
@@ -16,12 +14,12 @@ use Rattle.ws_steps.specs.declared.transform.TransformOperation.TheVariants.{Tra
 use Rattle.ws_steps.specs.declared.writable.WritableOperation.{WritableOperation}
 use Rattle.ws_steps.specs.declared.writable.WritableOperation.TheVariants.{Write, Close as CloseWritable, ClosePropagating}
 use Rattle.ws_steps.specs.Histories.{is_same}
-use Rattle.ws_steps.specs.Slots.{Slots, owner_at, readable_at, writable_at, pipe_at}
+use Rattle.ws_steps.specs.Slots.{Slots, source_at, writable_at, pipe_at}
 use Rattle.ws_flow.specs.Told.{Open, Closed, Lost, Told, told, then_told, IsShortOf}
 use Rattle.ws_flow.proofs.Told.{then_assoc, then_empty}
 use Rattle.ws_laws.proofs.Lists.{Each}
-use Rattle.ws_link_laws.specs.Entering.{entered}
-use Rattle.ws_link_laws.specs.Link.{Ear, OfSink, OfTransform, silence, in_sink, in_source, in_pipe, ear_at, heard_call, unheard, behind}
+use Rattle.ws_link_laws.specs.Entering.{entered, bytes_entered}
+use Rattle.ws_link_laws.specs.Link.{Ear, OfSink, OfTransform, Giver, OfSource, OfByteSource, OfHalf, giver_at, silence, in_sink, in_source, in_pipe, ear_at, heard_call, unheard, behind}
 
 pub if_same : (b : Bool) → (if b then silence else silence) ≡ silence
 if_same true = refl
@@ -85,9 +83,10 @@ chunks p (OnPipe q (KeepChunk v)) = if nat_eq p.0 q.0 then told (v ∷ []) Open 
 chunks p _ = silence
 
 -- the transform stream of which a source is a half
-abbrev pub is_of : Owner → TransformId → Bool
-is_of Host k = false
-is_of (HalfOf t) k = nat_eq t.0 k.0
+abbrev pub is_of : Giver → TransformId → Bool
+is_of OfSource k = false
+is_of OfByteSource k = false
+is_of (OfHalf t) k = nat_eq t.0 k.0
 
 -- what an operation of a transform stream lets into its readable half
 abbrev pub entered_by : TransformOperation → Told Value
@@ -97,10 +96,11 @@ entered_by (FlushSettled p (Ok v)) = told [] Closed
 entered_by _ = silence
 
 -- what is about to enter the source
-abbrev pub coming : Owner → StreamId → Effect → Told Value
-coming o i (OnReadable k operation) = if is_same i k then entered operation else silence
-coming o i (OnTransform k operation) = if is_of o k then entered_by operation else silence
-coming o i _ = silence
+abbrev pub coming : Giver → StreamId → Effect → Told Value
+coming g i (OnReadable k operation) = if is_same i k then entered g operation else silence
+coming g i (OnByte k operation) = if is_same i k then bytes_entered g operation else silence
+coming g i (OnTransform k operation) = if is_of g k then entered_by operation else silence
+coming g i _ = silence
 
 -- what is behind the host, with these effects on the agenda
 abbrev pub behind_on : StreamId → StreamId → PipeId → Slots → List Effect → Told Value
@@ -110,7 +110,7 @@ behind_on i j p s es =
     (then_told (in_sink (writable_at j s))
     (then_told (tells (writes j) es)
     (in_pipe (pipe_at p s)
-    (then_told (tells (chunks p) es) (then_told (in_source (readable_at i s)) (tells (coming (owner_at i s) i) es)))))))
+    (then_told (tells (chunks p) es) (then_told (in_source (source_at i s)) (tells (coming (giver_at i s) i) es)))))))
 
 pub behind_on-nothing : (i j : StreamId) (p : PipeId) (s : Slots) → behind_on i j p s [] ≡ behind i j p s
-behind_on-nothing i j p s = rw (then_empty (in_source (readable_at i s))) refl
+behind_on-nothing i j p s = rw (then_empty (in_source (source_at i s))) refl

@@ -1,5 +1,5 @@
 -- What an operation of a transform stream leaves of a link.
-use Rattle.std.proofs.Common.{◌≡◌, ◌⊎◌, inl, inr, ℕ, true, false, nat_eq, List, [], Option, Some, None, Ok, Err, slice_get, refl, sym, ◌∙◌, arith}
+use Rattle.std.proofs.Common.{◌≡◌, ◌⊎◌, inl, inr, ℕ, Bool, true, false, nat_eq, List, [], ◌∷◌, Option, Some, None, Ok, Err, slice_get, refl, sym, ◌∙◌, arith}
 use Rattle.ws_value.specs.declared.ids.PipeId.{PipeId}
 use Rattle.ws_value.specs.declared.ids.PromiseId.{PromiseId}
 use Rattle.ws_value.specs.declared.ids.StreamId.{StreamId}
@@ -26,20 +26,22 @@ use Rattle.ws_steps.specs.Histories.{is_same}
 use Rattle.ws_steps.specs.Operations.{transform_operation}
 use Rattle.ws_steps.specs.Promises.{Table}
 use Rattle.ws_steps.specs.Readable as readable
-use Rattle.ws_steps.specs.Slots.{Slots, found, halves_at, on_transform_at, owner_at, readable_at}
+use Rattle.ws_steps.specs.Slots.{Slots, Stream, found, halves_at, has_byte, on_transform_at, owner_at, source_at, readable_at, is_byte_stream, as_readable, as_source}
 use Rattle.ws_steps.specs.Transform as transform
 use Rattle.ws_steps.specs.Transform.{Acts, set_backpressure, unblock, transform_error, terminate, enqueue, enqueued, transform_by, transform_chunk, sink_write, write_in, write_goes_on, source_pull, algorithm, finish_by, sink_close, sink_abort, source_cancel, flushed_in, flush_settled, aborted_in, abort_settled, cancelled_in, cancel_settled}
 use Rattle.ws_steps.specs.Turns.{row}
-use Rattle.ws_flow.specs.Told.{Closed, Lost, Told, told, then_told, IsShortOf}
+use Rattle.ws_flow.specs.Told.{Open, Closed, Lost, Told, told, then_told, IsShortOf}
 use Rattle.ws_flow.proofs.Told.{short_refl}
 use Rattle.ws_laws.proofs.Lists.{Each, each-map}
 use Rattle.ws_laws.proofs.Tables.{is_same-refl}
 use Rattle.ws_laws.proofs.TransformDoes.{IsCallOf, TransformCauses, transform-causes}
+use Rattle.ws_link_laws.specs.Entering.{chunk_in}
 use Rattle.ws_link_laws.specs.Link.{Ear, OfSink, OfTransform, silence, in_source, ear_at, heard_call}
 use Rattle.ws_link_laws.proofs.Ahead.{flushes, taken-silent}
 use Rattle.ws_link_laws.proofs.Hosts.{Hosts, Source, AtSource, OwnSource, OtherSource, hosts-source, at-source, no-source, AtSink, OwnSink, OtherSink, at-sink, no-sink}
 use Rattle.ws_link_laws.proofs.Telling.{is_of, is_in, if_same, tells, IsSilent, silent-all, taken, hands, writes, chunks, coming}
 use Rattle.ws_link_laws.proofs.Standing.{IsInner, IsNotLast}
+use Rattle.ws_link_laws.specs.Link.{giver_at, Giver, OfSource, OfByteSource, OfHalf, giver_by}
 
 -- it writes nothing, and brings no chunk to a pipe
 
@@ -49,7 +51,7 @@ caused-writes j t w r e c = grind (arith, c, if_same)
 pub caused-chunks : (p : PipeId) (t : TransformId) (w r : StreamId) (e : Effect) → TransformCauses t w r e → IsSilent (chunks p) e
 caused-chunks p t w r e c = grind (arith, c)
 
-caused-coming : (o : Owner) (i : StreamId) (t : TransformId) (w r : StreamId) (e : Effect) → is_same i r ≡ false → TransformCauses t w r e → IsSilent (coming o i) e
+caused-coming : (o : Giver) (i : StreamId) (t : TransformId) (w r : StreamId) (e : Effect) → is_same i r ≡ false → TransformCauses t w r e → IsSilent (coming o i) e
 caused-coming o i t w r e n c = grind (arith, n, c, if_same)
 
 pub caused-inner : (i j : StreamId) (p : PipeId) (n : ℕ) (t : TransformId) (w r : StreamId) (e : Effect) → TransformCauses t w r e → IsInner i j p n e
@@ -64,11 +66,11 @@ pub data Says (w : Ear) (e : Effect) (cs : List Effect) : Type 0 where
   Flushes : flushes w e ≡ true → hands w e ≡ silence → tells (hands w) cs ≡ told [] Closed → Says w e cs
 
 -- what enters a source in its place: the same, or nothing does, since the source is errored
-pub data Lets (o : Owner) (i : StreamId) (r : readable.Slots) (e : Effect) (cs : List Effect) : Type 0 where
+pub data Lets (o : Giver) (i : StreamId) (r : readable.Slots) (e : Effect) (cs : List Effect) : Type 0 where
   AsAsked : tells (coming o i) cs ≡ coming o i e → Lets o i r e cs
   IsLost : r.state ≡ ReadableErrored → tells (coming o i) cs ≡ silence → coming o i e ≡ told [] Closed → Lets o i r e cs
 
-pub lets-short : (o : Owner) (i : StreamId) (r : readable.Slots) (e : Effect) (cs : List Effect) (M : Told Value) → Lets o i r e cs → IsShortOf (then_told (in_source r) (then_told (tells (coming o i) cs) M)) (then_told (in_source r) (then_told (coming o i e) M))
+pub lets-short : (o : Giver) (i : StreamId) (r : readable.Slots) (e : Effect) (cs : List Effect) (M : Told Value) → Lets o i r e cs → IsShortOf (then_told (in_source r) (then_told (tells (coming o i) cs) M)) (then_told (in_source r) (then_told (coming o i e) M))
 lets-short o i r e cs M (AsAsked is) = rw is (short_refl _)
 lets-short o i r e cs M (IsLost lost none end) = rw lost (short_refl (told [] Lost))
 
@@ -160,7 +162,13 @@ module _ (j : StreamId) (w : Ear) (me : TransformId) (halves : Halves) (x : tran
   operation-says (names.CancelSettled p r (Ok v)) = AsBefore (cancelled-silent p r halves.writable_state)
   operation-says (names.CancelSettled p r (Err e)) = AsBefore refl
 
-module _ (i : StreamId) (o : Owner) (me : TransformId) (halves : Halves) (x : transform.Slots) (t : Table) (r : readable.Slots) (n : is_of o me ≡ true) (is : x.readable ≡ i) (kind : x.kind ≡ HostKind) (state : halves.readable_state ≡ r.state) where
+-- a half lets chunks in
+half-chunk : (g : Giver) (t : TransformId) (v : Value) → is_of g t ≡ true → chunk_in g v ≡ told (v ∷ []) Open
+half-chunk OfSource t v e = cc
+half-chunk OfByteSource t v e = cc
+half-chunk (OfHalf k) t v e = refl
+
+module _ (i : StreamId) (o : Giver) (me : TransformId) (halves : Halves) (x : transform.Slots) (t : Table) (r : readable.Slots) (n : is_of o me ≡ true) (is : x.readable ≡ i) (kind : x.kind ≡ HostKind) (state : halves.readable_state ≡ r.state) where
   abbrev b : Acts
   b = record { slots = x; out = record { promises = t; effects = [] } }
 
@@ -171,7 +179,7 @@ module _ (i : StreamId) (o : Owner) (me : TransformId) (halves : Halves) (x : tr
 
   enqueue-enters : (v : Value) → As (names.Enqueue v) (enqueue me v b)
   unfolding enqueue
-  enqueue-enters v = let s = is_same-refl i in rw (is, n, s) refl
+  enqueue-enters v = let s = is_same-refl i in let c = half-chunk o me v n in rw (is, n, s, c) refl
 
   terminate-enters : As names.Terminate (terminate me b)
   unfolding terminate
@@ -216,13 +224,22 @@ module _ (i : StreamId) (o : Owner) (me : TransformId) (halves : Halves) (x : tr
   operation-lets (names.CancelSettled p e (Ok v)) = AsAsked (rw n (cancelled-enters p e halves.writable_state))
   operation-lets (names.CancelSettled p e (Err f)) = AsAsked (rw n refl)
 
-asked-of : (o : Owner) (i : StreamId) (k : TransformId) (operation : TransformOperation) → is_of o k ≡ false → coming o i (OnTransform k operation) ≡ silence
+asked-of : (o : Giver) (i : StreamId) (k : TransformId) (operation : TransformOperation) → is_of o k ≡ false → coming o i (OnTransform k operation) ≡ silence
 asked-of o i k operation n = rw n refl
+
+-- and has a default controller
+
+half-default : (b : Bool) (o : Owner) (t : TransformId) → is_of (giver_by b o) t ≡ true → b ≡ false
+half-default true o t e = cc
+half-default false o t e = refl
+
+pub default-source : (o : Option Stream) → is_byte_stream o ≡ false → as_source o ≡ as_readable o
+default-source o e = grind (arith, e)
 
 -- whichever transform stream there is
 pub lets-at : (i : StreamId) (s : Slots) (t : TransformId) (operation : TransformOperation) → Source i s → (o : Option transform.Slots) → slice_get s.transforms t.0 ≡ o
-    → Lets (owner_at i s) i (readable_at i s) (OnTransform t operation) (on_transform_at (λ halves. transform_operation t halves operation) t s o).caused
-lets-at i s t operation h None e = AsAsked (sym (asked-of (owner_at i s) i t operation (no-source i s t h e)))
+    → Lets (giver_at i s) i (source_at i s) (OnTransform t operation) (on_transform_at (λ halves. transform_operation t halves operation) t s o).caused
+lets-at i s t operation h None e = AsAsked (sym (asked-of (giver_at i s) i t operation (no-source i s t h e)))
 lets-at i s t operation h (Some x) e = by (at-source i s t x h e)
   where
     causes : List Effect
@@ -231,15 +248,17 @@ lets-at i s t operation h (Some x) e = by (at-source i s t x h e)
     each : Each (TransformCauses t x.writable x.readable) causes
     each = (transform-causes t (halves_at x s) operation (record { slots = x; out = found s }) tt).1.1.1
 
-    by : AtSource i (owner_at i s) t x → Lets (owner_at i s) i (readable_at i s) (OnTransform t operation) causes
-    by (OwnSource own is kind) = operation-lets i (owner_at i s) t (halves_at x s) x s.promises (readable_at i s) own is kind (rw is refl) operation
+    by : AtSource i (giver_at i s) t x → Lets (giver_at i s) i (source_at i s) (OnTransform t operation) causes
+    by (OwnSource own is kind) =
+        let r : source_at i s ≡ readable_at i s = default-source (slice_get s.streams i.0) (half-default (has_byte i s) (owner_at i s) t own) in
+        operation-lets i (giver_at i s) t (halves_at x s) x s.promises (source_at i s) own is kind (rw (is, r) refl) operation
     by (OtherSource other far) =
-        AsAsked (silent-all (coming (owner_at i s) i) causes (each-map _ (IsSilent (coming (owner_at i s) i)) (λ u k. caused-coming (owner_at i s) i t x.writable x.readable u far k) causes each) ∙ sym (asked-of (owner_at i s) i t operation other))
+        AsAsked (silent-all (coming (giver_at i s) i) causes (each-map _ (IsSilent (coming (giver_at i s) i)) (λ u k. caused-coming (giver_at i s) i t x.writable x.readable u far k) causes each) ∙ sym (asked-of (giver_at i s) i t operation other))
 
 -- what it leaves of a link
 pub record Outside (i j : StreamId) (p : PipeId) (n : ℕ) (s : Slots) (e : Effect) (cs : List Effect) : Type 0 where
   pub says : Says (ear_at j s) e cs
-  pub lets : Lets (owner_at i s) i (readable_at i s) e cs
+  pub lets : Lets (giver_at i s) i (source_at i s) e cs
   pub writes : tells (writes j) cs ≡ silence
   pub chunks : tells (chunks p) cs ≡ silence
   pub inner : Each (IsInner i j p n) cs

@@ -9,7 +9,7 @@ use Rattle.ws_value.specs.declared.value.Value.{Value}
 use Rattle.ws_steps.specs.declared.calls.HostCall.{HostCall}
 use Rattle.ws_steps.specs.declared.calls.StartBy.TheVariants.{Now, Later}
 use Rattle.ws_steps.specs.declared.effects.Effect.{Effect}
-use Rattle.ws_steps.specs.declared.effects.Effect.TheVariants.{Readable as OnReadable, Writable as OnWritable, Pipe as OnPipe, Signal as OnSignal, Transform as OnTransform, StartAlgorithm, PullAlgorithm, CancelAlgorithm, WriteAlgorithm, CloseAlgorithm, AbortAlgorithm, ChunkSteps, CloseSteps, ErrorSteps, Give, Settle, Queue, CallHost}
+use Rattle.ws_steps.specs.declared.effects.Effect.TheVariants.{Readable as OnReadable, Byte as OnByte, Writable as OnWritable, Pipe as OnPipe, Signal as OnSignal, Transform as OnTransform, StartAlgorithm, PullAlgorithm, CancelAlgorithm, WriteAlgorithm, CloseAlgorithm, AbortAlgorithm, ChunkSteps, CloseSteps, ErrorSteps, Give, Settle, Queue, CallHost}
 use Rattle.ws_steps.specs.declared.effects.Owner.{Owner}
 use Rattle.ws_steps.specs.declared.effects.Owner.TheVariants.{Host, HalfOf}
 use Rattle.ws_steps.specs.declared.effects.Use.{Use}
@@ -22,33 +22,34 @@ use Rattle.ws_steps.specs.declared.readable.ReadRequest.TheVariants.{Promise, Pi
 use Rattle.ws_steps.specs.declared.transform.TransformId.{TransformId}
 use Rattle.ws_steps.specs.declared.transform.TransformOperation.{TransformOperation}
 use Rattle.ws_steps.specs.Histories.{is_same}
-use Rattle.ws_steps.specs.Slots.{Slots, readable_at, writable_at, pipe_at, owner_at}
+use Rattle.ws_steps.specs.Slots.{Slots, source_at, writable_at, pipe_at, owner_at}
 use Rattle.ws_steps.specs.Turns.{row, pull_algorithm, cancel_algorithm, write_algorithm, close_algorithm, abort_algorithm}
 use Rattle.ws_flow.specs.Told.{Closed, Told, told, then_told, IsShortOf}
 use Rattle.ws_flow.proofs.Told.{then_empty, short_refl, short_left, short_trans}
 use Rattle.ws_laws.proofs.Lists.{Each, each-append}
 use Rattle.ws_laws.proofs.Rows.{IsApart, IsNoPipe, SignalCauses, row-causes, row-pipes, row-streams}
-use Rattle.ws_laws.proofs.Shapes.{row-owner}
 use Rattle.ws_laws.proofs.Tables.{is_same-refl, same_id}
 use Rattle.ws_pipe_laws.proofs.AtSource.{off-only, row-off}
 use Rattle.ws_pipe_laws.proofs.PassingRuns.{row-few}
 use Rattle.ws_link_laws.specs.Link.{Ear, silence, in_sink, in_source, in_pipe, ear_by, ear_at, is_sink, heard_call, unheard}
 use Rattle.ws_link_laws.specs.Sound.{SinkFits}
 use Rattle.ws_link_laws.proofs.Ahead.{Ahead, ahead-kept, ahead-silent, row-ahead, closing-flies}
-use Rattle.ws_link_laws.proofs.Hosts.{row-ear}
+use Rattle.ws_link_laws.proofs.Hosts.{row-ear, row-giver}
 use Rattle.ws_link_laws.proofs.Telling.{is_of, if_same, tells, IsSilent, silent-all, hands, writes, chunks, coming, behind_on}
 use Rattle.ws_link_laws.proofs.Unheard.{IsQuiet, row-unheard, call-unheard}
 use Rattle.ws_link_laws.proofs.Sinks.{ended_lies}
 use Rattle.ws_link_laws.proofs.Pipes.{rank}
 use Rattle.ws_link_laws.proofs.Moves.{line, line-short, in_pipe-short, close-passes, heard-passes}
 use Rattle.ws_link_laws.proofs.Standing.{IsInner, IsNotLast, at_end-append, state-same, Sound, split}
-use Rattle.ws_link_laws.proofs.SourceTurns.{Turned, readable-turned}
+use Rattle.ws_link_laws.proofs.SourceTurns.{Turned, readable-turned, byte-turned}
 use Rattle.ws_link_laws.proofs.SinkTurns.{writable-turned}
 use Rattle.ws_link_laws.proofs.PipeTurns.{pipe-turned}
 use Rattle.ws_link_laws.proofs.TransformTurns.{Says, AsBefore, Flushes, lets-short, transform-outside}
+use Rattle.ws_steps.specs.declared.effects.Effect.TheVariants.{CloseStepsWith}
+use Rattle.ws_link_laws.specs.Link.{giver_at, Giver}
 
 -- an effect that is no operation and passes on what it brings
-record Passing (w : Ear) (o : Owner) (i j : StreamId) (p : PipeId) (n : ℕ) (e : Effect) (cs : List Effect) : Type 0 where
+record Passing (w : Ear) (o : Giver) (i j : StreamId) (p : PipeId) (n : ℕ) (e : Effect) (cs : List Effect) : Type 0 where
   hands : tells (hands w) cs ≡ hands w e
   writes : tells (writes j) cs ≡ writes j e
   chunks : tells (chunks p) cs ≡ chunks p e
@@ -76,10 +77,10 @@ module _ (i j : StreamId) (p : PipeId) (s : Slots) (e : Effect) (es : List Effec
     ends = at_end-append j p (row e s).caused es last h.ends.1;
   }
 
-  passing-turned : IsQuiet (ear_at j s) e → Passing (ear_at j s) (owner_at i s) i j p n e (row e s).caused → Turned i j p s e es
+  passing-turned : IsQuiet (ear_at j s) e → Passing (ear_at j s) (giver_at i s) i j p n e (row e s).caused → Turned i j p s e es
   passing-turned quiet k = record {
     sound = sound-by k.inner k.last;
-    short = rw (split i j p (row e s).slots (row e s).caused es, row-ear j e s, row-owner i e s, row-unheard (ear_at j s) e s quiet, k.hands, k.writes, k.chunks, k.coming, streams, pipes) (short_refl (behind_on i j p s (e ∷ es)));
+    short = rw (split i j p (row e s).slots (row e s).caused es, row-ear j e s, row-giver i e s, row-unheard (ear_at j s) e s quiet, k.hands, k.writes, k.chunks, k.coming, streams, pipes) (short_refl (behind_on i j p s (e ∷ es)));
   }
 
 -- what each of them causes
@@ -88,23 +89,23 @@ quiet-if : (b : Bool) → then_told (if b then silence else silence) silence ≡
 quiet-if true = refl
 quiet-if false = refl
 
-pull-passing : (w : Ear) (v : Owner) (i j : StreamId) (p : PipeId) (n : ℕ) (k : StreamId) (u : Use) (o : Owner) → Passing w v i j p n (PullAlgorithm k) (pull_algorithm k u o)
+pull-passing : (w : Ear) (v : Giver) (i j : StreamId) (p : PipeId) (n : ℕ) (k : StreamId) (u : Use) (o : Owner) → Passing w v i j p n (PullAlgorithm k) (pull_algorithm k u o)
 pull-passing w v i j p n k u Host = record { hands = refl; writes = refl; chunks = refl; coming = refl; inner = (tt, tt); last = (refl, tt) }
 pull-passing w v i j p n k u (HalfOf t) = record { hands = refl; writes = refl; chunks = refl; coming = quiet-if (is_of v t); inner = (tt, tt); last = (refl, tt) }
 
-cancel-passing : (w : Ear) (v : Owner) (i j : StreamId) (p : PipeId) (n : ℕ) (k : StreamId) (r : Plain) (q : PromiseId) (u : Use) (o : Owner) → Passing w v i j p n (CancelAlgorithm k r q) (cancel_algorithm k r u o)
+cancel-passing : (w : Ear) (v : Giver) (i j : StreamId) (p : PipeId) (n : ℕ) (k : StreamId) (r : Plain) (q : PromiseId) (u : Use) (o : Owner) → Passing w v i j p n (CancelAlgorithm k r q) (cancel_algorithm k r u o)
 cancel-passing w v i j p n k r q u Host = record { hands = refl; writes = refl; chunks = refl; coming = refl; inner = (tt, tt); last = (refl, tt) }
 cancel-passing w v i j p n k r q u (HalfOf t) = record { hands = refl; writes = refl; chunks = refl; coming = quiet-if (is_of v t); inner = (tt, tt); last = (refl, tt) }
 
-abort-passing : (w : Ear) (v : Owner) (i j : StreamId) (p : PipeId) (n : ℕ) (k : StreamId) (r : Plain) (q : PromiseId) (u : Use) (o : Owner) → Passing w v i j p n (AbortAlgorithm k r q) (abort_algorithm k r u o)
+abort-passing : (w : Ear) (v : Giver) (i j : StreamId) (p : PipeId) (n : ℕ) (k : StreamId) (r : Plain) (q : PromiseId) (u : Use) (o : Owner) → Passing w v i j p n (AbortAlgorithm k r q) (abort_algorithm k r u o)
 abort-passing w v i j p n k r q u Host = record { hands = refl; writes = refl; chunks = refl; coming = refl; inner = (tt, tt); last = (refl, tt) }
 abort-passing w v i j p n k r q u (HalfOf t) = record { hands = refl; writes = refl; chunks = refl; coming = quiet-if (is_of v t); inner = (tt, tt); last = (refl, tt) }
 
-write-passing : (w : Ear) (v : Owner) (i j : StreamId) (p : PipeId) (n : ℕ) (k : StreamId) (o : Owner) → Passing w v i j p n (WriteAlgorithm k) (write_algorithm k o)
+write-passing : (w : Ear) (v : Giver) (i j : StreamId) (p : PipeId) (n : ℕ) (k : StreamId) (o : Owner) → Passing w v i j p n (WriteAlgorithm k) (write_algorithm k o)
 write-passing w v i j p n k Host = record { hands = refl; writes = rw (if_same (is_same j k)) refl; chunks = refl; coming = refl; inner = (tt, tt); last = (refl, tt) }
 write-passing w v i j p n k (HalfOf t) = record { hands = refl; writes = refl; chunks = refl; coming = quiet-if (is_of v t); inner = (tt, tt); last = (refl, tt) }
 
-close-elsewhere : (w : Ear) (v : Owner) (i j : StreamId) (p : PipeId) (n : ℕ) (k : StreamId) (o : Owner) → is_same j k ≡ false → is_sink w k ≡ false → Passing w v i j p n (CloseAlgorithm k) (close_algorithm k (React (WritableClose k) None) o)
+close-elsewhere : (w : Ear) (v : Giver) (i j : StreamId) (p : PipeId) (n : ℕ) (k : StreamId) (o : Owner) → is_same j k ≡ false → is_sink w k ≡ false → Passing w v i j p n (CloseAlgorithm k) (close_algorithm k (React (WritableClose k) None) o)
 close-elsewhere w v i j p n k Host d x = record { hands = rw x refl; writes = refl; chunks = refl; coming = refl; inner = (tt, tt); last = (refl, tt) }
 close-elsewhere w v i j p n k (HalfOf t) d x = record { hands = refl; writes = refl; chunks = refl; coming = quiet-if (is_of v t); inner = (tt, tt); last = (refl, tt) }
 
@@ -117,7 +118,7 @@ signal-each P (Trigger r) f = λ q. f q r
 signal-each P (Add q) f = tt
 signal-each P (Forget q) f = tt
 
-signal-passing : (w : Ear) (v : Owner) (i j : StreamId) (p : PipeId) (n : ℕ) (a : SignalId) (operation : SignalOperation) (s : Slots) → Passing w v i j p n (OnSignal a operation) (row (OnSignal a operation) s).caused
+signal-passing : (w : Ear) (v : Giver) (i j : StreamId) (p : PipeId) (n : ℕ) (a : SignalId) (operation : SignalOperation) (s : Slots) → Passing w v i j p n (OnSignal a operation) (row (OnSignal a operation) s).caused
 signal-passing w v i j p n a operation s =
     let e : Effect = OnSignal a operation in
     let cs : List Effect = (row e s).caused in
@@ -148,15 +149,15 @@ transform-turned i j p s t operation es h =
     let W : Told Value = tells (writes j) es in
     let K : Told Value = in_sink (writable_at j s) in
     let C : Told Value = tells (chunks p) es in
-    let S : Told Value = in_source (readable_at i s) in
-    let M : Told Value = tells (coming (owner_at i s) i) es in
-    let now : Told Value = in_pipe (pipe_at p s) (then_told C (then_told S (then_told (tells (coming (owner_at i s) i) cs) M))) in
-    let before : Told Value = in_pipe (pipe_at p s) (then_told C (then_told S (then_told (coming (owner_at i s) i e) M))) in
+    let S : Told Value = in_source (source_at i s) in
+    let M : Told Value = tells (coming (giver_at i s) i) es in
+    let now : Told Value = in_pipe (pipe_at p s) (then_told C (then_told S (then_told (tells (coming (giver_at i s) i) cs) M))) in
+    let before : Told Value = in_pipe (pipe_at p s) (then_told C (then_told S (then_told (coming (giver_at i s) i e) M))) in
     let H : Told Value = then_told (hands (ear_at j s) e) (tells (hands (ear_at j s)) es) in
-    let lets = lets-short (owner_at i s) i (readable_at i s) e cs M o.lets in
+    let lets = lets-short (giver_at i s) i (source_at i s) e cs M o.lets in
     record {
       sound = sound-by i j p s e es tt tt h o.inner o.last;
-      short = rw (split i j p (row e s).slots cs es, row-ear j e s, row-owner i e s, row-unheard (ear_at j s) e s tt, o.writes, o.chunks, streams i j p s e es tt tt h, pipes i j p s e es tt tt h)
+      short = rw (split i j p (row e s).slots cs es, row-ear j e s, row-giver i e s, row-unheard (ear_at j s) e s tt, o.writes, o.chunks, streams i j p s e es tt tt h, pipes i j p s e es tt tt h)
           (short_trans _ (line U H K W now) (line U H K W before)
           (says-by i j s e es cs U W now h.state.sink_fits h.ahead o.says)
           (line-short U H K W now before (in_pipe-short (pipe_at p s) _ _ (short_left C _ _ lets))));
@@ -169,15 +170,15 @@ call-turned i j p s call u es h =
     let e : Effect = CallHost call u in
     record {
       sound = sound-by i j p s e es tt tt h tt tt;
-      short = rw (row-ear j e s, row-owner i e s, call-unheard (ear_at j s) call u s, streams i j p s e es tt tt h, pipes i j p s e es tt tt h)
+      short = rw (row-ear j e s, row-giver i e s, call-unheard (ear_at j s) call u s, streams i j p s e es tt tt h, pipes i j p s e es tt tt h)
           (heard-passes (unheard (ear_at j s) s.promises.events) (heard_call (ear_at j s) call) (tells (hands (ear_at j s)) es)
-          (then_told (in_sink (writable_at j s)) (then_told (tells (writes j) es) (in_pipe (pipe_at p s) (then_told (tells (chunks p) es) (then_told (in_source (readable_at i s)) (tells (coming (owner_at i s) i) es)))))));
+          (then_told (in_sink (writable_at j s)) (then_told (tells (writes j) es) (in_pipe (pipe_at p s) (then_told (tells (chunks p) es) (then_told (in_source (source_at i s)) (tells (coming (giver_at i s) i) es)))))));
     }
 
 -- the close algorithm of the destination is performed
 
 -- what it causes is nothing else of the link
-close-quiet : (v : Owner) (i j : StreamId) (p : PipeId) (u : Use) (o : Owner) → (tells (writes j) (close_algorithm j u o) ≡ silence) × ((tells (chunks p) (close_algorithm j u o) ≡ silence) × (tells (coming v i) (close_algorithm j u o) ≡ silence))
+close-quiet : (v : Giver) (i j : StreamId) (p : PipeId) (u : Use) (o : Owner) → (tells (writes j) (close_algorithm j u o) ≡ silence) × ((tells (chunks p) (close_algorithm j u o) ≡ silence) × (tells (coming v i) (close_algorithm j u o) ≡ silence))
 close-quiet v i j p u Host = (refl, (refl, refl))
 close-quiet v i j p u (HalfOf t) = (refl, (refl, quiet-if (is_of v t)))
 
@@ -190,7 +191,7 @@ record Closes (i j : StreamId) (p : PipeId) (s : Slots) (cs : List Effect) : Typ
   hands : tells (hands (ear_at j s)) cs ≡ told [] Closed
   writes : tells (writes j) cs ≡ silence
   chunks : tells (chunks p) cs ≡ silence
-  coming : tells (coming (owner_at i s) i) cs ≡ silence
+  coming : tells (coming (giver_at i s) i) cs ≡ silence
   inner : Each (IsInner i j p (rank (pipe_at p s).phase)) cs
   last : Each (IsNotLast p) cs
 
@@ -198,12 +199,12 @@ closes-host : (i j : StreamId) (p : PipeId) (s : Slots) → Host ≡ owner_at j 
 unfolding row
 closes-host i j p s e =
     let u : Use = React (WritableClose j) None in
-    let q = close-quiet (owner_at i s) i j p u (owner_at j s) in
+    let q = close-quiet (giver_at i s) i j p u (owner_at j s) in
     record { hands = close-told j s u e; writes = q.0; chunks = q.1.0; coming = q.1.1; inner = rw (← e) (tt, tt); last = rw (← e) (refl, tt) }
 
-close-passing : (i j : StreamId) (p : PipeId) (s : Slots) (t : TransformId) → HalfOf t ≡ owner_at j s → Passing (ear_at j s) (owner_at i s) i j p (rank (pipe_at p s).phase) (CloseAlgorithm j) (row (CloseAlgorithm j) s).caused
+close-passing : (i j : StreamId) (p : PipeId) (s : Slots) (t : TransformId) → HalfOf t ≡ owner_at j s → Passing (ear_at j s) (giver_at i s) i j p (rank (pipe_at p s).phase) (CloseAlgorithm j) (row (CloseAlgorithm j) s).caused
 unfolding row
-close-passing i j p s t e = rw (← e) (record { hands = refl; writes = refl; chunks = refl; coming = quiet-if (is_of (owner_at i s) t); inner = (tt, tt); last = (refl, tt) })
+close-passing i j p s t e = rw (← e) (record { hands = refl; writes = refl; chunks = refl; coming = quiet-if (is_of (giver_at i s) t); inner = (tt, tt); last = (refl, tt) })
 
 close-turned : (i j : StreamId) (p : PipeId) (s : Slots) (es : List Effect) (o : Owner) → o ≡ owner_at j s → Sound i j p s (CloseAlgorithm j ∷ es) → Turned i j p s (CloseAlgorithm j) es
 close-turned i j p s es Host e h =
@@ -212,9 +213,9 @@ close-turned i j p s es Host e h =
     let ended : in_sink (writable_at j s) ≡ told [] Closed = ended_lies (ear_at j s) (writable_at j s) h.state.sink_fits (closing-flies j h.ahead.history s es (ahead-kept i j s (c ∷ es) h.ahead)) in
     record {
       sound = sound-by i j p s c es tt tt h q.inner q.last;
-      short = rw (split i j p (row c s).slots (row c s).caused es, row-ear j c s, row-owner i c s, row-unheard (ear_at j s) c s tt, q.writes, q.chunks, q.coming, streams i j p s c es tt tt h, pipes i j p s c es tt tt h, q.hands)
+      short = rw (split i j p (row c s).slots (row c s).caused es, row-ear j c s, row-giver i c s, row-unheard (ear_at j s) c s tt, q.writes, q.chunks, q.coming, streams i j p s c es tt tt h, pipes i j p s c es tt tt h, q.hands)
           (close-passes (unheard (ear_at j s) s.promises.events) (tells (hands (ear_at j s)) es) (in_sink (writable_at j s)) (tells (writes j) es)
-          (in_pipe (pipe_at p s) (then_told (tells (chunks p) es) (then_told (in_source (readable_at i s)) (tells (coming (owner_at i s) i) es)))) (ahead-silent i j s c es h.ahead) ended);
+          (in_pipe (pipe_at p s) (then_told (tells (chunks p) es) (then_told (in_source (source_at i s)) (tells (coming (giver_at i s) i) es)))) (ahead-silent i j s c es h.ahead) ended);
     }
 close-turned i j p s es (HalfOf t) e h = passing-turned i j p s (CloseAlgorithm j) es tt tt h tt (close-passing i j p s t e)
 
@@ -228,32 +229,36 @@ unfolding row
 closes-turned i j p s k es h = by (is_same j k) refl
   where
     by : (same : Bool) → same ≡ is_same j k → Turned i j p s (CloseAlgorithm k) es
-    by false d = passing-turned i j p s (CloseAlgorithm k) es tt tt h tt (close-elsewhere (ear_at j s) (owner_at i s) i j p (rank (pipe_at p s).phase) k (owner_at k s) (sym d) (other-sink j k s (owner_at j s) (sym d)))
+    by false d = passing-turned i j p s (CloseAlgorithm k) es tt tt h tt (close-elsewhere (ear_at j s) (giver_at i s) i j p (rank (pipe_at p s).phase) k (owner_at k s) (sym d) (other-sink j k s (owner_at j s) (sym d)))
     by true d = subst (λ (x : StreamId). Sound i j p s (CloseAlgorithm x ∷ es) → Turned i j p s (CloseAlgorithm x) es) (same_id j k (sym d)) (close-turned i j p s es (owner_at j s) refl) h
 
 -- each effect
 pub row-turned : (i j : StreamId) (p : PipeId) (s : Slots) (e : Effect) (es : List Effect) → Sound i j p s (e ∷ es) → Turned i j p s e es
 unfolding row
 row-turned i j p s (OnReadable k operation) es h = readable-turned i j p s k operation es h
+row-turned i j p s (OnByte k operation) es h = byte-turned i j p s k operation es h
 row-turned i j p s (OnWritable k operation) es h = writable-turned i j p s k operation es h
 row-turned i j p s (OnPipe q operation) es h = pipe-turned i j p s q operation es h
-row-turned i j p s (OnSignal a operation) es h = passing-turned i j p s (OnSignal a operation) es tt tt h tt (signal-passing (ear_at j s) (owner_at i s) i j p (rank (pipe_at p s).phase) a operation s)
+row-turned i j p s (OnSignal a operation) es h = passing-turned i j p s (OnSignal a operation) es tt tt h tt (signal-passing (ear_at j s) (giver_at i s) i j p (rank (pipe_at p s).phase) a operation s)
 row-turned i j p s (OnTransform t operation) es h = transform-turned i j p s t operation es h
 row-turned i j p s (StartAlgorithm k step Now) es h = passing-turned i j p s (StartAlgorithm k step Now) es tt tt h tt (record { hands = refl; writes = refl; chunks = refl; coming = refl; inner = (tt, tt); last = (refl, tt) })
 row-turned i j p s (StartAlgorithm k step Later) es h =
     passing-turned i j p s (StartAlgorithm k step Later) es tt tt h tt (record { hands = refl; writes = refl; chunks = refl; coming = refl; inner = (tt, (tt, tt)); last = (refl, (refl, tt)) })
-row-turned i j p s (PullAlgorithm k) es h = passing-turned i j p s (PullAlgorithm k) es tt tt h tt (pull-passing (ear_at j s) (owner_at i s) i j p (rank (pipe_at p s).phase) k _ (owner_at k s))
-row-turned i j p s (CancelAlgorithm k r q) es h = passing-turned i j p s (CancelAlgorithm k r q) es tt tt h tt (cancel-passing (ear_at j s) (owner_at i s) i j p (rank (pipe_at p s).phase) k r q _ (owner_at k s))
-row-turned i j p s (WriteAlgorithm k) es h = passing-turned i j p s (WriteAlgorithm k) es tt tt h tt (write-passing (ear_at j s) (owner_at i s) i j p (rank (pipe_at p s).phase) k (owner_at k s))
+row-turned i j p s (PullAlgorithm k) es h = passing-turned i j p s (PullAlgorithm k) es tt tt h tt (pull-passing (ear_at j s) (giver_at i s) i j p (rank (pipe_at p s).phase) k _ (owner_at k s))
+row-turned i j p s (CancelAlgorithm k r q) es h = passing-turned i j p s (CancelAlgorithm k r q) es tt tt h tt (cancel-passing (ear_at j s) (giver_at i s) i j p (rank (pipe_at p s).phase) k r q _ (owner_at k s))
+row-turned i j p s (WriteAlgorithm k) es h = passing-turned i j p s (WriteAlgorithm k) es tt tt h tt (write-passing (ear_at j s) (giver_at i s) i j p (rank (pipe_at p s).phase) k (owner_at k s))
 row-turned i j p s (CloseAlgorithm k) es h = closes-turned i j p s k es h
-row-turned i j p s (AbortAlgorithm k r q) es h = passing-turned i j p s (AbortAlgorithm k r q) es tt tt h tt (abort-passing (ear_at j s) (owner_at i s) i j p (rank (pipe_at p s).phase) k r q _ (owner_at k s))
+row-turned i j p s (AbortAlgorithm k r q) es h = passing-turned i j p s (AbortAlgorithm k r q) es tt tt h tt (abort-passing (ear_at j s) (giver_at i s) i j p (rank (pipe_at p s).phase) k r q _ (owner_at k s))
 row-turned i j p s (ChunkSteps k (Promise q) v) es h = passing-turned i j p s (ChunkSteps k (Promise q) v) es tt tt h tt (record { hands = refl; writes = refl; chunks = refl; coming = refl; inner = tt; last = tt })
 row-turned i j p s (ChunkSteps k (PipeRequest q) v) es h =
     passing-turned i j p s (ChunkSteps k (PipeRequest q) v) es tt tt h tt
     (record { hands = refl; writes = refl; chunks = then_empty (chunks p (ChunkSteps k (PipeRequest q) v)); coming = refl; inner = (tt, tt); last = (and_false (nat_eq p.0 q.0), tt) })
 row-turned i j p s (CloseSteps k (Promise q)) es h = passing-turned i j p s (CloseSteps k (Promise q)) es tt tt h tt (record { hands = refl; writes = refl; chunks = refl; coming = refl; inner = tt; last = tt })
+row-turned i j p s (CloseStepsWith k (Promise q) b) es h = passing-turned i j p s (CloseStepsWith k (Promise q) b) es tt tt h tt (record { hands = refl; writes = refl; chunks = refl; coming = refl; inner = tt; last = tt })
 row-turned i j p s (CloseSteps k (PipeRequest q)) es h =
     passing-turned i j p s (CloseSteps k (PipeRequest q)) es tt tt h tt (record { hands = refl; writes = refl; chunks = refl; coming = refl; inner = (tt, tt); last = (and_false (nat_eq p.0 q.0), tt) })
+row-turned i j p s (CloseStepsWith k (PipeRequest q) b) es h =
+    passing-turned i j p s (CloseStepsWith k (PipeRequest q) b) es tt tt h tt (record { hands = refl; writes = refl; chunks = refl; coming = refl; inner = (tt, tt); last = (and_false (nat_eq p.0 q.0), tt) })
 row-turned i j p s (ErrorSteps k (Promise q) r) es h = passing-turned i j p s (ErrorSteps k (Promise q) r) es tt tt h tt (record { hands = refl; writes = refl; chunks = refl; coming = refl; inner = tt; last = tt })
 row-turned i j p s (ErrorSteps k (PipeRequest q) r) es h =
     passing-turned i j p s (ErrorSteps k (PipeRequest q) r) es tt tt h tt (record { hands = refl; writes = refl; chunks = refl; coming = refl; inner = (tt, tt); last = (and_false (nat_eq p.0 q.0), tt) })

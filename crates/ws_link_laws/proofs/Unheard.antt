@@ -8,13 +8,13 @@ use Rattle.ws_value.specs.declared.value.Outcome.{Outcome}
 use Rattle.ws_value.specs.declared.value.Outcome.TheVariants.{Given, Finished}
 use Rattle.ws_value.specs.declared.value.Plain.{Plain}
 use Rattle.ws_value.specs.declared.value.Plain.TheVariants.{Undefined}
-use Rattle.ws_value.specs.declared.value.Value.TheVariants.{Plain as PlainValue}
+use Rattle.ws_value.specs.declared.value.Value.TheVariants.{Plain as PlainValue, Bytes}
 use Rattle.ws_steps.specs.declared.calls.Event.{Event}
 use Rattle.ws_steps.specs.declared.calls.Event.TheVariants.{Host as HostCalled, Settled, Signal as Signalled}
 use Rattle.ws_steps.specs.declared.calls.HostCall.{HostCall}
 use Rattle.ws_steps.specs.declared.calls.StartBy.TheVariants.{Now, Later}
 use Rattle.ws_steps.specs.declared.effects.Effect.{Effect}
-use Rattle.ws_steps.specs.declared.effects.Effect.TheVariants.{Readable, Writable, Pipe, Signal, Transform, StartAlgorithm, ChunkSteps, CloseSteps, ErrorSteps, Give, Settle, Queue, CallHost}
+use Rattle.ws_steps.specs.declared.effects.Effect.TheVariants.{Readable, Byte, Writable, Pipe, Signal, Transform, StartAlgorithm, ChunkSteps, CloseSteps, CloseStepsWith, ErrorSteps, Give, Settle, Queue, CallHost}
 use Rattle.ws_steps.specs.declared.effects.Gift.{Gift}
 use Rattle.ws_steps.specs.declared.effects.Gift.TheVariants.{This, Fresh}
 use Rattle.ws_steps.specs.declared.effects.Use.{Use}
@@ -29,17 +29,18 @@ use Rattle.ws_steps.specs.declared.readable.ReadRequest.TheVariants.{Promise, Pi
 use Rattle.ws_steps.specs.declared.transform.TransformId.{TransformId}
 use Rattle.ws_steps.specs.declared.transform.TransformOperation.{TransformOperation}
 use Rattle.ws_steps.specs.Effects.{Out}
-use Rattle.ws_steps.specs.Operations.{readable_operation, writable_operation, pipe_operation, signal_operation, transform_operation}
+use Rattle.ws_steps.specs.Operations.{writable_operation, pipe_operation, signal_operation, transform_operation}
 use Rattle.ws_steps.specs.Pipes as pipe
 use Rattle.ws_steps.specs.Promises.{Table, fresh, settle, answer, react, follow, unfollow, queue_micro, tell, next_id, fresh_settled, use_this, use_gift, watch, taken, after_first, after_next_job}
-use Rattle.ws_steps.specs.Slots.{Slots, Done, nothing, has_readable, has_writable, found, ends_at, halves_at, put_readable, put_writable, on_pipe_at, on_signal_at, on_transform_at}
+use Rattle.ws_steps.specs.Slots.{Slots, Done, nothing, has_writable, found, ends_at, halves_at, put_writable, on_pipe_at, on_signal_at, on_transform_at}
 use Rattle.ws_steps.specs.Transform as transform
 use Rattle.ws_steps.specs.Turns.{row, call_host}
 use Rattle.ws_flow.specs.Told.{then_told}
 use Rattle.ws_flow.proofs.Told.{then_assoc, then_empty}
 use Rattle.ws_laws.proofs.PipeDoes.{pipe-does}
-use Rattle.ws_laws.proofs.ReadableDoes.{readable-does}
-use Rattle.ws_laws.proofs.Tables.{either, readable_acts, writable_acts}
+use Rattle.ws_laws.proofs.ReadableDoes.{OfReadable}
+use Rattle.ws_laws.proofs.Rows.{byte-out, source-out}
+use Rattle.ws_laws.proofs.Tables.{either, writable_acts}
 use Rattle.ws_laws.proofs.TransformDoes.{transform-does}
 use Rattle.ws_laws.proofs.WritableDoes.{writable-does}
 use Rattle.ws_link_laws.specs.Link.{Ear, silence, heard_of, heard_call, unheard}
@@ -150,18 +151,20 @@ module _ (w : Ear) where
   signalled-quiet : (xs : List Event) (i : StreamId) (r : Plain) → unheard w (xs ++ Signalled i r ∷ []) ≡ unheard w xs
   signalled-quiet xs i r = unheard-quiet xs (Signalled i r) refl
 
+  of-readable : (s : Slots) (i : StreamId) → OfReadable (λ (x : Out). Alike s.promises x.promises) i
+  of-readable s i = record {
+    settle = λ x p o h. settle-unheard p o x.promises ∙ h;
+    pull = λ x h. h;
+    cancel = λ x r p h. h;
+    chunk = λ x r v h. h;
+    close = λ x r h. h;
+    error = λ x r e h. h;
+  }
+
   pub row-unheard : (e : Effect) (s : Slots) → IsQuiet e → Alike s.promises (row e s).slots.promises
   unfolding row
-  row-unheard (Readable i operation) s n =
-      either (λ (d : Done). Alike s.promises d.slots.promises) (has_readable i s) (put_readable i s (readable_operation i operation (readable_acts i s))) (nothing s)
-      (λ e. readable-does (λ (x : Out). Alike s.promises x.promises) i (record {
-        settle = λ x p o h. settle-unheard p o x.promises ∙ h;
-        pull = λ x h. h;
-        cancel = λ x r p h. h;
-        chunk = λ x r v h. h;
-        close = λ x r h. h;
-        error = λ x r e h. h;
-      }) operation (readable_acts i s) refl) (λ e. refl)
+  row-unheard (Readable i operation) s n = source-out (λ (x : Out). Alike s.promises x.promises) i (of-readable s i) operation s refl
+  row-unheard (Byte i operation) s n = byte-out (λ (x : Out). Alike s.promises x.promises) i (of-readable s i) (λ x q b h. h) operation s refl
   row-unheard (Writable i operation) s n =
       either (λ (d : Done). Alike s.promises d.slots.promises) (has_writable i s) (put_writable i s (writable_operation i operation (writable_acts i s))) (nothing s)
       (λ e. writable-does (λ (x : Out). Alike s.promises x.promises) i (record {
@@ -181,9 +184,11 @@ module _ (w : Ear) where
   row-unheard (StartAlgorithm i step Later) s n = fresh-unheard s.promises
   row-unheard (ChunkSteps i (Promise p) v) s n = answer-unheard p (Given v) s.promises
   row-unheard (CloseSteps i (Promise p)) s n = answer-unheard p (Finished (PlainValue Undefined)) s.promises
+  row-unheard (CloseStepsWith i (Promise p) b) s n = answer-unheard p (Finished (Bytes b)) s.promises
   row-unheard (ErrorSteps i (Promise p) e) s n = settle-unheard p (Err e) s.promises
   row-unheard (ChunkSteps i (PipeRequest p) v) s n = refl
   row-unheard (CloseSteps i (PipeRequest p)) s n = refl
+  row-unheard (CloseStepsWith i (PipeRequest p) b) s n = refl
   row-unheard (ErrorSteps i (PipeRequest p) e) s n = refl
   row-unheard (Queue m) s n = micro-unheard m s.promises
   row-unheard (Give gift u) s n = gift-unheard gift u s.promises

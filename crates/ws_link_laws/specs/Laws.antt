@@ -9,9 +9,9 @@ use Rattle.ws_steps.specs.declared.calls.Event.{Event}
 use Rattle.ws_steps.specs.declared.pipes.Prevent.{Prevent}
 use Rattle.ws_steps.specs.Run.{Entry, Called, Worked, Heard, step, run, after_call}
 use Rattle.ws_steps.specs.Promises.{next_job}
-use Rattle.ws_steps.specs.Slots.{Slots, owner_at, readable_at, writable_at}
+use Rattle.ws_steps.specs.Slots.{Slots, source_at, writable_at}
 use Rattle.ws_flow.specs.Told.{Told, then_told, IsShortOf}
-use Rattle.ws_link_laws.specs.Link.{Ear, silence, in_sink, in_source, ear_at, heard_of, unheard, behind, enters, next_enters, leaves}
+use Rattle.ws_link_laws.specs.Link.{Ear, silence, in_sink, in_source, ear_at, heard_of, unheard, behind, giver_at, enters, next_enters, leaves}
 use Rattle.ws_link_laws.specs.Sound.{IsLink, IsFree, IsThere}
 
 -- what an entry of a run is to a link
@@ -43,8 +43,8 @@ run_heard j (x ∷ xs) s = then_told (entry_heard j s x) (run_heard j xs (step s
 
 -- what an entry brings to stream i
 abbrev pub entry_enters : StreamId → Slots → Entry → Told Value
-entry_enters i s (Called c) = enters (owner_at i s) i c
-entry_enters i s Worked = next_enters (owner_at i s) (next_job s.promises)
+entry_enters i s (Called c) = enters (giver_at i s) i c
+entry_enters i s Worked = next_enters (giver_at i s) (next_job s.promises)
 entry_enters i s Heard = silence
 
 -- and a run
@@ -66,7 +66,7 @@ EachLinkKeeps =
 -- a new pipe is a link, and behind it is what was in its source, or a first part of that which says so
 pub record BeginsLink (i j : StreamId) (p : PipeId) (s z : Slots) : Type 0 where
   pub link : IsLink i j p z
-  pub short : IsShortOf (behind i j p z) (then_told (unheard (ear_at j s) s.promises.events) (then_told (in_sink (writable_at j s)) (in_source (readable_at i s))))
+  pub short : IsShortOf (behind i j p z) (then_told (unheard (ear_at j s) s.promises.events) (then_told (in_sink (writable_at j s)) (in_source (source_at i s))))
 
 -- a pipe between two free streams makes them a link, whatever its options and its signal
 abbrev pub EachLinkBegins : Type 0

@@ -1,11 +1,12 @@
 -- One link: a pipe from a readable stream to a writable stream, and what lies on it, oldest first, told with a mark. Each end is the host's
--- own, or a half of a transform stream whose algorithms are the host's.
+-- own, or a half of a transform stream whose algorithms are the host's. The source may have a controller of either kind.
 use Rattle.std.specs.Prelude.{Bool, true, false, not, ◌&&◌, is_some, nat_eq, if◌then◌else◌, List, [], ◌∷◌, Option, Some, None, Ok}
 use Rattle.ws_value.specs.declared.ids.PipeId.{PipeId}
 use Rattle.ws_value.specs.declared.ids.StreamId.{StreamId}
 use Rattle.ws_value.specs.declared.value.Value.{Value}
+use Rattle.ws_value.specs.declared.value.Value.TheVariants.{Plain as PlainValue, Bytes}
 use Rattle.ws_steps.specs.declared.calls.Call.{Call}
-use Rattle.ws_steps.specs.declared.calls.Call.TheVariants.{GetReader, GetWriter, Cancel, Close, Abort, Enqueue, Finish, Fail, Terminate, Pipe}
+use Rattle.ws_steps.specs.declared.calls.Call.TheVariants.{GetReader, GetByob, GetWriter, Cancel, Close, Abort, Enqueue, Finish, Fail, Terminate, Pipe}
 use Rattle.ws_steps.specs.declared.calls.Event.{Event}
 use Rattle.ws_steps.specs.declared.calls.Event.TheVariants.{Host as HostCalled}
 use Rattle.ws_steps.specs.declared.calls.HostCall.{HostCall}
@@ -29,7 +30,7 @@ use Rattle.ws_steps.specs.Histories.{is_same}
 use Rattle.ws_steps.specs.Pipes as pipe
 use Rattle.ws_steps.specs.Readable as readable
 use Rattle.ws_steps.specs.Writable as writable
-use Rattle.ws_steps.specs.Slots.{Slots, owner_at, readable_at, writable_at, transform_at, pipe_at}
+use Rattle.ws_steps.specs.Slots.{Slots, has_byte, owner_at, source_at, writable_at, transform_at, pipe_at}
 use Rattle.ws_flow.specs.Told.{Mark, Open, Closed, Lost, Told, told, then_told}
 
 -- nothing was told, and more may come
@@ -98,7 +99,7 @@ in_pipe x t = piped_by x.phase x.held t
 
 -- what lies on the link of pipe p from stream i to stream j, oldest first: in the destination, in the pipe, in the source
 abbrev pub lies : StreamId → StreamId → PipeId → Slots → Told Value
-lies i j p s = then_told (in_sink (writable_at j s)) (in_pipe (pipe_at p s) (in_source (readable_at i s)))
+lies i j p s = then_told (in_sink (writable_at j s)) (in_pipe (pipe_at p s) (in_source (source_at i s)))
 
 -- what the host hears
 
@@ -147,32 +148,59 @@ behind i j p s = then_told (unheard (ear_at j s) s.promises.events) (lies i j p 
 
 -- calls
 
--- what a call brings to stream i, by whose algorithms the stream performs: a chunk that is enqueued, or the end. The host finishes a stream
--- of its own, and terminates a transform stream
-abbrev pub enters : Owner → StreamId → Call → Told Value
-enters o i (Enqueue k v) = if is_same i k then told (v ∷ []) Open else silence
-enters Host i (Finish k) = if is_same i k then told [] Closed else silence
-enters (HalfOf t) i (Terminate k) = if is_same i k then told [] Closed else silence
-enters o i _ = silence
+-- by what chunks come to a source: by a source of the host's own, with a default controller or with a byte controller, or by this transform
+-- stream
+pub data Giver : Type 0 where
+  OfSource : Giver
+  OfByteSource : Giver
+  OfHalf : TransformId → Giver
+
+abbrev pub giver_by : Bool → Owner → Giver
+giver_by true o = OfByteSource
+giver_by false Host = OfSource
+giver_by false (HalfOf t) = OfHalf t
+
+-- to stream i
+abbrev pub giver_at : StreamId → Slots → Giver
+giver_at i s = giver_by (has_byte i s) (owner_at i s)
+
+-- a chunk that is enqueued is let in; but a byte controller lets in bytes alone, and some
+abbrev pub lets_in : Giver → Value → Told Value
+lets_in OfSource v = told (v ∷ []) Open
+lets_in OfByteSource (PlainValue v) = silence
+lets_in OfByteSource (Bytes []) = silence
+lets_in OfByteSource (Bytes (n ∷ ns)) = told (Bytes (n ∷ ns) ∷ []) Open
+lets_in (OfHalf t) v = told (v ∷ []) Open
+
+-- what a call brings to stream i: a chunk that is enqueued, or the end. The host finishes a stream of its own, and terminates a transform
+-- stream
+abbrev pub enters : Giver → StreamId → Call → Told Value
+enters g i (Enqueue k v) = if is_same i k then lets_in g v else silence
+enters OfSource i (Finish k) = if is_same i k then told [] Closed else silence
+enters OfByteSource i (Finish k) = if is_same i k then told [] Closed else silence
+enters (OfHalf t) i (Terminate k) = if is_same i k then told [] Closed else silence
+enters g i _ = silence
 
 -- what a job brings to a stream: the end, where it is the reaction to the flush algorithm of its transform stream, which went well
 abbrev pub half_enters : TransformId → Job → Told Value
 half_enters t (Reaction (TransformFlushed k p) (Ok v) derived) = if nat_eq t.0 k.0 then told [] Closed else silence
 half_enters t _ = silence
 
-abbrev pub job_enters : Owner → Job → Told Value
-job_enters Host job = silence
-job_enters (HalfOf t) job = half_enters t job
+abbrev pub job_enters : Giver → Job → Told Value
+job_enters OfSource job = silence
+job_enters OfByteSource job = silence
+job_enters (OfHalf t) job = half_enters t job
 
-abbrev pub next_enters : Owner → Option Job → Told Value
-next_enters o None = silence
-next_enters o (Some job) = job_enters o job
+abbrev pub next_enters : Giver → Option Job → Told Value
+next_enters g None = silence
+next_enters g (Some job) = job_enters g job
 
 -- whether a call leaves the link alone: all do but those by number that lock, cancel, close, abort or fail one of its ends, or pipe from
 -- or to one of them. What the host does to the source is its own: it enqueues, finishes or terminates, and fails; and so is what it does to the
 -- other half where an end is a half of a transform stream
 abbrev pub leaves : StreamId → StreamId → Call → Bool
 leaves i j (GetReader k) = not (is_same i k)
+leaves i j (GetByob k) = not (is_same i k)
 leaves i j (Cancel k reason) = not (is_same i k)
 leaves i j (GetWriter k) = not (is_same j k)
 leaves i j (Close k) = not (is_same j k)

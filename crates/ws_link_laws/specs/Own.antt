@@ -7,10 +7,10 @@ use Rattle.ws_steps.specs.declared.calls.Call.{Call}
 use Rattle.ws_steps.specs.declared.calls.Event.{Event}
 use Rattle.ws_steps.specs.declared.calls.HostCall.{HostCall}
 use Rattle.ws_steps.specs.declared.effects.Owner.TheVariants.{Host}
-use Rattle.ws_steps.specs.Slots.{Slots, owner_at}
+use Rattle.ws_steps.specs.Slots.{Slots, has_byte, owner_at}
 use Rattle.ws_flow.specs.Told.{Told}
 use Rattle.ws_link_laws.specs.Link as link
-use Rattle.ws_link_laws.specs.Link.{OfSink}
+use Rattle.ws_link_laws.specs.Link.{OfSink, giver_by}
 use Rattle.ws_link_laws.specs.Sound.{IsLink, IsFree}
 
 -- both are the host's own
@@ -34,5 +34,5 @@ abbrev pub heard_of : StreamId → Event → Told Value
 heard_of j e = link.heard_of (OfSink j) e
 
 -- and enqueues and finishes at the source
-abbrev pub enters : StreamId → Call → Told Value
-enters i c = link.enters Host i c
+abbrev pub enters : StreamId → Slots → Call → Told Value
+enters i s c = link.enters (giver_by (has_byte i s) Host) i c

@@ -11,7 +11,7 @@ use Rattle.ws_steps.specs.declared.writable.WriteRecord.{WriteRecord}
 use Rattle.ws_steps.specs.declared.writable.WriteRecord.TheVariants.{Chunk, InFlight, CloseMark}
 use Rattle.ws_steps.specs.Queues.{total_of}
 use Rattle.ws_steps.specs.Run.{Entry, run, after_call}
-use Rattle.ws_steps.specs.Slots.{Slots, readable_at, writable_at, pipe_at}
+use Rattle.ws_steps.specs.Slots.{Slots, source_at, writable_at, pipe_at}
 use Rattle.ws_pipe_laws.specs.PipeReads.{held_values, in_requests, one_if}
 use Rattle.ws_link_laws.specs.Laws.{all_leave}
 use Rattle.ws_link_laws.specs.Sound.{IsLink, IsFree, IsThere}
@@ -45,7 +45,7 @@ places_of (q ∷ qs) = place_of q.value + places_of qs
 
 -- the chunks in the destination's queue, with one in flight, the chunk that the pipe holds and its read that waits at the source
 abbrev pub taken_places : StreamId → StreamId → PipeId → Slots → ℕ
-taken_places i j p s = places_of (writable_at j s).queue + length (held_values (pipe_at p s).held) + in_requests p (readable_at i s).requests
+taken_places i j p s = places_of (writable_at j s).queue + length (held_values (pipe_at p s).held) + in_requests p (source_at i s).requests
 
 pub record KeepsRoom (i j : StreamId) (p : PipeId) (s : Slots) : Type 0 where
   pub room : HasRoom j p s

@@ -8,7 +8,7 @@ use Rattle.ws_value.specs.declared.value.Value.{Value}
 use Rattle.ws_steps.specs.declared.effects.Owner.{Owner}
 use Rattle.ws_steps.specs.declared.effects.Owner.TheVariants.{Host, HalfOf}
 use Rattle.ws_steps.specs.declared.locks.Lock.{Lock}
-use Rattle.ws_steps.specs.declared.locks.Lock.TheVariants.{Reader, Writer, ReleasedWriter, Inner}
+use Rattle.ws_steps.specs.declared.locks.Lock.TheVariants.{Reader, ByobReader, Writer, ReleasedWriter, Inner}
 use Rattle.ws_steps.specs.declared.pipes.Action.{Action}
 use Rattle.ws_steps.specs.declared.pipes.Action.TheVariants.{CloseDest}
 use Rattle.ws_steps.specs.declared.pipes.Phase.{Phase}
@@ -21,11 +21,12 @@ use Rattle.ws_steps.specs.declared.writable.WritableState.{WritableState}
 use Rattle.ws_steps.specs.declared.writable.WritableState.TheVariants.{Writable, Erroring, Errored, Closed}
 use Rattle.ws_steps.specs.declared.writable.WriteRecord.{WriteRecord}
 use Rattle.ws_steps.specs.declared.writable.WriteRecord.TheVariants.{Chunk, InFlight, CloseMark}
+use Rattle.ws_steps.specs.Bytes as byte
 use Rattle.ws_steps.specs.Histories.{is_same}
 use Rattle.ws_steps.specs.Pipes as pipe
 use Rattle.ws_steps.specs.Readable as readable
 use Rattle.ws_steps.specs.Run.{Entry, run}
-use Rattle.ws_steps.specs.Slots.{Slots, Stream, empty, has_readable, has_writable, has_signal, owner_at, readable_at, writable_at, transform_at, pipe_at}
+use Rattle.ws_steps.specs.Slots.{Slots, Stream, empty, has_source, has_writable, has_signal, owner_at, byte_at, source_at, writable_at, transform_at, pipe_at}
 use Rattle.ws_steps.specs.Writable as writable
 use Rattle.ws_flow.specs.Told.{Mark, Open, Closed as ToldClosed, Lost}
 use Rattle.ws_pipe_laws.specs.PipeReads.{is_of, in_stream, in_streams}
@@ -45,6 +46,8 @@ IsHosts s (HalfOf t) = (transform_at t s).kind ≡ HostKind
 abbrev pub spares : StreamId → StreamId → Lock → Bool
 spares i j (Reader (Some k) closed) = not (is_same i k)
 spares i j (Reader None closed) = true
+spares i j (ByobReader (Some k) closed) = not (is_same i k)
+spares i j (ByobReader None closed) = true
 spares i j (Writer k) = not (is_same j k)
 spares i j (ReleasedWriter w) = true
 spares i j Inner = true
@@ -122,6 +125,13 @@ pub record SourceFits (p : PipeId) (r : readable.Slots) : Type 0 where
   pub owned : Owned p r.requests
   pub fit : NoneWaits (readable.waiting r) r.queue
 
+-- A byte stream that is read by chunks alone: its controller allocates no rooms, no descriptors wait, and no BYOB reader has it. So is what
+-- stands where there is no byte stream
+pub record IsBare (b : byte.Slots) : Type 0 where
+  pub auto : b.auto ≡ 0
+  pub descriptors : b.descriptors ≡ []
+  pub reader : byte.has_byob_reader b ≡ false
+
 -- a pipe that waits to close its destination
 abbrev pub Closes : Phase → Option Action → Type 0 → Type 0
 Closes Waiting (Some CloseDest) P = P
@@ -135,10 +145,12 @@ abbrev pub AreApart : StreamId → StreamId → PipeId → List pipe.Slots → T
 AreApart i j p pipes = (n : ℕ) (x : pipe.Slots) → slice_get pipes n ≡ Some x → n ≢ p.0 → IsApart i j x
 
 -- The link of pipe p from stream i to stream j, between steps: each is the host's own or a half of a transform stream of the host's kind, the
--- pipe goes from the one to the other, nobody else has them, and what is in them is as a pipe, its source and its destination keep it
+-- source is bare where it is a byte stream, the pipe goes from the one to the other, nobody else has them, and what is in them is as a pipe, its
+-- source and its destination keep it
 pub record IsLink (i j : StreamId) (p : PipeId) (s : Slots) : Type 0 where
   pub reached : IsReached s
-  pub source : has_readable i s ≡ true
+  pub source : has_source i s ≡ true
+  pub bare : IsBare (byte_at i s)
   pub sink : has_writable j s ≡ true
   pub source_owner : IsHosts s (owner_at i s)
   pub sink_owner : IsHosts s (owner_at j s)
@@ -148,28 +160,29 @@ pub record IsLink (i j : StreamId) (p : PipeId) (s : Slots) : Type 0 where
   pub apart : AreApart i j p s.pipes
   pub locks : all_spare i j s.locks ≡ true
   pub elsewhere : elsewhere p i.0 s.streams ≡ 0
-  pub source_fits : SourceFits p (readable_at i s)
+  pub source_fits : SourceFits p (source_at i s)
   pub sink_fits : SinkFits (writable_at j s)
   -- a pipe that waits to close its destination has a source that closed
-  pub closes : Closes (pipe_at p s).phase (pipe_at p s).action ((readable_at i s).state ≡ ReadableClosed)
+  pub closes : Closes (pipe_at p s).phase (pipe_at p s).action ((source_at i s).state ≡ ReadableClosed)
 
 abbrev pub all_apart : StreamId → StreamId → List pipe.Slots → Bool
 all_apart i j [] = true
 all_apart i j (x ∷ xs) = (not (is_same i x.source) && not (is_same j x.dest)) && all_apart i j xs
 
--- Streams i and j may be linked: each is the host's own or a half of a transform stream of the host's kind, nobody has them, no pipe ever had,
--- and nothing was written to j. What was enqueued at i stays
+-- Streams i and j may be linked: each is the host's own or a half of a transform stream of the host's kind, i is bare where it is a byte stream,
+-- nobody has them, no pipe ever had, and nothing was written to j. What was enqueued at i stays
 pub record IsFree (i j : StreamId) (s : Slots) : Type 0 where
   pub reached : IsReached s
-  pub source : has_readable i s ≡ true
+  pub source : has_source i s ≡ true
+  pub bare : IsBare (byte_at i s)
   pub sink : has_writable j s ≡ true
   pub source_owner : IsHosts s (owner_at i s)
   pub sink_owner : IsHosts s (owner_at j s)
-  pub unread : (readable_at i s).reader ≡ None
+  pub unread : (source_at i s).reader ≡ None
   pub unwritten : (writable_at j s).writer ≡ None
   pub locks : all_spare i j s.locks ≡ true
   pub apart : all_apart i j s.pipes ≡ true
-  pub requests : (readable_at i s).requests ≡ []
+  pub requests : (source_at i s).requests ≡ []
   pub queue : (writable_at j s).queue ≡ []
   pub close_request : (writable_at j s).close_request ≡ None
   pub close_in_flight : (writable_at j s).close_in_flight ≡ None
