@@ -3,6 +3,7 @@ ghost use Rattle.std.specs.Prelude.{◌≡◌, ◌+◌, ◌<◌, ◌≤◌, ◌�
 ghost use Rattle.ws_steps.specs.Promises as table;
 ghost use Rattle.ws_steps.specs.declared.calls.Reply.TheVariants as reply;
 ghost use Rattle.ws_steps.specs.declared.calls.Thrown.{Thrown};
+ghost use Rattle.ws_steps.specs.Laws.{errs};
 ghost use Rattle.ws_steps.specs.Queues.{is_empty};
 ghost use Rattle.ws_steps.specs.Run as run;
 ghost use Rattle.ws_steps.specs.Slots.{empty};
@@ -35,7 +36,7 @@ pub struct NoRoom {
     pub why: Why,
 }
 
-/// A realm of readable, writable and transform streams, with their readers and writers, its pipes and signals, its promises, its one job queue, and what its host hasn't heard of yet. It is seen as its slots, and whether all memory was taken that the next call or job can need.
+/// A realm of readable, writable and transform streams, with their readers and writers, the BYOB requests of byte streams, its pipes and signals, its promises, its one job queue, and what its host hasn't heard of yet. It is seen as its slots, and whether all memory was taken that the next call or job can need.
 #[derive(Drop)]
 pub struct Realm {
     tables: Tables,
@@ -68,7 +69,7 @@ impl Realm {
         })
     }
 
-    /// Takes all memory that the next call or job can need, whichever it is: after Ok that one is performed without taking any. A refusal changes nothing.
+    /// Takes all memory that the next call or job can need, whichever it is: after Ok that one is performed without taking any. For each byte stream whose controller allocates rooms that includes one room, which the next read may use. A refusal changes nothing.
     pub fn prepare(&mut self) -> Result<(), Why>
         ensures slots { self.new.slots ≡ self.old.slots }
         ensures ready { OnOk result (self.new.prepared ≡ true) }
@@ -91,11 +92,12 @@ impl Realm {
         }
     }
 
-    /// Performs a call with all that it causes, and watches the promise that it answers. A call that is refused is handed back, and nothing changes.
+    /// Performs a call with all that it causes, and watches the promise that it answers. One that throws changes nothing, but for the close of a byte stream in whose first descriptor a part of an element was filled: that errors the stream. A call that is refused is handed back, and nothing changes.
     pub fn call(&mut self, call: Call) -> Result<Reply, NoRoom>
         ensures reply { IfOk result (λ reply. reply ≡ run.reply_to call self.old.slots) }
         ensures slots { OnOk result (self.new.slots ≡ run.after_call call self.old.slots) }
-        ensures throws { (t : Thrown) → result ≡ Ok (reply.Throws t) → self.new.slots ≡ run.older self.old.slots }
+        ensures throws { (t : Thrown) → errs call self.old.slots ≡ false → result ≡ Ok (reply.Throws t)
+            → self.new.slots ≡ run.older self.old.slots }
         ensures spent { IsErrAnd result (λ refused. refused.why ≡ why.Spent) ↔ (self.old.slots.age ≡ oldest) }
         ensures handed_back { IfErr result (λ refused. refused.call ≡ Some call) }
         ensures untouched { OnErr result (self.new ≡ self.old) }

@@ -7,9 +7,9 @@ use Rattle.ws_tables.specs.View.{slots_of}
 use Rattle.ws_realm.proofs.realm.Realm.call.Goals as goal
 
 pub returns-clause-throws : goal.returns-clause-throws
-returns-clause-throws c = λ t h.
+returns-clause-throws c = λ t calm h.
     let throws : c.perform_call.result ≡ Throws t = cc in
     let seen : slots_of c.self.inside.tables ≡ c.args.self.now.slots = ap (λ (r : SeenRealm). r.slots) c.self.view_is ∙ c.prepare.ensures.slots in
     c.perform_call.ensures.slots
     ∙ (ap (after_call c.args.call) seen
-    ∙ each_throw_changes_nothing c.args.call c.args.self.now.slots t (sym (c.perform_call.ensures.reply ∙ ap (reply_to c.args.call) seen) ∙ throws))
+    ∙ each_throw_changes_nothing c.args.call c.args.self.now.slots t calm (sym (c.perform_call.ensures.reply ∙ ap (reply_to c.args.call) seen) ∙ throws))
