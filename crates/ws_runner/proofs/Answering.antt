@@ -29,7 +29,7 @@ use Rattle.ws_steps.specs.declared.calls.Event.TheVariants.{Host}
 use Rattle.ws_steps.specs.declared.calls.HostCall.{HostCall}
 use Rattle.ws_steps.specs.declared.calls.HostCall.TheVariants.{Pull, Write, Close, Flush}
 use Rattle.ws_steps.specs.Run.{Entry, Heard}
-use Rattle.ws_chain_laws.specs.Chain.{behind_at, call_enters, heard_at}
+use Rattle.ws_chain_laws.specs.Chain.{FromBytes, behind_at, call_enters, heard_at}
 use Rattle.ws_chain_laws.specs.Nodes.{only_at}
 use Rattle.ws_chain_laws.proofs.Nodes.{each_event_is_heard_at_one_link, each_nodes_call_brings}
 use Rattle.ws_host_laws.specs.HostCalls.{IsItsCall, called}
@@ -121,8 +121,8 @@ drawn : (count : ℕ) (x : Option Abort) (n c : Node) → n.abort ≡ x → draw
 drawn count None n c e d = Same (d ∙ ap (λ (z : Option Abort). record n { abort = z }) e)
 drawn count (Some y) n c e d = drawn-near y count (y.left - count) n c refl d
 
-trigger-quiet : (y : Abort) (k : ℕ) → call_enters k (triggers y) ≡ silence
-trigger-quiet y k = (each_nodes_call_brings k).trigger y.signal (FaultReason AbortFault)
+trigger-quiet : (y : Abort) (k : ℕ) → call_enters FromBytes k (triggers y) ≡ silence
+trigger-quiet y k = (each_nodes_call_brings FromBytes k).trigger y.signal (FaultReason AbortFault)
 
 may-trigger : (plan : Plan) (xs : List Entry) (n : Node) (y : Abort) → is_reached n.abort ≡ true → MayAsk plan xs n (triggers y)
 may-trigger plan xs n y reached =

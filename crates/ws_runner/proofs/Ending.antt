@@ -23,7 +23,7 @@ use Rattle.ws_end_laws.specs.PromiseEnds.{IsOpenUntilTheEnd, outcome_of_end}
 use Rattle.ws_end_laws.proofs.PromiseEnds.{each_promise_is_open_until_the_end}
 use Rattle.ws_pipe_laws.specs.PipeHistory.{is_over, run_course}
 use Rattle.ws_host_laws.specs.HostCalls.{WasSettledWell}
-use Rattle.ws_chain_laws.specs.Chain.{dest_of, link_of}
+use Rattle.ws_chain_laws.specs.Chain.{FromBytes, dest_of, link_of}
 use Rattle.ws_chain_laws.specs.Opening.{BeginsChain}
 use Rattle.ws_chain_laws.specs.Outcomes.{last_promise, ChainEnds}
 use Rattle.ws_chain_laws.specs.Runs.{NodeGoes}
@@ -68,7 +68,7 @@ module _ (plan : Plan) (xs : List Entry) (n : Node) (led : Led plan xs n) where
 
   -- the last pipe's promise
   abbrev promise : PromiseId
-  promise = last_promise k signalled
+  promise = last_promise FromBytes k signalled
 
   abbrev out : Option Outcome
   out = outcome_at (run (past plan xs) empty).promises promise
@@ -76,14 +76,14 @@ module _ (plan : Plan) (xs : List Entry) (n : Node) (led : Led plan xs n) where
   few : 2 * k + 2 ≤ most_streams
   few = few-streams plan led.is_of.accepted
 
-  begins : BeginsChain k signalled
-  begins = each_chain_begins k signalled few
+  begins : BeginsChain FromBytes k signalled
+  begins = each_chain_begins FromBytes k signalled few
 
-  ends : ChainEnds k signalled xs
-  ends = each_chain_ends k signalled xs few
+  ends : ChainEnds FromBytes k signalled xs
+  ends = each_chain_ends FromBytes k signalled xs few
 
-  goes : NodeGoes k signalled xs
-  goes = each_node_goes k signalled xs few led.calls
+  goes : NodeGoes FromBytes k signalled xs
+  goes = each_node_goes FromBytes k signalled xs few led.calls
 
   its : n.pipe ≡ promise
   its = let a = led.answered in let b = begins.last in cc

@@ -11,7 +11,7 @@ use Rattle.ws_steps.specs.declared.calls.Answer.{Answer}
 use Rattle.ws_steps.specs.declared.calls.Call.{Call}
 use Rattle.ws_steps.specs.declared.calls.Call.TheVariants.{Settle}
 use Rattle.ws_steps.specs.Run.{Entry}
-use Rattle.ws_chain_laws.specs.Chain.{source_of, behind_at, call_enters}
+use Rattle.ws_chain_laws.specs.Chain.{FromBytes, source_of, behind_at, call_enters}
 use Rattle.ws_chain_laws.specs.Nodes.{only_at}
 use Rattle.ws_chain_laws.proofs.Nodes.{each_nodes_call_brings}
 use Rattle.ws_link_laws.specs.Link.{silence}
@@ -46,7 +46,7 @@ pub record AfterQuiet (plan : Plan) (xs : List Entry) (a b : Node) : Type 0 wher
   pub before : b.stopped ≡ None → a.stopped ≡ None
   pub older : b.stopped ≡ None → a.realm.slots.age < b.realm.slots.age
 
-pub asks-quietly : (plan : Plan) (xs : List Entry) (a b : Node) (c : Call) → ((k : ℕ) → call_enters k c ≡ silence) → Led plan xs a → MayAsk plan xs a c → Asks c a b → AfterQuiet plan xs a b
+pub asks-quietly : (plan : Plan) (xs : List Entry) (a b : Node) (c : Call) → ((k : ℕ) → call_enters FromBytes k c ≡ silence) → Led plan xs a → MayAsk plan xs a c → Asks c a b → AfterQuiet plan xs a b
 asks-quietly plan xs a b c quiet led may asks =
     let after = since-asks plan xs a b c led may asks in
     record {
@@ -73,8 +73,8 @@ quiet-then plan xs a b c first second =
       older = λ e. let f = first.older (second.before e) in let g = second.older e in omega arith;
     }
 
-pub settle-quiet : (id : HostId) (x : Answer) (k : ℕ) → call_enters k (Settle id x) ≡ silence
-settle-quiet id x k = (each_nodes_call_brings k).settle id x
+pub settle-quiet : (id : HostId) (x : Answer) (k : ℕ) → call_enters FromBytes k (Settle id x) ≡ silence
+settle-quiet id x k = (each_nodes_call_brings FromBytes k).settle id x
 
 -- chunks that are put out into a link behind the first
 
@@ -91,13 +91,13 @@ module _ (plan : Plan) (m : ℕ) (less : suc m ≤ count_of plan) where
   may-enqueue : (xs : List Entry) (a : Node) (piece : List ℕ) → MayAsk plan xs a (enqueues (source_of (suc m)) piece)
   may-enqueue xs a piece = record { is_nodes = tt; failed = All-nil (IsCause a); closes = λ id e c. absurd (cc); flushes = λ id i e c first last w at. absurd (cc) }
 
-  brings : (piece : List ℕ) (k : ℕ) → call_enters k (enqueues (source_of (suc m)) piece) ≡ only_at (suc m) (told (Bytes piece ∷ []) Open) k
-  brings piece k = (each_nodes_call_brings k).enqueue (suc m) (Bytes piece)
+  brings : (piece : List ℕ) (k : ℕ) → call_enters FromBytes k (enqueues (source_of (suc m)) piece) ≡ only_at (suc m) (told (Bytes piece ∷ []) Open) k
+  brings piece k = (each_nodes_call_brings FromBytes k).enqueue (suc m) (Bytes piece)
 
-  brings-there : (piece : List ℕ) → call_enters (suc m) (enqueues (source_of (suc m)) piece) ≡ told (Bytes piece ∷ []) Open
+  brings-there : (piece : List ℕ) → call_enters FromBytes (suc m) (enqueues (source_of (suc m)) piece) ≡ told (Bytes piece ∷ []) Open
   brings-there piece = brings piece (suc m) ∙ (let e : nat_eq (suc m) (suc m) ≡ true = alike (suc m) in rw e refl)
 
-  brings-elsewhere : (piece : List ℕ) (k : ℕ) → k ≢ suc m → call_enters k (enqueues (source_of (suc m)) piece) ≡ silence
+  brings-elsewhere : (piece : List ℕ) (k : ℕ) → k ≢ suc m → call_enters FromBytes k (enqueues (source_of (suc m)) piece) ≡ silence
   brings-elsewhere piece k other = brings piece k ∙ (let e : nat_eq k (suc m) ≡ false = unlike k (suc m) other in rw e refl)
 
   not_first : 0 ≢ suc m

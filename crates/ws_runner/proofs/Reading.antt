@@ -33,7 +33,7 @@ use Rattle.ws_steps.specs.Run.{Entry, Called}
 use Rattle.ws_host_laws.specs.HostCalls.{called, settles_well}
 use Rattle.ws_host_laws.proofs.Called.{each_event_is_its_call}
 use Rattle.ws_link_laws.specs.Link.{silence}
-use Rattle.ws_chain_laws.specs.Chain.{behind_at, call_enters}
+use Rattle.ws_chain_laws.specs.Chain.{FromBytes, behind_at, call_enters}
 use Rattle.ws_chain_laws.specs.Opening.{opening, piping, signal_of}
 use Rattle.ws_chain_laws.specs.Nodes.{only_at}
 use Rattle.ws_chain_laws.proofs.Nodes.{each_nodes_call_brings}
@@ -97,7 +97,7 @@ called-on entries more id call h =
     subst (λ q. slice_get q id.0 ≡ Some call) (sym g.1) (get-front (called entries) g.0 id.0 call h)
 
 past-on : (plan : Plan) (xs more : List Entry) → past plan (xs ++ more) ≡ past plan xs ++ more
-past-on plan xs more = sym (append_assoc (opening (count_of plan) (is_aborted plan)) (Called (piping (signal_of (is_aborted plan)) (count_of plan)) ∷ xs) more)
+past-on plan xs more = sym (append_assoc (opening FromBytes (count_of plan) (is_aborted plan)) (Called (piping (signal_of (is_aborted plan)) (count_of plan)) ∷ xs) more)
 
 call-on : (plan : Plan) (xs more : List Entry) (id : HostId) (call : HostCall) → slice_get (called (past plan xs)) id.0 ≡ Some call
     → slice_get (called (past plan (xs ++ more))) id.0 ≡ Some call
@@ -134,8 +134,8 @@ record Both (plan : Plan) (xs : List Entry) (c : Call) (n b : Node) : Type 0 whe
   pub more : List Entry
   pub led : Led plan more b
   pub only : OnlyRealm n b
-  pub short : (d : ℕ → Told (List ℕ)) (k : ℕ) → k ≤ count_of plan → IsShortOf (lies d b k) (lies (λ j. then_told (in_bytes (call_enters j c)) (d j)) n k)
-  pub one : (m : ℕ) → OneAtMost m (then_told (behind_at 0 n.realm.slots) (call_enters 0 c)).items → OneAtMost m (behind_at 0 b.realm.slots).items
+  pub short : (d : ℕ → Told (List ℕ)) (k : ℕ) → k ≤ count_of plan → IsShortOf (lies d b k) (lies (λ j. then_told (in_bytes (call_enters FromBytes j c)) (d j)) n k)
+  pub one : (m : ℕ) → OneAtMost m (then_told (behind_at 0 n.realm.slots) (call_enters FromBytes 0 c)).items → OneAtMost m (behind_at 0 b.realm.slots).items
   pub older : b.stopped ≡ None → n.realm.slots.age ≤ b.realm.slots.age
 
 going-on : (c : Call) (a b : Node) → Asks c a b → b.stopped ≡ None → a.stopped ≡ None
@@ -144,11 +144,11 @@ going-on c a b (Refused why stops is) e = let f : b.stopped ≡ Some why = ap (�
 
 -- the settling brings nothing
 settled-short : (plan : Plan) (mid b : Node) (id : HostId) (d : ℕ → Told (List ℕ)) (k : ℕ)
-    → IsShortOf (lies d b k) (lies (λ j. then_told (in_bytes (call_enters j (settles id))) (d j)) mid k) → IsShortOf (lies d b k) (lies d mid k)
+    → IsShortOf (lies d b k) (lies (λ j. then_told (in_bytes (call_enters FromBytes j (settles id))) (d j)) mid k) → IsShortOf (lies d b k) (lies d mid k)
 settled-short plan mid b id d k h =
-    subst (λ (t : Told Value). IsShortOf (lies d b k) (lies (λ j. then_told (in_bytes t) (d j)) mid k)) ((each_nodes_call_brings k).settle id AnswerOk) h
+    subst (λ (t : Told Value). IsShortOf (lies d b k) (lies (λ j. then_told (in_bytes t) (d j)) mid k)) ((each_nodes_call_brings FromBytes k).settle id AnswerOk) h
 
-settled-one : (x : Told Value) (c : Call) (m : ℕ) → call_enters 0 c ≡ silence → OneAtMost m x.items → OneAtMost m (then_told x (call_enters 0 c)).items
+settled-one : (x : Told Value) (c : Call) (m : ℕ) → call_enters FromBytes 0 c ≡ silence → OneAtMost m x.items → OneAtMost m (then_told x (call_enters FromBytes 0 c)).items
 settled-one x c m e o = subst (λ (q : Told Value). OneAtMost m q.items) (sym (ap (λ q. then_told x q) e ∙ then_empty x)) o
 
 both : (plan : Plan) (xs : List Entry) (n mid b : Node) (c : Call) (id : HostId) (i : StreamId) → slice_get (called (past plan xs)) id.0 ≡ Some (Pull i) → Led plan xs n
@@ -161,7 +161,7 @@ both plan xs n mid b c id i pull led may asks settles_it =
       led = second.led;
       only = only-then n mid b first.only second.only;
       short = λ d k less. short_trans _ _ _ (settled-short plan mid b id d k (second.short d k less)) (first.short d k less);
-      one = λ m o. second.one m (settled-one (behind_at 0 mid.realm.slots) (settles id) m ((each_nodes_call_brings 0).settle id AnswerOk) (first.one m o));
+      one = λ m o. second.one m (settled-one (behind_at 0 mid.realm.slots) (settles id) m ((each_nodes_call_brings FromBytes 0).settle id AnswerOk) (first.one m o));
       older = λ going.
           let one = second.older going in
           let other = first.older (going-on (settles id) mid b settles_it going) in
@@ -186,19 +186,19 @@ pushed-on m n ws less h k d within = let few = h k d within in omega arith
 
 -- what lies at each place, where this call brings what was read, or nothing at all, to the first
 enters-at : (a : Node) (i : Input) (c : Call) (read : Told (List ℕ)) (d : ℕ → Told (List ℕ)) (b : Node) → a.stopped ≡ None → a.input ≡ input.Open
-    → IsShortOf (then_told (in_bytes (call_enters 0 c)) (d 0)) read
-    → IsShortOf (lies d b 0) (lying_by a.stopped (then_told (in_bytes (behind_at 0 a.realm.slots)) (then_told (in_bytes (call_enters 0 c)) (d 0))))
+    → IsShortOf (then_told (in_bytes (call_enters FromBytes 0 c)) (d 0)) read
+    → IsShortOf (lies d b 0) (lying_by a.stopped (then_told (in_bytes (behind_at 0 a.realm.slots)) (then_told (in_bytes (call_enters FromBytes 0 c)) (d 0))))
     → IsShortOf (lies d b 0) (then_told (lies_in a 0) read)
 enters-at a i c read d b goes was_open came h =
     let x : Told (List ℕ) = in_bytes (behind_at 0 a.realm.slots) in
-    let y : Told (List ℕ) = then_told (in_bytes (call_enters 0 c)) (d 0) in
+    let y : Told (List ℕ) = then_told (in_bytes (call_enters FromBytes 0 c)) (d 0) in
     let lay : lies_in a 0 ≡ x = ap (λ (w : Option Why). lying_by w (then_told x (lost_by a.input))) goes ∙ (ap (λ (i : Input). then_told x (lost_by i)) was_open ∙ then_empty x) in
     short_trans (lies d b 0) (then_told x y) (then_told (lies_in a 0) read)
     (subst (λ (w : Option Why). IsShortOf (lies d b 0) (lying_by w (then_told x y))) goes h)
     (short_as _ _ _ (ap (λ q. then_told q read) (sym lay)) (short_left x y read came))
 
-passes-at : (a : Node) (c : Call) (j : ℕ) (d : ℕ → Told (List ℕ)) (b : Node) → d (suc j) ≡ coming_behind j a.stages.items → call_enters (suc j) c ≡ silence
-    → IsShortOf (lies d b (suc j)) (lying_by a.stopped (then_told (in_bytes (behind_at (suc j) a.realm.slots)) (then_told (in_bytes (call_enters (suc j) c)) (d (suc j)))))
+passes-at : (a : Node) (c : Call) (j : ℕ) (d : ℕ → Told (List ℕ)) (b : Node) → d (suc j) ≡ coming_behind j a.stages.items → call_enters FromBytes (suc j) c ≡ silence
+    → IsShortOf (lies d b (suc j)) (lying_by a.stopped (then_told (in_bytes (behind_at (suc j) a.realm.slots)) (then_told (in_bytes (call_enters FromBytes (suc j) c)) (d (suc j)))))
     → IsShortOf (lies d b (suc j)) (lies_in a (suc j))
 passes-at a c j d b same silent h =
     subst (λ (q : Told (List ℕ)). IsShortOf (lies d b (suc j)) (lying_by a.stopped (then_told (in_bytes (behind_at (suc j) a.realm.slots)) q)))
@@ -236,9 +236,9 @@ module _ (wf : ℕ) (finished : Option Bool) (p : List ℕ → Type 0) (plan : P
 
     -- what was read came in by this call
     took : (taken ahead : ℕ) (i : Input) (c : Call) (mid : Node) (read : Told (List ℕ)) → Counts a.most taken ahead i → MayAsk plan xs (answering taken ahead i a) c
-        → Asks c (answering taken ahead i a) mid → Asks (settles id) mid b → ((j : ℕ) → call_enters (suc j) c ≡ silence)
-        → IsShortOf (then_told (in_bytes (call_enters 0 c)) (lost_by i)) read
-        → ((behind_at 0 a.realm.slots).items ≡ [] → OneAtMost ahead (then_told (behind_at 0 a.realm.slots) (call_enters 0 c)).items)
+        → Asks c (answering taken ahead i a) mid → Asks (settles id) mid b → ((j : ℕ) → call_enters FromBytes (suc j) c ≡ silence)
+        → IsShortOf (then_told (in_bytes (call_enters FromBytes 0 c)) (lost_by i)) read
+        → ((behind_at 0 a.realm.slots).items ≡ [] → OneAtMost ahead (then_told (behind_at 0 a.realm.slots) (call_enters FromBytes 0 c)).items)
         → Fed old new (concat read.items) → All (λ c. length c ≤ 4096) read.items → taken ≡ a.taken + length (concat read.items) → length (concat read.items) ≤ ahead
         → InputGoes a.input i read m₀ m₁ → Handled plan a b m₀ m₁ p p
     took taken ahead i c mid read counts may asks settles_it silent came one fed short counted had goes_in =
@@ -251,7 +251,7 @@ module _ (wf : ℕ) (finished : Option Bool) (p : List ℕ → Type 0) (plan : P
         let input_is : b.input ≡ i = same.input in
         let coming_is : (j : ℕ) → coming b (suc j) ≡ coming_behind j a.stages.items = λ j. ap (λ ws. coming_behind j ws) items in
         let first : IsShortOf (lies_in b 0) (then_told (lies_in a 0) read) =
-        enters-at a i c read (coming b) b goes was_open (subst (λ q. IsShortOf (then_told (in_bytes (call_enters 0 c)) (lost_by q)) read) (sym input_is) came)
+        enters-at a i c read (coming b) b goes was_open (subst (λ q. IsShortOf (then_told (in_bytes (call_enters FromBytes 0 c)) (lost_by q)) read) (sym input_is) came)
         (h.short (coming b) 0 (omega arith)) in
         record {
           xs = h.more;
@@ -295,9 +295,9 @@ module _ (wf : ℕ) (finished : Option Bool) (p : List ℕ → Type 0) (plan : P
         took a.taken a.ahead input.Ended (Finish source) c (told [] Closed)
         (record { limited = omega arith; bound = omega arith; within = λ e. fewer; beyond = λ e. absurd (cc); piece = omega arith; failed = λ e. absurd (cc) })
         (record { is_nodes = tt; failed = All-nil (IsCause (answering a.taken a.ahead input.Ended a)); closes = λ i e. absurd (cc); flushes = λ i j e. absurd (cc) })
-        asks settles_it (λ j. (each_nodes_call_brings (suc j)).finish ∙ not-first (told [] Closed) j)
-        (subst (λ (t : Told Value). IsShortOf (then_told (in_bytes t) (lost_by input.Ended)) (told [] Closed)) (sym (each_nodes_call_brings 0).finish) (refl, refl))
-        (λ e. subst (λ q. OneAtMost a.ahead (then_told (behind_at 0 a.realm.slots) q).items) (sym (each_nodes_call_brings 0).finish) (one-closes a.ahead (behind_at 0 a.realm.slots) Closed e))
+        asks settles_it (λ j. (each_nodes_call_brings FromBytes (suc j)).finish ∙ not-first (told [] Closed) j)
+        (subst (λ (t : Told Value). IsShortOf (then_told (in_bytes t) (lost_by input.Ended)) (told [] Closed)) (sym (each_nodes_call_brings FromBytes 0).finish) (refl, refl))
+        (λ e. subst (λ q. OneAtMost a.ahead (then_told (behind_at 0 a.realm.slots) q).items) (sym (each_nodes_call_brings FromBytes 0).finish) (one-closes a.ahead (behind_at 0 a.realm.slots) Closed e))
         piece.moved (All-nil (λ c. length c ≤ 4096)) (omega arith) (omega arith)
         (rw was_open (refl, piece.calm, (piece.end refl).1, IsEmpty-kept old new [] (piece.end refl).0 piece.moved))
 
@@ -314,9 +314,9 @@ module _ (wf : ℕ) (finished : Option Bool) (p : List ℕ → Type 0) (plan : P
         took a.taken a.ahead input.Failed (Fail source (FaultReason ReadFault)) c (told [] Lost)
         (record { limited = omega arith; bound = omega arith; within = λ e. fewer; beyond = λ e. absurd (cc); piece = omega arith; failed = λ e. written })
         (record { is_nodes = (0, refl); failed = All-cons (IsCause n) (FaultReason ReadFault) [] refl (All-nil (IsCause n)); closes = λ i e. absurd (cc); flushes = λ i j e. absurd (cc) })
-        asks settles_it (λ j. (each_nodes_call_brings (suc j)).fail source (FaultReason ReadFault))
-        (subst (λ (t : Told Value). IsShortOf (then_told (in_bytes t) (lost_by input.Failed)) (told [] Lost)) (sym ((each_nodes_call_brings 0).fail source (FaultReason ReadFault))) ([], refl))
-        (λ e. subst (λ q. OneAtMost a.ahead (then_told (behind_at 0 a.realm.slots) q).items) (sym ((each_nodes_call_brings 0).fail source (FaultReason ReadFault)))
+        asks settles_it (λ j. (each_nodes_call_brings FromBytes (suc j)).fail source (FaultReason ReadFault))
+        (subst (λ (t : Told Value). IsShortOf (then_told (in_bytes t) (lost_by input.Failed)) (told [] Lost)) (sym ((each_nodes_call_brings FromBytes 0).fail source (FaultReason ReadFault))) ([], refl))
+        (λ e. subst (λ q. OneAtMost a.ahead (then_told (behind_at 0 a.realm.slots) q).items) (sym ((each_nodes_call_brings FromBytes 0).fail source (FaultReason ReadFault)))
         (one-closes a.ahead (behind_at 0 a.realm.slots) MayCome e))
         fed (All-nil (λ c. length c ≤ 4096)) (omega arith) (omega arith) (rw was_open (refl, rose, kept))
 
@@ -346,10 +346,10 @@ module _ (wf : ℕ) (finished : Option Bool) (p : List ℕ → Type 0) (plan : P
           took (a.taken + length (x ∷ rest)) (length (x ∷ rest)) input.TooLong (Fail source (FaultReason TooMuch)) c (told ((x ∷ rest) ∷ []) Lost)
           (record { limited = omega arith; bound = omega arith; within = λ e. absurd (e refl); beyond = λ e. more; piece = omega arith; failed = λ e. absurd (cc) })
           (record { is_nodes = (0, refl); failed = All-cons (IsCause n) (FaultReason TooMuch) [] refl (All-nil (IsCause n)); closes = λ i e. absurd (cc); flushes = λ i j e. absurd (cc) })
-          asks settles_it (λ j. (each_nodes_call_brings (suc j)).fail source (FaultReason TooMuch))
-          (subst (λ (t : Told Value). IsShortOf (then_told (in_bytes t) (lost_by input.TooLong)) (told ((x ∷ rest) ∷ []) Lost)) (sym ((each_nodes_call_brings 0).fail source (FaultReason TooMuch)))
+          asks settles_it (λ j. (each_nodes_call_brings FromBytes (suc j)).fail source (FaultReason TooMuch))
+          (subst (λ (t : Told Value). IsShortOf (then_told (in_bytes t) (lost_by input.TooLong)) (told ((x ∷ rest) ∷ []) Lost)) (sym ((each_nodes_call_brings FromBytes 0).fail source (FaultReason TooMuch)))
           ((x ∷ rest) ∷ [], refl))
-          (λ e. subst (λ q. OneAtMost (length (x ∷ rest)) (then_told (behind_at 0 a.realm.slots) q).items) (sym ((each_nodes_call_brings 0).fail source (FaultReason TooMuch)))
+          (λ e. subst (λ q. OneAtMost (length (x ∷ rest)) (then_told (behind_at 0 a.realm.slots) q).items) (sym ((each_nodes_call_brings FromBytes 0).fail source (FaultReason TooMuch)))
           (one-closes (length (x ∷ rest)) (behind_at 0 a.realm.slots) MayCome e))
           fed_all one_short (omega arith) (omega arith) (rw was_open (refl, piece.calm, piece.before_end (omega arith)))
 
@@ -363,10 +363,10 @@ module _ (wf : ℕ) (finished : Option Bool) (p : List ℕ → Type 0) (plan : P
           took (a.taken + length (x ∷ rest)) (length (x ∷ rest)) a.input (Enqueue source (Bytes (x ∷ rest))) c (told ((x ∷ rest) ∷ []) MayCome)
           (record { limited = omega arith; bound = omega arith; within = λ e. within; beyond = λ e. let f = was_open in absurd (cc); piece = omega arith; failed = λ e. let f = was_open in absurd (cc) })
           (record { is_nodes = tt; failed = All-nil (IsCause (answering (a.taken + length (x ∷ rest)) (length (x ∷ rest)) a.input a)); closes = λ i e. absurd (cc); flushes = λ i j e. absurd (cc) })
-          asks settles_it (λ j. (each_nodes_call_brings (suc j)).enqueue 0 (Bytes (x ∷ rest)) ∙ not-first (told (Bytes (x ∷ rest) ∷ []) MayCome) j)
-          (subst (λ (i : Input). IsShortOf (then_told (in_bytes (call_enters 0 (Enqueue source (Bytes (x ∷ rest))))) (lost_by i)) (told ((x ∷ rest) ∷ []) MayCome)) (sym was_open)
-          (subst (λ (t : Told Value). IsShortOf (then_told (in_bytes t) nothing_yet) (told ((x ∷ rest) ∷ []) MayCome)) (sym ((each_nodes_call_brings 0).enqueue 0 (Bytes (x ∷ rest)))) (refl, refl)))
-          (λ e. subst (λ q. OneAtMost (length (x ∷ rest)) (then_told (behind_at 0 a.realm.slots) q).items) (sym ((each_nodes_call_brings 0).enqueue 0 (Bytes (x ∷ rest))))
+          asks settles_it (λ j. (each_nodes_call_brings FromBytes (suc j)).enqueue 0 (Bytes (x ∷ rest)) ∙ not-first (told (Bytes (x ∷ rest) ∷ []) MayCome) j)
+          (subst (λ (i : Input). IsShortOf (then_told (in_bytes (call_enters FromBytes 0 (Enqueue source (Bytes (x ∷ rest))))) (lost_by i)) (told ((x ∷ rest) ∷ []) MayCome)) (sym was_open)
+          (subst (λ (t : Told Value). IsShortOf (then_told (in_bytes t) nothing_yet) (told ((x ∷ rest) ∷ []) MayCome)) (sym ((each_nodes_call_brings FromBytes 0).enqueue 0 (Bytes (x ∷ rest)))) (refl, refl)))
+          (λ e. subst (λ q. OneAtMost (length (x ∷ rest)) (then_told (behind_at 0 a.realm.slots) q).items) (sym ((each_nodes_call_brings FromBytes 0).enqueue 0 (Bytes (x ∷ rest))))
           (one-comes (length (x ∷ rest)) (x ∷ rest) (behind_at 0 a.realm.slots) e refl (omega arith)))
           fed_all one_short (omega arith) (omega arith)
           (subst (λ (i : Input). InputGoes i i (told ((x ∷ rest) ∷ []) MayCome) m₀ m₁) (sym was_open) (refl, piece.calm, piece.before_end (omega arith)))

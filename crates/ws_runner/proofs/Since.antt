@@ -33,7 +33,7 @@ use Rattle.ws_laws.proofs.Ages.{called-age, each_age_counts}
 use Rattle.ws_host_laws.specs.HostCalls.{called, settles_well, AllEvents, IsItsCall}
 use Rattle.ws_host_laws.proofs.Called.{each_event_is_its_call}
 use Rattle.ws_link_laws.specs.Link.{silence}
-use Rattle.ws_chain_laws.specs.Chain.{source_of, behind_at, IsChain, LeavesChain, call_enters, heard_at}
+use Rattle.ws_chain_laws.specs.Chain.{FromBytes, transform_of, source_of, behind_at, IsChain, LeavesChain, call_enters, heard_at}
 use Rattle.ws_chain_laws.specs.Laws.{next_enters, next_heard, KeepsBehind}
 use Rattle.ws_chain_laws.specs.Opening.{opening, piping, signal_of}
 use Rattle.ws_chain_laws.specs.Outcomes.{JobBrings, Flushes, BringsNothing, BringsTheEnd}
@@ -62,11 +62,11 @@ use Rattle.ws_runner.proofs.Entries.{run-snoc, failures-snoc, nodes-snoc, past-l
 pub led-few : (plan : Plan) → IsAccepted plan → 2 * count_of plan + 2 ≤ most_streams
 led-few plan h = let a : length (stages_of plan) ≤ 16 = (accepted plan h).stages in omega (arith, a)
 
-pub led-chain : (plan : Plan) (xs : List Entry) (n : Node) → Led plan xs n → IsChain (count_of plan) n.realm.slots
+pub led-chain : (plan : Plan) (xs : List Entry) (n : Node) → Led plan xs n → IsChain FromBytes (count_of plan) n.realm.slots
 led-chain plan xs n s =
-    subst (IsChain (count_of plan))
-    (sym (s.slots ∙ run-append (opening (count_of plan) (is_aborted plan)) (Called (piping (signal_of (is_aborted plan)) (count_of plan)) ∷ xs) empty))
-    (each_node_goes (count_of plan) (is_aborted plan) xs (led-few plan s.is_of.accepted) s.calls).chain
+    subst (IsChain FromBytes (count_of plan))
+    (sym (s.slots ∙ run-append (opening FromBytes (count_of plan) (is_aborted plan)) (Called (piping (signal_of (is_aborted plan)) (count_of plan)) ∷ xs) empty))
+    (each_node_goes FromBytes (count_of plan) (is_aborted plan) xs (led-few plan s.is_of.accepted) s.calls).chain
 
 -- A node of which only the realm changed, and that may have stopped
 
@@ -151,8 +151,8 @@ pub record AfterCall (plan : Plan) (xs : List Entry) (c : Call) (a b : Node) : T
   pub more : List Entry
   pub led : Led plan (xs ++ more) b
   pub only : OnlyRealm a b
-  pub short : (d : ℕ → Told (List ℕ)) (k : ℕ) → k ≤ count_of plan → IsShortOf (lies d b k) (lies (λ j. then_told (in_bytes (call_enters j c)) (d j)) a k)
-  pub one : (m : ℕ) → OneAtMost m (then_told (behind_at 0 a.realm.slots) (call_enters 0 c)).items → OneAtMost m (behind_at 0 b.realm.slots).items
+  pub short : (d : ℕ → Told (List ℕ)) (k : ℕ) → k ≤ count_of plan → IsShortOf (lies d b k) (lies (λ j. then_told (in_bytes (call_enters FromBytes j c)) (d j)) a k)
+  pub one : (m : ℕ) → OneAtMost m (then_told (behind_at 0 a.realm.slots) (call_enters FromBytes 0 c)).items → OneAtMost m (behind_at 0 b.realm.slots).items
   pub older : b.stopped ≡ None → b.realm.slots.age ≡ suc a.realm.slots.age
 
 -- a call
@@ -170,10 +170,10 @@ same_call c d e = grind arith
 
 -- what lies there after a call that was performed
 pub call-short : (plan : Plan) (xs : List Entry) (a : Node) (realm : SeenRealm) (c : Call) → Led plan xs a → IsNodes c → realm.slots ≡ after_call c a.realm.slots
-    → (k : ℕ) → k ≤ count_of plan → IsShortOf (behind_at k realm.slots) (then_told (behind_at k a.realm.slots) (call_enters k c))
+    → (k : ℕ) → k ≤ count_of plan → IsShortOf (behind_at k realm.slots) (then_told (behind_at k a.realm.slots) (call_enters FromBytes k c))
 call-short plan xs a realm c led nodes slots k l =
-    subst (λ q. IsShortOf (behind_at k q) (then_told (behind_at k a.realm.slots) (call_enters k c))) (sym slots)
-    ((each_call_keeps_chain (count_of plan) a.realm.slots c (led-chain plan xs a led) (nodes-leave (count_of plan) c nodes)).short k l)
+    subst (λ q. IsShortOf (behind_at k q) (then_told (behind_at k a.realm.slots) (call_enters FromBytes k c))) (sym slots)
+    ((each_call_keeps_chain FromBytes (count_of plan) a.realm.slots c (led-chain plan xs a led) (nodes-leave (count_of plan) c nodes)).short k l)
 
 stops-spent : (n : Node) (why : Why) → Stops why n → (n.stopped ≡ Some Spent → n.realm.slots.age ≡ oldest) → Some why ≡ Some Spent → n.realm.slots.age ≡ oldest
 stops-spent n why (Before f) g e = g (f ∙ e)
@@ -196,7 +196,7 @@ since-asks plan xs a b c led may (Performed realm slots young goes is) =
           (λ id e. may.closes id (same_call c (settles_well id) e)) (λ id i e. may.flushes id i (same_call c (settles_well id) e));
       only = record { realm = realm; stopped = a.stopped; is = refl };
       short = λ d k l. lying-both a.stopped _ _
-          (short-behind (behind_at k realm.slots) (behind_at k a.realm.slots) (call_enters k c) (d k) (call-short plan xs a realm c led may.is_nodes slots k l));
+          (short-behind (behind_at k realm.slots) (behind_at k a.realm.slots) (call_enters FromBytes k c) (d k) (call-short plan xs a realm c led may.is_nodes slots k l));
       one = λ m o. one-short m _ _ (call-short plan xs a realm c led may.is_nodes slots 0 (omega arith)) o;
       older = λ e. one_more realm.slots.age a.realm.slots.age (ap (λ (q : Slots). q.age) slots ∙ called-age c a.realm.slots);
     })
@@ -206,8 +206,8 @@ since-asks plan xs a b c led may (Refused why stops is) =
       more = [];
       led = subst (λ q. Led plan q (stopped_by why a)) (sym (append-nil xs)) (led-stays plan xs a a.realm (Some why) led refl (stops-spent a why stops led.spent));
       only = record { realm = a.realm; stopped = Some why; is = refl };
-      short = λ d k l. lost-short (lies (λ j. then_told (in_bytes (call_enters j c)) (d j)) a k);
-      one = λ m o. one-before m (behind_at 0 a.realm.slots) (call_enters 0 c) o;
+      short = λ d k l. lost-short (lies (λ j. then_told (in_bytes (call_enters FromBytes j c)) (d j)) a k);
+      one = λ m o. one-before m (behind_at 0 a.realm.slots) (call_enters FromBytes 0 c) o;
       older = λ e. absurd (cc);
     })
 
@@ -218,12 +218,13 @@ dropped plan xs a b m piece less led (Performed realm slots young goes is) not_d
     let k : ℕ = suc m in
     let c : Call = Enqueue (source_of k) (Bytes piece) in
     let chain = (led-chain plan xs a led).links k less in
+    let gives = (led-chain plan xs a led).gives k less in
     let shut : (behind_at k a.realm.slots).mark ≢ MayCome =
     behind-mark k a.realm.slots
-    (enqueue-shut (source_of k) (Bytes piece) a.realm.slots chain.source
+    (enqueue-shut (source_of k) (transform_of m) (Bytes piece) a.realm.slots chain.source gives
     (λ f. not_done (record { going = goes; done = f; goes_on = ap (λ (n : Node). n.stopped) is ∙ goes }))) in
     let short : IsShortOf (behind_at k realm.slots) (behind_at k a.realm.slots) =
-    short_as (behind_at k realm.slots) (then_told (behind_at k a.realm.slots) (call_enters k c)) _ (nothing-follows (behind_at k a.realm.slots) (call_enters k c) shut)
+    short_as (behind_at k realm.slots) (then_told (behind_at k a.realm.slots) (call_enters FromBytes k c)) _ (nothing-follows (behind_at k a.realm.slots) (call_enters FromBytes k c) shut)
     (call-short plan xs a realm c led tt slots k less) in
     subst (λ (n : Node). IsShortOf (lies d n k) (lies e a k)) (sym is)
     (lying-both a.stopped _ _ (short-ended (behind_at k realm.slots) (behind_at k a.realm.slots) (d k) (e k) shut short))
@@ -250,7 +251,7 @@ pub stages-count : (plan : Plan) (xs : List Entry) (a : Node) → Led plan xs a 
 stages-count plan xs a led = sym (length-map a.stages.items (λ w. w.stage)) ∙ ap length led.is_of.stages
 
 job-brings : (plan : Plan) (xs : List Entry) (a : Node) → Led plan xs a → JobBrings (count_of plan) (past plan xs)
-job-brings plan xs a led = each_end_was_flushed (count_of plan) (past plan xs) (subst (IsChain (count_of plan)) led.slots (led-chain plan xs a led))
+job-brings plan xs a led = each_end_was_flushed FromBytes (count_of plan) (past plan xs) (subst (IsChain FromBytes (count_of plan)) led.slots (led-chain plan xs a led))
 
 -- a job brings nothing but an end that comes anyway
 brought : (plan : Plan) (xs : List Entry) (a : Node) → Led plan xs a → (k : ℕ) → k ≤ count_of plan
@@ -278,7 +279,7 @@ brought plan xs a led k l = by-link k l
 
 -- nothing is brought to the source
 job-source : (plan : Plan) (xs : List Entry) (a : Node) → Led plan xs a
-    → KeepsBehind (count_of plan) a.realm.slots (after_job a.realm.slots) (λ k. next_enters k (next_job a.realm.slots.promises))
+    → KeepsBehind FromBytes (count_of plan) a.realm.slots (after_job a.realm.slots) (λ k. next_enters k (next_job a.realm.slots.promises))
     → IsShortOf (behind_at 0 (after_job a.realm.slots)) (behind_at 0 a.realm.slots)
 job-source plan xs a led keeps =
     let brings = job-brings plan xs a led in
@@ -288,7 +289,7 @@ job-source plan xs a led keeps =
 
 -- what lies on each link after one job
 job-short : (plan : Plan) (xs : List Entry) (a : Node) → Led plan xs a
-    → KeepsBehind (count_of plan) a.realm.slots (after_job a.realm.slots) (λ k. next_enters k (next_job a.realm.slots.promises)) → (k : ℕ) → k ≤ count_of plan
+    → KeepsBehind FromBytes (count_of plan) a.realm.slots (after_job a.realm.slots) (λ k. next_enters k (next_job a.realm.slots.promises)) → (k : ℕ) → k ≤ count_of plan
     → IsShortOf (then_told (in_bytes (behind_at k (after_job a.realm.slots))) (coming a k)) (then_told (in_bytes (behind_at k a.realm.slots)) (coming a k))
 job-short plan xs a led keeps k l =
     let now : Told Value = behind_at k (after_job a.realm.slots) in
@@ -322,7 +323,7 @@ jobs-go zero plan xs a realm goes led e young = record {
 }
 jobs-go (suc n) plan xs a realm goes led e young =
     let mid : SeenRealm = record { slots = after_job a.realm.slots; prepared = a.realm.prepared } in
-    let keeps = each_job_keeps_chain (count_of plan) a.realm.slots (led-chain plan xs a led) in
+    let keeps = each_job_keeps_chain FromBytes (count_of plan) a.realm.slots (led-chain plan xs a led) in
     let older : mid.slots.age ≤ realm.slots.age = run-older (jobs_in_a_row n) mid.slots realm.slots e in
     let first : Led plan (xs ++ Worked ∷ []) (with_realm mid a) =
     longer plan xs Worked a mid led refl (omega (arith, older, young)) (goes-spent a (mid.slots.age ≡ oldest) goes) tt (All-nil (IsCause a)) (λ id f. cc) (λ id i f. cc) in
@@ -379,7 +380,7 @@ heard-short : (plan : Plan) (xs : List Entry) (a : Node) (realm : SeenRealm) (o 
 heard-short plan xs a realm o led first slots k l =
     subst (λ q. IsShortOf (then_told (next_heard (count_of plan) k o) (behind_at k q)) (behind_at k a.realm.slots)) (sym slots)
     (subst (λ q. IsShortOf (then_told (next_heard (count_of plan) k q) (behind_at k (after_event a.realm.slots))) (behind_at k a.realm.slots)) first
-    ((each_event_keeps_chain (count_of plan) a.realm.slots (led-chain plan xs a led)).short k l))
+    ((each_event_keeps_chain FromBytes (count_of plan) a.realm.slots (led-chain plan xs a led)).short k l))
 
 same_some : {A : Type 0} (x y : A) → Some x ≡ Some y → x ≡ y
 same_some x y e = grind arith

@@ -110,9 +110,9 @@ impl Node {
         ensures { IfOk result (λ node. IsFresh plan.now node) }
     {
         let mut realm = Realm::make(alloc)?;
-        let source = Call::MakeReadable {
+        let source = Call::MakeBytes {
             hwm: 0,
-            size: SizeBy::Count,
+            auto: 0,
             start: StartBy::Now,
         };
         begin(&mut realm, source)?;
