@@ -1,8 +1,8 @@
 -- The definitions computed on examples.
 use Rattle.std.proofs.Common.{◌≡◌, ℕ, ◌^◌, true, false, List, [], ◌∷◌, Some, None, Ok, Err, refl}
-use Rattle.std.specs.Prelude.{codes}
+use Rattle.std.specs.Prelude.{codes, replicate}
 use Rattle.ws_steps.specs.declared.calls.Call.{Call}
-use Rattle.ws_steps.specs.declared.calls.Call.TheVariants.{MakeReadable, MakeWritable, MakeTransform, GetReader, GetWriter, Write, Close, CloseBy, Abort, AbortBy, Ready, Cancel, CancelBy, Read, Closed, Release, Enqueue, Finish, Fail, Terminate, Desired, DesiredBy, Pipe, MakeSignal, Trigger, Settle, State, Step}
+use Rattle.ws_steps.specs.declared.calls.Call.TheVariants.{MakeReadable, MakeBytes, MakeWritable, MakeTransform, GetReader, GetByob, GetWriter, Write, Close, CloseBy, Abort, AbortBy, Ready, Cancel, CancelBy, Read, ReadInto, Closed, Release, Enqueue, Finish, Fail, Terminate, Request, Respond, Desired, DesiredBy, Pipe, MakeSignal, Trigger, Settle, State, Step}
 use Rattle.ws_steps.specs.declared.calls.StartBy.TheVariants.{Now, Later}
 use Rattle.ws_steps.specs.declared.calls.Answer.TheVariants.{Ok as AnswerOk, Fail as AnswerFail}
 use Rattle.ws_steps.specs.declared.readable.SizeBy.TheVariants.{Count, ByteLength}
@@ -13,6 +13,7 @@ use Rattle.ws_value.specs.declared.value.Value.TheVariants.{Plain as PlainValue,
 use Rattle.hex.specs.Hex.{decode_pairs}
 use Rattle.ws_grammar.specs.Numbers.{number_below}
 use Rattle.ws_grammar.specs.Words.{words_of}
+use Rattle.ws_grammar.specs.Calls.{readinto_call}
 use Rattle.ws_grammar.specs.Lines.{lines}
 
 zero_alone : number_below (2 ^ 32) (codes "0") ≡ Some 0
@@ -58,6 +59,40 @@ spelled_transform_of_the_host = refl
 
 spelled_terminate : AloneIs (codes "terminate s1") (Terminate (record { 0 = 1 }))
 spelled_terminate = refl
+
+spelled_bytes : AloneIs (codes "bytes 0 0 now") (MakeBytes 0 0 Now)
+spelled_bytes = refl
+
+-- the largest mark and the longest rooms
+spelled_bytes_with_rooms : AloneIs (codes "bytes 18446744073709551615 4096 later") (MakeBytes 18446744073709551615 4096 Later)
+spelled_bytes_with_rooms = refl
+
+spelled_byob : AloneIs (codes "byob s4294967295") (GetByob (record { 0 = 4294967295 }))
+spelled_byob = refl
+
+spelled_readinto : AloneIs (codes "readinto l0 8 4") (ReadInto (record { 0 = 0 }) (0 ∷ 0 ∷ 0 ∷ 0 ∷ 0 ∷ 0 ∷ 0 ∷ 0 ∷ []) 4 1)
+spelled_readinto = refl
+
+-- the room may have no byte and the elements any size that a byte can hold: the realm looks at them
+spelled_readinto_no_room : AloneIs (codes "readinto l340282366920938463463374607431768211455 0 0") (ReadInto (record { 0 = 340282366920938463463374607431768211455 }) [] 0 1)
+spelled_readinto_no_room = refl
+
+spelled_readinto_large_element : AloneIs (codes "readinto l0 1 255") (ReadInto (record { 0 = 0 }) (0 ∷ []) 255 1)
+spelled_readinto_large_element = refl
+
+spelled_longest_room : readinto_call (codes "l0") (codes "65536") (codes "1") ≡ Some (ReadInto (record { 0 = 0 }) (replicate 65536 0) 1 1)
+spelled_longest_room = refl
+
+spelled_request : AloneIs (codes "request s0") (Request (record { 0 = 0 }))
+spelled_request = refl
+
+spelled_respond : AloneIs (codes "respond q0 x0aFF") (Respond (record { 0 = 0 }) (10 ∷ 255 ∷ []))
+unfolding decode_pairs
+spelled_respond = refl
+
+spelled_respond_no_bytes : AloneIs (codes "respond q340282366920938463463374607431768211455 x") (Respond (record { 0 = 340282366920938463463374607431768211455 }) [])
+unfolding decode_pairs
+spelled_respond_no_bytes = refl
 
 spelled_writer : AloneIs (codes "writer s1") (GetWriter (record { 0 = 1 }))
 spelled_writer = refl
@@ -218,6 +253,70 @@ refused_terminate_by_a_lock = refl
 
 refused_terminate_with_a_reason : lines (codes "terminate s1 e1") ≡ Err 1
 refused_terminate_with_a_reason = refl
+
+refused_long_rooms : lines (codes "bytes 0 4097 now") ≡ Err 1
+refused_long_rooms = refl
+
+refused_large_mark_of_bytes : lines (codes "bytes 18446744073709551616 0 now") ≡ Err 1
+refused_large_mark_of_bytes = refl
+
+refused_bytes_with_a_size : lines (codes "bytes 0 count now") ≡ Err 1
+refused_bytes_with_a_size = refl
+
+refused_bytes_without_rooms : lines (codes "bytes 0 now") ≡ Err 1
+refused_bytes_without_rooms = refl
+
+refused_byob_by_a_lock : lines (codes "byob l0") ≡ Err 1
+refused_byob_by_a_lock = refl
+
+refused_byob_with_more : lines (codes "byob s0 0") ≡ Err 1
+refused_byob_with_more = refl
+
+refused_long_room : lines (codes "readinto l0 65537 1") ≡ Err 1
+refused_long_room = refl
+
+refused_large_element : lines (codes "readinto l0 8 256") ≡ Err 1
+refused_large_element = refl
+
+refused_room_with_leading_zero : lines (codes "readinto l0 08 4") ≡ Err 1
+refused_room_with_leading_zero = refl
+
+refused_readinto_on_a_stream : lines (codes "readinto s0 8 4") ≡ Err 1
+refused_readinto_on_a_stream = refl
+
+refused_readinto_without_an_element : lines (codes "readinto l0 8") ≡ Err 1
+refused_readinto_without_an_element = refl
+
+refused_readinto_with_a_least_number : lines (codes "readinto l0 8 4 1") ≡ Err 1
+refused_readinto_with_a_least_number = refl
+
+refused_request_by_a_lock : lines (codes "request l0") ≡ Err 1
+refused_request_by_a_lock = refl
+
+refused_request_by_its_number : lines (codes "request q0") ≡ Err 1
+refused_request_by_its_number = refl
+
+refused_large_request : lines (codes "respond q340282366920938463463374607431768211456 x") ≡ Err 1
+refused_large_request = refl
+
+refused_respond_with_a_reason : lines (codes "respond q0 undefined") ≡ Err 1
+refused_respond_with_a_reason = refl
+
+refused_respond_with_a_number : lines (codes "respond q0 1") ≡ Err 1
+refused_respond_with_a_number = refl
+
+refused_respond_without_bytes : lines (codes "respond q0") ≡ Err 1
+refused_respond_without_bytes = refl
+
+refused_respond_with_odd_digits : lines (codes "respond q0 x012") ≡ Err 1
+refused_respond_with_odd_digits = refl
+
+refused_respond_without_hexadecimal : lines (codes "respond q0 x0g") ≡ Err 1
+unfolding decode_pairs
+refused_respond_without_hexadecimal = refl
+
+refused_respond_on_a_stream : lines (codes "respond s0 x01") ≡ Err 1
+refused_respond_on_a_stream = refl
 
 refused_return_inside : lines (codes "step\r ") ≡ Err 1
 refused_return_inside = refl

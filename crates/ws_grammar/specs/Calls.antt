@@ -1,10 +1,11 @@
 -- The call that a line's words spell: a table by the first word, for each number of words after it.
-use Rattle.std.specs.Prelude.{ℕ, ◌^◌, if◌then◌else◌, List, [], ◌∷◌, Option, Some, None, option_map, codes}
+use Rattle.std.specs.Prelude.{ℕ, ◌^◌, ◌+◌, if◌then◌else◌, List, [], ◌∷◌, Option, Some, None, option_map, codes, replicate}
 use Rattle.std.specs.Option.{option_or}
 use Rattle.std.specs.Str.{bytes_eq}
+use Rattle.ws_value.specs.declared.ids.LockId.{LockId}
 use Rattle.ws_value.specs.declared.ids.StreamId.{StreamId}
 use Rattle.ws_steps.specs.declared.calls.Call.{Call}
-use Rattle.ws_steps.specs.declared.calls.Call.TheVariants.{MakeReadable, MakeWritable, MakeTransform, GetReader, GetWriter, Cancel, CancelBy, Read, Write, Close, CloseBy, Abort, AbortBy, Closed, Ready, Release, Enqueue, Finish, Fail, Terminate, Desired, DesiredBy, Pipe, MakeSignal, Trigger, Settle, State, Step}
+use Rattle.ws_steps.specs.declared.calls.Call.TheVariants.{MakeReadable, MakeBytes, MakeWritable, MakeTransform, GetReader, GetByob, GetWriter, Cancel, CancelBy, Read, ReadInto, Write, Close, CloseBy, Abort, AbortBy, Closed, Ready, Release, Enqueue, Finish, Fail, Terminate, Request, Respond, Desired, DesiredBy, Pipe, MakeSignal, Trigger, Settle, State, Step}
 use Rattle.ws_steps.specs.declared.calls.StartBy.{StartBy}
 use Rattle.ws_steps.specs.declared.calls.StartBy.TheVariants.{Now, Later}
 use Rattle.ws_steps.specs.declared.calls.Answer.TheVariants.{Ok as AnswerOk, Fail as AnswerFail}
@@ -15,7 +16,7 @@ use Rattle.ws_steps.specs.declared.transform.Kind.TheVariants.{Identity, Host}
 use Rattle.ws_grammar.specs.Numbers.{number_below}
 use Rattle.ws_grammar.specs.declared.options.PipeOptions.{PipeOptions}
 use Rattle.ws_grammar.specs.Options.{options_of}
-use Rattle.ws_grammar.specs.Values.{stream_named, lock_named, host_named, signal_named, reason_of, value_of}
+use Rattle.ws_grammar.specs.Values.{stream_named, lock_named, host_named, request_named, signal_named, reason_of, bytes_of, value_of}
 
 -- what is made of two things, where both are there
 abbrev pub both : {A B C : Type 0} → (A → B → C) → Option A → Option B → Option C
@@ -59,6 +60,19 @@ abbrev pub readable_call : List ℕ → List ℕ → List ℕ → Option Call
 readable_call hwm size start =
     all_three MakeReadable (number_below (2 ^ 64) hwm) (size_named size) (start_named start)
 
+-- the longest room that a byte stream's controller makes of itself
+abbrev pub longest_auto : ℕ
+longest_auto = 4096
+
+-- the longest room of a read
+abbrev pub longest_room : ℕ
+longest_room = 65536
+
+-- `bytes HWM AUTO START`
+abbrev pub bytes_call : List ℕ → List ℕ → List ℕ → Option Call
+bytes_call hwm auto start =
+    all_three MakeBytes (number_below (2 ^ 64) hwm) (number_below (longest_auto + 1) auto) (start_named start)
+
 -- `writable HWM SIZE START`
 abbrev pub writable_call : List ℕ → List ℕ → List ℕ → Option Call
 writable_call hwm size start =
@@ -94,6 +108,19 @@ abort_call object reason =
 -- `write L V`
 abbrev pub write_call : List ℕ → List ℕ → Option Call
 write_call lock value = both Write (lock_named lock) (value_of value)
+
+-- a read of one element at least into a room of this length, all of it zeros
+abbrev pub read_into : LockId → ℕ → ℕ → Call
+read_into lock len element = ReadInto lock (replicate len 0) element 1
+
+-- `readinto L LEN ELEMENT`
+abbrev pub readinto_call : List ℕ → List ℕ → List ℕ → Option Call
+readinto_call lock len element =
+    all_three read_into (lock_named lock) (number_below (longest_room + 1) len) (number_below (2 ^ 8) element)
+
+-- `respond Q X`
+abbrev pub respond_call : List ℕ → List ℕ → Option Call
+respond_call request bytes = both Respond (request_named request) (bytes_of bytes)
 
 -- `enqueue S V`
 abbrev pub enqueue_call : List ℕ → List ℕ → Option Call
@@ -134,11 +161,12 @@ call_alone word =
     else if bytes_eq word (codes "step") then Some Step
     else None
 
--- a word and one more: `reader S`, `writer S`, `read L`, `closed L`, `ready L`, `release L`, `close S` or `L`, `finish S`,
--- `terminate S`, `desired S` or `L`, `state S`
+-- a word and one more: `reader S`, `byob S`, `writer S`, `read L`, `closed L`, `ready L`, `release L`, `close S` or `L`,
+-- `finish S`, `terminate S`, `request S`, `desired S` or `L`, `state S`
 abbrev pub call_on_one : List ℕ → List ℕ → Option Call
 call_on_one word first =
     if bytes_eq word (codes "reader") then option_map GetReader (stream_named first)
+    else if bytes_eq word (codes "byob") then option_map GetByob (stream_named first)
     else if bytes_eq word (codes "writer") then option_map GetWriter (stream_named first)
     else if bytes_eq word (codes "read") then option_map Read (lock_named first)
     else if bytes_eq word (codes "closed") then option_map Closed (lock_named first)
@@ -147,28 +175,32 @@ call_on_one word first =
     else if bytes_eq word (codes "close") then close_call first
     else if bytes_eq word (codes "finish") then option_map Finish (stream_named first)
     else if bytes_eq word (codes "terminate") then option_map Terminate (stream_named first)
+    else if bytes_eq word (codes "request") then option_map Request (stream_named first)
     else if bytes_eq word (codes "desired") then desired_call first
     else if bytes_eq word (codes "state") then option_map State (stream_named first)
     else None
 
--- a word and two more: `cancel`, `abort`, `write`, `enqueue`, `fail`, `pipe`, `trigger`, `settle H ok`
+-- a word and two more: `cancel`, `abort`, `write`, `enqueue`, `respond`, `fail`, `pipe`, `trigger`, `settle H ok`
 abbrev pub call_on_two : List ℕ → List ℕ → List ℕ → Option Call
 call_on_two word first second =
     if bytes_eq word (codes "cancel") then cancel_call first second
     else if bytes_eq word (codes "abort") then abort_call first second
     else if bytes_eq word (codes "write") then write_call first second
     else if bytes_eq word (codes "enqueue") then enqueue_call first second
+    else if bytes_eq word (codes "respond") then respond_call first second
     else if bytes_eq word (codes "fail") then fail_call first second
     else if bytes_eq word (codes "pipe") then pipe_call first second []
     else if bytes_eq word (codes "trigger") then trigger_call first second
     else if bytes_eq word (codes "settle") then settle_ok_call first second
     else None
 
--- a word and three more: `readable`, `writable`, `settle H fail R`, `pipe` with one option
+-- a word and three more: `readable`, `bytes`, `writable`, `readinto`, `settle H fail R`, `pipe` with one option
 abbrev pub call_on_three : List ℕ → List ℕ → List ℕ → List ℕ → Option Call
 call_on_three word first second third =
     if bytes_eq word (codes "readable") then readable_call first second third
+    else if bytes_eq word (codes "bytes") then bytes_call first second third
     else if bytes_eq word (codes "writable") then writable_call first second third
+    else if bytes_eq word (codes "readinto") then readinto_call first second third
     else if bytes_eq word (codes "settle") then settle_fail_call first second third
     else if bytes_eq word (codes "pipe") then pipe_call first second (third ∷ [])
     else None

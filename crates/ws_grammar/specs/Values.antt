@@ -6,6 +6,7 @@ use Rattle.hex.specs.declared.error.FromHexError.{FromHexError}
 use Rattle.ws_value.specs.declared.ids.StreamId.{StreamId}
 use Rattle.ws_value.specs.declared.ids.LockId.{LockId}
 use Rattle.ws_value.specs.declared.ids.HostId.{HostId}
+use Rattle.ws_value.specs.declared.ids.RequestId.{RequestId}
 use Rattle.ws_value.specs.declared.ids.SignalId.{SignalId}
 use Rattle.ws_value.specs.declared.fault.Fault.TheVariants.{User}
 use Rattle.ws_value.specs.declared.value.Plain.{Plain}
@@ -31,6 +32,10 @@ lock_named word = option_map (λ number. record { 0 = number }) (number_after 10
 abbrev pub host_named : List ℕ → Option HostId
 host_named word = option_map (λ number. record { 0 = number }) (number_after 104 (2 ^ 128) word)
 
+-- `q` (113) with a number below 2^128
+abbrev pub request_named : List ℕ → Option RequestId
+request_named word = option_map (λ number. record { 0 = number }) (number_after 113 (2 ^ 128) word)
+
 -- `a` (97) with a number below 2^128
 abbrev pub signal_named : List ℕ → Option SignalId
 signal_named word = option_map (λ number. record { 0 = number }) (number_after 97 (2 ^ 128) word)
@@ -50,17 +55,22 @@ reason_of (letter ∷ digits) =
     if bytes_eq (letter ∷ digits) (codes "undefined") then Some Undefined else lettered_reason letter digits
 
 -- the bytes, if decoding gave some
-abbrev pub bytes_if_decoded : Result (List ℕ) FromHexError → Option Value
-bytes_if_decoded (Ok bytes) = Some (Bytes bytes)
+abbrev pub bytes_if_decoded : Result (List ℕ) FromHexError → Option (List ℕ)
+bytes_if_decoded (Ok bytes) = Some bytes
 bytes_if_decoded (Err fault) = None
 
 -- the bytes of an even number of hexadecimal digits, in either case
-abbrev pub hex_value : List ℕ → Option Value
-hex_value digits = bytes_if_decoded (decode_of digits)
+abbrev pub hex_bytes : List ℕ → Option (List ℕ)
+hex_bytes digits = bytes_if_decoded (decode_of digits)
 
--- a value: `x`, the byte 120, with hexadecimal digits, or a reason
+-- bytes: `x`, the byte 120, with hexadecimal digits
+abbrev pub bytes_of : List ℕ → Option (List ℕ)
+bytes_of [] = None
+bytes_of (letter ∷ digits) = if letter == 120 then hex_bytes digits else None
+
+-- a value: bytes, or a reason
 abbrev pub value_of : List ℕ → Option Value
 value_of [] = None
 value_of (letter ∷ digits) =
-    if letter == 120 then hex_value digits
+    if letter == 120 then option_map Bytes (hex_bytes digits)
     else option_map PlainValue (reason_of (letter ∷ digits))

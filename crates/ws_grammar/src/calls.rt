@@ -1,14 +1,24 @@
 //! The call that a line's words spell.
-ghost use Rattle.std.specs.Prelude.{◌≡◌, IfOk, map};
-ghost use Rattle.ws_grammar.specs.Calls.{size_named, start_named, kind_named, readable_call, writable_call, transform_call, desired_call, cancel_call, close_call, abort_call, write_call, enqueue_call, fail_call, settle_ok_call, settle_fail_call, pipe_call, trigger_call};
+ghost use Rattle.std.specs.Prelude.{◌≡◌, ◌+◌, IfOk, map};
+ghost use Rattle.ws_grammar.specs.Numbers.{number_below};
+ghost use Rattle.ws_grammar.specs.Calls.{size_named, start_named, kind_named, readable_call, longest_auto, longest_room, bytes_call, writable_call, transform_call, desired_call, cancel_call, close_call, abort_call, write_call, readinto_call, respond_call, enqueue_call, fail_call, settle_ok_call, settle_fail_call, pipe_call, trigger_call};
 ghost use Rattle.ws_grammar.specs.Calls.{call_alone, call_on_one, call_on_two, call_on_three, call_on_four, call_on_more, call_of};
 
-use crate::numbers::number_u64;
+use crate::numbers::{number_u8, number_u64};
 use crate::options::{PipeOptions, options_of};
-use crate::values::{host_named, lock_named, reason_of, signal_named, stream_named, value_of};
+use crate::values::{
+    bytes_of, host_named, lock_named, reason_of, request_named, signal_named, stream_named,
+    value_of,
+};
 use std::alloc::Global;
 use ws_steps::{Answer, Call, Kind, SizeBy, StartBy};
-use ws_value::NoMemory;
+use ws_value::{NoMemory, Room};
+
+/// The longest room that a byte stream's controller makes of itself.
+const LONGEST_AUTO: u64 = 4_096;
+
+/// The longest room of a read.
+const LONGEST_ROOM: u64 = 65_536;
 
 /// How a queue measures a chunk.
 fn size_named(word: &[u8]) -> Option<SizeBy>
@@ -56,6 +66,25 @@ fn readable_call(hwm: &[u8], size: &[u8], start: &[u8]) -> Option<Call>
     Some(Call::MakeReadable {
         hwm: number_u64(hwm)?,
         size: size_named(size)?,
+        start: start_named(start)?,
+    })
+}
+
+/// The length of the rooms that a byte stream's controller makes of itself.
+fn auto_of(word: &[u8]) -> Option<u64>
+    ensures { result ≡ number_below (longest_auto + 1) word.now }
+{
+    let len = number_u64(word)?;
+    if len <= LONGEST_AUTO { Some(len) } else { None }
+}
+
+/// A new byte stream.
+fn bytes_call(hwm: &[u8], auto: &[u8], start: &[u8]) -> Option<Call>
+    ensures { result ≡ bytes_call hwm.now auto.now start.now }
+{
+    Some(Call::MakeBytes {
+        hwm: number_u64(hwm)?,
+        auto: auto_of(auto)?,
         start: start_named(start)?,
     })
 }
@@ -134,6 +163,55 @@ fn write_call(alloc: Global, lock: &[u8], value: &[u8]) -> Result<Option<Call>, 
     };
     let value = value_of(alloc, value)?;
     Ok(value.map(|value| Call::Write(lock, value)))
+}
+
+/// The length of the room of a read.
+fn room_len_of(word: &[u8]) -> Option<usize>
+    ensures { result ≡ number_below (longest_room + 1) word.now }
+{
+    let len = number_u64(word)?;
+    if len <= LONGEST_ROOM {
+        Some(len as usize)
+    } else {
+        None
+    }
+}
+
+/// A read of one element at least into a room.
+fn readinto_call(
+    alloc: Global,
+    lock: &[u8],
+    len: &[u8],
+    element: &[u8],
+) -> Result<Option<Call>, NoMemory>
+    ensures { IfOk result (λ call. call ≡ readinto_call lock.now len.now element.now) }
+{
+    let Some(lock) = lock_named(lock) else {
+        return Ok(None);
+    };
+    let Some(len) = room_len_of(len) else {
+        return Ok(None);
+    };
+    let Some(element) = number_u8(element) else {
+        return Ok(None);
+    };
+    Ok(Some(Call::ReadInto {
+        lock,
+        room: Room::of(alloc, len)?,
+        element,
+        least: 1,
+    }))
+}
+
+/// The bytes that were written into a request's view.
+fn respond_call(alloc: Global, request: &[u8], bytes: &[u8]) -> Result<Option<Call>, NoMemory>
+    ensures { IfOk result (λ call. call ≡ respond_call request.now bytes.now) }
+{
+    let Some(request) = request_named(request) else {
+        return Ok(None);
+    };
+    let bytes = bytes_of(alloc, bytes)?;
+    Ok(bytes.map(|bytes| Call::Respond(request, bytes)))
 }
 
 /// A chunk for a stream's queue.
@@ -217,6 +295,8 @@ fn call_on_one(word: &[u8], first: &[u8]) -> Option<Call>
 {
     if word == b"reader".as_slice() {
         stream_named(first).map(Call::GetReader)
+    } else if word == b"byob".as_slice() {
+        stream_named(first).map(Call::GetByob)
     } else if word == b"writer".as_slice() {
         stream_named(first).map(Call::GetWriter)
     } else if word == b"read".as_slice() {
@@ -233,6 +313,8 @@ fn call_on_one(word: &[u8], first: &[u8]) -> Option<Call>
         stream_named(first).map(Call::Finish)
     } else if word == b"terminate".as_slice() {
         stream_named(first).map(Call::Terminate)
+    } else if word == b"request".as_slice() {
+        stream_named(first).map(Call::Request)
     } else if word == b"desired".as_slice() {
         desired_call(first)
     } else if word == b"state".as_slice() {
@@ -259,6 +341,8 @@ fn call_on_two(
         write_call(alloc, first, second)
     } else if word == b"enqueue".as_slice() {
         enqueue_call(alloc, first, second)
+    } else if word == b"respond".as_slice() {
+        respond_call(alloc, first, second)
     } else if word == b"fail".as_slice() {
         Ok(fail_call(first, second))
     } else if word == b"pipe".as_slice() {
@@ -273,19 +357,29 @@ fn call_on_two(
 }
 
 /// The call of a word and three more.
-fn call_on_three(word: &[u8], first: &[u8], second: &[u8], third: &[u8]) -> Option<Call>
-    ensures { result ≡ call_on_three word.now first.now second.now third.now }
+fn call_on_three(
+    alloc: Global,
+    word: &[u8],
+    first: &[u8],
+    second: &[u8],
+    third: &[u8],
+) -> Result<Option<Call>, NoMemory>
+    ensures { IfOk result (λ call. call ≡ call_on_three word.now first.now second.now third.now) }
 {
     if word == b"readable".as_slice() {
-        readable_call(first, second, third)
+        Ok(readable_call(first, second, third))
+    } else if word == b"bytes".as_slice() {
+        Ok(bytes_call(first, second, third))
     } else if word == b"writable".as_slice() {
-        writable_call(first, second, third)
+        Ok(writable_call(first, second, third))
+    } else if word == b"readinto".as_slice() {
+        readinto_call(alloc, first, second, third)
     } else if word == b"settle".as_slice() {
-        settle_fail_call(first, second, third)
+        Ok(settle_fail_call(first, second, third))
     } else if word == b"pipe".as_slice() {
-        pipe_call(first, second, &[third])
+        Ok(pipe_call(first, second, &[third]))
     } else {
-        None
+        Ok(None)
     }
 }
 
@@ -328,7 +422,7 @@ pub fn call_of(alloc: Global, words: &[&[u8]]) -> Result<Option<Call>, NoMemory>
         [word] => Ok(call_alone(word)),
         [word, first] => Ok(call_on_one(word, first)),
         [word, first, second] => call_on_two(alloc, word, first, second),
-        [word, first, second, third] => Ok(call_on_three(word, first, second, third)),
+        [word, first, second, third] => call_on_three(alloc, word, first, second, third),
         [word, first, second, third, fourth] => {
             Ok(call_on_four(word, first, second, third, fourth))
         }

@@ -1,11 +1,13 @@
 //! Names of objects, reasons and values.
 ghost use Rattle.std.specs.Prelude.{◌≡◌, IfOk};
-ghost use Rattle.ws_grammar.specs.Values.{stream_named, lock_named, host_named, signal_named, lettered_reason, reason_of, hex_value, value_of};
+ghost use Rattle.ws_grammar.specs.Values.{stream_named, lock_named, host_named, request_named, signal_named, lettered_reason, reason_of, hex_bytes, bytes_of, value_of};
 
 use crate::numbers::{number_u32, number_u64, number_u128};
 use hex::FromHexError;
 use std::alloc::Global;
-use ws_value::{Chunk, Fault, HostId, LockId, NoMemory, Plain, SignalId, StreamId, Value};
+use ws_value::{
+    Chunk, Fault, HostId, LockId, NoMemory, Plain, RequestId, SignalId, StreamId, Value,
+};
 
 /// The stream that a word names.
 pub fn stream_named(word: &[u8]) -> Option<StreamId>
@@ -33,6 +35,16 @@ pub fn host_named(word: &[u8]) -> Option<HostId>
 {
     match word {
         [b'h', digits @ ..] => number_u128(digits).map(HostId),
+        _ => None,
+    }
+}
+
+/// The request of a byte stream's controller that a word names.
+pub fn request_named(word: &[u8]) -> Option<RequestId>
+    ensures { result ≡ request_named word.now }
+{
+    match word {
+        [b'q', digits @ ..] => number_u128(digits).map(RequestId),
         _ => None,
     }
 }
@@ -71,13 +83,23 @@ pub fn reason_of(word: &[u8]) -> Option<Plain>
 }
 
 /// The bytes that hexadecimal digits spell.
-fn hex_value(alloc: Global, digits: &[u8]) -> Result<Option<Value>, NoMemory>
-    ensures { IfOk result (λ value. value ≡ hex_value digits.now) }
+fn hex_bytes(alloc: Global, digits: &[u8]) -> Result<Option<Chunk>, NoMemory>
+    ensures { IfOk result (λ bytes. bytes ≡ hex_bytes digits.now) }
 {
     match hex::decode(alloc, digits) {
-        Ok(bytes) => Ok(Some(Value::Bytes(Chunk::from_vec(bytes)))),
+        Ok(bytes) => Ok(Some(Chunk::from_vec(bytes))),
         Err(FromHexError::OutOfMemory) => Err(NoMemory),
         Err(_) => Ok(None),
+    }
+}
+
+/// The bytes that a word spells.
+pub fn bytes_of(alloc: Global, word: &[u8]) -> Result<Option<Chunk>, NoMemory>
+    ensures { IfOk result (λ bytes. bytes ≡ bytes_of word.now) }
+{
+    match word {
+        [b'x', digits @ ..] => hex_bytes(alloc, digits),
+        _ => Ok(None),
     }
 }
 
@@ -86,7 +108,7 @@ pub fn value_of(alloc: Global, word: &[u8]) -> Result<Option<Value>, NoMemory>
     ensures { IfOk result (λ value. value ≡ value_of word.now) }
 {
     match word {
-        [b'x', digits @ ..] => hex_value(alloc, digits),
+        [b'x', digits @ ..] => Ok(hex_bytes(alloc, digits)?.map(Value::Bytes)),
         _ => Ok(reason_of(word).map(Value::Plain)),
     }
 }

@@ -5,7 +5,7 @@ use Rattle.std.specs.Fmt.{digits}
 use Rattle.hex.specs.Hex.{encode_with}
 use Rattle.ws_steps.specs.declared.calls.Flags.{Flags}
 use Rattle.ws_steps.specs.declared.calls.HostCall.TheVariants.{Start, Pull, Cancel, Write, Close, Abort, Transform, Flush, CancelTransform}
-use Rattle.ws_steps.specs.declared.calls.Reply.TheVariants.{Done, Made, MadeTwo, Lock, Promise, Signal, Size, State, Throws, TooMany}
+use Rattle.ws_steps.specs.declared.calls.Reply.TheVariants.{Done, Made, MadeTwo, Lock, Promise, Signal, Request, Size, State, Throws, TooMany}
 use Rattle.ws_steps.specs.declared.calls.Thrown.TheVariants.{RangeError}
 use Rattle.ws_steps.specs.declared.calls.Word.TheVariants.{Readable, Erroring}
 use Rattle.ws_value.specs.declared.fault.Fault.TheVariants.{TypeError, User, Stage}
@@ -46,6 +46,19 @@ signal_made : reply_line 3 None (Signal (record { 0 = 0 })) ≡ codes "3 signal 
 unfolding digits
 signal_made = refl
 
+request_with_room : reply_line 4 None (Request (Some (record { 0 = 0 }, 4))) ≡ codes "4 request q0 4\n"
+unfolding digits
+request_with_room = refl
+
+-- the largest number of a request, and the longest room
+request_with_large_numbers : reply_line 4 None (Request (Some (record { 0 = 340282366920938463463374607431768211455 }, 18446744073709551615))) ≡ codes "4 request q340282366920938463463374607431768211455 18446744073709551615\n"
+unfolding digits
+request_with_large_numbers = refl
+
+no_request : reply_line 4 None (Request None) ≡ codes "4 request none\n"
+unfolding digits
+no_request = refl
+
 size : reply_line 6 None (Size (Some (pos 18446744073709551615))) ≡ codes "6 size 18446744073709551615\n"
 unfolding digits
 size = refl
@@ -74,6 +87,11 @@ state_while_pulling : reply_line 5 None (State (record { state = Readable; flags
 unfolding digits letter_where letters_of
 state_while_pulling = refl
 
+-- a byte stream with two entries of three bytes in its queue, which is to be pulled again
+state_of_bytes : reply_line 8 None (State (record { state = Readable; flags = record no_flags { s = true; p = true; g = true; d = true }; total = 3; queue = 2; requests = 0 })) ≡ codes "8 state readable spgd total 3 queue 2 requests 0\n"
+unfolding digits letter_where letters_of
+state_of_bytes = refl
+
 state_with_every_flag : reply_line 5 None (State (record { state = Erroring; flags = record { s = true; p = true; g = true; c = true; d = true; l = true; b = true; w = true; f = true; q = true; a = true }; total = 340282366920938463463374607431768211455; queue = 2; requests = 3 })) ≡ codes "5 state erroring spgcdbwfqal total 340282366920938463463374607431768211455 queue 2 requests 3\n"
 unfolding digits letter_where letters_of
 state_with_every_flag = refl
@@ -97,6 +115,15 @@ given_number = refl
 given_bytes : settled_text (Some 1) (Some (Given (Bytes (97 ∷ 98 ∷ 255 ∷ [])))) ≡ codes "  p1 given x6162ff\n"
 unfolding digits encode_with
 given_bytes = refl
+
+-- a read of a BYOB reader that ended: its room is handed back with the bytes that it has, or with none
+finished_bytes : settled_text (Some 0) (Some (Finished (Bytes (1 ∷ 2 ∷ [])))) ≡ codes "  p0 finished x0102\n"
+unfolding digits encode_with
+finished_bytes = refl
+
+finished_no_bytes : settled_text (Some 0) (Some (Finished (Bytes []))) ≡ codes "  p0 finished x\n"
+unfolding digits encode_with
+finished_no_bytes = refl
 
 finished : settled_text (Some 10) (Some (Finished (Plain Undefined))) ≡ codes "  p10 finished undefined\n"
 unfolding digits

@@ -3,12 +3,13 @@ use Rattle.std.specs.Prelude.{ℕ, ℤ, Bool, if◌then◌else◌, List, [], ◌
 use Rattle.std.specs.Fmt.{signed_decimal}
 use Rattle.ws_steps.specs.declared.calls.Flags.{Flags}
 use Rattle.ws_steps.specs.declared.calls.Reply.{Reply}
-use Rattle.ws_steps.specs.declared.calls.Reply.TheVariants.{Done, Made, MadeTwo, Lock, Promise, Signal, Size, State, Throws, TooMany}
+use Rattle.ws_steps.specs.declared.calls.Reply.TheVariants.{Done, Made, MadeTwo, Lock, Promise, Signal, Request, Size, State, Throws, TooMany}
 use Rattle.ws_steps.specs.declared.calls.StateIs.{StateIs}
 use Rattle.ws_steps.specs.declared.calls.Thrown.{Thrown}
 use Rattle.ws_steps.specs.declared.calls.Thrown.TheVariants.{TypeError, RangeError, DataClone, Unsupported}
 use Rattle.ws_steps.specs.declared.calls.Word.{Word}
 use Rattle.ws_steps.specs.declared.calls.Word.TheVariants.{Readable, Closed, Errored, Writable, Erroring}
+use Rattle.ws_value.specs.declared.ids.RequestId.{RequestId}
 use Rattle.ws_print.specs.Values.{numbered}
 
 -- a promise by its rank among those that replies named
@@ -20,6 +21,11 @@ promise_name None = codes "p?"
 abbrev pub size_text : Option ℤ → List ℕ
 size_text (Some size) = signed_decimal size
 size_text None = codes "null"
+
+-- a request of a byte stream's controller, and how many bytes its view has room for, or none
+abbrev pub request_text : Option (RequestId × ℕ) → List ℕ
+request_text (Some (request, room)) = numbered (codes "q") request.0 ++ numbered (codes " ") room
+request_text None = codes "none"
 
 abbrev pub word_text : Word → List ℕ
 word_text Readable = codes "readable"
@@ -77,6 +83,7 @@ reply_text rank (MadeTwo first second) = numbered (codes "made s") first.0 ++ nu
 reply_text rank (Lock lock) = numbered (codes "lock l") lock.0
 reply_text rank (Promise promise) = codes "promise " ++ promise_name rank
 reply_text rank (Signal signal) = numbered (codes "signal a") signal.0
+reply_text rank (Request request) = codes "request " ++ request_text request
 reply_text rank (Size size) = codes "size " ++ size_text size
 reply_text rank (State shown) = codes "state " ++ state_text shown
 reply_text rank (Throws thrown) = codes "throws " ++ thrown_name thrown

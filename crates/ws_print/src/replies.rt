@@ -1,10 +1,10 @@
 //! Replies.
 ghost use Rattle.std.specs.Prelude.{◌≡◌, ◌++◌, OnOk};
-ghost use Rattle.ws_print.specs.Replies.{promise_name, size_text, word_text, letter_where, letters_of, flags_text, state_text, thrown_name, reply_text};
+ghost use Rattle.ws_print.specs.Replies.{promise_name, size_text, request_text, word_text, letter_where, letters_of, flags_text, state_text, thrown_name, reply_text};
 
 use crate::append::{append, append_number, append_numbered};
 use ws_steps::{Flags, Reply, StateIs, Thrown, Word};
-use ws_value::NoMemory;
+use ws_value::{NoMemory, RequestId};
 
 /// Appends the name of a promise.
 pub fn print_promise(out: &mut Vec<u8>, rank: Option<u64>) -> Result<(), NoMemory>
@@ -23,6 +23,19 @@ fn print_size(out: &mut Vec<u8>, size: Option<i128>) -> Result<(), NoMemory>
     match size {
         Some(size) => append_number(out, size),
         None => append(out, b"null"),
+    }
+}
+
+/// Appends a request of a byte stream's controller, and how many bytes its view has room for.
+fn print_request(out: &mut Vec<u8>, request: Option<(RequestId, u64)>) -> Result<(), NoMemory>
+    ensures appended { OnOk result (out.new.items ≡ out.old.items ++ request_text request) }
+{
+    match request {
+        Some((request, room)) => {
+            append_numbered(out, b"q", request.0)?;
+            append_numbered(out, b" ", room)
+        }
+        None => append(out, b"none"),
     }
 }
 
@@ -118,6 +131,10 @@ pub fn print_reply_text(out: &mut Vec<u8>, reply: &Reply, rank: Option<u64>) -> 
             print_promise(out, rank)
         }
         Reply::Signal(signal) => append_numbered(out, b"signal a", signal.0),
+        Reply::Request(request) => {
+            append(out, b"request ")?;
+            print_request(out, *request)
+        }
         Reply::Size(size) => {
             append(out, b"size ")?;
             print_size(out, *size)

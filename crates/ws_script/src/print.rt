@@ -24,6 +24,7 @@ fn rank_named(reply: &Reply, realm: &Realm) -> Option<u64>
         Reply::MadeTwo(_, _) => None,
         Reply::Lock(_) => None,
         Reply::Signal(_) => None,
+        Reply::Request(_) => None,
         Reply::Size(_) => None,
         Reply::State(_) => None,
         Reply::Throws(_) => None,
