@@ -13,20 +13,24 @@ import looks
 from pipe import Pipe, Prevent
 from promises import Promise, Thrown, promise_rejected_with
 from readable import ReadableStream
+from readable_byob_reader import PromiseReadIntoRequest, ReadableStreamBYOBReader
+from readable_byte_controller import ReadableByteStreamController
+from readable_byte_records import View
 from readable_controller import ReadableStreamDefaultController, UnderlyingSource
 from readable_reader import PromiseReadRequest, ReadableStreamDefaultReader
 from realm import Lock, Realm, Throw
-from replies import (Done, Locked, Look, Made, MadeTwo, Named, Reply, SignalMade, Size, Throws,
-                     TooMany)
+from replies import (Done, Locked, Look, Made, MadeTwo, Named, Reply, Requested, SignalMade, Size,
+                     Throws, TooMany)
 from signals import AbortSignal
 from transform import (Transformer, TransformStreamDefaultController, new_transform_stream)
-from values import TYPE_ERROR, UNDEFINED, Value
+from values import RANGE_ERROR, TYPE_ERROR, UNDEFINED, Bytes, Fault, Value
 from writable import WritableStream
 from writable_controller import (AbortController, UnderlyingSink,
                                  WritableStreamDefaultController)
 from writable_writer import WritableStreamDefaultWriter
 
 MOST_STREAMS = 1024
+ELEMENT_SIZES = (1, 2, 4, 8)
 
 Call = Callable[..., Reply]
 SizeAlgorithm = Callable[[Value], int]
@@ -46,6 +50,9 @@ def perform(realm: Realm, call: Call, arguments: tuple) -> Reply:
         return call(realm, *arguments)
     except Throw as thrown:
         return Throws(str(thrown))
+    except Thrown as thrown:
+        assert isinstance(thrown.value, Fault)
+        return Throws(thrown.value.name)
 
 
 # Streams
@@ -63,6 +70,23 @@ def make_readable(realm: Realm, high_water_mark: int, size_algorithm: SizeAlgori
         pull=realm.host_algorithm("pull", number),
         cancel=realm.host_algorithm("cancel", number))
     ReadableStreamDefaultController(stream, source, high_water_mark, size_algorithm)
+    return Made(number)
+
+
+def make_bytes(realm: Realm, high_water_mark: int, auto_allocate_chunk_size: int,
+               start_later: bool) -> Reply:
+    """new ReadableStream(underlyingByteSource, strategy). The size 0 stands for none"""
+    number = len(realm.streams)
+    if number >= MOST_STREAMS:
+        return TooMany()
+    stream = ReadableStream(realm.jobs)
+    realm.streams.append(stream)
+    source = UnderlyingSource(
+        start=realm.start_algorithm(number, start_later),
+        pull=realm.host_algorithm("pull", number),
+        cancel=realm.host_algorithm("cancel", number))
+    ReadableByteStreamController(stream, source, high_water_mark,
+                                 auto_allocate_chunk_size or None)
     return Made(number)
 
 
@@ -112,6 +136,16 @@ def get_reader(realm: Realm, stream: int) -> Reply:
     return locked(realm, ReadableStreamDefaultReader(readable))
 
 
+def get_byob_reader(realm: Realm, stream: int) -> Reply:
+    """stream.getReader({ mode: "byob" })"""
+    readable = realm.readable(stream)
+    if readable.is_locked():
+        raise Throw("TypeError")
+    if not isinstance(readable.controller, ReadableByteStreamController):
+        raise Throw("TypeError")
+    return locked(realm, ReadableStreamBYOBReader(readable))
+
+
 def get_writer(realm: Realm, stream: int) -> Reply:
     """stream.getWriter()"""
     writable = realm.writable(stream)
@@ -154,28 +188,37 @@ def look(realm: Realm, stream: int) -> Look:
 def enqueue(realm: Realm, stream: int, chunk: Value) -> Reply:
     """controller.enqueue(chunk) of a readable stream or of a transform stream"""
     controller = realm.controller(stream)
-    if isinstance(controller, TransformStreamDefaultController):
-        try:
+    match controller:
+        case TransformStreamDefaultController():
             controller.enqueue(chunk)
-        except Thrown as thrown:
-            assert thrown.value == TYPE_ERROR
-            raise Throw("TypeError") from None
-        return Done()
-    if not isinstance(controller, ReadableStreamDefaultController):
-        raise Throw("Unsupported")
-    if not controller.can_close_or_enqueue():
-        raise Throw("TypeError")
-    controller.enqueue(chunk)
+        case ReadableStreamDefaultController():
+            if not controller.can_close_or_enqueue():
+                raise Throw("TypeError")
+            controller.enqueue(chunk)
+        case ReadableByteStreamController():
+            if not isinstance(chunk, Bytes) or not chunk.content:
+                raise Throw("TypeError")
+            if controller.close_requested or controller.stream.state != "readable":
+                raise Throw("TypeError")
+            controller.enqueue(chunk.content)
+        case _:
+            raise Throw("Unsupported")
     return Done()
 
 
 def finish(realm: Realm, stream: int) -> Reply:
-    """controller.close() of a readable stream"""
+    """controller.close() of a readable stream. Of a byte stream it may error the stream and
+    throw"""
     controller = realm.controller(stream)
-    if not isinstance(controller, ReadableStreamDefaultController):
-        raise Throw("Unsupported")
-    if not controller.can_close_or_enqueue():
-        raise Throw("TypeError")
+    match controller:
+        case ReadableStreamDefaultController():
+            if not controller.can_close_or_enqueue():
+                raise Throw("TypeError")
+        case ReadableByteStreamController():
+            if controller.close_requested or controller.stream.state != "readable":
+                raise Throw("TypeError")
+        case _:
+            raise Throw("Unsupported")
     controller.close()
     return Done()
 
@@ -207,6 +250,31 @@ def desired(realm: Realm, stream: int) -> Reply:
     return Size(controller.desired_size())
 
 
+def request(realm: Realm, stream: int) -> Reply:
+    """controller.byobRequest of a byte stream"""
+    controller = realm.controller(stream)
+    if not isinstance(controller, ReadableByteStreamController):
+        raise Throw("Unsupported")
+    byob_request = controller.get_byob_request()
+    if byob_request is None:
+        return Requested(None)
+    if byob_request not in realm.byob_requests:
+        realm.byob_requests.append(byob_request)
+    assert byob_request.view is not None
+    return Requested((realm.byob_requests.index(byob_request), len(byob_request.view)))
+
+
+def respond(realm: Realm, request_number: int, content: bytes) -> Reply:
+    """The host writes bytes into request.view, as far as they fit, and then calls
+    request.respond(bytesWritten) with how many they are"""
+    byob_request = realm.byob_request(request_number)
+    if byob_request.view is not None:
+        fitting = content[:len(byob_request.view)]
+        byob_request.view[:len(fitting)] = fitting
+    byob_request.respond(len(content))
+    return Done()
+
+
 # Readers and writers
 
 def closed(realm: Realm, lock: int) -> Reply:
@@ -224,11 +292,32 @@ def release(realm: Realm, lock: int) -> Reply:
 
 def read(realm: Realm, lock: int) -> Reply:
     """reader.read()"""
-    reader = realm.reader(lock)
+    reader = realm.default_reader(lock)
     if reader.stream is None:
         return rejected_with_type_error(realm)
     promise = Promise(realm.jobs)
     reader.read(PromiseReadRequest(promise))
+    return named(realm, promise)
+
+
+def read_into(realm: Realm, lock: int, length: int, element_size: int,
+              minimum: int = 1) -> Reply:
+    """reader.read(view, { min }) of a BYOB reader, with a view of a new buffer of this length. A
+    script gives no minimum"""
+    reader = realm.byob_reader(lock)
+    if element_size not in ELEMENT_SIZES or length % element_size != 0:
+        raise Throw("Unsupported")
+    if length == 0:
+        return rejected_with_type_error(realm)
+    if minimum == 0:
+        return rejected_with_type_error(realm)
+    if minimum > length // element_size:
+        return named(realm, promise_rejected_with(realm.jobs, RANGE_ERROR))
+    if reader.stream is None:
+        return rejected_with_type_error(realm)
+    promise = Promise(realm.jobs)
+    view = View(bytearray(length), element_size)
+    reader.read(view, minimum, PromiseReadIntoRequest(promise))
     return named(realm, promise)
 
 

@@ -2,6 +2,9 @@
 
 Stops at the first script on which they differ, shortens it and prints it with both outcomes.
 The last line says how many scripts agreed. The exit status is 1 where one didn't.
+
+With folders it compares the oracle with texts instead, and needs no program: each NAME.script of
+a folder has to print what is in NAME.out. It goes on where one differs.
 """
 
 from __future__ import annotations
@@ -10,6 +13,7 @@ import argparse
 import subprocess
 import sys
 import traceback
+from itertools import zip_longest
 from pathlib import Path
 from random import Random
 
@@ -51,6 +55,30 @@ def script_of(seed: int, index: int, most_lines: int, malformed: bool) -> bytes:
     return random_script(random, most_lines)
 
 
+def compare_with_texts(folder: Path) -> bool:
+    """Compares the oracle with the texts of a folder. Tells whether all agreed."""
+    scripts = sorted(folder.glob("*.script"))
+    differing = 0
+    for path in scripts:
+        wanted = Outcome(0, path.with_suffix(".out").read_text("latin-1"), "")
+        script = path.read_bytes()
+        outcome = oracle_outcome(script)
+        if outcome != wanted:
+            differing += 1
+            print(f"{path} differs: {first_difference(wanted, outcome)}")
+    print(f"{folder}: {len(scripts) - differing} of {len(scripts)} scripts agreed")
+    return differing == 0
+
+
+def first_difference(wanted: Outcome, outcome: Outcome) -> str:
+    """The first lines in which two outcomes differ."""
+    lines = zip_longest(*(text_of_outcome(one).splitlines() for one in (wanted, outcome)))
+    for line, got in lines:
+        if line != got:
+            return f"{line!r} is wanted, and the oracle has {got!r}"
+    return "by line ends alone"
+
+
 def text_of_outcome(outcome: Outcome) -> str:
     """An outcome, as a difference shows it."""
     return f"{outcome.output}{outcome.notes}status {outcome.status}\n"
@@ -73,11 +101,15 @@ def arguments() -> argparse.Namespace:
     parser.add_argument("--program", default=str(PROGRAM), help="the program's file")
     parser.add_argument("--malformed", action="store_true",
                         help="change the scripts' text, so that most are refused")
+    parser.add_argument("folders", nargs="*", type=Path, metavar="FOLDER",
+                        help="scripts and the texts that they print, for the oracle alone")
     return parser.parse_args()
 
 
 def main() -> int:
     options = arguments()
+    if options.folders:
+        return 0 if all([compare_with_texts(folder) for folder in options.folders]) else 1
 
     def differs(script: bytes) -> bool:
         return program_outcome(options.program, script) != oracle_outcome(script)

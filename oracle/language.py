@@ -18,6 +18,9 @@ from values import (UNDEFINED, Bytes, HostError, HostValue, Number, Value, byte_
 
 LONGEST_SCRIPT = 1_048_576
 MOST_JOBS = 100_000
+LONGEST_AUTO = 4096
+LONGEST_VIEW = 65_536
+LARGEST_ELEMENT = 255
 
 NUMBER = re.compile(rb"0|[1-9][0-9]*")
 HEXADECIMAL = re.compile(rb"(?:[0-9a-fA-F]{2})*")
@@ -79,8 +82,24 @@ def signal(word: bytes) -> int:
     return number_after(b"a", word, 2**128)
 
 
+def byob_request(word: bytes) -> int:
+    return number_after(b"q", word, 2**128)
+
+
 def high_water_mark(word: bytes) -> int:
     return number_in(word, 2**64)
+
+
+def auto_length(word: bytes) -> int:
+    return number_in(word, LONGEST_AUTO + 1)
+
+
+def view_length(word: bytes) -> int:
+    return number_in(word, LONGEST_VIEW + 1)
+
+
+def element_size(word: bytes) -> int:
+    return number_in(word, LARGEST_ELEMENT + 1)
 
 
 def size(word: bytes) -> Callable[[Value], int]:
@@ -117,12 +136,14 @@ def reason(word: bytes) -> Value:
     return HostValue(number_after(b"k", word, 2**32))
 
 
-def value(word: bytes) -> Value:
-    if not word.startswith(b"x"):
-        return reason(word)
-    if HEXADECIMAL.fullmatch(word, 1) is None:
+def content(word: bytes) -> bytes:
+    if not word.startswith(b"x") or HEXADECIMAL.fullmatch(word, 1) is None:
         raise Mismatch
-    return Bytes(bytes.fromhex(word[1:].decode("ascii")))
+    return bytes.fromhex(word[1:].decode("ascii"))
+
+
+def value(word: bytes) -> Value:
+    return Bytes(content(word)) if word.startswith(b"x") else reason(word)
 
 
 def ok(word: bytes) -> None:
@@ -168,12 +189,15 @@ def pipe_options(words: list[bytes]) -> PipeOptions:
 # is read as is an argument of the call, but for those that are read as nothing.
 FORMS: dict[bytes, tuple[Form, ...]] = {
     b"readable": (((high_water_mark, size, start_is_later), calls.make_readable),),
+    b"bytes": (((high_water_mark, auto_length, start_is_later), calls.make_bytes),),
     b"writable": (((high_water_mark, size, start_is_later), calls.make_writable),),
     b"transform": (((kind_is_host, high_water_mark, high_water_mark, start_is_later),
                     calls.make_transform),),
     b"reader": (((stream,), calls.get_reader),),
+    b"byob": (((stream,), calls.get_byob_reader),),
     b"writer": (((stream,), calls.get_writer),),
     b"read": (((lock,), calls.read),),
+    b"readinto": (((lock, view_length, element_size), calls.read_into),),
     b"write": (((lock, value), calls.write),),
     b"cancel": (((stream, reason), calls.cancel), ((lock, reason), calls.cancel_by_reader)),
     b"close": (((stream,), calls.close), ((lock,), calls.close_by_writer)),
@@ -186,6 +210,8 @@ FORMS: dict[bytes, tuple[Form, ...]] = {
     b"fail": (((stream, reason), calls.fail),),
     b"terminate": (((stream,), calls.terminate),),
     b"desired": (((stream,), calls.desired), ((lock,), calls.desired_by_writer)),
+    b"request": (((stream,), calls.request),),
+    b"respond": (((byob_request, content), calls.respond),),
     b"pipe": (((stream, stream, Rest(pipe_options)), calls.pipe),),
     b"signal": (((), calls.make_signal),),
     b"trigger": (((signal, reason), calls.trigger),),

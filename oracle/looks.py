@@ -23,7 +23,12 @@ def look_at_readable(stream: ReadableStream) -> Look:
         "d": stream.disturbed,
         "l": stream.is_locked(),
     })
-    requests = stream.number_of_read_requests() if stream.is_locked() else 0
+    if stream.has_default_reader():
+        requests = stream.number_of_read_requests()
+    elif stream.has_byob_reader():
+        requests = stream.number_of_read_into_requests()
+    else:
+        requests = 0
     return Look(stream.state, flags, controller.queue.total_size, len(controller.queue), requests)
 
 

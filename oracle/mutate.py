@@ -10,8 +10,8 @@ from random import Random
 from language import LONGEST_SCRIPT
 
 BYTES = (b" ", b"\t", b"\r", b"\n", b"#", b"@", b"\0", b"\x0b", b"\x0c", b"\xa0", b"\xff",
-         b"-", b"+", b"_", b".", b"0", b"1", b"9", b"s", b"l", b"h", b"a", b"n", b"e", b"k", b"x",
-         b"S", b"X", b"A", b"f", b"g")
+         b"-", b"+", b"_", b".", b"0", b"1", b"9", b"s", b"l", b"h", b"a", b"q", b"n", b"e", b"k",
+         b"x", b"S", b"X", b"A", b"f", b"g")
 
 WORDS = (
     b"", b"0", b"00", b"01", b"-1", b"+1", b"1.0", b"1_0", b"0x1", b"4294967295",
@@ -28,10 +28,14 @@ WORDS = (
     b"signal=a340282366920938463463374607431768211456",
     b"prevent-close", b"prevent-abort", b"prevent-cancel", b"prevent", b"prevent-",
     b"prevent-Close", b"preventclose", b"prevent-cancel=",
+    b"q0", b"q", b"q00", b"Q0", b"q340282366920938463463374607431768211455",
+    b"q340282366920938463463374607431768211456",
+    b"4096", b"4097", b"65536", b"65537", b"255", b"256",
     b"undefined", b"Undefined", b"n", b"n18446744073709551615", b"n18446744073709551616",
     b"e4294967295", b"e4294967296", b"k4294967295", b"k4294967296", b"e01", b"k",
     b"x", b"x0", b"x0G", b"xaB", b"x\xc3\xa9", b"X00", b"TypeError",
     b"@0", b"@1", b"@", b"@00", b"@100000", b"@100001", b"@-1", b"@@1", b"@1step",
+    b"byob", b"readinto", b"request", b"respond", b"ReadInto", b"read-into", b"none",
     b"readable", b"writable", b"reader", b"writer", b"read", b"write", b"cancel", b"close",
     b"abort", b"closed", b"ready", b"release", b"enqueue", b"finish", b"fail", b"desired", b"transform", b"terminate",
     b"identity", b"Identity", b"host", b"Host", b"hosts",
@@ -53,7 +57,16 @@ LINES = (
     b"transform host 1 18446744073709551616 now", b"transform identity 1 now",
     b"transform identity 1 0 count now", b"transform host 1 0 now now", b"transform 1 0 host now",
     b"terminate s0", b"terminate l0", b"terminate s0 e1", b"terminate",
-    b"write s0 n1", b"read s0", b"tee s0", b"bytes 0 0 now",
+    b"bytes 0 0 now", b"bytes 18446744073709551615 4096 later", b"bytes 18446744073709551616 0 now",
+    b"bytes 0 4097 now", b"bytes 0 now", b"bytes 0 count now", b"bytes 0 0 now now",
+    b"bytes 0 00 now",
+    b"byob s0", b"byob l0", b"byob", b"byob s0 s0", b"readinto l0 8 4", b"readinto l0 65536 255",
+    b"readinto l0 65537 1", b"readinto l0 8 256", b"readinto l0 8", b"readinto l0 8 4 1",
+    b"readinto l0 8 4 0", b"readinto s0 8 4", b"readinto l0 0 0", b"readinto l0 08 4",
+    b"request s0", b"request l0", b"request q0", b"request", b"request s0 s0", b"respond q0 x",
+    b"respond q0 x00FF", b"respond q0 x0", b"respond q0 n1", b"respond q0 undefined", b"respond q0",
+    b"respond s0 x00", b"respond q0 x00 x00", b"respond q0 1",
+    b"write s0 n1", b"read s0", b"tee s0",
 )
 
 

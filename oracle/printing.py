@@ -2,8 +2,8 @@
 
 from promises import PromiseState
 from readable_reader import ReadResult
-from replies import (Done, Event, HostCalled, Locked, Look, Made, MadeTwo, Named, Reply, Settled,
-                     Signalled, SignalMade, Size, Throws, TooMany)
+from replies import (Done, Event, HostCalled, Locked, Look, Made, MadeTwo, Named, Reply, Requested,
+                     Settled, Signalled, SignalMade, Size, Throws, TooMany)
 from values import Bytes, Fault, HostError, HostValue, Number, Undefined, Value
 
 
@@ -38,6 +38,10 @@ def text_of_reply(reply: Reply) -> str:
             return f"lock l{lock}"
         case SignalMade(signal):
             return f"signal a{signal}"
+        case Requested(None):
+            return "request none"
+        case Requested((request, length)):
+            return f"request q{request} {length}"
         case Named(promise):
             return f"promise p{promise}"
         case Size(size):

@@ -1,4 +1,4 @@
-"""Default readers of readable streams, and their read requests.
+"""Readers of readable streams; default readers and their read requests.
 
 The methods are the Streams Standard's abstract operations, in the order of its section
 "readers". Each docstring gives the standard's name.
@@ -7,11 +7,13 @@ The methods are the Streams Standard's abstract operations, in the order of its 
 from __future__ import annotations
 
 from dataclasses import dataclass
-from typing import Protocol
+from typing import TYPE_CHECKING, Protocol
 
 from promises import Promise, promise_rejected_with, promise_resolved_with
-from readable import ReadableStream
 from values import TYPE_ERROR, UNDEFINED, Value
+
+if TYPE_CHECKING:
+    from readable import ReadableStream
 
 
 @dataclass
@@ -48,17 +50,11 @@ class PromiseReadRequest:
         self.promise.reject(error)
 
 
-class ReadableStreamDefaultReader:
-    """A ReadableStreamDefaultReader."""
+class ReadableStreamGenericReader:
+    """What the mixin ReadableStreamGenericReader gives to readers of both kinds."""
 
     closed_promise: Promise
-
-    def __init__(self, stream: ReadableStream) -> None:
-        """SetUpReadableStreamDefaultReader, where the stream isn't locked"""
-        assert not stream.is_locked()
-        self.stream: ReadableStream | None = None
-        self.read_requests: list[ReadRequest] = []
-        self.generic_initialize(stream)
+    stream: ReadableStream | None
 
     def generic_initialize(self, stream: ReadableStream) -> None:
         """ReadableStreamReaderGenericInitialize"""
@@ -89,6 +85,16 @@ class ReadableStreamDefaultReader:
         stream.controller.release_steps()
         stream.reader = None
         self.stream = None
+
+
+class ReadableStreamDefaultReader(ReadableStreamGenericReader):
+    """A ReadableStreamDefaultReader."""
+
+    def __init__(self, stream: ReadableStream) -> None:
+        """SetUpReadableStreamDefaultReader, where the stream isn't locked"""
+        assert not stream.is_locked()
+        self.read_requests: list[ReadRequest] = []
+        self.generic_initialize(stream)
 
     def release(self) -> None:
         """ReadableStreamDefaultReaderRelease"""

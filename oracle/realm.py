@@ -1,4 +1,5 @@
-"""One realm: its streams, readers, writers and signals by number, and what its host hears.
+"""One realm: its streams, readers, writers, signals and BYOB requests by number, and what its
+host hears.
 
 Algorithms of sources, sinks and transformers belong to the host: a call of one is an event, and gives a
 promise that the host settles by a later call. A promise has a name once a reply told it, and
@@ -11,6 +12,8 @@ from typing import Callable
 
 from promises import JobQueue, Promise
 from readable import ReadableStream
+from readable_byob_reader import ReadableStreamBYOBReader
+from readable_byte_controller import ReadableByteStreamController, ReadableStreamBYOBRequest
 from readable_controller import ReadableStreamDefaultController
 from readable_reader import ReadableStreamDefaultReader
 from replies import Event, HostCalled, Settled, Signalled
@@ -22,14 +25,15 @@ from writable_controller import WritableStreamDefaultController
 from writable_writer import WritableStreamDefaultWriter
 
 Stream = ReadableStream | WritableStream
-Lock = ReadableStreamDefaultReader | WritableStreamDefaultWriter
-Controller = (ReadableStreamDefaultController | WritableStreamDefaultController
-              | TransformStreamDefaultController)
+Reader = ReadableStreamDefaultReader | ReadableStreamBYOBReader
+Lock = Reader | WritableStreamDefaultWriter
+Controller = (ReadableStreamDefaultController | ReadableByteStreamController
+              | WritableStreamDefaultController | TransformStreamDefaultController)
 Algorithm = Callable[..., Promise]
 
 
 class Throw(Exception):
-    """A call throws. Its checks come first, so nothing was changed."""
+    """A check of a call throws. The checks come first, so nothing was changed."""
 
 
 class Realm:
@@ -43,6 +47,7 @@ class Realm:
         # A reader or a writer of a pipe's own has a number, and no call may name it.
         self.locks: list[Lock | None] = []
         self.signals: list[AbortSignal] = []
+        self.byob_requests: list[ReadableStreamBYOBRequest] = []
         self.host_promises: list[Promise] = []
         self._names: dict[Promise, int] = {}
         self._events: list[Event] = []
@@ -82,9 +87,21 @@ class Realm:
             raise Throw("Unsupported")
         return lock
 
-    def reader(self, number: int) -> ReadableStreamDefaultReader:
+    def reader(self, number: int) -> Reader:
+        lock = self.lock(number)
+        if not isinstance(lock, Reader):
+            raise Throw("Unsupported")
+        return lock
+
+    def default_reader(self, number: int) -> ReadableStreamDefaultReader:
         lock = self.lock(number)
         if not isinstance(lock, ReadableStreamDefaultReader):
+            raise Throw("Unsupported")
+        return lock
+
+    def byob_reader(self, number: int) -> ReadableStreamBYOBReader:
+        lock = self.lock(number)
+        if not isinstance(lock, ReadableStreamBYOBReader):
             raise Throw("Unsupported")
         return lock
 
@@ -98,6 +115,11 @@ class Realm:
         if number >= len(self.signals):
             raise Throw("Unsupported")
         return self.signals[number]
+
+    def byob_request(self, number: int) -> ReadableStreamBYOBRequest:
+        if number >= len(self.byob_requests):
+            raise Throw("Unsupported")
+        return self.byob_requests[number]
 
     def host_promise(self, number: int) -> Promise:
         """The promise of a call of the host's, which the host settles once."""

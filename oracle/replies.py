@@ -43,6 +43,13 @@ class SignalMade:
 
 
 @dataclass
+class Requested:
+    """A BYOB request, by its number and the length of its view, or none."""
+
+    request: tuple[int, int] | None
+
+
+@dataclass
 class Named:
     """A promise, by its name."""
 
@@ -79,7 +86,7 @@ class Look:
     requests: int
 
 
-Reply = (Done | Made | MadeTwo | Locked | SignalMade | Named | Size | Throws | TooMany
+Reply = (Done | Made | MadeTwo | Locked | SignalMade | Requested | Named | Size | Throws | TooMany
          | Look)
 
 

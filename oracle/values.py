@@ -51,6 +51,7 @@ Value = Undefined | Number | HostError | HostValue | Bytes | Fault
 
 UNDEFINED = Undefined()
 TYPE_ERROR = Fault("TypeError")
+RANGE_ERROR = Fault("RangeError")
 
 
 def count_size(_chunk: Value) -> int:
