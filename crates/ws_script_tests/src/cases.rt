@@ -1,4 +1,6 @@
 //! Scripts, with all that comes of each.
+use crate::byte_ends::BYTE_ENDS;
+use crate::bytes::BYTES;
 use crate::pipes::PIPED;
 use crate::refused::REFUSED;
 use crate::scripts::WORKED;
@@ -84,6 +86,8 @@ fn worked_scripts(rt: HostRuntime) -> Result<(), Fail> {
     for (text, printed) in WORKED
         .iter()
         .chain(&PIPED)
+        .chain(&BYTES)
+        .chain(&BYTE_ENDS)
         .chain(&TRANSFORMED)
         .chain(&TRANSFORM_ENDS)
         .chain(&TRANSFORM_ERRORS)

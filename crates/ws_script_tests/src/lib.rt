@@ -2,6 +2,10 @@
 #![tactic(auto)]
 
 #[cfg(test)]
+mod byte_ends;
+#[cfg(test)]
+mod bytes;
+#[cfg(test)]
 mod cases;
 #[cfg(test)]
 mod long;

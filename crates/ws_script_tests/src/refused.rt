@@ -1,7 +1,7 @@
 //! Scripts that are refused.
 
 /// A script, and its first line outside the grammar.
-pub const REFUSED: [(&str, u32); 52] = [
+pub const REFUSED: [(&str, u32); 65] = [
     ("readable 0 count now\nnothing s0\n", 2),
     ("# one\n\nread l01", 3),
     ("nothing s0", 1),
@@ -57,4 +57,17 @@ pub const REFUSED: [(&str, u32); 52] = [
     ("terminate s1 e1", 1),
     ("terminate s01", 1),
     ("terminate s4294967296", 1),
+    ("bytes 0 4097 now", 1),
+    ("bytes 18446744073709551616 0 now", 1),
+    ("bytes 0 0 count now", 1),
+    ("bytes 0 00 now", 1),
+    ("byob l0", 1),
+    ("bytes 0 0 now\nreadinto l0 65537 1", 2),
+    ("readinto l0 8 256", 1),
+    ("readinto s0 8 4", 1),
+    ("readinto l0 8 4 1", 1),
+    ("request q0", 1),
+    ("respond q0 undefined", 1),
+    ("respond q0 x0", 1),
+    ("respond q340282366920938463463374607431768211456 x", 1),
 ];
