@@ -1,5 +1,5 @@
-// Performs `readable`, `writable`, `transform identity`, `reader`, `writer`, `enqueue`, `finish`, `read`, `write`, `pipe` and `settle`
-// lines on Node's own Web Streams, and prints them as `./streams script` does. Between two lines all jobs are performed.
+// Performs `readable`, `bytes`, `writable`, `transform identity`, `reader`, `byob`, `writer`, `enqueue`, `finish`, `read`, `readinto`,
+// `write`, `pipe` and `settle` lines on Node's own Web Streams, and prints them as `./streams script` does. Between two lines all jobs are performed.
 import { readFileSync, writeSync } from 'node:fs';
 
 const streams = [];
@@ -9,7 +9,12 @@ let printed = '';
 let events = '';
 let promises = 0;
 
-const show = (value) => (typeof value === 'number' ? `n${value}` : 'undefined');
+const views = { 1: Uint8Array, 2: Uint16Array, 4: Uint32Array, 8: BigUint64Array };
+
+const hexadecimal = (view) => Buffer.from(view.buffer, view.byteOffset, view.byteLength).toString('hex');
+const show = (value) => (typeof value === 'number' ? `n${value}` : ArrayBuffer.isView(value) ? `x${hexadecimal(value)}` : 'undefined');
+const given = ({ done, value }) => `${done ? 'finished' : 'given'} ${show(value)}`;
+const parsed = (word) => (word[0] === 'x' ? Uint8Array.from(Buffer.from(word.slice(1), 'hex')) : numbered(word));
 const jobs = () => new Promise((resolve) => setImmediate(resolve));
 const numbered = (name) => Number(name.slice(1));
 
@@ -28,10 +33,11 @@ function named(promise, fulfilled) {
   return `promise ${name}`;
 }
 
-function readable(name, highWaterMark) {
+function readable(name, highWaterMark, type) {
   const stream = {};
   stream.readable = new ReadableStream(
     {
+      type,
       start(controller) {
         stream.controller = controller;
       },
@@ -50,9 +56,11 @@ function writable(name, highWaterMark) {
 function perform([word, on, ...rest]) {
   switch (word) {
     case 'readable':
+    case 'bytes':
     case 'writable': {
       const name = `s${streams.length}`;
-      streams.push((word === 'readable' ? readable : writable)(name, Number(on)));
+      const type = word === 'bytes' ? word : undefined;
+      streams.push(word === 'writable' ? writable(name, Number(on)) : readable(name, Number(on), type));
       return `made ${name}`;
     }
     case 'transform': {
@@ -64,17 +72,24 @@ function perform([word, on, ...rest]) {
     case 'reader':
       locks.push(streams[numbered(on)].readable.getReader());
       return `lock l${locks.length - 1}`;
+    case 'byob':
+      locks.push(streams[numbered(on)].readable.getReader({ mode: 'byob' }));
+      return `lock l${locks.length - 1}`;
     case 'writer':
       locks.push(streams[numbered(on)].writable.getWriter());
       return `lock l${locks.length - 1}`;
     case 'enqueue':
-      streams[numbered(on)].controller.enqueue(numbered(rest[0]));
+      streams[numbered(on)].controller.enqueue(parsed(rest[0]));
       return 'done';
     case 'finish':
       streams[numbered(on)].controller.close();
       return 'done';
     case 'read':
-      return named(locks[numbered(on)].read(), ({ done, value }) => `${done ? 'finished' : 'given'} ${show(value)}`);
+      return named(locks[numbered(on)].read(), given);
+    case 'readinto': {
+      const [length, element] = rest.map(Number);
+      return named(locks[numbered(on)].read(new views[element](length / element)), given);
+    }
     case 'write':
       return named(locks[numbered(on)].write(numbered(rest[0])), (value) => `fulfilled ${show(value)}`);
     case 'pipe': {

@@ -1,8 +1,8 @@
 #!/bin/sh
 # Performs scripts of 20,000, 40,000 and 80,000 lines by `./streams script` and, where node is there, by the same calls on
 # Node's own Web Streams: of `enqueue` and `read` lines on one stream, of `write` and `read` lines on the halves of one identity
-# transform stream, and of pipes through each of which 65 chunks go. Prints
-# each one's best of five times side by side, and how many times Node's rate `./streams script` has.
+# transform stream, and, half as long, of `enqueue` and `readinto` lines on one byte stream and of pipes through each of which 65
+# chunks go. Prints each one's best of five times side by side, and how many times Node's rate `./streams script` has.
 set -eu
 root=$(CDPATH='' cd -- "$(dirname -- "$0")/.." && pwd)
 work=$(mktemp -d)
@@ -15,6 +15,16 @@ reads() {
     awk -v lines="$1" 'BEGIN {
         print "readable 0 count now"; print "reader s0"
         for (line = 2; line < lines; line += 2) { print "enqueue s0 n" line; print "read l0" }
+    }'
+}
+
+# A script of so many lines: buffered reads of one byte stream, of which one finds bytes and the next waits.
+rooms() {
+    awk -v lines="$1" 'BEGIN {
+        print "bytes 0 0 now"; print "byob s0"
+        for (line = 2; line < lines; line += 4) {
+            print "enqueue s0 x00010203"; print "readinto l0 4 4"; print "readinto l0 4 4"; print "enqueue s0 x04050607"
+        }
     }'
 }
 
@@ -56,8 +66,8 @@ best() {
 
 echo "$(nproc) processors"
 # A script has at most 1,048,576 bytes.
-for kind in reads transforms pipes; do
-    case $kind in pipes) sizes='10000 20000 40000' ;; *) sizes='20000 40000 80000' ;; esac
+for kind in reads transforms rooms pipes; do
+    case $kind in rooms | pipes) sizes='10000 20000 40000' ;; *) sizes='20000 40000 80000' ;; esac
     for lines in $sizes; do
         "$kind" "$lines" >"$work/in"
         streams=$(best "$program" script)
