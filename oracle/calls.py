@@ -57,37 +57,33 @@ def perform(realm: Realm, call: Call, arguments: tuple) -> Reply:
 
 # Streams
 
-def make_readable(realm: Realm, high_water_mark: int, size_algorithm: SizeAlgorithm,
-                  start_later: bool) -> Reply:
-    """new ReadableStream(underlyingSource, strategy)"""
+def make_source(realm: Realm, start_later: bool,
+                set_up: Callable[[ReadableStream, UnderlyingSource], object]) -> Reply:
+    """A readable stream over a source of the host's, and its controller by `set_up`"""
     number = len(realm.streams)
     if number >= MOST_STREAMS:
         return TooMany()
     stream = ReadableStream(realm.jobs)
     realm.streams.append(stream)
-    source = UnderlyingSource(
+    set_up(stream, UnderlyingSource(
         start=realm.start_algorithm(number, start_later),
         pull=realm.host_algorithm("pull", number),
-        cancel=realm.host_algorithm("cancel", number))
-    ReadableStreamDefaultController(stream, source, high_water_mark, size_algorithm)
+        cancel=realm.host_algorithm("cancel", number)))
     return Made(number)
+
+
+def make_readable(realm: Realm, high_water_mark: int, size_algorithm: SizeAlgorithm,
+                  start_later: bool) -> Reply:
+    """new ReadableStream(underlyingSource, strategy)"""
+    return make_source(realm, start_later, lambda stream, source: ReadableStreamDefaultController(
+        stream, source, high_water_mark, size_algorithm))
 
 
 def make_bytes(realm: Realm, high_water_mark: int, auto_allocate_chunk_size: int,
                start_later: bool) -> Reply:
     """new ReadableStream(underlyingByteSource, strategy). The size 0 stands for none"""
-    number = len(realm.streams)
-    if number >= MOST_STREAMS:
-        return TooMany()
-    stream = ReadableStream(realm.jobs)
-    realm.streams.append(stream)
-    source = UnderlyingSource(
-        start=realm.start_algorithm(number, start_later),
-        pull=realm.host_algorithm("pull", number),
-        cancel=realm.host_algorithm("cancel", number))
-    ReadableByteStreamController(stream, source, high_water_mark,
-                                 auto_allocate_chunk_size or None)
-    return Made(number)
+    return make_source(realm, start_later, lambda stream, source: ReadableByteStreamController(
+        stream, source, high_water_mark, auto_allocate_chunk_size or None))
 
 
 def make_writable(realm: Realm, high_water_mark: int, size_algorithm: SizeAlgorithm,

@@ -17,10 +17,11 @@ may find that a close was requested.
 
 from __future__ import annotations
 
-from typing import TYPE_CHECKING, Callable
+from typing import TYPE_CHECKING
 
-from promises import Promise, Thrown, promise_resolved_with
+from promises import Promise, Thrown
 from readable_byte_records import ByteQueue, PullIntoDescriptor, View
+from readable_pulling import PullingController
 from readable_reader import ReadableStreamDefaultReader, ReadRequest
 from values import RANGE_ERROR, TYPE_ERROR, Bytes, Value
 
@@ -46,34 +47,20 @@ class ReadableStreamBYOBRequest:
         self.controller.respond(bytes_written)
 
 
-class ReadableByteStreamController:
+class ReadableByteStreamController(PullingController):
     """A ReadableByteStreamController."""
 
     def __init__(self, stream: ReadableStream, source: UnderlyingSource, high_water_mark: int,
                  auto_allocate_chunk_size: int | None) -> None:
         """SetUpReadableByteStreamController"""
         assert auto_allocate_chunk_size is None or auto_allocate_chunk_size > 0
-        self.stream = stream
-        self.pull_again = False
-        self.pulling = False
+        super().__init__(stream, source, high_water_mark)
         self.byob_request: ReadableStreamBYOBRequest | None = None
         self.queue = ByteQueue()
-        self.close_requested = False
-        self.started = False
-        self.high_water_mark = high_water_mark
-        self.pull_algorithm: Callable[[], Promise] | None = source.pull
-        self.cancel_algorithm: Callable[[Value], Promise] | None = source.cancel
         self.auto_allocate_chunk_size = auto_allocate_chunk_size
         self.pending_pull_intos: list[PullIntoDescriptor] = []
         stream.controller = self
-        start_promise = promise_resolved_with(stream.jobs, source.start())
-        start_promise.then(self._on_started, self.error)
-
-    def _on_started(self, _result: Value) -> None:
-        self.started = True
-        assert not self.pulling
-        assert not self.pull_again
-        self.call_pull_if_needed()
+        self.start(source)
 
     # Internal methods
 
@@ -107,29 +94,6 @@ class ReadableByteStreamController:
             self.pending_pull_intos = [first]
 
     # Abstract operations
-
-    def call_pull_if_needed(self) -> None:
-        """ReadableByteStreamControllerCallPullIfNeeded"""
-        if not self.should_call_pull():
-            return
-        if self.pulling:
-            self.pull_again = True
-            return
-        assert not self.pull_again
-        self.pulling = True
-        assert self.pull_algorithm is not None
-        self.pull_algorithm().then(self._on_pulled, self.error)
-
-    def _on_pulled(self, _result: Value) -> None:
-        self.pulling = False
-        if self.pull_again:
-            self.pull_again = False
-            self.call_pull_if_needed()
-
-    def clear_algorithms(self) -> None:
-        """ReadableByteStreamControllerClearAlgorithms"""
-        self.pull_algorithm = None
-        self.cancel_algorithm = None
 
     def clear_pending_pull_intos(self) -> None:
         """ReadableByteStreamControllerClearPendingPullIntos"""

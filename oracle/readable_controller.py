@@ -9,9 +9,10 @@ from __future__ import annotations
 from dataclasses import dataclass
 from typing import Callable
 
-from promises import Promise, promise_resolved_with
+from promises import Promise
 from queues import QueueWithSizes
 from readable import ReadableStream
+from readable_pulling import PullingController
 from readable_reader import ReadRequest
 from values import Value
 
@@ -25,31 +26,17 @@ class UnderlyingSource:
     cancel: Callable[[Value], Promise]
 
 
-class ReadableStreamDefaultController:
+class ReadableStreamDefaultController(PullingController):
     """A ReadableStreamDefaultController."""
 
     def __init__(self, stream: ReadableStream, source: UnderlyingSource,
                  high_water_mark: int, size_algorithm: Callable[[Value], int]) -> None:
         """SetUpReadableStreamDefaultController"""
-        self.stream = stream
+        super().__init__(stream, source, high_water_mark)
         self.queue = QueueWithSizes()
-        self.started = False
-        self.close_requested = False
-        self.pull_again = False
-        self.pulling = False
-        self.high_water_mark = high_water_mark
         self.size_algorithm: Callable[[Value], int] | None = size_algorithm
-        self.pull_algorithm: Callable[[], Promise] | None = source.pull
-        self.cancel_algorithm: Callable[[Value], Promise] | None = source.cancel
         stream.controller = self
-        start_promise = promise_resolved_with(stream.jobs, source.start())
-        start_promise.then(self._on_started, self.error)
-
-    def _on_started(self, _result: Value) -> None:
-        self.started = True
-        assert not self.pulling
-        assert not self.pull_again
-        self.call_pull_if_needed()
+        self.start(source)
 
     def cancel_steps(self, reason: Value) -> Promise:
         """[[CancelSteps]]"""
@@ -76,24 +63,6 @@ class ReadableStreamDefaultController:
     def release_steps(self) -> None:
         """[[ReleaseSteps]], which are empty for a default controller"""
 
-    def call_pull_if_needed(self) -> None:
-        """ReadableStreamDefaultControllerCallPullIfNeeded"""
-        if not self.should_call_pull():
-            return
-        if self.pulling:
-            self.pull_again = True
-            return
-        assert not self.pull_again
-        self.pulling = True
-        assert self.pull_algorithm is not None
-        self.pull_algorithm().then(self._on_pulled, self.error)
-
-    def _on_pulled(self, _result: Value) -> None:
-        self.pulling = False
-        if self.pull_again:
-            self.pull_again = False
-            self.call_pull_if_needed()
-
     def should_call_pull(self) -> bool:
         """ReadableStreamDefaultControllerShouldCallPull"""
         if not self.can_close_or_enqueue():
@@ -108,8 +77,7 @@ class ReadableStreamDefaultController:
 
     def clear_algorithms(self) -> None:
         """ReadableStreamDefaultControllerClearAlgorithms"""
-        self.pull_algorithm = None
-        self.cancel_algorithm = None
+        super().clear_algorithms()
         self.size_algorithm = None
 
     def close(self) -> None:
