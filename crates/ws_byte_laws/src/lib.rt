@@ -24,7 +24,7 @@ pub fn entered_bytes_were_accepted()
     ensures { EnteredBytesWereAccepted }
 {}
 
-/// The descriptors of every byte stream. While it is readable, each that waits has a minimum of whole elements that isn't reached and fits into its room; only the first may have bytes; where the first is for a BYOB reader the queue is empty and no fewer reads wait than descriptors; where reads of a default reader wait the queue is empty. A closed stream has no queue, an errored one neither queue nor descriptors. A BYOB request of a readable stream stands for a descriptor, and an errored stream has none.
+/// The descriptors of every byte stream. While it is readable, each that waits has a minimum of whole elements that isn't reached and fits into its room; only the first may have bytes; where the first is for a BYOB reader the queue is empty and no fewer reads wait than descriptors; where reads of a default reader wait beside a descriptor the queue is empty. A closed stream has no queue, an errored one neither queue nor descriptors. A BYOB request of a readable stream stands for a descriptor, and an errored stream has none.
 pub fn each_byte_stream_is_sound()
     ensures { EachByteStreamIsSound }
 {}
