@@ -9,3 +9,4 @@ mod WorkedHistories
 mod WorkedPipes
 mod WorkedTransforms
 mod WorkedBytes
+mod WorkedTees

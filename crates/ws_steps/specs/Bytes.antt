@@ -16,6 +16,7 @@ use Rattle.ws_steps.specs.declared.effects.Effect.TheVariants.{CancelAlgorithm, 
 use Rattle.ws_steps.specs.declared.effects.Owner.TheVariants.{Host}
 use Rattle.ws_steps.specs.declared.queue.Queued.{Queued}
 use Rattle.ws_steps.specs.declared.readable.ReadRequest.{ReadRequest}
+use Rattle.ws_steps.specs.declared.readable.ReadRequest.TheVariants.{Promise, Pipe, Tee}
 use Rattle.ws_steps.specs.declared.readable.ReadableState.{ReadableState}
 use Rattle.ws_steps.specs.declared.readable.ReadableState.TheVariants.{Readable, Closed, Errored}
 use Rattle.ws_steps.specs.declared.readable.SizeBy.TheVariants.{ByteLength}
@@ -459,8 +460,14 @@ is_least room element minimum = nat_eq (minimum % element) 0 && nat_lt 0 minimum
 abbrev pub may_respond : ℕ → Slots → Bool
 may_respond n s = is_none (respond_throws n s.stream.state s.descriptors)
 
+-- whether a request is a tee's, which has a stream with a default controller for its source
+abbrev pub is_of_tee : ReadRequest → Bool
+is_of_tee (Promise p) = false
+is_of_tee (Pipe p) = false
+is_of_tee (Tee t) = true
+
 unfoldable pub read : StreamId → ReadRequest → Acts → Acts
-read me q a = if_meant (may_read a.slots) (default_reader_read me q a) a
+read me q a = if is_of_tee q then a else if_meant (may_read a.slots) (default_reader_read me q a) a
 
 unfoldable pub read_into : StreamId → ℕ → ℕ → ℕ → ReadRequest → Acts → Acts
 read_into me room element minimum q a =

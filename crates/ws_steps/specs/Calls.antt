@@ -8,6 +8,7 @@ use Rattle.ws_value.specs.declared.fault.Fault.TheVariants.{RangeError as RangeF
 use Rattle.ws_value.specs.declared.ids.RequestId.{RequestId}
 use Rattle.ws_value.specs.declared.ids.SignalId.{SignalId}
 use Rattle.ws_value.specs.declared.ids.StreamId.{StreamId}
+use Rattle.ws_value.specs.declared.ids.TeeId.{TeeId}
 use Rattle.ws_value.specs.declared.ids.HostId.{HostId}
 use Rattle.ws_value.specs.declared.value.Plain.{Plain}
 use Rattle.ws_value.specs.declared.value.Plain.TheVariants.{Undefined}
@@ -17,7 +18,7 @@ use Rattle.ws_steps.specs.declared.byte.ByteOperation.TheVariants.{InitializeByo
 use Rattle.ws_steps.specs.declared.calls.Answer.{Answer}
 use Rattle.ws_steps.specs.declared.calls.Answer.TheVariants.{Ok as AnswerOk, Fail as AnswerFail}
 use Rattle.ws_steps.specs.declared.calls.Call.{Call}
-use Rattle.ws_steps.specs.declared.calls.Call.TheVariants.{MakeReadable, MakeBytes, MakeWritable, MakeTransform, GetReader, GetByob, GetWriter, Cancel, CancelBy, Read, ReadInto, Write, Close, CloseBy, Abort, AbortBy, Closed, Ready, Release, Enqueue, Finish, Fail, Terminate, Request, Respond, Desired, DesiredBy, Pipe, MakeSignal, Trigger, Settle, State, Step}
+use Rattle.ws_steps.specs.declared.calls.Call.TheVariants.{MakeReadable, MakeBytes, MakeWritable, MakeTransform, GetReader, GetByob, GetWriter, Tee, Cancel, CancelBy, Read, ReadInto, Write, Close, CloseBy, Abort, AbortBy, Closed, Ready, Release, Enqueue, Finish, Fail, Terminate, Request, Respond, Desired, DesiredBy, Pipe, MakeSignal, Trigger, Settle, State, Step}
 use Rattle.ws_steps.specs.declared.calls.Reply.{Reply}
 use Rattle.ws_steps.specs.declared.calls.Reply.TheVariants.{Done as ReplyDone, Made, MadeTwo, Lock as ReplyLock, Promise, Signal as ReplySignal, Request as ReplyRequest, Size, State as ReplyState, Throws, TooMany}
 use Rattle.ws_steps.specs.declared.calls.HostCall.TheVariants.{Start as HostStart}
@@ -28,7 +29,7 @@ use Rattle.ws_steps.specs.declared.effects.Effect.{Effect}
 use Rattle.ws_steps.specs.declared.effects.Effect.TheVariants.{Readable, Byte, Writable, Pipe as OnPipe, Signal as OnSignal, Transform as OnTransform, StartAlgorithm, Give, Settle as SettlePromise, Queue, CallHost}
 use Rattle.ws_steps.specs.declared.effects.Gift.TheVariants.{This}
 use Rattle.ws_steps.specs.declared.effects.Owner.{Owner}
-use Rattle.ws_steps.specs.declared.effects.Owner.TheVariants.{Host, HalfOf}
+use Rattle.ws_steps.specs.declared.effects.Owner.TheVariants.{Host, HalfOf, BranchOf}
 use Rattle.ws_steps.specs.declared.effects.Use.TheVariants.{React, Resolve}
 use Rattle.ws_steps.specs.declared.locks.Lock.{Lock}
 use Rattle.ws_steps.specs.declared.locks.Lock.TheVariants.{Reader as ReaderLock, ByobReader, Writer as WriterLock, ReleasedWriter, Inner}
@@ -39,9 +40,10 @@ use Rattle.ws_steps.specs.declared.pipes.PipeOperation.TheVariants.{Abort as Abo
 use Rattle.ws_steps.specs.declared.pipes.Prevent.{Prevent}
 use Rattle.ws_steps.specs.declared.pipes.SignalOperation.TheVariants.{Add as AddPipe, Trigger as TriggerSignal}
 use Rattle.ws_steps.specs.declared.promises.Micro.TheVariants.{PipeLook}
-use Rattle.ws_steps.specs.declared.promises.Step.TheVariants.{ReadableStart, WritableStart, PipeEnds}
+use Rattle.ws_steps.specs.declared.promises.Step.TheVariants.{ReadableStart, WritableStart, PipeEnds, TeeEnds}
 use Rattle.ws_steps.specs.declared.readable.SizeBy.{SizeBy}
 use Rattle.ws_steps.specs.declared.readable.SizeBy.TheVariants.{Count}
+use Rattle.ws_steps.specs.declared.tee.Half.TheVariants.{First, Second}
 use Rattle.ws_steps.specs.declared.transform.Kind.{Kind}
 use Rattle.ws_steps.specs.declared.transform.TransformId.{TransformId}
 use Rattle.ws_steps.specs.declared.transform.TransformOperation.TheVariants.{Enqueue as EnqueueByTransform, Error as ErrorTransform, Terminate as TerminateTransform}
@@ -55,10 +57,11 @@ use Rattle.ws_steps.specs.Pipes as pipe
 use Rattle.ws_steps.specs.Queues.{is_empty}
 use Rattle.ws_steps.specs.Readable as readable
 use Rattle.ws_steps.specs.ReadableLooks as readable_looks
+use Rattle.ws_steps.specs.Tee as tee
 use Rattle.ws_steps.specs.Transform as transform
 use Rattle.ws_steps.specs.Writable as writable
 use Rattle.ws_steps.specs.WritableLooks as writable_looks
-use Rattle.ws_steps.specs.Slots.{Slots, most_streams, Stream, ReadableStream, ByteStream, WritableStream, Done, nothing, causes, with_promises, has_readable, has_byte, has_source, has_writable, readable_at, byte_at, source_at, writable_at, stream_of_request, lock_at, host_at, signal_at, has_signal}
+use Rattle.ws_steps.specs.Slots.{Slots, most_streams, Stream, ReadableStream, ByteStream, WritableStream, Done, nothing, causes, with_promises, has_readable, has_byte, has_source, has_writable, readable_at, byte_at, source_at, writable_at, stream_of_request, lock_at, host_at, owner_at, signal_at, has_signal, is_teed}
 
 -- a call's reply, and what it leaves and causes
 pub record Begun : Type 0 where
@@ -161,6 +164,36 @@ make_transform kind writable_mark readable_mark start i j s =
     (add_stream (ReadableStream (readable.set_up (HalfOf me) readable_mark Count))
     (add_stream (WritableStream (writable.set_up (HalfOf me) writable_mark Count)) s))
     { transforms = s.transforms ++ transform.set_up kind i j change ∷ []; promises = fresh (fresh (fresh (fresh t))) }))
+
+-- a branch of a tee is a stream with the mark 1, which counts its chunks
+abbrev pub add_branch : Owner → Slots → Slots
+add_branch owner s = add_stream (ReadableStream (readable.set_up owner 1 Count)) s
+
+-- ReadableStreamDefaultTee: a reader of the tee's own takes the stream, the cancel promise is new, both branches start at once, and the tee
+-- reacts to the closed promise of its reader
+abbrev pub make_tee : StreamId → StreamId → StreamId → Slots → Begun
+make_tee source i j s =
+    let me : TeeId = record { 0 = length s.tees } in
+    let closed : PromiseId = next_id s.promises in
+    let cancelled : PromiseId = next_id (fresh s.promises) in
+    begun (MadeTwo i j)
+    (causes
+    (Readable source (InitializeReader closed)
+    ∷ StartAlgorithm i (ReadableStart i) Now
+    ∷ StartAlgorithm j (ReadableStart j) Now
+    ∷ Give (This closed) (React (TeeEnds me) None)
+    ∷ [])
+    (record
+    (add_branch (BranchOf me Second) (add_branch (BranchOf me First) s))
+    { tees = s.tees ++ tee.set_up source i j cancelled ∷ []; locks = s.locks ++ Inner ∷ []; promises = fresh (fresh s.promises) }))
+
+-- where the stream has a default controller; one with a byte controller has no tee here. A stream that a tee reads is locked for good, so that
+-- none is teed twice; here it is said once more, so that the place that a tee keeps in the list of its source's read requests is the only one
+abbrev pub tee_of : StreamId → Slots → Begun
+tee_of i s =
+    if has_byte i s then unsupported s
+    else if is_teed i s then throws_type_error s
+    else make_two (make_tee i) s
 
 -- a new reader, which takes the stream
 abbrev pub get_reader : StreamId → Slots → Begun
@@ -342,11 +375,13 @@ abbrev pub if_it_can : StreamId → ReadableOperation → Slots → Begun
 if_it_can i operation s =
     if readable.can_close_or_enqueue (readable_at i s) then does (Readable i operation ∷ []) s else throws_type_error s
 
--- enqueue() of the controller of a readable stream, by whose it is: that of the host's source, or that of a transform stream
+-- enqueue() of the controller of a readable stream, by whose it is: that of the host's source, or that of a transform stream; the host has
+-- no controller of a branch of a tee
 abbrev pub enqueue_by : Value → StreamId → Slots → Owner → Begun
 enqueue_by v i s Host = if_it_can i (EnqueueChunk v) s
 enqueue_by v i s (HalfOf t) =
     if readable.can_close_or_enqueue (readable_at i s) then does (OnTransform t (EnqueueByTransform v) ∷ []) s else throws_type_error s
+enqueue_by v i s (BranchOf t half) = unsupported s
 
 abbrev pub enqueue : Value → StreamId → Slots → Begun
 enqueue v i s = enqueue_by v i s (readable_at i s).owner
@@ -365,6 +400,7 @@ enqueue_call i v s = if has_byte i s then enqueue_bytes i s v else for_readable 
 abbrev pub finish_by : StreamId → Slots → Owner → Begun
 finish_by i s Host = if_it_can i CloseReadable s
 finish_by i s (HalfOf t) = unsupported s
+finish_by i s (BranchOf t half) = unsupported s
 
 abbrev pub finish : StreamId → Slots → Begun
 finish i s = finish_by i s (readable_at i s).owner
@@ -385,11 +421,13 @@ finish_call i s = if has_byte i s then finish_bytes i s else for_readable i (fin
 abbrev pub fail_readable_by : Plain → StreamId → Slots → Owner → Begun
 fail_readable_by reason i s Host = does (Readable i (ErrorReadable reason) ∷ []) s
 fail_readable_by reason i s (HalfOf t) = does (OnTransform t (ErrorTransform reason) ∷ []) s
+fail_readable_by reason i s (BranchOf t half) = unsupported s
 
 -- error() of the controller of a host's sink; the host has no controller of the writable half of a transform stream
 abbrev pub fail_writable_by : Plain → StreamId → Slots → Owner → Begun
 fail_writable_by reason i s Host = does (Writable i (ErrorIfNeeded reason) ∷ []) s
 fail_writable_by reason i s (HalfOf t) = unsupported s
+fail_writable_by reason i s (BranchOf t half) = unsupported s
 
 -- the controller of a stream of any kind
 abbrev pub fail : Plain → StreamId → Slots → Begun
@@ -402,12 +440,19 @@ fail reason i s =
 abbrev pub terminate_by : Slots → Owner → Begun
 terminate_by s Host = unsupported s
 terminate_by s (HalfOf t) = does (OnTransform t TerminateTransform ∷ []) s
+terminate_by s (BranchOf t half) = unsupported s
 
 abbrev pub terminate : StreamId → Slots → Begun
 terminate i s = terminate_by s (readable_at i s).owner
 
+-- desiredSize of the controller of a readable stream, by whose it is
+abbrev pub desired_by : StreamId → Slots → Owner → Begun
+desired_by i s Host = replies (Size (readable_looks.desired_by (source_at i s) (source_at i s).state)) s
+desired_by i s (HalfOf t) = replies (Size (readable_looks.desired_by (source_at i s) (source_at i s).state)) s
+desired_by i s (BranchOf t half) = unsupported s
+
 abbrev pub desired : StreamId → Slots → Begun
-desired i s = replies (Size (readable_looks.desired_by (source_at i s) (source_at i s).state)) s
+desired i s = desired_by i s (owner_at i s)
 
 abbrev pub desired_of_writer : StreamId → Slots → Begun
 desired_of_writer i s = replies (Size (writable_looks.desired_by (writable_at i s) (writable_at i s).state)) s
@@ -546,6 +591,7 @@ begin (MakeTransform kind writable_mark readable_mark start) s = make_two (make_
 begin (GetReader i) s = unlocked_readable i throws_type_error get_reader s
 begin (GetByob i) s = unlocked_readable i throws_type_error get_byob_of s
 begin (GetWriter i) s = unlocked_writable i throws_type_error get_writer s
+begin (Tee i) s = unlocked_readable i throws_type_error tee_of s
 begin (Cancel i reason) s = unlocked_readable i rejected (cancel reason) s
 begin (CancelBy l reason) s = by_reader (cancel reason) rejected s (lock_at l s)
 begin (Read l) s = by_default_reader read rejected s (lock_at l s)

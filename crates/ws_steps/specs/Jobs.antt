@@ -4,15 +4,16 @@ use Rattle.ws_value.specs.declared.ids.PromiseId.{PromiseId}
 use Rattle.ws_value.specs.declared.value.Plain.{Plain}
 use Rattle.ws_value.specs.declared.value.Plain.TheVariants.{Undefined}
 use Rattle.ws_steps.specs.declared.effects.Effect.{Effect}
-use Rattle.ws_steps.specs.declared.effects.Effect.TheVariants.{Readable, Writable, Pipe, Transform, Settle as SettlePromise}
+use Rattle.ws_steps.specs.declared.effects.Effect.TheVariants.{Readable, Writable, Pipe, Transform, Tee, Settle as SettlePromise}
 use Rattle.ws_steps.specs.declared.pipes.PipeOperation.TheVariants.{Look, LookReady, WriteChunk, WriteEnded, ActionSettled, PartSettled, NoParts}
 use Rattle.ws_steps.specs.declared.promises.Job.{Job}
 use Rattle.ws_steps.specs.declared.promises.Job.TheVariants.{Reaction, Follow, Settle, Micro as MicroJob}
 use Rattle.ws_steps.specs.declared.promises.Micro.{Micro}
-use Rattle.ws_steps.specs.declared.promises.Micro.TheVariants.{PipeLook, PipeWrite, PipeNoParts}
+use Rattle.ws_steps.specs.declared.promises.Micro.TheVariants.{PipeLook, PipeWrite, PipeNoParts, TeeHand}
 use Rattle.ws_steps.specs.declared.promises.Step.{Step}
-use Rattle.ws_steps.specs.declared.promises.Step.TheVariants.{ReadableStart, ReadablePull, ReturnUndefined, WritableStart, WritableWrite, WritableClose, WritableAbort, PipeEnds, PipeReady, PipeWrote, PipeActed, PipePart, TransformChanged, Transformed, TransformFlushed, TransformAborted, TransformCancelled}
+use Rattle.ws_steps.specs.declared.promises.Step.TheVariants.{ReadableStart, ReadablePull, ReturnUndefined, WritableStart, WritableWrite, WritableClose, WritableAbort, PipeEnds, PipeReady, PipeWrote, PipeActed, PipePart, TransformChanged, Transformed, TransformFlushed, TransformAborted, TransformCancelled, TeeEnds}
 use Rattle.ws_steps.specs.declared.readable.ReadableOperation.TheVariants.{StartSettled, PullSettled}
+use Rattle.ws_steps.specs.declared.tee.TeeOperation.TheVariants.{HandChunk, ReaderSettled}
 use Rattle.ws_steps.specs.declared.transform.TransformId.{TransformId}
 use Rattle.ws_steps.specs.declared.transform.TransformOperation.TheVariants.{WriteGoesOn, Error as ErrorTransform, FlushSettled, AbortSettled as SinkAbortSettled, CancelSettled}
 use Rattle.ws_steps.specs.declared.writable.WritableOperation.TheVariants.{StartSettled as WritableStartSettled, WriteSettled, CloseSettled, AbortSettled}
@@ -48,6 +49,7 @@ steps (Transformed t) outcome = transformed t outcome
 steps (TransformFlushed t p) outcome = Transform t (FlushSettled p outcome) ∷ []
 steps (TransformAborted t p r) outcome = Transform t (SinkAbortSettled p r outcome) ∷ []
 steps (TransformCancelled t p r) outcome = Transform t (CancelSettled p r outcome) ∷ []
+steps (TeeEnds t) outcome = Tee t (ReaderSettled outcome) ∷ []
 
 -- what the steps return or throw; where there are none for the outcome, it goes on
 abbrev pub returned : Step → Result Plain Plain → Result Plain Plain
@@ -69,6 +71,7 @@ returned (Transformed t) outcome = outcome
 returned (TransformFlushed t p) outcome = Ok Undefined
 returned (TransformAborted t p r) outcome = Ok Undefined
 returned (TransformCancelled t p r) outcome = Ok Undefined
+returned (TeeEnds t) outcome = Ok Undefined
 
 -- the derived promise, where there is one, is resolved with what the steps return, once they are performed
 abbrev pub resolved : Option PromiseId → Result Plain Plain → List Effect
@@ -80,6 +83,7 @@ abbrev pub micro_steps : Micro → List Effect
 micro_steps (PipeLook p) = Pipe p Look ∷ []
 micro_steps (PipeWrite p) = Pipe p WriteChunk ∷ []
 micro_steps (PipeNoParts p) = Pipe p NoParts ∷ []
+micro_steps (TeeHand t) = Tee t HandChunk ∷ []
 
 abbrev pub job_effects : Job → List Effect
 job_effects (Reaction step outcome derived) = steps step outcome ++ resolved derived (returned step outcome)

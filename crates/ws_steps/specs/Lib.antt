@@ -9,6 +9,7 @@ pub mod Writable
 pub mod WritableLooks
 pub mod Pipes
 pub mod Transform
+pub mod Tee
 pub mod Operations
 pub mod Slots
 pub mod Places
@@ -20,5 +21,7 @@ pub mod Histories
 pub mod ReadableHistory
 pub mod ByteHistory
 pub mod WritableHistory
+pub mod TeeHistory
 pub mod Laws
 pub mod ByteLaws
+pub mod TeeLaws

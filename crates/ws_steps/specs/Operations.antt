@@ -2,6 +2,7 @@
 use Rattle.std.specs.Prelude.{length}
 use Rattle.ws_value.specs.declared.ids.PipeId.{PipeId}
 use Rattle.ws_value.specs.declared.ids.StreamId.{StreamId}
+use Rattle.ws_value.specs.declared.ids.TeeId.{TeeId}
 use Rattle.ws_steps.specs.declared.byte.ByteOperation.{ByteOperation}
 use Rattle.ws_steps.specs.declared.byte.ByteOperation.TheVariants.{InitializeByobReader, Enqueue as EnqueueBytes, PullInto, MakeRequest, Respond}
 use Rattle.ws_steps.specs.declared.byte.ReaderKind.TheVariants.{Default, Byob}
@@ -12,6 +13,8 @@ use Rattle.ws_steps.specs.declared.pipes.SignalOperation.{SignalOperation}
 use Rattle.ws_steps.specs.declared.pipes.SignalOperation.TheVariants.{Add, Forget, Trigger}
 use Rattle.ws_steps.specs.declared.readable.ReadableOperation.{ReadableOperation}
 use Rattle.ws_steps.specs.declared.readable.ReadableOperation.TheVariants.{InitializeReader, ReleaseReader, Disturb, Read, Cancel, CancelIfReadable, Enqueue, Close, Error, StartSettled, PullSettled}
+use Rattle.ws_steps.specs.declared.tee.TeeOperation.{TeeOperation}
+use Rattle.ws_steps.specs.declared.tee.TeeOperation.TheVariants.{PullBranch, KeepChunk as KeepByTee, SourceClosed, SourceErrored, HandChunk, Handed, CancelBranch, ReaderSettled}
 use Rattle.ws_steps.specs.declared.transform.Halves.{Halves}
 use Rattle.ws_steps.specs.declared.transform.TransformId.{TransformId}
 use Rattle.ws_steps.specs.declared.transform.TransformOperation.{TransformOperation}
@@ -21,6 +24,7 @@ use Rattle.ws_steps.specs.declared.writable.WritableOperation.TheVariants.{SetUp
 use Rattle.ws_steps.specs.Bytes as byte
 use Rattle.ws_steps.specs.Pipes as pipe
 use Rattle.ws_steps.specs.Readable as readable
+use Rattle.ws_steps.specs.Tee as tee
 use Rattle.ws_steps.specs.Transform as transform
 use Rattle.ws_steps.specs.Writable as writable
 
@@ -107,3 +111,13 @@ transform_operation me halves (SourceCancel r u) a = transform.source_cancel me 
 transform_operation me halves (FlushSettled p outcome) a = transform.flush_settled p halves outcome a
 transform_operation me halves (SinkAbortSettled p r outcome) a = transform.abort_settled p halves r outcome a
 transform_operation me halves (CancelSettled p r outcome) a = transform.cancel_settled me p halves r outcome a
+
+abbrev pub tee_operation : TeeId → TeeOperation → tee.Acts → tee.Acts
+tee_operation me PullBranch a = tee.pull_branch me a
+tee_operation me (KeepByTee v) a = tee.keep_chunk me v a
+tee_operation me SourceClosed a = tee.source_closed a
+tee_operation me SourceErrored a = tee.source_errored a
+tee_operation me HandChunk a = tee.hand_chunk me a
+tee_operation me Handed a = tee.handed me a
+tee_operation me (CancelBranch half r u) a = tee.cancel_branch me half r u a
+tee_operation me (ReaderSettled outcome) a = tee.reader_settled outcome a

@@ -1,6 +1,6 @@
 -- What an effect may take, with all that comes of it: so many turns, and so many places of each kind in memory. A price list says what
 -- one of each costs; what is said for every price list is said of each kind.
-use Rattle.std.specs.Prelude.{ℕ, ◌+◌, ◌*◌, List, [], ◌∷◌, length, Option, Some, None, slice_get}
+use Rattle.std.specs.Prelude.{ℕ, ◌+◌, ◌*◌, ◌≡◌, ◌≤◌, Bool, true, false, nat_eq, if◌then◌else◌, List, [], ◌∷◌, length, Option, Some, None, slice_get}
 use Rattle.ws_value.specs.declared.ids.PipeId.{PipeId}
 use Rattle.ws_value.specs.declared.ids.SignalId.{SignalId}
 use Rattle.ws_value.specs.declared.ids.StreamId.{StreamId}
@@ -12,15 +12,21 @@ use Rattle.ws_steps.specs.declared.byte.ByteOperation.TheVariants.{InitializeByo
 use Rattle.ws_steps.specs.declared.calls.StartBy.{StartBy}
 use Rattle.ws_steps.specs.declared.calls.StartBy.TheVariants.{Now, Later}
 use Rattle.ws_steps.specs.declared.effects.Effect.{Effect}
-use Rattle.ws_steps.specs.declared.effects.Effect.TheVariants.{Readable, Byte, Writable, Pipe, Signal, Transform, StartAlgorithm, PullAlgorithm, CancelAlgorithm, WriteAlgorithm, CloseAlgorithm, AbortAlgorithm, ChunkSteps, CloseSteps, CloseStepsWith, ErrorSteps, Give, Settle, Queue, CallHost}
+use Rattle.ws_steps.specs.declared.effects.Effect.TheVariants.{Readable, Byte, Writable, Pipe, Signal, Transform, Tee, StartAlgorithm, PullAlgorithm, CancelAlgorithm, WriteAlgorithm, CloseAlgorithm, AbortAlgorithm, ChunkSteps, CloseSteps, CloseStepsWith, ErrorSteps, Give, Settle, Queue, CallHost}
 use Rattle.ws_steps.specs.declared.effects.Gift.{Gift}
 use Rattle.ws_steps.specs.declared.effects.Gift.TheVariants.{This, Fresh}
 use Rattle.ws_steps.specs.declared.pipes.PipeOperation.{PipeOperation}
 use Rattle.ws_steps.specs.declared.pipes.PipeOperation.TheVariants.{Look, LookReady, KeepChunk, ReadEnded, WriteChunk, GoOn, WriteEnded, Abort as AbortPipe, ActionSettled, PartSettled, NoParts}
 use Rattle.ws_steps.specs.declared.pipes.SignalOperation.{SignalOperation}
 use Rattle.ws_steps.specs.declared.pipes.SignalOperation.TheVariants.{Add, Forget, Trigger}
+use Rattle.ws_steps.specs.declared.readable.ReadRequest.{ReadRequest}
+use Rattle.ws_steps.specs.declared.readable.ReadRequest.TheVariants.{Promise, Pipe as PipeRequest, Tee as TeeRequest}
 use Rattle.ws_steps.specs.declared.readable.ReadableOperation.{ReadableOperation}
 use Rattle.ws_steps.specs.declared.readable.ReadableOperation.TheVariants.{InitializeReader, ReleaseReader, Disturb, Read, Cancel, CancelIfReadable, Enqueue, Close, Error, StartSettled, PullSettled}
+use Rattle.ws_steps.specs.declared.tee.TeeOperation.{TeeOperation}
+use Rattle.ws_steps.specs.declared.tee.TeeOperation.TheVariants.{PullBranch, KeepChunk as KeepByTee, SourceClosed, SourceErrored, HandChunk, Handed, CancelBranch, ReaderSettled}
+use Rattle.ws_steps.specs.declared.tee.TeePhase.{TeePhase}
+use Rattle.ws_steps.specs.declared.tee.TeePhase.TheVariants.{Resting, Reading, Over}
 use Rattle.ws_steps.specs.declared.transform.Taker.{Taker}
 use Rattle.ws_steps.specs.declared.transform.Taker.TheVariants.{ToHost, ToTransform}
 use Rattle.ws_steps.specs.declared.transform.TransformOperation.{TransformOperation}
@@ -30,9 +36,11 @@ use Rattle.ws_steps.specs.declared.writable.WritableOperation.TheVariants.{SetUp
 use Rattle.ws_steps.specs.Pipes as pipe
 use Rattle.ws_steps.specs.Promises.{Entry, Table}
 use Rattle.ws_steps.specs.Slots.{Slots, Stream, ReadableStream, ByteStream, WritableStream}
+use Rattle.ws_steps.specs.Tee as tee
 
 -- the prices of a turn, a promise, a job or a reaction, an event, a host's number, an entry in the queue of a stream, one in the list of
--- its read or write requests, a pipe in the list of a signal, and a descriptor of a byte stream
+-- its read or write requests, a pipe in the list of a signal, a descriptor of a byte stream, and the second copy of a chunk that a tee hands
+-- to its branches. A read request of a tee has the price of the stream where it is asked: so the requests of one stream can be counted alone
 pub record Prices : Type 0 where
   pub turn : ℕ
   pub promise : ℕ
@@ -43,6 +51,8 @@ pub record Prices : Type 0 where
   pub request : ℕ
   pub member : ℕ
   pub descriptor : ℕ
+  pub copy : ℕ
+  pub reads : StreamId → ℕ
 
 -- the price of so many turns, promises, jobs, events, host's numbers, queued entries and requests
 abbrev pub price : Prices → ℕ → ℕ → ℕ → ℕ → ℕ → ℕ → ℕ → ℕ
@@ -52,6 +62,11 @@ price π t p j e h q r = t * π.turn + p * π.promise + j * π.job + e * π.even
 abbrev pub each : {A : Type 0} → ℕ → List A → ℕ
 each c [] = 0
 each c (x ∷ xs) = c + each c xs
+
+-- the price of a request of a tee at stream i is that of any request, and at another stream no more
+pub record Counts (π : Prices) (i : StreamId) : Type 0 where
+  pub here : π.reads i ≡ π.request
+  pub others : (j : StreamId) → π.reads j ≤ π.request
 
 -- what an effect may take, with all that comes of it
 
@@ -63,18 +78,28 @@ abbrev pub start_price : Prices → StartBy → ℕ
 start_price π Now = price π 2 1 1 0 0 0 0
 start_price π Later = price π 3 2 2 1 1 0 0
 
-abbrev pub readable_price : Prices → ReadableOperation → ℕ
-readable_price π (InitializeReader closed) = price π 1 0 0 0 0 0 0
-readable_price π ReleaseReader = price π 1 0 0 0 0 0 0
-readable_price π Disturb = price π 1 0 0 0 0 0 0
-readable_price π (Read request) = price π 6 1 2 1 1 1 1 + π.descriptor
-readable_price π (Cancel r p) = price π 5 2 2 1 1 0 0
-readable_price π (CancelIfReadable r p) = price π 5 2 2 1 1 0 0
-readable_price π (Enqueue v) = price π 4 1 1 1 1 1 0
-readable_price π Close = price π 1 0 0 0 0 0 0
-readable_price π (Error e) = price π 1 0 0 0 0 0 0
-readable_price π (StartSettled outcome) = price π 4 1 1 1 1 0 0
-readable_price π (PullSettled outcome) = price π 4 1 1 1 1 0 0
+-- a read of stream i by a tee, which has a default controller
+abbrev pub tee_read : Prices → StreamId → ℕ
+tee_read π i = price π 6 1 2 1 1 0 0 + π.reads i
+
+-- a read of stream i
+abbrev pub read_price : Prices → StreamId → ReadRequest → ℕ
+read_price π i (Promise p) = price π 6 1 2 1 1 1 1 + π.descriptor
+read_price π i (PipeRequest p) = price π 6 1 2 1 1 1 1 + π.descriptor
+read_price π i (TeeRequest t) = tee_read π i
+
+abbrev pub readable_price : Prices → StreamId → ReadableOperation → ℕ
+readable_price π i (InitializeReader closed) = price π 1 0 0 0 0 0 0
+readable_price π i ReleaseReader = price π 1 0 0 0 0 0 0
+readable_price π i Disturb = price π 1 0 0 0 0 0 0
+readable_price π i (Read request) = read_price π i request
+readable_price π i (Cancel r p) = price π 5 2 2 1 1 0 0
+readable_price π i (CancelIfReadable r p) = price π 5 2 2 1 1 0 0
+readable_price π i (Enqueue v) = price π 4 1 1 1 1 1 0
+readable_price π i Close = price π 1 0 0 0 0 0 0
+readable_price π i (Error e) = price π 1 0 0 0 0 0 0
+readable_price π i (StartSettled outcome) = price π 4 1 1 1 1 0 0
+readable_price π i (PullSettled outcome) = price π 4 1 1 1 1 0 0
 
 -- a descriptor keeps the price of an entry, for its bytes may go to the queue
 abbrev pub byte_price : Prices → ByteOperation → ℕ
@@ -149,13 +174,25 @@ transform_price π (FlushSettled p outcome) = price π 3 0 0 0 0 0 0
 transform_price π (SinkAbortSettled p r outcome) = price π 3 0 0 0 0 0 0
 transform_price π (CancelSettled p r outcome) = price π 8 4 2 1 1 0 0
 
+-- an operation of a tee. What a branch's pull or cancel does to the source the tee pays for, for which it keeps the price
+abbrev pub tee_price : Prices → TeeOperation → ℕ
+tee_price π PullBranch = price π 1 0 0 0 0 0 0
+tee_price π (KeepByTee v) = price π 1 0 1 0 0 0 0
+tee_price π SourceClosed = price π 1 0 0 0 0 0 0
+tee_price π SourceErrored = price π 1 0 0 0 0 0 0
+tee_price π HandChunk = price π 16 3 4 3 3 2 1 + π.copy
+tee_price π Handed = price π 7 1 2 1 1 0 1
+tee_price π (CancelBranch half r u) = price π 2 1 1 0 0 0 0
+tee_price π (ReaderSettled outcome) = price π 4 0 0 0 0 0 0
+
 abbrev pub effect_price : Prices → Effect → ℕ
-effect_price π (Readable i operation) = readable_price π operation
+effect_price π (Readable i operation) = readable_price π i operation
 effect_price π (Byte i operation) = byte_price π operation
 effect_price π (Writable i operation) = writable_price π operation
 effect_price π (Pipe p operation) = pipe_price π operation
 effect_price π (Signal a operation) = signal_price π operation
 effect_price π (Transform t operation) = transform_price π operation
+effect_price π (Tee t operation) = tee_price π operation
 effect_price π (StartAlgorithm i step start) = start_price π start
 effect_price π (PullAlgorithm i) = price π 3 1 1 1 1 0 0
 effect_price π (CancelAlgorithm i r p) = price π 4 2 2 1 1 0 0
@@ -176,7 +213,9 @@ prices_of π [] = 0
 prices_of π (e ∷ es) = effect_price π e + prices_of π es
 
 -- what the records keep for later: the steps of each read request that waits, which are paid for when it is asked; an entry in the queue for
--- each descriptor, which is paid for when it is added; and the abort of each pipe of a signal that wasn't triggered, likewise
+-- each descriptor, which is paid for when it is added; the abort of each pipe of a signal that wasn't triggered, likewise; and of a tee the
+-- read of its source, while it rests, the close of its branches, until it is over, and the cancel of its source, until both branches are
+-- cancelled
 
 abbrev pub steps_price : Prices → ℕ
 steps_price π = price π 2 0 1 0 0 0 0
@@ -201,38 +240,65 @@ abbrev pub signals_keep : Prices → List pipe.Signal → ℕ
 signals_keep π [] = 0
 signals_keep π (x ∷ xs) = signal_keeps π x + signals_keep π xs
 
+abbrev pub phase_keeps : Prices → StreamId → TeePhase → ℕ
+phase_keeps π i Resting = tee_read π i + price π 3 0 0 0 0 0 0
+phase_keeps π i Reading = price π 3 0 0 0 0 0 0
+phase_keeps π i Over = 0
+
+abbrev pub cancel_keeps : Prices → Bool → ℕ
+cancel_keeps π true = price π 6 2 3 1 1 0 0
+cancel_keeps π false = 0
+
+abbrev pub tee_keeps : Prices → tee.Slots → ℕ
+tee_keeps π x = phase_keeps π x.source x.phase + cancel_keeps π (tee.is_wanted x)
+
+abbrev pub tees_keep : Prices → List tee.Slots → ℕ
+tees_keep π [] = 0
+tees_keep π (x ∷ xs) = tee_keeps π x + tees_keep π xs
+
+-- what all records keep
+abbrev pub all_kept : Prices → Slots → ℕ
+all_kept π s = all_keep π s.streams + signals_keep π s.signals + tees_keep π s.tees
+
 -- what these effects and all that comes of them may take
 abbrev pub need : Prices → Slots → List Effect → ℕ
-need π s es = prices_of π es + (all_keep π s.streams + signals_keep π s.signals)
+need π s es = prices_of π es + all_kept π s
 
 -- price lists with one price
 
 abbrev pub turns_alone : Prices
-turns_alone = record { turn = 1; promise = 0; job = 0; event = 0; host = 0; queued = 0; request = 0; member = 0; descriptor = 0 }
+turns_alone = record { turn = 1; promise = 0; job = 0; event = 0; host = 0; queued = 0; request = 0; member = 0; descriptor = 0; copy = 0; reads = λ j. 0 }
 
 abbrev pub promises_alone : Prices
-promises_alone = record { turn = 0; promise = 1; job = 0; event = 0; host = 0; queued = 0; request = 0; member = 0; descriptor = 0 }
+promises_alone = record { turn = 0; promise = 1; job = 0; event = 0; host = 0; queued = 0; request = 0; member = 0; descriptor = 0; copy = 0; reads = λ j. 0 }
 
 abbrev pub jobs_alone : Prices
-jobs_alone = record { turn = 0; promise = 0; job = 1; event = 0; host = 0; queued = 0; request = 0; member = 0; descriptor = 0 }
+jobs_alone = record { turn = 0; promise = 0; job = 1; event = 0; host = 0; queued = 0; request = 0; member = 0; descriptor = 0; copy = 0; reads = λ j. 0 }
 
 abbrev pub events_alone : Prices
-events_alone = record { turn = 0; promise = 0; job = 0; event = 1; host = 0; queued = 0; request = 0; member = 0; descriptor = 0 }
+events_alone = record { turn = 0; promise = 0; job = 0; event = 1; host = 0; queued = 0; request = 0; member = 0; descriptor = 0; copy = 0; reads = λ j. 0 }
 
 abbrev pub hosts_alone : Prices
-hosts_alone = record { turn = 0; promise = 0; job = 0; event = 0; host = 1; queued = 0; request = 0; member = 0; descriptor = 0 }
+hosts_alone = record { turn = 0; promise = 0; job = 0; event = 0; host = 1; queued = 0; request = 0; member = 0; descriptor = 0; copy = 0; reads = λ j. 0 }
 
 abbrev pub queued_alone : Prices
-queued_alone = record { turn = 0; promise = 0; job = 0; event = 0; host = 0; queued = 1; request = 0; member = 0; descriptor = 0 }
+queued_alone = record { turn = 0; promise = 0; job = 0; event = 0; host = 0; queued = 1; request = 0; member = 0; descriptor = 0; copy = 0; reads = λ j. 0 }
 
 abbrev pub requests_alone : Prices
-requests_alone = record { turn = 0; promise = 0; job = 0; event = 0; host = 0; queued = 0; request = 1; member = 0; descriptor = 0 }
+requests_alone = record { turn = 0; promise = 0; job = 0; event = 0; host = 0; queued = 0; request = 1; member = 0; descriptor = 0; copy = 0; reads = λ j. 1 }
+
+-- those of tees at stream i alone
+abbrev pub requests_at : StreamId → Prices
+requests_at i = record requests_alone { reads = λ j. if nat_eq i.0 j.0 then 1 else 0 }
 
 abbrev pub members_alone : Prices
-members_alone = record { turn = 0; promise = 0; job = 0; event = 0; host = 0; queued = 0; request = 0; member = 1; descriptor = 0 }
+members_alone = record { turn = 0; promise = 0; job = 0; event = 0; host = 0; queued = 0; request = 0; member = 1; descriptor = 0; copy = 0; reads = λ j. 0 }
 
 abbrev pub descriptors_alone : Prices
-descriptors_alone = record { turn = 0; promise = 0; job = 0; event = 0; host = 0; queued = 0; request = 0; member = 0; descriptor = 1 }
+descriptors_alone = record { turn = 0; promise = 0; job = 0; event = 0; host = 0; queued = 0; request = 0; member = 0; descriptor = 1; copy = 0; reads = λ j. 0 }
+
+abbrev pub copies_alone : Prices
+copies_alone = record { turn = 0; promise = 0; job = 0; event = 0; host = 0; queued = 0; request = 0; member = 0; descriptor = 0; copy = 1; reads = λ j. 0 }
 
 -- as many turns as effects may take, with all that comes of them
 abbrev pub measure : Slots → List Effect → ℕ
@@ -299,10 +365,15 @@ abbrev pub own_start : Prices → StartBy → ℕ
 own_start π Now = 0
 own_start π Later = price π 0 1 0 0 0 0 0
 
-abbrev pub own_readable : Prices → ReadableOperation → ℕ
-own_readable π (Read request) = price π 0 0 0 0 0 0 1 + π.descriptor
-own_readable π (Enqueue v) = price π 0 0 0 0 0 1 0
-own_readable π _ = 0
+abbrev pub own_read : Prices → StreamId → ReadRequest → ℕ
+own_read π i (Promise p) = price π 0 0 0 0 0 0 1 + π.descriptor
+own_read π i (PipeRequest p) = price π 0 0 0 0 0 0 1 + π.descriptor
+own_read π i (TeeRequest t) = π.reads i
+
+abbrev pub own_readable : Prices → StreamId → ReadableOperation → ℕ
+own_readable π i (Read request) = own_read π i request
+own_readable π i (Enqueue v) = price π 0 0 0 0 0 1 0
+own_readable π i _ = 0
 
 -- of the entries that it adds to the queue, those of descriptors that it removes aren't its own
 abbrev pub own_byte : Prices → ByteOperation → ℕ
@@ -348,13 +419,20 @@ own_transform π (SinkAbort r u) = π.promise
 own_transform π (SourceCancel r u) = π.promise
 own_transform π _ = 0
 
+abbrev pub own_tee : Prices → TeeOperation → ℕ
+own_tee π (KeepByTee v) = π.job
+own_tee π HandChunk = π.copy
+own_tee π (CancelBranch half r u) = π.promise
+own_tee π _ = 0
+
 abbrev pub own : Prices → Effect → ℕ
-own π (Readable i operation) = own_readable π operation
+own π (Readable i operation) = own_readable π i operation
 own π (Byte i operation) = own_byte π operation
 own π (Writable i operation) = own_writable π operation
 own π (Pipe p operation) = own_pipe π operation
 own π (Signal a operation) = own_signal π operation
 own π (Transform t operation) = own_transform π operation
+own π (Tee t operation) = own_tee π operation
 own π (Queue m) = π.job
 own π (StartAlgorithm i step start) = own_start π start
 own π (Give gift u) = own_gift π gift
@@ -363,8 +441,8 @@ own π _ = 0
 
 -- what any call or job may take besides what the records keep. The promise that a reply names takes an event, now or when it settles
 abbrev pub step_price : Prices → ℕ
-step_price π = price π 28 14 11 4 3 4 2 + (π.member + π.descriptor)
+step_price π = price π 28 14 11 4 3 4 2 + (π.member + π.descriptor + π.copy)
 
 -- what is to be prepared for the next call or job, whichever it is
 abbrev pub room : Prices → Slots → ℕ
-room π s = all_keep π s.streams + signals_keep π s.signals + step_price π
+room π s = all_kept π s + step_price π

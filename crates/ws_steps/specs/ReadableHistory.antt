@@ -13,7 +13,7 @@ use Rattle.ws_steps.specs.declared.locks.Lock.{Lock}
 use Rattle.ws_steps.specs.declared.locks.Lock.TheVariants.{Reader, ByobReader, Writer, ReleasedWriter, Inner}
 use Rattle.ws_steps.specs.declared.queue.Queued.{Queued}
 use Rattle.ws_steps.specs.declared.readable.ReadRequest.{ReadRequest}
-use Rattle.ws_steps.specs.declared.readable.ReadRequest.TheVariants.{Promise, Pipe}
+use Rattle.ws_steps.specs.declared.readable.ReadRequest.TheVariants.{Promise, Pipe, Tee}
 use Rattle.ws_steps.specs.declared.readable.ReadableOperation.{ReadableOperation}
 use Rattle.ws_steps.specs.declared.readable.ReadableOperation.TheVariants.{ReleaseReader, Enqueue, Read, Cancel, CancelIfReadable}
 use Rattle.ws_steps.specs.Readable as readable
@@ -127,6 +127,7 @@ abbrev pub promises_of : List ReadRequest → List PromiseId
 promises_of [] = []
 promises_of (Promise p ∷ rs) = p ∷ promises_of rs
 promises_of (Pipe p ∷ rs) = promises_of rs
+promises_of (Tee t ∷ rs) = promises_of rs
 
 -- the promise that a reply names
 abbrev pub named_by : Reply → List PromiseId

@@ -1,5 +1,5 @@
 -- The slots of a realm: its records in tables by number, and its promises with their jobs and what the host hears of.
-use Rattle.std.specs.Prelude.{ℕ, nat_lt, Bool, true, false, ◌&&◌, ◌||◌, is_some, if◌then◌else◌, List, [], Option, Some, None, slice_get, slice_set}
+use Rattle.std.specs.Prelude.{ℕ, nat_eq, nat_lt, Bool, true, false, ◌&&◌, ◌||◌, is_some, if◌then◌else◌, List, [], ◌∷◌, Option, Some, None, slice_get, slice_set}
 use Rattle.ws_value.specs.declared.ids.HostId.{HostId}
 use Rattle.ws_value.specs.declared.ids.LockId.{LockId}
 use Rattle.ws_value.specs.declared.ids.PipeId.{PipeId}
@@ -7,6 +7,8 @@ use Rattle.ws_value.specs.declared.ids.PromiseId.{PromiseId}
 use Rattle.ws_value.specs.declared.ids.RequestId.{RequestId}
 use Rattle.ws_value.specs.declared.ids.SignalId.{SignalId}
 use Rattle.ws_value.specs.declared.ids.StreamId.{StreamId}
+use Rattle.ws_value.specs.declared.ids.TeeId.{TeeId}
+use Rattle.ws_value.specs.declared.value.Plain.{Plain}
 use Rattle.ws_steps.specs.declared.effects.Effect.{Effect}
 use Rattle.ws_steps.specs.declared.effects.Owner.{Owner}
 use Rattle.ws_steps.specs.declared.effects.Owner.TheVariants.{Host}
@@ -15,6 +17,7 @@ use Rattle.ws_steps.specs.declared.pipes.Ends.{Ends}
 use Rattle.ws_steps.specs.declared.pipes.Phase.TheVariants.{Over}
 use Rattle.ws_steps.specs.declared.readable.ReadableState.TheVariants.{Closed as ReadableClosed}
 use Rattle.ws_steps.specs.declared.readable.SizeBy.TheVariants.{Count}
+use Rattle.ws_steps.specs.declared.tee.TeePhase.TheVariants.{Over as TeeOver}
 use Rattle.ws_steps.specs.declared.transform.Halves.{Halves}
 use Rattle.ws_steps.specs.declared.transform.Kind.TheVariants.{Identity}
 use Rattle.ws_steps.specs.declared.transform.TransformId.{TransformId}
@@ -26,6 +29,7 @@ use Rattle.ws_steps.specs.Bytes as byte
 use Rattle.ws_steps.specs.Pipes as pipe
 use Rattle.ws_steps.specs.Queues.{total_of}
 use Rattle.ws_steps.specs.Readable as readable
+use Rattle.ws_steps.specs.Tee as tee
 use Rattle.ws_steps.specs.Transform as transform
 use Rattle.ws_steps.specs.Writable as writable
 
@@ -38,6 +42,7 @@ pub data Stream : Type 0 where
 pub record Slots : Type 0 where
   pub streams : List Stream
   pub transforms : List transform.Slots
+  pub tees : List tee.Slots
   pub pipes : List pipe.Slots
   pub signals : List pipe.Signal
   pub locks : List Lock
@@ -51,7 +56,7 @@ pub record Slots : Type 0 where
 
 -- a new realm
 abbrev pub empty : Slots
-empty = record { streams = []; transforms = []; pipes = []; signals = []; locks = []; promises = no_promises; hosts = []; byob_requests = []; age = 0 }
+empty = record { streams = []; transforms = []; tees = []; pipes = []; signals = []; locks = []; promises = no_promises; hosts = []; byob_requests = []; age = 0 }
 
 -- what stands where there is no such stream: one that takes nothing, gives nothing, and has no writer
 abbrev pub no_readable : readable.Slots
@@ -70,6 +75,13 @@ most_streams = 1024
 -- what stands where there is no such transform stream: one between streams that no realm has
 abbrev pub no_transform : transform.Slots
 no_transform = transform.set_up Identity (record { 0 = most_streams }) (record { 0 = most_streams }) (record { 0 = 0 })
+
+-- what stands where there is no such tee: one that is over, between streams that no realm has
+abbrev pub no_tee : tee.Slots
+no_tee =
+    record
+    (tee.set_up (record { 0 = most_streams }) (record { 0 = most_streams }) (record { 0 = most_streams }) (record { 0 = 0 }))
+    { phase = TeeOver; answered = true }
 
 -- what stands where there is no such pipe: one that is over, between streams that no realm has
 abbrev pub no_pipe : pipe.Slots
@@ -192,6 +204,26 @@ as_transform (Some x) = x
 
 abbrev pub transform_at : TransformId → Slots → transform.Slots
 transform_at t s = as_transform (slice_get s.transforms t.0)
+
+abbrev pub as_tee : Option tee.Slots → tee.Slots
+as_tee None = no_tee
+as_tee (Some x) = x
+
+abbrev pub tee_at : TeeId → Slots → tee.Slots
+tee_at t s = as_tee (slice_get s.tees t.0)
+
+-- whether one of these tees reads stream i
+abbrev pub reads_any : StreamId → List tee.Slots → Bool
+reads_any i [] = false
+reads_any i (x ∷ xs) = nat_eq x.source.0 i.0 || reads_any i xs
+
+-- whether a tee reads stream i
+abbrev pub is_teed : StreamId → Slots → Bool
+is_teed i s = reads_any i s.tees
+
+-- the two reasons that a tee keeps, where there is one of this number and both its branches were cancelled
+abbrev pub pair_at : TeeId → Slots → Option (Plain × Plain)
+pair_at t s = tee.pair (tee_at t s)
 
 abbrev pub as_signal : Option pipe.Signal → pipe.Signal
 as_signal None = pipe.new_signal
@@ -327,3 +359,14 @@ on_transform_at operation t s (Some x) = put_transform t s (operation (halves_at
 -- an operation of a transform stream, where there is one of this number
 abbrev pub on_transform : (Halves → transform.Acts → transform.Acts) → TransformId → Slots → Done
 on_transform operation t s = on_transform_at operation t s (slice_get s.transforms t.0)
+
+abbrev pub put_tee : TeeId → Slots → tee.Acts → Done
+put_tee t s a = record { slots = record s { tees = slice_set s.tees t.0 a.slots; promises = a.out.promises }; caused = a.out.effects }
+
+abbrev pub on_tee_at : (tee.Acts → tee.Acts) → TeeId → Slots → Option tee.Slots → Done
+on_tee_at operation t s None = nothing s
+on_tee_at operation t s (Some x) = put_tee t s (operation (record { slots = x; out = found s }))
+
+-- an operation of a tee, where there is one of this number
+abbrev pub on_tee : (tee.Acts → tee.Acts) → TeeId → Slots → Done
+on_tee operation t s = on_tee_at operation t s (slice_get s.tees t.0)

@@ -14,10 +14,10 @@ use Rattle.ws_steps.specs.declared.calls.HostCall.TheVariants.{Start as HostStar
 use Rattle.ws_steps.specs.declared.calls.StartBy.{StartBy}
 use Rattle.ws_steps.specs.declared.calls.StartBy.TheVariants.{Now, Later}
 use Rattle.ws_steps.specs.declared.effects.Effect.{Effect}
-use Rattle.ws_steps.specs.declared.effects.Effect.TheVariants.{Readable, Byte, Writable, Pipe, Signal, Transform, StartAlgorithm, PullAlgorithm, CancelAlgorithm, WriteAlgorithm, CloseAlgorithm, AbortAlgorithm, ChunkSteps, CloseSteps, CloseStepsWith, ErrorSteps, Give, Settle, Queue, CallHost}
+use Rattle.ws_steps.specs.declared.effects.Effect.TheVariants.{Readable, Byte, Writable, Pipe, Signal, Transform, Tee, StartAlgorithm, PullAlgorithm, CancelAlgorithm, WriteAlgorithm, CloseAlgorithm, AbortAlgorithm, ChunkSteps, CloseSteps, CloseStepsWith, ErrorSteps, Give, Settle, Queue, CallHost}
 use Rattle.ws_steps.specs.declared.effects.Gift.TheVariants.{This, Fresh}
 use Rattle.ws_steps.specs.declared.effects.Owner.{Owner}
-use Rattle.ws_steps.specs.declared.effects.Owner.TheVariants.{Host, HalfOf}
+use Rattle.ws_steps.specs.declared.effects.Owner.TheVariants.{Host, HalfOf, BranchOf}
 use Rattle.ws_steps.specs.declared.effects.Use.{Use}
 use Rattle.ws_steps.specs.declared.effects.Use.TheVariants.{React, Resolve}
 use Rattle.ws_steps.specs.declared.pipes.PipeOperation.TheVariants.{KeepChunk, ReadEnded}
@@ -25,14 +25,15 @@ use Rattle.ws_steps.specs.declared.promises.Step.{Step}
 use Rattle.ws_steps.specs.declared.promises.Step.TheVariants.{ReadablePull, ReturnUndefined, WritableWrite, WritableClose, WritableAbort}
 use Rattle.ws_steps.specs.declared.readable.ReadRequest.{ReadRequest}
 use Rattle.ws_steps.specs.declared.readable.ReadableOperation.{ReadableOperation}
-use Rattle.ws_steps.specs.declared.readable.ReadRequest.TheVariants.{Promise, Pipe as PipeRequest}
+use Rattle.ws_steps.specs.declared.readable.ReadRequest.TheVariants.{Promise, Pipe as PipeRequest, Tee as TeeRequest}
+use Rattle.ws_steps.specs.declared.tee.TeeOperation.TheVariants.{PullBranch, KeepChunk as KeepByTee, SourceClosed, SourceErrored, CancelBranch}
 use Rattle.ws_steps.specs.declared.transform.Taker.TheVariants.{ToHost}
 use Rattle.ws_steps.specs.declared.transform.TransformOperation.TheVariants.{SinkWrite, SourcePull, SinkClose, SinkAbort, SourceCancel}
 use Rattle.ws_steps.specs.declared.writable.WritableOperation.TheVariants.{HandOn}
 use Rattle.ws_steps.specs.Promises.{next_id, fresh, settle, answer, tell, use_this, use_gift, queue_micro}
-use Rattle.ws_steps.specs.Operations.{readable_operation, byte_readable_operation, byte_operation, writable_operation, pipe_operation, signal_operation, transform_operation}
+use Rattle.ws_steps.specs.Operations.{readable_operation, byte_readable_operation, byte_operation, writable_operation, pipe_operation, signal_operation, transform_operation, tee_operation}
 use Rattle.ws_steps.specs.Places.{measure}
-use Rattle.ws_steps.specs.Slots.{Slots, Done, nothing, causes, with_promises, owner_at, has_byte, on_readable, on_byte, on_writable, on_pipe, on_signal, on_transform}
+use Rattle.ws_steps.specs.Slots.{Slots, Done, nothing, causes, with_promises, owner_at, has_byte, on_readable, on_byte, on_writable, on_pipe, on_signal, on_transform, on_tee}
 
 -- the algorithms of a stream, by whose they are, and what is done with the promise that they give
 
@@ -46,42 +47,53 @@ start_algorithm i step s Later =
 abbrev pub pull_algorithm : StreamId → Use → Owner → List Effect
 pull_algorithm i u Host = CallHost (HostPull i) u ∷ []
 pull_algorithm i u (HalfOf t) = Transform t (SourcePull u) ∷ []
+pull_algorithm i u (BranchOf t half) = Tee t PullBranch ∷ Give (Fresh (Ok Undefined)) u ∷ []
 
 abbrev pub cancel_algorithm : StreamId → Plain → Use → Owner → List Effect
 cancel_algorithm i r u Host = CallHost (HostCancel i r) u ∷ []
 cancel_algorithm i r u (HalfOf t) = Transform t (SourceCancel r u) ∷ []
+cancel_algorithm i r u (BranchOf t half) = Tee t (CancelBranch half r u) ∷ []
+
+-- the algorithms of a writable stream. None is a branch of a tee; if one were, its algorithms would be the host's
 
 -- the chunk at the front of the queue is handed on: to the host at once, and to a transform stream once it has no backpressure
 abbrev pub write_algorithm : StreamId → Owner → List Effect
 write_algorithm i Host = Writable i (HandOn ToHost) ∷ []
 write_algorithm i (HalfOf t) = Transform t (SinkWrite (React (WritableWrite i) None)) ∷ []
+write_algorithm i (BranchOf t half) = Writable i (HandOn ToHost) ∷ []
 
 abbrev pub close_algorithm : StreamId → Use → Owner → List Effect
 close_algorithm i u Host = CallHost (HostClose i) u ∷ []
 close_algorithm i u (HalfOf t) = Transform t (SinkClose u) ∷ []
+close_algorithm i u (BranchOf t half) = CallHost (HostClose i) u ∷ []
 
 abbrev pub abort_algorithm : StreamId → Plain → Use → Owner → List Effect
 abort_algorithm i r u Host = CallHost (HostAbort i r) u ∷ []
 abort_algorithm i r u (HalfOf t) = Transform t (SinkAbort r u) ∷ []
+abort_algorithm i r u (BranchOf t half) = CallHost (HostAbort i r) u ∷ []
 
 -- the steps of a read request, by whom it answers
 
 abbrev pub chunk_steps : Value → Slots → ReadRequest → Done
 chunk_steps v s (Promise p) = nothing (with_promises (answer p (Given v) s.promises) s)
 chunk_steps v s (PipeRequest p) = causes (Pipe p (KeepChunk v) ∷ []) s
+chunk_steps v s (TeeRequest t) = causes (Tee t (KeepByTee v) ∷ []) s
 
 abbrev pub close_steps : Slots → ReadRequest → Done
 close_steps s (Promise p) = nothing (with_promises (answer p (Finished (PlainValue Undefined)) s.promises) s)
 close_steps s (PipeRequest p) = causes (Pipe p ReadEnded ∷ []) s
+close_steps s (TeeRequest t) = causes (Tee t SourceClosed ∷ []) s
 
 -- the close steps of a read-into request with a chunk
 abbrev pub close_steps_with : List ℕ → Slots → ReadRequest → Done
 close_steps_with b s (Promise p) = nothing (with_promises (answer p (Finished (Bytes b)) s.promises) s)
 close_steps_with b s (PipeRequest p) = causes (Pipe p ReadEnded ∷ []) s
+close_steps_with b s (TeeRequest t) = causes (Tee t SourceClosed ∷ []) s
 
 abbrev pub error_steps : Plain → Slots → ReadRequest → Done
 error_steps e s (Promise p) = nothing (with_promises (settle p (Err e) s.promises) s)
 error_steps e s (PipeRequest p) = causes (Pipe p ReadEnded ∷ []) s
+error_steps e s (TeeRequest t) = causes (Tee t SourceErrored ∷ []) s
 
 -- a call of a host's algorithm: a new promise with a new number, which the host hears of, and what is done with the promise
 unfoldable pub call_host : HostCall → Use → Slots → Slots
@@ -105,6 +117,7 @@ row (Writable i operation) s = on_writable (writable_operation i operation) i s
 row (Pipe p operation) s = on_pipe (λ ends. pipe_operation p ends operation) p s
 row (Signal a operation) s = on_signal (signal_operation operation) a s
 row (Transform t operation) s = on_transform (λ halves. transform_operation t halves operation) t s
+row (Tee t operation) s = on_tee (tee_operation t operation) t s
 row (StartAlgorithm i step start) s = start_algorithm i step s start
 row (PullAlgorithm i) s = causes (pull_algorithm i (React (ReadablePull i) None) (owner_at i s)) s
 row (CancelAlgorithm i r p) s = causes (cancel_algorithm i r (React ReturnUndefined (Some p)) (owner_at i s)) s

@@ -12,7 +12,7 @@ use Rattle.ws_steps.specs.declared.calls.Event.TheVariants.{Signal}
 use Rattle.ws_steps.specs.declared.calls.HostCall.TheVariants.{Write as HostWrite}
 use Rattle.ws_steps.specs.declared.effects.Effect.TheVariants.{Transform as OnTransform, WriteAlgorithm, CloseAlgorithm, AbortAlgorithm, CallHost}
 use Rattle.ws_steps.specs.declared.effects.Owner.{Owner}
-use Rattle.ws_steps.specs.declared.effects.Owner.TheVariants.{Host, HalfOf}
+use Rattle.ws_steps.specs.declared.effects.Owner.TheVariants.{Host, HalfOf, BranchOf}
 use Rattle.ws_steps.specs.declared.effects.Use.TheVariants.{React}
 use Rattle.ws_steps.specs.declared.promises.Step.TheVariants.{WritableWrite}
 use Rattle.ws_steps.specs.declared.queue.Queued.{Queued}
@@ -446,6 +446,7 @@ begin_abort me r p a =
 abbrev pub signalled : StreamId → Plain → Acts → Owner → Acts
 signalled me r a Host = with_promises (tell (Signal me r) a.out.promises) a
 signalled me r a (HalfOf t) = a
+signalled me r a (BranchOf t half) = a
 
 -- WritableStreamAbort, where no abort is pending: where the stream is closed or errored, the promise is resolved with undefined. Else
 -- the sink hears of it before what the abort settles. The promise, which is new, with the reason is the pending abort, and where the

@@ -1,9 +1,10 @@
 //! What stands on a realm's agenda.
 use crate::{
-    ByteOperation, HostCall, Micro, PipeOperation, ReadRequest, ReadableOperation, SignalOperation,
-    StartBy, Step, TransformId, TransformOperation, WritableOperation,
+    ByteOperation, Half, HostCall, Micro, PipeOperation, ReadRequest, ReadableOperation,
+    SignalOperation, StartBy, Step, TeeOperation, TransformId, TransformOperation,
+    WritableOperation,
 };
-use ws_value::{Chunk, PipeId, Plain, PromiseId, SignalId, StreamId, Value};
+use ws_value::{Chunk, PipeId, Plain, PromiseId, SignalId, StreamId, TeeId, Value};
 
 /// Whose algorithms a stream performs.
 #[derive(Clone, Copy, Debug, PartialEq, Eq)]
@@ -12,6 +13,8 @@ pub enum Owner {
     Host,
     /// Those of a transform stream, of which it is a half.
     HalfOf(TransformId),
+    /// Those of a tee, of which it is this branch.
+    BranchOf(TeeId, Half),
 }
 
 /// The promise that an algorithm gives.
@@ -47,6 +50,8 @@ pub enum Effect {
     Signal(SignalId, SignalOperation),
     /// An operation of a transform stream.
     Transform(TransformId, TransformOperation),
+    /// An operation of a tee.
+    Tee(TeeId, TeeOperation),
     /// The start algorithm of a stream is performed, and the step reacts to its result.
     StartAlgorithm(StreamId, Step, StartBy),
     /// The pull algorithm of a readable stream is performed, and its controller reacts to the promise.

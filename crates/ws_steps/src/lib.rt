@@ -9,6 +9,7 @@ mod pipes;
 mod promises;
 mod queue;
 mod readable;
+mod tee;
 mod transform;
 mod writable;
 
@@ -20,5 +21,6 @@ pub use pipes::{Action, Ends, Phase, PipeOperation, Prevent, SignalOperation};
 pub use promises::{Job, Micro, Reaction, Step};
 pub use queue::Queued;
 pub use readable::{ReadRequest, ReadableOperation, ReadableState, SizeBy};
+pub use tee::{Half, TeeOperation, TeePhase};
 pub use transform::{Halves, Kind, Taker, TransformId, TransformOperation};
 pub use writable::{PendingAbort, WritableOperation, WritableState, WriteRecord, Writer};

@@ -2,7 +2,7 @@
 ghost use Rattle.std.specs.Prelude.{◌≡◌};
 ghost use Rattle.ws_steps.specs.Queues.{size_of};
 
-use ws_value::{PipeId, Plain, PromiseId, Value};
+use ws_value::{PipeId, Plain, PromiseId, TeeId, Value};
 
 /// The state of a readable stream.
 #[derive(Clone, Copy, Debug, PartialEq, Eq)]
@@ -41,6 +41,8 @@ pub enum ReadRequest {
     Promise(PromiseId),
     /// A pipe.
     Pipe(PipeId),
+    /// A tee.
+    Tee(TeeId),
 }
 
 /// An operation of a readable stream, as it stands on the agenda: one that either kind of controller has, and the enqueuing of a default controller. Promises that it answers are told to it.
