@@ -12,7 +12,7 @@ use Rattle.ws_steps.specs.declared.byte.ReaderKind.{ReaderKind}
 use Rattle.ws_steps.specs.declared.byte.ReaderKind.TheVariants.{Default, Byob}
 use Rattle.ws_steps.specs.declared.byte.RoomKind.TheVariants.{ForByob}
 use Rattle.ws_steps.specs.declared.{effects.Effect.TheVariants.{ChunkSteps, CancelAlgorithm, ErrorSteps}}
-use Rattle.ws_steps.specs.declared.{readable.ReadRequest.{ReadRequest}, readable.ReadableOperation.{ReadableOperation}}
+use Rattle.ws_steps.specs.declared.{readable.ReadRequest.{ReadRequest}, readable.ReadRequest.TheVariants.{Promise, Pipe as PipeRequest, Tee as TeeRequest}, readable.ReadableOperation.{ReadableOperation}}
 use Rattle.ws_steps.specs.declared.readable.ReadableOperation.TheVariants as names
 use Rattle.ws_steps.specs.declared.{readable.ReadableState.{ReadableState}, readable.ReadableState.TheVariants.{Readable, Closed, Errored}}
 use Rattle.ws_steps.specs.Effects.{type_error}
@@ -22,7 +22,7 @@ use Rattle.ws_steps.specs.Readable as readable
 use Rattle.ws_steps.specs.Descriptors.{Descriptor, rest_of, without_reader, Filling, fill_from_queue, Processed, process_descriptors}
 use Rattle.ws_steps.specs.Bytes as byte
 use Rattle.ws_steps.specs.Bytes.{Acts}
-use Rattle.ws_steps.specs.Places.{Prices, price, each, steps_price, prices_of, readable_price, byte_price, table_size}
+use Rattle.ws_steps.specs.Places.{Prices, price, each, steps_price, prices_of, readable_price, read_price, byte_price, table_size}
 use Rattle.ws_room_laws.proofs.Tables.{settle-size}
 use Rattle.ws_room_laws.proofs.Readables.{prices-append, each-append, prices-close, prices-error}
 
@@ -436,14 +436,22 @@ module _ (π : Prices) (q r d : ℕ) (me : StreamId) where
       let z : Acts = byte.with_slots (record a.slots { stream = record a.slots.stream { pulling = false; pull_again = false } }) a in
       let h = pull-takes z in omega (arith, h)
 
-  read-holds : (request : ReadRequest) (a : Acts) → r ≤ π.request → d ≤ π.descriptor → Holds (price π 6 1 2 1 1 1 1 + π.descriptor) a (byte.read me request a)
-  unfolding byte.read byte.default_reader_read readable.disturb
-  read-holds request a m k =
+  meant-read : (request : ReadRequest) (a : Acts) → r ≤ π.request → d ≤ π.descriptor
+      → Holds (price π 6 1 2 1 1 1 1 + π.descriptor) a (byte.if_meant (byte.may_read a.slots) (byte.default_reader_read me request a) a)
+  unfolding byte.default_reader_read readable.disturb
+  meant-read request a m k =
       let z : Acts = byte.in_stream readable.disturb a in
       let b : Acts = byte.read_by me request z a.slots.stream.state in
       let n : ℕ = price π 2 0 1 0 0 1 1 + π.descriptor in
       asks n (price π 6 1 2 1 1 1 1 + π.descriptor) a (byte.if_meant (byte.may_read a.slots) b a)
       (meant-takes (byte.may_read a.slots) b a n (read-takes request z a.slots.stream.state m k)) (omega arith)
+
+  -- a tee reads from no byte stream
+  read-holds : (request : ReadRequest) (a : Acts) → r ≤ π.request → d ≤ π.descriptor → Holds (read_price π me request) a (byte.read me request a)
+  unfolding byte.read
+  read-holds (Promise p) a m k = meant-read (Promise p) a m k
+  read-holds (PipeRequest p) a m k = meant-read (PipeRequest p) a m k
+  read-holds (TeeRequest t) a m k = omega arith
 
   into-holds : (room element minimum : ℕ) (request : ReadRequest) (a : Acts) → r ≤ π.request → d ≤ π.descriptor
       → Holds (price π 6 1 2 1 1 1 1 + π.descriptor) a (byte.read_into me room element minimum request a)
@@ -456,7 +464,7 @@ module _ (π : Prices) (q r d : ℕ) (me : StreamId) where
       asks n (price π 6 1 2 1 1 1 1 + π.descriptor) a (byte.if_meant test b a) (meant-takes test b a n (into-takes x request a m k)) (omega arith)
 
 pub byte_readable-takes : (π : Prices) (q r d : ℕ) (me : StreamId) (operation : ReadableOperation) (a : Acts) → q ≤ π.queued → r ≤ π.request → d ≤ π.descriptor
-    → Holds π q r d me (readable_price π operation) a (byte_readable_operation me operation a)
+    → Holds π q r d me (readable_price π me operation) a (byte_readable_operation me operation a)
 unfolding readable.disturb byte.controller_close byte.start_settled byte.pull_settled byte.cancel_if_readable
 byte_readable-takes π q r d me (names.InitializeReader closed) a l m k =
     rests π q r d me 0 (price π 1 0 0 0 0 0 0) a (byte.reader_initialize Default closed a) (initialize-takes π q r d me Default closed a) (initialize-pulling π q r d me Default closed a) (omega arith)

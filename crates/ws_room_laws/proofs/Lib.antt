@@ -4,6 +4,7 @@ pub mod Bytes
 pub mod Writables
 pub mod Pipes
 pub mod Transforms
+pub mod Tees
 pub mod Rows
 pub mod Turns
 pub mod Room

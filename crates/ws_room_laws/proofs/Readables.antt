@@ -6,7 +6,7 @@ use Rattle.ws_value.specs.declared.value.Plain.TheVariants.{Undefined}
 use Rattle.ws_steps.specs.declared.{effects.Effect.{Effect}, effects.Effect.TheVariants.{ChunkSteps, CancelAlgorithm}, queue.Queued.{Queued}}
 use Rattle.ws_value.specs.declared.ids.PromiseId.{PromiseId}
 use Rattle.ws_value.specs.declared.value.Value.{Value}
-use Rattle.ws_steps.specs.declared.{readable.ReadRequest.{ReadRequest}, readable.ReadableOperation.{ReadableOperation}}
+use Rattle.ws_steps.specs.declared.{readable.ReadRequest.{ReadRequest}, readable.ReadRequest.TheVariants.{Promise, Pipe as PipeRequest, Tee as TeeRequest}, readable.ReadableOperation.{ReadableOperation}}
 use Rattle.ws_steps.specs.declared.readable.ReadableOperation.TheVariants as names
 use Rattle.ws_steps.specs.declared.{readable.ReadableState.{ReadableState}, readable.ReadableState.TheVariants.{Readable, Closed, Errored}}
 use Rattle.ws_steps.specs.Operations.{readable_operation}
@@ -73,23 +73,24 @@ module _ (π : Prices) (q r : ℕ) (me : StreamId) where
   unfolding after_take
   after-takes a = let h = close-takes a in let g = pull-takes a in grind (arith, h, g)
 
-  from-takes : (request : ReadRequest) (a : Acts) (queue : List (Queued Value)) → queue ≡ a.slots.queue → r ≤ π.request → Takes (price π 5 1 2 1 1 0 1) a (pull_from me request a queue)
-  from-takes request a [] is m =
+  -- c pays for the place of the request
+  from-takes : (c : ℕ) (request : ReadRequest) (a : Acts) (queue : List (Queued Value)) → queue ≡ a.slots.queue → r ≤ c → Takes (price π 5 1 2 1 1 0 0 + c) a (pull_from me request a queue)
+  from-takes c request a [] is m =
       let b : Acts = record a { slots = record a.slots { requests = a.slots.requests ++ request ∷ [] } } in
       let h = pull-takes b in
       let e = each-append r a.slots.requests (request ∷ []) in
       let f = each-append (steps_price π) a.slots.requests (request ∷ []) in omega (arith, h, e, f, m)
-  from-takes request a (x ∷ xs) is m =
+  from-takes c request a (x ∷ xs) is m =
       let b : Acts = record a { slots = record a.slots { queue = xs } } in
       let h = after-takes b in
       let e = ap (each q) is in
       let f = prices-append π (after_take me b).out.effects (ChunkSteps me request x.value ∷ []) in omega (arith, h, e, f)
 
-  read-takes : (request : ReadRequest) (a : Acts) (state : ReadableState) → r ≤ π.request → Takes (price π 5 1 2 1 1 0 1) a (read_by me request a state)
+  read-takes : (c : ℕ) (request : ReadRequest) (a : Acts) (state : ReadableState) → r ≤ c → Takes (price π 5 1 2 1 1 0 0 + c) a (read_by me request a state)
   unfolding pull_steps
-  read-takes request a Readable m = from-takes request a a.slots.queue refl m
-  read-takes request a Closed m = grind (arith, prices-append)
-  read-takes request a Errored m = grind (arith, prices-append)
+  read-takes c request a Readable m = from-takes c request a a.slots.queue refl m
+  read-takes c request a Closed m = grind (arith, prices-append)
+  read-takes c request a Errored m = grind (arith, prices-append)
 
   initialize-takes : (closed : PromiseId) (a : Acts) → Takes 0 a (reader_generic_initialize closed a)
   unfolding reader_generic_initialize
@@ -111,20 +112,22 @@ module _ (π : Prices) (q r : ℕ) (me : StreamId) where
   cancel_readable-takes e p a Closed = let h = settle-size π p (Ok Undefined) a.out.promises in omega (arith, h)
   cancel_readable-takes e p a Errored = let h = settle-size π p (Ok Undefined) a.out.promises in omega (arith, h)
 
-pub readable-takes : (π : Prices) (q r : ℕ) (me : StreamId) (operation : ReadableOperation) (a : Acts) → q ≤ π.queued → r ≤ π.request →
-    readable_holds π q r (readable_operation me operation a) + π.turn ≤ readable_holds π q r a + readable_price π operation
+pub readable-takes : (π : Prices) (q r : ℕ) (me : StreamId) (operation : ReadableOperation) (a : Acts) → q ≤ π.queued → r ≤ π.request → r ≤ π.reads me →
+    readable_holds π q r (readable_operation me operation a) + π.turn ≤ readable_holds π q r a + readable_price π me operation
 unfolding disturb default_reader_read cancel_if_readable start_settled pull_settled stream_cancel
-readable-takes π q r me (names.InitializeReader closed) a l m = let h = initialize-takes π q r me closed a in omega (arith, h)
-readable-takes π q r me names.ReleaseReader a l m = let h = release-takes π q r me a in omega (arith, h)
-readable-takes π q r me names.Disturb a l m = omega arith
-readable-takes π q r me (names.Read request) a l m = let h = read-takes π q r me request (record a { slots = record a.slots { disturbed = true } }) a.slots.state m in omega (arith, h)
-readable-takes π q r me (names.Cancel e p) a l m = let h = cancel-takes π q r me e p (record a { slots = record a.slots { disturbed = true } }) a.slots.state in omega (arith, h)
-readable-takes π q r me (names.CancelIfReadable e p) a l m = let h = cancel_readable-takes π q r me e p a a.slots.state in omega (arith, h)
-readable-takes π q r me (names.Enqueue v) a l m = let h = enqueue-takes π q r me v a l in omega (arith, h)
-readable-takes π q r me names.Close a l m = let h = closing-takes π q r me a in omega (arith, h)
-readable-takes π q r me (names.Error e) a l m = let h = erring-takes π q r me e a in omega (arith, h)
-readable-takes π q r me (names.StartSettled (Ok v)) a l m = let h = pull-takes π q r me (record a { slots = record a.slots { started = true } }) in omega (arith, h)
-readable-takes π q r me (names.StartSettled (Err e)) a l m = let h = erring-takes π q r me e a in omega (arith, h)
-readable-takes π q r me (names.PullSettled (Ok v)) a l m =
+readable-takes π q r me (names.InitializeReader closed) a l m w = let h = initialize-takes π q r me closed a in omega (arith, h)
+readable-takes π q r me names.ReleaseReader a l m w = let h = release-takes π q r me a in omega (arith, h)
+readable-takes π q r me names.Disturb a l m w = omega arith
+readable-takes π q r me (names.Read (Promise p)) a l m w = let h = read-takes π q r me π.request (Promise p) (record a { slots = record a.slots { disturbed = true } }) a.slots.state m in omega (arith, h)
+readable-takes π q r me (names.Read (PipeRequest p)) a l m w = let h = read-takes π q r me π.request (PipeRequest p) (record a { slots = record a.slots { disturbed = true } }) a.slots.state m in omega (arith, h)
+readable-takes π q r me (names.Read (TeeRequest t)) a l m w = let h = read-takes π q r me (π.reads me) (TeeRequest t) (record a { slots = record a.slots { disturbed = true } }) a.slots.state w in omega (arith, h)
+readable-takes π q r me (names.Cancel e p) a l m w = let h = cancel-takes π q r me e p (record a { slots = record a.slots { disturbed = true } }) a.slots.state in omega (arith, h)
+readable-takes π q r me (names.CancelIfReadable e p) a l m w = let h = cancel_readable-takes π q r me e p a a.slots.state in omega (arith, h)
+readable-takes π q r me (names.Enqueue v) a l m w = let h = enqueue-takes π q r me v a l in omega (arith, h)
+readable-takes π q r me names.Close a l m w = let h = closing-takes π q r me a in omega (arith, h)
+readable-takes π q r me (names.Error e) a l m w = let h = erring-takes π q r me e a in omega (arith, h)
+readable-takes π q r me (names.StartSettled (Ok v)) a l m w = let h = pull-takes π q r me (record a { slots = record a.slots { started = true } }) in omega (arith, h)
+readable-takes π q r me (names.StartSettled (Err e)) a l m w = let h = erring-takes π q r me e a in omega (arith, h)
+readable-takes π q r me (names.PullSettled (Ok v)) a l m w =
     let h = pull-takes π q r me (record a { slots = record a.slots { pulling = false; pull_again = false } }) in grind (arith, h)
-readable-takes π q r me (names.PullSettled (Err e)) a l m = let h = erring-takes π q r me e a in omega (arith, h)
+readable-takes π q r me (names.PullSettled (Err e)) a l m w = let h = erring-takes π q r me e a in omega (arith, h)

@@ -9,14 +9,16 @@ use Rattle.ws_value.specs.declared.ids.PromiseId.{PromiseId}
 use Rattle.ws_value.specs.declared.ids.RequestId.{RequestId}
 use Rattle.ws_value.specs.declared.ids.SignalId.{SignalId}
 use Rattle.ws_value.specs.declared.ids.StreamId.{StreamId}
+use Rattle.ws_value.specs.declared.ids.TeeId.{TeeId}
 use Rattle.ws_value.specs.declared.value.Plain.{Plain}
 use Rattle.ws_steps.specs.declared.{calls.Answer.{Answer}, calls.Call.{Call}}
 use Rattle.ws_steps.specs.declared.calls.Call.TheVariants as names
 use Rattle.ws_steps.specs.declared.{calls.Reply.{Reply}, calls.Reply.TheVariants.{Done as ReplyDone, Made, MadeTwo, Lock as ReplyLock, Promise, Signal as ReplySignal, Request as ReplyRequest, Size, State as ReplyState, Throws, TooMany}}
 use Rattle.ws_steps.specs.declared.{calls.Thrown.TheVariants.{TypeError, Unsupported}, calls.StartBy.{StartBy}, calls.StartBy.TheVariants.{Now, Later}, effects.Effect.{Effect}}
-use Rattle.ws_steps.specs.declared.{effects.Effect.TheVariants.{Readable, Byte, Writable, Signal as OnSignal, Transform as OnTransform, StartAlgorithm, Settle as SettlePromise}, effects.Owner.{Owner}, effects.Owner.TheVariants.{Host, HalfOf}}
+use Rattle.ws_steps.specs.declared.{effects.Effect.TheVariants.{Readable, Byte, Writable, Signal as OnSignal, Transform as OnTransform, StartAlgorithm, Settle as SettlePromise}, effects.Owner.{Owner}, effects.Owner.TheVariants.{Host, HalfOf, BranchOf}}
 use Rattle.ws_steps.specs.declared.{readable.ReadRequest.TheVariants.{Promise as PromiseRequest}, readable.ReadableOperation.{ReadableOperation}}
 use Rattle.ws_steps.specs.declared.readable.ReadableOperation.TheVariants.{ReleaseReader, Read as ReadChunk, Cancel as CancelStream, Enqueue as EnqueueChunk, Close as CloseReadable, Error as ErrorReadable}
+use Rattle.ws_steps.specs.declared.tee.Half.TheVariants.{First, Second}
 use Rattle.ws_steps.specs.declared.transform.Kind.{Kind}
 use Rattle.ws_steps.specs.declared.transform.TransformOperation.TheVariants.{Enqueue as EnqueueByTransform, Error as ErrorTransform, Terminate as TerminateTransform}
 use Rattle.ws_steps.specs.declared.writable.WritableOperation.TheVariants.{ReleaseWriter, Write as WriteChunk, Close as CloseStream, Abort as AbortStream, ErrorIfNeeded}
@@ -27,7 +29,7 @@ use Rattle.ws_steps.specs.Effects.{type_error}
 use Rattle.ws_steps.specs.ReadableLooks as readable_looks
 use Rattle.ws_steps.specs.WritableLooks as writable_looks
 use Rattle.ws_steps.specs.declared.{locks.Lock.{Lock}, locks.Lock.TheVariants.{Reader as ReaderLock, ByobReader, Writer as WriterLock, ReleasedWriter, Inner}, promises.Job.{Job}}
-use Rattle.ws_steps.specs.declared.{promises.Job.TheVariants.{Reaction, Follow, Settle, Micro as MicroJob}, promises.Micro.TheVariants.{PipeLook, PipeWrite, PipeNoParts}, pipes.Prevent.{Prevent}, pipes.SignalOperation.TheVariants.{Trigger as TriggerSignal}, promises.Step.{Step}}
+use Rattle.ws_steps.specs.declared.{promises.Job.TheVariants.{Reaction, Follow, Settle, Micro as MicroJob}, promises.Micro.TheVariants.{PipeLook, PipeWrite, PipeNoParts, TeeHand}, pipes.Prevent.{Prevent}, pipes.SignalOperation.TheVariants.{Trigger as TriggerSignal}, promises.Step.{Step}}
 use Rattle.ws_steps.specs.declared.{promises.Step.TheVariants.{ReadableStart, WritableStart}, readable.SizeBy.TheVariants.{Count}, writable.Writer.{Writer}}
 use Rattle.ws_steps.specs.Promises.{Table, next_id, fresh, next_job, is_pending_at}
 use Rattle.ws_steps.specs.Bytes as byte
@@ -35,9 +37,10 @@ use Rattle.ws_steps.specs.Descriptors.{Descriptor, room_left, respond_throws}
 use Rattle.ws_steps.specs.Queues.{is_empty}
 use Rattle.ws_steps.specs.Pipes as pipe
 use Rattle.ws_steps.specs.Readable as readable
+use Rattle.ws_steps.specs.Tee as tee
 use Rattle.ws_steps.specs.Writable as writable
-use Rattle.ws_steps.specs.Slots.{Slots, most_streams, Stream, ReadableStream, ByteStream, WritableStream, Done, causes, has_readable, has_byte, has_source, has_writable, has_signal, readable_at, byte_at, source_at, stream_of_request, writable_at, lock_at, host_at}
-use Rattle.ws_steps.specs.Places.{Prices, price, each, effect_price, prices_of, keeps, all_keep, signals_keep, need, measure, step_price, room, size, entries_of, members_of, table_size}
+use Rattle.ws_steps.specs.Slots.{Slots, most_streams, Stream, ReadableStream, ByteStream, WritableStream, Done, causes, has_readable, has_byte, has_source, has_writable, has_signal, readable_at, byte_at, source_at, stream_of_request, writable_at, lock_at, host_at, owner_at, is_teed}
+use Rattle.ws_steps.specs.Places.{Prices, Counts, all_kept, tee_keeps, tees_keep, price, each, effect_price, prices_of, keeps, all_keep, signals_keep, need, measure, step_price, room, size, entries_of, members_of, table_size}
 use Rattle.ws_steps.specs.Turns.{row, turns, after_turns, performed, Agenda}
 use Rattle.ws_steps.specs.Jobs.{steps, returned, resolved, job_effects, job_begun, begin_job}
 use Rattle.ws_steps.specs.Calls as calls
@@ -48,14 +51,14 @@ use Rattle.ws_room_laws.proofs.Readables.{prices-append}
 use Rattle.ws_room_laws.proofs.Rows.{falls}
 
 -- what is taken, with what may still be taken, doesn't grow with turns
-turns-stand : (π : Prices) (i : StreamId) (g : SignalId) (n : ℕ) (s : Slots) (es : List Effect)
+turns-stand : (π : Prices) (i : StreamId) (g : SignalId) (c : Counts π i) (n : ℕ) (s : Slots) (es : List Effect)
     → let a : Agenda = turns n (record { slots = s; effects = es }) in size π i g a.slots + need π a.slots a.effects ≤ size π i g s + need π s es
 unfolding turns
-turns-stand π i g zero s es = omega arith
-turns-stand π i g (suc n) s [] = turns-stand π i g n s []
-turns-stand π i g (suc n) s (e ∷ es) =
-    let h = falls π i g e es s in
-    let f = turns-stand π i g n (row e s).slots ((row e s).caused ++ es) in omega (arith, h, f)
+turns-stand π i g c zero s es = omega arith
+turns-stand π i g c (suc n) s [] = turns-stand π i g c n s []
+turns-stand π i g c (suc n) s (e ∷ es) =
+    let h = falls π i g c e es s in
+    let f = turns-stand π i g c n (row e s).slots ((row e s).caused ++ es) in omega (arith, h, f)
 
 -- each effect takes a turn
 effect-least : (π : Prices) (e : Effect) → π.turn ≤ effect_price π e
@@ -69,19 +72,19 @@ effects-stand π (e ∷ es) = let h = effect-least π e in let g = effects-stand
 abbrev pub Begins : Prices → StreamId → SignalId → ℕ → Slots → Done → Type 0
 Begins π i g n s d = size π i g d.slots + need π d.slots d.caused ≤ size π i g s + n
 
-begun-within : (π : Prices) (i : StreamId) (g : SignalId) (n m : ℕ) (s : Slots) (d : Done) → Begins π i g m s d → Within π i g n s m d
-begun-within π i g n m s d h =
-    let f = turns-stand π i g n d.slots d.caused in
+begun-within : (π : Prices) (i : StreamId) (g : SignalId) (c : Counts π i) (n m : ℕ) (s : Slots) (d : Done) → Begins π i g m s d → Within π i g n s m d
+begun-within π i g c n m s d h =
+    let f = turns-stand π i g c n d.slots d.caused in
     let k = effects-stand π (after_turns n d).effects in omega (arith, h, f, k)
 
 -- what a call takes before the promise that it answers is watched, or a job
 abbrev pub call_price : Prices → ℕ
 call_price π = price π 28 14 11 3 3 4 2 + (π.member + π.descriptor)
 
-module _ (π : Prices) (i : StreamId) (g : SignalId) (s : Slots) where
+module _ (π : Prices) (i : StreamId) (g : SignalId) (counts : Counts π i) (s : Slots) where
   -- a call begins within the room
   abbrev Fits : Begun → Type 0
-  Fits b = Begins π i g (all_keep π s.streams + signals_keep π s.signals + call_price π) s b.done
+  Fits b = Begins π i g (all_kept π s + call_price π) s b.done
 
   if-fits : (test : Bool) (a b : Begun) → Fits a → Fits b → Fits (if test then a else b)
   if-fits true a b f g = f
@@ -197,6 +200,27 @@ module _ (π : Prices) (i : StreamId) (g : SignalId) (s : Slots) where
       let h = start_transform-price (next_id (fresh t)) k start in
       omega (arith, a, b, c, d, e, f, x, y, h)
 
+  append-tees : (xs : List tee.Slots) (x : tee.Slots) → tees_keep π (xs ++ x ∷ []) ≡ tees_keep π xs + tee_keeps π x
+  append-tees [] x = omega arith
+  append-tees (y ∷ ys) x = let h = append-tees ys x in omega (arith, h)
+
+  -- a new tee keeps what it may do to its source
+  tee-fits : (source j k : StreamId) → Fits (calls.make_tee source j k s)
+  tee-fits source j k =
+      let me : TeeId = record { 0 = length s.tees } in
+      let x : Stream = ReadableStream (readable.set_up (BranchOf me First) 1 Count) in
+      let y : Stream = ReadableStream (readable.set_up (BranchOf me Second) 1 Count) in
+      let t : Table = s.promises in
+      let a = fresh-size π t in
+      let b = fresh-size π (fresh t) in
+      let c = append-keep s.streams x in
+      let d = append-keep (s.streams ++ x ∷ []) y in
+      let e = append-entries s.streams x i.0 refl in
+      let f = append-entries (s.streams ++ x ∷ []) y i.0 refl in
+      let h = append-tees s.tees (tee.set_up source j k (next_id (fresh t))) in
+      let o = counts.others source in
+      omega (arith, a, b, c, d, e, f, h, o)
+
   two-fits : (make : StreamId → StreamId → Slots → Begun) → Fits (make (record { 0 = length s.streams }) (record { 0 = length s.streams + 1 }) s) → Fits (calls.make_two make s)
   two-fits make h = if-fits (nat_lt (length s.streams + 1) most_streams) (make (record { 0 = length s.streams }) (record { 0 = length s.streams + 1 }) s) (calls.replies TooMany s) h (replies-fits TooMany)
 
@@ -307,6 +331,7 @@ module _ (π : Prices) (i : StreamId) (g : SignalId) (s : Slots) where
 
   enqueue-fits : (v : Value) (j : StreamId) (o : Owner) → Fits (calls.enqueue_by v j s o)
   enqueue-fits v j Host = can-fits j (EnqueueChunk v) (omega arith)
+  enqueue-fits v j (BranchOf t half) = unsupported-fits
   enqueue-fits v j (HalfOf t) =
       if-fits (readable.can_close_or_enqueue (readable_at j s)) (calls.does (OnTransform t (EnqueueByTransform v) ∷ []) s) (calls.throws_type_error s)
       (does-fits (OnTransform t (EnqueueByTransform v) ∷ []) (omega arith)) type_error-fits
@@ -314,6 +339,7 @@ module _ (π : Prices) (i : StreamId) (g : SignalId) (s : Slots) where
   finish-fits : (j : StreamId) (o : Owner) → Fits (calls.finish_by j s o)
   finish-fits j Host = can-fits j CloseReadable (omega arith)
   finish-fits j (HalfOf t) = unsupported-fits
+  finish-fits j (BranchOf t half) = unsupported-fits
 
   enqueue_bytes-fits : (j : StreamId) (v : Value) → Fits (calls.enqueue_bytes j s v)
   enqueue_bytes-fits j (PlainValue v) = type_error-fits
@@ -353,10 +379,12 @@ module _ (π : Prices) (i : StreamId) (g : SignalId) (s : Slots) where
   fail_readable-fits : (r : Plain) (j : StreamId) (o : Owner) → Fits (calls.fail_readable_by r j s o)
   fail_readable-fits r j Host = does-fits (Readable j (ErrorReadable r) ∷ []) (omega arith)
   fail_readable-fits r j (HalfOf t) = does-fits (OnTransform t (ErrorTransform r) ∷ []) (omega arith)
+  fail_readable-fits r j (BranchOf t half) = unsupported-fits
 
   fail_writable-fits : (r : Plain) (j : StreamId) (o : Owner) → Fits (calls.fail_writable_by r j s o)
   fail_writable-fits r j Host = does-fits (Writable j (ErrorIfNeeded r) ∷ []) (omega arith)
   fail_writable-fits r j (HalfOf t) = unsupported-fits
+  fail_writable-fits r j (BranchOf t half) = unsupported-fits
 
   fail-fits : (r : Plain) (j : StreamId) → Fits (calls.fail r j s)
   fail-fits r j =
@@ -370,6 +398,12 @@ module _ (π : Prices) (i : StreamId) (g : SignalId) (s : Slots) where
   terminate-fits : (o : Owner) → Fits (calls.terminate_by s o)
   terminate-fits Host = unsupported-fits
   terminate-fits (HalfOf t) = does-fits (OnTransform t TerminateTransform ∷ []) (omega arith)
+  terminate-fits (BranchOf t half) = unsupported-fits
+
+  desired-fits : (j : StreamId) (o : Owner) → Fits (calls.desired_by j s o)
+  desired-fits j Host = replies-fits (calls.desired_by j s Host).reply
+  desired-fits j (HalfOf t) = replies-fits (calls.desired_by j s Host).reply
+  desired-fits j (BranchOf t half) = unsupported-fits
 
   look-fits : (j : StreamId) → Fits (calls.look j s)
   look-fits j =
@@ -438,6 +472,11 @@ module _ (π : Prices) (i : StreamId) (g : SignalId) (s : Slots) where
       unlocked_readable-fits j calls.throws_type_error calls.get_byob_of type_error-fits
       (if-fits (has_byte j s) (calls.get_byob j s) (calls.throws_type_error s) (byob-fits j) type_error-fits)
   begin-fits (names.GetWriter j) = unlocked_writable-fits j calls.throws_type_error calls.get_writer type_error-fits (writer-fits j)
+  begin-fits (names.Tee j) =
+      unlocked_readable-fits j calls.throws_type_error calls.tee_of type_error-fits
+      (if-fits (has_byte j s) (calls.unsupported s) (if is_teed j s then calls.throws_type_error s else calls.make_two (calls.make_tee j) s) unsupported-fits
+      (if-fits (is_teed j s) (calls.throws_type_error s) (calls.make_two (calls.make_tee j) s) type_error-fits
+      (two-fits (calls.make_tee j) (tee-fits j (record { 0 = length s.streams }) (record { 0 = length s.streams + 1 })))))
   begin-fits (names.Cancel j r) = unlocked_readable-fits j calls.rejected (calls.cancel r) rejected-fits (cancel-fits r j)
   begin-fits (names.CancelBy l r) = by_reader-fits (calls.cancel r) calls.rejected (cancel-fits r) rejected-fits (lock_at l s)
   begin-fits (names.Read l) = by_default_reader-fits calls.read calls.rejected read-fits rejected-fits (lock_at l s)
@@ -456,7 +495,7 @@ module _ (π : Prices) (i : StreamId) (g : SignalId) (s : Slots) where
   begin-fits (names.Terminate j) = for_readable-fits j (calls.terminate j) (terminate-fits (readable_at j s).owner)
   begin-fits (names.Request j) = for_byte-fits j (calls.request j) (request-fits j (byte_at j s).request (byte_at j s).descriptors)
   begin-fits (names.Respond q b) = respond-fits q b (stream_of_request q s)
-  begin-fits (names.Desired j) = for_source-fits j (calls.desired j) (replies-fits (calls.desired j s).reply)
+  begin-fits (names.Desired j) = for_source-fits j (calls.desired j) (desired-fits j (owner_at j s))
   begin-fits (names.DesiredBy l) = by_writer-fits calls.desired_of_writer calls.throws_type_error (λ j. replies-fits (calls.desired_of_writer j s).reply) type_error-fits (lock_at l s)
   begin-fits (names.Pipe source dest prevent signal) = pipe_call-fits source dest prevent signal
   begin-fits names.MakeSignal = signal-fits
@@ -474,7 +513,7 @@ module _ (π : Prices) (i : StreamId) (g : SignalId) (s : Slots) where
   resolved-price None outcome = omega arith
   resolved-price (Some p) outcome = omega arith
 
-  effects-price : (job : Job) → prices_of π (job_effects job) ≤ price π 28 14 11 4 3 4 2 + π.descriptor
+  effects-price : (job : Job) → prices_of π (job_effects job) ≤ price π 28 14 11 4 3 4 2 + (π.descriptor + π.copy)
   effects-price (Reaction step outcome derived) =
       let a = steps-price step outcome in
       let b = resolved-price derived (returned step outcome) in
@@ -484,12 +523,13 @@ module _ (π : Prices) (i : StreamId) (g : SignalId) (s : Slots) where
   effects-price (MicroJob (PipeLook p)) = omega arith
   effects-price (MicroJob (PipeWrite p)) = omega arith
   effects-price (MicroJob (PipeNoParts p)) = omega arith
+  effects-price (MicroJob (TeeHand t)) = omega arith
 
-  some_job-fits : (job : Option Job) → Begins π i g (all_keep π s.streams + signals_keep π s.signals + step_price π) s (job_begun s job)
+  some_job-fits : (job : Option Job) → Begins π i g (all_kept π s + step_price π) s (job_begun s job)
   some_job-fits None = omega arith
   some_job-fits (Some job) = let a = after_job-size π s.promises in let b = effects-price job in omega (arith, a, b)
 
-  pub job-fits : Begins π i g (all_keep π s.streams + signals_keep π s.signals + step_price π) s (begin_job s)
+  pub job-fits : Begins π i g (all_kept π s + step_price π) s (begin_job s)
   unfolding begin_job
   job-fits = some_job-fits (next_job s.promises)
 
@@ -509,11 +549,11 @@ named-size π i g TooMany s = omega arith
 pub room_is_enough : RoomIsEnough
 unfolding performed
 room_is_enough = record {
-  call = λ π i g n c s. let h = begin-fits π i g s c in begun-within π i g n (room π s) s (begin c s).done (omega (arith, h));
-  answered = λ π i g c s.
+  call = λ π i g n c s counts. let h = begin-fits π i g counts s c in begun-within π i g counts n (room π s) s (begin c s).done (omega (arith, h));
+  answered = λ π i g c s counts.
       let d : Done = (begin c s).done in
-      let h = begin-fits π i g s c in
-      let f = turns-stand π i g (measure d.slots d.caused) d.slots d.caused in
+      let h = begin-fits π i g counts s c in
+      let f = turns-stand π i g counts (measure d.slots d.caused) d.slots d.caused in
       let k = named-size π i g (begin c s).reply (performed d) in omega (arith, h, f, k);
-  job = λ π i g n s. let h = job-fits π i g s in begun-within π i g n (room π s) s (begin_job s) (omega (arith, h));
+  job = λ π i g n s counts. let h = job-fits π i g counts s in begun-within π i g counts n (room π s) s (begin_job s) (omega (arith, h));
 }
