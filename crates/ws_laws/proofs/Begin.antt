@@ -5,13 +5,14 @@ use Rattle.ws_value.specs.declared.ids.SignalId.{SignalId}
 use Rattle.ws_value.specs.declared.ids.StreamId.{StreamId}
 use Rattle.ws_value.specs.declared.value.Value.{Value}
 use Rattle.ws_steps.specs.declared.{calls.Call.{Call}, calls.Call.TheVariants.{Enqueue as EnqueueCall}, readable.ReadableOperation.TheVariants.{Enqueue}, effects.Effect.{Effect}}
-use Rattle.ws_steps.specs.declared.{effects.Effect.TheVariants.{Readable, Byte, Writable, Pipe, Signal, Transform, StartAlgorithm, Give, Settle, Queue, CallHost}, pipes.Prevent.{Prevent}, locks.Lock.{Lock}, promises.Job.{Job}, readable.SizeBy.{SizeBy}}
+use Rattle.ws_steps.specs.declared.{effects.Effect.TheVariants.{Readable, Byte, Writable, Pipe, Signal, Transform, Tee, StartAlgorithm, Give, Settle, Queue, CallHost}, pipes.Prevent.{Prevent}, locks.Lock.{Lock}, promises.Job.{Job}, readable.SizeBy.{SizeBy}}
 use Rattle.ws_steps.specs.declared.writable.WritableOperation.TheVariants.{HandOn}
 use Rattle.ws_steps.specs.Promises.{Table, fresh, is_pending_at}
 use Rattle.ws_steps.specs.Bytes as byte
 use Rattle.ws_steps.specs.Pipes as pipes
 use Rattle.ws_steps.specs.Readable as readable
 use Rattle.ws_steps.specs.Transform as transforms
+use Rattle.ws_steps.specs.Tee as tees
 use Rattle.ws_steps.specs.Writable as writable
 use Rattle.ws_steps.specs.Slots.{Slots, ReadableStream, ByteStream, WritableStream, with_promises, source_at}
 use Rattle.ws_steps.specs.Jobs.{job_effects}
@@ -30,6 +31,8 @@ pub record Makes (Q : Slots → Type 0) : Type 0 where
   pub signal : (s : Slots) → Q s → Q (record s { signals = s.signals ++ pipes.new_signal ∷ [] })
   pub transform : (s : Slots) (kind : Kind) (writable readable : StreamId) (change : PromiseId) → Q s
       → Q (record s { transforms = s.transforms ++ transforms.set_up kind writable readable change ∷ [] })
+  pub tee : (s : Slots) (source first second : StreamId) (cancel : PromiseId) → Q s
+      → Q (record s { tees = s.tees ++ tees.set_up source first second cancel ∷ [] })
   pub readable : (s : Slots) (owner : Owner) (mark : ℕ) (size : SizeBy) → Q s → Q (add_stream (ReadableStream (readable.set_up owner mark size)) s)
   pub bytes : (s : Slots) (mark auto : ℕ) → Q s → Q (add_stream (ByteStream (byte.set_up mark auto)) s)
   pub byob_requests : (s : Slots) (requests : List StreamId) → Q s → Q (record s { byob_requests = requests })
@@ -56,6 +59,7 @@ module _ (Q : Slots → Type 0) (makes : Makes Q) where
     make_writable = λ mark size start. makes.writable s _ mark size q;
     make_transform = λ kind m n start.
         makes.promise _ (makes.promise _ (makes.promise _ (makes.promise _ (makes.transform _ kind _ _ _ (makes.readable _ _ n _ (makes.writable s _ m _ q))))));
+    make_tee = λ i e is free untied. makes.promise _ (makes.promise _ (makes.locks _ _ (makes.tee _ _ _ _ _ (makes.readable _ _ 1 _ (makes.readable s _ 1 _ q)))));
     get_reader = λ i e. makes.locks _ _ (makes.promise s q);
     get_writer = λ i e. makes.locks _ _ (makes.promise _ (makes.promise s q));
     release_reader = λ l closed i e. makes.locks _ _ (renewed-makes s (readable.is_readable (source_at i s).state) q);
@@ -94,6 +98,7 @@ IsFirst E (Signal a operation) = Unit {0}
 IsFirst E (Transform t (EnqueueByTransform v)) = (i : StreamId) × E i v
 IsFirst E (Transform t (TransformChunk v d)) = ⊥
 IsFirst E (Transform t operation) = Unit {0}
+IsFirst E (Tee t operation) = Unit {0}
 IsFirst E (Give gift u) = Unit {0}
 IsFirst E (Settle p o) = Unit {0}
 IsFirst E (Queue m) = Unit {0}

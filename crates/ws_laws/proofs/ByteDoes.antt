@@ -124,7 +124,8 @@ module _ (Q : Out → Type 0) (i : StreamId) (of : OfReadable Q i) where
   byte_readable-does names.ReleaseReader a h = release_by-does Q i (ends Q i of) (record { slots = a.slots.stream; out = a.out }) a.slots.stream.reader h
   byte_readable-does names.Disturb a h = h
   byte_readable-does (names.Read q) a h =
-      meant-does (byte.may_read a.slots) (byte.read_by i q (byte.in_stream readable.disturb a) a.slots.stream.state) a (byte_read-does q (byte.in_stream readable.disturb a) a.slots.stream.state) h
+      either Is (byte.is_of_tee q) a (byte.if_meant (byte.may_read a.slots) (byte.read_by i q (byte.in_stream readable.disturb a) a.slots.stream.state) a) (λ e. h)
+      (λ e. meant-does (byte.may_read a.slots) (byte.read_by i q (byte.in_stream readable.disturb a) a.slots.stream.state) a (byte_read-does q (byte.in_stream readable.disturb a) a.slots.stream.state) h)
   byte_readable-does (names.Cancel r p) a h = byte_cancel-does r p a h
   byte_readable-does (names.CancelIfReadable r p) a h =
       either Is (readable.is_readable a.slots.stream.state) (byte.stream_cancel i r p a) _ (λ e. byte_cancel-does r p a h) (λ e. of.settle a.out p (Ok Undefined) h)

@@ -329,7 +329,8 @@ module _ (me : StreamId) (w : ReadRequest → ℕ) (v : Effect → ℕ) (weighs 
   byte_readable-hands names_of.ReleaseReader a = release-hands a
   byte_readable-hands names_of.Disturb a = omega arith
   byte_readable-hands (names_of.Read q) a =
-      meant-hands (w q) (byte.may_read a.slots) (byte.read_by me q (byte.in_stream readable.disturb a) a.slots.stream.state) a (read-hands q (byte.in_stream readable.disturb a) a.slots.stream.state)
+      either (Hands (w q) a) (byte.is_of_tee q) a (byte.if_meant (byte.may_read a.slots) (byte.read_by me q (byte.in_stream readable.disturb a) a.slots.stream.state) a) (λ e. omega arith)
+      (λ e. meant-hands (w q) (byte.may_read a.slots) (byte.read_by me q (byte.in_stream readable.disturb a) a.slots.stream.state) a (read-hands q (byte.in_stream readable.disturb a) a.slots.stream.state))
   byte_readable-hands (names_of.Cancel r p) a = cancel-hands r p (byte.in_stream readable.disturb a) a.slots.stream.state
   byte_readable-hands (names_of.CancelIfReadable r p) a = let h = cancel-hands r p (byte.in_stream readable.disturb a) a.slots.stream.state in grind (arith, h)
   byte_readable-hands (names_of.Enqueue x) a = omega arith

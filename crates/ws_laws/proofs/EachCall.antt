@@ -1,5 +1,5 @@
 -- What holds of each beginning of a call holds of each call.
-use Rattle.std.proofs.Common.{◌≡◌, ℕ, ◌+◌, List, [], ◌∷◌, ◌++◌, length, Bool, not, ◌&&◌, Option, Some, None, if◌then◌else◌, nat_lt, nat_eq, true, false, refl, sym, ap}
+use Rattle.std.proofs.Common.{◌≡◌, ℕ, ◌+◌, List, [], ◌∷◌, ◌++◌, length, Bool, not, ◌&&◌, Option, Some, None, ◌||◌, if◌then◌else◌, nat_lt, nat_eq, true, false, refl, sym, ap}
 use Rattle.ws_value.specs.declared.fault.Fault.{Fault}
 use Rattle.ws_value.specs.declared.ids.HostId.{HostId}
 use Rattle.ws_value.specs.declared.ids.LockId.{LockId}
@@ -12,10 +12,10 @@ use Rattle.ws_value.specs.declared.value.Value.{Value}
 use Rattle.ws_value.specs.declared.value.Value.TheVariants.{Plain as PlainValue, Bytes}
 use Rattle.ws_steps.specs.declared.byte.ByteOperation.TheVariants.{Enqueue as EnqueueBytes, MakeRequest, Respond as RespondBytes}
 use Rattle.ws_steps.specs.declared.{calls.Answer.{Answer}, calls.Call.{Call}}
-use Rattle.ws_steps.specs.declared.calls.Call.TheVariants.{MakeReadable, MakeBytes, MakeWritable, MakeTransform, GetReader, GetByob, GetWriter, Cancel, CancelBy, Read, ReadInto, Write, Close, CloseBy, Abort, AbortBy, Closed, Ready, Release, Enqueue, Finish, Fail, Terminate, Request, Respond, Desired, DesiredBy, Pipe, MakeSignal, Trigger, Settle, State, Step}
+use Rattle.ws_steps.specs.declared.calls.Call.TheVariants.{MakeReadable, MakeBytes, MakeWritable, MakeTransform, GetReader, GetByob, GetWriter, Tee, Cancel, CancelBy, Read, ReadInto, Write, Close, CloseBy, Abort, AbortBy, Closed, Ready, Release, Enqueue, Finish, Fail, Terminate, Request, Respond, Desired, DesiredBy, Pipe, MakeSignal, Trigger, Settle, State, Step}
 use Rattle.ws_steps.specs.declared.{locks.Lock.{Lock}, locks.Lock.TheVariants.{Reader as ReaderLock, ByobReader, Writer as WriterLock, ReleasedWriter, Inner}, calls.Reply.{Reply}}
 use Rattle.ws_steps.specs.declared.{calls.Reply.TheVariants.{Done as ReplyDone, Promise, Request as ReplyRequest, State as ReplyState, Throws, TooMany}, calls.StartBy.{StartBy}}
-use Rattle.ws_steps.specs.declared.{calls.Thrown.TheVariants.{TypeError, Unsupported}, effects.Effect.TheVariants.{Readable as OnReadable, Byte, Writable as OnWritable, Signal as OnSignal, Transform as OnTransform}, effects.Owner.{Owner}, effects.Owner.TheVariants.{Host, HalfOf}, pipes.Prevent.{Prevent}, pipes.SignalOperation.TheVariants.{Trigger as TriggerSignal}}
+use Rattle.ws_steps.specs.declared.{calls.Thrown.TheVariants.{TypeError, Unsupported}, effects.Effect.TheVariants.{Readable as OnReadable, Byte, Writable as OnWritable, Signal as OnSignal, Transform as OnTransform}, effects.Owner.{Owner}, effects.Owner.TheVariants.{Host, HalfOf, BranchOf}, pipes.Prevent.{Prevent}, pipes.SignalOperation.TheVariants.{Trigger as TriggerSignal}}
 use Rattle.ws_steps.specs.declared.readable.ReadableOperation.{ReadableOperation}
 use Rattle.ws_steps.specs.declared.{readable.ReadableOperation.TheVariants.{Enqueue as EnqueueChunk, Close as CloseReadable, Error as ErrorReadable}, readable.SizeBy.{SizeBy}}
 use Rattle.ws_steps.specs.declared.{transform.Kind.{Kind}, transform.TransformId.{TransformId}, transform.TransformOperation.TheVariants.{Enqueue as EnqueueByTransform, Error as ErrorTransform, Terminate as TerminateTransform}}
@@ -27,7 +27,7 @@ use Rattle.ws_steps.specs.Readable as readable
 use Rattle.ws_steps.specs.ReadableLooks as readable_looks
 use Rattle.ws_steps.specs.Writable as writable
 use Rattle.ws_steps.specs.WritableLooks as writable_looks
-use Rattle.ws_steps.specs.Slots.{Slots, most_streams, causes, has_readable, has_byte, has_source, has_writable, has_signal, readable_at, byte_at, source_at, stream_of_request, writable_at, lock_at, host_at}
+use Rattle.ws_steps.specs.Slots.{Slots, most_streams, causes, has_readable, has_byte, has_source, has_writable, has_signal, readable_at, byte_at, source_at, stream_of_request, writable_at, lock_at, host_at, is_teed, owner_at}
 use Rattle.ws_steps.specs.Calls.{Begun, begin, replies, unsupported, by_reader, by_writer, of_writer}
 use Rattle.ws_steps.specs.Calls as calls
 use Rattle.ws_laws.proofs.Tables.{either, eq_numbers}
@@ -42,6 +42,8 @@ pub record Beginnings (P : Begun → Type 0) (c : Call) (s : Slots) : Type 0 whe
   pub make_transform : (kind : Kind) (m n : ℕ) (start : StartBy) → P (calls.make_transform kind m n start (record { 0 = length s.streams }) (record { 0 = length s.streams + 1 }) s)
   pub get_reader : (i : StreamId) → readable_looks.is_locked (source_at i s) ≡ false → P (calls.get_reader i s)
   pub get_byob : (i : StreamId) → has_byte i s ≡ true → readable_looks.is_locked (source_at i s) ≡ false → P (calls.get_byob i s)
+  pub make_tee : (i : StreamId) → c ≡ Tee i → has_readable i s ≡ true → readable_looks.is_locked (source_at i s) ≡ false → is_teed i s ≡ false
+      → P (calls.make_tee i (record { 0 = length s.streams }) (record { 0 = length s.streams + 1 }) s)
   pub get_writer : (i : StreamId) → writable_looks.is_locked (writable_at i s) ≡ false → P (calls.get_writer i s)
   pub release_reader : (l : LockId) (closed : PromiseId) (i : StreamId) → lock_at l s ≡ Some (ReaderLock (Some i) closed) → P (calls.release_reader (ReaderLock None) l closed i s)
   pub release_byob : (l : LockId) (closed : PromiseId) (i : StreamId) → lock_at l s ≡ Some (ByobReader (Some i) closed) → P (calls.release_reader (ByobReader None) l closed i s)
@@ -76,6 +78,10 @@ pub record Beginnings (P : Begun → Type 0) (c : Call) (s : Slots) : Type 0 whe
 and-right : (a b : Bool) → (a && b) ≡ true → b ≡ true
 and-right true b e = e
 and-right false b e = cc
+
+or-left : (a b : Bool) → (a || b) ≡ true → b ≡ false → a ≡ true
+or-left true b e f = refl
+or-left false b e f = cc
 
 not-left : (a b : Bool) → (not a && b) ≡ true → a ≡ false
 not-left true b e = cc
@@ -207,10 +213,12 @@ module _ (P : Begun → Type 0) (c : Call) (s : Slots) (o : Beginnings P c s) wh
   enqueue-each i v (HalfOf t) e is =
       either P (readable.can_close_or_enqueue (readable_at i s)) (calls.does (OnTransform t (EnqueueByTransform v) ∷ []) s) (calls.throws_type_error s)
       (λ can. o.enqueue_half i t v e is can) (λ e. o.unchanged (Throws TypeError))
+  enqueue-each i v (BranchOf t half) e is = unsupported_each
 
   finish-each : (i : StreamId) (owner : Owner) → P (calls.finish_by i s owner)
   finish-each i Host = if_it_can-each i CloseReadable (λ e. o.finish i)
   finish-each i (HalfOf t) = unsupported_each
+  finish-each i (BranchOf t half) = unsupported_each
 
   enqueue_bytes-each : (i : StreamId) (v : Value) → c ≡ Enqueue i v → has_byte i s ≡ true → P (calls.enqueue_bytes i s v)
   enqueue_bytes-each i (PlainValue v) e is = o.unchanged (Throws TypeError)
@@ -244,14 +252,31 @@ module _ (P : Begun → Type 0) (c : Call) (s : Slots) (o : Beginnings P c s) wh
   fail_readable-each : (i : StreamId) (reason : Plain) (owner : Owner) → P (calls.fail_readable_by reason i s owner)
   fail_readable-each i reason Host = o.fail_readable i reason
   fail_readable-each i reason (HalfOf t) = o.fail_half t reason
+  fail_readable-each i reason (BranchOf t half) = unsupported_each
 
   fail_writable-each : (i : StreamId) (reason : Plain) (owner : Owner) → P (calls.fail_writable_by reason i s owner)
   fail_writable-each i reason Host = o.fail_writable i reason
   fail_writable-each i reason (HalfOf t) = unsupported_each
+  fail_writable-each i reason (BranchOf t half) = unsupported_each
 
   terminate-each : (owner : Owner) → P (calls.terminate_by s owner)
   terminate-each Host = unsupported_each
   terminate-each (HalfOf t) = o.terminate t
+  terminate-each (BranchOf t half) = unsupported_each
+
+  desired-each : (i : StreamId) (owner : Owner) → P (calls.desired_by i s owner)
+  desired-each i Host = o.unchanged (calls.desired_by i s Host).reply
+  desired-each i (HalfOf t) = o.unchanged (calls.desired_by i s (HalfOf t)).reply
+  desired-each i (BranchOf t half) = unsupported_each
+
+  tee-each : (i : StreamId) → c ≡ Tee i → P (calls.unlocked_readable i calls.throws_type_error calls.tee_of s)
+  tee-each i e =
+      either P (has_source i s) _ _
+      (λ there. either P (readable_looks.is_locked (source_at i s)) _ _ (λ l. o.unchanged (Throws TypeError))
+      (λ free. either P (has_byte i s) _ _ (λ is. unsupported_each)
+      (λ isnt. either P (is_teed i s) _ _ (λ teed. o.unchanged (Throws TypeError))
+      (λ untied. two_by (calls.make_tee i) (o.make_tee i e (or-left (has_readable i s) (has_byte i s) there isnt) free untied)))))
+      (λ n. unsupported_each)
 
   for_signal-each : (operation : Slots → Begun) (a : SignalId) → P (operation s) → P (calls.for_signal a operation s)
   for_signal-each operation a done = either P (has_signal a s) (operation s) (unsupported s) (λ e. done) (λ e. unsupported_each)
@@ -277,6 +302,7 @@ each_call P (MakeBytes mark auto start) s o = made_by P _ s o (calls.make_bytes 
 each_call P (MakeWritable mark size start) s o = made_by P _ s o (calls.make_writable mark size start) (o.make_writable mark size start)
 each_call P (MakeTransform kind m n start) s o = two_by P _ s o (calls.make_transform kind m n start) (o.make_transform kind m n start)
 each_call P (GetReader i) s o = unlocked_readable-each P _ s o calls.throws_type_error calls.get_reader i (o.unchanged (Throws TypeError)) (λ e. o.get_reader i e)
+each_call P (Tee i) s o = tee-each P _ s o i refl
 each_call P (GetByob i) s o =
     unlocked_readable-each P _ s o calls.throws_type_error calls.get_byob_of i (o.unchanged (Throws TypeError))
     (λ e. either P (has_byte i s) (calls.get_byob i s) (calls.throws_type_error s) (λ is. o.get_byob i is e) (λ n. o.unchanged (Throws TypeError)))
@@ -308,7 +334,7 @@ each_call P (Fail i reason) s o =
 each_call P (Terminate i) s o = for_readable-each P _ s o (calls.terminate i) i (terminate-each P _ s o (readable_at i s).owner)
 each_call P (Request i) s o = for_byte-each P _ s o (calls.request i) i (λ is. request-each P _ s o i (byte_at i s).request (byte_at i s).descriptors is)
 each_call P (Respond q b) s o = respond-each P _ s o q b (stream_of_request q s) refl
-each_call P (Desired i) s o = for_source-each P _ s o (calls.desired i) i (o.unchanged (calls.desired i s).reply)
+each_call P (Desired i) s o = for_source-each P _ s o (calls.desired i) i (desired-each P _ s o i (owner_at i s))
 each_call P (DesiredBy l) s o =
     by_writer-each P _ s o calls.desired_of_writer calls.throws_type_error (λ i. o.unchanged (calls.desired_of_writer i s).reply) (o.unchanged (Throws TypeError)) (lock_at l s)
 each_call P (Pipe source dest prevent signal) s o = pipe-each P _ s o source dest prevent signal

@@ -1,20 +1,24 @@
 -- Each half of a transform stream is its own, over every run: a stream that performs the algorithms of a transform stream is that half of it,
--- and the two halves of each transform stream perform its algorithms.
+-- and the two halves of each transform stream perform its algorithms. And so each branch of a tee.
 use Rattle.std.proofs.Common.{◌≡◌, ℕ, zero, suc, ◌+◌, List, [], ◌∷◌, ◌++◌, length, map, Some, slice_get, ◌⊎◌, inl, inr, ⊎_elim, refl, sym, ap, ◌∙◌, subst, arith, Option, None}
 use Rattle.ws_value.specs.declared.ids.StreamId.{StreamId}
+use Rattle.ws_value.specs.declared.ids.TeeId.{TeeId}
 use Rattle.ws_steps.specs.declared.calls.Call.{Call}
 use Rattle.ws_steps.specs.declared.calls.Reply.{Reply}
 use Rattle.ws_steps.specs.declared.calls.Reply.TheVariants.{Promise}
 use Rattle.ws_steps.specs.declared.calls.StartBy.{StartBy}
 use Rattle.ws_steps.specs.declared.promises.Job.{Job}
 use Rattle.ws_steps.specs.declared.effects.Effect.{Effect}
-use Rattle.ws_steps.specs.declared.effects.Owner.TheVariants.{Host, HalfOf}
+use Rattle.ws_steps.specs.declared.effects.Owner.TheVariants.{Host, HalfOf, BranchOf}
 use Rattle.ws_steps.specs.declared.readable.SizeBy.TheVariants.{Count}
+use Rattle.ws_steps.specs.declared.tee.Half.{Half}
+use Rattle.ws_steps.specs.declared.tee.Half.TheVariants.{First, Second}
 use Rattle.ws_steps.specs.declared.transform.Kind.{Kind}
 use Rattle.ws_steps.specs.declared.transform.TransformId.{TransformId}
-use Rattle.ws_steps.specs.Promises.{next_id, next_job}
+use Rattle.ws_steps.specs.Promises.{next_id, fresh, next_job}
 use Rattle.ws_steps.specs.Bytes as byte
 use Rattle.ws_steps.specs.Readable as readable
+use Rattle.ws_steps.specs.Tee as tee
 use Rattle.ws_steps.specs.Transform as transform
 use Rattle.ws_steps.specs.Writable as writable
 use Rattle.ws_steps.specs.Slots.{Slots, Stream, ReadableStream, ByteStream, WritableStream, Done, empty}
@@ -24,7 +28,7 @@ use Rattle.ws_steps.specs.Run.{Entry, Called, Worked, Heard, begun_by, step, run
 use Rattle.ws_steps.specs.Calls.{Begun, begin, named}
 use Rattle.ws_steps.specs.Calls as calls
 use Rattle.ws_laws.proofs.EachCall.{each_call}
-use Rattle.ws_laws.proofs.Shapes.{StreamShape, ReadableOf, BytesOf, WritableOf, TransformShape, stream_shape, transform_shape, stream_shapes, transform_shapes, row-stream_shapes, row-transform_shapes}
+use Rattle.ws_laws.proofs.Shapes.{StreamShape, ReadableOf, BytesOf, WritableOf, TransformShape, TeeShape, branch_of, stream_shape, transform_shape, tee_shape, stream_shapes, transform_shapes, tee_shapes, row-stream_shapes, row-transform_shapes, row-tee_shapes}
 use Rattle.ws_laws.proofs.Walker.{Stays, untold, performed-goes, run-stays}
 
 -- lists that grow
@@ -62,33 +66,46 @@ HasReadable ts t i = (x : TransformShape) × ((slice_get ts t.0 ≡ Some x) × (
 abbrev HasWritable : List TransformShape → TransformId → StreamId → Type 0
 HasWritable ts t i = (x : TransformShape) × ((slice_get ts t.0 ≡ Some x) × (x.writable ≡ i))
 
-pub record AreHalves (xs : List StreamShape) (ts : List TransformShape) : Type 0 where
+-- the tee of this number has this branch
+abbrev HasBranch : List TeeShape → TeeId → Half → StreamId → Type 0
+HasBranch bs t half i = (x : TeeShape) × ((slice_get bs t.0 ≡ Some x) × (branch_of half x ≡ i))
+
+pub record AreHalves (xs : List StreamShape) (ts : List TransformShape) (bs : List TeeShape) : Type 0 where
   pub readable : (i : StreamId) (t : TransformId) → slice_get xs i.0 ≡ Some (ReadableOf (HalfOf t)) → HasReadable ts t i
   pub writable : (i : StreamId) (t : TransformId) → slice_get xs i.0 ≡ Some (WritableOf (HalfOf t)) → HasWritable ts t i
   pub halves : (t : TransformId) (x : TransformShape) → slice_get ts t.0 ≡ Some x
       → (slice_get xs x.readable.0 ≡ Some (ReadableOf (HalfOf t))) × (slice_get xs x.writable.0 ≡ Some (WritableOf (HalfOf t)))
+  pub branch : (i : StreamId) (t : TeeId) (half : Half) → slice_get xs i.0 ≡ Some (ReadableOf (BranchOf t half)) → HasBranch bs t half i
+  pub branches : (t : TeeId) (x : TeeShape) → slice_get bs t.0 ≡ Some x
+      → (slice_get xs x.branch1.0 ≡ Some (ReadableOf (BranchOf t First))) × (slice_get xs x.branch2.0 ≡ Some (ReadableOf (BranchOf t Second)))
 
 -- a stream of the host is made
 
-host-readable : (xs : List StreamShape) (ts : List TransformShape) → AreHalves xs ts → AreHalves (xs ++ ReadableOf Host ∷ []) ts
-host-readable xs ts a = record {
+host-readable : (xs : List StreamShape) (ts : List TransformShape) (bs : List TeeShape) → AreHalves xs ts bs → AreHalves (xs ++ ReadableOf Host ∷ []) ts bs
+host-readable xs ts bs a = record {
   readable = λ i t is. ⊎_elim (λ old. a.readable i t old) (λ new. cc) (get-either xs (ReadableOf Host) i.0 (ReadableOf (HalfOf t)) is);
   writable = λ i t is. ⊎_elim (λ old. a.writable i t old) (λ new. cc) (get-either xs (ReadableOf Host) i.0 (WritableOf (HalfOf t)) is);
   halves = λ t x is. (get-stays xs (ReadableOf Host ∷ []) x.readable.0 _ (a.halves t x is).0, get-stays xs (ReadableOf Host ∷ []) x.writable.0 _ (a.halves t x is).1);
+  branch = λ i t half is. ⊎_elim (λ old. a.branch i t half old) (λ new. cc) (get-either xs (ReadableOf Host) i.0 (ReadableOf (BranchOf t half)) is);
+  branches = λ t x is. (get-stays xs (ReadableOf Host ∷ []) x.branch1.0 _ (a.branches t x is).0, get-stays xs (ReadableOf Host ∷ []) x.branch2.0 _ (a.branches t x is).1);
 }
 
-host-writable : (xs : List StreamShape) (ts : List TransformShape) → AreHalves xs ts → AreHalves (xs ++ WritableOf Host ∷ []) ts
-host-writable xs ts a = record {
+host-writable : (xs : List StreamShape) (ts : List TransformShape) (bs : List TeeShape) → AreHalves xs ts bs → AreHalves (xs ++ WritableOf Host ∷ []) ts bs
+host-writable xs ts bs a = record {
   readable = λ i t is. ⊎_elim (λ old. a.readable i t old) (λ new. cc) (get-either xs (WritableOf Host) i.0 (ReadableOf (HalfOf t)) is);
   writable = λ i t is. ⊎_elim (λ old. a.writable i t old) (λ new. cc) (get-either xs (WritableOf Host) i.0 (WritableOf (HalfOf t)) is);
   halves = λ t x is. (get-stays xs (WritableOf Host ∷ []) x.readable.0 _ (a.halves t x is).0, get-stays xs (WritableOf Host ∷ []) x.writable.0 _ (a.halves t x is).1);
+  branch = λ i t half is. ⊎_elim (λ old. a.branch i t half old) (λ new. cc) (get-either xs (WritableOf Host) i.0 (ReadableOf (BranchOf t half)) is);
+  branches = λ t x is. (get-stays xs (WritableOf Host ∷ []) x.branch1.0 _ (a.branches t x is).0, get-stays xs (WritableOf Host ∷ []) x.branch2.0 _ (a.branches t x is).1);
 }
 
-host-bytes : (xs : List StreamShape) (ts : List TransformShape) → AreHalves xs ts → AreHalves (xs ++ BytesOf ∷ []) ts
-host-bytes xs ts a = record {
+host-bytes : (xs : List StreamShape) (ts : List TransformShape) (bs : List TeeShape) → AreHalves xs ts bs → AreHalves (xs ++ BytesOf ∷ []) ts bs
+host-bytes xs ts bs a = record {
   readable = λ i t is. ⊎_elim (λ old. a.readable i t old) (λ new. cc) (get-either xs BytesOf i.0 (ReadableOf (HalfOf t)) is);
   writable = λ i t is. ⊎_elim (λ old. a.writable i t old) (λ new. cc) (get-either xs BytesOf i.0 (WritableOf (HalfOf t)) is);
   halves = λ t x is. (get-stays xs (BytesOf ∷ []) x.readable.0 _ (a.halves t x is).0, get-stays xs (BytesOf ∷ []) x.writable.0 _ (a.halves t x is).1);
+  branch = λ i t half is. ⊎_elim (λ old. a.branch i t half old) (λ new. cc) (get-either xs BytesOf i.0 (ReadableOf (BranchOf t half)) is);
+  branches = λ t x is. (get-stays xs (BytesOf ∷ []) x.branch1.0 _ (a.branches t x is).0, get-stays xs (BytesOf ∷ []) x.branch2.0 _ (a.branches t x is).1);
 }
 
 -- and a transform stream
@@ -96,7 +113,7 @@ host-bytes xs ts a = record {
 same_number : (i j : StreamId) → i.0 ≡ j.0 → i ≡ j
 same_number i j e = λ k. record { 0 = e k }
 
-module _ (xs : List StreamShape) (ts : List TransformShape) (a : AreHalves xs ts) (y : TransformShape) (me : TransformId) (number : me.0 ≡ length ts)
+module _ (xs : List StreamShape) (ts : List TransformShape) (bs : List TeeShape) (a : AreHalves xs ts bs) (y : TransformShape) (me : TransformId) (number : me.0 ≡ length ts)
     (writable_number : y.writable.0 ≡ length xs) (readable_number : y.readable.0 ≡ length (xs ++ WritableOf (HalfOf me) ∷ [])) where
   abbrev One : List StreamShape
   One = xs ++ WritableOf (HalfOf me) ∷ []
@@ -135,7 +152,7 @@ module _ (xs : List StreamShape) (ts : List TransformShape) (a : AreHalves xs ts
         get-stays One (ReadableOf (HalfOf me) ∷ []) y.writable.0 _ (rw writable_number (get-last xs [] (WritableOf (HalfOf me)))),
       )
 
-  pub made-transform : AreHalves Two More
+  pub made-transform : AreHalves Two More bs
   made-transform = record {
     readable = λ i t is. ⊎_elim
         (λ one. ⊎_elim (λ old. more-readable i t (a.readable i t old)) (λ new. cc) (get-either xs (WritableOf (HalfOf me)) i.0 (ReadableOf (HalfOf t)) one))
@@ -149,18 +166,92 @@ module _ (xs : List StreamShape) (ts : List TransformShape) (a : AreHalves xs ts
           get-stays One (ReadableOf (HalfOf me) ∷ []) x.writable.0 _ (get-stays xs (WritableOf (HalfOf me) ∷ []) x.writable.0 _ (a.halves t x old).1),
         ))
         (λ new. two-halves t x new) (get-either ts y t.0 x is);
+    branch = λ i t half is. ⊎_elim
+        (λ one. ⊎_elim (λ old. a.branch i t half old) (λ new. cc) (get-either xs (WritableOf (HalfOf me)) i.0 (ReadableOf (BranchOf t half)) one))
+        (λ new. cc) (get-either One (ReadableOf (HalfOf me)) i.0 (ReadableOf (BranchOf t half)) is);
+    branches = λ t x is. (
+      get-stays One (ReadableOf (HalfOf me) ∷ []) x.branch1.0 _ (get-stays xs (WritableOf (HalfOf me) ∷ []) x.branch1.0 _ (a.branches t x is).0),
+      get-stays One (ReadableOf (HalfOf me) ∷ []) x.branch2.0 _ (get-stays xs (WritableOf (HalfOf me) ∷ []) x.branch2.0 _ (a.branches t x is).1),
+    );
+  }
+
+-- and a tee, whose branches are two streams
+
+module _ (xs : List StreamShape) (ts : List TransformShape) (bs : List TeeShape) (a : AreHalves xs ts bs) (y : TeeShape) (me : TeeId) (number : me.0 ≡ length bs)
+    (first_number : y.branch1.0 ≡ length xs) (second_number : y.branch2.0 ≡ length (xs ++ ReadableOf (BranchOf me First) ∷ [])) where
+  abbrev WithFirst : List StreamShape
+  WithFirst = xs ++ ReadableOf (BranchOf me First) ∷ []
+
+  abbrev WithBoth : List StreamShape
+  WithBoth = WithFirst ++ ReadableOf (BranchOf me Second) ∷ []
+
+  abbrev MoreTees : List TeeShape
+  MoreTees = bs ++ y ∷ []
+
+  my-tee : slice_get MoreTees me.0 ≡ Some y
+  my-tee = rw number (get-last bs [] y)
+
+  more-branch : (i : StreamId) (t : TeeId) (half : Half) → HasBranch bs t half i → HasBranch MoreTees t half i
+  more-branch i t half h = (h.0, (get-stays bs (y ∷ []) t.0 h.0 h.1.0, h.1.1))
+
+  new-first : (i : StreamId) (t : TeeId) (half : Half) → i.0 ≡ length xs → ReadableOf (BranchOf me First) ≡ ReadableOf (BranchOf t half) → HasBranch MoreTees t half i
+  new-first i t half e same =
+      let is : me ≡ t = cc in
+      let first : First ≡ half = cc in
+      subst (λ u. HasBranch MoreTees u half i) is (subst (λ k. HasBranch MoreTees me k i) first (y, (my-tee, same_number y.branch1 i (first_number ∙ sym e))))
+
+  new-second : (i : StreamId) (t : TeeId) (half : Half) → i.0 ≡ length WithFirst → ReadableOf (BranchOf me Second) ≡ ReadableOf (BranchOf t half)
+      → HasBranch MoreTees t half i
+  new-second i t half e same =
+      let is : me ≡ t = cc in
+      let second : Second ≡ half = cc in
+      subst (λ u. HasBranch MoreTees u half i) is (subst (λ k. HasBranch MoreTees me k i) second (y, (my-tee, same_number y.branch2 i (second_number ∙ sym e))))
+
+  two-branches : (t : TeeId) (x : TeeShape) → (t.0 ≡ length bs) × (y ≡ x)
+      → (slice_get WithBoth x.branch1.0 ≡ Some (ReadableOf (BranchOf t First))) × (slice_get WithBoth x.branch2.0 ≡ Some (ReadableOf (BranchOf t Second)))
+  two-branches t x new =
+      let is : t ≡ me = λ k. record { 0 = (new.0 ∙ sym number) k } in
+      rw (is, ← new.1) (
+        get-stays WithFirst (ReadableOf (BranchOf me Second) ∷ []) y.branch1.0 _ (rw first_number (get-last xs [] (ReadableOf (BranchOf me First)))),
+        rw second_number (get-last WithFirst [] (ReadableOf (BranchOf me Second))),
+      )
+
+  old-branches : (t : TeeId) (x : TeeShape) → slice_get bs t.0 ≡ Some x
+      → (slice_get WithBoth x.branch1.0 ≡ Some (ReadableOf (BranchOf t First))) × (slice_get WithBoth x.branch2.0 ≡ Some (ReadableOf (BranchOf t Second)))
+  old-branches t x old = (
+    get-stays WithFirst (ReadableOf (BranchOf me Second) ∷ []) x.branch1.0 _ (get-stays xs (ReadableOf (BranchOf me First) ∷ []) x.branch1.0 _ (a.branches t x old).0),
+    get-stays WithFirst (ReadableOf (BranchOf me Second) ∷ []) x.branch2.0 _ (get-stays xs (ReadableOf (BranchOf me First) ∷ []) x.branch2.0 _ (a.branches t x old).1),
+  )
+
+  pub made-tee : AreHalves WithBoth ts MoreTees
+  made-tee = record {
+    readable = λ i t is. ⊎_elim
+        (λ one. ⊎_elim (λ old. a.readable i t old) (λ new. cc) (get-either xs (ReadableOf (BranchOf me First)) i.0 (ReadableOf (HalfOf t)) one))
+        (λ new. cc) (get-either WithFirst (ReadableOf (BranchOf me Second)) i.0 (ReadableOf (HalfOf t)) is);
+    writable = λ i t is. ⊎_elim
+        (λ one. ⊎_elim (λ old. a.writable i t old) (λ new. cc) (get-either xs (ReadableOf (BranchOf me First)) i.0 (WritableOf (HalfOf t)) one))
+        (λ new. cc) (get-either WithFirst (ReadableOf (BranchOf me Second)) i.0 (WritableOf (HalfOf t)) is);
+    halves = λ t x is. (
+      get-stays WithFirst (ReadableOf (BranchOf me Second) ∷ []) x.readable.0 _ (get-stays xs (ReadableOf (BranchOf me First) ∷ []) x.readable.0 _ (a.halves t x is).0),
+      get-stays WithFirst (ReadableOf (BranchOf me Second) ∷ []) x.writable.0 _ (get-stays xs (ReadableOf (BranchOf me First) ∷ []) x.writable.0 _ (a.halves t x is).1),
+    );
+    branch = λ i t half is. ⊎_elim
+        (λ one. ⊎_elim (λ old. more-branch i t half (a.branch i t half old)) (λ new. new-first i t half new.0 new.1)
+        (get-either xs (ReadableOf (BranchOf me First)) i.0 (ReadableOf (BranchOf t half)) one))
+        (λ new. new-second i t half new.0 new.1) (get-either WithFirst (ReadableOf (BranchOf me Second)) i.0 (ReadableOf (BranchOf t half)) is);
+    branches = λ t x is. ⊎_elim (λ old. old-branches t x old) (λ new. two-branches t x new) (get-either bs y t.0 x is);
   }
 
 -- of the slots
 abbrev pub Halved : Slots → Type 0
-Halved s = AreHalves (stream_shapes s) (transform_shapes s)
+Halved s = AreHalves (stream_shapes s) (transform_shapes s) (tee_shapes s)
 
 one-more : {X : Type 0} (xs : List X) (x : X) → length (xs ++ x ∷ []) ≡ length xs + 1
 one-more [] x = refl
 one-more (y ∷ ys) x = let h = one-more ys x in omega (arith, h)
 
-halved-from : (s z : Slots) → stream_shapes z ≡ stream_shapes s → transform_shapes z ≡ transform_shapes s → Halved s → Halved z
-halved-from s z e f h = rw (e, f) h
+halved-from : (s z : Slots) → stream_shapes z ≡ stream_shapes s → transform_shapes z ≡ transform_shapes s → tee_shapes z ≡ tee_shapes s → Halved s → Halved z
+halved-from s z e f g h = rw (e, f, g) h
 
 transform-made : (kind : Kind) (m n : ℕ) (start : StartBy) (s : Slots) → Halved s
     → Halved (calls.make_transform kind m n start (record { 0 = length s.streams }) (record { 0 = length s.streams + 1 }) s).done.slots
@@ -172,15 +263,27 @@ transform-made kind m n start s h =
     let xs : List StreamShape = stream_shapes s in
     let same = length-map stream_shape s.streams in
     rw (map-append stream_shape (s.streams ++ w ∷ []) (r ∷ []), map-append stream_shape s.streams (w ∷ []), map-append transform_shape s.transforms (x ∷ []))
-    (made-transform xs (transform_shapes s) h (transform_shape x) me (sym (length-map transform_shape s.transforms)) (sym same)
+    (made-transform xs (transform_shapes s) (tee_shapes s) h (transform_shape x) me (sym (length-map transform_shape s.transforms)) (sym same)
     (ap (λ k. k + 1) (sym same) ∙ sym (one-more xs (WritableOf (HalfOf me)))))
+
+tee-made : (i : StreamId) (s : Slots) → Halved s → Halved (calls.make_tee i (record { 0 = length s.streams }) (record { 0 = length s.streams + 1 }) s).done.slots
+tee-made i s h =
+    let me : TeeId = record { 0 = length s.tees } in
+    let first : Stream = ReadableStream (readable.set_up (BranchOf me First) 1 Count) in
+    let second : Stream = ReadableStream (readable.set_up (BranchOf me Second) 1 Count) in
+    let x : tee.Slots = tee.set_up i (record { 0 = length s.streams }) (record { 0 = length s.streams + 1 }) (next_id (fresh s.promises)) in
+    let xs : List StreamShape = stream_shapes s in
+    let same = length-map stream_shape s.streams in
+    rw (map-append stream_shape (s.streams ++ first ∷ []) (second ∷ []), map-append stream_shape s.streams (first ∷ []), map-append tee_shape s.tees (x ∷ []))
+    (made-tee xs (transform_shapes s) (tee_shapes s) h (tee_shape x) me (sym (length-map tee_shape s.tees)) (sym same)
+    (ap (λ k. k + 1) (sym same) ∙ sym (one-more xs (ReadableOf (BranchOf me First)))))
 
 call-halved : (c : Call) (s : Slots) → Halved s → Halved (begin c s).done.slots
 call-halved c s h = each_call (λ (b : Begun). Halved b.done.slots) c s (record {
   unchanged = λ reply. h;
   rejected = h;
-  make_readable = λ mark size start. rw (map-append stream_shape s.streams (ReadableStream (readable.set_up Host mark size) ∷ [])) (host-readable (stream_shapes s) (transform_shapes s) h);
-  make_bytes = λ mark auto start. rw (map-append stream_shape s.streams (ByteStream (byte.set_up mark auto) ∷ [])) (host-bytes (stream_shapes s) (transform_shapes s) h);
+  make_readable = λ mark size start. rw (map-append stream_shape s.streams (ReadableStream (readable.set_up Host mark size) ∷ [])) (host-readable (stream_shapes s) (transform_shapes s) (tee_shapes s) h);
+  make_bytes = λ mark auto start. rw (map-append stream_shape s.streams (ByteStream (byte.set_up mark auto) ∷ [])) (host-bytes (stream_shapes s) (transform_shapes s) (tee_shapes s) h);
   get_byob = λ i is e. h;
   release_byob = λ l closed i e. h;
   read_into = λ l i closed room element least e f. h;
@@ -188,8 +291,9 @@ call-halved c s h = each_call (λ (b : Begun). Halved b.done.slots) c s (record 
   finish_bytes = λ i e is can. h;
   make_request = λ i reply is. h;
   respond = λ q i b e is can. h;
-  make_writable = λ mark size start. rw (map-append stream_shape s.streams (WritableStream (writable.set_up Host mark size) ∷ [])) (host-writable (stream_shapes s) (transform_shapes s) h);
+  make_writable = λ mark size start. rw (map-append stream_shape s.streams (WritableStream (writable.set_up Host mark size) ∷ [])) (host-writable (stream_shapes s) (transform_shapes s) (tee_shapes s) h);
   make_transform = λ kind m n start. transform-made kind m n start s h;
+  make_tee = λ i e is free untied. tee-made i s h;
   get_reader = λ i e. h;
   get_writer = λ i e. h;
   release_reader = λ l closed i e. h;
@@ -218,7 +322,7 @@ AlwaysHalved s es = Halved s
 
 pub halved-stays : Stays AlwaysHalved
 halved-stays = record {
-  row = λ s e es h. halved-from s (row e s).slots (row-stream_shapes e s) (row-transform_shapes e s) h;
+  row = λ s e es h. halved-from s (row e s).slots (row-stream_shapes e s) (row-transform_shapes e s) (row-tee_shapes e s) h;
   call = λ s c h. call-halved c s h;
   job = λ s job e h. h;
   answered = λ s p h. h;
@@ -226,7 +330,7 @@ halved-stays = record {
 }
 
 pub halved-empty : Halved empty
-halved-empty = record { readable = λ i t is. cc; writable = λ i t is. cc; halves = λ t x is. cc }
+halved-empty = record { readable = λ i t is. cc; writable = λ i t is. cc; halves = λ t x is. cc; branch = λ i t half is. cc; branches = λ t x is. cc }
 
 -- transform streams are made, and each stays as it is
 
@@ -250,6 +354,7 @@ call-among c s = each_call (λ (b : Begun). Among (transform_shapes s) (transfor
   make_writable = λ mark size start t x h. h;
   make_transform = λ kind m n start t x h. rw (map-append transform_shape s.transforms) (get-stays (transform_shapes s) _ t.0 x h);
   get_reader = λ i e t x h. h;
+  make_tee = λ i e is free untied t x h. h;
   get_writer = λ i e t x h. h;
   release_reader = λ l closed i e t x h. h;
   release_writer = λ l i w e f t x h. h;
@@ -302,6 +407,78 @@ step-among x s = λ t y h. rw (step-shapes x s) (entry-among x s t y h)
 pub run-among : (xs : List Entry) (s : Slots) → Among (transform_shapes s) (transform_shapes (run xs s))
 run-among [] s = λ t y h. h
 run-among (x ∷ xs) s = λ t y h. run-among xs (step s x) t y (step-among x s t y h)
+
+-- and so are tees
+abbrev pub AmongTees : List TeeShape → List TeeShape → Type 0
+AmongTees ts us = (t : TeeId) (x : TeeShape) → slice_get ts t.0 ≡ Some x → slice_get us t.0 ≡ Some x
+
+pub call-among_tees : (c : Call) (s : Slots) → AmongTees (tee_shapes s) (tee_shapes (begin c s).done.slots)
+call-among_tees c s = each_call (λ (b : Begun). AmongTees (tee_shapes s) (tee_shapes b.done.slots)) c s (record {
+  unchanged = λ reply t x h. h;
+  rejected = λ t x h. h;
+  make_readable = λ mark size start t x h. h;
+  make_bytes = λ mark auto start t x h. h;
+  get_byob = λ i is e t x h. h;
+  release_byob = λ l closed i e t x h. h;
+  read_into = λ l i closed room element least e f t x h. h;
+  enqueue_bytes = λ i b e is some can t x h. h;
+  finish_bytes = λ i e is can t x h. h;
+  make_request = λ i reply is t x h. h;
+  respond = λ q i b e is can t x h. h;
+  make_writable = λ mark size start t x h. h;
+  make_transform = λ kind m n start t x h. h;
+  get_reader = λ i e t x h. h;
+  make_tee = λ i e is free untied t x h. rw (map-append tee_shape s.tees) (get-stays (tee_shapes s) _ t.0 x h);
+  get_writer = λ i e t x h. h;
+  release_reader = λ l closed i e t x h. h;
+  release_writer = λ l i w e f t x h. h;
+  cancel = λ reason i t x h. h;
+  read = λ l i closed e f t x h. h;
+  write = λ l v i e t x h. h;
+  close = λ i t x h. h;
+  abort = λ reason i e t x h. h;
+  enqueue = λ i v e o can t x h. h;
+  enqueue_half = λ i a v e o can t x h. h;
+  finish = λ i t x h. h;
+  fail_readable = λ i reason t x h. h;
+  fail_writable = λ i reason t x h. h;
+  fail_half = λ a reason t x h. h;
+  terminate = λ a t x h. h;
+  pipe = λ source dest prevent signal e f l m t x h. h;
+  make_signal = λ t x h. h;
+  trigger = λ a reason t x h. h;
+  settle = λ a answer p e t x h. h;
+})
+
+performed-tee_shapes : (d : Done) → tee_shapes (performed d) ≡ tee_shapes d.slots
+performed-tee_shapes d =
+    performed-goes tt (λ f g. tt) untold (λ e s. tt) (λ h s es. tee_shapes s ≡ tee_shapes d.slots) (λ h s e es k. row-tee_shapes e s ∙ k) tt d refl
+
+named-tee_shapes : (reply : Reply) (s : Slots) → tee_shapes (named reply s) ≡ tee_shapes s
+named-tee_shapes (Promise p) s = refl
+named-tee_shapes _ s = refl
+
+pub step-tee_shapes : (x : Entry) (s : Slots) → tee_shapes (step s x) ≡ tee_shapes (begun_by s x).slots
+step-tee_shapes (Called c) s = let d : Done = (begin c s).done in named-tee_shapes (begin c s).reply (performed d) ∙ performed-tee_shapes d
+step-tee_shapes Worked s = performed-tee_shapes (begin_job s)
+step-tee_shapes Heard s = refl
+
+begun-among_tees : (job : Option Job) (s : Slots) → tee_shapes (job_begun s job).slots ≡ tee_shapes s
+begun-among_tees None s = refl
+begun-among_tees (Some job) s = refl
+
+entry-among_tees : (x : Entry) (s : Slots) → AmongTees (tee_shapes s) (tee_shapes (begun_by s x).slots)
+unfolding begin_job
+entry-among_tees (Called c) s = call-among_tees c s
+entry-among_tees Worked s = λ t x h. rw (begun-among_tees (next_job s.promises) s) h
+entry-among_tees Heard s = λ t x h. h
+
+pub step-among_tees : (x : Entry) (s : Slots) → AmongTees (tee_shapes s) (tee_shapes (step s x))
+step-among_tees x s = λ t y h. rw (step-tee_shapes x s) (entry-among_tees x s t y h)
+
+pub run-among_tees : (xs : List Entry) (s : Slots) → AmongTees (tee_shapes s) (tee_shapes (run xs s))
+run-among_tees [] s = λ t y h. h
+run-among_tees (x ∷ xs) s = λ t y h. run-among_tees xs (step s x) t y (step-among_tees x s t y h)
 
 pub run-halved : (xs : List Entry) (s : Slots) → Halved s → Halved (run xs s)
 run-halved xs s h = run-stays AlwaysHalved halved-stays (λ z k. k) xs s h

@@ -11,6 +11,7 @@ pub mod ByteHands
 pub mod WritableDoes
 pub mod PipeDoes
 pub mod TransformDoes
+pub mod TeeDoes
 pub mod Rows
 pub mod EachCall
 pub mod Begin

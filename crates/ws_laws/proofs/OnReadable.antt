@@ -4,20 +4,23 @@ use Rattle.std.proofs.Common.{◌≡◌, ℕ, Bool, true, false, List, [], ◌�
 use Rattle.ws_value.specs.declared.ids.PipeId.{PipeId}
 use Rattle.ws_value.specs.declared.ids.SignalId.{SignalId}
 use Rattle.ws_value.specs.declared.ids.StreamId.{StreamId}
+use Rattle.ws_value.specs.declared.ids.TeeId.{TeeId}
+use Rattle.ws_steps.specs.declared.tee.TeeOperation.{TeeOperation}
 use Rattle.ws_value.specs.declared.value.Value.{Value}
 use Rattle.ws_steps.specs.declared.{calls.Call.{Call}, effects.Effect.{Effect}}
-use Rattle.ws_steps.specs.declared.effects.Effect.TheVariants.{Readable, Byte, Writable, Pipe, Signal, Transform, StartAlgorithm, PullAlgorithm, CancelAlgorithm, WriteAlgorithm, CloseAlgorithm, AbortAlgorithm, ChunkSteps, CloseSteps, CloseStepsWith, ErrorSteps}
-use Rattle.ws_steps.specs.declared.{effects.Owner.{Owner}, locks.Lock.{Lock}, promises.Job.{Job}, readable.ReadRequest.{ReadRequest}, readable.ReadRequest.TheVariants.{Promise, Pipe as PipeRequest}}
+use Rattle.ws_steps.specs.declared.effects.Effect.TheVariants.{Readable, Byte, Writable, Pipe, Signal, Transform, Tee, StartAlgorithm, PullAlgorithm, CancelAlgorithm, WriteAlgorithm, CloseAlgorithm, AbortAlgorithm, ChunkSteps, CloseSteps, CloseStepsWith, ErrorSteps}
+use Rattle.ws_steps.specs.declared.{effects.Owner.{Owner}, locks.Lock.{Lock}, promises.Job.{Job}, readable.ReadRequest.{ReadRequest}, readable.ReadRequest.TheVariants.{Promise, Pipe as PipeRequest, Tee as TeeRequest}}
 use Rattle.ws_steps.specs.declared.{pipes.PipeOperation.{PipeOperation}, pipes.PipeOperation.TheVariants.{KeepChunk, ReadEnded, PartSettled, NoParts}, pipes.SignalOperation.{SignalOperation}}
 use Rattle.ws_steps.specs.declared.{readable.ReadableOperation.{ReadableOperation}, readable.SizeBy.{SizeBy}, transform.TransformId.{TransformId}, transform.TransformOperation.{TransformOperation}}
-use Rattle.ws_steps.specs.Operations.{readable_operation, byte_readable_operation, byte_operation, writable_operation, pipe_operation, signal_operation, transform_operation}
+use Rattle.ws_steps.specs.Operations.{readable_operation, byte_readable_operation, byte_operation, writable_operation, pipe_operation, signal_operation, transform_operation, tee_operation}
 use Rattle.ws_steps.specs.declared.byte.ByteOperation.{ByteOperation}
 use Rattle.ws_steps.specs.Bytes as byte
 use Rattle.ws_steps.specs.Pipes as piping
 use Rattle.ws_steps.specs.Readable as readable
+use Rattle.ws_steps.specs.Tee as teeing
 use Rattle.ws_steps.specs.Transform as transforms
 use Rattle.ws_steps.specs.Writable as writable
-use Rattle.ws_steps.specs.Slots.{Slots, Stream, ReadableStream, ByteStream, WritableStream, Done, has_byte, is_byte_stream, on_byte, found, ends_at, halves_at, on_pipe_at, on_signal_at, on_transform_at, on_readable, has_readable, is_readable_stream, readable_at, as_readable, no_readable, empty}
+use Rattle.ws_steps.specs.Slots.{Slots, Stream, ReadableStream, ByteStream, WritableStream, Done, has_byte, is_byte_stream, on_byte, found, ends_at, halves_at, on_pipe_at, on_signal_at, on_transform_at, on_tee_at, on_readable, has_readable, is_readable_stream, readable_at, as_readable, no_readable, empty}
 use Rattle.ws_steps.specs.Turns.{row, on_source}
 use Rattle.ws_steps.specs.Jobs.{job_effects}
 use Rattle.ws_steps.specs.Calls.{begin}
@@ -25,7 +28,7 @@ use Rattle.ws_steps.specs.Run.{Entry, step, run, after_event}
 use Rattle.ws_steps.specs.Histories.{is_same, in_step, over}
 use Rattle.ws_laws.proofs.Tables.{same_id, eq_numbers, unequal_numbers, readable_acts, on_readable-same, on_writable-there, on_writable-readable, on_writable-byte, on_source-byte, on_source-readable, on_source-other, on_byte-same, on_byte-other, no_readable_there, no_stream, place_last, place_before}
 use Rattle.ws_laws.proofs.Lists.{Each}
-use Rattle.ws_laws.proofs.Rows.{Causes, ChunkCauses, EndCauses, IsNoPipe, row-causes, row-locks, row-pipes, row-streams}
+use Rattle.ws_laws.proofs.Rows.{Causes, ChunkCauses, EndCauses, ErrorCauses, IsNoPipe, IsNoTee, row-causes, row-locks, row-pipes, row-tees, row-streams}
 use Rattle.ws_laws.proofs.Begin.{begin-makes}
 use Rattle.ws_laws.proofs.Walker.{IsHistory, GoesUntold, RestsUntold, Stays, step-goes_untold, run-holds}
 
@@ -48,7 +51,7 @@ is_still NoParts = true
 is_still _ = false
 
 -- effects that are neither an operation nor a request's steps of readable stream i, nor an operation of a pipe that causes another, nor
--- one of a signal. One of a transform stream is among them, though it may cause an operation of the stream
+-- one of a signal. One of a transform stream or of a tee is among them, though it may cause an operation of the stream
 abbrev pub IsForeign : StreamId → Effect → Type 0
 IsForeign i (Readable j operation) = is_same i j ≡ false
 IsForeign i (ChunkSteps j request v) = is_same i j ≡ false
@@ -68,10 +71,17 @@ AreSteps i _ = ⊥
 chunk-foreign : (i : StreamId) (v : Value) (request : ReadRequest) → ChunkCauses (IsForeign i) v request
 chunk-foreign i v (Promise p) = tt
 chunk-foreign i v (PipeRequest p) = refl
+chunk-foreign i v (TeeRequest t) = tt
 
 end-foreign : (i : StreamId) (request : ReadRequest) → EndCauses (IsForeign i) request
 end-foreign i (Promise p) = tt
 end-foreign i (PipeRequest p) = refl
+end-foreign i (TeeRequest t) = tt
+
+error-foreign : (i : StreamId) (request : ReadRequest) → ErrorCauses (IsForeign i) request
+error-foreign i (Promise p) = tt
+error-foreign i (PipeRequest p) = refl
+error-foreign i (TeeRequest t) = tt
 
 -- other effects than operations of transform streams
 abbrev pub IsNoTransform : Effect → Type 0
@@ -83,45 +93,51 @@ abbrev pub IsElsewhere : StreamId → Effect → Type 0
 IsElsewhere i (Byte j operation) = is_same i j ≡ false
 IsElsewhere i _ = Unit {0}
 
-foreign-causes : (i : StreamId) (e : Effect) → IsNoPipe e → IsNoTransform e → IsElsewhere i e → IsForeign i e → Causes (IsForeign i) e
-foreign-causes i (Readable j operation) n m b f = record { pull = tt; cancel = λ r p. tt; chunk = λ r v. f; close = λ r. f; error = λ r e. f }
-foreign-causes i (Byte j operation) n m b f = record { readable = record { pull = tt; cancel = λ r p. tt; chunk = λ r v. b; close = λ r. b; error = λ r e. b }; close_with = λ r c. tt }
-foreign-causes i (CloseStepsWith j request c) n m b f = end-foreign i request
-foreign-causes i (Writable j operation) n m b f = record { write = tt; close = tt; abort = λ r p. tt; hand_on = λ v. tt; take = λ v t d. tt }
-foreign-causes i (StartAlgorithm j step start) n m b f = (λ g u. tt, λ c u. tt)
-foreign-causes i (PullAlgorithm j) n m b f = (λ c u. tt, λ t u. tt)
-foreign-causes i (CancelAlgorithm j r p) n m b f = (λ c u. tt, λ t u. tt)
-foreign-causes i (WriteAlgorithm j) n m b f = (tt, λ t u. tt)
-foreign-causes i (CloseAlgorithm j) n m b f = (λ c u. tt, λ t u. tt)
-foreign-causes i (AbortAlgorithm j r p) n m b f = (λ c u. tt, λ t u. tt)
-foreign-causes i (Pipe p operation) n m b f = absurd n
-foreign-causes i (Transform t operation) n m b f = absurd m
-foreign-causes i (Signal a operation) n m b f = absurd f
-foreign-causes i (ChunkSteps j request v) n m b f = chunk-foreign i v request
-foreign-causes i (CloseSteps j request) n m b f = end-foreign i request
-foreign-causes i (ErrorSteps j request e) n m b f = end-foreign i request
-foreign-causes i _ n m b f = tt
+foreign-causes : (i : StreamId) (e : Effect) → IsNoPipe e → IsNoTransform e → IsNoTee e → IsElsewhere i e → IsForeign i e → Causes (IsForeign i) e
+foreign-causes i (Readable j operation) n m d b f = record { pull = tt; cancel = λ r p. tt; chunk = λ r v. f; close = λ r. f; error = λ r e. f }
+foreign-causes i (Byte j operation) n m d b f = record { readable = record { pull = tt; cancel = λ r p. tt; chunk = λ r v. b; close = λ r. b; error = λ r e. b }; close_with = λ r c. tt }
+foreign-causes i (CloseStepsWith j request c) n m d b f = end-foreign i request
+foreign-causes i (Writable j operation) n m d b f = record { write = tt; close = tt; abort = λ r p. tt; hand_on = λ v. tt; take = λ v t d. tt }
+foreign-causes i (StartAlgorithm j step start) n m d b f = (λ g u. tt, λ c u. tt)
+foreign-causes i (PullAlgorithm j) n m d b f = (λ c u. tt, (λ t u. tt, (λ t. tt, λ u. tt)))
+foreign-causes i (CancelAlgorithm j r p) n m d b f = (λ c u. tt, (λ t u. tt, λ t half u. tt))
+foreign-causes i (WriteAlgorithm j) n m d b f = (tt, λ t u. tt)
+foreign-causes i (CloseAlgorithm j) n m d b f = (λ c u. tt, λ t u. tt)
+foreign-causes i (AbortAlgorithm j r p) n m d b f = (λ c u. tt, λ t u. tt)
+foreign-causes i (Pipe p operation) n m d b f = absurd n
+foreign-causes i (Transform t operation) n m d b f = absurd m
+foreign-causes i (Tee t operation) n m d b f = absurd d
+foreign-causes i (Signal a operation) n m d b f = absurd f
+foreign-causes i (ChunkSteps j request v) n m d b f = chunk-foreign i v request
+foreign-causes i (CloseSteps j request) n m d b f = end-foreign i request
+foreign-causes i (ErrorSteps j request e) n m d b f = error-foreign i request
+foreign-causes i _ n m d b f = tt
 
 steps-foreign : (i : StreamId) (e : Effect) → AreSteps i e → Causes (IsForeign i) e
 steps-foreign i (ChunkSteps j request v) are = chunk-foreign i v request
 steps-foreign i (CloseSteps j request) are = end-foreign i request
-steps-foreign i (ErrorSteps j request e) are = end-foreign i request
+steps-foreign i (ErrorSteps j request e) are = error-foreign i request
 steps-foreign i _ are = absurd are
 
--- who may hold streams: readers and writers, and pipes
+-- who may hold streams: readers and writers, pipes, and tees
 pub record Holders : Type 0 where
   pub locks : List Lock
   pub pipes : List piping.Slots
+  pub tees : List teeing.Slots
 
 abbrev pub holders : Slots → Holders
-holders s = record { locks = s.locks; pipes = s.pipes }
+holders s = record { locks = s.locks; pipes = s.pipes; tees = s.tees }
 
 abbrev pub no_holders : Holders
-no_holders = record { locks = []; pipes = [] }
+no_holders = record { locks = []; pipes = []; tees = [] }
 
 -- with pipe p so
 abbrev pub with_pipe : PipeId → piping.Slots → Slots → Holders
-with_pipe p x s = record { locks = s.locks; pipes = slice_set s.pipes p.0 x }
+with_pipe p x s = record { locks = s.locks; pipes = slice_set s.pipes p.0 x; tees = s.tees }
+
+-- with tee t so
+abbrev pub with_tee : TeeId → teeing.Slots → Slots → Holders
+with_tee t x s = record { locks = s.locks; pipes = s.pipes; tees = slice_set s.tees t.0 x }
 
 -- what an operation of a pipe leaves
 abbrev pub piped : PipeId → PipeOperation → Slots → piping.Slots → piping.Acts
@@ -130,6 +146,10 @@ piped p operation s x = pipe_operation p (ends_at x s) operation (record { slots
 -- what an operation of a transform stream leaves
 abbrev pub transformed : TransformId → TransformOperation → Slots → transforms.Slots → transforms.Acts
 transformed t operation s x = transform_operation t (halves_at x s) operation (record { slots = x; out = found s })
+
+-- what an operation of a tee leaves
+abbrev pub teed : TeeId → TeeOperation → Slots → teeing.Slots → teeing.Acts
+teed t operation s x = tee_operation t operation (record { slots = x; out = found s })
 
 -- K and M at a moment, where stream i has no byte controller
 pub record Kept {H V : Type 0} (seen : Effect → List V) (i : StreamId) (K : H → Holders → readable.Slots → List V → Type 0) (M : H → Holders → Type 0)
@@ -166,6 +186,12 @@ pub record IsLaw {H V : Type 0} (none : H) (after : H → H → H) (told : Effec
   -- and one of a transform stream
   pub transform : (t : TransformId) (operation : TransformOperation) (s : Slots) (x : transforms.Slots) (es : List Effect) → P s (Transform t operation ∷ es) → slice_get s.transforms t.0 ≡ Some x
       → (h : H) → K h (holders s) (readable_at i s) (all_seen seen es) → K h (holders s) (readable_at i s) (all_seen seen (transformed t operation s x).out.effects ++ all_seen seen es)
+  -- and one of a tee
+  pub tee : (t : TeeId) (operation : TeeOperation) (s : Slots) (x : teeing.Slots) (es : List Effect) → P s (Tee t operation ∷ es) → slice_get s.tees t.0 ≡ Some x
+      → (h : H) → K h (holders s) (readable_at i s) (all_seen seen es)
+      → let b : teeing.Acts = teed t operation s x in K h (with_tee t b.slots s) (readable_at i s) (all_seen seen b.out.effects ++ all_seen seen es)
+  pub tee_unmade : (t : TeeId) (operation : TeeOperation) (s : Slots) (x : teeing.Slots) → slice_get s.tees t.0 ≡ Some x → (h : H) → M h (holders s)
+      → M h (with_tee t (teed t operation s x).slots s)
   -- a call makes pipes, takes and lets go of locks, and begins with its effects
   pub call : (c : Call) (s : Slots) (h : H) → let z : Slots = (begin c s).done.slots in Kept seen i K M h (holders s) z.streams [] → Kept seen i K M h (holders z) z.streams (begin c s).done.caused
   pub job : (job : Job) (h : H) (o : Holders) (r : readable.Slots) → K h o r [] → K h o r (all_seen seen (job_effects job))
@@ -185,12 +211,12 @@ module _ {H V : Type 0} (none : H) (after : H → H → H) (told : Effect → Sl
   none_seen [] f = refl
   none_seen (e ∷ es) f = rw (law.unseen e f.0, none_seen es f.1) refl
 
-  foreign : (h : H) (s : Slots) (e : Effect) (es : List Effect) → IsNoPipe e → IsNoTransform e → IsElsewhere i e → IsForeign i e → has_byte i (row e s).slots ≡ has_byte i s
+  foreign : (h : H) (s : Slots) (e : Effect) (es : List Effect) → IsNoPipe e → IsNoTransform e → IsNoTee e → IsElsewhere i e → IsForeign i e → has_byte i (row e s).slots ≡ has_byte i s
       → has_readable i (row e s).slots ≡ has_readable i s → readable_at i (row e s).slots ≡ readable_at i s → Is h s (e ∷ es)
       → Is (after h (told e s)) (row e s).slots ((row e s).caused ++ es)
-  foreign h s e es n m b f kind there same k =
-      let caused = none_seen (row e s).caused (row-causes (IsForeign i) e s (foreign-causes i e n m b f)) in
-      rw (law.untold e s f, law.history.right h, row-locks e s, row-pipes e s n)
+  foreign h s e es n m d b f kind there same k =
+      let caused = none_seen (row e s).caused (row-causes (IsForeign i) e s (foreign-causes i e n m d b f)) in
+      rw (law.untold e s f, law.history.right h, row-locks e s, row-pipes e s n, row-tees e s d)
       (record {
         unmade = λ c n. k.unmade (sym kind ∙ c) (sym there ∙ n);
         held = λ c.
@@ -228,7 +254,7 @@ module _ {H V : Type 0} (none : H) (after : H → H → H) (told : Effect → Sl
   unfolding row
   by_place j operation h s es false e k =
       let other = on_source-other operation j s i (sym e) in
-      foreign h s (Readable j operation) es tt tt tt (sym e) (ap is_byte_stream other) (ap is_readable_stream other) (ap as_readable other) k
+      foreign h s (Readable j operation) es tt tt tt tt (sym e) (ap is_byte_stream other) (ap is_readable_stream other) (ap as_readable other) k
   by_place j operation h s es true e k =
       let is : j ≡ i = sym (same_id i j (sym e)) in
       rw is (by_kind operation h s es (has_byte i s) refl (rw is at k))
@@ -247,19 +273,19 @@ module _ {H V : Type 0} (none : H) (after : H → H → H) (told : Effect → Sl
   unfolding row
   by_byte j operation h s es false e k =
       let other = on_byte-other (byte_operation j operation) j s i (sym e) in
-      foreign h s (Byte j operation) es tt tt (sym e) tt (ap is_byte_stream other) (ap is_readable_stream other) (ap as_readable other) k
+      foreign h s (Byte j operation) es tt tt tt (sym e) tt (ap is_byte_stream other) (ap is_readable_stream other) (ap as_readable other) k
   by_byte j operation h s es true e k =
       let is : j ≡ i = sym (same_id i j (sym e)) in
       rw is (by_own operation h s es (has_byte i s) refl (rw is at k))
 
-  by_steps : (e : Effect) (h : H) (s : Slots) (es : List Effect) (same : Bool) → IsNoPipe e → IsNoTransform e → IsElsewhere i e → (same ≡ true → AreSteps i e) → (same ≡ false → IsForeign i e)
+  by_steps : (e : Effect) (h : H) (s : Slots) (es : List Effect) (same : Bool) → IsNoPipe e → IsNoTransform e → IsNoTee e → IsElsewhere i e → (same ≡ true → AreSteps i e) → (same ≡ false → IsForeign i e)
       → (row e s).slots.streams ≡ s.streams → Is h s (e ∷ es) → Is (after h (told e s)) (row e s).slots ((row e s).caused ++ es)
-  by_steps e h s es false n m b here there same k =
-      foreign h s e es n m b (there refl) (ap (λ (streams : List Stream). is_byte_stream (slice_get streams i.0)) same) (ap (λ (streams : List Stream). is_readable_stream (slice_get streams i.0)) same)
+  by_steps e h s es false n m d b here there same k =
+      foreign h s e es n m d b (there refl) (ap (λ (streams : List Stream). is_byte_stream (slice_get streams i.0)) same) (ap (λ (streams : List Stream). is_readable_stream (slice_get streams i.0)) same)
       (ap (λ (streams : List Stream). as_readable (slice_get streams i.0)) same) k
-  by_steps e h s es true n m b here there same k =
+  by_steps e h s es true n m d b here there same k =
       let caused = none_seen (row e s).caused (row-causes (IsForeign i) e s (steps-foreign i e (here refl))) in
-      rw (row-locks e s, row-pipes e s n) (record {
+      rw (row-locks e s, row-pipes e s n, row-tees e s d) (record {
         unmade = λ c n. law.steps_unmade e (here refl) s h (holders s) (k.unmade (rw (← same) c) (rw (← same) n));
         held = λ c. rw (same, all_seen-append seen (row e s).caused es, caused) (law.steps e (here refl) s h (holders s) (readable_at i s) (all_seen seen es) (k.held (rw (← same) c)));
       })
@@ -289,23 +315,34 @@ module _ {H V : Type 0} (none : H) (after : H → H → H) (told : Effect → Sl
     held = λ c. rw (all_seen-append seen (transformed t operation s x).out.effects es) (law.transform t operation s x es known e h (rw (law.unseen (Transform t operation) tt) at k.held c));
   }
 
+  tee_place : (t : TeeId) (operation : TeeOperation) (h : H) (s : Slots) (es : List Effect) (o : Option teeing.Slots) → slice_get s.tees t.0 ≡ o
+      → P s (Tee t operation ∷ es) → Is h s (Tee t operation ∷ es)
+      → let d : Done = on_tee_at (tee_operation t operation) t s o in Is h d.slots (d.caused ++ es)
+  tee_place t operation h s es None e known k = record { unmade = k.unmade; held = λ c. rw (law.unseen (Tee t operation) tt) at k.held c }
+  tee_place t operation h s es (Some x) e known k = record {
+    unmade = λ c n. law.tee_unmade t operation s x e h (k.unmade c n);
+    held = λ c. rw (all_seen-append seen (teed t operation s x).out.effects es) (law.tee t operation s x es known e h (rw (law.unseen (Tee t operation) tt) at k.held c));
+  }
+
   row-kept : (h : H) (s : Slots) (e : Effect) (es : List Effect) → P s (e ∷ es) → Is h s (e ∷ es) → Is (after h (told e s)) (row e s).slots ((row e s).caused ++ es)
   unfolding row
   row-kept h s (Readable j operation) es known k = by_place j operation h s es (is_same i j) refl k
   row-kept h s (Byte j operation) es known k = by_byte j operation h s es (is_same i j) refl k
   row-kept h s (Writable j operation) es known k =
-      foreign h s (Writable j operation) es tt tt tt tt (on_writable-byte (writable_operation j operation) j s i)
+      foreign h s (Writable j operation) es tt tt tt tt tt (on_writable-byte (writable_operation j operation) j s i)
       (on_writable-there (writable_operation j operation) j s i (is_same i j) refl) (on_writable-readable (writable_operation j operation) j s i (is_same i j) refl) k
-  row-kept h s (ChunkSteps j request v) es known k = by_steps (ChunkSteps j request v) h s es (is_same i j) tt tt tt (λ e. e) (λ e. e) (row-streams (ChunkSteps j request v) s tt) k
-  row-kept h s (CloseSteps j request) es known k = by_steps (CloseSteps j request) h s es (is_same i j) tt tt tt (λ e. e) (λ e. e) (row-streams (CloseSteps j request) s tt) k
-  row-kept h s (ErrorSteps j request r) es known k = by_steps (ErrorSteps j request r) h s es (is_same i j) tt tt tt (λ e. e) (λ e. e) (row-streams (ErrorSteps j request r) s tt) k
+  row-kept h s (ChunkSteps j request v) es known k = by_steps (ChunkSteps j request v) h s es (is_same i j) tt tt tt tt (λ e. e) (λ e. e) (row-streams (ChunkSteps j request v) s tt) k
+  row-kept h s (CloseSteps j request) es known k = by_steps (CloseSteps j request) h s es (is_same i j) tt tt tt tt (λ e. e) (λ e. e) (row-streams (CloseSteps j request) s tt) k
+  row-kept h s (ErrorSteps j request r) es known k = by_steps (ErrorSteps j request r) h s es (is_same i j) tt tt tt tt (λ e. e) (λ e. e) (row-streams (ErrorSteps j request r) s tt) k
   row-kept h s (Pipe p operation) es known k = rw (law.pipe_untold p operation s, law.history.right h) (pipe_place p operation h s es (slice_get s.pipes p.0) refl known k)
   row-kept h s (Signal a operation) es known k = rw (law.signal_untold a operation s, law.history.right h) (signal_place a operation h s es (slice_get s.signals a.0) k)
   row-kept h s (Transform t operation) es known k =
       rw (law.untold (Transform t operation) s tt, law.history.right h) (transform_place t operation h s es (slice_get s.transforms t.0) refl known k)
+  row-kept h s (Tee t operation) es known k =
+      rw (law.untold (Tee t operation) s tt, law.history.right h) (tee_place t operation h s es (slice_get s.tees t.0) refl known k)
   row-kept h s e es known k =
       let same = row-streams e s tt in
-      foreign h s e es tt tt tt tt (ap (λ (streams : List Stream). is_byte_stream (slice_get streams i.0)) same) (ap (λ (streams : List Stream). is_readable_stream (slice_get streams i.0)) same)
+      foreign h s e es tt tt tt tt tt (ap (λ (streams : List Stream). is_byte_stream (slice_get streams i.0)) same) (ap (λ (streams : List Stream). is_readable_stream (slice_get streams i.0)) same)
       (ap (λ (streams : List Stream). as_readable (slice_get streams i.0)) same) k
 
   -- a new stream
@@ -337,6 +374,7 @@ module _ {H V : Type 0} (none : H) (after : H → H → H) (told : Effect → Sl
         pipe = λ z source dest prevent signal promise k. k;
         signal = λ z k. k;
         transform = λ z kind writable readable change k. k;
+        tee = λ z source first second cancel k. k;
         readable = λ z owner mark size k. appended (ReadableStream (readable.set_up owner mark size)) h (holders s) z (nat_eq i.0 (length z.streams)) refl k (λ c. law.made owner mark size h (holders s));
         bytes = λ z mark auto k. appended (ByteStream (byte.set_up mark auto)) h (holders s) z (nat_eq i.0 (length z.streams)) refl k (λ c. cc);
         byob_requests = λ z r k. k;

@@ -5,30 +5,35 @@ use Rattle.ws_value.specs.declared.ids.PipeId.{PipeId}
 use Rattle.ws_value.specs.declared.ids.PromiseId.{PromiseId}
 use Rattle.ws_value.specs.declared.ids.SignalId.{SignalId}
 use Rattle.ws_value.specs.declared.ids.StreamId.{StreamId}
+use Rattle.ws_value.specs.declared.ids.TeeId.{TeeId}
 use Rattle.ws_value.specs.declared.value.Outcome.{Outcome}
 use Rattle.ws_value.specs.declared.value.Outcome.TheVariants.{Given, Finished}
 use Rattle.ws_value.specs.declared.value.Plain.{Plain}
 use Rattle.ws_value.specs.declared.value.Plain.TheVariants.{Undefined}
 use Rattle.ws_value.specs.declared.value.Value.{Value}
 use Rattle.ws_value.specs.declared.value.Value.TheVariants.{Plain as PlainValue, Bytes}
-use Rattle.std.specs.Prelude.{Err}
+use Rattle.std.specs.Prelude.{Ok, Err}
 use Rattle.ws_steps.specs.declared.{calls.Event.{Event}, calls.Event.TheVariants.{Signal}, calls.HostCall.{HostCall}, calls.StartBy.{StartBy}, calls.StartBy.TheVariants.{Now, Later}}
 use Rattle.ws_steps.specs.declared.byte.ByteOperation.{ByteOperation}
 use Rattle.ws_steps.specs.declared.effects.Effect.{Effect}
 use Rattle.ws_steps.specs.declared.readable.ReadableOperation.{ReadableOperation}
-use Rattle.ws_steps.specs.declared.effects.Effect.TheVariants.{Readable, Byte, Writable, Pipe, Signal, Transform, StartAlgorithm, PullAlgorithm, CancelAlgorithm, WriteAlgorithm, CloseAlgorithm, AbortAlgorithm, ChunkSteps, CloseSteps, CloseStepsWith, ErrorSteps, Give, Settle, Queue, CallHost}
-use Rattle.ws_steps.specs.declared.{effects.Gift.{Gift}, effects.Gift.TheVariants.{This, Fresh}, effects.Owner.{Owner}, effects.Owner.TheVariants.{Host, HalfOf}, effects.Use.{Use}}
+use Rattle.ws_steps.specs.declared.effects.Effect.TheVariants.{Readable, Byte, Writable, Pipe, Signal, Transform, Tee, StartAlgorithm, PullAlgorithm, CancelAlgorithm, WriteAlgorithm, CloseAlgorithm, AbortAlgorithm, ChunkSteps, CloseSteps, CloseStepsWith, ErrorSteps, Give, Settle, Queue, CallHost}
+use Rattle.ws_steps.specs.declared.{effects.Gift.{Gift}, effects.Gift.TheVariants.{This, Fresh}, effects.Owner.{Owner}, effects.Owner.TheVariants.{Host, HalfOf, BranchOf}, effects.Use.{Use}}
 use Rattle.ws_steps.specs.declared.{effects.Use.TheVariants.{React, Resolve}, promises.Reaction.{Reaction}, promises.Reaction.TheVariants.{Perform}, promises.Step.{Step}}
-use Rattle.ws_steps.specs.declared.{readable.ReadRequest.{ReadRequest}, readable.ReadRequest.TheVariants.{Promise, Pipe as PipeRequest}, pipes.PipeOperation.{PipeOperation}, pipes.PipeOperation.TheVariants.{KeepChunk, ReadEnded, Abort}, pipes.SignalOperation.{SignalOperation}, pipes.SignalOperation.TheVariants.{Add, Forget, Trigger}, promises.Micro.{Micro}, transform.Taker.TheVariants.{ToHost}, transform.TransformId.{TransformId}, transform.TransformOperation.{TransformOperation}, writable.WritableOperation.TheVariants.{HandOn}}
+use Rattle.ws_steps.specs.declared.{readable.ReadRequest.{ReadRequest}, readable.ReadRequest.TheVariants.{Promise, Pipe as PipeRequest, Tee as TeeRequest}, pipes.PipeOperation.{PipeOperation}, pipes.PipeOperation.TheVariants.{KeepChunk, ReadEnded, Abort}, pipes.SignalOperation.{SignalOperation}, pipes.SignalOperation.TheVariants.{Add, Forget, Trigger}, promises.Micro.{Micro}, transform.Taker.TheVariants.{ToHost}, transform.TransformId.{TransformId}, transform.TransformOperation.{TransformOperation}, writable.WritableOperation.TheVariants.{HandOn}}
 use Rattle.ws_steps.specs.declared.transform.TransformOperation.TheVariants as transforms
+use Rattle.ws_steps.specs.declared.tee.Half.{Half}
+use Rattle.ws_steps.specs.declared.tee.TeeOperation.{TeeOperation}
+use Rattle.ws_steps.specs.declared.tee.TeeOperation.TheVariants as tees
 use Rattle.ws_steps.specs.Effects.{Out, cause}
 use Rattle.ws_steps.specs.Promises.{Table, is_pending, fresh, settle, answer, react, follow, queue_micro, tell, next_id, fresh_settled, use_this, use_gift}
-use Rattle.ws_steps.specs.Operations.{readable_operation, byte_readable_operation, byte_operation, writable_operation, pipe_operation, signal_operation, transform_operation}
-use Rattle.ws_steps.specs.Slots.{Slots, Stream, Done, nothing, has_readable, has_byte, has_writable, owner_at, found, ends_at, halves_at, put_readable, put_byte, put_writable, on_readable, on_byte, on_pipe_at, on_signal_at, on_transform_at}
+use Rattle.ws_steps.specs.Operations.{readable_operation, byte_readable_operation, byte_operation, writable_operation, pipe_operation, signal_operation, transform_operation, tee_operation}
+use Rattle.ws_steps.specs.Slots.{Slots, Stream, Done, nothing, has_readable, has_byte, has_writable, owner_at, found, ends_at, halves_at, put_readable, put_byte, put_writable, on_readable, on_byte, on_pipe_at, on_signal_at, on_transform_at, on_tee_at}
 use Rattle.ws_steps.specs.Turns.{row, start_algorithm, pull_algorithm, cancel_algorithm, write_algorithm, close_algorithm, abort_algorithm, call_host, on_source}
 use Rattle.ws_steps.specs.Writable.{write_to_host}
 use Rattle.ws_steps.specs.Pipes as pipe
 use Rattle.ws_steps.specs.Transform as transform
+use Rattle.ws_steps.specs.Tee as tee
 use Rattle.ws_steps.specs.Pipes.{abort_all, trigger_unless}
 use Rattle.ws_laws.proofs.Lists.{Each, each-append, each-map}
 use Rattle.ws_laws.proofs.ReadableDoes.{OfReadable, readable-does}
@@ -36,6 +41,7 @@ use Rattle.ws_laws.proofs.ByteDoes.{byte_readable-does, byte-does}
 use Rattle.ws_laws.proofs.WritableDoes.{writable-does}
 use Rattle.ws_laws.proofs.PipeDoes.{PipeCauses, pipe-causes, pipe-does}
 use Rattle.ws_laws.proofs.TransformDoes.{TransformCauses, transform-causes, transform-does}
+use Rattle.ws_laws.proofs.TeeDoes.{TeeCauses, tee-causes, tee-does}
 use Rattle.ws_laws.proofs.Tables.{either, readable_acts, byte_acts, writable_acts}
 
 -- what goes on with each change of promises
@@ -91,6 +97,12 @@ module _ (T : Table → Type 0) (changes : Settlings T) where
   transform-changes t operation s (Some x) h =
       transform-does T (record { fresh = changes.fresh; settle = changes.settle }) t (halves_at x s) operation (record { slots = x; out = found s }) h
 
+  tee-changes : (t : TeeId) (operation : TeeOperation) (s : Slots) (o : Option tee.Slots) → T s.promises
+      → T (on_tee_at (tee_operation t operation) t s o).slots.promises
+  tee-changes t operation s None h = h
+  tee-changes t operation s (Some x) h =
+      tee-does T (record { fresh = changes.fresh; micro = changes.micro }) t operation (record { slots = x; out = found s }) h
+
   of-changes : (i : StreamId) → OfReadable (λ (x : Out). T x.promises) i
   of-changes i = record {
     settle = λ x p o h. changes.settle x.promises p o h;
@@ -127,16 +139,21 @@ module _ (T : Table → Type 0) (changes : Settlings T) where
   row-settled (Pipe p operation) s n h = pipe-changes p operation s (slice_get s.pipes p.0) h
   row-settled (Signal a operation) s n h = signal-changes a operation s (slice_get s.signals a.0) h
   row-settled (Transform t operation) s n h = transform-changes t operation s (slice_get s.transforms t.0) h
+  row-settled (Tee t operation) s n h = tee-changes t operation s (slice_get s.tees t.0) h
   row-settled (StartAlgorithm i step Now) s n h = h
   row-settled (StartAlgorithm i step Later) s n h = changes.fresh s.promises h
   row-settled (ChunkSteps i (Promise p) v) s n h = absurd n
   row-settled (CloseSteps i (Promise p)) s n h = absurd n
   row-settled (CloseStepsWith i (Promise p) b) s n h = absurd n
   row-settled (CloseStepsWith i (PipeRequest p) b) s n h = h
+  row-settled (CloseStepsWith i (TeeRequest t) b) s n h = h
   row-settled (ErrorSteps i (Promise p) e) s n h = changes.settle s.promises p (Err e) h
   row-settled (ChunkSteps i (PipeRequest p) v) s n h = h
+  row-settled (ChunkSteps i (TeeRequest t) v) s n h = h
   row-settled (CloseSteps i (PipeRequest p)) s n h = h
+  row-settled (CloseSteps i (TeeRequest t)) s n h = h
   row-settled (ErrorSteps i (PipeRequest p) e) s n h = h
+  row-settled (ErrorSteps i (TeeRequest t) e) s n h = h
   row-settled (Queue m) s n h = changes.micro s.promises m h
   row-settled (Give gift u) s n h = gift-changes gift u s.promises h
   row-settled (Settle p o) s n h = changes.settle s.promises p o h
@@ -197,6 +214,11 @@ transform-streams : (t : TransformId) (operation : TransformOperation) (s : Slot
 transform-streams t operation s None = refl
 transform-streams t operation s (Some x) = refl
 
+tee-streams : (t : TeeId) (operation : TeeOperation) (s : Slots) (o : Option tee.Slots)
+    → (on_tee_at (tee_operation t operation) t s o).slots.streams ≡ s.streams
+tee-streams t operation s None = refl
+tee-streams t operation s (Some x) = refl
+
 pub row-streams : (e : Effect) (s : Slots) → IsApart e → (row e s).slots.streams ≡ s.streams
 unfolding row call_host
 row-streams (Readable i operation) s apart = absurd apart
@@ -205,16 +227,21 @@ row-streams (Writable i operation) s apart = absurd apart
 row-streams (Pipe p operation) s apart = pipe-streams p operation s (slice_get s.pipes p.0)
 row-streams (Signal a operation) s apart = signal-streams a operation s (slice_get s.signals a.0)
 row-streams (Transform t operation) s apart = transform-streams t operation s (slice_get s.transforms t.0)
+row-streams (Tee t operation) s apart = tee-streams t operation s (slice_get s.tees t.0)
 row-streams (StartAlgorithm i step Now) s apart = refl
 row-streams (StartAlgorithm i step Later) s apart = refl
 row-streams (ChunkSteps i (Promise p) v) s apart = refl
 row-streams (CloseSteps i (Promise p)) s apart = refl
 row-streams (ErrorSteps i (Promise p) e) s apart = refl
 row-streams (ChunkSteps i (PipeRequest p) v) s apart = refl
+row-streams (ChunkSteps i (TeeRequest t) v) s apart = refl
 row-streams (CloseSteps i (PipeRequest p)) s apart = refl
+row-streams (CloseSteps i (TeeRequest t)) s apart = refl
 row-streams (CloseStepsWith i (Promise p) b) s apart = refl
 row-streams (CloseStepsWith i (PipeRequest p) b) s apart = refl
+row-streams (CloseStepsWith i (TeeRequest t) b) s apart = refl
 row-streams (ErrorSteps i (PipeRequest p) e) s apart = refl
+row-streams (ErrorSteps i (TeeRequest t) e) s apart = refl
 row-streams _ s apart = refl
 
 pipe-locks : (p : PipeId) (operation : PipeOperation) (s : Slots) (o : Option pipe.Slots)
@@ -231,6 +258,11 @@ transform-locks : (t : TransformId) (operation : TransformOperation) (s : Slots)
     → (on_transform_at (λ halves. transform_operation t halves operation) t s o).slots.locks ≡ s.locks
 transform-locks t operation s None = refl
 transform-locks t operation s (Some x) = refl
+
+tee-locks : (t : TeeId) (operation : TeeOperation) (s : Slots) (o : Option tee.Slots)
+    → (on_tee_at (tee_operation t operation) t s o).slots.locks ≡ s.locks
+tee-locks t operation s None = refl
+tee-locks t operation s (Some x) = refl
 
 -- what an operation of a stream leaves: all but the streams and the promises
 module _ {X : Type 0} (look : Slots → X) (blind : (s : Slots) (streams : List Stream) (t : Table) → look (record s { streams = streams; promises = t }) ≡ look s) where
@@ -254,16 +286,21 @@ row-locks (Writable i operation) s =
 row-locks (Pipe p operation) s = pipe-locks p operation s (slice_get s.pipes p.0)
 row-locks (Signal a operation) s = signal-locks a operation s (slice_get s.signals a.0)
 row-locks (Transform t operation) s = transform-locks t operation s (slice_get s.transforms t.0)
+row-locks (Tee t operation) s = tee-locks t operation s (slice_get s.tees t.0)
 row-locks (StartAlgorithm i step Now) s = refl
 row-locks (StartAlgorithm i step Later) s = refl
 row-locks (ChunkSteps i (Promise p) v) s = refl
 row-locks (CloseSteps i (Promise p)) s = refl
 row-locks (ErrorSteps i (Promise p) e) s = refl
 row-locks (ChunkSteps i (PipeRequest p) v) s = refl
+row-locks (ChunkSteps i (TeeRequest t) v) s = refl
 row-locks (CloseSteps i (PipeRequest p)) s = refl
+row-locks (CloseSteps i (TeeRequest t)) s = refl
 row-locks (CloseStepsWith i (Promise p) b) s = refl
 row-locks (CloseStepsWith i (PipeRequest p) b) s = refl
+row-locks (CloseStepsWith i (TeeRequest t) b) s = refl
 row-locks (ErrorSteps i (PipeRequest p) e) s = refl
+row-locks (ErrorSteps i (TeeRequest t) e) s = refl
 row-locks _ s = refl
 
 -- other effects than operations of pipes leave the pipes
@@ -282,6 +319,11 @@ transform-pipes : (t : TransformId) (operation : TransformOperation) (s : Slots)
 transform-pipes t operation s None = refl
 transform-pipes t operation s (Some x) = refl
 
+tee-pipes : (t : TeeId) (operation : TeeOperation) (s : Slots) (o : Option tee.Slots)
+    → (on_tee_at (tee_operation t operation) t s o).slots.pipes ≡ s.pipes
+tee-pipes t operation s None = refl
+tee-pipes t operation s (Some x) = refl
+
 pub row-pipes : (e : Effect) (s : Slots) → IsNoPipe e → (row e s).slots.pipes ≡ s.pipes
 unfolding row call_host
 row-pipes (Readable i operation) s n = source-leaves (λ z. z.pipes) (λ z x o. refl) i operation s
@@ -291,17 +333,69 @@ row-pipes (Writable i operation) s n =
 row-pipes (Pipe p operation) s n = absurd n
 row-pipes (Signal a operation) s n = signal-pipes a operation s (slice_get s.signals a.0)
 row-pipes (Transform t operation) s n = transform-pipes t operation s (slice_get s.transforms t.0)
+row-pipes (Tee t operation) s n = tee-pipes t operation s (slice_get s.tees t.0)
 row-pipes (StartAlgorithm i step Now) s n = refl
 row-pipes (StartAlgorithm i step Later) s n = refl
 row-pipes (ChunkSteps i (Promise p) v) s n = refl
 row-pipes (CloseSteps i (Promise p)) s n = refl
 row-pipes (ErrorSteps i (Promise p) e) s n = refl
 row-pipes (ChunkSteps i (PipeRequest p) v) s n = refl
+row-pipes (ChunkSteps i (TeeRequest t) v) s n = refl
 row-pipes (CloseSteps i (PipeRequest p)) s n = refl
+row-pipes (CloseSteps i (TeeRequest t)) s n = refl
 row-pipes (CloseStepsWith i (Promise p) b) s n = refl
 row-pipes (CloseStepsWith i (PipeRequest p) b) s n = refl
+row-pipes (CloseStepsWith i (TeeRequest t) b) s n = refl
 row-pipes (ErrorSteps i (PipeRequest p) e) s n = refl
+row-pipes (ErrorSteps i (TeeRequest t) e) s n = refl
 row-pipes _ s n = refl
+
+-- other effects than operations of tees leave the tees
+
+abbrev pub IsNoTee : Effect → Type 0
+IsNoTee (Tee t operation) = ⊥
+IsNoTee _ = Unit {0}
+
+signal-tees : (a : SignalId) (operation : SignalOperation) (s : Slots) (o : Option pipe.Signal)
+    → (on_signal_at (signal_operation operation) a s o).slots.tees ≡ s.tees
+signal-tees a operation s None = refl
+signal-tees a operation s (Some x) = refl
+
+transform-tees : (t : TransformId) (operation : TransformOperation) (s : Slots) (o : Option transform.Slots)
+    → (on_transform_at (λ halves. transform_operation t halves operation) t s o).slots.tees ≡ s.tees
+transform-tees t operation s None = refl
+transform-tees t operation s (Some x) = refl
+
+pipe-tees : (p : PipeId) (operation : PipeOperation) (s : Slots) (o : Option pipe.Slots)
+    → (on_pipe_at (λ ends. pipe_operation p ends operation) p s o).slots.tees ≡ s.tees
+pipe-tees p operation s None = refl
+pipe-tees p operation s (Some x) = refl
+
+pub row-tees : (e : Effect) (s : Slots) → IsNoTee e → (row e s).slots.tees ≡ s.tees
+unfolding row call_host
+row-tees (Readable i operation) s n = source-leaves (λ z. z.tees) (λ z x o. refl) i operation s
+row-tees (Byte i operation) s n = byte-leaves (λ z. z.tees) (λ z x o. refl) i operation s
+row-tees (Writable i operation) s n =
+    either (λ (d : Done). d.slots.tees ≡ s.tees) (has_writable i s) (put_writable i s (writable_operation i operation (writable_acts i s))) (nothing s) (λ e. refl) (λ e. refl)
+row-tees (Pipe p operation) s n = pipe-tees p operation s (slice_get s.pipes p.0)
+row-tees (Signal a operation) s n = signal-tees a operation s (slice_get s.signals a.0)
+row-tees (Transform t operation) s n = transform-tees t operation s (slice_get s.transforms t.0)
+row-tees (Tee t operation) s n = absurd n
+row-tees (StartAlgorithm i step Now) s n = refl
+row-tees (StartAlgorithm i step Later) s n = refl
+row-tees (ChunkSteps i (Promise p) v) s n = refl
+row-tees (CloseSteps i (Promise p)) s n = refl
+row-tees (ErrorSteps i (Promise p) e) s n = refl
+row-tees (ChunkSteps i (PipeRequest p) v) s n = refl
+row-tees (ChunkSteps i (TeeRequest t) v) s n = refl
+row-tees (CloseSteps i (PipeRequest p)) s n = refl
+row-tees (CloseSteps i (TeeRequest t)) s n = refl
+row-tees (CloseStepsWith i (Promise p) b) s n = refl
+row-tees (CloseStepsWith i (PipeRequest p) b) s n = refl
+row-tees (CloseStepsWith i (TeeRequest t) b) s n = refl
+row-tees (ErrorSteps i (PipeRequest p) e) s n = refl
+row-tees (ErrorSteps i (TeeRequest t) e) s n = refl
+row-tees _ s n = refl
 
 -- what is to be shown of the effects that an operation of readable stream i may cause
 pub record ReadableCauses (P : Effect → Type 0) (i : StreamId) : Type 0 where
@@ -328,10 +422,17 @@ pub record WritableCauses (P : Effect → Type 0) (i : StreamId) : Type 0 where
 abbrev pub ChunkCauses : (Effect → Type 0) → Value → ReadRequest → Type 0
 ChunkCauses P v (Promise p) = Unit {0}
 ChunkCauses P v (PipeRequest p) = P (Pipe p (KeepChunk v))
+ChunkCauses P v (TeeRequest t) = P (Tee t (tees.KeepChunk v))
 
 abbrev pub EndCauses : (Effect → Type 0) → ReadRequest → Type 0
 EndCauses P (Promise p) = Unit {0}
 EndCauses P (PipeRequest p) = P (Pipe p ReadEnded)
+EndCauses P (TeeRequest t) = P (Tee t tees.SourceClosed)
+
+abbrev pub ErrorCauses : (Effect → Type 0) → ReadRequest → Type 0
+ErrorCauses P (Promise p) = Unit {0}
+ErrorCauses P (PipeRequest p) = P (Pipe p ReadEnded)
+ErrorCauses P (TeeRequest t) = P (Tee t tees.SourceErrored)
 
 -- an operation of a signal
 abbrev pub SignalCauses : (Effect → Type 0) → SignalOperation → Type 0
@@ -342,6 +443,19 @@ SignalCauses P operation = Unit {0}
 abbrev pub AlgorithmCauses : (Effect → Type 0) → (Use → TransformOperation) → Type 0
 AlgorithmCauses P half = ((call : HostCall) (u : Use) → P (CallHost call u)) × ((t : TransformId) (u : Use) → P (Transform t (half u)))
 
+-- or that of a branch of a tee
+abbrev pub PullCauses : (Effect → Type 0) → Type 0
+PullCauses P =
+    ((call : HostCall) (u : Use) → P (CallHost call u))
+    × (((t : TransformId) (u : Use) → P (Transform t (transforms.SourcePull u)))
+    × (((t : TeeId) → P (Tee t tees.PullBranch)) × ((u : Use) → P (Give (Fresh (Ok Undefined)) u))))
+
+abbrev pub CancelCauses : (Effect → Type 0) → Plain → Type 0
+CancelCauses P r =
+    ((call : HostCall) (u : Use) → P (CallHost call u))
+    × (((t : TransformId) (u : Use) → P (Transform t (transforms.SourceCancel r u)))
+    × ((t : TeeId) (half : Half) (u : Use) → P (Tee t (tees.CancelBranch half r u))))
+
 -- and any effect
 abbrev pub Causes : (Effect → Type 0) → Effect → Type 0
 Causes P (Readable i operation) = ReadableCauses P i
@@ -350,16 +464,17 @@ Causes P (Writable i operation) = WritableCauses P i
 Causes P (Pipe p operation) = (source dest : StreamId) (e : Effect) → PipeCauses p source dest e → P e
 Causes P (Signal a operation) = SignalCauses P operation
 Causes P (Transform t operation) = (writable readable : StreamId) (e : Effect) → TransformCauses t writable readable e → P e
+Causes P (Tee t operation) = (source first second : StreamId) (e : Effect) → TeeCauses t source first second e → P e
 Causes P (StartAlgorithm i step start) = ((gift : Gift) (u : Use) → P (Give gift u)) × ((call : HostCall) (u : Use) → P (CallHost call u))
-Causes P (PullAlgorithm i) = AlgorithmCauses P (λ u. transforms.SourcePull u)
-Causes P (CancelAlgorithm i r p) = AlgorithmCauses P (λ u. transforms.SourceCancel r u)
+Causes P (PullAlgorithm i) = PullCauses P
+Causes P (CancelAlgorithm i r p) = CancelCauses P r
 Causes P (WriteAlgorithm i) = P (Writable i (HandOn ToHost)) × ((t : TransformId) (u : Use) → P (Transform t (transforms.SinkWrite u)))
 Causes P (CloseAlgorithm i) = AlgorithmCauses P (λ u. transforms.SinkClose u)
 Causes P (AbortAlgorithm i r p) = AlgorithmCauses P (λ u. transforms.SinkAbort r u)
 Causes P (ChunkSteps i request v) = ChunkCauses P v request
 Causes P (CloseSteps i request) = EndCauses P request
 Causes P (CloseStepsWith i request b) = EndCauses P request
-Causes P (ErrorSteps i request e) = EndCauses P request
+Causes P (ErrorSteps i request e) = ErrorCauses P request
 Causes P _ = Unit {0}
 
 module _ (P : Effect → Type 0) where
@@ -372,23 +487,28 @@ module _ (P : Effect → Type 0) where
 
   pulled : (i : StreamId) (u : Use) (owner : Owner) → Causes P (PullAlgorithm i) → Each P (pull_algorithm i u owner)
   pulled i u Host c = (c.0 _ _, tt)
-  pulled i u (HalfOf t) c = (c.1 t _, tt)
+  pulled i u (HalfOf t) c = (c.1.0 t _, tt)
+  pulled i u (BranchOf t half) c = (c.1.1.0 t, (c.1.1.1 _, tt))
 
   cancelled : (i : StreamId) (r : Plain) (p : PromiseId) (u : Use) (owner : Owner) → Causes P (CancelAlgorithm i r p) → Each P (cancel_algorithm i r u owner)
   cancelled i r p u Host c = (c.0 _ _, tt)
-  cancelled i r p u (HalfOf t) c = (c.1 t _, tt)
+  cancelled i r p u (HalfOf t) c = (c.1.0 t _, tt)
+  cancelled i r p u (BranchOf t half) c = (c.1.1 t half _, tt)
 
   written : (i : StreamId) (owner : Owner) → Causes P (WriteAlgorithm i) → Each P (write_algorithm i owner)
   written i Host c = (c.0, tt)
   written i (HalfOf t) c = (c.1 t _, tt)
+  written i (BranchOf t half) c = (c.0, tt)
 
   closed : (i : StreamId) (u : Use) (owner : Owner) → Causes P (CloseAlgorithm i) → Each P (close_algorithm i u owner)
   closed i u Host c = (c.0 _ _, tt)
   closed i u (HalfOf t) c = (c.1 t _, tt)
+  closed i u (BranchOf t half) c = (c.0 _ _, tt)
 
   aborted : (i : StreamId) (r : Plain) (p : PromiseId) (u : Use) (owner : Owner) → Causes P (AbortAlgorithm i r p) → Each P (abort_algorithm i r u owner)
   aborted i r p u Host c = (c.0 _ _, tt)
   aborted i r p u (HalfOf t) c = (c.1 t _, tt)
+  aborted i r p u (BranchOf t half) c = (c.0 _ _, tt)
 
   piped : (p : PipeId) (operation : PipeOperation) (s : Slots) (o : Option pipe.Slots) → Causes P (Pipe p operation)
       → Each P (on_pipe_at (λ ends. pipe_operation p ends operation) p s o).caused
@@ -403,6 +523,13 @@ module _ (P : Effect → Type 0) where
   transformed t operation s (Some x) c =
       let a : transform.Acts = record { slots = x; out = found s } in
       each-map (TransformCauses t x.writable x.readable) P (c x.writable x.readable) _ (transform-causes t (halves_at x s) operation a tt).1.1.1
+
+  teed : (t : TeeId) (operation : TeeOperation) (s : Slots) (o : Option tee.Slots) → Causes P (Tee t operation)
+      → Each P (on_tee_at (tee_operation t operation) t s o).caused
+  teed t operation s None c = tt
+  teed t operation s (Some x) c =
+      let a : tee.Acts = record { slots = x; out = found s } in
+      each-map (TeeCauses t x.source x.branch1 x.branch2) P (c x.source x.branch1 x.branch2) _ ((tee-causes t operation a).effects tt)
 
   aborting : (r : Plain) (ps : List PipeId) → Causes P (Signal (record { 0 = 0 }) (Trigger r)) → Each P (abort_all r ps)
   aborting r [] c = tt
@@ -456,6 +583,7 @@ module _ (P : Effect → Type 0) where
   row-causes (Pipe p operation) s c = piped p operation s (slice_get s.pipes p.0) c
   row-causes (Signal a operation) s c = signalled a operation s (slice_get s.signals a.0) c
   row-causes (Transform t operation) s c = transformed t operation s (slice_get s.transforms t.0) c
+  row-causes (Tee t operation) s c = teed t operation s (slice_get s.tees t.0) c
   row-causes (StartAlgorithm i step start) s c = started i step s start c
   row-causes (PullAlgorithm i) s c = pulled i _ (owner_at i s) c
   row-causes (CancelAlgorithm i r p) s c = cancelled i r p _ (owner_at i s) c
@@ -470,4 +598,8 @@ module _ (P : Effect → Type 0) where
   row-causes (ChunkSteps i (PipeRequest p) v) s c = (c, tt)
   row-causes (CloseSteps i (PipeRequest p)) s c = (c, tt)
   row-causes (ErrorSteps i (PipeRequest p) e) s c = (c, tt)
+  row-causes (CloseStepsWith i (TeeRequest t) b) s c = (c, tt)
+  row-causes (ChunkSteps i (TeeRequest t) v) s c = (c, tt)
+  row-causes (CloseSteps i (TeeRequest t)) s c = (c, tt)
+  row-causes (ErrorSteps i (TeeRequest t) e) s c = (c, tt)
   row-causes _ s c = tt

@@ -1,38 +1,44 @@
 -- What no effect changes: which streams there are, of which kind each is and whose algorithms it performs, and the kind and the two halves of
--- each transform stream. So each half of a transform stream is its own.
+-- each transform stream, and the source and the two branches of each tee. So each half of a transform stream is its own, and each branch of a tee.
 use Rattle.std.proofs.Common.{◌≡◌, ℕ, zero, suc, List, [], ◌∷◌, map, Option, Some, None, Ok, Err, slice_get, slice_set, refl, sym, ap, ◌∙◌, arith}
 use Rattle.ws_value.specs.declared.ids.PipeId.{PipeId}
 use Rattle.ws_value.specs.declared.ids.PromiseId.{PromiseId}
 use Rattle.ws_value.specs.declared.ids.SignalId.{SignalId}
 use Rattle.ws_value.specs.declared.ids.StreamId.{StreamId}
+use Rattle.ws_value.specs.declared.ids.TeeId.{TeeId}
 use Rattle.ws_value.specs.declared.value.Plain.{Plain}
 use Rattle.ws_value.specs.declared.value.Value.{Value}
 use Rattle.ws_steps.specs.declared.byte.ByteOperation.{ByteOperation}
 use Rattle.ws_steps.specs.declared.effects.Effect.{Effect}
-use Rattle.ws_steps.specs.declared.effects.Effect.TheVariants.{Readable as OnReadable, Byte, Writable as OnWritable, Pipe, Signal, Transform, StartAlgorithm, ChunkSteps, CloseSteps, CloseStepsWith, ErrorSteps}
+use Rattle.ws_steps.specs.declared.effects.Effect.TheVariants.{Readable as OnReadable, Byte, Writable as OnWritable, Pipe, Signal, Transform, Tee, StartAlgorithm, ChunkSteps, CloseSteps, CloseStepsWith, ErrorSteps}
 use Rattle.ws_steps.specs.declared.calls.StartBy.TheVariants.{Now, Later}
 use Rattle.ws_steps.specs.declared.effects.Owner.{Owner}
 use Rattle.ws_steps.specs.declared.effects.Owner.TheVariants.{Host}
 use Rattle.ws_steps.specs.declared.pipes.PipeOperation.{PipeOperation}
 use Rattle.ws_steps.specs.declared.pipes.SignalOperation.{SignalOperation}
-use Rattle.ws_steps.specs.declared.readable.ReadRequest.TheVariants.{Promise, Pipe as PipeRequest}
+use Rattle.ws_steps.specs.declared.readable.ReadRequest.TheVariants.{Promise, Pipe as PipeRequest, Tee as TeeRequest}
 use Rattle.ws_steps.specs.declared.readable.ReadableOperation.{ReadableOperation}
+use Rattle.ws_steps.specs.declared.tee.Half.{Half}
+use Rattle.ws_steps.specs.declared.tee.Half.TheVariants.{First, Second}
+use Rattle.ws_steps.specs.declared.tee.TeeOperation.{TeeOperation}
 use Rattle.ws_steps.specs.declared.transform.Kind.{Kind}
 use Rattle.ws_steps.specs.declared.transform.TransformId.{TransformId}
 use Rattle.ws_steps.specs.declared.transform.TransformOperation.{TransformOperation}
 use Rattle.ws_steps.specs.declared.writable.WritableOperation.{WritableOperation}
 use Rattle.ws_steps.specs.declared.writable.WritableOperation.TheVariants as writes
-use Rattle.ws_steps.specs.Operations.{readable_operation, byte_readable_operation, byte_operation, writable_operation, pipe_operation, signal_operation, transform_operation}
+use Rattle.ws_steps.specs.Operations.{readable_operation, byte_readable_operation, byte_operation, writable_operation, pipe_operation, signal_operation, transform_operation, tee_operation}
 use Rattle.ws_steps.specs.Bytes as byte
 use Rattle.ws_steps.specs.Pipes as pipe
 use Rattle.ws_steps.specs.Readable as readable
+use Rattle.ws_steps.specs.Tee as tee
 use Rattle.ws_steps.specs.Transform as transform
 use Rattle.ws_steps.specs.Writable as writable
-use Rattle.ws_steps.specs.Slots.{Slots, Stream, ReadableStream, ByteStream, WritableStream, Done, on_readable, on_byte, has_byte, byte_at, put_byte, found, halves_at, on_pipe_at, on_signal_at, on_transform_at, has_readable, has_writable, readable_at, writable_at, nothing, owner_of, owner_at, put_readable, put_writable}
+use Rattle.ws_steps.specs.Slots.{Slots, Stream, ReadableStream, ByteStream, WritableStream, Done, on_readable, on_byte, has_byte, byte_at, put_byte, found, halves_at, on_pipe_at, on_signal_at, on_transform_at, on_tee_at, has_readable, has_writable, readable_at, writable_at, nothing, owner_of, owner_at, put_readable, put_writable}
 use Rattle.ws_steps.specs.Turns.{row, call_host}
 use Rattle.ws_laws.proofs.Tables.{either, readable_acts, byte_acts, writable_acts, readable_there, byte_there, writable_there}
-use Rattle.ws_laws.proofs.Rows.{row-streams, byte-leaves, source-leaves}
+use Rattle.ws_laws.proofs.Rows.{row-streams, row-tees, byte-leaves, source-leaves}
 use Rattle.ws_laws.proofs.TransformDoes.{transform-causes}
+use Rattle.ws_laws.proofs.TeeDoes.{tee-causes}
 
 -- of which kind a stream is, and whose algorithms it performs
 pub data StreamShape : Type 0 where
@@ -53,11 +59,26 @@ pub record TransformShape : Type 0 where
 abbrev pub transform_shape : transform.Slots → TransformShape
 transform_shape x = record { kind = x.kind; writable = x.writable; readable = x.readable }
 
+pub record TeeShape : Type 0 where
+  pub source : StreamId
+  pub branch1 : StreamId
+  pub branch2 : StreamId
+
+abbrev pub tee_shape : tee.Slots → TeeShape
+tee_shape x = record { source = x.source; branch1 = x.branch1; branch2 = x.branch2 }
+
+abbrev pub branch_of : Half → TeeShape → StreamId
+branch_of First x = x.branch1
+branch_of Second x = x.branch2
+
 abbrev pub stream_shapes : Slots → List StreamShape
 stream_shapes s = map stream_shape s.streams
 
 abbrev pub transform_shapes : Slots → List TransformShape
 transform_shapes s = map transform_shape s.transforms
+
+abbrev pub tee_shapes : Slots → List TeeShape
+tee_shapes s = map tee_shape s.tees
 
 -- a place of a list that is put with the same shape
 map-set_same : {X Y : Type 0} (f : X → Y) (xs : List X) (i : ℕ) (x y : X) → slice_get xs i ≡ Some x → f y ≡ f x → map f (slice_set xs i y) ≡ map f xs
@@ -188,6 +209,10 @@ signal-transforms : (a : SignalId) (operation : SignalOperation) (s : Slots) (o 
 signal-transforms a operation s None = refl
 signal-transforms a operation s (Some x) = refl
 
+tee-transforms : (t : TeeId) (operation : TeeOperation) (s : Slots) (o : Option tee.Slots) → (on_tee_at (tee_operation t operation) t s o).slots.transforms ≡ s.transforms
+tee-transforms t operation s None = refl
+tee-transforms t operation s (Some x) = refl
+
 pub row-transform_shapes : (e : Effect) (s : Slots) → transform_shapes (row e s).slots ≡ transform_shapes s
 unfolding row call_host
 row-transform_shapes (OnReadable i operation) s = source-leaves (λ z. transform_shapes z) (λ z x o. refl) i operation s
@@ -197,17 +222,38 @@ row-transform_shapes (OnWritable i operation) s =
 row-transform_shapes (Pipe p operation) s = ap (map transform_shape) (pipe-transforms p operation s (slice_get s.pipes p.0))
 row-transform_shapes (Signal a operation) s = ap (map transform_shape) (signal-transforms a operation s (slice_get s.signals a.0))
 row-transform_shapes (Transform t operation) s = transform-shape t operation s (slice_get s.transforms t.0) refl
+row-transform_shapes (Tee t operation) s = ap (map transform_shape) (tee-transforms t operation s (slice_get s.tees t.0))
 row-transform_shapes (StartAlgorithm i step Now) s = refl
 row-transform_shapes (StartAlgorithm i step Later) s = refl
 row-transform_shapes (ChunkSteps i (Promise p) v) s = refl
 row-transform_shapes (CloseSteps i (Promise p)) s = refl
 row-transform_shapes (ErrorSteps i (Promise p) e) s = refl
 row-transform_shapes (ChunkSteps i (PipeRequest p) v) s = refl
+row-transform_shapes (ChunkSteps i (TeeRequest t) v) s = refl
 row-transform_shapes (CloseSteps i (PipeRequest p)) s = refl
+row-transform_shapes (CloseSteps i (TeeRequest t)) s = refl
 row-transform_shapes (CloseStepsWith i (Promise p) b) s = refl
 row-transform_shapes (CloseStepsWith i (PipeRequest p) b) s = refl
+row-transform_shapes (CloseStepsWith i (TeeRequest t) b) s = refl
 row-transform_shapes (ErrorSteps i (PipeRequest p) e) s = refl
+row-transform_shapes (ErrorSteps i (TeeRequest t) e) s = refl
 row-transform_shapes _ s = refl
+
+-- each effect leaves the streams of the tees
+
+tee-shape : (t : TeeId) (operation : TeeOperation) (s : Slots) (o : Option tee.Slots) → slice_get s.tees t.0 ≡ o
+    → tee_shapes (on_tee_at (tee_operation t operation) t s o).slots ≡ tee_shapes s
+tee-shape t operation s None is = refl
+tee-shape t operation s (Some x) is =
+    let a : tee.Acts = record { slots = x; out = found s } in
+    let b : tee.Acts = tee_operation t operation a in
+    let k = (tee-causes t operation a).same in
+    map-set_same tee_shape s.tees t.0 x b.slots is (λ i. record { source = k.source i; branch1 = k.first i; branch2 = k.second i })
+
+pub row-tee_shapes : (e : Effect) (s : Slots) → tee_shapes (row e s).slots ≡ tee_shapes s
+unfolding row
+row-tee_shapes (Tee t operation) s = tee-shape t operation s (slice_get s.tees t.0) refl
+row-tee_shapes e s = ap (map tee_shape) (row-tees e s tt)
 
 -- an element of a list, by a map of it
 pub map-there : {X Y : Type 0} (f : X → Y) (xs : List X) (n : ℕ) (x : X) → slice_get xs n ≡ Some x → slice_get (map f xs) n ≡ Some (f x)

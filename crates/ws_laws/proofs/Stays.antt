@@ -35,6 +35,7 @@ module _ (before : Table) where
     pipe = λ s i j p a q k. k;
     signal = λ s k. k;
     transform = λ s x i j p k. k;
+    tee = λ s x i j p k. k;
     readable = λ s o m b k. k;
     bytes = λ s m a k. k;
     byob_requests = λ s r k. k;

@@ -46,6 +46,7 @@ module _ (i : StreamId) where
     pipe = λ z source dest prevent signal p k. k;
     signal = λ z k. k;
     transform = λ z kind w r p k. k;
+    tee = λ z source first second p k. k;
     readable = λ z owner mark size k. there-stays z.streams _ i.0 k;
     bytes = λ z mark auto k. there-stays z.streams _ i.0 k;
     byob_requests = λ z r k. k;

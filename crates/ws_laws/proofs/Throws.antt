@@ -33,6 +33,7 @@ throws_nothing c s calm = each_call (Idle s) c s (record {
   respond = λ q i b e is can t h. cc;
   make_writable = λ mark size start t h. cc;
   make_transform = λ kind m n start t h. cc;
+  make_tee = λ i e is free untied t h. cc;
   get_reader = λ i e t h. cc;
   get_writer = λ i e t h. cc;
   release_reader = λ l closed i e t h. cc;

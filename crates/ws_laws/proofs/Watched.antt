@@ -174,6 +174,7 @@ begin-grows c s = begin-makes (λ z. Grows s.promises z.promises) (record {
   pipe = λ z source dest prevent signal promise k. k;
   signal = λ z k. k;
   transform = λ z kind i j p k. k;
+  tee = λ z i j l p k. k;
   readable = λ z owner mark size k. k;
   bytes = λ z mark auto k. k;
   byob_requests = λ z r k. k;

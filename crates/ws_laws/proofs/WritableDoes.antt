@@ -7,7 +7,7 @@ use Rattle.ws_value.specs.declared.value.Plain.{Plain}
 use Rattle.ws_value.specs.declared.value.Plain.TheVariants.{Undefined}
 use Rattle.ws_value.specs.declared.value.Value.{Value}
 use Rattle.ws_steps.specs.declared.{calls.Event.TheVariants.{Signal}, effects.Effect.TheVariants.{Transform as OnTransform, WriteAlgorithm, CloseAlgorithm, AbortAlgorithm}, effects.Owner.{Owner}}
-use Rattle.ws_steps.specs.declared.{effects.Owner.TheVariants.{Host, HalfOf}, writable.PendingAbort.{PendingAbort}, writable.WritableOperation.{WritableOperation}}
+use Rattle.ws_steps.specs.declared.{effects.Owner.TheVariants.{Host, HalfOf, BranchOf}, writable.PendingAbort.{PendingAbort}, writable.WritableOperation.{WritableOperation}}
 use Rattle.ws_steps.specs.declared.{transform.Taker.{Taker}, transform.Taker.TheVariants.{ToHost, ToTransform}, transform.TransformId.{TransformId}, transform.TransformOperation.TheVariants.{TransformChunk}}
 use Rattle.ws_steps.specs.declared.writable.WritableOperation.TheVariants as names
 use Rattle.ws_steps.specs.declared.{writable.WritableState.{WritableState}, writable.WritableState.TheVariants.{Writable, Erroring, Errored, Closed}, writable.WriteRecord.{WriteRecord}}
@@ -179,6 +179,7 @@ module _ (Q : Out → Type 0) (i : StreamId) (of : OfAlgorithms Q i) where
   signalled-does : (r : Plain) (a : Acts) (owner : Owner) → Does a (signalled i r a owner)
   signalled-does r a Host h = of.tell a.out r h
   signalled-does r a (HalfOf t) h = h
+  signalled-does r a (BranchOf t half) h = h
 
   abort-does : (r : Plain) (p : PromiseId) (a : Acts) → Does a (begin_abort i r p a)
   abort-does r p a h =
