@@ -7,6 +7,7 @@ use Rattle.ws_readable.specs.Seen.{SeenReadable}
 use Rattle.ws_steps.specs.declared.byte.ByteOperation.{ByteOperation}
 use Rattle.ws_steps.specs.declared.byte.RoomKind.{RoomKind}
 use Rattle.ws_steps.specs.declared.readable.ReadRequest.{ReadRequest}
+use Rattle.ws_steps.specs.declared.readable.ReadRequest.TheVariants.{Promise, Pipe, Tee}
 use Rattle.ws_steps.specs.declared.readable.ReadableOperation.{ReadableOperation}
 use Rattle.ws_steps.specs.declared.readable.ReadableOperation.TheVariants.{Read}
 use Rattle.ws_steps.specs.Bytes.{Slots, Acts, with_slots, process_requests}
@@ -58,15 +59,20 @@ pub record HasRoom (n : ℕ) (s : SeenByteStream) : Type 0 where
   pub spare : HasSpares 1 s
 
 -- the rooms that an operation gives to descriptors
+abbrev pub spares_to : ReadRequest → ℕ
+spares_to (Promise p) = 1
+spares_to (Pipe p) = 1
+spares_to (Tee t) = 0
+
 abbrev pub spares_for : ReadableOperation → ℕ
-spares_for (Read request) = 1
+spares_for (Read request) = spares_to request
 spares_for _ = 0
 
--- there are places for what an operation takes by itself
-pub record HasRoomFor (operation : ReadableOperation) (s : SeenByteStream) : Type 0 where
+-- there are places for what an operation of stream i takes by itself
+pub record HasRoomFor (i : StreamId) (operation : ReadableOperation) (s : SeenByteStream) : Type 0 where
   pub queue : HasQueueRoom 0 s
-  pub requests : HasRequestRoom (own_readable requests_alone operation) s
-  pub descriptors : HasDescriptorRoom (own_readable descriptors_alone operation) s
+  pub requests : HasRequestRoom (own_readable requests_alone i operation) s
+  pub descriptors : HasDescriptorRoom (own_readable descriptors_alone i operation) s
   pub spares : HasSpares (spares_for operation) s
 
 pub record HasByteRoomFor (operation : ByteOperation) (s : SeenByteStream) : Type 0 where

@@ -18,7 +18,7 @@ impl ByteStream {
         fx: &mut Agenda,
         operation: ReadableOperation,
     )
-        requires room { HasRoomFor operation self.old }
+        requires room { HasRoomFor me operation self.old }
         requires effect_room { HasEffectRoom (2 + length self.old.slots.stream.requests) fx.old }
         ensures row { acts_of self.new p.new fx.new
             ≡ byte_readable_operation me operation (acts_of self.old p.old fx.old) }

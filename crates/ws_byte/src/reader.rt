@@ -4,7 +4,8 @@ ghost use Rattle.ws_promise.specs.Seen.{HasEffectRoom, Seen, SeenAgenda};
 ghost use Rattle.ws_steps.specs.Bytes as rows;
 ghost use Rattle.ws_steps.specs.Readable as readable;
 ghost use Rattle.ws_steps.specs.Descriptors.{without_reader};
-ghost use Rattle.ws_byte.specs.Seen.{HasDescriptorRoom, HasRequestRoom, HasSpares, acts_of};
+ghost use Rattle.ws_steps.specs.Places.{descriptors_alone, own_read};
+ghost use Rattle.ws_byte.specs.Seen.{HasDescriptorRoom, HasRequestRoom, HasSpares, acts_of, spares_to};
 
 use crate::ByteStream;
 use crate::descriptor::Descriptor;
@@ -139,13 +140,20 @@ impl ByteStream {
     }
 
     /// ReadableStreamDefaultReaderRead; of a readable stream, by a default reader.
-    #[tactic(auto, unfolding(ws_steps::specs::Bytes::read))]
-    pub fn read(&mut self, me: StreamId, p: &mut Promises, fx: &mut Agenda, request: ReadRequest)
+    fn read_if_meant(
+        &mut self,
+        me: StreamId,
+        p: &mut Promises,
+        fx: &mut Agenda,
+        request: ReadRequest,
+    )
         requires requests { HasRequestRoom 1 self.old }
         requires descriptors { HasDescriptorRoom 1 self.old }
         requires spare { HasSpares 1 self.old }
         requires effects { HasEffectRoom (2 + length self.old.slots.stream.requests) fx.old }
-        ensures row { acts_of self.new p.new fx.new ≡ rows.read me request (acts_of self.old p.old fx.old) }
+        ensures row { acts_of self.new p.new fx.new
+            ≡ rows.if_meant (rows.may_read self.old.slots)
+            (rows.default_reader_read me request (acts_of self.old p.old fx.old)) (acts_of self.old p.old fx.old) }
         ensures room { self.new.room ≡ self.old.room }
         ensures spares { self.old.spares ≤ 1 + self.new.spares }
         ensures promise_room { p.new.room ≡ p.old.room }
@@ -155,6 +163,26 @@ impl ByteStream {
             self.default_reader_read(me, p, fx, request);
         } else {
             self.astray = true;
+        }
+    }
+
+    /// ReadableStreamDefaultReaderRead, which no tee performs.
+    #[tactic(auto, unfolding(ws_steps::specs::Bytes::read))]
+    pub fn read(&mut self, me: StreamId, p: &mut Promises, fx: &mut Agenda, request: ReadRequest)
+        requires requests { HasRequestRoom 1 self.old }
+        requires descriptors { HasDescriptorRoom (own_read descriptors_alone me request) self.old }
+        requires spare { HasSpares (spares_to request) self.old }
+        requires effects { HasEffectRoom (2 + length self.old.slots.stream.requests) fx.old }
+        ensures row { acts_of self.new p.new fx.new ≡ rows.read me request (acts_of self.old p.old fx.old) }
+        ensures room { self.new.room ≡ self.old.room }
+        ensures spares { self.old.spares ≤ spares_to request + self.new.spares }
+        ensures promise_room { p.new.room ≡ p.old.room }
+        ensures effect_room { fx.new.capacity ≡ fx.old.capacity }
+    {
+        match request {
+            ReadRequest::Promise(_) => self.read_if_meant(me, p, fx, request),
+            ReadRequest::Pipe(_) => self.read_if_meant(me, p, fx, request),
+            ReadRequest::Tee(_) => {}
         }
     }
 }

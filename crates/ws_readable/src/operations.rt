@@ -18,7 +18,7 @@ impl Readable {
         fx: &mut Agenda,
         operation: ReadableOperation,
     )
-        requires room { HasRoomFor operation self.old }
+        requires room { HasRoomFor me operation self.old }
         requires effect_room { HasEffectRoom (2 + length self.old.slots.requests) fx.old }
         ensures row { acts_of self.new p.new fx.new ≡ readable_operation me operation (acts_of self.old p.old fx.old) }
         ensures room { self.new.room ≡ self.old.room }

@@ -270,6 +270,7 @@ impl Writable {
         match self.owner {
             Owner::Host => p.tell(Event::Signal { stream: me, reason }),
             Owner::HalfOf(_) => {}
+            Owner::BranchOf(_, _) => {}
         }
     }
 
