@@ -1,5 +1,11 @@
 -- The close of a byte stream that throws.
 use Rattle.std.proofs.Common.{◌≡◌, ◌⊎◌, inl, inr, ℕ, Bool, true, List, [], ◌∷◌, ◌++◌, length, Option, Some, None, slice_get, refl, sym, ap, ◌∙◌, ◌&&◌, not, arith, subst, if◌then◌else◌}
+use Rattle.ws_value.specs.declared.ids.TeeId.{TeeId}
+use Rattle.ws_steps.specs.declared.effects.Effect.TheVariants.{Tee}
+use Rattle.ws_steps.specs.declared.tee.TeeOperation.TheVariants.{SourceErrored}
+use Rattle.ws_steps.specs.Tee as tee
+use Rattle.ws_steps.specs.Slots.{on_tee_at}
+use Rattle.ws_steps.specs.Operations.{tee_operation}
 use Rattle.ws_steps.specs.Bytes.{in_stream, can_take, stream_close, clear_all, controller_error, close_by, controller_close}
 use Rattle.ws_steps.specs.Descriptors.{has_part}
 use Rattle.ws_steps.specs.Queues.{is_empty}
@@ -27,7 +33,7 @@ use Rattle.ws_steps.specs.declared.calls.Reply.TheVariants.{Throws, Done as Repl
 use Rattle.ws_steps.specs.declared.calls.Thrown.TheVariants.{TypeError as ThrownTypeError}
 use Rattle.ws_steps.specs.declared.effects.Effect.TheVariants.{Readable as OnReadable, Pipe}
 use Rattle.ws_steps.specs.declared.readable.ReadableOperation.TheVariants.{Close}
-use Rattle.ws_steps.specs.declared.readable.ReadRequest.TheVariants.{Promise, Pipe as PipeRequest}
+use Rattle.ws_steps.specs.declared.readable.ReadRequest.TheVariants.{Promise, Pipe as PipeRequest, Tee as TeeRequest}
 use Rattle.ws_steps.specs.declared.pipes.PipeOperation.TheVariants.{ReadEnded}
 use Rattle.ws_steps.specs.Bytes as byte
 use Rattle.ws_steps.specs.Slots as realm
@@ -50,6 +56,7 @@ use Rattle.ws_byte_laws.specs.Descriptors.{Held, reads}
 abbrev EndsRead : Effect → Type 0
 EndsRead (ErrorSteps j q e) = Unit {0}
 EndsRead (Pipe p ReadEnded) = Unit {0}
+EndsRead (Tee t SourceErrored) = Unit {0}
 EndsRead _ = ⊥
 
 errors_end : (me : StreamId) (e : Plain) (qs : List ReadRequest) → Each EndsRead (readable.error_all me e qs)
@@ -60,21 +67,29 @@ error_steps_end : (j : StreamId) (q : ReadRequest) (e : Plain) (s : realm.Slots)
 unfolding row
 error_steps_end j (Promise p) e s = tt
 error_steps_end j (PipeRequest p) e s = (tt, tt)
+error_steps_end j (TeeRequest t) e s = (tt, tt)
 
 pipe_end : (p : PipeId) (s : realm.Slots) (o : Option piping.Slots) → Each EndsRead (on_pipe_at (λ ends. pipe_operation p ends ReadEnded) p s o).caused
 unfolding piping.read_ended
 pipe_end p s None = tt
 pipe_end p s (Some x) = grind arith
 
+tee_end : (t : TeeId) (s : realm.Slots) (o : Option tee.Slots) → Each EndsRead (on_tee_at (tee_operation t SourceErrored) t s o).caused
+unfolding tee.source_errored
+tee_end t s None = tt
+tee_end t s (Some x) = tt
+
 row_ends : (e : Effect) (s : realm.Slots) → EndsRead e → Each EndsRead (row e s).caused
 unfolding row
 row_ends (ErrorSteps j q e) s k = error_steps_end j q e s
 row_ends (Pipe p ReadEnded) s k = pipe_end p s (slice_get s.pipes p.0)
+row_ends (Tee t SourceErrored) s k = tee_end t s (slice_get s.tees t.0)
 row_ends _ s k = absurd k
 
 row_apart : (e : Effect) (s : realm.Slots) → EndsRead e → (row e s).slots.streams ≡ s.streams
 row_apart (ErrorSteps j q e) s k = row-streams (ErrorSteps j q e) s tt
 row_apart (Pipe p ReadEnded) s k = row-streams (Pipe p ReadEnded) s tt
+row_apart (Tee t SourceErrored) s k = row-streams (Tee t SourceErrored) s tt
 row_apart _ s k = absurd k
 
 -- the operation

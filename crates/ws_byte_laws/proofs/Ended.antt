@@ -1,5 +1,6 @@
 -- A byte stream that isn't readable stays what it is, and performs no chunk steps.
 use Rattle.std.proofs.Common.{◌≡◌, ℕ, Bool, true, false, not, ◌&&◌, if◌then◌else◌, List, [], ◌∷◌, ◌++◌, length, take, drop, Option, slice_get, refl, sym, ap, ◌∙◌, append_assoc, append-nil, arith}
+use Rattle.ws_value.specs.declared.ids.TeeId.{TeeId}
 use Rattle.std.specs.Prelude.{is_none, Ok, Err}
 use Rattle.ws_value.specs.declared.ids.PromiseId.{PromiseId}
 use Rattle.ws_value.specs.declared.ids.StreamId.{StreamId}
@@ -12,12 +13,12 @@ use Rattle.ws_steps.specs.declared.byte.ReaderKind.TheVariants.{Default, Byob}
 use Rattle.ws_steps.specs.declared.byte.RoomKind.TheVariants.{ForByob}
 use Rattle.ws_steps.specs.declared.calls.Call.{Call}
 use Rattle.ws_steps.specs.declared.effects.Effect.{Effect}
-use Rattle.ws_steps.specs.declared.effects.Effect.TheVariants.{Readable as OnReadable, Byte, Writable, Pipe, Signal, Transform, StartAlgorithm, PullAlgorithm, CancelAlgorithm, WriteAlgorithm, CloseAlgorithm, AbortAlgorithm, ChunkSteps, CloseSteps, CloseStepsWith, ErrorSteps}
+use Rattle.ws_steps.specs.declared.effects.Effect.TheVariants.{Readable as OnReadable, Byte, Writable, Pipe, Signal, Transform, Tee, StartAlgorithm, PullAlgorithm, CancelAlgorithm, WriteAlgorithm, CloseAlgorithm, AbortAlgorithm, ChunkSteps, CloseSteps, CloseStepsWith, ErrorSteps}
 use Rattle.ws_steps.specs.declared.pipes.SignalOperation.{SignalOperation}
 use Rattle.ws_steps.specs.declared.pipes.SignalOperation.TheVariants.{Add, Forget, Trigger}
 use Rattle.ws_steps.specs.declared.promises.Job.{Job}
 use Rattle.ws_steps.specs.declared.readable.ReadRequest.{ReadRequest}
-use Rattle.ws_steps.specs.declared.readable.ReadRequest.TheVariants.{Promise, Pipe as PipeRequest}
+use Rattle.ws_steps.specs.declared.readable.ReadRequest.TheVariants.{Promise, Pipe as PipeRequest, Tee as TeeRequest}
 use Rattle.ws_steps.specs.declared.readable.ReadableOperation.{ReadableOperation}
 use Rattle.ws_steps.specs.declared.readable.ReadableOperation.TheVariants as names
 use Rattle.ws_steps.specs.declared.readable.ReadableState.{ReadableState}
@@ -39,10 +40,11 @@ use Rattle.ws_steps.specs.Turns.{row}
 use Rattle.ws_laws.proofs.EachCall.{each_call}
 use Rattle.ws_laws.proofs.Lists.{Each, each-append, each-map}
 use Rattle.ws_laws.proofs.PipeDoes.{PipeCauses}
-use Rattle.ws_laws.proofs.Rows.{ChunkCauses, EndCauses, SignalCauses, row-causes, row-streams, IsApart}
+use Rattle.ws_laws.proofs.Rows.{ChunkCauses, EndCauses, ErrorCauses, SignalCauses, row-causes, row-streams, IsApart}
 use Rattle.ws_laws.proofs.StaysBytes.{row-byte, begin-byte}
 use Rattle.ws_laws.proofs.Tables.{either, same_id, byte_acts, on_byte-same, on_byte-other, on_source-byte, on_source-other, on_writable-look}
 use Rattle.ws_laws.proofs.TransformDoes.{TransformCauses}
+use Rattle.ws_laws.proofs.TeeDoes.{TeeCauses}
 use Rattle.ws_laws.proofs.Walker.{IsHistory, GoesUntold, run-goes_untold}
 use Rattle.ws_byte_laws.proofs.Sound.{All, IsSound, stays}
 use Rattle.ws_byte_laws.proofs.Steps.{begin_at}
@@ -124,6 +126,9 @@ module _ (me : StreamId) where
   ends a false = rests-same a
   ends a true = let r = pull-rests (with_slots (record a.slots { stream = record a.slots.stream { pull_again = false } }) a) in record { state = r.state; quiet = r.quiet }
 
+  unless-tee : (q : ReadRequest) (a b : Acts) → Rests a b → Rests a (if byte.is_of_tee q then a else b)
+  unless-tee q a b r = either (Rests a) (byte.is_of_tee q) a b (λ e. rests-same a) (λ e. r)
+
   shared : (op : ReadableOperation) (a : Acts) → HasEnded a → Rests a (byte_readable_operation me op a)
   unfolding byte.read byte.default_reader_read readable.disturb byte.stream_cancel byte.cancel_if_readable byte.start_settled byte.pull_settled
   shared (names.InitializeReader p) a n = initializes Default p a
@@ -132,7 +137,8 @@ module _ (me : StreamId) where
   shared (names.Read q) a n =
       let b : Acts = in_stream readable.disturb a in
       let r = reads q b a.slots.stream.state refl n in
-      meant (byte.may_read a.slots) (byte.read_by me q b a.slots.stream.state) a (record { state = r.state; quiet = r.quiet })
+      unless-tee q a (byte.if_meant (byte.may_read a.slots) (byte.read_by me q b a.slots.stream.state) a)
+      (meant (byte.may_read a.slots) (byte.read_by me q b a.slots.stream.state) a (record { state = r.state; quiet = r.quiet }))
   shared (names.Cancel x p) a n = let r = cancels x p (in_stream readable.disturb a) a.slots.stream.state refl n in record { state = r.state; quiet = r.quiet }
   shared (names.CancelIfReadable x p) a n = rw n (record { state = refl; quiet = λ q. q })
   shared (names.Enqueue v) a n = rests-same a
@@ -231,10 +237,17 @@ module _ (i : StreamId) (state : ReadableState) (ended : readable.is_readable st
   chunk_of : (v : Value) (request : ReadRequest) → ChunkCauses (IsNoChunkOf i) v request
   chunk_of v (Promise p) = tt
   chunk_of v (PipeRequest p) = tt
+  chunk_of v (TeeRequest t) = tt
 
   end_of : (request : ReadRequest) → EndCauses (IsNoChunkOf i) request
   end_of (Promise p) = tt
   end_of (PipeRequest p) = tt
+  end_of (TeeRequest t) = tt
+
+  error_of : (request : ReadRequest) → ErrorCauses (IsNoChunkOf i) request
+  error_of (Promise p) = tt
+  error_of (PipeRequest p) = tt
+  error_of (TeeRequest t) = tt
 
   pipe_of : (p : _) (source dest : StreamId) (e : Effect) → PipeCauses p source dest e → IsNoChunkOf i e
   pipe_of p source dest (ChunkSteps j q v) c = absurd c
@@ -243,6 +256,10 @@ module _ (i : StreamId) (state : ReadableState) (ended : readable.is_readable st
   transform_of : (t : TransformId) (writable half : StreamId) (e : Effect) → TransformCauses t writable half e → IsNoChunkOf i e
   transform_of t writable half (ChunkSteps j q v) c = absurd c
   transform_of t writable half _ c = tt
+
+  tee_of : (t : TeeId) (source first second : StreamId) (e : Effect) → TeeCauses t source first second e → IsNoChunkOf i e
+  tee_of t source first second (ChunkSteps j q v) c = absurd c
+  tee_of t source first second _ c = tt
 
   signal_of : (operation : SignalOperation) → SignalCauses (IsNoChunkOf i) operation
   signal_of (Add p) = tt
@@ -298,16 +315,17 @@ module _ (i : StreamId) (state : ReadableState) (ended : readable.is_readable st
   row-kept (Pipe p op) s k h = apart-kept (Pipe p op) s tt h (row-causes (IsNoChunkOf i) (Pipe p op) s (pipe_of p))
   row-kept (Signal a op) s k h = apart-kept (Signal a op) s tt h (row-causes (IsNoChunkOf i) (Signal a op) s (signal_of op))
   row-kept (Transform t op) s k h = apart-kept (Transform t op) s tt h (row-causes (IsNoChunkOf i) (Transform t op) s (transform_of t))
+  row-kept (Tee t op) s k h = apart-kept (Tee t op) s tt h (row-causes (IsNoChunkOf i) (Tee t op) s (tee_of t))
   row-kept (StartAlgorithm j step start) s k h = apart-kept (StartAlgorithm j step start) s tt h (row-causes (IsNoChunkOf i) (StartAlgorithm j step start) s (λ g u. tt, λ c u. tt))
-  row-kept (PullAlgorithm j) s k h = apart-kept (PullAlgorithm j) s tt h (row-causes (IsNoChunkOf i) (PullAlgorithm j) s (λ c u. tt, λ t u. tt))
-  row-kept (CancelAlgorithm j r p) s k h = apart-kept (CancelAlgorithm j r p) s tt h (row-causes (IsNoChunkOf i) (CancelAlgorithm j r p) s (λ c u. tt, λ t u. tt))
+  row-kept (PullAlgorithm j) s k h = apart-kept (PullAlgorithm j) s tt h (row-causes (IsNoChunkOf i) (PullAlgorithm j) s (λ c u. tt, (λ t u. tt, (λ t. tt, λ u. tt))))
+  row-kept (CancelAlgorithm j r p) s k h = apart-kept (CancelAlgorithm j r p) s tt h (row-causes (IsNoChunkOf i) (CancelAlgorithm j r p) s (λ c u. tt, (λ t u. tt, λ t half u. tt)))
   row-kept (WriteAlgorithm j) s k h = apart-kept (WriteAlgorithm j) s tt h (row-causes (IsNoChunkOf i) (WriteAlgorithm j) s (tt, λ t u. tt))
   row-kept (CloseAlgorithm j) s k h = apart-kept (CloseAlgorithm j) s tt h (row-causes (IsNoChunkOf i) (CloseAlgorithm j) s (λ c u. tt, λ t u. tt))
   row-kept (AbortAlgorithm j r p) s k h = apart-kept (AbortAlgorithm j r p) s tt h (row-causes (IsNoChunkOf i) (AbortAlgorithm j r p) s (λ c u. tt, λ t u. tt))
   row-kept (ChunkSteps j q v) s k h = apart-kept (ChunkSteps j q v) s tt h (row-causes (IsNoChunkOf i) (ChunkSteps j q v) s (chunk_of v q))
   row-kept (CloseSteps j q) s k h = apart-kept (CloseSteps j q) s tt h (row-causes (IsNoChunkOf i) (CloseSteps j q) s (end_of q))
   row-kept (CloseStepsWith j q b) s k h = apart-kept (CloseStepsWith j q b) s tt h (row-causes (IsNoChunkOf i) (CloseStepsWith j q b) s (end_of q))
-  row-kept (ErrorSteps j q e) s k h = apart-kept (ErrorSteps j q e) s tt h (row-causes (IsNoChunkOf i) (ErrorSteps j q e) s (end_of q))
+  row-kept (ErrorSteps j q e) s k h = apart-kept (ErrorSteps j q e) s tt h (row-causes (IsNoChunkOf i) (ErrorSteps j q e) s (error_of q))
   row-kept e s k h = apart-kept e s tt h (row-causes (IsNoChunkOf i) e s tt)
 
   begins : (c : Call) (s : realm.Slots) → Each IsNoChunk (begin c s).done.caused

@@ -1,5 +1,6 @@
 -- The law of each operation on a byte stream's record.
 use Rattle.std.proofs.Common.{◌⊎◌, inl, inr, ◌≡◌, ◌≢◌, ◌≤◌, ℕ, zero, suc, Bool, true, false, List, [], ◌∷◌, ◌++◌, length, take, drop, refl, sym, ap, ◌∙◌, append_assoc, append-nil, arith, if◌then◌else◌, not, ◌&&◌, ◌||◌, ◌/◌, Option, Some, None, ◌*◌, ◌<◌}
+use Rattle.ws_steps.specs.Bytes.{is_of_tee}
 use Rattle.std.specs.Prelude.{is_none, Result, Ok, Err}
 use Rattle.ws_steps.specs.Bytes.{Slots, Acts, with_slots, causing, in_stream, has_default_reader, has_byob_reader, can_take, call_pull_if_needed, invalidate_request, controller_error, read_by, default_reader_read, controller_close, commit_all, drop_first, controller_enqueue, is_closed, is_errored, pull_first, pull_into, byob_reader_read, commit_first, respond_closed, respond_first, respond, respond_internal, may_respond, make_request, start_settled, pull_ended, pull_settled, cancel_by, stream_cancel, cancel_if_readable, reader_release, if_meant, reader_initialize, may_read, may_pull_into, is_least, read, read_into}
 use Rattle.ws_steps.specs.Descriptors.{Descriptor, is_for_nobody, without_reader}
@@ -409,11 +410,12 @@ operation_law me names.ReleaseReader s t h = by_state false s t _ h (λ e f. fin
 operation_law me names.Disturb s t h =
     by_state false s t _ h (λ e f. fine_kept false (kept s) _ (record { readable = f.readable; all = f.all; good = f.good })) (λ n. same_over s (in_stream readable.disturb (starting s t)) refl refl refl refl)
 operation_law me (names.Read q) s t h =
-    meant (Law false false [] s) (may_read s) (default_reader_read me q (starting s t)) (starting s t)
+    either (λ (a : Acts). Law false false [] s a) (is_of_tee q) (starting s t) (if_meant (may_read s) (default_reader_read me q (starting s t)) (starting s t)) (λ e. same_law false s t h)
+    (λ e. meant (Law false false [] s) (may_read s) (default_reader_read me q (starting s t)) (starting s t)
     (λ c. by_state false s t _ h
     (λ e f. read_kept false me q (kept s) (starting s t) (default_reads s.stream.reader s.reader_kind (or_read s.stream.state (has_default_reader s) c e)) f)
     (λ n. read_over me q s t s.stream.state n))
-    (marked false s t h)
+    (marked false s t h))
 operation_law me (names.Cancel x p) s t h = by_state true s t _ h (λ e f. cancel_kept me x p (kept s) (starting s t) f) (λ n. cancel_over me x p s t s.stream.state n)
 operation_law me (names.CancelIfReadable x p) s t h =
     by_state true s t _ h

@@ -9,7 +9,6 @@ pub mod Taking
 pub mod Leaving
 pub mod Law
 pub mod Balance
-pub mod Order
 pub mod Gifts
 pub mod OnByte
 pub mod Runs

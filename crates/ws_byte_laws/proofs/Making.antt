@@ -29,6 +29,7 @@ begin-no_make (c.MakeTransform kind m r start) s n = grind arith
 begin-no_make (c.GetReader i) s n = grind arith
 begin-no_make (c.GetByob i) s n = grind arith
 begin-no_make (c.GetWriter i) s n = grind arith
+begin-no_make (c.Tee i) s n = grind arith
 begin-no_make (c.Cancel i reason) s n = grind arith
 begin-no_make (c.CancelBy l reason) s n = grind arith
 begin-no_make (c.Read l) s n = grind arith

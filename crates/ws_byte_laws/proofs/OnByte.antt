@@ -1,10 +1,10 @@
 -- A law of a byte stream's record, of what has gone through it, and of the bytes that are still to be given: what each operation keeps, each
 -- effect, each step and each run keeps.
-use Rattle.std.proofs.Common.{◌≡◌, ℕ, zero, suc, Bool, true, false, ◌&&◌, ◌||◌, List, [], ◌∷◌, ◌++◌, map, length, Option, Some, None, nat_eq, slice_get, refl, sym, ap, ◌∙◌, append_assoc, append-nil, if◌then◌else◌}
+use Rattle.std.proofs.Common.{◌≡◌, ℕ, zero, suc, Bool, true, false, ◌&&◌, ◌||◌, List, [], ◌∷◌, ◌++◌, map, length, Option, Some, None, nat_eq, slice_get, le-ltb, arith, refl, sym, ap, ◌∙◌, append_assoc, append-nil, if◌then◌else◌}
 use Rattle.std.specs.Prelude.{is_some, is_none}
 use Rattle.ws_steps.specs.Effects.{Out, cause}
 use Rattle.ws_steps.specs.Promises.{Table}
-use Rattle.ws_steps.specs.ByteHistory.{ByteFlow, no_bytes, bytes_then, entered_into, entered_by, cancels, shared_bytes, own_bytes, effect_bytes, step_bytes, run_bytes, value_bytes}
+use Rattle.ws_steps.specs.ByteHistory.{ByteFlow, no_bytes, bytes_then, entered_into, entered_by, cancels, shared_bytes, own_bytes, effect_bytes, run_bytes, value_bytes}
 use Rattle.ws_steps.specs.Operations.{byte_readable_operation, byte_operation}
 use Rattle.ws_steps.specs.declared.byte.ByteOperation.{ByteOperation}
 use Rattle.ws_steps.specs.declared.readable.ReadRequest.{ReadRequest}
@@ -13,12 +13,12 @@ use Rattle.ws_steps.specs.declared.effects.Effect.{Effect}
 use Rattle.ws_steps.specs.declared.effects.Effect.TheVariants.{ChunkSteps, CloseSteps, CloseStepsWith, ErrorSteps, PullAlgorithm, CancelAlgorithm}
 use Rattle.ws_value.specs.declared.ids.StreamId.{StreamId}
 use Rattle.ws_byte_laws.proofs.Given.{given_by, given, starting, given_append}
-use Rattle.ws_byte_laws.proofs.Order.{IsNoGift, Calm, Behind, AreOrdered, pipe-calm, transform-calm, signal-calm, row-ordered, call-calm, job-calm, orderly-stays}
+use Rattle.ws_laws.proofs.Order.{IsNoGift, Calm, Behind, AreOrdered, Orderly, is_from, may_pull, pipe-calm, transform-calm, tee-calm, signal-calm, call-calm, job-calm, orderly-stays, orderly-empty}
 use Rattle.ws_value.specs.declared.value.Value.{Value}
 use Rattle.ws_steps.specs.declared.{calls.Call.{Call}}
-use Rattle.ws_steps.specs.declared.effects.Effect.TheVariants.{Readable as OnReadable, Byte, Writable, Pipe, Signal, Transform, StartAlgorithm, WriteAlgorithm, CloseAlgorithm, AbortAlgorithm}
+use Rattle.ws_steps.specs.declared.effects.Effect.TheVariants.{Readable as OnReadable, Byte, Writable, Pipe, Signal, Transform, Tee, StartAlgorithm, WriteAlgorithm, CloseAlgorithm, AbortAlgorithm}
 use Rattle.ws_steps.specs.declared.byte.ByteOperation.TheVariants as own
-use Rattle.ws_steps.specs.declared.readable.ReadRequest.TheVariants.{Promise, Pipe as PipeRequest}
+use Rattle.ws_steps.specs.declared.readable.ReadRequest.TheVariants.{Promise, Pipe as PipeRequest, Tee as TeeRequest}
 use Rattle.ws_steps.specs.declared.writable.WritableOperation.{WritableOperation}
 use Rattle.ws_steps.specs.Descriptors.{respond_throws}
 use Rattle.ws_steps.specs.declared.readable.ReadableState.TheVariants.{Closed}
@@ -36,12 +36,12 @@ use Rattle.ws_steps.specs.Histories.{is_same}
 use Rattle.ws_laws.proofs.Tables.{same_id, is_same-refl, eq_numbers, unequal_numbers, byte_acts, on_byte-same, on_byte-other, on_source-byte, on_source-other, on_writable-look, place_last, place_before, no_stream}
 use Rattle.ws_laws.proofs.ReadableDoes.{OfReadable, is_taking}
 use Rattle.ws_laws.proofs.ByteDoes.{byte_readable-does, byte-does}
-use Rattle.ws_laws.proofs.Lists.{Each, each-append, each-map}
-use Rattle.ws_laws.proofs.Rows.{ChunkCauses, EndCauses, row-causes, row-streams}
+use Rattle.ws_laws.proofs.Lists.{Each, each-append}
+use Rattle.ws_laws.proofs.Rows.{ChunkCauses, EndCauses, ErrorCauses, row-causes, row-streams}
 use Rattle.ws_laws.proofs.Begin.{begin-makes}
 use Rattle.ws_laws.proofs.Shapes.{StreamShape, stream_shape, row-stream_shapes}
 use Rattle.ws_laws.proofs.StaysBytes.{row-byte}
-use Rattle.ws_laws.proofs.Walker.{IsHistory, GoesUntold, RestsUntold, step-goes_untold, run-holds}
+use Rattle.ws_laws.proofs.Walker.{IsHistory, GoesUntold, RestsUntold, run-stays, run-holds}
 
 -- the bytes that the steps of a request of stream i give
 abbrev pub gift_of : StreamId → Effect → List ℕ
@@ -60,9 +60,7 @@ pending-append i (x ∷ xs) ys = ap (λ b. gift_of i x ++ b) (pending-append i x
 
 -- no steps that give bytes of stream i
 abbrev pub IsElsewhere : StreamId → Effect → Type 0
-IsElsewhere i (ChunkSteps j request v) = is_same i j ≡ false
-IsElsewhere i (CloseStepsWith j request b) = is_same i j ≡ false
-IsElsewhere i _ = Unit {0}
+IsElsewhere i e = IsNoGift i e
 
 pub elsewhere-none : (i : StreamId) (e : Effect) → IsElsewhere i e → gift_of i e ≡ []
 elsewhere-none i (ChunkSteps j request v) n = rw n refl
@@ -72,14 +70,6 @@ elsewhere-none i _ n = refl
 pub pending-none : (i : StreamId) (es : List Effect) → Each (IsElsewhere i) es → pending i es ≡ []
 pending-none i [] n = refl
 pending-none i (e ∷ es) n = rw (elsewhere-none i e n.0, pending-none i es n.1) refl
-
-calm_elsewhere : (i : StreamId) (e : Effect) → IsNoGift e → IsElsewhere i e
-calm_elsewhere i (ChunkSteps j request v) n = absurd n
-calm_elsewhere i (CloseStepsWith j request b) n = absurd n
-calm_elsewhere i _ n = tt
-
-pub calm-elsewhere : (i : StreamId) (es : List Effect) → Calm es → Each (IsElsewhere i) es
-calm-elsewhere i es c = each-map IsNoGift (IsElsewhere i) (calm_elsewhere i) es c
 
 -- what an operation of the stream itself causes
 
@@ -113,32 +103,40 @@ IsStill (OnReadable j op) = ⊥
 IsStill (Byte j op) = ⊥
 IsStill _ = Unit {0}
 
-chunk_still : (v : Value) (request : ReadRequest) → ChunkCauses IsNoGift v request
-chunk_still v (Promise p) = tt
-chunk_still v (PipeRequest p) = tt
+chunk_still : (i : StreamId) (v : Value) (request : ReadRequest) → ChunkCauses (IsNoGift i) v request
+chunk_still i v (Promise p) = tt
+chunk_still i v (PipeRequest p) = tt
+chunk_still i v (TeeRequest t) = tt
 
-end_still : (request : ReadRequest) → EndCauses IsNoGift request
-end_still (Promise p) = tt
-end_still (PipeRequest p) = tt
+end_still : (i : StreamId) (request : ReadRequest) → EndCauses (IsNoGift i) request
+end_still i (Promise p) = tt
+end_still i (PipeRequest p) = tt
+end_still i (TeeRequest t) = tt
 
-pub still-calm : (e : Effect) (s : realm.Slots) → IsStill e → Calm (row e s).caused
-still-calm (OnReadable j op) s n = absurd n
-still-calm (Byte j op) s n = absurd n
-still-calm (Writable j op) s n = row-causes IsNoGift (Writable j op) s (record { write = tt; close = tt; abort = λ r p. tt; hand_on = λ v. tt; take = λ v t d. tt })
-still-calm (Pipe p op) s n = row-causes IsNoGift (Pipe p op) s (pipe-calm p)
-still-calm (Signal a op) s n = row-causes IsNoGift (Signal a op) s (signal-calm op)
-still-calm (Transform t op) s n = row-causes IsNoGift (Transform t op) s (transform-calm t)
-still-calm (StartAlgorithm j step start) s n = row-causes IsNoGift (StartAlgorithm j step start) s (λ g u. tt, λ c u. tt)
-still-calm (PullAlgorithm j) s n = row-causes IsNoGift (PullAlgorithm j) s (λ c u. tt, λ t u. tt)
-still-calm (CancelAlgorithm j r p) s n = row-causes IsNoGift (CancelAlgorithm j r p) s (λ c u. tt, λ t u. tt)
-still-calm (WriteAlgorithm j) s n = row-causes IsNoGift (WriteAlgorithm j) s (tt, λ t u. tt)
-still-calm (CloseAlgorithm j) s n = row-causes IsNoGift (CloseAlgorithm j) s (λ c u. tt, λ t u. tt)
-still-calm (AbortAlgorithm j r p) s n = row-causes IsNoGift (AbortAlgorithm j r p) s (λ c u. tt, λ t u. tt)
-still-calm (ChunkSteps j q v) s n = row-causes IsNoGift (ChunkSteps j q v) s (chunk_still v q)
-still-calm (CloseSteps j q) s n = row-causes IsNoGift (CloseSteps j q) s (end_still q)
-still-calm (CloseStepsWith j q b) s n = row-causes IsNoGift (CloseStepsWith j q b) s (end_still q)
-still-calm (ErrorSteps j q e) s n = row-causes IsNoGift (ErrorSteps j q e) s (end_still q)
-still-calm e s n = row-causes IsNoGift e s tt
+error_still : (i : StreamId) (request : ReadRequest) → ErrorCauses (IsNoGift i) request
+error_still i (Promise p) = tt
+error_still i (PipeRequest p) = tt
+error_still i (TeeRequest t) = tt
+
+pub still-calm : (i : StreamId) (e : Effect) (s : realm.Slots) → IsStill e → Calm i (row e s).caused
+still-calm i (OnReadable j op) s n = absurd n
+still-calm i (Byte j op) s n = absurd n
+still-calm i (Writable j op) s n = row-causes (IsNoGift i) (Writable j op) s (record { write = tt; close = tt; abort = λ r p. tt; hand_on = λ v. tt; take = λ v t d. tt })
+still-calm i (Pipe p op) s n = row-causes (IsNoGift i) (Pipe p op) s (pipe-calm i p)
+still-calm i (Signal a op) s n = row-causes (IsNoGift i) (Signal a op) s (signal-calm i op)
+still-calm i (Transform t op) s n = row-causes (IsNoGift i) (Transform t op) s (transform-calm i t)
+still-calm i (Tee t op) s n = row-causes (IsNoGift i) (Tee t op) s (tee-calm i t)
+still-calm i (StartAlgorithm j step start) s n = row-causes (IsNoGift i) (StartAlgorithm j step start) s (λ g u. tt, λ c u. tt)
+still-calm i (PullAlgorithm j) s n = row-causes (IsNoGift i) (PullAlgorithm j) s (λ c u. tt, (λ t u. tt, (λ t. tt, λ u. tt)))
+still-calm i (CancelAlgorithm j r p) s n = row-causes (IsNoGift i) (CancelAlgorithm j r p) s (λ c u. tt, (λ t u. tt, λ t half u. tt))
+still-calm i (WriteAlgorithm j) s n = row-causes (IsNoGift i) (WriteAlgorithm j) s (tt, λ t u. tt)
+still-calm i (CloseAlgorithm j) s n = row-causes (IsNoGift i) (CloseAlgorithm j) s (λ c u. tt, λ t u. tt)
+still-calm i (AbortAlgorithm j r p) s n = row-causes (IsNoGift i) (AbortAlgorithm j r p) s (λ c u. tt, λ t u. tt)
+still-calm i (ChunkSteps j q v) s n = row-causes (IsNoGift i) (ChunkSteps j q v) s (chunk_still i v q)
+still-calm i (CloseSteps j q) s n = row-causes (IsNoGift i) (CloseSteps j q) s (end_still i q)
+still-calm i (CloseStepsWith j q b) s n = row-causes (IsNoGift i) (CloseStepsWith j q b) s (end_still i q)
+still-calm i (ErrorSteps j q e) s n = row-causes (IsNoGift i) (ErrorSteps j q e) s (error_still i q)
+still-calm i e s n = row-causes (IsNoGift i) e s tt
 
 -- of another stream than i
 
@@ -188,12 +186,19 @@ bytes-assoc f g h = λ k. record {
 pub is_history : IsHistory no_bytes bytes_then
 is_history = record { left = λ f. refl; right = same_bytes; assoc = bytes-assoc }
 
-behind_calm : (b : Bool) (es : List Effect) → b ≡ true → Behind b es → Calm es
-behind_calm true es e o = o
-behind_calm false es e o = cc
+behind_calm : (i : StreamId) (b : Bool) (es : List Effect) → b ≡ true → Behind i b es → Calm i es
+behind_calm i true es e o = o
+behind_calm i false es e o = cc
 
-no_taken : (b : Bool) (op : ReadableOperation) → b ≡ is_taking op → is_taking op ≡ true → b ≡ true
-no_taken b op e t = e ∙ t
+taking_pulls : (op : ReadableOperation) → is_taking op ≡ true → may_pull op ≡ true
+taking_pulls op t = grind arith
+
+-- behind an operation of stream i that may take stand no steps that give bytes of it
+own-behind : (i j : StreamId) (op : ReadableOperation) (es : List Effect) → is_same i j ≡ true → is_taking op ≡ true → Behind i (may_pull op && is_from i j) es → Calm i es
+own-behind i j op es same t o =
+    let is : i.0 ≡ j.0 = ap (λ (k : StreamId). k.0) (same_id i j same) in
+    let from : is_from i j ≡ true = rw (le-ltb j.0 i.0 (omega (arith, is))) refl in
+    behind_calm i (may_pull op && is_from i j) es (rw (taking_pulls op t, from) refl) o
 
 module _ (i : StreamId) (K : ByteFlow → byte.Slots → List ℕ → Type 0) (law : IsByteLaw i K) where
   abbrev told : Effect → realm.Slots → ByteFlow
@@ -206,24 +211,24 @@ module _ (i : StreamId) (K : ByteFlow → byte.Slots → List ℕ → Type 0) (l
       let before : K h (byte_at i s) (pending i es) = rw (elsewhere-none i e away) at k in
       rw (none, same_bytes h, same, pending-append i (row e s).caused es, pending-none i (row e s).caused caused) before
 
-  here : (op : ReadableOperation) (h : ByteFlow) (s : realm.Slots) (es : List Effect) → has_byte i s ≡ true → (is_taking op ≡ true → Calm es) → K h (byte_at i s) (pending i es)
+  here : (op : ReadableOperation) (h : ByteFlow) (s : realm.Slots) (es : List Effect) → has_byte i s ≡ true → (is_taking op ≡ true → Calm i es) → K h (byte_at i s) (pending i es)
       → let d : Done = on_source op i s in K (bytes_then h (shared_bytes op (byte_at i s) (byte_at i d.slots))) (byte_at i d.slots) (pending i (d.caused ++ es))
   here op h s es is c k =
       let a : byte.Acts = byte_readable_operation i op (byte_acts i s) in
       let now = on_byte-same (byte_readable_operation i op) i s is in
       rw (on_source-byte op i s is, now, is, pending-append i a.out.effects es, operation-pending i op (byte_acts i s) refl)
-      (law.operation op s.promises h (byte_at i s) (pending i es) (λ t. pending-none i es (calm-elsewhere i es (c t))) k)
+      (law.operation op s.promises h (byte_at i s) (pending i es) (λ t. pending-none i es (c t)) k)
 
-  own_here : (op : ByteOperation) (h : ByteFlow) (s : realm.Slots) (es : List Effect) → has_byte i s ≡ true → Calm es → K h (byte_at i s) (pending i es)
+  own_here : (op : ByteOperation) (h : ByteFlow) (s : realm.Slots) (es : List Effect) → has_byte i s ≡ true → Calm i es → K h (byte_at i s) (pending i es)
       → let d : Done = on_byte (byte_operation i op) i s in K (bytes_then h (own_bytes op (byte_at i s) (byte_at i d.slots))) (byte_at i d.slots) (pending i (d.caused ++ es))
   own_here op h s es is c k =
       let a : byte.Acts = byte_operation i op (byte_acts i s) in
       let now = on_byte-same (byte_operation i op) i s is in
-      let none : pending i es ≡ [] = pending-none i es (calm-elsewhere i es c) in
+      let none : pending i es ≡ [] = pending-none i es c in
       let before : K h (byte_at i s) [] = rw none at k in
       rw (now, is, pending-append i a.out.effects es, own-pending i op (byte_acts i s) refl, none, append-nil (given a.out.effects)) (law.controller op s.promises h (byte_at i s) before)
 
-  by_operation : (j : StreamId) (op : ReadableOperation) (h : ByteFlow) (s : realm.Slots) (es : List Effect) (same : Bool) → same ≡ is_same i j → has_byte i s ≡ true → (is_taking op ≡ true → Calm es)
+  by_operation : (j : StreamId) (op : ReadableOperation) (h : ByteFlow) (s : realm.Slots) (es : List Effect) (same : Bool) → same ≡ is_same i j → has_byte i s ≡ true → (is_same i j ≡ true → is_taking op ≡ true → Calm i es)
       → K h (byte_at i s) (pending i (OnReadable j op ∷ es))
       → K (bytes_then h (told (OnReadable j op) s)) (byte_at i (row (OnReadable j op) s).slots) (pending i ((row (OnReadable j op) s).caused ++ es))
   unfolding row
@@ -231,9 +236,9 @@ module _ (i : StreamId) (K : ByteFlow → byte.Slots → List ℕ → Type 0) (l
       foreign (OnReadable j op) h s es (rw (← e) refl) tt (other-operation i j op s (sym e)) (ap as_byte (on_source-other op j s i (sym e))) k
   by_operation j op h s es true e is c k =
       let eq : j ≡ i = sym (same_id i j (sym e)) in
-      rw (eq, is_same-refl i) (here op h s es is c k)
+      rw (eq, is_same-refl i) (here op h s es is (c (sym e)) k)
 
-  by_own : (j : StreamId) (op : ByteOperation) (h : ByteFlow) (s : realm.Slots) (es : List Effect) (same : Bool) → same ≡ is_same i j → has_byte i s ≡ true → Calm es
+  by_own : (j : StreamId) (op : ByteOperation) (h : ByteFlow) (s : realm.Slots) (es : List Effect) (same : Bool) → same ≡ is_same i j → has_byte i s ≡ true → (is_same i j ≡ true → Calm i es)
       → K h (byte_at i s) (pending i (Byte j op ∷ es))
       → K (bytes_then h (told (Byte j op) s)) (byte_at i (row (Byte j op) s).slots) (pending i ((row (Byte j op) s).caused ++ es))
   unfolding row
@@ -241,20 +246,20 @@ module _ (i : StreamId) (K : ByteFlow → byte.Slots → List ℕ → Type 0) (l
       foreign (Byte j op) h s es (rw (← e) refl) tt (other-own i j op s (sym e)) (ap as_byte (on_byte-other (byte_operation j op) j s i (sym e))) k
   by_own j op h s es true e is c k =
       let eq : j ≡ i = sym (same_id i j (sym e)) in
-      rw (eq, is_same-refl i) (own_here op h s es is c k)
+      rw (eq, is_same-refl i) (own_here op h s es is (c (sym e)) k)
 
   -- steps of a request of stream i that give
-  by_gift : (e : Effect) (b : List ℕ) (h : ByteFlow) (s : realm.Slots) (es : List Effect) → told e s ≡ record no_bytes { given = b } → gift_of i e ≡ b → Calm (row e s).caused → byte_at i (row e s).slots ≡ byte_at i s
+  by_gift : (e : Effect) (b : List ℕ) (h : ByteFlow) (s : realm.Slots) (es : List Effect) → told e s ≡ record no_bytes { given = b } → gift_of i e ≡ b → Calm i (row e s).caused → byte_at i (row e s).slots ≡ byte_at i s
       → K h (byte_at i s) (pending i (e ∷ es)) → K (bytes_then h (told e s)) (byte_at i (row e s).slots) (pending i ((row e s).caused ++ es))
   by_gift e b h s es tell gift calm same k =
       let before : K h (byte_at i s) (b ++ pending i es) = rw gift at k in
-      rw (tell, same, pending-append i (row e s).caused es, pending-none i (row e s).caused (calm-elsewhere i (row e s).caused calm)) (law.gift b h (byte_at i s) (pending i es) before)
+      rw (tell, same, pending-append i (row e s).caused es, pending-none i (row e s).caused calm) (law.gift b h (byte_at i s) (pending i es) before)
 
   by_steps : (e : Effect) (b : List ℕ) (h : ByteFlow) (s : realm.Slots) (es : List Effect) (same : Bool) → (same ≡ true → (told e s ≡ record no_bytes { given = b }) × (gift_of i e ≡ b))
-      → (same ≡ false → (told e s ≡ no_bytes) × IsElsewhere i e) → Calm (row e s).caused → byte_at i (row e s).slots ≡ byte_at i s
+      → (same ≡ false → (told e s ≡ no_bytes) × IsElsewhere i e) → Calm i (row e s).caused → byte_at i (row e s).slots ≡ byte_at i s
       → K h (byte_at i s) (pending i (e ∷ es)) → K (bytes_then h (told e s)) (byte_at i (row e s).slots) (pending i ((row e s).caused ++ es))
   by_steps e b h s es true f g calm leaves k = by_gift e b h s es (f refl).0 (f refl).1 calm leaves k
-  by_steps e b h s es false f g calm leaves k = foreign e h s es (g refl).0 (g refl).1 (calm-elsewhere i (row e s).caused calm) leaves k
+  by_steps e b h s es false f g calm leaves k = foreign e h s es (g refl).0 (g refl).1 calm leaves k
 
   stays_at : (e : Effect) (s : realm.Slots) → (row e s).slots.streams ≡ s.streams → byte_at i (row e s).slots ≡ byte_at i s
   stays_at e s same = ap (λ (xs : List Stream). as_byte (slice_get xs i.0)) same
@@ -263,17 +268,17 @@ module _ (i : StreamId) (K : ByteFlow → byte.Slots → List ℕ → Type 0) (l
   unfolding row
   writable_leaves j op s = on_writable-look as_byte (λ b c. refl) (writable_operation j op) j s i (is_same i j) refl
 
-  pub row-law : (e : Effect) (h : ByteFlow) (s : realm.Slots) (es : List Effect) → AreOrdered (e ∷ es) → has_byte i s ≡ true → K h (byte_at i s) (pending i (e ∷ es))
+  pub row-law : (e : Effect) (h : ByteFlow) (s : realm.Slots) (es : List Effect) → AreOrdered i s (e ∷ es) → has_byte i s ≡ true → K h (byte_at i s) (pending i (e ∷ es))
       → K (bytes_then h (told e s)) (byte_at i (row e s).slots) (pending i ((row e s).caused ++ es))
-  row-law (OnReadable j op) h s es o is k = by_operation j op h s es (is_same i j) refl is (λ t. behind_calm (is_taking op) es t o.0) k
-  row-law (Byte j op) h s es o is k = by_own j op h s es (is_same i j) refl is o.0 k
+  row-law (OnReadable j op) h s es o is k = by_operation j op h s es (is_same i j) refl is (λ same t. own-behind i j op es same t o.0) k
+  row-law (Byte j op) h s es o is k = by_own j op h s es (is_same i j) refl is (λ same. behind_calm i (is_same i j) es same o.0) k
   row-law (ChunkSteps j q v) h s es o is k =
-      by_steps (ChunkSteps j q v) (value_bytes v) h s es (is_same i j) (λ e. (rw e refl, rw e refl)) (λ e. (rw e refl, e)) (still-calm (ChunkSteps j q v) s tt) (stays_at (ChunkSteps j q v) s (row-streams (ChunkSteps j q v) s tt)) k
+      by_steps (ChunkSteps j q v) (value_bytes v) h s es (is_same i j) (λ e. (rw e refl, rw e refl)) (λ e. (rw e refl, e)) (still-calm i (ChunkSteps j q v) s tt) (stays_at (ChunkSteps j q v) s (row-streams (ChunkSteps j q v) s tt)) k
   row-law (CloseStepsWith j q b) h s es o is k =
-      by_steps (CloseStepsWith j q b) b h s es (is_same i j) (λ e. (rw e refl, rw e refl)) (λ e. (rw e refl, e)) (still-calm (CloseStepsWith j q b) s tt) (stays_at (CloseStepsWith j q b) s (row-streams (CloseStepsWith j q b) s tt)) k
+      by_steps (CloseStepsWith j q b) b h s es (is_same i j) (λ e. (rw e refl, rw e refl)) (λ e. (rw e refl, e)) (still-calm i (CloseStepsWith j q b) s tt) (stays_at (CloseStepsWith j q b) s (row-streams (CloseStepsWith j q b) s tt)) k
   row-law (Writable j op) h s es o is k =
-      foreign (Writable j op) h s es refl tt (calm-elsewhere i _ (still-calm (Writable j op) s tt)) (writable_leaves j op s) k
-  row-law e h s es o is k = foreign e h s es refl tt (calm-elsewhere i _ (still-calm e s tt)) (stays_at e s (row-streams e s tt)) k
+      foreign (Writable j op) h s es refl tt (still-calm i (Writable j op) s tt) (writable_leaves j op s) k
+  row-law e h s es o is k = foreign e h s es refl tt (still-calm i e s tt) (stays_at e s (row-streams e s tt)) k
 
 -- until it is made nothing has gone through a stream, and nothing is to be given
 
@@ -374,7 +379,7 @@ module _ (i : StreamId) where
   caused_elsewhere : (e : Effect) (s : realm.Slots) → is_there i s ≡ false → Each (IsElsewhere i) (row e s).caused
   caused_elsewhere (OnReadable j op) s n = caused_by j op s (is_same i j) refl n
   caused_elsewhere (Byte j op) s n = caused_own j op s (is_same i j) refl n
-  caused_elsewhere e s n = calm-elsewhere i _ (still-calm e s tt)
+  caused_elsewhere e s n = (still-calm i e s tt)
 
   pub row-unmade : (e : Effect) (h : ByteFlow) (s : realm.Slots) (es : List Effect) → is_there i s ≡ false → Unmade i h (e ∷ es) → Unmade i (bytes_then h (effect_bytes i e s)) ((row e s).caused ++ es)
   row-unmade e h s es n u = record {
@@ -390,15 +395,15 @@ pub record Kept (i : StreamId) (K : ByteFlow → byte.Slots → List ℕ → Typ
 module _ (i : StreamId) (K : ByteFlow → byte.Slots → List ℕ → Type 0) (law : IsByteLaw i K)
     (made : (mark auto : ℕ) (h : ByteFlow) → Fresh h → K h (byte.set_up mark auto) []) where
   abbrev All : ByteFlow → realm.Slots → List Effect → Type 0
-  All h s es = Kept i K h s.streams es × AreOrdered es
+  All h s es = Kept i K h s.streams es × Orderly i s es
 
   row-kept : (h : ByteFlow) (s : realm.Slots) (e : Effect) (es : List Effect) → All h s (e ∷ es) → All (bytes_then h (effect_bytes i e s)) (row e s).slots ((row e s).caused ++ es)
   row-kept h s e es k = (
     record {
-      there = λ is. let was : has_byte i s ≡ true = sym (row-byte i e s) ∙ is in row-law i K law e h s es k.1 was (k.0.there was);
+      there = λ is. let was : has_byte i s ≡ true = sym (row-byte i e s) ∙ is in row-law i K law e h s es k.1.ordered was (k.0.there was);
       unmade = λ n. let was : is_there i s ≡ false = sym (row-there i e s) ∙ n in row-unmade i e h s es was (k.0.unmade was);
     },
-    row-ordered s e es k.1,
+    (orderly-stays i).row s e es k.1,
   )
 
   appended : (x : Stream) (h : ByteFlow) (streams : List Stream) (here : Bool) → here ≡ nat_eq i.0 (length streams) → Kept i K h streams []
@@ -421,32 +426,34 @@ module _ (i : StreamId) (K : ByteFlow → byte.Slots → List ℕ → Type 0) (l
     pipe = λ z source dest prevent signal promise k. k;
     signal = λ z k. k;
     transform = λ z kind writable readable change k. k;
+    tee = λ z source first second cancel k. k;
     readable = λ z owner mark size k. appended (ReadableStream (readable.set_up owner mark size)) h z.streams (nat_eq i.0 (length z.streams)) refl k (λ c. cc);
     bytes = λ z mark auto k. appended (ByteStream (byte.set_up mark auto)) h z.streams (nat_eq i.0 (length z.streams)) refl k (λ c f. made mark auto h f);
     byob_requests = λ z r k. k;
     writable = λ z owner mark size k. appended (WritableStream (writable.set_up owner mark size)) h z.streams (nat_eq i.0 (length z.streams)) refl k (λ c. cc);
   }) c s k
 
-  calm_kept : (h : ByteFlow) (streams : List Stream) (es : List Effect) → Calm es → Kept i K h streams [] → Kept i K h streams es
+  calm_kept : (h : ByteFlow) (streams : List Stream) (es : List Effect) → Calm i es → Kept i K h streams [] → Kept i K h streams es
   calm_kept h streams es c k = record {
-    there = λ is. rw (pending-none i es (calm-elsewhere i es c)) (k.there is);
-    unmade = λ n. record { fresh = (k.unmade n).fresh; elsewhere = calm-elsewhere i es c };
+    there = λ is. rw (pending-none i es c) (k.there is);
+    unmade = λ n. record { fresh = (k.unmade n).fresh; elsewhere = c };
   }
 
   goes : GoesUntold bytes_then (effect_bytes i) All
   goes = record {
     row = row-kept;
-    call = λ h s c k. (calm_kept h (begin c s).done.slots.streams (begin c s).done.caused (call-calm c s) (begun c h s k.0), orderly-stays.call s c k.1);
-    job = λ h s job e k. (calm_kept h s.streams (job_effects job) (job-calm job) k.0, orderly-stays.job s job e k.1);
-    answered = λ h s p k. (k.0, tt);
-    older = λ h s k. (k.0, tt);
+    call = λ h s c k. (calm_kept h (begin c s).done.slots.streams (begin c s).done.caused (call-calm i c s) (begun c h s k.0), (orderly-stays i).call s c k.1);
+    job = λ h s job e k. (calm_kept h s.streams (job_effects job) (job-calm i job) k.0, (orderly-stays i).job s job e k.1);
+    answered = λ h s p k. (k.0, (orderly-stays i).answered s p k.1);
+    older = λ h s k. (k.0, (orderly-stays i).older s k.1);
   }
 
   rests : RestsUntold All
-  rests = record { heard = λ h s k. (k.0, tt) }
-
-  pub step-kept : (h : ByteFlow) (s : realm.Slots) (x : Entry) → Kept i K h s.streams [] → Kept i K (bytes_then h (step_bytes i s x)) (step s x).streams []
-  step-kept h s x k = (step-goes_untold no_bytes bytes_then is_history (effect_bytes i) All goes rests h s x (k, tt)).0
+  rests = record { heard = λ h s k. (k.0, record { ordered = tt; below = k.1.below }) }
 
   pub run-kept : (xs : List Entry) → Kept i K (run_bytes i xs empty) (run xs empty).streams []
-  run-kept xs = (run-holds no_bytes bytes_then is_history (effect_bytes i) All goes rests xs empty (record { there = λ c. cc; unmade = λ n. record { fresh = fresh_none; elsewhere = tt } }, tt)).0
+  run-kept xs = (run-holds no_bytes bytes_then is_history (effect_bytes i) All goes rests xs empty (record { there = λ c. cc; unmade = λ n. record { fresh = fresh_none; elsewhere = tt } }, orderly-empty i)).0
+
+-- between steps
+pub run-orderly : (i : StreamId) (xs : List Entry) → Orderly i (run xs empty) []
+run-orderly i xs = run-stays (Orderly i) (orderly-stays i) (λ z k. record { ordered = tt; below = k.below }) xs empty (orderly-empty i)

@@ -1,4 +1,5 @@
 -- While a byte stream is readable, a BYOB request stands for a descriptor; and an errored stream has none.
+use Rattle.ws_steps.specs.Bytes.{is_of_tee, if_meant}
 use Rattle.std.proofs.Common.{◌≡◌, ◌≢◌, ℕ, zero, suc, ◌-◌, ◌%◌, Bool, true, false, List, [], ◌∷◌, ◌++◌, length, take, drop, None, refl, sym, ◌∙◌, ◌&&◌, not, nat_lt, if◌then◌else◌}
 use Rattle.std.specs.Prelude.{is_none, Result, Ok, Err}
 use Rattle.ws_steps.specs.Bytes.{Slots, Acts, with_slots, in_stream, has_default_reader, has_byob_reader, with_requests, can_take, should_call_pull, call_pull_if_needed, close_stream_keeping, stream_close, invalidate_request, clear_all, controller_error, handle_queue_drain, fill_read_request, append, wait, auto_allocate, pull_from, pull_steps, read_by, default_reader_read, close_by, controller_close, commit_to, commit, commit_all, put_processed, processed_of, process_and_commit, detach_first, detached_to_queue, renounce, process_requests, drop_first, accept_for, accept_default, accept, controller_enqueue, pull_waits, put_queue, pull_filled, pull_from_queue, is_closed, is_errored, pull_first, pull_into, byob_reader_read, commit_first, respond_closed, put_first, respond_full, respond_readable, respond_first, respond, respond_internal, may_respond, start_settled, pull_ended, pull_settled, cancel_by, stream_cancel, cancel_if_readable, reader_release, reader_initialize, may_read, may_pull_into, is_least, read, read_into}
@@ -126,7 +127,8 @@ operation_fits me names.ReleaseReader s t f =
     same_fits s _ k.state refl (none_kept s.descriptors) f
 operation_fits me names.Disturb s t f = record { live = f.live; dead = f.dead }
 operation_fits me (names.Read q) s t f =
-    meant BackedAt (may_read s) (default_reader_read me q (starting s t)) (starting s t) (λ c. read_fits me q (starting s t) s.stream.state f) (record { live = f.live; dead = f.dead })
+    either BackedAt (is_of_tee q) (starting s t) (if_meant (may_read s) (default_reader_read me q (starting s t)) (starting s t)) (λ e. record { live = f.live; dead = f.dead })
+    (λ e. meant BackedAt (may_read s) (default_reader_read me q (starting s t)) (starting s t) (λ c. read_fits me q (starting s t) s.stream.state f) (record { live = f.live; dead = f.dead }))
 operation_fits me (names.Cancel r p) s t f = cancel_fits me r p (starting s t) s.stream.state f
 operation_fits me (names.CancelIfReadable r p) s t f =
     either BackedAt (readable.is_readable s.stream.state) (stream_cancel me r p (starting s t)) _ (λ c. cancel_fits me r p (starting s t) s.stream.state f) (λ c. f)

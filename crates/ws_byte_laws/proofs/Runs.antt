@@ -1,7 +1,7 @@
 -- The order of a byte stream over every run.
 use Rattle.std.proofs.Common.{◌≡◌, ◌⊎◌, inl, inr, ℕ, Bool, true, false, List, [], ◌++◌, refl, sym, append_assoc, append-nil, ◌||◌}
 use Rattle.ws_steps.specs.Promises.{Table}
-use Rattle.ws_steps.specs.ByteHistory.{ByteFlow, no_bytes, bytes_then, entered_by, cancels, responds, shared_bytes, own_bytes, step_bytes, run_bytes}
+use Rattle.ws_steps.specs.ByteHistory.{ByteFlow, no_bytes, bytes_then, entered_by, cancels, responds, shared_bytes, own_bytes, run_bytes}
 use Rattle.ws_steps.specs.Operations.{byte_readable_operation, byte_operation}
 use Rattle.ws_steps.specs.declared.byte.ByteOperation.{ByteOperation}
 use Rattle.ws_steps.specs.declared.readable.ReadableOperation.{ReadableOperation}
@@ -10,11 +10,11 @@ use Rattle.ws_byte_laws.proofs.Given.{given, starting}
 use Rattle.ws_byte_laws.proofs.OnByte.{Kept}
 use Rattle.ws_byte_laws.proofs.Balance.{Balanced, flow_of, operation_balanced, controller_balanced, new_balanced, lawful}
 use Rattle.ws_byte_laws.proofs.Gifts.{nothing_given}
-use Rattle.ws_byte_laws.proofs.OnByte.{IsByteLaw, same_bytes, Fresh, step-kept, run-kept}
+use Rattle.ws_byte_laws.proofs.OnByte.{IsByteLaw, same_bytes, Fresh, run-kept}
 use Rattle.ws_steps.specs.Bytes as byte
 use Rattle.ws_steps.specs.Slots as realm
 use Rattle.ws_steps.specs.Slots.{has_byte, byte_at, empty}
-use Rattle.ws_steps.specs.Run.{Entry, step, run}
+use Rattle.ws_steps.specs.Run.{Entry, run}
 use Rattle.ws_steps.specs.ByteLaws.{EachByteStreamIsLawful}
 use Rattle.ws_laws.proofs.ReadableDoes.{is_taking}
 
@@ -105,9 +105,6 @@ module _ (i : StreamId) where
 
   abbrev pub Keeps : ByteFlow → realm.Slots → Type 0
   Keeps h s = Kept i Ordered h s.streams []
-
-  pub ordered-step : (h : ByteFlow) (s : realm.Slots) (x : Entry) → Keeps h s → Keeps (bytes_then h (step_bytes i s x)) (step s x)
-  ordered-step h s x k = step-kept i Ordered law made h s x k
 
   pub ordered-run : (xs : List Entry) → Keeps (run_bytes i xs empty) (run xs empty)
   ordered-run xs = run-kept i Ordered law made xs

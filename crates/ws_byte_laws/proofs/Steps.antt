@@ -11,8 +11,8 @@ use Rattle.ws_value.specs.declared.ids.StreamId.{StreamId}
 use Rattle.ws_byte_laws.proofs.Given.{starting}
 use Rattle.ws_byte_laws.proofs.Law.{Law, operation_law, bytes_law}
 use Rattle.ws_byte_laws.proofs.Balance.{Balanced, entered_unreadable}
-use Rattle.ws_byte_laws.proofs.Order.{Calm, AreOrdered, row-ordered, call-calm, job-calm, orderly-stays}
-use Rattle.ws_byte_laws.proofs.OnByte.{pending, pending-none, calm-elsewhere, IsByteLaw, is_history, row-law}
+use Rattle.ws_laws.proofs.Order.{Calm, Orderly, call-calm, job-calm, orderly-stays}
+use Rattle.ws_byte_laws.proofs.OnByte.{pending, pending-none, IsByteLaw, is_history, row-law, run-orderly}
 use Rattle.ws_byte_laws.proofs.Runs.{with_pending, Ordered, between, law, ordered-run}
 use Rattle.ws_steps.specs.Bytes as byte
 use Rattle.ws_steps.specs.Slots as realm
@@ -25,20 +25,22 @@ use Rattle.ws_steps.specs.Turns.{row}
 use Rattle.ws_steps.specs.Histories.{is_same}
 use Rattle.ws_steps.specs.ByteLaws.{AreFirstOf, IsByteStep, EachByteStep}
 use Rattle.ws_steps.specs.declared.{calls.Call.{Call}, promises.Job.{Job}}
-use Rattle.ws_steps.specs.declared.effects.Effect.TheVariants.{Readable as OnReadable, Byte, Writable, Pipe, Signal, Transform, StartAlgorithm, WriteAlgorithm, CloseAlgorithm, AbortAlgorithm}
-use Rattle.ws_steps.specs.declared.readable.ReadRequest.TheVariants.{Promise, Pipe as PipeRequest}
+use Rattle.ws_steps.specs.declared.effects.Effect.TheVariants.{Readable as OnReadable, Byte, Writable, Pipe, Signal, Transform, Tee, StartAlgorithm, WriteAlgorithm, CloseAlgorithm, AbortAlgorithm}
+use Rattle.ws_steps.specs.declared.readable.ReadRequest.TheVariants.{Promise, Pipe as PipeRequest, Tee as TeeRequest}
 use Rattle.ws_laws.proofs.Tables.{byte_there, same_id}
 use Rattle.ws_laws.proofs.Lists.{Each, each-append, append_none}
 use Rattle.ws_laws.proofs.EachCall.{each_call}
 use Rattle.ws_laws.proofs.Begin.{begin-makes}
 use Rattle.ws_laws.proofs.PipeDoes.{PipeCauses}
 use Rattle.ws_laws.proofs.TransformDoes.{TransformCauses}
-use Rattle.ws_laws.proofs.Rows.{ChunkCauses, EndCauses, SignalCauses, row-causes}
+use Rattle.ws_laws.proofs.TeeDoes.{TeeCauses}
+use Rattle.ws_laws.proofs.Rows.{ChunkCauses, EndCauses, ErrorCauses, SignalCauses, row-causes}
 use Rattle.ws_laws.proofs.StaysBytes.{row-byte, begin-byte}
 use Rattle.ws_laws.proofs.Walker.{GoesUntold, RestsUntold, step-goes_untold, performed-goes}
 use Rattle.ws_steps.specs.declared.pipes.SignalOperation.{SignalOperation}
 use Rattle.ws_steps.specs.declared.pipes.SignalOperation.TheVariants.{Add, Forget, Trigger}
 use Rattle.ws_value.specs.declared.ids.PipeId.{PipeId}
+use Rattle.ws_value.specs.declared.ids.TeeId.{TeeId}
 use Rattle.ws_value.specs.declared.value.Value.{Value}
 use Rattle.ws_steps.specs.declared.transform.TransformId.{TransformId}
 use Rattle.ws_byte_laws.specs.Descriptors.{Held}
@@ -59,6 +61,7 @@ module _ (i : StreamId) where
     pipe = λ z source dest prevent signal p k. k;
     signal = λ z k. k;
     transform = λ z kind w r p k. k;
+    tee = λ z source first second cancel k. k;
     readable = λ z owner mark size k. place_stays z.streams _ x i.0 k;
     bytes = λ z mark auto k. place_stays z.streams _ x i.0 k;
     byob_requests = λ z r k. k;
@@ -74,25 +77,25 @@ module _ (i : StreamId) where
 
 module _ (i : StreamId) (K : ByteFlow → byte.Slots → List ℕ → Type 0) (law : IsByteLaw i K) where
   abbrev All : ByteFlow → realm.Slots → List Effect → Type 0
-  All h s es = (has_byte i s ≡ true) × (K h (byte_at i s) (pending i es) × AreOrdered es)
+  All h s es = (has_byte i s ≡ true) × (K h (byte_at i s) (pending i es) × Orderly i s es)
 
-  calm_all : (h : ByteFlow) (x y : byte.Slots) (es : List Effect) → Calm es → y ≡ x → K h x [] → K h y (pending i es)
-  calm_all h x y es c e k = rw (e, pending-none i es (calm-elsewhere i es c)) k
+  calm_all : (h : ByteFlow) (x y : byte.Slots) (es : List Effect) → Calm i es → y ≡ x → K h x [] → K h y (pending i es)
+  calm_all h x y es c e k = rw (e, pending-none i es c) k
 
   goes : GoesUntold bytes_then (effect_bytes i) All
   goes = record {
-    row = λ h s e es k. (row-byte i e s ∙ k.0, (row-law i K law e h s es k.1.1 k.0 k.1.0, row-ordered s e es k.1.1));
-    call = λ h s c k. (begin-byte i c s k.0, (calm_all h (byte_at i s) (byte_at i (begin c s).done.slots) (begin c s).done.caused (call-calm c s) (begin_at i c s k.0) k.1.0, orderly-stays.call s c k.1.1));
-    job = λ h s job e k. (k.0, (calm_all h (byte_at i s) (byte_at i s) (job_effects job) (job-calm job) refl k.1.0, orderly-stays.job s job e k.1.1));
-    answered = λ h s p k. k;
-    older = λ h s k. k;
+    row = λ h s e es k. (row-byte i e s ∙ k.0, (row-law i K law e h s es k.1.1.ordered k.0 k.1.0, (orderly-stays i).row s e es k.1.1));
+    call = λ h s c k. (begin-byte i c s k.0, (calm_all h (byte_at i s) (byte_at i (begin c s).done.slots) (begin c s).done.caused (call-calm i c s) (begin_at i c s k.0) k.1.0, (orderly-stays i).call s c k.1.1));
+    job = λ h s job e k. (k.0, (calm_all h (byte_at i s) (byte_at i s) (job_effects job) (job-calm i job) refl k.1.0, (orderly-stays i).job s job e k.1.1));
+    answered = λ h s p k. (k.0, (k.1.0, (orderly-stays i).answered s p k.1.1));
+    older = λ h s k. (k.0, (k.1.0, (orderly-stays i).older s k.1.1));
   }
 
   rests : RestsUntold All
-  rests = record { heard = λ h s k. k }
+  rests = record { heard = λ h s k. (k.0, (k.1.0, record { ordered = tt; below = k.1.1.below })) }
 
-  pub step-law : (h : ByteFlow) (s : realm.Slots) (x : Entry) → has_byte i s ≡ true → K h (byte_at i s) [] → K (bytes_then h (step_bytes i s x)) (byte_at i (step s x)) []
-  step-law h s x is k = (step-goes_untold no_bytes bytes_then is_history (effect_bytes i) All goes rests h s x (is, (k, tt))).1.0
+  pub step-law : (h : ByteFlow) (s : realm.Slots) (x : Entry) → Orderly i s [] → has_byte i s ≡ true → K h (byte_at i s) [] → K (bytes_then h (step_bytes i s x)) (byte_at i (step s x)) []
+  step-law h s x known is k = (step-goes_untold no_bytes bytes_then is_history (effect_bytes i) All goes rests h s x (is, (k, known))).1.0
 
 -- a stream that isn't readable: nothing enters it
 
@@ -123,10 +126,17 @@ IsNoByte _ = Unit {0}
 chunk_other : (v : Value) (request : ReadRequest) → ChunkCauses IsNoByte v request
 chunk_other v (Promise p) = tt
 chunk_other v (PipeRequest p) = tt
+chunk_other v (TeeRequest t) = tt
 
 end_other : (request : ReadRequest) → EndCauses IsNoByte request
 end_other (Promise p) = tt
 end_other (PipeRequest p) = tt
+end_other (TeeRequest t) = tt
+
+error_other : (request : ReadRequest) → ErrorCauses IsNoByte request
+error_other (Promise p) = tt
+error_other (PipeRequest p) = tt
+error_other (TeeRequest t) = tt
 
 pipe_other : (p : PipeId) (source dest : StreamId) (e : Effect) → PipeCauses p source dest e → IsNoByte e
 pipe_other p source dest (Byte j op) c = absurd c
@@ -135,6 +145,10 @@ pipe_other p source dest _ c = tt
 transform_other : (t : TransformId) (writable readable : StreamId) (e : Effect) → TransformCauses t writable readable e → IsNoByte e
 transform_other t writable readable (Byte j op) c = absurd c
 transform_other t writable readable _ c = tt
+
+tee_other : (t : TeeId) (source first second : StreamId) (e : Effect) → TeeCauses t source first second e → IsNoByte e
+tee_other t source first second (Byte j op) c = absurd c
+tee_other t source first second _ c = tt
 
 signal_other : (operation : SignalOperation) → SignalCauses IsNoByte operation
 signal_other (Add p) = tt
@@ -149,16 +163,17 @@ row-other (Writable j op) s = row-causes IsNoByte (Writable j op) s (record { wr
 row-other (Pipe p op) s = row-causes IsNoByte (Pipe p op) s (pipe_other p)
 row-other (Signal a op) s = row-causes IsNoByte (Signal a op) s (signal_other op)
 row-other (Transform t op) s = row-causes IsNoByte (Transform t op) s (transform_other t)
+row-other (Tee t op) s = row-causes IsNoByte (Tee t op) s (tee_other t)
 row-other (StartAlgorithm j step start) s = row-causes IsNoByte (StartAlgorithm j step start) s (λ g u. tt, λ c u. tt)
-row-other (PullAlgorithm j) s = row-causes IsNoByte (PullAlgorithm j) s (λ c u. tt, λ t u. tt)
-row-other (CancelAlgorithm j r p) s = row-causes IsNoByte (CancelAlgorithm j r p) s (λ c u. tt, λ t u. tt)
+row-other (PullAlgorithm j) s = row-causes IsNoByte (PullAlgorithm j) s (λ c u. tt, (λ t u. tt, (λ t. tt, λ u. tt)))
+row-other (CancelAlgorithm j r p) s = row-causes IsNoByte (CancelAlgorithm j r p) s (λ c u. tt, (λ t u. tt, λ t half u. tt))
 row-other (WriteAlgorithm j) s = row-causes IsNoByte (WriteAlgorithm j) s (tt, λ t u. tt)
 row-other (CloseAlgorithm j) s = row-causes IsNoByte (CloseAlgorithm j) s (λ c u. tt, λ t u. tt)
 row-other (AbortAlgorithm j r p) s = row-causes IsNoByte (AbortAlgorithm j r p) s (λ c u. tt, λ t u. tt)
 row-other (ChunkSteps j q v) s = row-causes IsNoByte (ChunkSteps j q v) s (chunk_other v q)
 row-other (CloseSteps j q) s = row-causes IsNoByte (CloseSteps j q) s (end_other q)
 row-other (CloseStepsWith j q b) s = row-causes IsNoByte (CloseStepsWith j q b) s (end_other q)
-row-other (ErrorSteps j q e) s = row-causes IsNoByte (ErrorSteps j q e) s (end_other q)
+row-other (ErrorSteps j q e) s = row-causes IsNoByte (ErrorSteps j q e) s (error_other q)
 row-other e s = row-causes IsNoByte e s tt
 
 -- of these only the first may be one
@@ -267,7 +282,7 @@ each_byte_step entries x i is =
     let m : Balanced (run_bytes i entries empty) b = between (run_bytes i entries empty) b ((ordered-run i entries).there is) in
     let f : ByteFlow = step_bytes i s x in
     let a : byte.Slots = byte_at i (step s x) in
-    let k : Balanced (bytes_then (opening b) f) a = between (bytes_then (opening b) f) a (step-law i Ordered (law i) (opening b) s x is (opening_balanced b m.held)) in
+    let k : Balanced (bytes_then (opening b) f) a = between (bytes_then (opening b) f) a (step-law i Ordered (law i) (opening b) s x (run-orderly i entries) is (opening_balanced b m.held)) in
     let z : IsByteStep f b a = opened f b a m.held (λ r. step_unanswered i s x is r) k
-    (λ n. step-law i OverAt (over_is i) no_bytes s x is (record { held = m.held; over = n; entered = refl })) in
+    (λ n. step-law i OverAt (over_is i) no_bytes s x (run-orderly i entries) is (record { held = m.held; over = n; entered = refl })) in
     (z, λ c. none_given f (kept b) z.front (m.ended c).1 (z.entered (λ q. let w = (m.ended c).0 in cc)))

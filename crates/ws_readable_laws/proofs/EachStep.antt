@@ -10,7 +10,7 @@ use Rattle.ws_steps.specs.Run.{step, run}
 use Rattle.ws_steps.specs.ReadableHistory.{Flow, flow_then, values, step_flow, run_flow}
 use Rattle.ws_steps.specs.Laws.{EachReadableStep}
 use Rattle.ws_laws.proofs.Lists.{append_none}
-use Rattle.ws_readable_laws.proofs.Runs.{Keeps, between, step-kept, run-kept}
+use Rattle.ws_readable_laws.proofs.Runs.{Keeps, between, run-orderly, step-kept, run-kept}
 use Rattle.ws_readable_laws.proofs.Ended.{entry_ended}
 
 -- a step is told from what is queued
@@ -50,7 +50,7 @@ each_readable_step entries x i later =
     let z : readable.Slots = readable_at i (step s x) in
     let f : Flow = step_flow i s x in
     let k = run-kept i entries in
-    let h = between (flow_then (queued_before r) f) z ((step-kept i (queued_before r) s x (from_queued i s (run_flow i entries empty) kind k)).held later) in
+    let h = between (flow_then (queued_before r) f) z ((step-kept i (queued_before r) s x (run-orderly i entries) (from_queued i s (run_flow i entries empty) kind k)).held later) in
     let b = h.balanced in
     record {
       readable = λ g e. drops_none f.given (values z.queue) h.dropped (values r.queue ++ f.entered) b.all (b.live e);

@@ -1,5 +1,6 @@
 -- A readable stream that has ended stays so, and accepts nothing, whatever a step performs.
 use Rattle.std.proofs.Common.{◌≡◌, ◌≢◌, Bool, true, false, List, [], ◌∷◌, ◌++◌, Option, Some, None, Ok, Err, ◌⊎◌, inl, inr, ⊎_elim, refl, sym, ap, ◌∙◌, slice_get, arith}
+use Rattle.ws_value.specs.declared.ids.PromiseId.{PromiseId}
 use Rattle.ws_value.specs.declared.ids.StreamId.{StreamId}
 use Rattle.ws_value.specs.declared.value.Value.{Value}
 use Rattle.ws_steps.specs.declared.calls.Call.{Call}
@@ -12,6 +13,7 @@ use Rattle.ws_steps.specs.declared.readable.ReadableState.{ReadableState}
 use Rattle.ws_steps.specs.declared.readable.ReadableState.TheVariants.{Readable, Closed, Errored}
 use Rattle.ws_steps.specs.Operations.{readable_operation, byte_readable_operation, byte_operation, writable_operation}
 use Rattle.ws_steps.specs.Promises.{next_job}
+use Rattle.ws_steps.specs.Bytes as byte
 use Rattle.ws_steps.specs.Readable as readable
 use Rattle.ws_steps.specs.Readable.{Acts, is_readable, call_pull_if_needed, accept, controller_enqueue, stream_close, stream_error, close_if_empty, controller_close, controller_error, after_take, pull_from, pull_steps, read_by, default_reader_read, disturb, reader_generic_initialize, start_settled, pull_ended, pull_settled, cancel_steps, cancel_by, stream_cancel, cancel_readable_by, cancel_if_readable, release_by, reader_release}
 use Rattle.ws_steps.specs.Slots.{Slots, Stream, Done, has_readable, has_byte, is_readable_stream, is_byte_stream, readable_at, as_readable, on_readable, on_byte}
@@ -130,6 +132,7 @@ module _ (i : StreamId) where
 -- effects that lead to no operation of a stream: with them a call begins that makes one
 
 abbrev IsIdle : Effect → Type 0
+IsIdle (OnReadable i (names.InitializeReader closed)) = Unit {0}
 IsIdle (StartAlgorithm i step start) = Unit {0}
 IsIdle (Give gift u) = Unit {0}
 IsIdle (Settle p o) = Unit {0}
@@ -137,8 +140,14 @@ IsIdle (Queue m) = Unit {0}
 IsIdle (CallHost call u) = Unit {0}
 IsIdle _ = ⊥
 
+-- a reader that takes a stream causes nothing
+initialize-idle : (i : StreamId) (closed : PromiseId) (s : Slots) → Each IsIdle (row (OnReadable i (names.InitializeReader closed)) s).caused
+unfolding row readable.reader_generic_initialize byte.reader_initialize
+initialize-idle i closed s = grind arith
+
 row-idle : (e : Effect) (s : Slots) → IsIdle e → Each IsIdle (row e s).caused
 unfolding row
+row-idle (OnReadable i (names.InitializeReader closed)) s d = initialize-idle i closed s
 row-idle (StartAlgorithm i step start) s d = row-causes IsIdle (StartAlgorithm i step start) s (λ g u. tt, λ c u. tt)
 row-idle (Give gift u) s d = tt
 row-idle (Settle p o) s d = tt
@@ -147,6 +156,7 @@ row-idle (CallHost call u) s d = tt
 row-idle _ s d = absurd d
 
 idle-enters : (i : StreamId) (e : Effect) (s : Slots) → IsIdle e → (effect_flow i e s).entered ≡ []
+idle-enters i (OnReadable j (names.InitializeReader closed)) s d = either (λ (f : Flow). f.entered ≡ []) (is_same i j) no_flow no_flow (λ e. refl) (λ e. refl)
 idle-enters i (StartAlgorithm j step start) s d = refl
 idle-enters i (Give gift u) s d = refl
 idle-enters i (Settle p o) s d = refl
@@ -192,6 +202,7 @@ module _ (i : StreamId) where
     respond = λ q i b e is can. inl refl;
     make_writable = λ mark size start. inr (tt, tt);
     make_transform = λ kind m n start. inr (grind arith);
+    make_tee = λ i e is free untied. inr (tt, (tt, (tt, (tt, tt))));
     get_reader = λ i e. inl refl;
     get_writer = λ i e. inl refl;
     release_reader = λ l closed i e. inl refl;

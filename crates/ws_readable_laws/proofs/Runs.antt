@@ -1,10 +1,11 @@
 -- The order of a readable stream over every run.
-use Rattle.std.proofs.Common.{◌≡◌, ℕ, Bool, true, false, slice_get, Option, Some, None, ◌||◌, if◌then◌else◌, List, [], ◌∷◌, ◌++◌, ◌⊎◌, inl, inr, refl, sym, ap, ◌∙◌, append_assoc, append-nil, add_assoc, zero-add, add-zero, arith}
+use Rattle.std.proofs.Common.{◌≡◌, ℕ, Bool, true, false, slice_get, Option, Some, None, ◌||◌, ◌&&◌, le-ltb, if◌then◌else◌, List, [], ◌∷◌, ◌++◌, ◌⊎◌, inl, inr, refl, sym, ap, ◌∙◌, append_assoc, append-nil, add_assoc, zero-add, add-zero, arith}
 use Rattle.ws_value.specs.declared.ids.PipeId.{PipeId}
 use Rattle.ws_value.specs.declared.ids.StreamId.{StreamId}
+use Rattle.ws_value.specs.declared.ids.TeeId.{TeeId}
 use Rattle.ws_value.specs.declared.value.Plain.{Plain}
 use Rattle.ws_value.specs.declared.value.Value.{Value}
-use Rattle.ws_steps.specs.declared.{effects.Effect.{Effect}, effects.Effect.TheVariants.{Readable as OnReadable, Pipe, Signal, Transform, ChunkSteps, CloseSteps, ErrorSteps}, effects.Owner.{Owner}, pipes.PipeOperation.{PipeOperation}, pipes.SignalOperation.{SignalOperation}, pipes.SignalOperation.TheVariants.{Add, Forget, Trigger}, queue.Queued.{Queued}}
+use Rattle.ws_steps.specs.declared.{effects.Effect.{Effect}, effects.Effect.TheVariants.{Readable as OnReadable, Pipe, Signal, Transform, Tee, ChunkSteps, CloseSteps, ErrorSteps}, effects.Owner.{Owner}, pipes.PipeOperation.{PipeOperation}, pipes.SignalOperation.{SignalOperation}, pipes.SignalOperation.TheVariants.{Add, Forget, Trigger}, queue.Queued.{Queued}}
 use Rattle.ws_steps.specs.declared.{readable.ReadRequest.{ReadRequest}, readable.ReadableOperation.{ReadableOperation}, readable.ReadableOperation.TheVariants.{Read, Cancel, CancelIfReadable, Enqueue}}
 use Rattle.ws_steps.specs.declared.{readable.ReadableState.{ReadableState}, readable.ReadableState.TheVariants.{Readable, Closed, Errored}, readable.SizeBy.{SizeBy}, transform.TransformId.{TransformId}, transform.TransformOperation.{TransformOperation}}
 use Rattle.ws_steps.specs.Effects.{Out}
@@ -13,22 +14,25 @@ use Rattle.ws_steps.specs.Pipes as pipe
 use Rattle.ws_steps.specs.Pipes.{abort_all, trigger_unless}
 use Rattle.ws_steps.specs.Readable as readable
 use Rattle.ws_steps.specs.Transform as transform
+use Rattle.ws_steps.specs.Tee as tee
+use Rattle.ws_steps.specs.declared.tee.TeeOperation.{TeeOperation}
 use Rattle.ws_steps.specs.Readable.{Acts, is_readable, accept_for, accept, call_pull_if_needed, controller_enqueue, after_take, pull_from, pull_steps, read_by, default_reader_read, can_close_or_enqueue, waiting}
 use Rattle.ws_steps.specs.Slots.{Slots, empty, found, ends_at, halves_at, has_readable, readable_at, no_readable}
 use Rattle.ws_steps.specs.Run.{Entry, step, run}
 use Rattle.ws_steps.specs.Histories.{is_same}
 use Rattle.ws_steps.specs.ReadableHistory.{Flow, no_flow, flow_then, values, operation_flow, effect_flow, step_flow, run_flow}
 use Rattle.ws_steps.specs.Laws.{IsLawfulReadable, EachReadableIsLawful}
-use Rattle.ws_laws.proofs.Tables.{either, is_same-refl, no_readable_there, readable_acts}
-use Rattle.ws_laws.proofs.Lists.{Each}
+use Rattle.ws_laws.proofs.Tables.{either, same_id, is_same-refl, no_readable_there, readable_acts}
+use Rattle.ws_laws.proofs.Lists.{Each, each-map}
 use Rattle.ws_laws.proofs.ReadableDoes.{OfReadableEnds, is_taking, pull-does, take-does, ends-do}
 use Rattle.ws_laws.proofs.Begin.{IsFirst, Any, Enqueues, Never, each-any, begin-first, job-first}
 use Rattle.ws_laws.proofs.PipeDoes.{PipeCauses, IsQuiet, is_looking, pipe-causes, pipe-quiet}
-use Rattle.ws_laws.proofs.Walker.{IsHistory}
+use Rattle.ws_laws.proofs.Walker.{IsHistory, run-stays}
 use Rattle.ws_laws.proofs.OnReadable as on_readable
-use Rattle.ws_laws.proofs.Order.{IsQuiet as IsQuietEffect, IsNoChunk, Calm, Orderly, is_resting, may_take, transform-quiet, behind-active, orderly-stays}
+use Rattle.ws_laws.proofs.Order.{IsQuiet as IsQuietEffect, IsNoGift, Calm, Orderly, is_resting, is_from, may_pull, tee_takes, true_of, transform-quiet, tee-quiet, transform-calm, tee-calm, behind-active, behind-tee, orderly-stays, orderly-empty}
 use Rattle.ws_laws.proofs.TransformDoes.{TransformCauses, transform-causes}
-use Rattle.ws_laws.proofs.OnReadable.{Holders, holders, IsForeign, AreSteps, IsLaw, Kept, is_still, piped, transformed, all_seen, all_seen-append}
+use Rattle.ws_laws.proofs.TeeDoes.{TeeCauses, tee-causes}
+use Rattle.ws_laws.proofs.OnReadable.{Holders, holders, IsForeign, AreSteps, IsLaw, Kept, is_still, piped, transformed, teed, all_seen, all_seen-append}
 use Rattle.ws_readable_laws.proofs.Operations.{Held, same_flow, or_false, due, with_due, given_to, first_given, operation_keeps}
 
 -- what is seen of the agenda: an operation that may give, one of a pipe that may read, and chunk steps of the stream
@@ -276,49 +280,88 @@ module _ (i : StreamId) where
       record { held = rw (m.0, ← k.clear.0) k.held; clear = m.1 }
   pipe_keeps p source dest es false c q h r ms k = rw (quiet_marks p source dest es c (q refl)) k
 
-  -- what a transform stream causes: none is chunk steps, and where it rests none may take
+  -- what a transform stream or a tee causes: none is chunk steps, and where it leads to no read none may take
 
-  transform_marks : (t : TransformId) (w r : StreamId) (es : List Effect) (ms : List Mark) → Each (TransformCauses t w r) es → (pending ms ≡ []) × Clear ms
-      → let ns : List Mark = all_seen (mark i) es ++ ms in (pending ns ≡ []) × Clear ns
-  transform_marks t w r [] ms c k = k
-  transform_marks t w r (OnReadable j operation ∷ es) ms c k =
-      rw (append_assoc (mark i (OnReadable j operation)) (all_seen (mark i) es) ms) (taken_first (is_same i j) (is_taking operation) (all_seen (mark i) es ++ ms) (transform_marks t w r es ms c.1 k))
-  transform_marks t w r (Pipe q operation ∷ es) ms c k = absurd (c.0)
-  transform_marks t w r (ChunkSteps j request v ∷ es) ms c k = absurd (c.0)
-  transform_marks t w r (e ∷ es) ms c k = transform_marks t w r es ms c.1 k
+  calm_marks : (es : List Effect) (ms : List Mark) → Calm i es → (pending ms ≡ []) × Clear ms → let ns : List Mark = all_seen (mark i) es ++ ms in (pending ns ≡ []) × Clear ns
+  calm_marks [] ms c k = k
+  calm_marks (OnReadable j operation ∷ es) ms c k =
+      rw (append_assoc (mark i (OnReadable j operation)) (all_seen (mark i) es) ms) (taken_first (is_same i j) (is_taking operation) (all_seen (mark i) es ++ ms) (calm_marks es ms c.1 k))
+  calm_marks (Pipe q operation ∷ es) ms c k =
+      rw (append_assoc (mark i (Pipe q operation)) (all_seen (mark i) es) ms) (taken_first true (is_looking operation) (all_seen (mark i) es ++ ms) (calm_marks es ms c.1 k))
+  calm_marks (ChunkSteps j request v ∷ es) ms c k = rw c.0 (calm_marks es ms c.1 k)
+  calm_marks (e ∷ es) ms c k = calm_marks es ms c.1 k
 
-  resting_mark : (t : TransformId) (w r : StreamId) (e : Effect) → TransformCauses t w r e → may_take e ≡ false → mark i e ≡ []
-  resting_mark t w r (OnReadable j operation) c q = either (λ (ms : List Mark). ms ≡ []) (is_same i j) (takes (is_taking operation)) [] (λ e. ap takes q) (λ e. refl)
-  resting_mark t w r (Pipe p operation) c q = absurd c
-  resting_mark t w r (ChunkSteps j request v) c q = absurd c
-  resting_mark t w r _ c q = refl
+  no_pull : (operation : ReadableOperation) → may_pull operation ≡ false → is_taking operation ≡ false
+  no_pull operation n = grind arith
 
-  resting_marks : (t : TransformId) (w r : StreamId) (es : List Effect) → Each (TransformCauses t w r) es → Each IsQuietEffect es → all_seen (mark i) es ≡ []
-  resting_marks t w r [] c q = refl
-  resting_marks t w r (e ∷ es) c q = rw (resting_mark t w r e c.0 q.0, resting_marks t w r es c.1 q.1) refl
+  -- an operation of stream i that may take leads to a read of it
+  quiet_takes : (j : StreamId) (operation : ReadableOperation) (pulls : Bool) → is_same i j ≡ true → pulls ≡ may_pull operation → (pulls && is_from i j) ≡ false → is_taking operation ≡ false
+  quiet_takes j operation false same e n = no_pull operation (sym e)
+  quiet_takes j operation true same e n =
+      let is : i.0 ≡ j.0 = ap (λ (k : StreamId). k.0) (same_id i j same) in
+      let from : is_from i j ≡ true = rw (le-ltb j.0 i.0 (omega (arith, is))) refl in
+      let wrong : true ≡ false = sym from ∙ n in cc
+
+  rest_mark : (s : Slots) (e : Effect) → IsQuietEffect i s e → IsNoGift i e → mark i e ≡ []
+  rest_mark s (OnReadable j operation) q n =
+      either (λ (ms : List Mark). ms ≡ []) (is_same i j) (takes (is_taking operation)) []
+      (λ e. ap takes (quiet_takes j operation (may_pull operation) e refl q)) (λ e. refl)
+  rest_mark s (Pipe p operation) q n = ap takes (still_looks operation (true_of (is_still operation) q))
+  rest_mark s (ChunkSteps j request v) q n = rw n refl
+  rest_mark s _ q n = refl
+
+  rest_marks : (s : Slots) (es : List Effect) → Each (IsQuietEffect i s) es → Calm i es → all_seen (mark i) es ≡ []
+  rest_marks s [] q c = refl
+  rest_marks s (e ∷ es) q c = rw (rest_mark s e q.0 c.0, rest_marks s es q.1 c.1) refl
 
   -- where no chunk steps stand, nothing is still to be given
-  no_pending : (e : Effect) (ms : List Mark) → IsNoChunk e → pending (mark i e ++ ms) ≡ pending ms
+  no_pending : (e : Effect) (ms : List Mark) → IsNoGift i e → pending (mark i e ++ ms) ≡ pending ms
   no_pending (OnReadable j operation) ms n =
       either (λ (ns : List Mark). pending (ns ++ ms) ≡ pending ms) (is_same i j) (takes (is_taking operation)) [] (λ e. no_taken (is_taking operation) ms) (λ e. refl)
   no_pending (Pipe p operation) ms n = no_taken (is_looking operation) ms
-  no_pending (ChunkSteps j request v) ms n = absurd n
+  no_pending (ChunkSteps j request v) ms n = rw n refl
   no_pending _ ms n = refl
 
-  calm_pending : (es : List Effect) → Calm es → pending (all_seen (mark i) es) ≡ []
+  calm_pending : (es : List Effect) → Calm i es → pending (all_seen (mark i) es) ≡ []
   calm_pending [] c = refl
   calm_pending (e ∷ es) c = no_pending e (all_seen (mark i) es) c.0 ∙ calm_pending es c.1
 
-  transform_keeps : (t : TransformId) (operation : TransformOperation) (s : Slots) (x : transform.Slots) (es : List Effect) (rests : Bool) → rests ≡ is_resting operation → Orderly s (Transform t operation ∷ es)
-      → (h : Flow) (r : readable.Slots) → Ordered h r (all_seen (mark i) es) → Ordered h r (all_seen (mark i) (transformed t operation s x).out.effects ++ all_seen (mark i) es)
-  transform_keeps t operation s x es true e o h r k =
-      let a : transform.Acts = record { slots = x; out = found s } in
-      rw (resting_marks t x.writable x.readable (transformed t operation s x).out.effects (transform-causes t (halves_at x s) operation a tt).1.1.1 (transform-quiet t operation s (Some x) (sym e))) k
-  transform_keeps t operation s x es false e o h r k =
-      let a : transform.Acts = record { slots = x; out = found s } in
-      let none = calm_pending es (behind-active t operation es (sym e) o) in
-      let m = transform_marks t x.writable x.readable (transformed t operation s x).out.effects (all_seen (mark i) es) (transform-causes t (halves_at x s) operation a tt).1.1.1 (none, k.clear) in
+  -- what is caused in place of an effect that may take, or of one that leads to no read
+
+  active_keeps : (cs es : List Effect) → Calm i cs → Calm i es → (h : Flow) (r : readable.Slots) → Ordered h r (all_seen (mark i) es)
+      → Ordered h r (all_seen (mark i) cs ++ all_seen (mark i) es)
+  active_keeps cs es c d h r k =
+      let none = calm_pending es d in
+      let m = calm_marks cs (all_seen (mark i) es) c (none, k.clear) in
       record { held = rw (m.0, ← none) k.held; clear = m.1 }
+
+  resting_keeps : (s : Slots) (cs es : List Effect) → Each (IsQuietEffect i s) cs → Calm i cs → (h : Flow) (r : readable.Slots) → Ordered h r (all_seen (mark i) es)
+      → Ordered h r (all_seen (mark i) cs ++ all_seen (mark i) es)
+  resting_keeps s cs es q c h r k = rw (rest_marks s cs q c) k
+
+  transform_keeps : (t : TransformId) (operation : TransformOperation) (s : Slots) (x : transform.Slots) (es : List Effect) (rests : Bool) → rests ≡ is_resting operation
+      → Orderly i s (Transform t operation ∷ es)
+      → (h : Flow) (r : readable.Slots) → Ordered h r (all_seen (mark i) es) → Ordered h r (all_seen (mark i) (transformed t operation s x).out.effects ++ all_seen (mark i) es)
+  transform_keeps t operation s x es rests e o h r k =
+      let a : transform.Acts = record { slots = x; out = found s } in
+      let cs : List Effect = (transformed t operation s x).out.effects in
+      let calm : Calm i cs = each-map (TransformCauses t x.writable x.readable) (IsNoGift i) (transform-calm i t x.writable x.readable) cs (transform-causes t (halves_at x s) operation a tt).1.1.1 in
+      by rests e cs calm refl
+    where
+      by : (b : Bool) → b ≡ is_resting operation → (cs : List Effect) → Calm i cs → cs ≡ (transformed t operation s x).out.effects → Ordered h r (all_seen (mark i) cs ++ all_seen (mark i) es)
+      by true f cs calm is = resting_keeps s cs es (rw is (transform-quiet i s t operation s (Some x) (sym f))) calm h r k
+      by false f cs calm is = active_keeps cs es calm (behind-active i s t operation es (sym f) o.ordered) h r k
+
+  tee_keeps : (t : TeeId) (operation : TeeOperation) (s : Slots) (x : tee.Slots) (es : List Effect) (takes : Bool) → takes ≡ tee_takes i s t operation → Orderly i s (Tee t operation ∷ es)
+      → slice_get s.tees t.0 ≡ Some x → (cs : List Effect) → cs ≡ (teed t operation s x).out.effects → Calm i cs
+      → (h : Flow) (r : readable.Slots) → Ordered h r (all_seen (mark i) es) → Ordered h r (all_seen (mark i) cs ++ all_seen (mark i) es)
+  tee_keeps t operation s x es false e o is cs same calm h r k = resting_keeps s cs es (rw same (rw is at (tee-quiet i t operation s (sym e)))) calm h r k
+  tee_keeps t operation s x es true e o is cs same calm h r k = active_keeps cs es calm (behind-tee i s t operation es (sym e) o.ordered) h r k
+
+  tee_causes : (t : TeeId) (operation : TeeOperation) (s : Slots) (x : tee.Slots) → Calm i (teed t operation s x).out.effects
+  tee_causes t operation s x =
+      each-map (TeeCauses t x.source x.branch1 x.branch2) (IsNoGift i) (tee-calm i t x.source x.branch1 x.branch2) (teed t operation s x).out.effects
+      ((tee-causes t operation (record { slots = x; out = found s })).effects tt)
 
   first_marks : (es : List Effect) → Each (IsFirst Any) es → (pending (all_seen (mark i) es) ≡ []) × Clear (all_seen (mark i) es)
   first_marks [] f = (refl, tt)
@@ -373,7 +416,7 @@ module _ (i : StreamId) where
       let a : pipe.Acts = record { slots = x; out = found s } in
       pipe_keeps p x.source x.dest (piped p operation s x).out.effects (is_looking operation) (pipe-causes p (ends_at x s) operation a tt).1.1 (λ quiet. pipe-quiet p (ends_at x s) operation a quiet tt) h r ms k
 
-  law : IsLaw no_flow flow_then (effect_flow i) (mark i) i OrderedIn UnmadeIn Orderly
+  law : IsLaw no_flow flow_then (effect_flow i) (mark i) i OrderedIn UnmadeIn (Orderly i)
   law = record {
     history = is_history;
     unseen = unseen;
@@ -382,6 +425,9 @@ module _ (i : StreamId) where
     idle = λ operation s kind absent. nothing_there i operation s absent;
     absent = λ operation h locks ms k. absent_keeps h ms (is_taking operation) (rw (is_same-refl i) at k);
     transform = λ t operation s x es known e h k. transform_keeps t operation s x es (is_resting operation) refl known h (readable_at i s) k;
+    tee = λ t operation s x es known e h k.
+        tee_keeps t operation s x es (tee_takes i s t operation) refl known e (teed t operation s x).out.effects refl (tee_causes t operation s x) h (readable_at i s) k;
+    tee_unmade = λ t operation s x e h n. n;
     pipe = λ p operation s x es known e h k. piped_keeps p operation s x h (readable_at i s) (all_seen (mark i) es) k;
     pipe_unmade = λ p operation s x e h n. n;
     no_pipe = λ p operation h o r ms k. looked (is_looking operation) h r ms k;
@@ -396,19 +442,22 @@ module _ (i : StreamId) where
     made = λ owner hwm size h locks n k. made owner hwm size h n k;
     empty = record { held = record { dropped = []; balanced = record { all = refl; live = λ e. refl; whole = λ c e. refl; gone = λ e. refl; fit = λ e. refl; asked = omega arith } }; clear = tt };
     unmade = refl;
-    known = orderly-stays;
-    known_heard = λ s k. tt;
-    known_first = tt;
+    known = orderly-stays i;
+    known_heard = λ s k. record { ordered = tt; below = k.below };
+    known_first = orderly-empty i;
   }
 
   abbrev pub Keeps : Flow → Slots → Type 0
   Keeps h s = Kept (mark i) i OrderedIn UnmadeIn h (holders s) s.streams []
 
-  pub step-kept : (h : Flow) (s : Slots) (x : Entry) → Keeps h s → Keeps (flow_then h (step_flow i s x)) (step s x)
-  step-kept h s x k = on_readable.step-kept no_flow flow_then (effect_flow i) (mark i) i OrderedIn UnmadeIn Orderly law h s x tt k
+  pub step-kept : (h : Flow) (s : Slots) (x : Entry) → Orderly i s [] → Keeps h s → Keeps (flow_then h (step_flow i s x)) (step s x)
+  step-kept h s x known k = on_readable.step-kept no_flow flow_then (effect_flow i) (mark i) i OrderedIn UnmadeIn (Orderly i) law h s x known k
 
   pub run-kept : (entries : List Entry) → Keeps (run_flow i entries empty) (run entries empty)
-  run-kept entries = on_readable.run-kept no_flow flow_then (effect_flow i) (mark i) i OrderedIn UnmadeIn Orderly law entries
+  run-kept entries = on_readable.run-kept no_flow flow_then (effect_flow i) (mark i) i OrderedIn UnmadeIn (Orderly i) law entries
+
+  pub run-orderly : (entries : List Entry) → Orderly i (run entries empty) []
+  run-orderly entries = run-stays (Orderly i) (orderly-stays i) (λ z k. record { ordered = tt; below = k.below }) entries empty (orderly-empty i)
 
 -- between steps nothing is still to be given
 pub between : (h : Flow) (r : readable.Slots) → Ordered h r [] → Held h r

@@ -4,25 +4,29 @@ use Rattle.ws_value.specs.declared.ids.StreamId.{StreamId}
 use Rattle.ws_value.specs.declared.ids.PipeId.{PipeId}
 use Rattle.ws_value.specs.declared.ids.PromiseId.{PromiseId}
 use Rattle.ws_value.specs.declared.ids.SignalId.{SignalId}
+use Rattle.ws_value.specs.declared.ids.TeeId.{TeeId}
 use Rattle.ws_value.specs.declared.value.Plain.{Plain}
 use Rattle.ws_value.specs.declared.value.Value.{Value}
 use Rattle.ws_steps.specs.declared.effects.Effect.{Effect}
 use Rattle.ws_steps.specs.Promises.{Table, fresh, settle, tell, use_this, use_gift}
 use Rattle.ws_steps.specs.Writable as writable
-use Rattle.ws_steps.specs.Slots.{Slots, Done, found as found_outside, ends_at, halves_at, owner_at, on_pipe_at, on_signal_at, on_transform_at, writable_at, on_writable, as_writable, WritableStream, nothing, put_writable, no_writable, has_writable}
+use Rattle.ws_steps.specs.Slots.{Slots, Done, found as found_outside, ends_at, halves_at, owner_at, on_pipe_at, on_signal_at, on_transform_at, on_tee_at, writable_at, on_writable, as_writable, WritableStream, nothing, put_writable, no_writable, has_writable}
 use Rattle.ws_steps.specs.WritableHistory.{Writes, no_writes, writes_then, effect_writes, first_chunk, operation_writes}
 use Rattle.ws_steps.specs.declared.{calls.Event.{Event}, calls.Event.TheVariants.{Host as HostCalled, Signal}, calls.HostCall.{HostCall}}
-use Rattle.ws_steps.specs.declared.effects.Effect.TheVariants.{Readable, Writable, Pipe, Signal, Transform, Queue, PullAlgorithm, CancelAlgorithm, WriteAlgorithm, CloseAlgorithm, AbortAlgorithm, ChunkSteps, CloseSteps, ErrorSteps, StartAlgorithm, Give, CallHost}
-use Rattle.ws_steps.specs.declared.{effects.Gift.{Gift}, effects.Gift.TheVariants.{This}, effects.Use.{Use}, effects.Use.TheVariants.{React}, pipes.PipeOperation.{PipeOperation}, pipes.SignalOperation.{SignalOperation}, readable.ReadRequest.{ReadRequest}, readable.ReadRequest.TheVariants.{Promise, Pipe as PipeRequest}, promises.Step.{Step}, readable.ReadableOperation.{ReadableOperation}}
-use Rattle.ws_steps.specs.declared.{effects.Owner.{Owner}, effects.Owner.TheVariants.{Host, HalfOf}, promises.Step.TheVariants.{ReadablePull, ReturnUndefined, WritableClose, WritableAbort}}
+use Rattle.ws_steps.specs.declared.effects.Effect.TheVariants.{Readable, Writable, Pipe, Signal, Transform, Tee, Queue, PullAlgorithm, CancelAlgorithm, WriteAlgorithm, CloseAlgorithm, AbortAlgorithm, ChunkSteps, CloseSteps, ErrorSteps, StartAlgorithm, Give, CallHost}
+use Rattle.ws_steps.specs.declared.{effects.Gift.{Gift}, effects.Gift.TheVariants.{This}, effects.Use.{Use}, effects.Use.TheVariants.{React}, pipes.PipeOperation.{PipeOperation}, pipes.SignalOperation.{SignalOperation}, readable.ReadRequest.{ReadRequest}, readable.ReadRequest.TheVariants.{Promise, Pipe as PipeRequest, Tee as TeeRequest}, promises.Step.{Step}, readable.ReadableOperation.{ReadableOperation}}
+use Rattle.ws_steps.specs.declared.{effects.Owner.{Owner}, effects.Owner.TheVariants.{Host, HalfOf, BranchOf}, promises.Step.TheVariants.{ReadablePull, ReturnUndefined, WritableClose, WritableAbort}}
 use Rattle.ws_steps.specs.declared.{transform.TransformId.{TransformId}, transform.TransformOperation.{TransformOperation}, transform.TransformOperation.TheVariants.{TransformChunk}}
 use Rattle.ws_steps.specs.declared.writable.WritableOperation.{WritableOperation}
 use Rattle.ws_steps.specs.Effects.{Out, cause, settling}
-use Rattle.ws_steps.specs.Operations.{writable_operation, pipe_operation, signal_operation, transform_operation}
+use Rattle.ws_steps.specs.Operations.{writable_operation, pipe_operation, signal_operation, transform_operation, tee_operation}
 use Rattle.ws_steps.specs.Pipes as pipe
 use Rattle.ws_steps.specs.Pipes.{abort_all}
 use Rattle.ws_steps.specs.Writable.{write_to_host, Acts, hand_on_first, hand_on}
 use Rattle.ws_steps.specs.Transform as transform
+use Rattle.ws_steps.specs.Tee as tee
+use Rattle.ws_steps.specs.declared.tee.TeeOperation.{TeeOperation}
+use Rattle.ws_laws.proofs.TeeDoes.{OfTee, tee-does}
 use Rattle.ws_steps.specs.Turns.{call_host, chunk_steps, close_steps, error_steps, row, pull_algorithm, cancel_algorithm, write_algorithm, close_algorithm, abort_algorithm}
 use Rattle.ws_steps.specs.Histories.{is_same}
 use Rattle.ws_steps.specs.declared.{writable.WritableOperation.TheVariants.{HandOn}}
@@ -33,7 +37,7 @@ use Rattle.ws_laws.proofs.PipeDoes.{IsStepOf, PipeCauses, OfPipe, pipe-causes, p
 use Rattle.ws_laws.proofs.TransformDoes.{transform-does}
 use Rattle.ws_laws.proofs.WritableDoes.{writable-does, IsHandOn}
 use Rattle.ws_laws.proofs.Weights.{weigh, weigh-micro, weigh-fresh, weigh-settle, weigh-react, weigh-follow, weigh-answer}
-use Rattle.ws_writable_laws.proofs.Shape.{is_start, is_write, is_close, is_abort, leads_to, hands, closes, all, all-append, mass, weight, of_use, of_reaction, of_transform, core_of}
+use Rattle.ws_writable_laws.proofs.Shape.{is_start, is_write, is_close, is_abort, leads_to, hands, closes, all, all-append, mass, weight, of_use, of_reaction, of_transform, of_tee, core_of}
 use Rattle.ws_writable_laws.proofs.Transforms.{IsPlain, transform-leads, transform-hands, transform-alone, start-plain, write-plain, close-plain, abort-plain, weight-transform}
 use Rattle.ws_writable_laws.proofs.Operations.{Due, Held, Less, with_effects, so_far, later_effects, fine-less, Fine, handed, chunk_handed, writes-nothing, with_operation, operation-held}
 use Rattle.ws_writable_laws.proofs.Handed.{NoHalf, no-half, nothing_chunk, nothing_handed, same-handed, acting, writes-acted, owned-held}
@@ -400,18 +404,22 @@ signal-leaves i a operation s (Some x) =
 chunk-leaves : (i j : StreamId) (v : Value) (s : Slots) (request : ReadRequest) → Leaves i (ChunkSteps j request v) s (chunk_steps v s request).slots (chunk_steps v s request).caused
 chunk-leaves i j v s (Promise p) = grind (arith, weigh-answer)
 chunk-leaves i j v s (PipeRequest p) = grind arith
+chunk-leaves i j v s (TeeRequest t) = grind arith
 
 closing-leaves : (i j : StreamId) (s : Slots) (request : ReadRequest) → Leaves i (CloseSteps j request) s (close_steps s request).slots (close_steps s request).caused
 closing-leaves i j s (Promise p) = grind (arith, weigh-answer)
 closing-leaves i j s (PipeRequest p) = grind arith
+closing-leaves i j s (TeeRequest t) = grind arith
 
 closing_with-leaves : (i j : StreamId) (b : List ℕ) (s : Slots) (request : ReadRequest) → Leaves i (CloseStepsWith j request b) s (close_steps_with b s request).slots (close_steps_with b s request).caused
 closing_with-leaves i j b s (Promise p) = grind (arith, weigh-answer)
 closing_with-leaves i j b s (PipeRequest p) = grind arith
+closing_with-leaves i j b s (TeeRequest t) = grind arith
 
 erring-leaves : (i j : StreamId) (e : Plain) (s : Slots) (request : ReadRequest) → Leaves i (ErrorSteps j request e) s (error_steps e s request).slots (error_steps e s request).caused
 erring-leaves i j e s (Promise p) = grind (arith, weigh-settle)
 erring-leaves i j e s (PipeRequest p) = grind arith
+erring-leaves i j e s (TeeRequest t) = grind arith
 
 -- an operation of a transform stream
 
@@ -439,27 +447,73 @@ transform-leaves i t operation s (Some x) is =
       aborts = omega (arith, w4, l4);
     }
 
+-- an operation of a tee
+
+tee-leads : (f : Step → ℕ) (t : TeeId) (operation : TeeOperation) (a : tee.Acts) → a.out.effects ≡ [] → all (leads_to f) (tee_operation t operation a).out.effects ≤ of_tee f operation
+unfolding tee.pull_branch tee.keep_chunk tee.source_closed tee.source_errored tee.hand_chunk tee.handed tee.cancel_branch tee.reader_settled
+tee-leads f t operation a none = grind (arith, none)
+
+tee-alone : (i : StreamId) (t : TeeId) (operation : TeeOperation) (a : tee.Acts) → a.out.effects ≡ []
+    → (all (hands i) (tee_operation t operation a).out.effects ≡ 0) × (all (closes i) (tee_operation t operation a).out.effects ≡ 0)
+unfolding tee.pull_branch tee.keep_chunk tee.source_closed tee.source_errored tee.hand_chunk tee.handed tee.cancel_branch tee.reader_settled
+tee-alone i t operation a none = grind (arith, none)
+
+weight-tee : (f : Step → ℕ) (t : Table) → OfTee (λ z. weight f z ≤ weight f t)
+weight-tee f t = record {
+  fresh = λ z h. let k = weigh-fresh (of_reaction f) z in omega (arith, h, k);
+  micro = λ z m h. let k = weigh-micro (of_reaction f) m z in omega (arith, h, k);
+}
+
+tee-leaves : (i : StreamId) (t : TeeId) (operation : TeeOperation) (s : Slots) (o : Option tee.Slots)
+    → let d : Done = on_tee_at (tee_operation t operation) t s o in Leaves i (Tee t operation) s d.slots d.caused
+tee-leaves i t operation s None = grind arith
+tee-leaves i t operation s (Some x) =
+    let a : tee.Acts = record { slots = x; out = found_outside s } in
+    let b : tee.Acts = tee_operation t operation a in
+    let c = tee-alone i t operation a refl in
+    let w : (f : Step → ℕ) → weight f b.out.promises ≤ weight f s.promises =
+    λ f. tee-does (λ z. weight f z ≤ weight f s.promises) (weight-tee f s.promises) t operation a (omega arith) in
+    let l : (f : Step → ℕ) → all (leads_to f) b.out.effects ≤ of_tee f operation = λ f. tee-leads f t operation a refl in
+    let w1 = w (is_start i) in let w2 = w (is_write i) in let w3 = w (is_close i) in let w4 = w (is_abort i) in
+    let l1 = l (is_start i) in let l2 = l (is_write i) in let l3 = l (is_close i) in let l4 = l (is_abort i) in
+    record {
+      there = λ e. e;
+      place = refl;
+      alone = none_behind i b.out.effects c.0;
+      hands = λ o apart. c.0;
+      closes = c.1;
+      starts = omega (arith, w1, l1);
+      writes = omega (arith, w2, l2);
+      closes_on = omega (arith, w3, l3);
+      aborts = omega (arith, w4, l4);
+    }
+
 -- algorithms, by whose they are
 
 pull-leaves : (i j : StreamId) (s : Slots) (o : Owner) → Leaves i (PullAlgorithm j) s s (pull_algorithm j (React (ReadablePull j) None) o)
 pull-leaves i j s Host = grind arith
 pull-leaves i j s (HalfOf t) = grind arith
+pull-leaves i j s (BranchOf t half) = grind arith
 
 cancel-leaves : (i j : StreamId) (r : Plain) (p : PromiseId) (s : Slots) (o : Owner) → Leaves i (CancelAlgorithm j r p) s s (cancel_algorithm j r (React ReturnUndefined (Some p)) o)
 cancel-leaves i j r p s Host = grind arith
 cancel-leaves i j r p s (HalfOf t) = grind arith
+cancel-leaves i j r p s (BranchOf t half) = grind arith
 
 close-leaves : (i j : StreamId) (s : Slots) (o : Owner) → Leaves i (CloseAlgorithm j) s s (close_algorithm j (React (WritableClose j) None) o)
 close-leaves i j s Host = grind arith
 close-leaves i j s (HalfOf t) = grind arith
+close-leaves i j s (BranchOf t half) = grind arith
 
 abort-leaves : (i j : StreamId) (r : Plain) (p : PromiseId) (s : Slots) (o : Owner) → Leaves i (AbortAlgorithm j r p) s s (abort_algorithm j r (React (WritableAbort j p) None) o)
 abort-leaves i j r p s Host = grind arith
 abort-leaves i j r p s (HalfOf t) = grind arith
+abort-leaves i j r p s (BranchOf t half) = grind arith
 
 write-leaves : (i j : StreamId) (s : Slots) (owner : Owner) (same : Bool) → same ≡ is_same i j → owner_at j s ≡ owner → Leaves i (WriteAlgorithm j) s s (write_algorithm j owner)
 write-leaves i j s Host same e is = grind arith
 write-leaves i j s (HalfOf t) false e is = grind (arith, e)
+write-leaves i j s (BranchOf t half) same e is = grind arith
 write-leaves i j s (HalfOf t) true e is =
     let half : owner_at i s ≡ HalfOf t = rw (same_id i j (sym e)) is in
     let wrong : owner_at i s ≡ Host → ⊥ = λ o. cc in grind (arith, e, wrong)
@@ -471,6 +525,7 @@ row-leaves i (Byte j operation) s x = byte-leaves i j operation s
 row-leaves i (Writable j operation) s x = elsewhere-leaves i j operation s x
 row-leaves i (Pipe p operation) s x = pipe-leaves i p operation s (slice_get s.pipes p.0)
 row-leaves i (Transform t operation) s x = transform-leaves i t operation s (slice_get s.transforms t.0) refl
+row-leaves i (Tee t operation) s x = tee-leaves i t operation s (slice_get s.tees t.0)
 row-leaves i (PullAlgorithm j) s x = pull-leaves i j s (owner_at j s)
 row-leaves i (CancelAlgorithm j r p) s x = cancel-leaves i j r p s (owner_at j s)
 row-leaves i (WriteAlgorithm j) s x = write-leaves i j s (owner_at j s) (is_same i j) refl refl

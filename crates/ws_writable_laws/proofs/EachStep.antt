@@ -24,7 +24,7 @@ use Rattle.ws_laws.proofs.Walker.{performed-goes}
 use Rattle.ws_writable_laws.proofs.Shape.{Core, core_of, Told}
 use Rattle.ws_writable_laws.proofs.Operations.{so_far-nothing}
 use Rattle.ws_writable_laws.proofs.Agenda.{Kept, same_or}
-use Rattle.ws_writable_laws.proofs.Runs.{is_history, step-kept, run-kept, hosted_at, host-before, resting, closed_whole}
+use Rattle.ws_writable_laws.proofs.Runs.{is_history, tee-place, step-kept, run-kept, hosted_at, host-before, resting, closed_whole}
 use Rattle.ws_steps.specs.declared.effects.Effect.TheVariants.{Byte}
 use Rattle.ws_steps.specs.Operations.{byte_operation}
 use Rattle.ws_laws.proofs.Tables.{on_source-writable, on_byte-writable}
@@ -105,6 +105,7 @@ call_none i s c e =
       respond = λ q j b f is can. inr e;
       make_writable = λ mark size start. inl (tt, tt);
       make_transform = λ kind m n start. inl (grind arith);
+      make_tee = λ j c is free untied. inr (rw (tee-place i j s).1 e);
       get_reader = λ j f. inr e;
       get_writer = λ j f. inr e;
       release_reader = λ l closed j f. inr e;

@@ -1,11 +1,13 @@
 -- What is handed on: a stream of the host is the writable half of no transform stream, and what a half hands on doesn't count.
 use Rattle.std.proofs.Common.{◌≡◌, Option, List, [], ◌++◌, None, slice_get, refl, arith, ℕ, false, append-nil, Bool, true, Some, sym, ◌∙◌}
 use Rattle.ws_value.specs.declared.ids.StreamId.{StreamId}
+use Rattle.ws_value.specs.declared.ids.TeeId.{TeeId}
+use Rattle.ws_steps.specs.declared.tee.Half.{Half}
 use Rattle.ws_value.specs.declared.value.Value.{Value}
 use Rattle.ws_steps.specs.Writable as writable
 use Rattle.ws_steps.specs.Slots.{Slots, owner_at, as_writable, Stream, ReadableStream, ByteStream, WritableStream, owner_of, no_writable}
 use Rattle.ws_steps.specs.WritableHistory.{Writes, no_writes, writes_then, first_chunk}
-use Rattle.ws_steps.specs.declared.{effects.Owner.{Owner}, effects.Owner.TheVariants.{Host, HalfOf}}
+use Rattle.ws_steps.specs.declared.{effects.Owner.{Owner}, effects.Owner.TheVariants.{Host, HalfOf, BranchOf}}
 use Rattle.ws_steps.specs.declared.{transform.Taker.{Taker}, transform.Taker.TheVariants.{ToHost, ToTransform}, transform.TransformId.{TransformId}}
 use Rattle.ws_steps.specs.Writable.{write_to_host, Acts, hand_on_first, hand_on}
 use Rattle.ws_steps.specs.Transform as transform
@@ -51,12 +53,16 @@ SameHanded x y w = (core_of (handed x w) ≡ core_of (handed y w)) × (chunk_han
 half-handed : (x y : ℕ) (w : writable.Slots) (t : TransformId) → w.owner ≡ HalfOf t → SameHanded x y w
 half-handed x y w t o = grind (arith, o)
 
+branch-handed : (x y : ℕ) (w : writable.Slots) (t : TeeId) (half : Half) → w.owner ≡ BranchOf t half → SameHanded x y w
+branch-handed x y w t half o = grind (arith, o)
+
 none-handed : (x y : ℕ) → SameHanded x y no_writable
 none-handed x y = (nothing_handed x ∙ sym (nothing_handed y), nothing_chunk x ∙ sym (nothing_chunk y))
 
 owner-handed : (x y : ℕ) (w : writable.Slots) (owner : Owner) → w.owner ≡ owner → (w.owner ≡ Host → x ≡ y) → SameHanded x y w
 owner-handed x y w Host o same = rw (same o) (refl, refl)
 owner-handed x y w (HalfOf t) o same = half-handed x y w t o
+owner-handed x y w (BranchOf t half) o same = branch-handed x y w t half o
 
 pub same-handed : (x y : ℕ) (o : Option Stream) → (owner_of o ≡ Host → x ≡ y) → SameHanded x y (as_writable o)
 same-handed x y None same = none-handed x y
@@ -93,5 +99,8 @@ owned-held i taker n h d a Host o q f =
     let g : Fine (with_operation i (HandOn taker) n) (acting h (first_chunk a.slots.queue)) d (record (core_of a.slots) { queue = handed_queue a.slots.queue }) = rw o (rw o at f) in
     hand_on-held i taker n (acting h (first_chunk a.slots.queue)) d a (first_value a.slots.queue) refl q g
 owned-held i taker n h d a (HalfOf t) o q f =
+    hand_on-held i taker n (acting h (first_chunk a.slots.queue)) d a (first_value a.slots.queue) refl q
+    (half-fine (with_operation i (HandOn taker) n) h (first_chunk a.slots.queue) d (core_of a.slots) (rw o refl) (rw o (rw (o, append-nil h.acted) at f)))
+owned-held i taker n h d a (BranchOf t half) o q f =
     hand_on-held i taker n (acting h (first_chunk a.slots.queue)) d a (first_value a.slots.queue) refl q
     (half-fine (with_operation i (HandOn taker) n) h (first_chunk a.slots.queue) d (core_of a.slots) (rw o refl) (rw o (rw (o, append-nil h.acted) at f)))

@@ -4,26 +4,30 @@ use Rattle.ws_value.specs.declared.ids.PipeId.{PipeId}
 use Rattle.ws_value.specs.declared.ids.PromiseId.{PromiseId}
 use Rattle.ws_value.specs.declared.ids.SignalId.{SignalId}
 use Rattle.ws_value.specs.declared.ids.StreamId.{StreamId}
+use Rattle.ws_value.specs.declared.ids.TeeId.{TeeId}
 use Rattle.ws_value.specs.declared.value.Outcome.{Outcome}
 use Rattle.ws_value.specs.declared.value.Plain.{Plain}
 use Rattle.ws_value.specs.declared.value.Value.{Value}
 use Rattle.ws_steps.specs.declared.{calls.Call.{Call}, calls.Event.{Event}, calls.Event.TheVariants.{Host as HostCalled, Signal}, calls.HostCall.{HostCall}}
-use Rattle.ws_steps.specs.declared.{calls.HostCall.TheVariants.{Write as HostWrite, Close as HostClose, Transform as HostTransform, Flush as HostFlush, CancelTransform as HostCancelTransform}, effects.Effect.{Effect}, effects.Owner.{Owner}, effects.Owner.TheVariants.{Host, HalfOf}}
-use Rattle.ws_steps.specs.declared.effects.Effect.TheVariants.{Readable, Writable, Pipe, Signal as SignalEffect, Transform, Queue, PullAlgorithm, CancelAlgorithm, WriteAlgorithm, CloseAlgorithm, AbortAlgorithm, ChunkSteps, CloseSteps, ErrorSteps, StartAlgorithm, CallHost}
+use Rattle.ws_steps.specs.declared.{calls.HostCall.TheVariants.{Write as HostWrite, Close as HostClose, Transform as HostTransform, Flush as HostFlush, CancelTransform as HostCancelTransform}, effects.Effect.{Effect}, effects.Owner.{Owner}, effects.Owner.TheVariants.{Host, HalfOf, BranchOf}}
+use Rattle.ws_steps.specs.declared.effects.Effect.TheVariants.{Readable, Writable, Pipe, Signal as SignalEffect, Transform, Tee, Queue, PullAlgorithm, CancelAlgorithm, WriteAlgorithm, CloseAlgorithm, AbortAlgorithm, ChunkSteps, CloseSteps, ErrorSteps, StartAlgorithm, CallHost}
 use Rattle.ws_steps.specs.declared.{effects.Gift.{Gift}, effects.Use.{Use}, promises.Job.{Job}, promises.Reaction.{Reaction}, readable.ReadableOperation.{ReadableOperation}}
 use Rattle.ws_steps.specs.declared.{writable.WritableOperation.{WritableOperation}, writable.WritableOperation.TheVariants.{HandOn}}
 use Rattle.ws_steps.specs.declared.{promises.Step.TheVariants.{ReadablePull, ReturnUndefined, WritableClose, WritableAbort}, effects.Use.TheVariants.{React}}
 use Rattle.ws_steps.specs.declared.{transform.Taker.{Taker}, transform.Taker.TheVariants.{ToHost, ToTransform}, transform.TransformId.{TransformId}, transform.TransformOperation.{TransformOperation}}
 use Rattle.ws_steps.specs.Effects.{Out, cause}
-use Rattle.ws_steps.specs.Operations.{writable_operation, pipe_operation, signal_operation, transform_operation}
+use Rattle.ws_steps.specs.Operations.{writable_operation, pipe_operation, signal_operation, transform_operation, tee_operation}
 use Rattle.ws_steps.specs.Promises.{Table, fresh, settle, answer, react, follow, unfollow, use_this, use_gift, queue_micro, tell, taken, after_next_job, watch}
-use Rattle.ws_steps.specs.declared.{pipes.PipeOperation.{PipeOperation}, pipes.SignalOperation.{SignalOperation}, pipes.SignalOperation.TheVariants.{Add, Forget, Trigger}, promises.Micro.{Micro}, readable.ReadRequest.TheVariants.{Promise, Pipe as PipeRequest}}
+use Rattle.ws_steps.specs.declared.{pipes.PipeOperation.{PipeOperation}, pipes.SignalOperation.{SignalOperation}, pipes.SignalOperation.TheVariants.{Add, Forget, Trigger}, promises.Micro.{Micro}, readable.ReadRequest.TheVariants.{Promise, Pipe as PipeRequest, Tee as TeeRequest}}
 use Rattle.ws_steps.specs.Pipes as pipe
 use Rattle.ws_steps.specs.Pipes.{abort_all}
 use Rattle.ws_steps.specs.Transform as transform
+use Rattle.ws_steps.specs.Tee as tee
+use Rattle.ws_steps.specs.declared.tee.TeeOperation.{TeeOperation}
+use Rattle.ws_laws.proofs.TeeDoes.{TeeCauses, tee-causes, tee-does}
 use Rattle.ws_steps.specs.Writable as writable
 use Rattle.ws_steps.specs.Writable.{hand_on, hand_on_first}
-use Rattle.ws_steps.specs.Slots.{Slots, Done, found, ends_at, halves_at, owner_at, on_pipe_at, on_signal_at, on_transform_at, nothing, empty, with_promises, on_writable, writable_at}
+use Rattle.ws_steps.specs.Slots.{Slots, Done, found, ends_at, halves_at, owner_at, on_pipe_at, on_signal_at, on_transform_at, on_tee_at, nothing, empty, with_promises, on_writable, writable_at}
 use Rattle.ws_steps.specs.Turns.{row, call_host, moments, pull_algorithm, cancel_algorithm, write_algorithm, close_algorithm, abort_algorithm}
 use Rattle.ws_steps.specs.Jobs.{job_effects}
 use Rattle.ws_steps.specs.Calls.{Begun, begin}
@@ -279,29 +283,56 @@ module _ (i : StreamId) (ear : Ear) where
       transform-does (λ z. heard z ≡ heard s.promises) (record { fresh = λ z h. fresh-heard z ∙ h; settle = λ z p o h. settle-heard p o z ∙ h }) t (halves_at x s) operation a refl in
       record { events = same ∙ sym (append-nil (heard s.promises)); caused = silent ∙ sym ear.none; alone = none_later b.out.effects silent }
 
+  -- tees
+
+  tee_effect-silent : (t : TeeId) (source first second : StreamId) (e : Effect) → TeeCauses t source first second e → of_effect e ≡ []
+  tee_effect-silent t source first second (CallHost call u) c = absurd c
+  tee_effect-silent t source first second _ c = refl
+
+  tee-silent : (t : TeeId) (source first second : StreamId) (es : List Effect) → Each (TeeCauses t source first second) es → of_effects es ≡ []
+  tee-silent t source first second [] c = refl
+  tee-silent t source first second (e ∷ es) c = rw (tee_effect-silent t source first second e c.0, tee-silent t source first second es c.1) refl
+
+  tee-hears : (t : TeeId) (operation : TeeOperation) (s : Slots) (o : Option tee.Slots)
+      → let d : Done = on_tee_at (tee_operation t operation) t s o in Hears (Tee t operation) s d.slots d.caused
+  tee-hears t operation s None = let m = ear.none in grind (arith, append-nil)
+  tee-hears t operation s (Some x) =
+      let a : tee.Acts = record { slots = x; out = found s } in
+      let b : tee.Acts = tee_operation t operation a in
+      let silent = tee-silent t x.source x.branch1 x.branch2 b.out.effects ((tee-causes t operation a).effects tt) in
+      let same : heard b.out.promises ≡ heard s.promises =
+      tee-does (λ z. heard z ≡ heard s.promises) (record { fresh = λ z h. fresh-heard z ∙ h; micro = λ z m h. micro-heard m z ∙ h }) t operation a refl in
+      record { events = same ∙ sym (append-nil (heard s.promises)); caused = silent ∙ sym ear.none; alone = none_later b.out.effects silent }
+
   -- algorithms, by whose they are
 
   pull-hears : (j : StreamId) (s : Slots) (o : Owner) → Hears (PullAlgorithm j) s s (pull_algorithm j (React (ReadablePull j) None) o)
   pull-hears j s Host = let m = ear.none in grind (arith, append-nil)
   pull-hears j s (HalfOf t) = let m = ear.none in grind (arith, append-nil)
+  pull-hears j s (BranchOf t half) = let m = ear.none in grind (arith, append-nil)
 
   cancel-hears : (j : StreamId) (r : Plain) (p : PromiseId) (s : Slots) (o : Owner) → Hears (CancelAlgorithm j r p) s s (cancel_algorithm j r (React ReturnUndefined (Some p)) o)
   cancel-hears j r p s Host = let m = ear.none in grind (arith, append-nil)
   cancel-hears j r p s (HalfOf t) = let m = ear.none in grind (arith, append-nil)
+  cancel-hears j r p s (BranchOf t half) = let m = ear.none in grind (arith, append-nil)
 
   write-hears : (j : StreamId) (s : Slots) (o : Owner) → Hears (WriteAlgorithm j) s s (write_algorithm j o)
   write-hears j s Host = let m = ear.none in grind (arith, append-nil)
   write-hears j s (HalfOf t) = let m = ear.none in grind (arith, append-nil)
+  write-hears j s (BranchOf t half) = let m = ear.none in grind (arith, append-nil)
 
   abort-hears : (j : StreamId) (r : Plain) (p : PromiseId) (s : Slots) (o : Owner) → Hears (AbortAlgorithm j r p) s s (abort_algorithm j r (React (WritableAbort j p) None) o)
   abort-hears j r p s Host = let m = ear.none in grind (arith, append-nil)
   abort-hears j r p s (HalfOf t) = let m = ear.none in grind (arith, append-nil)
+  abort-hears j r p s (BranchOf t half) = let m = ear.none in grind (arith, append-nil)
 
   -- the close algorithm of this stream is the host's
   close-hears : (j : StreamId) (s : Slots) (o : Owner) (same : Bool) → same ≡ is_same i j → (same ≡ true → o ≡ Host) → Hears (CloseAlgorithm j) s s (close_algorithm j (React (WritableClose j) None) o)
   close-hears j s Host same e host = let n = ear.closes in let m = ear.none in grind (arith, append-nil)
   close-hears j s (HalfOf t) true e host = let wrong : HalfOf t ≡ Host = host refl in cc
+  close-hears j s (BranchOf t half) true e host = let wrong : BranchOf t half ≡ Host = host refl in cc
   close-hears j s (HalfOf t) false e host = let m = ear.none in grind (arith, append-nil, e)
+  close-hears j s (BranchOf t half) false e host = let m = ear.none in grind (arith, append-nil, e)
 
   -- its chunks are handed on to the host alone
   abbrev HandsToHost : Effect → Type 0
@@ -321,6 +352,7 @@ module _ (i : StreamId) (ear : Ear) where
   row-hears (Writable j (HandOn taker)) s o n = hand_on-hears j taker s n
   row-hears (Writable j operation) s o n = others-hear j operation s (λ u. u)
   row-hears (Transform t operation) s o n = transform-hears t operation s (slice_get s.transforms t.0)
+  row-hears (Tee t operation) s o n = tee-hears t operation s (slice_get s.tees t.0)
   row-hears (PullAlgorithm j) s o n = pull-hears j s (owner_at j s)
   row-hears (CancelAlgorithm j r p) s o n = cancel-hears j r p s (owner_at j s)
   row-hears (WriteAlgorithm j) s o n = write-hears j s (owner_at j s)
@@ -329,12 +361,16 @@ module _ (i : StreamId) (ear : Ear) where
   row-hears (SignalEffect a operation) s o n = signal-hears a operation s (slice_get s.signals a.0)
   row-hears (ChunkSteps j (Promise p) v) s o n = let m = ear.none in grind (arith, append-nil, answer-heard)
   row-hears (ChunkSteps j (PipeRequest p) v) s o n = let m = ear.none in grind (arith, append-nil)
+  row-hears (ChunkSteps j (TeeRequest t) v) s o n = let m = ear.none in grind (arith, append-nil)
   row-hears (CloseSteps j (Promise p)) s o n = let m = ear.none in grind (arith, append-nil, answer-heard)
   row-hears (CloseSteps j (PipeRequest p)) s o n = let m = ear.none in grind (arith, append-nil)
+  row-hears (CloseSteps j (TeeRequest t)) s o n = let m = ear.none in grind (arith, append-nil)
   row-hears (CloseStepsWith j (Promise p) b) s o n = let m = ear.none in grind (arith, append-nil, answer-heard)
   row-hears (CloseStepsWith j (PipeRequest p) b) s o n = let m = ear.none in grind (arith, append-nil)
+  row-hears (CloseStepsWith j (TeeRequest t) b) s o n = let m = ear.none in grind (arith, append-nil)
   row-hears (ErrorSteps j (Promise p) e) s o n = let m = ear.none in grind (arith, append-nil, settle-heard)
   row-hears (ErrorSteps j (PipeRequest p) e) s o n = let m = ear.none in grind (arith, append-nil)
+  row-hears (ErrorSteps j (TeeRequest t) e) s o n = let m = ear.none in grind (arith, append-nil)
   row-hears (Queue m) s o u = let n = ear.none in grind (arith, append-nil, micro-heard)
   row-hears (CloseAlgorithm j) s o n = close-hears j s (owner_at j s) (is_same i j) refl (λ same. rw (← same_id i j same) o)
   row-hears (CallHost call u) s o n = let m = ear.none in grind (arith, host-heard)
@@ -370,29 +406,38 @@ module _ (i : StreamId) (ear : Ear) where
       let a : transform.Acts = record { slots = x; out = found s } in
       each-map (TransformCauses t x.writable x.readable) HandsToHost (transform_effect-host t x.writable x.readable (apart t x is)) _ (transform-causes t (halves_at x s) operation a tt).1.1.1
 
+  tee_effect-host : (t : TeeId) (source first second : StreamId) (e : Effect) → TeeCauses t source first second e → HandsToHost e
+  tee_effect-host t source first second (Writable j operation) c = absurd c
+  tee_effect-host t source first second _ c = tt
+
   row-host : (e : Effect) (s : Slots) → NoHalf i s → Each HandsToHost (row e s).caused
   unfolding row
   row-host (Transform t operation) s apart = transform-host t operation s (slice_get s.transforms t.0) refl apart
+  row-host (Tee t operation) s apart = row-causes HandsToHost (Tee t operation) s (tee_effect-host t)
   row-host (Readable j operation) s apart = row-causes HandsToHost (Readable j operation) s (record { pull = tt; cancel = λ r p. tt; chunk = λ r v. tt; close = λ r. tt; error = λ r e. tt })
   row-host (Byte j operation) s apart =
       row-causes HandsToHost (Byte j operation) s (record { readable = record { pull = tt; cancel = λ r p. tt; chunk = λ r v. tt; close = λ r. tt; error = λ r e. tt }; close_with = λ r b. tt })
   row-host (CloseStepsWith j (Promise p) b) s apart = tt
   row-host (CloseStepsWith j (PipeRequest p) b) s apart = (tt, tt)
+  row-host (CloseStepsWith j (TeeRequest t) b) s apart = (tt, tt)
   row-host (Writable j operation) s apart = row-causes HandsToHost (Writable j operation) s (record { write = tt; close = tt; abort = λ r p. tt; hand_on = λ v. tt; take = λ v t d. tt })
   row-host (Pipe p operation) s apart = row-causes HandsToHost (Pipe p operation) s (pipe-host p)
   row-host (SignalEffect a operation) s apart = row-causes HandsToHost (SignalEffect a operation) s (signal-host operation)
   row-host (StartAlgorithm j step start) s apart = row-causes HandsToHost (StartAlgorithm j step start) s (λ g u. tt, λ c u. tt)
-  row-host (PullAlgorithm j) s apart = row-causes HandsToHost (PullAlgorithm j) s (λ c u. tt, λ t u. tt)
-  row-host (CancelAlgorithm j r p) s apart = row-causes HandsToHost (CancelAlgorithm j r p) s (λ c u. tt, λ t u. tt)
+  row-host (PullAlgorithm j) s apart = row-causes HandsToHost (PullAlgorithm j) s (λ c u. tt, (λ t u. tt, (λ t. tt, λ u. tt)))
+  row-host (CancelAlgorithm j r p) s apart = row-causes HandsToHost (CancelAlgorithm j r p) s (λ c u. tt, (λ t u. tt, λ t half u. tt))
   row-host (WriteAlgorithm j) s apart = row-causes HandsToHost (WriteAlgorithm j) s (tt, λ t u. tt)
   row-host (CloseAlgorithm j) s apart = row-causes HandsToHost (CloseAlgorithm j) s (λ c u. tt, λ t u. tt)
   row-host (AbortAlgorithm j r p) s apart = row-causes HandsToHost (AbortAlgorithm j r p) s (λ c u. tt, λ t u. tt)
   row-host (ChunkSteps j (Promise p) v) s apart = tt
   row-host (ChunkSteps j (PipeRequest p) v) s apart = (tt, tt)
+  row-host (ChunkSteps j (TeeRequest t) v) s apart = (tt, tt)
   row-host (CloseSteps j (Promise p)) s apart = tt
   row-host (CloseSteps j (PipeRequest p)) s apart = (tt, tt)
+  row-host (CloseSteps j (TeeRequest t)) s apart = (tt, tt)
   row-host (ErrorSteps j (Promise p) e) s apart = tt
   row-host (ErrorSteps j (PipeRequest p) e) s apart = (tt, tt)
+  row-host (ErrorSteps j (TeeRequest t) e) s apart = (tt, tt)
   row-host _ s apart = tt
 
   row-told : (base : List Value) (h : Writes) (s : Slots) (e : Effect) (es : List Effect) → owner_at i s ≡ Host → HandsToHost e → Told base h s (e ∷ es) → Told base (writes_then h (effect_writes i e s)) (row e s).slots ((row e s).caused ++ es)

@@ -8,13 +8,14 @@ use Rattle.ws_value.specs.declared.value.Plain.{Plain}
 use Rattle.ws_value.specs.declared.value.Value.{Value}
 use Rattle.ws_steps.specs.declared.pipes.Prevent.{Prevent}
 use Rattle.ws_steps.specs.declared.{calls.Call.{Call}, calls.StartBy.{StartBy}, effects.Effect.{Effect}, effects.Effect.TheVariants.{Writable, StartAlgorithm}}
-use Rattle.ws_steps.specs.declared.{effects.Owner.TheVariants.{Host, HalfOf}, promises.Job.{Job}, promises.Step.{Step}, promises.Step.TheVariants.{ReadableStart, WritableStart}, readable.SizeBy.{SizeBy}, readable.SizeBy.TheVariants.{Count}, transform.Kind.{Kind}, transform.TransformId.{TransformId}, calls.StartBy.TheVariants.{Now, Later}}
+use Rattle.ws_steps.specs.declared.{effects.Owner.TheVariants.{Host, HalfOf, BranchOf}, promises.Job.{Job}, promises.Step.{Step}, promises.Step.TheVariants.{ReadableStart, WritableStart}, readable.SizeBy.{SizeBy}, readable.SizeBy.TheVariants.{Count}, transform.Kind.{Kind}, transform.TransformId.{TransformId}, calls.StartBy.TheVariants.{Now, Later}}
 use Rattle.ws_steps.specs.declared.writable.WritableOperation.TheVariants.{ReleaseWriter}
 use Rattle.ws_steps.specs.Promises.{Table, fresh, next_id, next_job, after_next_job, watch, is_pending_at}
 use Rattle.ws_steps.specs.Readable as readable
+use Rattle.ws_steps.specs.declared.{tee.Half.{Half}, tee.Half.TheVariants.{First as FirstHalf, Second as SecondHalf}}
 use Rattle.ws_steps.specs.Writable as writable
 use Rattle.ws_steps.specs.Writable.{is_closing, is_closed}
-use Rattle.ws_steps.specs.Slots.{Slots, Stream, ReadableStream, WritableStream, empty, owner_at, owner_of, with_promises, writable_at, as_writable, no_writable}
+use Rattle.ws_steps.specs.Slots.{Slots, Done, Stream, ReadableStream, WritableStream, empty, owner_at, owner_of, with_promises, writable_at, as_writable, no_writable}
 use Rattle.ws_steps.specs.Jobs.{job_effects}
 use Rattle.ws_steps.specs.Calls.{Begun, begin}
 use Rattle.ws_steps.specs.Calls as calls
@@ -194,6 +195,36 @@ module _ (i : StreamId) (h : Writes) (kind : Kind) (m n : ℕ) (start : StartBy)
       place_before (s.streams ++ First ∷ []) Second i.0 (unequal_numbers i.0 (length (s.streams ++ First ∷ [])) (sym f)) ∙ place_before s.streams First i.0 (unequal_numbers i.0 (length s.streams) (sym e)) in
       clear-kept i h s Made.done.slots Made.done.caused (λ n. sym same ∙ n) (ap as_writable same) (fresh_four s.promises) (made-mass (sym e)) halved k
 
+-- a tee is made: its branches are readable streams
+
+readable_added : (i : StreamId) (xs : List Stream) (r : readable.Slots) (here : Bool) → here ≡ nat_eq i.0 (length xs)
+    → (slice_get (xs ++ ReadableStream r ∷ []) i.0 ≡ None → slice_get xs i.0 ≡ None) × (as_writable (slice_get (xs ++ ReadableStream r ∷ []) i.0) ≡ as_writable (slice_get xs i.0))
+readable_added i xs r false e =
+    let same = place_before xs (ReadableStream r) i.0 (unequal_numbers i.0 (length xs) (sym e)) in (λ n. sym same ∙ n, ap as_writable same)
+readable_added i xs r true e =
+    let at_end : i.0 ≡ length xs = eq_numbers i.0 (length xs) (sym e) in
+    let before = no_stream i xs at_end in
+    let after : slice_get (xs ++ ReadableStream r ∷ []) i.0 ≡ Some (ReadableStream r) = rw at_end (place_last xs (ReadableStream r)) in
+    (λ n. before, ap as_writable after ∙ sym (ap as_writable before))
+
+abbrev branch : Slots → Half → readable.Slots
+branch s half = readable.set_up (BranchOf (record { 0 = length s.tees }) half) 1 Count
+
+abbrev tee_made : StreamId → Slots → Done
+tee_made source s = (calls.make_tee source (record { 0 = length s.streams }) (record { 0 = length s.streams + 1 }) s).done
+
+pub tee-place : (i source : StreamId) (s : Slots) → let z : Slots = (tee_made source s).slots in (slice_get z.streams i.0 ≡ None → slice_get s.streams i.0 ≡ None) × (writable_at i z ≡ writable_at i s)
+tee-place i source s =
+    let xs : List Stream = s.streams ++ ReadableStream (branch s FirstHalf) ∷ [] in
+    let a = readable_added i s.streams (branch s FirstHalf) (nat_eq i.0 (length s.streams)) refl in
+    let b = readable_added i xs (branch s SecondHalf) (nat_eq i.0 (length xs)) refl in (λ n. a.0 (b.0 n), b.1 ∙ a.1)
+
+tee-kept : (i source : StreamId) (h : Writes) (s : Slots) → Halved (tee_made source s).slots → Kept i h s [] → Kept i h (tee_made source s).slots (tee_made source s).caused
+tee-kept i source h s halved k =
+    let p = tee-place i source s in
+    clear-kept i h s (tee_made source s).slots (tee_made source s).caused p.0 p.1
+    (lightly s.promises (fresh s.promises) (fresh (fresh s.promises)) (lightens-fresh s.promises) (lightens-fresh (fresh s.promises))) refl halved k
+
 pub call-kept : (i : StreamId) (h : Writes) (s : Slots) (c : Call) → Kept i h s [] → Kept i h (begin c s).done.slots (begin c s).done.caused
 call-kept i h s c k =
     each_call (λ (b : Begun). Halved b.done.slots → Kept i h b.done.slots b.done.caused) c s (record {
@@ -210,6 +241,7 @@ call-kept i h s c k =
       respond = λ q j b e is can o. still-kept i h s s _ refl (same_weight s.promises) refl o k;
       make_writable = λ mark size start o. added_writable i (record { 0 = length s.streams }) mark size start h s (is_same i (record { 0 = length s.streams })) refl refl o k;
       make_transform = λ kind m n start o. transform-kept i h kind m n start s (nat_eq i.0 (length s.streams)) (nat_eq i.0 (length (s.streams ++ First i h kind m n start s ∷ []))) refl refl o k;
+      make_tee = λ j c is free untied o. tee-kept i j h s o k;
       get_reader = λ j e o. still-kept i h s _ _ refl (lightens-fresh s.promises) refl o k;
       get_writer = λ j e o. still-kept i h s _ _ refl (lightly s.promises (fresh s.promises) (fresh (fresh s.promises)) (lightens-fresh s.promises) (lightens-fresh (fresh s.promises))) refl o k;
       release_reader = λ l closed j e o. still-kept i h s _ _ refl (renewed-lightens s.promises (readable.is_readable (source_at j s).state)) (renewed-clear i s.promises (readable.is_readable (source_at j s).state) _ refl) o k;
@@ -339,6 +371,10 @@ call-was i first s c k = each_call (λ (b : Begun). WasHost i first b.done.slots
       let w : Stream = WritableStream (writable.set_up (HalfOf (record { 0 = length s.transforms })) m Count) in
       let r : Stream = ReadableStream (readable.set_up (HalfOf (record { 0 = length s.transforms })) n Count) in
       k (before s w i (slice_get s.streams i.0) refl (before (calls.add_stream w s) r i (slice_get (s.streams ++ w ∷ []) i.0) refl o));
+  make_tee = λ j c is free untied o.
+      let x : Stream = ReadableStream (branch s FirstHalf) in
+      let y : Stream = ReadableStream (branch s SecondHalf) in
+      k (before s x i (slice_get s.streams i.0) refl (before (calls.add_stream x s) y i (slice_get (s.streams ++ x ∷ []) i.0) refl o));
   get_reader = λ j e. k;
   get_writer = λ j e. k;
   release_reader = λ l closed j e. k;
