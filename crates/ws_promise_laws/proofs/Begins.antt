@@ -6,16 +6,19 @@ use Rattle.ws_value.specs.declared.ids.PipeId.{PipeId}
 use Rattle.ws_value.specs.declared.ids.PromiseId.{PromiseId}
 use Rattle.ws_value.specs.declared.ids.SignalId.{SignalId}
 use Rattle.ws_value.specs.declared.ids.StreamId.{StreamId}
+use Rattle.ws_value.specs.declared.ids.TeeId.{TeeId}
+use Rattle.ws_steps.specs.declared.tee.Half.TheVariants.{First, Second}
+use Rattle.ws_steps.specs.Tee as tee
 use Rattle.ws_value.specs.declared.value.Plain.{Plain}
 use Rattle.ws_steps.specs.declared.byte.ByteOperation.TheVariants.{PullInto}
 use Rattle.ws_steps.specs.declared.{calls.Answer.{Answer}, calls.Call.{Call}, effects.Effect.{Effect}, effects.Effect.TheVariants.{Settle as SettleEffect, Readable, Writable}}
-use Rattle.ws_steps.specs.declared.{promises.Job.{Job}, promises.Job.TheVariants.{Reaction as ReactionJob, Follow, Settle, Micro as MicroJob}, promises.Micro.TheVariants.{PipeLook, PipeWrite, PipeNoParts}, pipes.Prevent.{Prevent}}
+use Rattle.ws_steps.specs.declared.{promises.Job.{Job}, promises.Job.TheVariants.{Reaction as ReactionJob, Follow, Settle, Micro as MicroJob}, promises.Micro.TheVariants.{PipeLook, PipeWrite, PipeNoParts, TeeHand}, pipes.Prevent.{Prevent}}
 use Rattle.ws_steps.specs.declared.promises.Step.{Step}
-use Rattle.ws_steps.specs.declared.{calls.StartBy.{StartBy}, calls.StartBy.TheVariants.{Now, Later}, effects.Owner.TheVariants.{HalfOf}, readable.SizeBy.TheVariants.{Count}, transform.Kind.{Kind}, transform.TransformId.{TransformId}}
+use Rattle.ws_steps.specs.declared.{calls.StartBy.{StartBy}, calls.StartBy.TheVariants.{Now, Later}, effects.Owner.TheVariants.{HalfOf, BranchOf}, readable.SizeBy.TheVariants.{Count}, transform.Kind.{Kind}, transform.TransformId.{TransformId}}
 use Rattle.ws_steps.specs.Transform as transform
-use Rattle.ws_promise_laws.proofs.Realm.{in_transforms}
-use Rattle.ws_promise_laws.proofs.Streams.{in_transform}
-use Rattle.ws_steps.specs.declared.promises.Step.TheVariants.{ReadableStart, ReadablePull, ReturnUndefined, WritableStart, WritableWrite, WritableClose, WritableAbort, PipeEnds, PipeReady, PipeWrote, PipeActed, PipePart, TransformChanged, Transformed, TransformFlushed, TransformAborted, TransformCancelled}
+use Rattle.ws_promise_laws.proofs.Realm.{in_transforms, in_tees}
+use Rattle.ws_promise_laws.proofs.Streams.{in_transform, in_tee}
+use Rattle.ws_steps.specs.declared.promises.Step.TheVariants.{ReadableStart, ReadablePull, ReturnUndefined, WritableStart, WritableWrite, WritableClose, WritableAbort, PipeEnds, PipeReady, PipeWrote, PipeActed, PipePart, TransformChanged, Transformed, TransformFlushed, TransformAborted, TransformCancelled, TeeEnds}
 use Rattle.ws_steps.specs.Calls as calls
 use Rattle.ws_steps.specs.Effects.{type_error}
 use Rattle.ws_steps.specs.Pipes as pipe
@@ -178,6 +181,35 @@ make_transform-sound kind m n start s k =
       calm = made.calm;
     }
 
+-- a tee is made: its cancel promise stands in it, and that of its reader in its effects
+
+in_tees-append : (x : PromiseId) (ts : List tee.Slots) (t : tee.Slots) → in_tees x (ts ++ t ∷ []) ≡ in_tees x ts + in_tee x t
+in_tees-append x [] t = omega arith
+in_tees-append x (u ∷ ts) t = let n = in_tees-append x ts t in omega (arith, n)
+
+make_tee-sound : (source : StreamId) (s : Slots) → Sound none s → Begins (calls.make_tee source (record { 0 = length s.streams }) (record { 0 = length s.streams + 1 }) s)
+make_tee-sound source s k =
+    let me : TeeId = record { 0 = length s.tees } in
+    let i : StreamId = record { 0 = length s.streams } in
+    let j : StreamId = record { 0 = length s.streams + 1 } in
+    let one : Slots = calls.add_branch (BranchOf me First) s in
+    let two : Slots = calls.add_branch (BranchOf me Second) one in
+    let first : Sound none one = added-sound (ReadableStream (readable.set_up (BranchOf me First) 1 Count)) s (λ x. refl) (λ x. refl) (λ e. refl) k in
+    let second : Sound none two = added-sound (ReadableStream (readable.set_up (BranchOf me Second) 1 Count)) one (λ x. refl) (λ x. refl) (λ e. refl) first in
+    let a : Slots = with_promises (fresh s.promises) two in
+    let b : Slots = with_promises (fresh a.promises) two in
+    let fa : PromiseId → ℕ = λ x. none x + names x (next_id s.promises) in
+    let fb : PromiseId → ℕ = λ x. fa x + names x (next_id a.promises) in
+    let made : Sound fb b = fresh-sound fa a (fresh-sound none two second) in
+    let new : tee.Slots = tee.set_up source i j (next_id a.promises) in
+    record {
+      holds =
+          holds-less (λ x. fb x + firm_in x b) (loosely_in b) _ (loosely_in b) b.promises made.holds
+          (λ x. let h = in_tees-append x s.tees new in omega (arith, h))
+          (λ x. let h = in_tees-append x s.tees new in omega (arith, h));
+      calm = made.calm;
+    }
+
 pub begin-sound : (c : Call) (s : Slots) → Sound none s → Begins (begin c s)
 begin-sound c s k = each_call Begins c s (record {
   unchanged = λ reply. k;
@@ -225,6 +257,7 @@ begin-sound c s k = each_call Begins c s (record {
   close = λ i. promising-sound (λ p. Writable i (Close p) ∷ []) s (λ x p. omega arith) k;
   abort = λ reason i e. promising-sound (λ p. Writable i (Abort reason p) ∷ []) s (λ x p. omega arith) k;
   make_transform = λ kind m n start. make_transform-sound kind m n start s k;
+  make_tee = λ i e is free untied. make_tee-sound i s k;
   enqueue = λ i v e o can. sound-less none _ s (λ x. omega arith) k;
   enqueue_half = λ i t v e o can. sound-less none _ s (λ x. omega arith) k;
   fail_half = λ t reason. sound-less none _ s (λ x. omega arith) k;
@@ -260,6 +293,7 @@ in_steps x (Transformed t) (Err r) = refl
 in_steps x (TransformFlushed t p) o = omega arith
 in_steps x (TransformAborted t p r) o = omega arith
 in_steps x (TransformCancelled t p r) o = omega arith
+in_steps x (TeeEnds t) o = refl
 
 in_resolved : (x : PromiseId) (derived : Option PromiseId) (o : Result Plain Plain) → in_effects x (resolved derived o) ≡ names_any x derived
 in_resolved x None o = refl
@@ -273,6 +307,7 @@ in_job x (Settle p o) = omega arith
 in_job x (MicroJob (PipeLook p)) = refl
 in_job x (MicroJob (PipeWrite p)) = refl
 in_job x (MicroJob (PipeNoParts p)) = refl
+in_job x (MicroJob (TeeHand t)) = refl
 
 -- the first job hands over what it is to settle
 pub job-sound : (s : Slots) (job : Job) → next_job s.promises ≡ Some job → Sound none s → Sound (λ x. in_effects x (job_effects job)) (with_promises (after_next_job s.promises) s)

@@ -386,8 +386,10 @@ byte_reads f l i (names_of.InitializeReader c) a k = initialize-keeps i f l Defa
 byte_reads f l i names_of.ReleaseReader a k = released-reads f l i (inner a) a.slots.stream.reader refl (ungiven f l (inner a) k)
 byte_reads f l i names_of.Disturb a k = ungiven f l (inner a) k
 byte_reads f l i (names_of.Read q) a k =
-    meant-keeps i f l (λ x. of_request x q) (byte.may_read a.slots) (byte.read_by i q (byte.in_stream readable.disturb a) a.slots.stream.state) a
-    (λ k. read-keeps i f l q (byte.in_stream readable.disturb a) a.slots.stream.state refl k) k
+    either (Keeps f l) (byte.is_of_tee q) a (byte.if_meant (byte.may_read a.slots) (byte.read_by i q (byte.in_stream readable.disturb a) a.slots.stream.state) a)
+    (λ e. quiet-keeps f l (λ x. of_request x q) a a (record { same = refl; less = λ x. omega arith }) k)
+    (λ e. meant-keeps i f l (λ x. of_request x q) (byte.may_read a.slots) (byte.read_by i q (byte.in_stream readable.disturb a) a.slots.stream.state) a
+    (λ k. read-keeps i f l q (byte.in_stream readable.disturb a) a.slots.stream.state refl k) k)
 byte_reads f l i (names_of.Cancel r p) a k = cancel-keeps i f l r p a k
 byte_reads f l i (names_of.CancelIfReadable r p) a k =
     either (Keeps f l) (readable.is_readable a.slots.stream.state) (byte.stream_cancel i r p a) _ (λ e. cancel-keeps i f l r p a k)

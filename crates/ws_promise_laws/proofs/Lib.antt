@@ -5,6 +5,7 @@ pub mod Reacting
 pub mod Following
 pub mod Streams
 pub mod Transforming
+pub mod Teeing
 pub mod Readables
 pub mod Bytes
 pub mod Piping

@@ -7,9 +7,9 @@ use Rattle.ws_steps.specs.declared.calls.Reply.{Reply}
 use Rattle.ws_steps.specs.declared.calls.Call.TheVariants.{Request, Respond}
 use Rattle.ws_value.specs.declared.{ids.HostId.{HostId}, ids.LockId.{LockId}, ids.SignalId.{SignalId}, ids.PromiseId.{PromiseId}, ids.StreamId.{StreamId}, value.Plain.{Plain}, value.Value.{Value}}
 use Rattle.ws_steps.specs.declared.{calls.Answer.{Answer}, calls.Call.{Call}, pipes.Prevent.{Prevent}, readable.ReadableOperation.{ReadableOperation}, readable.ReadableOperation.TheVariants.{Enqueue as EnqueueChunk, Close as CloseReadable}}
-use Rattle.ws_steps.specs.declared.calls.Call.TheVariants.{MakeReadable, MakeBytes, MakeWritable, MakeTransform, Terminate, GetReader, GetByob, GetWriter, Cancel, CancelBy, Read, ReadInto, Write, Close, CloseBy, Abort, AbortBy, Closed, Ready, Release, Enqueue, Finish, Fail, Desired, DesiredBy, Pipe, MakeSignal, Trigger, Settle, State, Step}
+use Rattle.ws_steps.specs.declared.calls.Call.TheVariants.{MakeReadable, MakeBytes, MakeWritable, MakeTransform, Terminate, GetReader, GetByob, GetWriter, Tee, Cancel, CancelBy, Read, ReadInto, Write, Close, CloseBy, Abort, AbortBy, Closed, Ready, Release, Enqueue, Finish, Fail, Desired, DesiredBy, Pipe, MakeSignal, Trigger, Settle, State, Step}
 use Rattle.ws_steps.specs.declared.calls.Reply.TheVariants.{Promise as Named}
-use Rattle.ws_steps.specs.declared.{effects.Effect.{Effect}, effects.Owner.{Owner}, effects.Owner.TheVariants.{Host, HalfOf}, locks.Lock.{Lock}, locks.Lock.TheVariants.{Reader as ReaderLock, Writer as WriterLock, ReleasedWriter, Inner}, writable.PendingAbort.{PendingAbort}, writable.Writer.{Writer}}
+use Rattle.ws_steps.specs.declared.{effects.Effect.{Effect}, effects.Owner.{Owner}, effects.Owner.TheVariants.{Host, HalfOf, BranchOf}, locks.Lock.{Lock}, locks.Lock.TheVariants.{Reader as ReaderLock, Writer as WriterLock, ReleasedWriter, Inner}, writable.PendingAbort.{PendingAbort}, writable.Writer.{Writer}}
 use Rattle.ws_steps.specs.Calls as calls
 use Rattle.ws_steps.specs.Calls.{Begun, begin, by_reader, by_writer, of_writer, closed_by, ready_by, renewed, with_renewed}
 use Rattle.ws_steps.specs.Jobs.{job_effects}
@@ -37,7 +37,7 @@ use Rattle.ws_promise_laws.proofs.Tokens.{one_if}
 use Rattle.ws_value.specs.declared.ids.RequestId.{RequestId}
 use Rattle.ws_value.specs.declared.fault.Fault.{Fault}
 use Rattle.ws_steps.specs.Descriptors.{Descriptor, respond_throws}
-use Rattle.ws_steps.specs.Slots.{stream_of_request}
+use Rattle.ws_steps.specs.Slots.{stream_of_request, is_teed, owner_at}
 use Rattle.ws_value.specs.declared.value.Value.TheVariants.{Plain as PlainValue, Bytes}
 use Rattle.ws_steps.specs.Slots.{ByteStream, has_byte, byte_at, has_source, source_at}
 use Rattle.ws_steps.specs.declared.locks.Lock.TheVariants.{ByobReader}
@@ -279,22 +279,32 @@ respond-begins q b s (Some i) =
 enqueue-begins : (v : Value) (i : StreamId) (s : Slots) (owner : Owner) → Begins (calls.enqueue_by v i s owner)
 enqueue-begins v i s Host = if_it_can-begins s i (EnqueueChunk v)
 enqueue-begins v i s (HalfOf t) = either Begins (readable.can_close_or_enqueue (readable_at i s)) _ _ (λ f. tt) (λ f. tt)
+enqueue-begins v i s (BranchOf t half) = tt
 
 finish-begins : (i : StreamId) (s : Slots) (owner : Owner) → Begins (calls.finish_by i s owner)
 finish-begins i s Host = if_it_can-begins s i CloseReadable
 finish-begins i s (HalfOf t) = tt
+finish-begins i s (BranchOf t half) = tt
 
 fail_readable-begins : (reason : Plain) (i : StreamId) (s : Slots) (owner : Owner) → Begins (calls.fail_readable_by reason i s owner)
 fail_readable-begins reason i s Host = tt
 fail_readable-begins reason i s (HalfOf t) = tt
+fail_readable-begins reason i s (BranchOf t half) = tt
 
 fail_writable-begins : (reason : Plain) (i : StreamId) (s : Slots) (owner : Owner) → Begins (calls.fail_writable_by reason i s owner)
 fail_writable-begins reason i s Host = tt
 fail_writable-begins reason i s (HalfOf t) = tt
+fail_writable-begins reason i s (BranchOf t half) = tt
 
 terminate-begins : (s : Slots) (owner : Owner) → Begins (calls.terminate_by s owner)
 terminate-begins s Host = tt
 terminate-begins s (HalfOf t) = tt
+terminate-begins s (BranchOf t half) = tt
+
+desired-begins : (i : StreamId) (s : Slots) (owner : Owner) → Begins (calls.desired_by i s owner)
+desired-begins i s Host = tt
+desired-begins i s (HalfOf t) = tt
+desired-begins i s (BranchOf t half) = tt
 
 -- the promise that a call is answered is there as the call begins
 call-answers : (c : Call) (s : Slots) → Known s → Begins (begin c s)
@@ -308,6 +318,9 @@ call-answers (Respond q b) s k = respond-begins q b s (stream_of_request q s)
 call-answers (MakeWritable mark size start) s k = either Begins (nat_lt (length s.streams) most_streams) _ _ (λ e. tt) (λ e. tt)
 call-answers (MakeTransform kind m n start) s k = either Begins (nat_lt (length s.streams + 1) most_streams) _ _ (λ e. tt) (λ e. tt)
 call-answers (GetReader i) s k = unlocked_readable-begins calls.throws_type_error calls.get_reader s i tt tt
+call-answers (Tee i) s k =
+    unlocked_readable-begins calls.throws_type_error calls.tee_of s i tt
+    (either Begins (has_byte i s) _ _ (λ e. tt) (λ e. either Begins (is_teed i s) _ _ (λ g. tt) (λ g. either Begins (nat_lt (length s.streams + 1) most_streams) _ _ (λ h. tt) (λ h. tt))))
 call-answers (GetWriter i) s k = unlocked_writable-begins calls.throws_type_error calls.get_writer s i tt tt
 call-answers (Cancel i reason) s k = unlocked_readable-begins calls.rejected (calls.cancel reason) s i (next-there s.promises) (next-there s.promises)
 call-answers (CancelBy l reason) s k = by_reader-begins (calls.cancel reason) calls.rejected s (lock_at l s) (λ i. next-there s.promises) (next-there s.promises)
@@ -327,7 +340,7 @@ call-answers (Finish i) s k = either Begins (has_byte i s) _ _ (λ is. either Be
 call-answers (Fail i reason) s k =
     either Begins (has_readable i s) _ _ (λ e. fail_readable-begins reason i s (readable_at i s).owner) (λ e. either Begins (has_byte i s) _ _ (λ is. tt) (λ isnt. either Begins (has_writable i s) _ _ (λ f. fail_writable-begins reason i s (writable_at i s).owner) (λ f. tt)))
 call-answers (Terminate i) s k = either Begins (has_readable i s) _ _ (λ e. terminate-begins s (readable_at i s).owner) (λ e. tt)
-call-answers (Desired i) s k = either Begins (has_source i s) _ _ (λ e. tt) (λ e. tt)
+call-answers (Desired i) s k = either Begins (has_source i s) _ _ (λ e. desired-begins i s (owner_at i s)) (λ e. tt)
 call-answers (DesiredBy l) s k = by_writer-begins calls.desired_of_writer calls.throws_type_error s (lock_at l s) (λ i. tt) tt
 call-answers (Pipe source dest prevent signal) s k =
     either Begins (has_source source s) _ _
@@ -398,6 +411,7 @@ begin-locks c s k =
       close = λ i. new;
       abort = λ reason i e. new;
       make_transform = λ kind m n start. later (fresh (fresh (fresh (fresh t)))) four;
+      make_tee = λ i e is free untied. locks-append (fresh (fresh t)) s.locks (Inner ∷ []) (later (fresh (fresh t)) two) (tt, tt);
       enqueue = λ i v e o can. k.locks;
       enqueue_half = λ i u v e o can. k.locks;
       fail_half = λ u reason. k.locks;

@@ -3,14 +3,18 @@ use Rattle.std.proofs.Common.{◌≡◌, ℕ, ◌+◌, ◌≤◌, zero, suc, Boo
 use Rattle.ws_value.specs.declared.ids.PipeId.{PipeId}
 use Rattle.ws_value.specs.declared.ids.PromiseId.{PromiseId}
 use Rattle.ws_value.specs.declared.ids.StreamId.{StreamId}
+use Rattle.ws_value.specs.declared.ids.TeeId.{TeeId}
+use Rattle.ws_steps.specs.declared.tee.TeeOperation.{TeeOperation}
+use Rattle.ws_promise_laws.proofs.Teeing.{tees}
 use Rattle.ws_steps.specs.declared.{pipes.Phase.TheVariants.{Over}, pipes.PipeOperation.{PipeOperation}, readable.ReadableOperation.{ReadableOperation}, writable.WritableOperation.{WritableOperation}}
 use Rattle.ws_steps.specs.Histories.{is_same}
 use Rattle.ws_steps.specs.declared.{transform.TransformId.{TransformId}, transform.TransformOperation.{TransformOperation}}
-use Rattle.ws_steps.specs.Operations.{readable_operation, writable_operation, pipe_operation, transform_operation}
+use Rattle.ws_steps.specs.Operations.{readable_operation, writable_operation, pipe_operation, transform_operation, tee_operation}
 use Rattle.ws_steps.specs.Pipes as pipe
 use Rattle.ws_steps.specs.Readable as readable
+use Rattle.ws_steps.specs.Tee as tee
 use Rattle.ws_steps.specs.Transform as transform
-use Rattle.ws_steps.specs.Slots.{Slots, Stream, ReadableStream, WritableStream, Done, nothing, no_readable, has_readable, has_writable, readable_at, writable_at, on_readable, on_writable, put_readable, put_writable, found, ends_at, halves_at, on_pipe_at, on_transform_at}
+use Rattle.ws_steps.specs.Slots.{Slots, Stream, ReadableStream, WritableStream, Done, nothing, no_readable, has_readable, has_writable, readable_at, writable_at, on_readable, on_writable, put_readable, put_writable, found, ends_at, halves_at, on_pipe_at, on_transform_at, on_tee_at}
 use Rattle.ws_steps.specs.Writable as writable
 use Rattle.ws_laws.proofs.Tables.{readable_there, writable_there, readable_acts, writable_acts, same_id, on_readable-writable, on_writable-same, on_writable-other}
 use Rattle.ws_promise_laws.proofs.Holds.{Holds, holds-less}
@@ -19,8 +23,8 @@ use Rattle.ws_promise_laws.proofs.Readables.{reads}
 use Rattle.ws_promise_laws.proofs.Bytes.{Keeps, bytes, byte_reads}
 use Rattle.ws_promise_laws.proofs.Tokens.{of_byte}
 use Rattle.ws_laws.proofs.Tables.{either}
-use Rattle.ws_promise_laws.proofs.Streams.{in_readable, in_writable, loose_in, in_pipe, in_transform, Calm, Reads, Writes, Pipes, Transforms}
-use Rattle.ws_promise_laws.proofs.Tokens.{names_any, of_readable, of_writable, of_transform, in_effects}
+use Rattle.ws_promise_laws.proofs.Streams.{in_readable, in_writable, loose_in, in_pipe, in_transform, in_tee, Calm, Reads, Writes, Pipes, Transforms, Tees}
+use Rattle.ws_promise_laws.proofs.Tokens.{names_any, of_readable, of_writable, of_transform, of_tee, in_effects}
 use Rattle.ws_promise_laws.proofs.Transforming.{transforms}
 use Rattle.ws_promise_laws.proofs.WritableAsks.{Expects, writes}
 use Rattle.ws_steps.specs.Slots.{ByteStream, has_byte, byte_at, on_byte, put_byte}
@@ -60,8 +64,13 @@ abbrev pub in_transforms : PromiseId → List transform.Slots → ℕ
 in_transforms x [] = 0
 in_transforms x (t ∷ ts) = in_transform x t + in_transforms x ts
 
+-- so much for each tee
+abbrev pub in_tees : PromiseId → List tee.Slots → ℕ
+in_tees x [] = 0
+in_tees x (t ∷ ts) = in_tee x t + in_tees x ts
+
 abbrev pub firm_in : PromiseId → Slots → ℕ
-firm_in x s = in_all (in_stream x) s.streams + (in_pipes x s.pipes + (in_hosts x s.hosts + in_transforms x s.transforms))
+firm_in x s = in_all (in_stream x) s.streams + (in_pipes x s.pipes + (in_hosts x s.hosts + (in_transforms x s.transforms + in_tees x s.tees)))
 
 abbrev pub loosely_in : Slots → PromiseId → ℕ
 loosely_in s x = in_all (loose_in_stream x) s.streams
@@ -98,7 +107,7 @@ blank = ReadableStream no_readable
 
 -- how often a promise stands outside stream i
 abbrev beside : (PromiseId → ℕ) → StreamId → Slots → PromiseId → ℕ
-beside f i s x = f x + (in_all (in_stream x) (slice_set s.streams i.0 blank) + (in_pipes x s.pipes + (in_hosts x s.hosts + in_transforms x s.transforms)))
+beside f i s x = f x + (in_all (in_stream x) (slice_set s.streams i.0 blank) + (in_pipes x s.pipes + (in_hosts x s.hosts + (in_transforms x s.transforms + in_tees x s.tees))))
 
 abbrev loosely_beside : StreamId → Slots → PromiseId → ℕ
 loosely_beside i s x = in_all (loose_in_stream x) (slice_set s.streams i.0 blank)
@@ -267,7 +276,7 @@ on_pipe-sound f p operation s None e expected k = k
 on_pipe-sound f p operation s (Some y) e expected k =
     let a : pipe.Acts = record { slots = y; out = found s } in
     let b : pipe.Acts = pipe_operation p (ends_at y s) operation a in
-    let beside_pipe : PromiseId → ℕ = λ x. f x + (in_all (in_stream x) s.streams + (in_pipes x (slice_set s.pipes p.0 (spent y)) + (in_hosts x s.hosts + in_transforms x s.transforms))) in
+    let beside_pipe : PromiseId → ℕ = λ x. f x + (in_all (in_stream x) s.streams + (in_pipes x (slice_set s.pipes p.0 (spent y)) + (in_hosts x s.hosts + (in_transforms x s.transforms + in_tees x s.tees)))) in
     let before : Pipes beside_pipe (loosely_in s) a =
     holds-less _ (loosely_in s) (λ x. beside_pipe x + (in_pipe x y + 0)) (loosely_in s) s.promises k.holds
     (λ x. let c = in_pipes-set x p.0 s.pipes y (spent y) e in omega arith) (λ x. let c = in_pipes-set x p.0 s.pipes y (spent y) e in omega arith) in
@@ -306,7 +315,7 @@ on_transform-sound f t operation s None e k = sound-less (λ x. f x + of_transfo
 on_transform-sound f t operation s (Some y) e k =
     let a : transform.Acts = record { slots = y; out = found s } in
     let b : transform.Acts = transform_operation t (halves_at y s) operation a in
-    let around : PromiseId → ℕ = λ x. f x + (in_all (in_stream x) s.streams + (in_pipes x s.pipes + (in_hosts x s.hosts + others x t.0 s.transforms))) in
+    let around : PromiseId → ℕ = λ x. f x + (in_all (in_stream x) s.streams + (in_pipes x s.pipes + (in_hosts x s.hosts + (others x t.0 s.transforms + in_tees x s.tees)))) in
     let before : Transforms (λ x. around x + of_transform x operation) (loosely_in s) a =
     holds-less _ (loosely_in s) (λ x. (around x + of_transform x operation) + (in_transform x y + 0)) (loosely_in s) s.promises k.holds
     (λ x. let c = others-all x t.0 s.transforms y e in omega arith) (λ x. let c = others-all x t.0 s.transforms y e in omega arith) in
@@ -315,5 +324,44 @@ on_transform-sound f t operation s (Some y) e k =
           holds-less (λ x. around x + (in_transform x b.slots + in_effects x b.out.effects)) (loosely_in s) _ _ b.out.promises (transforms around (loosely_in s) t (halves_at y s) operation a before)
           (λ x. let c = others-all x t.0 s.transforms y e in let d = in_transforms-set x t.0 s.transforms y b.slots e in omega arith)
           (λ x. let c = others-all x t.0 s.transforms y e in let d = in_transforms-set x t.0 s.transforms y b.slots e in omega arith);
+      calm = k.calm;
+    }
+
+-- operations on tees
+
+some_tee : (p q : tee.Slots) → ◌≡◌ {A = Option tee.Slots} (Some p) (Some q) → p ≡ q
+some_tee p q e = cc
+
+in_tees-set : (x : PromiseId) (k : ℕ) (ts : List tee.Slots) (old y : tee.Slots) → slice_get ts k ≡ Some old → in_tees x (slice_set ts k y) + in_tee x old ≡ in_tees x ts + in_tee x y
+in_tees-set x k [] old y e = cc
+in_tees-set x zero (t ∷ ts) old y e = rw (some_tee t old e) (omega arith)
+in_tees-set x (suc k) (t ∷ ts) old y e = let rest = in_tees-set x k ts old y e in omega arith
+
+-- how often a promise stands in the others
+abbrev other_tees : PromiseId → ℕ → List tee.Slots → ℕ
+other_tees x k [] = 0
+other_tees x zero (t ∷ ts) = in_tees x ts
+other_tees x (suc k) (t ∷ ts) = in_tee x t + other_tees x k ts
+
+other_tees-all : (x : PromiseId) (k : ℕ) (ts : List tee.Slots) (old : tee.Slots) → slice_get ts k ≡ Some old → other_tees x k ts + in_tee x old ≡ in_tees x ts
+other_tees-all x k [] old e = cc
+other_tees-all x zero (t ∷ ts) old e = rw (some_tee t old e) (omega arith)
+other_tees-all x (suc k) (t ∷ ts) old e = let rest = other_tees-all x k ts old e in omega arith
+
+pub on_tee-sound : (f : PromiseId → ℕ) (t : TeeId) (operation : TeeOperation) (s : Slots) (o : Option tee.Slots) → slice_get s.tees t.0 ≡ o
+    → Sound (λ x. f x + of_tee x operation) s → Leaves f (on_tee_at (tee_operation t operation) t s o)
+on_tee-sound f t operation s None e k = sound-less (λ x. f x + of_tee x operation) (λ x. f x + 0) s (λ x. omega arith) k
+on_tee-sound f t operation s (Some y) e k =
+    let a : tee.Acts = record { slots = y; out = found s } in
+    let b : tee.Acts = tee_operation t operation a in
+    let around : PromiseId → ℕ = λ x. f x + (in_all (in_stream x) s.streams + (in_pipes x s.pipes + (in_hosts x s.hosts + (in_transforms x s.transforms + other_tees x t.0 s.tees)))) in
+    let before : Tees (λ x. around x + of_tee x operation) (loosely_in s) a =
+    holds-less _ (loosely_in s) (λ x. (around x + of_tee x operation) + (in_tee x y + 0)) (loosely_in s) s.promises k.holds
+    (λ x. let c = other_tees-all x t.0 s.tees y e in omega arith) (λ x. let c = other_tees-all x t.0 s.tees y e in omega arith) in
+    record {
+      holds =
+          holds-less (λ x. around x + (in_tee x b.slots + in_effects x b.out.effects)) (loosely_in s) _ _ b.out.promises (tees around (loosely_in s) t operation a before)
+          (λ x. let c = other_tees-all x t.0 s.tees y e in let d = in_tees-set x t.0 s.tees y b.slots e in omega arith)
+          (λ x. let c = other_tees-all x t.0 s.tees y e in let d = in_tees-set x t.0 s.tees y b.slots e in omega arith);
       calm = k.calm;
     }

@@ -4,6 +4,7 @@ use Rattle.ws_value.specs.declared.ids.PromiseId.{PromiseId}
 use Rattle.ws_steps.specs.declared.{pipes.Phase.{Phase}, pipes.Phase.TheVariants.{Flowing, Waiting, Acting, Over}, readable.ReadRequest.{ReadRequest}, writable.PendingAbort.{PendingAbort}, writable.Writer.{Writer}}
 use Rattle.ws_steps.specs.Pipes as pipe
 use Rattle.ws_steps.specs.Readable as readable
+use Rattle.ws_steps.specs.Tee as tee
 use Rattle.ws_steps.specs.Transform as transform
 use Rattle.ws_steps.specs.Writable as writable
 use Rattle.ws_promise_laws.proofs.Tokens.{names, names_any, of_request, in_effects}
@@ -97,3 +98,13 @@ in_transform x s = names x s.change
 -- what an operation on a transform stream keeps, where promises stand so often outside it and its effects
 abbrev pub Transforms : (f l : PromiseId → ℕ) → transform.Acts → Type 0
 Transforms f l a = Holds (λ x. f x + (in_transform x a.slots + in_effects x a.out.effects)) l a.out.promises
+
+-- tees
+
+-- the cancel promise is to be settled until it is settled or resolved
+abbrev pub in_tee : PromiseId → tee.Slots → ℕ
+in_tee x s = when (not s.answered) (names x s.cancel)
+
+-- what an operation on a tee keeps, where promises stand so often outside it and its effects
+abbrev pub Tees : (f l : PromiseId → ℕ) → tee.Acts → Type 0
+Tees f l a = Holds (λ x. f x + (in_tee x a.slots + in_effects x a.out.effects)) l a.out.promises

@@ -4,15 +4,17 @@ use Rattle.ws_value.specs.declared.ids.PromiseId.{PromiseId}
 use Rattle.ws_steps.specs.declared.byte.ByteOperation.{ByteOperation}
 use Rattle.ws_steps.specs.declared.byte.ByteOperation.TheVariants.{InitializeByobReader, PullInto}
 use Rattle.ws_steps.specs.declared.effects.Effect.{Effect}
-use Rattle.ws_steps.specs.declared.effects.Effect.TheVariants.{Readable, Byte, Writable, Pipe, Signal, Transform, StartAlgorithm, PullAlgorithm, CancelAlgorithm, WriteAlgorithm, CloseAlgorithm, AbortAlgorithm, ChunkSteps, CloseSteps, CloseStepsWith, ErrorSteps, Give, Settle as SettleEffect, Queue, CallHost}
+use Rattle.ws_steps.specs.declared.effects.Effect.TheVariants.{Readable, Byte, Writable, Pipe, Signal, Transform, Tee, StartAlgorithm, PullAlgorithm, CancelAlgorithm, WriteAlgorithm, CloseAlgorithm, AbortAlgorithm, ChunkSteps, CloseSteps, CloseStepsWith, ErrorSteps, Give, Settle as SettleEffect, Queue, CallHost}
 use Rattle.ws_steps.specs.declared.{effects.Use.{Use}, effects.Use.TheVariants.{React, Resolve}, promises.Job.{Job}}
 use Rattle.ws_steps.specs.declared.{promises.Job.TheVariants.{Reaction as ReactionJob, Follow, Settle, Micro as MicroJob}, promises.Reaction.{Reaction}}
 use Rattle.ws_steps.specs.declared.{promises.Reaction.TheVariants.{Perform, Adopt}, promises.Step.{Step}, promises.Step.TheVariants.{WritableAbort, TransformChanged, TransformFlushed, TransformAborted, TransformCancelled}, readable.ReadRequest.{ReadRequest}}
-use Rattle.ws_steps.specs.declared.{readable.ReadRequest.TheVariants.{Promise, Pipe as PipeRequest}, readable.ReadableOperation.{ReadableOperation}}
+use Rattle.ws_steps.specs.declared.{readable.ReadRequest.TheVariants.{Promise, Pipe as PipeRequest, Tee as TeeRequest}, readable.ReadableOperation.{ReadableOperation}}
 use Rattle.ws_steps.specs.declared.{readable.ReadableOperation.TheVariants.{InitializeReader, Read, Cancel, CancelIfReadable}, writable.WritableOperation.{WritableOperation}}
 use Rattle.ws_steps.specs.declared.writable.WritableOperation.TheVariants.{SetUpWriter, Write, Close as CloseWritable, ClosePropagating, Abort, AbortIfWritable, HandOn, AbortSettled}
 use Rattle.ws_steps.specs.declared.transform.Taker.TheVariants.{ToTransform}
 use Rattle.ws_steps.specs.declared.transform.TransformOperation.{TransformOperation}
+use Rattle.ws_steps.specs.declared.tee.TeeOperation.{TeeOperation}
+use Rattle.ws_steps.specs.declared.tee.TeeOperation.TheVariants.{CancelBranch}
 use Rattle.ws_steps.specs.declared.transform.TransformOperation.TheVariants.{SinkWrite, WriteGoesOn, TransformChunk, SourcePull, SinkClose, SinkAbort, SourceCancel, FlushSettled, AbortSettled as SinkAbortSettled, CancelSettled}
 
 abbrev pub one_if : Bool → ℕ
@@ -59,6 +61,7 @@ in_hand x (Some (MicroJob m)) = 0
 abbrev pub of_request : PromiseId → ReadRequest → ℕ
 of_request x (Promise p) = names x p
 of_request x (PipeRequest p) = 0
+of_request x (TeeRequest t) = 0
 
 abbrev pub of_use : PromiseId → Use → ℕ
 of_use x (React step derived) = in_step x step + names_any x derived
@@ -100,6 +103,10 @@ of_transform x (SinkAbortSettled p r outcome) = names x p
 of_transform x (CancelSettled p r outcome) = names x p
 of_transform x _ = 0
 
+abbrev pub of_tee : PromiseId → TeeOperation → ℕ
+of_tee x (CancelBranch half r u) = of_use x u
+of_tee x _ = 0
+
 abbrev pub of_effect : PromiseId → Effect → ℕ
 of_effect x (Readable i operation) = of_readable x operation
 of_effect x (Byte i operation) = of_byte x operation
@@ -107,6 +114,7 @@ of_effect x (Writable i operation) = of_writable x operation
 of_effect x (Pipe p operation) = 0
 of_effect x (Signal a operation) = 0
 of_effect x (Transform t operation) = of_transform x operation
+of_effect x (Tee t operation) = of_tee x operation
 of_effect x (StartAlgorithm i step start) = in_step x step
 of_effect x (PullAlgorithm i) = 0
 of_effect x (CancelAlgorithm i r p) = names x p

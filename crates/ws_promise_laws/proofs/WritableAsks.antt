@@ -5,7 +5,7 @@ use Rattle.ws_steps.specs.declared.writable.WritableOperation.{WritableOperation
 use Rattle.ws_steps.specs.declared.writable.WritableOperation.TheVariants.{SetUpWriter, ReleaseWriter, Write, Close, ClosePropagating, Abort, AbortIfWritable, ErrorIfNeeded, HandOn, StartSettled, WriteSettled, CloseSettled, AbortSettled}
 use Rattle.ws_steps.specs.Operations.{writable_operation}
 use Rattle.ws_steps.specs.declared.{transform.Taker.TheVariants.{ToHost, ToTransform}, transform.TransformId.{TransformId}, writable.WriteRecord.{WriteRecord}, writable.WriteRecord.TheVariants.{Chunk, InFlight, CloseMark}}
-use Rattle.ws_steps.specs.declared.{effects.Owner.{Owner}, effects.Owner.TheVariants.{Host, HalfOf}}
+use Rattle.ws_steps.specs.declared.{effects.Owner.{Owner}, effects.Owner.TheVariants.{Host, HalfOf, BranchOf}}
 use Rattle.std.proofs.Common.{◌≡◌, ℕ, ◌+◌, Bool, true, false, not, ◌&&◌, ◌||◌, if◌then◌else◌, is_some, List, [], ◌∷◌, ◌++◌, Option, Some, None, Result, Ok, Err, refl, sym, ap, subst, arith}
 use Rattle.ws_value.specs.declared.ids.PromiseId.{PromiseId}
 use Rattle.ws_value.specs.declared.ids.StreamId.{StreamId}
@@ -119,6 +119,7 @@ close_propagating-keeps me f l p a k =
 signalled-keeps : (me : StreamId) (f l : PromiseId → ℕ) (r : Plain) (a : Acts) (owner : Owner) → Writes f l a → Writes f l (signalled me r a owner)
 signalled-keeps me f l r a Host k = record { holds = holds-told (firm f a) (loose l a) _ a.out.promises k.holds; calm = k.calm }
 signalled-keeps me f l r a (HalfOf t) k = k
+signalled-keeps me f l r a (BranchOf t half) k = k
 
 begin_abort-keeps : (me : StreamId) (f l : PromiseId → ℕ) (r : Plain) (p : PromiseId) (a : Acts) → has_ended a.slots.state ≡ false → Writes (λ x. f x + names x p) l a → Writes f l (begin_abort me r p a)
 begin_abort-keeps me f l r p a alive k =
