@@ -5,9 +5,9 @@ use Rattle.std.proofs.lemmas.Bool.{false≢true}
 use Rattle.ws_value.specs.declared.value.Value.{Value}
 use Rattle.ws_value.specs.declared.{ids.LockId.{LockId}, ids.PipeId.{PipeId}, ids.PromiseId.{PromiseId}, ids.StreamId.{StreamId}}
 use Rattle.ws_steps.specs.declared.{calls.Call.{Call}, calls.Call.TheVariants.{Read as ReadCall}, effects.Effect.{Effect}}
-use Rattle.ws_steps.specs.declared.effects.Effect.TheVariants.{Readable, Writable, Pipe, Signal, Transform, StartAlgorithm, PullAlgorithm, CancelAlgorithm, WriteAlgorithm, CloseAlgorithm, AbortAlgorithm, ChunkSteps, CloseSteps, ErrorSteps}
+use Rattle.ws_steps.specs.declared.effects.Effect.TheVariants.{Readable, Writable, Pipe, Signal, Transform, Tee, StartAlgorithm, PullAlgorithm, CancelAlgorithm, WriteAlgorithm, CloseAlgorithm, AbortAlgorithm, ChunkSteps, CloseSteps, ErrorSteps}
 use Rattle.ws_steps.specs.declared.{locks.Lock.{Lock}, locks.Lock.TheVariants.{Reader, ByobReader, Writer, ReleasedWriter, Inner}, promises.Job.{Job}, transform.TransformId.{TransformId}}
-use Rattle.ws_steps.specs.declared.{readable.ReadRequest.{ReadRequest}, readable.ReadRequest.TheVariants.{Promise, Pipe as PipeRequest}, pipes.SignalOperation.{SignalOperation}, pipes.SignalOperation.TheVariants.{Add, Forget, Trigger}, readable.ReadableOperation.{ReadableOperation}, readable.ReadableOperation.TheVariants.{Read}}
+use Rattle.ws_steps.specs.declared.{readable.ReadRequest.{ReadRequest}, readable.ReadRequest.TheVariants.{Promise, Pipe as PipeRequest, Tee as TeeRequest}, pipes.SignalOperation.{SignalOperation}, pipes.SignalOperation.TheVariants.{Add, Forget, Trigger}, readable.ReadableOperation.{ReadableOperation}, readable.ReadableOperation.TheVariants.{Read}}
 use Rattle.ws_steps.specs.Promises.{next_job}
 use Rattle.ws_steps.specs.Slots.{Slots, Done, causes, empty, has_source, source_at, lock_at}
 use Rattle.ws_steps.specs.Turns.{row, moments}
@@ -22,7 +22,7 @@ use Rattle.ws_room_laws.proofs.Turns.{moments_next}
 use Rattle.ws_laws.proofs.Tables.{either}
 use Rattle.ws_laws.proofs.Lists.{Each, each-append, each-map}
 use Rattle.ws_laws.proofs.PipeDoes.{PipeCauses}
-use Rattle.ws_laws.proofs.Rows.{Causes, ChunkCauses, EndCauses, SignalCauses, row-causes}
+use Rattle.ws_laws.proofs.Rows.{Causes, ChunkCauses, EndCauses, ErrorCauses, SignalCauses, row-causes}
 use Rattle.ws_laws.proofs.EachCall.{each_call}
 use Rattle.ws_laws.proofs.TransformDoes.{TransformCauses}
 use Rattle.ws_laws.proofs.Walker.{IsHistory, performed-goes}
@@ -30,6 +30,8 @@ use Rattle.ws_read_laws.proofs.Line.{same_reads}
 use Rattle.ws_read_laws.proofs.Told.{reads-assoc}
 use Rattle.ws_read_laws.proofs.Runs.{reader-there}
 use Rattle.ws_steps.specs.declared.effects.Effect.TheVariants.{Byte, CloseStepsWith}
+use Rattle.ws_laws.proofs.TeeDoes.{TeeCauses}
+use Rattle.ws_value.specs.declared.ids.TeeId.{TeeId}
 
 -- effects that ask no read for a promise
 abbrev Quiet : Effect → Type 0
@@ -43,10 +45,17 @@ pipe-quiet p source dest _ c = tt
 chunk-quiet : (v : Value) (request : ReadRequest) → ChunkCauses Quiet v request
 chunk-quiet v (Promise p) = tt
 chunk-quiet v (PipeRequest p) = tt
+chunk-quiet v (TeeRequest t) = tt
 
 end-quiet : (request : ReadRequest) → EndCauses Quiet request
 end-quiet (Promise p) = tt
 end-quiet (PipeRequest p) = tt
+end-quiet (TeeRequest t) = tt
+
+error-quiet : (request : ReadRequest) → ErrorCauses Quiet request
+error-quiet (Promise p) = tt
+error-quiet (PipeRequest p) = tt
+error-quiet (TeeRequest t) = tt
 
 signal-quiet : (operation : SignalOperation) → SignalCauses Quiet operation
 signal-quiet (Trigger r) = λ p. tt
@@ -57,6 +66,10 @@ transform-quiet : (t : TransformId) (writable readable : StreamId) (e : Effect) 
 transform-quiet t writable readable (Readable i (Read (Promise p))) c = absurd c
 transform-quiet t writable readable _ c = tt
 
+tee-quiet : (t : TeeId) (source first second : StreamId) (e : Effect) → TeeCauses t source first second e → Quiet e
+tee-quiet t source first second (Readable i (Read (Promise p))) c = let other = c.1 in absurd (cc)
+tee-quiet t source first second _ c = tt
+
 quiet-causes : (e : Effect) → Causes Quiet e
 quiet-causes (Readable j operation) = record { pull = tt; cancel = λ r p. tt; chunk = λ r v. tt; close = λ r. tt; error = λ r e. tt }
 quiet-causes (Byte j operation) = record { readable = record { pull = tt; cancel = λ r p. tt; chunk = λ r v. tt; close = λ r. tt; error = λ r e. tt }; close_with = λ r b. tt }
@@ -64,16 +77,17 @@ quiet-causes (Writable j operation) = record { write = tt; close = tt; abort = �
 quiet-causes (Pipe p operation) = pipe-quiet p
 quiet-causes (Signal a operation) = signal-quiet operation
 quiet-causes (StartAlgorithm j step start) = (λ g u. tt, λ c u. tt)
-quiet-causes (PullAlgorithm j) = (λ c u. tt, λ t u. tt)
-quiet-causes (CancelAlgorithm j r p) = (λ c u. tt, λ t u. tt)
+quiet-causes (PullAlgorithm j) = (λ c u. tt, (λ t u. tt, (λ t. tt, λ u. tt)))
+quiet-causes (CancelAlgorithm j r p) = (λ c u. tt, (λ t u. tt, λ t half u. tt))
 quiet-causes (WriteAlgorithm j) = (tt, λ t u. tt)
 quiet-causes (Transform t operation) = transform-quiet t
+quiet-causes (Tee t operation) = tee-quiet t
 quiet-causes (CloseAlgorithm j) = (λ c u. tt, λ t u. tt)
 quiet-causes (AbortAlgorithm j r p) = (λ c u. tt, λ t u. tt)
 quiet-causes (ChunkSteps j request v) = chunk-quiet v request
 quiet-causes (CloseSteps j request) = end-quiet request
 quiet-causes (CloseStepsWith j request b) = end-quiet request
-quiet-causes (ErrorSteps j request e) = end-quiet request
+quiet-causes (ErrorSteps j request e) = error-quiet request
 quiet-causes _ = tt
 
 operation-asks : (i j : StreamId) (operation : ReadableOperation) (s : Slots) → promises_of (operation_reads operation (source_at j s)).asked ≡ [] → promises_of (effect_reads i (Readable j operation) s).asked ≡ []
@@ -82,6 +96,7 @@ operation-asks i j operation s e = either (λ (f : Reads). promises_of f.asked �
 quiet-told : (i : StreamId) (e : Effect) (s : Slots) → Quiet e → promises_of (effect_reads i e s).asked ≡ []
 quiet-told i (Readable j (Read (Promise p))) s quiet = absurd quiet
 quiet-told i (Readable j (Read (PipeRequest p))) s quiet = operation-asks i j (Read (PipeRequest p)) s refl
+quiet-told i (Readable j (Read (TeeRequest t))) s quiet = operation-asks i j (Read (TeeRequest t)) s refl
 quiet-told i (Readable j operation) s quiet = operation-asks i j operation s refl
 quiet-told i _ s quiet = refl
 
@@ -96,6 +111,7 @@ promises-append : (rs qs : List ReadRequest) → promises_of (rs ++ qs) ≡ prom
 promises-append [] qs = refl
 promises-append (Promise p ∷ rs) qs = ap (λ (ps : List PromiseId). p ∷ ps) (promises-append rs qs)
 promises-append (PipeRequest p ∷ rs) qs = promises-append rs qs
+promises-append (TeeRequest t ∷ rs) qs = promises-append rs qs
 
 none-asked : (i : StreamId) (d : Done) → Each Quiet d.caused → promises_of (asked i d) ≡ []
 none-asked i d quiet =

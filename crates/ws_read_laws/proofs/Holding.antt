@@ -1,6 +1,6 @@
--- Who has a stream: readers, and pipes that go on. And what is seen of the agenda, where so many have the stream and it has a reader or
+-- Who has a stream: readers, pipes that go on, and tees. And what is seen of the agenda, where so many have the stream and it has a reader or
 -- hasn't.
-use Rattle.std.proofs.Common.{◌≡◌, ℕ, ◌+◌, ◌≤◌, zero, suc, Bool, true, false, List, [], ◌∷◌, ◌++◌, Option, Some, None, slice_get, slice_set, refl, arith}
+use Rattle.std.proofs.Common.{◌≡◌, ℕ, ◌+◌, ◌≤◌, zero, suc, Bool, true, false, List, [], ◌∷◌, ◌++◌, Option, Some, None, slice_get, slice_set, refl, ap, arith}
 use Rattle.ws_value.specs.declared.{ids.StreamId.{StreamId}}
 use Rattle.ws_steps.specs.declared.{locks.Lock.{Lock}, locks.Lock.TheVariants.{Reader, ByobReader, Writer, ReleasedWriter, Inner}, readable.ReadableOperation.{ReadableOperation}, readable.ReadableOperation.TheVariants.{InitializeReader, ReleaseReader, Read}}
 use Rattle.ws_steps.specs.Histories.{is_same}
@@ -11,7 +11,9 @@ use Rattle.ws_promise_laws.proofs.Holds.{when}
 use Rattle.ws_promise_laws.proofs.Streams.{goes_on}
 use Rattle.ws_promise_laws.proofs.Tokens.{one_if}
 use Rattle.ws_read_laws.proofs.Line.{Finds, has_after}
-use Rattle.ws_read_laws.proofs.Marks.{Mark, Stands, Steps, Aborts, Looks, pending}
+use Rattle.ws_read_laws.proofs.Marks.{Mark, Stands, Steps, Aborts, Looks, pending, given_of}
+use Rattle.ws_steps.specs.Tee as tee
+use Rattle.ws_laws.proofs.ReadableDoes.{is_taking}
 
 -- how many readers have stream i
 
@@ -89,15 +91,45 @@ pub holding_few : (i : StreamId) (xs : List pipe.Slots) → holding i xs ≤ sou
 holding_few i [] = omega arith
 holding_few i (x ∷ xs) = let n = one_holds (goes_on x.phase) (is_same i x.source) in let rest = holding_few i xs in omega (arith, n, rest)
 
+-- how many tees have it as their source, for good
+
+abbrev pub teeing : StreamId → List tee.Slots → ℕ
+teeing i [] = 0
+teeing i (x ∷ xs) = one_if (is_same i x.source) + teeing i xs
+
+pub teeing-append : (i : StreamId) (xs : List tee.Slots) (x : tee.Slots) → teeing i (xs ++ x ∷ []) ≡ teeing i xs + one_if (is_same i x.source)
+teeing-append i [] x = omega arith
+teeing-append i (y ∷ ys) x = let n = teeing-append i ys x in omega (arith, n)
+
+some_tee : (x y : tee.Slots) → ◌≡◌ {A = Option tee.Slots} (Some x) (Some y) → x ≡ y
+some_tee x y e = cc
+
+pub teeing-set : (i : StreamId) (n : ℕ) (xs : List tee.Slots) (old new : tee.Slots) → slice_get xs n ≡ Some old → new.source ≡ old.source → teeing i (slice_set xs n new) ≡ teeing i xs
+teeing-set i n [] old new e s = cc
+teeing-set i zero (x ∷ xs) old new e s = rw (some_tee x old e, s) refl
+teeing-set i (suc n) (x ∷ xs) old new e s = let rest = teeing-set i n xs old new e s in omega (arith, rest)
+
+pub teeing-there : (i : StreamId) (n : ℕ) (xs : List tee.Slots) (x : tee.Slots) → slice_get xs n ≡ Some x → one_if (is_same i x.source) ≤ teeing i xs
+teeing-there i n [] x e = cc
+teeing-there i zero (y ∷ xs) x e = rw (some_tee y x e) (omega arith)
+teeing-there i (suc n) (y ∷ xs) x e = let rest = teeing-there i n xs x e in omega (arith, rest)
+
 -- who has it in all
 abbrev pub owners : StreamId → Holders → ℕ
-owners i o = readers i o.locks + holding i o.pipes
+owners i o = readers i o.locks + (holding i o.pipes + teeing i o.tees)
 
--- Behind an operation stand no steps of requests, and behind one of a pipe that isn't its abort nothing; and where nothing stands, who has
--- the stream is the one that the stream has
+-- behind an operation that may take stand no steps that give a chunk
+abbrev pub Gives : ReadableOperation → List Mark → Type 0
+Gives operation ms = is_taking operation ≡ true → given_of (pending ms) ≡ []
+
+pub gives-none : (operation : ReadableOperation) (ms : List Mark) → pending ms ≡ [] → Gives operation ms
+gives-none operation ms none = λ e. ap given_of none
+
+-- Behind an operation that may take stand no steps that give a chunk, and behind one of a pipe that isn't its abort nothing; and where nothing
+-- stands, who has the stream is the one that the stream has
 abbrev pub Clear : ℕ → Bool → List Mark → Type 0
 Clear n locked [] = n ≤ one_if locked
-Clear n locked (Stands operation ∷ ms) = Finds operation locked (is_empty ms) × ((pending ms ≡ []) × Clear n (has_after operation locked) ms)
+Clear n locked (Stands operation ∷ ms) = Finds operation locked (is_empty ms) × (Gives operation ms × Clear n (has_after operation locked) ms)
 Clear n locked (Steps d ∷ ms) = Clear n locked ms
 Clear n locked (Aborts ∷ ms) = (pending ms ≡ []) × Clear n locked ms
 Clear n locked (Looks ∷ ms) = (ms ≡ []) × (n ≤ one_if locked)
@@ -133,7 +165,7 @@ pub other-clear : (n : ℕ) (locked : Bool) (ms : List Mark) → AllOther ms →
 other-clear n locked [] o c = c
 other-clear n locked (Stands operation ∷ ms) o c =
     let f = other-finds operation locked (is_empty ms) o.0 in
-    (f.0, (other-pending ms o.1, rw f.1 (other-clear n locked ms o.1 c)))
+    (f.0, (gives-none operation ms (other-pending ms o.1), rw f.1 (other-clear n locked ms o.1 c)))
 other-clear n locked (Steps d ∷ ms) o c = absurd o
 other-clear n locked (Aborts ∷ ms) o c = (other-pending ms o, other-clear n locked ms o c)
 other-clear n locked (Looks ∷ ms) o c = (o, c)

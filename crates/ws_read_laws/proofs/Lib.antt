@@ -5,7 +5,8 @@ pub mod Holding
 pub mod Piping
 pub mod Told
 pub mod Pipes
-mod Behind
+mod First
+mod Goods
 mod Transforms
 pub mod Runs
 pub mod Outcomes

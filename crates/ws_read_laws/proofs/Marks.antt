@@ -1,6 +1,6 @@
 -- What is seen of the agenda: the operations of a readable stream, the steps of its read requests, by which these are answered, and the
 -- operations of pipes that may cause an operation.
-use Rattle.std.proofs.Common.{◌≡◌, List, [], ◌∷◌, ◌++◌, map, if◌then◌else◌, refl, ap, ◌∙◌, append-nil}
+use Rattle.std.proofs.Common.{◌≡◌, ◌⊎◌, inl, inr, ⊎_elim, List, [], ◌∷◌, ◌++◌, map, if◌then◌else◌, refl, sym, ap, ◌∙◌, append-nil, append_assoc}
 use Rattle.ws_value.specs.declared.ids.StreamId.{StreamId}
 use Rattle.ws_value.specs.declared.value.{Outcome.{Outcome}, Outcome.TheVariants.{Given, Finished, Rejected}, Plain.{Plain}, Plain.TheVariants.{Undefined}, Value.{Value}, Value.TheVariants.{Plain as PlainValue}}
 use Rattle.ws_steps.specs.declared.{effects.Effect.{Effect}, effects.Effect.TheVariants.{Readable, Pipe, Signal, ChunkSteps, CloseSteps, ErrorSteps}, readable.ReadRequest.{ReadRequest}}
@@ -101,3 +101,39 @@ close_all-shown i e (r ∷ rs) = rw is_same-refl (ap (λ (ds : List Done). recor
 pub error_all-shown : (i : StreamId) (e f : Plain) (w : ReadAnswer) (rs : List ReadRequest) → read_outcome f w ≡ Rejected e → pending (all_seen (marks i) (error_all i e rs)) ≡ map (done_of f) (with_answer w rs)
 error_all-shown i e f w [] h = refl
 error_all-shown i e f w (r ∷ rs) h = rw (is_same-refl, h) (ap (λ (ds : List Done). record { request = r; outcome = Rejected e } ∷ ds) (error_all-shown i e f w rs h))
+
+-- the chunks of these steps
+abbrev pub given_by : Outcome → List Value
+given_by (Given v) = v ∷ []
+given_by _ = []
+
+abbrev pub given_of : List Done → List Value
+given_of [] = []
+given_of (d ∷ ds) = given_by d.outcome ++ given_of ds
+
+pub given_of-append : (ds es : List Done) → given_of (ds ++ es) ≡ given_of ds ++ given_of es
+given_of-append [] es = refl
+given_of-append (d ∷ ds) es = ap (λ (vs : List Value). given_by d.outcome ++ vs) (given_of-append ds es) ∙ sym (append_assoc (given_by d.outcome) (given_of ds) (given_of es))
+
+-- whether these steps are among those
+abbrev pub IsIn : Done → List Done → Type 0
+IsIn d [] = ⊥
+IsIn d (e ∷ es) = (e ≡ d) ⊎ IsIn d es
+
+pub in_first : (d : Done) (ds es : List Done) → IsIn d ds → IsIn d (ds ++ es)
+in_first d [] es h = absurd h
+in_first d (x ∷ xs) es (inl e) = inl e
+in_first d (x ∷ xs) es (inr h) = inr (in_first d xs es h)
+
+pub in_last : (d : Done) (ds es : List Done) → IsIn d es → IsIn d (ds ++ es)
+in_last d [] es h = h
+in_last d (x ∷ xs) es h = inr (in_last d xs es h)
+
+pub in_either : (d : Done) (ds es : List Done) → IsIn d (ds ++ es) → IsIn d ds ⊎ IsIn d es
+in_either d [] es h = inr h
+in_either d (x ∷ xs) es (inl e) = inl (inl e)
+in_either d (x ∷ xs) es (inr h) = ⊎_elim (λ a. inl (inr a)) (λ b. inr b) (in_either d xs es h)
+
+-- more stand in the midst
+pub in_midst : (d : Done) (ds es fs : List Done) → IsIn d (ds ++ fs) → IsIn d (ds ++ (es ++ fs))
+in_midst d ds es fs h = ⊎_elim (λ a. in_first d ds (es ++ fs) a) (λ b. in_last d ds (es ++ fs) (in_last d es fs b)) (in_either d ds fs h)

@@ -4,7 +4,7 @@ use Rattle.std.proofs.lemmas.List.Elements.{All-nil, All-cons, All-append, All-w
 use Rattle.ws_value.specs.declared.{ids.StreamId.{StreamId}}
 use Rattle.ws_value.specs.declared.value.{Outcome.{Outcome}, Outcome.TheVariants.{Given, Finished}, Plain.TheVariants.{Undefined}, Value.TheVariants.{Plain as PlainValue}}
 use Rattle.ws_steps.specs.declared.{calls.Reply.{Reply}, calls.Reply.TheVariants.{Promise as Named}, effects.Effect.{Effect}, effects.Effect.TheVariants.{ChunkSteps, CloseSteps, ErrorSteps}}
-use Rattle.ws_steps.specs.declared.{readable.ReadRequest.{ReadRequest}, readable.ReadRequest.TheVariants.{Promise, Pipe}}
+use Rattle.ws_steps.specs.declared.{readable.ReadRequest.{ReadRequest}, readable.ReadRequest.TheVariants.{Promise, Pipe, Tee}}
 use Rattle.ws_steps.specs.Calls.{begin, named}
 use Rattle.ws_steps.specs.Histories.{is_same, along}
 use Rattle.ws_steps.specs.Jobs.{begin_job}
@@ -29,6 +29,7 @@ IsSettled t d = (is_pending d.outcome ≡ false) × HasOutcome t d.request d.out
 tells-later : (t z : Table) (r : ReadRequest) (o : Outcome) → Keeps t z → is_pending o ≡ false → HasOutcome t r o → HasOutcome z r o
 tells-later t z (Promise p) o k n h = k.outcome p o n h
 tells-later t z (Pipe p) o k n h = tt
+tells-later t z (Tee a) o k n h = tt
 
 settled-later : (t z : Table) (ds : List Done) → Keeps t z → All (IsSettled t) ds → All (IsSettled z) ds
 settled-later t z ds k a = All-weaker (IsSettled t) (IsSettled z) (λ d s. (s.0, tells-later t z d.request d.outcome k s.0 s.1)) ds a
@@ -45,8 +46,11 @@ module _ (i : StreamId) where
       one_settled (is_same i j) (answer p (Finished (PlainValue Undefined)) s.promises) _ (refl, answered_straight p (Finished (PlainValue Undefined)) s.promises a)
   row-settled (ErrorSteps j (Promise p) e) s a = one_settled (is_same i j) (settle p (Err e) s.promises) _ (refl, settled_straight p (Err e) s.promises a)
   row-settled (ChunkSteps j (Pipe p) v) s a = one_settled (is_same i j) s.promises _ (refl, tt)
+  row-settled (ChunkSteps j (Tee k) v) s a = one_settled (is_same i j) s.promises _ (refl, tt)
   row-settled (CloseSteps j (Pipe p)) s a = one_settled (is_same i j) s.promises _ (refl, tt)
+  row-settled (CloseSteps j (Tee k)) s a = one_settled (is_same i j) s.promises _ (refl, tt)
   row-settled (ErrorSteps j (Pipe p) e) s a = one_settled (is_same i j) s.promises _ (refl, tt)
+  row-settled (ErrorSteps j (Tee k) e) s a = one_settled (is_same i j) s.promises _ (refl, tt)
   row-settled e s a = All-nil (IsSettled (row e s).slots.promises)
 
   abbrev SettledIn : List Done → Slots → List Effect → Type 0
@@ -86,6 +90,7 @@ module _ (i : StreamId) where
   stays-told : (xs : List Step) (s : Slots) (r : ReadRequest) (o : Outcome) → is_pending o ≡ false → HasOutcome s.promises r o → HasOutcome (run xs s).promises r o
   stays-told xs s (Promise p) o n h = each_outcome_stays s xs p o n h
   stays-told xs s (Pipe p) o n h = tt
+  stays-told xs s (Tee k) o n h = tt
 
   pub run-told : (xs : List Step) (s : Slots) → (run xs s).promises.astray ≡ false → All (IsTold (run xs s).promises) (run_done i xs s)
   run-told [] s a = All-nil (IsTold s.promises)

@@ -17,7 +17,7 @@ use Rattle.ws_laws.proofs.PipeDoes.{PipeCauses, pipe-causes}
 use Rattle.ws_laws.proofs.Tables.{either}
 use Rattle.ws_promise_laws.proofs.Acting.{EachWaits, waits-expects}
 use Rattle.ws_promise_laws.proofs.Piping.{PipeExpects}
-use Rattle.ws_read_laws.proofs.Holding.{readers, holds, holding, holding-set, sources-set, owners, Clear}
+use Rattle.ws_read_laws.proofs.Holding.{readers, teeing, holds, holding, holding-set, sources-set, owners, Clear}
 use Rattle.ws_read_laws.proofs.Piping.{operation-fits}
 use Rattle.ws_read_laws.proofs.Marks.{Mark, Stands, Aborts, pipe_mark, signal_mark, marks, pending, pending-append}
 use Rattle.ws_read_laws.proofs.Told.{Told, Held, Unmade}
@@ -57,7 +57,7 @@ module _ (i : StreamId) where
       let b : pipe.Acts = piped p operation s x in
       let locked : Bool = is_some (readable_at i s).reader in
       let causes = (pipe-causes p (ends_at x s) operation a tt).1.1 in
-      let n : ℕ = readers i s.locks + holding i (slice_set s.pipes p.0 (spent x)) in
+      let n : ℕ = readers i s.locks + (holding i (slice_set s.pipes p.0 (spent x)) + teeing i s.tees) in
       let before : owners i (holders s) ≡ n + holds i x = let f = holding-set i p.0 s.pipes x (spent x) e in omega (arith, f) in
       let after : owners i (with_pipe p b.slots s) ≡ n + holds i b.slots = let f = holding-set i p.0 s.pipes x (spent x) e in let g = holding-set i p.0 s.pipes x b.slots e in omega (arith, f, g) in
       let found_clear : Clear (n + holds i x) locked (pipe_mark operation ++ ms) = subst (λ (m : ℕ). Clear m locked (pipe_mark operation ++ ms)) before k.clear in
@@ -65,8 +65,10 @@ module _ (i : StreamId) where
       let pend : pending (all_seen (marks i) b.out.effects ++ ms) ≡ pending (pipe_mark operation ++ ms) =
       pending-append (all_seen (marks i) b.out.effects) ms ∙ (rw (pipe_pending p x.source x.dest b.out.effects causes) (sym (mark_pending operation ms))) in
       record {
-        line = rw pend k.line;
+        line = k.line;
         given = k.given;
+        covers = λ d is. rw pend (k.covers d is);
+        chunks = rw pend k.chunks;
         clear = subst (λ (m : ℕ). Clear m locked (all_seen (marks i) b.out.effects ++ ms)) (sym after) left;
       }
 
@@ -87,8 +89,10 @@ module _ (i : StreamId) where
 
   pub no_pipe-held : (p : PipeId) (operation : PipeOperation) (h : Told) (o : Holders) (r : readable.Slots) (ms : List Mark) → Held i h o r (pipe_mark operation ++ ms) → Held i h o r ms
   no_pipe-held p operation h o r ms k = record {
-    line = rw (← mark_pending operation ms) k.line;
+    line = k.line;
     given = k.given;
+    covers = λ d is. rw (mark_pending operation ms) at (k.covers d is);
+    chunks = rw (mark_pending operation ms) at k.chunks;
     clear = mark_gone (owners i o) (is_some r.reader) operation ms k.clear;
   }
 
@@ -103,10 +107,12 @@ module _ (i : StreamId) where
   aborts_clear n locked r (p ∷ ps) ms e c = (aborts_pending r ps ms ∙ e, aborts_clear n locked r ps ms e c)
 
   trigger-held : (r : Plain) (x : pipe.Signal) (reason : Option Plain) (h : Told) (o : Holders) (z : readable.Slots) (ms : List Mark) → Held i h o z (Aborts ∷ ms) → Held i h o z (all_seen (marks i) (trigger_unless r x reason).effects ++ ms)
-  trigger-held r x (Some old) h o z ms k = record { line = k.line; given = k.given; clear = k.clear.1 }
+  trigger-held r x (Some old) h o z ms k = record { line = k.line; given = k.given; covers = k.covers; chunks = k.chunks; clear = k.clear.1 }
   trigger-held r x None h o z ms k = record {
-    line = rw (aborts_pending r x.pipes ms) k.line;
+    line = k.line;
     given = k.given;
+    covers = λ d is. rw (aborts_pending r x.pipes ms) (k.covers d is);
+    chunks = rw (aborts_pending r x.pipes ms) k.chunks;
     clear = aborts_clear (owners i o) (is_some z.reader) r x.pipes ms k.clear.0 k.clear.1;
   }
 
@@ -118,7 +124,7 @@ module _ (i : StreamId) where
   pub no_signal-held : (operation : SignalOperation) (h : Told) (o : Holders) (z : readable.Slots) (ms : List Mark) → Held i h o z (signal_mark operation ++ ms) → Held i h o z ms
   no_signal-held (Add p) h o z ms k = k
   no_signal-held (Forget p) h o z ms k = k
-  no_signal-held (Trigger r) h o z ms k = record { line = k.line; given = k.given; clear = k.clear.1 }
+  no_signal-held (Trigger r) h o z ms k = record { line = k.line; given = k.given; covers = k.covers; chunks = k.chunks; clear = k.clear.1 }
 
   -- what is known of each pipe: it goes on where its action has ended
   pub known_expects : (p : PipeId) (operation : PipeOperation) (s : Slots) (x : pipe.Slots) (es : List Effect) → EachWaits s (OnPipe p operation ∷ es) → slice_get s.pipes p.0 ≡ Some x → PipeExpects operation (Some x)

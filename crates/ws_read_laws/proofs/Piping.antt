@@ -22,7 +22,7 @@ use Rattle.ws_laws.proofs.Tables.{either}
 use Rattle.ws_promise_laws.proofs.Piping.{PipeExpects}
 use Rattle.ws_promise_laws.proofs.Streams.{goes_on}
 use Rattle.ws_promise_laws.proofs.Tokens.{one_if}
-use Rattle.ws_read_laws.proofs.Holding.{Clear, holds, IsOther, other-finds}
+use Rattle.ws_read_laws.proofs.Holding.{Clear, gives-none, holds, IsOther, other-finds}
 use Rattle.ws_read_laws.proofs.Marks.{Mark, Stands, Looks, marks, pipe_mark, pending}
 
 -- where n others have stream i, which has a reader or hasn't, and these marks stand behind
@@ -63,7 +63,7 @@ module _ (i : StreamId) (me : PipeId) (n : ℕ) (locked : Bool) (ms : List Mark)
   reader_goes true alone c =
       let k : n + 1 ≤ one_if locked = rw alone at c in
       let most = at_most_one locked in
-      rw alone (refl, (refl, omega (arith, k, most)))
+      rw alone (refl, ((λ e. refl), omega (arith, k, most)))
   reader_goes false alone c = c
 
   finalized : (error : Option Plain) (a : Acts) → goes_on a.slots.phase ≡ true → ms ≡ [] → Rests a → Fits (finalize me error a)
@@ -82,7 +82,7 @@ module _ (i : StreamId) (me : PipeId) (n : ℕ) (locked : Bool) (ms : List Mark)
 
   -- an operation by which no reader comes or goes
   other : (operation : ReadableOperation) (b : Bool) (m : ℕ) → IsOther operation → pending ms ≡ [] → Clear m locked ms → Clear m locked ((if b then Stands operation ∷ [] else []) ++ ms)
-  other operation true m o quiet c = let f = other-finds operation locked (is_empty ms) o in (f.0, (quiet, rw f.1 c))
+  other operation true m o quiet c = let f = other-finds operation locked (is_empty ms) o in (f.0, (gives-none operation ms quiet, rw f.1 c))
   other operation false m o quiet c = c
 
   acts_quietly : (effect : PromiseId → Effect) (a : Acts) → ((q : PromiseId) → marks i (effect q) ≡ []) → Rests a → Fits (act_with me effect a)
@@ -184,7 +184,7 @@ module _ (i : StreamId) (me : PipeId) (n : ℕ) (locked : Bool) (ms : List Mark)
     reads : (r : ReadRequest) (b : Bool) → Clear (n + one_if b) locked ms → Clear (n + one_if b) locked ((if b then Stands (Read r) ∷ [] else []) ++ ms)
     reads r true c =
         let k : n + 1 ≤ one_if locked = rw alone at c in
-        (some_reader locked k, (quiet, c))
+        (some_reader locked k, (gives-none (Read r) ms quiet, c))
     reads r false c = c
 
     readies : (a : Acts) (ready : Option PromiseId) → Rests a → Fits (wait_for_ready me a ready)

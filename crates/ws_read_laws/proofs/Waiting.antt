@@ -4,7 +4,7 @@ use Rattle.std.proofs.lemmas.List.Elements.{All-nil, All-cons}
 use Rattle.std.specs.Option.{option_map}
 use Rattle.ws_value.specs.declared.{ids.PromiseId.{PromiseId}, ids.StreamId.{StreamId}}
 use Rattle.ws_value.specs.declared.value.{Outcome.{Outcome}, Outcome.TheVariants.{Pending, Fulfilled, Given, Finished, Rejected}}
-use Rattle.ws_steps.specs.declared.{readable.ReadRequest.{ReadRequest}, readable.ReadRequest.TheVariants.{Promise, Pipe}}
+use Rattle.ws_steps.specs.declared.{readable.ReadRequest.{ReadRequest}, readable.ReadRequest.TheVariants.{Promise, Pipe, Tee}}
 use Rattle.ws_steps.specs.Laws.{HasOutcome}
 use Rattle.ws_steps.specs.Promises.{Entry, Table, entry_at, outcome_at, is_open_entry}
 use Rattle.ws_steps.specs.Run.{Entry as Step, run}
@@ -44,6 +44,7 @@ waits-pending entries i p n =
 all-wait : (t : Table) (rs : List ReadRequest) → ((p : PromiseId) → 1 ≤ in_requests p rs → outcome_at t p ≡ Some Pending) → All (λ r. HasOutcome t r Pending) rs
 all-wait t [] h = All-nil (λ r. HasOutcome t r Pending)
 all-wait t (Pipe p ∷ rs) h = All-cons (λ r. HasOutcome t r Pending) (Pipe p) rs tt (all-wait t rs (λ q n. h q (omega (arith, n))))
+all-wait t (Tee k ∷ rs) h = All-cons (λ r. HasOutcome t r Pending) (Tee k) rs tt (all-wait t rs (λ q n. h q (omega (arith, n))))
 all-wait t (Promise p ∷ rs) h =
     All-cons (λ r. HasOutcome t r Pending) (Promise p) rs (h p (let n = named p in omega arith)) (all-wait t rs (λ q n. h q (omega arith)))
 

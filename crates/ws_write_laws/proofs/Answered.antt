@@ -11,8 +11,8 @@ use Rattle.ws_value.specs.declared.value.Value.{Value}
 use Rattle.ws_steps.specs.declared.{calls.Call.{Call}, calls.Call.TheVariants.{Write as WriteCall}, calls.Reply.TheVariants.{Promise}, effects.Effect.{Effect}}
 use Rattle.ws_steps.specs.declared.effects.Effect.TheVariants.{Writable, Pipe, CloseAlgorithm}
 use Rattle.ws_steps.specs.declared.{locks.Lock.{Lock}, locks.Lock.TheVariants.{Reader, Writer, ReleasedWriter, Inner}, promises.Job.{Job}, promises.Job.TheVariants.{Reaction as ReactionJob, Follow, Settle as SettleJob, Micro as MicroJob}}
-use Rattle.ws_steps.specs.declared.{promises.Micro.TheVariants.{PipeLook, PipeWrite, PipeNoParts}, promises.Step.{Step}}
-use Rattle.ws_steps.specs.declared.promises.Step.TheVariants.{ReadableStart, ReadablePull, ReturnUndefined, WritableStart, WritableWrite, WritableClose, WritableAbort, PipeEnds, PipeReady, PipeWrote, PipeActed, PipePart, TransformChanged, Transformed, TransformFlushed, TransformAborted, TransformCancelled}
+use Rattle.ws_steps.specs.declared.{promises.Micro.TheVariants.{PipeLook, PipeWrite, PipeNoParts, TeeHand}, promises.Step.{Step}}
+use Rattle.ws_steps.specs.declared.promises.Step.TheVariants.{ReadableStart, ReadablePull, ReturnUndefined, WritableStart, WritableWrite, WritableClose, WritableAbort, PipeEnds, PipeReady, PipeWrote, PipeActed, PipePart, TransformChanged, Transformed, TransformFlushed, TransformAborted, TransformCancelled, TeeEnds}
 use Rattle.ws_steps.specs.declared.{pipes.Phase.{Phase}, pipes.Phase.TheVariants.{Flowing, Waiting, Acting, Over}, pipes.PipeOperation.TheVariants.{WriteChunk}, writable.WritableOperation.TheVariants.{Write}}
 use Rattle.ws_steps.specs.Promises.{next_id, next_job}
 use Rattle.ws_steps.specs.Pipes as pipe
@@ -315,6 +315,7 @@ steps_quiet (WritableWrite i) o = (tt, tt)
 steps_quiet (WritableClose i) o = (tt, tt)
 steps_quiet (WritableAbort i p) o = (tt, tt)
 steps_quiet (PipeEnds p) o = (tt, tt)
+steps_quiet (TeeEnds t) o = (tt, tt)
 steps_quiet (PipeReady p) o = (tt, tt)
 steps_quiet (PipeWrote p) o = (tt, tt)
 steps_quiet (PipeActed p) o = (tt, tt)
@@ -340,6 +341,7 @@ job-begins i z (SettleJob p o) = record { front = tt; written = refl; promised =
 job-begins i z (MicroJob (PipeLook p)) = record { front = tt; written = refl; promised = refl }
 job-begins i z (MicroJob (PipeWrite p)) = record { front = tt; written = refl; promised = refl }
 job-begins i z (MicroJob (PipeNoParts p)) = record { front = tt; written = refl; promised = refl }
+job-begins i z (MicroJob (TeeHand t)) = record { front = tt; written = refl; promised = refl }
 
 begun-begins : (i : StreamId) (s : Slots) (job : Option Job) → Told i [] [] none_said (job_begun s job).slots (job_begun s job).caused
 begun-begins i s None = record { front = tt; written = refl; promised = refl }

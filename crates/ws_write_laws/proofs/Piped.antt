@@ -1,4 +1,6 @@
 -- A pipe causes a write only where it writes the chunk that it holds.
+use Rattle.ws_value.specs.declared.ids.TeeId.{TeeId}
+use Rattle.ws_steps.specs.declared.effects.Effect.TheVariants.{Tee}
 use Rattle.std.proofs.Common.{Option, Some, None, arith}
 use Rattle.ws_value.specs.declared.ids.PipeId.{PipeId}
 use Rattle.ws_value.specs.declared.ids.{StreamId.{StreamId}}
@@ -7,7 +9,7 @@ use Rattle.ws_value.specs.declared.value.Plain.{Plain}
 use Rattle.ws_steps.specs.declared.effects.{Effect.{Effect}, Effect.TheVariants.{Readable, Writable, Pipe, Transform, StartAlgorithm, PullAlgorithm, CancelAlgorithm, WriteAlgorithm, CloseAlgorithm, AbortAlgorithm, Signal, ChunkSteps, CloseSteps, ErrorSteps}}
 use Rattle.ws_steps.specs.declared.pipes.{Action.{Action}, Ends.{Ends}, Phase.{Phase}, PipeOperation.{PipeOperation}, SignalOperation.{SignalOperation}, SignalOperation.TheVariants.{Add, Forget, Trigger}}
 use Rattle.ws_steps.specs.declared.pipes.PipeOperation.TheVariants as names
-use Rattle.ws_steps.specs.declared.readable.{ReadRequest.{ReadRequest}, ReadRequest.TheVariants.{Promise, Pipe as PipeRequest}, ReadableState.{ReadableState}}
+use Rattle.ws_steps.specs.declared.readable.{ReadRequest.{ReadRequest}, ReadRequest.TheVariants.{Promise, Pipe as PipeRequest, Tee as TeeRequest}, ReadableState.{ReadableState}}
 use Rattle.ws_steps.specs.declared.writable.{WritableOperation.TheVariants.{Write}, WritableState.{WritableState}}
 use Rattle.ws_value.specs.declared.value.Value.{Value}
 use Rattle.ws_steps.specs.Operations.{pipe_operation}
@@ -18,7 +20,8 @@ use Rattle.ws_steps.specs.Turns.{row}
 use Rattle.std.proofs.Common.{slice_get}
 use Rattle.ws_laws.proofs.Lists.{Each, each-append}
 use Rattle.ws_laws.proofs.TransformDoes.{TransformCauses}
-use Rattle.ws_laws.proofs.Rows.{Causes, ChunkCauses, EndCauses, SignalCauses, row-causes}
+use Rattle.ws_laws.proofs.TeeDoes.{TeeCauses}
+use Rattle.ws_laws.proofs.Rows.{Causes, ChunkCauses, EndCauses, ErrorCauses, SignalCauses, row-causes}
 use Rattle.ws_steps.specs.declared.effects.Effect.TheVariants.{Byte, CloseStepsWith}
 
 -- effects that neither write nor have a pipe write
@@ -87,10 +90,17 @@ IsNoPipe _ = Unit {0}
 chunk-quiet : (v : Value) (request : ReadRequest) → ChunkCauses Quiet v request
 chunk-quiet v (Promise p) = tt
 chunk-quiet v (PipeRequest p) = tt
+chunk-quiet v (TeeRequest t) = tt
 
 end-quiet : (request : ReadRequest) → EndCauses Quiet request
 end-quiet (Promise p) = tt
 end-quiet (PipeRequest p) = tt
+end-quiet (TeeRequest t) = tt
+
+error-quiet : (request : ReadRequest) → ErrorCauses Quiet request
+error-quiet (Promise p) = tt
+error-quiet (PipeRequest p) = tt
+error-quiet (TeeRequest t) = tt
 
 signal_quiet : (operation : SignalOperation) → SignalCauses Quiet operation
 signal_quiet (Trigger r) = λ p. tt
@@ -102,6 +112,11 @@ transform-quiet t writable readable (Writable i (Write v p)) c = absurd c
 transform-quiet t writable readable (Pipe p operation) c = absurd c
 transform-quiet t writable readable _ c = tt
 
+tee-quiet : (t : TeeId) (source first second : StreamId) (e : Effect) → TeeCauses t source first second e → Quiet e
+tee-quiet t source first second (Writable i (Write v p)) c = absurd c
+tee-quiet t source first second (Pipe p operation) c = absurd c
+tee-quiet t source first second _ c = tt
+
 pub quiet-causes : (e : Effect) → IsNoPipe e → Causes Quiet e
 quiet-causes (Readable j operation) n = record { pull = tt; cancel = λ r p. tt; chunk = λ r v. tt; close = λ r. tt; error = λ r e. tt }
 quiet-causes (Byte j operation) n = record { readable = record { pull = tt; cancel = λ r p. tt; chunk = λ r v. tt; close = λ r. tt; error = λ r e. tt }; close_with = λ r b. tt }
@@ -109,16 +124,17 @@ quiet-causes (Writable j operation) n = record { write = tt; close = tt; abort =
 quiet-causes (Pipe p operation) n = absurd n
 quiet-causes (Signal a operation) n = signal_quiet operation
 quiet-causes (Transform t operation) n = λ writable readable e c. transform-quiet t writable readable e c
+quiet-causes (Tee t operation) n = tee-quiet t
 quiet-causes (StartAlgorithm j step start) n = (λ g u. tt, λ c u. tt)
-quiet-causes (PullAlgorithm j) n = (λ c u. tt, λ t u. tt)
-quiet-causes (CancelAlgorithm j r p) n = (λ c u. tt, λ t u. tt)
+quiet-causes (PullAlgorithm j) n = (λ c u. tt, (λ t u. tt, (λ t. tt, λ u. tt)))
+quiet-causes (CancelAlgorithm j r p) n = (λ c u. tt, (λ t u. tt, λ t half u. tt))
 quiet-causes (WriteAlgorithm j) n = (tt, λ t u. tt)
 quiet-causes (CloseAlgorithm j) n = (λ c u. tt, λ t u. tt)
 quiet-causes (AbortAlgorithm j r p) n = (λ c u. tt, λ t u. tt)
 quiet-causes (ChunkSteps j request v) n = chunk-quiet v request
 quiet-causes (CloseSteps j request) n = end-quiet request
 quiet-causes (CloseStepsWith j request b) n = end-quiet request
-quiet-causes (ErrorSteps j request e) n = end-quiet request
+quiet-causes (ErrorSteps j request e) n = error-quiet request
 quiet-causes _ n = tt
 
 pipe_row-quiet : (p : PipeId) (operation : PipeOperation) (s : Slots) (o : Option pipe.Slots) → Quiet (Pipe p operation) → Each Quiet (on_pipe_at (λ ends. pipe_operation p ends operation) p s o).caused

@@ -203,6 +203,7 @@ call-lined i h c s l =
       pipe = λ z source dest prevent signal promise m. m;
       signal = λ z m. m;
       transform = λ z kind half other change m. m;
+      tee = λ z source first second cancel m. m;
       bytes = λ z mark auto m. added i h z (ByteStream (byte.set_up mark auto)) refl refl m;
       byob_requests = λ z hosts m. m;
       readable = λ z owner mark size m. added i h z (ReadableStream (readable.set_up owner mark size)) refl refl m;

@@ -18,6 +18,7 @@ use Rattle.ws_steps.specs.Slots.{Slots, has_source, Done, nothing, empty, as_pip
 use Rattle.ws_steps.specs.Turns.{Moment, row, moments, performed}
 use Rattle.ws_laws.proofs.Begin.{begin-makes}
 use Rattle.ws_laws.proofs.EachCall.{each_call}
+use Rattle.ws_laws.proofs.Halves.{Halved, run-halved, halved-empty}
 use Rattle.ws_laws.proofs.Lists.{Each}
 use Rattle.ws_laws.proofs.Truth.{false_true}
 use Rattle.ws_laws.proofs.Walker.{performed-goes, nothing-told}
@@ -73,11 +74,11 @@ module _ (p : PipeId) (i : StreamId) (r : readable.Slots) (C : Type 0) (closed :
   done-sure : (d : Done) → SureAt d.slots → EachWaits d.slots d.caused → Agenda p i C d.slots d.caused → Ends d
   done-sure d k w g = let e = performed-goes [] ◌++◌ moments_history effect_moment Is row-is [] d (tt, (k, (w, g))) in (e.0, e.1.0)
 
-  job-sure : (s : Slots) (job : Option Job) → job ≡ next_job s.promises → EachWaits s [] → source_at i s ≡ r → SureAt s → Ends (job_begun s job)
-  job-sure s None e w same k = done-sure (nothing s) k w (inl tt)
-  job-sure s (Some job) e w same k =
+  job-sure : (s : Slots) (job : Option Job) → job ≡ next_job s.promises → EachWaits s [] → Halved s → source_at i s ≡ r → SureAt s → Ends (job_begun s job)
+  job-sure s None e w halved same k = done-sure (nothing s) k w (inl tt)
+  job-sure s (Some job) e w halved same k =
       done-sure (job_begun s (Some job)) k (waits-stays.job s job (sym e) w)
-      (⊎_elim (λ (n : Each IsNoLook (job_effects job)). inl n) (λ (f : Front (job_effects job)). inr ((λ c. closed (ap (λ (y : readable.Slots). has_closed y.state) (sym same) ∙ c)), f)) (job-front job))
+      (⊎_elim (λ (n : Each IsNoLook (job_effects job)). inl n) (λ (f : Front (job_begun s (Some job)).slots (job_effects job)). inr ((λ c. closed (ap (λ (y : readable.Slots). has_closed y.state) (sym same) ∙ c)), (halved, f))) (job-front (job_begun s (Some job)).slots job))
 
   abbrev pub Stepped : Slots → Entry → Type 0
   Stepped s x = AllMoments SureAfter (step_moments s x) × SureAt (step s x)
@@ -92,11 +93,11 @@ module _ (p : PipeId) (i : StreamId) (r : readable.Slots) (C : Type 0) (closed :
   none-stepped : (s : Slots) → AllMoments SureAfter (along [] ◌++◌ effect_moment (moments (nothing s)))
   none-stepped s = subst (AllMoments SureAfter) (sym (nothing-told [] ◌++◌ moments_history effect_moment s)) tt
 
-  pub other-sure : (s : Slots) (x : Entry) → ((c : Call) → x ≡ Called c → ⊥) → EachWaits s [] → source_at i s ≡ r → SureAt s → Stepped s x
+  pub other-sure : (s : Slots) (x : Entry) → ((c : Call) → x ≡ Called c → ⊥) → EachWaits s [] → Halved s → source_at i s ≡ r → SureAt s → Stepped s x
   unfolding begin_job
-  other-sure s (Called c) n w same k = absurd (n c refl)
-  other-sure s Worked n w same k = job-sure s (next_job s.promises) refl w same k
-  other-sure s Heard n w same k = (none-stepped s, k)
+  other-sure s (Called c) n w halved same k = absurd (n c refl)
+  other-sure s Worked n w halved same k = job-sure s (next_job s.promises) refl w halved same k
+  other-sure s Heard n w halved same k = (none-stepped s, k)
 
   -- where there is the pipe
   begins-sure : (c : Call) (s : Slots) (x : pipe.Slots) → slice_get s.pipes p.0 ≡ Some x → Sure p i C (Some x) → SureAt (begin c s).done.slots
@@ -110,6 +111,7 @@ module _ (p : PipeId) (i : StreamId) (r : readable.Slots) (C : Type 0) (closed :
             ⊎_elim (λ (f : slice_get (z.pipes ++ y ∷ []) p.0 ≡ slice_get z.pipes p.0). f ∙ k) (λ (f : (slice_get z.pipes p.0 ≡ None) × (slice_get (z.pipes ++ y ∷ []) p.0 ≡ Some y)). absurd (cc)) (appended z.pipes y p.0);
         signal = λ z k. k;
         transform = λ z kind i j change k. k;
+        tee = λ z source first second cancel k. k;
         bytes = λ z mark auto k. k;
         byob_requests = λ z hs k. k;
         readable = λ z owner mark size k. k;
@@ -117,10 +119,10 @@ module _ (p : PipeId) (i : StreamId) (r : readable.Slots) (C : Type 0) (closed :
       }) c s e in
       subst (Sure p i C) (sym m) k
 
-  pub there-sure : (s : Slots) (y : Entry) (x : pipe.Slots) → slice_get s.pipes p.0 ≡ Some x → EachWaits s [] → source_at i s ≡ r → Sure p i C (Some x) → Stepped s y
-  there-sure s (Called c) x e w same k = call-sure s c w (begins-sure c s x e k)
-  there-sure s Worked x e w same k = other-sure s Worked (λ c f. cc) w same (subst (Sure p i C) (sym e) k)
-  there-sure s Heard x e w same k = other-sure s Heard (λ c f. cc) w same (subst (Sure p i C) (sym e) k)
+  pub there-sure : (s : Slots) (y : Entry) (x : pipe.Slots) → slice_get s.pipes p.0 ≡ Some x → EachWaits s [] → Halved s → source_at i s ≡ r → Sure p i C (Some x) → Stepped s y
+  there-sure s (Called c) x e w halved same k = call-sure s c w (begins-sure c s x e k)
+  there-sure s Worked x e w halved same k = other-sure s Worked (λ c f. cc) w halved same (subst (Sure p i C) (sym e) k)
+  there-sure s Heard x e w halved same k = other-sure s Heard (λ c f. cc) w halved same (subst (Sure p i C) (sym e) k)
 
 -- runs
 
@@ -153,6 +155,7 @@ module _ (p : PipeId) where
         (λ (f : (slice_get z.pipes p.0 ≡ None) × (slice_get (z.pipes ++ y ∷ []) p.0 ≡ Some y)). subst Fresh (sym f.1) refl) (appended z.pipes y p.0);
     signal = λ z k. k;
     transform = λ z kind i j change k. k;
+    tee = λ z source first second cancel k. k;
     bytes = λ z mark auto k. k;
     byob_requests = λ z hs k. k;
     readable = λ z owner mark size k. k;
@@ -191,7 +194,7 @@ module _ (p : PipeId) where
       let s : Slots = run before empty in
       let i : StreamId = x.source in
       let own : is_over x.phase ≡ false = not_over s y x z e f over in
-      let k = there-sure p i (source_at i s) (has_closed (source_at i s).state ≡ true) (λ c. c) s y x e (waits-run before) refl (refl, h x e own) in
+      let k = there-sure p i (source_at i s) (has_closed (source_at i s).state ≡ true) (λ c. c) s y x e (waits-run before) (run-halved before empty halved-empty) refl (refl, h x e own) in
       let after : (z.source ≡ i) × ((z.phase ≡ Flowing) ⊎ (z.error ≡ None → has_closed (source_at i s).state ≡ true)) = subst (Sure p i (has_closed (source_at i s).state ≡ true)) f k.1 in
       ⊎_elim (λ (g : z.phase ≡ Flowing). inl g)
       (λ (g : z.error ≡ None → has_closed (source_at i s).state ≡ true). inr (λ n.
@@ -211,7 +214,7 @@ module _ (p : PipeId) where
   source_is : (before : List Entry) (y : Entry) (i : StreamId) (z : pipe.Slots) → let s : Slots = run before empty in slice_get s.pipes p.0 ≡ None → ((c : Call) → y ≡ Called c → ⊥) → slice_get (step s y).pipes p.0 ≡ Some z → z.source ≡ i
   source_is before y i z e n f =
       let s : Slots = run before empty in
-      let k = other-sure p i (source_at i s) (Unit {0}) (λ c. tt) s y n (waits-run before) refl (subst (Sure p i (Unit {0})) (sym e) tt) in
+      let k = other-sure p i (source_at i s) (Unit {0}) (λ c. tt) s y n (waits-run before) (run-halved before empty halved-empty) refl (subst (Sure p i (Unit {0})) (sym e) tt) in
       let after : (z.source ≡ i) × ((z.phase ≡ Flowing) ⊎ (z.error ≡ None → Unit {0})) = subst (Sure p i (Unit {0})) f k.1 in
       after.0
 
@@ -254,7 +257,7 @@ each_pipe_without_an_error_passed_all before after x p ms ns m over split begins
     let i : StreamId = y.source in
     let r : readable.Slots = source_at i s in
     let e : slice_get s.pipes p.0 ≡ Some y = pipe_there (slice_get s.pipes p.0) over in
-    let k = there-sure p i r (has_closed r.state ≡ true) (λ c. c) s x y e (waits-run before) refl (refl, run-whole p before y e over) in
+    let k = there-sure p i r (has_closed r.state ≡ true) (λ c. c) s x y e (waits-run before) (run-halved before empty halved-empty) refl (refl, run-whole p before y e over) in
     let at = all_moments-at (SureAfter p i r (has_closed r.state ≡ true) (λ c. c)) ms ns m (subst (AllMoments (SureAfter p i r (has_closed r.state ≡ true) (λ c. c))) split k.0) in
     let there = row-stands p m.effect m.found (pipe_at p m.found) (live_there p (slice_get m.found.pipes p.0) begins.live) in
     let z : pipe.Slots = there.0 in

@@ -1,4 +1,7 @@
 -- In a step that finds a pipe not over, its destination is written what the pipe passes on, and nothing else.
+use Rattle.ws_value.specs.declared.ids.TeeId.{TeeId}
+use Rattle.ws_steps.specs.declared.promises.Micro.TheVariants.{TeeHand}
+use Rattle.ws_steps.specs.declared.effects.Effect.TheVariants.{Tee as OnTee}
 use Rattle.std.proofs.Common.{◌≡◌, ◌≢◌, ℕ, Bool, true, false, nat_eq, if◌then◌else◌, List, [], ◌∷◌, ◌++◌, Option, Some, None, Result, refl, sym, ap, subst, ◌∙◌, append_assoc, append-nil, arith}
 use Rattle.ws_value.specs.declared.{ids.LockId.{LockId}, ids.PipeId.{PipeId}, ids.PromiseId.{PromiseId}, ids.StreamId.{StreamId}}
 use Rattle.ws_value.specs.declared.value.{Plain.{Plain}, Value.{Value}}
@@ -8,7 +11,7 @@ use Rattle.ws_steps.specs.declared.effects.Effect.TheVariants.{Readable as OnRea
 use Rattle.ws_steps.specs.declared.{locks.Lock.{Lock}, locks.Lock.TheVariants.{Reader, Writer, ReleasedWriter, Inner, ByobReader}}
 use Rattle.ws_steps.specs.declared.pipes.{Phase.{Phase}, Phase.TheVariants.{Over}, PipeOperation.TheVariants.{WriteChunk, GoOn}, SignalOperation.{SignalOperation}, SignalOperation.TheVariants.{Add, Forget, Trigger}}
 use Rattle.ws_steps.specs.declared.promises.{Job.{Job}, Job.TheVariants.{Reaction as ReactionJob, Follow, Settle as SettleJob, Micro as MicroJob}, Micro.TheVariants.{PipeLook, PipeWrite, PipeNoParts}, Step.{Step}}
-use Rattle.ws_steps.specs.declared.readable.{ReadRequest.{ReadRequest}, ReadRequest.TheVariants.{Promise, Pipe as PipeRequest}}
+use Rattle.ws_steps.specs.declared.readable.{ReadRequest.{ReadRequest}, ReadRequest.TheVariants.{Promise, Pipe as PipeRequest, Tee as TeeRequest}}
 use Rattle.ws_steps.specs.declared.transform.TransformId.{TransformId}
 use Rattle.ws_steps.specs.Calls.{Begun, begin}
 use Rattle.ws_steps.specs.Histories.{is_same, along}
@@ -24,9 +27,10 @@ use Rattle.ws_room_laws.proofs.Turns.{moments_next}
 use Rattle.ws_laws.proofs.EachCall.{each_call}
 use Rattle.ws_laws.proofs.Lists.{Each, each-append, append_cancel}
 use Rattle.ws_laws.proofs.PipeDoes.{PipeCauses}
-use Rattle.ws_laws.proofs.Rows.{Causes, ChunkCauses, EndCauses, SignalCauses, row-causes}
+use Rattle.ws_laws.proofs.Rows.{Causes, ChunkCauses, EndCauses, ErrorCauses, SignalCauses, row-causes}
 use Rattle.ws_laws.proofs.Tables.{either, eq_numbers, unequal_numbers, is_same-refl, same_id}
 use Rattle.ws_laws.proofs.TransformDoes.{TransformCauses}
+use Rattle.ws_laws.proofs.TeeDoes.{TeeCauses}
 use Rattle.ws_laws.proofs.Walker.{IsHistory, performed-goes}
 use Rattle.ws_write_laws.proofs.Answered.{writes_were_answered}
 use Rattle.ws_pipe_laws.specs.PipeHistory.{is_over, Through, nothing_through, through_then, held_goes, operation_through, effect_through, step_through}
@@ -77,10 +81,17 @@ pipe-none q source dest _ c = tt
 chunk-none : (v : Value) (request : ReadRequest) → ChunkCauses IsNoWrite v request
 chunk-none v (Promise q) = tt
 chunk-none v (PipeRequest q) = tt
+chunk-none v (TeeRequest t) = tt
 
 end-none : (request : ReadRequest) → EndCauses IsNoWrite request
 end-none (Promise q) = tt
 end-none (PipeRequest q) = tt
+end-none (TeeRequest t) = tt
+
+error-none : (request : ReadRequest) → ErrorCauses IsNoWrite request
+error-none (Promise q) = tt
+error-none (PipeRequest q) = tt
+error-none (TeeRequest t) = tt
 
 signal-none : (operation : SignalOperation) → SignalCauses IsNoWrite operation
 signal-none (Trigger r) = λ q. tt
@@ -91,6 +102,10 @@ transform-none : (t : TransformId) (writable readable : StreamId) (e : Effect) �
 transform-none t writable readable (OnPipe q operation) c = absurd c
 transform-none t writable readable _ c = tt
 
+tee-none : (t : TeeId) (source first second : StreamId) (e : Effect) → TeeCauses t source first second e → IsNoWrite e
+tee-none t source first second (OnPipe q operation) c = absurd c
+tee-none t source first second _ c = tt
+
 none-causes : (e : Effect) → Causes IsNoWrite e
 none-causes (OnReadable j operation) = record { pull = tt; cancel = λ r q. tt; chunk = λ r v. tt; close = λ r. tt; error = λ r e. tt }
 none-causes (Byte j operation) = record { readable = record { pull = tt; cancel = λ r q. tt; chunk = λ r v. tt; close = λ r. tt; error = λ r e. tt }; close_with = λ r b. tt }
@@ -98,16 +113,17 @@ none-causes (OnWritable j operation) = record { write = tt; close = tt; abort = 
 none-causes (OnPipe q operation) = pipe-none q
 none-causes (OnSignal a operation) = signal-none operation
 none-causes (OnTransform t operation) = transform-none t
+none-causes (OnTee t operation) = tee-none t
 none-causes (StartAlgorithm j step start) = (λ g u. tt, λ c u. tt)
-none-causes (PullAlgorithm j) = (λ c u. tt, λ t u. tt)
-none-causes (CancelAlgorithm j r q) = (λ c u. tt, λ t u. tt)
+none-causes (PullAlgorithm j) = (λ c u. tt, (λ t u. tt, (λ t. tt, λ u. tt)))
+none-causes (CancelAlgorithm j r q) = (λ c u. tt, (λ t u. tt, λ t half u. tt))
 none-causes (WriteAlgorithm j) = (tt, λ t u. tt)
 none-causes (CloseAlgorithm j) = (λ c u. tt, λ t u. tt)
 none-causes (AbortAlgorithm j r q) = (λ c u. tt, λ t u. tt)
 none-causes (ChunkSteps j request v) = chunk-none v request
 none-causes (CloseSteps j request) = end-none request
 none-causes (CloseStepsWith j request b) = end-none request
-none-causes (ErrorSteps j request e) = end-none request
+none-causes (ErrorSteps j request e) = error-none request
 none-causes _ = tt
 
 row-none : (e : Effect) (s : Slots) (es : List Effect) → Each IsNoWrite es → Each IsNoWrite ((row e s).caused ++ es)
@@ -256,6 +272,7 @@ module _ (entries : List Entry) (p : PipeId) (over : is_over (pipe_at p (run ent
   job-even u (MicroJob (PipeLook q)) = none-even (causes (job_effects (MicroJob (PipeLook q))) (with_promises u s)) (tt, tt)
   job-even u (MicroJob (PipeWrite q)) = first-even u q
   job-even u (MicroJob (PipeNoParts q)) = none-even (causes (job_effects (MicroJob (PipeNoParts q))) (with_promises u s)) (tt, tt)
+  job-even u (MicroJob (TeeHand t)) = none-even (causes (job_effects (MicroJob (TeeHand t))) (with_promises u s)) (tt, tt)
 
   begun-even : (job : Option Job) → Even (job_begun s job)
   begun-even None = none-even (nothing s) tt

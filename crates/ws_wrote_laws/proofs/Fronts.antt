@@ -1,7 +1,7 @@
 -- What is written to the destination of a pipe, while it isn't over, is a first part of what it passes on.
-use Rattle.std.proofs.Common.{◌≡◌, Bool, true, false, is_some, List, [], ◌∷◌, ◌++◌, Option, Some, None, slice_get, Result, Ok, Err, refl, sym, ap, subst, ◌∙◌, append_assoc, append-nil, arith}
+use Rattle.std.proofs.Common.{◌≡◌, Bool, true, false, ℕ, zero, suc, map, is_some, List, [], ◌∷◌, ◌++◌, Option, Some, None, slice_get, Result, Ok, Err, refl, sym, ap, subst, ◌∙◌, append_assoc, append-nil, arith}
 use Rattle.ws_value.specs.declared.{ids.PipeId.{PipeId}, ids.StreamId.{StreamId}, value.Plain.{Plain}, value.Plain.TheVariants.{Undefined}, value.Value.{Value}}
-use Rattle.ws_steps.specs.declared.effects.{Owner.{Owner}, Owner.TheVariants.{Host, HalfOf}}
+use Rattle.ws_steps.specs.declared.effects.{Owner.{Owner}, Owner.TheVariants.{Host, HalfOf, BranchOf}}
 use Rattle.ws_steps.specs.declared.pipes.{Ends.{Ends}, Phase.{Phase}, PipeOperation.{PipeOperation}}
 use Rattle.ws_steps.specs.declared.writable.WritableOperation.{WritableOperation}
 use Rattle.ws_steps.specs.declared.writable.WritableOperation.TheVariants as names
@@ -11,15 +11,20 @@ use Rattle.ws_steps.specs.Operations.{writable_operation, pipe_operation}
 use Rattle.ws_steps.specs.Pipes as pipe
 use Rattle.ws_steps.specs.Promises.{Table}
 use Rattle.ws_steps.specs.Run.{Entry, run, step}
-use Rattle.ws_steps.specs.Slots.{Slots, Stream, ReadableStream, ByteStream, WritableStream, empty, as_pipe, pipe_at, as_writable, writable_at, owner_at}
+use Rattle.ws_steps.specs.Slots.{Slots, Stream, ReadableStream, ByteStream, WritableStream, empty, as_pipe, pipe_at, as_writable, writable_at, owner_at, has_writable, is_writable_stream}
 use Rattle.ws_steps.specs.Writable as writable
 use Rattle.ws_steps.specs.Writable.{has_ended, set_up_writer, writer_release, writer_write, stream_close, close_with_error_propagation, stream_abort, abort_if_writable, controller_error_if_needed, hand_on, start_settled, write_settled, close_settled, abort_settled, finish_in_flight_close, finish_in_flight_close_with_error, deal_with_rejection, finish_erroring, advance_queue, refresh_backpressure, update_backpressure, reject_close_and_closed, process_write, process_close, start_erroring, controller_write, controller_close}
 use Rattle.ws_steps.specs.WritableHistory.{Writes, written_unless, no_writes, writes_then, todo, step_writes, run_writes}
-use Rattle.ws_laws.proofs.Lists.{append_cancel}
+use Rattle.ws_laws.proofs.Lists.{append_cancel, append_none}
+use Rattle.ws_laws.proofs.Tables.{no_writable_there}
 use Rattle.ws_laws.proofs.PipeDoes.{pipe-causes}
 use Rattle.ws_laws.proofs.Truth.{false_true}
-use Rattle.ws_laws.proofs.Walker.{IsHistory}
-use Rattle.ws_transform_laws.proofs.Lawful.{each_half_is_lawful}
+use Rattle.ws_laws.proofs.Walker.{IsHistory, Stays, run-stays}
+use Rattle.ws_laws.proofs.Begin.{begin-makes}
+use Rattle.ws_laws.proofs.Shapes.{StreamShape, ReadableOf, BytesOf, WritableOf, stream_shape, row-stream_shapes}
+use Rattle.ws_steps.specs.Turns.{row}
+use Rattle.ws_transform_laws.proofs.Lawful.{each_half_is_lawful, run-orderly}
+use Rattle.ws_transform_laws.proofs.Sunk.{AreSunk, run-sunk, sink-owned}
 use Rattle.ws_transform_laws.proofs.Steps.{each_half_step}
 use Rattle.ws_writable_laws.proofs.EachStep.{each_writable_step}
 use Rattle.ws_writable_laws.proofs.Runs as writes
@@ -35,6 +40,104 @@ use Rattle.ws_wrote_laws.specs.WroteLaws.{EachPipeWroteAFront}
 use Rattle.ws_wrote_laws.proofs.Destinations.{each_destination_is_its_pipes}
 use Rattle.ws_wrote_laws.proofs.Keeping.{Expected, pipe-kept, pipe-stands, writable-kept}
 
+-- lists
+
+pub run-append : (xs ys : List Entry) (s : Slots) → run (xs ++ ys) s ≡ run ys (run xs s)
+run-append [] ys s = refl
+run-append (x ∷ xs) ys s = run-append xs ys (step s x)
+
+pub over-append : {H : Type 0} (none : H) (after : H → H → H) (is : IsHistory none after) (told : Slots → Entry → H) (xs ys : List Entry) (s : Slots)
+    → over none after told (xs ++ ys) s ≡ after (over none after told xs s) (over none after told ys (run xs s))
+over-append none after is told [] ys s = sym (is.left (over none after told ys s))
+over-append none after is told (x ∷ xs) ys s =
+    ap (after (told s x)) (over-append none after is told xs ys (step s x)) ∙ sym (is.assoc (told s x) (over none after told xs (step s x)) (over none after told ys (run xs (step s x))))
+
+-- a writable stream that is there stays
+
+abbrev sink_shape : Option StreamShape → Bool
+sink_shape None = false
+sink_shape (Some (ReadableOf o)) = false
+sink_shape (Some BytesOf) = false
+sink_shape (Some (WritableOf o)) = true
+
+sink-told : (xs : List Stream) (n : ℕ) → is_writable_stream (slice_get xs n) ≡ sink_shape (slice_get (map stream_shape xs) n)
+sink-told [] n = refl
+sink-told (ReadableStream r ∷ xs) zero = refl
+sink-told (ByteStream b ∷ xs) zero = refl
+sink-told (WritableStream w ∷ xs) zero = refl
+sink-told (x ∷ xs) (suc n) = sink-told xs n
+
+more-sinks : (xs : List Stream) (y : Stream) (n : ℕ) → is_writable_stream (slice_get xs n) ≡ true → is_writable_stream (slice_get (xs ++ y ∷ []) n) ≡ true
+more-sinks [] y n e = cc
+more-sinks (x ∷ xs) y zero e = e
+more-sinks (x ∷ xs) y (suc n) e = more-sinks xs y n e
+
+sinks-stay : (i : StreamId) → Stays (λ s es. has_writable i s ≡ true)
+sinks-stay i = record {
+  row = λ s e es k.
+      sink-told (row e s).slots.streams i.0 ∙ (ap (λ (ys : List StreamShape). sink_shape (slice_get ys i.0)) (row-stream_shapes e s) ∙ (sym (sink-told s.streams i.0) ∙ k));
+  call = λ s c k. begin-makes (λ z. has_writable i z ≡ true) (record {
+    promise = λ z k. k;
+    locks = λ z ls k. k;
+    hosts = λ z hs k. k;
+    pipe = λ z source dest prevent signal promise k. k;
+    signal = λ z k. k;
+    transform = λ z kind first second change k. k;
+    tee = λ z source first second cancel k. k;
+    bytes = λ z mark auto k. more-sinks z.streams _ i.0 k;
+    byob_requests = λ z hs k. k;
+    readable = λ z owner mark size k. more-sinks z.streams _ i.0 k;
+    writable = λ z owner mark size k. more-sinks z.streams _ i.0 k;
+  }) c s k;
+  job = λ s job e k. k;
+  answered = λ s p k. k;
+  older = λ s k. k;
+}
+
+sink-stays : (i : StreamId) (x : Entry) (s : Slots) → has_writable i s ≡ true → has_writable i (step s x) ≡ true
+sink-stays i x s there = run-stays (λ s es. has_writable i s ≡ true) (sinks-stay i) (λ z k. k) (x ∷ []) s there
+
+-- where there is no writable stream of a number nothing is told of it
+
+absent-there : (entries : List Entry) (x : Entry) (i : StreamId) → let s : Slots = run entries empty in has_writable i (step s x) ≡ false → has_writable i s ≡ false
+absent-there entries x i n = by (has_writable i (run entries empty)) refl
+  where
+    by : (b : Bool) → has_writable i (run entries empty) ≡ b → has_writable i (run entries empty) ≡ false
+    by false e = e
+    by true e = false_true (has_writable i (step (run entries empty) x)) (sink-stays i x (run entries empty) e) n
+
+none-told : (entries : List Entry) (i : StreamId) → let h : Writes = run_writes i entries empty in has_writable i (run entries empty) ≡ false → (h.written ≡ []) × ((h.acted ≡ []) × (h.fulfilled ≡ 0))
+none-told entries i n = (run-orderly i (record { 0 = 0 }) entries).untold n
+
+absent-lawful : (entries : List Entry) (i : StreamId) → has_writable i (run entries empty) ≡ false → IsLawfulWritable (run_writes i entries empty) (writable_at i (run entries empty))
+absent-lawful entries i n =
+    let s : Slots = run entries empty in
+    let u = none-told entries i n in
+    let once = (writes.resting i (run_writes i entries empty) s (writes.run-kept entries i)).shape.once in
+    rw (no_writable_there (slice_get s.streams i.0) n)
+    (record {
+      front = ([], rw (u.0, u.1.0) refl);
+      alive = λ a. cc;
+      once = once;
+      whole = λ k. rw (u.0, u.1.0) refl;
+      fulfilled = λ k. rw (u.0, u.1.1) refl;
+      closed = λ e. (rw (u.0, u.1.0) refl, rw (u.0, u.1.1) refl);
+    })
+
+absent-step : (entries : List Entry) (x : Entry) (i : StreamId) → let s : Slots = run entries empty in has_writable i (step s x) ≡ false
+    → IsWritableStep (step_writes i s x) (writable_at i s) (writable_at i (step s x))
+absent-step entries x i n =
+    let s : Slots = run entries empty in
+    let before = no_writable_there (slice_get s.streams i.0) (absent-there entries x i n) in
+    let u = none-told (entries ++ x ∷ []) i (rw (run-append entries (x ∷ []) empty) n) in
+    let told : run_writes i (entries ++ x ∷ []) empty ≡ writes_then (run_writes i entries empty) (writes_then (step_writes i s x) no_writes) =
+    over-append no_writes writes_then writes.is_history (step_writes i) entries (x ∷ []) empty in
+    let written : (run_writes i entries empty).written ++ ((step_writes i s x).written ++ []) ≡ [] = rw told at u.0 in
+    let acted : (run_writes i entries empty).acted ++ ((step_writes i s x).acted ++ []) ≡ [] = rw told at u.1.0 in
+    let w : (step_writes i s x).written ≡ [] = (append_none (step_writes i s x).written [] (append_none (run_writes i entries empty).written _ written).1).0 in
+    let a : (step_writes i s x).acted ≡ [] = (append_none (step_writes i s x).acted [] (append_none (run_writes i entries empty).acted _ acted).1).0 in
+    rw before (record { alive = λ f l. cc; front = ([], rw (w, a) refl); ended = λ f. (w, a) })
+
 -- each writable stream is lawful, and each step of it, whoever has it
 
 every_writable : (entries : List Entry) (i : StreamId) → IsLawfulWritable (run_writes i entries empty) (writable_at i (run entries empty))
@@ -43,6 +146,11 @@ every_writable entries i = by (owner_at i (run entries empty)) refl
     by : (o : Owner) → owner_at i (run entries empty) ≡ o → IsLawfulWritable (run_writes i entries empty) (writable_at i (run entries empty))
     by Host e = each_writable_is_lawful entries i e
     by (HalfOf t) e = each_half_is_lawful entries i t e
+    by (BranchOf t half) e = there (has_writable i (run entries empty)) refl
+      where
+        there : (b : Bool) → has_writable i (run entries empty) ≡ b → IsLawfulWritable (run_writes i entries empty) (writable_at i (run entries empty))
+        there true f = absurd (rw e at (sink-owned i (run entries empty) (run-sunk entries) f))
+        there false f = absent-lawful entries i f
 
 every_step : (entries : List Entry) (x : Entry) (i : StreamId) → IsWritableStep (step_writes i (run entries empty) x) (writable_at i (run entries empty)) (writable_at i (step (run entries empty) x))
 every_step entries x i = by (owner_at i (step (run entries empty) x)) refl
@@ -50,6 +158,15 @@ every_step entries x i = by (owner_at i (step (run entries empty) x)) refl
     by : (o : Owner) → owner_at i (step (run entries empty) x) ≡ o → IsWritableStep (step_writes i (run entries empty) x) (writable_at i (run entries empty)) (writable_at i (step (run entries empty) x))
     by Host e = each_writable_step entries x i e
     by (HalfOf t) e = each_half_step entries x i t e
+    by (BranchOf t half) e = there (has_writable i (step (run entries empty) x)) refl
+      where
+        sunk : AreSunk (step (run entries empty) x)
+        sunk = subst AreSunk (run-append entries (x ∷ []) empty) (run-sunk (entries ++ x ∷ []))
+
+        there : (b : Bool) → has_writable i (step (run entries empty) x) ≡ b
+            → IsWritableStep (step_writes i (run entries empty) x) (writable_at i (run entries empty)) (writable_at i (step (run entries empty) x))
+        there true f = absurd (rw e at (sink-owned i (step (run entries empty) x) sunk f))
+        there false f = absent-step entries x i f
 
 -- a stream that refuses writes goes on to
 
@@ -123,18 +240,6 @@ stream_there None e = cc
 stream_there (Some (ReadableStream r)) e = cc
 stream_there (Some (ByteStream b)) e = cc
 stream_there (Some (WritableStream w)) e = refl
-
--- lists
-
-pub run-append : (xs ys : List Entry) (s : Slots) → run (xs ++ ys) s ≡ run ys (run xs s)
-run-append [] ys s = refl
-run-append (x ∷ xs) ys s = run-append xs ys (step s x)
-
-pub over-append : {H : Type 0} (none : H) (after : H → H → H) (is : IsHistory none after) (told : Slots → Entry → H) (xs ys : List Entry) (s : Slots)
-    → over none after told (xs ++ ys) s ≡ after (over none after told xs s) (over none after told ys (run xs s))
-over-append none after is told [] ys s = sym (is.left (over none after told ys s))
-over-append none after is told (x ∷ xs) ys s =
-    ap (after (told s x)) (over-append none after is told xs ys (step s x)) ∙ sym (is.assoc (told s x) (over none after told xs (step s x)) (over none after told ys (run xs (step s x))))
 
 -- what a stream is written
 

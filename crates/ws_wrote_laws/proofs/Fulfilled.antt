@@ -1,5 +1,7 @@
 -- A pipe that ended without an error began its action, or ended, at some moment of the run, and then it had passed on all that it read.
 use Rattle.std.proofs.Common.{◌≡◌, ◌⊎◌, inl, inr, ⊎_elim, ℕ, Bool, true, false, nat_eq, List, [], ◌∷◌, ◌++◌, Option, Some, None, Result, Ok, Err, slice_get, refl, sym, ap, subst, ◌∙◌, append_assoc, arith}
+use Rattle.ws_laws.proofs.Halves.{halved-empty}
+use Rattle.ws_laws.proofs.Halves.{run-halved}
 use Rattle.ws_value.specs.declared.{ids.PipeId.{PipeId}, ids.StreamId.{StreamId}, value.Plain.{Plain}}
 use Rattle.ws_steps.specs.declared.calls.Call.{Call}
 use Rattle.ws_steps.specs.declared.effects.{Effect.{Effect}, Effect.TheVariants.{Pipe as OnPipe}}
@@ -133,6 +135,7 @@ module _ (p : PipeId) where
         (λ (f : (slice_get z.pipes p.0 ≡ None) × (slice_get (z.pipes ++ y ∷ []) p.0 ≡ Some y)). subst (Known h) (sym f.1) (inl refl)) (appended z.pipes y p.0);
     signal = λ z k. k;
     transform = λ z kind i j change k. k;
+    tee = λ z source first second cancel k. k;
     bytes = λ z mark auto k. k;
     byob_requests = λ z hs k. k;
     readable = λ z owner mark size k. k;
@@ -250,7 +253,7 @@ module _ (p : PipeId) where
     source_is : (i : StreamId) → slice_get s.pipes p.0 ≡ None → ((c : Call) → x ≡ Called c → ⊥) → step_moments s x ≡ first ++ m ∷ rest → (left m a).0.source ≡ i
     source_is i e n split =
         let r = source_at i s in
-        let k = other-sure p i r (Unit {0}) (λ c. tt) s x n (waits-run before) refl (subst (Sure p i (Unit {0})) (sym e) tt) in
+        let k = other-sure p i r (Unit {0}) (λ c. tt) s x n (waits-run before) (run-halved before empty halved-empty) refl (subst (Sure p i (Unit {0})) (sym e) tt) in
         let at = all_moments-at (SureAfter p i r (Unit {0}) (λ c. tt)) first rest m (subst (AllMoments (SureAfter p i r (Unit {0}) (λ c. tt))) split k.0) in
         let l = left m a in
         let z : pipe.Slots = l.0 in

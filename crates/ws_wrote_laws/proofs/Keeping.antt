@@ -95,6 +95,7 @@ module _ (p : PipeId) (P : pipe.Slots → Type 0) (keeps : (ends : Ends) (operat
     pipe = λ z source dest prevent signal promise k. made z.pipes (pipe.set_up source dest prevent signal promise) k;
     signal = λ z k. k;
     transform = λ z kind i j change k. k;
+    tee = λ z source first second cancel k. k;
     bytes = λ z mark auto k. k;
     byob_requests = λ z hs k. k;
     readable = λ z owner mark size k. k;
@@ -215,6 +216,7 @@ module _ (i : StreamId) (W : writable.Slots → Type 0) (keeps : (operation : Wr
     pipe = λ z source dest prevent signal promise k. k;
     signal = λ z k. k;
     transform = λ z kind i j change k. k;
+    tee = λ z source first second cancel k. k;
     bytes = λ z mark auto k. added z.streams _ k;
     byob_requests = λ z hs k. k;
     readable = λ z owner mark size k. added z.streams _ k;
@@ -312,6 +314,7 @@ module _ (i : StreamId) (R : readable.Slots → Type 0) (keeps : (operation : Re
     pipe = λ z source dest prevent signal promise k. k;
     signal = λ z k. k;
     transform = λ z kind i j change k. k;
+    tee = λ z source first second cancel k. k;
     bytes = λ z mark auto k. more z.streams _ k;
     byob_requests = λ z hs k. k;
     readable = λ z owner mark size k. more z.streams _ k;
