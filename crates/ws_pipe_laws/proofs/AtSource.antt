@@ -5,7 +5,7 @@ use Rattle.ws_value.specs.declared.value.{Plain.{Plain}, Value.{Value}}
 use Rattle.ws_steps.specs.declared.effects.Effect.{Effect}
 use Rattle.ws_steps.specs.declared.effects.Effect.TheVariants.{Readable as OnReadable, Writable as OnWritable, Pipe as OnPipe, ChunkSteps, CloseSteps, ErrorSteps}
 use Rattle.ws_steps.specs.declared.pipes.{PipeOperation.TheVariants.{KeepChunk, GoOn}}
-use Rattle.ws_steps.specs.declared.readable.{ReadRequest.{ReadRequest}, ReadRequest.TheVariants.{Promise, Pipe as PipeRequest}, ReadableOperation.{ReadableOperation}, ReadableOperation.TheVariants.{Read}}
+use Rattle.ws_steps.specs.declared.readable.{ReadRequest.{ReadRequest}, ReadRequest.TheVariants.{Promise, Pipe as PipeRequest, Tee as TeeRequest}, ReadableOperation.{ReadableOperation}, ReadableOperation.TheVariants.{Read}}
 use Rattle.ws_steps.specs.declared.writable.WritableOperation.{WritableOperation}
 use Rattle.ws_steps.specs.Histories.{is_same}
 use Rattle.ws_steps.specs.Operations.{readable_operation, writable_operation}
@@ -248,18 +248,22 @@ module _ (p : PipeId) where
   pub chunk-off : (j : StreamId) (v : Value) (s : Slots) (request : ReadRequest) (n : ℕ) → Off j s n (chunk_steps v s request)
   chunk-off j v s (Promise q) n = omega arith
   chunk-off j v s (PipeRequest q) n = omega arith
+  chunk-off j v s (TeeRequest t) n = omega arith
 
   pub close-off : (j : StreamId) (s : Slots) (request : ReadRequest) (n : ℕ) → Off j s n (close_steps s request)
   close-off j s (Promise q) n = omega arith
   close-off j s (PipeRequest q) n = omega arith
+  close-off j s (TeeRequest t) n = omega arith
 
   pub close_with-off : (j : StreamId) (b : List ℕ) (s : Slots) (request : ReadRequest) (n : ℕ) → Off j s n (close_steps_with b s request)
   close_with-off j b s (Promise q) n = omega arith
   close_with-off j b s (PipeRequest q) n = omega arith
+  close_with-off j b s (TeeRequest t) n = omega arith
 
   pub error-off : (j : StreamId) (e : Plain) (s : Slots) (request : ReadRequest) (n : ℕ) → Off j s n (error_steps e s request)
   error-off j e s (Promise q) n = omega arith
   error-off j e s (PipeRequest q) n = omega arith
+  error-off j e s (TeeRequest t) n = omega arith
 
   pub row-off : (j : StreamId) (s : Slots) (e : Effect) → IsNoPipe e → Off j s (off j e) (row e s)
   unfolding row

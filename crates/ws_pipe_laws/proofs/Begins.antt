@@ -5,8 +5,8 @@ use Rattle.ws_steps.specs.declared.calls.Call.{Call}
 use Rattle.ws_steps.specs.declared.effects.Effect.{Effect}
 use Rattle.ws_steps.specs.declared.effects.Effect.TheVariants.{Readable as OnReadable, Pipe as OnPipe}
 use Rattle.ws_steps.specs.declared.pipes.PipeOperation.TheVariants.{ActionSettled, PartSettled}
-use Rattle.ws_steps.specs.declared.promises.{Job.{Job}, Job.TheVariants.{Reaction as ReactionJob, Follow, Settle, Micro as MicroJob}, Micro.TheVariants.{PipeLook, PipeWrite, PipeNoParts}, Step.{Step}, Step.TheVariants.{PipeActed, PipePart}}
-use Rattle.ws_steps.specs.declared.readable.{ReadRequest.TheVariants.{Promise, Pipe as PipeRequest}, ReadableOperation.TheVariants.{Read}}
+use Rattle.ws_steps.specs.declared.promises.{Job.{Job}, Job.TheVariants.{Reaction as ReactionJob, Follow, Settle, Micro as MicroJob}, Micro.TheVariants.{PipeLook, PipeWrite, PipeNoParts, TeeHand}, Step.{Step}, Step.TheVariants.{PipeActed, PipePart}}
+use Rattle.ws_steps.specs.declared.readable.{ReadRequest.TheVariants.{Promise, Pipe as PipeRequest, Tee as TeeRequest}, ReadableOperation.TheVariants.{Read}}
 use Rattle.ws_steps.specs.Calls.{Begun, begin}
 use Rattle.ws_steps.specs.Jobs.{job_effects, job_begun, begin_job, resolved}
 use Rattle.ws_pipe_laws.specs.PipeReads.{reads_started, NoneBeginsWithARead}
@@ -26,6 +26,7 @@ none_started : (p : PipeId) (es : List Effect) → Each IsNoRead es → reads_st
 none_started p [] n = refl
 none_started p (OnReadable i (Read (PipeRequest q)) ∷ es) n = absurd (n.0)
 none_started p (OnReadable i (Read (Promise q)) ∷ es) n = zero-add (reads_started p es) ∙ none_started p es n.1
+none_started p (OnReadable i (Read (TeeRequest t)) ∷ es) n = zero-add (reads_started p es) ∙ none_started p es n.1
 none_started p (e ∷ es) n = none_started p es n.1
 
 call-none : (c : Call) (s : Slots) → Each IsNoRead (begin c s).done.caused
@@ -41,6 +42,7 @@ job-none (Settle q o) = (tt, tt)
 job-none (MicroJob (PipeLook q)) = (tt, tt)
 job-none (MicroJob (PipeWrite q)) = (tt, tt)
 job-none (MicroJob (PipeNoParts q)) = (tt, tt)
+job-none (MicroJob (TeeHand t)) = (tt, tt)
 
 begun-none : (s : Slots) (job : Option Job) → Each IsNoRead (job_begun s job).caused
 begun-none s None = tt

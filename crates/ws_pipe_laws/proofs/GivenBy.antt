@@ -6,7 +6,7 @@ use Rattle.ws_steps.specs.declared.calls.Call.{Call}
 use Rattle.ws_steps.specs.declared.effects.Effect.{Effect}
 use Rattle.ws_steps.specs.declared.effects.Effect.TheVariants.{Readable as OnReadable, Pipe as OnPipe, ChunkSteps, CloseSteps, ErrorSteps}
 use Rattle.ws_steps.specs.declared.pipes.{Phase.{Phase}, Phase.TheVariants.{Flowing, Waiting, Acting, Over}, PipeOperation.{PipeOperation}, PipeOperation.TheVariants.{KeepChunk, WriteChunk}, Prevent.{Prevent}}
-use Rattle.ws_steps.specs.declared.readable.{ReadRequest.{ReadRequest}, ReadRequest.TheVariants.{Promise, Pipe as PipeRequest}, ReadableOperation.{ReadableOperation}}
+use Rattle.ws_steps.specs.declared.readable.{ReadRequest.{ReadRequest}, ReadRequest.TheVariants.{Promise, Pipe as PipeRequest, Tee as TeeRequest}, ReadableOperation.{ReadableOperation}}
 use Rattle.ws_steps.specs.Calls.{begin}
 use Rattle.ws_steps.specs.Histories.{is_same, along, in_step, over}
 use Rattle.ws_steps.specs.Jobs.{job_effects}
@@ -91,14 +91,17 @@ module _ (p : PipeId) (i : StreamId) where
   close_kept : (s : Slots) (request : ReadRequest) → kept p (close_steps s request).caused ≡ []
   close_kept s (Promise q) = refl
   close_kept s (PipeRequest q) = refl
+  close_kept s (TeeRequest t) = refl
 
   close_with_kept : (b : List ℕ) (s : Slots) (request : ReadRequest) → kept p (close_steps_with b s request).caused ≡ []
   close_with_kept b s (Promise q) = refl
   close_with_kept b s (PipeRequest q) = refl
+  close_with_kept b s (TeeRequest t) = refl
 
   error_kept : (e : Plain) (s : Slots) (request : ReadRequest) → kept p (error_steps e s request).caused ≡ []
   error_kept e s (Promise q) = refl
   error_kept e s (PipeRequest q) = refl
+  error_kept e s (TeeRequest t) = refl
 
   -- a chunk is given to the pipe
 
@@ -245,6 +248,7 @@ module _ (p : PipeId) (i : StreamId) where
   row-rest h s (ChunkSteps j (Promise q) v) es k = apart_row h s (ChunkSteps j (Promise q) v) es tt (none_or (is_same i j)) refl refl refl k
   row-rest h s (ChunkSteps j (PipeRequest q) v) es k =
       (other-only p (place s) s (ChunkSteps j (PipeRequest q) v) es (λ l. row-off p l s (ChunkSteps j (PipeRequest q) v) tt) k.1.0, chunk-given h s j q v es (nat_eq p.0 q.0) refl k)
+  row-rest h s (ChunkSteps j (TeeRequest t) v) es k = apart_row h s (ChunkSteps j (TeeRequest t) v) es tt (none_or (is_same i j)) refl refl refl k
   row-rest h s (CloseSteps j request) es k = apart_row h s (CloseSteps j request) es tt refl refl refl (close_kept s request) k
   row-rest h s (CloseStepsWith j request b) es k = apart_row h s (CloseStepsWith j request b) es tt refl refl refl (close_with_kept b s request) k
   row-rest h s (ErrorSteps j request e) es k = apart_row h s (ErrorSteps j request e) es tt refl refl refl (error_kept e s request) k
@@ -291,6 +295,7 @@ module _ (p : PipeId) (i : StreamId) where
         pipe = λ z source dest prevent signal promise k. (pipe-made p h.through z source dest prevent signal promise k.0, made_rest h z source dest prevent signal promise k);
         signal = λ z k. k;
         transform = λ z kind i j change k. k;
+        tee = λ z source first second cancel k. k;
         bytes = λ z mark auto k. (stream-made p h.through z _ refl k.0, stream_rest h z _ refl k.1);
         byob_requests = λ z hs k. k;
         readable = λ z owner mark size k. (stream-made p h.through z _ refl k.0, stream_rest h z _ refl k.1);

@@ -3,7 +3,7 @@ use Rattle.ws_value.specs.declared.ids.RequestId.{RequestId}
 use Rattle.ws_steps.specs.Descriptors.{Descriptor}
 use Rattle.std.proofs.Common.{◌≡◌, List, [], ◌∷◌, Option, Some, None, refl, arith}
 use Rattle.ws_value.specs.declared.{ids.SignalId.{SignalId}, ids.StreamId.{StreamId}}
-use Rattle.ws_steps.specs.declared.calls.Call.TheVariants.{MakeReadable, MakeBytes, GetByob, ReadInto, Request, Respond, MakeWritable, MakeTransform, GetReader, GetWriter, Cancel, CancelBy, Read, Write, Close, CloseBy, Abort, AbortBy, Closed, Ready, Release, Enqueue, Finish, Fail, Terminate, Desired, DesiredBy, Pipe, MakeSignal, Trigger, Settle, State, Step}
+use Rattle.ws_steps.specs.declared.calls.Call.TheVariants.{MakeReadable, MakeBytes, GetByob, ReadInto, Request, Respond, MakeWritable, MakeTransform, GetReader, GetWriter, Tee, Cancel, CancelBy, Read, Write, Close, CloseBy, Abort, AbortBy, Closed, Ready, Release, Enqueue, Finish, Fail, Terminate, Desired, DesiredBy, Pipe, MakeSignal, Trigger, Settle, State, Step}
 use Rattle.ws_steps.specs.declared.pipes.Prevent.{Prevent}
 use Rattle.ws_steps.specs.Calls as calls
 use Rattle.ws_steps.specs.Calls.{Begun, begin}
@@ -70,6 +70,7 @@ each_pipe_begins_flowing (Respond q b) s = MakesNone (grind arith)
 each_pipe_begins_flowing (MakeWritable mark size start) s = MakesNone (grind arith)
 each_pipe_begins_flowing (MakeTransform kind writable_mark readable_mark start) s = MakesNone (grind arith)
 each_pipe_begins_flowing (GetReader i) s = MakesNone (grind arith)
+each_pipe_begins_flowing (Tee i) s = MakesNone (grind arith)
 each_pipe_begins_flowing (GetWriter i) s = MakesNone (grind arith)
 each_pipe_begins_flowing (Cancel i reason) s = MakesNone (grind arith)
 each_pipe_begins_flowing (CancelBy l reason) s = MakesNone (grind arith)

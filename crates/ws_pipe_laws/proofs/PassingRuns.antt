@@ -4,10 +4,10 @@ use Rattle.ws_value.specs.declared.{ids.PipeId.{PipeId}, ids.PromiseId.{PromiseI
 use Rattle.ws_value.specs.declared.value.{Plain.{Plain}, Value.{Value}}
 use Rattle.ws_steps.specs.declared.calls.{Call.{Call}, StartBy.{StartBy}, StartBy.TheVariants.{Now, Later}}
 use Rattle.ws_steps.specs.declared.effects.Effect.{Effect}
-use Rattle.ws_steps.specs.declared.effects.Effect.TheVariants.{Readable as OnReadable, Writable as OnWritable, Pipe as OnPipe, Signal as OnSignal, StartAlgorithm, PullAlgorithm, CancelAlgorithm, WriteAlgorithm, CloseAlgorithm, AbortAlgorithm, ChunkSteps, CloseSteps, ErrorSteps, Transform as OnTransform}
+use Rattle.ws_steps.specs.declared.effects.Effect.TheVariants.{Readable as OnReadable, Writable as OnWritable, Pipe as OnPipe, Signal as OnSignal, StartAlgorithm, PullAlgorithm, CancelAlgorithm, WriteAlgorithm, CloseAlgorithm, AbortAlgorithm, ChunkSteps, CloseSteps, ErrorSteps, Transform as OnTransform, Tee as OnTee}
 use Rattle.ws_steps.specs.declared.pipes.{PipeOperation.{PipeOperation}, Prevent.{Prevent}, SignalOperation.{SignalOperation}, SignalOperation.TheVariants.{Add, Forget, Trigger}}
 use Rattle.ws_steps.specs.declared.promises.{Job.{Job}}
-use Rattle.ws_steps.specs.declared.readable.{ReadRequest.{ReadRequest}, ReadRequest.TheVariants.{Promise, Pipe as PipeRequest}, ReadableOperation.{ReadableOperation}}
+use Rattle.ws_steps.specs.declared.readable.{ReadRequest.{ReadRequest}, ReadRequest.TheVariants.{Promise, Pipe as PipeRequest, Tee as TeeRequest}, ReadableOperation.{ReadableOperation}}
 use Rattle.ws_steps.specs.declared.writable.{WritableOperation.{WritableOperation}, WritableOperation.TheVariants.{ReleaseWriter}}
 use Rattle.ws_steps.specs.Calls as calls
 use Rattle.ws_steps.specs.Calls.{Begun, begin}
@@ -32,7 +32,7 @@ use Rattle.ws_laws.proofs.Tables.{either, readable_acts, writable_acts, readable
 use Rattle.ws_laws.proofs.Walker.{IsHistory, GoesUntold, RestsUntold, run-holds}
 use Rattle.ws_writable_laws.proofs.Shape.{all, all-append}
 use Rattle.ws_pipe_laws.specs.PipeHistory.{Through, nothing_through, through_then, operation_through, effect_through, run_through}
-use Rattle.ws_pipe_laws.proofs.Reading.{is_answer, of_readable, of_effect, Within, operation-within, IsNone, none-all, no_answer, other-none, transform-none, readable-hands, of_byte, ByteHands, byte_readable_given, byte_given}
+use Rattle.ws_pipe_laws.proofs.Reading.{is_answer, of_readable, of_effect, Within, operation-within, IsNone, none-all, no_answer, other-none, transform-none, tee-none, readable-hands, of_byte, ByteHands, byte_readable_given, byte_given}
 use Rattle.ws_pipe_laws.proofs.Passing.{operation-passing}
 use Rattle.ws_steps.specs.Slots.{source_at}
 use Rattle.ws_steps.specs.declared.effects.Effect.TheVariants.{CloseStepsWith}
@@ -151,9 +151,10 @@ module _ (p : PipeId) where
   idle-causes (OnPipe q operation) n = absurd n
   idle-causes (OnSignal a operation) n = signal-none operation
   idle-causes (OnTransform t operation) n = transform-none p t
+  idle-causes (OnTee t operation) n = tee-none p t
   idle-causes (StartAlgorithm j step start) n = (λ g u. refl, λ c u. refl)
-  idle-causes (PullAlgorithm j) n = (λ c u. refl, λ t u. refl)
-  idle-causes (CancelAlgorithm j r q) n = (λ c u. refl, λ t u. refl)
+  idle-causes (PullAlgorithm j) n = (λ c u. refl, (λ t u. refl, (λ t. refl, λ u. refl)))
+  idle-causes (CancelAlgorithm j r q) n = (λ c u. refl, (λ t u. refl, λ t half u. refl))
   idle-causes (WriteAlgorithm j) n = (refl, λ t u. refl)
   idle-causes (CloseAlgorithm j) n = (λ c u. refl, λ t u. refl)
   idle-causes (AbortAlgorithm j r q) n = (λ c u. refl, λ t u. refl)
@@ -178,18 +179,22 @@ module _ (p : PipeId) where
   chunk-carries : (v : Value) (s : Slots) (request : ReadRequest) → Carries s (is_of p request) (chunk_steps v s request)
   chunk-carries v s (Promise q) = omega arith
   chunk-carries v s (PipeRequest q) = omega arith
+  chunk-carries v s (TeeRequest t) = omega arith
 
   close-carries : (s : Slots) (request : ReadRequest) → Carries s (is_of p request) (close_steps s request)
   close-carries s (Promise q) = omega arith
   close-carries s (PipeRequest q) = omega arith
+  close-carries s (TeeRequest t) = omega arith
 
   close_with-carries : (b : List ℕ) (s : Slots) (request : ReadRequest) → Carries s (is_of p request) (close_steps_with b s request)
   close_with-carries b s (Promise q) = omega arith
   close_with-carries b s (PipeRequest q) = omega arith
+  close_with-carries b s (TeeRequest t) = omega arith
 
   error-carries : (e : Plain) (s : Slots) (request : ReadRequest) → Carries s (is_of p request) (error_steps e s request)
   error-carries e s (Promise q) = omega arith
   error-carries e s (PipeRequest q) = omega arith
+  error-carries e s (TeeRequest t) = omega arith
 
   -- operations of pipes
 
@@ -309,6 +314,7 @@ module _ (p : PipeId) where
     write = λ l v i e. refl;
     close = λ i. refl;
     abort = λ reason i e. refl;
+    make_tee = λ i e is free untied. refl;
     make_transform = λ kind m n start. let k = start-none (next_id (fresh s.promises)) (record { 0 = length s.streams + 1 }) start in omega (arith, k);
     enqueue = λ i v e o can. refl;
     enqueue_half = λ i t v e o can. refl;
@@ -357,6 +363,7 @@ module _ (p : PipeId) where
         pipe = λ z source dest prevent signal promise k. pipe-made h z source dest prevent signal promise k;
         signal = λ z k. k;
         transform = λ z kind i j change k. k;
+        tee = λ z source first second cancel k. k;
         bytes = λ z mark auto k. stream-made h z _ refl k;
         byob_requests = λ z hs k. k;
         readable = λ z owner mark size k. stream-made h z _ refl k;

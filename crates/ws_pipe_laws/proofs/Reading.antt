@@ -32,6 +32,8 @@ use Rattle.ws_steps.specs.declared.effects.Effect.TheVariants.{Byte}
 use Rattle.ws_steps.specs.declared.byte.ByteOperation.{ByteOperation}
 use Rattle.ws_steps.specs.Operations.{byte_operation, byte_readable_operation}
 use Rattle.ws_steps.specs.Bytes as byte
+use Rattle.ws_laws.proofs.TeeDoes.{TeeCauses}
+use Rattle.ws_value.specs.declared.ids.TeeId.{TeeId}
 
 -- an answer to a read of the pipe
 abbrev pub is_answer : PipeOperation → ℕ
@@ -234,6 +236,17 @@ transform-none p t writable readable (CloseStepsWith i request b) c = absurd c
 transform-none p t writable readable (ErrorSteps i request e) c = absurd c
 transform-none p t writable readable (Byte i operation) c = absurd c
 transform-none p t writable readable _ c = refl
+
+pub tee-none : (p : PipeId) (t : TeeId) (source first second : StreamId) (e : Effect) → TeeCauses t source first second e → IsNone p e
+tee-none p t source first second (OnReadable i (names.Read request)) c = ap (is_of p) c.1
+tee-none p t source first second (OnReadable i operation) c = grind arith
+tee-none p t source first second (OnPipe q operation) c = absurd c
+tee-none p t source first second (ChunkSteps i request v) c = absurd c
+tee-none p t source first second (CloseSteps i request) c = absurd c
+tee-none p t source first second (CloseStepsWith i request b) c = absurd c
+tee-none p t source first second (ErrorSteps i request e) c = absurd c
+tee-none p t source first second (Byte i operation) c = absurd c
+tee-none p t source first second _ c = refl
 
 -- operations of readable streams hand each request on
 

@@ -2,14 +2,14 @@
 use Rattle.std.proofs.Common.{◌≡◌, ◌≢◌, ◌⊎◌, inl, inr, ⊎_elim, ℕ, ◌+◌, ◌-◌, zero, suc, length, Bool, true, false, nat_eq, List, [], ◌∷◌, ◌++◌, Option, Some, None, Result, Ok, Err, slice_get, slice_set, refl, sym, ap, subst, ◌∙◌, add_assoc, zero-add, add-zero, arith}
 use Rattle.ws_value.specs.declared.{ids.PipeId.{PipeId}, ids.PromiseId.{PromiseId}, ids.SignalId.{SignalId}, ids.StreamId.{StreamId}, value.Plain.{Plain}, value.Value.{Value}}
 use Rattle.ws_steps.specs.declared.calls.{Call.{Call}, Reply.{Reply}, Reply.TheVariants.{Promise as Named}, StartBy.{StartBy}, StartBy.TheVariants.{Now, Later}}
-use Rattle.ws_steps.specs.declared.effects.{Effect.{Effect}, Effect.TheVariants.{Readable as OnReadable, Writable as OnWritable, Pipe, Signal, Transform as OnTransform, StartAlgorithm, PullAlgorithm, CancelAlgorithm, WriteAlgorithm, CloseAlgorithm, AbortAlgorithm, ChunkSteps, CloseSteps, ErrorSteps}}
+use Rattle.ws_steps.specs.declared.effects.{Effect.{Effect}, Effect.TheVariants.{Readable as OnReadable, Writable as OnWritable, Pipe, Signal, Transform as OnTransform, Tee as OnTee, StartAlgorithm, PullAlgorithm, CancelAlgorithm, WriteAlgorithm, CloseAlgorithm, AbortAlgorithm, ChunkSteps, CloseSteps, ErrorSteps}}
 use Rattle.ws_steps.specs.declared.pipes.{Ends.{Ends}, Phase.{Phase}, Phase.TheVariants.{Flowing, Waiting, Acting, Over}, PipeOperation.{PipeOperation}, SignalOperation.{SignalOperation}, SignalOperation.TheVariants.{Add, Forget, Trigger}}
 use Rattle.ws_steps.specs.declared.pipes.PipeOperation.TheVariants.{Look, LookReady, KeepChunk, ReadEnded, WriteChunk, GoOn, WriteEnded, Abort as AbortPipe, ActionSettled, PartSettled, NoParts}
-use Rattle.ws_steps.specs.declared.promises.{Job.{Job}, Job.TheVariants.{Reaction as ReactionJob, Follow, Settle as SettleJob, Micro as MicroJob}, Micro.TheVariants.{PipeLook, PipeWrite, PipeNoParts}}
-use Rattle.ws_steps.specs.declared.promises.{Step.{Step}, Step.TheVariants.{ReadableStart, ReadablePull, ReturnUndefined, WritableStart, WritableWrite, WritableClose, WritableAbort, PipeEnds, PipeReady, PipeWrote, PipeActed, PipePart, TransformChanged, Transformed, TransformFlushed, TransformAborted, TransformCancelled}}
+use Rattle.ws_steps.specs.declared.promises.{Job.{Job}, Job.TheVariants.{Reaction as ReactionJob, Follow, Settle as SettleJob, Micro as MicroJob}, Micro.TheVariants.{PipeLook, PipeWrite, PipeNoParts, TeeHand}}
+use Rattle.ws_steps.specs.declared.promises.{Step.{Step}, Step.TheVariants.{ReadableStart, ReadablePull, ReturnUndefined, WritableStart, WritableWrite, WritableClose, WritableAbort, PipeEnds, PipeReady, PipeWrote, PipeActed, PipePart, TransformChanged, Transformed, TransformFlushed, TransformAborted, TransformCancelled, TeeEnds}}
 use Rattle.ws_steps.specs.declared.readable.ReadableOperation.TheVariants.{ReleaseReader, StartSettled, PullSettled}
 use Rattle.ws_steps.specs.declared.writable.WritableOperation.TheVariants.{ReleaseWriter, StartSettled as WritableStartSettled, WriteSettled, CloseSettled, AbortSettled}
-use Rattle.ws_steps.specs.declared.readable.{ReadRequest.{ReadRequest}, ReadRequest.TheVariants.{Promise, Pipe as PipeRequest}}
+use Rattle.ws_steps.specs.declared.readable.{ReadRequest.{ReadRequest}, ReadRequest.TheVariants.{Promise, Pipe as PipeRequest, Tee as TeeRequest}}
 use Rattle.ws_steps.specs.declared.transform.{TransformId.{TransformId}}
 use Rattle.ws_steps.specs.Calls as calls
 use Rattle.ws_steps.specs.Calls.{Begun, begin, named}
@@ -30,7 +30,7 @@ use Rattle.ws_steps.proofs.PromiseLaws.{slice_get-set_other}
 use Rattle.ws_laws.proofs.EachCall.{each_call}
 use Rattle.ws_laws.proofs.Lists.{Each, each-append, each-map}
 use Rattle.ws_laws.proofs.PipeDoes.{PipeCauses, pipe-causes}
-use Rattle.ws_laws.proofs.Rows.{Causes, ChunkCauses, EndCauses, SignalCauses, IsNoPipe, row-causes, row-pipes}
+use Rattle.ws_laws.proofs.Rows.{Causes, ChunkCauses, EndCauses, ErrorCauses, SignalCauses, IsNoPipe, row-causes, row-pipes}
 use Rattle.ws_laws.proofs.Tables.{either, eq_numbers, unequal_numbers}
 use Rattle.ws_laws.proofs.TransformDoes.{TransformCauses}
 use Rattle.ws_laws.proofs.Walker.{IsHistory, performed-goes, nothing-told}
@@ -38,6 +38,8 @@ use Rattle.ws_pipe_laws.proofs.Starts.{each_read_may_start, no_other_starts_a_re
 use Rattle.ws_pipe_laws.proofs.Unpiped.{IsUnpiped, operation-unpiped}
 use Rattle.ws_steps.specs.Slots.{source_at}
 use Rattle.ws_steps.specs.declared.effects.Effect.TheVariants.{Byte, CloseStepsWith}
+use Rattle.ws_laws.proofs.TeeDoes.{TeeCauses}
+use Rattle.ws_value.specs.declared.ids.TeeId.{TeeId}
 
 -- an operation that looks, or goes on to one that does; and one that may end the flowing
 abbrev looks : PipeOperation → Bool
@@ -88,10 +90,17 @@ module _ (p : PipeId) where
   chunk-end : (v : Value) (request : ReadRequest) → ChunkCauses IsNoEnd v request
   chunk-end v (Promise q) = tt
   chunk-end v (PipeRequest q) = λ e. refl
+  chunk-end v (TeeRequest t) = tt
 
   end-end : (request : ReadRequest) → EndCauses IsNoEnd request
   end-end (Promise q) = tt
   end-end (PipeRequest q) = λ e. refl
+  end-end (TeeRequest t) = tt
+
+  error-end : (request : ReadRequest) → ErrorCauses IsNoEnd request
+  error-end (Promise q) = tt
+  error-end (PipeRequest q) = λ e. refl
+  error-end (TeeRequest t) = tt
 
   pipe-end : (q : PipeId) (source dest : StreamId) (e : Effect) → PipeCauses q source dest e → IsNoEnd e
   pipe-end q source dest (Pipe r GoOn) c = λ e. refl
@@ -104,6 +113,11 @@ module _ (p : PipeId) where
   transform-end t writable readable (Signal a (Trigger r)) c = absurd c
   transform-end t writable readable _ c = tt
 
+  tee-end : (t : TeeId) (source first second : StreamId) (e : Effect) → TeeCauses t source first second e → IsNoEnd e
+  tee-end t source first second (Pipe q operation) c = absurd c
+  tee-end t source first second (Signal a (Trigger r)) c = absurd c
+  tee-end t source first second _ c = tt
+
   causes-end : (e : Effect) → IsNoEnd e → Causes IsNoEnd e
   causes-end (OnReadable j operation) n = record { pull = tt; cancel = λ r q. tt; chunk = λ r v. tt; close = λ r. tt; error = λ r e. tt }
   causes-end (Byte j operation) n = record { readable = record { pull = tt; cancel = λ r q. tt; chunk = λ r v. tt; close = λ r. tt; error = λ r e. tt }; close_with = λ r b. tt }
@@ -113,16 +127,17 @@ module _ (p : PipeId) where
   causes-end (Signal a (Add q)) n = tt
   causes-end (Signal a (Forget q)) n = tt
   causes-end (OnTransform t operation) n = transform-end t
+  causes-end (OnTee t operation) n = tee-end t
   causes-end (StartAlgorithm j step start) n = (λ g u. tt, λ c u. tt)
-  causes-end (PullAlgorithm j) n = (λ c u. tt, λ t u. tt)
-  causes-end (CancelAlgorithm j r q) n = (λ c u. tt, λ t u. tt)
+  causes-end (PullAlgorithm j) n = (λ c u. tt, (λ t u. tt, (λ t. tt, λ u. tt)))
+  causes-end (CancelAlgorithm j r q) n = (λ c u. tt, (λ t u. tt, λ t half u. tt))
   causes-end (WriteAlgorithm j) n = (tt, λ t u. tt)
   causes-end (CloseAlgorithm j) n = (λ c u. tt, λ t u. tt)
   causes-end (AbortAlgorithm j r q) n = (λ c u. tt, λ t u. tt)
   causes-end (ChunkSteps j request v) n = chunk-end v request
   causes-end (CloseSteps j request) n = end-end request
   causes-end (CloseStepsWith j request b) n = end-end request
-  causes-end (ErrorSteps j request e) n = end-end request
+  causes-end (ErrorSteps j request e) n = error-end request
   causes-end _ n = tt
 
   row-end : (e : Effect) (s : Slots) → IsNoEnd e → Each IsNoEnd (row e s).caused
@@ -131,10 +146,17 @@ module _ (p : PipeId) where
   chunk-look : (v : Value) (request : ReadRequest) → ChunkCauses IsNoLook v request
   chunk-look v (Promise q) = tt
   chunk-look v (PipeRequest q) = λ e. refl
+  chunk-look v (TeeRequest t) = tt
 
   end-look : (request : ReadRequest) → EndCauses IsNoLook request
   end-look (Promise q) = tt
   end-look (PipeRequest q) = λ e. refl
+  end-look (TeeRequest t) = tt
+
+  error-look : (request : ReadRequest) → ErrorCauses IsNoLook request
+  error-look (Promise q) = tt
+  error-look (PipeRequest q) = λ e. refl
+  error-look (TeeRequest t) = tt
 
   signal-look : (operation : SignalOperation) → SignalCauses IsNoLook operation
   signal-look (Trigger r) = λ q e. refl
@@ -150,6 +172,10 @@ module _ (p : PipeId) where
   transform-look t writable readable (Pipe q operation) c = absurd c
   transform-look t writable readable _ c = tt
 
+  tee-look : (t : TeeId) (source first second : StreamId) (e : Effect) → TeeCauses t source first second e → IsNoLook e
+  tee-look t source first second (Pipe q operation) c = absurd c
+  tee-look t source first second _ c = tt
+
   causes-look : (e : Effect) → IsNoPipe e → Causes IsNoLook e
   causes-look (OnReadable j operation) n = record { pull = tt; cancel = λ r q. tt; chunk = λ r v. tt; close = λ r. tt; error = λ r e. tt }
   causes-look (Byte j operation) n = record { readable = record { pull = tt; cancel = λ r q. tt; chunk = λ r v. tt; close = λ r. tt; error = λ r e. tt }; close_with = λ r b. tt }
@@ -157,16 +183,17 @@ module _ (p : PipeId) where
   causes-look (Pipe q operation) n = absurd n
   causes-look (Signal a operation) n = signal-look operation
   causes-look (OnTransform t operation) n = transform-look t
+  causes-look (OnTee t operation) n = tee-look t
   causes-look (StartAlgorithm j step start) n = (λ g u. tt, λ c u. tt)
-  causes-look (PullAlgorithm j) n = (λ c u. tt, λ t u. tt)
-  causes-look (CancelAlgorithm j r q) n = (λ c u. tt, λ t u. tt)
+  causes-look (PullAlgorithm j) n = (λ c u. tt, (λ t u. tt, (λ t. tt, λ u. tt)))
+  causes-look (CancelAlgorithm j r q) n = (λ c u. tt, (λ t u. tt, λ t half u. tt))
   causes-look (WriteAlgorithm j) n = (tt, λ t u. tt)
   causes-look (CloseAlgorithm j) n = (λ c u. tt, λ t u. tt)
   causes-look (AbortAlgorithm j r q) n = (λ c u. tt, λ t u. tt)
   causes-look (ChunkSteps j request v) n = chunk-look v request
   causes-look (CloseSteps j request) n = end-look request
   causes-look (CloseStepsWith j request b) n = end-look request
-  causes-look (ErrorSteps j request e) n = end-look request
+  causes-look (ErrorSteps j request e) n = error-look request
   causes-look _ n = tt
 
   not_write : (operation : PipeOperation) → looks operation ≡ false → operation ≡ WriteChunk → ⊥
@@ -388,6 +415,7 @@ module _ (p : PipeId) where
     write = λ l v i e. (tt, tt);
     close = λ i. (tt, tt);
     abort = λ reason i e. (tt, tt);
+    make_tee = λ i e is free untied. (tt, (tt, (tt, (tt, tt))));
     make_transform = λ kind m n start. (tt, (tt, (tt, (tt, (start-look _ _ start, tt)))));
     enqueue = λ i v e o can. (tt, tt);
     enqueue_half = λ i t v e o can. (tt, tt);
@@ -436,6 +464,7 @@ module _ (p : PipeId) where
   steps-may z (TransformFlushed t q) o derived r = MayNone refl (tt, resolved-look derived r)
   steps-may z (TransformAborted t q e) o derived r = MayNone refl (tt, resolved-look derived r)
   steps-may z (TransformCancelled t q e) o derived r = MayNone refl (tt, resolved-look derived r)
+  steps-may z (TeeEnds t) o derived r = MayNone refl (tt, resolved-look derived r)
 
   job-may : (z : Slots) (job : Job) → May 0 z (job_effects job)
   job-may z (ReactionJob step o derived) = steps-may z step o derived (returned step o)
@@ -444,6 +473,7 @@ module _ (p : PipeId) where
   job-may z (MicroJob (PipeLook q)) = MayLook refl (inr tt) ((λ e. refl), tt)
   job-may z (MicroJob (PipeWrite q)) = MayLook refl (inr tt) ((λ e. refl), tt)
   job-may z (MicroJob (PipeNoParts q)) = MayLook refl (inr tt) ((λ e. refl), tt)
+  job-may z (MicroJob (TeeHand t)) = MayNone refl (tt, tt)
 
   begun-may : (s : Slots) (job : Option Job) → May 0 (job_begun s job).slots (job_begun s job).caused
   begun-may s None = MayNone refl tt

@@ -3,9 +3,9 @@ use Rattle.std.proofs.Common.{◌≡◌, ℕ, zero, suc, true, is_some, List, []
 use Rattle.ws_value.specs.declared.{ids.PipeId.{PipeId}, ids.SignalId.{SignalId}, value.Plain.{Plain}}
 use Rattle.ws_steps.specs.declared.calls.StartBy.TheVariants.{Now, Later}
 use Rattle.ws_steps.specs.declared.effects.Effect.{Effect}
-use Rattle.ws_steps.specs.declared.effects.Effect.TheVariants.{Readable, Writable, Pipe, Signal, Transform, StartAlgorithm, ChunkSteps, CloseSteps, ErrorSteps}
+use Rattle.ws_steps.specs.declared.effects.Effect.TheVariants.{Readable, Writable, Pipe, Signal, Transform, Tee, StartAlgorithm, ChunkSteps, CloseSteps, ErrorSteps}
 use Rattle.ws_steps.specs.declared.pipes.{PipeOperation.{PipeOperation}, PipeOperation.TheVariants.{Abort as AbortPipe}, SignalOperation.{SignalOperation}, SignalOperation.TheVariants.{Add, Forget, Trigger}}
-use Rattle.ws_steps.specs.declared.readable.ReadRequest.TheVariants.{Promise, Pipe as PipeRequest}
+use Rattle.ws_steps.specs.declared.readable.ReadRequest.TheVariants.{Promise, Pipe as PipeRequest, Tee as TeeRequest}
 use Rattle.ws_steps.specs.declared.transform.{TransformId.{TransformId}, TransformOperation.{TransformOperation}}
 use Rattle.ws_steps.specs.Operations.{writable_operation, pipe_operation, signal_operation, transform_operation}
 use Rattle.ws_steps.specs.Pipes as pipe
@@ -19,6 +19,11 @@ use Rattle.ws_laws.proofs.Walker.{Stays, run-stays}
 use Rattle.ws_pipe_laws.specs.SignalLaws.{EachTriggerAbortsInOrder, EachReasonStays}
 use Rattle.ws_steps.specs.declared.effects.Effect.TheVariants.{Byte, CloseStepsWith}
 use Rattle.ws_laws.proofs.Rows.{source-leaves, byte-leaves}
+use Rattle.ws_value.specs.declared.ids.TeeId.{TeeId}
+use Rattle.ws_steps.specs.declared.tee.TeeOperation.{TeeOperation}
+use Rattle.ws_steps.specs.Tee as tee
+use Rattle.ws_steps.specs.Operations.{tee_operation}
+use Rattle.ws_steps.specs.Slots.{on_tee_at}
 
 aborts_map : (r : Plain) (ps : List PipeId) → abort_all r ps ≡ map (λ p. Pipe p (AbortPipe r)) ps
 aborts_map r [] = refl
@@ -83,6 +88,11 @@ transform-signals : (t : TransformId) (operation : TransformOperation) (s : Slot
 transform-signals t operation s None = refl
 transform-signals t operation s (Some x) = refl
 
+tee-signals : (t : TeeId) (operation : TeeOperation) (s : Slots) (o : Option tee.Slots)
+    → (on_tee_at (tee_operation t operation) t s o).slots.signals ≡ s.signals
+tee-signals t operation s None = refl
+tee-signals t operation s (Some x) = refl
+
 pub row-signals : (e : Effect) (s : Slots) → IsNoSignal e → (row e s).slots.signals ≡ s.signals
 unfolding row call_host
 row-signals (Readable i operation) s n = source-leaves (λ z. z.signals) (λ z x o. refl) i operation s
@@ -92,6 +102,7 @@ row-signals (Writable i operation) s n =
 row-signals (Pipe p operation) s n = pipe-signals p operation s (slice_get s.pipes p.0)
 row-signals (Signal a operation) s n = absurd n
 row-signals (Transform t operation) s n = transform-signals t operation s (slice_get s.transforms t.0)
+row-signals (Tee t operation) s n = tee-signals t operation s (slice_get s.tees t.0)
 row-signals (StartAlgorithm i step Now) s n = refl
 row-signals (StartAlgorithm i step Later) s n = refl
 row-signals (ChunkSteps i (Promise p) v) s n = refl
@@ -99,9 +110,13 @@ row-signals (CloseSteps i (Promise p)) s n = refl
 row-signals (CloseStepsWith i (Promise p) b) s n = refl
 row-signals (ErrorSteps i (Promise p) e) s n = refl
 row-signals (ChunkSteps i (PipeRequest p) v) s n = refl
+row-signals (ChunkSteps i (TeeRequest t) v) s n = refl
 row-signals (CloseSteps i (PipeRequest p)) s n = refl
+row-signals (CloseSteps i (TeeRequest t)) s n = refl
 row-signals (CloseStepsWith i (PipeRequest p) b) s n = refl
+row-signals (CloseStepsWith i (TeeRequest t) b) s n = refl
 row-signals (ErrorSteps i (PipeRequest p) e) s n = refl
+row-signals (ErrorSteps i (TeeRequest t) e) s n = refl
 row-signals _ s n = refl
 
 -- a signal keeps its reason
@@ -152,6 +167,7 @@ module _ (a : SignalId) (q : Plain) where
       pipe = λ z source dest prevent signal promise k. k;
       signal = λ z k. last_reason z.signals a.0 new_signal q k;
       transform = λ z kind i j change k. k;
+      tee = λ z source first second cancel k. k;
       bytes = λ z mark auto k. k;
       byob_requests = λ z hs k. k;
       readable = λ z owner mark size k. k;

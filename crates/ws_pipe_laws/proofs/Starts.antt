@@ -1,11 +1,11 @@
 -- When a read of a pipe starts.
 use Rattle.std.proofs.Common.{◌≡◌, ◌≢◌, ◌⊎◌, inl, inr, ℕ, ◌+◌, ◌-◌, Bool, true, false, not, ◌&&◌, ◌||◌, nat_eq, if◌then◌else◌, List, [], ◌∷◌, Option, Some, None, Result, Ok, Err, refl, sym, ap, ◌∙◌, arith}
 use Rattle.ws_value.specs.declared.{ids.PipeId.{PipeId}, ids.PromiseId.{PromiseId}, ids.StreamId.{StreamId}, value.Plain.{Plain}, value.Plain.TheVariants.{Undefined}, value.Value.{Value}}
-use Rattle.ws_steps.specs.declared.effects.{Effect.{Effect}, Effect.TheVariants.{Readable as OnReadable, Writable as OnWritable, Pipe as OnPipe, Signal, Transform as OnTransform, StartAlgorithm, PullAlgorithm, CancelAlgorithm, WriteAlgorithm, CloseAlgorithm, AbortAlgorithm, ChunkSteps, CloseSteps, ErrorSteps}}
+use Rattle.ws_steps.specs.declared.effects.{Effect.{Effect}, Effect.TheVariants.{Readable as OnReadable, Writable as OnWritable, Pipe as OnPipe, Signal, Transform as OnTransform, Tee as OnTee, StartAlgorithm, PullAlgorithm, CancelAlgorithm, WriteAlgorithm, CloseAlgorithm, AbortAlgorithm, ChunkSteps, CloseSteps, ErrorSteps}}
 use Rattle.ws_steps.specs.declared.pipes.{Action.{Action}, Action.TheVariants.{AbortDest, CancelSource, CloseDest, BySignal}, Ends.{Ends}, Phase.{Phase}, Phase.TheVariants.{Flowing, Waiting, Acting, Over}}
 use Rattle.ws_steps.specs.declared.pipes.{SignalOperation.{SignalOperation}, SignalOperation.TheVariants.{Add, Forget, Trigger}}
 use Rattle.ws_steps.specs.declared.pipes.{PipeOperation.{PipeOperation}, PipeOperation.TheVariants.{Look, LookReady, KeepChunk, ReadEnded, WriteChunk, GoOn, WriteEnded, Abort as AbortPipe, ActionSettled, PartSettled, NoParts}}
-use Rattle.ws_steps.specs.declared.readable.{ReadRequest.{ReadRequest}, ReadRequest.TheVariants.{Promise, Pipe as PipeRequest}, ReadableOperation.TheVariants.{Read}, ReadableState.{ReadableState}, ReadableState.TheVariants.{Readable, Closed, Errored}}
+use Rattle.ws_steps.specs.declared.readable.{ReadRequest.{ReadRequest}, ReadRequest.TheVariants.{Promise, Pipe as PipeRequest, Tee as TeeRequest}, ReadableOperation.TheVariants.{Read}, ReadableState.{ReadableState}, ReadableState.TheVariants.{Readable, Closed, Errored}}
 use Rattle.ws_steps.specs.declared.transform.TransformId.{TransformId}
 use Rattle.ws_steps.specs.declared.writable.{WritableState.{WritableState}, WritableState.TheVariants.{Writable, Erroring, Errored as WritableErrored, Closed as WritableClosed}}
 use Rattle.ws_steps.specs.Effects.{type_error}
@@ -18,10 +18,12 @@ use Rattle.ws_steps.specs.Turns.{row}
 use Rattle.ws_steps.specs.Writable.{is_writable, is_closed, is_errored}
 use Rattle.ws_laws.proofs.Lists.{Each, each-append}
 use Rattle.ws_laws.proofs.PipeDoes.{PipeCauses, IsQuiet}
-use Rattle.ws_laws.proofs.Rows.{Causes, ChunkCauses, EndCauses, SignalCauses, row-causes}
+use Rattle.ws_laws.proofs.Rows.{Causes, ChunkCauses, EndCauses, ErrorCauses, SignalCauses, row-causes}
 use Rattle.ws_laws.proofs.Tables.{either, eq_numbers}
 use Rattle.ws_laws.proofs.TransformDoes.{TransformCauses}
 use Rattle.ws_steps.specs.declared.effects.Effect.TheVariants.{Byte, CloseStepsWith}
+use Rattle.ws_laws.proofs.TeeDoes.{TeeCauses}
+use Rattle.ws_value.specs.declared.ids.TeeId.{TeeId}
 
 -- a shutdown starts no read
 module _ (me : PipeId) where
@@ -173,10 +175,17 @@ module _ (p : PipeId) where
   chunk-none : (v : Value) (request : ReadRequest) → ChunkCauses IsNone v request
   chunk-none v (Promise q) = tt
   chunk-none v (PipeRequest q) = tt
+  chunk-none v (TeeRequest t) = tt
 
   end-none : (request : ReadRequest) → EndCauses IsNone request
   end-none (Promise q) = tt
   end-none (PipeRequest q) = tt
+  end-none (TeeRequest t) = tt
+
+  error-none : (request : ReadRequest) → ErrorCauses IsNone request
+  error-none (Promise q) = tt
+  error-none (PipeRequest q) = tt
+  error-none (TeeRequest t) = tt
 
   signal-none : (operation : SignalOperation) → SignalCauses IsNone operation
   signal-none (Trigger r) = λ q. tt
@@ -186,6 +195,10 @@ module _ (p : PipeId) where
   transform-none : (t : TransformId) (writable readable : StreamId) (e : Effect) → TransformCauses t writable readable e → IsNone e
   transform-none t writable readable (OnReadable i (Read request)) c = absurd c
   transform-none t writable readable _ c = tt
+
+  tee-none : (t : TeeId) (source first second : StreamId) (e : Effect) → TeeCauses t source first second e → IsNone e
+  tee-none t source first second (OnReadable i (Read request)) c = ap (is_of p) c.1
+  tee-none t source first second _ c = tt
 
   -- a pipe reads for itself
   own_read : (q : PipeId) (request : ReadRequest) → nat_eq p.0 q.0 ≡ false → request ≡ PipeRequest q → is_of p request ≡ 0
@@ -208,16 +221,17 @@ module _ (p : PipeId) where
   none-causes (OnPipe q operation) n = pipe-none q (other_pipe q operation n (nat_eq p.0 q.0) refl)
   none-causes (Signal a operation) n = signal-none operation
   none-causes (OnTransform t operation) n = transform-none t
+  none-causes (OnTee t operation) n = tee-none t
   none-causes (StartAlgorithm j step start) n = (λ g u. tt, λ c u. tt)
-  none-causes (PullAlgorithm j) n = (λ c u. tt, λ t u. tt)
-  none-causes (CancelAlgorithm j r q) n = (λ c u. tt, λ t u. tt)
+  none-causes (PullAlgorithm j) n = (λ c u. tt, (λ t u. tt, (λ t. tt, λ u. tt)))
+  none-causes (CancelAlgorithm j r q) n = (λ c u. tt, (λ t u. tt, λ t half u. tt))
   none-causes (WriteAlgorithm j) n = (tt, λ t u. tt)
   none-causes (CloseAlgorithm j) n = (λ c u. tt, λ t u. tt)
   none-causes (AbortAlgorithm j r q) n = (λ c u. tt, λ t u. tt)
   none-causes (ChunkSteps j request v) n = chunk-none v request
   none-causes (CloseSteps j request) n = end-none request
   none-causes (CloseStepsWith j request b) n = end-none request
-  none-causes (ErrorSteps j request e) n = end-none request
+  none-causes (ErrorSteps j request e) n = error-none request
   none-causes _ n = tt
 
 pub no_other_starts_a_read : NoOtherStartsARead

@@ -4,10 +4,10 @@ use Rattle.ws_value.specs.declared.{ids.PipeId.{PipeId}, ids.PromiseId.{PromiseI
 use Rattle.ws_value.specs.declared.value.{Plain.{Plain}, Value.{Value}}
 use Rattle.ws_steps.specs.declared.calls.Call.{Call}
 use Rattle.ws_steps.specs.declared.effects.Effect.{Effect}
-use Rattle.ws_steps.specs.declared.effects.Effect.TheVariants.{Readable as OnReadable, Writable as OnWritable, Pipe as OnPipe, Signal as OnSignal, Transform as OnTransform, StartAlgorithm, PullAlgorithm, CancelAlgorithm, WriteAlgorithm, CloseAlgorithm, AbortAlgorithm, ChunkSteps, CloseSteps, ErrorSteps}
+use Rattle.ws_steps.specs.declared.effects.Effect.TheVariants.{Readable as OnReadable, Writable as OnWritable, Pipe as OnPipe, Signal as OnSignal, Transform as OnTransform, Tee as OnTee, StartAlgorithm, PullAlgorithm, CancelAlgorithm, WriteAlgorithm, CloseAlgorithm, AbortAlgorithm, ChunkSteps, CloseSteps, ErrorSteps}
 use Rattle.ws_steps.specs.declared.pipes.{Phase.{Phase}, Phase.TheVariants.{Flowing, Waiting, Acting, Over}, PipeOperation.{PipeOperation}, PipeOperation.TheVariants.{WriteChunk, GoOn}, SignalOperation.{SignalOperation}, SignalOperation.TheVariants.{Add, Forget, Trigger}}
-use Rattle.ws_steps.specs.declared.promises.{Job.{Job}, Job.TheVariants.{Reaction as ReactionJob, Follow, Settle as SettleJob, Micro as MicroJob}, Micro.TheVariants.{PipeLook, PipeWrite, PipeNoParts}, Step.{Step}}
-use Rattle.ws_steps.specs.declared.readable.{ReadRequest.{ReadRequest}, ReadRequest.TheVariants.{Promise, Pipe as PipeRequest}}
+use Rattle.ws_steps.specs.declared.promises.{Job.{Job}, Job.TheVariants.{Reaction as ReactionJob, Follow, Settle as SettleJob, Micro as MicroJob}, Micro.TheVariants.{PipeLook, PipeWrite, PipeNoParts, TeeHand}, Step.{Step}}
+use Rattle.ws_steps.specs.declared.readable.{ReadRequest.{ReadRequest}, ReadRequest.TheVariants.{Promise, Pipe as PipeRequest, Tee as TeeRequest}}
 use Rattle.ws_steps.specs.declared.transform.TransformId.{TransformId}
 use Rattle.ws_steps.specs.Calls.{Begun, begin}
 use Rattle.ws_steps.specs.Jobs.{job_effects, job_begun, begin_job}
@@ -21,13 +21,15 @@ use Rattle.ws_steps.specs.Turns.{row, moments}
 use Rattle.ws_laws.proofs.EachCall.{each_call}
 use Rattle.ws_laws.proofs.Lists.{Each, each-append, append_cancel}
 use Rattle.ws_laws.proofs.PipeDoes.{PipeCauses}
-use Rattle.ws_laws.proofs.Rows.{Causes, ChunkCauses, EndCauses, SignalCauses, row-causes}
+use Rattle.ws_laws.proofs.Rows.{Causes, ChunkCauses, EndCauses, ErrorCauses, SignalCauses, row-causes}
 use Rattle.ws_laws.proofs.Tables.{eq_numbers}
 use Rattle.ws_laws.proofs.TransformDoes.{TransformCauses}
 use Rattle.ws_laws.proofs.Walker.{performed-goes, nothing-told, step-goes_untold}
 use Rattle.ws_pipe_laws.specs.PipeReads.{held_values, EachStepPasses}
 use Rattle.ws_pipe_laws.proofs.PassingRuns.{through_history, Is, goes, rests, each_is, passing_of}
 use Rattle.ws_steps.specs.declared.effects.Effect.TheVariants.{Byte, CloseStepsWith}
+use Rattle.ws_laws.proofs.TeeDoes.{TeeCauses}
+use Rattle.ws_value.specs.declared.ids.TeeId.{TeeId}
 
 module _ (p : PipeId) where
   -- no write of the pipe
@@ -43,10 +45,17 @@ module _ (p : PipeId) where
   chunk-none : (v : Value) (request : ReadRequest) → ChunkCauses IsNoWrite v request
   chunk-none v (Promise q) = tt
   chunk-none v (PipeRequest q) = tt
+  chunk-none v (TeeRequest t) = tt
 
   end-none : (request : ReadRequest) → EndCauses IsNoWrite request
   end-none (Promise q) = tt
   end-none (PipeRequest q) = tt
+  end-none (TeeRequest t) = tt
+
+  error-none : (request : ReadRequest) → ErrorCauses IsNoWrite request
+  error-none (Promise q) = tt
+  error-none (PipeRequest q) = tt
+  error-none (TeeRequest t) = tt
 
   signal-none : (operation : SignalOperation) → SignalCauses IsNoWrite operation
   signal-none (Trigger r) = λ q. tt
@@ -57,6 +66,10 @@ module _ (p : PipeId) where
   transform-none t writable readable (OnPipe q WriteChunk) c = absurd c
   transform-none t writable readable _ c = tt
 
+  tee-none : (t : TeeId) (source first second : StreamId) (e : Effect) → TeeCauses t source first second e → IsNoWrite e
+  tee-none t source first second (OnPipe q WriteChunk) c = absurd c
+  tee-none t source first second _ c = tt
+
   -- no effect causes one
   none-causes : (e : Effect) → Causes IsNoWrite e
   none-causes (OnReadable j operation) = record { pull = tt; cancel = λ r q. tt; chunk = λ r v. tt; close = λ r. tt; error = λ r e. tt }
@@ -65,16 +78,17 @@ module _ (p : PipeId) where
   none-causes (OnPipe q operation) = pipe-none q
   none-causes (OnSignal a operation) = signal-none operation
   none-causes (OnTransform t operation) = transform-none t
+  none-causes (OnTee t operation) = tee-none t
   none-causes (StartAlgorithm j step start) = (λ g u. tt, λ c u. tt)
-  none-causes (PullAlgorithm j) = (λ c u. tt, λ t u. tt)
-  none-causes (CancelAlgorithm j r q) = (λ c u. tt, λ t u. tt)
+  none-causes (PullAlgorithm j) = (λ c u. tt, (λ t u. tt, (λ t. tt, λ u. tt)))
+  none-causes (CancelAlgorithm j r q) = (λ c u. tt, (λ t u. tt, λ t half u. tt))
   none-causes (WriteAlgorithm j) = (tt, λ t u. tt)
   none-causes (CloseAlgorithm j) = (λ c u. tt, λ t u. tt)
   none-causes (AbortAlgorithm j r q) = (λ c u. tt, λ t u. tt)
   none-causes (ChunkSteps j request v) = chunk-none v request
   none-causes (CloseSteps j request) = end-none request
   none-causes (CloseStepsWith j request b) = end-none request
-  none-causes (ErrorSteps j request e) = end-none request
+  none-causes (ErrorSteps j request e) = error-none request
   none-causes _ = tt
 
   -- in a step that finds the pipe live, only its first effect writes
@@ -145,6 +159,7 @@ module _ (p : PipeId) where
   job_writes (MicroJob (PipeLook q)) = inl (tt, tt)
   job_writes (MicroJob (PipeWrite q)) = write_job q (nat_eq p.0 q.0) refl
   job_writes (MicroJob (PipeNoParts q)) = inl (tt, tt)
+  job_writes (MicroJob (TeeHand t)) = inl (tt, tt)
 
   begun-keeps : (d : Done) → Keeps nothing_through d.slots d.caused → (along nothing_through through_then (effect_through p) (moments d)).dropped ≡ []
   begun-keeps d k = (performed-goes nothing_through through_then through_history (effect_through p) Keeps row-keeps nothing_through d k).0

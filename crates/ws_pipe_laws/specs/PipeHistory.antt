@@ -19,7 +19,7 @@ use Rattle.ws_steps.specs.declared.pipes.Prevent.{Prevent}
 use Rattle.ws_steps.specs.declared.pipes.SignalOperation.{SignalOperation}
 use Rattle.ws_steps.specs.declared.pipes.SignalOperation.TheVariants.{Add, Forget, Trigger}
 use Rattle.ws_steps.specs.declared.readable.ReadRequest.{ReadRequest}
-use Rattle.ws_steps.specs.declared.readable.ReadRequest.TheVariants.{Promise, Pipe as PipeRequest}
+use Rattle.ws_steps.specs.declared.readable.ReadRequest.TheVariants.{Promise, Pipe as PipeRequest, Tee as TeeRequest}
 use Rattle.ws_steps.specs.declared.readable.ReadableState.{ReadableState}
 use Rattle.ws_steps.specs.declared.readable.ReadableState.TheVariants.{Readable, Closed, Errored}
 use Rattle.ws_steps.specs.Effects.{type_error}
@@ -226,6 +226,7 @@ promises_made p (m ∷ ms) = effect_promises p m.effect m.found ++ promises_made
 abbrev pub given_for : PipeId → ReadRequest → Value → List Value
 given_for p (Promise q) v = []
 given_for p (PipeRequest q) v = if nat_eq p.0 q.0 then v ∷ [] else []
+given_for p (TeeRequest t) v = []
 
 abbrev pub effect_given : StreamId → PipeId → Effect → Slots → List Value
 effect_given i p (ChunkSteps j request v) s = if is_same i j then given_for p request v else []

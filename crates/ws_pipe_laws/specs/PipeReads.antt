@@ -13,7 +13,7 @@ use Rattle.ws_steps.specs.declared.pipes.Phase.TheVariants.{Flowing, Waiting, Ac
 use Rattle.ws_steps.specs.declared.pipes.PipeOperation.{PipeOperation}
 use Rattle.ws_steps.specs.declared.pipes.PipeOperation.TheVariants.{WriteChunk}
 use Rattle.ws_steps.specs.declared.readable.ReadRequest.{ReadRequest}
-use Rattle.ws_steps.specs.declared.readable.ReadRequest.TheVariants.{Promise, Pipe as PipeRequest}
+use Rattle.ws_steps.specs.declared.readable.ReadRequest.TheVariants.{Promise, Pipe as PipeRequest, Tee as TeeRequest}
 use Rattle.ws_steps.specs.declared.readable.ReadableOperation.TheVariants.{Read}
 use Rattle.ws_steps.specs.declared.writable.WritableOperation.TheVariants.{Write}
 use Rattle.ws_steps.specs.Operations.{pipe_operation}
@@ -34,6 +34,7 @@ use Rattle.ws_pipe_laws.specs.PipeMoves.{starting}
 abbrev pub is_of : PipeId → ReadRequest → ℕ
 is_of p (Promise q) = 0
 is_of p (PipeRequest q) = if nat_eq p.0 q.0 then 1 else 0
+is_of p (TeeRequest t) = 0
 
 -- reads of pipe p among effects
 abbrev pub reads_started : PipeId → List Effect → ℕ

@@ -4,13 +4,13 @@ use Rattle.ws_value.specs.declared.ids.{PipeId.{PipeId}, PromiseId.{PromiseId}, 
 use Rattle.ws_value.specs.declared.value.{Outcome.TheVariants.{Given, Finished}, Plain.{Plain}, Plain.TheVariants.{Undefined}, Value.{Value}, Value.TheVariants.{Plain as PlainValue, Bytes}}
 use Rattle.ws_steps.specs.declared.{calls.Call.{Call}, calls.HostCall.{HostCall}, calls.Event.TheVariants.{Signal as SignalEvent}, calls.StartBy.{StartBy}, calls.StartBy.TheVariants.{Now, Later}}
 use Rattle.ws_steps.specs.declared.effects.Effect.{Effect}
-use Rattle.ws_steps.specs.declared.effects.Effect.TheVariants.{Readable as OnReadable, Writable as OnWritable, Pipe as OnPipe, Signal as OnSignal, Transform as OnTransform, StartAlgorithm, PullAlgorithm, CancelAlgorithm, WriteAlgorithm, CloseAlgorithm, AbortAlgorithm, ChunkSteps, CloseSteps, ErrorSteps, Give, Settle, Queue, CallHost}
-use Rattle.ws_steps.specs.declared.effects.{Owner.{Owner}, Owner.TheVariants.{Host, HalfOf}, Use.{Use}, Use.TheVariants.{React}}
+use Rattle.ws_steps.specs.declared.effects.Effect.TheVariants.{Readable as OnReadable, Writable as OnWritable, Pipe as OnPipe, Signal as OnSignal, Transform as OnTransform, Tee as OnTee, StartAlgorithm, PullAlgorithm, CancelAlgorithm, WriteAlgorithm, CloseAlgorithm, AbortAlgorithm, ChunkSteps, CloseSteps, ErrorSteps, Give, Settle, Queue, CallHost}
+use Rattle.ws_steps.specs.declared.effects.{Owner.{Owner}, Owner.TheVariants.{Host, HalfOf, BranchOf}, Use.{Use}, Use.TheVariants.{React}}
 use Rattle.ws_steps.specs.declared.pipes.{Phase.{Phase}, Phase.TheVariants.{Flowing, Waiting, Acting, Over}}
 use Rattle.ws_steps.specs.declared.pipes.{PipeOperation.{PipeOperation}, SignalOperation.{SignalOperation}}
-use Rattle.ws_steps.specs.declared.promises.{Job.{Job}, Job.TheVariants.{Reaction as ReactionJob, Follow, Settle as SettleJob, Micro as MicroJob}, Micro.TheVariants.{PipeLook, PipeWrite, PipeNoParts}}
-use Rattle.ws_steps.specs.declared.promises.{Step.{Step}, Step.TheVariants.{ReadableStart, ReadablePull, ReturnUndefined, WritableStart, WritableWrite, WritableClose, WritableAbort, PipeEnds, PipeReady, PipeWrote, PipeActed, PipePart, TransformChanged, Transformed, TransformFlushed, TransformAborted, TransformCancelled}}
-use Rattle.ws_steps.specs.declared.readable.{ReadRequest.{ReadRequest}, ReadRequest.TheVariants.{Promise, Pipe as PipeRequest}, ReadableOperation.{ReadableOperation}}
+use Rattle.ws_steps.specs.declared.promises.{Job.{Job}, Job.TheVariants.{Reaction as ReactionJob, Follow, Settle as SettleJob, Micro as MicroJob}, Micro.TheVariants.{PipeLook, PipeWrite, PipeNoParts, TeeHand}}
+use Rattle.ws_steps.specs.declared.promises.{Step.{Step}, Step.TheVariants.{ReadableStart, ReadablePull, ReturnUndefined, WritableStart, WritableWrite, WritableClose, WritableAbort, PipeEnds, PipeReady, PipeWrote, PipeActed, PipePart, TransformChanged, Transformed, TransformFlushed, TransformAborted, TransformCancelled, TeeEnds}}
+use Rattle.ws_steps.specs.declared.readable.{ReadRequest.{ReadRequest}, ReadRequest.TheVariants.{Promise, Pipe as PipeRequest, Tee as TeeRequest}, ReadableOperation.{ReadableOperation}}
 use Rattle.ws_steps.specs.declared.transform.{TransformId.{TransformId}, TransformOperation.{TransformOperation}, TransformOperation.TheVariants.{TransformChunk}, Halves.{Halves}}
 use Rattle.ws_steps.specs.declared.writable.{WritableOperation.{WritableOperation}, WritableOperation.TheVariants.{ReleaseWriter}}
 use Rattle.ws_steps.specs.Calls as calls
@@ -66,6 +66,13 @@ use Rattle.ws_steps.specs.Operations.{byte_operation}
 use Rattle.ws_laws.proofs.ReadableDoes.{OfReadable}
 use Rattle.ws_laws.proofs.Rows.{source-out, byte-out, out_of, source-leaves, byte-leaves}
 use Rattle.ws_steps.specs.Turns.{close_steps_with}
+use Rattle.ws_value.specs.declared.ids.TeeId.{TeeId}
+use Rattle.ws_steps.specs.declared.tee.TeeOperation.{TeeOperation}
+use Rattle.ws_steps.specs.Tee as tee
+use Rattle.ws_steps.specs.Operations.{tee_operation}
+use Rattle.ws_steps.specs.Slots.{on_tee_at}
+use Rattle.ws_laws.proofs.TeeDoes.{OfTee, tee-does}
+use Rattle.ws_writable_laws.proofs.Shape.{of_tee}
 
 -- the writes of the pipe in a place that haven't settled
 abbrev pub unsettled_of : Option pipe.Slots → ℕ
@@ -194,6 +201,25 @@ module _ (p : PipeId) where
       let l = transform-pays t (halves_at x s) operation a refl in
       (refl, omega (arith, w, l))
 
+  tee-pays : (t : TeeId) (operation : TeeOperation) (a : tee.Acts) → a.out.effects ≡ [] → all (pays p) (tee_operation t operation a).out.effects ≤ of_tee (of_write p) operation
+  unfolding tee.pull_branch tee.keep_chunk tee.source_closed tee.source_errored tee.hand_chunk tee.handed tee.cancel_branch tee.reader_settled
+  tee-pays t operation a none = grind (arith, none)
+
+  lighter_tee : (t : Table) → OfTee (λ z. under_way z ≤ under_way t)
+  lighter_tee t = record {
+    fresh = λ z h. let k = weigh-fresh (of_reaction (of_write p)) z in omega (arith, h, k);
+    micro = λ z m h. let k = weigh-micro (of_reaction (of_write p)) m z in omega (arith, h, k);
+  }
+
+  tee-carries : (t : TeeId) (operation : TeeOperation) (s : Slots) (o : Option tee.Slots)
+      → Carries s (of_tee (of_write p) operation) (on_tee_at (tee_operation t operation) t s o)
+  tee-carries t operation s None = (refl, omega arith)
+  tee-carries t operation s (Some x) =
+      let a : tee.Acts = record { slots = x; out = found s } in
+      let w = tee-does (λ z. under_way z ≤ under_way s.promises) (lighter_tee s.promises) t operation a (omega arith) in
+      let l = tee-pays t operation a refl in
+      (refl, omega (arith, w, l))
+
   start-carries : (i : StreamId) (step : Step) (s : Slots) (start : StartBy) → Carries s (of_write p step) (start_algorithm i step s start)
   start-carries i step s Now = (refl, omega arith)
   start-carries i step s Later = let k = weigh-fresh (of_reaction (of_write p)) s.promises in (refl, omega (arith, k))
@@ -201,40 +227,49 @@ module _ (p : PipeId) where
   chunk-carries : (v : Value) (s : Slots) (request : ReadRequest) → Carries s 0 (chunk_steps v s request)
   chunk-carries v s (Promise q) = let k = weigh-answer (of_reaction (of_write p)) q (Given v) s.promises in (refl, omega (arith, k))
   chunk-carries v s (PipeRequest q) = let n = no_answer (nat_eq p.0 q.0) in (refl, omega (arith, n))
+  chunk-carries v s (TeeRequest t) = (refl, omega arith)
 
   close-carries : (s : Slots) (request : ReadRequest) → Carries s 0 (close_steps s request)
   close-carries s (Promise q) = let k = weigh-answer (of_reaction (of_write p)) q (Finished (PlainValue Undefined)) s.promises in (refl, omega (arith, k))
   close-carries s (PipeRequest q) = let n = no_answer (nat_eq p.0 q.0) in (refl, omega (arith, n))
+  close-carries s (TeeRequest t) = (refl, omega arith)
 
   close_with-carries : (s : Slots) (b : List ℕ) (request : ReadRequest) → Carries s 0 (close_steps_with b s request)
   close_with-carries s b (Promise q) = let k = weigh-answer (of_reaction (of_write p)) q (Finished (Bytes b)) s.promises in (refl, omega (arith, k))
   close_with-carries s b (PipeRequest q) = let n = no_answer (nat_eq p.0 q.0) in (refl, omega (arith, n))
+  close_with-carries s b (TeeRequest t) = (refl, omega arith)
 
   error-carries : (e : Plain) (s : Slots) (request : ReadRequest) → Carries s 0 (error_steps e s request)
   error-carries e s (Promise q) = let k = weigh-settle (of_reaction (of_write p)) q (Err e) s.promises in (refl, omega (arith, k))
   error-carries e s (PipeRequest q) = let n = no_answer (nat_eq p.0 q.0) in (refl, omega (arith, n))
+  error-carries e s (TeeRequest t) = (refl, omega arith)
 
   -- the algorithms, by whose they are
 
   pulls : (i : StreamId) (s : Slots) (owner : Owner) → Carries s 0 (causes (pull_algorithm i (React (ReadablePull i) None) owner) s)
   pulls i s Host = (refl, omega arith)
   pulls i s (HalfOf t) = (refl, omega arith)
+  pulls i s (BranchOf t half) = (refl, omega arith)
 
   cancels : (i : StreamId) (r : Plain) (q : PromiseId) (s : Slots) (owner : Owner) → Carries s 0 (causes (cancel_algorithm i r (React ReturnUndefined (Some q)) owner) s)
   cancels i r q s Host = (refl, omega arith)
   cancels i r q s (HalfOf t) = (refl, omega arith)
+  cancels i r q s (BranchOf t half) = (refl, omega arith)
 
   hands_on : (i : StreamId) (s : Slots) (owner : Owner) → Carries s 0 (causes (write_algorithm i owner) s)
   hands_on i s Host = (refl, omega arith)
   hands_on i s (HalfOf t) = (refl, omega arith)
+  hands_on i s (BranchOf t half) = (refl, omega arith)
 
   closes : (i : StreamId) (s : Slots) (owner : Owner) → Carries s 0 (causes (close_algorithm i (React (WritableClose i) None) owner) s)
   closes i s Host = (refl, omega arith)
   closes i s (HalfOf t) = (refl, omega arith)
+  closes i s (BranchOf t half) = (refl, omega arith)
 
   aborts-on : (i : StreamId) (r : Plain) (q : PromiseId) (s : Slots) (owner : Owner) → Carries s 0 (causes (abort_algorithm i r (React (WritableAbort i q) None) owner) s)
   aborts-on i r q s Host = (refl, omega arith)
   aborts-on i r q s (HalfOf t) = (refl, omega arith)
+  aborts-on i r q s (BranchOf t half) = (refl, omega arith)
 
   host-pipes : (call : HostCall) (u : Use) (s : Slots) → (call_host call u s).pipes ≡ s.pipes
   unfolding call_host
@@ -248,6 +283,7 @@ module _ (p : PipeId) where
   row-owes s (OnWritable i operation) es w = carried s (OnWritable i operation) es (writable-carries i operation s) w
   row-owes s (OnSignal a operation) es w = carried s (OnSignal a operation) es (signal-carries a operation s (slice_get s.signals a.0)) w
   row-owes s (OnTransform t operation) es w = carried s (OnTransform t operation) es (transform-carries t operation s (slice_get s.transforms t.0)) w
+  row-owes s (OnTee t operation) es w = carried s (OnTee t operation) es (tee-carries t operation s (slice_get s.tees t.0)) w
   row-owes s (StartAlgorithm i step start) es w = carried s (StartAlgorithm i step start) es (start-carries i step s start) w
   row-owes s (PullAlgorithm i) es w = carried s (PullAlgorithm i) es (pulls i s (owner_at i s)) w
   row-owes s (CancelAlgorithm i r q) es w = carried s (CancelAlgorithm i r q) es (cancels i r q s (owner_at i s)) w
@@ -283,6 +319,7 @@ module _ (p : PipeId) where
     pipe = λ z source dest prevent signal promise k. (let l = k.0 in let m = grown z.pipes (pipe.set_up source dest prevent signal promise) p.0 in omega (arith, l, m), k.1);
     signal = λ z k. k;
     transform = λ z kind i j change k. k;
+    tee = λ z source first second cancel k. k;
     bytes = λ z mark auto k. k;
     byob_requests = λ z hs k. k;
     readable = λ z owner mark size k. k;
@@ -328,6 +365,7 @@ module _ (p : PipeId) where
     write = λ l v i e. refl;
     close = λ i. refl;
     abort = λ reason i e. refl;
+    make_tee = λ i e is free untied. refl;
     make_transform = λ kind m n start. let z = start-none (next_id (fresh s.promises)) (record { 0 = length s.streams + 1 }) start in omega (arith, z);
     enqueue = λ i v e o can. refl;
     enqueue_half = λ i t v e o can. refl;
@@ -373,6 +411,7 @@ module _ (p : PipeId) where
   in_steps (TransformFlushed t q) o = refl
   in_steps (TransformAborted t q r) o = refl
   in_steps (TransformCancelled t q r) o = refl
+  in_steps (TeeEnds t) o = refl
 
   in_resolved : (derived : Option PromiseId) (o : Result Plain Plain) → all (pays p) (resolved derived o) ≡ 0
   in_resolved None o = refl
@@ -386,6 +425,7 @@ module _ (p : PipeId) where
   in_job (MicroJob (PipeLook q)) = let n = no_answer (nat_eq p.0 q.0) in omega (arith, n)
   in_job (MicroJob (PipeWrite q)) = let n = no_answer (nat_eq p.0 q.0) in omega (arith, n)
   in_job (MicroJob (PipeNoParts q)) = let n = no_answer (nat_eq p.0 q.0) in omega (arith, n)
+  in_job (MicroJob (TeeHand t)) = omega arith
 
   pub job-owes : (s : Slots) (job : Job) → next_job s.promises ≡ Some job → Owes p s [] → Owes p (with_promises (after_next_job s.promises) s) (job_effects job)
   job-owes s job e w =
@@ -468,6 +508,7 @@ same_action p (Transformed t) = refl
 same_action p (TransformFlushed t q) = refl
 same_action p (TransformAborted t q r) = refl
 same_action p (TransformCancelled t q r) = refl
+same_action p (TeeEnds t) = refl
 
 acting_as : (phase : Phase) → tokens.one_if (acts.is_acting phase) ≡ one_if (is_acting phase)
 acting_as Flowing = refl

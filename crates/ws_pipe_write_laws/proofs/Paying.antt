@@ -3,7 +3,7 @@ use Rattle.std.proofs.Common.{◌≡◌, ℕ, ◌+◌, ◌-◌, ◌≤◌, true,
 use Rattle.ws_value.specs.declared.{ids.PipeId.{PipeId}, ids.PromiseId.{PromiseId}, ids.StreamId.{StreamId}}
 use Rattle.ws_value.specs.declared.value.{Plain.{Plain}, Value.{Value}}
 use Rattle.ws_steps.specs.declared.effects.Effect.{Effect}
-use Rattle.ws_steps.specs.declared.effects.Effect.TheVariants.{Readable as OnReadable, Pipe as OnPipe, Transform as OnTransform, StartAlgorithm, Give, CallHost}
+use Rattle.ws_steps.specs.declared.effects.Effect.TheVariants.{Readable as OnReadable, Pipe as OnPipe, Transform as OnTransform, Tee as OnTee, StartAlgorithm, Give, CallHost}
 use Rattle.ws_steps.specs.declared.effects.{Gift.TheVariants.{This}, Use.TheVariants.{React}}
 use Rattle.ws_steps.specs.declared.pipes.{Action.{Action}, Action.TheVariants.{AbortDest, CancelSource, CloseDest, BySignal}, Ends.{Ends}, Phase.{Phase}, Phase.TheVariants.{Flowing, Waiting, Acting, Over}}
 use Rattle.ws_steps.specs.declared.pipes.{PipeOperation.{PipeOperation}, PipeOperation.TheVariants.{Look, LookReady, KeepChunk, ReadEnded, WriteChunk, GoOn, WriteEnded, Abort as AbortPipe, ActionSettled, PartSettled, NoParts}}
@@ -22,6 +22,7 @@ use Rattle.ws_laws.proofs.PipeDoes.{IsStepOf, PipeCauses}
 use Rattle.ws_laws.proofs.Tables.{either}
 use Rattle.ws_writable_laws.proofs.Shape.{of_use, of_transform, all, all-append}
 use Rattle.ws_pipe_laws.proofs.Reading.{no_answer}
+use Rattle.ws_writable_laws.proofs.Shape.{of_tee}
 
 -- the end of a write
 abbrev pub is_ended : PipeOperation → ℕ
@@ -32,6 +33,7 @@ is_ended _ = 0
 abbrev pub pays : PipeId → Effect → ℕ
 pays p (OnPipe q operation) = if nat_eq p.0 q.0 then is_ended operation else 0
 pays p (OnTransform t operation) = of_transform (of_write p) operation
+pays p (OnTee t operation) = of_tee (of_write p) operation
 pays p (StartAlgorithm i step start) = of_write p step
 pays p (Give gift u) = of_use (of_write p) u
 pays p (CallHost call u) = of_use (of_write p) u
@@ -197,6 +199,7 @@ pub other-paid : (p q : PipeId) → nat_eq p.0 q.0 ≡ false → (source dest : 
 other-paid p q n source dest (OnPipe r GoOn) c = no_answer (nat_eq p.0 r.0)
 other-paid p q n source dest (OnPipe r operation) c = absurd c
 other-paid p q n source dest (OnTransform t operation) c = absurd c
+other-paid p q n source dest (OnTee t operation) c = absurd c
 other-paid p q n source dest (StartAlgorithm i step start) c = absurd c
 other-paid p q n source dest (Give (This d) (React step None)) c = other_step p q n step c
 other-paid p q n source dest (Give gift u) c = absurd c

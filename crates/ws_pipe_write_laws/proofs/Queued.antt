@@ -6,7 +6,7 @@ use Rattle.ws_steps.specs.declared.calls.Call.{Call}
 use Rattle.ws_steps.specs.declared.effects.Effect.{Effect}
 use Rattle.ws_steps.specs.declared.effects.Effect.TheVariants.{Pipe as OnPipe}
 use Rattle.ws_steps.specs.declared.pipes.{PipeOperation.{PipeOperation}, PipeOperation.TheVariants.{Look, LookReady, KeepChunk, ReadEnded, WriteChunk, GoOn, WriteEnded, Abort as AbortPipe, ActionSettled, PartSettled, NoParts}}
-use Rattle.ws_steps.specs.declared.promises.{Job.{Job}, Job.TheVariants.{Reaction as ReactionJob, Follow, Settle as SettleJob, Micro as MicroJob}, Micro.TheVariants.{PipeLook, PipeWrite, PipeNoParts}, Reaction.{Reaction}, Reaction.TheVariants.{Adopt}}
+use Rattle.ws_steps.specs.declared.promises.{Job.{Job}, Job.TheVariants.{Reaction as ReactionJob, Follow, Settle as SettleJob, Micro as MicroJob}, Micro.TheVariants.{PipeLook, PipeWrite, PipeNoParts, TeeHand}, Reaction.{Reaction}, Reaction.TheVariants.{Adopt}}
 use Rattle.ws_steps.specs.Calls.{begin}
 use Rattle.ws_steps.specs.Jobs.{job_effects}
 use Rattle.ws_steps.specs.Operations.{pipe_operation}
@@ -39,6 +39,7 @@ write-append p [] ks h = cc
 write-append p (MicroJob (PipeWrite q) ∷ js) ks h = or_kept (nat_eq p.0 q.0) (has_write p js) (has_write p (js ++ ks)) (write-append p js ks) h
 write-append p (MicroJob (PipeLook q) ∷ js) ks h = write-append p js ks h
 write-append p (MicroJob (PipeNoParts q) ∷ js) ks h = write-append p js ks h
+write-append p (MicroJob (TeeHand t) ∷ js) ks h = write-append p js ks h
 write-append p (ReactionJob step o derived ∷ js) ks h = write-append p js ks h
 write-append p (Follow q r ∷ js) ks h = write-append p js ks h
 write-append p (SettleJob q o ∷ js) ks h = write-append p js ks h
@@ -48,6 +49,7 @@ write-last p [] = let self : nat_eq p.0 p.0 ≡ true = grind arith in rw self re
 write-last p (MicroJob (PipeWrite q) ∷ js) = or_right (nat_eq p.0 q.0) (has_write p (js ++ MicroJob (PipeWrite p) ∷ [])) (write-last p js)
 write-last p (MicroJob (PipeLook q) ∷ js) = write-last p js
 write-last p (MicroJob (PipeNoParts q) ∷ js) = write-last p js
+write-last p (MicroJob (TeeHand t) ∷ js) = write-last p js
 write-last p (ReactionJob step o derived ∷ js) = write-last p js
 write-last p (Follow q r ∷ js) = write-last p js
 write-last p (SettleJob q o ∷ js) = write-last p js
@@ -190,6 +192,7 @@ module _ (p : PipeId) where
   first-queued (MicroJob (PipeWrite q)) t js h = micro_taken q t js (nat_eq p.0 q.0) refl h
   first-queued (MicroJob (PipeLook q)) t js h = inl h
   first-queued (MicroJob (PipeNoParts q)) t js h = inl h
+  first-queued (MicroJob (TeeHand a)) t js h = inl h
   first-queued (ReactionJob step o derived) t js h = inl h
   first-queued (Follow q r) t js h = inl (taken-queues (Follow q r) (record t { jobs = js }) h)
   first-queued (SettleJob q o) t js h = inl (taken-queues (SettleJob q o) (record t { jobs = js }) h)
@@ -225,6 +228,7 @@ module _ (p : PipeId) where
     pipe = λ z source dest prevent signal promise k h. k (sym (new_place z.pipes (pipe.set_up source dest prevent signal promise) p.0 refl) ∙ h);
     signal = λ z k. k;
     transform = λ z kind i j change k. k;
+    tee = λ z source first second cancel k. k;
     bytes = λ z mark auto k. k;
     byob_requests = λ z hs k. k;
     readable = λ z owner mark size k. k;
