@@ -3,9 +3,9 @@
 use Rattle.std.proofs.Common.{◌≡◌, ℕ, ◌+◌, ◌≤◌, zero, suc, Bool, true, false, nat_eq, is_some, if◌then◌else◌, List, [], ◌∷◌, ◌++◌, length, ◌&&◌, Option, Some, None, slice_get, slice_set, refl, sym, ap, subst, ◌∙◌, arith}
 use Rattle.ws_value.specs.declared.{ids.PipeId.{PipeId}, ids.StreamId.{StreamId}}
 use Rattle.ws_steps.specs.declared.byte.{ByteOperation.{ByteOperation}, ByteOperation.TheVariants.{InitializeByobReader, PullInto, Respond}, ReaderKind.TheVariants.{Default, Byob}}
-use Rattle.ws_steps.specs.declared.effects.{Effect.{Effect}, Effect.TheVariants.{Readable as OnReadable, Byte, Writable as OnWritable, Pipe as OnPipe}}
+use Rattle.ws_steps.specs.declared.effects.{Effect.{Effect}, Effect.TheVariants.{Readable as OnReadable, Byte, Writable as OnWritable, Pipe as OnPipe, Tee as OnTee}}
 use Rattle.ws_steps.specs.declared.pipes.{Phase.TheVariants.{Flowing}, PipeOperation.{PipeOperation}}
-use Rattle.ws_steps.specs.declared.readable.{ReadRequest.{ReadRequest}, ReadRequest.TheVariants.{Promise, Pipe as PipeRequest}, ReadableOperation.{ReadableOperation}, ReadableOperation.TheVariants.{InitializeReader, ReleaseReader, Read}}
+use Rattle.ws_steps.specs.declared.readable.{ReadRequest.{ReadRequest}, ReadRequest.TheVariants.{Promise, Pipe as PipeRequest, Tee as TeeRequest}, ReadableOperation.{ReadableOperation}, ReadableOperation.TheVariants.{InitializeReader, ReleaseReader, Read, Enqueue, Close, Error}}
 use Rattle.ws_steps.specs.declared.transform.TransformId.{TransformId}
 use Rattle.ws_steps.specs.declared.writable.WritableOperation.{WritableOperation}
 use Rattle.ws_steps.specs.Histories.{is_same}
@@ -18,20 +18,32 @@ use Rattle.ws_steps.specs.Turns.{row, on_source}
 use Rattle.ws_steps.proofs.PromiseLaws.{slice_get-set_other}
 use Rattle.ws_laws.proofs.Lists.{Each, each-append}
 use Rattle.ws_laws.proofs.PipeDoes.{pipe-causes}
-use Rattle.ws_laws.proofs.Rows.{Causes, IsApart, IsNoPipe, row-causes, row-pipes, row-streams}
+use Rattle.ws_laws.proofs.Rows.{Causes, IsApart, IsNoPipe, IsNoTee, row-causes, row-pipes, row-streams}
 use Rattle.ws_laws.proofs.Tables.{either, is_same-refl, same_id, eq_numbers, unequal_numbers, readable_acts, byte_acts, readable_there, byte_there, on_readable-same, on_byte-same, on_byte-other, on_source-other, on_writable-same, on_writable-other}
 use Rattle.ws_laws.proofs.TransformDoes.{TransformCauses}
 use Rattle.ws_read_laws.proofs.Line.{operation-reader}
 use Rattle.ws_pipe_laws.specs.PipeMoves.{starting}
 use Rattle.ws_pipe_laws.specs.PipeReads.{one_if, is_of}
-use Rattle.ws_lock_laws.specs.Locks.{Reading, has_lock, holders, holds, in_pipes, is_locked}
+use Rattle.ws_lock_laws.specs.Locks.{Reading, has_lock, holders, holds, in_pipes, in_tees, is_locked}
 use Rattle.ws_lock_laws.proofs.Agenda.{IsNoTake, TakesFirst, takes_none, takes_none-all, takes_behind}
 use Rattle.ws_lock_laws.proofs.ByteReaders.{Look, look, byte_readable-reader, byte-reader}
-use Rattle.ws_lock_laws.proofs.Holding.{pipes-there, pipes-two}
+use Rattle.ws_lock_laws.proofs.Holding.{pipes-there, pipes-two, tees-there}
 use Rattle.ws_lock_laws.proofs.PipeReads.{IsNoRead, NoRead, OneRead, Reads, operation-reads}
 use Rattle.ws_lock_laws.proofs.ReaderKinds.{defaults, byobs, holders-split, HasKind, byte_look, KindHeld, OfKind, MeantAt}
 use Rattle.ws_lock_laws.proofs.Requests.{count, asked, asked_into, operation-few, release-none, byte_readable-few, byte-few, byte_release-none}
 use Rattle.ws_lock_laws.proofs.Rows.{is_there, Balanced}
+use Rattle.std.specs.Prelude.{not, Ok, Err}
+use Rattle.ws_value.specs.declared.ids.TeeId.{TeeId}
+use Rattle.ws_value.specs.declared.value.{Plain.{Plain}, Value.{Value}}
+use Rattle.ws_steps.specs.declared.tee.Half.{Half}
+use Rattle.ws_steps.specs.declared.tee.TeeOperation.{TeeOperation}
+use Rattle.ws_steps.specs.declared.tee.TeeOperation.TheVariants as tees
+use Rattle.ws_steps.specs.declared.tee.TeePhase.{TeePhase}
+use Rattle.ws_steps.specs.declared.tee.TeePhase.TheVariants.{Resting, Reading as TeeReading, Over}
+use Rattle.ws_steps.specs.Operations.{tee_operation}
+use Rattle.ws_steps.specs.Slots.{found, on_tee_at}
+use Rattle.ws_steps.specs.Tee as tee
+use Rattle.ws_laws.proofs.TeeDoes.{tee-causes}
 
 -- the read requests of a stream
 abbrev pub requests_at : Option Stream → List ReadRequest
@@ -48,6 +60,7 @@ any request = 1
 abbrev pub other : PipeId → ReadRequest → ℕ
 other p (Promise q) = 1
 other p (PipeRequest q) = if nat_eq p.0 q.0 then 0 else 1
+other p (TeeRequest t) = 1
 
 -- A stream without a reader has no requests, and one that a pipe has none but the pipe's
 pub record Queued (i : StreamId) (o : Option Stream) (pipes : List pipe.Slots) : Type 0 where
@@ -327,16 +340,112 @@ pipe-asks p operation s es (Some x) e none k = by (operation-reads p (ends_at x 
           ),
         )
 
+-- an operation of a tee
+
+-- where a tee has the stream, no pipe has it
+not_piped : (i : StreamId) (s : Slots) (es : List Effect) → Balanced Reading i s es → 1 ≤ in_tees Reading i s.tees → (q : PipeId) (o : Option pipe.Slots) → slice_get s.pipes q.0 ≡ o → holds Reading i (as_pipe o) ≡ true
+    → {A : Type 0} → A
+not_piped i s es b teed q None e h = absurd (cc)
+not_piped i s es b teed q (Some x) e h =
+    let there = pipes-there Reading i q.0 s.pipes x e in
+    let one = ap one_if h in
+    let few = b.few in
+    let most = one_at_most (is_there Reading (slice_get s.streams i.0)) in
+    absurd (omega (arith, there, one, few, most, teed))
+
+tee_place : (ts : List tee.Slots) (n : ℕ) (x y : tee.Slots) → slice_get ts n ≡ Some x → slice_get (slice_set ts n y) n ≡ Some y
+tee_place [] n x y e = cc
+tee_place (z ∷ ts) zero x y e = refl
+tee_place (z ∷ ts) (suc n) x y e = tee_place ts n x y e
+
+-- it causes no read, or one of its source alone
+data TeeReads (me : TeeId) (source : StreamId) (es : List Effect) : Type 0 where
+  NoneRead : Each IsNoRead es → TeeReads me source es
+  ItsRead : es ≡ OnReadable source (Read (TeeRequest me)) ∷ [] → TeeReads me source es
+
+unless_silent : (r : Option Plain) (i : StreamId) (operation : ReadableOperation) → IsNoRead (OnReadable i operation) → Each IsNoRead (tee.unless_cancelled r i operation)
+unless_silent None i operation n = (n, tt)
+unless_silent (Some r) i operation n = tt
+
+branches_silent : (operation : ReadableOperation) (x : tee.Slots) → ((i : StreamId) → IsNoRead (OnReadable i operation)) → Each IsNoRead (tee.on_branches operation x)
+branches_silent operation x n =
+    each-append IsNoRead (tee.unless_cancelled x.reason1 x.branch1 operation) (tee.unless_cancelled x.reason2 x.branch2 operation)
+    (unless_silent x.reason1 x.branch1 operation (n x.branch1)) (unless_silent x.reason2 x.branch2 operation (n x.branch2))
+
+fulfil_silent : (a : tee.Acts) → Each IsNoRead a.out.effects → Each IsNoRead (tee.fulfil_cancel a).out.effects
+fulfil_silent a h =
+    either (λ (z : tee.Acts). Each IsNoRead z.out.effects) (tee.is_wanted a.slots && not a.slots.answered) _ a (λ e. each-append IsNoRead a.out.effects _ h (tt, tt)) (λ e. h)
+
+pull_reads : (me : TeeId) (a : tee.Acts) (phase : TeePhase) → a.out.effects ≡ [] → TeeReads me a.slots.source (tee.pull_in me a phase).out.effects
+pull_reads me a Resting none = ItsRead (rw none refl)
+pull_reads me a TeeReading none = NoneRead (rw none tt)
+pull_reads me a Over none = NoneRead (rw none tt)
+
+close_silent : (a : tee.Acts) (phase : TeePhase) → a.out.effects ≡ [] → Each IsNoRead (tee.close_in a phase).out.effects
+close_silent a Resting none =
+    fulfil_silent (tee.causing (tee.on_branches Close a.slots) (tee.with_slots (record a.slots { phase = Over }) a)) (rw none (branches_silent Close a.slots (λ i. tt)))
+close_silent a TeeReading none =
+    fulfil_silent (tee.causing (tee.on_branches Close a.slots) (tee.with_slots (record a.slots { phase = Over }) a)) (rw none (branches_silent Close a.slots (λ i. tt)))
+close_silent a Over none = rw none tt
+
+hand_silent : (me : TeeId) (a : tee.Acts) (held : Option Value) → a.out.effects ≡ [] → Each IsNoRead (tee.hand_held me a held).out.effects
+hand_silent me a None none = rw none tt
+hand_silent me a (Some v) none = rw none (each-append IsNoRead (tee.on_branches (Enqueue v) a.slots) (OnTee me tees.Handed ∷ []) (branches_silent (Enqueue v) a.slots (λ i. tt)) (tt, tt))
+
+again_reads : (me : TeeId) (a : tee.Acts) (asked : Bool) → a.out.effects ≡ [] → TeeReads me a.slots.source (tee.again me a asked).out.effects
+unfolding tee.pull_branch
+again_reads me a true none = pull_reads me a a.slots.phase none
+again_reads me a false none = NoneRead (rw none tt)
+
+cancel_silent : (me : TeeId) (half : Half) (r : Plain) (a : tee.Acts) (reason : Option Plain) → a.out.effects ≡ [] → Each IsNoRead (tee.cancel_by me half r a reason).out.effects
+cancel_silent me half r a (Some old) none = rw none tt
+cancel_silent me half r a None none = grind (arith, none)
+
+tee-reads : (me : TeeId) (operation : TeeOperation) (a : tee.Acts) → a.out.effects ≡ [] → TeeReads me a.slots.source (tee_operation me operation a).out.effects
+unfolding tee.pull_branch tee.keep_chunk tee.source_closed tee.source_errored tee.hand_chunk tee.handed tee.cancel_branch tee.reader_settled
+tee-reads me tees.PullBranch a none = pull_reads me a a.slots.phase none
+tee-reads me (tees.KeepChunk v) a none = NoneRead (rw none tt)
+tee-reads me tees.SourceClosed a none = NoneRead (close_silent a a.slots.phase none)
+tee-reads me tees.SourceErrored a none = NoneRead (rw none tt)
+tee-reads me tees.HandChunk a none = NoneRead (hand_silent me a a.slots.held none)
+tee-reads me tees.Handed a none = again_reads me (tee.with_slots (record a.slots { phase = tee.rested a.slots.phase }) a) a.slots.read_again none
+tee-reads me (tees.CancelBranch half r u) a none =
+    NoneRead (each-append IsNoRead (tee.cancel_by me half r a (tee.reason_of half a.slots)).out.effects _ (cancel_silent me half r a (tee.reason_of half a.slots) none) (tt, tt))
+tee-reads me (tees.ReaderSettled (Ok v)) a none = NoneRead (rw none tt)
+tee-reads me (tees.ReaderSettled (Err r)) a none =
+    NoneRead (fulfil_silent (tee.causing (OnReadable a.slots.branch1 (Error r) ∷ OnReadable a.slots.branch2 (Error r) ∷ []) a) (rw none (tt, (tt, tt))))
+
+pub tee-asks : (t : TeeId) (operation : TeeOperation) (s : Slots) (es : List Effect) (o : Option tee.Slots) → slice_get s.tees t.0 ≡ o → Each IsNoRead es
+    → let d : Done = on_tee_at (tee_operation t operation) t s o in ((i : StreamId) → Balanced Reading i d.slots (d.caused ++ es)) → ReadsFirst (d.caused ++ es) × Asks d.slots (d.caused ++ es)
+tee-asks t operation s es None e none k = (none-first es none, none-asks s es none)
+tee-asks t operation s es (Some x) e none k = by (tee-reads t operation (record { slots = x; out = found s }) refl)
+  where
+    b : tee.Acts
+    b = tee_operation t operation (record { slots = x; out = found s })
+
+    z : Slots
+    z = (on_tee_at (tee_operation t operation) t s (Some x)).slots
+
+    by : TeeReads t x.source b.out.effects → ReadsFirst (b.out.effects ++ es) × Asks z (b.out.effects ++ es)
+    by (NoneRead n) = let all = each-append IsNoRead b.out.effects es n none in (none-first (b.out.effects ++ es) all, none-asks z (b.out.effects ++ es) all)
+    by (ItsRead is) =
+        let source = (tee-causes t operation (record { slots = x; out = found s })).same.source in
+        let place : slice_get z.tees t.0 ≡ Some b.slots = tee_place s.tees t.0 x b.slots e in
+        let there = tees-there Reading x.source t.0 z.tees b.slots place in
+        let self : is_same x.source b.slots.source ≡ true = rw source (is_same-refl x.source) in
+        let one = ap one_if self in
+        rw is (none, (omega (arith, there, one), (λ q h. not_piped x.source z (b.out.effects ++ es) (k x.source) (omega (arith, there, one)) q (slice_get z.pipes q.0) refl h)))
+
 -- other effects cause no read
 
 transform_silent : (me : TransformId) (writable readable : StreamId) (e : Effect) → TransformCauses me writable readable e → IsNoRead e
 transform_silent me writable readable e c = grind (arith, c)
 
-read-causes : (e : Effect) → IsNoPipe e → Causes IsNoRead e
-read-causes e n = grind (arith, n, transform_silent)
+read-causes : (e : Effect) → IsNoPipe e → IsNoTee e → Causes IsNoRead e
+read-causes e n m = grind (arith, n, m, transform_silent)
 
-pub other-silent : (s : Slots) (e : Effect) (es : List Effect) → IsNoPipe e → ReadsFirst (e ∷ es) → Each IsNoRead ((row e s).caused ++ es)
-other-silent s e es n first = each-append IsNoRead (row e s).caused es (row-causes IsNoRead e s (read-causes e n)) first
+pub other-silent : (s : Slots) (e : Effect) (es : List Effect) → IsNoPipe e → IsNoTee e → ReadsFirst (e ∷ es) → Each IsNoRead ((row e s).caused ++ es)
+other-silent s e es n m first = each-append IsNoRead (row e s).caused es (row-causes IsNoRead e s (read-causes e n m)) first
 
 -- each effect
 

@@ -35,6 +35,13 @@ use Rattle.ws_lock_laws.proofs.Holding.{locks-append, locks-set, pipes-append}
 use Rattle.ws_lock_laws.proofs.Rows.{is_there, Balanced, IsToldBytes, take-causes}
 use Rattle.ws_steps.specs.Slots.{ByteStream}
 use Rattle.ws_steps.specs.Bytes as byte
+use Rattle.ws_value.specs.declared.ids.TeeId.{TeeId}
+use Rattle.ws_steps.specs.declared.tee.Half.TheVariants.{First, Second}
+use Rattle.ws_steps.specs.declared.effects.Owner.TheVariants.{BranchOf}
+use Rattle.ws_steps.specs.Tee as tee
+use Rattle.ws_lock_laws.specs.Locks.{in_tees, tees_off}
+use Rattle.ws_lock_laws.proofs.Holding.{tees-append}
+use Rattle.ws_steps.specs.Slots.{has_readable, is_readable_stream}
 
 -- jobs take no lock, and let go of none
 
@@ -90,6 +97,7 @@ call-first c s = each_call (λ (b : Begun). TakesFirst b.done.caused) c s (recor
   write = λ l v i e. tt;
   close = λ i. tt;
   abort = λ reason i e. tt;
+  make_tee = λ i e is free untied. (tt, (tt, tt));
   make_transform = λ kind m n start.
       let first : Effect = calls.start_transform (next_id (fresh s.promises)) (record { 0 = length s.streams + 1 }) start in
       (tt, (tt, (tt, (calm_takes first (start-calm (next_id (fresh s.promises)) (record { 0 = length s.streams + 1 }) start), tt))));
@@ -152,6 +160,7 @@ call-told c s = each_call (λ (b : Begun). Each (IsToldBytes b.done.slots) b.don
   write = λ l v i e. (tt, tt);
   close = λ i. (tt, tt);
   abort = λ reason i e. (tt, tt);
+  make_tee = λ i e is free untied. (tt, (tt, (tt, (tt, tt))));
   make_transform = λ kind m n start.
       let first : Effect = calls.start_transform (next_id (fresh s.promises)) (record { 0 = length s.streams + 1 }) start in
       (tt, (tt, (tt, (tt, (no_take-told (calls.make_transform kind m n start (record { 0 = length s.streams }) (record { 0 = length s.streams + 1 }) s).done.slots first (calm_takes first (start-calm (next_id (fresh s.promises)) (record { 0 = length s.streams + 1 }) start)), tt)))));
@@ -183,15 +192,15 @@ none_there Writing = refl
 
 module _ (d : Side) (i : StreamId) (s : Slots) (k : Balanced d i s []) where
   -- some let go of the stream, and none takes it
-  leaves : (z : Slots) (es : List Effect) → in_locks d i z.locks + all (goes d i) es ≡ in_locks d i s.locks → z.pipes ≡ s.pipes → z.streams ≡ s.streams → Each IsNoTake es → Balanced d i z es
-  leaves z es locks pipes streams none =
+  leaves : (z : Slots) (es : List Effect) → in_locks d i z.locks + all (goes d i) es ≡ in_locks d i s.locks → z.pipes ≡ s.pipes → z.tees ≡ s.tees → z.streams ≡ s.streams → Each IsNoTake es → Balanced d i z es
+  leaves z es locks pipes tees streams none =
       let t = takes_none-all d i es none in
       let even = k.even in
       let few = k.few in
-      rw (pipes, streams) (record { even = omega (arith, t, locks, even); few = omega (arith, locks, few) })
+      rw (pipes, tees, streams) (record { even = omega (arith, t, locks, even); few = omega (arith, locks, few) })
 
-  others : (z : Slots) (es : List Effect) → in_locks d i z.locks ≡ in_locks d i s.locks → z.pipes ≡ s.pipes → z.streams ≡ s.streams → Each IsCalm es → Balanced d i z es
-  others z es locks pipes streams calm = let g = goes_none-all d i es calm in leaves z es (omega (arith, locks, g)) pipes streams (no_takes es calm)
+  others : (z : Slots) (es : List Effect) → in_locks d i z.locks ≡ in_locks d i s.locks → z.pipes ≡ s.pipes → z.tees ≡ s.tees → z.streams ≡ s.streams → Each IsCalm es → Balanced d i z es
+  others z es locks pipes tees streams calm = let g = goes_none-all d i es calm in leaves z es (omega (arith, locks, g)) pipes tees streams (no_takes es calm)
 
   -- one takes the stream where none had it
   enters : (z : Slots) (es : List Effect) (b : Bool) → holders d i z ≡ holders d i s + one_if b → z.streams ≡ s.streams → all (takes d i) es ≡ one_if b → all (goes d i) es ≡ 0
@@ -229,6 +238,15 @@ module _ (d : Side) (i : StreamId) (s : Slots) (k : Balanced d i s []) where
           let lock : one_if (has_lock d (slice_get (s.streams ++ x ∷ []) i.0)) ≡ 0 = rw (now, free) refl in
           let few = k.few in
           record { even = omega (arith, t, g, lock, none, few); few = omega (arith, g, none, few) }
+
+  -- a tee takes its source
+  inner_one : in_locks d i (s.locks ++ Inner ∷ []) ≡ in_locks d i s.locks
+  inner_one = by d s.locks
+    where
+      by : (d : Side) (ls : List Lock) → in_locks d i (ls ++ Inner ∷ []) ≡ in_locks d i ls
+      by Reading [] = refl
+      by Writing [] = refl
+      by d (l ∷ ls) = let n = by d ls in omega (arith, n)
 
   -- a pipe takes its ends
   inner : in_locks d i (s.locks ++ Inner ∷ Inner ∷ []) ≡ in_locks d i s.locks
@@ -280,6 +298,21 @@ gets_none : (c : Call) (s : Slots) → IsOther c → gets_writer (begin c s).rep
 unfolding begin
 gets_none (GetWriter i) s o = absurd o
 gets_none c s o = grind arith
+
+-- a readable stream that is there stays where another stream is made
+
+last_there : (o : Option Stream) → o ≡ None → is_readable_stream o ≡ true → ⊥
+last_there o e f = cc
+
+not_new : (j : StreamId) (xs : List Stream) → is_readable_stream (slice_get xs j.0) ≡ true → nat_eq j.0 (length xs) ≡ false
+not_new j xs there = by (nat_eq j.0 (length xs)) refl
+  where
+    by : (last : Bool) → last ≡ nat_eq j.0 (length xs) → nat_eq j.0 (length xs) ≡ false
+    by false e = sym e
+    by true e = absurd (last_there (slice_get xs j.0) (no_stream j xs (eq_numbers j.0 (length xs) (sym e))) there)
+
+pub before_one : (j : StreamId) (xs : List Stream) (x : Stream) → is_readable_stream (slice_get xs j.0) ≡ true → slice_get (xs ++ x ∷ []) j.0 ≡ slice_get xs j.0
+before_one j xs x there = place_before xs x j.0 (unequal_numbers j.0 (length xs) (not_new j xs there))
 
 module _ (i : StreamId) where
   get_reader-balanced : (d : Side) (j : StreamId) (s : Slots) → is_some (source_at j s).reader ≡ false → Balanced d i s [] → Balanced d i (calls.get_reader j s).done.slots (calls.get_reader j s).done.caused
@@ -334,7 +367,7 @@ module _ (i : StreamId) where
       let set = locks-set d i l.0 s.locks old new e in
       let none = ap one_if (gone_of (calls.renewed closed s.promises kept)) in
       let gone = renewed-goes d s.promises kept (OnReadable j ReleaseReader ∷ []) in
-      leaves d i s k (calls.release_reader released l closed j s).done.slots (calls.release_reader released l closed j s).done.caused (omega (arith, set, none, gone, own)) refl refl
+      leaves d i s k (calls.release_reader released l closed j s).done.slots (calls.release_reader released l closed j s).done.caused (omega (arith, set, none, gone, own)) refl refl refl
       (each-append IsNoTake (calls.reject_renewed s.promises kept) (OnReadable j ReleaseReader ∷ []) (no_takes _ (renewed-calm s.promises kept)) (tt, tt))
 
   release_writer-balanced : (d : Side) (l : LockId) (j : StreamId) (w : Writer) (s : Slots) → lock_at l s ≡ Some (WriterLock j) → Balanced d i s []
@@ -349,7 +382,7 @@ module _ (i : StreamId) where
       let gone = renewed-goes d t closed (OnWritable j ReleaseWriter ∷ []) in
       let before = renewed-goes d s.promises ready (calls.reject_renewed t closed ++ OnWritable j ReleaseWriter ∷ []) in
       let own = writer_leaves d j in
-      leaves d i s k (calls.release_writer l j w s).done.slots (calls.release_writer l j w s).done.caused (omega (arith, set, none, gone, before, own)) refl refl
+      leaves d i s k (calls.release_writer l j w s).done.slots (calls.release_writer l j w s).done.caused (omega (arith, set, none, gone, before, own)) refl refl refl
       (each-append IsNoTake (calls.reject_renewed s.promises ready) _ (no_takes _ (renewed-calm s.promises ready))
       (each-append IsNoTake (calls.reject_renewed t closed) (OnWritable j ReleaseWriter ∷ []) (no_takes _ (renewed-calm t closed)) (tt, tt)))
 
@@ -400,6 +433,44 @@ module _ (i : StreamId) where
       (tt, (tt, (tt, (tt, (start-calm (next_id (fresh s.promises)) l start, tt))))) in
       record { even = two.even; few = two.few }
 
+  -- a tee takes its source, a stream that was there, and its branches are new
+
+  tee-balanced : (d : Side) (source j l : StreamId) (s : Slots) → has_readable source s ≡ true → is_some (source_at source s).reader ≡ false → Balanced d i s []
+      → Balanced d i (calls.make_tee source j l s).done.slots (calls.make_tee source j l s).done.caused
+  tee-balanced d source j l s there free k =
+      let me : TeeId = record { 0 = length s.tees } in
+      let x : Stream = ReadableStream (readable.set_up (BranchOf me First) 1 Count) in
+      let y : Stream = ReadableStream (readable.set_up (BranchOf me Second) 1 Count) in
+      let new : tee.Slots = tee.set_up source j l (next_id (fresh s.promises)) in
+      let first : Slots = add_stream x s in
+      let both : Slots = add_stream y first in
+      let z : Slots = (calls.make_tee source j l s).done.slots in
+      let es : List Effect = (calls.make_tee source j l s).done.caused in
+      let one : Balanced d i first [] = made d i s k x [] (new_readable d (BranchOf me First) 1 Count) tt in
+      let two : Balanced d i both [] = made d i first one y [] (new_readable d (BranchOf me Second) 1 Count) tt in
+      let here : slice_get first.streams source.0 ≡ slice_get s.streams source.0 = before_one source s.streams x there in
+      let still : is_readable_stream (slice_get first.streams source.0) ≡ true = rw here there in
+      let after : slice_get both.streams source.0 ≡ slice_get s.streams source.0 = before_one source first.streams y still ∙ here in
+      let open_ : is_some (source_at source both).reader ≡ false = rw after free in
+      let n = inner_one d i s k in
+      let m = tees-append d i s.tees new in
+      by d two n m open_
+    where
+      by : (d : Side) → let me : TeeId = record { 0 = length s.tees } in
+          let both : Slots = add_stream (ReadableStream (readable.set_up (BranchOf me Second) 1 Count)) (add_stream (ReadableStream (readable.set_up (BranchOf me First) 1 Count)) s) in
+          let new : tee.Slots = tee.set_up source j l (next_id (fresh s.promises)) in
+          Balanced d i both [] → in_locks d i (s.locks ++ Inner ∷ []) ≡ in_locks d i s.locks → in_tees d i (s.tees ++ new ∷ []) ≡ in_tees d i s.tees + one_if (tees_off d i new)
+          → is_some (source_at source both).reader ≡ false → Balanced d i (calls.make_tee source j l s).done.slots (calls.make_tee source j l s).done.caused
+      by Reading two n m open_ =
+          let me : TeeId = record { 0 = length s.tees } in
+          let both : Slots = add_stream (ReadableStream (readable.set_up (BranchOf me Second) 1 Count)) (add_stream (ReadableStream (readable.set_up (BranchOf me First) 1 Count)) s) in
+          enters Reading i both two (calls.make_tee source j l s).done.slots (calls.make_tee source j l s).done.caused (is_same i source) (omega (arith, n, m)) refl (omega arith) refl
+          (λ e. let f = free_reader (slice_get both.streams source.0) open_ in rw (same_id i source e) f)
+      by Writing two n m open_ =
+          let me : TeeId = record { 0 = length s.tees } in
+          let both : Slots = add_stream (ReadableStream (readable.set_up (BranchOf me Second) 1 Count)) (add_stream (ReadableStream (readable.set_up (BranchOf me First) 1 Count)) s) in
+          enters Writing i both two (calls.make_tee source j l s).done.slots (calls.make_tee source j l s).done.caused false (omega (arith, n, m)) refl refl refl (λ e. absurd (cc))
+
   -- each call
 
   abbrev Now : Side → Begun → Type 0
@@ -417,41 +488,42 @@ module _ (i : StreamId) where
 
   other-balanced : (d : Side) (c : Call) (s : Slots) → Balanced d i s [] → Other d (begin c s)
   other-balanced d c s k =
-      let quiet : (z : Slots) (es : List Effect) → in_locks d i z.locks ≡ in_locks d i s.locks → z.pipes ≡ s.pipes → z.streams ≡ s.streams → Each IsCalm es → Balanced d i z es = others d i s k in
+      let quiet : (z : Slots) (es : List Effect) → in_locks d i z.locks ≡ in_locks d i s.locks → z.pipes ≡ s.pipes → z.tees ≡ s.tees → z.streams ≡ s.streams → Each IsCalm es → Balanced d i z es = others d i s k in
       each_call (Other d) c s (record {
         unchanged = λ reply. inl k;
-        rejected = inl (quiet _ _ refl refl refl (tt, tt));
+        rejected = inl (quiet _ _ refl refl refl refl (tt, tt));
         make_readable = λ mark size start. inl (made d i s k (ReadableStream (readable.set_up Host mark size)) _ (new_readable d Host mark size) (tt, tt));
         make_writable = λ mark size start. inl (made d i s k (WritableStream (writable.set_up Host mark size)) _ (new_writable d Host mark size) (tt, tt));
         get_byob = λ j is e. inl (get_byob-balanced d j s e k);
         release_byob = λ l closed j e. inl (release_reader-balanced d l closed j s (ByobReader (Some j) closed) (ByobReader None) (byob_leaves d j closed) (no_byob d i) e k);
-        read_into = λ l j closed room element least e f. inl (quiet _ _ refl refl refl (tt, tt));
-        enqueue_bytes = λ j b e is some can. inl (quiet _ _ refl refl refl (tt, tt));
-        finish_bytes = λ j e is can. inl (quiet _ _ refl refl refl (tt, tt));
-        make_request = λ j reply is. inl (quiet _ _ refl refl refl (tt, tt));
-        respond = λ r j b e is can. inl (quiet _ _ refl refl refl (tt, tt));
+        read_into = λ l j closed room element least e f. inl (quiet _ _ refl refl refl refl (tt, tt));
+        enqueue_bytes = λ j b e is some can. inl (quiet _ _ refl refl refl refl (tt, tt));
+        finish_bytes = λ j e is can. inl (quiet _ _ refl refl refl refl (tt, tt));
+        make_request = λ j reply is. inl (quiet _ _ refl refl refl refl (tt, tt));
+        respond = λ r j b e is can. inl (quiet _ _ refl refl refl refl (tt, tt));
         make_bytes = λ mark auto start. inl (made d i s k (ByteStream (byte.set_up mark auto)) _ (new_bytes d mark auto) (tt, tt));
         get_reader = λ j e. inl (get_reader-balanced d j s e k);
         get_writer = λ j e. inr refl;
         release_reader = λ l closed j e. inl (release_reader-balanced d l closed j s (Reader (Some j) closed) (Reader None) (reader_leaves d j closed) (no_has d i) e k);
         release_writer = λ l j w e f. inl (release_writer-balanced d l j w s e k);
-        cancel = λ reason j. inl (quiet _ _ refl refl refl (tt, tt));
-        read = λ l j closed e f. inl (quiet _ _ refl refl refl (tt, tt));
-        write = λ l v j e. inl (quiet _ _ refl refl refl (tt, tt));
-        close = λ j. inl (quiet _ _ refl refl refl (tt, tt));
-        abort = λ reason j e. inl (quiet _ _ refl refl refl (tt, tt));
+        cancel = λ reason j. inl (quiet _ _ refl refl refl refl (tt, tt));
+        read = λ l j closed e f. inl (quiet _ _ refl refl refl refl (tt, tt));
+        write = λ l v j e. inl (quiet _ _ refl refl refl refl (tt, tt));
+        close = λ j. inl (quiet _ _ refl refl refl refl (tt, tt));
+        abort = λ reason j e. inl (quiet _ _ refl refl refl refl (tt, tt));
+        make_tee = λ j e there free untied. inl (tee-balanced d j (record { 0 = length s.streams }) (record { 0 = length s.streams + 1 }) s there free k);
         make_transform = λ kind m n start. inl (transform-balanced d kind m n start (record { 0 = length s.streams }) (record { 0 = length s.streams + 1 }) s k);
-        enqueue = λ j v e o can. inl (quiet _ _ refl refl refl (tt, tt));
-        enqueue_half = λ j t v e o can. inl (quiet _ _ refl refl refl (tt, tt));
-        fail_half = λ t reason. inl (quiet _ _ refl refl refl (tt, tt));
-        terminate = λ t. inl (quiet _ _ refl refl refl (tt, tt));
-        finish = λ j. inl (quiet _ _ refl refl refl (tt, tt));
-        fail_readable = λ j reason. inl (quiet _ _ refl refl refl (tt, tt));
-        fail_writable = λ j reason. inl (quiet _ _ refl refl refl (tt, tt));
+        enqueue = λ j v e o can. inl (quiet _ _ refl refl refl refl (tt, tt));
+        enqueue_half = λ j t v e o can. inl (quiet _ _ refl refl refl refl (tt, tt));
+        fail_half = λ t reason. inl (quiet _ _ refl refl refl refl (tt, tt));
+        terminate = λ t. inl (quiet _ _ refl refl refl refl (tt, tt));
+        finish = λ j. inl (quiet _ _ refl refl refl refl (tt, tt));
+        fail_readable = λ j reason. inl (quiet _ _ refl refl refl refl (tt, tt));
+        fail_writable = λ j reason. inl (quiet _ _ refl refl refl refl (tt, tt));
         pipe = λ source dest prevent signal e f free writer. inl (pipe-balanced d source dest prevent signal s free f writer k);
-        make_signal = inl (quiet _ _ refl refl refl tt);
-        trigger = λ a reason. inl (quiet _ _ refl refl refl (tt, tt));
-        settle = λ h answer q e. inl (quiet _ _ refl refl refl (tt, tt));
+        make_signal = inl (quiet _ _ refl refl refl refl tt);
+        trigger = λ a reason. inl (quiet _ _ refl refl refl refl (tt, tt));
+        settle = λ h answer q e. inl (quiet _ _ refl refl refl refl (tt, tt));
       })
 
   pub call-balanced : (d : Side) (c : Call) (s : Slots) → Balanced d i s [] → Now d (begin c s)
@@ -460,4 +532,4 @@ module _ (i : StreamId) where
       ⊎_elim (λ (n : Now d (begin c s)). n) (λ (g : gets_writer (begin c s).reply (begin c s).done.caused ≡ true). false_true (gets_writer (begin c s).reply (begin c s).done.caused) g (gets_none c s tt)) (other-balanced d c s k)
 
   pub job-balanced : (d : Side) (job : Job) (s : Slots) (t : Table) → Balanced d i s [] → Balanced d i (with_promises t s) (job_effects job)
-  job-balanced d job s t k = others d i s k (with_promises t s) (job_effects job) refl refl refl (job-calm job)
+  job-balanced d job s t k = others d i s k (with_promises t s) (job_effects job) refl refl refl refl (job-calm job)

@@ -248,7 +248,9 @@ module _ (me : StreamId) where
   byte_readable-look (names.InitializeReader c) a n m = absurd n
   byte_readable-look names.ReleaseReader a n m = absurd n
   byte_readable-look names.Disturb a n m = refl
-  byte_readable-look (names.Read q) a n m = rw m (read-same q (byte.in_stream readable.disturb a) a.slots.stream.state)
+  byte_readable-look (names.Read q) a n m =
+      either (Same a) (byte.is_of_tee q) a (byte.if_meant (byte.may_read a.slots) (byte.read_by me q (byte.in_stream readable.disturb a) a.slots.stream.state) a) (λ e. refl)
+      (λ e. rw m (read-same q (byte.in_stream readable.disturb a) a.slots.stream.state))
   byte_readable-look (names.Cancel r p) a n m = cancel-same r p (byte.in_stream readable.disturb a) a.slots.stream.state
   byte_readable-look (names.CancelIfReadable r p) a n m =
       either (Same a) (readable.is_readable a.slots.stream.state) _ _ (λ e. cancel-same r p (byte.in_stream readable.disturb a) a.slots.stream.state) (λ e. refl)
@@ -287,7 +289,9 @@ module _ (me : StreamId) where
   read-reader : (q : ReadRequest) (a : Acts) → is_some (byte.read me q a).slots.stream.reader ≡ is_some a.slots.stream.reader
   unfolding byte.read byte.default_reader_read readable.disturb
   read-reader q a =
-      meant-reader (byte.may_read a.slots) (byte.read_by me q (byte.in_stream readable.disturb a) a.slots.stream.state) a (ap (λ (l : Look). l.locked) (read-same q (byte.in_stream readable.disturb a) a.slots.stream.state))
+      either (λ (z : Acts). is_some z.slots.stream.reader ≡ is_some a.slots.stream.reader) (byte.is_of_tee q) a
+      (byte.if_meant (byte.may_read a.slots) (byte.read_by me q (byte.in_stream readable.disturb a) a.slots.stream.state) a) (λ e. refl)
+      (λ e. meant-reader (byte.may_read a.slots) (byte.read_by me q (byte.in_stream readable.disturb a) a.slots.stream.state) a (ap (λ (l : Look). l.locked) (read-same q (byte.in_stream readable.disturb a) a.slots.stream.state)))
 
   initialize-reader : (kind : ReaderKind) (c : PromiseId) (a : Acts) (reader : Option PromiseId) → reader ≡ a.slots.stream.reader → is_some (byte.reader_initialize kind c a).slots.stream.reader ≡ true
   unfolding byte.reader_initialize

@@ -302,6 +302,7 @@ module _ (me : StreamId) (w : ReadRequest → ℕ) (v : Effect → ℕ) (weighs 
   pub record FindsRead (operation : ReadableOperation) (s : Slots) : Type 0 where
     pub none : (c : PromiseId) → operation ≡ names_of.InitializeReader c → sum_of w s.stream.requests ≡ 0
     pub meant : (q : ReadRequest) → operation ≡ names_of.Read q → byte.may_read s ≡ false → w q ≡ 0
+    pub untied : (q : ReadRequest) → byte.is_of_tee q ≡ true → w q ≡ 0
 
   pub byte_readable-hands : (operation : ReadableOperation) (a : Acts) → FindsRead operation a.slots → Hands (given_read w operation) a (byte_readable_operation me operation a)
   unfolding readable.disturb byte.read byte.default_reader_read byte.stream_cancel byte.cancel_if_readable byte.controller_close byte.start_settled byte.pull_settled
@@ -309,7 +310,9 @@ module _ (me : StreamId) (w : ReadRequest → ℕ) (v : Effect → ℕ) (weighs 
   byte_readable-hands names_of.ReleaseReader a f = release-hands a
   byte_readable-hands names_of.Disturb a f = omega arith
   byte_readable-hands (names_of.Read q) a f =
-      meant-hands (w q) (byte.may_read a.slots) (byte.read_by me q (byte.in_stream readable.disturb a) a.slots.stream.state) a (f.meant q refl) (read-hands q (byte.in_stream readable.disturb a) a.slots.stream.state)
+      either (Hands (w q) a) (byte.is_of_tee q) a (byte.if_meant (byte.may_read a.slots) (byte.read_by me q (byte.in_stream readable.disturb a) a.slots.stream.state) a)
+      (λ e. let none = f.untied q e in omega (arith, none))
+      (λ e. meant-hands (w q) (byte.may_read a.slots) (byte.read_by me q (byte.in_stream readable.disturb a) a.slots.stream.state) a (f.meant q refl) (read-hands q (byte.in_stream readable.disturb a) a.slots.stream.state))
   byte_readable-hands (names_of.Cancel r p) a f = cancel-hands r p (byte.in_stream readable.disturb a) a.slots.stream.state
   byte_readable-hands (names_of.CancelIfReadable r p) a f = let h = cancel-hands r p (byte.in_stream readable.disturb a) a.slots.stream.state in grind (arith, h)
   byte_readable-hands (names_of.Enqueue x) a f = omega arith

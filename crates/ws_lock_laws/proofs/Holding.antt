@@ -1,16 +1,25 @@
 -- How many have the lock of a stream, as locks and pipes come and change.
-use Rattle.std.proofs.Common.{◌≡◌, ◌≢◌, ap, ℕ, ◌+◌, ◌≤◌, zero, suc, List, [], ◌∷◌, ◌++◌, Option, Some, slice_get, slice_set, refl, arith}
+use Rattle.std.proofs.Common.{◌≡◌, ◌≢◌, ap, sym, ◌∙◌, ℕ, ◌+◌, ◌≤◌, zero, suc, Bool, false, map, List, [], ◌∷◌, ◌++◌, Option, Some, slice_get, slice_set, refl, arith}
 use Rattle.ws_value.specs.declared.ids.StreamId.{StreamId}
 use Rattle.ws_steps.specs.declared.locks.Lock.{Lock}
 use Rattle.ws_steps.specs.Pipes as pipe
 use Rattle.ws_pipe_laws.specs.PipeReads.{one_if}
-use Rattle.ws_lock_laws.specs.Locks.{Side, has, holds, in_locks, in_pipes}
+use Rattle.ws_lock_laws.specs.Locks.{Side, Reading, Writing, has, holds, tees_off, in_locks, in_pipes, in_tees}
+use Rattle.ws_steps.specs.declared.effects.Effect.{Effect}
+use Rattle.ws_steps.specs.Histories.{is_same}
+use Rattle.ws_steps.specs.Slots.{Slots}
+use Rattle.ws_steps.specs.Tee as tee
+use Rattle.ws_steps.specs.Turns.{row}
+use Rattle.ws_laws.proofs.Shapes.{TeeShape, tee_shape, row-tee_shapes}
 
 some_lock : (k l : Lock) → ◌≡◌ {A = Option Lock} (Some k) (Some l) → k ≡ l
 some_lock k l e = cc
 
 some_pipe : (x y : pipe.Slots) → ◌≡◌ {A = Option pipe.Slots} (Some x) (Some y) → x ≡ y
 some_pipe x y e = cc
+
+some_tee : (x y : tee.Slots) → ◌≡◌ {A = Option tee.Slots} (Some x) (Some y) → x ≡ y
+some_tee x y e = cc
 
 module _ (d : Side) (i : StreamId) where
   pub locks-append : (ls : List Lock) (l : Lock) → in_locks d i (ls ++ l ∷ []) ≡ in_locks d i ls + one_if (has d i l)
@@ -48,3 +57,35 @@ module _ (d : Side) (i : StreamId) where
   pipes-two zero (suc n) (z ∷ xs) x y k e f = let rest = pipes-there n xs y f in rw (some_pipe z x e) (omega (arith, rest))
   pipes-two (suc m) zero (z ∷ xs) x y k e f = let rest = pipes-there m xs x e in rw (some_pipe z y f) (omega (arith, rest))
   pipes-two (suc m) (suc n) (z ∷ xs) x y k e f = let rest = pipes-two m n xs x y (λ g. k (ap suc g)) e f in omega (arith, rest)
+
+  -- tees
+
+  pub tees-append : (xs : List tee.Slots) (x : tee.Slots) → in_tees d i (xs ++ x ∷ []) ≡ in_tees d i xs + one_if (tees_off d i x)
+  tees-append [] x = omega arith
+  tees-append (y ∷ ys) x = let n = tees-append ys x in omega (arith, n)
+
+  pub tees-there : (n : ℕ) (xs : List tee.Slots) (x : tee.Slots) → slice_get xs n ≡ Some x → one_if (tees_off d i x) ≤ in_tees d i xs
+  tees-there n [] x e = cc
+  tees-there zero (y ∷ xs) x e = rw (some_tee y x e) (omega arith)
+  tees-there (suc n) (y ∷ xs) x e = let rest = tees-there n xs x e in omega (arith, rest)
+
+  -- what a tee has is told by its shape
+  abbrev off_shape : Side → TeeShape → Bool
+  off_shape Reading x = is_same i x.source
+  off_shape Writing x = false
+
+  abbrev in_shapes : List TeeShape → ℕ
+  in_shapes [] = 0
+  in_shapes (x ∷ xs) = one_if (off_shape d x) + in_shapes xs
+
+  off-told : (e : Side) (x : tee.Slots) → tees_off e i x ≡ off_shape e (tee_shape x)
+  off-told Reading x = refl
+  off-told Writing x = refl
+
+  tees-told : (xs : List tee.Slots) → in_tees d i xs ≡ in_shapes (map tee_shape xs)
+  tees-told [] = refl
+  tees-told (x ∷ xs) = let n = ap one_if (off-told d x) in let rest = tees-told xs in omega (arith, n, rest)
+
+  -- each effect leaves what tees have
+  pub row-in_tees : (e : Effect) (s : Slots) → in_tees d i (row e s).slots.tees ≡ in_tees d i s.tees
+  row-in_tees e s = tees-told (row e s).slots.tees ∙ (ap in_shapes (row-tee_shapes e s) ∙ sym (tees-told s.tees))

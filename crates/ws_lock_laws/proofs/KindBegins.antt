@@ -1,5 +1,5 @@
 -- The kind of the reader of a byte stream as calls begin.
-use Rattle.std.proofs.Common.{◌≡◌, ℕ, ◌+◌, ◌≤◌, Bool, true, false, nat_eq, is_some, List, [], ◌∷◌, ◌++◌, length, Option, Some, None, slice_get, refl, sym, ap, arith}
+use Rattle.std.proofs.Common.{◌≡◌, ℕ, ◌+◌, ◌≤◌, Bool, true, false, nat_eq, is_some, List, [], ◌∷◌, ◌++◌, length, Option, Some, None, slice_get, refl, sym, ap, arith, ◌∙◌}
 use Rattle.ws_value.specs.declared.{ids.LockId.{LockId}, ids.PipeId.{PipeId}, ids.PromiseId.{PromiseId}, ids.SignalId.{SignalId}, ids.StreamId.{StreamId}}
 use Rattle.ws_steps.specs.declared.calls.{Call.{Call}, StartBy.{StartBy}}
 use Rattle.ws_steps.specs.declared.effects.Effect.{Effect}
@@ -27,6 +27,13 @@ use Rattle.ws_lock_laws.proofs.Agenda.{IsNoTake, calm_takes}
 use Rattle.ws_lock_laws.proofs.Begins.{no_takes, renewed-calm, begins-calm, start-calm, free_reader}
 use Rattle.ws_lock_laws.proofs.Holding.{pipes-append}
 use Rattle.ws_lock_laws.proofs.ReaderKinds.{has_default, has_byob, count_locks, count-append, count-set, defaults, byobs, takes_default, takes_byob, default_none-all, byob_none-all, byte_look, KindHeld, OfKind, fewer}
+use Rattle.ws_value.specs.declared.ids.TeeId.{TeeId}
+use Rattle.ws_steps.specs.declared.tee.Half.TheVariants.{First, Second}
+use Rattle.ws_steps.specs.declared.effects.Owner.TheVariants.{BranchOf}
+use Rattle.ws_steps.specs.Tee as tee
+use Rattle.ws_steps.specs.Slots.{has_readable}
+use Rattle.ws_lock_laws.proofs.Holding.{tees-append}
+use Rattle.ws_lock_laws.proofs.Begins.{before_one}
 
 -- a stream that isn't locked may be had by any
 free-held : (o : Option Stream) (m n x y : ℕ) → has_lock Reading o ≡ false → KindHeld (byte_look o) m n → KindHeld (byte_look o) x y
@@ -42,6 +49,10 @@ inner-count f (l ∷ ls) e = let n = inner-count f ls e in omega (arith, n)
 new-bytes : (mark auto m n : ℕ) → KindHeld (byte_look (Some (ByteStream (byte.set_up mark auto)))) m n
 new-bytes mark auto m n = record { straight = refl; byob = λ l. cc; default = λ l. cc }
 
+inner-one : (f : Lock → Bool) (ls : List Lock) → f Inner ≡ false → count_locks f (ls ++ Inner ∷ []) ≡ count_locks f ls
+inner-one f [] e = rw e refl
+inner-one f (l ∷ ls) e = let n = inner-one f ls e in omega (arith, n)
+
 module _ (i : StreamId) (s : Slots) (k : OfKind i s []) where
   -- some let go of the stream, and none takes it
   leaves : (z : Slots) (es : List Effect) → byobs i z ≤ byobs i s → defaults i z ≤ defaults i s → z.streams ≡ s.streams → all (takes_default i) es ≡ 0 → all (takes_byob i) es ≡ 0 → OfKind i z es
@@ -51,8 +62,8 @@ module _ (i : StreamId) (s : Slots) (k : OfKind i s []) where
     kind = rw streams (fewer (byte_look (slice_get s.streams i.0)) (byobs i s) (defaults i s) (byobs i z) (defaults i z) b d k.kind);
   }
 
-  quiet : (z : Slots) (es : List Effect) → z.locks ≡ s.locks → z.pipes ≡ s.pipes → z.streams ≡ s.streams → Each IsNoTake es → OfKind i z es
-  quiet z es locks pipes streams none = leaves z es (rw locks (omega arith)) (rw (locks, pipes) (omega arith)) streams (default_none-all i es none) (byob_none-all i es none)
+  quiet : (z : Slots) (es : List Effect) → z.locks ≡ s.locks → z.pipes ≡ s.pipes → z.tees ≡ s.tees → z.streams ≡ s.streams → Each IsNoTake es → OfKind i z es
+  quiet z es locks pipes tees streams none = leaves z es (rw locks (omega arith)) (rw (locks, pipes, tees) (omega arith)) streams (default_none-all i es none) (byob_none-all i es none)
 
   -- one takes the stream where none had it
   enters : (z : Slots) (es : List Effect) (m n : ℕ) → byobs i z ≡ byobs i s + m → defaults i z ≡ defaults i s + n → z.streams ≡ s.streams → all (takes_default i) es ≡ n → all (takes_byob i) es ≡ m → is_locked Reading i s ≡ false → OfKind i z es
@@ -144,15 +155,36 @@ halved i s k kind m n start j l =
     (tt, (tt, (tt, (tt, (calm_takes first (start-calm (next_id (fresh s.promises)) l start), tt))))) in
     record { default_taken = two.default_taken; byob_taken = two.byob_taken; kind = two.kind }
 
+-- a tee takes its source, which was there, and its branches are new
+teed : (i : StreamId) (s : Slots) → OfKind i s [] → (source j l : StreamId) → has_readable source s ≡ true → is_some (source_at source s).reader ≡ false
+    → OfKind i (calls.make_tee source j l s).done.slots (calls.make_tee source j l s).done.caused
+teed i s k source j l there free =
+    let me : TeeId = record { 0 = length s.tees } in
+    let x : Stream = ReadableStream (readable.set_up (BranchOf me First) 1 Count) in
+    let y : Stream = ReadableStream (readable.set_up (BranchOf me Second) 1 Count) in
+    let new : tee.Slots = tee.set_up source j l (next_id (fresh s.promises)) in
+    let first : Slots = add_stream x s in
+    let both : Slots = add_stream y first in
+    let one : OfKind i first [] = made i s k x [] (λ m n. tt) tt in
+    let two : OfKind i both [] = made i first one y [] (λ m n. tt) tt in
+    let here : slice_get first.streams source.0 ≡ slice_get s.streams source.0 = before_one source s.streams x there in
+    let after : slice_get both.streams source.0 ≡ slice_get s.streams source.0 = before_one source first.streams y (rw here there) ∙ here in
+    let open_ : is_some (source_at source both).reader ≡ false = rw after free in
+    let m = inner-one (has_default i) s.locks refl in
+    let n = inner-one (has_byob i) s.locks refl in
+    let p = tees-append Reading i s.tees new in
+    default-enters i both two (calls.make_tee source j l s).done.slots (calls.make_tee source j l s).done.caused (is_same i source) (omega (arith, n)) (omega (arith, m, p)) refl (omega arith) refl (unlocked i both two source open_)
+
 pub call-kind : (i : StreamId) (c : Call) (s : Slots) → OfKind i s [] → OfKind i (begin c s).done.slots (begin c s).done.caused
 call-kind i c s k =
-    let still : (z : Slots) (es : List Effect) → z.locks ≡ s.locks → z.pipes ≡ s.pipes → z.streams ≡ s.streams → Each IsNoTake es → OfKind i z es = quiet i s k in
+    let still : (z : Slots) (es : List Effect) → z.locks ≡ s.locks → z.pipes ≡ s.pipes → z.tees ≡ s.tees → z.streams ≡ s.streams → Each IsNoTake es → OfKind i z es = quiet i s k in
     each_call (λ (b : Begun). OfKind i b.done.slots b.done.caused) c s (record {
       unchanged = λ reply. k;
-      rejected = still _ _ refl refl refl (tt, tt);
+      rejected = still _ _ refl refl refl refl (tt, tt);
       make_readable = λ mark size start. made i s k (ReadableStream (readable.set_up Host mark size)) _ (λ m n. tt) (tt, tt);
       make_bytes = λ mark auto start. made i s k (ByteStream (byte.set_up mark auto)) _ (new-bytes mark auto) (tt, tt);
       make_writable = λ mark size start. made i s k (WritableStream (writable.set_up Host mark size)) _ (λ m n. tt) (tt, tt);
+      make_tee = λ j e there free untied. teed i s k j (record { 0 = length s.streams }) (record { 0 = length s.streams + 1 }) there free;
       make_transform = λ kind m n start. halved i s k kind m n start (record { 0 = length s.streams }) (record { 0 = length s.streams + 1 });
       get_reader = λ j free.
           let l : Lock = Reader (Some j) (next_id s.promises) in
@@ -171,25 +203,25 @@ call-kind i c s k =
       release_reader = λ l closed j e. released i s k l j closed (Reader (Some j) closed) (Reader None) e (λ p. (refl, refl));
       release_byob = λ l closed j e. released i s k l j closed (ByobReader (Some j) closed) (ByobReader None) e (λ p. (refl, refl));
       release_writer = λ l j w e f. writer-released i s k l j w e;
-      cancel = λ reason j. still _ _ refl refl refl (tt, tt);
-      read = λ l j closed e f. still _ _ refl refl refl (tt, tt);
-      read_into = λ l j closed room element least e f. still _ _ refl refl refl (tt, tt);
-      write = λ l v j e. still _ _ refl refl refl (tt, tt);
-      close = λ j. still _ _ refl refl refl (tt, tt);
-      abort = λ reason j e. still _ _ refl refl refl (tt, tt);
-      enqueue = λ j v e o can. still _ _ refl refl refl (tt, tt);
-      enqueue_half = λ j t v e o can. still _ _ refl refl refl (tt, tt);
-      enqueue_bytes = λ j b e is some can. still _ _ refl refl refl (tt, tt);
-      finish = λ j. still _ _ refl refl refl (tt, tt);
-      finish_bytes = λ j e is can. still _ _ refl refl refl (tt, tt);
-      make_request = λ j reply is. still _ _ refl refl refl (tt, tt);
-      respond = λ r j b e is can. still _ _ refl refl refl (tt, tt);
-      fail_readable = λ j reason. still _ _ refl refl refl (tt, tt);
-      fail_writable = λ j reason. still _ _ refl refl refl (tt, tt);
-      fail_half = λ t reason. still _ _ refl refl refl (tt, tt);
-      terminate = λ t. still _ _ refl refl refl (tt, tt);
+      cancel = λ reason j. still _ _ refl refl refl refl (tt, tt);
+      read = λ l j closed e f. still _ _ refl refl refl refl (tt, tt);
+      read_into = λ l j closed room element least e f. still _ _ refl refl refl refl (tt, tt);
+      write = λ l v j e. still _ _ refl refl refl refl (tt, tt);
+      close = λ j. still _ _ refl refl refl refl (tt, tt);
+      abort = λ reason j e. still _ _ refl refl refl refl (tt, tt);
+      enqueue = λ j v e o can. still _ _ refl refl refl refl (tt, tt);
+      enqueue_half = λ j t v e o can. still _ _ refl refl refl refl (tt, tt);
+      enqueue_bytes = λ j b e is some can. still _ _ refl refl refl refl (tt, tt);
+      finish = λ j. still _ _ refl refl refl refl (tt, tt);
+      finish_bytes = λ j e is can. still _ _ refl refl refl refl (tt, tt);
+      make_request = λ j reply is. still _ _ refl refl refl refl (tt, tt);
+      respond = λ r j b e is can. still _ _ refl refl refl refl (tt, tt);
+      fail_readable = λ j reason. still _ _ refl refl refl refl (tt, tt);
+      fail_writable = λ j reason. still _ _ refl refl refl refl (tt, tt);
+      fail_half = λ t reason. still _ _ refl refl refl refl (tt, tt);
+      terminate = λ t. still _ _ refl refl refl refl (tt, tt);
       pipe = λ source dest prevent signal e f free writer. piped i s k source dest prevent signal free;
-      make_signal = still _ _ refl refl refl tt;
-      trigger = λ a reason. still _ _ refl refl refl (tt, tt);
-      settle = λ h answer q e. still _ _ refl refl refl (tt, tt);
+      make_signal = still _ _ refl refl refl refl tt;
+      trigger = λ a reason. still _ _ refl refl refl refl (tt, tt);
+      settle = λ h answer q e. still _ _ refl refl refl refl (tt, tt);
     })

@@ -17,4 +17,7 @@ pub mod Under
 pub mod Underway
 pub mod IntoAsks
 pub mod Sources
+pub mod Defaults
+pub mod Few
+pub mod TeeOwning
 mod Worked

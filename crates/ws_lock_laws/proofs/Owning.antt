@@ -21,13 +21,13 @@ use Rattle.ws_steps.specs.Queues.{is_empty}
 use Rattle.ws_steps.specs.Promises.{Table, next_id, fresh, is_pending_at}
 use Rattle.ws_steps.specs.Readable as readable
 use Rattle.ws_steps.specs.Run.{Entry, run}
-use Rattle.ws_steps.specs.Slots.{Slots, Stream, empty, has_byte, has_source, has_writable, has_signal, source_at, writable_at, as_source, as_writable, lock_at, as_pipe}
+use Rattle.ws_steps.specs.Slots.{Slots, Stream, ReadableStream, ByteStream, WritableStream, is_writable_stream, empty, has_byte, has_source, has_writable, has_signal, source_at, writable_at, as_source, as_writable, lock_at, as_pipe}
 use Rattle.ws_steps.specs.Writable as writable
 use Rattle.ws_laws.proofs.Tables.{either, is_same-refl, same_id}
 use Rattle.ws_laws.proofs.Truth.{false_true}
 use Rattle.ws_pipe_laws.specs.PipeHistory.{is_over}
 use Rattle.ws_pipe_laws.specs.PipeReads.{one_if}
-use Rattle.ws_lock_laws.specs.Locks.{Side, Reading, Writing, end_of, has_lock, holds, in_locks, in_pipes, is_locked}
+use Rattle.ws_lock_laws.specs.Locks.{Side, Reading, Writing, end_of, has_lock, holds, in_locks, in_pipes, in_tees, is_locked}
 use Rattle.ws_lock_laws.specs.LockLaws.{spares, all_spare, Owns, EachPipeOwnsItsEnds, NoTwoPipesShareAnEnd}
 use Rattle.ws_lock_laws.proofs.Holding.{locks-there, pipes-there, pipes-two}
 use Rattle.ws_lock_laws.proofs.Runs.{run-locked}
@@ -39,6 +39,13 @@ locked_reader o e = grind (arith, e)
 
 locked_writer : (o : Option Stream) → is_some (as_writable o).writer ≡ false → has_lock Writing o ≡ false
 locked_writer o e = grind (arith, e)
+
+-- a writer's stream is there
+writes_there : (o : Option Stream) (w : Writer) → (as_writable o).writer ≡ Some w → is_writable_stream o ≡ true
+writes_there None w e = cc
+writes_there (Some (ReadableStream r)) w e = cc
+writes_there (Some (ByteStream b)) w e = cc
+writes_there (Some (WritableStream x)) w e = refl
 
 -- a stream that isn't the source, or the destination
 
@@ -67,20 +74,16 @@ module _ (source dest : StreamId) where
   begins-spares me a b None None = refl
   begins-spares me a b (Some g) None = refl
 
-  module _ (s : Slots) (source_locked : is_locked Reading source s ≡ true) (dest_locked : is_locked Writing dest s ≡ true)
-      (no_reader : (l : LockId) (closed : PromiseId) → lock_at l s ≢ Some (Reader (Some source) closed)) (no_byob_reader : (l : LockId) (closed : PromiseId) → lock_at l s ≢ Some (ByobReader (Some source) closed))
-      (no_writer : (l : LockId) → lock_at l s ≢ Some (WriterLock dest)) where
+  module _ (s : Slots) (source_locked : is_locked Reading source s ≡ true)
+      (no_reader : (l : LockId) (closed : PromiseId) → lock_at l s ≢ Some (Reader (Some source) closed))
+      (no_byob_reader : (l : LockId) (closed : PromiseId) → lock_at l s ≢ Some (ByobReader (Some source) closed))
+      (free_dest : (i : StreamId) → has_writable i s ≡ true → is_some (writable_at i s).writer ≡ false → is_same i dest ≡ false)
+      (write_apart : (l : LockId) (i : StreamId) → has_writable i s ≡ true → lock_at l s ≡ Some (WriterLock i) → is_same i dest ≡ false) where
     free_source : (i : StreamId) (same : Bool) → same ≡ is_same i source → is_some (source_at i s).reader ≡ false → is_same i source ≡ false
     free_source i false n e = sym n
     free_source i true n e =
         let free : is_some (source_at source s).reader ≡ false = rw (← same_id i source (sym n)) e in
         false_true (is_locked Reading source s) source_locked (locked_reader (slice_get s.streams source.0) free)
-
-    free_dest : (i : StreamId) (same : Bool) → same ≡ is_same i dest → is_some (writable_at i s).writer ≡ false → is_same i dest ≡ false
-    free_dest i false n e = sym n
-    free_dest i true n e =
-        let free : is_some (writable_at dest s).writer ≡ false = rw (← same_id i dest (sym n)) e in
-        false_true (is_locked Writing dest s) dest_locked (locked_writer (slice_get s.streams dest.0) free)
 
     read_apart : (l : LockId) (i : StreamId) (closed : PromiseId) (same : Bool) → same ≡ is_same i source → lock_at l s ≡ Some (Reader (Some i) closed) → is_same i source ≡ false
     read_apart l i closed false n e = sym n
@@ -90,17 +93,13 @@ module _ (source dest : StreamId) where
     byob_apart l i closed false n e = sym n
     byob_apart l i closed true n e = absurd (no_byob_reader l closed (e ∙ ap (λ (j : StreamId). Some (ByobReader (Some j) closed)) (same_id i source (sym n))))
 
-    write_apart : (l : LockId) (i : StreamId) (same : Bool) → same ≡ is_same i dest → lock_at l s ≡ Some (WriterLock i) → is_same i dest ≡ false
-    write_apart l i false n e = sym n
-    write_apart l i true n e = absurd (no_writer l (e ∙ ap (λ (j : StreamId). Some (WriterLock j)) (same_id i dest (sym n))))
-
     -- checks of calls
 
     there_source : (i : StreamId) (operation : Slots → Begun) → Spares (operation s) → Spares (for_source i operation s)
     there_source i operation k = either Spares (has_source i s) _ _ (λ h. k) (λ h. refl)
 
-    there_writable : (i : StreamId) (operation : Slots → Begun) → Spares (operation s) → Spares (for_writable i operation s)
-    there_writable i operation k = either Spares (has_writable i s) _ _ (λ h. k) (λ h. refl)
+    there_writable : (i : StreamId) (operation : Slots → Begun) → (has_writable i s ≡ true → Spares (operation s)) → Spares (for_writable i operation s)
+    there_writable i operation k = either Spares (has_writable i s) _ _ k (λ h. refl)
 
     free_readable : (i : StreamId) (locked : Slots → Begun) (operation : StreamId → Slots → Begun) → Spares (locked s) → (is_same i source ≡ false → Spares (operation i s)) → Spares (unlocked_readable i locked operation s)
     free_readable i locked operation l k =
@@ -110,7 +109,7 @@ module _ (source dest : StreamId) where
     free_writable : (i : StreamId) (locked : Slots → Begun) (operation : StreamId → Slots → Begun) → Spares (locked s) → (is_same i dest ≡ false → Spares (operation i s)) → Spares (unlocked_writable i locked operation s)
     free_writable i locked operation l k =
         either Spares (has_writable i s) _ _
-        (λ h. either Spares (is_some (writable_at i s).writer) _ _ (λ e. l) (λ e. k (free_dest i (is_same i dest) refl e))) (λ h. refl)
+        (λ h. either Spares (is_some (writable_at i s).writer) _ _ (λ e. l) (λ e. k (free_dest i h e))) (λ h. refl)
 
     with_reader : (holding : StreamId → Slots → Begun) (free : Slots → Begun) (l : LockId) (lock : Option Lock) → lock_at l s ≡ lock → ((i : StreamId) → is_same i source ≡ false → Spares (holding i s)) → Spares (free s)
         → Spares (by_reader holding free s lock)
@@ -136,7 +135,7 @@ module _ (source dest : StreamId) where
     with_writer holding free l None e k f = refl
     with_writer holding free l (Some (Reader stream closed)) e k f = refl
     with_writer holding free l (Some (ByobReader stream closed)) e k f = refl
-    with_writer holding free l (Some (WriterLock i)) e k f = there_writable i (holding i) (k i (write_apart l i (is_same i dest) refl e))
+    with_writer holding free l (Some (WriterLock i)) e k f = there_writable i (holding i) (λ there. k i (write_apart l i there e))
     with_writer holding free l (Some (ReleasedWriter w)) e k f = f
     with_writer holding free l (Some Inner) e k f = refl
 
@@ -166,17 +165,17 @@ module _ (source dest : StreamId) where
     releases l (Some (ByobReader (Some i) closed)) e =
         there_source i (calls.release_reader (ByobReader None) l closed i) (leaves i (byob_apart l i closed (is_same i source) refl e))
     releases l (Some (ByobReader None closed)) e = refl
-    releases l (Some (WriterLock i)) e = by (writable_at i s).writer
+    releases l (Some (WriterLock i)) e = by (writable_at i s).writer refl
       where
-        by : (w : Option Writer) → Spares (calls.of_writer (calls.release_writer l i) s w)
-        by None = refl
-        by (Some w) =
+        by : (w : Option Writer) → (writable_at i s).writer ≡ w → Spares (calls.of_writer (calls.release_writer l i) s w)
+        by None has = refl
+        by (Some w) has =
             let ready : Bool = is_pending_at w.ready s.promises in
             let t : Table = calls.with_renewed s.promises ready in
             let closed : Bool = is_pending_at w.closed t in
             spares-append (calls.reject_renewed s.promises ready) (calls.reject_renewed t closed ++ OnWritable i ReleaseWriter ∷ []) (renewed-spares s.promises ready)
             (spares-append (calls.reject_renewed t closed) (OnWritable i ReleaseWriter ∷ []) (renewed-spares t closed)
-            (alone_writer i ReleaseWriter (write_apart l i (is_same i dest) refl e)))
+            (alone_writer i ReleaseWriter (write_apart l i (writes_there (slice_get s.streams i.0) w has) e)))
     releases l (Some (ReleasedWriter w)) e = refl
     releases l (Some Inner) e = refl
 
@@ -190,15 +189,15 @@ module _ (source dest : StreamId) where
         there_source from (for_writable to (for_signal_where signal (pipe_unlocked from to prevent signal)))
         (there_writable to (for_signal_where signal (pipe_unlocked from to prevent signal)) (by signal))
       where
-        unlocked : Spares (pipe_unlocked from to prevent signal s)
-        unlocked =
+        unlocked : has_writable to s ≡ true → Spares (pipe_unlocked from to prevent signal s)
+        unlocked there =
             either Spares (is_some (source_at from s).reader) _ _ (λ e. refl)
             (λ e. either Spares (is_some (writable_at to s).writer) _ _ (λ f. refl)
-            (λ f. pipes_to from to prevent signal (free_source from (is_same from source) refl e) (free_dest to (is_same to dest) refl f)))
+            (λ f. pipes_to from to prevent signal (free_source from (is_same from source) refl e) (free_dest to there f)))
 
-        by : (where_signal : Option SignalId) → Spares (for_signal_where where_signal (pipe_unlocked from to prevent signal) s)
-        by None = unlocked
-        by (Some a) = either Spares (has_signal a s) _ _ (λ e. unlocked) (λ e. refl)
+        by : (where_signal : Option SignalId) → has_writable to s ≡ true → Spares (for_signal_where where_signal (pipe_unlocked from to prevent signal) s)
+        by None there = unlocked there
+        by (Some a) there = either Spares (has_signal a s) _ _ (λ e. unlocked there) (λ e. refl)
 
     reads_into : (l : LockId) (room : List ℕ) (element least : ℕ) → Spares (calls.read_into_by room element least s (lock_at l s))
     reads_into l room element least =
@@ -230,7 +229,7 @@ module _ (source dest : StreamId) where
     apart (GetReader i) a = absurd a
     apart c a = grind (arith, a)
 
-    each_call : (c : Call) → Spares (begin c s)
+    pub each_call : (c : Call) → Spares (begin c s)
     unfolding begin
     each_call (GetReader i) = free_readable i calls.throws_type_error calls.get_reader refl (λ n. alone_reader i (InitializeReader (next_id s.promises)) n)
     each_call (GetByob i) =
@@ -252,6 +251,16 @@ module _ (source dest : StreamId) where
 
 -- of a pipe that isn't over
 
+free_dest : (dest : StreamId) (s : Slots) → is_locked Writing dest s ≡ true → (i : StreamId) (same : Bool) → same ≡ is_same i dest → is_some (writable_at i s).writer ≡ false → is_same i dest ≡ false
+free_dest dest s locked i false n e = sym n
+free_dest dest s locked i true n e =
+    let free : is_some (writable_at dest s).writer ≡ false = rw (← same_id i dest (sym n)) e in
+    false_true (is_locked Writing dest s) locked (locked_writer (slice_get s.streams dest.0) free)
+
+write_apart : (dest : StreamId) (s : Slots) → ((l : LockId) → lock_at l s ≢ Some (WriterLock dest)) → (l : LockId) (i : StreamId) (same : Bool) → same ≡ is_same i dest → lock_at l s ≡ Some (WriterLock i) → is_same i dest ≡ false
+write_apart dest s no_writer l i false n e = sym n
+write_apart dest s no_writer l i true n e = absurd (no_writer l (e ∙ ap (λ (j : StreamId). Some (WriterLock j)) (same_id i dest (sym n))))
+
 holds-own : (d : Side) (x : pipe.Slots) → is_over x.phase ≡ false → one_if (holds d (end_of d x) x) ≡ 1
 holds-own d x e = let self = is_same-refl (end_of d x) in rw (e, self) refl
 
@@ -266,7 +275,7 @@ end-owned entries d p x e over =
     let one = holds-own d x over in
     let few = pipes-there d (end_of d x) p.0 s.pipes x e in
     let even = ((run-locked entries).each d (end_of d x)).even in
-    locked_one (is_locked d (end_of d x) s) (in_locks d (end_of d x) s.locks) (in_pipes d (end_of d x) s.pipes) (omega (arith, one, few)) (omega (arith, even))
+    locked_one (is_locked d (end_of d x) s) (in_locks d (end_of d x) s.locks) (in_pipes d (end_of d x) s.pipes + in_tees d (end_of d x) s.tees) (omega (arith, one, few)) (omega (arith, even))
 
 owned : (entries : List Entry) (p : PipeId) (x : pipe.Slots) → let s : Slots = run entries empty in slice_get s.pipes p.0 ≡ Some x → is_over x.phase ≡ false → Owns s x
 owned entries p x e over =
@@ -284,7 +293,8 @@ owned entries p x e over =
       no_reader = no_reader;
       no_byob_reader = no_byob_reader;
       no_writer = no_writer;
-      calls = each_call x.source x.dest s source.0 dest.0 no_reader no_byob_reader no_writer;
+      calls = each_call x.source x.dest s source.0 no_reader no_byob_reader
+          (λ i there e. free_dest x.dest s dest.0 i (is_same i x.dest) refl e) (λ l i there e. write_apart x.dest s no_writer l i (is_same i x.dest) refl e);
     }
 
 pub each_pipe_owns_its_ends : EachPipeOwnsItsEnds

@@ -21,6 +21,8 @@ use Rattle.ws_pipe_laws.specs.PipeReads.{one_if}
 use Rattle.ws_pipe_laws.proofs.Moves.{each_pipe_moves}
 use Rattle.ws_lock_laws.specs.Locks.{Side, Reading, Writing, end_of, holds}
 use Rattle.ws_lock_laws.proofs.Agenda.{goes, IsNoTake, IsCalm, goes_none-all}
+use Rattle.ws_value.specs.declared.ids.TeeId.{TeeId}
+use Rattle.ws_laws.proofs.TeeDoes.{TeeCauses}
 
 -- what a pipe causes takes no lock
 pub pipe_takes : (me : PipeId) (source dest : StreamId) (e : Effect) → PipeCauses me source dest e → IsNoTake e
@@ -29,6 +31,10 @@ pipe_takes me source dest e c = grind (arith, c)
 -- and what a transform stream causes neither takes one nor lets go of one
 pub transform_calm : (me : TransformId) (writable readable : StreamId) (e : Effect) → TransformCauses me writable readable e → IsCalm e
 transform_calm me writable readable e c = grind (arith, c)
+
+-- and so a tee
+pub tee_calm : (me : TeeId) (source first second : StreamId) (e : Effect) → TeeCauses me source first second e → IsCalm e
+tee_calm me source first second e c = grind (arith, c)
 
 -- an action lets go of none
 

@@ -21,10 +21,10 @@ use Rattle.ws_writable_laws.proofs.Shape.{all, all-append}
 use Rattle.ws_promise_laws.proofs.Acting.{EachWaits}
 use Rattle.ws_pipe_laws.specs.PipeMoves.{starting}
 use Rattle.ws_pipe_laws.specs.PipeReads.{one_if}
-use Rattle.ws_lock_laws.specs.Locks.{Reading, has_lock, holders, in_locks, in_pipes, is_locked}
+use Rattle.ws_lock_laws.specs.Locks.{Reading, has_lock, holders, in_locks, in_pipes, in_tees, is_locked}
 use Rattle.ws_lock_laws.proofs.Agenda.{takes, goes, reader_takes, byob_takes, IsNoTake, TakesFirst, takes_behind}
 use Rattle.ws_lock_laws.proofs.ByteReaders.{Look, look, release-look, initialize-look, IsMeant, byte_readable-look, IsMeantBytes, byte-look}
-use Rattle.ws_lock_laws.proofs.Holding.{pipes-set}
+use Rattle.ws_lock_laws.proofs.Holding.{pipes-set, row-in_tees}
 use Rattle.ws_lock_laws.proofs.Piping.{operation-goes}
 use Rattle.ws_lock_laws.proofs.Rows.{is_there, Balanced, take-causes, ending_over}
 
@@ -71,7 +71,7 @@ module _ (f : Lock → Bool) where
 -- how many have the stream by a default reader, and by a BYOB reader
 
 abbrev pub defaults : StreamId → Slots → ℕ
-defaults i s = count_locks (has_default i) s.locks + in_pipes Reading i s.pipes
+defaults i s = count_locks (has_default i) s.locks + (in_pipes Reading i s.pipes + in_tees Reading i s.tees)
 
 abbrev pub byobs : StreamId → Slots → ℕ
 byobs i s = count_locks (has_byob i) s.locks
@@ -204,16 +204,22 @@ module _ (i : StreamId) (s : Slots) (there : has_byte i s ≡ true) where
   own-bytes operation es b m k = rw (byte-look i operation (byte_acts i s) tt m) (held-look (byobs i s) (defaults i s) k.kind)
 
 -- an effect that leaves who has the stream
-kept : (i : StreamId) (s z : Slots) (e : Effect) (es caused : List Effect) → z.locks ≡ s.locks → z.pipes ≡ s.pipes → Each IsNoTake caused → KindHeld (byte_look (slice_get z.streams i.0)) (byobs i s) (defaults i s)
+kept : (i : StreamId) (s z : Slots) (e : Effect) (es caused : List Effect) → z.locks ≡ s.locks → z.pipes ≡ s.pipes → in_tees Reading i z.tees ≡ in_tees Reading i s.tees → Each IsNoTake caused → KindHeld (byte_look (slice_get z.streams i.0)) (byobs i s) (defaults i s)
     → OfKind i s (e ∷ es) → OfKind i z (caused ++ es)
-kept i s z e es caused locks pipes none held k =
+kept i s z e es caused locks pipes tees none held k =
     let d = default_none-all i caused none in
     let b = byob_none-all i caused none in
     let m = all-append (takes_default i) caused es in
     let n = all-append (takes_byob i) caused es in
     let p = k.default_taken in
     let q = k.byob_taken in
-    rw (locks, pipes) (record { default_taken = omega (arith, d, m, p); byob_taken = omega (arith, b, n, q); kind = held })
+    rw (locks, pipes) (record {
+      default_taken = omega (arith, d, m, p, tees);
+      byob_taken = omega (arith, b, n, q);
+      kind =
+          fewer (byte_look (slice_get z.streams i.0)) (byobs i s) (defaults i s) (byobs i s) (count_locks (has_default i) s.locks + (in_pipes Reading i s.pipes + in_tees Reading i z.tees)) (omega arith)
+          (omega (arith, tees)) held;
+    })
 
 module _ (i : StreamId) (s : Slots) where
   source-byte : (j : StreamId) (operation : ReadableOperation) → is_byte_stream (slice_get (on_source operation j s).slots.streams i.0) ≡ has_byte i s
@@ -266,23 +272,23 @@ module _ (i : StreamId) (s : Slots) where
       record {
         default_taken = omega (arith, d);
         byob_taken = omega (arith, c);
-        kind = fewer (byte_look (slice_get s.streams i.0)) (byobs i s) (defaults i s) (byobs i s) (count_locks (has_default i) s.locks + in_pipes Reading i (slice_set s.pipes p.0 b.slots)) (omega arith) (omega (arith, same, set)) k.kind;
+        kind = fewer (byte_look (slice_get s.streams i.0)) (byobs i s) (defaults i s) (byobs i s) (count_locks (has_default i) s.locks + (in_pipes Reading i (slice_set s.pipes p.0 b.slots) + in_tees Reading i s.tees)) (omega arith) (omega (arith, same, set)) k.kind;
       }
 
   apart-kept : (e : Effect) (es : List Effect) → IsApart e → IsNoPipe e → OfKind i s (e ∷ es) → OfKind i (row e s).slots ((row e s).caused ++ es)
-  apart-kept e es a n k = kept i s (row e s).slots e es (row e s).caused (row-locks e s) (row-pipes e s n) (row-causes IsNoTake e s (take-causes e)) (rw (row-streams e s a) k.kind) k
+  apart-kept e es a n k = kept i s (row e s).slots e es (row e s).caused (row-locks e s) (row-pipes e s n) (row-in_tees Reading i e s) (row-causes IsNoTake e s (take-causes e)) (rw (row-streams e s a) k.kind) k
 
 pub row-kind : (i : StreamId) (s : Slots) (e : Effect) (es : List Effect) → TakesFirst (e ∷ es) → EachWaits s (e ∷ es) → Balanced Reading i s (e ∷ es) → MeantAt s e → OfKind i s (e ∷ es) → OfKind i (row e s).slots ((row e s).caused ++ es)
 unfolding row
 row-kind i s (OnReadable j operation) es t w b m k =
     let e : Effect = OnReadable j operation in
-    kept i s (row e s).slots e es (row e s).caused (row-locks e s) (row-pipes e s tt) (row-causes IsNoTake e s (take-causes e)) (read-held i s j operation es (is_same i j) (has_byte i s) refl refl b m k) k
+    kept i s (row e s).slots e es (row e s).caused (row-locks e s) (row-pipes e s tt) (row-in_tees Reading i e s) (row-causes IsNoTake e s (take-causes e)) (read-held i s j operation es (is_same i j) (has_byte i s) refl refl b m k) k
 row-kind i s (Byte j operation) es t w b m k =
     let e : Effect = Byte j operation in
-    kept i s (row e s).slots e es (row e s).caused (row-locks e s) (row-pipes e s tt) (row-causes IsNoTake e s (take-causes e)) (bytes-held i s j operation es (is_same i j) (has_byte i s) refl refl b m k) k
+    kept i s (row e s).slots e es (row e s).caused (row-locks e s) (row-pipes e s tt) (row-in_tees Reading i e s) (row-causes IsNoTake e s (take-causes e)) (bytes-held i s j operation es (is_same i j) (has_byte i s) refl refl b m k) k
 row-kind i s (OnWritable j operation) es t w b m k =
     let e : Effect = OnWritable j operation in
-    kept i s (row e s).slots e es (row e s).caused (row-locks e s) (row-pipes e s tt) (row-causes IsNoTake e s (take-causes e))
+    kept i s (row e s).slots e es (row e s).caused (row-locks e s) (row-pipes e s tt) (row-in_tees Reading i e s) (row-causes IsNoTake e s (take-causes e))
     (rw (on_writable-look byte_look (λ b c. refl) (writable_operation j operation) j s i (is_same i j) refl) k.kind) k
 row-kind i s (OnPipe p operation) es t w b m k =
     pipe-kept i s p operation es (slice_get s.pipes p.0) refl (takes_behind (OnPipe p operation) es tt t) w k (row-causes IsNoTake (OnPipe p operation) s (take-causes (OnPipe p operation)))

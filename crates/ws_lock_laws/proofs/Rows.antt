@@ -36,22 +36,27 @@ use Rattle.ws_pipe_laws.specs.PipeReads.{one_if}
 use Rattle.ws_lock_laws.specs.Locks.{Side, Reading, Writing, has_lock, holders, is_locked}
 use Rattle.ws_lock_laws.proofs.Agenda.{takes, goes, reader_takes, byob_takes, reader_goes, writer_takes, writer_goes, IsNoTake, IsCalm, calm_takes, takes_none-all, goes_none-all, TakesFirst, takes_first, takes_behind}
 use Rattle.ws_lock_laws.proofs.ByteReaders.{byte_readable-reader, byte-reader, has_after_bytes}
-use Rattle.ws_lock_laws.proofs.Holding.{pipes-set}
-use Rattle.ws_lock_laws.proofs.Piping.{pipe_takes, transform_calm, operation-goes}
+use Rattle.ws_lock_laws.proofs.Holding.{pipes-set, row-in_tees}
+use Rattle.ws_lock_laws.proofs.Piping.{pipe_takes, transform_calm, tee_calm, operation-goes}
 use Rattle.ws_lock_laws.proofs.Writers.{has_writer, operation-writer}
+use Rattle.ws_value.specs.declared.ids.TeeId.{TeeId}
+use Rattle.ws_laws.proofs.TeeDoes.{TeeCauses}
 
 -- what an effect causes
 
 transform_takes : (me : TransformId) (writable readable : StreamId) (e : Effect) → TransformCauses me writable readable e → IsNoTake e
 transform_takes me writable readable e c = calm_takes e (transform_calm me writable readable e c)
 
+tee_takes : (me : TeeId) (source first second : StreamId) (e : Effect) → TeeCauses me source first second e → IsNoTake e
+tee_takes me source first second e c = calm_takes e (tee_calm me source first second e c)
+
 -- none takes a lock
 pub take-causes : (e : Effect) → Causes IsNoTake e
-take-causes e = grind (arith, pipe_takes, transform_takes)
+take-causes e = grind (arith, pipe_takes, transform_takes, tee_takes)
 
 -- and but for operations of pipes none lets go of one
 calm-causes : (e : Effect) → IsNoPipe e → Causes IsCalm e
-calm-causes e n = grind (arith, n, transform_calm)
+calm-causes e n = grind (arith, n, transform_calm, tee_calm)
 
 -- those that take a lock cause nothing
 
@@ -134,7 +139,7 @@ module _ (d : Side) (i : StreamId) where
       let streams = row-streams e s a in
       let locks = row-locks e s in
       let pipes = row-pipes e s n in
-      carried s (row e s).slots e es (row e s).caused (rw streams (omega (arith, t, g))) (rw streams refl) (rw (locks, pipes) refl) (row-causes IsCalm e s (calm-causes e n)) k
+      carried s (row e s).slots e es (row e s).caused (rw streams (omega (arith, t, g))) (rw streams refl) (rw (locks, pipes, row-in_tees d i e s) refl) (row-causes IsCalm e s (calm-causes e n)) k
 
 -- what is the same of every readable stream is the same after an operation of one
 pub readable-same : {A : Type 0} (f : Option Stream → A) (c : A) (i j : StreamId) (operation : readable.Acts → readable.Acts) (s : Slots) (same : Bool) → same ≡ is_same i j → ((r : readable.Slots) → f (Some (ReadableStream r)) ≡ c)
@@ -253,10 +258,10 @@ writable_calm j operation s = row-causes IsCalm (OnWritable j operation) s (calm
 
 -- each leaves who has a stream
 readable_holders : (d : Side) (i j : StreamId) (operation : ReadableOperation) (s : Slots) → holders d i (row (OnReadable j operation) s).slots ≡ holders d i s
-readable_holders d i j operation s = rw (row-locks (OnReadable j operation) s, row-pipes (OnReadable j operation) s tt) refl
+readable_holders d i j operation s = rw (row-locks (OnReadable j operation) s, row-pipes (OnReadable j operation) s tt, row-in_tees d i (OnReadable j operation) s) refl
 
 writable_holders : (d : Side) (i j : StreamId) (operation : WritableOperation) (s : Slots) → holders d i (row (OnWritable j operation) s).slots ≡ holders d i s
-writable_holders d i j operation s = rw (row-locks (OnWritable j operation) s, row-pipes (OnWritable j operation) s tt) refl
+writable_holders d i j operation s = rw (row-locks (OnWritable j operation) s, row-pipes (OnWritable j operation) s tt, row-in_tees d i (OnWritable j operation) s) refl
 
 readable_reading : (i j : StreamId) (operation : ReadableOperation) (s : Slots) (es : List Effect) (same : Bool) → same ≡ is_same i j → TakesFirst (OnReadable j operation ∷ es) → Balanced Reading i s (OnReadable j operation ∷ es)
     → Balanced Reading i (row (OnReadable j operation) s).slots ((row (OnReadable j operation) s).caused ++ es)
@@ -305,7 +310,7 @@ byte_calm : (j : StreamId) (operation : ByteOperation) (s : Slots) → Each IsCa
 byte_calm j operation s = row-causes IsCalm (Byte j operation) s (calm-causes (Byte j operation) tt)
 
 byte_holders : (d : Side) (i j : StreamId) (operation : ByteOperation) (s : Slots) → holders d i (row (Byte j operation) s).slots ≡ holders d i s
-byte_holders d i j operation s = rw (row-locks (Byte j operation) s, row-pipes (Byte j operation) s tt) refl
+byte_holders d i j operation s = rw (row-locks (Byte j operation) s, row-pipes (Byte j operation) s tt, row-in_tees d i (Byte j operation) s) refl
 
 byte_reading : (i j : StreamId) (operation : ByteOperation) (s : Slots) (es : List Effect) (same : Bool) → same ≡ is_same i j → IsToldBytes s (Byte j operation) → Balanced Reading i s (Byte j operation ∷ es)
     → Balanced Reading i (row (Byte j operation) s).slots ((row (Byte j operation) s).caused ++ es)

@@ -7,9 +7,9 @@ use Rattle.ws_value.specs.declared.{ids.PipeId.{PipeId}, ids.PromiseId.{PromiseI
 use Rattle.ws_steps.specs.declared.byte.ByteOperation.{ByteOperation}
 use Rattle.ws_steps.specs.declared.calls.{Call.{Call}, Call.TheVariants.{ReadInto}, StartBy.{StartBy}, StartBy.TheVariants.{Now, Later}}
 use Rattle.ws_steps.specs.declared.effects.Effect.{Effect}
-use Rattle.ws_steps.specs.declared.effects.Effect.TheVariants.{Readable as OnReadable, Byte, Writable as OnWritable, Pipe as OnPipe}
-use Rattle.ws_steps.specs.declared.{effects.Owner.TheVariants.{Host, HalfOf}, locks.Lock.TheVariants.{Reader, ByobReader}, promises.Job.{Job}, pipes.PipeOperation.{PipeOperation}, pipes.Prevent.{Prevent}}
-use Rattle.ws_steps.specs.declared.readable.{ReadRequest.{ReadRequest}, ReadRequest.TheVariants.{Promise, Pipe as PipeRequest}, ReadableOperation.{ReadableOperation}, ReadableOperation.TheVariants.{ReleaseReader}}
+use Rattle.ws_steps.specs.declared.effects.Effect.TheVariants.{Readable as OnReadable, Byte, Writable as OnWritable, Pipe as OnPipe, Tee as OnTee}
+use Rattle.ws_steps.specs.declared.{effects.Owner.TheVariants.{Host, HalfOf, BranchOf}, locks.Lock.TheVariants.{Reader, ByobReader}, promises.Job.{Job}, pipes.PipeOperation.{PipeOperation}, pipes.Prevent.{Prevent}}
+use Rattle.ws_steps.specs.declared.readable.{ReadRequest.{ReadRequest}, ReadRequest.TheVariants.{Promise, Pipe as PipeRequest, Tee as TeeRequest}, ReadableOperation.{ReadableOperation}, ReadableOperation.TheVariants.{ReleaseReader}}
 use Rattle.ws_steps.specs.declared.{readable.SizeBy.TheVariants.{Count}, transform.TransformId.{TransformId}}
 use Rattle.ws_steps.specs.declared.writable.WritableOperation.TheVariants.{ReleaseWriter}
 use Rattle.ws_steps.specs.ByteLaws.{EachByteStreamIsMeant}
@@ -21,7 +21,7 @@ use Rattle.ws_steps.specs.Operations.{pipe_operation}
 use Rattle.ws_steps.specs.Pipes as pipe
 use Rattle.ws_steps.specs.Promises.{Table, next_id, fresh, is_pending_at, after_next_job}
 use Rattle.ws_steps.specs.Readable as readable
-use Rattle.ws_steps.specs.Run.{Entry, run}
+use Rattle.ws_steps.specs.Run.{Entry, run, after_event}
 use Rattle.ws_steps.specs.Slots.{Slots, Stream, ReadableStream, ByteStream, WritableStream, empty, with_promises, ends_at, source_at, as_byte, as_source, as_pipe}
 use Rattle.ws_steps.specs.Turns.{row}
 use Rattle.ws_steps.specs.Writable as writable
@@ -39,7 +39,7 @@ use Rattle.ws_pipe_laws.proofs.Reading.{of_effect, no_answer}
 use Rattle.ws_lock_laws.specs.Locks.{Reading, holds, is_locked}
 use Rattle.ws_lock_laws.specs.LockLaws.{EachSourceIsReadByItsPipe, EachReadingHasOneRead}
 use Rattle.ws_lock_laws.proofs.Agenda.{goes}
-use Rattle.ws_lock_laws.proofs.Asking.{requests_at, any, other, Queued, ReadsFirst, Asks, none-first, none-asks, EachQueued, row-queued, pipe-asks, other-silent, asks-meant, holds_before}
+use Rattle.ws_lock_laws.proofs.Asking.{requests_at, any, other, Queued, ReadsFirst, Asks, none-first, none-asks, EachQueued, row-queued, pipe-asks, other-silent, tee-asks, asks-meant, holds_before}
 use Rattle.ws_lock_laws.proofs.Begins.{free_reader, job-calm, no_takes}
 use Rattle.ws_lock_laws.proofs.IntoAsks.{reader-asks, into-asks}
 use Rattle.ws_lock_laws.proofs.KindBegins.{call-kind}
@@ -51,15 +51,18 @@ use Rattle.ws_lock_laws.proofs.Rows.{Balanced, ending_over}
 use Rattle.ws_lock_laws.proofs.Runs.{Locked, locked-stays, run-locked}
 use Rattle.ws_lock_laws.proofs.Underway.{Under, has_held, reads_now, Finds, finds, FindsBytes, finds-bytes, row-under}
 use Rattle.ws_steps.specs.Bytes as byte
+use Rattle.ws_value.specs.declared.ids.TeeId.{TeeId}
+use Rattle.ws_steps.specs.declared.tee.Half.TheVariants.{First, Second}
+use Rattle.ws_steps.specs.declared.effects.Owner.TheVariants.{BranchOf}
 
 -- at each moment of a run
-record Known (s : Slots) (es : List Effect) : Type 0 where
-  locked : Locked s es
-  first : ReadsFirst es
-  asks : Asks s es
-  queued : EachQueued s
-  under : (p : PipeId) → Under p s es
-  kinds : (i : StreamId) → OfKind i s es
+pub record Known (s : Slots) (es : List Effect) : Type 0 where
+  pub locked : Locked s es
+  pub first : ReadsFirst es
+  pub asks : Asks s es
+  pub queued : EachQueued s
+  pub under : (p : PipeId) → Under p s es
+  pub kinds : (i : StreamId) → OfKind i s es
 
 -- each effect
 
@@ -73,7 +76,8 @@ before s e es w p operation is i x f h =
 row-asks : (s : Slots) (e : Effect) (es : List Effect) → ReadsFirst (e ∷ es) → ((i : StreamId) → Balanced Reading i (row e s).slots ((row e s).caused ++ es)) → ReadsFirst ((row e s).caused ++ es) × Asks (row e s).slots ((row e s).caused ++ es)
 unfolding row
 row-asks s (OnPipe p operation) es first k = pipe-asks p operation s es (slice_get s.pipes p.0) refl first k
-row-asks s e es first k = let n = other-silent s e es tt first in (none-first ((row e s).caused ++ es) n, none-asks (row e s).slots ((row e s).caused ++ es) n)
+row-asks s (OnTee t operation) es first k = tee-asks t operation s es (slice_get s.tees t.0) refl first k
+row-asks s e es first k = let n = other-silent s e es tt tt first in (none-first ((row e s).caused ++ es) n, none-asks (row e s).slots ((row e s).caused ++ es) n)
 
 row-known : (s : Slots) (e : Effect) (es : List Effect) → Known s (e ∷ es) → Known (row e s).slots ((row e s).caused ++ es)
 row-known s e es k =
@@ -151,6 +155,7 @@ other-asks c s other k = each_call (λ (b : Begun). ReadsFirst b.done.caused × 
   write = λ l v i e. (tt, tt);
   close = λ i. (tt, tt);
   abort = λ reason i e. (tt, tt);
+  make_tee = λ i e is free untied. ((tt, (tt, (tt, tt))), tt);
   make_transform = λ kind m n start. ((tt, (tt, (tt, (start-silent (next_id (fresh s.promises)) (record { 0 = length s.streams + 1 }) start, tt)))), tt);
   enqueue = λ i v e o can. (tt, tt);
   enqueue_half = λ i t v e o can. (tt, tt);
@@ -235,6 +240,11 @@ call-queued c s k = each_call (λ (b : Begun). EachQueued b.done.slots) c s (rec
   write = λ l v i e. k;
   close = λ i. k;
   abort = λ reason i e. k;
+  make_tee = λ j e is free untied i.
+      let me : TeeId = record { 0 = length s.tees } in
+      let x : Stream = ReadableStream (readable.set_up (BranchOf me First) 1 Count) in
+      let y : Stream = ReadableStream (readable.set_up (BranchOf me Second) 1 Count) in
+      stream-made i y (calls.add_stream x s) refl (stream-made i x s refl (k i));
   make_transform = λ kind m n start i.
       let me : TransformId = record { 0 = length s.transforms } in
       let w : Stream = WritableStream (writable.set_up (HalfOf me) m Count) in
@@ -298,6 +308,7 @@ module _ (p : PipeId) where
     write = λ l v i e. refl;
     close = λ i. refl;
     abort = λ reason i e. refl;
+    make_tee = λ i e is free untied. refl;
     make_transform = λ kind m n start. let k = start-none (next_id (fresh s.promises)) (record { 0 = length s.streams + 1 }) start in omega (arith, k);
     enqueue = λ i v e o can. refl;
     enqueue_half = λ i t v e o can. refl;
@@ -338,6 +349,7 @@ module _ (p : PipeId) where
         pipe = λ z source dest prevent signal promise k. pipe-under z source dest prevent signal promise k;
         signal = λ z k. k;
         transform = λ z kind i j change k. k;
+        tee = λ z source first second cancel k. k;
         bytes = λ z mark auto k. stream-under z _ refl k;
         byob_requests = λ z hs k. k;
         readable = λ z owner mark size k. stream-under z _ refl k;
@@ -353,10 +365,10 @@ job-kind i job s t k =
     let b = byob_none-all i (job_effects job) none in
     record { default_taken = omega (arith, d); byob_taken = omega (arith, b); kind = k.kind }
 
-same-kind : (i : StreamId) (s z : Slots) → z.locks ≡ s.locks → z.pipes ≡ s.pipes → z.streams ≡ s.streams → OfKind i s [] → OfKind i z []
-same-kind i s z locks pipes streams k = rw (locks, pipes, streams) (record { default_taken = k.default_taken; byob_taken = k.byob_taken; kind = k.kind })
+same-kind : (i : StreamId) (s z : Slots) → z.locks ≡ s.locks → z.pipes ≡ s.pipes → z.tees ≡ s.tees → z.streams ≡ s.streams → OfKind i s [] → OfKind i z []
+same-kind i s z locks pipes tees streams k = rw (locks, pipes, tees, streams) (record { default_taken = k.default_taken; byob_taken = k.byob_taken; kind = k.kind })
 
-known-stays : Stays Known
+pub known-stays : Stays Known
 known-stays = record {
   row = row-known;
   call = λ s c k.
@@ -372,23 +384,26 @@ known-stays = record {
         under = λ p. let w = k.under p in let n = job-none p job in omega (arith, w, n);
         kinds = λ i. job-kind i job s (after_next_job s.promises) (k.kinds i);
       };
-  answered = λ s p k. record { locked = locked-stays.answered s p k.locked; first = tt; asks = tt; queued = k.queued; under = k.under; kinds = λ i. same-kind i s _ refl refl refl (k.kinds i) };
-  older = λ s k. record { locked = locked-stays.older s k.locked; first = tt; asks = tt; queued = k.queued; under = k.under; kinds = λ i. same-kind i s _ refl refl refl (k.kinds i) };
+  answered = λ s p k. record { locked = locked-stays.answered s p k.locked; first = tt; asks = tt; queued = k.queued; under = k.under; kinds = λ i. same-kind i s _ refl refl refl refl (k.kinds i) };
+  older = λ s k. record { locked = locked-stays.older s k.locked; first = tt; asks = tt; queued = k.queued; under = k.under; kinds = λ i. same-kind i s _ refl refl refl refl (k.kinds i) };
 }
 
+pub known-heard : (s : Slots) → Known s [] → Known (after_event s) []
+known-heard s k = record {
+  locked = record { first = tt; each = λ d i. let b = k.locked.each d i in record { even = b.even; few = b.few }; waits = waits-heard s k.locked.waits; told = tt };
+  first = tt;
+  asks = tt;
+  queued = k.queued;
+  under = k.under;
+  kinds = λ i. same-kind i s _ refl refl refl refl (k.kinds i);
+}
+
+pub known-empty : Known empty []
+known-empty =
+    record { locked = run-locked []; first = tt; asks = tt; queued = λ i. record { free = λ f. omega arith; own = λ p h. omega arith }; under = λ p. refl; kinds = λ i. record { default_taken = omega arith; byob_taken = omega arith; kind = tt } }
+
 run-known : (entries : List Entry) → Known (run entries empty) []
-run-known entries =
-    run-stays Known known-stays
-    (λ s k. record {
-      locked = record { first = tt; each = λ d i. let b = k.locked.each d i in record { even = b.even; few = b.few }; waits = waits-heard s k.locked.waits; told = tt };
-      first = tt;
-      asks = tt;
-      queued = k.queued;
-      under = k.under;
-      kinds = λ i. same-kind i s _ refl refl refl (k.kinds i);
-    })
-    entries empty
-    (record { locked = run-locked []; first = tt; asks = tt; queued = λ i. record { free = λ f. omega arith; own = λ p h. omega arith }; under = λ p. refl; kinds = λ i. record { default_taken = omega arith; byob_taken = omega arith; kind = tt } })
+run-known entries = run-stays Known known-stays known-heard entries empty known-empty
 
 -- the laws
 
@@ -403,6 +418,7 @@ own_all p (r ∷ rs) n = All-cons (λ r. r ≡ PipeRequest p) r rs (one r (omega
     one : (r : ReadRequest) → other p r ≤ 0 → r ≡ PipeRequest p
     one (Promise q) n = absurd (omega (arith, n))
     one (PipeRequest q) n = number q (nat_eq p.0 q.0) refl n
+    one (TeeRequest t) n = absurd (omega (arith, n))
 
 same_requests : (o : Option Stream) → requests_at o ≡ (as_source o).requests
 same_requests None = refl

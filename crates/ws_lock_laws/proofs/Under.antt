@@ -232,6 +232,10 @@ sum-effects p (e ∷ es) = let n = sum-effects p es in omega (arith, n)
 weighs : (p : PipeId) (me : StreamId) → Weighs me (is_of p) (of_effect p)
 weighs p me = record { chunk = λ q x. refl; close = λ q. refl; close_with = λ q b. refl; error = λ q e. refl; pull = refl; cancel = λ r q. refl }
 
+-- a tee's request is no pipe's
+untied_none : (p : PipeId) (q : ReadRequest) → byte.is_of_tee q ≡ true → is_of p q ≡ 0
+untied_none p q e = grind (arith, e)
+
 given-read : (p : PipeId) (operation : ReadableOperation) → given_read (is_of p) operation ≡ of_readable p operation
 given-read p operation = grind arith
 
@@ -254,7 +258,7 @@ module _ (p : PipeId) (me : StreamId) where
   byte_readable-hands operation a first meant =
       summed (given_read (is_of p) operation) (of_readable p operation) a (byte_readable_operation me operation a) (given-read p operation)
       (requests.byte_readable-hands me (is_of p) (of_effect p) (weighs p me) operation a
-      (record { none = λ c e. sum-requests p a.slots.stream.requests ∙ first c e; meant = λ q e m. false_true (byte.may_read a.slots) (meant q e) m }))
+      (record { none = λ c e. sum-requests p a.slots.stream.requests ∙ first c e; meant = λ q e m. false_true (byte.may_read a.slots) (meant q e) m; untied = untied_none p }))
 
   pub byte-hands : (operation : ByteOperation) (a : byte.Acts) → ((closed : PromiseId) → operation ≡ InitializeByobReader closed → in_requests p a.slots.stream.requests ≡ 0)
       → of_byte p operation ≡ 0 → HandsBytes (of_byte p operation) a (byte_operation me operation a)

@@ -7,7 +7,7 @@ use Rattle.ws_steps.specs.declared.byte.ByteOperation.TheVariants.{InitializeByo
 use Rattle.ws_steps.specs.declared.effects.Effect.{Effect}
 use Rattle.ws_steps.specs.declared.effects.Effect.TheVariants.{Readable as OnReadable, Byte, Writable as OnWritable, Pipe as OnPipe, ChunkSteps, CloseSteps, CloseStepsWith, ErrorSteps}
 use Rattle.ws_steps.specs.declared.pipes.PipeOperation.{PipeOperation}
-use Rattle.ws_steps.specs.declared.readable.{ReadRequest.{ReadRequest}, ReadRequest.TheVariants.{Promise, Pipe as PipeRequest}, ReadableOperation.{ReadableOperation}, ReadableOperation.TheVariants.{InitializeReader, Read}}
+use Rattle.ws_steps.specs.declared.readable.{ReadRequest.{ReadRequest}, ReadRequest.TheVariants.{Promise, Pipe as PipeRequest, Tee as TeeRequest}, ReadableOperation.{ReadableOperation}, ReadableOperation.TheVariants.{InitializeReader, Read}}
 use Rattle.ws_steps.specs.declared.writable.WritableOperation.{WritableOperation}
 use Rattle.ws_steps.specs.Histories.{is_same}
 use Rattle.ws_steps.specs.Operations.{readable_operation, byte_readable_operation, byte_operation, writable_operation, pipe_operation}
@@ -187,18 +187,22 @@ module _ (p : PipeId) where
   chunk-carries : (v : Value) (s : Slots) (request : ReadRequest) → Carries s (is_of p request) (chunk_steps v s request)
   chunk-carries v s (Promise q) = omega arith
   chunk-carries v s (PipeRequest q) = omega arith
+  chunk-carries v s (TeeRequest t) = omega arith
 
   close-carries : (s : Slots) (request : ReadRequest) → Carries s (is_of p request) (close_steps s request)
   close-carries s (Promise q) = omega arith
   close-carries s (PipeRequest q) = omega arith
+  close-carries s (TeeRequest t) = omega arith
 
   close_with-carries : (b : List ℕ) (s : Slots) (request : ReadRequest) → Carries s (is_of p request) (close_steps_with b s request)
   close_with-carries b s (Promise q) = omega arith
   close_with-carries b s (PipeRequest q) = omega arith
+  close_with-carries b s (TeeRequest t) = omega arith
 
   error-carries : (e : Plain) (s : Slots) (request : ReadRequest) → Carries s (is_of p request) (error_steps e s request)
   error-carries e s (Promise q) = omega arith
   error-carries e s (PipeRequest q) = omega arith
+  error-carries e s (TeeRequest t) = omega arith
 
   -- operations of pipes
 

@@ -4,13 +4,14 @@ use Rattle.ws_value.specs.declared.ids.LockId.{LockId}
 use Rattle.ws_value.specs.declared.ids.PipeId.{PipeId}
 use Rattle.ws_value.specs.declared.ids.PromiseId.{PromiseId}
 use Rattle.ws_value.specs.declared.ids.StreamId.{StreamId}
+use Rattle.ws_value.specs.declared.ids.TeeId.{TeeId}
 use Rattle.ws_steps.specs.declared.byte.ByteOperation.{ByteOperation}
 use Rattle.ws_steps.specs.declared.byte.ByteOperation.TheVariants.{InitializeByobReader, PullInto}
 use Rattle.ws_steps.specs.declared.calls.Call.{Call}
 use Rattle.ws_steps.specs.declared.effects.Effect.{Effect}
 use Rattle.ws_steps.specs.declared.effects.Effect.TheVariants.{Readable as OnReadable, Byte, Writable as OnWritable}
 use Rattle.ws_steps.specs.declared.locks.Lock.TheVariants.{Reader, ByobReader, Writer}
-use Rattle.ws_steps.specs.declared.readable.ReadRequest.TheVariants.{Pipe as PipeRequest}
+use Rattle.ws_steps.specs.declared.readable.ReadRequest.TheVariants.{Pipe as PipeRequest, Tee as TeeRequest}
 use Rattle.ws_steps.specs.declared.readable.ReadableOperation.{ReadableOperation}
 use Rattle.ws_steps.specs.declared.readable.ReadableOperation.TheVariants.{InitializeReader, ReleaseReader, Disturb, Read, Cancel, CancelIfReadable}
 use Rattle.ws_steps.specs.declared.writable.WritableOperation.{WritableOperation}
@@ -19,10 +20,12 @@ use Rattle.ws_steps.specs.Calls.{begin}
 use Rattle.ws_steps.specs.Histories.{is_same}
 use Rattle.ws_steps.specs.Pipes as pipe
 use Rattle.ws_steps.specs.Run.{Entry, run}
-use Rattle.ws_steps.specs.Slots.{Slots, empty, lock_at, pipe_at, source_at}
+use Rattle.ws_steps.specs.Slots.{Slots, most_streams, empty, lock_at, pipe_at, source_at, tee_at, has_readable}
+use Rattle.ws_steps.specs.Tee as tee
+use Rattle.ws_steps.specs.TeeHistory.{has_tee}
 use Rattle.ws_pipe_laws.specs.PipeHistory.{is_over}
 use Rattle.ws_pipe_laws.specs.PipeReads.{one_if, held_values, in_streams}
-use Rattle.ws_lock_laws.specs.Locks.{Side, end_of, holders, is_locked}
+use Rattle.ws_lock_laws.specs.Locks.{Side, Reading, end_of, holders, is_locked}
 
 -- in every run, of each stream: where a readable stream has a reader, or a writable stream a writer, one holder names it; and else none does
 abbrev pub EachLockHasOneHolder : Type 0
@@ -98,3 +101,18 @@ abbrev pub EachReadingHasOneRead : Type 0
 EachReadingHasOneRead =
     (entries : List Entry) (p : PipeId) → let s : Slots = run entries empty in
     in_streams p s.streams + length (held_values (pipe_at p s).held) ≡ one_if (pipe_at p s).reading
+
+-- The source of a tee is a readable stream with a default controller, and locked. No reader of the host has it, no call of the host begins with a
+-- read, a cancel or a release of it, or locks it, and no read waits there but the tee's own
+pub record OwnsSource (s : Slots) (t : TeeId) (x : tee.Slots) : Type 0 where
+  pub default : has_readable x.source s ≡ true
+  pub locked : is_locked Reading x.source s ≡ true
+  pub no_reader : (l : LockId) (closed : PromiseId) → lock_at l s ≢ Some (Reader (Some x.source) closed)
+  pub no_byob_reader : (l : LockId) (closed : PromiseId) → lock_at l s ≢ Some (ByobReader (Some x.source) closed)
+  pub calls : (c : Call) → all_spare x.source (record { 0 = most_streams }) (begin c s).done.caused ≡ true
+  pub requests : All (λ r. r ≡ TeeRequest t) (source_at x.source s).requests
+
+-- in every run, of each tee, for good
+abbrev pub EachTeeOwnsItsSource : Type 0
+EachTeeOwnsItsSource =
+    (entries : List Entry) (t : TeeId) → let s : Slots = run entries empty in has_tee t s ≡ true → OwnsSource s t (tee_at t s)

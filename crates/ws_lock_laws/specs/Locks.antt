@@ -6,6 +6,7 @@ use Rattle.ws_steps.specs.declared.locks.Lock.TheVariants.{Reader, ByobReader, W
 use Rattle.ws_steps.specs.Histories.{is_same}
 use Rattle.ws_steps.specs.Pipes as pipe
 use Rattle.ws_steps.specs.Slots.{Slots, Stream, ReadableStream, ByteStream, WritableStream}
+use Rattle.ws_steps.specs.Tee as tee
 use Rattle.ws_pipe_laws.specs.PipeHistory.{is_over}
 use Rattle.ws_pipe_laws.specs.PipeReads.{one_if}
 
@@ -46,9 +47,18 @@ abbrev pub in_pipes : Side → StreamId → List pipe.Slots → ℕ
 in_pipes d i [] = 0
 in_pipes d i (x ∷ xs) = one_if (holds d i x) + in_pipes d i xs
 
--- how many have the stream: readers, or writers, and pipes
+-- whether stream i is the source of the tee, which has it for good
+abbrev pub tees_off : Side → StreamId → tee.Slots → Bool
+tees_off Reading i x = is_same i x.source
+tees_off Writing i x = false
+
+abbrev pub in_tees : Side → StreamId → List tee.Slots → ℕ
+in_tees d i [] = 0
+in_tees d i (x ∷ xs) = one_if (tees_off d i x) + in_tees d i xs
+
+-- how many have the stream: readers, or writers, and pipes and tees
 abbrev pub holders : Side → StreamId → Slots → ℕ
-holders d i s = in_locks d i s.locks + in_pipes d i s.pipes
+holders d i s = in_locks d i s.locks + (in_pipes d i s.pipes + in_tees d i s.tees)
 
 -- whether there is a readable stream that has a reader, or a writable stream that has a writer
 abbrev pub has_lock : Side → Option Stream → Bool

@@ -8,7 +8,7 @@ use Rattle.ws_steps.specs.declared.effects.Effect.{Effect}
 use Rattle.ws_steps.specs.declared.effects.Effect.TheVariants.{Readable as OnReadable, Byte, ChunkSteps, CloseSteps, CloseStepsWith, ErrorSteps}
 use Rattle.ws_steps.specs.declared.readable.{ReadRequest.{ReadRequest}, ReadableOperation.{ReadableOperation}, ReadableState.{ReadableState}, ReadableState.TheVariants.{Readable, Closed, Errored}}
 use Rattle.ws_steps.specs.declared.readable.ReadableOperation.TheVariants as names
-use Rattle.ws_steps.specs.Bytes.{Slots, Acts, with_slots, causing, in_stream, has_default_reader, has_byob_reader, is_byob, can_take, invalidate_request, controller_error, read_by, default_reader_read, close_by, controller_close, commit_all, drop_first, controller_enqueue, pull_from_queue, pull_first, pull_into, byob_reader_read, is_closed, is_errored, commit_first, respond_closed, respond_first, respond_internal, respond, may_respond, start_settled, pull_ended, pull_settled, cancel_by, stream_cancel, cancel_if_readable, reader_initialize, may_read, may_pull_into, is_least, read, read_into}
+use Rattle.ws_steps.specs.Bytes.{Slots, Acts, with_slots, causing, in_stream, has_default_reader, has_byob_reader, is_byob, can_take, invalidate_request, controller_error, read_by, default_reader_read, close_by, controller_close, commit_all, drop_first, controller_enqueue, pull_from_queue, pull_first, pull_into, byob_reader_read, is_closed, is_errored, commit_first, respond_closed, respond_first, respond_internal, respond, may_respond, start_settled, pull_ended, pull_settled, cancel_by, stream_cancel, cancel_if_readable, reader_initialize, may_read, may_pull_into, is_least, read, read_into, is_of_tee, if_meant}
 use Rattle.ws_steps.specs.Descriptors.{Descriptor, is_for_nobody, rest_of}
 use Rattle.ws_steps.specs.Operations.{byte_readable_operation, byte_operation}
 use Rattle.ws_steps.specs.Promises.{Table}
@@ -167,12 +167,13 @@ module _ (w : ReadRequest → ℕ) (space unit least : ℕ) (me : StreamId) wher
     read-fair : (q : ReadRequest) → w q ≡ 0 → Holds (read me q start)
     unfolding read default_reader_read
     read-fair q g =
-        meant Holds (may_read x) (default_reader_read me q start) start
+        either Holds (is_of_tee q) start (if_meant (may_read x) (default_reader_read me q start) start) (λ t. begun)
+        (λ t. meant Holds (may_read x) (default_reader_read me q start) start
         (λ c. by (Holds (default_reader_read me q start)) x.stream.state (has_default_reader x) refl refl
-        (λ d s. let z = default_readable (names.Read q) tt c g d s in rw c at z)
+        (λ d s. let z = default_readable (names.Read q) tt c g d s in rw (t, c) at z)
         (λ d s. let e = live-default x.stream.state s c in absurd (cc))
         (λ n. read-ended q (in_stream readable.disturb start) x.stream.state n disturbed))
-        (marked-fair start begun)
+        (marked-fair start begun))
 
     erring-fair : (e : Plain) (a : Acts) → has_default_reader a.slots ≡ false → Holds a → Holds (controller_error me e a)
     erring-fair e a n f = error-fair w space unit least me e a n f

@@ -128,6 +128,7 @@ module _ (q : PromiseId) (space unit least : ℕ) where
     pipe = λ z source dest prevent signal promise k. k;
     signal = λ z k. k;
     transform = λ z kind i j p k. k;
+    tee = λ z source first second cancel k. k;
     readable = λ z owner mark size k. k;
     bytes = λ z mark auto k. k;
     byob_requests = λ z r k. k;

@@ -5,10 +5,10 @@ use Rattle.ws_value.specs.declared.{value.Value.{Value}}
 use Rattle.ws_steps.specs.declared.byte.{ByteOperation.{ByteOperation}, ByteOperation.TheVariants.{PullInto}}
 use Rattle.ws_steps.specs.declared.{calls.Call.{Call}}
 use Rattle.ws_steps.specs.declared.effects.Effect.{Effect}
-use Rattle.ws_steps.specs.declared.effects.Effect.TheVariants.{Readable as OnReadable, Byte, Writable as OnWritable, Pipe, Signal, Transform, StartAlgorithm, PullAlgorithm, CancelAlgorithm, WriteAlgorithm, CloseAlgorithm, AbortAlgorithm, ChunkSteps, CloseSteps, CloseStepsWith, ErrorSteps}
+use Rattle.ws_steps.specs.declared.effects.Effect.TheVariants.{Readable as OnReadable, Byte, Writable as OnWritable, Pipe, Signal, Transform, Tee, StartAlgorithm, PullAlgorithm, CancelAlgorithm, WriteAlgorithm, CloseAlgorithm, AbortAlgorithm, ChunkSteps, CloseSteps, CloseStepsWith, ErrorSteps}
 use Rattle.ws_steps.specs.declared.locks.Lock.TheVariants.{ByobReader}
 use Rattle.ws_steps.specs.declared.{pipes.SignalOperation.{SignalOperation}, pipes.SignalOperation.TheVariants.{Add, Forget, Trigger}, promises.Job.{Job}, transform.TransformId.{TransformId}}
-use Rattle.ws_steps.specs.declared.readable.{ReadRequest.{ReadRequest}, ReadRequest.TheVariants.{Promise, Pipe as PipeRequest}, ReadableOperation.{ReadableOperation}}
+use Rattle.ws_steps.specs.declared.readable.{ReadRequest.{ReadRequest}, ReadRequest.TheVariants.{Promise, Pipe as PipeRequest, Tee as TeeRequest}, ReadableOperation.{ReadableOperation}}
 use Rattle.ws_steps.specs.declared.readable.ReadableOperation.TheVariants as names
 use Rattle.ws_steps.specs.declared.writable.WritableOperation.{WritableOperation}
 use Rattle.ws_steps.specs.Bytes as byte
@@ -25,7 +25,7 @@ use Rattle.ws_laws.proofs.ByteHands.{sum_of, given_read}
 use Rattle.ws_laws.proofs.EachCall.{each_call}
 use Rattle.ws_laws.proofs.Lists.{Each, each-append}
 use Rattle.ws_laws.proofs.PipeDoes.{PipeCauses}
-use Rattle.ws_laws.proofs.Rows.{IsApart, ChunkCauses, EndCauses, SignalCauses, row-causes, row-streams}
+use Rattle.ws_laws.proofs.Rows.{IsApart, ChunkCauses, EndCauses, ErrorCauses, SignalCauses, row-causes, row-streams}
 use Rattle.ws_laws.proofs.Tables.{either, is_same-refl, readable_there, byte_there, readable_acts, byte_acts, writable_acts, place_last, place_before, eq_numbers, unequal_numbers}
 use Rattle.ws_laws.proofs.TransformDoes.{TransformCauses}
 use Rattle.ws_laws.proofs.Walker.{Stays}
@@ -40,6 +40,8 @@ use Rattle.ws_room_read_laws.proofs.Pairs.{IsFair}
 use Rattle.ws_room_read_laws.proofs.Fair.{AreFair, Even, Fair}
 use Rattle.ws_room_read_laws.proofs.Operations.{weight, weighs, all-light, readable-fair, bytes-fair, IsRead}
 use Rattle.ws_room_read_laws.proofs.DefaultHands.{readable-hands}
+use Rattle.ws_laws.proofs.TeeDoes.{TeeCauses}
+use Rattle.ws_value.specs.declared.ids.TeeId.{TeeId}
 
 -- a read into a room comes by a reader
 
@@ -91,6 +93,7 @@ call-told c s k = each_call (λ (b : Begun). Each (IsTold b.done.slots) b.done.c
   make_readable = λ mark size start. grind (arith, each-append);
   make_writable = λ mark size start. grind (arith, each-append);
   make_bytes = λ mark auto start. grind (arith, each-append);
+  make_tee = λ i e is free untied. (tt, (tt, (tt, (tt, tt))));
   make_transform = λ kind m n start. grind (arith, each-append);
   get_byob = λ i is e. (tt, tt);
   release_byob = λ l closed i e. grind (arith, each-append);
@@ -191,23 +194,33 @@ module _ (w : ReadRequest → ℕ) (space unit least : ℕ) where
       either (λ (d : Done). AreFairStreams d.slots) (has_writable i s) (put_writable i s (writable_operation i op (writable_acts i s))) (nothing s)
       (λ e. λ j. set-fair s.streams i.0 j.0 (WritableStream (writable_operation i op (writable_acts i s)).slots) tt (f j)) (λ e. f)
 
-  module _ (pipeless : (p : PipeId) → w (PipeRequest p) ≡ 0) where
+  module _ (pipeless : (p : PipeId) → w (PipeRequest p) ≡ 0) (teeless : (t : TeeId) → w (TeeRequest t) ≡ 0) where
     abbrev fair : Effect → Type 0
     fair e = IsFair w space unit least e
 
     chunk-fair : (v : Value) (request : ReadRequest) → ChunkCauses fair v request
     chunk-fair v (Promise p) = tt
     chunk-fair v (PipeRequest p) = tt
+    chunk-fair v (TeeRequest t) = tt
 
     end-fair : (request : ReadRequest) → EndCauses fair request
     end-fair (Promise p) = tt
     end-fair (PipeRequest p) = tt
+    end-fair (TeeRequest t) = tt
+
+    error-fair : (request : ReadRequest) → ErrorCauses fair request
+    error-fair (Promise p) = tt
+    error-fair (PipeRequest p) = tt
+    error-fair (TeeRequest t) = tt
 
     pipe-fair : (p : PipeId) (source dest : StreamId) (e : Effect) → PipeCauses p source dest e → fair e
     pipe-fair p source dest e c = grind (arith, c, pipeless)
 
     transform-fair : (t : TransformId) (writable half : StreamId) (e : Effect) → TransformCauses t writable half e → fair e
     transform-fair t writable half e c = grind (arith, c)
+
+    tee-fair : (t : TeeId) (source first second : StreamId) (e : Effect) → TeeCauses t source first second e → fair e
+    tee-fair t source first second e c = grind (arith, c, teeless)
 
     signal-fair : (operation : SignalOperation) → SignalCauses fair operation
     signal-fair (Add p) = tt
@@ -225,17 +238,18 @@ module _ (w : ReadRequest → ℕ) (space unit least : ℕ) where
         (writable-streams i op s f, row-causes fair (OnWritable i op) s (record { write = tt; close = tt; abort = λ r p. tt; hand_on = λ v. tt; take = λ v t d. tt }))
     row-leaves (Pipe p op) s k t n f = apart-leaves (Pipe p op) s tt f (row-causes fair (Pipe p op) s (pipe-fair p))
     row-leaves (Signal a op) s k t n f = apart-leaves (Signal a op) s tt f (row-causes fair (Signal a op) s (signal-fair op))
+    row-leaves (Tee u op) s k t n f = apart-leaves (Tee u op) s tt f (row-causes fair (Tee u op) s (tee-fair u))
     row-leaves (Transform u op) s k t n f = apart-leaves (Transform u op) s tt f (row-causes fair (Transform u op) s (transform-fair u))
     row-leaves (StartAlgorithm j step start) s k t n f = apart-leaves (StartAlgorithm j step start) s tt f (row-causes fair (StartAlgorithm j step start) s (λ g u. tt, λ c u. tt))
-    row-leaves (PullAlgorithm j) s k t n f = apart-leaves (PullAlgorithm j) s tt f (row-causes fair (PullAlgorithm j) s (λ c u. tt, λ t u. tt))
-    row-leaves (CancelAlgorithm j r p) s k t n f = apart-leaves (CancelAlgorithm j r p) s tt f (row-causes fair (CancelAlgorithm j r p) s (λ c u. tt, λ t u. tt))
+    row-leaves (PullAlgorithm j) s k t n f = apart-leaves (PullAlgorithm j) s tt f (row-causes fair (PullAlgorithm j) s (λ c u. tt, (λ t u. tt, (λ t. tt, λ u. tt))))
+    row-leaves (CancelAlgorithm j r p) s k t n f = apart-leaves (CancelAlgorithm j r p) s tt f (row-causes fair (CancelAlgorithm j r p) s (λ c u. tt, (λ t u. tt, λ t half u. tt)))
     row-leaves (WriteAlgorithm j) s k t n f = apart-leaves (WriteAlgorithm j) s tt f (row-causes fair (WriteAlgorithm j) s (tt, λ t u. tt))
     row-leaves (CloseAlgorithm j) s k t n f = apart-leaves (CloseAlgorithm j) s tt f (row-causes fair (CloseAlgorithm j) s (λ c u. tt, λ t u. tt))
     row-leaves (AbortAlgorithm j r p) s k t n f = apart-leaves (AbortAlgorithm j r p) s tt f (row-causes fair (AbortAlgorithm j r p) s (λ c u. tt, λ t u. tt))
     row-leaves (ChunkSteps j q v) s k t n f = apart-leaves (ChunkSteps j q v) s tt f (row-causes fair (ChunkSteps j q v) s (chunk-fair v q))
     row-leaves (CloseSteps j q) s k t n f = apart-leaves (CloseSteps j q) s tt f (row-causes fair (CloseSteps j q) s (end-fair q))
     row-leaves (CloseStepsWith j q b) s k t n f = apart-leaves (CloseStepsWith j q b) s tt f (row-causes fair (CloseStepsWith j q b) s (end-fair q))
-    row-leaves (ErrorSteps j q e) s k t n f = apart-leaves (ErrorSteps j q e) s tt f (row-causes fair (ErrorSteps j q e) s (end-fair q))
+    row-leaves (ErrorSteps j q e) s k t n f = apart-leaves (ErrorSteps j q e) s tt f (row-causes fair (ErrorSteps j q e) s (error-fair q))
     row-leaves e s k t n f = apart-leaves e s tt f (row-causes fair e s tt)
 
     -- calls and jobs
@@ -257,6 +271,7 @@ module _ (w : ReadRequest → ℕ) (space unit least : ℕ) where
       pipe = λ z source dest prevent signal promise k. k;
       signal = λ z k. k;
       transform = λ z kind writable readable change k. k;
+      tee = λ z source first second cancel k. k;
       readable = λ z owner mark size k. λ i. appended (ReadableStream (readable.set_up owner mark size)) z.streams i.0 (nat_eq i.0 (length z.streams)) refl refl (k i);
       bytes = λ z mark auto k. λ i. appended (ByteStream (byte.set_up mark auto)) z.streams i.0 (nat_eq i.0 (length z.streams)) refl (new-even mark auto) (k i);
       byob_requests = λ z r k. k;
@@ -271,6 +286,7 @@ module _ (w : ReadRequest → ℕ) (space unit least : ℕ) where
       make_readable = λ mark size start. grind (arith, each-append);
       make_writable = λ mark size start. grind (arith, each-append);
       make_bytes = λ mark auto start. grind (arith, each-append);
+      make_tee = λ i e is free untied. (tt, (tt, (tt, (tt, tt))));
       make_transform = λ kind m n start. grind (arith, each-append);
       get_byob = λ i is e. (tt, tt);
       release_byob = λ l closed i e. grind (arith, each-append);

@@ -6,7 +6,7 @@ use Rattle.ws_value.specs.declared.{value.Outcome.{Outcome}, value.Outcome.TheVa
 use Rattle.ws_steps.specs.declared.{calls.Call.{Call}, calls.Call.TheVariants.{ReadInto}, calls.Reply.{Reply}, calls.Reply.TheVariants.{Promise as Named}, effects.Effect.{Effect}}
 use Rattle.ws_steps.specs.declared.locks.Lock.{Lock}
 use Rattle.ws_steps.specs.declared.locks.Lock.TheVariants.{Reader, ByobReader, Writer, ReleasedWriter, Inner}
-use Rattle.ws_steps.specs.declared.readable.{ReadRequest.{ReadRequest}, ReadRequest.TheVariants.{Pipe as PipeRequest}}
+use Rattle.ws_steps.specs.declared.readable.{ReadRequest.{ReadRequest}, ReadRequest.TheVariants.{Pipe as PipeRequest, Tee as TeeRequest}}
 use Rattle.ws_steps.specs.ByteLaws.{EachRoomIsWhole}
 use Rattle.ws_steps.specs.Calls as calls
 use Rattle.ws_steps.specs.Calls.{Begun, begin, named}
@@ -34,12 +34,13 @@ use Rattle.ws_room_read_laws.proofs.Pairs.{behind, Pairs}
 use Rattle.ws_room_read_laws.proofs.Fair.{AreFair}
 use Rattle.ws_room_read_laws.proofs.Outcomes.{IsFairOutcome, Answered, answered-fresh, answered-row, answered-begin, answered-next, answered-watch, answered-new, answered-heard}
 use Rattle.ws_room_read_laws.proofs.Rooms.{IsFairStream, AreFairStreams, Follows, Rooms, rooms-call, rooms-stay, call-streams}
+use Rattle.ws_value.specs.declared.ids.TeeId.{TeeId}
 
 -- over a run
 
-module _ (w : ReadRequest → ℕ) (space unit least : ℕ) (pipeless : (p : PipeId) → w (PipeRequest p) ≡ 0) (T : Table → Type 0) (follows : Follows w space unit least pipeless T) where
+module _ (w : ReadRequest → ℕ) (space unit least : ℕ) (pipeless : (p : PipeId) → w (PipeRequest p) ≡ 0) (teeless : (t : TeeId) → w (TeeRequest t) ≡ 0) (T : Table → Type 0) (follows : Follows w space unit least pipeless teeless T) where
   abbrev All : Slots → List Effect → Type 0
-  All s es = Rooms w space unit least pipeless T follows s es
+  All s es = Rooms w space unit least pipeless teeless T follows s es
 
   rooms-heard : (s : Slots) → All s [] → All (after_event s) []
   rooms-heard s k = record {
@@ -52,16 +53,16 @@ module _ (w : ReadRequest → ℕ) (space unit least : ℕ) (pipeless : (p : Pip
   }
 
   rooms-run : (xs : List Entry) (s : Slots) → All s [] → All (run xs s) []
-  rooms-run xs s k = run-stays All (rooms-stay w space unit least pipeless T follows) rooms-heard xs s k
+  rooms-run xs s k = run-stays All (rooms-stay w space unit least pipeless teeless T follows) rooms-heard xs s k
 
   named-rooms : (reply : Reply) (s : Slots) → All s [] → All (named reply s) []
-  named-rooms (Named p) s k = (rooms-stay w space unit least pipeless T follows).answered s p k
+  named-rooms (Named p) s k = (rooms-stay w space unit least pipeless teeless T follows).answered s p k
   named-rooms _ s k = k
 
   -- what a call leaves, once it has begun
   rooms-after : (c : Call) (s : Slots) → All (begin c s).done.slots (begin c s).done.caused → All (after_call c s) []
   rooms-after c s k =
-      let stays = rooms-stay w space unit least pipeless T follows in
+      let stays = rooms-stay w space unit least pipeless teeless T follows in
       let d : Done = (begin c s).done in
       let z : All (performed d) [] = performed-goes tt (λ f g. tt) untold (λ e s. tt) (λ h s es. All s es) (λ h s e es k. stays.row s e es k) tt d k in
       stays.older (named (begin c s).reply (performed d)) (named-rooms (begin c s).reply (performed d) z)
@@ -74,12 +75,12 @@ no_weight r = 0
 abbrev Any : Table → Type 0
 Any t = Unit {0}
 
-follows-any : Follows no_weight 0 0 0 (λ p. refl) Any
+follows-any : Follows no_weight 0 0 0 (λ p. refl) (λ t. refl) Any
 follows-any = record { fresh = λ t k. refl; row = λ e s n k. tt; begins = λ c s k. tt; next = λ t k. tt; watched = λ p t k. tt; heard = λ t z e k. tt }
 
-before-rooms : (entries : List Entry) → All no_weight 0 0 0 (λ p. refl) Any follows-any (run entries empty) []
+before-rooms : (entries : List Entry) → All no_weight 0 0 0 (λ p. refl) (λ t. refl) Any follows-any (run entries empty) []
 before-rooms entries =
-    rooms-run no_weight 0 0 0 (λ p. refl) Any follows-any entries empty
+    rooms-run no_weight 0 0 0 (λ p. refl) (λ t. refl) Any follows-any entries empty
     (record { locked = run-locked []; sound = λ i. (λ is. cc, tt); told = tt; streams = λ i. tt; effects = tt; table = tt })
 
 -- a new promise stands in no request
@@ -122,7 +123,7 @@ module _ (q : PromiseId) (space unit least : ℕ) where
   streams-light s n k i =
       stream-light (slice_get s.streams i.0) (λ y is. let few = in_all-there (tokens.in_stream q) i.0 s.streams y is in omega (arith, n, few)) (k i)
 
-  follows-answered : Follows (of_request q) space unit least (λ p. refl) (Answered q space unit least)
+  follows-answered : Follows (of_request q) space unit least (λ p. refl) (λ t. refl) (Answered q space unit least)
   follows-answered = record {
     fresh = answered-fresh q space unit least;
     row = answered-row q space unit least;
@@ -188,18 +189,18 @@ has-got before after l room element least p o reply is =
     let k = before-rooms before in
     let b : Begins room element least s (begin c s) = into-begins room element least s l in
     let named = b.promise p reply in
-    let begun = rooms-call no_weight 0 0 0 (λ p. refl) Any follows-any s c k in
+    let begun = rooms-call no_weight 0 0 0 (λ p. refl) (λ t. refl) Any follows-any s c k in
     let streams = streams-light q space element low s (new-nowhere s (promise_runs.run-sound before)) k.streams in
-    let now : All (of_request q) space element low (λ p. refl) (Answered q space element low) (follows-answered q space element low) (begin c s).done.slots (begin c s).done.caused = record {
+    let now : All (of_request q) space element low (λ p. refl) (λ t. refl) (Answered q space element low) (follows-answered q space element low) (begin c s).done.slots (begin c s).done.caused = record {
       locked = begun.locked;
       sound = begun.sound;
       told = begun.told;
-      streams = call-streams (of_request q) space element low (λ p. refl) c s streams;
+      streams = call-streams (of_request q) space element low (λ p. refl) (λ t. refl) c s streams;
       effects = b.effects;
       table = named.1;
     } in
-    let later = rooms-after (of_request q) space element low (λ p. refl) (Answered q space element low) (follows-answered q space element low) c s now in
-    let last = rooms-run (of_request q) space element low (λ p. refl) (Answered q space element low) (follows-answered q space element low) after (after_call c s) later in
+    let later = rooms-after (of_request q) space element low (λ p. refl) (λ t. refl) (Answered q space element low) (follows-answered q space element low) c s now in
+    let last = rooms-run (of_request q) space element low (λ p. refl) (λ t. refl) (Answered q space element low) (follows-answered q space element low) after (after_call c s) later in
     last.table.0 o (rw named.0 at is)
 
 pub each_room_is_whole : EachRoomIsWhole
