@@ -1,5 +1,11 @@
 -- What goes on with each change of promises goes on with the row of each effect, where an answer never rejects.
 use Rattle.std.proofs.Common.{◌≡◌, true, Option, Some, None, Result, refl, slice_get}
+use Rattle.ws_laws.proofs.TeeDoes.{tee-does}
+use Rattle.ws_steps.specs.Operations.{tee_operation}
+use Rattle.ws_steps.specs.Slots.{on_tee_at}
+use Rattle.ws_steps.specs.Tee as tee
+use Rattle.ws_steps.specs.declared.tee.TeeOperation.{TeeOperation}
+use Rattle.ws_value.specs.declared.ids.TeeId.{TeeId}
 use Rattle.ws_value.specs.declared.ids.PipeId.{PipeId}
 use Rattle.ws_value.specs.declared.ids.PromiseId.{PromiseId}
 use Rattle.ws_value.specs.declared.ids.SignalId.{SignalId}
@@ -12,10 +18,10 @@ use Rattle.ws_value.specs.declared.value.Value.TheVariants.{Plain as PlainValue,
 use Rattle.std.specs.Prelude.{Err}
 use Rattle.ws_steps.specs.declared.{calls.Event.{Event}, calls.Event.TheVariants.{Signal}, calls.StartBy.TheVariants.{Now, Later}}
 use Rattle.ws_steps.specs.declared.effects.Effect.{Effect}
-use Rattle.ws_steps.specs.declared.effects.Effect.TheVariants.{Readable, Writable, Pipe, Signal, Transform, StartAlgorithm, ChunkSteps, CloseSteps, ErrorSteps, Give, Settle, Queue, CallHost}
+use Rattle.ws_steps.specs.declared.effects.Effect.TheVariants.{Readable, Writable, Pipe, Signal, Transform, Tee, StartAlgorithm, ChunkSteps, CloseSteps, ErrorSteps, Give, Settle, Queue, CallHost}
 use Rattle.ws_steps.specs.declared.{effects.Gift.{Gift}, effects.Gift.TheVariants.{This, Fresh}, effects.Use.{Use}}
 use Rattle.ws_steps.specs.declared.{effects.Use.TheVariants.{React, Resolve}, promises.Reaction.{Reaction}, promises.Reaction.TheVariants.{Perform}}
-use Rattle.ws_steps.specs.declared.{readable.ReadRequest.TheVariants.{Promise, Pipe as PipeRequest}, pipes.PipeOperation.{PipeOperation}, pipes.SignalOperation.{SignalOperation}, promises.Micro.{Micro}}
+use Rattle.ws_steps.specs.declared.{readable.ReadRequest.TheVariants.{Promise, Pipe as PipeRequest, Tee as TeeRequest}, pipes.PipeOperation.{PipeOperation}, pipes.SignalOperation.{SignalOperation}, promises.Micro.{Micro}}
 use Rattle.ws_steps.specs.declared.{transform.TransformId.{TransformId}, transform.TransformOperation.{TransformOperation}}
 use Rattle.ws_steps.specs.Effects.{Out}
 use Rattle.ws_steps.specs.Promises.{Table, fresh, settle, answer, react, follow, queue_micro, tell, next_id, fresh_settled, use_this, use_gift}
@@ -71,6 +77,10 @@ module _ (T : Table → Type 0) (alters : Alters T) where
   transform-alters t operation s (Some x) h =
       transform-does T (record { fresh = alters.fresh; settle = alters.settle }) t (halves_at x s) operation (record { slots = x; out = found s }) h
 
+  tee-alters : (t : TeeId) (operation : TeeOperation) (s : Slots) (o : Option tee.Slots) → T s.promises → T (on_tee_at (tee_operation t operation) t s o).slots.promises
+  tee-alters t operation s None h = h
+  tee-alters t operation s (Some x) h = tee-does T (record { fresh = alters.fresh; micro = alters.micro }) t operation (record { slots = x; out = found s }) h
+
   of-alters : (i : StreamId) → OfReadable (λ (x : Out). T x.promises) i
   of-alters i = record {
     settle = λ x p o h. alters.settle x.promises p o h;
@@ -100,6 +110,7 @@ module _ (T : Table → Type 0) (alters : Alters T) where
   row-alters (Pipe p operation) s h = pipe-alters p operation s (slice_get s.pipes p.0) h
   row-alters (Signal a operation) s h = signal-alters a operation s (slice_get s.signals a.0) h
   row-alters (Transform t operation) s h = transform-alters t operation s (slice_get s.transforms t.0) h
+  row-alters (Tee t operation) s h = tee-alters t operation s (slice_get s.tees t.0) h
   row-alters (StartAlgorithm i step Now) s h = h
   row-alters (StartAlgorithm i step Later) s h = alters.fresh s.promises h
   row-alters (ChunkSteps i (Promise p) v) s h = alters.answer s.promises p (Given v) refl h
@@ -107,9 +118,13 @@ module _ (T : Table → Type 0) (alters : Alters T) where
   row-alters (CloseStepsWith i (Promise p) b) s h = alters.answer s.promises p (Finished (Bytes b)) refl h
   row-alters (ErrorSteps i (Promise p) e) s h = alters.settle s.promises p (Err e) h
   row-alters (ChunkSteps i (PipeRequest p) v) s h = h
+  row-alters (ChunkSteps i (TeeRequest t) v) s h = h
   row-alters (CloseSteps i (PipeRequest p)) s h = h
+  row-alters (CloseSteps i (TeeRequest t)) s h = h
   row-alters (CloseStepsWith i (PipeRequest p) b) s h = h
+  row-alters (CloseStepsWith i (TeeRequest t) b) s h = h
   row-alters (ErrorSteps i (PipeRequest p) e) s h = h
+  row-alters (ErrorSteps i (TeeRequest t) e) s h = h
   row-alters (Queue m) s h = alters.micro s.promises m h
   row-alters (Give gift u) s h = gift-alters gift u s.promises h
   row-alters (Settle p o) s h = alters.settle s.promises p o h

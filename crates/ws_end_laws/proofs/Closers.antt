@@ -1,4 +1,6 @@
 -- While a pipe flows or waits, no close of its destination stands on the agenda.
+use Rattle.ws_value.specs.declared.ids.TeeId.{TeeId}
+use Rattle.ws_steps.specs.declared.effects.Effect.TheVariants.{Tee as OnTee}
 use Rattle.std.proofs.Common.{◌≡◌, ◌⊎◌, ◌≤◌, Bool, true, false, not, ◌&&◌, nat_eq, List, [], ◌∷◌, Option, Some, None, slice_get, refl, ap, ◌∙◌, arith}
 use Rattle.ws_value.specs.declared.{ids.PipeId.{PipeId}, ids.StreamId.{StreamId}, value.Plain.{Plain}}
 use Rattle.ws_steps.specs.declared.calls.Call.{Call}
@@ -7,7 +9,7 @@ use Rattle.ws_steps.specs.declared.effects.Effect.TheVariants.{Readable as OnRea
 use Rattle.ws_steps.specs.declared.pipes.{Ends.{Ends}, Phase.{Phase}, PipeOperation.{PipeOperation}}
 use Rattle.ws_steps.specs.declared.pipes.{SignalOperation.{SignalOperation}, SignalOperation.TheVariants.{Add, Forget, Trigger}}
 use Rattle.ws_steps.specs.declared.promises.Job.{Job}
-use Rattle.ws_steps.specs.declared.readable.{ReadRequest.TheVariants.{Promise, Pipe as PipeRequest}}
+use Rattle.ws_steps.specs.declared.readable.{ReadRequest.TheVariants.{Promise, Pipe as PipeRequest, Tee as TeeRequest}}
 use Rattle.ws_steps.specs.declared.transform.TransformId.{TransformId}
 use Rattle.ws_steps.specs.declared.writable.WritableOperation.{WritableOperation}
 use Rattle.ws_steps.specs.Calls.{Begun, begin}
@@ -24,6 +26,7 @@ use Rattle.ws_laws.proofs.PipeDoes.{PipeCauses, pipe-causes}
 use Rattle.ws_laws.proofs.Rows.{Causes, SignalCauses, IsNoPipe, row-causes}
 use Rattle.ws_laws.proofs.Tables.{unequal_numbers}
 use Rattle.ws_laws.proofs.TransformDoes.{TransformCauses}
+use Rattle.ws_laws.proofs.TeeDoes.{TeeCauses}
 use Rattle.ws_laws.proofs.Truth.{and_left, and_right, false_true}
 use Rattle.ws_pipe_laws.specs.PipeHistory.{is_live, is_over}
 use Rattle.ws_pipe_laws.specs.PipeMoves.{starting, end_effects, is_idle, are_idle, Move, MoveRests, MoveWaits, MoveActs, MoveEnds, MoveFinishes}
@@ -55,6 +58,9 @@ module _ (j : StreamId) where
   transform-none : (t : TransformId) (writable readable : StreamId) (e : Effect) → TransformCauses t writable readable e → NoClose e
   transform-none t writable readable e c = grind (arith, c)
 
+  tee-none : (t : TeeId) (source first second : StreamId) (e : Effect) → TeeCauses t source first second e → NoClose e
+  tee-none t source first second e c = grind (arith, c)
+
   none-causes : (e : Effect) → IsNoPipe e → Causes NoClose e
   none-causes (OnReadable i operation) n = record { pull = refl; cancel = λ r q. refl; chunk = λ r v. refl; close = λ r. refl; error = λ r e. refl }
   none-causes (Byte i operation) n = record { readable = record { pull = refl; cancel = λ r q. refl; chunk = λ r v. refl; close = λ r. refl; error = λ r e. refl }; close_with = λ r b. refl }
@@ -62,9 +68,10 @@ module _ (j : StreamId) where
   none-causes (OnPipe q operation) n = absurd n
   none-causes (OnSignal a operation) n = signal-none operation
   none-causes (OnTransform t operation) n = transform-none t
+  none-causes (OnTee t operation) n = tee-none t
   none-causes (StartAlgorithm i step start) n = (λ g u. refl, λ c u. refl)
-  none-causes (PullAlgorithm i) n = (λ c u. refl, λ t u. refl)
-  none-causes (CancelAlgorithm i r q) n = (λ c u. refl, λ t u. refl)
+  none-causes (PullAlgorithm i) n = (λ c u. refl, (λ t u. refl, (λ t. refl, λ u. refl)))
+  none-causes (CancelAlgorithm i r q) n = (λ c u. refl, (λ t u. refl, λ t half u. refl))
   none-causes (WriteAlgorithm i) n = (by (is_same j i), λ t u. refl)
     where
       by : (b : Bool) → b && false ≡ false
@@ -74,12 +81,16 @@ module _ (j : StreamId) where
   none-causes (AbortAlgorithm i r q) n = (λ c u. refl, λ t u. refl)
   none-causes (ChunkSteps i (Promise q) v) n = tt
   none-causes (ChunkSteps i (PipeRequest q) v) n = refl
+  none-causes (ChunkSteps i (TeeRequest t) v) n = refl
   none-causes (CloseSteps i (Promise q)) n = tt
   none-causes (CloseStepsWith i (Promise q) b) n = tt
   none-causes (CloseSteps i (PipeRequest q)) n = refl
+  none-causes (CloseSteps i (TeeRequest t)) n = refl
   none-causes (CloseStepsWith i (PipeRequest q) b) n = refl
+  none-causes (CloseStepsWith i (TeeRequest t) b) n = refl
   none-causes (ErrorSteps i (Promise q) e) n = tt
   none-causes (ErrorSteps i (PipeRequest q) e) n = refl
+  none-causes (ErrorSteps i (TeeRequest t) e) n = refl
   none-causes _ n = tt
 
   pub row-quiet : (e : Effect) (s : Slots) → IsNoPipe e → Each NoClose (row e s).caused

@@ -1,5 +1,7 @@
 -- The job by which a pipe hears of its action is the only one, where its reaction is registered or its job is queued.
 use Rattle.std.proofs.Common.{◌≡◌, ◌⊎◌, inl, inr, ℕ, zero, suc, ◌+◌, ◌≤◌, Bool, true, false, nat_eq, List, [], ◌∷◌, ◌++◌, Option, Some, None, Result, Ok, Err, slice_get, refl, sym, ap, subst, ◌∙◌, arith}
+use Rattle.ws_steps.specs.declared.promises.Micro.TheVariants.{TeeHand}
+use Rattle.ws_steps.specs.declared.promises.Step.TheVariants.{TeeEnds}
 use Rattle.ws_value.specs.declared.{ids.PipeId.{PipeId}, ids.PromiseId.{PromiseId}, value.Plain.{Plain}}
 use Rattle.ws_steps.specs.declared.promises.{Job.{Job}, Job.TheVariants.{Reaction as ReactionJob, Follow, Settle as SettleJob, Micro as MicroJob}, Micro.TheVariants.{PipeLook, PipeWrite, PipeNoParts}, Reaction.{Reaction}}
 use Rattle.ws_steps.specs.declared.promises.{Step.{Step}, Step.TheVariants.{ReadableStart, ReadablePull, ReturnUndefined, WritableStart, WritableWrite, WritableClose, WritableAbort, PipeEnds, PipeReady, PipeWrote, PipeActed, PipePart, TransformChanged, Transformed, TransformFlushed, TransformAborted, TransformCancelled}}
@@ -59,6 +61,7 @@ module _ (p : PipeId) where
   steps-told (WritableClose j) o r derived n = (tt, resolved-told derived r)
   steps-told (WritableAbort j q) o r derived n = (tt, resolved-told derived r)
   steps-told (PipeEnds q) o r derived n = (tt, resolved-told derived r)
+  steps-told (TeeEnds t) o r derived n = (tt, resolved-told derived r)
   steps-told (PipeReady q) o r derived n = (tt, resolved-told derived r)
   steps-told (PipeWrote q) o r derived n = (tt, resolved-told derived r)
   steps-told (PipeActed q) o r derived n = (not_it (nat_eq p.0 q.0) n, resolved-told derived r)
@@ -78,6 +81,7 @@ module _ (p : PipeId) where
   job-told (MicroJob (PipeLook q)) n = (tt, tt)
   job-told (MicroJob (PipeWrite q)) n = (tt, tt)
   job-told (MicroJob (PipeNoParts q)) n = (tt, tt)
+  job-told (MicroJob (TeeHand t)) n = (tt, tt)
 
   -- the first job of a table in which the reaction stands once at most
 

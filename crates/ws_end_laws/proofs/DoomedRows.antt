@@ -1,11 +1,13 @@
 -- What each effect, each call and each job does to a pipe that closes a destination that fails.
+use Rattle.ws_value.specs.declared.ids.TeeId.{TeeId}
+use Rattle.ws_steps.specs.declared.effects.Effect.TheVariants.{Tee as OnTee}
 use Rattle.std.proofs.Common.{◌≡◌, ◌⊎◌, inl, inr, ⊎_elim, Bool, true, false, List, [], ◌∷◌, ◌++◌, Option, Some, None, Err, slice_get, refl, sym, ap, subst, arith}
 use Rattle.ws_value.specs.declared.{ids.PipeId.{PipeId}, ids.PromiseId.{PromiseId}, ids.StreamId.{StreamId}, value.Plain.{Plain}}
 use Rattle.ws_steps.specs.declared.calls.Call.{Call}
 use Rattle.ws_steps.specs.declared.effects.Effect.{Effect}
 use Rattle.ws_steps.specs.declared.effects.Effect.TheVariants.{Readable as OnReadable, Writable as OnWritable, Pipe as OnPipe, Signal as OnSignal, Transform as OnTransform, StartAlgorithm, PullAlgorithm, CancelAlgorithm, WriteAlgorithm, CloseAlgorithm, AbortAlgorithm, ChunkSteps, CloseSteps, ErrorSteps}
 use Rattle.ws_steps.specs.declared.pipes.{PipeOperation.TheVariants.{ActionSettled}, SignalOperation.{SignalOperation}, SignalOperation.TheVariants.{Add, Forget, Trigger}}
-use Rattle.ws_steps.specs.declared.readable.{ReadRequest.TheVariants.{Promise, Pipe as PipeRequest}, ReadableOperation.{ReadableOperation}}
+use Rattle.ws_steps.specs.declared.readable.{ReadRequest.TheVariants.{Promise, Pipe as PipeRequest, Tee as TeeRequest}, ReadableOperation.{ReadableOperation}}
 use Rattle.ws_steps.specs.declared.transform.TransformId.{TransformId}
 use Rattle.ws_steps.specs.declared.writable.{WritableOperation.{WritableOperation}, WritableOperation.TheVariants.{ClosePropagating}}
 use Rattle.ws_steps.specs.Calls.{Begun, begin}
@@ -22,6 +24,7 @@ use Rattle.ws_laws.proofs.Lists.{Each, each-append}
 use Rattle.ws_laws.proofs.Rows.{Causes, SignalCauses, row-causes, row-streams}
 use Rattle.ws_laws.proofs.Tables.{same_id, writable_acts, on_writable-same, on_writable-other}
 use Rattle.ws_laws.proofs.TransformDoes.{TransformCauses}
+use Rattle.ws_laws.proofs.TeeDoes.{TeeCauses}
 use Rattle.ws_writable_laws.proofs.Agenda.{Kept}
 use Rattle.ws_pipe_laws.specs.PipeHistory.{Course}
 use Rattle.ws_pipe_laws.specs.PipeMoves.{hears_action}
@@ -157,6 +160,10 @@ module _ (p : PipeId) where
   transform-told t writable readable (OnPipe q operation) c = absurd c
   transform-told t writable readable _ c = tt
 
+  tee-told : (t : TeeId) (source first second : StreamId) (e : Effect) → TeeCauses t source first second e → NotTold p e
+  tee-told t source first second (OnPipe q operation) c = absurd c
+  tee-told t source first second _ c = tt
+
   told-causes : (e : Effect) → Causes (NotTold p) e
   told-causes (OnReadable i operation) = record { pull = tt; cancel = λ r q. tt; chunk = λ r v. tt; close = λ r. tt; error = λ r e. tt }
   told-causes (Byte i operation) = record { readable = record { pull = tt; cancel = λ r q. tt; chunk = λ r v. tt; close = λ r. tt; error = λ r e. tt }; close_with = λ r b. tt }
@@ -164,20 +171,25 @@ module _ (p : PipeId) where
   told-causes (OnPipe q operation) = λ source dest e c. pipe-told p q source dest e c
   told-causes (OnSignal a operation) = signal-told operation
   told-causes (OnTransform t operation) = transform-told t
+  told-causes (OnTee t operation) = tee-told t
   told-causes (StartAlgorithm i step start) = (λ g u. tt, λ c u. tt)
-  told-causes (PullAlgorithm i) = (λ c u. tt, λ t u. tt)
-  told-causes (CancelAlgorithm i r q) = (λ c u. tt, λ t u. tt)
+  told-causes (PullAlgorithm i) = (λ c u. tt, (λ t u. tt, (λ t. tt, λ u. tt)))
+  told-causes (CancelAlgorithm i r q) = (λ c u. tt, (λ t u. tt, λ t half u. tt))
   told-causes (WriteAlgorithm i) = (tt, λ t u. tt)
   told-causes (CloseAlgorithm i) = (λ c u. tt, λ t u. tt)
   told-causes (AbortAlgorithm i r q) = (λ c u. tt, λ t u. tt)
   told-causes (ChunkSteps i (Promise q) v) = tt
   told-causes (ChunkSteps i (PipeRequest q) v) = tt
+  told-causes (ChunkSteps i (TeeRequest t) v) = tt
   told-causes (CloseSteps i (Promise q)) = tt
   told-causes (CloseStepsWith i (Promise q) b) = tt
   told-causes (CloseSteps i (PipeRequest q)) = tt
+  told-causes (CloseSteps i (TeeRequest t)) = tt
   told-causes (CloseStepsWith i (PipeRequest q) b) = tt
+  told-causes (CloseStepsWith i (TeeRequest t) b) = tt
   told-causes (ErrorSteps i (Promise q) e) = tt
   told-causes (ErrorSteps i (PipeRequest q) e) = tt
+  told-causes (ErrorSteps i (TeeRequest t) e) = tt
   told-causes _ = tt
 
   row-told : (e : Effect) (s : Slots) (es : List Effect) → Each (NotTold p) es → Each (NotTold p) ((row e s).caused ++ es)

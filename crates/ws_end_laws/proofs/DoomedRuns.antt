@@ -85,6 +85,7 @@ call-table T f c s k = begin-makes (λ z. T z.promises) (record {
   pipe = λ z source dest prevent signal promise k. k;
   signal = λ z k. k;
   transform = λ z kind i j change k. k;
+  tee = λ z source first second cancel k. k;
   bytes = λ z mark auto k. k;
   byob_requests = λ z hs k. k;
   readable = λ z owner mark size k. k;

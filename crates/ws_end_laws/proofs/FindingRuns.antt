@@ -252,6 +252,7 @@ module _ (p : PipeId) where
         (appended z.pipes y p.0);
     signal = λ z k. k;
     transform = λ z kind i j change k. k;
+    tee = λ z source first second cancel k. k;
     bytes = λ z mark auto k. k;
     byob_requests = λ z hs k. k;
     readable = λ z owner mark size k. k;

@@ -91,6 +91,7 @@ module _ (i : StreamId) (W : writable.Slots → Type 0) (none : W no_writable �
     pipe = λ z source dest prevent signal promise k. k;
     signal = λ z k. k;
     transform = λ z kind i j change k. k;
+    tee = λ z source first second cancel k. k;
     bytes = λ z mark auto k. added z.streams _ k;
     byob_requests = λ z hs k. k;
     readable = λ z owner mark size k. added z.streams _ k;

@@ -1,4 +1,5 @@
 -- Which effects make a pipe react to its action: those of the operation by which it begins to act, and no other; and which tell it of the outcome.
+use Rattle.ws_value.specs.declared.ids.TeeId.{TeeId}
 use Rattle.std.proofs.Common.{◌≡◌, Bool, true, false, nat_eq, List, [], ◌∷◌, Option, Some, None, Ok, Err, refl, ap, ◌∙◌, arith}
 use Rattle.ws_value.specs.declared.{ids.PipeId.{PipeId}, ids.PromiseId.{PromiseId}, ids.StreamId.{StreamId}, ids.SignalId.{SignalId}}
 use Rattle.ws_value.specs.declared.value.Plain.{Plain}
@@ -6,11 +7,11 @@ use Rattle.ws_value.specs.declared.value.Value.{Value}
 use Rattle.ws_steps.specs.declared.transform.TransformId.{TransformId}
 use Rattle.ws_steps.specs.declared.{calls.Call.{Call}, calls.StartBy.{StartBy}, calls.StartBy.TheVariants.{Now, Later}}
 use Rattle.ws_steps.specs.declared.effects.Effect.{Effect}
-use Rattle.ws_steps.specs.declared.effects.Effect.TheVariants.{Readable, Writable, Pipe, Signal, Transform, StartAlgorithm, PullAlgorithm, CancelAlgorithm, WriteAlgorithm, CloseAlgorithm, AbortAlgorithm, ChunkSteps, CloseSteps, ErrorSteps, Give, Settle, CallHost}
-use Rattle.ws_steps.specs.declared.{effects.Gift.TheVariants.{This}, effects.Owner.{Owner}, effects.Owner.TheVariants.{Host, HalfOf}, effects.Use.{Use}, effects.Use.TheVariants.{React, Resolve}}
+use Rattle.ws_steps.specs.declared.effects.Effect.TheVariants.{Readable, Writable, Pipe, Signal, Transform, Tee, StartAlgorithm, PullAlgorithm, CancelAlgorithm, WriteAlgorithm, CloseAlgorithm, AbortAlgorithm, ChunkSteps, CloseSteps, ErrorSteps, Give, Settle, CallHost}
+use Rattle.ws_steps.specs.declared.{effects.Gift.TheVariants.{This}, effects.Owner.{Owner}, effects.Owner.TheVariants.{Host, HalfOf, BranchOf}, effects.Use.{Use}, effects.Use.TheVariants.{React, Resolve}}
 use Rattle.ws_steps.specs.declared.{pipes.SignalOperation.{SignalOperation}, pipes.SignalOperation.TheVariants.{Add, Forget, Trigger}, promises.Job.{Job}, promises.Step.{Step}, promises.Step.TheVariants.{PipeReady, PipeWrote, PipeActed, PipePart}}
 use Rattle.ws_steps.specs.declared.pipes.PipeOperation.TheVariants.{ActionSettled}
-use Rattle.ws_steps.specs.declared.{readable.ReadRequest.{ReadRequest}, readable.ReadRequest.TheVariants.{Promise, Pipe as PipeRequest}}
+use Rattle.ws_steps.specs.declared.{readable.ReadRequest.{ReadRequest}, readable.ReadRequest.TheVariants.{Promise, Pipe as PipeRequest, Tee as TeeRequest}}
 use Rattle.ws_steps.specs.Slots.{Slots, owner_at}
 use Rattle.ws_steps.specs.Turns.{row, pull_algorithm, cancel_algorithm, write_algorithm, close_algorithm, abort_algorithm, start_algorithm}
 use Rattle.ws_steps.specs.Jobs.{job_effects}
@@ -19,11 +20,12 @@ use Rattle.ws_steps.specs.Pipes as pipe
 use Rattle.ws_laws.proofs.EachCall.{each_call}
 use Rattle.ws_laws.proofs.Lists.{Each, each-append, each-map}
 use Rattle.ws_laws.proofs.PipeDoes.{IsStepOf, PipeCauses}
-use Rattle.ws_laws.proofs.Rows.{Causes, ChunkCauses, EndCauses, SignalCauses, row-causes}
+use Rattle.ws_laws.proofs.Rows.{Causes, ChunkCauses, EndCauses, ErrorCauses, SignalCauses, row-causes}
 use Rattle.ws_pipe_laws.specs.PipeMoves.{is_idle, are_idle, end_effects, signal_forgets, result_by}
 use Rattle.ws_host_laws.proofs.Reactions.{JobFits}
 use Rattle.ws_laws.proofs.TransformDoes.{TransformCauses}
-use Rattle.ws_host_laws.proofs.Carried.{Carries, Uses, Own, row-uses}
+use Rattle.ws_laws.proofs.TeeDoes.{TeeCauses}
+use Rattle.ws_host_laws.proofs.Carried.{CarriesTee, TeeUses, row-tees_use, Carries, Uses, Own, row-uses}
 use Rattle.ws_host_laws.proofs.Dests.{NoClose}
 use Rattle.ws_steps.specs.declared.effects.Effect.TheVariants.{Byte, CloseStepsWith}
 
@@ -42,6 +44,7 @@ Fits p V (Give gift u) = NoUse p u
 Fits p V (CallHost call u) = NoUse p u
 Fits p V (StartAlgorithm i step start) = acts_on p step ≡ false
 Fits p V (Transform t operation) = Carries (NoUse p) operation
+Fits p V (Tee t operation) = CarriesTee (NoUse p) operation
 Fits p V (Pipe q (ActionSettled (Ok v))) = nat_eq p.0 q.0 ≡ true → V
 Fits p V _ = Unit {0}
 
@@ -65,15 +68,23 @@ module _ (p : PipeId) (V : Type 0) where
   pipe-fits q source dest (StartAlgorithm i step start) n c = absurd c
   pipe-fits q source dest (Pipe r (ActionSettled o)) n c = absurd c
   pipe-fits q source dest (Transform t operation) n c = absurd c
+  pipe-fits q source dest (Tee t operation) n c = absurd c
   pipe-fits q source dest _ n c = tt
 
   chunk-fits : (v : Value) (request : ReadRequest) → ChunkCauses (Fits p V) v request
   chunk-fits v (Promise q) = tt
   chunk-fits v (PipeRequest q) = tt
+  chunk-fits v (TeeRequest t) = tt
 
   end-fits : (request : ReadRequest) → EndCauses (Fits p V) request
   end-fits (Promise q) = tt
   end-fits (PipeRequest q) = tt
+  end-fits (TeeRequest t) = tt
+
+  error-fits : (request : ReadRequest) → ErrorCauses (Fits p V) request
+  error-fits (Promise q) = tt
+  error-fits (PipeRequest q) = tt
+  error-fits (TeeRequest t) = tt
 
   signal-fits : (operation : SignalOperation) → SignalCauses (Fits p V) operation
   signal-fits (Trigger r) = λ q. tt
@@ -87,28 +98,36 @@ module _ (p : PipeId) (V : Type 0) where
   pull-fits : (i : StreamId) (owner : Owner) (step : Step) (d : Option PromiseId) → acts_on p step ≡ false → Each (Fits p V) (pull_algorithm i (React step d) owner)
   pull-fits i Host step d n = (n, tt)
   pull-fits i (HalfOf t) step d n = (n, tt)
+  pull-fits i (BranchOf t half) step d n = (tt, (n, tt))
 
   cancel-fits : (i : StreamId) (r : Plain) (owner : Owner) (step : Step) (d : Option PromiseId) → acts_on p step ≡ false → Each (Fits p V) (cancel_algorithm i r (React step d) owner)
   cancel-fits i r Host step d n = (n, tt)
   cancel-fits i r (HalfOf t) step d n = (n, tt)
+  cancel-fits i r (BranchOf t half) step d n = (n, tt)
 
   abort-fits : (i : StreamId) (r : Plain) (owner : Owner) (step : Step) (d : Option PromiseId) → acts_on p step ≡ false → Each (Fits p V) (abort_algorithm i r (React step d) owner)
   abort-fits i r Host step d n = (n, tt)
   abort-fits i r (HalfOf t) step d n = (n, tt)
+  abort-fits i r (BranchOf t half) step d n = (n, tt)
 
   write-fits : (i : StreamId) (owner : Owner) → Each (Fits p V) (write_algorithm i owner)
   write-fits i Host = (tt, tt)
   write-fits i (HalfOf t) = (refl, tt)
+  write-fits i (BranchOf t half) = (tt, tt)
 
   close-fits : (i : StreamId) (owner : Owner) (step : Step) (d : Option PromiseId) → acts_on p step ≡ false → Each (Fits p V) (close_algorithm i (React step d) owner)
   close-fits i Host step d n = (n, tt)
   close-fits i (HalfOf t) step d n = (n, tt)
+  close-fits i (BranchOf t half) step d n = (n, tt)
 
   own : Own (NoUse p)
   own = record { resolve = λ q. tt; changed = λ t q. refl; transformed = λ t q. refl; flushed = λ t q. refl; aborted = λ t q r. refl; cancelled = λ t q r. refl }
 
   uses-fit : (e : Effect) → Uses (NoUse p) (λ i. Unit {0}) e → Fits p V e
   uses-fit e u = grind (arith, u)
+
+  tee-uses-fit : (e : Effect) → TeeUses (NoUse p) e → Fits p V e
+  tee-uses-fit e u = grind (arith, u)
 
   pub caused-fit : (e : Effect) (s : Slots) → NotOf p e → Fits p V e → Each (Fits p V) (row e s).caused
   unfolding row
@@ -119,6 +138,7 @@ module _ (p : PipeId) (V : Type 0) where
   caused-fit (Pipe q operation) s n f = row-causes (Fits p V) (Pipe q operation) s (λ source dest e c. pipe-fits q source dest e n c)
   caused-fit (Signal a operation) s n f = row-causes (Fits p V) (Signal a operation) s (signal-fits operation)
   caused-fit (Transform t operation) s n f = each-map (Uses (NoUse p) (λ i. Unit {0})) (Fits p V) uses-fit (row (Transform t operation) s).caused (row-uses (NoUse p) (λ i. Unit {0}) own t operation s f (λ x e. tt))
+  caused-fit (Tee t operation) s n f = each-map (TeeUses (NoUse p)) (Fits p V) tee-uses-fit (row (Tee t operation) s).caused (row-tees_use (NoUse p) (λ q. tt) t operation s f)
   caused-fit (StartAlgorithm i step start) s n f = start-fits i step s start f
   caused-fit (PullAlgorithm i) s n f = pull-fits i (owner_at i s) _ _ refl
   caused-fit (CancelAlgorithm i r q) s n f = cancel-fits i r (owner_at i s) _ _ refl
@@ -128,7 +148,7 @@ module _ (p : PipeId) (V : Type 0) where
   caused-fit (ChunkSteps i request v) s n f = row-causes (Fits p V) (ChunkSteps i request v) s (chunk-fits v request)
   caused-fit (CloseSteps i request) s n f = row-causes (Fits p V) (CloseSteps i request) s (end-fits request)
   caused-fit (CloseStepsWith i request b) s n f = row-causes (Fits p V) (CloseStepsWith i request b) s (end-fits request)
-  caused-fit (ErrorSteps i request e) s n f = row-causes (Fits p V) (ErrorSteps i request e) s (end-fits request)
+  caused-fit (ErrorSteps i request e) s n f = row-causes (Fits p V) (ErrorSteps i request e) s (error-fits request)
   caused-fit _ s n f = tt
 
   pub call-fits : (c : Call) (s : Slots) → Each (Fits p V) (begin c s).done.caused
@@ -190,10 +210,17 @@ module _ (i : StreamId) where
   chunk-closes : (v : Value) (request : ReadRequest) → ChunkCauses (NoClose i) v request
   chunk-closes v (Promise q) = tt
   chunk-closes v (PipeRequest q) = tt
+  chunk-closes v (TeeRequest t) = tt
 
   end-closes : (request : ReadRequest) → EndCauses (NoClose i) request
   end-closes (Promise q) = tt
   end-closes (PipeRequest q) = tt
+  end-closes (TeeRequest t) = tt
+
+  error-closes : (request : ReadRequest) → ErrorCauses (NoClose i) request
+  error-closes (Promise q) = tt
+  error-closes (PipeRequest q) = tt
+  error-closes (TeeRequest t) = tt
 
   signal-closes : (operation : SignalOperation) → SignalCauses (NoClose i) operation
   signal-closes (Trigger r) = λ q. tt
@@ -203,6 +230,9 @@ module _ (i : StreamId) where
   transform-closes : (t : TransformId) (writable readable : StreamId) (e : Effect) → TransformCauses t writable readable e → NoClose i e
   transform-closes t writable readable e c = grind (arith, c)
 
+  tee-closes : (t : TeeId) (source first second : StreamId) (e : Effect) → TeeCauses t source first second e → NoClose i e
+  tee-closes t source first second e c = grind (arith, c)
+
   closes : (e : Effect) → IsNoPipe e → Causes (NoClose i) e
   closes (Readable j operation) n = record { pull = tt; cancel = λ r q. tt; chunk = λ r v. tt; close = λ r. tt; error = λ r e. tt }
   closes (Byte j operation) n = record { readable = record { pull = tt; cancel = λ r q. tt; chunk = λ r v. tt; close = λ r. tt; error = λ r e. tt }; close_with = λ r b. tt }
@@ -210,16 +240,17 @@ module _ (i : StreamId) where
   closes (Pipe q operation) n = absurd n
   closes (Signal a operation) n = signal-closes operation
   closes (Transform t operation) n = transform-closes t
+  closes (Tee t operation) n = tee-closes t
   closes (StartAlgorithm j step start) n = (λ g u. tt, λ c u. tt)
-  closes (PullAlgorithm j) n = (λ c u. tt, λ t u. tt)
-  closes (CancelAlgorithm j r q) n = (λ c u. tt, λ t u. tt)
+  closes (PullAlgorithm j) n = (λ c u. tt, (λ t u. tt, (λ t. tt, λ u. tt)))
+  closes (CancelAlgorithm j r q) n = (λ c u. tt, (λ t u. tt, λ t half u. tt))
   closes (WriteAlgorithm j) n = (tt, λ t u. tt)
   closes (CloseAlgorithm j) n = (λ c u. tt, λ t u. tt)
   closes (AbortAlgorithm j r q) n = (λ c u. tt, λ t u. tt)
   closes (ChunkSteps j request v) n = chunk-closes v request
   closes (CloseSteps j request) n = end-closes request
   closes (CloseStepsWith j request b) n = end-closes request
-  closes (ErrorSteps j request e) n = end-closes request
+  closes (ErrorSteps j request e) n = error-closes request
   closes _ n = tt
 
   pub caused-close : (e : Effect) (s : Slots) → IsNoPipe e → Each (NoClose i) (row e s).caused

@@ -1,5 +1,11 @@
 -- What operations of transform streams do with promises: what they carry is done, and else they make reactions of their own and resolve promises.
-use Rattle.std.proofs.Common.{◌≡◌, Bool, List, ◌++◌, Option, Some, None, Ok, Err, slice_get, refl, arith}
+use Rattle.std.proofs.Common.{◌≡◌, Bool, List, ◌++◌, Option, Some, None, Ok, Err, slice_get, refl, arith, true, false, not, ◌&&◌, [], ◌∷◌}
+use Rattle.std.proofs.Common.{[]}
+use Rattle.std.proofs.Common.{◌∷◌}
+use Rattle.std.proofs.Common.{not}
+use Rattle.ws_steps.specs.declared.transform.TransformOperation.TheVariants.{Error}
+use Rattle.ws_steps.specs.declared.transform.TransformOperation.TheVariants.{Enqueue}
+use Rattle.std.proofs.Common.{◌&&◌}
 use Rattle.ws_value.specs.declared.ids.PromiseId.{PromiseId}
 use Rattle.ws_value.specs.declared.ids.StreamId.{StreamId}
 use Rattle.ws_value.specs.declared.value.Plain.{Plain}
@@ -7,7 +13,7 @@ use Rattle.ws_value.specs.declared.value.Value.{Value}
 use Rattle.ws_steps.specs.declared.calls.HostCall.{HostCall}
 use Rattle.ws_steps.specs.declared.calls.HostCall.TheVariants.{Transform as HostTransform, Flush as HostFlush, CancelTransform as HostCancelTransform}
 use Rattle.ws_steps.specs.declared.effects.Effect.{Effect}
-use Rattle.ws_steps.specs.declared.effects.Effect.TheVariants.{Readable, Writable, Transform, Give, Settle, CallHost}
+use Rattle.ws_steps.specs.declared.effects.Effect.TheVariants.{Readable, Writable, Transform, Tee, Give, Settle, CallHost}
 use Rattle.ws_steps.specs.declared.effects.Use.{Use}
 use Rattle.ws_steps.specs.declared.effects.Use.TheVariants.{React, Resolve}
 use Rattle.ws_steps.specs.declared.promises.Step.{Step}
@@ -23,6 +29,20 @@ use Rattle.ws_steps.specs.declared.writable.WritableState.{WritableState}
 use Rattle.ws_steps.specs.Operations.{transform_operation}
 use Rattle.ws_steps.specs.Slots.{Slots, found, halves_at, on_transform_at}
 use Rattle.ws_steps.specs.Transform as transform
+use Rattle.ws_steps.specs.Tee as tee
+use Rattle.ws_steps.specs.declared.readable.ReadableOperation.{ReadableOperation}
+use Rattle.ws_steps.specs.declared.readable.ReadableOperation.TheVariants as reads
+use Rattle.ws_value.specs.declared.ids.TeeId.{TeeId}
+use Rattle.ws_steps.specs.declared.tee.Half.{Half}
+use Rattle.ws_steps.specs.declared.tee.TeeOperation.{TeeOperation}
+use Rattle.ws_steps.specs.declared.tee.TeeOperation.TheVariants as tees
+use Rattle.ws_steps.specs.declared.tee.TeePhase.{TeePhase}
+use Rattle.ws_steps.specs.declared.tee.TeePhase.TheVariants.{Resting, Reading, Over}
+use Rattle.ws_steps.specs.Operations.{tee_operation}
+use Rattle.ws_steps.specs.Promises.{next_id, fresh}
+use Rattle.ws_steps.specs.Slots.{on_tee_at}
+use Rattle.ws_laws.proofs.Tables.{either}
+use Rattle.ws_value.specs.declared.value.Plain.TheVariants.{Pair}
 use Rattle.ws_steps.specs.Transform.{Acts, set_backpressure, unblock, transform_error, terminate, enqueue, enqueued, transform_by, transform_chunk, perform_transform, wait_for_change, sink_write, write_in, write_goes_on, source_pull, finish_by, sink_close, sink_abort, source_cancel, flushed_in, flush_settled, aborted_in, abort_settled, cancelled_in, cancel_settled}
 use Rattle.ws_steps.specs.Turns.{row}
 use Rattle.ws_laws.proofs.Lists.{Each, each-append}
@@ -56,6 +76,20 @@ Uses N M (Transform t names.Unblock) = Unit {0}
 Uses N M (Transform t operation) = ⊥
 Uses N M (Settle p o) = Unit {0}
 Uses N M _ = ⊥
+
+-- the same of an operation of a tee, and of an effect that it causes
+
+abbrev pub CarriesTee : (Use → Type 0) → TeeOperation → Type 0
+CarriesTee N (tees.CancelBranch half r u) = N u
+CarriesTee N _ = Unit {0}
+
+abbrev pub TeeUses : (Use → Type 0) → Effect → Type 0
+TeeUses N (Give gift u) = N u
+TeeUses N (Readable i operation) = Unit {0}
+TeeUses N (Tee t tees.Handed) = Unit {0}
+TeeUses N (Tee t operation) = ⊥
+TeeUses N (Settle p o) = Unit {0}
+TeeUses N _ = ⊥
 
 -- what holds of the uses that transform streams make themselves
 pub record Own (N : Use → Type 0) : Type 0 where
@@ -156,3 +190,88 @@ module _ (N : Use → Type 0) (M : StreamId → Type 0) (own : Own N) (me : Tran
   pub row-uses : (operation : TransformOperation) (s : Slots) → Carries N operation → ((x : transform.Slots) → slice_get s.transforms me.0 ≡ Some x → M x.writable) → All (row (Transform me operation) s).caused
   unfolding row
   row-uses operation s n m = by-uses operation s (slice_get s.transforms me.0) refl n m
+
+-- a tee resolves its cancel promise, and does with it what it is told
+module _ (N : Use → Type 0) (resolve : (p : PromiseId) → N (Resolve p)) (me : TeeId) where
+  abbrev Tees : List Effect → Type 0
+  Tees es = Each (TeeUses N) es
+
+  abbrev Goes : tee.Acts → tee.Acts → Type 0
+  Goes a b = Tees a.out.effects → Tees b.out.effects
+
+  then-tees : (a : tee.Acts) (es : List Effect) → Tees es → Tees a.out.effects → Tees (a.out.effects ++ es)
+  then-tees a es m h = each-append (TeeUses N) a.out.effects es h m
+
+  unless-tees : (reason : Option Plain) (i : StreamId) (operation : ReadableOperation) → Tees (tee.unless_cancelled reason i operation)
+  unless-tees None i operation = (tt, tt)
+  unless-tees (Some r) i operation = tt
+
+  branches-tees : (operation : ReadableOperation) (x : tee.Slots) → Tees (tee.on_branches operation x)
+  branches-tees operation x =
+      each-append (TeeUses N) (tee.unless_cancelled x.reason1 x.branch1 operation) (tee.unless_cancelled x.reason2 x.branch2 operation)
+      (unless-tees x.reason1 x.branch1 operation) (unless-tees x.reason2 x.branch2 operation)
+
+  fulfil-tees : (a : tee.Acts) → Goes a (tee.fulfil_cancel a)
+  fulfil-tees a h =
+      either (λ (b : tee.Acts). Tees b.out.effects) (tee.is_wanted a.slots && not a.slots.answered) _ a (λ e. then-tees a _ (tt, tt) h) (λ e. h)
+
+  pull-tees : (a : tee.Acts) (phase : TeePhase) → Goes a (tee.pull_in me a phase)
+  pull-tees a Resting h = then-tees a _ (tt, tt) h
+  pull-tees a Reading h = h
+  pull-tees a Over h = h
+
+  close-tees : (a : tee.Acts) → Goes a (tee.close_branches a)
+  close-tees a h =
+      fulfil-tees (tee.causing (tee.on_branches reads.Close a.slots) (tee.with_slots (record a.slots { phase = Over }) a)) (then-tees a (tee.on_branches reads.Close a.slots) (branches-tees reads.Close a.slots) h)
+
+  closed-tees : (a : tee.Acts) (phase : TeePhase) → Goes a (tee.close_in a phase)
+  closed-tees a Resting h = close-tees a h
+  closed-tees a Reading h = close-tees a h
+  closed-tees a Over h = h
+
+  hand-tees : (a : tee.Acts) (held : Option Value) → Goes a (tee.hand_held me a held)
+  hand-tees a None h = h
+  hand-tees a (Some v) h =
+      then-tees a (tee.on_branches (reads.Enqueue v) a.slots ++ Tee me tees.Handed ∷ [])
+      (each-append (TeeUses N) (tee.on_branches (reads.Enqueue v) a.slots) _ (branches-tees (reads.Enqueue v) a.slots) (tt, tt)) h
+
+  again-tees : (a : tee.Acts) (asked : Bool) → Goes a (tee.again me a asked)
+  unfolding tee.pull_branch
+  again-tees a true h = pull-tees a a.slots.phase h
+  again-tees a false h = h
+
+  source-tees : (a : tee.Acts) → Goes a (tee.cancel_source me a)
+  source-tees a h =
+      let p : PromiseId = next_id a.out.promises in
+      let b : tee.Acts = record a { out = record a.out { promises = fresh a.out.promises } } in
+      let c : tee.Acts = tee.causing (Readable b.slots.source (reads.Cancel (Pair me) p) ∷ []) b in
+      let g : Tees c.out.effects = then-tees a _ (tt, tt) h in
+      either (λ (z : tee.Acts). Tees z.out.effects) c.slots.answered c _ (λ e. g) (λ e. then-tees c _ (resolve c.slots.cancel, tt) g)
+
+  cancel-tees : (half : Half) (r : Plain) (a : tee.Acts) (reason : Option Plain) → Goes a (tee.cancel_by me half r a reason)
+  cancel-tees half r a (Some old) h = h
+  cancel-tees half r a None h =
+      let b : tee.Acts = tee.with_slots (tee.with_reason half r a.slots) a in
+      either (λ (z : tee.Acts). Tees z.out.effects) (tee.is_wanted b.slots) b (tee.cancel_source me b) (λ e. h) (λ e. source-tees b h)
+
+  tee-uses : (operation : TeeOperation) (a : tee.Acts) → CarriesTee N operation → Goes a (tee_operation me operation a)
+  unfolding tee.pull_branch tee.keep_chunk tee.source_closed tee.source_errored tee.hand_chunk tee.handed tee.cancel_branch tee.reader_settled
+  tee-uses tees.PullBranch a n h = pull-tees a a.slots.phase h
+  tee-uses (tees.KeepChunk v) a n h = h
+  tee-uses tees.SourceClosed a n h = closed-tees a a.slots.phase h
+  tee-uses tees.SourceErrored a n h = h
+  tee-uses tees.HandChunk a n h = hand-tees a a.slots.held h
+  tee-uses tees.Handed a n h = again-tees (tee.with_slots (record a.slots { phase = tee.rested a.slots.phase }) a) a.slots.read_again h
+  tee-uses (tees.CancelBranch half r u) a n h =
+      then-tees (tee.cancel_by me half r a (tee.reason_of half a.slots)) _ (n, tt) (cancel-tees half r a (tee.reason_of half a.slots) h)
+  tee-uses (tees.ReaderSettled (Ok v)) a n h = h
+  tee-uses (tees.ReaderSettled (Err r)) a n h =
+      fulfil-tees (tee.causing (Readable a.slots.branch1 (reads.Error r) ∷ Readable a.slots.branch2 (reads.Error r) ∷ []) a) (then-tees a _ (tt, (tt, tt)) h)
+
+  place-tees : (operation : TeeOperation) (s : Slots) (o : Option tee.Slots) → CarriesTee N operation → Tees (on_tee_at (tee_operation me operation) me s o).caused
+  place-tees operation s None n = tt
+  place-tees operation s (Some x) n = tee-uses operation (record { slots = x; out = found s }) n tt
+
+  pub row-tees_use : (operation : TeeOperation) (s : Slots) → CarriesTee N operation → Tees (row (Tee me operation) s).caused
+  unfolding row
+  row-tees_use operation s n = place-tees operation s (slice_get s.tees me.0) n

@@ -7,7 +7,7 @@ use Rattle.ws_value.specs.declared.value.Plain.{Plain}
 use Rattle.ws_value.specs.declared.value.Plain.TheVariants.{Undefined}
 use Rattle.ws_value.specs.declared.value.Value.{Value}
 use Rattle.ws_steps.specs.declared.effects.Owner.{Owner}
-use Rattle.ws_steps.specs.declared.effects.Owner.TheVariants.{Host, HalfOf}
+use Rattle.ws_steps.specs.declared.effects.Owner.TheVariants.{Host, HalfOf, BranchOf}
 use Rattle.ws_steps.specs.declared.queue.Queued.{Queued}
 use Rattle.ws_steps.specs.declared.transform.Taker.{Taker}
 use Rattle.ws_steps.specs.declared.writable.{PendingAbort.{PendingAbort}, WritableOperation.{WritableOperation}, WritableState.{WritableState}, WriteRecord.{WriteRecord}, Writer.{Writer}}
@@ -310,6 +310,7 @@ module _ (q : PromiseId) where
     signalled-fated : (r : Plain) (a : Acts) (owner : Owner) → Fated a → Fated (signalled me r a owner)
     signalled-fated r a Host f = alike-fated a (signalled me r a Host) (record { request = refl; flight = refl; keeps = keeps-tell _ a.out.promises }) f
     signalled-fated r a (HalfOf t) f = f
+    signalled-fated r a (BranchOf t half) f = f
 
     begin_abort-fated : (r : Plain) (p : PromiseId) (a : Acts) → Fated a → Fated (begin_abort me r p a)
     begin_abort-fated r p a f =

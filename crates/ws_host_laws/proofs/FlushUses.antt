@@ -1,16 +1,17 @@
 -- Which reactions the effects of a realm make: that of a transform stream of the host's to its flush algorithm is made by the host call to flush it
 -- alone.
 use Rattle.std.proofs.Common.{◌≡◌, ℕ, Bool, true, false, nat_eq, List, [], Option, Some, None, Ok, Err, slice_get, refl, sym, ap, subst, ◌∙◌, arith}
+use Rattle.ws_laws.proofs.Lists.{each-map}
 use Rattle.ws_value.specs.declared.{ids.PipeId.{PipeId}, ids.PromiseId.{PromiseId}, ids.StreamId.{StreamId}}
 use Rattle.ws_value.specs.declared.value.Plain.{Plain}
 use Rattle.ws_value.specs.declared.value.Value.{Value}
 use Rattle.ws_steps.specs.declared.{calls.Call.{Call}}
 use Rattle.ws_steps.specs.declared.{calls.HostCall.{HostCall}, calls.HostCall.TheVariants.{Flush as HostFlush, CancelTransform as HostCancelTransform}, calls.StartBy.{StartBy}, calls.StartBy.TheVariants.{Now, Later}}
 use Rattle.ws_steps.specs.declared.effects.Effect.{Effect}
-use Rattle.ws_steps.specs.declared.effects.Effect.TheVariants.{Readable, Writable, Pipe, Signal, Transform, StartAlgorithm, PullAlgorithm, CancelAlgorithm, WriteAlgorithm, CloseAlgorithm, AbortAlgorithm, ChunkSteps, CloseSteps, ErrorSteps, Give, CallHost}
-use Rattle.ws_steps.specs.declared.{effects.Gift.TheVariants.{This}, effects.Owner.{Owner}, effects.Owner.TheVariants.{Host, HalfOf}, effects.Use.{Use}, effects.Use.TheVariants.{React, Resolve}}
+use Rattle.ws_steps.specs.declared.effects.Effect.TheVariants.{Readable, Writable, Pipe, Signal, Transform, Tee, StartAlgorithm, PullAlgorithm, CancelAlgorithm, WriteAlgorithm, CloseAlgorithm, AbortAlgorithm, ChunkSteps, CloseSteps, ErrorSteps, Give, CallHost}
+use Rattle.ws_steps.specs.declared.{effects.Gift.TheVariants.{This}, effects.Owner.{Owner}, effects.Owner.TheVariants.{Host, HalfOf, BranchOf}, effects.Use.{Use}, effects.Use.TheVariants.{React, Resolve}}
 use Rattle.ws_steps.specs.declared.{pipes.SignalOperation.{SignalOperation}, pipes.SignalOperation.TheVariants.{Add, Forget, Trigger}, promises.Job.{Job}, promises.Step.{Step}, promises.Step.TheVariants.{TransformFlushed, TransformAborted, TransformCancelled, PipeReady, PipeWrote, PipeActed, PipePart}}
-use Rattle.ws_steps.specs.declared.{readable.ReadRequest.{ReadRequest}, readable.ReadRequest.TheVariants.{Promise, Pipe as PipeRequest}, readable.ReadableState.{ReadableState}}
+use Rattle.ws_steps.specs.declared.{readable.ReadRequest.{ReadRequest}, readable.ReadRequest.TheVariants.{Promise, Pipe as PipeRequest, Tee as TeeRequest}, readable.ReadableState.{ReadableState}}
 use Rattle.ws_steps.specs.declared.transform.{Halves.{Halves}, Kind.{Kind}, Kind.TheVariants.{Identity, Host as HostKind}, TransformId.{TransformId}, TransformOperation.{TransformOperation}}
 use Rattle.ws_steps.specs.declared.transform.TransformOperation.TheVariants as names
 use Rattle.ws_steps.specs.declared.writable.WritableState.{WritableState}
@@ -25,10 +26,10 @@ use Rattle.ws_steps.specs.Turns.{row, pull_algorithm, cancel_algorithm, write_al
 use Rattle.ws_laws.proofs.EachCall.{each_call}
 use Rattle.ws_laws.proofs.Lists.{Each}
 use Rattle.ws_laws.proofs.PipeDoes.{IsStepOf, PipeCauses}
-use Rattle.ws_laws.proofs.Rows.{ChunkCauses, EndCauses, SignalCauses, row-causes}
+use Rattle.ws_laws.proofs.Rows.{ChunkCauses, EndCauses, ErrorCauses, SignalCauses, row-causes}
 use Rattle.ws_laws.proofs.Shapes.{TransformShape, transform_shape, transform_shapes, map-there}
 use Rattle.ws_laws.proofs.Tables.{eq_numbers}
-use Rattle.ws_host_laws.proofs.Carried.{Carries}
+use Rattle.ws_host_laws.proofs.Carried.{CarriesTee, TeeUses, row-tees_use, Carries}
 use Rattle.ws_host_laws.proofs.Sourced.{UseIs, NoUse}
 use Rattle.ws_steps.specs.declared.effects.Effect.TheVariants.{Byte, CloseStepsWith}
 
@@ -54,6 +55,7 @@ module _ (t : TransformId) (r : StreamId) where
   Fits (CallHost call u) = Is call u
   Fits (StartAlgorithm i step start) = flushes_it t step ≡ false
   Fits (Transform k operation) = Carries No operation
+  Fits (Tee k operation) = CarriesTee No operation
   Fits _ = Unit {0}
 
   pipe_step-no : (p : PipeId) (step : Step) → IsStepOf p step → flushes_it t step ≡ false
@@ -70,15 +72,23 @@ module _ (t : TransformId) (r : StreamId) where
   pipe-fits p source dest (CallHost call u) c = absurd c
   pipe-fits p source dest (StartAlgorithm i step start) c = absurd c
   pipe-fits p source dest (Transform k operation) c = absurd c
+  pipe-fits p source dest (Tee k operation) c = absurd c
   pipe-fits p source dest _ c = tt
 
   chunk-fits : (v : Value) (request : ReadRequest) → ChunkCauses Fits v request
   chunk-fits v (Promise q) = tt
   chunk-fits v (PipeRequest q) = tt
+  chunk-fits v (TeeRequest t) = tt
 
   end-fits : (request : ReadRequest) → EndCauses Fits request
   end-fits (Promise q) = tt
   end-fits (PipeRequest q) = tt
+  end-fits (TeeRequest t) = tt
+
+  error-fits : (request : ReadRequest) → ErrorCauses Fits request
+  error-fits (Promise q) = tt
+  error-fits (PipeRequest q) = tt
+  error-fits (TeeRequest t) = tt
 
   signal-fits : (operation : SignalOperation) → SignalCauses Fits operation
   signal-fits (Trigger e) = λ q. tt
@@ -98,22 +108,27 @@ module _ (t : TransformId) (r : StreamId) where
   pull-fits : (i : StreamId) (owner : Owner) (u : Use) → No u → Each Fits (pull_algorithm i u owner)
   pull-fits i Host u n = (no_call _ u n, tt)
   pull-fits i (HalfOf k) u n = (n, tt)
+  pull-fits i (BranchOf k half) u n = (tt, (n, tt))
 
   cancel-fits : (i : StreamId) (e : Plain) (owner : Owner) (u : Use) → No u → Each Fits (cancel_algorithm i e u owner)
   cancel-fits i e Host u n = (no_call _ u n, tt)
   cancel-fits i e (HalfOf k) u n = (n, tt)
+  cancel-fits i e (BranchOf k half) u n = (n, tt)
 
   abort-fits : (i : StreamId) (e : Plain) (owner : Owner) (u : Use) → No u → Each Fits (abort_algorithm i e u owner)
   abort-fits i e Host u n = (no_call _ u n, tt)
   abort-fits i e (HalfOf k) u n = (n, tt)
+  abort-fits i e (BranchOf k half) u n = (no_call _ u n, tt)
 
   close-fits : (i : StreamId) (owner : Owner) (u : Use) → No u → Each Fits (close_algorithm i u owner)
   close-fits i Host u n = (no_call _ u n, tt)
   close-fits i (HalfOf k) u n = (n, tt)
+  close-fits i (BranchOf k half) u n = (no_call _ u n, tt)
 
   write-fits : (i : StreamId) (owner : Owner) → Each Fits (write_algorithm i owner)
   write-fits i Host = (tt, tt)
   write-fits i (HalfOf k) = (refl, tt)
+  write-fits i (BranchOf k half) = (tt, tt)
 
   -- so do those of transform streams, but for the flush
 
@@ -183,6 +198,9 @@ module _ (t : TransformId) (r : StreamId) where
   no_true : {A : Type 0} → ◌≡◌ {A = Bool} false true → A
   no_true e = absurd (cc)
 
+  tee-uses-fit : (e : Effect) → TeeUses No e → Fits e
+  tee-uses-fit e u = grind (arith, u)
+
   pub caused-fit : (e : Effect) (s : Slots) → IsHosts t r s → Fits e → Each Fits (row e s).caused
   unfolding row
   caused-fit (Readable i operation) s h f = row-causes Fits (Readable i operation) s (record { pull = tt; cancel = λ e q. tt; chunk = λ q v. tt; close = λ q. tt; error = λ q e. tt })
@@ -195,6 +213,7 @@ module _ (t : TransformId) (r : StreamId) where
       pipe-fits-of source dest e c = pipe-fits p source dest e c
   caused-fit (Signal b operation) s h f = row-causes Fits (Signal b operation) s (signal-fits operation)
   caused-fit (Transform k operation) s h f = transform-fits k operation s (slice_get s.transforms k.0) refl h f
+  caused-fit (Tee k operation) s h f = each-map (TeeUses No) Fits tee-uses-fit (row (Tee k operation) s).caused (row-tees_use No (λ q. tt) k operation s f)
   caused-fit (StartAlgorithm i step start) s h f = start-fits i step s start f
   caused-fit (PullAlgorithm i) s h f = pull-fits i (owner_at i s) _ refl
   caused-fit (CancelAlgorithm i e p) s h f = cancel-fits i e (owner_at i s) _ refl
@@ -204,7 +223,7 @@ module _ (t : TransformId) (r : StreamId) where
   caused-fit (ChunkSteps i request v) s h f = row-causes Fits (ChunkSteps i request v) s (chunk-fits v request)
   caused-fit (CloseSteps i request) s h f = row-causes Fits (CloseSteps i request) s (end-fits request)
   caused-fit (CloseStepsWith i request b) s h f = row-causes Fits (CloseStepsWith i request b) s (end-fits request)
-  caused-fit (ErrorSteps i request e) s h f = row-causes Fits (ErrorSteps i request e) s (end-fits request)
+  caused-fit (ErrorSteps i request e) s h f = row-causes Fits (ErrorSteps i request e) s (error-fits request)
   caused-fit _ s h f = tt
 
   pub call-fits : (c : Call) (s : Slots) → Each Fits (begin c s).done.caused

@@ -171,6 +171,7 @@ module _ (p : PipeId) (i : StreamId) where
     pipe = λ z source dest prevent signal promise m. place-grows z.pipes (pipe.set_up source dest prevent signal promise ∷ []) p.0 x m;
     signal = λ z m. m;
     transform = λ z kind half other change m. m;
+    tee = λ z source first second cancel m. m;
     bytes = λ z mark auto m. m;
     byob_requests = λ z hs m. m;
     readable = λ z owner mark size m. m;
@@ -185,6 +186,7 @@ module _ (p : PipeId) (i : StreamId) where
     pipe = λ z source dest prevent signal promise m. m;
     signal = λ z m. m;
     transform = λ z kind half other change m. m;
+    tee = λ z source first second cancel m. m;
     bytes = λ z mark auto m. place-grows z.streams (ByteStream (byte.set_up mark auto) ∷ []) i.0 y m;
     byob_requests = λ z hs m. m;
     readable = λ z owner mark size m. place-grows z.streams (ReadableStream (readable.set_up owner mark size) ∷ []) i.0 y m;
@@ -199,6 +201,7 @@ module _ (p : PipeId) (i : StreamId) where
     pipe = λ z source dest prevent signal promise m. m;
     signal = λ z m. m;
     transform = λ z kind half other change m. m;
+    tee = λ z source first second cancel m. m;
     bytes = λ z mark auto m. m;
     byob_requests = λ z hs m. m;
     readable = λ z owner mark size m. m;
@@ -213,6 +216,7 @@ module _ (p : PipeId) (i : StreamId) where
     pipe = λ z source dest prevent signal promise m. m;
     signal = λ z m. m;
     transform = λ z kind half other change m. m;
+    tee = λ z source first second cancel m. m;
     bytes = λ z mark auto m. m;
     byob_requests = λ z hs m. m;
     readable = λ z owner mark size m. m;

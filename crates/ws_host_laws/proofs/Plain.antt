@@ -1,5 +1,11 @@
 -- What each effect does to promises but for the two that react, and what it does to the calls that the host hasn't settled.
 use Rattle.std.proofs.Common.{◌∙◌, ◌≡◌, false, List, [], ◌∷◌, ◌++◌, Option, Some, None, Result, refl, sym, slice_get, append-nil}
+use Rattle.ws_laws.proofs.TeeDoes.{tee-does}
+use Rattle.ws_steps.specs.Operations.{tee_operation}
+use Rattle.ws_steps.specs.Slots.{on_tee_at}
+use Rattle.ws_steps.specs.Tee as tee
+use Rattle.ws_steps.specs.declared.tee.TeeOperation.{TeeOperation}
+use Rattle.ws_value.specs.declared.ids.TeeId.{TeeId}
 use Rattle.std.specs.Prelude.{Err}
 use Rattle.ws_value.specs.declared.ids.PipeId.{PipeId}
 use Rattle.ws_value.specs.declared.ids.PromiseId.{PromiseId}
@@ -12,8 +18,8 @@ use Rattle.ws_value.specs.declared.value.Plain.TheVariants.{Undefined}
 use Rattle.ws_value.specs.declared.value.Value.TheVariants.{Plain as PlainValue}
 use Rattle.ws_steps.specs.declared.{calls.Event.TheVariants.{Signal as Signalled}, calls.StartBy.TheVariants.{Now, Later}}
 use Rattle.ws_steps.specs.declared.effects.Effect.{Effect}
-use Rattle.ws_steps.specs.declared.effects.Effect.TheVariants.{Readable, Writable, Pipe, Signal, Transform, StartAlgorithm, ChunkSteps, CloseSteps, ErrorSteps, Give, Settle, Queue, CallHost}
-use Rattle.ws_steps.specs.declared.{readable.ReadRequest.TheVariants.{Promise, Pipe as PipeRequest}, pipes.PipeOperation.{PipeOperation}, pipes.SignalOperation.{SignalOperation}, promises.Micro.{Micro}, transform.TransformId.{TransformId}, transform.TransformOperation.{TransformOperation}}
+use Rattle.ws_steps.specs.declared.effects.Effect.TheVariants.{Readable, Writable, Pipe, Signal, Transform, Tee, StartAlgorithm, ChunkSteps, CloseSteps, ErrorSteps, Give, Settle, Queue, CallHost}
+use Rattle.ws_steps.specs.declared.{readable.ReadRequest.TheVariants.{Promise, Pipe as PipeRequest, Tee as TeeRequest}, pipes.PipeOperation.{PipeOperation}, pipes.SignalOperation.{SignalOperation}, promises.Micro.{Micro}, transform.TransformId.{TransformId}, transform.TransformOperation.{TransformOperation}}
 use Rattle.ws_steps.specs.Effects.{Out}
 use Rattle.ws_steps.specs.Promises.{Table, is_pending, fresh, settle, answer, queue_micro, tell, next_id}
 use Rattle.ws_steps.specs.Operations.{writable_operation, pipe_operation, signal_operation, transform_operation}
@@ -62,6 +68,10 @@ module _ (T : Table → Type 0) (does : Plainly T) where
   transform-plainly t operation s (Some x) h =
       transform-does T (record { fresh = does.fresh; settle = does.settle }) t (halves_at x s) operation (record { slots = x; out = found s }) h
 
+  tee-plainly : (t : TeeId) (operation : TeeOperation) (s : Slots) (o : Option tee.Slots) → T s.promises → T (on_tee_at (tee_operation t operation) t s o).slots.promises
+  tee-plainly t operation s None h = h
+  tee-plainly t operation s (Some x) h = tee-does T (record { fresh = does.fresh; micro = does.micro }) t operation (record { slots = x; out = found s }) h
+
   settles : (i : StreamId) → OfReadable (λ (x : Out). T x.promises) i
   settles i = record {
     settle = λ x p o h. does.settle x.promises p o h;
@@ -91,6 +101,7 @@ module _ (T : Table → Type 0) (does : Plainly T) where
   row-plainly (Pipe p operation) s n h = pipe-plainly p operation s (slice_get s.pipes p.0) h
   row-plainly (Signal a operation) s n h = signal-plainly a operation s (slice_get s.signals a.0) h
   row-plainly (Transform t operation) s n h = transform-plainly t operation s (slice_get s.transforms t.0) h
+  row-plainly (Tee t operation) s n h = tee-plainly t operation s (slice_get s.tees t.0) h
   row-plainly (StartAlgorithm i step Now) s n h = h
   row-plainly (StartAlgorithm i step Later) s n h = does.fresh s.promises h
   row-plainly (ChunkSteps i (Promise p) v) s n h = does.answer s.promises p (Given v) refl h
@@ -98,9 +109,13 @@ module _ (T : Table → Type 0) (does : Plainly T) where
   row-plainly (CloseStepsWith i (Promise p) b) s n h = does.answer s.promises p (Finished (Bytes b)) refl h
   row-plainly (ErrorSteps i (Promise p) e) s n h = does.settle s.promises p (Err e) h
   row-plainly (ChunkSteps i (PipeRequest p) v) s n h = h
+  row-plainly (ChunkSteps i (TeeRequest t) v) s n h = h
   row-plainly (CloseSteps i (PipeRequest p)) s n h = h
+  row-plainly (CloseSteps i (TeeRequest t)) s n h = h
   row-plainly (CloseStepsWith i (PipeRequest p) b) s n h = h
+  row-plainly (CloseStepsWith i (TeeRequest t) b) s n h = h
   row-plainly (ErrorSteps i (PipeRequest p) e) s n h = h
+  row-plainly (ErrorSteps i (TeeRequest t) e) s n h = h
   row-plainly (Queue m) s n h = does.micro s.promises m h
   row-plainly (Give gift u) s n h = absurd n
   row-plainly (Settle p o) s n h = does.settle s.promises p o h
@@ -124,6 +139,10 @@ transform-hosts : (t : TransformId) (operation : TransformOperation) (s : Slots)
 transform-hosts t operation s None = refl
 transform-hosts t operation s (Some x) = refl
 
+tee-hosts : (t : TeeId) (operation : TeeOperation) (s : Slots) (o : Option tee.Slots) → (on_tee_at (tee_operation t operation) t s o).slots.hosts ≡ s.hosts
+tee-hosts t operation s None = refl
+tee-hosts t operation s (Some x) = refl
+
 -- the promise of a host call, where an effect is one
 abbrev pub host_added : Effect → Slots → List (Option PromiseId)
 host_added (CallHost call u) s = Some (next_id s.promises) ∷ []
@@ -140,6 +159,7 @@ row-hosts (Writable i operation) s =
 row-hosts (Pipe p operation) s = rw (append-nil s.hosts) (pipe-hosts p operation s (slice_get s.pipes p.0))
 row-hosts (Signal a operation) s = rw (append-nil s.hosts) (signal-hosts a operation s (slice_get s.signals a.0))
 row-hosts (Transform t operation) s = rw (append-nil s.hosts) (transform-hosts t operation s (slice_get s.transforms t.0))
+row-hosts (Tee t operation) s = rw (append-nil s.hosts) (tee-hosts t operation s (slice_get s.tees t.0))
 row-hosts (StartAlgorithm i step Now) s = sym (append-nil s.hosts)
 row-hosts (StartAlgorithm i step Later) s = sym (append-nil s.hosts)
 row-hosts (ChunkSteps i (Promise p) v) s = sym (append-nil s.hosts)
@@ -147,8 +167,12 @@ row-hosts (CloseSteps i (Promise p)) s = sym (append-nil s.hosts)
 row-hosts (CloseStepsWith i (Promise p) b) s = sym (append-nil s.hosts)
 row-hosts (ErrorSteps i (Promise p) e) s = sym (append-nil s.hosts)
 row-hosts (ChunkSteps i (PipeRequest p) v) s = sym (append-nil s.hosts)
+row-hosts (ChunkSteps i (TeeRequest t) v) s = sym (append-nil s.hosts)
 row-hosts (CloseSteps i (PipeRequest p)) s = sym (append-nil s.hosts)
+row-hosts (CloseSteps i (TeeRequest t)) s = sym (append-nil s.hosts)
 row-hosts (CloseStepsWith i (PipeRequest p) b) s = sym (append-nil s.hosts)
+row-hosts (CloseStepsWith i (TeeRequest t) b) s = sym (append-nil s.hosts)
 row-hosts (ErrorSteps i (PipeRequest p) e) s = sym (append-nil s.hosts)
+row-hosts (ErrorSteps i (TeeRequest t) e) s = sym (append-nil s.hosts)
 row-hosts (CallHost call u) s = refl
 row-hosts _ s = sym (append-nil s.hosts)

@@ -221,6 +221,7 @@ module _ (is : Step → Bool) (mine : HostCall) where
     pipe = λ z source dest prevent signal promise m. m;
     signal = λ z m. m;
     transform = λ z kind half other change m. m;
+    tee = λ z source first second cancel m. m;
     bytes = λ z mark auto m. m;
     byob_requests = λ z hs m. m;
     readable = λ z owner mark size m. m;

@@ -7,10 +7,10 @@ use Rattle.ws_steps.specs.declared.transform.TransformId.{TransformId}
 use Rattle.ws_steps.specs.declared.{calls.Call.{Call}}
 use Rattle.ws_steps.specs.declared.{calls.HostCall.{HostCall}, calls.HostCall.TheVariants.{Close as HostClose}, calls.StartBy.{StartBy}, calls.StartBy.TheVariants.{Now, Later}}
 use Rattle.ws_steps.specs.declared.effects.Effect.{Effect}
-use Rattle.ws_steps.specs.declared.effects.Effect.TheVariants.{Readable, Writable, Pipe, Signal, Transform, StartAlgorithm, PullAlgorithm, CancelAlgorithm, WriteAlgorithm, CloseAlgorithm, AbortAlgorithm, ChunkSteps, CloseSteps, ErrorSteps, Give, CallHost}
-use Rattle.ws_steps.specs.declared.{effects.Gift.TheVariants.{This}, effects.Owner.{Owner}, effects.Owner.TheVariants.{Host, HalfOf}, effects.Use.{Use}, effects.Use.TheVariants.{React, Resolve}}
+use Rattle.ws_steps.specs.declared.effects.Effect.TheVariants.{Readable, Writable, Pipe, Signal, Transform, Tee, StartAlgorithm, PullAlgorithm, CancelAlgorithm, WriteAlgorithm, CloseAlgorithm, AbortAlgorithm, ChunkSteps, CloseSteps, ErrorSteps, Give, CallHost}
+use Rattle.ws_steps.specs.declared.{effects.Gift.TheVariants.{This}, effects.Owner.{Owner}, effects.Owner.TheVariants.{Host, HalfOf, BranchOf}, effects.Use.{Use}, effects.Use.TheVariants.{React, Resolve}}
 use Rattle.ws_steps.specs.declared.{pipes.SignalOperation.{SignalOperation}, pipes.SignalOperation.TheVariants.{Add, Forget, Trigger}, promises.Job.{Job}, promises.Step.{Step}, promises.Step.TheVariants.{WritableClose, PipeReady, PipeWrote, PipeActed, PipePart}}
-use Rattle.ws_steps.specs.declared.{readable.ReadRequest.{ReadRequest}, readable.ReadRequest.TheVariants.{Promise, Pipe as PipeRequest}}
+use Rattle.ws_steps.specs.declared.{readable.ReadRequest.{ReadRequest}, readable.ReadRequest.TheVariants.{Promise, Pipe as PipeRequest, Tee as TeeRequest}}
 use Rattle.ws_steps.specs.declared.writable.WritableOperation.TheVariants.{CloseSettled}
 use Rattle.ws_steps.specs.Slots.{Slots, owner_at}
 use Rattle.ws_steps.specs.Turns.{row, pull_algorithm, cancel_algorithm, write_algorithm, close_algorithm, abort_algorithm, start_algorithm}
@@ -21,9 +21,9 @@ use Rattle.ws_steps.specs.Histories.{is_same}
 use Rattle.ws_laws.proofs.EachCall.{each_call}
 use Rattle.ws_laws.proofs.Lists.{Each, each-map}
 use Rattle.ws_laws.proofs.PipeDoes.{IsStepOf, PipeCauses}
-use Rattle.ws_laws.proofs.Rows.{ChunkCauses, EndCauses, SignalCauses, row-causes}
+use Rattle.ws_laws.proofs.Rows.{ChunkCauses, EndCauses, ErrorCauses, SignalCauses, row-causes}
 use Rattle.ws_laws.proofs.Tables.{same_id}
-use Rattle.ws_host_laws.proofs.Carried.{Carries, Uses, Own, row-uses}
+use Rattle.ws_host_laws.proofs.Carried.{CarriesTee, TeeUses, row-tees_use, Carries, Uses, Own, row-uses}
 use Rattle.ws_host_laws.proofs.Reactions.{JobFits}
 use Rattle.ws_host_laws.proofs.Sourced as sourced
 use Rattle.ws_steps.specs.declared.effects.Effect.TheVariants.{Byte, CloseStepsWith}
@@ -46,6 +46,7 @@ Fits j V (Give gift u) = NoUse j u
 Fits j V (CallHost call u) = UseIs j call u
 Fits j V (StartAlgorithm i step start) = closes_it j step ≡ false
 Fits j V (Transform t operation) = Carries (NoUse j) operation
+Fits j V (Tee t operation) = CarriesTee (NoUse j) operation
 Fits j V (Writable i (CloseSettled (Ok v))) = is_same i j ≡ true → V
 Fits j V _ = Unit {0}
 
@@ -71,15 +72,23 @@ module _ (j : StreamId) where
     pipe-fits p source dest (StartAlgorithm i step start) c = absurd c
     pipe-fits p source dest (Writable i (CloseSettled o)) c = absurd c
     pipe-fits p source dest (Transform t operation) c = absurd c
+    pipe-fits p source dest (Tee t operation) c = absurd c
     pipe-fits p source dest _ c = tt
 
     chunk-fits : (v : Value) (request : ReadRequest) → ChunkCauses (Fits j V) v request
     chunk-fits v (Promise q) = tt
     chunk-fits v (PipeRequest q) = tt
+    chunk-fits v (TeeRequest t) = tt
 
     end-fits : (request : ReadRequest) → EndCauses (Fits j V) request
     end-fits (Promise q) = tt
     end-fits (PipeRequest q) = tt
+    end-fits (TeeRequest t) = tt
+
+    error-fits : (request : ReadRequest) → ErrorCauses (Fits j V) request
+    error-fits (Promise q) = tt
+    error-fits (PipeRequest q) = tt
+    error-fits (TeeRequest t) = tt
 
     signal-fits : (operation : SignalOperation) → SignalCauses (Fits j V) operation
     signal-fits (Trigger r) = λ q. tt
@@ -93,18 +102,22 @@ module _ (j : StreamId) where
     pull-fits : (i : StreamId) (owner : Owner) (step : Step) (d : Option PromiseId) → closes_it j step ≡ false → Each (Fits j V) (pull_algorithm i (React step d) owner)
     pull-fits i Host step d n = ((λ e. absurd (cc)), tt)
     pull-fits i (HalfOf t) step d n = (n, tt)
+    pull-fits i (BranchOf t half) step d n = (tt, (n, tt))
 
     cancel-fits : (i : StreamId) (r : Plain) (owner : Owner) (step : Step) (d : Option PromiseId) → closes_it j step ≡ false → Each (Fits j V) (cancel_algorithm i r (React step d) owner)
     cancel-fits i r Host step d n = ((λ e. absurd (cc)), tt)
     cancel-fits i r (HalfOf t) step d n = (n, tt)
+    cancel-fits i r (BranchOf t half) step d n = (n, tt)
 
     abort-fits : (i : StreamId) (r : Plain) (owner : Owner) (step : Step) (d : Option PromiseId) → closes_it j step ≡ false → Each (Fits j V) (abort_algorithm i r (React step d) owner)
     abort-fits i r Host step d n = ((λ e. absurd (cc)), tt)
     abort-fits i r (HalfOf t) step d n = (n, tt)
+    abort-fits i r (BranchOf t half) step d n = ((λ e. absurd (cc)), tt)
 
     write-fits : (i : StreamId) (owner : Owner) → Each (Fits j V) (write_algorithm i owner)
     write-fits i Host = (tt, tt)
     write-fits i (HalfOf t) = (refl, tt)
+    write-fits i (BranchOf t half) = (tt, tt)
 
     -- a half is another stream
     half_other : (i : StreamId) (t : TransformId) (b : Bool) → is_same i j ≡ b → (is_same i j ≡ true → HalfOf t ≡ Host) → is_same i j ≡ false
@@ -114,6 +127,7 @@ module _ (j : StreamId) where
     close-fits : (i : StreamId) (owner : Owner) → (is_same i j ≡ true → owner ≡ Host) → Each (Fits j V) (close_algorithm i (React (WritableClose i) None) owner)
     close-fits i Host h = ((λ e. ap (λ (k : StreamId). HostClose k) (same_id i j e)), tt)
     close-fits i (HalfOf t) h = (half_other i t (is_same i j) refl h, tt)
+    close-fits i (BranchOf t half) h = ((λ e. ap (λ (k : StreamId). HostClose k) (same_id i j e)), tt)
 
     own : Own (NoUse j)
     own = record { resolve = λ q. tt; changed = λ t q. refl; transformed = λ t q. refl; flushed = λ t q. refl; aborted = λ t q r. refl; cancelled = λ t q r. refl }
@@ -128,6 +142,9 @@ module _ (j : StreamId) where
     hosted : (i : StreamId) (s : Slots) → owner_at j s ≡ Host → is_same i j ≡ true → owner_at i s ≡ Host
     hosted i s h e = subst (λ (k : StreamId). owner_at k s ≡ Host) (sym (same_id i j e)) h
 
+    tee-uses-fit : (e : Effect) → TeeUses (NoUse j) e → Fits j V e
+    tee-uses-fit e u = grind (arith, u)
+
     -- of a stream of the host
     pub caused-fit : (e : Effect) (s : Slots) → owner_at j s ≡ Host → Fits j V e → Each (Fits j V) (row e s).caused
     unfolding row
@@ -138,6 +155,7 @@ module _ (j : StreamId) where
     caused-fit (Pipe p operation) s h f = row-causes (Fits j V) (Pipe p operation) s (pipe-fits p)
     caused-fit (Signal a operation) s h f = row-causes (Fits j V) (Signal a operation) s (signal-fits operation)
     caused-fit (Transform t operation) s h f = each-map (Uses (NoUse j) (λ i. Unit {0})) (Fits j V) uses-fit (row (Transform t operation) s).caused (row-uses (NoUse j) (λ i. Unit {0}) own t operation s f (λ x e. tt))
+    caused-fit (Tee t operation) s h f = each-map (TeeUses (NoUse j)) (Fits j V) tee-uses-fit (row (Tee t operation) s).caused (row-tees_use (NoUse j) (λ q. tt) t operation s f)
     caused-fit (StartAlgorithm i step start) s h f = start-fits i step s start f
     caused-fit (PullAlgorithm i) s h f = pull-fits i (owner_at i s) _ _ refl
     caused-fit (CancelAlgorithm i r p) s h f = cancel-fits i r (owner_at i s) _ _ refl
@@ -147,7 +165,7 @@ module _ (j : StreamId) where
     caused-fit (ChunkSteps i request v) s h f = row-causes (Fits j V) (ChunkSteps i request v) s (chunk-fits v request)
     caused-fit (CloseSteps i request) s h f = row-causes (Fits j V) (CloseSteps i request) s (end-fits request)
     caused-fit (CloseStepsWith i request b) s h f = row-causes (Fits j V) (CloseStepsWith i request b) s (end-fits request)
-    caused-fit (ErrorSteps i request e) s h f = row-causes (Fits j V) (ErrorSteps i request e) s (end-fits request)
+    caused-fit (ErrorSteps i request e) s h f = row-causes (Fits j V) (ErrorSteps i request e) s (error-fits request)
     caused-fit _ s h f = tt
 
     pub call-fits : (c : Call) (s : Slots) → Each (Fits j V) (begin c s).done.caused

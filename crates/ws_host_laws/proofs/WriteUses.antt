@@ -1,5 +1,6 @@
 -- Which reactions the effects of a realm make: that of stream j to its write algorithm is made by the host call of that algorithm, and by no other;
 -- and how many such calls are made.
+use Rattle.ws_value.specs.declared.ids.TeeId.{TeeId}
 use Rattle.std.proofs.Common.{◌≡◌, ℕ, ◌+◌, Bool, true, false, List, [], ◌∷◌, length, Option, None, Ok, Err, refl, sym, subst, arith, append-nil}
 use Rattle.ws_value.specs.declared.{ids.PipeId.{PipeId}, ids.PromiseId.{PromiseId}, ids.StreamId.{StreamId}}
 use Rattle.ws_value.specs.declared.value.Plain.{Plain}
@@ -8,10 +9,10 @@ use Rattle.ws_steps.specs.declared.{transform.Taker.TheVariants.{ToHost, ToTrans
 use Rattle.ws_steps.specs.declared.{calls.Call.{Call}}
 use Rattle.ws_steps.specs.declared.{calls.HostCall.{HostCall}, calls.HostCall.TheVariants.{Write as HostWrite}, calls.StartBy.{StartBy}, calls.StartBy.TheVariants.{Now, Later}}
 use Rattle.ws_steps.specs.declared.effects.Effect.{Effect}
-use Rattle.ws_steps.specs.declared.effects.Effect.TheVariants.{Readable, Writable, Pipe, Signal, Transform, StartAlgorithm, PullAlgorithm, CancelAlgorithm, WriteAlgorithm, CloseAlgorithm, AbortAlgorithm, ChunkSteps, CloseSteps, ErrorSteps, Give, CallHost}
-use Rattle.ws_steps.specs.declared.{effects.Gift.TheVariants.{This}, effects.Owner.{Owner}, effects.Owner.TheVariants.{Host, HalfOf}, effects.Use.{Use}, effects.Use.TheVariants.{React, Resolve}}
+use Rattle.ws_steps.specs.declared.effects.Effect.TheVariants.{Readable, Writable, Pipe, Signal, Transform, Tee, StartAlgorithm, PullAlgorithm, CancelAlgorithm, WriteAlgorithm, CloseAlgorithm, AbortAlgorithm, ChunkSteps, CloseSteps, ErrorSteps, Give, CallHost}
+use Rattle.ws_steps.specs.declared.{effects.Gift.TheVariants.{This}, effects.Owner.{Owner}, effects.Owner.TheVariants.{Host, HalfOf, BranchOf}, effects.Use.{Use}, effects.Use.TheVariants.{React, Resolve}}
 use Rattle.ws_steps.specs.declared.{pipes.SignalOperation.{SignalOperation}, pipes.SignalOperation.TheVariants.{Add, Forget, Trigger}, promises.Job.{Job}, promises.Step.{Step}, promises.Step.TheVariants.{WritableClose, WritableWrite, PipeReady, PipeWrote, PipeActed, PipePart}}
-use Rattle.ws_steps.specs.declared.{readable.ReadRequest.{ReadRequest}, readable.ReadRequest.TheVariants.{Promise, Pipe as PipeRequest}}
+use Rattle.ws_steps.specs.declared.{readable.ReadRequest.{ReadRequest}, readable.ReadRequest.TheVariants.{Promise, Pipe as PipeRequest, Tee as TeeRequest}}
 use Rattle.ws_steps.specs.declared.writable.WritableOperation.TheVariants.{WriteSettled, HandOn}
 use Rattle.ws_steps.specs.Slots.{Slots, owner_at}
 use Rattle.ws_steps.specs.Turns.{row, pull_algorithm, cancel_algorithm, write_algorithm, close_algorithm, abort_algorithm, start_algorithm}
@@ -22,10 +23,11 @@ use Rattle.ws_steps.specs.Histories.{is_same}
 use Rattle.ws_laws.proofs.EachCall.{each_call}
 use Rattle.ws_laws.proofs.Lists.{Each, each-map}
 use Rattle.ws_laws.proofs.PipeDoes.{IsStepOf, PipeCauses}
-use Rattle.ws_laws.proofs.Rows.{ChunkCauses, EndCauses, SignalCauses, row-causes}
+use Rattle.ws_laws.proofs.Rows.{ChunkCauses, EndCauses, ErrorCauses, SignalCauses, row-causes}
 use Rattle.ws_laws.proofs.TransformDoes.{TransformCauses}
+use Rattle.ws_laws.proofs.TeeDoes.{TeeCauses}
 use Rattle.ws_writable_laws.proofs.Handed.{NoHalf}
-use Rattle.ws_host_laws.proofs.Carried.{Carries, Uses, Own, row-uses}
+use Rattle.ws_host_laws.proofs.Carried.{CarriesTee, TeeUses, row-tees_use, Carries, Uses, Own, row-uses}
 use Rattle.ws_host_laws.proofs.Reactions.{JobFits}
 use Rattle.ws_steps.specs.declared.writable.WritableOperation.{WritableOperation}
 use Rattle.ws_steps.specs.Effects.{Out}
@@ -63,6 +65,7 @@ Fits j V (Give gift u) = marks j u ≡ false
 Fits j V (CallHost call u) = is_write_call j call ≡ marks j u
 Fits j V (StartAlgorithm i step start) = writes_it j step ≡ false
 Fits j V (Transform t operation) = Carries (NoUse j) operation
+Fits j V (Tee t operation) = CarriesTee (NoUse j) operation
 Fits j V (Writable i (HandOn (ToTransform t d))) = is_same j i ≡ false
 Fits j V (Writable i (WriteSettled (Ok v))) = is_same j i ≡ true → V
 Fits j V _ = Unit {0}
@@ -86,16 +89,24 @@ module _ (j : StreamId) where
     pipe-fits p source dest (StartAlgorithm i step start) c = absurd c
     pipe-fits p source dest (Writable i (WriteSettled o)) c = absurd c
     pipe-fits p source dest (Transform t operation) c = absurd c
+    pipe-fits p source dest (Tee t operation) c = absurd c
     pipe-fits p source dest (Writable i (HandOn taker)) c = absurd c
     pipe-fits p source dest _ c = tt
 
     chunk-fits : (v : Value) (request : ReadRequest) → ChunkCauses (Fits j V) v request
     chunk-fits v (Promise q) = tt
     chunk-fits v (PipeRequest q) = tt
+    chunk-fits v (TeeRequest t) = tt
 
     end-fits : (request : ReadRequest) → EndCauses (Fits j V) request
     end-fits (Promise q) = tt
     end-fits (PipeRequest q) = tt
+    end-fits (TeeRequest t) = tt
+
+    error-fits : (request : ReadRequest) → ErrorCauses (Fits j V) request
+    error-fits (Promise q) = tt
+    error-fits (PipeRequest q) = tt
+    error-fits (TeeRequest t) = tt
 
     signal-fits : (operation : SignalOperation) → SignalCauses (Fits j V) operation
     signal-fits (Trigger r) = λ q. tt
@@ -109,14 +120,17 @@ module _ (j : StreamId) where
     pull-fits : (i : StreamId) (owner : Owner) (step : Step) (d : Option PromiseId) → writes_it j step ≡ false → Each (Fits j V) (pull_algorithm i (React step d) owner)
     pull-fits i Host step d n = (sym n, tt)
     pull-fits i (HalfOf t) step d n = (n, tt)
+    pull-fits i (BranchOf t half) step d n = (tt, (n, tt))
 
     cancel-fits : (i : StreamId) (r : Plain) (owner : Owner) (step : Step) (d : Option PromiseId) → writes_it j step ≡ false → Each (Fits j V) (cancel_algorithm i r (React step d) owner)
     cancel-fits i r Host step d n = (sym n, tt)
     cancel-fits i r (HalfOf t) step d n = (n, tt)
+    cancel-fits i r (BranchOf t half) step d n = (n, tt)
 
     abort-fits : (i : StreamId) (r : Plain) (owner : Owner) (step : Step) (d : Option PromiseId) → writes_it j step ≡ false → Each (Fits j V) (abort_algorithm i r (React step d) owner)
     abort-fits i r Host step d n = (sym n, tt)
     abort-fits i r (HalfOf t) step d n = (n, tt)
+    abort-fits i r (BranchOf t half) step d n = (sym n, tt)
 
     -- a half is another stream
     half_other : (i : StreamId) (t : TransformId) (b : Bool) → is_same j i ≡ b → (is_same j i ≡ true → HalfOf t ≡ Host) → is_same j i ≡ false
@@ -126,10 +140,12 @@ module _ (j : StreamId) where
     write-fits : (i : StreamId) (owner : Owner) → (is_same j i ≡ true → owner ≡ Host) → Each (Fits j V) (write_algorithm i owner)
     write-fits i Host h = (tt, tt)
     write-fits i (HalfOf t) h = (half_other i t (is_same j i) refl h, tt)
+    write-fits i (BranchOf t half) h = (tt, tt)
 
     close-fits : (i : StreamId) (owner : Owner) → Each (Fits j V) (close_algorithm i (React (WritableClose i) None) owner)
     close-fits i Host = (refl, tt)
     close-fits i (HalfOf t) = (refl, tt)
+    close-fits i (BranchOf t half) = (refl, tt)
 
     own : Own (NoUse j)
     own = record { resolve = λ q. refl; changed = λ t q. refl; transformed = λ t q. refl; flushed = λ t q. refl; aborted = λ t q r. refl; cancelled = λ t q r. refl }
@@ -139,6 +155,9 @@ module _ (j : StreamId) where
 
     hosted : (i : StreamId) (s : Slots) → owner_at j s ≡ Host → is_same j i ≡ true → owner_at i s ≡ Host
     hosted i s h e = subst (λ (k : StreamId). owner_at k s ≡ Host) (same_id j i e) h
+
+    tee-uses-fit : (e : Effect) → TeeUses (NoUse j) e → Fits j V e
+    tee-uses-fit e u = grind (arith, u)
 
     -- of a stream of the host
     pub caused-fit : (e : Effect) (s : Slots) → owner_at j s ≡ Host → NoHalf j s → Fits j V e → Each (Fits j V) (row e s).caused
@@ -151,6 +170,7 @@ module _ (j : StreamId) where
     caused-fit (Signal a operation) s h none f = row-causes (Fits j V) (Signal a operation) s (signal-fits operation)
     caused-fit (Transform t operation) s h none f =
         each-map (Uses (NoUse j) (λ i. is_same j i ≡ false)) (Fits j V) uses-fit (row (Transform t operation) s).caused (row-uses (NoUse j) (λ i. is_same j i ≡ false) own t operation s f (none t))
+    caused-fit (Tee t operation) s h none f = each-map (TeeUses (NoUse j)) (Fits j V) tee-uses-fit (row (Tee t operation) s).caused (row-tees_use (NoUse j) (λ q. refl) t operation s f)
     caused-fit (StartAlgorithm i step start) s h none f = start-fits i step s start f
     caused-fit (PullAlgorithm i) s h none f = pull-fits i (owner_at i s) _ _ refl
     caused-fit (CancelAlgorithm i r p) s h none f = cancel-fits i r (owner_at i s) _ _ refl
@@ -160,7 +180,7 @@ module _ (j : StreamId) where
     caused-fit (ChunkSteps i request v) s h none f = row-causes (Fits j V) (ChunkSteps i request v) s (chunk-fits v request)
     caused-fit (CloseSteps i request) s h none f = row-causes (Fits j V) (CloseSteps i request) s (end-fits request)
     caused-fit (CloseStepsWith i request b) s h none f = row-causes (Fits j V) (CloseStepsWith i request b) s (end-fits request)
-    caused-fit (ErrorSteps i request e) s h none f = row-causes (Fits j V) (ErrorSteps i request e) s (end-fits request)
+    caused-fit (ErrorSteps i request e) s h none f = row-causes (Fits j V) (ErrorSteps i request e) s (error-fits request)
     caused-fit _ s h none f = tt
 
     pub call-fits : (c : Call) (s : Slots) → Each (Fits j V) (begin c s).done.caused
@@ -195,10 +215,17 @@ module _ (j : StreamId) where
   chunk-pends : (v : Value) (request : ReadRequest) → ChunkCauses NoPend v request
   chunk-pends v (Promise q) = tt
   chunk-pends v (PipeRequest q) = refl
+  chunk-pends v (TeeRequest t) = refl
 
   end-pends : (request : ReadRequest) → EndCauses NoPend request
   end-pends (Promise q) = tt
   end-pends (PipeRequest q) = refl
+  end-pends (TeeRequest t) = refl
+
+  error-pends : (request : ReadRequest) → ErrorCauses NoPend request
+  error-pends (Promise q) = tt
+  error-pends (PipeRequest q) = refl
+  error-pends (TeeRequest t) = refl
 
   signal-pends : (operation : SignalOperation) → SignalCauses NoPend operation
   signal-pends (Trigger r) = λ q. refl
@@ -212,25 +239,33 @@ module _ (j : StreamId) where
   pull-pends : (i : StreamId) (u : Use) (owner : Owner) → Each NoPend (pull_algorithm i u owner)
   pull-pends i u Host = (refl, tt)
   pull-pends i u (HalfOf t) = (refl, tt)
+  pull-pends i u (BranchOf t half) = (refl, (refl, tt))
 
   cancel-pends : (i : StreamId) (r : Plain) (u : Use) (owner : Owner) → Each NoPend (cancel_algorithm i r u owner)
   cancel-pends i r u Host = (refl, tt)
   cancel-pends i r u (HalfOf t) = (refl, tt)
+  cancel-pends i r u (BranchOf t half) = (refl, tt)
 
   abort-pends : (i : StreamId) (r : Plain) (u : Use) (owner : Owner) → Each NoPend (abort_algorithm i r u owner)
   abort-pends i r u Host = (refl, tt)
   abort-pends i r u (HalfOf t) = (refl, tt)
+  abort-pends i r u (BranchOf t half) = (refl, tt)
 
   close-pends : (i : StreamId) (u : Use) (owner : Owner) → Each NoPend (close_algorithm i u owner)
   close-pends i u Host = (refl, tt)
   close-pends i u (HalfOf t) = (refl, tt)
+  close-pends i u (BranchOf t half) = (refl, tt)
 
   write-pends : (i : StreamId) (owner : Owner) → Each NoPend (write_algorithm i owner)
   write-pends i Host = (refl, tt)
   write-pends i (HalfOf t) = (refl, tt)
+  write-pends i (BranchOf t half) = (refl, tt)
 
   transform-pends : (t : TransformId) (writable readable : StreamId) (e : Effect) → TransformCauses t writable readable e → NoPend e
   transform-pends t writable readable e c = grind (arith, c)
+
+  tee-pends : (t : TeeId) (source first second : StreamId) (e : Effect) → TeeCauses t source first second e → NoPend e
+  tee-pends t source first second e c = grind (arith, c)
 
   others-pend : (i : StreamId) (operation : WritableOperation) (s : Slots) → (IsHandOn operation → ⊥) → all (pends j) (on_writable (writable_operation i operation) i s).caused ≡ 0
   others-pend i operation s u =
@@ -262,6 +297,7 @@ module _ (j : StreamId) where
   row-called V (Pipe p operation) s f = zero_called 0 _ 0 0 refl (none_pend _ (row-causes NoPend (Pipe p operation) s (pipe-pends p))) refl refl
   row-called V (Signal a operation) s f = zero_called 0 _ 0 0 refl (none_pend _ (row-causes NoPend (Signal a operation) s (signal-pends operation))) refl refl
   row-called V (Transform t operation) s f = zero_called 0 _ 0 0 refl (none_pend _ (row-causes NoPend (Transform t operation) s (transform-pends t))) refl refl
+  row-called V (Tee t operation) s f = zero_called 0 _ 0 0 refl (none_pend _ (row-causes NoPend (Tee t operation) s (tee-pends t))) refl refl
   row-called V (StartAlgorithm i step start) s f = zero_called 0 _ 0 0 refl (none_pend _ (start-pends i step s start)) refl refl
   row-called V (PullAlgorithm i) s f = zero_called 0 _ 0 0 refl (none_pend _ (pull-pends i _ (owner_at i s))) refl refl
   row-called V (CancelAlgorithm i r p) s f = zero_called 0 _ 0 0 refl (none_pend _ (cancel-pends i r _ (owner_at i s))) refl refl
@@ -271,7 +307,7 @@ module _ (j : StreamId) where
   row-called V (ChunkSteps i request v) s f = zero_called 0 _ 0 0 refl (none_pend _ (row-causes NoPend (ChunkSteps i request v) s (chunk-pends v request))) refl refl
   row-called V (CloseSteps i request) s f = zero_called 0 _ 0 0 refl (none_pend _ (row-causes NoPend (CloseSteps i request) s (end-pends request))) refl refl
   row-called V (CloseStepsWith i request b) s f = zero_called 0 _ 0 0 refl (none_pend _ (row-causes NoPend (CloseStepsWith i request b) s (end-pends request))) refl refl
-  row-called V (ErrorSteps i request e) s f = zero_called 0 _ 0 0 refl (none_pend _ (row-causes NoPend (ErrorSteps i request e) s (end-pends request))) refl refl
+  row-called V (ErrorSteps i request e) s f = zero_called 0 _ 0 0 refl (none_pend _ (row-causes NoPend (ErrorSteps i request e) s (error-pends request))) refl refl
   row-called V (CallHost call u) s f = grind (arith, append-nil)
   row-called V _ s f = refl
 

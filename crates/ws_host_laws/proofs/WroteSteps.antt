@@ -137,6 +137,7 @@ module _ (j : StreamId) where
     pipe = λ z source dest prevent signal promise m. m;
     signal = λ z m. m;
     transform = λ z kind half other change m. m;
+    tee = λ z source first second cancel m. m;
     bytes = λ z mark auto m. m;
     byob_requests = λ z hs m. m;
     readable = λ z owner mark size m. m;
