@@ -2,10 +2,10 @@
 use Rattle.std.proofs.Common.{◌≡◌, ℕ, Bool, true, false, nat_eq, if◌then◌else◌, List, [], ◌∷◌, ◌++◌, Option, Some, None, slice_get, refl, sym, subst, ap, ◌∙◌, arith, append_assoc}
 use Rattle.ws_value.specs.declared.ids.{PipeId.{PipeId}, StreamId.{StreamId}}
 use Rattle.ws_value.specs.declared.value.Value.{Value}
-use Rattle.ws_steps.specs.declared.effects.{Effect.{Effect}, Owner.TheVariants.{Host, HalfOf}}
-use Rattle.ws_steps.specs.declared.effects.Effect.TheVariants.{Readable as OnReadable, Writable as OnWritable, Pipe as OnPipe, Signal as OnSignal, Transform as OnTransform, StartAlgorithm, PullAlgorithm, CancelAlgorithm, WriteAlgorithm, CloseAlgorithm, AbortAlgorithm, ChunkSteps, CloseSteps, ErrorSteps}
+use Rattle.ws_steps.specs.declared.effects.{Effect.{Effect}, Owner.TheVariants.{HalfOf}}
+use Rattle.ws_steps.specs.declared.effects.Effect.TheVariants.{Readable as OnReadable, Writable as OnWritable, Pipe as OnPipe, Signal as OnSignal, Transform as OnTransform, Tee as OnTee, StartAlgorithm, PullAlgorithm, CancelAlgorithm, WriteAlgorithm, CloseAlgorithm, AbortAlgorithm, ChunkSteps, CloseSteps, ErrorSteps}
 use Rattle.ws_steps.specs.declared.pipes.{SignalOperation.{SignalOperation}, SignalOperation.TheVariants.{Add, Forget, Trigger}}
-use Rattle.ws_steps.specs.declared.readable.{ReadRequest.{ReadRequest}, ReadRequest.TheVariants.{Promise, Pipe as PipeRequest}}
+use Rattle.ws_steps.specs.declared.readable.{ReadRequest.{ReadRequest}, ReadRequest.TheVariants.{Promise, Pipe as PipeRequest, Tee as TeeRequest}}
 use Rattle.ws_steps.specs.declared.transform.{Taker.{Taker}, Taker.TheVariants.{ToHost, ToTransform}, TransformId.{TransformId}}
 use Rattle.ws_steps.specs.declared.transform.TransformOperation.TheVariants as names
 use Rattle.ws_steps.specs.declared.writable.{WritableOperation.{WritableOperation}, WriteRecord.{WriteRecord}, WriteRecord.TheVariants.{Chunk, InFlight, CloseMark}}
@@ -20,15 +20,17 @@ use Rattle.ws_steps.specs.WritableHistory.{Writes, no_writes, first_chunk, opera
 use Rattle.ws_laws.proofs.Halves.{Halved}
 use Rattle.ws_laws.proofs.Lists.{Each}
 use Rattle.ws_laws.proofs.PipeDoes.{PipeCauses}
-use Rattle.ws_laws.proofs.Rows.{ChunkCauses, EndCauses, SignalCauses, row-causes}
+use Rattle.ws_laws.proofs.Rows.{ChunkCauses, EndCauses, ErrorCauses, SignalCauses, row-causes}
 use Rattle.ws_laws.proofs.Shapes.{StreamShape, WritableOf, TransformShape, stream_shapes, transform_shapes, owner-told}
 use Rattle.ws_laws.proofs.Tables.{either, same_id, is_same-refl, eq_numbers, no_writable_there, writable_acts}
 use Rattle.ws_laws.proofs.TransformDoes.{TransformCauses}
 use Rattle.ws_laws.proofs.WritableDoes.{IsHandOn}
 use Rattle.ws_transform_laws.specs.TransformHistory.{is_same_transform, effect_transformed}
 use Rattle.ws_transform_laws.proofs.Ordering.{first-told, first-none}
-use Rattle.ws_transform_laws.proofs.Prompt.{IsPlain, Placed, others-plain}
+use Rattle.ws_transform_laws.proofs.Prompt.{IsPlain, IsNoHalf, Placed, others-plain}
 use Rattle.ws_steps.specs.declared.effects.Effect.TheVariants.{Byte, CloseStepsWith}
+use Rattle.ws_value.specs.declared.ids.TeeId.{TeeId}
+use Rattle.ws_laws.proofs.TeeDoes.{TeeCauses}
 
 abbrev pub IsWritable : Effect → Type 0
 IsWritable (OnWritable j operation) = Unit {0}
@@ -71,10 +73,17 @@ module _ (t : TransformId) where
   chunk-idle : (v : Value) (r : ReadRequest) → ChunkCauses Idle v r
   chunk-idle v (Promise p) = tt
   chunk-idle v (PipeRequest p) = refl
+  chunk-idle v (TeeRequest k) = refl
 
   end-idle : (r : ReadRequest) → EndCauses Idle r
   end-idle (Promise p) = tt
   end-idle (PipeRequest p) = refl
+  end-idle (TeeRequest k) = refl
+
+  error-idle : (r : ReadRequest) → ErrorCauses Idle r
+  error-idle (Promise p) = tt
+  error-idle (PipeRequest p) = refl
+  error-idle (TeeRequest k) = refl
 
   signal-idle : (operation : SignalOperation) → SignalCauses Idle operation
   signal-idle (Add p) = tt
@@ -89,6 +98,10 @@ module _ (t : TransformId) where
   transform-idle u w r (OnTransform y (names.TransformChunk v d)) c = absurd c
   transform-idle u w r _ c = refl
 
+  tee-idle : (u : TeeId) (source first second : StreamId) (e : Effect) → TeeCauses u source first second e → Idle e
+  tee-idle u source first second (OnTransform y operation) c = absurd c
+  tee-idle u source first second _ c = refl
+
   pub row-idle : (e : Effect) (s : Slots) → (IsWritable e → ⊥) → pending (row e s).caused ≡ []
   row-idle (OnReadable j operation) s n = idle-pending (row (OnReadable j operation) s).caused (row-causes Idle (OnReadable j operation) s (record { pull = refl; cancel = λ r q. refl; chunk = λ r v. refl; close = λ r. refl; error = λ r e. refl }))
   row-idle (Byte j operation) s n =
@@ -98,16 +111,17 @@ module _ (t : TransformId) where
   row-idle (OnPipe q operation) s n = idle-pending (row (OnPipe q operation) s).caused (row-causes Idle (OnPipe q operation) s (pipe-idle q))
   row-idle (OnSignal a operation) s n = idle-pending (row (OnSignal a operation) s).caused (row-causes Idle (OnSignal a operation) s (signal-idle operation))
   row-idle (OnTransform u operation) s n = idle-pending (row (OnTransform u operation) s).caused (row-causes Idle (OnTransform u operation) s (transform-idle u))
+  row-idle (OnTee u operation) s n = idle-pending (row (OnTee u operation) s).caused (row-causes Idle (OnTee u operation) s (tee-idle u))
   row-idle (StartAlgorithm j step start) s n = idle-pending (row (StartAlgorithm j step start) s).caused (row-causes Idle (StartAlgorithm j step start) s (λ g u. refl, λ c u. refl))
-  row-idle (PullAlgorithm j) s n = idle-pending (row (PullAlgorithm j) s).caused (row-causes Idle (PullAlgorithm j) s (λ c u. refl, λ y u. refl))
-  row-idle (CancelAlgorithm j r q) s n = idle-pending (row (CancelAlgorithm j r q) s).caused (row-causes Idle (CancelAlgorithm j r q) s (λ c u. refl, λ y u. refl))
+  row-idle (PullAlgorithm j) s n = idle-pending (row (PullAlgorithm j) s).caused (row-causes Idle (PullAlgorithm j) s (λ c u. refl, (λ y u. refl, (λ k. refl, λ u. refl))))
+  row-idle (CancelAlgorithm j r q) s n = idle-pending (row (CancelAlgorithm j r q) s).caused (row-causes Idle (CancelAlgorithm j r q) s (λ c u. refl, (λ y u. refl, λ k half u. refl)))
   row-idle (WriteAlgorithm j) s n = idle-pending (row (WriteAlgorithm j) s).caused (row-causes Idle (WriteAlgorithm j) s (refl, λ y u. refl))
   row-idle (CloseAlgorithm j) s n = idle-pending (row (CloseAlgorithm j) s).caused (row-causes Idle (CloseAlgorithm j) s (λ c u. refl, λ y u. refl))
   row-idle (AbortAlgorithm j r q) s n = idle-pending (row (AbortAlgorithm j r q) s).caused (row-causes Idle (AbortAlgorithm j r q) s (λ c u. refl, λ y u. refl))
   row-idle (ChunkSteps j r v) s n = idle-pending (row (ChunkSteps j r v) s).caused (row-causes Idle (ChunkSteps j r v) s (chunk-idle v r))
   row-idle (CloseSteps j r) s n = idle-pending (row (CloseSteps j r) s).caused (row-causes Idle (CloseSteps j r) s (end-idle r))
   row-idle (CloseStepsWith j r b) s n = idle-pending (row (CloseStepsWith j r b) s).caused (row-causes Idle (CloseStepsWith j r b) s (end-idle r))
-  row-idle (ErrorSteps j r e) s n = idle-pending (row (ErrorSteps j r e) s).caused (row-causes Idle (ErrorSteps j r e) s (end-idle r))
+  row-idle (ErrorSteps j r e) s n = idle-pending (row (ErrorSteps j r e) s).caused (row-causes Idle (ErrorSteps j r e) s (error-idle r))
   row-idle e s n = idle-pending (row e s).caused (row-causes Idle e s tt)
 
 quiet-operation : (operation : WritableOperation) (w : writable.Slots) → (IsHandOn operation → ⊥) → (operation_writes operation w).acted ≡ []
@@ -145,7 +159,7 @@ module _ (i : StreamId) (t : TransformId) where
   same-half s u halved l is = let both : ◌≡◌ {A = Option StreamShape} (Some (WritableOf (HalfOf u))) (Some (WritableOf (HalfOf t))) = sym is ∙ linked-shape s halved l in cc
 
   taken-here : (s : Slots) (taker : Taker) (v : Value) → Halved s → Linked s → Placed s (OnWritable i (HandOn taker)) → v ∷ [] ≡ pending t (writable.taken_by i v taker ∷ [])
-  taken-here s ToHost v halved l p = let no : HalfOf t ≡ Host = sym (linked-owner s halved l) ∙ p in cc
+  taken-here s ToHost v halved l p = absurd (subst IsNoHalf (linked-owner s halved l) p)
   taken-here s (ToTransform u d) v halved l p =
       let is = same-half s u halved l p in
       let self : is_same_transform t u ≡ true = rw is (self-eq t.0) in rw self refl

@@ -2,8 +2,8 @@
 use Rattle.std.proofs.Common.{◌≡◌, ℕ, Bool, false, List, [], ◌∷◌, Option, Some, None, slice_get, refl, arith}
 use Rattle.ws_value.specs.declared.ids.{PipeId.{PipeId}, PromiseId.{PromiseId}, StreamId.{StreamId}}
 use Rattle.ws_value.specs.declared.value.Plain.{Plain}
-use Rattle.ws_steps.specs.declared.effects.{Effect.{Effect}, Owner.{Owner}, Owner.TheVariants.{Host, HalfOf}, Use.TheVariants.{React}}
-use Rattle.ws_steps.specs.declared.effects.Effect.TheVariants.{Readable as OnReadable, Writable as OnWritable, Pipe as OnPipe, Signal as OnSignal, Transform as OnTransform, StartAlgorithm, PullAlgorithm, CancelAlgorithm, WriteAlgorithm, CloseAlgorithm, AbortAlgorithm, ChunkSteps, CloseSteps, ErrorSteps}
+use Rattle.ws_steps.specs.declared.effects.{Effect.{Effect}, Owner.{Owner}, Owner.TheVariants.{Host, HalfOf, BranchOf}, Use.TheVariants.{React}}
+use Rattle.ws_steps.specs.declared.effects.Effect.TheVariants.{Readable as OnReadable, Writable as OnWritable, Pipe as OnPipe, Signal as OnSignal, Transform as OnTransform, Tee as OnTee, StartAlgorithm, PullAlgorithm, CancelAlgorithm, WriteAlgorithm, CloseAlgorithm, AbortAlgorithm, ChunkSteps, CloseSteps, ErrorSteps}
 use Rattle.ws_steps.specs.declared.promises.Step.{Step}
 use Rattle.ws_steps.specs.declared.transform.{TransformId.{TransformId}, TransformOperation.{TransformOperation}}
 use Rattle.ws_steps.specs.declared.transform.TransformOperation.TheVariants as names
@@ -13,21 +13,21 @@ use Rattle.ws_steps.specs.declared.readable.ReadableOperation.{ReadableOperation
 use Rattle.ws_steps.specs.declared.writable.WritableOperation.{WritableOperation}
 use Rattle.ws_steps.specs.declared.transform.Halves.{Halves}
 use Rattle.ws_steps.specs.Effects.{Out, cause}
-use Rattle.ws_steps.specs.Operations.{writable_operation, pipe_operation, signal_operation, transform_operation}
+use Rattle.ws_steps.specs.Operations.{writable_operation, pipe_operation, signal_operation, transform_operation, tee_operation}
 use Rattle.ws_steps.specs.Pipes as pipe
 use Rattle.ws_steps.specs.Pipes.{abort_all}
 use Rattle.ws_steps.specs.Transform as transform
 use Rattle.ws_steps.specs.Writable.{write_to_host}
 use Rattle.ws_steps.specs.declared.calls.{StartBy.{StartBy}, StartBy.TheVariants.{Now, Later}}
 use Rattle.ws_steps.specs.declared.promises.Step.TheVariants.{ReadablePull, ReturnUndefined, WritableClose, WritableAbort}
-use Rattle.ws_steps.specs.declared.readable.ReadRequest.TheVariants.{Promise, Pipe as PipeRequest}
+use Rattle.ws_steps.specs.declared.readable.ReadRequest.TheVariants.{Promise, Pipe as PipeRequest, Tee as TeeRequest}
 use Rattle.ws_steps.specs.Turns.{row, start_algorithm, pull_algorithm, cancel_algorithm, write_algorithm, close_algorithm, abort_algorithm}
 use Rattle.ws_laws.proofs.Lists.{Each}
 use Rattle.ws_laws.proofs.PipeDoes.{IsStepOf, PipeCauses, pipe-causes}
 use Rattle.ws_laws.proofs.Tables.{either, writable_acts}
 use Rattle.ws_laws.proofs.WritableDoes.{writable-does}
-use Rattle.ws_steps.specs.Slots.{Slots, Done, nothing, found, ends_at, halves_at, owner_at, has_writable, put_writable, on_writable, on_pipe_at, on_signal_at, on_transform_at}
-use Rattle.ws_writable_laws.proofs.Shape.{all, all-append}
+use Rattle.ws_steps.specs.Slots.{Slots, Done, nothing, found, ends_at, halves_at, owner_at, has_writable, put_writable, on_writable, on_pipe_at, on_signal_at, on_transform_at, on_tee_at}
+use Rattle.ws_writable_laws.proofs.Shape.{all, all-append, of_tee}
 use Rattle.ws_transform_laws.specs.TransformHistory.{is_same_transform}
 use Rattle.ws_writable_laws.proofs.Shape.{leads_to, of_transform}
 use Rattle.ws_transform_laws.proofs.Waited.{changing}
@@ -38,6 +38,9 @@ use Rattle.ws_steps.specs.Slots.{on_byte}
 use Rattle.ws_steps.specs.Turns.{on_source}
 use Rattle.ws_laws.proofs.ReadableDoes.{OfReadable}
 use Rattle.ws_laws.proofs.Rows.{source-out, byte-out}
+use Rattle.ws_value.specs.declared.ids.TeeId.{TeeId}
+use Rattle.ws_steps.specs.declared.tee.TeeOperation.{TeeOperation}
+use Rattle.ws_steps.specs.Tee as tee
 
 module _ (t : TransformId) where
   abbrev pub asks_sink : Effect → Bool
@@ -56,6 +59,14 @@ module _ (t : TransformId) where
   pub on_transform-none : (s : Slots) (u : TransformId) (operation : TransformOperation) (o : Option transform.Slots) → asks_sink (OnTransform u operation) ≡ false → of_transform (changing t) operation ≡ 0 → none_of s (on_transform_at (λ halves. transform_operation u halves operation) u s o).caused ≡ 0
   on_transform-none s u operation None b c = refl
   on_transform-none s u operation (Some x) b c = transform-none s u (halves_at x s) operation (record { slots = x; out = found s }) b c refl
+
+  tee-none : (s : Slots) (u : TeeId) (operation : TeeOperation) (a : tee.Acts) → of_tee (changing t) operation ≡ 0 → a.out.effects ≡ [] → none_of s (tee_operation u operation a).out.effects ≡ 0
+  unfolding tee.pull_branch tee.keep_chunk tee.source_closed tee.source_errored tee.hand_chunk tee.handed tee.cancel_branch tee.reader_settled
+  tee-none s u operation a c none = grind (arith, c, none)
+
+  pub on_tee-none : (s : Slots) (u : TeeId) (operation : TeeOperation) (o : Option tee.Slots) → of_tee (changing t) operation ≡ 0 → none_of s (on_tee_at (tee_operation u operation) u s o).caused ≡ 0
+  on_tee-none s u operation None c = refl
+  on_tee-none s u operation (Some x) c = tee-none s u operation (record { slots = x; out = found s }) c refl
 
   pipe-step : (p : PipeId) (step : Step) → IsStepOf p step → changing t step ≡ 0
   pipe-step p step c = grind arith
@@ -132,22 +143,27 @@ module _ (t : TransformId) where
   pub pull-none : (s : Slots) (j : StreamId) (owner : Owner) → none_of s (pull_algorithm j (React (ReadablePull j) None) owner) ≡ 0
   pull-none s j Host = refl
   pull-none s j (HalfOf u) = refl
+  pull-none s j (BranchOf u half) = refl
 
   pub cancel-none : (s : Slots) (j : StreamId) (c : Plain) (p : PromiseId) (owner : Owner) → none_of s (cancel_algorithm j c (React ReturnUndefined (Some p)) owner) ≡ 0
   cancel-none s j c p Host = refl
   cancel-none s j c p (HalfOf u) = refl
+  cancel-none s j c p (BranchOf u half) = refl
 
   pub write-none : (s : Slots) (j : StreamId) (owner : Owner) → none_of s (write_algorithm j owner) ≡ 0
   write-none s j Host = refl
   write-none s j (HalfOf u) = refl
+  write-none s j (BranchOf u half) = refl
 
   pub close-none : (s : Slots) (j : StreamId) (owner : Owner) → none_of s (close_algorithm j (React (WritableClose j) None) owner) ≡ 0
   close-none s j Host = refl
   close-none s j (HalfOf u) = refl
+  close-none s j (BranchOf u half) = refl
 
   pub abort-none : (s : Slots) (j : StreamId) (c : Plain) (p : PromiseId) (owner : Owner) → none_of s (abort_algorithm j c (React (WritableAbort j p) None) owner) ≡ 0
   abort-none s j c p Host = refl
   abort-none s j c p (HalfOf u) = refl
+  abort-none s j c p (BranchOf u half) = refl
 
   -- each effect
   pub row-none : (e : Effect) (s : Slots) → asks_sink e ≡ false → leads_to (changing t) e ≡ 0 → none_of s (row e s).caused ≡ 0
@@ -158,6 +174,7 @@ module _ (t : TransformId) where
   row-none (OnPipe p operation) s o n = pipe-none s p operation (slice_get s.pipes p.0)
   row-none (OnSignal a operation) s o n = signal-none s a operation (slice_get s.signals a.0)
   row-none (OnTransform u operation) s o n = on_transform-none s u operation (slice_get s.transforms u.0) o n
+  row-none (OnTee u operation) s o n = on_tee-none s u operation (slice_get s.tees u.0) n
   row-none (StartAlgorithm j step start) s o n = start-none s s j step start n
   row-none (PullAlgorithm j) s o n = pull-none s j (owner_at j s)
   row-none (CancelAlgorithm j c p) s o n = cancel-none s j c p (owner_at j s)
@@ -169,7 +186,11 @@ module _ (t : TransformId) where
   row-none (CloseStepsWith j (Promise p) b) s o n = refl
   row-none (ErrorSteps j (Promise p) e) s o n = refl
   row-none (ChunkSteps j (PipeRequest p) v) s o n = refl
+  row-none (ChunkSteps j (TeeRequest k) v) s o n = refl
   row-none (CloseSteps j (PipeRequest p)) s o n = refl
+  row-none (CloseSteps j (TeeRequest k)) s o n = refl
   row-none (CloseStepsWith j (PipeRequest p) b) s o n = refl
+  row-none (CloseStepsWith j (TeeRequest k) b) s o n = refl
   row-none (ErrorSteps j (PipeRequest p) e) s o n = refl
+  row-none (ErrorSteps j (TeeRequest k) e) s o n = refl
   row-none _ s o n = refl

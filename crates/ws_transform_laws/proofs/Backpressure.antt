@@ -2,8 +2,8 @@
 use Rattle.std.proofs.Common.{◌≡◌, Bool, true, false, ℕ, List, Option, Some, None, Ok, Err, slice_get, slice_set, refl, sym, ap, ◌∙◌, arith}
 use Rattle.ws_steps.specs.declared.calls.StartBy.TheVariants.{Now, Later}
 use Rattle.ws_steps.specs.declared.effects.{Effect.{Effect}, Use.{Use}}
-use Rattle.ws_steps.specs.declared.effects.Effect.TheVariants.{Readable as OnReadable, Writable as OnWritable, Pipe as OnPipe, Signal as OnSignal, Transform as OnTransform, StartAlgorithm, ChunkSteps, CloseSteps, ErrorSteps}
-use Rattle.ws_steps.specs.declared.readable.ReadRequest.TheVariants.{Promise, Pipe as PipeRequest}
+use Rattle.ws_steps.specs.declared.effects.Effect.TheVariants.{Readable as OnReadable, Writable as OnWritable, Pipe as OnPipe, Signal as OnSignal, Transform as OnTransform, Tee as OnTee, StartAlgorithm, ChunkSteps, CloseSteps, ErrorSteps}
+use Rattle.ws_steps.specs.declared.readable.ReadRequest.TheVariants.{Promise, Pipe as PipeRequest, Tee as TeeRequest}
 use Rattle.ws_steps.specs.declared.transform.{Halves.{Halves}, TransformId.{TransformId}, TransformOperation.{TransformOperation}}
 use Rattle.ws_steps.specs.declared.transform.TransformOperation.TheVariants as names
 use Rattle.ws_steps.specs.Operations.{writable_operation, transform_operation}
@@ -14,7 +14,7 @@ use Rattle.ws_steps.specs.Turns.{row, call_host}
 use Rattle.ws_steps.proofs.PromiseLaws.{slice_get-set_other}
 use Rattle.ws_laws.proofs.Tables.{either, writable_acts, eq_numbers, unequal_numbers}
 use Rattle.ws_transform_laws.specs.TransformHistory.{is_same_transform}
-use Rattle.ws_transform_laws.proofs.Changing.{place-same, pipe-transforms, signal-transforms}
+use Rattle.ws_transform_laws.proofs.Changing.{place-same, pipe-transforms, signal-transforms, tee-transforms}
 use Rattle.ws_steps.specs.declared.effects.Effect.TheVariants.{Byte, CloseStepsWith}
 use Rattle.ws_laws.proofs.Rows.{source-leaves, byte-leaves}
 
@@ -108,6 +108,7 @@ row-keeps t (OnWritable i operation) s n = either (λ (d : Done). pressed t d.sl
 row-keeps t (OnPipe p operation) s n = ap (λ (ts : List Slots). (as_transform (slice_get ts t.0)).backpressure) (pipe-transforms p operation s (slice_get s.pipes p.0))
 row-keeps t (OnSignal a operation) s n = ap (λ (ts : List Slots). (as_transform (slice_get ts t.0)).backpressure) (signal-transforms a operation s (slice_get s.signals a.0))
 row-keeps t (OnTransform u operation) s n = transform-keeps t u operation s n
+row-keeps t (OnTee u operation) s n = ap (λ (ts : List Slots). (as_transform (slice_get ts t.0)).backpressure) (tee-transforms u operation s (slice_get s.tees u.0))
 row-keeps t (StartAlgorithm i step Now) s n = refl
 row-keeps t (StartAlgorithm i step Later) s n = refl
 row-keeps t (ChunkSteps i (Promise p) v) s n = refl
@@ -115,7 +116,11 @@ row-keeps t (CloseSteps i (Promise p)) s n = refl
 row-keeps t (CloseStepsWith i (Promise p) b) s n = refl
 row-keeps t (ErrorSteps i (Promise p) e) s n = refl
 row-keeps t (ChunkSteps i (PipeRequest p) v) s n = refl
+row-keeps t (ChunkSteps i (TeeRequest k) v) s n = refl
 row-keeps t (CloseSteps i (PipeRequest p)) s n = refl
+row-keeps t (CloseSteps i (TeeRequest k)) s n = refl
 row-keeps t (CloseStepsWith i (PipeRequest p) b) s n = refl
+row-keeps t (CloseStepsWith i (TeeRequest k) b) s n = refl
 row-keeps t (ErrorSteps i (PipeRequest p) e) s n = refl
+row-keeps t (ErrorSteps i (TeeRequest k) e) s n = refl
 row-keeps t _ s n = refl

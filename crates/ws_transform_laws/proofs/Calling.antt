@@ -3,7 +3,7 @@ use Rattle.std.proofs.Common.{◌≡◌, ℕ, Bool, true, false, nat_eq, if◌th
 use Rattle.ws_value.specs.declared.ids.{PromiseId.{PromiseId}, StreamId.{StreamId}}
 use Rattle.ws_value.specs.declared.value.Value.{Value}
 use Rattle.ws_steps.specs.declared.calls.{HostCall.TheVariants.{Transform as HostTransform}}
-use Rattle.ws_steps.specs.declared.effects.{Effect.{Effect}, Owner.{Owner}, Owner.TheVariants.{Host, HalfOf}, Use.{Use}, Use.TheVariants.{Resolve}}
+use Rattle.ws_steps.specs.declared.effects.{Effect.{Effect}, Owner.{Owner}, Owner.TheVariants.{Host, HalfOf, BranchOf}, Use.{Use}, Use.TheVariants.{Resolve}}
 use Rattle.ws_steps.specs.declared.effects.Effect.TheVariants.{Writable as OnWritable, Transform as OnTransform, WriteAlgorithm, CallHost}
 use Rattle.ws_steps.specs.declared.transform.{Halves.{Halves}, Kind.{Kind}, Kind.TheVariants.{Identity, Host as HostKind}, Taker.{Taker}, Taker.TheVariants.{ToHost, ToTransform}, TransformId.{TransformId}}
 use Rattle.ws_steps.specs.declared.transform.TransformOperation.TheVariants as names
@@ -68,6 +68,7 @@ module _ (r : StreamId) where
   write-calls : (j : StreamId) (owner : Owner) → calling (write_algorithm j owner) ≡ []
   write-calls j Host = refl
   write-calls j (HalfOf t) = refl
+  write-calls j (BranchOf t half) = refl
 
   performs-none : (u : TransformId) (use_ : Use) (a : transform.Acts) → a.out.effects ≡ [] → calling (transform.perform_transform u use_ a).out.effects ≡ []
   performs-none u use_ a none = rw none refl

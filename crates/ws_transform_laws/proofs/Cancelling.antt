@@ -2,8 +2,8 @@
 use Rattle.std.proofs.Common.{◌≡◌, ℕ, ◌+◌, Bool, true, false, List, [], ◌∷◌, Option, Some, None, slice_get, refl, sym, ap, ◌∙◌, arith}
 use Rattle.ws_value.specs.declared.ids.{PipeId.{PipeId}, PromiseId.{PromiseId}, StreamId.{StreamId}}
 use Rattle.ws_value.specs.declared.value.Plain.{Plain}
-use Rattle.ws_steps.specs.declared.effects.{Effect.{Effect}, Owner.{Owner}, Owner.TheVariants.{Host, HalfOf}, Use.TheVariants.{React}}
-use Rattle.ws_steps.specs.declared.effects.Effect.TheVariants.{Readable as OnReadable, Writable as OnWritable, Pipe as OnPipe, Signal as OnSignal, Transform as OnTransform, StartAlgorithm, PullAlgorithm, CancelAlgorithm, WriteAlgorithm, CloseAlgorithm, AbortAlgorithm, ChunkSteps, CloseSteps, ErrorSteps, Give, CallHost}
+use Rattle.ws_steps.specs.declared.effects.{Effect.{Effect}, Owner.{Owner}, Owner.TheVariants.{Host, HalfOf, BranchOf}, Use.TheVariants.{React}}
+use Rattle.ws_steps.specs.declared.effects.Effect.TheVariants.{Readable as OnReadable, Writable as OnWritable, Pipe as OnPipe, Signal as OnSignal, Transform as OnTransform, Tee as OnTee, StartAlgorithm, PullAlgorithm, CancelAlgorithm, WriteAlgorithm, CloseAlgorithm, AbortAlgorithm, ChunkSteps, CloseSteps, ErrorSteps, Give, CallHost}
 use Rattle.ws_steps.specs.declared.promises.Step.{Step}
 use Rattle.ws_steps.specs.declared.promises.Step.TheVariants.{TransformCancelled}
 use Rattle.ws_steps.specs.declared.transform.{TransformId.{TransformId}, TransformOperation.{TransformOperation}}
@@ -14,7 +14,7 @@ use Rattle.ws_steps.specs.declared.readable.ReadableOperation.{ReadableOperation
 use Rattle.ws_steps.specs.declared.writable.WritableOperation.{WritableOperation}
 use Rattle.ws_steps.specs.declared.transform.Halves.{Halves}
 use Rattle.ws_steps.specs.Effects.{Out, cause}
-use Rattle.ws_steps.specs.Operations.{readable_operation, writable_operation, pipe_operation, signal_operation, transform_operation}
+use Rattle.ws_steps.specs.Operations.{readable_operation, writable_operation, pipe_operation, signal_operation, transform_operation, tee_operation}
 use Rattle.ws_steps.specs.Pipes as pipe
 use Rattle.ws_steps.specs.Pipes.{abort_all}
 use Rattle.ws_steps.specs.Readable as readable
@@ -23,8 +23,8 @@ use Rattle.ws_steps.specs.Transform as transform
 use Rattle.ws_steps.specs.Writable.{write_to_host}
 use Rattle.ws_steps.specs.declared.calls.{StartBy.{StartBy}, StartBy.TheVariants.{Now, Later}}
 use Rattle.ws_steps.specs.declared.promises.Step.TheVariants.{ReadablePull, ReturnUndefined, WritableClose, WritableAbort}
-use Rattle.ws_steps.specs.declared.readable.ReadRequest.TheVariants.{Promise, Pipe as PipeRequest}
-use Rattle.ws_steps.specs.Slots.{readable_at, as_readable, ReadableStream}
+use Rattle.ws_steps.specs.declared.readable.ReadRequest.TheVariants.{Promise, Pipe as PipeRequest, Tee as TeeRequest}
+use Rattle.ws_steps.specs.Slots.{readable_at, as_readable, ReadableStream, on_tee_at}
 use Rattle.ws_steps.specs.Turns.{row, start_algorithm, pull_algorithm, cancel_algorithm, write_algorithm, close_algorithm, abort_algorithm}
 use Rattle.ws_laws.proofs.Halves.{Halved}
 use Rattle.ws_laws.proofs.Shapes.{ReadableOf, TransformShape, stream_shape, stream_shapes, transform_shapes, map-there}
@@ -36,7 +36,7 @@ use Rattle.ws_laws.proofs.Tables.{either, readable_acts, writable_acts}
 use Rattle.ws_laws.proofs.WritableDoes.{writable-does}
 use Rattle.ws_transform_laws.proofs.Wanting.{IsNoPull, Causes, Rests, Cancels, Pulls, PullsFirst, PullsLast, operation-causes}
 use Rattle.ws_steps.specs.Slots.{Slots, Done, nothing, found, ends_at, halves_at, owner_at, has_readable, has_writable, put_writable, on_readable, on_writable, on_pipe_at, on_signal_at, on_transform_at}
-use Rattle.ws_writable_laws.proofs.Shape.{one_if, of_use, all, all-append}
+use Rattle.ws_writable_laws.proofs.Shape.{one_if, of_use, all, all-append, of_tee}
 use Rattle.ws_transform_laws.specs.TransformHistory.{is_same_transform}
 use Rattle.ws_steps.specs.declared.effects.Effect.TheVariants.{Byte, CloseStepsWith}
 use Rattle.ws_steps.specs.declared.byte.ByteOperation.{ByteOperation}
@@ -48,10 +48,14 @@ use Rattle.ws_laws.proofs.ReadableDoes.{OfReadable}
 use Rattle.ws_laws.proofs.ByteDoes.{byte-does}
 use Rattle.ws_laws.proofs.Rows.{source-out}
 use Rattle.ws_transform_laws.proofs.Sources.{byte-host}
+use Rattle.ws_value.specs.declared.ids.TeeId.{TeeId}
+use Rattle.ws_steps.specs.declared.tee.TeeOperation.{TeeOperation}
+use Rattle.ws_steps.specs.Tee as tee
 
 abbrev pub is_half : TransformId → Owner → Bool
 is_half t Host = false
 is_half t (HalfOf u) = is_same_transform t u
+is_half t (BranchOf u half) = false
 
 module _ (t : TransformId) where
   -- whether a stream performs the algorithms of the transform stream
@@ -78,6 +82,7 @@ module _ (t : TransformId) where
   -- what leads to it
   abbrev pub cancels : Slots → Effect → ℕ
   cancels s (OnTransform u operation) = of_cancel u operation
+  cancels s (OnTee u operation) = of_tee is_cancelled operation
   cancels s (CancelAlgorithm j c p) = one_if (mine s j)
   cancels s (StartAlgorithm j step start) = is_cancelled step
   cancels s (Give gift u) = of_use is_cancelled u
@@ -96,6 +101,14 @@ module _ (t : TransformId) where
   pub on_transform-none : (s : Slots) (u : TransformId) (operation : TransformOperation) (o : Option transform.Slots) → of_cancel u operation ≡ 0 → none_of s (on_transform_at (λ halves. transform_operation u halves operation) u s o).caused ≡ 0
   on_transform-none s u operation None c = refl
   on_transform-none s u operation (Some x) c = transform-none s u (halves_at x s) operation (record { slots = x; out = found s }) c refl
+
+  tee-none : (s : Slots) (u : TeeId) (operation : TeeOperation) (a : tee.Acts) → of_tee is_cancelled operation ≡ 0 → a.out.effects ≡ [] → none_of s (tee_operation u operation a).out.effects ≡ 0
+  unfolding tee.pull_branch tee.keep_chunk tee.source_closed tee.source_errored tee.hand_chunk tee.handed tee.cancel_branch tee.reader_settled
+  tee-none s u operation a c none = grind (arith, c, none)
+
+  pub on_tee-none : (s : Slots) (u : TeeId) (operation : TeeOperation) (o : Option tee.Slots) → of_tee is_cancelled operation ≡ 0 → none_of s (on_tee_at (tee_operation u operation) u s o).caused ≡ 0
+  on_tee-none s u operation None c = refl
+  on_tee-none s u operation (Some x) c = tee-none s u operation (record { slots = x; out = found s }) c refl
 
   pipe-step : (p : PipeId) (step : Step) → IsStepOf p step → is_cancelled step ≡ 0
   pipe-step p step c = grind arith
@@ -195,22 +208,27 @@ module _ (t : TransformId) where
   pub pull-none : (s : Slots) (j : StreamId) (owner : Owner) → none_of s (pull_algorithm j (React (ReadablePull j) None) owner) ≡ 0
   pull-none s j Host = refl
   pull-none s j (HalfOf u) = refl
+  pull-none s j (BranchOf u half) = refl
 
   pub cancel-none : (s : Slots) (j : StreamId) (c : Plain) (p : PromiseId) (owner : Owner) → one_if (is_half t owner) ≡ 0 → none_of s (cancel_algorithm j c (React ReturnUndefined (Some p)) owner) ≡ 0
   cancel-none s j c p Host n = refl
   cancel-none s j c p (HalfOf u) n = omega arith
+  cancel-none s j c p (BranchOf u half) n = refl
 
   pub write-none : (s : Slots) (j : StreamId) (owner : Owner) → none_of s (write_algorithm j owner) ≡ 0
   write-none s j Host = refl
   write-none s j (HalfOf u) = refl
+  write-none s j (BranchOf u half) = refl
 
   pub close-none : (s : Slots) (j : StreamId) (owner : Owner) → none_of s (close_algorithm j (React (WritableClose j) None) owner) ≡ 0
   close-none s j Host = refl
   close-none s j (HalfOf u) = refl
+  close-none s j (BranchOf u half) = refl
 
   pub abort-none : (s : Slots) (j : StreamId) (c : Plain) (p : PromiseId) (owner : Owner) → none_of s (abort_algorithm j c (React (WritableAbort j p) None) owner) ≡ 0
   abort-none s j c p Host = refl
   abort-none s j c p (HalfOf u) = refl
+  abort-none s j c p (BranchOf u half) = refl
 
   -- the stream is the readable half
   module _ (r : StreamId) where
@@ -228,6 +246,7 @@ module _ (t : TransformId) where
             let both : ◌≡◌ {A = Option TransformShape} (Some h.0) (Some x.0) = sym h.1.0 ∙ (ap (λ (w : TransformId). slice_get (transform_shapes s) w.0) one ∙ x.1.0) in
             let same : h.0 ≡ x.0 = cc in
             sym x.1.1 ∙ (sym (ap (λ (y : TransformShape). y.readable) same) ∙ h.1.1)
+        by (BranchOf u half) at k = cc
 
     default-none : (s : Slots) (j : StreamId) (operation : ReadableOperation) → Halved s → Reads t r s → has_byte j s ≡ false → can_close_or_enqueue (readable_at r (on_readable (readable_operation j operation) j s).slots) ≡ true
         → none_of s (on_readable (readable_operation j operation) j s).caused ≡ 0
@@ -258,6 +277,7 @@ module _ (t : TransformId) where
     row-none (OnPipe p operation) s halved h can n = pipe-none s p operation (slice_get s.pipes p.0)
     row-none (OnSignal a operation) s halved h can n = signal-none s a operation (slice_get s.signals a.0)
     row-none (OnTransform u operation) s halved h can n = on_transform-none s u operation (slice_get s.transforms u.0) n
+    row-none (OnTee u operation) s halved h can n = on_tee-none s u operation (slice_get s.tees u.0) n
     row-none (StartAlgorithm j step start) s halved h can n = start-none s s j step start n
     row-none (PullAlgorithm j) s halved h can n = pull-none s j (owner_at j s)
     row-none (CancelAlgorithm j c p) s halved h can n = cancel-none s j c p (owner_at j s) n
@@ -269,9 +289,13 @@ module _ (t : TransformId) where
     row-none (CloseStepsWith j (Promise p) b) s halved h can n = refl
     row-none (ErrorSteps j (Promise p) e) s halved h can n = refl
     row-none (ChunkSteps j (PipeRequest p) v) s halved h can n = refl
+    row-none (ChunkSteps j (TeeRequest k) v) s halved h can n = refl
     row-none (CloseSteps j (PipeRequest p)) s halved h can n = refl
+    row-none (CloseSteps j (TeeRequest k)) s halved h can n = refl
     row-none (CloseStepsWith j (PipeRequest p) b) s halved h can n = refl
+    row-none (CloseStepsWith j (TeeRequest k) b) s halved h can n = refl
     row-none (ErrorSteps j (PipeRequest p) e) s halved h can n = refl
+    row-none (ErrorSteps j (TeeRequest k) e) s halved h can n = refl
     row-none _ s halved h can n = refl
 
   -- where no stream performs its algorithms
@@ -283,6 +307,7 @@ module _ (t : TransformId) where
   none-owned (OnPipe p operation) s o n = pipe-none s p operation (slice_get s.pipes p.0)
   none-owned (OnSignal a operation) s o n = signal-none s a operation (slice_get s.signals a.0)
   none-owned (OnTransform u operation) s o n = on_transform-none s u operation (slice_get s.transforms u.0) n
+  none-owned (OnTee u operation) s o n = on_tee-none s u operation (slice_get s.tees u.0) n
   none-owned (StartAlgorithm j step start) s o n = start-none s s j step start n
   none-owned (PullAlgorithm j) s o n = pull-none s j (owner_at j s)
   none-owned (CancelAlgorithm j c p) s o n = cancel-none s j c p (owner_at j s) n
@@ -294,7 +319,11 @@ module _ (t : TransformId) where
   none-owned (CloseStepsWith j (Promise p) b) s o n = refl
   none-owned (ErrorSteps j (Promise p) e) s o n = refl
   none-owned (ChunkSteps j (PipeRequest p) v) s o n = refl
+  none-owned (ChunkSteps j (TeeRequest k) v) s o n = refl
   none-owned (CloseSteps j (PipeRequest p)) s o n = refl
+  none-owned (CloseSteps j (TeeRequest k)) s o n = refl
   none-owned (CloseStepsWith j (PipeRequest p) b) s o n = refl
+  none-owned (CloseStepsWith j (TeeRequest k) b) s o n = refl
   none-owned (ErrorSteps j (PipeRequest p) e) s o n = refl
+  none-owned (ErrorSteps j (TeeRequest k) e) s o n = refl
   none-owned _ s o n = refl

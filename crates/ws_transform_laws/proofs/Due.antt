@@ -2,14 +2,14 @@
 use Rattle.std.proofs.Common.{◌≡◌, Bool, true, false, List, [], ◌∷◌, ◌++◌, Option, Some, None, Result, Ok, Err, slice_get, refl, ap, ◌∙◌, arith}
 use Rattle.ws_value.specs.declared.{ids.PipeId.{PipeId}, ids.PromiseId.{PromiseId}, ids.StreamId.{StreamId}, value.Plain.{Plain}, value.Plain.TheVariants.{Undefined}, value.Value.{Value}}
 use Rattle.ws_steps.specs.declared.calls.{Call.{Call}}
-use Rattle.ws_steps.specs.declared.effects.{Effect.{Effect}, Owner.{Owner}, Owner.TheVariants.{Host, HalfOf}, Use.{Use}}
-use Rattle.ws_steps.specs.declared.effects.Effect.TheVariants.{Readable as OnReadable, Writable as OnWritable, Pipe as OnPipe, Signal as OnSignal, Transform as OnTransform, StartAlgorithm, PullAlgorithm, CancelAlgorithm, WriteAlgorithm, CloseAlgorithm, AbortAlgorithm, ChunkSteps, CloseSteps, ErrorSteps}
+use Rattle.ws_steps.specs.declared.effects.{Effect.{Effect}, Owner.{Owner}, Owner.TheVariants.{Host, HalfOf, BranchOf}, Use.{Use}}
+use Rattle.ws_steps.specs.declared.effects.Effect.TheVariants.{Readable as OnReadable, Writable as OnWritable, Pipe as OnPipe, Signal as OnSignal, Transform as OnTransform, Tee as OnTee, StartAlgorithm, PullAlgorithm, CancelAlgorithm, WriteAlgorithm, CloseAlgorithm, AbortAlgorithm, ChunkSteps, CloseSteps, ErrorSteps}
 use Rattle.ws_steps.specs.declared.pipes.{SignalOperation.{SignalOperation}, SignalOperation.TheVariants.{Add, Forget, Trigger}}
 use Rattle.ws_steps.specs.declared.promises.{Job.{Job}}
 use Rattle.ws_steps.specs.declared.promises.Job.TheVariants.{Reaction as ReactionJob}
 use Rattle.ws_steps.specs.declared.promises.Step.TheVariants.{TransformChanged}
 use Rattle.ws_steps.specs.declared.readable.ReadRequest.{ReadRequest}
-use Rattle.ws_steps.specs.declared.readable.ReadRequest.TheVariants.{Promise, Pipe as PipeRequest}
+use Rattle.ws_steps.specs.declared.readable.ReadRequest.TheVariants.{Promise, Pipe as PipeRequest, Tee as TeeRequest}
 use Rattle.ws_steps.specs.declared.transform.{Halves.{Halves}, Kind.{Kind}, Kind.TheVariants.{Identity, Host as HostKind}, Taker.{Taker}, Taker.TheVariants.{ToHost, ToTransform}, TransformId.{TransformId}, TransformOperation.{TransformOperation}}
 use Rattle.ws_steps.specs.declared.transform.TransformOperation.TheVariants as names
 use Rattle.ws_steps.specs.declared.writable.{WritableOperation.TheVariants.{HandOn}, WriteRecord.{WriteRecord}, WriteRecord.TheVariants.{Chunk, InFlight, CloseMark}}
@@ -26,13 +26,15 @@ use Rattle.ws_steps.specs.Writable as writable
 use Rattle.ws_laws.proofs.EachCall.{each_call}
 use Rattle.ws_laws.proofs.Lists.{Each, each-append}
 use Rattle.ws_laws.proofs.PipeDoes.{PipeCauses}
-use Rattle.ws_laws.proofs.Rows.{ChunkCauses, EndCauses, SignalCauses, Causes, row-causes}
+use Rattle.ws_laws.proofs.Rows.{ChunkCauses, EndCauses, ErrorCauses, SignalCauses, Causes, row-causes}
 use Rattle.ws_laws.proofs.Tables.{either, eq_numbers, writable_acts}
 use Rattle.ws_laws.proofs.TransformDoes.{TransformCauses}
 use Rattle.ws_transform_laws.specs.TransformHistory.{is_same_transform, is_changed}
 use Rattle.ws_transform_laws.proofs.Backpressure.{pressed}
 use Rattle.ws_transform_laws.proofs.Prompt.{IsPlain, may_carry, plain-caused, call-plain, job-plain}
 use Rattle.ws_steps.specs.declared.effects.Effect.TheVariants.{Byte, CloseStepsWith}
+use Rattle.ws_value.specs.declared.ids.TeeId.{TeeId}
+use Rattle.ws_laws.proofs.TeeDoes.{TeeCauses}
 
 -- an effect by which no write goes on
 abbrev pub IsNoGoing : Effect → Type 0
@@ -42,10 +44,17 @@ IsNoGoing _ = Unit {0}
 chunk-rests : (v : Value) (r : ReadRequest) → ChunkCauses IsNoGoing v r
 chunk-rests v (Promise p) = tt
 chunk-rests v (PipeRequest p) = tt
+chunk-rests v (TeeRequest k) = tt
 
 end-rests : (r : ReadRequest) → EndCauses IsNoGoing r
 end-rests (Promise p) = tt
 end-rests (PipeRequest p) = tt
+end-rests (TeeRequest k) = tt
+
+error-rests : (r : ReadRequest) → ErrorCauses IsNoGoing r
+error-rests (Promise p) = tt
+error-rests (PipeRequest p) = tt
+error-rests (TeeRequest k) = tt
 
 signal-rests : (operation : SignalOperation) → SignalCauses IsNoGoing operation
 signal-rests (Add p) = tt
@@ -60,6 +69,10 @@ transform-rests : (u : TransformId) (w r : StreamId) (e : Effect) → TransformC
 transform-rests u w r (OnTransform y (names.WriteGoesOn d)) c = absurd c
 transform-rests u w r _ c = tt
 
+tee-rests : (u : TeeId) (source first second : StreamId) (e : Effect) → TeeCauses u source first second e → IsNoGoing e
+tee-rests u source first second (OnTransform y operation) c = absurd c
+tee-rests u source first second _ c = tt
+
 rests-causes : (e : Effect) → Causes IsNoGoing e
 rests-causes (OnReadable j operation) = record { pull = tt; cancel = λ c p. tt; chunk = λ q v. tt; close = λ q. tt; error = λ q e. tt }
 rests-causes (Byte j operation) = record { readable = record { pull = tt; cancel = λ c p. tt; chunk = λ q v. tt; close = λ q. tt; error = λ q e. tt }; close_with = λ r b. tt }
@@ -67,16 +80,17 @@ rests-causes (OnWritable j operation) = record { write = tt; close = tt; abort =
 rests-causes (OnPipe p operation) = pipe-rests p
 rests-causes (OnSignal a operation) = signal-rests operation
 rests-causes (OnTransform u operation) = transform-rests u
+rests-causes (OnTee u operation) = tee-rests u
 rests-causes (StartAlgorithm j step start) = (λ g u. tt, λ c u. tt)
-rests-causes (PullAlgorithm j) = (λ c u. tt, λ y u. tt)
-rests-causes (CancelAlgorithm j c p) = (λ c u. tt, λ y u. tt)
+rests-causes (PullAlgorithm j) = (λ c u. tt, (λ y u. tt, (λ k. tt, λ u. tt)))
+rests-causes (CancelAlgorithm j c p) = (λ c u. tt, (λ y u. tt, λ k half u. tt))
 rests-causes (WriteAlgorithm j) = (tt, λ y u. tt)
 rests-causes (CloseAlgorithm j) = (λ c u. tt, λ y u. tt)
 rests-causes (AbortAlgorithm j c p) = (λ c u. tt, λ y u. tt)
 rests-causes (ChunkSteps j q v) = chunk-rests v q
 rests-causes (CloseSteps j q) = end-rests q
 rests-causes (CloseStepsWith j q b) = end-rests q
-rests-causes (ErrorSteps j q e) = end-rests q
+rests-causes (ErrorSteps j q e) = error-rests q
 rests-causes _ = tt
 
 abbrev is_going : Job → Bool
@@ -202,6 +216,7 @@ module _ (t : TransformId) where
   write-ready : (W : Type 0) (j : StreamId) (owner : Owner) → Ready W (write_algorithm j owner)
   write-ready W j Host = (λ e. absurd (cc), tt)
   write-ready W j (HalfOf u) = (λ e. absurd (cc), tt)
+  write-ready W j (BranchOf u half) = (λ e. absurd (cc), tt)
 
   plain-ready : (W : Type 0) (e : Effect) (s : Slots) → may_carry e ≡ false → Ready W (row e s).caused
   plain-ready W e s c = not-due-ready W (row e s).caused (plain-not-due (row e s).caused (plain-caused e s c) (row-causes IsNoGoing e s (rests-causes e)))

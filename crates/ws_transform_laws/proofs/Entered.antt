@@ -3,7 +3,7 @@ use Rattle.std.proofs.Common.{◌≡◌, ℕ, zero, suc, Bool, true, false, ◌&
 use Rattle.ws_value.specs.declared.ids.{StreamId.{StreamId}}
 use Rattle.ws_value.specs.declared.value.Value.{Value}
 use Rattle.ws_steps.specs.declared.calls.{Call.{Call}, Call.TheVariants.{Enqueue as EnqueueCall}}
-use Rattle.ws_steps.specs.declared.effects.{Effect.{Effect}, Owner.{Owner}, Owner.TheVariants.{Host, HalfOf}}
+use Rattle.ws_steps.specs.declared.effects.{Effect.{Effect}, Owner.{Owner}, Owner.TheVariants.{Host, HalfOf, BranchOf}}
 use Rattle.ws_steps.specs.declared.effects.Effect.TheVariants.{Readable as OnReadable, Transform as OnTransform}
 use Rattle.ws_steps.specs.declared.promises.Job.{Job}
 use Rattle.ws_steps.specs.declared.readable.ReadableOperation.TheVariants.{Enqueue}
@@ -107,6 +107,7 @@ module _ (t : TransformId) (r : StreamId) where
       let same = same-half s j u halved h at in
       either (λ (b : Begun). Starts b (accepted_by r (EnqueueCall j v) b.reply)) (can_close_or_enqueue (readable_at j s)) (calls.does (OnTransform u (names.Enqueue v) ∷ []) s) (calls.throws_type_error s)
       (λ can. ((λ here. rw (same_id r j (sym same ∙ here)) can, tt), rw same (sym (append-nil (if is_same r j then v ∷ [] else []))))) (λ cannot. (tt, refl))
+  by-owner j v s (BranchOf u half) there is halved h = (tt, refl)
 
   -- a byte stream is another
   by-bytes : (j : StreamId) (v : Value) (s : Slots) → is_same r j ≡ false → Starts (calls.enqueue_bytes j s v) (accepted_by r (EnqueueCall j v) (calls.enqueue_bytes j s v).reply)
@@ -131,6 +132,7 @@ module _ (t : TransformId) (r : StreamId) where
       was : (owner : Owner) → Reads t r (calls.enqueue_by v j s owner).done.slots → Reads t r s
       was Host k = either (λ (b : Begun). Reads t r b.done.slots → Reads t r s) (can_close_or_enqueue (readable_at j s)) (calls.does (OnReadable j (Enqueue v) ∷ []) s) (calls.throws_type_error s) (λ e x. x) (λ e x. x) k
       was (HalfOf u) k = either (λ (b : Begun). Reads t r b.done.slots → Reads t r s) (can_close_or_enqueue (readable_at j s)) (calls.does (OnTransform u (names.Enqueue v) ∷ []) s) (calls.throws_type_error s) (λ e x. x) (λ e x. x) k
+      was (BranchOf u half) k = k
   call-starts c s halved h =
       let q = each-map (IsFirst (Enqueues c)) (Quiet t r) (first-quiet (Enqueues c) (λ j v e. cc)) (begin c s).done.caused (begin-first c s) in
       (quiet-enter t r (begin c s).done.slots (begin c s).done.caused q, sym (quiet-entering t r (begin c s).done.caused q))

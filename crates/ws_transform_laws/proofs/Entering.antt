@@ -4,9 +4,9 @@ use Rattle.std.proofs.Common.{◌≡◌, ℕ, zero, suc, Bool, true, false, ◌&
 use Rattle.ws_value.specs.declared.ids.{PipeId.{PipeId}, PromiseId.{PromiseId}, StreamId.{StreamId}}
 use Rattle.ws_value.specs.declared.value.Value.{Value}
 use Rattle.ws_steps.specs.declared.effects.{Effect.{Effect}, Owner.TheVariants.{HalfOf}}
-use Rattle.ws_steps.specs.declared.effects.Effect.TheVariants.{Readable as OnReadable, Writable as OnWritable, Pipe as OnPipe, Signal as OnSignal, Transform as OnTransform, StartAlgorithm, PullAlgorithm, CancelAlgorithm, WriteAlgorithm, CloseAlgorithm, AbortAlgorithm, ChunkSteps, CloseSteps, ErrorSteps}
+use Rattle.ws_steps.specs.declared.effects.Effect.TheVariants.{Readable as OnReadable, Writable as OnWritable, Pipe as OnPipe, Signal as OnSignal, Transform as OnTransform, Tee as OnTee, StartAlgorithm, PullAlgorithm, CancelAlgorithm, WriteAlgorithm, CloseAlgorithm, AbortAlgorithm, ChunkSteps, CloseSteps, ErrorSteps}
 use Rattle.ws_steps.specs.declared.pipes.{SignalOperation.TheVariants.{Add, Forget, Trigger}}
-use Rattle.ws_steps.specs.declared.readable.{ReadRequest.TheVariants.{Promise, Pipe as PipeRequest}, ReadableOperation.{ReadableOperation}, ReadableOperation.TheVariants.{Enqueue}}
+use Rattle.ws_steps.specs.declared.readable.{ReadRequest.TheVariants.{Promise, Pipe as PipeRequest, Tee as TeeRequest}, ReadableOperation.{ReadableOperation}, ReadableOperation.TheVariants.{Enqueue}}
 use Rattle.ws_steps.specs.declared.transform.{Halves.{Halves}, Kind.{Kind}, Kind.TheVariants.{Identity, Host as HostKind}, TransformId.{TransformId}, TransformOperation.{TransformOperation}}
 use Rattle.ws_steps.specs.declared.transform.TransformOperation.TheVariants as names
 use Rattle.ws_steps.specs.Histories.{is_same}
@@ -26,6 +26,11 @@ use Rattle.ws_transform_laws.specs.TransformHistory.{is_same_transform, enqueues
 use Rattle.ws_steps.specs.declared.effects.Effect.TheVariants.{Byte, CloseStepsWith}
 use Rattle.ws_steps.specs.Slots.{has_byte}
 use Rattle.ws_laws.proofs.StaysBytes.{bytes-told}
+use Rattle.ws_value.specs.declared.ids.TeeId.{TeeId}
+use Rattle.ws_steps.specs.declared.tee.TeeOperation.{TeeOperation}
+use Rattle.ws_steps.specs.Tee as tee
+use Rattle.ws_laws.proofs.TeeDoes.{TeeCauses}
+use Rattle.ws_transform_laws.proofs.Branches.{tee-caused, not-branch}
 
 module _ (t : TransformId) (r : StreamId) where
   -- an effect that leads to no enqueue into the stream by an enqueue that stands on the agenda
@@ -97,6 +102,7 @@ module _ (t : TransformId) (r : StreamId) where
   abbrev IsOther : Effect → Type 0
   IsOther (OnReadable j (Enqueue v)) = ⊥
   IsOther (OnTransform u operation) = ⊥
+  IsOther (OnTee u operation) = ⊥
   IsOther _ = Unit {0}
 
   pipe-quiet : (p : PipeId) (source dest : StreamId) (e : Effect) → PipeCauses p source dest e → Quiet e
@@ -112,8 +118,8 @@ module _ (t : TransformId) (r : StreamId) where
   quiet-causes (Byte j operation) n = record { readable = record { pull = tt; cancel = λ c p. tt; chunk = λ c v. tt; close = λ c. tt; error = λ c e. tt }; close_with = λ c b. tt }
   quiet-causes (OnWritable j operation) n = record { write = tt; close = tt; abort = λ c p. tt; hand_on = λ v. tt; take = λ v u d. tt }
   quiet-causes (StartAlgorithm j step start) n = (λ g u. tt, λ c u. tt)
-  quiet-causes (PullAlgorithm j) n = (λ c u. tt, λ y u. tt)
-  quiet-causes (CancelAlgorithm j c p) n = (λ c u. tt, λ y u. tt)
+  quiet-causes (PullAlgorithm j) n = (λ c u. tt, (λ y u. tt, (λ k. tt, λ u. tt)))
+  quiet-causes (CancelAlgorithm j c p) n = (λ c u. tt, (λ y u. tt, λ k half u. tt))
   quiet-causes (WriteAlgorithm j) n = (tt, λ y u. tt)
   quiet-causes (CloseAlgorithm j) n = (λ c u. tt, λ y u. tt)
   quiet-causes (AbortAlgorithm j c p) n = (λ c u. tt, λ y u. tt)
@@ -122,14 +128,19 @@ module _ (t : TransformId) (r : StreamId) where
   quiet-causes (OnSignal a (Add p)) n = tt
   quiet-causes (OnSignal a (Forget p)) n = tt
   quiet-causes (OnTransform u operation) n = absurd n
+  quiet-causes (OnTee u operation) n = absurd n
   quiet-causes (ChunkSteps j (Promise p) v) n = tt
   quiet-causes (ChunkSteps j (PipeRequest p) v) n = tt
+  quiet-causes (ChunkSteps j (TeeRequest k) v) n = tt
   quiet-causes (CloseSteps j (Promise p)) n = tt
   quiet-causes (CloseStepsWith j (Promise p) b) n = tt
   quiet-causes (CloseSteps j (PipeRequest p)) n = tt
+  quiet-causes (CloseSteps j (TeeRequest k)) n = tt
   quiet-causes (CloseStepsWith j (PipeRequest p) b) n = tt
+  quiet-causes (CloseStepsWith j (TeeRequest k) b) n = tt
   quiet-causes (ErrorSteps j (Promise p) e) n = tt
   quiet-causes (ErrorSteps j (PipeRequest p) e) n = tt
+  quiet-causes (ErrorSteps j (TeeRequest k) e) n = tt
   quiet-causes _ n = tt
 
   by_place : (j : StreamId) (f : Flow) → f.entered ≡ [] → (if is_same r j then f else no_flow).entered ≡ []
@@ -144,6 +155,7 @@ module _ (t : TransformId) (r : StreamId) where
   other-told : (e : Effect) (s : Slots) → IsOther e → entering_of e ++ effect_enqueued t e s ≡ []
   other-told (OnReadable j (Enqueue v)) s n = absurd n
   other-told (OnTransform u operation) s n = absurd n
+  other-told (OnTee u operation) s n = absurd n
   other-told _ s n = refl
 
   other-goes : (e : Effect) (s : Slots) → IsOther e → Goes e s (row e s).slots (row e s).caused
@@ -176,7 +188,7 @@ module _ (t : TransformId) (r : StreamId) where
   abbrev pub Reads : Slots → Type 0
   Reads s = (x : TransformShape) × ((slice_get (transform_shapes s) t.0 ≡ Some x) × (x.readable ≡ r))
 
-  half-shape : (s : Slots) → Halved s → Reads s → slice_get (stream_shapes s) r.0 ≡ Some (ReadableOf (HalfOf t))
+  pub half-shape : (s : Slots) → Halved s → Reads s → slice_get (stream_shapes s) r.0 ≡ Some (ReadableOf (HalfOf t))
   half-shape s halved h = rw (← h.1.1) (halved.halves t h.0 h.1.0).0
 
   -- and so it has a default controller
@@ -191,6 +203,21 @@ module _ (t : TransformId) (r : StreamId) where
       by true e =
           let none = reads-default s halved h in
           let yes : has_byte r s ≡ true = rw (same_id r j (sym e)) is in absurd (cc)
+
+  -- an operation of a tee
+
+  tee-quiet : (s : Slots) (u : TeeId) (x : tee.Slots) → Halved s → Reads s → slice_get s.tees u.0 ≡ Some x → (e : Effect) → TeeCauses u x.source x.branch1 x.branch2 e → Quiet e
+  tee-quiet s u x halved h at (OnReadable j (Enqueue v)) c = not-branch s r t u x j halved (half-shape s halved h) at c
+  tee-quiet s u x halved h at (OnTransform y operation) c = absurd c
+  tee-quiet s u x halved h at _ c = tt
+
+  tee-goes : (u : TeeId) (operation : TeeOperation) (s : Slots) → Halved s → Reads s → Goes (OnTee u operation) s (row (OnTee u operation) s).slots (row (OnTee u operation) s).caused
+  tee-goes u operation s halved h =
+      let q : Each Quiet (row (OnTee u operation) s).caused = tee-caused Quiet u operation s (λ x at e c. tee-quiet s u x halved h at e c) in
+      record {
+        enter = quiet-enter (row (OnTee u operation) s).slots (row (OnTee u operation) s).caused q;
+        even = sym (quiet-entering (row (OnTee u operation) s).caused q);
+      }
 
   self : (k : ℕ) → nat_eq k k ≡ true
   self k = grind arith
@@ -339,4 +366,5 @@ module _ (t : TransformId) (r : StreamId) where
   unfolding row
   row-goes (OnReadable j (Enqueue v)) s halved h p = enqueue-goes j v s p
   row-goes (OnTransform u operation) s halved h p = transform-half u operation s (slice_get s.transforms u.0) refl halved h p
+  row-goes (OnTee u operation) s halved h p = tee-goes u operation s halved h
   row-goes e s halved h p = other-goes e s tt

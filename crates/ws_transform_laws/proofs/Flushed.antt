@@ -3,12 +3,12 @@ use Rattle.std.proofs.Common.{◌≡◌, ℕ, ◌+◌, ◌<◌, Bool, true, fals
 use Rattle.ws_value.specs.declared.ids.{PipeId.{PipeId}, PromiseId.{PromiseId}, StreamId.{StreamId}}
 use Rattle.ws_value.specs.declared.value.Plain.{Plain}
 use Rattle.ws_steps.specs.declared.effects.{Effect.{Effect}}
-use Rattle.ws_steps.specs.declared.effects.Effect.TheVariants.{Readable as OnReadable, Writable as OnWritable, Pipe as OnPipe, Signal as OnSignal, Transform as OnTransform, StartAlgorithm, PullAlgorithm, CancelAlgorithm, WriteAlgorithm, CloseAlgorithm, AbortAlgorithm, ChunkSteps, CloseSteps, ErrorSteps}
+use Rattle.ws_steps.specs.declared.effects.Effect.TheVariants.{Readable as OnReadable, Writable as OnWritable, Pipe as OnPipe, Signal as OnSignal, Transform as OnTransform, Tee as OnTee, StartAlgorithm, PullAlgorithm, CancelAlgorithm, WriteAlgorithm, CloseAlgorithm, AbortAlgorithm, ChunkSteps, CloseSteps, ErrorSteps}
 use Rattle.ws_steps.specs.declared.pipes.SignalOperation.TheVariants.{Add, Forget, Trigger}
-use Rattle.ws_steps.specs.declared.promises.{Job.{Job}, Micro.TheVariants.{PipeLook, PipeWrite, PipeNoParts}}
+use Rattle.ws_steps.specs.declared.promises.{Job.{Job}, Micro.TheVariants.{PipeLook, PipeWrite, PipeNoParts, TeeHand}}
 use Rattle.ws_steps.specs.declared.promises.Job.TheVariants.{Reaction as ReactionJob, Follow, Settle, Micro as MicroJob}
-use Rattle.ws_steps.specs.declared.promises.Step.TheVariants.{ReadableStart, ReadablePull, ReturnUndefined, WritableStart, WritableWrite, WritableClose, WritableAbort, PipeEnds, PipeReady, PipeWrote, PipeActed, PipePart, TransformChanged, Transformed, TransformFlushed, TransformAborted, TransformCancelled}
-use Rattle.ws_steps.specs.declared.readable.{ReadRequest.TheVariants.{Promise, Pipe as PipeRequest}, ReadableOperation.TheVariants.{Close}, ReadableState.{ReadableState}, ReadableState.TheVariants.{Readable, Closed, Errored}}
+use Rattle.ws_steps.specs.declared.promises.Step.TheVariants.{ReadableStart, ReadablePull, ReturnUndefined, WritableStart, WritableWrite, WritableClose, WritableAbort, PipeEnds, PipeReady, PipeWrote, PipeActed, PipePart, TransformChanged, Transformed, TransformFlushed, TransformAborted, TransformCancelled, TeeEnds}
+use Rattle.ws_steps.specs.declared.readable.{ReadRequest.TheVariants.{Promise, Pipe as PipeRequest, Tee as TeeRequest}, ReadableOperation.TheVariants.{Close}, ReadableState.{ReadableState}, ReadableState.TheVariants.{Readable, Closed, Errored}}
 use Rattle.ws_steps.specs.declared.transform.{Halves.{Halves}, TransformId.{TransformId}, TransformOperation.{TransformOperation}}
 use Rattle.ws_steps.specs.declared.transform.TransformOperation.TheVariants as names
 use Rattle.ws_steps.specs.Histories.{is_same, along}
@@ -27,8 +27,12 @@ use Rattle.ws_laws.proofs.Shapes.{TransformShape, transform_shapes, transform_sh
 use Rattle.ws_laws.proofs.Walker.{IsHistory, performed-goes}
 use Rattle.ws_transform_laws.specs.TransformHistory.{is_same_transform, effect_closings, step_closings, is_flushed}
 use Rattle.ws_transform_laws.specs.TransformLaws.{FlushesClose}
-use Rattle.ws_transform_laws.proofs.Entering.{Reads, apart}
+use Rattle.ws_transform_laws.proofs.Entering.{Reads, apart, half-shape}
 use Rattle.ws_steps.specs.declared.effects.Effect.TheVariants.{Byte, CloseStepsWith}
+use Rattle.ws_value.specs.declared.ids.TeeId.{TeeId}
+use Rattle.ws_steps.specs.Tee as tee
+use Rattle.ws_laws.proofs.TeeDoes.{TeeCauses}
+use Rattle.ws_transform_laws.proofs.Branches.{tee-caused, not-branch}
 
 module _ (t : TransformId) (r : StreamId) where
   -- an effect that closes the stream neither now nor by what it causes
@@ -40,6 +44,7 @@ module _ (t : TransformId) (r : StreamId) where
 
   abbrev IsOther : Effect → Type 0
   IsOther (OnTransform u operation) = ⊥
+  IsOther (OnTee u operation) = ⊥
   IsOther _ = Unit {0}
 
   pipe-calm : (p : PipeId) (source dest : StreamId) (e : Effect) → PipeCauses p source dest e → Calm e
@@ -52,8 +57,8 @@ module _ (t : TransformId) (r : StreamId) where
   calm-causes (Byte j operation) n = record { readable = record { pull = tt; cancel = λ c p. tt; chunk = λ c v. tt; close = λ c. tt; error = λ c e. tt }; close_with = λ r b. tt }
   calm-causes (OnWritable j operation) n = record { write = tt; close = tt; abort = λ c p. tt; hand_on = λ v. tt; take = λ v u d. tt }
   calm-causes (StartAlgorithm j step start) n = (λ g u. tt, λ c u. tt)
-  calm-causes (PullAlgorithm j) n = (λ c u. tt, λ y u. tt)
-  calm-causes (CancelAlgorithm j c p) n = (λ c u. tt, λ y u. tt)
+  calm-causes (PullAlgorithm j) n = (λ c u. tt, (λ y u. tt, (λ k. tt, λ u. tt)))
+  calm-causes (CancelAlgorithm j c p) n = (λ c u. tt, (λ y u. tt, λ k half u. tt))
   calm-causes (WriteAlgorithm j) n = (tt, λ y u. tt)
   calm-causes (CloseAlgorithm j) n = (λ c u. tt, λ y u. tt)
   calm-causes (AbortAlgorithm j c p) n = (λ c u. tt, λ y u. tt)
@@ -62,14 +67,19 @@ module _ (t : TransformId) (r : StreamId) where
   calm-causes (OnSignal a (Add p)) n = tt
   calm-causes (OnSignal a (Forget p)) n = tt
   calm-causes (OnTransform u operation) n = absurd n
+  calm-causes (OnTee u operation) n = absurd n
   calm-causes (ChunkSteps j (Promise p) v) n = tt
   calm-causes (ChunkSteps j (PipeRequest p) v) n = tt
+  calm-causes (ChunkSteps j (TeeRequest k) v) n = tt
   calm-causes (CloseSteps j (Promise p)) n = tt
   calm-causes (CloseStepsWith j (Promise p) b) n = tt
   calm-causes (CloseSteps j (PipeRequest p)) n = tt
+  calm-causes (CloseSteps j (TeeRequest k)) n = tt
   calm-causes (CloseStepsWith j (PipeRequest p) b) n = tt
+  calm-causes (CloseStepsWith j (TeeRequest k) b) n = tt
   calm-causes (ErrorSteps j (Promise p) e) n = tt
   calm-causes (ErrorSteps j (PipeRequest p) e) n = tt
+  calm-causes (ErrorSteps j (TeeRequest k) e) n = tt
   calm-causes _ n = tt
 
   -- an operation of a transform stream
@@ -118,9 +128,15 @@ module _ (t : TransformId) (r : StreamId) where
   transform-calm u (names.FlushSettled p (Ok v)) s (Some y) is halved h c = flushed-calm p (halves_at y s) (record { slots = y; out = found s }) (halves_at y s).readable_state (apart t r s u y halved h is c) refl
   transform-calm u operation s (Some y) is halved h c = resting-calm u (halves_at y s) operation (record { slots = y; out = found s }) (λ k. k) refl
 
+  tee-calm : (s : Slots) (u : TeeId) (x : tee.Slots) → Halved s → Reads t r s → slice_get s.tees u.0 ≡ Some x → (e : Effect) → TeeCauses u x.source x.branch1 x.branch2 e → Calm e
+  tee-calm s u x halved h at (OnReadable j Close) c = not-branch s r t u x j halved (half-shape t r s halved h) at c
+  tee-calm s u x halved h at (OnTransform y operation) c = absurd c
+  tee-calm s u x halved h at _ c = tt
+
   row-calm : (e : Effect) (s : Slots) → Halved s → Reads t r s → Calm e → All (row e s).caused
   unfolding row
   row-calm (OnTransform u operation) s halved h c = transform-calm u operation s (slice_get s.transforms u.0) refl halved h c
+  row-calm (OnTee u operation) s halved h c = tee-caused Calm u operation s (λ x at e k. tee-calm s u x halved h at e k)
   row-calm e s halved h c = row-causes Calm e s (calm-causes e tt)
 
   calm-closes : (e : Effect) (s : Slots) → Calm e → effect_closings r e s ≡ 0
@@ -146,6 +162,7 @@ module _ (t : TransformId) (r : StreamId) where
   job-calm (ReactionJob (WritableClose j) o derived) n = (tt, resolved-calm derived _)
   job-calm (ReactionJob (WritableAbort j p) o derived) n = (tt, resolved-calm derived _)
   job-calm (ReactionJob (PipeEnds p) o derived) n = (tt, resolved-calm derived _)
+  job-calm (ReactionJob (TeeEnds t) o derived) n = (tt, resolved-calm derived _)
   job-calm (ReactionJob (PipeReady p) o derived) n = (tt, resolved-calm derived _)
   job-calm (ReactionJob (PipeWrote p) o derived) n = (tt, resolved-calm derived _)
   job-calm (ReactionJob (PipeActed p) o derived) n = (tt, resolved-calm derived _)
@@ -162,6 +179,7 @@ module _ (t : TransformId) (r : StreamId) where
   job-calm (MicroJob (PipeLook p)) n = (tt, tt)
   job-calm (MicroJob (PipeWrite p)) n = (tt, tt)
   job-calm (MicroJob (PipeNoParts p)) n = (tt, tt)
+  job-calm (MicroJob (TeeHand t)) n = (tt, tt)
 
   begun-calm : (s : Slots) (job : Option Job) → is_flushed t job ≡ false → All (job_begun s job).caused
   begun-calm s None n = tt

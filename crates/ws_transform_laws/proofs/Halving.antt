@@ -244,6 +244,7 @@ module _ (i : StreamId) (t : TransformId) where
         pipe = λ z source dest prevent signal promise k. staged-on z _ [] refl (record { transforms = λ x e. e; waits = λ f p w. w; queued = λ f q. q }) k;
         signal = λ z k. staged-on z _ [] refl (record { transforms = λ x e. e; waits = λ f p w. w; queued = λ f q. q }) k;
         transform = λ z kind w r change k. staged-on z _ [] refl (record { transforms = λ x e. get-stays z.transforms _ t.0 x e; waits = λ f p w. w; queued = λ f q. q }) k;
+        tee = λ z source first second cancel k. staged-on z _ [] refl (record { transforms = λ x e. e; waits = λ f p w. w; queued = λ f q. q }) k;
         bytes = λ z mark auto k. added z _ (nat_eq i.0 (length z.streams)) refl refl k;
         byob_requests = λ z hs k. staged-on z _ [] refl (record { transforms = λ x e. e; waits = λ f p w. w; queued = λ f q. q }) k;
         readable = λ z o mark size k. added z _ (nat_eq i.0 (length z.streams)) refl refl k;

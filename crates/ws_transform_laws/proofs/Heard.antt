@@ -3,7 +3,7 @@ use Rattle.std.proofs.Common.{◌≡◌, ◌⊎◌, inl, inr, ⊎_elim, ℕ, zer
 use Rattle.ws_value.specs.declared.ids.{StreamId.{StreamId}}
 use Rattle.ws_value.specs.declared.value.Value.{Value}
 use Rattle.ws_steps.specs.declared.calls.{Call.{Call}, Event.{Event}, HostCall.{HostCall}, HostCall.TheVariants.{Transform as HostTransform}, StartBy.{StartBy}}
-use Rattle.ws_steps.specs.declared.effects.{Effect.{Effect}, Owner.TheVariants.{HalfOf}, Use.{Use}}
+use Rattle.ws_steps.specs.declared.effects.{Effect.{Effect}, Owner.TheVariants.{HalfOf, BranchOf}, Use.{Use}}
 use Rattle.ws_steps.specs.declared.effects.Effect.TheVariants.{Transform as OnTransform, CallHost}
 use Rattle.ws_steps.specs.declared.readable.SizeBy.TheVariants.{Count}
 use Rattle.ws_steps.specs.declared.transform.{Kind.{Kind}, TransformId.{TransformId}}
@@ -34,6 +34,8 @@ use Rattle.ws_transform_laws.proofs.Hearing.{IsCall, hear, heard, events-append,
 use Rattle.ws_transform_laws.proofs.Prompt.{Placed, Prompted, prompted-stays, call-plain, job-plain}
 use Rattle.ws_transform_laws.proofs.Told.{Both, neither, both_then, are_both}
 use Rattle.ws_transform_laws.proofs.Transformed.{each_acted_is_transformed}
+use Rattle.ws_value.specs.declared.ids.TeeId.{TeeId}
+use Rattle.ws_steps.specs.declared.tee.Half.TheVariants.{First, Second}
 
 -- lists that grow
 
@@ -163,6 +165,17 @@ module _ (t : TransformId) (r : StreamId) where
         streams = λ none. none-before stream_shape s.streams (w ∷ []) r.0 (none-before stream_shape (s.streams ++ w ∷ []) (y ∷ []) r.0 none);
       }
 
+  teed-grown : (s : Slots) (j : StreamId) → Grown s (calls.make_tee j (record { 0 = length s.streams }) (record { 0 = length s.streams + 1 }) s).done.slots
+  teed-grown s j =
+      let me : TeeId = record { 0 = length s.tees } in
+      let first : Stream = ReadableStream (readable.set_up (BranchOf me First) 1 Count) in
+      let second : Stream = ReadableStream (readable.set_up (BranchOf me Second) 1 Count) in
+      record {
+        hosted = λ m. inl m;
+        transforms = λ none. none;
+        streams = λ none. none-before stream_shape s.streams (first ∷ []) r.0 (none-before stream_shape (s.streams ++ first ∷ []) (second ∷ []) r.0 none);
+      }
+
   call-grown : (s : Slots) (c : Call) → Grown s (begin c s).done.slots
   call-grown s c = each_call (λ (b : Begun). Grown s b.done.slots) c s (record {
     unchanged = λ reply. same-grown s s refl refl;
@@ -179,6 +192,7 @@ module _ (t : TransformId) (r : StreamId) where
     respond = λ r j b e is can. same-grown s s refl refl;
     make_bytes = λ mark auto start. added-grown s _;
     get_reader = λ j e. same-grown s _ refl refl;
+    make_tee = λ j c there e untied. teed-grown s j;
     get_writer = λ j e. same-grown s _ refl refl;
     release_reader = λ l closed j e. same-grown s _ refl refl;
     release_writer = λ l j w e f. same-grown s _ refl refl;
@@ -208,6 +222,7 @@ module _ (t : TransformId) (r : StreamId) where
     pipe = λ z source dest prevent signal promise k. k;
     signal = λ z k. k;
     transform = λ z kind w y change k. k;
+    tee = λ z source first second cancel k. k;
     bytes = λ z mark auto k. k;
     byob_requests = λ z hs k. k;
     readable = λ z o mark size k. k;

@@ -283,6 +283,7 @@ module _ (i : StreamId) (t : TransformId) where
         pipe = λ z source dest prevent signal promise k. k;
         signal = λ z k. k;
         transform = λ z kind w r change k. k;
+        tee = λ z source first second cancel k. k;
         bytes = λ z mark auto k. added h z _ (nat_eq i.0 (length z.streams)) refl (λ no. cc) k;
         byob_requests = λ z hs k. k;
         readable = λ z o mark size k. added h z _ (nat_eq i.0 (length z.streams)) refl (λ no. cc) k;

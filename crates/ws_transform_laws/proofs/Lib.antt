@@ -8,6 +8,8 @@ pub mod Ordering
 pub mod Performing
 pub mod Lawful
 pub mod Steps
+pub mod Branches
+pub mod Sunk
 pub mod Prompt
 pub mod Told
 pub mod Acted

@@ -2,10 +2,10 @@
 use Rattle.std.proofs.Common.{◌≡◌, inl, inr, ℕ, Bool, true, false, not, List, [], ◌∷◌, ◌++◌, Option, Some, None, Ok, Err, slice_get, refl, sym, subst, ap, ◌∙◌, arith}
 use Rattle.ws_value.specs.declared.ids.{PipeId.{PipeId}, PromiseId.{PromiseId}, StreamId.{StreamId}}
 use Rattle.ws_value.specs.declared.value.{Value.{Value}}
-use Rattle.ws_steps.specs.declared.effects.{Effect.{Effect}, Gift.TheVariants.{Fresh}, Owner.{Owner}, Owner.TheVariants.{Host, HalfOf}, Use.{Use}}
-use Rattle.ws_steps.specs.declared.effects.Effect.TheVariants.{Readable as OnReadable, Writable as OnWritable, Pipe as OnPipe, Signal as OnSignal, Transform as OnTransform, StartAlgorithm, PullAlgorithm, CancelAlgorithm, WriteAlgorithm, CloseAlgorithm, AbortAlgorithm, ChunkSteps, CloseSteps, ErrorSteps, Give}
+use Rattle.ws_steps.specs.declared.effects.{Effect.{Effect}, Gift.TheVariants.{Fresh}, Owner.{Owner}, Owner.TheVariants.{Host, HalfOf, BranchOf}, Use.{Use}}
+use Rattle.ws_steps.specs.declared.effects.Effect.TheVariants.{Readable as OnReadable, Writable as OnWritable, Pipe as OnPipe, Signal as OnSignal, Transform as OnTransform, Tee as OnTee, StartAlgorithm, PullAlgorithm, CancelAlgorithm, WriteAlgorithm, CloseAlgorithm, AbortAlgorithm, ChunkSteps, CloseSteps, ErrorSteps, Give}
 use Rattle.ws_steps.specs.declared.pipes.SignalOperation.TheVariants.{Add, Forget, Trigger}
-use Rattle.ws_steps.specs.declared.readable.{ReadRequest.TheVariants.{Promise, Pipe as PipeRequest}, ReadableOperation.{ReadableOperation}, ReadableOperation.TheVariants.{InitializeReader, Enqueue}}
+use Rattle.ws_steps.specs.declared.readable.{ReadRequest.TheVariants.{Promise, Pipe as PipeRequest, Tee as TeeRequest}, ReadableOperation.{ReadableOperation}, ReadableOperation.TheVariants.{InitializeReader, Enqueue}}
 use Rattle.ws_steps.specs.declared.transform.{Halves.{Halves}, Kind.{Kind}, Kind.TheVariants.{Identity, Host as HostKind}, TransformId.{TransformId}, TransformOperation.{TransformOperation}}
 use Rattle.ws_steps.specs.declared.transform.TransformOperation.TheVariants as names
 use Rattle.ws_steps.specs.Histories.{is_same}
@@ -24,7 +24,7 @@ use Rattle.ws_writable_laws.proofs.Shape.{one_if}
 use Rattle.ws_transform_laws.specs.TransformHistory.{is_same_transform}
 use Rattle.ws_transform_laws.proofs.Backpressure.{IsTurning, pressed, row-keeps, IsTurned}
 use Rattle.ws_transform_laws.proofs.Cancelling.{half-here, is_half, not-mine}
-use Rattle.ws_transform_laws.proofs.Entering.{Reads, mine, apart, reads-default, not-bytes}
+use Rattle.ws_transform_laws.proofs.Entering.{Reads, mine, apart, reads-default, not-bytes, half-shape}
 use Rattle.ws_transform_laws.proofs.Shutting.{readable-stays, can, Fine, unblocks-shut}
 use Rattle.ws_transform_laws.proofs.Telling.{owned, owned-stays, IsCalm, Calms, IsMild, Front, tells, unwanted, Fits, Fronts, Enters, Leaves, leaves-calm, away, mild-front, calm-front, calm-pulls, calms-on, tells-append, self}
 use Rattle.ws_transform_laws.proofs.Wanting as wanting
@@ -36,6 +36,10 @@ use Rattle.ws_steps.specs.Slots.{has_byte, put_byte, on_byte}
 use Rattle.ws_steps.specs.Turns.{on_source}
 use Rattle.ws_laws.proofs.Tables.{byte_acts}
 use Rattle.ws_laws.proofs.ByteDoes.{byte_readable-does, byte-does}
+use Rattle.ws_value.specs.declared.ids.TeeId.{TeeId}
+use Rattle.ws_steps.specs.Tee as tee
+use Rattle.ws_laws.proofs.TeeDoes.{TeeCauses}
+use Rattle.ws_transform_laws.proofs.Branches.{tee-caused, not-branch}
 
 module _ (t : TransformId) (r : StreamId) where
   -- an enqueue into the readable half
@@ -258,6 +262,7 @@ module _ (t : TransformId) (r : StreamId) where
   IsOther (OnReadable j operation) = ⊥
   IsOther (Byte j operation) = ⊥
   IsOther (OnTransform u operation) = ⊥
+  IsOther (OnTee u operation) = ⊥
   IsOther (PullAlgorithm j) = ⊥
   IsOther _ = Unit {0}
 
@@ -265,10 +270,11 @@ module _ (t : TransformId) (r : StreamId) where
   other-causes z (OnReadable j operation) n = absurd n
   other-causes z (Byte j operation) n = absurd n
   other-causes z (OnTransform u operation) n = absurd n
+  other-causes z (OnTee u operation) n = absurd n
   other-causes z (PullAlgorithm j) n = absurd n
   other-causes z (OnWritable j operation) n = record { write = tt; close = tt; abort = λ c p. tt; hand_on = λ v. tt; take = λ v u d. tt }
   other-causes z (StartAlgorithm j step start) n = (λ g u. tt, λ c u. tt)
-  other-causes z (CancelAlgorithm j c p) n = (λ c u. tt, λ y u. tt)
+  other-causes z (CancelAlgorithm j c p) n = (λ c u. tt, (λ y u. tt, λ k half u. tt))
   other-causes z (WriteAlgorithm j) n = (tt, λ y u. tt)
   other-causes z (CloseAlgorithm j) n = (λ c u. tt, λ y u. tt)
   other-causes z (AbortAlgorithm j c p) n = (λ c u. tt, λ y u. tt)
@@ -278,17 +284,22 @@ module _ (t : TransformId) (r : StreamId) where
   other-causes z (OnSignal a (Forget p)) n = tt
   other-causes z (ChunkSteps j (Promise p) v) n = tt
   other-causes z (ChunkSteps j (PipeRequest p) v) n = tt
+  other-causes z (ChunkSteps j (TeeRequest k) v) n = tt
   other-causes z (CloseSteps j (Promise p)) n = tt
   other-causes z (CloseStepsWith j (Promise p) b) n = tt
   other-causes z (CloseSteps j (PipeRequest p)) n = tt
+  other-causes z (CloseSteps j (TeeRequest k)) n = tt
   other-causes z (CloseStepsWith j (PipeRequest p) b) n = tt
+  other-causes z (CloseStepsWith j (TeeRequest k) b) n = tt
   other-causes z (ErrorSteps j (Promise p) e) n = tt
   other-causes z (ErrorSteps j (PipeRequest p) e) n = tt
+  other-causes z (ErrorSteps j (TeeRequest k) e) n = tt
   other-causes z _ n = tt
 
   pull-calm : (z : Slots) (j : StreamId) (w : Use) (owner : Owner) → is_half t owner ≡ false → Calms t r z (pull_algorithm j w owner)
   pull-calm z j w Host n = (tt, tt)
   pull-calm z j w (HalfOf u) n = (n, tt)
+  pull-calm z j w (BranchOf u half) n = (tt, (tt, tt))
 
   -- an operation of a transform stream that is calm
 
@@ -337,6 +348,15 @@ module _ (t : TransformId) (r : StreamId) where
       quiet-next u operation s es (slice_get s.transforms u.0) (resting-caused s u operation (slice_get s.transforms u.0) (λ n. n))
       (away t r (OnTransform u operation) s (λ o is. cc) (λ n. let b = turns-not s u operation c n in cc)) (row-is u operation s) k claim
 
+  -- an operation of a tee
+
+  tee-calm : (s z : Slots) (u : TeeId) (x : tee.Slots) → Halved s → Reads t r s → slice_get s.tees u.0 ≡ Some x → (e : Effect) → TeeCauses u x.source x.branch1 x.branch2 e → IsCalm t r z e
+  tee-calm s z u x halved h at (OnReadable j (Enqueue v)) c = not-branch s r t u x j halved (half-shape t r s halved h) at c
+  tee-calm s z u x halved h at (OnReadable j (InitializeReader q)) c = absurd c
+  tee-calm s z u x halved h at (OnTransform y operation) c = absurd c
+  tee-calm s z u x halved h at (PullAlgorithm j) c = absurd c
+  tee-calm s z u x halved h at _ c = tt
+
   -- an effect that is calm, with calm ones behind it
 
   pub calm-row : (e : Effect) (s : Slots) (es : List Effect) → Halved s → Reads t r s → Fine t r (not (can r s)) (e ∷ es) → (is_same r r ≡ true → (operation : ReadableOperation) → e ≡ OnReadable r operation → Finds r operation (readable_at r s))
@@ -358,6 +378,9 @@ module _ (t : TransformId) (r : StreamId) where
       leaves-calm t r (Byte j operation) s es (away t r (Byte j operation) s (λ o is. cc) (λ u. u))
       (bytes-calm s (row (Byte j operation) s).slots j operation (λ there. owned-stays t r s (Byte j operation) j ∙ not-mine t s j there) (λ there. not-bytes t r s j halved h there)) k claim
   calm-row (OnTransform u operation) s es halved h f finds c k claim = transform-calm u operation s es halved h f c k claim
+  calm-row (OnTee u operation) s es halved h f finds c k claim =
+      leaves-calm t r (OnTee u operation) s es (away t r (OnTee u operation) s (λ o is. cc) (λ u. u))
+      (tee-caused (IsCalm t r (row (OnTee u operation) s).slots) u operation s (λ x at e d. tee-calm s (row (OnTee u operation) s).slots u x halved h at e d)) k claim
   calm-row (PullAlgorithm j) s es halved h f finds c k claim =
       leaves-calm t r (PullAlgorithm j) s es (away t r (PullAlgorithm j) s (λ o is. cc) (λ u. u)) (pull-calm s j _ (owner_at j s) c.0) k claim
   calm-row e s es halved h f finds c k claim =

@@ -4,11 +4,11 @@ use Rattle.std.proofs.Common.{◌≡◌, Bool, true, false, List, [], ◌∷◌,
 use Rattle.ws_value.specs.declared.ids.{PipeId.{PipeId}, PromiseId.{PromiseId}, StreamId.{StreamId}}
 use Rattle.ws_value.specs.declared.value.{Plain.{Plain}, Value.{Value}}
 use Rattle.ws_steps.specs.declared.calls.{Call.{Call}, StartBy.{StartBy}, StartBy.TheVariants.{Now, Later}, HostCall.TheVariants.{Transform as HostTransform}}
-use Rattle.ws_steps.specs.declared.effects.{Effect.{Effect}, Owner.{Owner}, Owner.TheVariants.{Host, HalfOf}, Use.{Use}, Use.TheVariants.{Resolve}}
-use Rattle.ws_steps.specs.declared.effects.Effect.TheVariants.{Readable as OnReadable, Writable as OnWritable, Pipe as OnPipe, Signal as OnSignal, Transform as OnTransform, StartAlgorithm, PullAlgorithm, CancelAlgorithm, WriteAlgorithm, CloseAlgorithm, AbortAlgorithm, ChunkSteps, CloseSteps, ErrorSteps, CallHost}
+use Rattle.ws_steps.specs.declared.effects.{Effect.{Effect}, Owner.{Owner}, Owner.TheVariants.{Host, HalfOf, BranchOf}, Use.{Use}, Use.TheVariants.{Resolve}}
+use Rattle.ws_steps.specs.declared.effects.Effect.TheVariants.{Readable as OnReadable, Writable as OnWritable, Pipe as OnPipe, Signal as OnSignal, Transform as OnTransform, Tee as OnTee, StartAlgorithm, PullAlgorithm, CancelAlgorithm, WriteAlgorithm, CloseAlgorithm, AbortAlgorithm, ChunkSteps, CloseSteps, ErrorSteps, CallHost}
 use Rattle.ws_steps.specs.declared.pipes.{SignalOperation.{SignalOperation}, SignalOperation.TheVariants.{Add, Forget, Trigger}}
 use Rattle.ws_steps.specs.declared.promises.{Job.{Job}, Step.{Step}}
-use Rattle.ws_steps.specs.declared.readable.{ReadRequest.{ReadRequest}, ReadRequest.TheVariants.{Promise, Pipe as PipeRequest}}
+use Rattle.ws_steps.specs.declared.readable.{ReadRequest.{ReadRequest}, ReadRequest.TheVariants.{Promise, Pipe as PipeRequest, Tee as TeeRequest}}
 use Rattle.ws_steps.specs.declared.transform.{Halves.{Halves}, Kind.{Kind}, Kind.TheVariants.{Identity, Host as HostKind}, Taker.{Taker}, Taker.TheVariants.{ToHost, ToTransform}, TransformId.{TransformId}, TransformOperation.{TransformOperation}}
 use Rattle.ws_steps.specs.declared.transform.TransformOperation.TheVariants as names
 use Rattle.ws_steps.specs.declared.writable.{WritableOperation.{WritableOperation}, WriteRecord.{WriteRecord}, WriteRecord.TheVariants.{Chunk, InFlight, CloseMark}}
@@ -29,12 +29,14 @@ use Rattle.ws_laws.proofs.Begin.{IsFirst, Enqueues, Never, begin-first, job-firs
 use Rattle.ws_laws.proofs.Halves.{Halved, halved-stays}
 use Rattle.ws_laws.proofs.Lists.{Each, each-map}
 use Rattle.ws_laws.proofs.PipeDoes.{PipeCauses}
-use Rattle.ws_laws.proofs.Rows.{ChunkCauses, EndCauses, SignalCauses, row-causes}
+use Rattle.ws_laws.proofs.Rows.{ChunkCauses, EndCauses, ErrorCauses, SignalCauses, row-causes}
 use Rattle.ws_laws.proofs.Shapes.{ReadableOf, WritableOf, TransformShape, stream_shapes, transform_shapes, transform_shape, map-there, row-stream_shapes, row-transform_shapes}
 use Rattle.ws_laws.proofs.Tables.{either, writable_acts}
 use Rattle.ws_laws.proofs.Walker.{Stays}
 use Rattle.ws_laws.proofs.WritableDoes.{IsHandOn, others-do}
 use Rattle.ws_steps.specs.declared.effects.Effect.TheVariants.{Byte, CloseStepsWith}
+use Rattle.ws_value.specs.declared.ids.TeeId.{TeeId}
+use Rattle.ws_laws.proofs.TeeDoes.{TeeCauses}
 
 -- whether an effect carries a chunk from the writable half of a transform stream, or to the host's algorithm of one
 abbrev pub IsPlain : Effect → Type 0
@@ -43,9 +45,15 @@ IsPlain (OnTransform u (names.TransformChunk v d)) = ⊥
 IsPlain (CallHost (HostTransform j v) u) = ⊥
 IsPlain _ = Unit {0}
 
+-- an owner other than a transform stream
+abbrev pub IsNoHalf : Owner → Type 0
+IsNoHalf Host = Unit {0}
+IsNoHalf (HalfOf t) = ⊥
+IsNoHalf (BranchOf t half) = Unit {0}
+
 -- it names a stream whose it is
 abbrev pub Placed : Slots → Effect → Type 0
-Placed s (OnWritable j (HandOn ToHost)) = owner_at j s ≡ Host
+Placed s (OnWritable j (HandOn ToHost)) = IsNoHalf (owner_at j s)
 Placed s (OnWritable j (HandOn (ToTransform u d))) = slice_get (stream_shapes s) j.0 ≡ Some (WritableOf (HalfOf u))
 Placed s (OnTransform u (names.TransformChunk v d)) = (x : TransformShape) × (slice_get (transform_shapes s) u.0 ≡ Some x)
 Placed s (CallHost (HostTransform j v) w) = (u : TransformId) × (slice_get (stream_shapes s) j.0 ≡ Some (ReadableOf (HalfOf u)))
@@ -79,10 +87,17 @@ prompt-append s (c ∷ cs) es k p = (k.0, plain-append cs es k.1 p)
 chunk-plain : (v : Value) (r : ReadRequest) → ChunkCauses IsPlain v r
 chunk-plain v (Promise p) = tt
 chunk-plain v (PipeRequest p) = tt
+chunk-plain v (TeeRequest k) = tt
 
 end-plain : (r : ReadRequest) → EndCauses IsPlain r
 end-plain (Promise p) = tt
 end-plain (PipeRequest p) = tt
+end-plain (TeeRequest k) = tt
+
+error-plain : (r : ReadRequest) → ErrorCauses IsPlain r
+error-plain (Promise p) = tt
+error-plain (PipeRequest p) = tt
+error-plain (TeeRequest k) = tt
 
 signal-plain : (operation : SignalOperation) → SignalCauses IsPlain operation
 signal-plain (Add p) = tt
@@ -94,6 +109,12 @@ pipe-plain p source dest (OnWritable j (HandOn taker)) c = absurd c
 pipe-plain p source dest (OnTransform u operation) c = absurd c
 pipe-plain p source dest (CallHost call u) c = absurd c
 pipe-plain p source dest _ c = tt
+
+tee-plain : (u : TeeId) (source first second : StreamId) (e : Effect) → TeeCauses u source first second e → IsPlain e
+tee-plain u source first second (OnWritable j operation) c = absurd c
+tee-plain u source first second (OnTransform y operation) c = absurd c
+tee-plain u source first second (CallHost call w) c = absurd c
+tee-plain u source first second _ c = tt
 
 -- operations of a transform stream that may carry a chunk
 abbrev pub carries : TransformOperation → Bool
@@ -182,8 +203,9 @@ others-plain s j operation u =
     }) operation (writable_acts j s) u tt) (λ none. tt)
 
 write-prompt : (s : Slots) (j : StreamId) (owner : Owner) → owner_at j s ≡ owner → Prompt s (write_algorithm j owner)
-write-prompt s j Host e = (e, tt)
+write-prompt s j Host e = (rw e tt, tt)
 write-prompt s j (HalfOf t) e = (tt, tt)
+write-prompt s j (BranchOf t half) e = (rw e tt, tt)
 
 -- algorithms, by whose they are
 
@@ -194,18 +216,22 @@ start-plain j step s Later = (tt, (tt, tt))
 pull-plain : (j : StreamId) (u : Use) (owner : Owner) → Each IsPlain (pull_algorithm j u owner)
 pull-plain j u Host = (tt, tt)
 pull-plain j u (HalfOf t) = (tt, tt)
+pull-plain j u (BranchOf t half) = (tt, (tt, tt))
 
 cancel-plain : (j : StreamId) (r : Plain) (u : Use) (owner : Owner) → Each IsPlain (cancel_algorithm j r u owner)
 cancel-plain j r u Host = (tt, tt)
 cancel-plain j r u (HalfOf t) = (tt, tt)
+cancel-plain j r u (BranchOf t half) = (tt, tt)
 
 close-plain : (j : StreamId) (u : Use) (owner : Owner) → Each IsPlain (close_algorithm j u owner)
 close-plain j u Host = (tt, tt)
 close-plain j u (HalfOf t) = (tt, tt)
+close-plain j u (BranchOf t half) = (tt, tt)
 
 abort-plain : (j : StreamId) (r : Plain) (u : Use) (owner : Owner) → Each IsPlain (abort_algorithm j r u owner)
 abort-plain j r u Host = (tt, tt)
 abort-plain j r u (HalfOf t) = (tt, tt)
+abort-plain j r u (BranchOf t half) = (tt, tt)
 
 row-plain : (e : Effect) (s : Slots) → Each IsPlain (row e s).caused → Prompt (row e s).slots (row e s).caused
 row-plain e s k = plain-prompt (row e s).slots (row e s).caused k
@@ -231,6 +257,7 @@ plain-caused (OnWritable j operation) s c = others-plain s j operation (λ u. u)
 plain-caused (OnPipe q operation) s c = row-causes IsPlain (OnPipe q operation) s (pipe-plain q)
 plain-caused (OnSignal a operation) s c = row-causes IsPlain (OnSignal a operation) s (signal-plain operation)
 plain-caused (OnTransform t operation) s c = on_transform-plain s t operation (slice_get s.transforms t.0) c
+plain-caused (OnTee t operation) s c = row-causes IsPlain (OnTee t operation) s (tee-plain t)
 plain-caused (StartAlgorithm j step start) s c = start-plain j step s start
 plain-caused (PullAlgorithm j) s c = pull-plain j _ (owner_at j s)
 plain-caused (CancelAlgorithm j r q) s c = cancel-plain j r _ (owner_at j s)
@@ -240,7 +267,7 @@ plain-caused (AbortAlgorithm j r q) s c = abort-plain j r _ (owner_at j s)
 plain-caused (ChunkSteps j r v) s c = row-causes IsPlain (ChunkSteps j r v) s (chunk-plain v r)
 plain-caused (CloseSteps j r) s c = row-causes IsPlain (CloseSteps j r) s (end-plain r)
 plain-caused (CloseStepsWith j r b) s c = row-causes IsPlain (CloseStepsWith j r b) s (end-plain r)
-plain-caused (ErrorSteps j r e) s c = row-causes IsPlain (ErrorSteps j r e) s (end-plain r)
+plain-caused (ErrorSteps j r e) s c = row-causes IsPlain (ErrorSteps j r e) s (error-plain r)
 plain-caused _ s c = tt
 
 row-prompt : (s : Slots) (e : Effect) → Halved s → Placed s e → Prompt (row e s).slots (row e s).caused

@@ -3,9 +3,9 @@ use Rattle.std.proofs.Common.{◌≡◌, ℕ, ◌+◌, ◌≤◌, Bool, true, fa
 use Rattle.ws_value.specs.declared.ids.{PipeId.{PipeId}, PromiseId.{PromiseId}, StreamId.{StreamId}}
 use Rattle.ws_value.specs.declared.value.Plain.{Plain}
 use Rattle.ws_steps.specs.declared.effects.{Effect.{Effect}}
-use Rattle.ws_steps.specs.declared.effects.Effect.TheVariants.{Readable as OnReadable, Writable as OnWritable, Pipe as OnPipe, Signal as OnSignal, Transform as OnTransform, StartAlgorithm, PullAlgorithm, CancelAlgorithm, WriteAlgorithm, CloseAlgorithm, AbortAlgorithm, ChunkSteps, CloseSteps, ErrorSteps, Give, CallHost}
+use Rattle.ws_steps.specs.declared.effects.Effect.TheVariants.{Readable as OnReadable, Writable as OnWritable, Pipe as OnPipe, Signal as OnSignal, Transform as OnTransform, Tee as OnTee, StartAlgorithm, PullAlgorithm, CancelAlgorithm, WriteAlgorithm, CloseAlgorithm, AbortAlgorithm, ChunkSteps, CloseSteps, ErrorSteps, Give, CallHost}
 use Rattle.ws_steps.specs.declared.pipes.SignalOperation.TheVariants.{Add, Forget, Trigger}
-use Rattle.ws_steps.specs.declared.readable.{ReadRequest.TheVariants.{Promise, Pipe as PipeRequest}, ReadableOperation.{ReadableOperation}, ReadableOperation.TheVariants.{Close, Error}}
+use Rattle.ws_steps.specs.declared.readable.{ReadRequest.TheVariants.{Promise, Pipe as PipeRequest, Tee as TeeRequest}, ReadableOperation.{ReadableOperation}, ReadableOperation.TheVariants.{Close, Error}}
 use Rattle.ws_steps.specs.declared.transform.{Halves.{Halves}, TransformId.{TransformId}, TransformOperation.{TransformOperation}}
 use Rattle.ws_steps.specs.declared.transform.TransformOperation.TheVariants as names
 use Rattle.ws_steps.specs.declared.writable.WritableState.{WritableState}
@@ -36,6 +36,8 @@ use Rattle.ws_steps.specs.Slots.{has_byte, on_byte}
 use Rattle.ws_steps.specs.Turns.{on_source}
 use Rattle.ws_laws.proofs.Tables.{on_byte-readable}
 use Rattle.ws_transform_laws.proofs.Sources.{byte-unread, source-apart}
+use Rattle.ws_value.specs.declared.ids.TeeId.{TeeId}
+use Rattle.ws_laws.proofs.TeeDoes.{TeeCauses}
 
 -- what a stream can take, over an effect
 
@@ -177,6 +179,10 @@ module _ (t : TransformId) (r : StreamId) where
   pipe-plain p source dest (OnTransform u operation) c = absurd c
   pipe-plain p source dest _ c = tt
 
+  tee-plain : (u : TeeId) (source first second : StreamId) (e : Effect) → TeeCauses u source first second e → IsPlain e
+  tee-plain u source first second (OnTransform y operation) c = absurd c
+  tee-plain u source first second _ c = tt
+
   abbrev IsOther : Effect → Type 0
   IsOther (OnTransform u operation) = ⊥
   IsOther _ = Unit {0}
@@ -186,8 +192,8 @@ module _ (t : TransformId) (r : StreamId) where
   plain-causes (Byte j operation) n = record { readable = record { pull = tt; cancel = λ c p. tt; chunk = λ c v. tt; close = λ c. tt; error = λ c e. tt }; close_with = λ r b. tt }
   plain-causes (OnWritable j operation) n = record { write = tt; close = tt; abort = λ c p. tt; hand_on = λ v. tt; take = λ v u d. tt }
   plain-causes (StartAlgorithm j step start) n = (λ g u. tt, λ c u. tt)
-  plain-causes (PullAlgorithm j) n = (λ c u. tt, λ y u. tt)
-  plain-causes (CancelAlgorithm j c p) n = (λ c u. tt, λ y u. tt)
+  plain-causes (PullAlgorithm j) n = (λ c u. tt, (λ y u. tt, (λ k. tt, λ u. tt)))
+  plain-causes (CancelAlgorithm j c p) n = (λ c u. tt, (λ y u. tt, λ k half u. tt))
   plain-causes (WriteAlgorithm j) n = (tt, λ y u. tt)
   plain-causes (CloseAlgorithm j) n = (λ c u. tt, λ y u. tt)
   plain-causes (AbortAlgorithm j c p) n = (λ c u. tt, λ y u. tt)
@@ -196,14 +202,19 @@ module _ (t : TransformId) (r : StreamId) where
   plain-causes (OnSignal a (Add p)) n = tt
   plain-causes (OnSignal a (Forget p)) n = tt
   plain-causes (OnTransform u operation) n = absurd n
+  plain-causes (OnTee u operation) n = tee-plain u
   plain-causes (ChunkSteps j (Promise p) v) n = tt
   plain-causes (ChunkSteps j (PipeRequest p) v) n = tt
+  plain-causes (ChunkSteps j (TeeRequest k) v) n = tt
   plain-causes (CloseSteps j (Promise p)) n = tt
   plain-causes (CloseStepsWith j (Promise p) b) n = tt
   plain-causes (CloseSteps j (PipeRequest p)) n = tt
+  plain-causes (CloseSteps j (TeeRequest k)) n = tt
   plain-causes (CloseStepsWith j (PipeRequest p) b) n = tt
+  plain-causes (CloseStepsWith j (TeeRequest k) b) n = tt
   plain-causes (ErrorSteps j (Promise p) e) n = tt
   plain-causes (ErrorSteps j (PipeRequest p) e) n = tt
+  plain-causes (ErrorSteps j (TeeRequest k) e) n = tt
   plain-causes _ n = tt
 
   -- an operation of a transform stream

@@ -3,16 +3,16 @@ use Rattle.std.proofs.Common.{Option, Some, None, Result, slice_get}
 use Rattle.ws_value.specs.declared.ids.{PipeId.{PipeId}, PromiseId.{PromiseId}, SignalId.{SignalId}, StreamId.{StreamId}}
 use Rattle.ws_value.specs.declared.value.{Outcome.{Outcome}, Outcome.TheVariants.{Given, Finished}, Plain.{Plain}, Plain.TheVariants.{Undefined}, Value.TheVariants.{Plain as PlainValue, Bytes}}
 use Rattle.ws_steps.specs.declared.calls.{Event.TheVariants.{Signal as SignalEvent}, StartBy.TheVariants.{Now, Later}}
-use Rattle.ws_steps.specs.declared.effects.{Effect.{Effect}, Effect.TheVariants.{Readable as OnReadable, Writable as OnWritable, Pipe as OnPipe, Signal as OnSignal, Transform as OnTransform, StartAlgorithm, ChunkSteps, CloseSteps, ErrorSteps, Give, Settle as SettlePromise, Queue, CallHost}}
+use Rattle.ws_steps.specs.declared.effects.{Effect.{Effect}, Effect.TheVariants.{Readable as OnReadable, Writable as OnWritable, Pipe as OnPipe, Signal as OnSignal, Transform as OnTransform, Tee as OnTee, StartAlgorithm, ChunkSteps, CloseSteps, ErrorSteps, Give, Settle as SettlePromise, Queue, CallHost}}
 use Rattle.ws_steps.specs.declared.pipes.{PipeOperation.{PipeOperation}, SignalOperation.{SignalOperation}}
 use Rattle.ws_steps.specs.declared.promises.Micro.{Micro}
-use Rattle.ws_steps.specs.declared.readable.ReadRequest.TheVariants.{Promise, Pipe as PipeRequest}
+use Rattle.ws_steps.specs.declared.readable.ReadRequest.TheVariants.{Promise, Pipe as PipeRequest, Tee as TeeRequest}
 use Rattle.ws_steps.specs.declared.transform.{TransformId.{TransformId}, TransformOperation.{TransformOperation}}
 use Rattle.ws_steps.specs.Effects.{Out}
-use Rattle.ws_steps.specs.Operations.{writable_operation, pipe_operation, signal_operation, transform_operation}
+use Rattle.ws_steps.specs.Operations.{writable_operation, pipe_operation, signal_operation, transform_operation, tee_operation}
 use Rattle.ws_steps.specs.Pipes as pipe
 use Rattle.ws_steps.specs.Promises.{Table, fresh, settle, answer, tell, queue_micro}
-use Rattle.ws_steps.specs.Slots.{Slots, Done, found, ends_at, halves_at, has_writable, nothing, put_writable, on_pipe_at, on_signal_at, on_transform_at}
+use Rattle.ws_steps.specs.Slots.{Slots, Done, found, ends_at, halves_at, has_writable, nothing, put_writable, on_pipe_at, on_signal_at, on_transform_at, on_tee_at}
 use Rattle.ws_steps.specs.Transform as transform
 use Rattle.ws_steps.specs.Turns.{row}
 use Rattle.ws_laws.proofs.PipeDoes.{pipe-does}
@@ -22,6 +22,10 @@ use Rattle.ws_laws.proofs.WritableDoes.{writable-does}
 use Rattle.ws_steps.specs.declared.effects.Effect.TheVariants.{Byte, CloseStepsWith}
 use Rattle.ws_laws.proofs.Rows.{source-out, byte-out}
 use Rattle.ws_laws.proofs.ReadableDoes.{OfReadable}
+use Rattle.ws_value.specs.declared.ids.TeeId.{TeeId}
+use Rattle.ws_steps.specs.declared.tee.TeeOperation.{TeeOperation}
+use Rattle.ws_steps.specs.Tee as tee
+use Rattle.ws_laws.proofs.TeeDoes.{tee-does}
 
 abbrev pub IsUsing : Effect → Type 0
 IsUsing (Give gift u) = Unit {0}
@@ -47,6 +51,10 @@ module _ (T : Table → Type 0) (of : Spares T) where
   by-transform : (t : TransformId) (operation : TransformOperation) (s : Slots) (o : Option transform.Slots) → T s.promises → T (on_transform_at (λ halves. transform_operation t halves operation) t s o).slots.promises
   by-transform t operation s None h = h
   by-transform t operation s (Some x) h = transform-does T (record { fresh = of.fresh; settle = of.settle }) t (halves_at x s) operation (record { slots = x; out = found s }) h
+
+  by-tee : (t : TeeId) (operation : TeeOperation) (s : Slots) (o : Option tee.Slots) → T s.promises → T (on_tee_at (tee_operation t operation) t s o).slots.promises
+  by-tee t operation s None h = h
+  by-tee t operation s (Some x) h = tee-does T (record { fresh = of.fresh; micro = of.micro }) t operation (record { slots = x; out = found s }) h
 
   settles : (j : StreamId) → OfReadable (λ (x : Out). T x.promises) j
   settles j = record {
@@ -77,6 +85,7 @@ module _ (T : Table → Type 0) (of : Spares T) where
   row-spares (OnPipe p operation) s n h = by-pipe p operation s (slice_get s.pipes p.0) h
   row-spares (OnSignal a operation) s n h = by-signal a operation s (slice_get s.signals a.0) h
   row-spares (OnTransform t operation) s n h = by-transform t operation s (slice_get s.transforms t.0) h
+  row-spares (OnTee t operation) s n h = by-tee t operation s (slice_get s.tees t.0) h
   row-spares (StartAlgorithm j step Now) s n h = h
   row-spares (StartAlgorithm j step Later) s n h = of.fresh s.promises h
   row-spares (ChunkSteps j (Promise p) v) s n h = of.answer s.promises p (Given v) h
@@ -84,9 +93,13 @@ module _ (T : Table → Type 0) (of : Spares T) where
   row-spares (CloseStepsWith j (Promise p) b) s n h = of.answer s.promises p (Finished (Bytes b)) h
   row-spares (ErrorSteps j (Promise p) e) s n h = of.settle s.promises p _ h
   row-spares (ChunkSteps j (PipeRequest p) v) s n h = h
+  row-spares (ChunkSteps j (TeeRequest k) v) s n h = h
   row-spares (CloseSteps j (PipeRequest p)) s n h = h
+  row-spares (CloseSteps j (TeeRequest k)) s n h = h
   row-spares (CloseStepsWith j (PipeRequest p) b) s n h = h
+  row-spares (CloseStepsWith j (TeeRequest k) b) s n h = h
   row-spares (ErrorSteps j (PipeRequest p) e) s n h = h
+  row-spares (ErrorSteps j (TeeRequest k) e) s n h = h
   row-spares (Queue m) s n h = of.micro s.promises m h
   row-spares (Give gift u) s n h = absurd (n tt)
   row-spares (SettlePromise p o) s n h = of.settle s.promises p o h

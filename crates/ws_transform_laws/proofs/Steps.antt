@@ -45,6 +45,7 @@ shaped-stays i y = record {
     pipe = λ z source dest prevent signal promise k. k;
     signal = λ z k. k;
     transform = λ z kind w r change k. k;
+    tee = λ z source first second cancel k. k;
     bytes = λ z mark auto k. more z.streams i.0 _ y k;
     byob_requests = λ z hs k. k;
     readable = λ z o mark size k. more z.streams i.0 _ y k;

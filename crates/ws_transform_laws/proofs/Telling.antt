@@ -4,19 +4,19 @@ use Rattle.std.proofs.Common.{◌≡◌, ◌⊎◌, inl, inr, ℕ, ◌+◌, ◌�
 use Rattle.ws_value.specs.declared.ids.{PipeId.{PipeId}, PromiseId.{PromiseId}, StreamId.{StreamId}}
 use Rattle.ws_value.specs.declared.value.{Value.{Value}}
 use Rattle.ws_steps.specs.declared.effects.{Effect.{Effect}, Gift.{Gift}, Gift.TheVariants.{This}, Owner.TheVariants.{HalfOf}, Use.{Use}, Use.TheVariants.{React}}
-use Rattle.ws_steps.specs.declared.effects.Effect.TheVariants.{Readable as OnReadable, Pipe as OnPipe, Transform as OnTransform, PullAlgorithm, ChunkSteps, Give}
+use Rattle.ws_steps.specs.declared.effects.Effect.TheVariants.{Readable as OnReadable, Pipe as OnPipe, Transform as OnTransform, Tee as OnTee, PullAlgorithm, ChunkSteps, Give}
 use Rattle.ws_steps.specs.declared.pipes.PipeOperation.TheVariants.{KeepChunk}
 use Rattle.ws_steps.specs.declared.promises.Step.TheVariants.{ReadablePull}
-use Rattle.ws_steps.specs.declared.readable.{ReadRequest.TheVariants.{Promise, Pipe as PipeRequest}, ReadableOperation.{ReadableOperation}, ReadableOperation.TheVariants.{InitializeReader, Enqueue}}
+use Rattle.ws_steps.specs.declared.readable.{ReadRequest.TheVariants.{Promise, Pipe as PipeRequest, Tee as TeeRequest}, ReadableOperation.{ReadableOperation}, ReadableOperation.TheVariants.{InitializeReader, Enqueue}}
 use Rattle.ws_steps.specs.declared.transform.{TransformId.{TransformId}}
 use Rattle.ws_steps.specs.declared.transform.TransformOperation.TheVariants as names
 use Rattle.ws_steps.specs.Histories.{is_same}
-use Rattle.ws_steps.specs.Operations.{pipe_operation, transform_operation}
+use Rattle.ws_steps.specs.Operations.{pipe_operation, transform_operation, tee_operation}
 use Rattle.ws_steps.specs.Pipes as pipe
 use Rattle.ws_steps.specs.Promises.{next_id, settle}
 use Rattle.ws_steps.specs.Readable as readable
 use Rattle.ws_steps.specs.Readable.{can_close_or_enqueue, should_call_pull, waiting}
-use Rattle.ws_steps.specs.Slots.{Slots, found, halves_at, owner_at, readable_at, on_pipe_at, on_transform_at}
+use Rattle.ws_steps.specs.Slots.{Slots, found, halves_at, owner_at, readable_at, on_pipe_at, on_transform_at, on_tee_at}
 use Rattle.ws_steps.specs.Transform as transform
 use Rattle.ws_steps.specs.Turns.{row}
 use Rattle.ws_laws.proofs.Lists.{Each, each-append, each-map}
@@ -28,6 +28,9 @@ use Rattle.ws_transform_laws.proofs.Backpressure.{pressed, row-keeps, own-turns,
 use Rattle.ws_transform_laws.proofs.Cancelling.{is_half}
 use Rattle.ws_transform_laws.proofs.Cancelling as cancelling
 use Rattle.ws_transform_laws.proofs.Shutting.{readable-stays}
+use Rattle.ws_value.specs.declared.ids.TeeId.{TeeId}
+use Rattle.ws_steps.specs.Tee as tee
+use Rattle.ws_steps.specs.declared.tee.TeeOperation.TheVariants.{KeepChunk as KeepByTee}
 
 module _ (t : TransformId) (r : StreamId) where
   abbrev pub owned : Slots → StreamId → Bool
@@ -49,6 +52,7 @@ module _ (t : TransformId) (r : StreamId) where
   abbrev pub IsMild : Effect → Type 0
   IsMild (ChunkSteps j q v) = Unit {0}
   IsMild (OnPipe p (KeepChunk v)) = Unit {0}
+  IsMild (OnTee k (KeepByTee v)) = Unit {0}
   IsMild (Give g u) = Unit {0}
   IsMild (PullAlgorithm j) = is_same r j ≡ true
   IsMild (OnTransform u (names.SourcePull w)) = is_same_transform t u ≡ true
@@ -175,6 +179,11 @@ module _ (t : TransformId) (r : StreamId) where
   kept-none p v s None = refl
   kept-none p v s (Some x) = refl
 
+  kept_by_tee-none : (k : TeeId) (v : Value) (s : Slots) (o : Option tee.Slots) → (on_tee_at (tee_operation k (KeepByTee v)) k s o).caused ≡ []
+  unfolding tee.keep_chunk
+  kept_by_tee-none k v s None = refl
+  kept_by_tee-none k v s (Some x) = refl
+
   -- the pull algorithm of the readable half
   pull-caused : (j : StreamId) (s : Slots) → is_same r j ≡ true → owner_at r s ≡ HalfOf t → (row (PullAlgorithm j) s).caused ≡ OnTransform t (names.SourcePull (React (ReadablePull j) None)) ∷ []
   unfolding row
@@ -205,8 +214,12 @@ module _ (t : TransformId) (r : StreamId) where
   mild-row (ChunkSteps j (Promise p) v) s es x owner is m f claim = mild-same (ChunkSteps j (Promise p) v) s es [] (away (ChunkSteps j (Promise p) v) s (λ o k. cc) (λ k. k)) refl tt (omega arith) refl f claim
   mild-row (ChunkSteps j (PipeRequest p) v) s es x owner is m f claim =
       mild-same (ChunkSteps j (PipeRequest p) v) s es (OnPipe p (KeepChunk v) ∷ []) (away (ChunkSteps j (PipeRequest p) v) s (λ o k. cc) (λ k. k)) refl (tt, tt) (omega arith) (omega arith) f claim
+  mild-row (ChunkSteps j (TeeRequest k) v) s es x owner is m f claim =
+      mild-same (ChunkSteps j (TeeRequest k) v) s es (OnTee k (KeepByTee v) ∷ []) (away (ChunkSteps j (TeeRequest k) v) s (λ o k. cc) (λ k. k)) refl (tt, tt) (omega arith) (omega arith) f claim
   mild-row (OnPipe p (KeepChunk v)) s es x owner is m f claim =
       mild-same (OnPipe p (KeepChunk v)) s es [] (away (OnPipe p (KeepChunk v)) s (λ o k. cc) (λ k. k)) (kept-none p v s (slice_get s.pipes p.0)) tt (omega arith) refl f claim
+  mild-row (OnTee k (KeepByTee v)) s es x owner is m f claim =
+      mild-same (OnTee k (KeepByTee v)) s es [] (away (OnTee k (KeepByTee v)) s (λ o k. cc) (λ k. k)) (kept_by_tee-none k v s (slice_get s.tees k.0)) tt (omega arith) refl f claim
   mild-row (Give g u) s es x owner is m f claim = mild-same (Give g u) s es [] (away (Give g u) s (λ o k. cc) (λ k. k)) refl tt (omega arith) refl f claim
   mild-row (PullAlgorithm j) s es x owner is m f claim =
       let one : one_if (is_same r j) ≡ 1 = rw m refl in

@@ -3,7 +3,7 @@ use Rattle.std.proofs.Common.{◌≡◌, ⊎_elim, ℕ, zero, suc, ◌+◌, fals
 use Rattle.ws_value.specs.declared.ids.{StreamId.{StreamId}}
 use Rattle.ws_value.specs.declared.value.Value.{Value}
 use Rattle.ws_steps.specs.declared.calls.{Call.{Call}, StartBy.{StartBy}}
-use Rattle.ws_steps.specs.declared.effects.{Effect.{Effect}, Owner.TheVariants.{HalfOf}}
+use Rattle.ws_steps.specs.declared.effects.{Effect.{Effect}, Owner.TheVariants.{HalfOf, BranchOf}}
 use Rattle.ws_steps.specs.declared.effects.Effect.TheVariants.{Writable as OnWritable, Transform as OnTransform, CloseAlgorithm}
 use Rattle.ws_steps.specs.declared.readable.SizeBy.TheVariants.{Count}
 use Rattle.ws_steps.specs.declared.transform.{Kind.{Kind}, TransformId.{TransformId}}
@@ -34,6 +34,9 @@ use Rattle.ws_transform_laws.proofs.Halving.{map-from}
 use Rattle.ws_transform_laws.proofs.Lawful.{row-has}
 use Rattle.ws_transform_laws.proofs.Prompt.{Placed, Prompted, prompted-stays, call-plain, job-plain}
 use Rattle.ws_transform_laws.proofs.Told.{Both, neither, both_then, are_both, over-map}
+use Rattle.ws_value.specs.declared.ids.TeeId.{TeeId}
+use Rattle.ws_steps.specs.declared.tee.Half.{Half}
+use Rattle.ws_steps.specs.declared.tee.Half.TheVariants.{First, Second}
 
 -- lists that grow
 
@@ -144,6 +147,18 @@ module _ (i : StreamId) (t : TransformId) where
         unmade = λ none. k.unmade (none-before s.transforms (x ∷ []) t.0 none);
       }
 
+  abbrev Branch : TeeId → Half → Stream
+  Branch me half = ReadableStream (readable.set_up (BranchOf me half) 1 Count)
+
+  teed : (h : Both) (s : Slots) (j : StreamId) → Rest h s → Rest h (calls.make_tee j (record { 0 = length s.streams }) (record { 0 = length s.streams + 1 }) s).done.slots
+  teed h s j k =
+      let me : TeeId = record { 0 = length s.tees } in
+      record {
+        linked = k.linked;
+        unacted = λ none. k.unacted (has-before s.streams (Branch me First ∷ []) i.0 (has-before (s.streams ++ Branch me First ∷ []) (Branch me Second ∷ []) i.0 none));
+        unmade = k.unmade;
+      }
+
   plain-even : (h : Both) (s : Slots) (es : List Effect) → pending t es ≡ [] → Rest h s → Even h s es
   plain-even h s es none k = record { linked = λ l. rw none (k.linked l); unacted = k.unacted; unmade = k.unmade }
 
@@ -170,6 +185,7 @@ module _ (i : StreamId) (t : TransformId) where
     respond = λ r j b e is can. k;
     make_bytes = λ mark auto start. added h s _ k;
     get_reader = λ j e. same-even h s _ refl refl k;
+    make_tee = λ j c there e untied. teed h s j k;
     get_writer = λ j e. same-even h s _ refl refl k;
     release_reader = λ l closed j e. same-even h s _ refl refl k;
     release_writer = λ l j w e f. same-even h s _ refl refl k;

@@ -1,7 +1,7 @@
 -- Over every run, where a transform stream has no backpressure its readable half wants a chunk.
 use Rattle.std.proofs.Common.{◌≡◌, inl, inr, Bool, true, false, not, ◌||◌, if◌then◌else◌, List, [], ◌∷◌, ◌++◌, Option, Some, None, slice_get, refl, sym, subst, ap, ◌∙◌, arith}
 use Rattle.ws_value.specs.declared.ids.{StreamId.{StreamId}}
-use Rattle.ws_steps.specs.declared.effects.{Effect.{Effect}, Owner.{Owner}, Owner.TheVariants.{Host, HalfOf}}
+use Rattle.ws_steps.specs.declared.effects.{Effect.{Effect}, Owner.{Owner}, Owner.TheVariants.{Host, HalfOf, BranchOf}}
 use Rattle.ws_steps.specs.declared.effects.Effect.TheVariants.{Readable as OnReadable, CancelAlgorithm}
 use Rattle.ws_steps.specs.declared.readable.{ReadRequest.{ReadRequest}, ReadableOperation.{ReadableOperation}, ReadableOperation.TheVariants.{InitializeReader, ReleaseReader, Enqueue}}
 use Rattle.ws_steps.specs.declared.transform.TransformId.{TransformId}
@@ -99,6 +99,7 @@ module _ (t : TransformId) (r : StreamId) where
               let at : t.0 ≡ u.0 = eq_numbers t.0 u.0 (sym e) in
               let x = k u refl in
               let both : ◌≡◌ {A = Option TransformShape} None (Some x.0) = sym none ∙ (ap (slice_get (transform_shapes s)) at ∙ x.1) in cc
+      absent (BranchOf u half) k = refl
 
       by : (o : Option Stream) → o ≡ slice_get s.streams j.0 → mine t s j ≡ false
       by None e = rw (← e) refl

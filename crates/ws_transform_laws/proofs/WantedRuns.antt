@@ -3,7 +3,7 @@ use Rattle.std.proofs.Common.{◌≡◌, ◌⊎◌, inl, inr, ⊎_elim, ℕ, zer
 use Rattle.ws_value.specs.declared.ids.{PipeId.{PipeId}, PromiseId.{PromiseId}, SignalId.{SignalId}, StreamId.{StreamId}}
 use Rattle.ws_value.specs.declared.value.{Plain.{Plain}}
 use Rattle.ws_steps.specs.declared.calls.{Call.{Call}, StartBy.{StartBy}, StartBy.TheVariants.{Now, Later}}
-use Rattle.ws_steps.specs.declared.effects.{Effect.{Effect}, Owner.TheVariants.{Host, HalfOf}}
+use Rattle.ws_steps.specs.declared.effects.{Effect.{Effect}, Owner.TheVariants.{Host, HalfOf, BranchOf}}
 use Rattle.ws_steps.specs.declared.effects.Effect.TheVariants.{Readable as OnReadable}
 use Rattle.ws_steps.specs.declared.promises.Job.{Job}
 use Rattle.ws_steps.specs.declared.readable.{ReadableOperation.TheVariants.{InitializeReader}, SizeBy.TheVariants.{Count}}
@@ -16,7 +16,7 @@ use Rattle.ws_steps.specs.Promises.{Table, is_pending_at, next_id, fresh, next_j
 use Rattle.ws_steps.specs.Readable as readable
 use Rattle.ws_steps.specs.ReadableHistory.{Reads, no_reads, reads_then, effect_reads}
 use Rattle.ws_steps.specs.Run.{run, older, after_event}
-use Rattle.ws_steps.specs.Slots.{Slots, Stream, ReadableStream, ByteStream, WritableStream, has_byte, source_at, empty, as_readable, as_transform, readable_at, with_promises}
+use Rattle.ws_steps.specs.Slots.{Slots, Stream, ReadableStream, ByteStream, WritableStream, has_byte, source_at, empty, as_readable, as_source, as_transform, readable_at, with_promises}
 use Rattle.ws_steps.specs.Transform as transform
 use Rattle.ws_steps.specs.Writable as writable
 use Rattle.ws_laws.proofs.EachCall.{each_call}
@@ -39,6 +39,8 @@ use Rattle.ws_transform_laws.proofs.Telling.{Calms, unwanted, Fits, Fronts, Ente
 use Rattle.ws_transform_laws.proofs.Wanted.{Known, row-known}
 use Rattle.ws_steps.specs.declared.locks.Lock.TheVariants.{Reader as ReaderLock, ByobReader}
 use Rattle.ws_transform_laws.proofs.Sources.{source-default}
+use Rattle.ws_value.specs.declared.ids.TeeId.{TeeId}
+use Rattle.ws_steps.specs.declared.tee.Half.TheVariants.{First, Second}
 
 module _ (t : TransformId) (r : StreamId) where
   -- at rest there is backpressure where nothing is wanted
@@ -236,6 +238,40 @@ module _ (t : TransformId) (r : StreamId) where
         plain = b.plain;
       }) (λ l claim. calm-fits d.slots d.caused c claim) k
 
+  -- a tee is made, whose reader takes the source
+
+  free-before : (xs : List Stream) (y : readable.Slots) (n : ℕ) → is_some y.reader ≡ false → is_some (as_source (slice_get xs n)).reader ≡ false → is_some (as_source (slice_get (xs ++ ReadableStream y ∷ []) n)).reader ≡ false
+  free-before [] y zero new e = new
+  free-before [] y (suc n) new e = e
+  free-before (x ∷ xs) y zero new e = e
+  free-before (x ∷ xs) y (suc n) new e = free-before xs y n new e
+
+  teed : (h : Reads) (s : Slots) (j : StreamId) → Known t r h s []
+      → let d = (calls.make_tee j (record { 0 = length s.streams }) (record { 0 = length s.streams + 1 }) s).done in Halved d.slots → is_some (source_at j s).reader ≡ false → Known t r h d.slots d.caused
+  unfolding Old
+  teed h s j k halved free =
+      let me : TeeId = record { 0 = length s.tees } in
+      let first : readable.Slots = readable.set_up (BranchOf me First) 1 Count in
+      let second : readable.Slots = readable.set_up (BranchOf me Second) 1 Count in
+      let d = (calls.make_tee j (record { 0 = length s.streams }) (record { 0 = length s.streams + 1 }) s).done in
+      let light = two-lighter s.promises in
+      carried h s d.slots d.caused (record {
+        halved = halved;
+        unmade = λ none. none;
+        old = λ m. inl (
+          m,
+          (
+            let x = half-place s k.halved m in
+                ap as_readable (get-stays (s.streams ++ ReadableStream first ∷ []) (ReadableStream second ∷ []) r.0 x.0 (get-stays s.streams (ReadableStream first ∷ []) r.0 x.0 x.1.0) ∙ sym x.1.0),
+            refl,
+          ),
+        );
+        weighs = omega arith;
+        plain = (tt, (tt, (tt, (tt, tt))));
+      })
+      (λ m claim. open-fits d.slots j (next_id s.promises) _ (reads-default t r d.slots halved m)
+      (free-before (s.streams ++ ReadableStream first ∷ []) second j.0 refl (free-before s.streams first j.0 refl free)) (tt, (tt, (tt, tt))) claim) k
+
   -- a pipe begins
 
   pipe-begins : (z : Slots) (me : PipeId) (p q : PromiseId) (signal : Option SignalId) (reason : Option Plain) → Begins z (calls.pipe_begins me p q signal reason) × Calms t r z (calls.pipe_begins me p q signal reason)
@@ -272,6 +308,7 @@ module _ (t : TransformId) (r : StreamId) where
     respond = λ r j b e is can halved. calls-same h s s _ k halved refl refl (omega arith) (one _ _ refl tt) (λ m. (tt, tt));
     make_bytes = λ mark auto start halved. added h s _ _ k halved (one _ _ refl tt) (tt, tt);
     get_reader = λ j e halved. calls-open h s _ j _ [] k halved refl refl (fresh-lighter s.promises) e (one _ _ refl tt) tt;
+    make_tee = λ j c there e untied halved. teed h s j k halved e;
     get_writer = λ j e halved. calls-same h s _ _ k halved refl refl (two-lighter s.promises) (one _ _ refl tt) (λ m. (tt, tt));
     release_reader = λ l closed j e halved.
         let kept : Bool = readable.is_readable (source_at j s).state in

@@ -1,13 +1,16 @@
 -- What the host is called for by a transform stream, and what waits for it to settle that.
 use Rattle.std.proofs.Common.{◌≡◌, ℕ, ◌≤◌, Bool, true, false, nat_eq, length, List, [], ◌∷◌, ◌++◌, Option, Some, None, slice_get, refl, sym, ap, ◌∙◌, arith}
+use Rattle.ws_laws.proofs.TeeDoes.{TeeCauses}
+use Rattle.ws_value.specs.declared.ids.TeeId.{TeeId}
+use Rattle.ws_steps.specs.declared.effects.Effect.TheVariants.{Tee as OnTee}
 use Rattle.ws_value.specs.declared.{ids.PipeId.{PipeId}, ids.PromiseId.{PromiseId}, ids.StreamId.{StreamId}, value.Plain.{Plain}, value.Value.{Value}}
 use Rattle.ws_steps.specs.declared.calls.{Call.{Call}, Event.{Event}, Event.TheVariants.{Host as HostCalled}, HostCall.{HostCall}, StartBy.{StartBy}, StartBy.TheVariants.{Now, Later}}
 use Rattle.ws_steps.specs.declared.calls.HostCall.TheVariants.{Transform as HostTransform, Flush as HostFlush}
-use Rattle.ws_steps.specs.declared.effects.{Effect.{Effect}, Owner.{Owner}, Owner.TheVariants.{Host, HalfOf}, Use.{Use}, Use.TheVariants.{React, Resolve}}
+use Rattle.ws_steps.specs.declared.effects.{Effect.{Effect}, Owner.{Owner}, Owner.TheVariants.{Host, HalfOf, BranchOf}, Use.{Use}, Use.TheVariants.{React, Resolve}}
 use Rattle.ws_steps.specs.declared.effects.Effect.TheVariants.{Readable as OnReadable, Writable as OnWritable, Pipe as OnPipe, Signal as OnSignal, Transform as OnTransform, StartAlgorithm, PullAlgorithm, CancelAlgorithm, WriteAlgorithm, CloseAlgorithm, AbortAlgorithm, ChunkSteps, CloseSteps, ErrorSteps, CallHost}
 use Rattle.ws_steps.specs.declared.pipes.{SignalOperation.{SignalOperation}, SignalOperation.TheVariants.{Add, Forget, Trigger}}
 use Rattle.ws_steps.specs.declared.promises.{Job.{Job}, Reaction.{Reaction}, Reaction.TheVariants.{Perform}, Step.{Step}, Step.TheVariants.{Transformed, TransformFlushed}}
-use Rattle.ws_steps.specs.declared.readable.{ReadRequest.{ReadRequest}, ReadRequest.TheVariants.{Promise, Pipe as PipeRequest}}
+use Rattle.ws_steps.specs.declared.readable.{ReadRequest.{ReadRequest}, ReadRequest.TheVariants.{Promise, Pipe as PipeRequest, Tee as TeeRequest}}
 use Rattle.ws_steps.specs.declared.transform.{Halves.{Halves}, Kind.{Kind}, Kind.TheVariants.{Identity, Host as HostKind}, TransformId.{TransformId}, TransformOperation.{TransformOperation}}
 use Rattle.ws_steps.specs.declared.transform.TransformOperation.TheVariants as names_of
 use Rattle.ws_steps.specs.declared.writable.{WritableOperation.{WritableOperation}}
@@ -23,7 +26,7 @@ use Rattle.ws_laws.proofs.EachCall.{each_call}
 use Rattle.ws_laws.proofs.Halves.{Halved}
 use Rattle.ws_laws.proofs.Lists.{Each, each-append, each-map}
 use Rattle.ws_laws.proofs.PipeDoes.{PipeCauses}
-use Rattle.ws_laws.proofs.Rows.{ChunkCauses, EndCauses, SignalCauses, row-causes}
+use Rattle.ws_laws.proofs.Rows.{ChunkCauses, EndCauses, ErrorCauses, SignalCauses, row-causes}
 use Rattle.ws_laws.proofs.Shapes.{TransformShape, transform_shapes, transform_shape, map-there}
 use Rattle.ws_transform_laws.specs.TransformHistory.{is_same_transform}
 use Rattle.ws_transform_laws.proofs.Cancelling.{is_half, mine}
@@ -62,10 +65,17 @@ module _ (t : TransformId) (i r : StreamId) where
   chunk-asked : (v : Value) (q : ReadRequest) → ChunkCauses IsAsked v q
   chunk-asked v (Promise p) = tt
   chunk-asked v (PipeRequest p) = tt
+  chunk-asked v (TeeRequest t) = tt
 
   end-asked : (q : ReadRequest) → EndCauses IsAsked q
   end-asked (Promise p) = tt
   end-asked (PipeRequest p) = tt
+  end-asked (TeeRequest t) = tt
+
+  error-asked : (q : ReadRequest) → ErrorCauses IsAsked q
+  error-asked (Promise p) = tt
+  error-asked (PipeRequest p) = tt
+  error-asked (TeeRequest t) = tt
 
   signal-asked : (operation : SignalOperation) → SignalCauses IsAsked operation
   signal-asked (Add p) = tt
@@ -75,6 +85,10 @@ module _ (t : TransformId) (i r : StreamId) where
   pipe-asked : (p : PipeId) (source dest : StreamId) (e : Effect) → PipeCauses p source dest e → IsAsked e
   pipe-asked p source dest (CallHost call u) c = absurd c
   pipe-asked p source dest _ c = tt
+
+  tee-asked : (u : TeeId) (source first second : StreamId) (e : Effect) → TeeCauses u source first second e → IsAsked e
+  tee-asked u source first second (CallHost call w) c = absurd c
+  tee-asked u source first second _ c = tt
 
   -- no operation but that calls it
   others-asked : (u : TransformId) (halves : Halves) (operation : TransformOperation) (a : transform.Acts)
@@ -111,22 +125,27 @@ module _ (t : TransformId) (i r : StreamId) where
   pull-asked : (j : StreamId) (u : Use) (owner : Owner) → Asked (pull_algorithm j u owner)
   pull-asked j u Host = (tt, tt)
   pull-asked j u (HalfOf k) = (tt, tt)
+  pull-asked j u (BranchOf k half) = (tt, (tt, tt))
 
   cancel-asked : (j : StreamId) (c : Plain) (u : Use) (owner : Owner) → Asked (cancel_algorithm j c u owner)
   cancel-asked j c u Host = (tt, tt)
   cancel-asked j c u (HalfOf k) = (tt, tt)
+  cancel-asked j c u (BranchOf k half) = (tt, tt)
 
   write-asked : (j : StreamId) (owner : Owner) → Asked (write_algorithm j owner)
   write-asked j Host = (tt, tt)
   write-asked j (HalfOf k) = (tt, tt)
+  write-asked j (BranchOf k half) = (tt, tt)
 
   close-asked : (j : StreamId) (u : Use) (owner : Owner) → Asked (close_algorithm j u owner)
   close-asked j u Host = (tt, tt)
   close-asked j u (HalfOf k) = (tt, tt)
+  close-asked j u (BranchOf k half) = (tt, tt)
 
   abort-asked : (j : StreamId) (c : Plain) (u : Use) (owner : Owner) → Asked (abort_algorithm j c u owner)
   abort-asked j c u Host = (tt, tt)
   abort-asked j c u (HalfOf k) = (tt, tt)
+  abort-asked j c u (BranchOf k half) = (tt, tt)
 
   pub row-asked : (e : Effect) (s : Slots) → IsSole s → Asked (row e s).caused
   unfolding row
@@ -136,6 +155,7 @@ module _ (t : TransformId) (i r : StreamId) where
   row-asked (OnPipe p operation) s h = row-causes IsAsked (OnPipe p operation) s (pipe-asked p)
   row-asked (OnSignal a operation) s h = row-causes IsAsked (OnSignal a operation) s (signal-asked operation)
   row-asked (OnTransform u operation) s h = transform-asked s u operation (slice_get s.transforms u.0) refl h
+  row-asked (OnTee u operation) s h = row-causes IsAsked (OnTee u operation) s (tee-asked u)
   row-asked (StartAlgorithm j step start) s h = start-asked s j step start
   row-asked (PullAlgorithm j) s h = pull-asked j _ (owner_at j s)
   row-asked (CancelAlgorithm j c p) s h = cancel-asked j c _ (owner_at j s)
@@ -145,7 +165,7 @@ module _ (t : TransformId) (i r : StreamId) where
   row-asked (ChunkSteps j q v) s h = row-causes IsAsked (ChunkSteps j q v) s (chunk-asked v q)
   row-asked (CloseSteps j q) s h = row-causes IsAsked (CloseSteps j q) s (end-asked q)
   row-asked (CloseStepsWith j q b) s h = row-causes IsAsked (CloseStepsWith j q b) s (end-asked q)
-  row-asked (ErrorSteps j q e) s h = row-causes IsAsked (ErrorSteps j q e) s (end-asked q)
+  row-asked (ErrorSteps j q e) s h = row-causes IsAsked (ErrorSteps j q e) s (error-asked q)
   row-asked _ s h = tt
 
   pub call-asked : (c : Call) (s : Slots) → Asked (begin c s).done.caused
@@ -175,10 +195,17 @@ module _ (t : TransformId) (i r : StreamId) where
     chunk-closing : (v : Value) (q : ReadRequest) → ChunkCauses (IsClosing s V) v q
     chunk-closing v (Promise p) = tt
     chunk-closing v (PipeRequest p) = tt
+    chunk-closing v (TeeRequest t) = tt
 
     end-closing : (q : ReadRequest) → EndCauses (IsClosing s V) q
     end-closing (Promise p) = tt
     end-closing (PipeRequest p) = tt
+    end-closing (TeeRequest t) = tt
+
+    error-closing : (q : ReadRequest) → ErrorCauses (IsClosing s V) q
+    error-closing (Promise p) = tt
+    error-closing (PipeRequest p) = tt
+    error-closing (TeeRequest t) = tt
 
     signal-closing : (operation : SignalOperation) → SignalCauses (IsClosing s V) operation
     signal-closing (Add p) = tt
@@ -190,6 +217,12 @@ module _ (t : TransformId) (i r : StreamId) where
     pipe-closing p source dest (OnTransform u operation) c = absurd c
     pipe-closing p source dest (CloseAlgorithm j) c = absurd c
     pipe-closing p source dest _ c = tt
+
+    tee-closing : (u : TeeId) (source first second : StreamId) (e : Effect) → TeeCauses u source first second e → IsClosing s V e
+    tee-closing u source first second (CallHost call w) c = absurd c
+    tee-closing u source first second (OnTransform y operation) c = absurd c
+    tee-closing u source first second (CloseAlgorithm j) c = absurd c
+    tee-closing u source first second _ c = tt
 
     absent : (j : StreamId) (operation : WritableOperation) → has_writable j s ≡ false → (row (OnWritable j operation) s).caused ≡ []
     unfolding row
@@ -229,22 +262,27 @@ module _ (t : TransformId) (i r : StreamId) where
     pull-closing : (j : StreamId) (u : Use) (owner : Owner) → Closing s V (pull_algorithm j u owner)
     pull-closing j u Host = (tt, tt)
     pull-closing j u (HalfOf k) = (tt, tt)
+    pull-closing j u (BranchOf k half) = (tt, (tt, tt))
 
     cancel-closing : (j : StreamId) (c : Plain) (u : Use) (owner : Owner) → Closing s V (cancel_algorithm j c u owner)
     cancel-closing j c u Host = (tt, tt)
     cancel-closing j c u (HalfOf k) = (tt, tt)
+    cancel-closing j c u (BranchOf k half) = (tt, tt)
 
     write-closing : (j : StreamId) (owner : Owner) → Closing s V (write_algorithm j owner)
     write-closing j Host = (tt, tt)
     write-closing j (HalfOf k) = (tt, tt)
+    write-closing j (BranchOf k half) = (tt, tt)
 
     close-closing : (j : StreamId) (u : Use) (owner : Owner) → (is_half t owner ≡ true → V) → Closing s V (close_algorithm j u owner)
     close-closing j u Host k = (tt, tt)
     close-closing j u (HalfOf y) k = (k, tt)
+    close-closing j u (BranchOf y half) k = (tt, tt)
 
     abort-closing : (j : StreamId) (c : Plain) (u : Use) (owner : Owner) → Closing s V (abort_algorithm j c u owner)
     abort-closing j c u Host = (tt, tt)
     abort-closing j c u (HalfOf k) = (tt, tt)
+    abort-closing j c u (BranchOf k half) = (tt, tt)
 
     pub caused-closing : (e : Effect) → Halved s → IsHalf t i s → IsSole s → IsClosing s V e → (e ≡ CloseAlgorithm i → V) → Closing s V (row e s).caused
     unfolding row
@@ -255,6 +293,7 @@ module _ (t : TransformId) (i r : StreamId) where
     caused-closing (OnPipe p operation) halved h g k v = row-causes (IsClosing s V) (OnPipe p operation) s (pipe-closing p)
     caused-closing (OnSignal a operation) halved h g k v = row-causes (IsClosing s V) (OnSignal a operation) s (signal-closing operation)
     caused-closing (OnTransform u operation) halved h g k v = transform-closing u operation (slice_get s.transforms u.0) refl g k
+    caused-closing (OnTee u operation) halved h g k v = row-causes (IsClosing s V) (OnTee u operation) s (tee-closing u)
     caused-closing (StartAlgorithm j step start) halved h g k v = start-closing j step start
     caused-closing (PullAlgorithm j) halved h g k v = pull-closing j _ (owner_at j s)
     caused-closing (CancelAlgorithm j c p) halved h g k v = cancel-closing j c _ (owner_at j s)
@@ -264,7 +303,7 @@ module _ (t : TransformId) (i r : StreamId) where
     caused-closing (ChunkSteps j q x) halved h g k v = row-causes (IsClosing s V) (ChunkSteps j q x) s (chunk-closing x q)
     caused-closing (CloseSteps j q) halved h g k v = row-causes (IsClosing s V) (CloseSteps j q) s (end-closing q)
     caused-closing (CloseStepsWith j q b) halved h g k v = row-causes (IsClosing s V) (CloseStepsWith j q b) s (end-closing q)
-    caused-closing (ErrorSteps j q e) halved h g k v = row-causes (IsClosing s V) (ErrorSteps j q e) s (end-closing q)
+    caused-closing (ErrorSteps j q e) halved h g k v = row-causes (IsClosing s V) (ErrorSteps j q e) s (error-closing q)
     caused-closing _ halved h g k v = tt
 
   pub row-closing : (s : Slots) (V U : Type 0) (e : Effect) (es : List Effect) → Halved s → IsHalf t i s → IsSole s → (V → U)

@@ -1,5 +1,7 @@
 -- At each moment a transform stream holds the result of one write at most.
 use Rattle.std.proofs.Common.{◌≡◌, ◌⊎◌, inl, inr, ⊎_elim, ℕ, zero, suc, ◌+◌, ◌≤◌, List, [], ◌∷◌, Option, Some, None, arith}
+use Rattle.ws_steps.specs.declared.effects.Effect.TheVariants.{Tee as OnTee}
+use Rattle.ws_steps.specs.declared.tee.TeeOperation.TheVariants as tees
 use Rattle.ws_value.specs.declared.{ids.PromiseId.{PromiseId}}
 use Rattle.ws_steps.specs.declared.effects.{Effect.{Effect}, Use.{Use}, Use.TheVariants.{React, Resolve}}
 use Rattle.ws_steps.specs.declared.effects.Effect.TheVariants.{Writable as OnWritable, Transform as OnTransform, StartAlgorithm, Give, CallHost}
@@ -98,6 +100,7 @@ module _ (t : TransformId) where
   some-effect (OnTransform u (names_of.SinkClose w)) n = some-used w n
   some-effect (OnTransform u (names_of.SinkAbort r w)) n = some-used w n
   some-effect (OnTransform u (names_of.SourceCancel r w)) n = some-used w n
+  some-effect (OnTee u (tees.CancelBranch half r w)) n = some-used w n
   some-effect (OnTransform u (names_of.TransformChunk v c)) n = (c, let a = names-self c in grind arith)
   some-effect (OnTransform u (names_of.WriteGoesOn c)) n = (c, let a = names-self c in grind arith)
   some-effect (OnWritable j (HandOn (ToTransform u c))) n = (c, let a = names-self c in grind arith)

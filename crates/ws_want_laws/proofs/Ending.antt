@@ -1,13 +1,16 @@
 -- A stream that has ended stays so; and once the cancel algorithm of a transform stream is performed for an abort, its writable half has ended.
 use Rattle.std.proofs.Common.{◌≡◌, ◌⊎◌, inl, inr, ⊎_elim, ℕ, ◌≤◌, Bool, true, false, is_some, nat_eq, List, [], ◌∷◌, ◌++◌, Option, Some, None, Ok, Err, slice_get, refl, sym, ap, ◌∙◌, arith}
+use Rattle.ws_laws.proofs.TeeDoes.{TeeCauses}
+use Rattle.ws_value.specs.declared.ids.TeeId.{TeeId}
+use Rattle.ws_steps.specs.declared.effects.Effect.TheVariants.{Tee as OnTee}
 use Rattle.ws_value.specs.declared.{ids.PipeId.{PipeId}, ids.PromiseId.{PromiseId}, ids.StreamId.{StreamId}, value.Plain.{Plain}, value.Value.{Value}}
 use Rattle.ws_steps.specs.declared.calls.{Call.{Call}, StartBy.{StartBy}, StartBy.TheVariants.{Now, Later}}
 use Rattle.ws_steps.specs.declared.calls.HostCall.TheVariants.{CancelTransform as HostCancel}
-use Rattle.ws_steps.specs.declared.effects.{Effect.{Effect}, Owner.{Owner}, Owner.TheVariants.{Host, HalfOf}, Use.{Use}}
+use Rattle.ws_steps.specs.declared.effects.{Effect.{Effect}, Owner.{Owner}, Owner.TheVariants.{Host, HalfOf, BranchOf}, Use.{Use}}
 use Rattle.ws_steps.specs.declared.effects.Effect.TheVariants.{Readable as OnReadable, Writable as OnWritable, Pipe as OnPipe, Signal as OnSignal, Transform as OnTransform, StartAlgorithm, PullAlgorithm, CancelAlgorithm, WriteAlgorithm, CloseAlgorithm, AbortAlgorithm, ChunkSteps, CloseSteps, ErrorSteps, CallHost}
 use Rattle.ws_steps.specs.declared.pipes.{SignalOperation.{SignalOperation}, SignalOperation.TheVariants.{Add, Forget, Trigger}}
 use Rattle.ws_steps.specs.declared.promises.{Job.{Job}, Reaction.{Reaction}, Step.{Step}}
-use Rattle.ws_steps.specs.declared.readable.{ReadRequest.{ReadRequest}, ReadRequest.TheVariants.{Promise, Pipe as PipeRequest}}
+use Rattle.ws_steps.specs.declared.readable.{ReadRequest.{ReadRequest}, ReadRequest.TheVariants.{Promise, Pipe as PipeRequest, Tee as TeeRequest}}
 use Rattle.ws_steps.specs.declared.transform.{Halves.{Halves}, Kind.{Kind}, Kind.TheVariants.{Identity, Host as HostKind}, TransformId.{TransformId}, TransformOperation.{TransformOperation}}
 use Rattle.ws_steps.specs.declared.transform.TransformOperation.TheVariants as names_of
 use Rattle.ws_steps.specs.declared.writable.{WritableOperation.{WritableOperation}}
@@ -21,7 +24,7 @@ use Rattle.ws_laws.proofs.EachCall.{each_call}
 use Rattle.ws_laws.proofs.Halves.{Halved, get-stays}
 use Rattle.ws_laws.proofs.Lists.{Each, each-append, each-map}
 use Rattle.ws_laws.proofs.PipeDoes.{PipeCauses}
-use Rattle.ws_laws.proofs.Rows.{ChunkCauses, EndCauses, SignalCauses, row-causes}
+use Rattle.ws_laws.proofs.Rows.{ChunkCauses, EndCauses, ErrorCauses, SignalCauses, row-causes}
 use Rattle.ws_laws.proofs.Shapes.{map-there, StreamShape, stream_shape, stream_shapes, row-stream_shapes}
 use Rattle.ws_transform_laws.specs.TransformHistory.{is_same_transform}
 use Rattle.ws_transform_laws.proofs.Cancelling.{is_half, mine, is_cancelled}
@@ -146,6 +149,7 @@ call-stream c s k y at = begin-makes (λ z. slice_get z.streams k ≡ Some y) (r
   pipe = λ z source dest prevent signal promise h. h;
   signal = λ z h. h;
   transform = λ z kind w q change h. h;
+  tee = λ z source first second cancel h. h;
   bytes = λ z mark auto h. get-stays z.streams _ k y h;
   byob_requests = λ z hs h. h;
   readable = λ z o mark size h. get-stays z.streams _ k y h;
@@ -203,10 +207,17 @@ module _ (t : TransformId) (i r : StreamId) where
     chunk-ending : (v : Value) (q : ReadRequest) → ChunkCauses (IsEnding s V) v q
     chunk-ending v (Promise p) = tt
     chunk-ending v (PipeRequest p) = tt
+    chunk-ending v (TeeRequest t) = tt
 
     end-ending : (q : ReadRequest) → EndCauses (IsEnding s V) q
     end-ending (Promise p) = tt
     end-ending (PipeRequest p) = tt
+    end-ending (TeeRequest t) = tt
+
+    error-ending : (q : ReadRequest) → ErrorCauses (IsEnding s V) q
+    error-ending (Promise p) = tt
+    error-ending (PipeRequest p) = tt
+    error-ending (TeeRequest t) = tt
 
     signal-ending : (operation : SignalOperation) → SignalCauses (IsEnding s V) operation
     signal-ending (Add p) = tt
@@ -218,6 +229,12 @@ module _ (t : TransformId) (i r : StreamId) where
     pipe-ending p source dest (OnTransform u operation) c = absurd c
     pipe-ending p source dest (AbortAlgorithm j x q) c = absurd c
     pipe-ending p source dest _ c = tt
+
+    tee-ending : (u : TeeId) (source first second : StreamId) (e : Effect) → TeeCauses u source first second e → IsEnding s V e
+    tee-ending u source first second (CallHost call w) c = absurd c
+    tee-ending u source first second (OnTransform y operation) c = absurd c
+    tee-ending u source first second (AbortAlgorithm j x q) c = absurd c
+    tee-ending u source first second _ c = tt
 
     absent : (j : StreamId) (operation : WritableOperation) → has_writable j s ≡ false → (row (OnWritable j operation) s).caused ≡ []
     unfolding row
@@ -269,22 +286,27 @@ module _ (t : TransformId) (i r : StreamId) where
     pull-ending : (j : StreamId) (u : Use) (owner : Owner) → EndingOf s V (pull_algorithm j u owner)
     pull-ending j u Host = (tt, tt)
     pull-ending j u (HalfOf k) = (tt, tt)
+    pull-ending j u (BranchOf k half) = (tt, (tt, tt))
 
     cancel-ending : (j : StreamId) (c : Plain) (u : Use) (owner : Owner) → EndingOf s V (cancel_algorithm j c u owner)
     cancel-ending j c u Host = (tt, tt)
     cancel-ending j c u (HalfOf k) = (tt, tt)
+    cancel-ending j c u (BranchOf k half) = (tt, tt)
 
     write-ending : (j : StreamId) (owner : Owner) → EndingOf s V (write_algorithm j owner)
     write-ending j Host = (tt, tt)
     write-ending j (HalfOf k) = (tt, tt)
+    write-ending j (BranchOf k half) = (tt, tt)
 
     close-ending : (j : StreamId) (u : Use) (owner : Owner) → EndingOf s V (close_algorithm j u owner)
     close-ending j u Host = (tt, tt)
     close-ending j u (HalfOf k) = (tt, tt)
+    close-ending j u (BranchOf k half) = (tt, tt)
 
     algorithm-ending : (j : StreamId) (c : Plain) (u : Use) (owner : Owner) → (is_half t owner ≡ true → V) → EndingOf s V (abort_algorithm j c u owner)
     algorithm-ending j c u Host k = (tt, tt)
     algorithm-ending j c u (HalfOf y) k = (k, tt)
+    algorithm-ending j c u (BranchOf y half) k = (tt, tt)
 
     pub caused-ending : (e : Effect) → Halved s → IsHalf t i s → IsSole t i r s → IsEnding s V e
         → ((c : Plain) (p : PromiseId) → e ≡ AbortAlgorithm i c p → V) → EndingOf s V (row e s).caused
@@ -296,6 +318,7 @@ module _ (t : TransformId) (i r : StreamId) where
     caused-ending (OnPipe p operation) halved h g k v = row-causes (IsEnding s V) (OnPipe p operation) s (pipe-ending p)
     caused-ending (OnSignal a operation) halved h g k v = row-causes (IsEnding s V) (OnSignal a operation) s (signal-ending operation)
     caused-ending (OnTransform u operation) halved h g k v = transform-ending u operation (slice_get s.transforms u.0) refl g k
+    caused-ending (OnTee u operation) halved h g k v = row-causes (IsEnding s V) (OnTee u operation) s (tee-ending u)
     caused-ending (StartAlgorithm j step start) halved h g k v = start-ending j step start
     caused-ending (PullAlgorithm j) halved h g k v = pull-ending j _ (owner_at j s)
     caused-ending (CancelAlgorithm j c p) halved h g k v = cancel-ending j c _ (owner_at j s)
@@ -305,7 +328,7 @@ module _ (t : TransformId) (i r : StreamId) where
     caused-ending (ChunkSteps j q x) halved h g k v = row-causes (IsEnding s V) (ChunkSteps j q x) s (chunk-ending x q)
     caused-ending (CloseSteps j q) halved h g k v = row-causes (IsEnding s V) (CloseSteps j q) s (end-ending q)
     caused-ending (CloseStepsWith j q b) halved h g k v = row-causes (IsEnding s V) (CloseStepsWith j q b) s (end-ending q)
-    caused-ending (ErrorSteps j q e) halved h g k v = row-causes (IsEnding s V) (ErrorSteps j q e) s (end-ending q)
+    caused-ending (ErrorSteps j q e) halved h g k v = row-causes (IsEnding s V) (ErrorSteps j q e) s (error-ending q)
     caused-ending _ halved h g k v = tt
 
   pub row-ending : (s : Slots) (V U : Type 0) (e : Effect) (es : List Effect) → Halved s → IsHalf t i s → IsSole t i r s → (V → U)

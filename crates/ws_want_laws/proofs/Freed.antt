@@ -1,5 +1,6 @@
 -- Where the job is queued by which a write goes on that waited, there is no backpressure, where no enqueue is told while one waits.
 use Rattle.std.proofs.Common.{◌≡◌, ℕ, zero, suc, ◌≤◌, ◌<◌, Bool, true, false, map, List, [], ◌∷◌, ◌++◌, Option, Some, None, slice_get, refl, sym, subst, ap, ◌∙◌, arith}
+use Rattle.ws_laws.proofs.Halves.{Halved}
 use Rattle.ws_value.specs.declared.{ids.PromiseId.{PromiseId}}
 use Rattle.ws_steps.specs.declared.calls.{Call.{Call}}
 use Rattle.ws_steps.specs.declared.effects.{Effect.{Effect}}
@@ -200,6 +201,7 @@ module _ (t : TransformId) where
     pipe = λ z source dest prevent signal promise k. k;
     signal = λ z k. k;
     transform = λ z kind w r change k. made-begins z _ k;
+    tee = λ z source first second cancel k. k;
     bytes = λ z mark auto k. k;
     byob_requests = λ z hs k. k;
     readable = λ z o mark size k. k;
@@ -207,13 +209,13 @@ module _ (t : TransformId) where
   }) c s k
 
   -- over what each effect leaves; where a chunk is transformed none waits
-  pub row-freed : (s : Slots) (e : Effect) (es : List Effect) → (IsChunk t e ≡ true → all_waiting t s ≡ 0) → Freed s (e ∷ es)
+  pub row-freed : (s : Slots) (e : Effect) (es : List Effect) → Halved s → (IsChunk t e ≡ true → all_waiting t s ≡ 0) → Freed s (e ∷ es)
       → Freed (row e s).slots ((row e s).caused ++ es)
-  row-freed s e es c k = record {
+  row-freed s e es halved c k = record {
     waiting = row-waits t s e es k.waiting;
     unmade = row-unmade s e es k.waiting.asking k.unmade;
     free = row-free s e es k;
-    zone = row-zone t s e es c k.zone;
+    zone = row-zone t s e es halved c k.zone;
   }
 
   pub call-freed : (s : Slots) (c : Call) → Zone t (begin c s).done.slots (begin c s).done.caused → Freed s []

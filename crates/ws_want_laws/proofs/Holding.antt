@@ -1,12 +1,15 @@
 -- Over each effect: a result that is held is heard by the writable half, and no two are held.
 use Rattle.std.proofs.Common.{◌≡◌, ◌⊎◌, inl, inr, ℕ, zero, suc, ◌+◌, ◌≤◌, Bool, true, false, nat_eq, List, [], ◌∷◌, ◌++◌, Option, Some, None, slice_get, refl, sym, subst, ap, ◌∙◌, arith}
+use Rattle.ws_laws.proofs.TeeDoes.{TeeCauses}
+use Rattle.ws_value.specs.declared.ids.TeeId.{TeeId}
+use Rattle.ws_steps.specs.declared.effects.Effect.TheVariants.{Tee as OnTee}
 use Rattle.ws_value.specs.declared.{ids.PipeId.{PipeId}, ids.PromiseId.{PromiseId}, ids.StreamId.{StreamId}, value.Value.{Value}}
 use Rattle.ws_steps.specs.declared.calls.{Call.{Call}}
-use Rattle.ws_steps.specs.declared.effects.{Effect.{Effect}, Owner.{Owner}, Owner.TheVariants.{Host, HalfOf}, Use.{Use}, Use.TheVariants.{React}}
+use Rattle.ws_steps.specs.declared.effects.{Effect.{Effect}, Owner.{Owner}, Owner.TheVariants.{Host, HalfOf, BranchOf}, Use.{Use}, Use.TheVariants.{React}}
 use Rattle.ws_steps.specs.declared.effects.Effect.TheVariants.{Readable as OnReadable, Writable as OnWritable, Pipe as OnPipe, Signal as OnSignal, Transform as OnTransform, StartAlgorithm, PullAlgorithm, CancelAlgorithm, WriteAlgorithm, CloseAlgorithm, AbortAlgorithm, ChunkSteps, CloseSteps, ErrorSteps}
 use Rattle.ws_steps.specs.declared.pipes.{SignalOperation.{SignalOperation}, SignalOperation.TheVariants.{Add, Forget, Trigger}}
 use Rattle.ws_steps.specs.declared.promises.{Job.{Job}, Step.TheVariants.{WritableWrite}}
-use Rattle.ws_steps.specs.declared.readable.{ReadRequest.{ReadRequest}, ReadRequest.TheVariants.{Promise, Pipe as PipeRequest}}
+use Rattle.ws_steps.specs.declared.readable.{ReadRequest.{ReadRequest}, ReadRequest.TheVariants.{Promise, Pipe as PipeRequest, Tee as TeeRequest}}
 use Rattle.ws_steps.specs.declared.transform.{TransformId.{TransformId}}
 use Rattle.ws_steps.specs.declared.transform.TransformOperation.TheVariants as names_of
 use Rattle.ws_steps.specs.declared.writable.{WritableOperation.{WritableOperation}, WritableState.{WritableState}, WritableState.TheVariants.{Writable, Erroring, Errored, Closed}}
@@ -20,7 +23,7 @@ use Rattle.ws_laws.proofs.EachCall.{each_call}
 use Rattle.ws_laws.proofs.Halves.{Halved}
 use Rattle.ws_laws.proofs.Lists.{Each, each-append, each-map}
 use Rattle.ws_laws.proofs.PipeDoes.{PipeCauses}
-use Rattle.ws_laws.proofs.Rows.{ChunkCauses, EndCauses, SignalCauses, row-causes}
+use Rattle.ws_laws.proofs.Rows.{ChunkCauses, EndCauses, ErrorCauses, SignalCauses, row-causes}
 use Rattle.ws_laws.proofs.Shapes.{TransformShape, transform_shapes}
 use Rattle.ws_laws.proofs.Tables.{eq_numbers, is_same-refl}
 use Rattle.ws_laws.proofs.TransformDoes.{TransformCauses}
@@ -57,6 +60,7 @@ module _ (t : TransformId) (i : StreamId) where
   half-of : (o : Owner) → is_half t o ≡ true → o ≡ HalfOf t
   half-of Host e = cc
   half-of (HalfOf u) e = ap HalfOf (sym (ap (λ (n : ℕ). record { 0 = n }) (eq_numbers t.0 u.0 e)))
+  half-of (BranchOf u half) e = cc
 
   pub written-half : (s : Slots) (j : StreamId) → Halved s → IsHalf s → has_writable j s ≡ true → mine t s j ≡ true → j ≡ i
   written-half s j halved h there m =
@@ -65,10 +69,17 @@ module _ (t : TransformId) (i : StreamId) where
   chunk-faithful : (s : Slots) (v : Value) (r : ReadRequest) → ChunkCauses (IsFaithful s) v r
   chunk-faithful s v (Promise p) = tt
   chunk-faithful s v (PipeRequest p) = tt
+  chunk-faithful s v (TeeRequest t) = tt
 
   end-faithful : (s : Slots) (r : ReadRequest) → EndCauses (IsFaithful s) r
   end-faithful s (Promise p) = tt
   end-faithful s (PipeRequest p) = tt
+  end-faithful s (TeeRequest t) = tt
+
+  error-faithful : (s : Slots) (r : ReadRequest) → ErrorCauses (IsFaithful s) r
+  error-faithful s (Promise p) = tt
+  error-faithful s (PipeRequest p) = tt
+  error-faithful s (TeeRequest t) = tt
 
   signal-faithful : (s : Slots) (operation : SignalOperation) → SignalCauses (IsFaithful s) operation
   signal-faithful s (Add p) = tt
@@ -85,9 +96,15 @@ module _ (t : TransformId) (i : StreamId) where
   transform-faithful s u w r (WriteAlgorithm j) c = absurd c
   transform-faithful s u w r _ c = tt
 
+  tee-faithful : (s : Slots) (u : TeeId) (source first second : StreamId) (e : Effect) → TeeCauses u source first second e → IsFaithful s e
+  tee-faithful s u source first second (OnTransform y operation) c = absurd c
+  tee-faithful s u source first second (WriteAlgorithm j) c = absurd c
+  tee-faithful s u source first second _ c = tt
+
   write-faithful : (s : Slots) (j : StreamId) (owner : Owner) → (is_half t owner ≡ true → j ≡ i) → Faithful s (write_algorithm j owner)
   write-faithful s j Host k = (tt, tt)
   write-faithful s j (HalfOf u) k = (λ same. ap (λ (n : StreamId). React (WritableWrite n) None) (k same), tt)
+  write-faithful s j (BranchOf u half) k = (tt, tt)
 
   absent : (s : Slots) (j : StreamId) (operation : WritableOperation) → has_writable j s ≡ false → (row (OnWritable j operation) s).caused ≡ []
   unfolding row
@@ -109,16 +126,17 @@ module _ (t : TransformId) (i : StreamId) where
   caused-faithful s (OnPipe p operation) halved h k = row-causes (IsFaithful s) (OnPipe p operation) s (pipe-faithful s p)
   caused-faithful s (OnSignal a operation) halved h k = row-causes (IsFaithful s) (OnSignal a operation) s (signal-faithful s operation)
   caused-faithful s (OnTransform u operation) halved h k = row-causes (IsFaithful s) (OnTransform u operation) s (transform-faithful s u)
+  caused-faithful s (OnTee u operation) halved h k = row-causes (IsFaithful s) (OnTee u operation) s (tee-faithful s u)
   caused-faithful s (StartAlgorithm j step start) halved h k = row-causes (IsFaithful s) (StartAlgorithm j step start) s (λ g u. tt, λ c u. tt)
-  caused-faithful s (PullAlgorithm j) halved h k = row-causes (IsFaithful s) (PullAlgorithm j) s (λ c u. tt, λ y u. tt)
-  caused-faithful s (CancelAlgorithm j c p) halved h k = row-causes (IsFaithful s) (CancelAlgorithm j c p) s (λ c u. tt, λ y u. tt)
+  caused-faithful s (PullAlgorithm j) halved h k = row-causes (IsFaithful s) (PullAlgorithm j) s (λ c u. tt, (λ y u. tt, (λ t. tt, λ u. tt)))
+  caused-faithful s (CancelAlgorithm j c p) halved h k = row-causes (IsFaithful s) (CancelAlgorithm j c p) s (λ c u. tt, (λ y u. tt, λ t half u. tt))
   caused-faithful s (WriteAlgorithm j) halved h k = write-faithful s j (owner_at j s) k
   caused-faithful s (CloseAlgorithm j) halved h k = row-causes (IsFaithful s) (CloseAlgorithm j) s (λ c u. tt, λ y u. tt)
   caused-faithful s (AbortAlgorithm j c p) halved h k = row-causes (IsFaithful s) (AbortAlgorithm j c p) s (λ c u. tt, λ y u. tt)
   caused-faithful s (ChunkSteps j r v) halved h k = row-causes (IsFaithful s) (ChunkSteps j r v) s (chunk-faithful s v r)
   caused-faithful s (CloseSteps j r) halved h k = row-causes (IsFaithful s) (CloseSteps j r) s (end-faithful s r)
   caused-faithful s (CloseStepsWith j r b) halved h k = row-causes (IsFaithful s) (CloseStepsWith j r b) s (end-faithful s r)
-  caused-faithful s (ErrorSteps j r e) halved h k = row-causes (IsFaithful s) (ErrorSteps j r e) s (end-faithful s r)
+  caused-faithful s (ErrorSteps j r e) halved h k = row-causes (IsFaithful s) (ErrorSteps j r e) s (error-faithful s r)
   caused-faithful s _ halved h k = tt
 
   faithful-on : (s : Slots) (e f : Effect) → IsFaithful s f → IsFaithful (row e s).slots f

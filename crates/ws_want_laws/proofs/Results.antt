@@ -1,15 +1,21 @@
 -- What holds the result of a write of a transform stream: the reaction by which it goes on, and the one to its transform algorithm, and the effects
 -- that lead to these. No effect makes more of it, but the two by which a result is made.
 use Rattle.std.proofs.Common.{◌≡◌, ℕ, ◌+◌, ◌≤◌, true, false, if◌then◌else◌, nat_eq, length, List, [], ◌∷◌, Option, Some, None, slice_get, refl, arith}
+use Rattle.ws_steps.specs.Slots.{on_tee_at}
+use Rattle.ws_steps.specs.Operations.{tee_operation}
+use Rattle.ws_steps.specs.declared.tee.TeeOperation.{TeeOperation}
+use Rattle.ws_value.specs.declared.ids.TeeId.{TeeId}
+use Rattle.ws_steps.specs.Tee as tee
+use Rattle.ws_steps.specs.declared.effects.Effect.TheVariants.{Tee as OnTee}
 use Rattle.ws_value.specs.declared.{ids.PipeId.{PipeId}, ids.PromiseId.{PromiseId}, ids.StreamId.{StreamId}, value.Value.{Value}, value.Plain.{Plain}}
 use Rattle.ws_steps.specs.declared.calls.{Event.{Event}, Event.TheVariants.{Host as HostCalled}, HostCall.{HostCall}}
 use Rattle.ws_steps.specs.Effects.{Out, cause}
 use Rattle.ws_steps.specs.declared.calls.{Call.{Call}, StartBy.{StartBy}, StartBy.TheVariants.{Now, Later}}
-use Rattle.ws_steps.specs.declared.effects.{Effect.{Effect}, Gift.{Gift}, Owner.{Owner}, Owner.TheVariants.{Host, HalfOf}, Use.{Use}, Use.TheVariants.{React, Resolve}}
+use Rattle.ws_steps.specs.declared.effects.{Effect.{Effect}, Gift.{Gift}, Owner.{Owner}, Owner.TheVariants.{Host, HalfOf, BranchOf}, Use.{Use}, Use.TheVariants.{React, Resolve}}
 use Rattle.ws_steps.specs.declared.effects.Effect.TheVariants.{Readable as OnReadable, Writable as OnWritable, Pipe as OnPipe, Signal as OnSignal, Transform as OnTransform, StartAlgorithm, PullAlgorithm, CancelAlgorithm, WriteAlgorithm, CloseAlgorithm, AbortAlgorithm, ChunkSteps, CloseSteps, ErrorSteps, Give, CallHost}
 use Rattle.ws_steps.specs.declared.pipes.{SignalOperation.{SignalOperation}, SignalOperation.TheVariants.{Add, Forget, Trigger}}
 use Rattle.ws_steps.specs.declared.promises.{Job.{Job}, Reaction.{Reaction}, Reaction.TheVariants.{Perform}, Step.{Step}, Step.TheVariants.{TransformChanged, Transformed, ReadablePull, ReturnUndefined, WritableClose, WritableAbort}}
-use Rattle.ws_steps.specs.declared.readable.{ReadRequest.{ReadRequest}, ReadRequest.TheVariants.{Promise, Pipe as PipeRequest}}
+use Rattle.ws_steps.specs.declared.readable.{ReadRequest.{ReadRequest}, ReadRequest.TheVariants.{Promise, Pipe as PipeRequest, Tee as TeeRequest}}
 use Rattle.ws_steps.specs.declared.transform.{Halves.{Halves}, Taker.{Taker}, Taker.TheVariants.{ToHost, ToTransform}, TransformId.{TransformId}, TransformOperation.{TransformOperation}}
 use Rattle.ws_steps.specs.declared.transform.TransformOperation.TheVariants as names
 use Rattle.ws_steps.specs.declared.writable.{WritableOperation.{WritableOperation}, WritableOperation.TheVariants.{HandOn}, WriteRecord.{WriteRecord}, WriteRecord.TheVariants.{Chunk, InFlight, CloseMark}}
@@ -25,7 +31,7 @@ use Rattle.ws_steps.specs.Writable as writable
 use Rattle.ws_laws.proofs.EachCall.{each_call}
 use Rattle.ws_laws.proofs.Lists.{Each}
 use Rattle.ws_laws.proofs.PipeDoes.{IsStepOf, PipeCauses}
-use Rattle.ws_laws.proofs.Rows.{ChunkCauses, EndCauses, SignalCauses, row-causes}
+use Rattle.ws_laws.proofs.Rows.{ChunkCauses, EndCauses, ErrorCauses, SignalCauses, row-causes}
 use Rattle.ws_laws.proofs.Tables.{either, writable_acts}
 use Rattle.ws_laws.proofs.Weights.{weigh, taken_off, weigh-fresh, weigh-settle, weigh-answer, weigh-micro, weigh-react, weigh-follow}
 use Rattle.ws_laws.proofs.WritableDoes.{IsHandOn, others-do}
@@ -33,6 +39,7 @@ use Rattle.ws_writable_laws.proofs.Shape.{all, all-append}
 use Rattle.ws_transform_laws.specs.TransformHistory.{is_same_transform}
 use Rattle.ws_transform_laws.proofs.Sparing.{IsUsing, row-spares}
 use Rattle.ws_steps.specs.declared.effects.Effect.TheVariants.{Byte, CloseStepsWith}
+use Rattle.ws_steps.specs.declared.tee.TeeOperation.TheVariants as tees
 
 module _ (t : TransformId) (P : PromiseId → ℕ) where
   -- so much of it in a reaction
@@ -55,6 +62,7 @@ module _ (t : TransformId) (P : PromiseId → ℕ) where
   in_hand (OnTransform u (names.SinkClose w)) = of_used w
   in_hand (OnTransform u (names.SinkAbort r w)) = of_used w
   in_hand (OnTransform u (names.SourceCancel r w)) = of_used w
+  in_hand (OnTee u (tees.CancelBranch half r w)) = of_used w
   in_hand (OnTransform u (names.TransformChunk v c)) = if is_same_transform t u then P c else 0
   in_hand (OnTransform u (names.WriteGoesOn c)) = if is_same_transform t u then P c else 0
   in_hand (OnWritable j (HandOn (ToTransform u c))) = if is_same_transform t u then P c else 0
@@ -78,10 +86,17 @@ module _ (t : TransformId) (P : PromiseId → ℕ) where
   chunk-bare : (v : Value) (r : ReadRequest) → ChunkCauses IsBare v r
   chunk-bare v (Promise p) = tt
   chunk-bare v (PipeRequest p) = refl
+  chunk-bare v (TeeRequest t) = refl
 
   end-bare : (r : ReadRequest) → EndCauses IsBare r
   end-bare (Promise p) = tt
   end-bare (PipeRequest p) = refl
+  end-bare (TeeRequest t) = refl
+
+  error-bare : (r : ReadRequest) → ErrorCauses IsBare r
+  error-bare (Promise p) = tt
+  error-bare (PipeRequest p) = refl
+  error-bare (TeeRequest t) = refl
 
   signal-bare : (operation : SignalOperation) → SignalCauses IsBare operation
   signal-bare (Add p) = tt
@@ -153,6 +168,16 @@ module _ (t : TransformId) (P : PromiseId → ℕ) where
   on-same s u operation None b = omega arith
   on-same s u operation (Some x) b = transform-same u (halves_at x s) operation (record { slots = x; out = found s }) (λ m. absurd (b m)) refl
 
+  -- and of a tee
+
+  tee-same : (u : TeeId) (operation : TeeOperation) (a : tee.Acts) → a.out.effects ≡ [] → all_in_hand (tee_operation u operation a).out.effects ≤ in_hand (OnTee u operation)
+  unfolding tee.pull_branch tee.keep_chunk tee.source_closed tee.source_errored tee.hand_chunk tee.handed tee.cancel_branch tee.reader_settled
+  tee-same u operation a none = grind (arith, none)
+
+  on-tee-same : (s : Slots) (u : TeeId) (operation : TeeOperation) (o : Option tee.Slots) → all_in_hand (on_tee_at (tee_operation u operation) u s o).caused ≤ in_hand (OnTee u operation)
+  on-tee-same s u operation None = omega arith
+  on-tee-same s u operation (Some x) = tee-same u operation (record { slots = x; out = found s }) refl
+
   -- one that makes a result
 
   sink-makes : (w : Use) (a : transform.Acts) → a.out.effects ≡ []
@@ -184,22 +209,27 @@ module _ (t : TransformId) (P : PromiseId → ℕ) where
   pull-bare : (j : StreamId) (owner : Owner) → all_in_hand (pull_algorithm j (React (ReadablePull j) None) owner) ≡ 0
   pull-bare j Host = refl
   pull-bare j (HalfOf u) = refl
+  pull-bare j (BranchOf u half) = refl
 
   cancel-bare : (j : StreamId) (c : Plain) (p : PromiseId) (owner : Owner) → all_in_hand (cancel_algorithm j c (React ReturnUndefined (Some p)) owner) ≡ 0
   cancel-bare j c p Host = refl
   cancel-bare j c p (HalfOf u) = refl
+  cancel-bare j c p (BranchOf u half) = refl
 
   write-bare : (j : StreamId) (owner : Owner) → all_in_hand (write_algorithm j owner) ≡ 0
   write-bare j Host = refl
   write-bare j (HalfOf u) = refl
+  write-bare j (BranchOf u half) = refl
 
   close-bare : (j : StreamId) (owner : Owner) → all_in_hand (close_algorithm j (React (WritableClose j) None) owner) ≡ 0
   close-bare j Host = refl
   close-bare j (HalfOf u) = refl
+  close-bare j (BranchOf u half) = refl
 
   abort-bare : (j : StreamId) (c : Plain) (p : PromiseId) (owner : Owner) → all_in_hand (abort_algorithm j c (React (WritableAbort j p) None) owner) ≡ 0
   abort-bare j c p Host = refl
   abort-bare j c p (HalfOf u) = refl
+  abort-bare j c p (BranchOf u half) = refl
 
   none-less : (n m : ℕ) → n ≡ 0 → n ≤ m
   none-less n m e = omega arith
@@ -213,6 +243,7 @@ module _ (t : TransformId) (P : PromiseId → ℕ) where
   row-same (OnPipe p operation) s n = none-less _ _ (each-bare _ (row-causes IsBare (OnPipe p operation) s (pipe-bare p)))
   row-same (OnSignal a operation) s n = none-less _ _ (each-bare _ (row-causes IsBare (OnSignal a operation) s (signal-bare operation)))
   row-same (OnTransform u operation) s n = on-same s u operation (slice_get s.transforms u.0) n
+  row-same (OnTee u operation) s n = on-tee-same s u operation (slice_get s.tees u.0)
   row-same (StartAlgorithm j step start) s n = start-same s j step start
   row-same (PullAlgorithm j) s n = none-less _ _ (pull-bare j (owner_at j s))
   row-same (CancelAlgorithm j c p) s n = none-less _ _ (cancel-bare j c p (owner_at j s))
@@ -222,7 +253,7 @@ module _ (t : TransformId) (P : PromiseId → ℕ) where
   row-same (ChunkSteps j r v) s n = none-less _ _ (each-bare _ (row-causes IsBare (ChunkSteps j r v) s (chunk-bare v r)))
   row-same (CloseSteps j r) s n = none-less _ _ (each-bare _ (row-causes IsBare (CloseSteps j r) s (end-bare r)))
   row-same (CloseStepsWith j r b) s n = none-less _ _ (each-bare _ (row-causes IsBare (CloseStepsWith j r b) s (end-bare r)))
-  row-same (ErrorSteps j r e) s n = none-less _ _ (each-bare _ (row-causes IsBare (ErrorSteps j r e) s (end-bare r)))
+  row-same (ErrorSteps j r e) s n = none-less _ _ (each-bare _ (row-causes IsBare (ErrorSteps j r e) s (error-bare r)))
   row-same _ s n = omega arith
 
   -- among the promises

@@ -2,7 +2,7 @@
 use Rattle.std.proofs.Common.{◌≡◌, ℕ, Bool, true, false, if◌then◌else◌, nat_eq, List, [], ◌∷◌, ◌++◌, Some, slice_get, refl, sym, ap, ◌∙◌, arith}
 use Rattle.ws_value.specs.declared.{ids.PromiseId.{PromiseId}, ids.StreamId.{StreamId}, value.Value.{Value}}
 use Rattle.ws_steps.specs.declared.calls.{Call.{Call}, Call.TheVariants.{Enqueue as EnqueueCall}}
-use Rattle.ws_steps.specs.declared.effects.{Effect.{Effect}, Owner.{Owner}, Owner.TheVariants.{Host, HalfOf}}
+use Rattle.ws_steps.specs.declared.effects.{Effect.{Effect}, Owner.{Owner}, Owner.TheVariants.{Host, HalfOf, BranchOf}}
 use Rattle.ws_steps.specs.declared.effects.Effect.TheVariants.{Readable as OnReadable, Transform as OnTransform}
 use Rattle.ws_steps.specs.declared.promises.Job.{Job}
 use Rattle.ws_steps.specs.declared.readable.ReadableOperation.TheVariants.{Enqueue}
@@ -67,7 +67,7 @@ module _ (t : TransformId) (i r : StreamId) where
   chunk-none s e es k f = absurd (cc)
 
   pub row-holds : (s : Slots) (e : Effect) (es : List Effect) → IsRight s → Holds s (e ∷ es) → Holds (row e s).slots ((row e s).caused ++ es)
-  row-holds s e es h k = record { freed = row-freed t s e es (chunk-none s e es k.held.few) k.freed; held = row-held t i s e es (half s h) k.held }
+  row-holds s e es h k = record { freed = row-freed t s e es (k.held.straight.known i).1.halved (chunk-none s e es k.held.few) k.freed; held = row-held t i s e es (half s h) k.held }
 
   -- the beginning of a call
 
@@ -125,6 +125,7 @@ module _ (t : TransformId) (i r : StreamId) where
   by-owner s j v (HalfOf u) halved h there is none =
       either (λ (b : Begun). Meanwhile (EnqueueCall j v) s b ≡ [] → Zone t b.done.slots b.done.caused) (can_close_or_enqueue (readable_at j s)) (calls.does (OnTransform u (names_of.Enqueue v) ∷ []) s) (calls.throws_type_error s)
       (λ can n. enters-zone s j v u halved h there is n) (λ cannot n. Outside refl) none
+  by-owner s j v (BranchOf u half) halved h there is none = Outside refl
 
   -- an enqueue of bytes tells no transform stream
   bytes-zone : (s : Slots) (j : StreamId) (v : Value) → let b : Begun = calls.enqueue_bytes j s v in Zone t b.done.slots b.done.caused
@@ -151,6 +152,7 @@ module _ (t : TransformId) (i r : StreamId) where
     pipe = λ z source dest prevent signal promise k. k;
     signal = λ z k. k;
     transform = λ z kind w q change k. get-stays z.transforms _ t.0 x k;
+    tee = λ z source first second cancel k. k;
     bytes = λ z mark auto k. k;
     byob_requests = λ z hs k. k;
     readable = λ z o mark size k. k;

@@ -1,12 +1,17 @@
 -- Until the host has settled the start algorithm of a transform stream, its writable half hasn't started: the reaction to its start promise is to come.
 use Rattle.std.proofs.Common.{◌≡◌, ℕ, ◌+◌, ◌≤◌, ◌<◌, Bool, true, false, if◌then◌else◌, nat_eq, length, List, [], ◌∷◌, ◌++◌, Some, None, slice_get, refl, sym, subst, ap, ◌∙◌, arith}
+use Rattle.ws_steps.specs.declared.tee.Half.TheVariants.{Second}
+use Rattle.ws_steps.specs.declared.tee.Half.TheVariants.{First}
+use Rattle.ws_laws.proofs.TeeDoes.{TeeCauses}
+use Rattle.ws_value.specs.declared.ids.TeeId.{TeeId}
+use Rattle.ws_steps.specs.declared.effects.Effect.TheVariants.{Tee as OnTee}
 use Rattle.ws_value.specs.declared.{ids.PipeId.{PipeId}, ids.PromiseId.{PromiseId}, ids.StreamId.{StreamId}, value.Plain.{Plain}, value.Value.{Value}}
 use Rattle.ws_steps.specs.declared.calls.{Call.{Call}, Event.{Event}, Event.TheVariants.{Host as HostCalled}, HostCall.{HostCall}, HostCall.TheVariants.{Start as HostStart}, StartBy.{StartBy}, StartBy.TheVariants.{Now, Later}}
-use Rattle.ws_steps.specs.declared.effects.{Effect.{Effect}, Gift.TheVariants.{This}, Owner.{Owner}, Owner.TheVariants.{Host, HalfOf}, Use.{Use}, Use.TheVariants.{React, Resolve}}
+use Rattle.ws_steps.specs.declared.effects.{Effect.{Effect}, Gift.TheVariants.{This}, Owner.{Owner}, Owner.TheVariants.{Host, HalfOf, BranchOf}, Use.{Use}, Use.TheVariants.{React, Resolve}}
 use Rattle.ws_steps.specs.declared.effects.Effect.TheVariants.{Readable as OnReadable, Writable as OnWritable, Pipe as OnPipe, Signal as OnSignal, Transform as OnTransform, StartAlgorithm, PullAlgorithm, CancelAlgorithm, WriteAlgorithm, CloseAlgorithm, AbortAlgorithm, ChunkSteps, CloseSteps, ErrorSteps, Give, CallHost}
 use Rattle.ws_steps.specs.declared.pipes.{SignalOperation.{SignalOperation}, SignalOperation.TheVariants.{Add, Forget, Trigger}}
 use Rattle.ws_steps.specs.declared.promises.{Job.{Job}, Job.TheVariants.{Follow}, Step.{Step}, Step.TheVariants.{WritableStart}}
-use Rattle.ws_steps.specs.declared.readable.{ReadRequest.{ReadRequest}, ReadRequest.TheVariants.{Promise, Pipe as PipeRequest}}
+use Rattle.ws_steps.specs.declared.readable.{ReadRequest.{ReadRequest}, ReadRequest.TheVariants.{Promise, Pipe as PipeRequest, Tee as TeeRequest}}
 use Rattle.ws_steps.specs.declared.transform.{Kind.{Kind}, TransformId.{TransformId}}
 use Rattle.ws_steps.specs.Calls as calls
 use Rattle.ws_steps.specs.Calls.{Begun, begin, add_stream}
@@ -25,7 +30,7 @@ use Rattle.ws_laws.proofs.EachCall.{each_call}
 use Rattle.ws_laws.proofs.Halves.{get-stays, get-last}
 use Rattle.ws_laws.proofs.Lists.{Each, each-append, each-map}
 use Rattle.ws_laws.proofs.PipeDoes.{PipeCauses}
-use Rattle.ws_laws.proofs.Rows.{ChunkCauses, EndCauses, SignalCauses, row-causes}
+use Rattle.ws_laws.proofs.Rows.{ChunkCauses, EndCauses, ErrorCauses, SignalCauses, row-causes}
 use Rattle.ws_laws.proofs.Shapes.{StreamShape, ReadableOf, stream_shape, stream_shapes, transform_shapes, transform_shape, map-there, row-stream_shapes}
 use Rattle.ws_laws.proofs.Tables.{eq_numbers, same_id, is_same-refl}
 use Rattle.ws_laws.proofs.TransformDoes.{TransformCauses}
@@ -42,6 +47,7 @@ use Rattle.ws_want_laws.proofs.Holding.{IsHalf}
 use Rattle.ws_steps.specs.Slots.{ByteStream}
 use Rattle.ws_steps.specs.declared.effects.Effect.TheVariants.{Byte, CloseStepsWith}
 use Rattle.ws_steps.specs.Bytes as byte
+use Rattle.ws_steps.specs.declared.readable.SizeBy.TheVariants.{Count}
 
 self : (k : ℕ) → nat_eq k k ≡ true
 self k = grind arith
@@ -90,10 +96,17 @@ module _ (r : StreamId) where
   chunk-other : (v : Value) (q : ReadRequest) → ChunkCauses IsOther v q
   chunk-other v (Promise p) = tt
   chunk-other v (PipeRequest p) = tt
+  chunk-other v (TeeRequest t) = tt
 
   end-other : (q : ReadRequest) → EndCauses IsOther q
   end-other (Promise p) = tt
   end-other (PipeRequest p) = tt
+  end-other (TeeRequest t) = tt
+
+  error-other : (q : ReadRequest) → ErrorCauses IsOther q
+  error-other (Promise p) = tt
+  error-other (PipeRequest p) = tt
+  error-other (TeeRequest t) = tt
 
   signal-other : (operation : SignalOperation) → SignalCauses IsOther operation
   signal-other (Add p) = tt
@@ -110,6 +123,11 @@ module _ (r : StreamId) where
   transform-other u w q (StartAlgorithm j step start) c = absurd c
   transform-other u w q _ c = tt
 
+  tee-other : (u : TeeId) (source first second : StreamId) (e : Effect) → TeeCauses u source first second e → IsOther e
+  tee-other u source first second (CallHost call w) c = absurd c
+  tee-other u source first second (StartAlgorithm j step start) c = absurd c
+  tee-other u source first second _ c = tt
+
   start-other : (s : Slots) (j : StreamId) (step : Step) (start : StartBy) → is_same r j ≡ false → Others (start_algorithm j step s start).caused
   start-other s j step Now k = (tt, tt)
   start-other s j step Later k = (k, (tt, tt))
@@ -117,22 +135,27 @@ module _ (r : StreamId) where
   pull-other : (j : StreamId) (u : Use) (owner : Owner) → Others (pull_algorithm j u owner)
   pull-other j u Host = (tt, tt)
   pull-other j u (HalfOf k) = (tt, tt)
+  pull-other j u (BranchOf k half) = (tt, (tt, tt))
 
   cancel-other : (j : StreamId) (c : Plain) (u : Use) (owner : Owner) → Others (cancel_algorithm j c u owner)
   cancel-other j c u Host = (tt, tt)
   cancel-other j c u (HalfOf k) = (tt, tt)
+  cancel-other j c u (BranchOf k half) = (tt, tt)
 
   write-other : (j : StreamId) (owner : Owner) → Others (write_algorithm j owner)
   write-other j Host = (tt, tt)
   write-other j (HalfOf k) = (tt, tt)
+  write-other j (BranchOf k half) = (tt, tt)
 
   close-other : (j : StreamId) (u : Use) (owner : Owner) → Others (close_algorithm j u owner)
   close-other j u Host = (tt, tt)
   close-other j u (HalfOf k) = (tt, tt)
+  close-other j u (BranchOf k half) = (tt, tt)
 
   abort-other : (j : StreamId) (c : Plain) (u : Use) (owner : Owner) → Others (abort_algorithm j c u owner)
   abort-other j c u Host = (tt, tt)
   abort-other j c u (HalfOf k) = (tt, tt)
+  abort-other j c u (BranchOf k half) = (tt, tt)
 
   pub caused-other : (e : Effect) (s : Slots) → IsStarting e → Others (row e s).caused
   unfolding row
@@ -142,6 +165,7 @@ module _ (r : StreamId) where
   caused-other (OnPipe p operation) s k = row-causes IsOther (OnPipe p operation) s (pipe-other p)
   caused-other (OnSignal a operation) s k = row-causes IsOther (OnSignal a operation) s (signal-other operation)
   caused-other (OnTransform u operation) s k = row-causes IsOther (OnTransform u operation) s (transform-other u)
+  caused-other (OnTee u operation) s k = row-causes IsOther (OnTee u operation) s (tee-other u)
   caused-other (StartAlgorithm j step start) s k = start-other s j step start k
   caused-other (PullAlgorithm j) s k = pull-other j _ (owner_at j s)
   caused-other (CancelAlgorithm j c p) s k = cancel-other j c _ (owner_at j s)
@@ -151,7 +175,7 @@ module _ (r : StreamId) where
   caused-other (ChunkSteps j q v) s k = row-causes IsOther (ChunkSteps j q v) s (chunk-other v q)
   caused-other (CloseSteps j q) s k = row-causes IsOther (CloseSteps j q) s (end-other q)
   caused-other (CloseStepsWith j q b) s k = row-causes IsOther (CloseStepsWith j q b) s (end-other q)
-  caused-other (ErrorSteps j q e) s k = row-causes IsOther (ErrorSteps j q e) s (end-other q)
+  caused-other (ErrorSteps j q e) s k = row-causes IsOther (ErrorSteps j q e) s (error-other q)
   caused-other _ s k = tt
 
   pub row-starting : (e : Effect) (s : Slots) (es : List Effect) → Starting (e ∷ es) → Starting ((row e s).caused ++ es)
@@ -237,6 +261,7 @@ call-shape k x c s h = begin-makes (λ z. slice_get (stream_shapes z) k ≡ Some
   pipe = λ z source dest prevent signal promise h. h;
   signal = λ z h. h;
   transform = λ z kind w q change h. h;
+  tee = λ z source first second cancel h. h;
   bytes = λ z mark auto h. grown k x z _ h;
   byob_requests = λ z hs h. h;
   readable = λ z o mark size h. grown k x z _ h;
@@ -282,6 +307,33 @@ module _ (t : TransformId) (i r : StreamId) where
           let at : r.0 ≡ length s.streams = eq_numbers r.0 (length s.streams) (sym f) in
           let there : slice_get z.streams r.0 ≡ Some y = rw (e, at) (get-last s.streams [] y) in
           absurd (n (o (stream_shape y) (map-there stream_shape z.streams r.0 y there)))
+
+  -- a branch of a tee is another
+
+  placed-other : (z : Slots) (n : ℕ) (y : Stream) → slice_get z.streams n ≡ Some y → (stream_shape y ≡ ReadableOf (HalfOf t) → ⊥) → IsOwn z → is_same r (record { 0 = n }) ≡ false
+  placed-other z n y at other o = by (is_same r (record { 0 = n })) refl
+    where
+      by : (b : Bool) → b ≡ is_same r (record { 0 = n }) → is_same r (record { 0 = n }) ≡ false
+      by false f = sym f
+      by true f =
+          let is : r.0 ≡ n = eq_numbers r.0 n (sym f) in
+          let there : slice_get z.streams r.0 ≡ Some y = rw is at in
+          absurd (other (o (stream_shape y) (map-there stream_shape z.streams r.0 y there)))
+
+  one-more : (xs : List Stream) (x : Stream) → length (xs ++ x ∷ []) ≡ length xs + 1
+  one-more [] x = refl
+  one-more (y ∷ ys) x = let h = one-more ys x in omega (arith, h)
+
+  tee-begins : (source : StreamId) (s : Slots) → Begins (calls.make_tee source (record { 0 = length s.streams }) (record { 0 = length s.streams + 1 }) s)
+  tee-begins source s =
+      let me : TeeId = record { 0 = length s.tees } in
+      let a : Stream = ReadableStream (readable.set_up (BranchOf me First) 1 Count) in
+      let b : Stream = ReadableStream (readable.set_up (BranchOf me Second) 1 Count) in
+      let xs : List Stream = s.streams ++ a ∷ [] in
+      let made : Begun = calls.make_tee source (record { 0 = length s.streams }) (record { 0 = length s.streams + 1 }) s in
+      let first : slice_get (xs ++ b ∷ []) (length s.streams) ≡ Some a = get-stays xs (b ∷ []) (length s.streams) a (get-last s.streams [] a) in
+      let second : slice_get (xs ++ b ∷ []) (length s.streams + 1) ≡ Some b = subst (λ (k : ℕ). slice_get (xs ++ b ∷ []) k ≡ Some b) (one-more s.streams a) (get-last xs [] b) in
+      plain-own made (λ o. (tt, (placed-other made.done.slots (length s.streams) a first (λ e. cc) o, (placed-other made.done.slots (length s.streams + 1) b second (λ e. cc) o, (tt, tt)))))
 
   -- the two effects by which the start promise of a writable half follows that of the transform stream
   made-ear : (z : Slots) (a b : PromiseId) (j : StreamId) (rest : List Effect) → is_same i j ≡ true
@@ -334,6 +386,7 @@ module _ (t : TransformId) (i r : StreamId) where
     make_readable = λ mark size start. plain-own _ (λ o. (new-other s (ReadableStream (readable.set_up Host mark size)) (add_stream (ReadableStream (readable.set_up Host mark size)) s) refl (λ e. cc) o, tt));
     make_writable = λ mark size start. plain-own _ (λ o. (new-other s (WritableStream (writable.set_up Host mark size)) (add_stream (WritableStream (writable.set_up Host mark size)) s) refl (λ e. cc) o, tt));
     make_transform = λ kind m n start. made-by kind m n start s;
+    make_tee = λ source e is free untied. tee-begins source s;
     get_byob = λ j is e. plain _ (grind arith);
     release_byob = λ l closed j e. plain _ (grind arith);
     read_into = λ l j closed room element least e f. plain _ (grind arith);

@@ -7,7 +7,7 @@ use Rattle.ws_steps.specs.declared.transform.TransformOperation.TheVariants as n
 use Rattle.std.proofs.Common.{◌≡◌, ⊎_elim, if◌then◌else◌, Bool, true, false, if◌then◌else◌, List, [], ◌∷◌, ◌++◌, Option, Some, slice_get, refl, sym, ap, ◌∙◌, inl, inr, ◌⊎◌}
 use Rattle.ws_value.specs.declared.ids.StreamId.{StreamId}
 use Rattle.ws_value.specs.declared.value.Value.{Value}
-use Rattle.ws_steps.specs.declared.effects.Owner.TheVariants.{HalfOf, Host}
+use Rattle.ws_steps.specs.declared.effects.Owner.TheVariants.{HalfOf, Host, BranchOf}
 use Rattle.ws_steps.specs.declared.transform.TransformId.{TransformId}
 use Rattle.ws_steps.specs.Histories.{in_step, over, is_same}
 use Rattle.ws_steps.specs.ReadableHistory.{accepted_in_step, accepted_by}
@@ -111,6 +111,7 @@ module _ (t : TransformId) (i r : StreamId) where
         either (IsNone j v) (can_close_or_enqueue (readable_at j s)) (calls.does (OnReadable j (Enqueue v) ∷ []) s) (calls.throws_type_error s) (λ can. taken-none j v can) (λ cannot. refl)
     owner-none j v (HalfOf u) =
         either (IsNone j v) (can_close_or_enqueue (readable_at j s)) (calls.does (OnTransform u (names_of.Enqueue v) ∷ []) s) (calls.throws_type_error s) (λ can. taken-none j v can) (λ cannot. refl)
+    owner-none j v (BranchOf u half) = refl
 
     -- a byte stream is another
     apart : (j : StreamId) → has_byte j s ≡ true → is_same r j ≡ false

@@ -1,12 +1,18 @@
 -- While a transform stream is told of an enqueue, or is about to be, the effects of that enqueue stand at the front of the agenda, and by none of these
 -- a write comes to wait.
 use Rattle.std.proofs.Common.{◌≡◌, ℕ, Bool, true, false, List, [], ◌∷◌, ◌++◌, Option, Some, None, slice_get, refl, sym, subst, ap, ◌∙◌, arith, append_assoc}
+use Rattle.ws_steps.specs.Operations.{tee_operation}
+use Rattle.ws_steps.specs.Slots.{on_tee_at}
+use Rattle.ws_laws.proofs.TeeDoes.{TeeCauses}
+use Rattle.ws_steps.specs.Tee as tee
+use Rattle.ws_value.specs.declared.ids.TeeId.{TeeId}
+use Rattle.ws_steps.specs.declared.effects.Effect.TheVariants.{Tee as OnTee}
 use Rattle.ws_value.specs.declared.{ids.PipeId.{PipeId}, ids.PromiseId.{PromiseId}, ids.StreamId.{StreamId}, value.Value.{Value}}
-use Rattle.ws_steps.specs.declared.effects.{Effect.{Effect}, Owner.{Owner}, Owner.TheVariants.{Host, HalfOf}, Use.TheVariants.{React}}
+use Rattle.ws_steps.specs.declared.effects.{Effect.{Effect}, Owner.{Owner}, Owner.TheVariants.{Host, HalfOf, BranchOf}, Use.TheVariants.{React}}
 use Rattle.ws_steps.specs.declared.effects.Effect.TheVariants.{Readable as OnReadable, Writable as OnWritable, Pipe as OnPipe, Signal as OnSignal, Transform as OnTransform, StartAlgorithm, PullAlgorithm, CancelAlgorithm, WriteAlgorithm, CloseAlgorithm, AbortAlgorithm, ChunkSteps, CloseSteps, ErrorSteps, Give, CallHost}
 use Rattle.ws_steps.specs.declared.pipes.{PipeOperation.TheVariants.{KeepChunk}, SignalOperation.{SignalOperation}, SignalOperation.TheVariants.{Add, Forget, Trigger}}
 use Rattle.ws_steps.specs.declared.promises.{Job.{Job}, Step.TheVariants.{ReadablePull}}
-use Rattle.ws_steps.specs.declared.readable.{ReadRequest.{ReadRequest}, ReadRequest.TheVariants.{Promise, Pipe as PipeRequest}, ReadableOperation.TheVariants.{Enqueue}}
+use Rattle.ws_steps.specs.declared.readable.{ReadRequest.{ReadRequest}, ReadRequest.TheVariants.{Promise, Pipe as PipeRequest, Tee as TeeRequest}, ReadableOperation.TheVariants.{Enqueue}}
 use Rattle.ws_steps.specs.declared.transform.{Halves.{Halves}, Kind.{Kind}, Kind.TheVariants.{Identity, Host as HostKind}, TransformId.{TransformId}, TransformOperation.{TransformOperation}}
 use Rattle.ws_steps.specs.declared.transform.TransformOperation.TheVariants as names
 use Rattle.ws_steps.specs.Jobs.{job_effects}
@@ -16,9 +22,12 @@ use Rattle.ws_steps.specs.Readable as readable
 use Rattle.ws_steps.specs.Slots.{Slots, Done, nothing, found, halves_at, owner_at, has_readable, has_byte, put_readable, put_byte, on_readable, on_byte, on_pipe_at, on_transform_at}
 use Rattle.ws_steps.specs.Transform as transform
 use Rattle.ws_steps.specs.Turns.{row, pull_algorithm}
-use Rattle.ws_laws.proofs.Lists.{Each, each-append}
+use Rattle.ws_laws.proofs.Lists.{Each, each-append, each-map}
+use Rattle.ws_laws.proofs.Halves.{Halved}
+use Rattle.ws_laws.proofs.Shapes.{ReadableOf, stream_shapes, transform_shape, map-there, owner-told, row-owner}
+use Rattle.ws_steps.specs.declared.tee.TeeOperation.TheVariants.{KeepChunk as KeepByTee}
 use Rattle.ws_laws.proofs.PipeDoes.{PipeCauses}
-use Rattle.ws_laws.proofs.Rows.{ChunkCauses, EndCauses, SignalCauses, row-causes}
+use Rattle.ws_laws.proofs.Rows.{ChunkCauses, EndCauses, ErrorCauses, SignalCauses, row-causes}
 use Rattle.ws_laws.proofs.Tables.{either, readable_acts, byte_acts}
 use Rattle.ws_writable_laws.proofs.Shape.{one_if, all, all-append, leads_to, of_use}
 use Rattle.ws_transform_laws.specs.TransformHistory.{is_same_transform}
@@ -47,10 +56,17 @@ module _ (t : TransformId) where
   chunk-unmarked : (v : Value) (r : ReadRequest) → ChunkCauses IsUnmarked v r
   chunk-unmarked v (Promise p) = tt
   chunk-unmarked v (PipeRequest p) = refl
+  chunk-unmarked v (TeeRequest t) = refl
 
   end-unmarked : (r : ReadRequest) → EndCauses IsUnmarked r
   end-unmarked (Promise p) = tt
   end-unmarked (PipeRequest p) = refl
+  end-unmarked (TeeRequest t) = refl
+
+  error-unmarked : (r : ReadRequest) → ErrorCauses IsUnmarked r
+  error-unmarked (Promise p) = tt
+  error-unmarked (PipeRequest p) = refl
+  error-unmarked (TeeRequest t) = refl
 
   signal-unmarked : (operation : SignalOperation) → SignalCauses IsUnmarked operation
   signal-unmarked (Add p) = tt
@@ -60,6 +76,10 @@ module _ (t : TransformId) where
   pipe-unmarked : (p : PipeId) (source dest : StreamId) (e : Effect) → PipeCauses p source dest e → IsUnmarked e
   pipe-unmarked p source dest (OnTransform u operation) c = absurd c
   pipe-unmarked p source dest _ c = refl
+
+  tee-unmarked : (u : TeeId) (source first second : StreamId) (e : Effect) → TeeCauses u source first second e → IsUnmarked e
+  tee-unmarked u source first second (OnTransform y operation) c = absurd c
+  tee-unmarked u source first second _ c = refl
 
   -- an effect that tells of no enqueue of its own
   abbrev pub IsQuiet : Effect → Type 0
@@ -84,99 +104,130 @@ module _ (t : TransformId) where
   row-unmarked (OnPipe p operation) s q = each-unmarked _ (row-causes IsUnmarked (OnPipe p operation) s (pipe-unmarked p))
   row-unmarked (OnSignal a operation) s q = each-unmarked _ (row-causes IsUnmarked (OnSignal a operation) s (signal-unmarked operation))
   row-unmarked (OnTransform u operation) s q = on-unmarked s u operation (slice_get s.transforms u.0) q
+  row-unmarked (OnTee u operation) s q = each-unmarked _ (row-causes IsUnmarked (OnTee u operation) s (tee-unmarked u))
   row-unmarked (StartAlgorithm j step start) s q = each-unmarked _ (row-causes IsUnmarked (StartAlgorithm j step start) s (λ g u. refl, λ c u. refl))
-  row-unmarked (PullAlgorithm j) s q = each-unmarked _ (row-causes IsUnmarked (PullAlgorithm j) s (λ c u. refl, λ y u. refl))
-  row-unmarked (CancelAlgorithm j c p) s q = each-unmarked _ (row-causes IsUnmarked (CancelAlgorithm j c p) s (λ c u. refl, λ y u. refl))
+  row-unmarked (PullAlgorithm j) s q = each-unmarked _ (row-causes IsUnmarked (PullAlgorithm j) s (λ c u. refl, (λ y u. refl, (λ t. refl, λ u. refl))))
+  row-unmarked (CancelAlgorithm j c p) s q = each-unmarked _ (row-causes IsUnmarked (CancelAlgorithm j c p) s (λ c u. refl, (λ y u. refl, λ t half u. refl)))
   row-unmarked (WriteAlgorithm j) s q = each-unmarked _ (row-causes IsUnmarked (WriteAlgorithm j) s (refl, λ y u. refl))
   row-unmarked (CloseAlgorithm j) s q = each-unmarked _ (row-causes IsUnmarked (CloseAlgorithm j) s (λ c u. refl, λ y u. refl))
   row-unmarked (AbortAlgorithm j c p) s q = each-unmarked _ (row-causes IsUnmarked (AbortAlgorithm j c p) s (λ c u. refl, λ y u. refl))
   row-unmarked (ChunkSteps j r v) s q = each-unmarked _ (row-causes IsUnmarked (ChunkSteps j r v) s (chunk-unmarked v r))
   row-unmarked (CloseSteps j r) s q = each-unmarked _ (row-causes IsUnmarked (CloseSteps j r) s (end-unmarked r))
   row-unmarked (CloseStepsWith j r b) s q = each-unmarked _ (row-causes IsUnmarked (CloseStepsWith j r b) s (end-unmarked r))
-  row-unmarked (ErrorSteps j r e) s q = each-unmarked _ (row-causes IsUnmarked (ErrorSteps j r e) s (end-unmarked r))
+  row-unmarked (ErrorSteps j r e) s q = each-unmarked _ (row-causes IsUnmarked (ErrorSteps j r e) s (error-unmarked r))
   row-unmarked _ s q = refl
 
-  -- the effects of an enqueue
-  abbrev pub IsEntering : Effect → Type 0
-  IsEntering (OnReadable j (Enqueue v)) = Unit {0}
-  IsEntering (OnTransform u (names.Enqueue v)) = Unit {0}
-  IsEntering (OnTransform u names.Enqueued) = Unit {0}
-  IsEntering (OnTransform u (names.SourcePull w)) = of_use (changing t) w ≡ 0
-  IsEntering (PullAlgorithm j) = Unit {0}
-  IsEntering (ChunkSteps j q v) = Unit {0}
-  IsEntering (OnPipe p (KeepChunk v)) = Unit {0}
-  IsEntering (Give g u) = of_use (changing t) u ≡ 0
-  IsEntering (CallHost c u) = of_use (changing t) u ≡ 0
-  IsEntering _ = ⊥
+  -- the effects of an enqueue into a stream that is no branch of a tee: a pull of a branch leads to a read of its source
 
-  abbrev pub Enterings : List Effect → Type 0
-  Enterings es = Each IsEntering es
+  abbrev is_branch : Owner → Bool
+  is_branch Host = false
+  is_branch (HalfOf u) = false
+  is_branch (BranchOf u half) = true
 
-  readable-enters : (j : StreamId) (v : Value) (a : readable.Acts) → a.out.effects ≡ [] → Enterings (readable_operation j (Enqueue v) a).out.effects
+  abbrev pub IsEntering : Slots → Effect → Type 0
+  IsEntering s (OnReadable j (Enqueue v)) = is_branch (owner_at j s) ≡ false
+  IsEntering s (OnTransform u (names.Enqueue v)) = Unit {0}
+  IsEntering s (OnTransform u names.Enqueued) = Unit {0}
+  IsEntering s (OnTransform u (names.SourcePull w)) = of_use (changing t) w ≡ 0
+  IsEntering s (OnTee u (KeepByTee v)) = Unit {0}
+  IsEntering s (PullAlgorithm j) = is_branch (owner_at j s) ≡ false
+  IsEntering s (ChunkSteps j q v) = Unit {0}
+  IsEntering s (OnPipe p (KeepChunk v)) = Unit {0}
+  IsEntering s (Give g u) = of_use (changing t) u ≡ 0
+  IsEntering s (CallHost c u) = of_use (changing t) u ≡ 0
+  IsEntering s _ = ⊥
+
+  abbrev pub Enterings : Slots → List Effect → Type 0
+  Enterings s es = Each (IsEntering s) es
+
+  enters-later : (e f : Effect) (s : Slots) → IsEntering s f → IsEntering (row e s).slots f
+  enters-later e (OnReadable j (Enqueue v)) s c = ap is_branch (row-owner j e s) ∙ c
+  enters-later e (PullAlgorithm j) s c = ap is_branch (row-owner j e s) ∙ c
+  enters-later e f s c = c
+
+  enterings-later : (e : Effect) (s : Slots) (es : List Effect) → Enterings s es → Enterings (row e s).slots es
+  enterings-later e s es k = each-map (IsEntering s) (IsEntering (row e s).slots) (λ f. enters-later e f s) es k
+
+  readable-enters : (s : Slots) (j : StreamId) (v : Value) (a : readable.Acts) → a.out.effects ≡ [] → is_branch (owner_at j s) ≡ false → Enterings s (readable_operation j (Enqueue v) a).out.effects
   unfolding readable.controller_enqueue readable.accept readable.call_pull_if_needed
-  readable-enters j v a none = grind (arith, none)
+  readable-enters s j v a none n = grind (arith, none, n)
 
-  pull-enters : (j : StreamId) (owner : Owner) → Enterings (pull_algorithm j (React (ReadablePull j) None) owner)
-  pull-enters j Host = (refl, tt)
-  pull-enters j (HalfOf u) = (refl, tt)
+  pull-enters : (s : Slots) (j : StreamId) (owner : Owner) → is_branch owner ≡ false → Enterings s (pull_algorithm j (React (ReadablePull j) None) owner)
+  pull-enters s j Host n = (refl, tt)
+  pull-enters s j (HalfOf u) n = (refl, tt)
+  pull-enters s j (BranchOf u half) n = cc
 
-  own-enters : (s : Slots) (u : TransformId) (operation : TransformOperation) (o : Option transform.Slots) → IsEntering (OnTransform u operation)
-      → Enterings (on_transform_at (λ halves. transform_operation u halves operation) u s o).caused
+  -- the readable half of a transform stream is no branch
+  half-owner : (s : Slots) (u : TransformId) (x : transform.Slots) → Halved s → slice_get s.transforms u.0 ≡ Some x → is_branch (owner_at x.readable s) ≡ false
+  half-owner s u x halved at =
+      let shape : slice_get (stream_shapes s) x.readable.0 ≡ Some (ReadableOf (HalfOf u)) = (halved.halves u (transform_shape x) (map-there transform_shape s.transforms u.0 x at)).0 in
+      let owner : owner_at x.readable s ≡ HalfOf u = owner-told s.streams x.readable.0 ∙ (rw shape refl) in ap is_branch owner
+
+  own-enters : (s : Slots) (u : TransformId) (operation : TransformOperation) (o : Option transform.Slots) → slice_get s.transforms u.0 ≡ o → Halved s → IsEntering s (OnTransform u operation)
+      → Enterings s (on_transform_at (λ halves. transform_operation u halves operation) u s o).caused
   unfolding transform.enqueue transform.enqueued transform.source_pull transform.set_backpressure
-  own-enters s u operation None k = tt
-  own-enters s u (names.Enqueue v) (Some x) k = (tt, (tt, tt))
-  own-enters s u names.Enqueued (Some x) k = grind arith
-  own-enters s u (names.SourcePull w) (Some x) k = (k, tt)
-  own-enters s u operation (Some x) k = absurd k
+  own-enters s u operation None at halved k = tt
+  own-enters s u (names.Enqueue v) (Some x) at halved k = (half-owner s u x halved at, (tt, tt))
+  own-enters s u names.Enqueued (Some x) at halved k = grind arith
+  own-enters s u (names.SourcePull w) (Some x) at halved k = (k, tt)
+  own-enters s u operation (Some x) at halved k = absurd k
 
-  keep-enters : (p : PipeId) (v : Value) (s : Slots) (o : Option pipe.Slots) → Enterings (on_pipe_at (λ ends. pipe_operation p ends (KeepChunk v)) p s o).caused
+  keep-enters : (z : Slots) (p : PipeId) (v : Value) (s : Slots) (o : Option pipe.Slots) → Enterings z (on_pipe_at (λ ends. pipe_operation p ends (KeepChunk v)) p s o).caused
   unfolding pipe.keep_chunk
-  keep-enters p v s None = tt
-  keep-enters p v s (Some x) = tt
+  keep-enters z p v s None = tt
+  keep-enters z p v s (Some x) = tt
 
-  pub row-enters : (e : Effect) (s : Slots) → IsEntering e → Enterings (row e s).caused
+  tee-enters : (z : Slots) (u : TeeId) (v : Value) (s : Slots) (o : Option tee.Slots) → Enterings z (on_tee_at (tee_operation u (KeepByTee v)) u s o).caused
+  unfolding tee.keep_chunk
+  tee-enters z u v s None = tt
+  tee-enters z u v s (Some x) = tt
+
+  pub row-enters : (e : Effect) (s : Slots) → Halved s → IsEntering s e → Enterings s (row e s).caused
   unfolding row
-  row-enters (OnReadable j (Enqueue v)) s k =
-      either (λ (d : Done). Enterings d.caused) (has_byte j s) (on_byte (byte_readable_operation j (Enqueue v)) j s) (on_readable (readable_operation j (Enqueue v)) j s)
-      (λ is. either (λ (d : Done). Enterings d.caused) (has_byte j s) (put_byte j s (byte_readable_operation j (Enqueue v) (byte_acts j s))) (nothing s) (λ there. tt) (λ none. tt))
-      (λ isnt. either (λ (d : Done). Enterings d.caused) (has_readable j s) (put_readable j s (readable_operation j (Enqueue v) (readable_acts j s))) (nothing s)
-      (λ there. readable-enters j v (readable_acts j s) refl) (λ none. tt))
-  row-enters (OnTransform u operation) s k = own-enters s u operation (slice_get s.transforms u.0) k
-  row-enters (PullAlgorithm j) s k = pull-enters j (owner_at j s)
-  row-enters (ChunkSteps j (Promise p) v) s k = tt
-  row-enters (ChunkSteps j (PipeRequest p) v) s k = (tt, tt)
-  row-enters (OnPipe p (KeepChunk v)) s k = keep-enters p v s (slice_get s.pipes p.0)
-  row-enters (Give g u) s k = tt
-  row-enters (CallHost c u) s k = tt
-  row-enters _ s k = absurd k
+  row-enters (OnReadable j (Enqueue v)) s halved k =
+      either (λ (d : Done). Enterings s d.caused) (has_byte j s) (on_byte (byte_readable_operation j (Enqueue v)) j s) (on_readable (readable_operation j (Enqueue v)) j s)
+      (λ is. either (λ (d : Done). Enterings s d.caused) (has_byte j s) (put_byte j s (byte_readable_operation j (Enqueue v) (byte_acts j s))) (nothing s) (λ there. tt) (λ none. tt))
+      (λ isnt. either (λ (d : Done). Enterings s d.caused) (has_readable j s) (put_readable j s (readable_operation j (Enqueue v) (readable_acts j s))) (nothing s)
+      (λ there. readable-enters s j v (readable_acts j s) refl k) (λ none. tt))
+  row-enters (OnTransform u operation) s halved k = own-enters s u operation (slice_get s.transforms u.0) refl halved k
+  row-enters (OnTee u (KeepByTee v)) s halved k = tee-enters s u v s (slice_get s.tees u.0)
+  row-enters (PullAlgorithm j) s halved k = pull-enters s j (owner_at j s) k
+  row-enters (ChunkSteps j (Promise p) v) s halved k = tt
+  row-enters (ChunkSteps j (PipeRequest p) v) s halved k = (tt, tt)
+  row-enters (ChunkSteps j (TeeRequest u) v) s halved k = (tt, tt)
+  row-enters (OnPipe p (KeepChunk v)) s halved k = keep-enters s p v s (slice_get s.pipes p.0)
+  row-enters (Give g u) s halved k = tt
+  row-enters (CallHost c u) s halved k = tt
+  row-enters _ s halved k = absurd k
 
-  entering-leads : (e : Effect) → IsEntering e → leads_to (changing t) e ≡ 0
-  entering-leads (OnTransform u (names.SourcePull w)) k = k
-  entering-leads (Give g u) k = k
-  entering-leads (CallHost c u) k = k
-  entering-leads (OnReadable j (Enqueue v)) k = refl
-  entering-leads (OnTransform u (names.Enqueue v)) k = refl
-  entering-leads (OnTransform u names.Enqueued) k = refl
-  entering-leads (PullAlgorithm j) k = refl
-  entering-leads (ChunkSteps j q v) k = refl
-  entering-leads (OnPipe p (KeepChunk v)) k = refl
-  entering-leads _ k = absurd k
+  entering-leads : (s : Slots) (e : Effect) → IsEntering s e → leads_to (changing t) e ≡ 0
+  entering-leads s (OnTransform u (names.SourcePull w)) k = k
+  entering-leads s (Give g u) k = k
+  entering-leads s (CallHost c u) k = k
+  entering-leads s (OnReadable j (Enqueue v)) k = refl
+  entering-leads s (OnTransform u (names.Enqueue v)) k = refl
+  entering-leads s (OnTransform u names.Enqueued) k = refl
+  entering-leads s (OnTee u (KeepByTee v)) k = refl
+  entering-leads s (PullAlgorithm j) k = refl
+  entering-leads s (ChunkSteps j q v) k = refl
+  entering-leads s (OnPipe p (KeepChunk v)) k = refl
+  entering-leads s _ k = absurd k
 
   -- none is told of; or they stand in front, and no write waits
   pub data Zone (s : Slots) (es : List Effect) : Type 0 where
     Outside : marks_in es ≡ 0 → Zone s es
-    Inside : (front rest : List Effect) → es ≡ front ++ rest → Enterings front → all_waiting t s ≡ 0 → marks_in rest ≡ 0 → Zone s es
+    Inside : (front rest : List Effect) → es ≡ front ++ rest → Enterings s front → all_waiting t s ≡ 0 → marks_in rest ≡ 0 → Zone s es
 
   -- where a chunk of an identity is transformed
-  chunk-enters : (u : TransformId) (v : Value) (d : PromiseId) (s : Slots) (o : Option transform.Slots)
-      → Enterings (on_transform_at (λ halves. transform_operation u halves (names.TransformChunk v d)) u s o).caused
+  chunk-enters : (u : TransformId) (v : Value) (d : PromiseId) (s : Slots) (o : Option transform.Slots) → slice_get s.transforms u.0 ≡ o → Halved s
+      → Enterings s (on_transform_at (λ halves. transform_operation u halves (names.TransformChunk v d)) u s o).caused
   unfolding transform.transform_chunk
-  chunk-enters u v d s None = tt
-  chunk-enters u v d s (Some x) = by x.kind (halves_at x s).can_enqueue
+  chunk-enters u v d s None at halved = tt
+  chunk-enters u v d s (Some x) at halved = by x.kind (halves_at x s).can_enqueue
     where
       by : (kind : Kind) (can : Bool)
-          → Enterings (transform.transform_by u (record (halves_at x s) { can_enqueue = can }) v d (record { slots = x; out = found s }) kind)
-      by Identity true = (tt, (tt, (refl, tt)))
+          → Enterings s (transform.transform_by u (record (halves_at x s) { can_enqueue = can }) v d (record { slots = x; out = found s }) kind)
+      by Identity true = (half-owner s u x halved at, (tt, (refl, tt)))
       by Identity false = (refl, tt)
       by HostKind can = (refl, tt)
 
@@ -187,33 +238,33 @@ module _ (t : TransformId) where
   waiting-none : (e : Effect) (s : Slots) → leads_to (changing t) e ≡ 0 → all_waiting t s ≡ 0 → all_waiting t (row e s).slots ≡ 0
   waiting-none e s k n = let a = row-waiting t e s in omega arith
 
-  outside-row : (s : Slots) (e : Effect) (es : List Effect) → (IsChunk e ≡ true → all_waiting t s ≡ 0) → marks_in (e ∷ es) ≡ 0
+  outside-row : (s : Slots) (e : Effect) (es : List Effect) → Halved s → (IsChunk e ≡ true → all_waiting t s ≡ 0) → marks_in (e ∷ es) ≡ 0
       → Zone (row e s).slots ((row e s).caused ++ es)
   unfolding row
-  outside-row s (OnTransform u (names.TransformChunk v d)) es k n = by (is_same_transform t u) refl
+  outside-row s (OnTransform u (names.TransformChunk v d)) es halved k n = by (is_same_transform t u) refl
     where
       e : Effect
       e = OnTransform u (names.TransformChunk v d)
 
       by : (same : Bool) → same ≡ is_same_transform t u
           → Zone (row (OnTransform u (names.TransformChunk v d)) s).slots ((row (OnTransform u (names.TransformChunk v d)) s).caused ++ es)
-      by true f = Inside (row (OnTransform u (names.TransformChunk v d)) s).caused es refl (chunk-enters u v d s (slice_get s.transforms u.0)) (waiting-none (OnTransform u (names.TransformChunk v d)) s refl (k (sym f))) (omega arith)
+      by true f = Inside (row (OnTransform u (names.TransformChunk v d)) s).caused es refl (enterings-later (OnTransform u (names.TransformChunk v d)) s (row (OnTransform u (names.TransformChunk v d)) s).caused (chunk-enters u v d s (slice_get s.transforms u.0) refl halved)) (waiting-none (OnTransform u (names.TransformChunk v d)) s refl (k (sym f))) (omega arith)
       by false f = let a = row-unmarked (OnTransform u (names.TransformChunk v d)) s (sym f) in let b = all-append marks (row (OnTransform u (names.TransformChunk v d)) s).caused es in Outside (omega arith)
-  outside-row s e es k n = let a = row-unmarked e s (omega arith) in let b = all-append marks (row e s).caused es in Outside (omega arith)
+  outside-row s e es halved k n = let a = row-unmarked e s (omega arith) in let b = all-append marks (row e s).caused es in Outside (omega arith)
 
-  inside-row : (s : Slots) (e : Effect) (es front rest : List Effect) → (IsChunk e ≡ true → all_waiting t s ≡ 0) → e ∷ es ≡ front ++ rest
-      → Enterings front → all_waiting t s ≡ 0 → marks_in rest ≡ 0 → Zone (row e s).slots ((row e s).caused ++ es)
-  inside-row s e es [] rest c eq k none n = outside-row s e es c (subst (λ (xs : List Effect). marks_in xs ≡ 0) (sym eq) n)
-  inside-row s e es (f ∷ front) rest c eq k none n =
+  inside-row : (s : Slots) (e : Effect) (es front rest : List Effect) → Halved s → (IsChunk e ≡ true → all_waiting t s ≡ 0) → e ∷ es ≡ front ++ rest
+      → Enterings s front → all_waiting t s ≡ 0 → marks_in rest ≡ 0 → Zone (row e s).slots ((row e s).caused ++ es)
+  inside-row s e es [] rest halved c eq k none n = outside-row s e es halved c (subst (λ (xs : List Effect). marks_in xs ≡ 0) (sym eq) n)
+  inside-row s e es (f ∷ front) rest halved c eq k none n =
       let is : e ≡ f = cc in
       let more : es ≡ front ++ rest = cc in
-      let here : IsEntering e = rw is k.0 in
-      Inside ((row e s).caused ++ front) rest (ap (λ (xs : List Effect). (row e s).caused ++ xs) more ∙ sym (append_assoc (row e s).caused front rest)) (each-append IsEntering (row e s).caused front (row-enters e s here) k.1) (waiting-none e s (entering-leads e here) none) n
+      let here : IsEntering s e = rw is k.0 in
+      Inside ((row e s).caused ++ front) rest (ap (λ (xs : List Effect). (row e s).caused ++ xs) more ∙ sym (append_assoc (row e s).caused front rest)) (enterings-later e s ((row e s).caused ++ front) (each-append (IsEntering s) (row e s).caused front (row-enters e s halved here) k.1)) (waiting-none e s (entering-leads s e here) none) n
 
-  pub row-zone : (s : Slots) (e : Effect) (es : List Effect) → (IsChunk e ≡ true → all_waiting t s ≡ 0) → Zone s (e ∷ es)
+  pub row-zone : (s : Slots) (e : Effect) (es : List Effect) → Halved s → (IsChunk e ≡ true → all_waiting t s ≡ 0) → Zone s (e ∷ es)
       → Zone (row e s).slots ((row e s).caused ++ es)
-  row-zone s e es c (Outside n) = outside-row s e es c n
-  row-zone s e es c (Inside front rest eq k none n) = inside-row s e es front rest c eq k none n
+  row-zone s e es halved c (Outside n) = outside-row s e es halved c n
+  row-zone s e es halved c (Inside front rest eq k none n) = inside-row s e es front rest halved c eq k none n
 
   -- where it is told of an enqueue no write waits
   pub told-none : (s : Slots) (u : TransformId) (es : List Effect) → is_same_transform t u ≡ true → Zone s (OnTransform u names.Enqueued ∷ es)
