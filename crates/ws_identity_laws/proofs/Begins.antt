@@ -34,7 +34,8 @@ use Rattle.ws_link_laws.proofs.Turns.{and_false}
 use Rattle.ws_identity_laws.specs.Ends.{IsAnyLink, IsAnyFree}
 use Rattle.ws_identity_laws.specs.Laws.{EachAnyLinkBegins}
 use Rattle.ws_identity_laws.proofs.Standing.{Stands, lies_on}
-use Rattle.ws_identity_laws.proofs.Steps.{Sides, none, performed_sides, From, performed-from, older-from, named-from, from-link}
+use Rattle.ws_identity_laws.proofs.Steps.{Sides, none, performed_sides, From, performed-from, older-from, named-from, from-link, reached-sunk}
+use Rattle.ws_transform_laws.proofs.Sunk.{sink-owned}
 
 module _ (i j : StreamId) (prevent : Prevent) (signal : Option SignalId) (s : Slots) (free : IsAnyFree i j s) (there : IsThere signal s) where
   abbrev p : PipeId
@@ -124,6 +125,8 @@ module _ (i j : StreamId) (prevent : Prevent) (signal : Option SignalId) (s : Sl
         only = omega (arith, none_, o, x, before);
         inner = (tt, (tt, (tt, begins-inner (rank (pipe_at p d.slots).phase) (calls.reason_of signal s) signal)));
         ends = append_ends j p d.caused (refl, (refl, (refl, begins-last (calls.reason_of signal s) signal)));
+        untied = free.untied;
+        sunk = sink-owned j s (reached-sunk s free.reached) free.sink;
       }
 
   abbrev t : Told Value

@@ -12,6 +12,7 @@ use Rattle.ws_steps.specs.Descriptors.{Descriptor, Filling, is_for_nobody}
 use Rattle.ws_steps.specs.Operations.{byte_readable_operation, byte_operation}
 use Rattle.ws_steps.specs.Readable as readable
 use Rattle.ws_laws.proofs.Tables.{either}
+use Rattle.ws_steps.specs.declared.readable.ReadRequest.TheVariants.{Promise as PromiseRequest, Pipe as PipeRequest, Tee as TeeRequest}
 
 abbrev pub can : Acts → Bool
 can a = can_take a.slots
@@ -145,7 +146,9 @@ unfolding readable.disturb byte.read byte.cancel_if_readable byte.start_settled 
 shared-shuts me (names.InitializeReader closed) a e = initialize-shuts _ closed a e
 shared-shuts me names.ReleaseReader a e = release-shuts me a e
 shared-shuts me names.Disturb a e = e
-shared-shuts me (names.Read q) a e = meant-shuts (byte.may_read a.slots) (byte.default_reader_read me q a) a (read-shuts me q a) e
+shared-shuts me (names.Read (PromiseRequest p)) a e = meant-shuts (byte.may_read a.slots) (byte.default_reader_read me (PromiseRequest p) a) a (read-shuts me (PromiseRequest p) a) e
+shared-shuts me (names.Read (PipeRequest p)) a e = meant-shuts (byte.may_read a.slots) (byte.default_reader_read me (PipeRequest p) a) a (read-shuts me (PipeRequest p) a) e
+shared-shuts me (names.Read (TeeRequest t)) a e = e
 shared-shuts me (names.Cancel r p) a e = cancel-shuts me r p a e
 shared-shuts me (names.CancelIfReadable r p) a e = grind (arith, e, cancel-shuts)
 shared-shuts me (names.Enqueue v) a e = e

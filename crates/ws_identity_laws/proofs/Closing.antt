@@ -3,9 +3,9 @@ use Rattle.std.proofs.Common.{◌≡◌, ℕ, ◌+◌, Bool, true, false, not, �
 use Rattle.ws_value.specs.declared.ids.{HostId.{HostId}, LockId.{LockId}, PipeId.{PipeId}, PromiseId.{PromiseId}, SignalId.{SignalId}, StreamId.{StreamId}}
 use Rattle.ws_value.specs.declared.value.{Plain.{Plain}, Value.{Value}}
 use Rattle.ws_steps.specs.declared.calls.{Answer.{Answer}, Call.{Call}, Reply.{Reply}, StartBy.{StartBy}, StartBy.TheVariants.{Now, Later}}
-use Rattle.ws_steps.specs.declared.calls.Call.TheVariants.{MakeReadable, MakeBytes, MakeWritable, MakeTransform, GetReader, GetByob, ReadInto, Request, Respond, GetWriter, Cancel, CancelBy, Read, Write, Close, CloseBy, Abort, AbortBy, Closed, Ready, Release, Enqueue, Finish, Fail, Terminate, Desired, DesiredBy, Pipe, MakeSignal, Trigger, Settle, State, Step}
+use Rattle.ws_steps.specs.declared.calls.Call.TheVariants.{Tee as TeeCall, MakeReadable, MakeBytes, MakeWritable, MakeTransform, GetReader, GetByob, ReadInto, Request, Respond, GetWriter, Cancel, CancelBy, Read, Write, Close, CloseBy, Abort, AbortBy, Closed, Ready, Release, Enqueue, Finish, Fail, Terminate, Desired, DesiredBy, Pipe, MakeSignal, Trigger, Settle, State, Step}
 use Rattle.ws_steps.specs.declared.calls.Reply.TheVariants.{Promise, State as ReplyState}
-use Rattle.ws_steps.specs.declared.effects.{Owner.{Owner}, Owner.TheVariants.{Host, HalfOf}}
+use Rattle.ws_steps.specs.declared.effects.{Owner.{Owner}, Owner.TheVariants.{Host, HalfOf, BranchOf}}
 use Rattle.ws_steps.specs.declared.locks.{Lock.{Lock}, Lock.TheVariants.{Reader as ReaderLock, ByobReader, Writer as WriterLock, ReleasedWriter, Inner}}
 use Rattle.ws_steps.specs.declared.pipes.Prevent.{Prevent}
 use Rattle.ws_steps.specs.declared.transform.{TransformId.{TransformId}}
@@ -18,7 +18,7 @@ use Rattle.ws_steps.specs.Readable as readable
 use Rattle.ws_steps.specs.Readable.{can_close_or_enqueue}
 use Rattle.ws_steps.specs.ReadableLooks as readable_looks
 use Rattle.ws_steps.specs.Run.{Called}
-use Rattle.ws_steps.specs.Slots.{Slots, ReadableStream, most_streams, has_readable, has_byte, has_source, has_writable, has_signal, readable_at, byte_at, source_at, writable_at, lock_at, host_at, stream_of_request}
+use Rattle.ws_steps.specs.Slots.{Slots, ReadableStream, most_streams, has_readable, has_byte, has_source, has_writable, has_signal, readable_at, byte_at, source_at, writable_at, lock_at, host_at, stream_of_request, is_teed, owner_at}
 use Rattle.ws_steps.specs.Writable as writable
 use Rattle.ws_steps.specs.WritableLooks as writable_looks
 use Rattle.ws_laws.proofs.Halves.{Halved, halved-stays}
@@ -207,6 +207,7 @@ module _ (t : TransformId) (r : StreamId) (s : Slots) (halved : Halved s) (reads
   enqueues : (k : StreamId) (v : Value) (o : Owner) → P (calls.enqueue_by v k s o)
   enqueues k v Host = either P (can_close_or_enqueue (readable_at k s)) _ _ (λ e. (tt, tt)) (λ e. tt)
   enqueues k v (HalfOf a) = either P (can_close_or_enqueue (readable_at k s)) _ _ (λ e. (tt, tt)) (λ e. tt)
+  enqueues k v (BranchOf a half) = tt
 
   -- a byte controller
 
@@ -233,18 +234,33 @@ module _ (t : TransformId) (r : StreamId) (s : Slots) (halved : Halved s) (reads
   finishes : (k : StreamId) (o : Owner) → has_readable k s ≡ true → (readable_at k s).owner ≡ o → P (calls.finish_by k s o)
   finishes k Host there own = either P (can_close_or_enqueue (readable_at k s)) _ _ (λ e. (own-apart k there own, tt)) (λ e. tt)
   finishes k (HalfOf a) there own = tt
+  finishes k (BranchOf a half) there own = tt
 
   terminates : (k : StreamId) (o : Owner) → has_readable k s ≡ true → (readable_at k s).owner ≡ o → is_same r k ≡ false → P (calls.terminate_by s o)
   terminates k Host there own n = tt
   terminates k (HalfOf a) there own n = (half-apart k a there own n, tt)
+  terminates k (BranchOf a half) there own n = tt
 
   fails_readable : (reason : Plain) (k : StreamId) (o : Owner) → P (calls.fail_readable_by reason k s o)
   fails_readable reason k Host = (tt, tt)
   fails_readable reason k (HalfOf a) = (tt, tt)
+  fails_readable reason k (BranchOf a half) = tt
 
   fails_writable : (reason : Plain) (k : StreamId) (o : Owner) → P (calls.fail_writable_by reason k s o)
   fails_writable reason k Host = (tt, tt)
   fails_writable reason k (HalfOf a) = tt
+  fails_writable reason k (BranchOf a half) = tt
+
+  desires : (k : StreamId) (o : Owner) → P (calls.desired_by k s o)
+  desires k Host = tt
+  desires k (HalfOf a) = tt
+  desires k (BranchOf a half) = tt
+
+  tee_of : (k : StreamId) → P (calls.tee_of k s)
+  tee_of k =
+      either P (has_byte k s) (calls.unsupported s) _ (λ e. tt)
+      (λ e. either P (is_teed k s) (calls.throws_type_error s) _ (λ f. tt)
+      (λ f. either P (nat_lt (length s.streams + 1) most_streams) _ _ (λ g. (tt, (tt, (tt, (tt, tt))))) (λ g. tt)))
 
   pub call-calm : (c : Call) → spares r c ≡ true → P (begin c s)
   unfolding begin
@@ -253,6 +269,7 @@ module _ (t : TransformId) (r : StreamId) (s : Slots) (halved : Halved s) (reads
   call-calm (MakeWritable mark size start) l = either P (nat_lt (length s.streams) most_streams) _ _ (λ e. (tt, tt)) (λ e. tt)
   call-calm (MakeTransform kind m n start) l = either P (nat_lt (length s.streams + 1) most_streams) _ _ (λ e. (tt, (tt, (tt, (tt, (starts (next_id (fresh s.promises)) (record { 0 = length s.streams + 1 }) start, tt)))))) (λ e. tt)
   call-calm (GetReader k) l = unlocked_readable k calls.throws_type_error calls.get_reader tt (tt, tt)
+  call-calm (TeeCall k) l = unlocked_readable k calls.throws_type_error calls.tee_of tt (tee_of k)
   call-calm (GetByob k) l =
       unlocked_readable k calls.throws_type_error calls.get_byob_of tt (either P (has_byte k s) (calls.get_byob k s) (calls.throws_type_error s) (λ e. (tt, tt)) (λ e. tt))
   call-calm (GetWriter k) l = unlocked_writable k calls.throws_type_error calls.get_writer tt (tt, tt)
@@ -278,7 +295,7 @@ module _ (t : TransformId) (r : StreamId) (s : Slots) (halved : Halved s) (reads
   call-calm (Terminate k) l = for_readable k (λ z. calls.terminate_by z (readable_at k z).owner) (λ e. terminates k (readable_at k s).owner e refl (not_false (is_same r k) l))
   call-calm (Request k) l = for_byte k (calls.request k) (requests k (byte_at k s).request (byte_at k s).descriptors)
   call-calm (Respond q b) l = responds q b (stream_of_request q s)
-  call-calm (Desired k) l = for_source k (calls.desired k) tt
+  call-calm (Desired k) l = for_source k (calls.desired k) (desires k (owner_at k s))
   call-calm (DesiredBy n) l = by_writer calls.desired_of_writer calls.throws_type_error (λ k. tt) tt (lock_at n s)
   call-calm (Pipe source dest prevent signal) l =
       for_source source (calls.for_writable dest (calls.for_signal_where signal (calls.pipe_unlocked source dest prevent signal)))

@@ -7,7 +7,7 @@ use Rattle.ws_steps.specs.declared.calls.Call.{Call}
 use Rattle.ws_steps.specs.declared.calls.Reply.{Reply}
 use Rattle.ws_steps.specs.declared.calls.Reply.TheVariants.{Promise as ReplyPromise}
 use Rattle.ws_steps.specs.declared.effects.Effect.{Effect}
-use Rattle.ws_steps.specs.declared.effects.Effect.TheVariants.{Readable as OnReadable, Byte as OnByte, Writable as OnWritable, Pipe as OnPipe}
+use Rattle.ws_steps.specs.declared.effects.Effect.TheVariants.{Readable as OnReadable, Byte as OnByte, Writable as OnWritable, Pipe as OnPipe, Tee as OnTee}
 use Rattle.ws_steps.specs.declared.locks.Lock.{Lock}
 use Rattle.ws_steps.specs.declared.pipes.PipeOperation.{PipeOperation}
 use Rattle.ws_steps.specs.declared.promises.Job.{Job}
@@ -36,18 +36,19 @@ use Rattle.ws_room_laws.proofs.Turns.{performed-kept}
 use Rattle.ws_pipe_laws.specs.PipeMoves.{starting}
 use Rattle.ws_link_laws.specs.Laws.{entry_leaves, all_leave}
 use Rattle.ws_link_laws.specs.Link.{giver_at, enters, leaves}
-use Rattle.ws_link_laws.specs.Sound.{IsBare, all_spare, all_apart}
+use Rattle.ws_link_laws.specs.Sound.{IsBare, all_spare, all_apart, all_untied}
 use Rattle.ws_link_laws.specs.Sound as sound
 use Rattle.ws_link_laws.proofs.Begins.{apart_at}
-use Rattle.ws_link_laws.proofs.Calls.{IsOuter, Begins, call-begins}
-use Rattle.ws_link_laws.proofs.Free.{IsFar, outer-far, job-far, pipe-far, FreeSource, FreeSink, FreeBytes, source-free, bare-free, bytes-free, sink-free, apart-set, row-far, few-pipes, place_below, all_of}
-use Rattle.ws_link_laws.proofs.Hosts.{reached-halved, row-sources, row-sinks}
+use Rattle.ws_link_laws.proofs.Calls.{IsOuter, Begins, call-begins, call-untied}
+use Rattle.ws_link_laws.proofs.Free.{IsFar, outer-far, job-far, pipe-far, FreeSource, FreeSink, FreeBytes, source-free, bare-free, bytes-free, sink-free, apart-set, row-far, few-pipes, place_below, all_of, tees-far}
+use Rattle.ws_link_laws.proofs.Hosts.{reached-halved, row-sources, row-sinks, untied-same}
 use Rattle.ws_link_laws.proofs.SourceTurns.{default-bare, is_default}
 use Rattle.ws_link_laws.proofs.SinkTurns.{writable-there}
 use Rattle.ws_link_laws.proofs.Steps.{reached-step, place-append, stream_at, source_there}
 use Rattle.ws_identity_laws.specs.Ends.{IsAnyFree}
 use Rattle.ws_identity_laws.specs.Laws.{EachAnyFreePairStays}
 use Rattle.ws_steps.specs.Bytes as byte
+use Rattle.ws_laws.proofs.Shapes.{row-tee_shapes}
 
 -- at each moment
 
@@ -58,6 +59,7 @@ pub record Untaken (i j : StreamId) (locks : List Lock) (s : Slots) (es : List E
   pub from : FreeSource (source_at i s)
   pub into : FreeSink (writable_at j s)
   pub apart : all_apart i j s.pipes ≡ true
+  pub untied : all_untied i s.tees ≡ true
   pub same : s.locks ≡ locks
   pub far : Each (IsFar i j) es
 
@@ -118,6 +120,7 @@ readable-untaken i j locks k operation s es u =
       from = free.1;
       into = rw (on_source-writable operation k s j) u.into;
       apart = rw (row-pipes e s tt) u.apart;
+      untied = untied-same i s (row e s).slots (row-tee_shapes e s) ∙ u.untied;
       same = row-locks e s ∙ u.same;
       far = row-far i j e s es tt u.far;
     }
@@ -141,6 +144,7 @@ byte-untaken i j locks k operation s es u =
       from = free.1;
       into = rw (on_byte-writable (byte_operation k operation) k s j) u.into;
       apart = rw (row-pipes e s tt) u.apart;
+      untied = untied-same i s (row e s).slots (row-tee_shapes e s) ∙ u.untied;
       same = row-locks e s ∙ u.same;
       far = row-far i j e s es tt u.far;
     }
@@ -164,6 +168,7 @@ writable-untaken i j locks k operation s es u =
       from = rw (on_writable-source to k s i) u.from;
       into = by (is_same j k) refl;
       apart = rw (row-pipes e s tt) u.apart;
+      untied = untied-same i s (row e s).slots (row-tee_shapes e s) ∙ u.untied;
       same = row-locks e s ∙ u.same;
       far = row-far i j e s es tt u.far;
     }
@@ -182,7 +187,7 @@ unfolding row
 pipe-untaken i j locks q operation s es u = by (slice_get s.pipes q.0) refl
   where
     by : (o : Option pipe.Slots) → slice_get s.pipes q.0 ≡ o → let d : Done = on_pipe_at (λ ends. pipe_operation q ends operation) q s o in Untaken i j locks d.slots (d.caused ++ es)
-    by None e = record { source = u.source; bare = u.bare; sink = u.sink; from = u.from; into = u.into; apart = u.apart; same = u.same; far = u.far.1 }
+    by None e = record { source = u.source; bare = u.bare; sink = u.sink; from = u.from; into = u.into; apart = u.apart; untied = u.untied; same = u.same; far = u.far.1 }
     by (Some x) e =
         let b : pipe.Acts = pipe_operation q (ends_at x s) operation (starting x s.promises) in
         let c = pipe-causes q (ends_at x s) operation (starting x s.promises) tt in
@@ -194,20 +199,22 @@ pipe-untaken i j locks q operation s es u = by (slice_get s.pipes q.0) refl
           from = u.from;
           into = u.into;
           apart = apart-set i j s.pipes q.0 x b.slots e c.0 c.1.0 u.apart;
+          untied = u.untied;
           same = u.same;
           far = each-append (IsFar i j) b.out.effects es (each-map (PipeCauses q x.source x.dest) (IsFar i j) (λ v k. pipe-far i j q x.source x.dest v a.0 a.1 k) b.out.effects c.1.1) u.far.1;
         }
 
-apart-untaken : (i j : StreamId) (locks : List Lock) (e : Effect) (s : Slots) (es : List Effect) → IsApart e → IsNoPipe e → Untaken i j locks s (e ∷ es) → Untaken i j locks (row e s).slots ((row e s).caused ++ es)
-apart-untaken i j locks e s es a n u = record {
+apart-untaken : (i j : StreamId) (locks : List Lock) (e : Effect) (s : Slots) (es : List Effect) → IsApart e → IsNoPipe e → Each (IsFar i j) ((row e s).caused ++ es) → Untaken i j locks s (e ∷ es) → Untaken i j locks (row e s).slots ((row e s).caused ++ es)
+apart-untaken i j locks e s es a n far u = record {
   source = rw (row-streams e s a) u.source;
   bare = rw (row-streams e s a) u.bare;
   sink = rw (row-streams e s a) u.sink;
   from = rw (row-streams e s a) u.from;
   into = rw (row-streams e s a) u.into;
   apart = rw (row-pipes e s n) u.apart;
+  untied = untied-same i s (row e s).slots (row-tee_shapes e s) ∙ u.untied;
   same = row-locks e s ∙ u.same;
-  far = row-far i j e s es n u.far;
+  far = far;
 }
 
 row-untaken : (i j : StreamId) (locks : List Lock) (e : Effect) (s : Slots) (es : List Effect) → Untaken i j locks s (e ∷ es) → Untaken i j locks (row e s).slots ((row e s).caused ++ es)
@@ -215,7 +222,9 @@ row-untaken i j locks (OnReadable k operation) s es u = readable-untaken i j loc
 row-untaken i j locks (OnByte k operation) s es u = byte-untaken i j locks k operation s es u
 row-untaken i j locks (OnWritable k operation) s es u = writable-untaken i j locks k operation s es u
 row-untaken i j locks (OnPipe q operation) s es u = pipe-untaken i j locks q operation s es u
-row-untaken i j locks e s es u = apart-untaken i j locks e s es tt tt u
+row-untaken i j locks (OnTee t operation) s es u =
+    apart-untaken i j locks (OnTee t operation) s es tt tt (each-append (IsFar i j) (row (OnTee t operation) s).caused es (tees-far i j s t operation u.untied) u.far.1) u
+row-untaken i j locks e s es u = apart-untaken i j locks e s es tt tt (row-far i j e s es tt u.far) u
 
 pub performed-untaken : (i j : StreamId) (locks : List Lock) (d : Done) → Untaken i j locks d.slots d.caused → Untaken i j locks (performed d) []
 performed-untaken i j locks d u = performed-kept (λ ms s es. Untaken i j locks s es) (λ ms s e es k. row-untaken i j locks e s es k) d u
@@ -230,12 +239,13 @@ free-untaken i j s f = record {
   from = record { unread = f.unread; requests = f.requests };
   into = record { unwritten = f.unwritten; queue = f.queue; request = f.close_request; flight = f.close_in_flight };
   apart = f.apart;
+  untied = f.untied;
   same = refl;
   far = tt;
 }
 
-untaken-free : (i j : StreamId) (locks : List Lock) (s z : Slots) → sound.IsReached z → z.streams ≡ s.streams → z.pipes ≡ s.pipes → z.locks ≡ s.locks → all_spare i j locks ≡ true → Untaken i j locks s [] → IsAnyFree i j z
-untaken-free i j locks s z r e f g a u = record {
+untaken-free : (i j : StreamId) (locks : List Lock) (s z : Slots) → sound.IsReached z → z.streams ≡ s.streams → z.tees ≡ s.tees → z.pipes ≡ s.pipes → z.locks ≡ s.locks → all_spare i j locks ≡ true → Untaken i j locks s [] → IsAnyFree i j z
+untaken-free i j locks s z r e t f g a u = record {
   reached = r;
   source = rw e u.source;
   bare = rw e u.bare;
@@ -244,6 +254,7 @@ untaken-free i j locks s z r e f g a u = record {
   unwritten = rw e u.into.unwritten;
   locks = rw (g, u.same) a;
   apart = rw f u.apart;
+  untied = rw t u.untied;
   requests = rw e u.from.requests;
   queue = rw e u.into.queue;
   close_request = rw e u.into.request;
@@ -252,13 +263,13 @@ untaken-free i j locks s z r e f g a u = record {
 
 begun-untaken : (i j : StreamId) (s : Slots) (o : Option Job) → IsAnyFree i j s → Untaken i j s.locks (job_begun s o).slots (job_begun s o).caused
 begun-untaken i j s None f = free-untaken i j s f
-begun-untaken i j s (Some job) f = let u = free-untaken i j s f in record { source = u.source; bare = u.bare; sink = u.sink; from = u.from; into = u.into; apart = u.apart; same = refl; far = job-far i j job }
+begun-untaken i j s (Some job) f = let u = free-untaken i j s f in record { source = u.source; bare = u.bare; sink = u.sink; from = u.from; into = u.into; apart = u.apart; untied = u.untied; same = refl; far = job-far i j job }
 
 pub free-worked : (i j : StreamId) (s : Slots) → IsAnyFree i j s → IsAnyFree i j (after_job s)
 unfolding begin_job
 free-worked i j s f =
     let z : Slots = performed (job_begun s (next_job s.promises)) in
-    untaken-free i j s.locks z (after_job s) (reached-step s Worked f.reached) refl refl refl f.locks (performed-untaken i j s.locks (job_begun s (next_job s.promises)) (begun-untaken i j s (next_job s.promises) f))
+    untaken-free i j s.locks z (after_job s) (reached-step s Worked f.reached) refl refl refl refl f.locks (performed-untaken i j s.locks (job_begun s (next_job s.promises)) (begun-untaken i j s (next_job s.promises) f))
 
 -- calls
 
@@ -282,6 +293,7 @@ call-kept i j c s f = begin-makes (Kept i j s) (record {
   pipe = λ z source dest prevent signal promise k. record { source = k.source; sink = k.sink };
   signal = λ z k. record { source = k.source; sink = k.sink };
   transform = λ z kind w r change k. record { source = k.source; sink = k.sink };
+  tee = λ z source first second cancel k. record { source = k.source; sink = k.sink };
   bytes = λ z mark auto k. stream-kept i j s z (ByteStream (byte.set_up mark auto)) k;
   byob_requests = λ z hs k. record { source = k.source; sink = k.sink };
   readable = λ z owner mark size k. stream-kept i j s z (ReadableStream (readable.set_up owner mark size)) k;
@@ -296,8 +308,8 @@ untaken-called i j locks s c r a u = by (begin c s).reply refl
     z = performed (begin c s).done
 
     by : (reply : Reply) → reply ≡ (begin c s).reply → IsAnyFree i j (after_call c s)
-    by (ReplyPromise q) e = untaken-free i j locks z (after_call c s) (reached-step s (Called c) r) (rw (← e) refl) (rw (← e) refl) (rw (← e) refl) a (performed-untaken i j locks (begin c s).done u)
-    by _ e = untaken-free i j locks z (after_call c s) (reached-step s (Called c) r) (rw (← e) refl) (rw (← e) refl) (rw (← e) refl) a (performed-untaken i j locks (begin c s).done u)
+    by (ReplyPromise q) e = untaken-free i j locks z (after_call c s) (reached-step s (Called c) r) (rw (← e) refl) (rw (← e) refl) (rw (← e) refl) (rw (← e) refl) a (performed-untaken i j locks (begin c s).done u)
+    by _ e = untaken-free i j locks z (after_call c s) (reached-step s (Called c) r) (rw (← e) refl) (rw (← e) refl) (rw (← e) refl) (rw (← e) refl) a (performed-untaken i j locks (begin c s).done u)
 
 module _ (i j : StreamId) (s : Slots) (c : Call) (f : IsAnyFree i j s) (leave : leaves i j c ≡ true) where
   abbrev d : Done
@@ -327,6 +339,7 @@ module _ (i j : StreamId) (s : Slots) (c : Call) (f : IsAnyFree i j s) (leave : 
     from = rw at (record { unread = f.unread; requests = f.requests });
     into = rw (ap as_writable kept.sink) (record { unwritten = f.unwritten; queue = f.queue; request = f.close_request; flight = f.close_in_flight });
     apart = apart;
+    untied = call-untied i j c s leave f.untied;
     same = refl;
     far = each-map (IsOuter i j) (IsFar i j) (outer-far i j) d.caused begins.outer;
   }
@@ -338,8 +351,8 @@ module _ (i j : StreamId) (s : Slots) (c : Call) (f : IsAnyFree i j s) (leave : 
 pub free-called : (i j : StreamId) (s : Slots) (c : Call) → IsAnyFree i j s → leaves i j c ≡ true → IsAnyFree i j (after_call c s)
 free-called i j s c f leave = called i j s c f leave
 
-quiet-free : (i j : StreamId) (s z : Slots) → sound.IsReached z → z.streams ≡ s.streams → z.pipes ≡ s.pipes → z.locks ≡ s.locks → IsAnyFree i j s → IsAnyFree i j z
-quiet-free i j s z r e f g k = untaken-free i j s.locks s z r e f g k.locks (free-untaken i j s k)
+quiet-free : (i j : StreamId) (s z : Slots) → sound.IsReached z → z.streams ≡ s.streams → z.tees ≡ s.tees → z.pipes ≡ s.pipes → z.locks ≡ s.locks → IsAnyFree i j s → IsAnyFree i j z
+quiet-free i j s z r e t f g k = untaken-free i j s.locks s z r e t f g k.locks (free-untaken i j s k)
 
 -- and so does a run
 pub free-run : (i j : StreamId) (entries : List Entry) (s : Slots) → IsAnyFree i j s → all_leave i j entries ≡ true → IsAnyFree i j (run entries s)
@@ -349,7 +362,7 @@ free-run i j (x ∷ xs) s f e = free-run i j xs (step s x) (one x (and_left (ent
     one : (x : Entry) → entry_leaves i j x ≡ true → IsAnyFree i j (step s x)
     one (Called c) l = free-called i j s c f l
     one Worked l = free-worked i j s f
-    one Heard l = quiet-free i j s (step s Heard) (reached-step s Heard f.reached) refl refl refl f
+    one Heard l = quiet-free i j s (step s Heard) (reached-step s Heard f.reached) refl refl refl refl f
 
 pub each_any_free_pair_stays : EachAnyFreePairStays
 each_any_free_pair_stays i j s entries f e = free-run i j entries s f e

@@ -51,6 +51,7 @@ each_link_is_any i j p s l = record {
   from = l.from;
   into = l.into;
   apart = l.apart;
+  untied = l.untied;
   locks = l.locks;
   bare = l.bare;
   elsewhere = l.elsewhere;

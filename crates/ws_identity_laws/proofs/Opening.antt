@@ -75,6 +75,7 @@ record Fresh (s : Slots) : Type 0 where
   streams : AllOf FreshStream s.streams
   pipes : s.pipes ≡ []
   locks : s.locks ≡ []
+  tees : s.tees ≡ []
 
 -- effects that leave them
 
@@ -89,15 +90,16 @@ record Leaves (s : Slots) (z : Slots) (es : List Effect) : Type 0 where
   streams : z.streams ≡ s.streams
   pipes : z.pipes ≡ s.pipes
   locks : z.locks ≡ s.locks
+  tees : z.tees ≡ s.tees
   plain : Each Plain es
 
 row-leaves : (e : Effect) (s : Slots) → Plain e → Leaves s (row e s).slots (row e s).caused
 unfolding row call_host
-row-leaves (StartAlgorithm i x Now) s m = record { streams = refl; pipes = refl; locks = refl; plain = (tt, tt) }
-row-leaves (StartAlgorithm i x Later) s m = record { streams = refl; pipes = refl; locks = refl; plain = (tt, (tt, tt)) }
-row-leaves (Give gift u) s m = record { streams = refl; pipes = refl; locks = refl; plain = tt }
-row-leaves (Settle p o) s m = record { streams = refl; pipes = refl; locks = refl; plain = tt }
-row-leaves (CallHost call u) s m = record { streams = refl; pipes = refl; locks = refl; plain = tt }
+row-leaves (StartAlgorithm i x Now) s m = record { streams = refl; pipes = refl; locks = refl; tees = refl; plain = (tt, tt) }
+row-leaves (StartAlgorithm i x Later) s m = record { streams = refl; pipes = refl; locks = refl; tees = refl; plain = (tt, (tt, tt)) }
+row-leaves (Give gift u) s m = record { streams = refl; pipes = refl; locks = refl; tees = refl; plain = tt }
+row-leaves (Settle p o) s m = record { streams = refl; pipes = refl; locks = refl; tees = refl; plain = tt }
+row-leaves (CallHost call u) s m = record { streams = refl; pipes = refl; locks = refl; tees = refl; plain = tt }
 row-leaves _ s m = absurd m
 
 performed-leaves : (d : Done) → Each Plain d.caused → Leaves d.slots (performed d) []
@@ -105,8 +107,8 @@ performed-leaves d m =
     performed-kept (λ ms s es. Leaves d.slots s es)
     (λ ms s e es k.
     let a = row-leaves e s k.plain.0 in
-    record { streams = a.streams ∙ k.streams; pipes = a.pipes ∙ k.pipes; locks = a.locks ∙ k.locks; plain = each-append Plain (row e s).caused es a.plain k.plain.1 }) d
-    (record { streams = refl; pipes = refl; locks = refl; plain = m })
+    record { streams = a.streams ∙ k.streams; pipes = a.pipes ∙ k.pipes; locks = a.locks ∙ k.locks; tees = a.tees ∙ k.tees; plain = each-append Plain (row e s).caused es a.plain k.plain.1 }) d
+    (record { streams = refl; pipes = refl; locks = refl; tees = refl; plain = m })
 
 module _ (s : Slots) (f : Fresh s) where
   abbrev P : Begun → Type 0
@@ -119,12 +121,12 @@ module _ (s : Slots) (f : Fresh s) where
   call-fresh : (c : Call) → makes c ≡ true → P (begin c s)
   unfolding begin
   call-fresh (MakeReadable mark size start) l =
-      either P (nat_lt (length s.streams) most_streams) _ _ (λ e. (record { streams = all-last FreshStream s.streams _ f.streams (record { unread = refl; requests = refl }); pipes = f.pipes; locks = f.locks }, (tt, tt))) (λ e. (f, tt))
+      either P (nat_lt (length s.streams) most_streams) _ _ (λ e. (record { streams = all-last FreshStream s.streams _ f.streams (record { unread = refl; requests = refl }); pipes = f.pipes; locks = f.locks; tees = f.tees }, (tt, tt))) (λ e. (f, tt))
   call-fresh (MakeBytes mark auto start) l =
       either P (nat_lt (length s.streams) most_streams) _ _
-      (λ e. (record { streams = all-last FreshStream s.streams _ f.streams (record { source = record { unread = refl; requests = refl }; descriptors = refl; reader = refl }); pipes = f.pipes; locks = f.locks }, (tt, tt))) (λ e. (f, tt))
+      (λ e. (record { streams = all-last FreshStream s.streams _ f.streams (record { source = record { unread = refl; requests = refl }; descriptors = refl; reader = refl }); pipes = f.pipes; locks = f.locks; tees = f.tees }, (tt, tt))) (λ e. (f, tt))
   call-fresh (MakeWritable mark size start) l =
-      either P (nat_lt (length s.streams) most_streams) _ _ (λ e. (record { streams = all-last FreshStream s.streams _ f.streams (record { unwritten = refl; queue = refl; request = refl; flight = refl }); pipes = f.pipes; locks = f.locks }, (tt, tt))) (λ e. (f, tt))
+      either P (nat_lt (length s.streams) most_streams) _ _ (λ e. (record { streams = all-last FreshStream s.streams _ f.streams (record { unwritten = refl; queue = refl; request = refl; flight = refl }); pipes = f.pipes; locks = f.locks; tees = f.tees }, (tt, tt))) (λ e. (f, tt))
   call-fresh (MakeTransform kind m n start) l =
       either P (nat_lt (length s.streams + 1) most_streams) _ _
       (λ e. (
@@ -132,13 +134,14 @@ module _ (s : Slots) (f : Fresh s) where
           streams = all-last FreshStream (s.streams ++ _ ∷ []) _ (all-last FreshStream s.streams _ f.streams (record { unwritten = refl; queue = refl; request = refl; flight = refl })) (record { unread = refl; requests = refl });
           pipes = f.pipes;
           locks = f.locks;
+          tees = f.tees;
         },
         (tt, (tt, (tt, (tt, starts start)))),
       )) (λ e. (f, tt))
   call-fresh c l = absurd (cc)
 
 named-fresh : (reply : Reply) (s : Slots) → Fresh s → Fresh (named reply s)
-named-fresh (Promise q) s f = record { streams = f.streams; pipes = f.pipes; locks = f.locks }
+named-fresh (Promise q) s f = record { streams = f.streams; pipes = f.pipes; locks = f.locks; tees = f.tees }
 named-fresh _ s f = f
 
 made-fresh : (xs : List Entry) (s : Slots) → all_make xs ≡ true → Fresh s → Fresh (run xs s)
@@ -147,9 +150,9 @@ made-fresh (Called c ∷ xs) s l f =
     let b = call-fresh s f c (and_left (makes c) (all_make xs) l) in
     let p = performed-leaves (begin c s).done b.1 in
     let streams = p.streams in
-    let z : Fresh (performed (begin c s).done) = record { streams = rw streams b.0.streams; pipes = p.pipes ∙ b.0.pipes; locks = p.locks ∙ b.0.locks } in
+    let z : Fresh (performed (begin c s).done) = record { streams = rw streams b.0.streams; pipes = p.pipes ∙ b.0.pipes; locks = p.locks ∙ b.0.locks; tees = p.tees ∙ b.0.tees } in
     let n = named-fresh (begin c s).reply (performed (begin c s).done) z in
-    made-fresh xs (step s (Called c)) (and_right (makes c) (all_make xs) l) (record { streams = n.streams; pipes = n.pipes; locks = n.locks })
+    made-fresh xs (step s (Called c)) (and_right (makes c) (all_make xs) l) (record { streams = n.streams; pipes = n.pipes; locks = n.locks; tees = n.tees })
 made-fresh (Worked ∷ xs) s l f = absurd (cc)
 made-fresh (Heard ∷ xs) s l f = absurd (cc)
 
@@ -165,11 +168,12 @@ bare-fresh i s f rooms = by (has_byte i s) refl
 pub each_new_pair_is_free : EachNewPairIsFree
 each_new_pair_is_free xs i j l there rooms there_too =
     let s : Slots = run xs empty in
-    let f = made-fresh xs empty l (record { streams = tt; pipes = refl; locks = refl }) in
+    let f = made-fresh xs empty l (record { streams = tt; pipes = refl; locks = refl; tees = refl }) in
     let from : FreshSource (source_at i s) = source-of FreshStream FreshSource (λ r k. k) (λ b k. k.source) s.streams i.0 f.streams there in
     let into : FreshSink (writable_at j s) = all-get FreshStream s.streams j.0 (WritableStream (writable_at j s)) f.streams (writable_there (slice_get s.streams j.0) there_too) in
     let locks = f.locks in
     let pipes = f.pipes in
+    let tees = f.tees in
     record {
       reached = (xs, refl);
       source = there;
@@ -179,6 +183,7 @@ each_new_pair_is_free xs i j l there rooms there_too =
       unwritten = into.unwritten;
       locks = rw locks refl;
       apart = rw pipes refl;
+      untied = rw tees refl;
       requests = from.requests;
       queue = into.queue;
       close_request = into.request;
@@ -342,7 +347,7 @@ each_way_opens xs i k ms prevent d =
     let pipes : List Entry = pipes_of i ms k prevent in
     let zs : List Entry = xs ++ pipes in
     let last : run zs empty ≡ run pipes s = run-more xs pipes empty in
-    let fresh_pipes = (made-fresh xs empty d.made (record { streams = tt; pipes = refl; locks = refl })).pipes in
+    let fresh_pipes = (made-fresh xs empty d.made (record { streams = tt; pipes = refl; locks = refl; tees = refl })).pipes in
     let way = way-opens ms i k 0 prevent s (ap length fresh_pipes) (all-free xs i ms k d.made d.source d.no_rooms d.sink d.between) d.between d.numbered d.apart in
     let now : IsWay i (record { 0 = 0 }) ms k (run zs empty) = subst (λ (z : Slots). IsWay i (record { 0 = 0 }) ms k z) (sym last) way in
     let all = makes-open xs pipes d.made (pipes-open i ms k prevent) in

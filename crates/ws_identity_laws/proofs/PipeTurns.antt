@@ -34,6 +34,8 @@ use Rattle.ws_link_laws.proofs.PipeTurns.{caused-chunks, other-writes, other-inn
 use Rattle.ws_link_laws.proofs.Moves.{pipe-passes}
 use Rattle.ws_link_laws.proofs.Standing.{IsInner, inner-later, IsNotLast, IsStill, AtEnd, at_end-append, State}
 use Rattle.ws_identity_laws.proofs.Standing.{Stands, Turned, lies_on, split}
+use Rattle.ws_link_laws.proofs.Hosts.{untied-same}
+use Rattle.ws_laws.proofs.Shapes.{row-owner, row-tee_shapes}
 
 -- an operation of the link's own pipe
 
@@ -145,6 +147,8 @@ module _ (i j : StreamId) (p : PipeId) (s : Slots) (operation : PipeOperation) (
           (inner-later i j p (rank x.phase) (rank b.slots.phase) es kept.later h.inner.1));
       ends = rw caused (own-ends j p operation b.out.effects es kept.none
           (λ w. subst (λ (o : PipeOperation). IsStill j p es → AtEnd j p es → AtEnd j p ((pipe_operation p (ends_at x s) o (starting x s.promises)).out.effects ++ es)) (sym (writing_is operation w)) (write-ends j p x s.promises es)) h.ends);
+      untied = untied-same i s (row e s).slots (row-tee_shapes e s) ∙ h.untied;
+      sunk = rw (row-owner j e s) h.sunk;
     };
     short =
         rw (
@@ -222,6 +226,8 @@ module _ (i j : StreamId) (p : PipeId) (s : Slots) (q : PipeId) (operation : Pip
           only = let f = all-append (off p i) cs es in let g = a.off in let w = h.only in rw a.streams (omega (arith, f, g, w));
           inner = rw same (each-append (IsInner i j p (rank (pipe_at p s).phase)) cs es a.inner h.inner.1);
           ends = at_end-append j p cs es a.last h.ends.1;
+          untied = untied-same i s (row e s).slots (row-tee_shapes e s) ∙ h.untied;
+          sunk = rw (row-owner j e s) h.sunk;
         };
         short = rw (split i j p z cs es, a.writes, a.chunks, same, a.streams, other_chunk p q operation n, then_empty (lies_on i j p s es)) (short_refl (lies_on i j p s es));
       }

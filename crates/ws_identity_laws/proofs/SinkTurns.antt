@@ -43,7 +43,8 @@ use Rattle.ws_link_laws.proofs.Standing.{IsInner, IsNotLast, at_end-append, Stat
 use Rattle.ws_link_laws.proofs.Telling.{tells, IsSilent, silent-all, hands, written, writes, chunks}
 use Rattle.ws_identity_laws.specs.Passing.{acts_of, effect_acts}
 use Rattle.ws_identity_laws.proofs.Standing.{Stands, Turned, way, lies_on, split}
-use Rattle.ws_link_laws.proofs.Hosts.{row-sources}
+use Rattle.ws_link_laws.proofs.Hosts.{row-sources, untied-same}
+use Rattle.ws_laws.proofs.Shapes.{row-owner, row-tee_shapes}
 
 -- by whom a chunk is taken that is handed on
 abbrev ear_of : StreamId → WritableOperation → Ear
@@ -59,7 +60,7 @@ module _ (i j : StreamId) (p : PipeId) (s : Slots) where
 
   -- what an operation of the destination may rely on
   needs : (operation : WritableOperation) (es : List Effect) (n : ℕ) → IsInner i j p n (OnWritable j operation) → Stands i j p s (OnWritable j operation ∷ es) → Needs (ear_of j operation) j operation (writable_at j s)
-  needs (WriteSettled (Ok v)) es n a k = flies (writable_at j s).state (writable_at j s) refl (led-by j k.history s es v k.state.sink k.going (owner_at j s) refl)
+  needs (WriteSettled (Ok v)) es n a k = flies (writable_at j s).state (writable_at j s) refl (led-by j k.history s es v k.state.sink k.going (owner_at j s) k.sunk refl)
   needs (WriteSettled (Err r)) es n a k = none_is (writable_at j s).close_in_flight (write_settled-expects j k.history es s (Err r) (stands-kept _ k)).1
   needs (CloseSettled o) es n a k = close_settled-expects j k.history es s o (stands-kept _ k)
   needs (StartSettled o) es n a k =
@@ -143,6 +144,8 @@ module _ (i j : StreamId) (p : PipeId) (s : Slots) (k : StreamId) (operation : W
     only = off-only p i s e es (row-off p i s e tt) h.only;
     inner = rw pipes (each-append (IsInner i j p (rank (pipe_at p s).phase)) cs es (inner-caused (rank (pipe_at p s).phase)) h.inner.1);
     ends = at_end-append j p cs es last-caused h.ends.1;
+    untied = untied-same i s (row e s).slots (row-tee_shapes e s) ∙ h.untied;
+    sunk = rw (row-owner j e s) h.sunk;
   }
 
   -- the state, where the destination is left so

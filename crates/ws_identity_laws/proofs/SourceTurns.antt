@@ -30,7 +30,7 @@ use Rattle.ws_link_laws.specs.Link.{OfSource, OfByteSource, silence, in_sink, in
 use Rattle.ws_link_laws.specs.Sound.{SourceFits, IsBare}
 use Rattle.ws_link_laws.proofs.ByteSources.{bare_keeps, bytes_keep}
 use Rattle.ws_link_laws.proofs.Calls.{source_shut}
-use Rattle.ws_link_laws.proofs.Hosts.{row-sinks, row-sources}
+use Rattle.ws_link_laws.proofs.Hosts.{row-sinks, row-sources, untied-same}
 use Rattle.ws_link_laws.proofs.Moves.{passes, in_pipe-short, late_pipe}
 use Rattle.ws_link_laws.proofs.Pipes.{rank, closes_map}
 use Rattle.ws_link_laws.proofs.Sources.{is_cancel, SourceKept, source_keeps}
@@ -41,6 +41,7 @@ use Rattle.ws_link_laws.proofs.Telling.{tells, IsSilent, silent-all, writes, chu
 use Rattle.ws_identity_laws.specs.Passing.{taken, effect_acts, effect_takes}
 use Rattle.ws_identity_laws.proofs.Standing.{Stands, Turned, way, way-short, lies_on, split, shut-same}
 use Rattle.ws_identity_laws.proofs.Takes.{default-entered, none-entered, none-taken}
+use Rattle.ws_laws.proofs.Shapes.{row-owner, row-tee_shapes}
 
 -- a source that can take nothing has come to an end
 takes-end : (r : readable.Slots) (t : Told Value) → then_told (in_source r) t ≡ then_told (in_source r) (taken r t)
@@ -111,6 +112,8 @@ module _ (i j : StreamId) (p : PipeId) (s : Slots) (e : Effect) (es : List Effec
     only = off-only p i s e es (row-off p i s e q.far) h.only;
     inner = rw pipes (each-append (IsInner i j p (rank (pipe_at p s).phase)) cs es (q.inner (rank (pipe_at p s).phase)) h.inner.1);
     ends = at_end-append j p cs es q.last h.ends.1;
+    untied = untied-same i s (row e s).slots (row-tee_shapes e s) ∙ h.untied;
+    sunk = rw (row-owner j e s) h.sunk;
   }
 
   -- the state, where the source is left so

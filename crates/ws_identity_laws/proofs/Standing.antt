@@ -1,11 +1,11 @@
 -- What holds of a link of any ends at each moment of a step, with the effects that stand on the agenda, and what lies on it then.
-use Rattle.std.proofs.Common.{◌≡◌, ◌≢◌, List, [], ◌∷◌, ◌++◌, refl, arith}
+use Rattle.std.proofs.Common.{◌≡◌, ◌≢◌, true, List, [], ◌∷◌, ◌++◌, refl, arith}
 use Rattle.ws_value.specs.declared.ids.PipeId.{PipeId}
 use Rattle.ws_value.specs.declared.ids.StreamId.{StreamId}
 use Rattle.ws_value.specs.declared.value.Value.{Value}
 use Rattle.ws_steps.specs.declared.effects.Effect.{Effect}
 use Rattle.ws_steps.specs.declared.transform.TransformId.{TransformId}
-use Rattle.ws_steps.specs.Slots.{Slots, source_at, writable_at, pipe_at}
+use Rattle.ws_steps.specs.Slots.{Slots, source_at, writable_at, pipe_at, owner_at}
 use Rattle.ws_steps.specs.Turns.{row}
 use Rattle.ws_steps.specs.WritableHistory.{Writes}
 use Rattle.ws_flow.specs.Told.{Open, Told, then_told, IsShortOf}
@@ -19,6 +19,8 @@ use Rattle.ws_link_laws.proofs.Pipes.{rank}
 use Rattle.ws_link_laws.proofs.Standing.{IsInner, AtEnd, State}
 use Rattle.ws_link_laws.proofs.Telling.{tells, tells-append, writes, chunks}
 use Rattle.ws_identity_laws.specs.Passing.{effect_acts, effect_takes}
+use Rattle.ws_link_laws.specs.Sound.{all_untied}
+use Rattle.ws_transform_laws.proofs.Sunk.{IsNoBranch}
 
 pub record Stands (i j : StreamId) (p : PipeId) (s : Slots) (es : List Effect) : Type 0 where
   pub state : State i j p s
@@ -28,6 +30,8 @@ pub record Stands (i j : StreamId) (p : PipeId) (s : Slots) (es : List Effect) :
   pub only : Only p i s.streams es
   pub inner : Each (IsInner i j p (rank (pipe_at p s).phase)) es
   pub ends : AtEnd j p es
+  pub untied : all_untied i s.tees ≡ true
+  pub sunk : IsNoBranch (owner_at j s)
 
 -- in the destination, on its way there, and before that
 abbrev pub way : Told Value → Told Value → Told Value → Told Value

@@ -15,7 +15,7 @@ use Rattle.ws_steps.specs.Histories.{along}
 use Rattle.ws_steps.specs.Jobs.{job_effects, job_begun, begin_job}
 use Rattle.ws_steps.specs.Promises.{next_job, after_next_job, watch}
 use Rattle.ws_steps.specs.Run.{Entry, Called, Worked, Heard, step, older, after_call, after_job, after_event}
-use Rattle.ws_steps.specs.Slots.{Slots, Done, with_promises, pipe_at, as_pipe, as_writable}
+use Rattle.ws_steps.specs.Slots.{Slots, Done, with_promises, pipe_at, as_pipe, as_writable, owner_at, owner_of}
 use Rattle.ws_steps.specs.Turns.{row, performed, moments}
 use Rattle.ws_flow.specs.Told.{Told, then_told, IsShortOf}
 use Rattle.ws_flow.proofs.Told.{then_assoc, then_empty, short_refl, short_trans, short_same, short_as, short_left, short_right}
@@ -29,8 +29,8 @@ use Rattle.ws_transform_laws.proofs.Halving.{going}
 use Rattle.ws_transform_laws.proofs.Told.{along-map}
 use Rattle.ws_link_laws.specs.Link.{silence, lies, leaves, giver_at, enters}
 use Rattle.ws_link_laws.specs.Sound.{IsReached, all_spare}
-use Rattle.ws_link_laws.proofs.Calls.{IsOuter, outer-inner, outer-last, outer-writes, outer-chunks, Begins, call-begins}
-use Rattle.ws_link_laws.proofs.Hosts.{reached-halved}
+use Rattle.ws_link_laws.proofs.Calls.{IsOuter, outer-inner, outer-last, outer-writes, outer-chunks, Begins, call-begins, call-untied}
+use Rattle.ws_link_laws.proofs.Hosts.{reached-halved, sink-owner}
 use Rattle.ws_link_laws.proofs.Pipes.{rank}
 use Rattle.ws_link_laws.proofs.Standing.{IsInner, IsNotLast, state-same}
 use Rattle.ws_link_laws.proofs.Steps.{reached-step, reached-going, reached-few, reached-is, elsewhere-is, append_ends, Grown, call-grown, source_there, grown-source, grown-state, job-inner, job-writes, job-chunks, job-ends}
@@ -39,8 +39,12 @@ use Rattle.ws_identity_laws.specs.Ends.{IsAnyLink}
 use Rattle.ws_identity_laws.specs.Passing.{effect_acts, step_acts, effect_takes, step_takes}
 use Rattle.ws_identity_laws.proofs.Standing.{Stands, lies_on}
 use Rattle.ws_identity_laws.proofs.Turns.{row-turned}
+use Rattle.ws_transform_laws.proofs.Sunk.{AreSunk, run-sunk, sink-owned}
 
 -- between steps, a link is what holds at each moment, with nothing on the agenda
+
+pub reached-sunk : (s : Slots) → IsReached s → AreSunk s
+reached-sunk s (xs, e) = rw e (run-sunk xs)
 
 pub link-stands : (i j : StreamId) (p : PipeId) (s : Slots) → IsAnyLink i j p s → Stands i j p s []
 link-stands i j p s l =
@@ -66,6 +70,8 @@ link-stands i j p s l =
       only = omega (arith, n, m);
       inner = tt;
       ends = tt;
+      untied = l.untied;
+      sunk = sink-owned j s (reached-sunk s l.reached) l.sink;
     }
 
 pub stands-link : (i j : StreamId) (p : PipeId) (s : Slots) → IsReached s → all_spare i j s.locks ≡ true → Stands i j p s [] → IsAnyLink i j p s
@@ -81,6 +87,7 @@ stands-link i j p s r a h =
       from = h.state.from;
       into = h.state.into;
       apart = h.state.apart;
+      untied = h.untied;
       locks = a;
       elsewhere = omega (arith, n, m);
       source_fits = h.state.source_fits;
@@ -159,6 +166,8 @@ older-from i j p t locks h s k = record {
     only = k.stands.only;
     inner = tt;
     ends = tt;
+    untied = k.stands.untied;
+    sunk = k.stands.sunk;
   };
   short = k.short;
   same = k.same;
@@ -174,6 +183,8 @@ watched-from i j p t locks h s q k = record {
     only = k.stands.only;
     inner = tt;
     ends = tt;
+    untied = k.stands.untied;
+    sunk = k.stands.sunk;
   };
   short = k.short;
   same = k.same;
@@ -208,6 +219,8 @@ begun-from i j p s (Some job) e h =
         only = omega (arith, only, none_, o);
         inner = job-inner i j p (rank (pipe_at p s).phase) job;
         ends = job-ends j p job;
+        untied = h.untied;
+        sunk = h.sunk;
       };
       short =
           rw (silent-all (writes j) (job_effects job) (job-writes j job), silent-all (chunks p) (job_effects job) (job-chunks p job), then_empty (lies i j p s)) (short_refl (lies i j p s));
@@ -260,6 +273,9 @@ module _ (i j : StreamId) (p : PipeId) (s : Slots) (c : Call) (l : IsAnyLink i j
   begun-chunks : tells (chunks p) d.caused ≡ silence
   begun-chunks = silent-all (chunks p) d.caused (each-map (IsOuter i j) (IsSilent (chunks p)) (outer-chunks p i j) d.caused begins.outer)
 
+  same-sink : owner_at j d.slots ≡ owner_at j s
+  same-sink = ap owner_of grown.sink ∙ sym (sink-owner j s l.sink)
+
   begun-stands : Stands i j p d.slots d.caused
   begun-stands =
       let r = reached-is s p l.reached in
@@ -275,6 +291,8 @@ module _ (i j : StreamId) (p : PipeId) (s : Slots) (c : Call) (l : IsAnyLink i j
         only = omega (arith, w, none_, o);
         inner = begun-inner;
         ends = append_ends j p d.caused begun-last;
+        untied = call-untied i j c s leave l.untied;
+        sunk = rw same-sink before.sunk;
       }
 
   begun-told : lies_on i j p d.slots d.caused ≡ t
@@ -296,8 +314,8 @@ link-called i j p s c l leave = called i j p s c l leave
 
 -- what the host does between steps
 
-quiet-link : (i j : StreamId) (p : PipeId) (s z : Slots) → IsReached z → z.streams ≡ s.streams → z.pipes ≡ s.pipes → z.locks ≡ s.locks → IsAnyLink i j p s → IsAnyLink i j p z
-quiet-link i j p s z r e f g l = record {
+quiet-link : (i j : StreamId) (p : PipeId) (s z : Slots) → IsReached z → z.streams ≡ s.streams → z.tees ≡ s.tees → z.pipes ≡ s.pipes → z.locks ≡ s.locks → IsAnyLink i j p s → IsAnyLink i j p z
+quiet-link i j p s z r e t f g l = record {
   reached = r;
   source = rw e l.source;
   bare = rw e l.bare;
@@ -306,6 +324,7 @@ quiet-link i j p s z r e f g l = record {
   from = rw f l.from;
   into = rw f l.into;
   apart = rw f l.apart;
+  untied = rw t l.untied;
   locks = rw g l.locks;
   elsewhere = rw e l.elsewhere;
   source_fits = rw e l.source_fits;
@@ -318,7 +337,7 @@ pub link-heard : (i j : StreamId) (p : PipeId) (s : Slots) → IsAnyLink i j p s
 link-heard i j p s l =
     let a = nothing-told silence then_told told_is (effect_acts j) s in
     let b = nothing-told silence then_told told_is (effect_takes i) s in
-    (quiet-link i j p s (after_event s) (reached-step s Heard l.reached) refl refl refl l, rw (a, b, then_empty (lies i j p s)) (short_refl (lies i j p s)))
+    (quiet-link i j p s (after_event s) (reached-step s Heard l.reached) refl refl refl refl l, rw (a, b, then_empty (lies i j p s)) (short_refl (lies i j p s)))
   where
     told_is : IsHistory {H = Told Value} silence then_told
     told_is = record { left = λ h. refl; right = then_empty; assoc = then_assoc }

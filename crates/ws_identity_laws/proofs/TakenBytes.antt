@@ -3,11 +3,11 @@ use Rattle.std.proofs.Common.{◌≡◌, ℕ, Bool, true, false, not, ◌&&◌, 
 use Rattle.ws_value.specs.declared.{ids.PipeId.{PipeId}, ids.StreamId.{StreamId}, value.Value.{Value}, value.Value.TheVariants.{Plain as PlainValue, Bytes}}
 use Rattle.ws_steps.specs.declared.byte.{ByteOperation.TheVariants.{Enqueue as EnqueueBytes}}
 use Rattle.ws_steps.specs.declared.calls.{Call.{Call}, Call.TheVariants.{Enqueue as EnqueueCall}}
-use Rattle.ws_steps.specs.declared.effects.{Effect.{Effect}, Owner.{Owner}, Owner.TheVariants.{Host, HalfOf}}
-use Rattle.ws_steps.specs.declared.effects.Effect.TheVariants.{Readable as OnReadable, Byte as OnByte, Writable as OnWritable, Pipe as OnPipe, Signal as OnSignal, Transform as OnTransform, StartAlgorithm, PullAlgorithm, CancelAlgorithm, WriteAlgorithm, CloseAlgorithm, AbortAlgorithm, ChunkSteps, CloseSteps, CloseStepsWith, ErrorSteps}
+use Rattle.ws_steps.specs.declared.effects.{Effect.{Effect}, Owner.{Owner}, Owner.TheVariants.{Host, HalfOf, BranchOf}}
+use Rattle.ws_steps.specs.declared.effects.Effect.TheVariants.{Readable as OnReadable, Byte as OnByte, Writable as OnWritable, Pipe as OnPipe, Signal as OnSignal, Transform as OnTransform, Tee as OnTee, StartAlgorithm, PullAlgorithm, CancelAlgorithm, WriteAlgorithm, CloseAlgorithm, AbortAlgorithm, ChunkSteps, CloseSteps, CloseStepsWith, ErrorSteps}
 use Rattle.ws_steps.specs.declared.pipes.SignalOperation.TheVariants.{Add, Forget, Trigger}
 use Rattle.ws_steps.specs.declared.promises.Job.{Job}
-use Rattle.ws_steps.specs.declared.readable.{ReadRequest.TheVariants.{Promise, Pipe as PipeRequest}, ReadableOperation.{ReadableOperation}, ReadableOperation.TheVariants.{Enqueue}}
+use Rattle.ws_steps.specs.declared.readable.{ReadRequest.TheVariants.{Promise, Pipe as PipeRequest, Tee as TeeRequest}, ReadableOperation.{ReadableOperation}, ReadableOperation.TheVariants.{Enqueue}}
 use Rattle.ws_steps.specs.declared.transform.TransformId.{TransformId}
 use Rattle.ws_steps.specs.Bytes as byte
 use Rattle.ws_steps.specs.Calls as calls
@@ -37,6 +37,8 @@ use Rattle.ws_identity_laws.specs.Passing.{taken}
 use Rattle.ws_identity_laws.specs.Told.{EachTakeOfBytesIsTold}
 use Rattle.ws_identity_laws.proofs.Entered.{items_of, takes-run}
 use Rattle.ws_identity_laws.proofs.Takes.{open_at}
+use Rattle.ws_value.specs.declared.ids.TeeId.{TeeId}
+use Rattle.ws_laws.proofs.TeeDoes.{TeeCauses}
 
 -- no effect causes an operation of a byte controller
 
@@ -52,13 +54,17 @@ transform-none : (t : TransformId) (writable readable : StreamId) (e : Effect) �
 transform-none t writable readable (OnByte j operation) c = absurd c
 transform-none t writable readable _ c = tt
 
+tee-none : (u : TeeId) (source first second : StreamId) (e : Effect) → TeeCauses u source first second e → IsNoByte e
+tee-none u source first second (OnByte j operation) c = absurd c
+tee-none u source first second _ c = tt
+
 causes-none : (e : Effect) → Causes IsNoByte e
 causes-none (OnReadable j operation) = record { pull = tt; cancel = λ c p. tt; chunk = λ c v. tt; close = λ c. tt; error = λ c e. tt }
 causes-none (OnByte j operation) = record { readable = record { pull = tt; cancel = λ c p. tt; chunk = λ c v. tt; close = λ c. tt; error = λ c e. tt }; close_with = λ c b. tt }
 causes-none (OnWritable j operation) = record { write = tt; close = tt; abort = λ c p. tt; hand_on = λ v. tt; take = λ v u d. tt }
 causes-none (StartAlgorithm j step start) = (λ g u. tt, λ c u. tt)
-causes-none (PullAlgorithm j) = (λ c u. tt, λ y u. tt)
-causes-none (CancelAlgorithm j c p) = (λ c u. tt, λ y u. tt)
+causes-none (PullAlgorithm j) = (λ c u. tt, (λ y u. tt, (λ k. tt, λ u. tt)))
+causes-none (CancelAlgorithm j c p) = (λ c u. tt, (λ y u. tt, λ k half u. tt))
 causes-none (WriteAlgorithm j) = (tt, λ y u. tt)
 causes-none (CloseAlgorithm j) = (λ c u. tt, λ y u. tt)
 causes-none (AbortAlgorithm j c p) = (λ c u. tt, λ y u. tt)
@@ -67,14 +73,19 @@ causes-none (OnSignal a (Trigger c)) = λ p. tt
 causes-none (OnSignal a (Add p)) = tt
 causes-none (OnSignal a (Forget p)) = tt
 causes-none (OnTransform u operation) = transform-none u
+causes-none (OnTee u operation) = tee-none u
 causes-none (ChunkSteps j (Promise p) v) = tt
 causes-none (ChunkSteps j (PipeRequest p) v) = tt
+causes-none (ChunkSteps j (TeeRequest k) v) = tt
 causes-none (CloseSteps j (Promise p)) = tt
 causes-none (CloseSteps j (PipeRequest p)) = tt
+causes-none (CloseSteps j (TeeRequest k)) = tt
 causes-none (CloseStepsWith j (Promise p) b) = tt
 causes-none (CloseStepsWith j (PipeRequest p) b) = tt
+causes-none (CloseStepsWith j (TeeRequest k) b) = tt
 causes-none (ErrorSteps j (Promise p) e) = tt
 causes-none (ErrorSteps j (PipeRequest p) e) = tt
+causes-none (ErrorSteps j (TeeRequest k) e) = tt
 causes-none _ = tt
 
 row-none : (e : Effect) (s : Slots) → Each IsNoByte (row e s).caused
@@ -231,6 +242,7 @@ module _ (i : StreamId) where
   owner-none : (s : Slots) (j : StreamId) (v : Value) (owner : Owner) → is_same i j ≡ false → Elsewhere j v (calls.enqueue_by v j s owner)
   owner-none s j v Host n = either (Elsewhere j v) (can_close_or_enqueue (readable_at j s)) (calls.does (OnReadable j (Enqueue v) ∷ []) s) (calls.throws_type_error s) (λ can. ((refl, tt), rw n refl)) (λ cannot. (tt, refl))
   owner-none s j v (HalfOf u) n = either (Elsewhere j v) (can_close_or_enqueue (readable_at j s)) (calls.does (OnTransform u (EnqueueByTransform v) ∷ []) s) (calls.throws_type_error s) (λ can. ((refl, tt), rw n refl)) (λ cannot. (tt, refl))
+  owner-none s j v (BranchOf u half) n = (tt, refl)
 
   other-start : (s : Slots) (j : StreamId) (v : Value) → is_same i j ≡ false → let b : Begun = calls.for_readable j (calls.enqueue v j) s in Starts b (accepted_by i (EnqueueCall j v) b.reply)
   other-start s j v n =

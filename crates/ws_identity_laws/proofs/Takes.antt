@@ -3,7 +3,7 @@
 use Rattle.std.proofs.Common.{◌≡◌, ◌⊎◌, inl, inr, Bool, true, false, ◌||◌, if◌then◌else◌, List, [], ◌∷◌, Option, Some, None, slice_get, refl, sym, ap, subst, ◌∙◌, arith}
 use Rattle.ws_value.specs.declared.{ids.StreamId.{StreamId}, value.Value.{Value}}
 use Rattle.ws_steps.specs.declared.byte.{ByteOperation.{ByteOperation}, ByteOperation.TheVariants.{Enqueue as EnqueueBytes}}
-use Rattle.ws_steps.specs.declared.effects.{Effect.{Effect}, Owner.{Owner}, Owner.TheVariants.{Host, HalfOf}}
+use Rattle.ws_steps.specs.declared.effects.{Effect.{Effect}, Owner.{Owner}, Owner.TheVariants.{Host, HalfOf, BranchOf}}
 use Rattle.ws_steps.specs.declared.effects.Effect.TheVariants.{Readable as OnReadable, Byte as OnByte, Writable as OnWritable}
 use Rattle.ws_steps.specs.declared.readable.{ReadableOperation.{ReadableOperation}, ReadableOperation.TheVariants.{Enqueue, Close}}
 use Rattle.ws_steps.specs.Bytes as byte
@@ -29,11 +29,13 @@ pub default-entered : (o : Owner) (operation : ReadableOperation) → entered (g
 default-entered Host operation = refl
 default-entered (HalfOf t) (Enqueue v) = refl
 default-entered (HalfOf t) operation = grind arith
+default-entered (BranchOf t half) operation = refl
 
 -- and no bytes
 pub none-entered : (o : Owner) (operation : ByteOperation) → bytes_entered (giver_by false o) operation ≡ silence
 none-entered Host operation = grind arith
 none-entered (HalfOf t) operation = grind arith
+none-entered (BranchOf t half) operation = grind arith
 
 -- whether a source can take something
 abbrev pub open_at : StreamId → Slots → Bool

@@ -76,6 +76,7 @@ begun-place n y (Called c) s e = begin-makes (λ z. slice_get z.streams n ≡ So
   pipe = λ z source dest prevent signal promise k. k;
   signal = λ z k. k;
   transform = λ z kind v r change k. k;
+  tee = λ z source first second cancel k. k;
   bytes = λ z mark auto k. get-stays z.streams _ n y k;
   byob_requests = λ z hs k. k;
   readable = λ z o mark size k. get-stays z.streams _ n y k;

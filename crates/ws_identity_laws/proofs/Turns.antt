@@ -8,12 +8,12 @@ use Rattle.ws_value.specs.declared.value.Plain.{Plain}
 use Rattle.ws_value.specs.declared.value.Value.{Value}
 use Rattle.ws_steps.specs.declared.calls.StartBy.TheVariants.{Now, Later}
 use Rattle.ws_steps.specs.declared.effects.Effect.{Effect}
-use Rattle.ws_steps.specs.declared.effects.Effect.TheVariants.{Readable as OnReadable, Writable as OnWritable, Pipe as OnPipe, Signal as OnSignal, Transform as OnTransform, StartAlgorithm, PullAlgorithm, CancelAlgorithm, WriteAlgorithm, CloseAlgorithm, AbortAlgorithm, ChunkSteps, CloseSteps, ErrorSteps, Give, Settle, Queue, CallHost}
+use Rattle.ws_steps.specs.declared.effects.Effect.TheVariants.{Readable as OnReadable, Writable as OnWritable, Pipe as OnPipe, Signal as OnSignal, Transform as OnTransform, Tee as OnTee, StartAlgorithm, PullAlgorithm, CancelAlgorithm, WriteAlgorithm, CloseAlgorithm, AbortAlgorithm, ChunkSteps, CloseSteps, ErrorSteps, Give, Settle, Queue, CallHost}
 use Rattle.ws_steps.specs.declared.effects.Owner.{Owner}
-use Rattle.ws_steps.specs.declared.effects.Owner.TheVariants.{Host, HalfOf}
+use Rattle.ws_steps.specs.declared.effects.Owner.TheVariants.{Host, HalfOf, BranchOf}
 use Rattle.ws_steps.specs.declared.effects.Use.{Use}
 use Rattle.ws_steps.specs.declared.pipes.SignalOperation.{SignalOperation}
-use Rattle.ws_steps.specs.declared.readable.ReadRequest.TheVariants.{Promise, Pipe as PipeRequest}
+use Rattle.ws_steps.specs.declared.readable.ReadRequest.TheVariants.{Promise, Pipe as PipeRequest, Tee as TeeRequest}
 use Rattle.ws_steps.specs.declared.transform.TransformId.{TransformId}
 use Rattle.ws_steps.specs.declared.transform.TransformOperation.{TransformOperation}
 use Rattle.ws_steps.specs.Histories.{is_same}
@@ -35,13 +35,21 @@ use Rattle.ws_link_laws.proofs.Sinks.{ended_lies}
 use Rattle.ws_link_laws.proofs.Standing.{IsInner, IsNotLast, at_end-append, state-same}
 use Rattle.ws_link_laws.proofs.Telling.{if_same, tells, IsSilent, silent-all, writes, chunks}
 use Rattle.ws_link_laws.proofs.TransformTurns.{caused-writes, caused-chunks, caused-inner, caused-last}
-use Rattle.ws_link_laws.proofs.Turns.{and_false, signal-each}
+use Rattle.ws_link_laws.proofs.Turns.{and_false, signal-each, tee-inner}
 use Rattle.ws_identity_laws.specs.Passing.{effect_acts, effect_takes}
 use Rattle.ws_identity_laws.proofs.Standing.{Stands, Turned, lies_on, split}
 use Rattle.ws_identity_laws.proofs.SourceTurns.{readable-turned, byte-turned}
 use Rattle.ws_identity_laws.proofs.SinkTurns.{stands-kept, writable-turned}
 use Rattle.ws_identity_laws.proofs.PipeTurns.{pipe-turned}
 use Rattle.ws_steps.specs.declared.effects.Effect.TheVariants.{Byte, CloseStepsWith}
+use Rattle.ws_value.specs.declared.ids.TeeId.{TeeId}
+use Rattle.ws_steps.specs.declared.tee.TeeOperation.{TeeOperation}
+use Rattle.ws_steps.specs.Tee as tee
+use Rattle.ws_laws.proofs.TeeDoes.{TeeCauses}
+use Rattle.ws_transform_laws.proofs.Branches.{tee-caused}
+use Rattle.ws_link_laws.proofs.Hosts.{untied-same}
+use Rattle.ws_laws.proofs.Shapes.{row-owner, row-tee_shapes}
+use Rattle.ws_link_laws.specs.Sound.{all_untied}
 
 -- an effect that is no operation of an end or of a pipe, and passes on what it brings
 record Passing (i j : StreamId) (p : PipeId) (n : ℕ) (e : Effect) (cs : List Effect) : Type 0 where
@@ -69,6 +77,8 @@ module _ (i j : StreamId) (p : PipeId) (s : Slots) (e : Effect) (es : List Effec
     only = off-only p i s e es (row-off p i s e far) h.only;
     inner = rw pipes (each-append (IsInner i j p n) (row e s).caused es inner h.inner.1);
     ends = at_end-append j p (row e s).caused es last h.ends.1;
+    untied = untied-same i s (row e s).slots (row-tee_shapes e s) ∙ h.untied;
+    sunk = rw (row-owner j e s) h.sunk;
   }
 
   lies-same : Passing i j p n e (row e s).caused → lies_on i j p (row e s).slots ((row e s).caused ++ es) ≡ lies_on i j p s (e ∷ es)
@@ -89,22 +99,27 @@ module _ (i j : StreamId) (p : PipeId) (s : Slots) (e : Effect) (es : List Effec
 pull-passing : (i j : StreamId) (p : PipeId) (n : ℕ) (k : StreamId) (u : Use) (o : Owner) → Passing i j p n (PullAlgorithm k) (pull_algorithm k u o)
 pull-passing i j p n k u Host = record { writes = refl; chunks = refl; inner = (tt, tt); last = (refl, tt) }
 pull-passing i j p n k u (HalfOf t) = record { writes = refl; chunks = refl; inner = (tt, tt); last = (refl, tt) }
+pull-passing i j p n k u (BranchOf t half) = record { writes = refl; chunks = refl; inner = (tt, (tt, tt)); last = (refl, (refl, tt)) }
 
 cancel-passing : (i j : StreamId) (p : PipeId) (n : ℕ) (k : StreamId) (r : Plain) (q : PromiseId) (u : Use) (o : Owner) → Passing i j p n (CancelAlgorithm k r q) (cancel_algorithm k r u o)
 cancel-passing i j p n k r q u Host = record { writes = refl; chunks = refl; inner = (tt, tt); last = (refl, tt) }
 cancel-passing i j p n k r q u (HalfOf t) = record { writes = refl; chunks = refl; inner = (tt, tt); last = (refl, tt) }
+cancel-passing i j p n k r q u (BranchOf t half) = record { writes = refl; chunks = refl; inner = (tt, tt); last = (refl, tt) }
 
 abort-passing : (i j : StreamId) (p : PipeId) (n : ℕ) (k : StreamId) (r : Plain) (q : PromiseId) (u : Use) (o : Owner) → Passing i j p n (AbortAlgorithm k r q) (abort_algorithm k r u o)
 abort-passing i j p n k r q u Host = record { writes = refl; chunks = refl; inner = (tt, tt); last = (refl, tt) }
 abort-passing i j p n k r q u (HalfOf t) = record { writes = refl; chunks = refl; inner = (tt, tt); last = (refl, tt) }
+abort-passing i j p n k r q u (BranchOf t half) = record { writes = refl; chunks = refl; inner = (tt, tt); last = (refl, tt) }
 
 write-passing : (i j : StreamId) (p : PipeId) (n : ℕ) (k : StreamId) (o : Owner) → Passing i j p n (WriteAlgorithm k) (write_algorithm k o)
 write-passing i j p n k Host = record { writes = rw (if_same (is_same j k)) refl; chunks = refl; inner = (tt, tt); last = (refl, tt) }
 write-passing i j p n k (HalfOf t) = record { writes = refl; chunks = refl; inner = (tt, tt); last = (refl, tt) }
+write-passing i j p n k (BranchOf t half) = record { writes = rw (if_same (is_same j k)) refl; chunks = refl; inner = (tt, tt); last = (refl, tt) }
 
 close-passing : (i j : StreamId) (p : PipeId) (n : ℕ) (k : StreamId) (u : Use) (o : Owner) → Passing i j p n (CloseAlgorithm k) (close_algorithm k u o)
 close-passing i j p n k u Host = record { writes = refl; chunks = refl; inner = (tt, tt); last = (refl, tt) }
 close-passing i j p n k u (HalfOf t) = record { writes = refl; chunks = refl; inner = (tt, tt); last = (refl, tt) }
+close-passing i j p n k u (BranchOf t half) = record { writes = refl; chunks = refl; inner = (tt, tt); last = (refl, tt) }
 
 signal-passing : (i j : StreamId) (p : PipeId) (n : ℕ) (a : SignalId) (operation : SignalOperation) (s : Slots) → Passing i j p n (OnSignal a operation) (row (OnSignal a operation) s).caused
 signal-passing i j p n a operation s =
@@ -127,6 +142,31 @@ transform-passing i j p n t operation s =
       inner = row-causes (IsInner i j p n) e s (λ m r u c. caused-inner i j p n t m r u c);
       last = row-causes (IsNotLast p) e s (λ m r u c. caused-last p t m r u c);
     }
+
+-- an operation of a tee, of another source
+
+tee-passing : (i j : StreamId) (p : PipeId) (n : ℕ) (t : TeeId) (operation : TeeOperation) (s : Slots) → all_untied i s.tees ≡ true → Passing i j p n (OnTee t operation) (row (OnTee t operation) s).caused
+tee-passing i j p n t operation s u =
+    let cs : List Effect = (row (OnTee t operation) s).caused in
+    record {
+      writes = silent-all (writes j) cs (tee-caused (IsSilent (writes j)) t operation s (λ x at e c. no_writes x e c));
+      chunks = silent-all (chunks p) cs (tee-caused (IsSilent (chunks p)) t operation s (λ x at e c. no_chunks x e c));
+      inner = tee-caused (IsInner i j p n) t operation s (λ x at e c. tee-inner i j p n s t x u at e c);
+      last = tee-caused (IsNotLast p) t operation s (λ x at e c. not_last x e c);
+    }
+  where
+    no_writes : (x : tee.Slots) (e : Effect) → TeeCauses t x.source x.branch1 x.branch2 e → IsSilent (writes j) e
+    no_writes x (OnWritable k operation) c = absurd c
+    no_writes x _ c = refl
+
+    no_chunks : (x : tee.Slots) (e : Effect) → TeeCauses t x.source x.branch1 x.branch2 e → IsSilent (chunks p) e
+    no_chunks x (ChunkSteps k request v) c = absurd c
+    no_chunks x (OnPipe q operation) c = absurd c
+    no_chunks x _ c = refl
+
+    not_last : (x : tee.Slots) (e : Effect) → TeeCauses t x.source x.branch1 x.branch2 e → IsNotLast p e
+    not_last x (OnPipe q operation) c = absurd c
+    not_last x _ c = refl
 
 -- the close algorithm of the destination is performed
 
@@ -158,6 +198,7 @@ row-turned i j p s (OnWritable k operation) es h = writable-turned i j p s k ope
 row-turned i j p s (OnPipe q operation) es h = pipe-turned i j p s q operation es h
 row-turned i j p s (OnSignal a operation) es h = passing-turned i j p s (OnSignal a operation) es tt tt h refl refl (signal-passing i j p (rank (pipe_at p s).phase) a operation s)
 row-turned i j p s (OnTransform t operation) es h = passing-turned i j p s (OnTransform t operation) es tt tt h refl refl (transform-passing i j p (rank (pipe_at p s).phase) t operation s)
+row-turned i j p s (OnTee t operation) es h = passing-turned i j p s (OnTee t operation) es tt tt h refl refl (tee-passing i j p (rank (pipe_at p s).phase) t operation s h.untied)
 row-turned i j p s (StartAlgorithm k step Now) es h = passing-turned i j p s (StartAlgorithm k step Now) es tt tt h refl refl (record { writes = refl; chunks = refl; inner = (tt, tt); last = (refl, tt) })
 row-turned i j p s (StartAlgorithm k step Later) es h = passing-turned i j p s (StartAlgorithm k step Later) es tt tt h refl refl (record { writes = refl; chunks = refl; inner = (tt, (tt, tt)); last = (refl, (refl, tt)) })
 row-turned i j p s (PullAlgorithm k) es h = passing-turned i j p s (PullAlgorithm k) es tt tt h refl refl (pull-passing i j p (rank (pipe_at p s).phase) k _ (owner_at k s))
@@ -169,12 +210,18 @@ row-turned i j p s (ChunkSteps k (Promise q) v) es h = passing-turned i j p s (C
 row-turned i j p s (ChunkSteps k (PipeRequest q) v) es h =
     passing-turned i j p s (ChunkSteps k (PipeRequest q) v) es tt tt h refl refl
     (record { writes = refl; chunks = then_empty (chunks p (ChunkSteps k (PipeRequest q) v)); inner = (tt, tt); last = (and_false (nat_eq p.0 q.0), tt) })
+row-turned i j p s (ChunkSteps k (TeeRequest b) v) es h =
+    passing-turned i j p s (ChunkSteps k (TeeRequest b) v) es tt tt h refl refl
+    (record { writes = refl; chunks = then_empty (chunks p (ChunkSteps k (TeeRequest b) v)); inner = (tt, tt); last = (refl, tt) })
 row-turned i j p s (CloseSteps k (Promise q)) es h = passing-turned i j p s (CloseSteps k (Promise q)) es tt tt h refl refl (record { writes = refl; chunks = refl; inner = tt; last = tt })
 row-turned i j p s (CloseStepsWith k (Promise q) b) es h = passing-turned i j p s (CloseStepsWith k (Promise q) b) es tt tt h refl refl (record { writes = refl; chunks = refl; inner = tt; last = tt })
 row-turned i j p s (CloseSteps k (PipeRequest q)) es h = passing-turned i j p s (CloseSteps k (PipeRequest q)) es tt tt h refl refl (record { writes = refl; chunks = refl; inner = (tt, tt); last = (and_false (nat_eq p.0 q.0), tt) })
+row-turned i j p s (CloseSteps k (TeeRequest b)) es h = passing-turned i j p s (CloseSteps k (TeeRequest b)) es tt tt h refl refl (record { writes = refl; chunks = refl; inner = (tt, tt); last = (refl, tt) })
 row-turned i j p s (CloseStepsWith k (PipeRequest q) b) es h = passing-turned i j p s (CloseStepsWith k (PipeRequest q) b) es tt tt h refl refl (record { writes = refl; chunks = refl; inner = (tt, tt); last = (and_false (nat_eq p.0 q.0), tt) })
+row-turned i j p s (CloseStepsWith k (TeeRequest tee_id) b) es h = passing-turned i j p s (CloseStepsWith k (TeeRequest tee_id) b) es tt tt h refl refl (record { writes = refl; chunks = refl; inner = (tt, tt); last = (refl, tt) })
 row-turned i j p s (ErrorSteps k (Promise q) r) es h = passing-turned i j p s (ErrorSteps k (Promise q) r) es tt tt h refl refl (record { writes = refl; chunks = refl; inner = tt; last = tt })
 row-turned i j p s (ErrorSteps k (PipeRequest q) r) es h = passing-turned i j p s (ErrorSteps k (PipeRequest q) r) es tt tt h refl refl (record { writes = refl; chunks = refl; inner = (tt, tt); last = (and_false (nat_eq p.0 q.0), tt) })
+row-turned i j p s (ErrorSteps k (TeeRequest b) r) es h = passing-turned i j p s (ErrorSteps k (TeeRequest b) r) es tt tt h refl refl (record { writes = refl; chunks = refl; inner = (tt, tt); last = (refl, tt) })
 row-turned i j p s (Give gift u) es h = passing-turned i j p s (Give gift u) es tt tt h refl refl (record { writes = refl; chunks = refl; inner = tt; last = tt })
 row-turned i j p s (Settle q o) es h = passing-turned i j p s (Settle q o) es tt tt h refl refl (record { writes = refl; chunks = refl; inner = tt; last = tt })
 row-turned i j p s (Queue m) es h = passing-turned i j p s (Queue m) es tt tt h refl refl (record { writes = refl; chunks = refl; inner = tt; last = tt })

@@ -9,14 +9,14 @@ use Rattle.ws_value.specs.declared.value.Value.{Value}
 use Rattle.ws_steps.specs.declared.calls.HostCall.TheVariants.{Write as HostWrite}
 use Rattle.ws_steps.specs.declared.calls.StartBy.TheVariants.{Now, Later}
 use Rattle.ws_steps.specs.declared.effects.Effect.{Effect}
-use Rattle.ws_steps.specs.declared.effects.Effect.TheVariants.{Readable as OnReadable, Writable as OnWritable, Pipe as OnPipe, Signal as OnSignal, Transform as OnTransform, StartAlgorithm, PullAlgorithm, CancelAlgorithm, WriteAlgorithm, CloseAlgorithm, AbortAlgorithm, ChunkSteps, CloseSteps, ErrorSteps}
+use Rattle.ws_steps.specs.declared.effects.Effect.TheVariants.{Readable as OnReadable, Writable as OnWritable, Pipe as OnPipe, Signal as OnSignal, Transform as OnTransform, Tee as OnTee, StartAlgorithm, PullAlgorithm, CancelAlgorithm, WriteAlgorithm, CloseAlgorithm, AbortAlgorithm, ChunkSteps, CloseSteps, ErrorSteps, CallHost}
 use Rattle.ws_steps.specs.declared.effects.Owner.{Owner}
-use Rattle.ws_steps.specs.declared.effects.Owner.TheVariants.{Host, HalfOf}
+use Rattle.ws_steps.specs.declared.effects.Owner.TheVariants.{Host, HalfOf, BranchOf}
 use Rattle.ws_steps.specs.declared.effects.Use.{Use}
 use Rattle.ws_steps.specs.declared.pipes.PipeOperation.TheVariants as piped
 use Rattle.ws_steps.specs.declared.pipes.SignalOperation.{SignalOperation}
 use Rattle.ws_steps.specs.declared.pipes.SignalOperation.TheVariants.{Add, Forget, Trigger}
-use Rattle.ws_steps.specs.declared.readable.ReadRequest.TheVariants.{Promise, Pipe as PipeRequest}
+use Rattle.ws_steps.specs.declared.readable.ReadRequest.TheVariants.{Promise, Pipe as PipeRequest, Tee as TeeRequest}
 use Rattle.ws_steps.specs.declared.readable.ReadableState.{ReadableState}
 use Rattle.ws_steps.specs.declared.transform.Halves.{Halves}
 use Rattle.ws_steps.specs.declared.transform.Kind.{Kind}
@@ -57,6 +57,8 @@ use Rattle.ws_link_laws.specs.Link.{Ear, OfSink, OfTransform, silence, ear_by, e
 use Rattle.ws_link_laws.proofs.Hosts.{Hosts, hosts-row, row-ear, sink-there, AtSink, OwnSink, OtherSink, at-sink}
 use Rattle.ws_link_laws.proofs.Telling.{is_in, tells, taken, hands}
 use Rattle.ws_steps.specs.declared.effects.Effect.TheVariants.{Byte, CloseStepsWith}
+use Rattle.ws_value.specs.declared.ids.TeeId.{TeeId}
+use Rattle.ws_laws.proofs.TeeDoes.{TeeCauses}
 
 -- to whom the destination's chunks are handed on
 abbrev pub Fits : Ear → StreamId → Taker → Type 0
@@ -183,6 +185,12 @@ module _ (w : Ear) (me : TransformId) (halves : Halves) (x : transform.Slots) (t
 pipe-late : (w : Ear) (q : PipeId) (source dest : StreamId) (e : Effect) → PipeCauses q source dest e → IsLate w e
 pipe-late w q source dest e c = grind (arith, c)
 
+tee-late : (w : Ear) (t : TeeId) (source first second : StreamId) (e : Effect) → TeeCauses t source first second e → IsLate w e
+tee-late w t source first second (OnWritable k operation) c = absurd c
+tee-late w t source first second (OnTransform u operation) c = absurd c
+tee-late w t source first second (CallHost call u) c = absurd c
+tee-late w t source first second _ c = (refl, refl)
+
 signal-each : (P : Effect → Type 0) (operation : SignalOperation) → ((q : PipeId) (r : Plain) → P (OnPipe q (piped.Abort r))) → SignalCauses P operation
 signal-each P (Trigger r) f = λ q. f q r
 signal-each P (Add q) f = tt
@@ -191,22 +199,27 @@ signal-each P (Forget q) f = tt
 pull-front : (w : Ear) (k : StreamId) (u : Use) (o : Owner) → Front w (pull_algorithm k u o)
 pull-front w k u Host = tt
 pull-front w k u (HalfOf t) = tt
+pull-front w k u (BranchOf t half) = ((refl, refl), tt)
 
 cancel-front : (w : Ear) (k : StreamId) (r : Plain) (u : Use) (o : Owner) → Front w (cancel_algorithm k r u o)
 cancel-front w k r u Host = tt
 cancel-front w k r u (HalfOf t) = tt
+cancel-front w k r u (BranchOf t half) = tt
 
 write-front : (w : Ear) (k : StreamId) (o : Owner) → Front w (write_algorithm k o)
 write-front w k Host = tt
 write-front w k (HalfOf t) = tt
+write-front w k (BranchOf t half) = tt
 
 close-front : (w : Ear) (k : StreamId) (u : Use) (o : Owner) → Front w (close_algorithm k u o)
 close-front w k u Host = tt
 close-front w k u (HalfOf t) = tt
+close-front w k u (BranchOf t half) = tt
 
 abort-front : (w : Ear) (k : StreamId) (r : Plain) (u : Use) (o : Owner) → Front w (abort_algorithm k r u o)
 abort-front w k r u Host = tt
 abort-front w k r u (HalfOf t) = tt
+abort-front w k r u (BranchOf t half) = tt
 
 on_transform-front : (w : Ear) (t : TransformId) (operation : TransformOperation) (s : Slots) (o : Option transform.Slots) → Front w (on_transform_at (λ halves. transform_operation t halves operation) t s o).caused
 on_transform-front w t operation s None = tt
@@ -225,6 +238,7 @@ row-front w (OnWritable k operation) s =
 row-front w (OnPipe q operation) s = late-front w _ (row-causes (IsLate w) (OnPipe q operation) s (λ source dest e c. pipe-late w q source dest e c))
 row-front w (OnSignal a operation) s = late-front w _ (row-causes (IsLate w) (OnSignal a operation) s (signal-each (IsLate w) operation (λ q r. (refl, refl))))
 row-front w (OnTransform t operation) s = on_transform-front w t operation s (slice_get s.transforms t.0)
+row-front w (OnTee t operation) s = late-front w _ (row-causes (IsLate w) (OnTee t operation) s (λ source first second e c. tee-late w t source first second e c))
 row-front w (StartAlgorithm k step Now) s = tt
 row-front w (StartAlgorithm k step Later) s = ((refl, refl), tt)
 row-front w (PullAlgorithm k) s = pull-front w k _ (owner_at k s)
@@ -234,12 +248,16 @@ row-front w (CloseAlgorithm k) s = close-front w k _ (owner_at k s)
 row-front w (AbortAlgorithm k r q) s = abort-front w k r _ (owner_at k s)
 row-front w (ChunkSteps k (Promise q) v) s = tt
 row-front w (ChunkSteps k (PipeRequest q) v) s = tt
+row-front w (ChunkSteps k (TeeRequest b) v) s = tt
 row-front w (CloseSteps k (Promise q)) s = tt
 row-front w (CloseStepsWith k (Promise q) b) s = tt
 row-front w (CloseSteps k (PipeRequest q)) s = tt
+row-front w (CloseSteps k (TeeRequest b)) s = tt
 row-front w (CloseStepsWith k (PipeRequest q) b) s = tt
+row-front w (CloseStepsWith k (TeeRequest tee_id) b) s = tt
 row-front w (ErrorSteps k (Promise q) r) s = tt
 row-front w (ErrorSteps k (PipeRequest q) r) s = tt
+row-front w (ErrorSteps k (TeeRequest b) r) s = tt
 row-front w _ s = tt
 
 -- and only the close algorithm of a stream causes that of a transform stream
@@ -264,20 +282,25 @@ flush-causes w (OnWritable k operation) n = record { write = refl; close = refl;
 flush-causes w (OnPipe q operation) n = λ source dest e c. pipe-flush w q source dest e c
 flush-causes w (OnSignal a operation) n = signal-each (NoFlush w) operation (λ q r. refl)
 flush-causes w (OnTransform t operation) n = λ m r e c. transform-flush w t m r e c
+flush-causes w (OnTee t operation) n = λ source first second e c. (tee-late w t source first second e c).1
 flush-causes w (StartAlgorithm k step start) n = (λ g u. refl, λ c u. refl)
-flush-causes w (PullAlgorithm k) n = (λ c u. refl, λ t u. refl)
-flush-causes w (CancelAlgorithm k r q) n = (λ c u. refl, λ t u. refl)
+flush-causes w (PullAlgorithm k) n = (λ c u. refl, (λ t u. refl, (λ t. refl, λ u. refl)))
+flush-causes w (CancelAlgorithm k r q) n = (λ c u. refl, (λ t u. refl, λ t half u. refl))
 flush-causes w (WriteAlgorithm k) n = (refl, λ t u. refl)
 flush-causes w (CloseAlgorithm k) n = absurd n
 flush-causes w (AbortAlgorithm k r q) n = (λ c u. refl, λ t u. refl)
 flush-causes w (ChunkSteps k (Promise q) v) n = tt
 flush-causes w (ChunkSteps k (PipeRequest q) v) n = refl
+flush-causes w (ChunkSteps k (TeeRequest b) v) n = refl
 flush-causes w (CloseSteps k (Promise q)) n = tt
 flush-causes w (CloseStepsWith k (Promise q) b) n = tt
 flush-causes w (CloseSteps k (PipeRequest q)) n = refl
+flush-causes w (CloseSteps k (TeeRequest b)) n = refl
 flush-causes w (CloseStepsWith k (PipeRequest q) b) n = refl
+flush-causes w (CloseStepsWith k (TeeRequest tee_id) b) n = refl
 flush-causes w (ErrorSteps k (Promise q) r) n = tt
 flush-causes w (ErrorSteps k (PipeRequest q) r) n = refl
+flush-causes w (ErrorSteps k (TeeRequest b) r) n = refl
 flush-causes w _ n = tt
 
 -- an operation of another stream tells nothing of the destination
@@ -288,6 +311,7 @@ taken-silent w u v n = grind (arith, n)
 sink-silent : (j k : StreamId) (s : Slots) (v : Value) (o : Owner) → is_same j k ≡ false → heard_call (ear_by j s o) (HostWrite k v) ≡ silence
 sink-silent j k s v Host n = rw n refl
 sink-silent j k s v (HalfOf t) n = refl
+sink-silent j k s v (BranchOf t half) n = rw n refl
 
 module _ (j k : StreamId) (s : Slots) (n : is_same j k ≡ false) where
   handed-silent : (taker : Taker) (a : writable.Acts) (first : Option WriteRecord) → a.out.effects ≡ [] → Spares (ear_at j s) taker → tells (hands (ear_at j s)) (hand_on_first k taker a first).out.effects ≡ silence
@@ -353,6 +377,11 @@ placed-on j w s z (e ∷ es) same p = (placed_on j w s z e same p.0, placed-on j
 pipe-placed : (j : StreamId) (w : Ear) (s : Slots) (q : PipeId) (source dest : StreamId) (e : Effect) → PipeCauses q source dest e → Placed j w s e
 pipe-placed j w s q source dest e c = grind (arith, c)
 
+tee-placed : (j : StreamId) (w : Ear) (s : Slots) (t : TeeId) (source first second : StreamId) (e : Effect) → TeeCauses t source first second e → Placed j w s e
+tee-placed j w s t source first second (OnWritable k operation) c = absurd c
+tee-placed j w s t source first second (CloseAlgorithm k) c = absurd c
+tee-placed j w s t source first second _ c = tt
+
 own-placed : (j r : StreamId) (s : Slots) (t : TransformId) (e : Effect) → TransformCauses t j r e → Placed j (OfTransform t r) s e
 own-placed j r s t e c = let same = is_same-refl j in grind (arith, c, same)
 
@@ -363,10 +392,13 @@ write-placed : (j k : StreamId) (s z : Slots) (o : Owner) → o ≡ owner_at k s
 write-placed j k s z Host e =
     ((λ same. let is : j ≡ k = same_id j k same in let host : owner_at j s ≡ Host = rw is (sym e) in rw host same, λ n. tt), tt)
 write-placed j k s z (HalfOf t) e = (tt, tt)
+write-placed j k s z (BranchOf t half) e =
+    ((λ same. let is : j ≡ k = same_id j k same in let own : owner_at j s ≡ BranchOf t half = rw is (sym e) in rw own same, λ n. tt), tt)
 
 close-placed : (j : StreamId) (w : Ear) (z : Slots) (k : StreamId) (u : Use) (o : Owner) → Each (Placed j w z) (close_algorithm k u o)
 close-placed j w z k u Host = (tt, tt)
 close-placed j w z k u (HalfOf t) = (tt, tt)
+close-placed j w z k u (BranchOf t half) = (tt, tt)
 
 module _ (i j : StreamId) (s : Slots) (h : Hosts i j s) where
   abbrev w : Ear
@@ -399,20 +431,26 @@ module _ (i j : StreamId) (s : Slots) (h : Hosts i j s) where
   row-caused (OnPipe q operation) = row-causes (Placed j w (row (OnPipe q operation) s).slots) (OnPipe q operation) s (λ source dest e c. pipe-placed j w (row (OnPipe q operation) s).slots q source dest e c)
   row-caused (OnSignal a operation) = row-causes (Placed j w (row (OnSignal a operation) s).slots) (OnSignal a operation) s (signal-each (Placed j w (row (OnSignal a operation) s).slots) operation (λ q r. tt))
   row-caused (OnTransform t operation) = transform-placed (row (OnTransform t operation) s).slots t operation (slice_get s.transforms t.0) refl
+  row-caused (OnTee t operation) =
+      row-causes (Placed j w (row (OnTee t operation) s).slots) (OnTee t operation) s (λ source first second e c. tee-placed j w (row (OnTee t operation) s).slots t source first second e c)
   row-caused (WriteAlgorithm k) = write-placed j k s (row (WriteAlgorithm k) s).slots (owner_at k s) refl
   row-caused (CloseAlgorithm k) = close-placed j w (row (CloseAlgorithm k) s).slots k _ (owner_at k s)
   row-caused (StartAlgorithm k step start) = row-causes (Placed j w (row (StartAlgorithm k step start) s).slots) (StartAlgorithm k step start) s (λ g u. tt, λ c u. tt)
-  row-caused (PullAlgorithm k) = row-causes (Placed j w (row (PullAlgorithm k) s).slots) (PullAlgorithm k) s (λ c u. tt, λ t u. tt)
-  row-caused (CancelAlgorithm k r q) = row-causes (Placed j w (row (CancelAlgorithm k r q) s).slots) (CancelAlgorithm k r q) s (λ c u. tt, λ t u. tt)
+  row-caused (PullAlgorithm k) = row-causes (Placed j w (row (PullAlgorithm k) s).slots) (PullAlgorithm k) s (λ c u. tt, (λ t u. tt, (λ t. tt, λ u. tt)))
+  row-caused (CancelAlgorithm k r q) = row-causes (Placed j w (row (CancelAlgorithm k r q) s).slots) (CancelAlgorithm k r q) s (λ c u. tt, (λ t u. tt, λ t half u. tt))
   row-caused (AbortAlgorithm k r q) = row-causes (Placed j w (row (AbortAlgorithm k r q) s).slots) (AbortAlgorithm k r q) s (λ c u. tt, λ t u. tt)
   row-caused (ChunkSteps k (Promise q) v) = tt
   row-caused (ChunkSteps k (PipeRequest q) v) = (tt, tt)
+  row-caused (ChunkSteps k (TeeRequest b) v) = (tt, tt)
   row-caused (CloseSteps k (Promise q)) = tt
   row-caused (CloseStepsWith k (Promise q) b) = tt
   row-caused (CloseSteps k (PipeRequest q)) = (tt, tt)
+  row-caused (CloseSteps k (TeeRequest b)) = (tt, tt)
   row-caused (CloseStepsWith k (PipeRequest q) b) = (tt, tt)
+  row-caused (CloseStepsWith k (TeeRequest tee_id) b) = (tt, tt)
   row-caused (ErrorSteps k (Promise q) r) = tt
   row-caused (ErrorSteps k (PipeRequest q) r) = (tt, tt)
+  row-caused (ErrorSteps k (TeeRequest b) r) = (tt, tt)
   row-caused _ = tt
 
   -- the transform stream of the destination has no other writable half
@@ -423,6 +461,7 @@ module _ (i j : StreamId) (s : Slots) (h : Hosts i j s) where
   in-own : (t : TransformId) (o : Owner) → o ≡ owner_at j s → is_in (ear_by j s o) t ≡ true → Own t
   in-own t Host e n = absurd (cc)
   in-own t (HalfOf u) e n = let is : u ≡ t = ap (λ (m : ℕ). record { 0 = m }) (eq_numbers u.0 t.0 n) in sym e ∙ ap HalfOf is
+  in-own t (BranchOf u half) e n = absurd (cc)
 
   one-half : (t : TransformId) (k : StreamId) → Own t → has_writable k s ≡ true → owner_at k s ≡ HalfOf t → k ≡ j
   one-half t k own there owner =
@@ -439,6 +478,7 @@ module _ (i j : StreamId) (s : Slots) (h : Hosts i j s) where
   close-first hs k es u (HalfOf t) e there g = λ n.
       let is : k ≡ j = one-half t k (in-own t (owner_at j s) refl n) there (sym e) in
       closing-flies j hs s es (subst (λ (x : StreamId). Kept j hs s (CloseAlgorithm x ∷ es)) is (g t).kept)
+  close-first hs k es u (BranchOf t half) e there g = λ n. absurd (cc)
 
 row-first : (i j : StreamId) (s : Slots) (e : Effect) (es : List Effect) → Ahead i j s (e ∷ es) → First (ear_at j s) (is_some (writable_at j (row e s).slots).close_in_flight) (row e s).caused
 unfolding row

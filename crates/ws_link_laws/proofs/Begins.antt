@@ -156,7 +156,7 @@ module _ (i j : StreamId) (prevent : Prevent) (signal : Option SignalId) (s : Sl
 
   begun-sound : Sound i j p d.slots d.caused
   begun-sound =
-      let hosts = reached-hosts i j s free.reached free.source free.sink free.source_owner free.sink_owner in
+      let hosts = reached-hosts i j s free.reached free.source free.sink free.source_owner free.sink_owner free.untied in
       let g = reached-going s j free.reached in
       let late : Each (IsLate (ear_at j s)) d.caused = ((refl, refl), ((refl, refl), ((refl, refl), begins-late (ear_at j s) (calls.reason_of signal s) signal))) in
       let r = reached-is s p free.reached in
@@ -180,7 +180,7 @@ module _ (i j : StreamId) (prevent : Prevent) (signal : Option SignalId) (s : Sl
           closes = rw at tt;
         };
         ahead = record {
-          hosts = hosts-same i j s d.slots refl refl hosts;
+          hosts = hosts-same i j s d.slots refl refl refl hosts;
           history = g.0;
           going = λ t. rw is_begun at ((going j t).call g.0 s (Pipe i j prevent signal) (g.1 t));
           placed = (tt, (tt, (tt, begins-placed (ear_at j s) d.slots (calls.reason_of signal s) signal)));

@@ -1,5 +1,5 @@
 -- What calls begin with that leave a link alone.
-use Rattle.std.proofs.Common.{◌≡◌, ◌≢◌, ◌⊎◌, inl, inr, ℕ, zero, suc, ◌+◌, Bool, true, false, not, ◌&&◌, ◌||◌, ◌*◌, nat_eq, nat_lt, if◌then◌else◌, List, [], ◌∷◌, ◌++◌, length, Option, Some, None, Err, slice_get, slice_set, refl, sym, ap, ◌∙◌, arith}
+use Rattle.std.proofs.Common.{◌≡◌, ◌≢◌, ◌⊎◌, inl, inr, ℕ, zero, suc, ◌+◌, Bool, true, false, not, ◌&&◌, ◌||◌, ◌*◌, nat_eq, nat_lt, if◌then◌else◌, List, [], ◌∷◌, ◌++◌, length, Option, Some, None, Err, slice_get, slice_set, refl, sym, ap, ◌∙◌, arith, subst}
 use Rattle.ws_value.specs.declared.ids.HostId.{HostId}
 use Rattle.ws_value.specs.declared.ids.LockId.{LockId}
 use Rattle.ws_value.specs.declared.ids.PipeId.{PipeId}
@@ -14,7 +14,7 @@ use Rattle.ws_value.specs.declared.fault.Fault.{Fault}
 use Rattle.ws_steps.specs.declared.byte.ByteOperation.TheVariants.{InitializeByobReader, Enqueue as EnqueueBytes, PullInto, Respond as RespondBytes}
 use Rattle.ws_steps.specs.declared.calls.Answer.{Answer}
 use Rattle.ws_steps.specs.declared.calls.Call.{Call}
-use Rattle.ws_steps.specs.declared.calls.Call.TheVariants.{MakeReadable, MakeBytes, GetByob, ReadInto, Request, Respond, MakeWritable, MakeTransform, GetReader, GetWriter, Cancel, CancelBy, Read, Write, Close, CloseBy, Abort, AbortBy, Closed, Ready, Release, Enqueue, Finish, Fail, Terminate, Desired, DesiredBy, Pipe, MakeSignal, Trigger, Settle, State, Step}
+use Rattle.ws_steps.specs.declared.calls.Call.TheVariants.{Tee as TeeCall, MakeReadable, MakeBytes, GetByob, ReadInto, Request, Respond, MakeWritable, MakeTransform, GetReader, GetWriter, Cancel, CancelBy, Read, Write, Close, CloseBy, Abort, AbortBy, Closed, Ready, Release, Enqueue, Finish, Fail, Terminate, Desired, DesiredBy, Pipe, MakeSignal, Trigger, Settle, State, Step}
 use Rattle.ws_steps.specs.declared.calls.Reply.{Reply}
 use Rattle.ws_steps.specs.declared.calls.Reply.TheVariants.{Done as ReplyDone, Promise, Request as ReplyRequest, State as ReplyState, Throws, TooMany}
 use Rattle.ws_steps.specs.declared.calls.Thrown.TheVariants.{TypeError, Unsupported}
@@ -24,7 +24,7 @@ use Rattle.ws_steps.specs.declared.calls.StartBy.TheVariants.{Now, Later}
 use Rattle.ws_steps.specs.declared.effects.Effect.{Effect}
 use Rattle.ws_steps.specs.declared.effects.Effect.TheVariants.{Readable as OnReadable, Byte as OnByte, Writable as OnWritable, Pipe as OnPipe, Signal as OnSignal, Transform as OnTransform, CloseAlgorithm, ChunkSteps, Settle as SettlePromise, CallHost}
 use Rattle.ws_steps.specs.declared.effects.Owner.{Owner}
-use Rattle.ws_steps.specs.declared.effects.Owner.TheVariants.{Host, HalfOf}
+use Rattle.ws_steps.specs.declared.effects.Owner.TheVariants.{Host, HalfOf, BranchOf}
 use Rattle.ws_steps.specs.declared.locks.Lock.{Lock}
 use Rattle.ws_steps.specs.declared.locks.Lock.TheVariants.{Reader as ReaderLock, ByobReader, Writer as WriterLock, ReleasedWriter, Inner}
 use Rattle.ws_steps.specs.declared.pipes.PipeOperation.TheVariants.{Abort as AbortPipe}
@@ -50,7 +50,7 @@ use Rattle.ws_steps.specs.Readable as readable
 use Rattle.ws_steps.specs.Readable.{can_close_or_enqueue}
 use Rattle.ws_steps.specs.ReadableLooks as readable_looks
 use Rattle.ws_steps.specs.WritableLooks as writable_looks
-use Rattle.ws_steps.specs.Slots.{Slots, Stream, is_readable_stream, is_byte_stream, most_streams, causes, has_readable, has_byte, has_source, has_writable, has_signal, owner_at, readable_at, byte_at, source_at, as_source, stream_of_request, writable_at, pipe_at, lock_at, host_at}
+use Rattle.ws_steps.specs.Slots.{Slots, Stream, is_readable_stream, is_byte_stream, most_streams, causes, has_readable, has_byte, has_source, has_writable, has_signal, owner_at, readable_at, byte_at, source_at, as_source, stream_of_request, writable_at, pipe_at, lock_at, host_at, is_teed}
 use Rattle.ws_steps.specs.Writable as writable
 use Rattle.ws_flow.specs.Told.{Open, Closed as Ended, Told, told, then_told, IsShortOf}
 use Rattle.ws_flow.proofs.Told.{then_empty, short_refl}
@@ -60,7 +60,7 @@ use Rattle.ws_laws.proofs.Tables.{either, eq_numbers, is_same-refl, same_id, rea
 use Rattle.ws_laws.proofs.Truth.{not_false, and_left, and_right}
 use Rattle.ws_link_laws.specs.Link.{Ear, Giver, OfSource, OfByteSource, OfHalf, silence, in_sink, in_source, in_pipe, ear_at, unheard, behind, giver_by, giver_at, lets_in, enters, leaves}
 use Rattle.ws_link_laws.specs.Entering.{chunk_in, bytes_in}
-use Rattle.ws_link_laws.specs.Sound.{spares, all_spare, AreApart, IsApart}
+use Rattle.ws_link_laws.specs.Sound.{spares, all_spare, AreApart, IsApart, IsHosts, all_untied}
 use Rattle.ws_link_laws.proofs.Telling.{is_of, if_same, tells, IsSilent, silent-all, writes, chunks, coming}
 use Rattle.ws_link_laws.proofs.Hosts.{source-owner, half-giver, one-readable}
 use Rattle.ws_link_laws.proofs.Ahead.{IsLate, Placed}
@@ -69,6 +69,10 @@ use Rattle.ws_link_laws.proofs.Sinks.{shut}
 use Rattle.ws_link_laws.proofs.Standing.{IsInner, IsNotLast}
 use Rattle.ws_pipe_laws.proofs.PassingRuns.{appended}
 use Rattle.ws_link_laws.proofs.SourceTurns.{is_default}
+use Rattle.ws_value.specs.declared.ids.TeeId.{TeeId}
+use Rattle.ws_steps.specs.Tee as tee
+use Rattle.ws_steps.specs.declared.tee.Half.{Half}
+use Rattle.ws_laws.proofs.EachCall.{each_call}
 
 -- effects with which a call begins that leaves the link alone
 abbrev pub IsOuter : StreamId → StreamId → Effect → Type 0
@@ -163,18 +167,19 @@ pub record Begins (i j : StreamId) (p : PipeId) (s : Slots) (t : Told Value) (b 
   pub apart : AreApart i j p b.done.slots.pipes
   pub heard : (w : Ear) → unheard w b.done.slots.promises.events ≡ unheard w s.promises.events
   pub outer : Each (IsOuter i j) b.done.caused
-  pub comes : IsShortOf (then_told (behind i j p s) (tells (coming (giver_at i s) i) b.done.caused)) (then_told (behind i j p s) t)
+  -- no call of the host's enqueues into a branch of a tee
+  pub comes : IsHosts s (owner_at i s) → IsShortOf (then_told (behind i j p s) (tells (coming (giver_at i s) i) b.done.caused)) (then_told (behind i j p s) t)
 
 module _ (i j : StreamId) (p : PipeId) (s : Slots) (here : has_source i s ≡ true) (halved : Halved s) (locks : all_spare i j s.locks ≡ true) (apart : AreApart i j p s.pipes) where
   abbrev P : Begun → Type 0
   P b = Begins i j p s silence b
 
   unchanged : (reply : Reply) → P (calls.replies reply s)
-  unchanged reply = record { locks = locks; apart = apart; heard = λ w. refl; outer = tt; comes = short_refl _ }
+  unchanged reply = record { locks = locks; apart = apart; heard = λ w. refl; outer = tt; comes = λ own. short_refl _ }
 
   -- a call that causes effects of others, and changes no more than these
   quietly : (b : Begun) → all_spare i j b.done.slots.locks ≡ true → AreApart i j p b.done.slots.pipes → ((w : Ear) → unheard w b.done.slots.promises.events ≡ unheard w s.promises.events) → Each (IsOuter i j) b.done.caused → Each (IsSilent (coming (giver_at i s) i)) b.done.caused → P b
-  quietly b l a h o c = record { locks = l; apart = a; heard = h; outer = o; comes = rw (silent-all (coming (giver_at i s) i) b.done.caused c) (short_refl _) }
+  quietly b l a h o c = record { locks = l; apart = a; heard = h; outer = o; comes = λ own. rw (silent-all (coming (giver_at i s) i) b.done.caused c) (short_refl _) }
 
   promising : (f : PromiseId → List Effect) → Each (IsOuter i j) (f (next_id s.promises)) → Each (IsSilent (coming (giver_at i s) i)) (f (next_id s.promises)) → P (calls.promising f s)
   promising f o c = quietly (calls.promising f s) locks apart (λ w. fresh-unheard w s.promises) o c
@@ -340,7 +345,18 @@ module _ (i j : StreamId) (p : PipeId) (s : Slots) (here : has_source i s ≡ tr
   refused : (t : Told Value) (reply : Reply) → (t ≡ silence) ⊎ ((behind i j p s).mark ≢ Open) → Begins i j p s t (calls.replies reply s)
   refused t reply (inl e) = rw e (unchanged reply)
   refused t reply (inr n) =
-      record { locks = locks; apart = apart; heard = λ w. refl; outer = tt; comes = rw (then_empty (behind i j p s)) (shut (behind i j p s) (behind i j p s) t n (short_refl (behind i j p s))) }
+      record { locks = locks; apart = apart; heard = λ w. refl; outer = tt; comes = λ own. rw (then_empty (behind i j p s)) (shut (behind i j p s) (behind i j p s) t n (short_refl (behind i j p s))) }
+
+  unsupported : (t : Told Value) → (IsHosts s (owner_at i s) → t ≡ silence) → Begins i j p s t (calls.unsupported s)
+  unsupported t none =
+      record { locks = locks; apart = apart; heard = λ w. refl; outer = tt; comes = λ own. rw (none own, then_empty (behind i j p s)) (short_refl (behind i j p s)) }
+
+  branch-elsewhere : (k : StreamId) (a : TeeId) (half : Half) → IsHosts s (owner_at i s) → owner_at k s ≡ BranchOf a half → is_same i k ≡ false
+  branch-elsewhere k a half own owner = by (is_same i k) refl
+    where
+      by : (same : Bool) → same ≡ is_same i k → is_same i k ≡ false
+      by false n = sym n
+      by true n = absurd (subst (λ (o : Owner). IsHosts s o) (ap (λ (x : StreamId). owner_at x s) (same_id i k (sym n)) ∙ owner) own)
 
   -- at another stream nothing enters; and at the source something does, or it has come to an end
   enters-or : (k : StreamId) (t : Told Value) → (is_same i k ≡ false → t ≡ silence) → (i ≡ k → (t ≡ silence) ⊎ ((behind i j p s).mark ≢ Open)) → (t ≡ silence) ⊎ ((behind i j p s).mark ≢ Open)
@@ -355,7 +371,7 @@ module _ (i j : StreamId) (p : PipeId) (s : Slots) (here : has_source i s ≡ tr
   full k t elsewhere e = enters-or k t elsewhere (λ is. inr (behind-shut i j p s (rw is e)))
 
   brings : (t : Told Value) (reply : Reply) (e : Effect) → IsOuter i j e → coming (giver_at i s) i e ≡ t → Begins i j p s t (calls.begun reply (causes (e ∷ []) s))
-  brings t reply e o c = record { locks = locks; apart = apart; heard = λ w. refl; outer = (o, tt); comes = rw (then_empty (coming (giver_at i s) i e), c) (short_refl (then_told (behind i j p s) t)) }
+  brings t reply e o c = record { locks = locks; apart = apart; heard = λ w. refl; outer = (o, tt); comes = λ own. rw (then_empty (coming (giver_at i s) i e), c) (short_refl (then_told (behind i j p s) t)) }
 
   -- what enters is told by what the source is, where that is stream k
 
@@ -411,6 +427,7 @@ module _ (i j : StreamId) (p : PipeId) (s : Slots) (here : has_source i s ≡ tr
       lets : (w : Owner) → chunk_in (giver_by false w) v ≡ lets_in (giver_by false w) v
       lets Host = refl
       lets (HalfOf a) = refl
+      lets (BranchOf a half) = refl
 
       by : (same : Bool) → same ≡ is_same i k → (if is_same i k then chunk_in (giver_at i s) v else silence) ≡ (if is_same i k then lets_in (giver_at i s) v else silence)
       by false n = rw (← n) refl
@@ -440,6 +457,8 @@ module _ (i j : StreamId) (p : PipeId) (s : Slots) (here : has_source i s ≡ tr
       either (Begins i j p s t) (can_close_or_enqueue (readable_at k s)) _ _
       (λ e. brings t ReplyDone (OnTransform a (EnqueueByTransform v)) tt (half-comes k v a there none owner))
       (λ e. refused t (Throws TypeError) (full k t (enqueue-elsewhere k v (giver_at i s)) (default-full k there e)))
+  enqueues k v none (BranchOf a half) there owner =
+      unsupported (enters (giver_at i s) i (Enqueue k v)) (λ own. enqueue-elsewhere k v (giver_at i s) (branch-elsewhere k a half own owner))
 
   -- bytes are enqueued into a byte stream
 
@@ -494,6 +513,7 @@ module _ (i j : StreamId) (p : PipeId) (s : Slots) (here : has_source i s ≡ tr
       (λ e. refused t (Throws TypeError) (full k t (finish-elsewhere k (giver_at i s)) (default-full k there e)))
   finishes k none (HalfOf a) there owner =
       refused (enters (giver_at i s) i (Finish k)) (Throws Unsupported) (inl (own-or k (λ g. enters g i (Finish k)) silence (OfHalf a) (default-is k (HalfOf a) none owner) (finish-elsewhere k (giver_at i s)) refl))
+  finishes k none (BranchOf a half) there owner = unsupported (enters (giver_at i s) i (Finish k)) (λ own. finish-elsewhere k (giver_at i s) (branch-elsewhere k a half own owner))
 
   finishes_bytes : (k : StreamId) → has_byte k s ≡ true → Begins i j p s (enters (giver_at i s) i (Finish k)) (calls.finish_bytes k s)
   finishes_bytes k there =
@@ -509,6 +529,7 @@ module _ (i j : StreamId) (p : PipeId) (s : Slots) (here : has_source i s ≡ tr
       let same : enters (giver_at i s) i (Terminate k) ≡ (if is_same i k then told [] Ended else silence) =
       own-or k (λ g. enters g i (Terminate k)) (if is_same i k then told [] Ended else silence) (OfHalf a) (default-is k (HalfOf a) none owner) (λ d. terminate-elsewhere k (giver_at i s) d ∙ rw d refl) refl in
       brings (enters (giver_at i s) i (Terminate k)) ReplyDone (OnTransform a TerminateTransform) tt (rw (half-is k a there none owner) (sym same))
+  terminates k none (BranchOf a half) there owner = unsupported (enters (giver_at i s) i (Terminate k)) (λ own. terminate-elsewhere k (giver_at i s) (branch-elsewhere k a half own owner))
 
   -- a byte stream isn't terminated
   terminate_call : (k : StreamId) → Begins i j p s (enters (giver_at i s) i (Terminate k)) (calls.for_readable k (calls.terminate k) s)
@@ -560,6 +581,23 @@ module _ (i j : StreamId) (p : PipeId) (s : Slots) (here : has_source i s ≡ tr
       (λ d. by_byob (λ k. calls.rejected) calls.rejected (λ k n. rejected) rejected n o e)
       (λ d. by_byob (calls.read_into room element least) calls.rejected (λ k n. promising (λ q. OnByte k (PullInto room element (least * element) (PromiseRequest q)) ∷ []) (tt, tt) (if_same (is_same i k), tt)) rejected n o e))
 
+  -- the desired size of a branch of a tee isn't told
+
+  desired_by : (k : StreamId) (o : Owner) → P (calls.desired_by k s o)
+  desired_by k Host = unchanged (calls.desired_by k s Host).reply
+  desired_by k (HalfOf a) = unchanged (calls.desired_by k s (HalfOf a)).reply
+  desired_by k (BranchOf a half) = unchanged (Throws Unsupported)
+
+  -- a tee of another stream
+  tee_of : (k : StreamId) → not (is_same i k) ≡ true → P (calls.tee_of k s)
+  tee_of k l =
+      either P (has_byte k s) (calls.unsupported s) _ (λ e. unchanged (Throws Unsupported))
+      (λ e. either P (is_teed k s) (calls.throws_type_error s) _ (λ t. unchanged (Throws TypeError))
+      (λ t. either P (nat_lt (length s.streams + 1) most_streams) _ _
+      (λ m. quietly (calls.make_tee k (record { 0 = length s.streams }) (record { 0 = length s.streams + 1 }) s) (spare-append i j s.locks (Inner ∷ []) locks refl) apart
+      (λ w. fresh-unheard w (fresh s.promises) ∙ fresh-unheard w s.promises) (not_false (is_same i k) l, (tt, (tt, (tt, tt)))) (if_same (is_same i k), (refl, (refl, (refl, tt)))))
+      (λ m. unchanged TooMany)))
+
   -- calls on transform streams
 
   starts-outer : (q : PromiseId) (k : StreamId) (start : StartBy) → IsOuter i j (calls.start_transform q k start)
@@ -581,10 +619,12 @@ module _ (i j : StreamId) (p : PipeId) (s : Slots) (here : has_source i s ≡ tr
   fails_readable : (reason : Plain) (k : StreamId) (o : Owner) → P (calls.fail_readable_by reason k s o)
   fails_readable reason k Host = does (OnReadable k (ErrorReadable reason) ∷ []) (tt, tt) (if_same (is_same i k), tt)
   fails_readable reason k (HalfOf a) = does (OnTransform a (ErrorTransform reason) ∷ []) (tt, tt) (if_same (is_of (giver_at i s) a), tt)
+  fails_readable reason k (BranchOf a half) = unchanged (Throws Unsupported)
 
   fails_writable : (reason : Plain) (k : StreamId) (o : Owner) → P (calls.fail_writable_by reason k s o)
   fails_writable reason k Host = does (OnWritable k (ErrorIfNeeded reason) ∷ []) (tt, tt) (refl, tt)
   fails_writable reason k (HalfOf a) = unchanged (Throws Unsupported)
+  fails_writable reason k (BranchOf a half) = unchanged (Throws Unsupported)
 
   -- each call
   pub call-begins : (c : Call) → leaves i j c ≡ true → Begins i j p s (enters (giver_at i s) i c) (begin c s)
@@ -597,6 +637,7 @@ module _ (i j : StreamId) (p : PipeId) (s : Slots) (here : has_source i s ≡ tr
   call-begins (GetReader k) l =
       unlocked_readable k calls.throws_type_error calls.get_reader (unchanged (Throws TypeError))
       (quietly (calls.get_reader k s) (spare-append i j s.locks _ locks (rw l refl)) apart (λ w. fresh-unheard w s.promises) (not_false (is_same i k) l, tt) (if_same (is_same i k), tt))
+  call-begins (TeeCall k) l = unlocked_readable k calls.throws_type_error calls.tee_of (unchanged (Throws TypeError)) (tee_of k l)
   call-begins (GetByob k) l = unlocked_readable k calls.throws_type_error calls.get_byob_of (unchanged (Throws TypeError)) (get_byob_of k l)
   call-begins (GetWriter k) l =
       unlocked_writable k calls.throws_type_error calls.get_writer (unchanged (Throws TypeError))
@@ -622,7 +663,7 @@ module _ (i j : StreamId) (p : PipeId) (s : Slots) (here : has_source i s ≡ tr
   call-begins (Terminate k) l = terminate_call k
   call-begins (Request k) l = either P (has_byte k s) _ _ (λ e. request_by k (byte_at k s).request (byte_at k s).descriptors) (λ e. unchanged (Throws Unsupported))
   call-begins (Respond q b) l = respond_to q b (stream_of_request q s)
-  call-begins (Desired k) l = for_source k (calls.desired k) (unchanged (calls.desired k s).reply)
+  call-begins (Desired k) l = for_source k (calls.desired k) (desired_by k (owner_at k s))
   call-begins (DesiredBy n) l = by_writer calls.desired_of_writer calls.throws_type_error (λ k d. unchanged (calls.desired_of_writer k s).reply) (unchanged (Throws TypeError)) n.0 (lock_at n s) refl
   call-begins (Pipe source dest prevent signal) l =
       let a = not_false (is_same i source) (and_left (not (is_same i source)) (not (is_same j dest)) l) in
@@ -636,3 +677,50 @@ module _ (i j : StreamId) (p : PipeId) (s : Slots) (here : has_source i s ≡ tr
       either P (has_source k s) _ _ (λ e. unchanged (ReplyState (readable_looks.state_of (source_at k s))))
       (λ e. for_writable k (λ s. calls.replies (ReplyState (writable_looks.state_of (writable_at k s))) s) (unchanged (ReplyState (writable_looks.state_of (writable_at k s)))))
   call-begins Step l = unchanged ReplyDone
+
+-- no call but a tee of the source makes one that has it
+
+untied-append : (i : StreamId) (xs : List tee.Slots) (y : tee.Slots) → all_untied i xs ≡ true → not (is_same i y.source) ≡ true → all_untied i (xs ++ y ∷ []) ≡ true
+untied-append i [] y u n = rw n refl
+untied-append i (x ∷ xs) y u n =
+    let a = and_left (not (is_same i x.source)) (all_untied i xs) u in
+    let b = untied-append i xs y (and_right (not (is_same i x.source)) (all_untied i xs) u) n in
+    rw (a, b) refl
+
+pub call-untied : (i j : StreamId) (c : Call) (s : Slots) → leaves i j c ≡ true → all_untied i s.tees ≡ true → all_untied i (begin c s).done.slots.tees ≡ true
+call-untied i j c s l u = each_call (λ (b : Begun). all_untied i b.done.slots.tees ≡ true) c s (record {
+  unchanged = λ reply. u;
+  rejected = u;
+  make_readable = λ mark size start. u;
+  make_bytes = λ mark auto start. u;
+  make_writable = λ mark size start. u;
+  make_transform = λ kind m n start. u;
+  make_tee = λ k e there free untied. untied-append i s.tees _ u (subst (λ (x : Call). leaves i j x ≡ true) e l);
+  get_reader = λ k e. u;
+  get_byob = λ k is e. u;
+  get_writer = λ k e. u;
+  release_reader = λ n closed k e. u;
+  release_byob = λ n closed k e. u;
+  release_writer = λ n k w e f. u;
+  cancel = λ reason k. u;
+  read = λ n k closed e f. u;
+  read_into = λ n k closed room element least e f. u;
+  write = λ n v k e. u;
+  close = λ k. u;
+  abort = λ reason k e. u;
+  enqueue = λ k v e o can. u;
+  enqueue_half = λ k t v e o can. u;
+  enqueue_bytes = λ k b e is some can. u;
+  finish = λ k. u;
+  finish_bytes = λ k e is can. u;
+  make_request = λ k reply is. u;
+  respond = λ r k b e is can. u;
+  fail_readable = λ k reason. u;
+  fail_writable = λ k reason. u;
+  fail_half = λ t reason. u;
+  terminate = λ t. u;
+  pipe = λ source dest prevent signal e f m n. u;
+  make_signal = u;
+  trigger = λ a reason. u;
+  settle = λ h answer q e. u;
+})

@@ -12,14 +12,14 @@ use Rattle.ws_steps.specs.declared.calls.Call.TheVariants.{Enqueue as EnqueueCal
 use Rattle.ws_steps.specs.declared.calls.Reply.TheVariants.{Done as ReplyDone, Throws}
 use Rattle.ws_steps.specs.declared.calls.Thrown.TheVariants.{TypeError}
 use Rattle.ws_steps.specs.declared.effects.Effect.{Effect}
-use Rattle.ws_steps.specs.declared.effects.Effect.TheVariants.{Readable as OnReadable, Writable as OnWritable, Pipe as OnPipe, Signal as OnSignal, Transform as OnTransform, StartAlgorithm, PullAlgorithm, CancelAlgorithm, WriteAlgorithm, CloseAlgorithm, AbortAlgorithm, ChunkSteps, CloseSteps, ErrorSteps}
+use Rattle.ws_steps.specs.declared.effects.Effect.TheVariants.{Readable as OnReadable, Writable as OnWritable, Pipe as OnPipe, Signal as OnSignal, Transform as OnTransform, Tee as OnTee, StartAlgorithm, PullAlgorithm, CancelAlgorithm, WriteAlgorithm, CloseAlgorithm, AbortAlgorithm, ChunkSteps, CloseSteps, ErrorSteps}
 use Rattle.ws_steps.specs.declared.effects.Owner.{Owner}
-use Rattle.ws_steps.specs.declared.effects.Owner.TheVariants.{Host, HalfOf}
+use Rattle.ws_steps.specs.declared.effects.Owner.TheVariants.{Host, HalfOf, BranchOf}
 use Rattle.ws_steps.specs.declared.pipes.PipeOperation.TheVariants as piped
 use Rattle.ws_steps.specs.declared.pipes.SignalOperation.{SignalOperation}
 use Rattle.ws_steps.specs.declared.pipes.SignalOperation.TheVariants.{Add, Forget, Trigger}
 use Rattle.ws_steps.specs.declared.promises.Job.{Job}
-use Rattle.ws_steps.specs.declared.readable.ReadRequest.TheVariants.{Promise, Pipe as PipeRequest}
+use Rattle.ws_steps.specs.declared.readable.ReadRequest.TheVariants.{Promise, Pipe as PipeRequest, Tee as TeeRequest}
 use Rattle.ws_steps.specs.declared.readable.ReadableOperation.TheVariants.{Enqueue as EnqueueChunk}
 use Rattle.ws_steps.specs.declared.readable.ReadableState.{ReadableState}
 use Rattle.ws_steps.specs.declared.transform.Halves.{Halves}
@@ -58,6 +58,11 @@ use Rattle.ws_link_laws.proofs.Telling.{if_same, tells, tells-append, IsSilent, 
 use Rattle.ws_link_laws.proofs.TransformTurns.{Lets, AsAsked, IsLost, lets-at, default-source}
 use Rattle.ws_link_laws.proofs.SourceTurns.{is_default}
 use Rattle.ws_steps.specs.declared.effects.Effect.TheVariants.{Byte, CloseStepsWith}
+use Rattle.ws_value.specs.declared.ids.TeeId.{TeeId}
+use Rattle.ws_steps.specs.declared.tee.TeeOperation.{TeeOperation}
+use Rattle.ws_transform_laws.proofs.Branches.{tee-caused}
+use Rattle.ws_link_laws.proofs.Tees.{tee-coming}
+use Rattle.ws_link_laws.specs.Sound.{IsHosts}
 
 -- only the first effect lets something in
 abbrev Lone : Giver → StreamId → List Effect → Type 0
@@ -77,6 +82,7 @@ lone-silent o i (c ∷ cs) l = l.1
 
 abbrev IsNoTransform : Effect → Type 0
 IsNoTransform (OnTransform t operation) = ⊥
+IsNoTransform (OnTee t operation) = ⊥
 IsNoTransform _ = Unit {0}
 
 pipe-coming : (o : Giver) (i : StreamId) (q : PipeId) (source dest : StreamId) (e : Effect) → PipeCauses q source dest e → IsSilent (coming o i) e
@@ -94,20 +100,25 @@ coming-causes o i (OnWritable k operation) n = record { write = refl; close = re
 coming-causes o i (OnPipe q operation) n = λ source dest e c. pipe-coming o i q source dest e c
 coming-causes o i (OnSignal a operation) n = signal-each (IsSilent (coming o i)) operation (λ q r. refl)
 coming-causes o i (OnTransform t operation) n = absurd n
+coming-causes o i (OnTee t operation) n = absurd n
 coming-causes o i (StartAlgorithm k step start) n = (λ g u. refl, λ c u. refl)
-coming-causes o i (PullAlgorithm k) n = (λ c u. refl, λ t u. if_same (is_of o t))
-coming-causes o i (CancelAlgorithm k r q) n = (λ c u. refl, λ t u. if_same (is_of o t))
+coming-causes o i (PullAlgorithm k) n = (λ c u. refl, (λ t u. if_same (is_of o t), (λ t. refl, λ u. refl)))
+coming-causes o i (CancelAlgorithm k r q) n = (λ c u. refl, (λ t u. if_same (is_of o t), λ t half u. refl))
 coming-causes o i (WriteAlgorithm k) n = (refl, λ t u. if_same (is_of o t))
 coming-causes o i (CloseAlgorithm k) n = (λ c u. refl, λ t u. if_same (is_of o t))
 coming-causes o i (AbortAlgorithm k r q) n = (λ c u. refl, λ t u. if_same (is_of o t))
 coming-causes o i (ChunkSteps k (Promise q) v) n = tt
 coming-causes o i (ChunkSteps k (PipeRequest q) v) n = refl
+coming-causes o i (ChunkSteps k (TeeRequest b) v) n = refl
 coming-causes o i (CloseSteps k (Promise q)) n = tt
 coming-causes o i (CloseStepsWith k (Promise q) b) n = tt
 coming-causes o i (CloseSteps k (PipeRequest q)) n = refl
+coming-causes o i (CloseSteps k (TeeRequest b)) n = refl
 coming-causes o i (CloseStepsWith k (PipeRequest q) b) n = refl
+coming-causes o i (CloseStepsWith k (TeeRequest tee_id) b) n = refl
 coming-causes o i (ErrorSteps k (Promise q) r) n = tt
 coming-causes o i (ErrorSteps k (PipeRequest q) r) n = refl
+coming-causes o i (ErrorSteps k (TeeRequest b) r) n = refl
 coming-causes o i _ n = tt
 
 -- and an operation of a transform stream what it brings, or not its end
@@ -181,12 +192,20 @@ record Brought (i : StreamId) (s : Slots) (e : Effect) : Type 0 where
 plain-brought : (i : StreamId) (s : Slots) (e : Effect) → IsNoTransform e → Brought i s e
 plain-brought i s e n = record { brings = plain-brings i s e n; lone = lone-silent (giver_at i s) i (row e s).caused (row-causes (IsSilent (coming (giver_at i s) i)) e s (coming-causes (giver_at i s) i e n)) }
 
+-- an operation of a tee brings nothing
+tee-brought : (i : StreamId) (s : Slots) (t : TeeId) (operation : TeeOperation) → Source i s → Brought i s (OnTee t operation)
+tee-brought i s t operation h =
+    let cs : List Effect = (row (OnTee t operation) s).caused in
+    let none : Each (IsSilent (coming (giver_at i s) i)) cs = tee-caused (IsSilent (coming (giver_at i s) i)) t operation s (λ x at e c. tee-coming i s t x h at e c) in
+    record { brings = Passes (rw (silent-all (coming (giver_at i s) i) cs none) refl); lone = lone-silent (giver_at i s) i cs none }
+
 row-brought : (i : StreamId) (s : Slots) (e : Effect) → Source i s → Brought i s e
 unfolding row
 row-brought i s (OnTransform t operation) h = record {
   brings = lets-brings i s t operation (lets-at i s t operation h (slice_get s.transforms t.0) refl);
   lone = transform-lone i s t operation (slice_get s.transforms t.0);
 }
+row-brought i s (OnTee t operation) h = tee-brought i s t operation h
 row-brought i s e h = plain-brought i s e tt
 
 -- all of it, or all but the end
@@ -247,7 +266,7 @@ none-or t x w k = grind (arith, append-nil, w, k)
 
 job-comes : (i : StreamId) (s : Slots) (job : Option Job) → Source i s → Comes i (next_enters (giver_at i s) job) silence (job_begun s job).slots (job_begun s job).caused
 job-comes i s None h = record { source = h; lone = tt; sums = inl refl }
-job-comes i s (Some job) h = record { source = source-same i s _ refl refl h; lone = job-lone (giver_at i s) i job; sums = inl (job-coming (giver_at i s) i job) }
+job-comes i s (Some job) h = record { source = source-same i s _ refl refl refl h; lone = job-lone (giver_at i s) i job; sums = inl (job-coming (giver_at i s) i job) }
 
 pub each_job_lets_in : EachJobLetsIn
 unfolding begin_job
@@ -268,6 +287,7 @@ sums-open t x e (inr k) = grind (arith, append-nil, e, k)
 default-chunk : (o : Owner) (v : Value) → chunk_in (giver_by false o) v ≡ told (v ∷ []) Open
 default-chunk Host v = refl
 default-chunk (HalfOf t) v = refl
+default-chunk (BranchOf t half) v = refl
 
 module _ (i : StreamId) (v : Value) (s : Slots) (there : has_source i s ≡ true) (h : Source i s) where
   abbrev c : Call
@@ -309,6 +329,7 @@ module _ (i : StreamId) (v : Value) (s : Slots) (there : has_source i s ≡ true
     asks-default : (o : Owner) → o ≡ (readable_at i s).owner → Asks
     asks-default Host e = asks-host (can_close_or_enqueue (readable_at i s)) refl e
     asks-default (HalfOf t) e = asks-half t (can_close_or_enqueue (readable_at i s)) refl e
+    asks-default (BranchOf t half) e = absurd (subst (λ (o : Owner). IsHosts s o) (source-owner i s default ∙ sym e) h.kind)
 
   module _ (here : has_byte i s ≡ true) where
     begins-bytes : begin c s ≡ calls.enqueue_bytes i s v

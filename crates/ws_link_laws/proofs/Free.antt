@@ -8,13 +8,13 @@ use Rattle.ws_steps.specs.declared.calls.Reply.TheVariants.{Promise as ReplyProm
 use Rattle.ws_steps.specs.declared.byte.ByteOperation.{ByteOperation}
 use Rattle.ws_steps.specs.declared.byte.ByteOperation.TheVariants.{InitializeByobReader}
 use Rattle.ws_steps.specs.declared.effects.Effect.{Effect}
-use Rattle.ws_steps.specs.declared.effects.Effect.TheVariants.{Readable as OnReadable, Writable as OnWritable, Pipe as OnPipe, Signal as OnSignal, Transform as OnTransform, StartAlgorithm, PullAlgorithm, CancelAlgorithm, WriteAlgorithm, CloseAlgorithm, AbortAlgorithm, ChunkSteps, CloseSteps, ErrorSteps}
+use Rattle.ws_steps.specs.declared.effects.Effect.TheVariants.{Readable as OnReadable, Writable as OnWritable, Pipe as OnPipe, Signal as OnSignal, Transform as OnTransform, Tee as OnTee, StartAlgorithm, PullAlgorithm, CancelAlgorithm, WriteAlgorithm, CloseAlgorithm, AbortAlgorithm, ChunkSteps, CloseSteps, ErrorSteps}
 use Rattle.ws_steps.specs.declared.locks.Lock.{Lock}
 use Rattle.ws_steps.specs.declared.pipes.PipeOperation.{PipeOperation}
 use Rattle.ws_steps.specs.declared.pipes.SignalOperation.{SignalOperation}
 use Rattle.ws_steps.specs.declared.pipes.SignalOperation.TheVariants.{Add, Forget, Trigger}
 use Rattle.ws_steps.specs.declared.promises.Job.{Job}
-use Rattle.ws_steps.specs.declared.readable.ReadRequest.TheVariants.{Promise, Pipe as PipeRequest}
+use Rattle.ws_steps.specs.declared.readable.ReadRequest.TheVariants.{Promise, Pipe as PipeRequest, Tee as TeeRequest}
 use Rattle.ws_steps.specs.declared.readable.ReadableOperation.{ReadableOperation}
 use Rattle.ws_steps.specs.declared.readable.ReadableOperation.TheVariants as reads
 use Rattle.ws_steps.specs.declared.writable.WritableOperation.{WritableOperation}
@@ -39,7 +39,7 @@ use Rattle.ws_laws.proofs.Halves.{call-among, halved-stays}
 use Rattle.ws_laws.proofs.Lists.{Each, each-append, each-map}
 use Rattle.ws_laws.proofs.PipeDoes.{PipeCauses, pipe-causes}
 use Rattle.ws_laws.proofs.Rows.{Causes, SignalCauses, IsApart, IsNoPipe, row-causes, row-pipes, row-streams, row-locks}
-use Rattle.ws_laws.proofs.Shapes.{stream_shape, transform_shape}
+use Rattle.ws_laws.proofs.Shapes.{stream_shape, transform_shape, tee_shape}
 use Rattle.ws_laws.proofs.Tables.{readable_acts, byte_acts, writable_acts, is_same-refl, same_id, readable_there, byte_there, writable_there, on_readable-same, on_byte-same, on_byte-other, on_byte-writable, on_source-byte, on_source-readable, on_source-other, on_source-writable, on_writable-same, on_writable-other, on_writable-source, on_writable-look}
 use Rattle.ws_laws.proofs.TransformDoes.{TransformCauses}
 use Rattle.ws_laws.proofs.Truth.{and_left, and_right}
@@ -47,10 +47,10 @@ use Rattle.ws_room_laws.proofs.Turns.{performed-kept}
 use Rattle.ws_pipe_laws.specs.PipeMoves.{starting}
 use Rattle.ws_link_laws.specs.Laws.{entry_leaves, all_leave, EachFreePairStays}
 use Rattle.ws_link_laws.specs.Link.{enters, leaves}
-use Rattle.ws_link_laws.specs.Sound.{all_apart, all_spare, AreApart, IsFree}
+use Rattle.ws_link_laws.specs.Sound.{all_apart, all_spare, AreApart, IsFree, all_untied}
 use Rattle.ws_link_laws.specs.Sound as sound
 use Rattle.ws_link_laws.proofs.Begins.{apart_at}
-use Rattle.ws_link_laws.proofs.Calls.{IsOuter, Begins, call-begins}
+use Rattle.ws_link_laws.proofs.Calls.{IsOuter, Begins, call-begins, call-untied}
 use Rattle.ws_link_laws.proofs.Hosts.{Hosts, sink-owner, reached-hosts, hosts-same, hosts-grown, hosts-row}
 use Rattle.ws_link_laws.proofs.SourceTurns.{default-bare, is_default}
 use Rattle.ws_link_laws.proofs.SinkTurns.{writable-there}
@@ -62,6 +62,12 @@ use Rattle.ws_link_laws.specs.Link.{giver_at}
 use Rattle.ws_link_laws.proofs.Hosts.{row-sources, row-sinks}
 use Rattle.ws_link_laws.specs.Sound.{IsBare}
 use Rattle.ws_steps.specs.Slots.{has_byte, byte_at, has_source, source_at, is_byte_stream, as_byte, as_source}
+use Rattle.ws_value.specs.declared.ids.TeeId.{TeeId}
+use Rattle.ws_steps.specs.declared.tee.TeeOperation.{TeeOperation}
+use Rattle.ws_steps.specs.Tee as tee
+use Rattle.ws_laws.proofs.TeeDoes.{TeeCauses}
+use Rattle.ws_transform_laws.proofs.Branches.{tee-caused}
+use Rattle.ws_link_laws.proofs.Tees.{untied-at}
 
 -- effects by which nobody takes the source or the destination, reads from the one or writes to the other
 abbrev pub IsFar : StreamId → StreamId → Effect → Type 0
@@ -88,27 +94,38 @@ signal-far i j (Forget q) = tt
 transform-far : (i j : StreamId) (t : TransformId) (w r : StreamId) (e : Effect) → TransformCauses t w r e → IsFar i j e
 transform-far i j t w r e c = grind (arith, c)
 
-far-causes : (i j : StreamId) (e : Effect) → IsNoPipe e → Causes (IsFar i j) e
+-- an operation of a pipe or of a tee may take a stream
+abbrev pub IsOther : Effect → Type 0
+IsOther (OnPipe q operation) = ⊥
+IsOther (OnTee t operation) = ⊥
+IsOther _ = Unit {0}
+
+far-causes : (i j : StreamId) (e : Effect) → IsOther e → Causes (IsFar i j) e
 far-causes i j (OnReadable k operation) n = record { pull = tt; cancel = λ r q. tt; chunk = λ request v. tt; close = λ request. tt; error = λ request r. tt }
 far-causes i j (Byte k operation) n = record { readable = record { pull = tt; cancel = λ r q. tt; chunk = λ request v. tt; close = λ request. tt; error = λ request r. tt }; close_with = λ r b. tt }
 far-causes i j (OnWritable k operation) n = record { write = tt; close = tt; abort = λ r q. tt; hand_on = λ v. tt; take = λ v t d. tt }
 far-causes i j (OnPipe q operation) n = absurd n
 far-causes i j (OnSignal a operation) n = signal-far i j operation
 far-causes i j (StartAlgorithm k step start) n = (λ g u. tt, λ c u. tt)
+far-causes i j (OnTee t operation) n = absurd n
 far-causes i j (OnTransform t operation) n = λ w r e c. transform-far i j t w r e c
-far-causes i j (PullAlgorithm k) n = (λ c u. tt, λ t u. tt)
-far-causes i j (CancelAlgorithm k r q) n = (λ c u. tt, λ t u. tt)
+far-causes i j (PullAlgorithm k) n = (λ c u. tt, (λ t u. tt, (λ t. tt, λ u. tt)))
+far-causes i j (CancelAlgorithm k r q) n = (λ c u. tt, (λ t u. tt, λ t half u. tt))
 far-causes i j (WriteAlgorithm k) n = (tt, λ t u. tt)
 far-causes i j (CloseAlgorithm k) n = (λ c u. tt, λ t u. tt)
 far-causes i j (AbortAlgorithm k r q) n = (λ c u. tt, λ t u. tt)
 far-causes i j (ChunkSteps k (Promise q) v) n = tt
 far-causes i j (ChunkSteps k (PipeRequest q) v) n = tt
+far-causes i j (ChunkSteps k (TeeRequest b) v) n = tt
 far-causes i j (CloseSteps k (Promise q)) n = tt
 far-causes i j (CloseStepsWith k (Promise q) b) n = tt
 far-causes i j (CloseSteps k (PipeRequest q)) n = tt
+far-causes i j (CloseSteps k (TeeRequest b)) n = tt
 far-causes i j (CloseStepsWith k (PipeRequest q) b) n = tt
+far-causes i j (CloseStepsWith k (TeeRequest tee_id) b) n = tt
 far-causes i j (ErrorSteps k (Promise q) r) n = tt
 far-causes i j (ErrorSteps k (PipeRequest q) r) n = tt
+far-causes i j (ErrorSteps k (TeeRequest b) r) n = tt
 far-causes i j _ n = tt
 
 pub pipe-far : (i j : StreamId) (q : PipeId) (source dest : StreamId) (e : Effect) → is_same i source ≡ false → is_same j dest ≡ false → PipeCauses q source dest e → IsFar i j e
@@ -178,7 +195,18 @@ apart-set i j (z ∷ xs) (suc n) x y e f g a =
     let c = apart-set i j xs n x y e f g (and_right (not (is_same i z.source) && not (is_same j z.dest)) (all_apart i j xs) a) in
     rw (b, c) refl
 
-pub row-far : (i j : StreamId) (e : Effect) (s : Slots) (es : List Effect) → IsNoPipe e → Each (IsFar i j) (e ∷ es) → Each (IsFar i j) ((row e s).caused ++ es)
+-- a tee of another source
+tee-far : (i j : StreamId) (s : Slots) (t : TeeId) (x : tee.Slots) → all_untied i s.tees ≡ true → slice_get s.tees t.0 ≡ Some x → (e : Effect) → TeeCauses t x.source x.branch1 x.branch2 e → IsFar i j e
+tee-far i j s t x u at (OnReadable k (reads.InitializeReader closed)) c = absurd c
+tee-far i j s t x u at (OnReadable k (reads.Read request)) c = rw c.0 (untied-at i s.tees t.0 x u at)
+tee-far i j s t x u at (Byte k operation) c = absurd c
+tee-far i j s t x u at (OnWritable k operation) c = absurd c
+tee-far i j s t x u at _ c = tt
+
+pub tees-far : (i j : StreamId) (s : Slots) (t : TeeId) (operation : TeeOperation) → all_untied i s.tees ≡ true → Each (IsFar i j) (row (OnTee t operation) s).caused
+tees-far i j s t operation u = tee-caused (IsFar i j) t operation s (λ x at e c. tee-far i j s t x u at e c)
+
+pub row-far : (i j : StreamId) (e : Effect) (s : Slots) (es : List Effect) → IsOther e → Each (IsFar i j) (e ∷ es) → Each (IsFar i j) ((row e s).caused ++ es)
 row-far i j e s es n f = each-append (IsFar i j) (row e s).caused es (row-causes (IsFar i j) e s (far-causes i j e n)) f.1
 
 -- the source, by its record
@@ -316,14 +344,14 @@ pipe-unused i j locks q operation s es u = by (slice_get s.pipes q.0) refl
           sink = u.sink;
           from = u.from;
           into = u.into;
-          hosts = hosts-same i j s _ refl refl u.hosts;
+          hosts = hosts-same i j s _ refl refl refl u.hosts;
           apart = apart-set i j s.pipes q.0 x b.slots e c.0 c.1.0 u.apart;
           same = u.same;
           far = each-append (IsFar i j) b.out.effects es (each-map (PipeCauses q x.source x.dest) (IsFar i j) (λ v k. pipe-far i j q x.source x.dest v a.0 a.1 k) b.out.effects c.1.1) u.far.1;
         }
 
-apart-unused : (i j : StreamId) (locks : List Lock) (e : Effect) (s : Slots) (es : List Effect) → IsApart e → IsNoPipe e → Unused i j locks s (e ∷ es) → Unused i j locks (row e s).slots ((row e s).caused ++ es)
-apart-unused i j locks e s es a n u = record {
+apart-unused : (i j : StreamId) (locks : List Lock) (e : Effect) (s : Slots) (es : List Effect) → IsApart e → IsNoPipe e → Each (IsFar i j) ((row e s).caused ++ es) → Unused i j locks s (e ∷ es) → Unused i j locks (row e s).slots ((row e s).caused ++ es)
+apart-unused i j locks e s es a n far u = record {
   source = rw (row-streams e s a) u.source;
   bare = rw (row-streams e s a) u.bare;
   sink = rw (row-streams e s a) u.sink;
@@ -332,7 +360,7 @@ apart-unused i j locks e s es a n u = record {
   hosts = hosts-row i j e s u.hosts;
   apart = rw (row-pipes e s n) u.apart;
   same = row-locks e s ∙ u.same;
-  far = row-far i j e s es n u.far;
+  far = far;
 }
 
 row-unused : (i j : StreamId) (locks : List Lock) (e : Effect) (s : Slots) (es : List Effect) → Unused i j locks s (e ∷ es) → Unused i j locks (row e s).slots ((row e s).caused ++ es)
@@ -340,7 +368,9 @@ row-unused i j locks (OnReadable k operation) s es u = readable-unused i j locks
 row-unused i j locks (Byte k operation) s es u = byte-unused i j locks k operation s es u
 row-unused i j locks (OnWritable k operation) s es u = writable-unused i j locks k operation s es u
 row-unused i j locks (OnPipe q operation) s es u = pipe-unused i j locks q operation s es u
-row-unused i j locks e s es u = apart-unused i j locks e s es tt tt u
+row-unused i j locks (OnTee t operation) s es u =
+    apart-unused i j locks (OnTee t operation) s es tt tt (each-append (IsFar i j) (row (OnTee t operation) s).caused es (tees-far i j s t operation u.hosts.untied) u.far.1) u
+row-unused i j locks e s es u = apart-unused i j locks e s es tt tt (row-far i j e s es tt u.far) u
 
 pub performed-unused : (i j : StreamId) (locks : List Lock) (d : Done) → Unused i j locks d.slots d.caused → Unused i j locks (performed d) []
 performed-unused i j locks d u = performed-kept (λ ms s es. Unused i j locks s es) (λ ms s e es k. row-unused i j locks e s es k) d u
@@ -354,24 +384,25 @@ free-unused i j s f = record {
   sink = f.sink;
   from = record { unread = f.unread; requests = f.requests };
   into = record { unwritten = f.unwritten; queue = f.queue; request = f.close_request; flight = f.close_in_flight };
-  hosts = reached-hosts i j s f.reached f.source f.sink f.source_owner f.sink_owner;
+  hosts = reached-hosts i j s f.reached f.source f.sink f.source_owner f.sink_owner f.untied;
   apart = f.apart;
   same = refl;
   far = tt;
 }
 
-unused-free : (i j : StreamId) (locks : List Lock) (s z : Slots) → sound.IsReached z → z.streams ≡ s.streams → z.transforms ≡ s.transforms → z.pipes ≡ s.pipes → z.locks ≡ s.locks → all_spare i j locks ≡ true → Unused i j locks s [] → IsFree i j z
-unused-free i j locks s z r e d f g a u = record {
+unused-free : (i j : StreamId) (locks : List Lock) (s z : Slots) → sound.IsReached z → z.streams ≡ s.streams → z.transforms ≡ s.transforms → z.tees ≡ s.tees → z.pipes ≡ s.pipes → z.locks ≡ s.locks → all_spare i j locks ≡ true → Unused i j locks s [] → IsFree i j z
+unused-free i j locks s z r e d t f g a u = let h = hosts-same i j s z (ap (map stream_shape) e) (ap (map transform_shape) d) (ap (map tee_shape) t) u.hosts in record {
   reached = r;
   source = rw e u.source;
   bare = rw e u.bare;
   sink = rw e u.sink;
-  source_owner = (hosts-same i j s z (ap (map stream_shape) e) (ap (map transform_shape) d) u.hosts).source_kind;
-  sink_owner = (hosts-same i j s z (ap (map stream_shape) e) (ap (map transform_shape) d) u.hosts).sink_kind;
+  source_owner = h.source_kind;
+  sink_owner = h.sink_kind;
   unread = rw e u.from.unread;
   unwritten = rw e u.into.unwritten;
   locks = rw (g, u.same) a;
   apart = rw f u.apart;
+  untied = h.untied;
   requests = rw e u.from.requests;
   queue = rw e u.into.queue;
   close_request = rw e u.into.request;
@@ -380,13 +411,13 @@ unused-free i j locks s z r e d f g a u = record {
 
 begun-unused : (i j : StreamId) (s : Slots) (o : Option Job) → IsFree i j s → Unused i j s.locks (job_begun s o).slots (job_begun s o).caused
 begun-unused i j s None f = free-unused i j s f
-begun-unused i j s (Some job) f = let u = free-unused i j s f in record { source = u.source; bare = u.bare; sink = u.sink; from = u.from; into = u.into; hosts = hosts-same i j s _ refl refl u.hosts; apart = u.apart; same = refl; far = job-far i j job }
+begun-unused i j s (Some job) f = let u = free-unused i j s f in record { source = u.source; bare = u.bare; sink = u.sink; from = u.from; into = u.into; hosts = hosts-same i j s _ refl refl refl u.hosts; apart = u.apart; same = refl; far = job-far i j job }
 
 pub free-worked : (i j : StreamId) (s : Slots) → IsFree i j s → IsFree i j (after_job s)
 unfolding begin_job
 free-worked i j s f =
     let z : Slots = performed (job_begun s (next_job s.promises)) in
-    unused-free i j s.locks z (after_job s) (reached-step s Worked f.reached) refl refl refl refl f.locks (performed-unused i j s.locks (job_begun s (next_job s.promises)) (begun-unused i j s (next_job s.promises) f))
+    unused-free i j s.locks z (after_job s) (reached-step s Worked f.reached) refl refl refl refl refl f.locks (performed-unused i j s.locks (job_begun s (next_job s.promises)) (begun-unused i j s (next_job s.promises) f))
 
 -- calls
 
@@ -400,6 +431,7 @@ few-pipes c s =
       make_readable = λ mark size start. l;
       make_writable = λ mark size start. l;
       make_transform = λ kind m n start. l;
+      make_tee = λ i e there free untied. l;
       get_byob = λ i is e. l;
       release_byob = λ n closed i e. l;
       read_into = λ n i closed room element least e f. l;
@@ -461,6 +493,7 @@ call-kept i j c s f = begin-makes (Kept i j s) (record {
   pipe = λ z source dest prevent signal promise k. record { source = k.source; sink = k.sink };
   signal = λ z k. record { source = k.source; sink = k.sink };
   transform = λ z kind w r change k. record { source = k.source; sink = k.sink };
+  tee = λ z source first second cancel k. record { source = k.source; sink = k.sink };
   bytes = λ z mark auto k. stream-kept i j s z (ByteStream (byte.set_up mark auto)) k;
   byob_requests = λ z hs k. record { source = k.source; sink = k.sink };
   readable = λ z owner mark size k. stream-kept i j s z (ReadableStream (readable.set_up owner mark size)) k;
@@ -475,8 +508,8 @@ unused-called i j locks s c r a u = by (begin c s).reply refl
     z = performed (begin c s).done
 
     by : (reply : Reply) → reply ≡ (begin c s).reply → IsFree i j (after_call c s)
-    by (ReplyPromise q) e = unused-free i j locks z (after_call c s) (reached-step s (Called c) r) (rw (← e) refl) (rw (← e) refl) (rw (← e) refl) (rw (← e) refl) a (performed-unused i j locks (begin c s).done u)
-    by _ e = unused-free i j locks z (after_call c s) (reached-step s (Called c) r) (rw (← e) refl) (rw (← e) refl) (rw (← e) refl) (rw (← e) refl) a (performed-unused i j locks (begin c s).done u)
+    by (ReplyPromise q) e = unused-free i j locks z (after_call c s) (reached-step s (Called c) r) (rw (← e) refl) (rw (← e) refl) (rw (← e) refl) (rw (← e) refl) (rw (← e) refl) a (performed-unused i j locks (begin c s).done u)
+    by _ e = unused-free i j locks z (after_call c s) (reached-step s (Called c) r) (rw (← e) refl) (rw (← e) refl) (rw (← e) refl) (rw (← e) refl) (rw (← e) refl) a (performed-unused i j locks (begin c s).done u)
 
 module _ (i j : StreamId) (s : Slots) (c : Call) (f : IsFree i j s) (leave : leaves i j c ≡ true) where
   abbrev d : Done
@@ -487,7 +520,7 @@ module _ (i j : StreamId) (s : Slots) (c : Call) (f : IsFree i j s) (leave : lea
   none = record { 0 = suc (length s.pipes) }
 
   hosts : Hosts i j s
-  hosts = reached-hosts i j s f.reached f.source f.sink f.source_owner f.sink_owner
+  hosts = reached-hosts i j s f.reached f.source f.sink f.source_owner f.sink_owner f.untied
 
   begins : Begins i j none s (enters (giver_at i s) i c) (begin c s)
   begins = call-begins i j none s f.source hosts.halved f.locks (λ n x e m. apart_at i j s.pipes n x f.apart e) c leave
@@ -508,7 +541,7 @@ module _ (i j : StreamId) (s : Slots) (c : Call) (f : IsFree i j s) (leave : lea
     sink = ap is_writable_stream kept.sink;
     from = rw at (record { unread = f.unread; requests = f.requests });
     into = rw (ap as_writable kept.sink) (record { unwritten = f.unwritten; queue = f.queue; request = f.close_request; flight = f.close_in_flight });
-    hosts = hosts-grown i j s d.slots (rw at f.source) kept.sink (ap owner_of at) (ap owner_of kept.sink ∙ sym (sink-owner j s f.sink)) (call-among c s) (halved-stays.call s c hosts.halved) hosts;
+    hosts = hosts-grown i j s d.slots (rw at f.source) kept.sink (ap owner_of at) (ap owner_of kept.sink ∙ sym (sink-owner j s f.sink)) (call-among c s) (call-untied i j c s leave f.untied) (halved-stays.call s c hosts.halved) hosts;
     apart = apart;
     same = refl;
     far = each-map (IsOuter i j) (IsFar i j) (outer-far i j) d.caused begins.outer;
@@ -521,8 +554,8 @@ module _ (i j : StreamId) (s : Slots) (c : Call) (f : IsFree i j s) (leave : lea
 pub free-called : (i j : StreamId) (s : Slots) (c : Call) → IsFree i j s → leaves i j c ≡ true → IsFree i j (after_call c s)
 free-called i j s c f leave = called i j s c f leave
 
-quiet-free : (i j : StreamId) (s z : Slots) → sound.IsReached z → z.streams ≡ s.streams → z.transforms ≡ s.transforms → z.pipes ≡ s.pipes → z.locks ≡ s.locks → IsFree i j s → IsFree i j z
-quiet-free i j s z r e d f g k = unused-free i j s.locks s z r e d f g k.locks (free-unused i j s k)
+quiet-free : (i j : StreamId) (s z : Slots) → sound.IsReached z → z.streams ≡ s.streams → z.transforms ≡ s.transforms → z.tees ≡ s.tees → z.pipes ≡ s.pipes → z.locks ≡ s.locks → IsFree i j s → IsFree i j z
+quiet-free i j s z r e d t f g k = unused-free i j s.locks s z r e d t f g k.locks (free-unused i j s k)
 
 -- and so does a run
 pub free-run : (i j : StreamId) (entries : List Entry) (s : Slots) → IsFree i j s → all_leave i j entries ≡ true → IsFree i j (run entries s)
@@ -532,7 +565,7 @@ free-run i j (x ∷ xs) s f e = free-run i j xs (step s x) (one x (and_left (ent
     one : (x : Entry) → entry_leaves i j x ≡ true → IsFree i j (step s x)
     one (Called c) l = free-called i j s c f l
     one Worked l = free-worked i j s f
-    one Heard l = quiet-free i j s (step s Heard) (reached-step s Heard f.reached) refl refl refl refl f
+    one Heard l = quiet-free i j s (step s Heard) (reached-step s Heard f.reached) refl refl refl refl refl f
 
 pub each_free_pair_stays : EachFreePairStays
 each_free_pair_stays i j s entries f e = free-run i j entries s f e

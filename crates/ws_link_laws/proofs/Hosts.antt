@@ -1,10 +1,10 @@
 -- Whose the ends of a link are: the host's own, or halves of transform streams of the host's kind. No effect changes it.
-use Rattle.std.proofs.Common.{◌≡◌, ℕ, zero, suc, Bool, true, false, ◌||◌, nat_eq, List, [], ◌∷◌, map, Option, Some, None, slice_get, refl, sym, ap, subst, ◌∙◌, arith}
+use Rattle.std.proofs.Common.{◌≡◌, ℕ, zero, suc, Bool, true, false, not, ◌&&◌, ◌||◌, nat_eq, List, [], ◌∷◌, map, Option, Some, None, slice_get, refl, sym, ap, subst, ◌∙◌, arith}
 use Rattle.ws_value.specs.declared.ids.StreamId.{StreamId}
 use Rattle.ws_steps.specs.declared.calls.HostCall.{HostCall}
 use Rattle.ws_steps.specs.declared.effects.Effect.{Effect}
 use Rattle.ws_steps.specs.declared.effects.Owner.{Owner}
-use Rattle.ws_steps.specs.declared.effects.Owner.TheVariants.{Host, HalfOf}
+use Rattle.ws_steps.specs.declared.effects.Owner.TheVariants.{Host, HalfOf, BranchOf}
 use Rattle.ws_steps.specs.declared.transform.Kind.TheVariants.{Host as HostKind}
 use Rattle.ws_steps.specs.declared.transform.TransformId.{TransformId}
 use Rattle.ws_steps.specs.Histories.{is_same}
@@ -12,12 +12,13 @@ use Rattle.ws_steps.specs.Slots.{Slots, Stream, ReadableStream, ByteStream, Writ
 use Rattle.ws_steps.specs.Transform as transform
 use Rattle.ws_steps.specs.Turns.{row}
 use Rattle.ws_laws.proofs.Halves.{Among, Halved, halved-empty, run-halved}
-use Rattle.ws_laws.proofs.Shapes.{StreamShape, ReadableOf, BytesOf, WritableOf, TransformShape, stream_shape, transform_shape, stream_shapes, transform_shapes, map-there, owner-told, row-owner, row-stream_shapes, row-transform_shapes}
+use Rattle.ws_laws.proofs.Shapes.{StreamShape, ReadableOf, BytesOf, WritableOf, TransformShape, stream_shape, transform_shape, stream_shapes, transform_shapes, map-there, owner-told, row-owner, row-stream_shapes, row-transform_shapes, TeeShape, tee_shape, tee_shapes, row-tee_shapes}
 use Rattle.ws_laws.proofs.Tables.{eq_numbers, unequal_numbers, same_id, readable_there, writable_there}
 use Rattle.ws_laws.proofs.TransformDoes.{IsCallOf}
 use Rattle.ws_link_laws.specs.Link.{Ear, OfSink, OfTransform, Giver, OfSource, OfByteSource, OfHalf, silence, ear_by, ear_at, heard_call, giver_by, giver_at}
-use Rattle.ws_link_laws.specs.Sound.{IsReached, IsHosts}
+use Rattle.ws_link_laws.specs.Sound.{IsReached, IsHosts, all_untied}
 use Rattle.ws_link_laws.proofs.Telling.{is_of, is_in}
+use Rattle.ws_steps.specs.Tee as tee
 
 -- by their shapes
 
@@ -98,22 +99,27 @@ pub half-giver : (b : Bool) (o : Owner) (t : TransformId) → giver_by b o ≡ O
 half-giver true o t e = cc
 half-giver false Host t e = cc
 half-giver false (HalfOf u) t e = (refl, cc)
+half-giver false (BranchOf u half) t e = cc
 
 abbrev SameShape : Slots → Slots → Owner → Type 0
 SameShape s z Host = Unit {0}
 SameShape s z (HalfOf t) = transform_shape (transform_at t z) ≡ transform_shape (transform_at t s)
+SameShape s z (BranchOf t half) = Unit {0}
 
 same-shapes : (s z : Slots) (o : Owner) → transform_shapes z ≡ transform_shapes s → SameShape s z o
 same-shapes s z Host e = tt
 same-shapes s z (HalfOf t) e = shape-same t s z e
+same-shapes s z (BranchOf t half) e = tt
 
 ear-shaped : (j : StreamId) (s z : Slots) (o : Owner) → SameShape s z o → ear_by j z o ≡ ear_by j s o
 ear-shaped j s z Host e = refl
 ear-shaped j s z (HalfOf t) e = ap (λ (x : TransformShape). OfTransform t x.readable) e
+ear-shaped j s z (BranchOf t half) e = refl
 
 pub hosts-shaped : (s z : Slots) (o : Owner) → SameShape s z o → IsHosts s o → IsHosts z o
 hosts-shaped s z Host e h = tt
 hosts-shaped s z (HalfOf t) e h = ap (λ (x : TransformShape). x.kind) e ∙ h
+hosts-shaped s z (BranchOf t half) e h = absurd h
 
 pub ear-same : (j : StreamId) (s z : Slots) → SameShape s z (owner_at j s) → owner_at j z ≡ owner_at j s → ear_at j z ≡ ear_at j s
 ear-same j s z e f = ap (λ (o : Owner). ear_by j z o) f ∙ ear-shaped j s z (owner_at j s) e
@@ -133,6 +139,7 @@ there-still t s z (Some x) e a h =
 pub grown-shape : (s z : Slots) (o : Owner) → Among (transform_shapes s) (transform_shapes z) → IsHosts s o → SameShape s z o
 grown-shape s z Host a h = tt
 grown-shape s z (HalfOf t) a h = there-still t s z (slice_get s.transforms t.0) refl a h
+grown-shape s z (BranchOf t half) a h = tt
 
 abbrev map_shape : Option Stream → Option StreamShape
 map_shape None = None
@@ -143,6 +150,19 @@ giver_shape OfSource = ReadableOf Host
 giver_shape OfByteSource = BytesOf
 giver_shape (OfHalf t) = ReadableOf (HalfOf t)
 
+-- no tee has the source, which is told by the shapes of the tees
+
+abbrev untied_shapes : StreamId → List TeeShape → Bool
+untied_shapes i [] = true
+untied_shapes i (x ∷ xs) = not (is_same i x.source) && untied_shapes i xs
+
+untied-told : (i : StreamId) (xs : List tee.Slots) → all_untied i xs ≡ untied_shapes i (map tee_shape xs)
+untied-told i [] = refl
+untied-told i (x ∷ xs) = ap (λ (b : Bool). not (is_same i x.source) && b) (untied-told i xs)
+
+pub untied-same : (i : StreamId) (s z : Slots) → tee_shapes z ≡ tee_shapes s → all_untied i z.tees ≡ all_untied i s.tees
+untied-same i s z e = untied-told i z.tees ∙ (ap (untied_shapes i) e ∙ sym (untied-told i s.tees))
+
 -- the two ends, and each transform stream has halves of its own
 pub record Hosts (i j : StreamId) (s : Slots) : Type 0 where
   pub source : slice_get (stream_shapes s) i.0 ≡ Some (giver_shape (giver_at i s))
@@ -150,6 +170,7 @@ pub record Hosts (i j : StreamId) (s : Slots) : Type 0 where
   pub source_kind : IsHosts s (owner_at i s)
   pub sink_kind : IsHosts s (owner_at j s)
   pub halved : Halved s
+  pub untied : all_untied i s.tees ≡ true
 
 -- the one of them from which chunks come
 pub record Source (i : StreamId) (s : Slots) : Type 0 where
@@ -167,18 +188,27 @@ shape-there [] n = refl
 shape-there (x ∷ xs) zero = refl
 shape-there (x ∷ xs) (suc n) = shape-there xs n
 
-shape-owned : (o : Owner) → ReadableOf o ≡ giver_shape (giver_by false o)
-shape-owned Host = refl
-shape-owned (HalfOf t) = refl
+shape-owned : (s : Slots) (o : Owner) → IsHosts s o → ReadableOf o ≡ giver_shape (giver_by false o)
+shape-owned s Host h = refl
+shape-owned s (HalfOf t) h = refl
+shape-owned s (BranchOf t half) h = absurd h
 
-source_shape : (o : Option Stream) → is_readable_stream o || is_byte_stream o ≡ true → map_shape o ≡ Some (giver_shape (giver_by (is_byte_stream o) (owner_of o)))
-source_shape None e = cc
-source_shape (Some (ReadableStream r)) e = ap (λ (x : StreamShape). Some x) (shape-owned r.owner)
-source_shape (Some (ByteStream b)) e = refl
-source_shape (Some (WritableStream w)) e = cc
+source_shape : (s : Slots) (o : Option Stream) → is_readable_stream o || is_byte_stream o ≡ true → IsHosts s (owner_of o) → map_shape o ≡ Some (giver_shape (giver_by (is_byte_stream o) (owner_of o)))
+source_shape s None e h = cc
+source_shape s (Some (ReadableStream r)) e h = ap (λ (x : StreamShape). Some x) (shape-owned s r.owner h)
+source_shape s (Some (ByteStream b)) e h = refl
+source_shape s (Some (WritableStream w)) e h = cc
 
-pub source-shape : (i : StreamId) (s : Slots) → has_source i s ≡ true → slice_get (stream_shapes s) i.0 ≡ Some (giver_shape (giver_at i s))
-source-shape i s e = shape-there s.streams i.0 ∙ source_shape (slice_get s.streams i.0) e
+pub source-shape : (i : StreamId) (s : Slots) → has_source i s ≡ true → IsHosts s (owner_at i s) → slice_get (stream_shapes s) i.0 ≡ Some (giver_shape (giver_at i s))
+source-shape i s e h = shape-there s.streams i.0 ∙ source_shape s (slice_get s.streams i.0) e h
+
+-- one that is there has a shape
+shape_here : (o : Option Stream) → is_readable_stream o || is_byte_stream o ≡ true → (y : StreamShape) × (map_shape o ≡ Some y)
+shape_here None e = cc
+shape_here (Some x) e = (stream_shape x, refl)
+
+pub shape-here : (i : StreamId) (s : Slots) → has_source i s ≡ true → (y : StreamShape) × (slice_get (stream_shapes s) i.0 ≡ Some y)
+shape-here i s e = let h = shape_here (slice_get s.streams i.0) e in (h.0, shape-there s.streams i.0 ∙ h.1)
 
 pub readable-shape : (i : StreamId) (s : Slots) → has_readable i s ≡ true → slice_get (stream_shapes s) i.0 ≡ Some (ReadableOf (owner_at i s))
 readable-shape i s e =
@@ -197,13 +227,14 @@ sink-owner j s there = ap owner_of (writable_there (slice_get s.streams j.0) the
 pub reached-halved : (s : Slots) → IsReached s → Halved s
 reached-halved s (xs, e) = rw e (run-halved xs empty halved-empty)
 
-pub reached-hosts : (i j : StreamId) (s : Slots) → IsReached s → has_source i s ≡ true → has_writable j s ≡ true → IsHosts s (owner_at i s) → IsHosts s (owner_at j s) → Hosts i j s
-reached-hosts i j s r a b o p = record {
-  source = source-shape i s a;
+pub reached-hosts : (i j : StreamId) (s : Slots) → IsReached s → has_source i s ≡ true → has_writable j s ≡ true → IsHosts s (owner_at i s) → IsHosts s (owner_at j s) → all_untied i s.tees ≡ true → Hosts i j s
+reached-hosts i j s r a b o p u = record {
+  source = source-shape i s a o;
   sink = sink-shape j s s (writable_there (slice_get s.streams j.0) b);
   source_kind = o;
   sink_kind = p;
   halved = reached-halved s r;
+  untied = u;
 }
 
 -- a stream is of the kind that its shape says
@@ -218,21 +249,21 @@ pub sink-there : (i j : StreamId) (s : Slots) → Hosts i j s → has_writable j
 sink-there i j s h = write_by (slice_get s.streams j.0) (owner_at j s) (sym (shape-there s.streams j.0) ∙ h.sink)
 
 pub reached-source : (i : StreamId) (s : Slots) → IsReached s → has_source i s ≡ true → IsHosts s (owner_at i s) → Source i s
-reached-source i s r a o = record { shape = source-shape i s a; kind = o; halved = reached-halved s r }
+reached-source i s r a o = record { shape = source-shape i s a o; kind = o; halved = reached-halved s r }
 
 -- each effect leaves them so
 
-pub source-same : (i : StreamId) (s z : Slots) → stream_shapes z ≡ stream_shapes s → transform_shapes z ≡ transform_shapes s → Source i s → Source i z
-source-same i s z e f h =
+pub source-same : (i : StreamId) (s z : Slots) → stream_shapes z ≡ stream_shapes s → transform_shapes z ≡ transform_shapes s → tee_shapes z ≡ tee_shapes s → Source i s → Source i z
+source-same i s z e f t h =
     let a = owner-same i s z e in
     let g = giver-same i s z e in
-    record { shape = rw (e, g) h.shape; kind = rw a (hosts-shaped s z (owner_at i s) (same-shapes s z (owner_at i s) f) h.kind); halved = rw (e, f) h.halved }
+    record { shape = rw (e, g) h.shape; kind = rw a (hosts-shaped s z (owner_at i s) (same-shapes s z (owner_at i s) f) h.kind); halved = rw (e, f, t) h.halved }
 
 pub source-row : (i : StreamId) (e : Effect) (s : Slots) → Source i s → Source i (row e s).slots
-source-row i e s h = source-same i s (row e s).slots (row-stream_shapes e s) (row-transform_shapes e s) h
+source-row i e s h = source-same i s (row e s).slots (row-stream_shapes e s) (row-transform_shapes e s) (row-tee_shapes e s) h
 
-pub hosts-same : (i j : StreamId) (s z : Slots) → stream_shapes z ≡ stream_shapes s → transform_shapes z ≡ transform_shapes s → Hosts i j s → Hosts i j z
-hosts-same i j s z e f h =
+pub hosts-same : (i j : StreamId) (s z : Slots) → stream_shapes z ≡ stream_shapes s → transform_shapes z ≡ transform_shapes s → tee_shapes z ≡ tee_shapes s → Hosts i j s → Hosts i j z
+hosts-same i j s z e f t h =
     let a = owner-same i s z e in
     let b = owner-same j s z e in
     let g = giver-same i s z e in
@@ -241,27 +272,29 @@ hosts-same i j s z e f h =
       sink = rw (e, b) h.sink;
       source_kind = rw a (hosts-shaped s z (owner_at i s) (same-shapes s z (owner_at i s) f) h.source_kind);
       sink_kind = rw b (hosts-shaped s z (owner_at j s) (same-shapes s z (owner_at j s) f) h.sink_kind);
-      halved = rw (e, f) h.halved;
+      halved = rw (e, f, t) h.halved;
+      untied = untied-same i s z t ∙ h.untied;
     }
 
 pub hosts-row : (i j : StreamId) (e : Effect) (s : Slots) → Hosts i j s → Hosts i j (row e s).slots
-hosts-row i j e s h = hosts-same i j s (row e s).slots (row-stream_shapes e s) (row-transform_shapes e s) h
+hosts-row i j e s h = hosts-same i j s (row e s).slots (row-stream_shapes e s) (row-transform_shapes e s) (row-tee_shapes e s) h
 
 -- and what is made beside them
 
 pub hosts-grown : (i j : StreamId) (s z : Slots) → has_source i z ≡ true → slice_get z.streams j.0 ≡ Some (WritableStream (writable_at j s)) → owner_at i z ≡ owner_at i s → owner_at j z ≡ owner_at j s
-    → Among (transform_shapes s) (transform_shapes z) → Halved z → Hosts i j s → Hosts i j z
-hosts-grown i j s z e f a b m halved h = record {
-  source = source-shape i z e;
+    → Among (transform_shapes s) (transform_shapes z) → all_untied i z.tees ≡ true → Halved z → Hosts i j s → Hosts i j z
+hosts-grown i j s z e f a b m u halved h = record {
+  source = source-shape i z e (rw a (hosts-shaped s z (owner_at i s) (grown-shape s z (owner_at i s) m h.source_kind) h.source_kind));
   sink = sink-shape j s z f;
   source_kind = rw a (hosts-shaped s z (owner_at i s) (grown-shape s z (owner_at i s) m h.source_kind) h.source_kind);
   sink_kind = rw b (hosts-shaped s z (owner_at j s) (grown-shape s z (owner_at j s) m h.sink_kind) h.sink_kind);
   halved = halved;
+  untied = u;
 }
 
 -- streams of other shapes aren't the same
 
-unlike : (i k : StreamId) (a b : StreamShape) (xs : List StreamShape) → slice_get xs i.0 ≡ Some a → slice_get xs k.0 ≡ Some b → (a ≡ b → ⊥) → is_same i k ≡ false
+pub unlike : (i k : StreamId) (a b : StreamShape) (xs : List StreamShape) → slice_get xs i.0 ≡ Some a → slice_get xs k.0 ≡ Some b → (a ≡ b → ⊥) → is_same i k ≡ false
 unlike i k a b xs e f n = by (is_same i k) refl
   where
     by : (same : Bool) → same ≡ is_same i k → is_same i k ≡ false
@@ -352,6 +385,7 @@ at-sink i j s k x h e = by (owner_at j s) refl h.sink h.sink_kind
     by : (o : Owner) → o ≡ owner_at j s → slice_get (stream_shapes s) j.0 ≡ Some (WritableOf o) → IsHosts s o → AtSink j (ear_by j s o) k x
     by Host f shape kind = OtherSink refl (unlike j x.writable (WritableOf Host) (WritableOf (HalfOf k)) (stream_shapes s) shape halves.1 (λ f. cc)) (λ call c. unheard-by-sink j x.readable call c)
     by (HalfOf t) f shape kind = by_number t shape kind (nat_eq t.0 k.0) refl
+    by (BranchOf t half) f shape kind = absurd kind
 
 -- a transform stream that isn't there is neither's
 
@@ -367,10 +401,12 @@ none-of s k false (HalfOf t) e h = by (nat_eq t.0 k.0) refl
         let none : transform_at t s ≡ no_transform = rw (is, e) refl in
         let kind : no_transform.kind ≡ HostKind = rw none at h in
         cc
+none-of s k false (BranchOf t half) e h = refl
 
 in-of : (j : StreamId) (s : Slots) (k : TransformId) (o : Owner) → is_in (ear_by j s o) k ≡ is_of (giver_by false o) k
 in-of j s k Host = refl
 in-of j s k (HalfOf t) = refl
+in-of j s k (BranchOf t half) = refl
 
 pub no-source : (i : StreamId) (s : Slots) (k : TransformId) → Source i s → slice_get s.transforms k.0 ≡ None → is_of (giver_at i s) k ≡ false
 no-source i s k h e = none-of s k (has_byte i s) (owner_at i s) e h.kind

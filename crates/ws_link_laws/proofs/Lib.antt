@@ -1,5 +1,6 @@
 pub mod Telling
 pub mod Hosts
+pub mod Tees
 pub mod Ahead
 pub mod Sinks
 pub mod Sources

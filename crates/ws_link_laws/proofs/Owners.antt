@@ -12,7 +12,7 @@ use Rattle.ws_laws.proofs.Walker as walker
 use Rattle.ws_laws.proofs.Walker.{Stays}
 use Rattle.ws_link_laws.specs.Link.{ear_at, giver_at}
 use Rattle.ws_link_laws.specs.Sound.{IsHosts}
-use Rattle.ws_link_laws.proofs.Hosts.{giver_shape, giver-told, source-shape, sink-shape, ear-same, grown-shape}
+use Rattle.ws_link_laws.proofs.Hosts.{giver-told, shape-here, sink-shape, ear-same, grown-shape}
 use Rattle.ws_steps.specs.Slots.{has_source}
 
 abbrev Stands : StreamId → StreamShape → Slots → List Effect → Type 0
@@ -33,6 +33,7 @@ stands-stays k y = record {
     pipe = λ z source dest prevent signal promise h. h;
     signal = λ z h. h;
     transform = λ z kind w r change h. h;
+    tee = λ z source first second cancel h. h;
     bytes = λ z mark auto h. more z.streams k.0 _ y h;
     byob_requests = λ z hs h. h;
     readable = λ z o mark size h. more z.streams k.0 _ y h;
@@ -51,12 +52,13 @@ stands-run k y xs s h =
     rw (a, b, after, h) refl
 
 pub source-stays : (i : StreamId) (xs : List Entry) (s : Slots) → has_source i s ≡ true → owner_at i (run xs s) ≡ owner_at i s
-source-stays i xs s there = stands-run i _ xs s (source-shape i s there)
+source-stays i xs s there = let h = shape-here i s there in stands-run i h.0 xs s h.1
 
 pub giver-stays : (i : StreamId) (xs : List Entry) (s : Slots) → has_source i s ≡ true → giver_at i (run xs s) ≡ giver_at i s
 giver-stays i xs s there =
-    let y : StreamShape = giver_shape (giver_at i s) in
-    let now = source-shape i s there in
+    let h = shape-here i s there in
+    let y : StreamShape = h.0 in
+    let now = h.1 in
     let after = walker.run-stays (Stands i y) (stands-stays i y) (λ z g. g) xs s now in
     let a = giver-told (run xs s).streams i.0 in
     let b = giver-told s.streams i.0 in

@@ -6,7 +6,7 @@ use Rattle.ws_value.specs.declared.ids.StreamId.{StreamId}
 use Rattle.ws_value.specs.declared.value.Plain.{Plain}
 use Rattle.ws_value.specs.declared.value.Value.{Value}
 use Rattle.ws_steps.specs.declared.effects.Effect.{Effect}
-use Rattle.ws_steps.specs.declared.effects.Effect.TheVariants.{Readable as OnReadable, Writable as OnWritable, Pipe as OnPipe, Signal as OnSignal, Transform as OnTransform, StartAlgorithm, PullAlgorithm, CancelAlgorithm, WriteAlgorithm, CloseAlgorithm, AbortAlgorithm, ChunkSteps, CloseSteps, ErrorSteps}
+use Rattle.ws_steps.specs.declared.effects.Effect.TheVariants.{Readable as OnReadable, Writable as OnWritable, Pipe as OnPipe, Signal as OnSignal, Transform as OnTransform, Tee as OnTee, StartAlgorithm, PullAlgorithm, CancelAlgorithm, WriteAlgorithm, CloseAlgorithm, AbortAlgorithm, ChunkSteps, CloseSteps, ErrorSteps}
 use Rattle.ws_steps.specs.declared.pipes.Action.{Action}
 use Rattle.ws_steps.specs.declared.pipes.Action.TheVariants.{BySignal}
 use Rattle.ws_steps.specs.declared.pipes.Ends.{Ends}
@@ -16,7 +16,7 @@ use Rattle.ws_steps.specs.declared.pipes.PipeOperation.{PipeOperation}
 use Rattle.ws_steps.specs.declared.pipes.PipeOperation.TheVariants.{Look, LookReady, KeepChunk, ReadEnded, WriteChunk, GoOn, WriteEnded, Abort as AbortPipe, ActionSettled, PartSettled, NoParts}
 use Rattle.ws_steps.specs.declared.pipes.SignalOperation.{SignalOperation}
 use Rattle.ws_steps.specs.declared.pipes.SignalOperation.TheVariants.{Add, Forget, Trigger}
-use Rattle.ws_steps.specs.declared.readable.ReadRequest.TheVariants.{Promise, Pipe as PipeRequest}
+use Rattle.ws_steps.specs.declared.readable.ReadRequest.TheVariants.{Promise, Pipe as PipeRequest, Tee as TeeRequest}
 use Rattle.ws_steps.specs.declared.readable.ReadableState.{ReadableState}
 use Rattle.ws_steps.specs.declared.readable.ReadableState.TheVariants.{Readable, Closed, Errored}
 use Rattle.ws_steps.specs.declared.readable.SizeBy.TheVariants.{Count}
@@ -53,6 +53,8 @@ use Rattle.ws_link_laws.proofs.Rooms.{more_in, RoomKept, sink_room}
 use Rattle.ws_link_laws.proofs.Standing.{IsStill, Sound}
 use Rattle.ws_link_laws.proofs.Telling.{tells, writes}
 use Rattle.ws_steps.specs.declared.effects.Effect.TheVariants.{Byte, CloseStepsWith}
+use Rattle.ws_value.specs.declared.ids.TeeId.{TeeId}
+use Rattle.ws_laws.proofs.TeeDoes.{TeeCauses}
 
 -- the chunks that are on their way to the destination
 abbrev pub more_on : StreamId → Effect → ℕ
@@ -200,6 +202,11 @@ signal-more j (Forget q) = tt
 transform-more : (j : StreamId) (t : TransformId) (w r : StreamId) (e : Effect) → TransformCauses t w r e → IsNoMore j e
 transform-more j t w r e c = grind (arith, c)
 
+tee-more : (j : StreamId) (t : TeeId) (source first second : StreamId) (e : Effect) → TeeCauses t source first second e → IsNoMore j e
+tee-more j t source first second (OnWritable k operation) c = absurd c
+tee-more j t source first second (OnPipe q operation) c = absurd c
+tee-more j t source first second _ c = refl
+
 more-causes : (j : StreamId) (e : Effect) → IsNoPipe e → Causes (IsNoMore j) e
 more-causes j (OnReadable k operation) n = record { pull = refl; cancel = λ r q. refl; chunk = λ request v. refl; close = λ request. refl; error = λ request r. refl }
 more-causes j (Byte k operation) n = record { readable = record { pull = refl; cancel = λ r q. refl; chunk = λ request v. refl; close = λ request. refl; error = λ request r. refl }; close_with = λ r b. refl }
@@ -208,19 +215,24 @@ more-causes j (OnPipe q operation) n = absurd n
 more-causes j (OnSignal a operation) n = signal-more j operation
 more-causes j (StartAlgorithm k step start) n = (λ g u. refl, λ c u. refl)
 more-causes j (OnTransform t operation) n = λ w r e c. transform-more j t w r e c
-more-causes j (PullAlgorithm k) n = (λ c u. refl, λ t u. refl)
-more-causes j (CancelAlgorithm k r q) n = (λ c u. refl, λ t u. refl)
+more-causes j (OnTee t operation) n = λ source first second e c. tee-more j t source first second e c
+more-causes j (PullAlgorithm k) n = (λ c u. refl, (λ t u. refl, (λ t. refl, λ u. refl)))
+more-causes j (CancelAlgorithm k r q) n = (λ c u. refl, (λ t u. refl, λ t half u. refl))
 more-causes j (WriteAlgorithm k) n = (refl, λ t u. refl)
 more-causes j (CloseAlgorithm k) n = (λ c u. refl, λ t u. refl)
 more-causes j (AbortAlgorithm k r q) n = (λ c u. refl, λ t u. refl)
 more-causes j (ChunkSteps k (Promise q) v) n = tt
 more-causes j (ChunkSteps k (PipeRequest q) v) n = refl
+more-causes j (ChunkSteps k (TeeRequest b) v) n = refl
 more-causes j (CloseSteps k (Promise q)) n = tt
 more-causes j (CloseStepsWith k (Promise q) b) n = tt
 more-causes j (CloseSteps k (PipeRequest q)) n = refl
+more-causes j (CloseSteps k (TeeRequest b)) n = refl
 more-causes j (CloseStepsWith k (PipeRequest q) b) n = refl
+more-causes j (CloseStepsWith k (TeeRequest tee_id) b) n = refl
 more-causes j (ErrorSteps k (Promise q) r) n = tt
 more-causes j (ErrorSteps k (PipeRequest q) r) n = refl
+more-causes j (ErrorSteps k (TeeRequest b) r) n = refl
 more-causes j _ n = tt
 
 caused-more : (j : StreamId) (e : Effect) (s : Slots) → IsNoPipe e → all (more_on j) (row e s).caused ≡ 0

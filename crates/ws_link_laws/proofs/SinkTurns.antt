@@ -8,7 +8,7 @@ use Rattle.ws_value.specs.declared.value.Value.{Value}
 use Rattle.ws_steps.specs.declared.effects.Effect.{Effect}
 use Rattle.ws_steps.specs.declared.effects.Effect.TheVariants.{Writable as OnWritable}
 use Rattle.ws_steps.specs.declared.effects.Owner.{Owner}
-use Rattle.ws_steps.specs.declared.effects.Owner.TheVariants.{Host, HalfOf}
+use Rattle.ws_steps.specs.declared.effects.Owner.TheVariants.{Host, HalfOf, BranchOf}
 use Rattle.ws_steps.specs.declared.transform.TransformId.{TransformId}
 use Rattle.ws_steps.specs.declared.writable.WritableOperation.{WritableOperation}
 use Rattle.ws_steps.specs.declared.writable.WritableOperation.TheVariants.{Close, HandOn, StartSettled, WriteSettled, CloseSettled, AbortSettled}
@@ -34,7 +34,7 @@ use Rattle.ws_writable_laws.proofs.Shape.{leads}
 use Rattle.ws_transform_laws.proofs.Halving.{Going}
 use Rattle.ws_transform_laws.proofs.Lawful.{half-owner, known-half, settled-led}
 use Rattle.ws_link_laws.specs.Link.{silence, in_sink, in_source, in_pipe, ear_at, giver_at, unheard}
-use Rattle.ws_link_laws.specs.Sound.{SinkFits}
+use Rattle.ws_link_laws.specs.Sound.{SinkFits, IsHosts}
 use Rattle.ws_link_laws.proofs.Ahead.{Ahead, ahead-kept, ahead-silent, row-ahead, other-silent}
 use Rattle.ws_link_laws.proofs.Hosts.{row-ear, row-giver, row-sources, sink-owner, sink-there}
 use Rattle.ws_link_laws.proofs.Telling.{is_of, if_same, tells, IsSilent, silent-all, hands, written, writes, chunks, coming, behind_on}
@@ -44,6 +44,7 @@ use Rattle.ws_link_laws.proofs.Pipes.{rank}
 use Rattle.ws_link_laws.proofs.Moves.{line, sink-passes}
 use Rattle.ws_link_laws.proofs.SourceTurns.{Turned}
 use Rattle.ws_link_laws.proofs.Standing.{IsInner, IsNotLast, at_end-append, State, Sound, split}
+use Rattle.ws_transform_laws.proofs.Sunk.{IsNoBranch}
 
 -- what an operation of the destination may rely on
 
@@ -57,20 +58,26 @@ pub none_is : (o : Option PromiseId) → is_some o ≡ false → o ≡ None
 none_is None e = refl
 none_is (Some p) e = cc
 
+no_branch : (s : Slots) (o : Owner) → IsHosts s o → IsNoBranch o
+no_branch s Host h = tt
+no_branch s (HalfOf t) h = tt
+no_branch s (BranchOf t half) h = absurd h
+
 -- the chunk of a write that is fulfilled was handed on
-pub led-by : (j : StreamId) (h : Writes) (s : Slots) (es : List Effect) (v : Plain) → has_writable j s ≡ true → ((t : TransformId) → Going j t h s (OnWritable j (WriteSettled (Ok v)) ∷ es)) → (o : Owner) → owner_at j s ≡ o
+pub led-by : (j : StreamId) (h : Writes) (s : Slots) (es : List Effect) (v : Plain) → has_writable j s ≡ true → ((t : TransformId) → Going j t h s (OnWritable j (WriteSettled (Ok v)) ∷ es)) → (o : Owner) → IsNoBranch o → owner_at j s ≡ o
     → writable.has_ended (writable_at j s).state ≡ false → leads (writable_at j s).queue ≡ true
-led-by j h s es v there g Host own e =
+led-by j h s es v there g Host none own e =
     let f = found j (WriteSettled (Ok v)) h es s (λ u. u) (g (record { 0 = 0 })).kept in
     let one = same_once j in
     let w = f.owed.writes in
     let hosted : (writable_at j s).owner ≡ Host = sym (sink-owner j s there) ∙ own in
     let flying = f.shape.flying (rw hosted refl) in
     grind (arith, one, w, flying, e)
-led-by j h s es v there g (HalfOf t) own e = settled-led j t h s es v own (g t) (known-half j t h s _ (half-owner j t s there own) (g t).kept) e
+led-by j h s es v there g (HalfOf t) none own e = settled-led j t h s es v own (g t) (known-half j t h s _ (half-owner j t s there own) (g t).kept) e
+led-by j h s es v there g (BranchOf t half) none own e = absurd none
 
 needs : (i j : StreamId) (operation : WritableOperation) (s : Slots) (es : List Effect) (p : PipeId) (n : ℕ) → IsInner i j p n (OnWritable j operation) → Ahead i j s (OnWritable j operation ∷ es) → Needs (ear_at j s) j operation (writable_at j s)
-needs i j (WriteSettled (Ok v)) s es p n a k = flies (writable_at j s).state (writable_at j s) refl (led-by j k.history s es v (sink-there i j s k.hosts) k.going (owner_at j s) refl)
+needs i j (WriteSettled (Ok v)) s es p n a k = flies (writable_at j s).state (writable_at j s) refl (led-by j k.history s es v (sink-there i j s k.hosts) k.going (owner_at j s) (no_branch s (owner_at j s) k.hosts.sink_kind) refl)
 needs i j (WriteSettled (Err r)) s es p n a k = none_is (writable_at j s).close_in_flight (write_settled-expects j k.history es s (Err r) (ahead-kept i j s _ k)).1
 needs i j (CloseSettled o) s es p n a k = close_settled-expects j k.history es s o (ahead-kept i j s _ k)
 needs i j (StartSettled o) s es p n a k =

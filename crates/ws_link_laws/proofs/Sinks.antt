@@ -6,7 +6,7 @@ use Rattle.ws_value.specs.declared.value.Plain.{Plain}
 use Rattle.ws_value.specs.declared.value.Plain.TheVariants.{Undefined}
 use Rattle.ws_value.specs.declared.value.Value.{Value}
 use Rattle.ws_steps.specs.declared.effects.Owner.{Owner}
-use Rattle.ws_steps.specs.declared.effects.Owner.TheVariants.{Host, HalfOf}
+use Rattle.ws_steps.specs.declared.effects.Owner.TheVariants.{Host, HalfOf, BranchOf}
 use Rattle.ws_steps.specs.declared.queue.Queued.{Queued}
 use Rattle.ws_steps.specs.declared.transform.Taker.{Taker}
 use Rattle.ws_steps.specs.declared.transform.Taker.TheVariants.{ToHost, ToTransform}
@@ -336,6 +336,7 @@ module _ (ear : Ear) where
   signalled_is : (me : StreamId) (r : Plain) (x : Slots) (t : Table) (o : Owner) → (z : Table) × (signalled me r (starting x t) o ≡ starting x z)
   signalled_is me r x t Host = (_, refl)
   signalled_is me r x t (HalfOf half) = (_, refl)
+  signalled_is me r x t (BranchOf u half) = (_, refl)
 
   aborted_keeps : (me : StreamId) (r : Plain) (p : PromiseId) (op : WritableOperation) (x : Slots) (t : Table) → SinkFits x → written op ≡ silence → SinkKept op x (stream_abort me r p (starting x t))
   unfolding stream_abort

@@ -8,7 +8,7 @@ use Rattle.ws_steps.specs.declared.effects.Effect.{Effect}
 use Rattle.ws_steps.specs.declared.effects.Effect.TheVariants.{Readable as OnReadable, Byte as OnByte, Writable as OnWritable, Pipe as OnPipe, ChunkSteps}
 use Rattle.ws_steps.specs.declared.pipes.PipeOperation.TheVariants.{KeepChunk}
 use Rattle.ws_steps.specs.declared.readable.ReadRequest.{ReadRequest}
-use Rattle.ws_steps.specs.declared.readable.ReadRequest.TheVariants.{Promise, Pipe as PipeRequest}
+use Rattle.ws_steps.specs.declared.readable.ReadRequest.TheVariants.{Promise, Pipe as PipeRequest, Tee as TeeRequest}
 use Rattle.ws_steps.specs.declared.readable.ReadableOperation.TheVariants.{Read, Cancel, CancelIfReadable}
 use Rattle.ws_steps.specs.declared.readable.ReadableState.TheVariants.{Closed as ReadableClosed}
 use Rattle.ws_steps.specs.declared.writable.WritableOperation.TheVariants.{Close}
@@ -122,6 +122,7 @@ split i j p z cs es = rw (tells-append (hands (ear_at j z)) cs es, tells-append 
 chunk_silent : (p : PipeId) (v : Value) (r : ReadRequest) → is_of p r ≡ 0 → chunk_for p v r ≡ silence
 chunk_silent p v (Promise q) e = refl
 chunk_silent p v (PipeRequest q) e = grind (arith, e)
+chunk_silent p v (TeeRequest k) e = refl
 
 pub chunks_silent : (p : PipeId) (e : Effect) → of_effect p e ≡ 0 → chunks p e ≡ silence
 chunks_silent p (ChunkSteps k r v) e = chunk_silent p v r e

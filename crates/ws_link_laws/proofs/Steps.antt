@@ -30,7 +30,7 @@ use Rattle.ws_laws.proofs.Begin.{begin-makes}
 use Rattle.ws_laws.proofs.Halves.{call-among, halved-stays}
 use Rattle.ws_laws.proofs.Lists.{Each, each-map}
 use Rattle.ws_laws.proofs.Rows.{row-locks}
-use Rattle.ws_laws.proofs.Shapes.{stream_shape, transform_shape}
+use Rattle.ws_laws.proofs.Shapes.{stream_shape, transform_shape, tee_shape}
 use Rattle.ws_laws.proofs.Walker as walker
 use Rattle.ws_laws.proofs.Tables.{writable_there}
 use Rattle.ws_room_laws.proofs.Turns.{performed-kept}
@@ -49,7 +49,7 @@ use Rattle.ws_link_laws.proofs.Unheard.{next-unheard, watch-unheard}
 use Rattle.ws_link_laws.proofs.Pipes.{rank}
 use Rattle.ws_link_laws.proofs.Standing.{IsInner, IsNotLast, IsStill, AtEnd, State, state-same, Sound}
 use Rattle.ws_link_laws.proofs.Turns.{row-turned}
-use Rattle.ws_link_laws.proofs.Calls.{IsOuter, outer-inner, outer-last, outer-late, outer-placed, outer-writes, outer-chunks, Begins, call-begins}
+use Rattle.ws_link_laws.proofs.Calls.{IsOuter, outer-inner, outer-last, outer-late, outer-placed, outer-writes, outer-chunks, Begins, call-begins, call-untied}
 use Rattle.ws_steps.specs.Slots.{ByteStream}
 use Rattle.ws_steps.specs.Bytes as byte
 use Rattle.ws_link_laws.specs.Link.{Giver, giver_at}
@@ -98,7 +98,7 @@ link-sound i j p s l =
         sink_fits = l.sink_fits;
         closes = l.closes;
       };
-      ahead = rested i j s l.reached (reached-hosts i j s l.reached l.source l.sink l.source_owner l.sink_owner);
+      ahead = rested i j s l.reached (reached-hosts i j s l.reached l.source l.sink l.source_owner l.sink_owner l.untied);
       few = reached-few s p l.reached;
       only = omega (arith, n, m);
       inner = tt;
@@ -120,6 +120,7 @@ sound-link i j p s r a h =
       from = h.state.from;
       into = h.state.into;
       apart = h.state.apart;
+      untied = h.ahead.hosts.untied;
       locks = a;
       elsewhere = omega (arith, n, m);
       source_fits = h.state.source_fits;
@@ -144,10 +145,10 @@ performed-from i j p t locks d h =
 -- it grows older, and a promise is watched
 
 older-ahead : (i j : StreamId) (s : Slots) → Ahead i j s [] → Ahead i j (older s) []
-older-ahead i j s a = record { hosts = hosts-same i j s (older s) refl refl a.hosts; history = a.history; going = λ t. (going j t).older a.history s (a.going t); placed = tt; front = tt; first = tt }
+older-ahead i j s a = record { hosts = hosts-same i j s (older s) refl refl refl a.hosts; history = a.history; going = λ t. (going j t).older a.history s (a.going t); placed = tt; front = tt; first = tt }
 
 watched-ahead : (i j : StreamId) (s : Slots) (q : PromiseId) → Ahead i j s [] → Ahead i j (with_promises (watch q s.promises) s) []
-watched-ahead i j s q a = record { hosts = hosts-same i j s (with_promises (watch q s.promises) s) refl refl a.hosts; history = a.history; going = λ t. (going j t).answered a.history s q (a.going t); placed = tt; front = tt; first = tt }
+watched-ahead i j s q a = record { hosts = hosts-same i j s (with_promises (watch q s.promises) s) refl refl refl a.hosts; history = a.history; going = λ t. (going j t).answered a.history s q (a.going t); placed = tt; front = tt; first = tt }
 
 pub older-from : (i j : StreamId) (p : PipeId) (t : Told Value) (locks : List Lock) (s : Slots) → From i j p t locks s [] → From i j p t locks (older s) []
 older-from i j p t locks s h = record {
@@ -226,7 +227,7 @@ begun-ahead i j s job e a =
     let z : Slots = with_promises (after_next_job s.promises) s in
     let late = job-late (ear_at j s) job in
     record {
-      hosts = hosts-same i j s z refl refl a.hosts;
+      hosts = hosts-same i j s z refl refl refl a.hosts;
       history = a.history;
       going = λ t. (going j t).job a.history s job e (a.going t);
       placed = job-placed j (ear_at j s) z job;
@@ -314,6 +315,7 @@ call-grown i j p c s z g = begin-makes (Grown i j p s) (record {
   pipe = λ z source dest prevent signal promise g. record { source = g.source; sink = g.sink; there = place-append z.pipes _ (pipe_at p s) p.0 g.there; only = g.only };
   signal = λ z g. record { source = g.source; sink = g.sink; there = g.there; only = g.only };
   transform = λ z kind w r change g. record { source = g.source; sink = g.sink; there = g.there; only = g.only };
+  tee = λ z source first second cancel g. record { source = g.source; sink = g.sink; there = g.there; only = g.only };
   bytes = λ z mark auto g. stream-grown i j p s z (ByteStream (byte.set_up mark auto)) refl g;
   byob_requests = λ z hs g. record { source = g.source; sink = g.sink; there = g.there; only = g.only };
   readable = λ z owner mark size g. stream-grown i j p s z (ReadableStream (readable.set_up owner mark size)) refl g;
@@ -398,7 +400,7 @@ module _ (i j : StreamId) (p : PipeId) (s : Slots) (c : Call) (l : IsLink i j p 
 
   pub begun-ahead_of : Ahead i j d.slots d.caused
   begun-ahead_of = record {
-    hosts = hosts-grown i j s d.slots (rw at-source l.source) grown.sink same-source same-sink (call-among c s) (halved-stays.call s c before.ahead.hosts.halved) before.ahead.hosts;
+    hosts = hosts-grown i j s d.slots (rw at-source l.source) grown.sink same-source same-sink (call-among c s) (call-untied i j c s leave l.untied) (halved-stays.call s c before.ahead.hosts.halved) before.ahead.hosts;
     history = before.ahead.history;
     going = λ t. (going j t).call before.ahead.history s c (before.ahead.going t);
     placed = rw same-ear (each-map (IsOuter i j) (Placed j (ear_at j s) d.slots) (outer-placed (ear_at j s) d.slots i j) d.caused begins.outer);
@@ -433,7 +435,7 @@ module _ (i j : StreamId) (p : PipeId) (s : Slots) (c : Call) (l : IsLink i j p 
       (comes-last (unheard (ear_at j s) s.promises.events) (in_sink (writable_at j s)) (pipe_at p s) (in_source (source_at i s)) (tells (coming (giver_at i s) i) d.caused))
 
   pub begun : From i j p t d.slots.locks d.slots d.caused
-  begun = record { sound = begun-sound; short = rw begun-told begins.comes; same = refl }
+  begun = record { sound = begun-sound; short = rw begun-told (begins.comes l.source_owner); same = refl }
 
   called : IsLink i j p (after_call c s) × IsShortOf (behind i j p (after_call c s)) t
   called =
@@ -447,18 +449,19 @@ link-called i j p s c l leave = called i j p s c l leave
 
 -- what the host does between steps
 
-quiet-link : (i j : StreamId) (p : PipeId) (s z : Slots) → IsReached z → z.streams ≡ s.streams → z.transforms ≡ s.transforms → z.pipes ≡ s.pipes → z.locks ≡ s.locks → IsLink i j p s → IsLink i j p z
-quiet-link i j p s z r e d f g l = let h = reached-hosts i j s l.reached l.source l.sink l.source_owner l.sink_owner in record {
+quiet-link : (i j : StreamId) (p : PipeId) (s z : Slots) → IsReached z → z.streams ≡ s.streams → z.transforms ≡ s.transforms → z.tees ≡ s.tees → z.pipes ≡ s.pipes → z.locks ≡ s.locks → IsLink i j p s → IsLink i j p z
+quiet-link i j p s z r e d t f g l = let h = hosts-same i j s z (ap (map stream_shape) e) (ap (map transform_shape) d) (ap (map tee_shape) t) (reached-hosts i j s l.reached l.source l.sink l.source_owner l.sink_owner l.untied) in record {
   reached = r;
   source = rw e l.source;
   bare = rw e l.bare;
   sink = rw e l.sink;
-  source_owner = (hosts-same i j s z (ap (map stream_shape) e) (ap (map transform_shape) d) h).source_kind;
-  sink_owner = (hosts-same i j s z (ap (map stream_shape) e) (ap (map transform_shape) d) h).sink_kind;
+  source_owner = h.source_kind;
+  sink_owner = h.sink_kind;
   there = rw f l.there;
   from = rw f l.from;
   into = rw f l.into;
   apart = rw f l.apart;
+  untied = h.untied;
   locks = rw g l.locks;
   elsewhere = rw e l.elsewhere;
   source_fits = rw e l.source_fits;
@@ -473,13 +476,13 @@ heard_first w (x ∷ xs) e f = let is : x ≡ e = cc in rw is refl
 -- the taking of an event keeps it, and hands on what the event says
 pub link-heard : (i j : StreamId) (p : PipeId) (s : Slots) (e : Event) → first_event s.promises.events ≡ Some e → IsLink i j p s → IsLink i j p (after_event s) × IsShortOf (then_told (heard_of (ear_at j s) e) (behind i j p (after_event s))) (behind i j p s)
 link-heard i j p s e f l = (
-  quiet-link i j p s (after_event s) (reached-step s Heard l.reached) refl refl refl refl l,
+  quiet-link i j p s (after_event s) (reached-step s Heard l.reached) refl refl refl refl refl l,
   rw (heard_first (ear_at j s) s.promises.events e f) (short_same _ _ _ (sym (then_assoc (heard_of (ear_at j s) e) (unheard (ear_at j s) (later_events s.promises.events)) (lies i j p s))) (short_refl _)),
 )
 
 -- where no event is left, the taking changes nothing
 pub link-unheard : (i j : StreamId) (p : PipeId) (s : Slots) → first_event s.promises.events ≡ None → IsLink i j p s → IsLink i j p (after_event s) × (behind i j p (after_event s) ≡ behind i j p s)
-link-unheard i j p s f l = (quiet-link i j p s (after_event s) (reached-step s Heard l.reached) refl refl refl refl l, by s.promises.events f)
+link-unheard i j p s f l = (quiet-link i j p s (after_event s) (reached-step s Heard l.reached) refl refl refl refl refl l, by s.promises.events f)
   where
     by : (events : List Event) → first_event events ≡ None → then_told (unheard (ear_at j s) (later_events events)) (lies i j p s) ≡ then_told (unheard (ear_at j s) events) (lies i j p s)
     by [] e = refl

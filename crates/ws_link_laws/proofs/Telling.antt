@@ -7,7 +7,7 @@ use Rattle.ws_steps.specs.declared.effects.Effect.{Effect}
 use Rattle.ws_steps.specs.declared.effects.Effect.TheVariants.{Readable as OnReadable, Byte as OnByte, Writable as OnWritable, Pipe as OnPipe, Transform as OnTransform, ChunkSteps, CallHost}
 use Rattle.ws_steps.specs.declared.pipes.PipeOperation.TheVariants.{KeepChunk}
 use Rattle.ws_steps.specs.declared.readable.ReadRequest.{ReadRequest}
-use Rattle.ws_steps.specs.declared.readable.ReadRequest.TheVariants.{Promise, Pipe as PipeRequest}
+use Rattle.ws_steps.specs.declared.readable.ReadRequest.TheVariants.{Promise, Pipe as PipeRequest, Tee as TeeRequest}
 use Rattle.ws_steps.specs.declared.transform.TransformId.{TransformId}
 use Rattle.ws_steps.specs.declared.transform.TransformOperation.{TransformOperation}
 use Rattle.ws_steps.specs.declared.transform.TransformOperation.TheVariants.{TransformChunk, Enqueue as EnqueueByTransform, Terminate, FlushSettled}
@@ -75,6 +75,7 @@ writes j _ = silence
 abbrev pub chunk_for : PipeId → Value → ReadRequest → Told Value
 chunk_for p v (Promise q) = silence
 chunk_for p v (PipeRequest q) = if nat_eq p.0 q.0 then told (v ∷ []) Open else silence
+chunk_for p v (TeeRequest k) = silence
 
 -- the chunks that are on their way to the pipe
 abbrev pub chunks : PipeId → Effect → Told Value

@@ -1,5 +1,5 @@
 -- A turn of any effect keeps a link, and what is behind the host is short of what was.
-use Rattle.std.proofs.Common.{◌≡◌, ℕ, Bool, true, false, ◌&&◌, nat_eq, if◌then◌else◌, List, [], ◌∷◌, ◌++◌, None, refl, sym, subst}
+use Rattle.std.proofs.Common.{◌≡◌, ℕ, Bool, true, false, ◌&&◌, nat_eq, if◌then◌else◌, List, [], ◌∷◌, ◌++◌, None, refl, sym, subst, Some, slice_get}
 use Rattle.ws_value.specs.declared.ids.PipeId.{PipeId}
 use Rattle.ws_value.specs.declared.ids.PromiseId.{PromiseId}
 use Rattle.ws_value.specs.declared.ids.SignalId.{SignalId}
@@ -9,16 +9,16 @@ use Rattle.ws_value.specs.declared.value.Value.{Value}
 use Rattle.ws_steps.specs.declared.calls.HostCall.{HostCall}
 use Rattle.ws_steps.specs.declared.calls.StartBy.TheVariants.{Now, Later}
 use Rattle.ws_steps.specs.declared.effects.Effect.{Effect}
-use Rattle.ws_steps.specs.declared.effects.Effect.TheVariants.{Readable as OnReadable, Byte as OnByte, Writable as OnWritable, Pipe as OnPipe, Signal as OnSignal, Transform as OnTransform, StartAlgorithm, PullAlgorithm, CancelAlgorithm, WriteAlgorithm, CloseAlgorithm, AbortAlgorithm, ChunkSteps, CloseSteps, ErrorSteps, Give, Settle, Queue, CallHost}
+use Rattle.ws_steps.specs.declared.effects.Effect.TheVariants.{Readable as OnReadable, Byte as OnByte, Writable as OnWritable, Pipe as OnPipe, Signal as OnSignal, Transform as OnTransform, Tee as OnTee, StartAlgorithm, PullAlgorithm, CancelAlgorithm, WriteAlgorithm, CloseAlgorithm, AbortAlgorithm, ChunkSteps, CloseSteps, ErrorSteps, Give, Settle, Queue, CallHost}
 use Rattle.ws_steps.specs.declared.effects.Owner.{Owner}
-use Rattle.ws_steps.specs.declared.effects.Owner.TheVariants.{Host, HalfOf}
+use Rattle.ws_steps.specs.declared.effects.Owner.TheVariants.{Host, HalfOf, BranchOf}
 use Rattle.ws_steps.specs.declared.effects.Use.{Use}
 use Rattle.ws_steps.specs.declared.effects.Use.TheVariants.{React}
 use Rattle.ws_steps.specs.declared.pipes.PipeOperation.TheVariants.{Abort as AbortPipe}
 use Rattle.ws_steps.specs.declared.pipes.SignalOperation.{SignalOperation}
 use Rattle.ws_steps.specs.declared.pipes.SignalOperation.TheVariants.{Add, Forget, Trigger}
 use Rattle.ws_steps.specs.declared.promises.Step.TheVariants.{WritableClose}
-use Rattle.ws_steps.specs.declared.readable.ReadRequest.TheVariants.{Promise, Pipe as PipeRequest}
+use Rattle.ws_steps.specs.declared.readable.ReadRequest.TheVariants.{Promise, Pipe as PipeRequest, Tee as TeeRequest}
 use Rattle.ws_steps.specs.declared.transform.TransformId.{TransformId}
 use Rattle.ws_steps.specs.declared.transform.TransformOperation.{TransformOperation}
 use Rattle.ws_steps.specs.Histories.{is_same}
@@ -32,9 +32,9 @@ use Rattle.ws_laws.proofs.Tables.{is_same-refl, same_id}
 use Rattle.ws_pipe_laws.proofs.AtSource.{off-only, row-off}
 use Rattle.ws_pipe_laws.proofs.PassingRuns.{row-few}
 use Rattle.ws_link_laws.specs.Link.{Ear, silence, in_sink, in_source, in_pipe, ear_by, ear_at, is_sink, heard_call, unheard}
-use Rattle.ws_link_laws.specs.Sound.{SinkFits}
+use Rattle.ws_link_laws.specs.Sound.{SinkFits, IsHosts, all_untied}
 use Rattle.ws_link_laws.proofs.Ahead.{Ahead, ahead-kept, ahead-silent, row-ahead, closing-flies}
-use Rattle.ws_link_laws.proofs.Hosts.{row-ear, row-giver}
+use Rattle.ws_link_laws.proofs.Hosts.{row-ear, row-giver, Hosts, hosts-source}
 use Rattle.ws_link_laws.proofs.Telling.{is_of, if_same, tells, IsSilent, silent-all, hands, writes, chunks, coming, behind_on}
 use Rattle.ws_link_laws.proofs.Unheard.{IsQuiet, row-unheard, call-unheard}
 use Rattle.ws_link_laws.proofs.Sinks.{ended_lies}
@@ -47,6 +47,13 @@ use Rattle.ws_link_laws.proofs.PipeTurns.{pipe-turned}
 use Rattle.ws_link_laws.proofs.TransformTurns.{Says, AsBefore, Flushes, lets-short, transform-outside}
 use Rattle.ws_steps.specs.declared.effects.Effect.TheVariants.{CloseStepsWith}
 use Rattle.ws_link_laws.specs.Link.{giver_at, Giver}
+use Rattle.ws_value.specs.declared.ids.TeeId.{TeeId}
+use Rattle.ws_steps.specs.declared.tee.TeeOperation.{TeeOperation}
+use Rattle.ws_steps.specs.Tee as tee
+use Rattle.ws_laws.proofs.TeeDoes.{TeeCauses}
+use Rattle.ws_transform_laws.proofs.Branches.{tee-caused}
+use Rattle.ws_link_laws.proofs.Tees.{tee-coming, untied-at}
+use Rattle.ws_steps.specs.declared.readable.ReadableOperation.TheVariants.{Read, Cancel as CancelStream, CancelIfReadable}
 
 -- an effect that is no operation and passes on what it brings
 record Passing (w : Ear) (o : Giver) (i j : StreamId) (p : PipeId) (n : ℕ) (e : Effect) (cs : List Effect) : Type 0 where
@@ -92,22 +99,27 @@ quiet-if false = refl
 pull-passing : (w : Ear) (v : Giver) (i j : StreamId) (p : PipeId) (n : ℕ) (k : StreamId) (u : Use) (o : Owner) → Passing w v i j p n (PullAlgorithm k) (pull_algorithm k u o)
 pull-passing w v i j p n k u Host = record { hands = refl; writes = refl; chunks = refl; coming = refl; inner = (tt, tt); last = (refl, tt) }
 pull-passing w v i j p n k u (HalfOf t) = record { hands = refl; writes = refl; chunks = refl; coming = quiet-if (is_of v t); inner = (tt, tt); last = (refl, tt) }
+pull-passing w v i j p n k u (BranchOf t half) = record { hands = refl; writes = refl; chunks = refl; coming = refl; inner = (tt, (tt, tt)); last = (refl, (refl, tt)) }
 
 cancel-passing : (w : Ear) (v : Giver) (i j : StreamId) (p : PipeId) (n : ℕ) (k : StreamId) (r : Plain) (q : PromiseId) (u : Use) (o : Owner) → Passing w v i j p n (CancelAlgorithm k r q) (cancel_algorithm k r u o)
 cancel-passing w v i j p n k r q u Host = record { hands = refl; writes = refl; chunks = refl; coming = refl; inner = (tt, tt); last = (refl, tt) }
 cancel-passing w v i j p n k r q u (HalfOf t) = record { hands = refl; writes = refl; chunks = refl; coming = quiet-if (is_of v t); inner = (tt, tt); last = (refl, tt) }
+cancel-passing w v i j p n k r q u (BranchOf t half) = record { hands = refl; writes = refl; chunks = refl; coming = refl; inner = (tt, tt); last = (refl, tt) }
 
 abort-passing : (w : Ear) (v : Giver) (i j : StreamId) (p : PipeId) (n : ℕ) (k : StreamId) (r : Plain) (q : PromiseId) (u : Use) (o : Owner) → Passing w v i j p n (AbortAlgorithm k r q) (abort_algorithm k r u o)
 abort-passing w v i j p n k r q u Host = record { hands = refl; writes = refl; chunks = refl; coming = refl; inner = (tt, tt); last = (refl, tt) }
 abort-passing w v i j p n k r q u (HalfOf t) = record { hands = refl; writes = refl; chunks = refl; coming = quiet-if (is_of v t); inner = (tt, tt); last = (refl, tt) }
+abort-passing w v i j p n k r q u (BranchOf t half) = record { hands = refl; writes = refl; chunks = refl; coming = refl; inner = (tt, tt); last = (refl, tt) }
 
 write-passing : (w : Ear) (v : Giver) (i j : StreamId) (p : PipeId) (n : ℕ) (k : StreamId) (o : Owner) → Passing w v i j p n (WriteAlgorithm k) (write_algorithm k o)
 write-passing w v i j p n k Host = record { hands = refl; writes = rw (if_same (is_same j k)) refl; chunks = refl; coming = refl; inner = (tt, tt); last = (refl, tt) }
 write-passing w v i j p n k (HalfOf t) = record { hands = refl; writes = refl; chunks = refl; coming = quiet-if (is_of v t); inner = (tt, tt); last = (refl, tt) }
+write-passing w v i j p n k (BranchOf t half) = record { hands = refl; writes = rw (if_same (is_same j k)) refl; chunks = refl; coming = refl; inner = (tt, tt); last = (refl, tt) }
 
 close-elsewhere : (w : Ear) (v : Giver) (i j : StreamId) (p : PipeId) (n : ℕ) (k : StreamId) (o : Owner) → is_same j k ≡ false → is_sink w k ≡ false → Passing w v i j p n (CloseAlgorithm k) (close_algorithm k (React (WritableClose k) None) o)
 close-elsewhere w v i j p n k Host d x = record { hands = rw x refl; writes = refl; chunks = refl; coming = refl; inner = (tt, tt); last = (refl, tt) }
 close-elsewhere w v i j p n k (HalfOf t) d x = record { hands = refl; writes = refl; chunks = refl; coming = quiet-if (is_of v t); inner = (tt, tt); last = (refl, tt) }
+close-elsewhere w v i j p n k (BranchOf t half) d x = record { hands = rw x refl; writes = refl; chunks = refl; coming = refl; inner = (tt, tt); last = (refl, tt) }
 
 pub and_false : (b : Bool) → b && false ≡ false
 and_false true = refl
@@ -163,6 +175,51 @@ transform-turned i j p s t operation es h =
           (line-short U H K W now before (in_pipe-short (pipe_at p s) _ _ (short_left C _ _ lets))));
     }
 
+-- the reads and the cancel of a tee are of another stream than the link's source
+pub tee-inner : (i j : StreamId) (p : PipeId) (n : ℕ) (s : Slots) (t : TeeId) (x : tee.Slots) → all_untied i s.tees ≡ true → slice_get s.tees t.0 ≡ Some x → (e : Effect)
+    → TeeCauses t x.source x.branch1 x.branch2 e → IsInner i j p n e
+tee-inner i j p n s t x u at (OnReadable k (Read request)) c = λ same. let other : is_same i k ≡ false = rw c.0 (untied-at i s.tees t.0 x u at) in absurd (cc)
+tee-inner i j p n s t x u at (OnReadable k (CancelStream r q)) c = λ same. let other : is_same i k ≡ false = rw c.0 (untied-at i s.tees t.0 x u at) in absurd (cc)
+tee-inner i j p n s t x u at (OnReadable k (CancelIfReadable r q)) c = absurd c
+tee-inner i j p n s t x u at (OnByte k operation) c = absurd c
+tee-inner i j p n s t x u at (OnWritable k operation) c = absurd c
+tee-inner i j p n s t x u at _ c = tt
+
+-- an operation of a tee
+
+tee-passing : (i j : StreamId) (p : PipeId) (s : Slots) (t : TeeId) (operation : TeeOperation) → Hosts i j s
+    → Passing (ear_at j s) (giver_at i s) i j p (rank (pipe_at p s).phase) (OnTee t operation) (row (OnTee t operation) s).caused
+tee-passing i j p s t operation h =
+    let e : Effect = OnTee t operation in
+    let cs : List Effect = (row e s).caused in
+    let n : ℕ = rank (pipe_at p s).phase in
+    record {
+      hands = silent-all (hands (ear_at j s)) cs (tee-caused (IsSilent (hands (ear_at j s))) t operation s (λ x at e c. no_hands x e c));
+      writes = silent-all (writes j) cs (tee-caused (IsSilent (writes j)) t operation s (λ x at e c. no_writes x e c));
+      chunks = silent-all (chunks p) cs (tee-caused (IsSilent (chunks p)) t operation s (λ x at e c. no_chunks x e c));
+      coming = silent-all (coming (giver_at i s) i) cs (tee-caused (IsSilent (coming (giver_at i s) i)) t operation s (λ x at e c. tee-coming i s t x (hosts-source i j s h) at e c));
+      inner = tee-caused (IsInner i j p n) t operation s (λ x at e c. tee-inner i j p n s t x h.untied at e c);
+      last = tee-caused (IsNotLast p) t operation s (λ x at e c. not_last x e c);
+    }
+  where
+    no_hands : (x : tee.Slots) (e : Effect) → TeeCauses t x.source x.branch1 x.branch2 e → IsSilent (hands (ear_at j s)) e
+    no_hands x (CallHost call u) c = absurd c
+    no_hands x (OnTransform u operation) c = absurd c
+    no_hands x _ c = refl
+
+    no_writes : (x : tee.Slots) (e : Effect) → TeeCauses t x.source x.branch1 x.branch2 e → IsSilent (writes j) e
+    no_writes x (OnWritable k operation) c = absurd c
+    no_writes x _ c = refl
+
+    no_chunks : (x : tee.Slots) (e : Effect) → TeeCauses t x.source x.branch1 x.branch2 e → IsSilent (chunks p) e
+    no_chunks x (ChunkSteps k request v) c = absurd c
+    no_chunks x (OnPipe q operation) c = absurd c
+    no_chunks x _ c = refl
+
+    not_last : (x : tee.Slots) (e : Effect) → TeeCauses t x.source x.branch1 x.branch2 e → IsNotLast p e
+    not_last x (OnPipe q operation) c = absurd c
+    not_last x _ c = refl
+
 -- a call of the host is heard of
 call-turned : (i j : StreamId) (p : PipeId) (s : Slots) (call : HostCall) (u : Use) (es : List Effect) → Sound i j p s (CallHost call u ∷ es) → Turned i j p s (CallHost call u) es
 unfolding row
@@ -181,6 +238,7 @@ call-turned i j p s call u es h =
 close-quiet : (v : Giver) (i j : StreamId) (p : PipeId) (u : Use) (o : Owner) → (tells (writes j) (close_algorithm j u o) ≡ silence) × ((tells (chunks p) (close_algorithm j u o) ≡ silence) × (tells (coming v i) (close_algorithm j u o) ≡ silence))
 close-quiet v i j p u Host = (refl, (refl, refl))
 close-quiet v i j p u (HalfOf t) = (refl, (refl, quiet-if (is_of v t)))
+close-quiet v i j p u (BranchOf t half) = (refl, (refl, refl))
 
 close-told : (j : StreamId) (s : Slots) (u : Use) → Host ≡ owner_at j s → tells (hands (ear_at j s)) (close_algorithm j u (owner_at j s)) ≡ told [] Closed
 close-told j s u e =
@@ -218,11 +276,13 @@ close-turned i j p s es Host e h =
           (in_pipe (pipe_at p s) (then_told (tells (chunks p) es) (then_told (in_source (source_at i s)) (tells (coming (giver_at i s) i) es)))) (ahead-silent i j s c es h.ahead) ended);
     }
 close-turned i j p s es (HalfOf t) e h = passing-turned i j p s (CloseAlgorithm j) es tt tt h tt (close-passing i j p s t e)
+close-turned i j p s es (BranchOf t half) e h = absurd (subst (λ (o : Owner). IsHosts s o) (sym e) h.ahead.hosts.sink_kind)
 
 -- that of another stream
 other-sink : (j k : StreamId) (s : Slots) (o : Owner) → is_same j k ≡ false → is_sink (ear_by j s o) k ≡ false
 other-sink j k s Host n = n
 other-sink j k s (HalfOf t) n = refl
+other-sink j k s (BranchOf t half) n = n
 
 closes-turned : (i j : StreamId) (p : PipeId) (s : Slots) (k : StreamId) (es : List Effect) → Sound i j p s (CloseAlgorithm k ∷ es) → Turned i j p s (CloseAlgorithm k) es
 unfolding row
@@ -241,6 +301,7 @@ row-turned i j p s (OnWritable k operation) es h = writable-turned i j p s k ope
 row-turned i j p s (OnPipe q operation) es h = pipe-turned i j p s q operation es h
 row-turned i j p s (OnSignal a operation) es h = passing-turned i j p s (OnSignal a operation) es tt tt h tt (signal-passing (ear_at j s) (giver_at i s) i j p (rank (pipe_at p s).phase) a operation s)
 row-turned i j p s (OnTransform t operation) es h = transform-turned i j p s t operation es h
+row-turned i j p s (OnTee t operation) es h = passing-turned i j p s (OnTee t operation) es tt tt h tt (tee-passing i j p s t operation h.ahead.hosts)
 row-turned i j p s (StartAlgorithm k step Now) es h = passing-turned i j p s (StartAlgorithm k step Now) es tt tt h tt (record { hands = refl; writes = refl; chunks = refl; coming = refl; inner = (tt, tt); last = (refl, tt) })
 row-turned i j p s (StartAlgorithm k step Later) es h =
     passing-turned i j p s (StartAlgorithm k step Later) es tt tt h tt (record { hands = refl; writes = refl; chunks = refl; coming = refl; inner = (tt, (tt, tt)); last = (refl, (refl, tt)) })
@@ -253,15 +314,24 @@ row-turned i j p s (ChunkSteps k (Promise q) v) es h = passing-turned i j p s (C
 row-turned i j p s (ChunkSteps k (PipeRequest q) v) es h =
     passing-turned i j p s (ChunkSteps k (PipeRequest q) v) es tt tt h tt
     (record { hands = refl; writes = refl; chunks = then_empty (chunks p (ChunkSteps k (PipeRequest q) v)); coming = refl; inner = (tt, tt); last = (and_false (nat_eq p.0 q.0), tt) })
+row-turned i j p s (ChunkSteps k (TeeRequest b) v) es h =
+    passing-turned i j p s (ChunkSteps k (TeeRequest b) v) es tt tt h tt
+    (record { hands = refl; writes = refl; chunks = then_empty (chunks p (ChunkSteps k (TeeRequest b) v)); coming = refl; inner = (tt, tt); last = (refl, tt) })
 row-turned i j p s (CloseSteps k (Promise q)) es h = passing-turned i j p s (CloseSteps k (Promise q)) es tt tt h tt (record { hands = refl; writes = refl; chunks = refl; coming = refl; inner = tt; last = tt })
 row-turned i j p s (CloseStepsWith k (Promise q) b) es h = passing-turned i j p s (CloseStepsWith k (Promise q) b) es tt tt h tt (record { hands = refl; writes = refl; chunks = refl; coming = refl; inner = tt; last = tt })
 row-turned i j p s (CloseSteps k (PipeRequest q)) es h =
     passing-turned i j p s (CloseSteps k (PipeRequest q)) es tt tt h tt (record { hands = refl; writes = refl; chunks = refl; coming = refl; inner = (tt, tt); last = (and_false (nat_eq p.0 q.0), tt) })
+row-turned i j p s (CloseSteps k (TeeRequest b)) es h =
+    passing-turned i j p s (CloseSteps k (TeeRequest b)) es tt tt h tt (record { hands = refl; writes = refl; chunks = refl; coming = refl; inner = (tt, tt); last = (refl, tt) })
 row-turned i j p s (CloseStepsWith k (PipeRequest q) b) es h =
     passing-turned i j p s (CloseStepsWith k (PipeRequest q) b) es tt tt h tt (record { hands = refl; writes = refl; chunks = refl; coming = refl; inner = (tt, tt); last = (and_false (nat_eq p.0 q.0), tt) })
+row-turned i j p s (CloseStepsWith k (TeeRequest tee_id) b) es h =
+    passing-turned i j p s (CloseStepsWith k (TeeRequest tee_id) b) es tt tt h tt (record { hands = refl; writes = refl; chunks = refl; coming = refl; inner = (tt, tt); last = (refl, tt) })
 row-turned i j p s (ErrorSteps k (Promise q) r) es h = passing-turned i j p s (ErrorSteps k (Promise q) r) es tt tt h tt (record { hands = refl; writes = refl; chunks = refl; coming = refl; inner = tt; last = tt })
 row-turned i j p s (ErrorSteps k (PipeRequest q) r) es h =
     passing-turned i j p s (ErrorSteps k (PipeRequest q) r) es tt tt h tt (record { hands = refl; writes = refl; chunks = refl; coming = refl; inner = (tt, tt); last = (and_false (nat_eq p.0 q.0), tt) })
+row-turned i j p s (ErrorSteps k (TeeRequest b) r) es h =
+    passing-turned i j p s (ErrorSteps k (TeeRequest b) r) es tt tt h tt (record { hands = refl; writes = refl; chunks = refl; coming = refl; inner = (tt, tt); last = (refl, tt) })
 row-turned i j p s (Give gift u) es h = passing-turned i j p s (Give gift u) es tt tt h tt (record { hands = refl; writes = refl; chunks = refl; coming = refl; inner = tt; last = tt })
 row-turned i j p s (Settle q o) es h = passing-turned i j p s (Settle q o) es tt tt h tt (record { hands = refl; writes = refl; chunks = refl; coming = refl; inner = tt; last = tt })
 row-turned i j p s (Queue m) es h = passing-turned i j p s (Queue m) es tt tt h tt (record { hands = refl; writes = refl; chunks = refl; coming = refl; inner = tt; last = tt })

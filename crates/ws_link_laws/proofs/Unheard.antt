@@ -14,7 +14,7 @@ use Rattle.ws_steps.specs.declared.calls.Event.TheVariants.{Host as HostCalled, 
 use Rattle.ws_steps.specs.declared.calls.HostCall.{HostCall}
 use Rattle.ws_steps.specs.declared.calls.StartBy.TheVariants.{Now, Later}
 use Rattle.ws_steps.specs.declared.effects.Effect.{Effect}
-use Rattle.ws_steps.specs.declared.effects.Effect.TheVariants.{Readable, Byte, Writable, Pipe, Signal, Transform, StartAlgorithm, ChunkSteps, CloseSteps, CloseStepsWith, ErrorSteps, Give, Settle, Queue, CallHost}
+use Rattle.ws_steps.specs.declared.effects.Effect.TheVariants.{Readable, Byte, Writable, Pipe, Signal, Transform, Tee, StartAlgorithm, ChunkSteps, CloseSteps, CloseStepsWith, ErrorSteps, Give, Settle, Queue, CallHost}
 use Rattle.ws_steps.specs.declared.effects.Gift.{Gift}
 use Rattle.ws_steps.specs.declared.effects.Gift.TheVariants.{This, Fresh}
 use Rattle.ws_steps.specs.declared.effects.Use.{Use}
@@ -25,14 +25,14 @@ use Rattle.ws_steps.specs.declared.promises.Job.{Job}
 use Rattle.ws_steps.specs.declared.promises.Micro.{Micro}
 use Rattle.ws_steps.specs.declared.promises.Reaction.{Reaction}
 use Rattle.ws_steps.specs.declared.promises.Reaction.TheVariants.{Perform}
-use Rattle.ws_steps.specs.declared.readable.ReadRequest.TheVariants.{Promise, Pipe as PipeRequest}
+use Rattle.ws_steps.specs.declared.readable.ReadRequest.TheVariants.{Promise, Pipe as PipeRequest, Tee as TeeRequest}
 use Rattle.ws_steps.specs.declared.transform.TransformId.{TransformId}
 use Rattle.ws_steps.specs.declared.transform.TransformOperation.{TransformOperation}
 use Rattle.ws_steps.specs.Effects.{Out}
-use Rattle.ws_steps.specs.Operations.{writable_operation, pipe_operation, signal_operation, transform_operation}
+use Rattle.ws_steps.specs.Operations.{writable_operation, pipe_operation, signal_operation, transform_operation, tee_operation}
 use Rattle.ws_steps.specs.Pipes as pipe
 use Rattle.ws_steps.specs.Promises.{Table, fresh, settle, answer, react, follow, unfollow, queue_micro, tell, next_id, fresh_settled, use_this, use_gift, watch, taken, after_first, after_next_job}
-use Rattle.ws_steps.specs.Slots.{Slots, Done, nothing, has_writable, found, ends_at, halves_at, put_writable, on_pipe_at, on_signal_at, on_transform_at}
+use Rattle.ws_steps.specs.Slots.{Slots, Done, nothing, has_writable, found, ends_at, halves_at, put_writable, on_pipe_at, on_signal_at, on_transform_at, on_tee_at}
 use Rattle.ws_steps.specs.Transform as transform
 use Rattle.ws_steps.specs.Turns.{row, call_host}
 use Rattle.ws_flow.specs.Told.{then_told}
@@ -44,6 +44,10 @@ use Rattle.ws_laws.proofs.Tables.{either, writable_acts}
 use Rattle.ws_laws.proofs.TransformDoes.{transform-does}
 use Rattle.ws_laws.proofs.WritableDoes.{writable-does}
 use Rattle.ws_link_laws.specs.Link.{Ear, silence, heard_of, heard_call, unheard}
+use Rattle.ws_value.specs.declared.ids.TeeId.{TeeId}
+use Rattle.ws_steps.specs.declared.tee.TeeOperation.{TeeOperation}
+use Rattle.ws_steps.specs.Tee as tee
+use Rattle.ws_laws.proofs.TeeDoes.{tee-does}
 
 module _ (w : Ear) where
   pub unheard-append : (xs ys : List Event) → unheard w (xs ++ ys) ≡ then_told (unheard w xs) (unheard w ys)
@@ -148,6 +152,14 @@ module _ (w : Ear) where
         settle = λ u q o h. settle-unheard q o u ∙ h;
       }) t (halves_at x s) operation (record { slots = x; out = found s }) refl
 
+  tee-unheard : (t : TeeId) (operation : TeeOperation) (s : Slots) (o : Option tee.Slots) → Alike s.promises (on_tee_at (tee_operation t operation) t s o).slots.promises
+  tee-unheard t operation s None = refl
+  tee-unheard t operation s (Some x) =
+      tee-does (λ z. Alike s.promises z) (record {
+        fresh = λ u h. fresh-unheard u ∙ h;
+        micro = λ u m h. micro-unheard m u ∙ h;
+      }) t operation (record { slots = x; out = found s }) refl
+
   signalled-quiet : (xs : List Event) (i : StreamId) (r : Plain) → unheard w (xs ++ Signalled i r ∷ []) ≡ unheard w xs
   signalled-quiet xs i r = unheard-quiet xs (Signalled i r) refl
 
@@ -180,6 +192,7 @@ module _ (w : Ear) where
   row-unheard (Pipe p operation) s n = pipe-unheard p operation s (slice_get s.pipes p.0)
   row-unheard (Signal a operation) s n = signal-unheard a operation s (slice_get s.signals a.0)
   row-unheard (Transform t operation) s n = transform-unheard t operation s (slice_get s.transforms t.0)
+  row-unheard (Tee t operation) s n = tee-unheard t operation s (slice_get s.tees t.0)
   row-unheard (StartAlgorithm i step Now) s n = refl
   row-unheard (StartAlgorithm i step Later) s n = fresh-unheard s.promises
   row-unheard (ChunkSteps i (Promise p) v) s n = answer-unheard p (Given v) s.promises
@@ -187,9 +200,13 @@ module _ (w : Ear) where
   row-unheard (CloseStepsWith i (Promise p) b) s n = answer-unheard p (Finished (Bytes b)) s.promises
   row-unheard (ErrorSteps i (Promise p) e) s n = settle-unheard p (Err e) s.promises
   row-unheard (ChunkSteps i (PipeRequest p) v) s n = refl
+  row-unheard (ChunkSteps i (TeeRequest k) v) s n = refl
   row-unheard (CloseSteps i (PipeRequest p)) s n = refl
+  row-unheard (CloseSteps i (TeeRequest k)) s n = refl
   row-unheard (CloseStepsWith i (PipeRequest p) b) s n = refl
+  row-unheard (CloseStepsWith i (TeeRequest k) b) s n = refl
   row-unheard (ErrorSteps i (PipeRequest p) e) s n = refl
+  row-unheard (ErrorSteps i (TeeRequest k) e) s n = refl
   row-unheard (Queue m) s n = micro-unheard m s.promises
   row-unheard (Give gift u) s n = gift-unheard gift u s.promises
   row-unheard (Settle p o) s n = settle-unheard p o s.promises

@@ -44,18 +44,18 @@ opening_bytes m a n y b = Called (MakeBytes m 0 a) ∷ Called (MakeWritable n y 
 -- they may be linked
 pub free-new : (m : ℕ) (x : SizeBy) (a : StartBy) (n : ℕ) (y : SizeBy) (b : StartBy) → IsFree s0 s1 (run (opening m x a n y b) empty)
 unfolding fresh settle answer react follow unfollow use_gift queue_micro after_next_job watch call_host row turns performed begin_job begin
-free-new m x Now n y Now = record { reached = (opening m x Now n y Now, refl); source = refl; bare = record { auto = refl; descriptors = refl; reader = refl }; sink = refl; source_owner = tt; sink_owner = tt; unread = refl; unwritten = refl; locks = refl; apart = refl; requests = refl; queue = refl; close_request = refl; close_in_flight = refl }
-free-new m x Now n y Later = record { reached = (opening m x Now n y Later, refl); source = refl; bare = record { auto = refl; descriptors = refl; reader = refl }; sink = refl; source_owner = tt; sink_owner = tt; unread = refl; unwritten = refl; locks = refl; apart = refl; requests = refl; queue = refl; close_request = refl; close_in_flight = refl }
-free-new m x Later n y Now = record { reached = (opening m x Later n y Now, refl); source = refl; bare = record { auto = refl; descriptors = refl; reader = refl }; sink = refl; source_owner = tt; sink_owner = tt; unread = refl; unwritten = refl; locks = refl; apart = refl; requests = refl; queue = refl; close_request = refl; close_in_flight = refl }
-free-new m x Later n y Later = record { reached = (opening m x Later n y Later, refl); source = refl; bare = record { auto = refl; descriptors = refl; reader = refl }; sink = refl; source_owner = tt; sink_owner = tt; unread = refl; unwritten = refl; locks = refl; apart = refl; requests = refl; queue = refl; close_request = refl; close_in_flight = refl }
+free-new m x Now n y Now = record { reached = (opening m x Now n y Now, refl); source = refl; bare = record { auto = refl; descriptors = refl; reader = refl }; sink = refl; source_owner = tt; sink_owner = tt; unread = refl; unwritten = refl; locks = refl; apart = refl; untied = refl; requests = refl; queue = refl; close_request = refl; close_in_flight = refl }
+free-new m x Now n y Later = record { reached = (opening m x Now n y Later, refl); source = refl; bare = record { auto = refl; descriptors = refl; reader = refl }; sink = refl; source_owner = tt; sink_owner = tt; unread = refl; unwritten = refl; locks = refl; apart = refl; untied = refl; requests = refl; queue = refl; close_request = refl; close_in_flight = refl }
+free-new m x Later n y Now = record { reached = (opening m x Later n y Now, refl); source = refl; bare = record { auto = refl; descriptors = refl; reader = refl }; sink = refl; source_owner = tt; sink_owner = tt; unread = refl; unwritten = refl; locks = refl; apart = refl; untied = refl; requests = refl; queue = refl; close_request = refl; close_in_flight = refl }
+free-new m x Later n y Later = record { reached = (opening m x Later n y Later, refl); source = refl; bare = record { auto = refl; descriptors = refl; reader = refl }; sink = refl; source_owner = tt; sink_owner = tt; unread = refl; unwritten = refl; locks = refl; apart = refl; untied = refl; requests = refl; queue = refl; close_request = refl; close_in_flight = refl }
 
 -- so may a byte source that allocates no rooms, and a sink
 pub free-bytes : (m : ℕ) (a : StartBy) (n : ℕ) (y : SizeBy) (b : StartBy) → IsFree s0 s1 (run (opening_bytes m a n y b) empty)
 unfolding fresh settle answer react follow unfollow use_gift queue_micro after_next_job watch call_host row turns performed begin_job begin
-free-bytes m Now n y Now = record { reached = (opening_bytes m Now n y Now, refl); source = refl; bare = record { auto = refl; descriptors = refl; reader = refl }; sink = refl; source_owner = tt; sink_owner = tt; unread = refl; unwritten = refl; locks = refl; apart = refl; requests = refl; queue = refl; close_request = refl; close_in_flight = refl }
-free-bytes m Now n y Later = record { reached = (opening_bytes m Now n y Later, refl); source = refl; bare = record { auto = refl; descriptors = refl; reader = refl }; sink = refl; source_owner = tt; sink_owner = tt; unread = refl; unwritten = refl; locks = refl; apart = refl; requests = refl; queue = refl; close_request = refl; close_in_flight = refl }
-free-bytes m Later n y Now = record { reached = (opening_bytes m Later n y Now, refl); source = refl; bare = record { auto = refl; descriptors = refl; reader = refl }; sink = refl; source_owner = tt; sink_owner = tt; unread = refl; unwritten = refl; locks = refl; apart = refl; requests = refl; queue = refl; close_request = refl; close_in_flight = refl }
-free-bytes m Later n y Later = record { reached = (opening_bytes m Later n y Later, refl); source = refl; bare = record { auto = refl; descriptors = refl; reader = refl }; sink = refl; source_owner = tt; sink_owner = tt; unread = refl; unwritten = refl; locks = refl; apart = refl; requests = refl; queue = refl; close_request = refl; close_in_flight = refl }
+free-bytes m Now n y Now = record { reached = (opening_bytes m Now n y Now, refl); source = refl; bare = record { auto = refl; descriptors = refl; reader = refl }; sink = refl; source_owner = tt; sink_owner = tt; unread = refl; unwritten = refl; locks = refl; apart = refl; untied = refl; requests = refl; queue = refl; close_request = refl; close_in_flight = refl }
+free-bytes m Now n y Later = record { reached = (opening_bytes m Now n y Later, refl); source = refl; bare = record { auto = refl; descriptors = refl; reader = refl }; sink = refl; source_owner = tt; sink_owner = tt; unread = refl; unwritten = refl; locks = refl; apart = refl; untied = refl; requests = refl; queue = refl; close_request = refl; close_in_flight = refl }
+free-bytes m Later n y Now = record { reached = (opening_bytes m Later n y Now, refl); source = refl; bare = record { auto = refl; descriptors = refl; reader = refl }; sink = refl; source_owner = tt; sink_owner = tt; unread = refl; unwritten = refl; locks = refl; apart = refl; untied = refl; requests = refl; queue = refl; close_request = refl; close_in_flight = refl }
+free-bytes m Later n y Later = record { reached = (opening_bytes m Later n y Later, refl); source = refl; bare = record { auto = refl; descriptors = refl; reader = refl }; sink = refl; source_owner = tt; sink_owner = tt; unread = refl; unwritten = refl; locks = refl; apart = refl; untied = refl; requests = refl; queue = refl; close_request = refl; close_in_flight = refl }
 
 abbrev made : Slots
 made = run (opening 0 Count Now 1 Count Now) empty

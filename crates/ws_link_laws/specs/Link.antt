@@ -6,13 +6,13 @@ use Rattle.ws_value.specs.declared.ids.StreamId.{StreamId}
 use Rattle.ws_value.specs.declared.value.Value.{Value}
 use Rattle.ws_value.specs.declared.value.Value.TheVariants.{Plain as PlainValue, Bytes}
 use Rattle.ws_steps.specs.declared.calls.Call.{Call}
-use Rattle.ws_steps.specs.declared.calls.Call.TheVariants.{GetReader, GetByob, GetWriter, Cancel, Close, Abort, Enqueue, Finish, Fail, Terminate, Pipe}
+use Rattle.ws_steps.specs.declared.calls.Call.TheVariants.{GetReader, GetByob, GetWriter, Tee, Cancel, Close, Abort, Enqueue, Finish, Fail, Terminate, Pipe}
 use Rattle.ws_steps.specs.declared.calls.Event.{Event}
 use Rattle.ws_steps.specs.declared.calls.Event.TheVariants.{Host as HostCalled}
 use Rattle.ws_steps.specs.declared.calls.HostCall.{HostCall}
 use Rattle.ws_steps.specs.declared.calls.HostCall.TheVariants.{Write as HostWrite, Close as HostClose, Transform as HostTransform, Flush as HostFlush}
 use Rattle.ws_steps.specs.declared.effects.Owner.{Owner}
-use Rattle.ws_steps.specs.declared.effects.Owner.TheVariants.{Host, HalfOf}
+use Rattle.ws_steps.specs.declared.effects.Owner.TheVariants.{Host, HalfOf, BranchOf}
 use Rattle.ws_steps.specs.declared.pipes.Phase.{Phase}
 use Rattle.ws_steps.specs.declared.pipes.Phase.TheVariants.{Flowing, Waiting, Acting, Over}
 use Rattle.ws_steps.specs.declared.promises.Job.{Job}
@@ -112,6 +112,7 @@ pub data Ear : Type 0 where
 abbrev pub ear_by : StreamId → Slots → Owner → Ear
 ear_by j s Host = OfSink j
 ear_by j s (HalfOf t) = OfTransform t (transform_at t s).readable
+ear_by j s (BranchOf t half) = OfSink j
 
 -- of stream j
 abbrev pub ear_at : StreamId → Slots → Ear
@@ -159,6 +160,7 @@ abbrev pub giver_by : Bool → Owner → Giver
 giver_by true o = OfByteSource
 giver_by false Host = OfSource
 giver_by false (HalfOf t) = OfHalf t
+giver_by false (BranchOf t half) = OfSource
 
 -- to stream i
 abbrev pub giver_at : StreamId → Slots → Giver
@@ -201,6 +203,7 @@ next_enters g (Some job) = job_enters g job
 abbrev pub leaves : StreamId → StreamId → Call → Bool
 leaves i j (GetReader k) = not (is_same i k)
 leaves i j (GetByob k) = not (is_same i k)
+leaves i j (Tee k) = not (is_same i k)
 leaves i j (Cancel k reason) = not (is_same i k)
 leaves i j (GetWriter k) = not (is_same j k)
 leaves i j (Close k) = not (is_same j k)

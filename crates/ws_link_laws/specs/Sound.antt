@@ -6,7 +6,7 @@ use Rattle.ws_value.specs.declared.ids.SignalId.{SignalId}
 use Rattle.ws_value.specs.declared.ids.StreamId.{StreamId}
 use Rattle.ws_value.specs.declared.value.Value.{Value}
 use Rattle.ws_steps.specs.declared.effects.Owner.{Owner}
-use Rattle.ws_steps.specs.declared.effects.Owner.TheVariants.{Host, HalfOf}
+use Rattle.ws_steps.specs.declared.effects.Owner.TheVariants.{Host, HalfOf, BranchOf}
 use Rattle.ws_steps.specs.declared.locks.Lock.{Lock}
 use Rattle.ws_steps.specs.declared.locks.Lock.TheVariants.{Reader, ByobReader, Writer, ReleasedWriter, Inner}
 use Rattle.ws_steps.specs.declared.pipes.Action.{Action}
@@ -24,6 +24,7 @@ use Rattle.ws_steps.specs.declared.writable.WriteRecord.TheVariants.{Chunk, InFl
 use Rattle.ws_steps.specs.Bytes as byte
 use Rattle.ws_steps.specs.Histories.{is_same}
 use Rattle.ws_steps.specs.Pipes as pipe
+use Rattle.ws_steps.specs.Tee as tee
 use Rattle.ws_steps.specs.Readable as readable
 use Rattle.ws_steps.specs.Run.{Entry, run}
 use Rattle.ws_steps.specs.Slots.{Slots, Stream, empty, has_source, has_writable, has_signal, owner_at, byte_at, source_at, writable_at, transform_at, pipe_at}
@@ -36,10 +37,11 @@ use Rattle.ws_link_laws.specs.Link.{todo_of}
 abbrev pub IsReached : Slots → Type 0
 IsReached s = (entries : List Entry) × (s ≡ run entries empty)
 
--- it performs algorithms of the host: its own, or those of a transform stream
+-- it performs algorithms of the host: its own, or those of a transform stream. A branch of a tee doesn't
 abbrev pub IsHosts : Slots → Owner → Type 0
 IsHosts s Host = Unit {0}
 IsHosts s (HalfOf t) = (transform_at t s).kind ≡ HostKind
+IsHosts s (BranchOf t half) = ⊥
 
 -- no reader of the host has stream i, and no writer of the host stream j
 
@@ -144,6 +146,11 @@ IsApart i j x = (is_same i x.source ≡ false) × (is_same j x.dest ≡ false)
 abbrev pub AreApart : StreamId → StreamId → PipeId → List pipe.Slots → Type 0
 AreApart i j p pipes = (n : ℕ) (x : pipe.Slots) → slice_get pipes n ≡ Some x → n ≢ p.0 → IsApart i j x
 
+-- no tee has stream i for its source
+abbrev pub all_untied : StreamId → List tee.Slots → Bool
+all_untied i [] = true
+all_untied i (x ∷ xs) = not (is_same i x.source) && all_untied i xs
+
 -- The link of pipe p from stream i to stream j, between steps: each is the host's own or a half of a transform stream of the host's kind, the
 -- source is bare where it is a byte stream, the pipe goes from the one to the other, nobody else has them, and what is in them is as a pipe, its
 -- source and its destination keep it
@@ -158,6 +165,7 @@ pub record IsLink (i j : StreamId) (p : PipeId) (s : Slots) : Type 0 where
   pub from : (pipe_at p s).source ≡ i
   pub into : (pipe_at p s).dest ≡ j
   pub apart : AreApart i j p s.pipes
+  pub untied : all_untied i s.tees ≡ true
   pub locks : all_spare i j s.locks ≡ true
   pub elsewhere : elsewhere p i.0 s.streams ≡ 0
   pub source_fits : SourceFits p (source_at i s)
@@ -182,6 +190,7 @@ pub record IsFree (i j : StreamId) (s : Slots) : Type 0 where
   pub unwritten : (writable_at j s).writer ≡ None
   pub locks : all_spare i j s.locks ≡ true
   pub apart : all_apart i j s.pipes ≡ true
+  pub untied : all_untied i s.tees ≡ true
   pub requests : (source_at i s).requests ≡ []
   pub queue : (writable_at j s).queue ≡ []
   pub close_request : (writable_at j s).close_request ≡ None
