@@ -9,5 +9,6 @@ pub mod Begins
 pub mod Nodes
 pub mod Outcomes
 pub mod Flushed
+pub mod Teeless
 pub mod Runs
 mod Worked

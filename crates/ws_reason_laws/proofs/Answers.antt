@@ -4,9 +4,9 @@ use Rattle.ws_value.specs.declared.ids.LockId.{LockId}
 use Rattle.ws_value.specs.declared.ids.StreamId.{StreamId}
 use Rattle.ws_value.specs.declared.value.Plain.{Plain}
 use Rattle.ws_steps.specs.declared.calls.Call.{Call}
-use Rattle.ws_steps.specs.declared.calls.Call.TheVariants.{MakeReadable, MakeBytes, MakeWritable, MakeTransform, GetReader, GetByob, GetWriter, Cancel, CancelBy, Read, ReadInto, Write, Close, CloseBy, Abort, AbortBy, Closed, Ready, Release, Enqueue, Finish, Fail, Terminate, Request, Respond, Desired, DesiredBy, Pipe, MakeSignal, Trigger, Settle, State, Step}
+use Rattle.ws_steps.specs.declared.calls.Call.TheVariants.{MakeReadable, MakeBytes, MakeWritable, MakeTransform, Tee, GetReader, GetByob, GetWriter, Cancel, CancelBy, Read, ReadInto, Write, Close, CloseBy, Abort, AbortBy, Closed, Ready, Release, Enqueue, Finish, Fail, Terminate, Request, Respond, Desired, DesiredBy, Pipe, MakeSignal, Trigger, Settle, State, Step}
 use Rattle.ws_steps.specs.declared.effects.Owner.{Owner}
-use Rattle.ws_steps.specs.declared.effects.Owner.TheVariants.{Host, HalfOf}
+use Rattle.ws_steps.specs.declared.effects.Owner.TheVariants.{Host, HalfOf, BranchOf}
 use Rattle.ws_steps.specs.declared.locks.Lock.{Lock}
 use Rattle.ws_steps.specs.declared.locks.Lock.TheVariants.{ByobReader, Reader, Writer as WriterLock, ReleasedWriter, Inner}
 use Rattle.ws_steps.specs.declared.transform.Kind.{Kind}
@@ -76,6 +76,7 @@ module _ (bad : Badness) (s : Slots) (halved : Halved bad.half s) where
   terminated-good : (owner : Owner) → bad_of bad.of (if is_half owner then type_error ∷ [] else []) ≡ 0 → bad_begun bad (terminate_by s owner) ≡ 0
   terminated-good Host h = refl
   terminated-good (HalfOf t) h = omega (arith, h)
+  terminated-good (BranchOf t half) h = refl
 
 -- what a call makes of transform streams
 pub begun-kinds : (bad : Badness) (c : Call) (s : Slots) → bad_call bad c s ≡ 0 → of_kinds bad.of s.transforms ≡ 0 → of_kinds bad.of (begin c s).done.slots.transforms ≡ 0
@@ -94,6 +95,7 @@ begun-good bad (MakeReadable mark size start) s l h = grind arith
 begun-good bad (MakeBytes mark auto start) s l h = grind arith
 begun-good bad (MakeWritable mark size start) s l h = grind arith
 begun-good bad (MakeTransform kind writable_mark readable_mark start) s l h = grind arith
+begun-good bad (Tee i) s l h = grind arith
 begun-good bad (GetReader i) s l h = grind arith
 begun-good bad (GetByob i) s l h = grind arith
 begun-good bad (GetWriter i) s l h = grind arith

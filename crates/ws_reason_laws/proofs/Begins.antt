@@ -4,20 +4,23 @@ use Rattle.ws_value.specs.declared.ids.PipeId.{PipeId}
 use Rattle.ws_value.specs.declared.ids.PromiseId.{PromiseId}
 use Rattle.ws_value.specs.declared.ids.SignalId.{SignalId}
 use Rattle.ws_value.specs.declared.ids.StreamId.{StreamId}
+use Rattle.ws_value.specs.declared.ids.TeeId.{TeeId}
 use Rattle.ws_value.specs.declared.value.Plain.{Plain}
+use Rattle.ws_value.specs.declared.value.Plain.TheVariants.{Pair}
 use Rattle.ws_steps.specs.declared.calls.Call.{Call}
 use Rattle.ws_steps.specs.declared.calls.Reply.{Reply}
 use Rattle.ws_steps.specs.declared.calls.Reply.TheVariants as reply
 use Rattle.ws_steps.specs.declared.effects.Effect.{Effect}
 use Rattle.ws_steps.specs.declared.calls.StartBy.{StartBy}
 use Rattle.ws_steps.specs.declared.effects.Effect.TheVariants.{Readable, Writable, Signal, Transform, Settle}
-use Rattle.ws_steps.specs.declared.effects.Owner.TheVariants.{Host, HalfOf}
+use Rattle.ws_steps.specs.declared.effects.Owner.TheVariants.{Host, HalfOf, BranchOf}
 use Rattle.ws_steps.specs.declared.locks.Lock.{Lock}
 use Rattle.ws_steps.specs.declared.pipes.Prevent.{Prevent}
 use Rattle.ws_steps.specs.declared.pipes.SignalOperation.TheVariants.{Trigger}
 use Rattle.ws_steps.specs.declared.readable.ReadableOperation.TheVariants.{Error, ReleaseReader, Read, Cancel}
 use Rattle.ws_steps.specs.declared.readable.ReadRequest.TheVariants.{Promise as PromiseRequest}
 use Rattle.ws_steps.specs.declared.readable.SizeBy.TheVariants.{Count}
+use Rattle.ws_steps.specs.declared.tee.Half.TheVariants.{First, Second}
 use Rattle.ws_steps.specs.declared.transform.Kind.{Kind}
 use Rattle.ws_steps.specs.declared.transform.TransformId.{TransformId}
 use Rattle.ws_steps.specs.declared.transform.TransformOperation.TheVariants.{Error as ErrorTransform, Terminate}
@@ -29,15 +32,18 @@ use Rattle.ws_steps.specs.Pipes as pipe
 use Rattle.ws_steps.specs.Promises.{Table, fresh, is_pending_at}
 use Rattle.ws_steps.specs.Readable as readable
 use Rattle.ws_steps.specs.Readable.{is_readable}
-use Rattle.ws_steps.specs.Slots.{Slots, Stream, ReadableStream, WritableStream, with_promises, as_signal}
+use Rattle.ws_steps.specs.Slots.{Slots, Stream, ReadableStream, WritableStream, with_promises, as_signal, is_teed}
+use Rattle.ws_steps.specs.Tee as tee
 use Rattle.ws_steps.specs.Transform as transform
 use Rattle.ws_steps.specs.Writable as writable
 use Rattle.ws_laws.proofs.EachCall.{each_call}
+use Rattle.ws_laws.proofs.Shapes.{tee_shape}
 use Rattle.ws_reason_laws.proofs.InTable.{fresh-keeps, fresh-count}
-use Rattle.ws_reason_laws.proofs.Known.{Badness, class, Known, known-new, known-next, known-same}
+use Rattle.ws_reason_laws.proofs.Known.{Badness, class, teed_at, teed-at, Known, known-new, known-turn, known-next, known-same}
 use Rattle.ws_reason_laws.proofs.Readables.{effects-append}
 use Rattle.ws_reason_laws.proofs.Rows.{in_signal, signal-there}
-use Rattle.ws_reason_laws.proofs.Weights.{Class, of_reason, soft, settles, in_effects, in_stream, in_streams, in_pipe, in_pipes, in_signals, of_kind, in_transform, in_transforms, in_slots, in_table, loud, AllGood, count}
+use Rattle.ws_reason_laws.proofs.Teed.{teed-more, teed-last, Paired, tee_last}
+use Rattle.ws_reason_laws.proofs.Weights.{in_reader, in_tee, in_tees, Class, of_reason, soft, settles, in_effects, in_stream, in_streams, in_pipe, in_pipes, in_signals, of_kind, in_transform, in_transforms, in_slots, in_table, loud, AllGood, count}
 use Rattle.ws_steps.specs.Slots.{ByteStream}
 use Rattle.ws_steps.specs.Bytes as byte
 use Rattle.ws_steps.specs.Slots.{source_at}
@@ -95,13 +101,19 @@ kinds-in k [] h = refl
 kinds-in k (x ∷ xs) h = let g = kinds-in k xs (omega (arith, h)) in omega (arith, h, g)
 
 pub kinds-known : (bad : Badness) (me : PipeId) (own : Option ℕ) (s : Slots) → Known bad me own s [] → of_kinds bad.of s.transforms ≡ 0
-kinds-known bad me own s k = let g = k.good k.hands (λ i h. refl) in kinds-in (class bad me k.hands) s.transforms (omega (arith, g))
+kinds-known bad me own s k = let g = k.good k.hands (teed_at s) (λ i h. refl) (teed-at s) in kinds-in (class bad me k.hands (teed_at s)) s.transforms (omega (arith, g))
 
 -- tables get one more
 
-streams-append : (k : Class) (xs : List Stream) (y : Stream) → in_streams k (xs ++ y ∷ []) ≡ in_streams k xs + in_stream k y
-streams-append k [] y = omega arith
-streams-append k (x ∷ xs) y = let h = streams-append k xs y in omega (arith, h)
+streams-append : (k : Class) (n : ℕ) (xs : List Stream) (y : Stream) (at : ℕ) → at ≡ n + length xs → in_streams k n xs ≡ 0 → in_stream k at y ≡ 0 → in_streams k n (xs ++ y ∷ []) ≡ 0
+streams-append k n [] y at e h g =
+    let same : at ≡ n = omega (arith, e) in let f : in_stream k n y ≡ 0 = subst (λ (m : ℕ). in_stream k m y ≡ 0) same g in omega (arith, f)
+streams-append k n (x ∷ xs) y at e h g = let f = streams-append k (suc n) xs y at (omega (arith, e)) (omega (arith, h)) g in omega (arith, h, f)
+
+tees-append : (k : Class) (n : ℕ) (xs : List tee.Slots) (y : tee.Slots) (at : ℕ) → at ≡ n + length xs → in_tees k n xs ≡ 0 → in_tee k at y ≡ 0 → in_tees k n (xs ++ y ∷ []) ≡ 0
+tees-append k n [] y at e h g =
+    let same : at ≡ n = omega (arith, e) in let f : in_tee k n y ≡ 0 = subst (λ (m : ℕ). in_tee k m y ≡ 0) same g in omega (arith, f)
+tees-append k n (x ∷ xs) y at e h g = let f = tees-append k (suc n) xs y at (omega (arith, e)) (omega (arith, h)) g in omega (arith, h, f)
 
 pipes-append : (k : Class) (n : ℕ) (xs : List pipe.Slots) (y : pipe.Slots) (at : ℕ) → at ≡ n + length xs → in_pipes k n xs ≡ 0 → in_pipe k at y ≡ 0 → in_pipes k n (xs ++ y ∷ []) ≡ 0
 pipes-append k n [] y at e h g =
@@ -118,30 +130,33 @@ signals-append k (x ∷ xs) = let h = signals-append k xs in omega (arith, h)
 
 module _ (bad : Badness) (me : PipeId) (own : Option ℕ) (s : Slots) (known : Known bad me own s []) where
   abbrev Begins : Begun → Type 0
-  Begins b = bad_begun bad b ≡ 0 → of_kinds bad.of b.done.slots.transforms ≡ 0 → Known bad me own b.done.slots b.done.caused
+  Begins b = bad_begun bad b ≡ 0 → of_kinds bad.of b.done.slots.transforms ≡ 0 → Paired bad.of b.done.slots → Known bad me own b.done.slots b.done.caused
 
   -- a soft one and a loud one
-  soft_one : (f : ℕ → Bool) (n : ℕ) → f n ≡ false → soft (class bad me f) n ≡ 0
-  soft_one f n e = grind (arith, e)
+  soft_one : (f tees : ℕ → Bool) (n : ℕ) → f n ≡ false → soft (class bad me f tees) n ≡ 0
+  soft_one f tees n e = grind (arith, e)
 
-  settles_one : (f : ℕ → Bool) (n : ℕ) (r : Plain) → f n ≡ false → settles (class bad me f) n (Err r) ≡ 0
-  settles_one f n r e = grind (arith, e)
+  reader_one : (f tees : ℕ → Bool) (i n : ℕ) → f n ≡ false → in_reader (class bad me f tees) i (Some (record { 0 = n })) ≡ 0
+  reader_one f tees i n e = grind (arith, e)
+
+  settles_one : (f tees : ℕ → Bool) (n : ℕ) (r : Plain) → f n ≡ false → settles (class bad me f tees) n (Err r) ≡ 0
+  settles_one f tees n r e = grind (arith, e)
 
   -- a call that answers a new promise
   promising-known : (effects : PromiseId → List Effect) (b : Bool)
-      → ((f : ℕ → Bool) (p : PromiseId) → f p.0 ≡ b → in_effects (class bad me f) (effects p) ≡ 0) → Known bad me own (promising effects s).done.slots (promising effects s).done.caused
+      → ((f tees : ℕ → Bool) (p : PromiseId) → f p.0 ≡ b → in_effects (class bad me f tees) (effects p) ≡ 0) → Known bad me own (promising effects s).done.slots (promising effects s).done.caused
   promising-known effects b good =
       let c = fresh-count s.promises in
-      known-next bad me own s _ [] _ (λ i. b) known (omega (arith, c))
-      (λ f news g.
+      known-next bad me own s _ [] _ (λ i. b) known refl (omega (arith, c))
+      (λ f tees news g.
       let one : f (count s.promises) ≡ b = news (count s.promises) (omega arith) (omega (arith, c)) in
-      let e = good f (record { 0 = count s.promises }) one in
-      let t = fresh-keeps (class bad me f) s.promises (omega (arith, g)) in
+      let e = good f tees (record { 0 = count s.promises }) one in
+      let t = fresh-keeps (class bad me f tees) s.promises (omega (arith, g)) in
       omega (arith, g, e, t))
 
   -- a call that makes no promise
-  plain-known : (z : Slots) (cs : List Effect) → z.promises ≡ s.promises → ((f : ℕ → Bool) → in_slots (class bad me f) s ≡ 0 → AllGood (class bad me f) z cs) → Known bad me own z cs
-  plain-known z cs e good = known-same bad me own s z [] cs known (ap count e) (λ f g. good f (omega (arith, g)))
+  plain-known : (z : Slots) (cs : List Effect) → z.tees ≡ s.tees → z.promises ≡ s.promises → ((f tees : ℕ → Bool) → in_slots (class bad me f tees) s ≡ 0 → AllGood (class bad me f tees) z cs) → Known bad me own z cs
+  plain-known z cs same e good = known-same bad me own s z [] cs known same (ap count e) (λ f tees g. good f tees (omega (arith, g)))
 
   -- releases
 
@@ -153,21 +168,21 @@ module _ (bad : Badness) (me : PipeId) (own : Option ℕ) (s : Slots) (known : K
   renewed-keeps k t true h = h
   renewed-keeps k t false h = fresh-keeps k t h
 
-  renewed-good : (f : ℕ → Bool) (t : Table) (kept : Bool) (m : ℕ) → ((i : ℕ) → count t ≤ i → i < m → f i ≡ false) → count (with_renewed t kept) ≤ m → in_effects (class bad me f) (reject_renewed t kept) ≡ 0
-  renewed-good f t true m news q = refl
-  renewed-good f t false m news q =
+  renewed-good : (f tees : ℕ → Bool) (t : Table) (kept : Bool) (m : ℕ) → ((i : ℕ) → count t ≤ i → i < m → f i ≡ false) → count (with_renewed t kept) ≤ m → in_effects (class bad me f tees) (reject_renewed t kept) ≡ 0
+  renewed-good f tees t true m news q = refl
+  renewed-good f tees t false m news q =
       let c = fresh-count t in
       let one : f (count t) ≡ false = news (count t) (omega arith) (omega (arith, c, q)) in
-      let z = settles_one f (count t) type_error one in omega (arith, z)
+      let z = settles_one f tees (count t) type_error one in omega (arith, z)
 
   release_reader-known : (i : StreamId) (locks : List Lock) (kept : Bool)
       → Known bad me own (record (with_promises (with_renewed s.promises kept) s) { locks = locks }) (reject_renewed s.promises kept ++ Readable i ReleaseReader ∷ [])
   release_reader-known i locks kept =
-      known-next bad me own s _ [] _ (λ i. false) known (renewed-count s.promises kept)
-      (λ f news g.
-      let a = renewed-good f s.promises kept (count (with_renewed s.promises kept)) news (omega arith) in
-      let b = renewed-keeps (class bad me f) s.promises kept (omega (arith, g)) in
-      let c = effects-append (class bad me f) (reject_renewed s.promises kept) (Readable i ReleaseReader ∷ []) in
+      known-next bad me own s _ [] _ (λ i. false) known refl (renewed-count s.promises kept)
+      (λ f tees news g.
+      let a = renewed-good f tees s.promises kept (count (with_renewed s.promises kept)) news (omega arith) in
+      let b = renewed-keeps (class bad me f tees) s.promises kept (omega (arith, g)) in
+      let c = effects-append (class bad me f tees) (reject_renewed s.promises kept) (Readable i ReleaseReader ∷ []) in
       omega (arith, g, a, b, c))
 
   release_writer-known : (i : StreamId) (locks : List Lock) (ready closed : Bool) → let t : Table = with_renewed s.promises ready in
@@ -176,11 +191,11 @@ module _ (bad : Badness) (me : PipeId) (own : Option ℕ) (s : Slots) (known : K
       let t : Table = with_renewed s.promises ready in
       let m = renewed-count s.promises ready in
       let n = renewed-count t closed in
-      known-next bad me own s _ [] _ (λ i. false) known (omega (arith, m, n))
-      (λ f news g.
-      let k : Class = class bad me f in
-      let a = renewed-good f s.promises ready (count (with_renewed t closed)) news (omega (arith, n)) in
-      let b = renewed-good f t closed (count (with_renewed t closed)) (λ i l h. news i (omega (arith, l, m)) h) (omega arith) in
+      known-next bad me own s _ [] _ (λ i. false) known refl (omega (arith, m, n))
+      (λ f tees news g.
+      let k : Class = class bad me f tees in
+      let a = renewed-good f tees s.promises ready (count (with_renewed t closed)) news (omega (arith, n)) in
+      let b = renewed-good f tees t closed (count (with_renewed t closed)) (λ i l h. news i (omega (arith, l, m)) h) (omega arith) in
       let c = renewed-keeps k t closed (renewed-keeps k s.promises ready (omega (arith, g))) in
       let d = effects-append k (reject_renewed s.promises ready) (reject_renewed t closed ++ Writable i ReleaseWriter ∷ []) in
       let e = effects-append k (reject_renewed t closed) (Writable i ReleaseWriter ∷ []) in
@@ -208,9 +223,9 @@ module _ (bad : Badness) (me : PipeId) (own : Option ℕ) (s : Slots) (known : K
   abbrev of_pipe : ℕ → Bool
   of_pipe i = nat_eq (length s.pipes) me.0 && nat_eq i (count s.promises + 3)
 
-  pipe_own : (f : ℕ → Bool) (b : Bool) (n : ℕ) → f n ≡ (b && true) → (if b then 0 else soft (class bad me f) n) ≡ 0
-  pipe_own f true n e = refl
-  pipe_own f false n e = soft_one f n e
+  pipe_own : (f tees : ℕ → Bool) (b : Bool) (n : ℕ) → f n ≡ (b && true) → (if b then 0 else soft (class bad me f tees) n) ≡ 0
+  pipe_own f tees true n e = refl
+  pipe_own f tees false n e = soft_one f tees n e
 
   abbrev piped : StreamId → StreamId → Prevent → Option SignalId → Begun
   piped source dest prevent signal = calls.pipe_to source dest prevent signal s
@@ -224,20 +239,20 @@ module _ (bad : Badness) (me : PipeId) (own : Option ℕ) (s : Slots) (known : K
       let c3 = fresh-count (fresh (fresh (fresh t))) in
       omega (arith, c0, c1, c2, c3)
 
-  pipe-good : (source dest : StreamId) (prevent : Prevent) (signal : Option SignalId) (f : ℕ → Bool)
-      → ((i : ℕ) → count s.promises ≤ i → i < count (piped source dest prevent signal).done.slots.promises → f i ≡ of_pipe i) → in_slots (class bad me f) s + 0 ≡ 0
-      → AllGood (class bad me f) (piped source dest prevent signal).done.slots (piped source dest prevent signal).done.caused
-  pipe-good source dest prevent signal f news g =
+  pipe-good : (source dest : StreamId) (prevent : Prevent) (signal : Option SignalId) (f tees : ℕ → Bool)
+      → ((i : ℕ) → count s.promises ≤ i → i < count (piped source dest prevent signal).done.slots.promises → f i ≡ of_pipe i) → in_slots (class bad me f tees) s + 0 ≡ 0
+      → AllGood (class bad me f tees) (piped source dest prevent signal).done.slots (piped source dest prevent signal).done.caused
+  pipe-good source dest prevent signal f tees news g =
       let t : Table = s.promises in
       let c0 = fresh-count t in
       let c1 = fresh-count (fresh t) in
       let c2 = fresh-count (fresh (fresh t)) in
       let c3 = fresh-count (fresh (fresh (fresh t))) in
-      let k : Class = class bad me f in
-      let s0 = soft_one f (count t) (news (count t) (omega arith) (omega (arith, c0, c1, c2, c3)) ∙ not_own (count t) (omega arith)) in
-      let s1 = soft_one f (count (fresh t)) (news (count (fresh t)) (omega (arith, c0)) (omega (arith, c1, c2, c3)) ∙ not_own (count (fresh t)) (omega (arith, c0))) in
-      let s2 = soft_one f (count (fresh (fresh t))) (news (count (fresh (fresh t))) (omega (arith, c0, c1)) (omega (arith, c2, c3)) ∙ not_own (count (fresh (fresh t))) (omega (arith, c0, c1))) in
-      let o = pipe_own f (nat_eq (length s.pipes) me.0) (count (fresh (fresh (fresh t)))) (news (count (fresh (fresh (fresh t)))) (omega (arith, c0, c1, c2)) (omega (arith, c3)) ∙ own_one (count (fresh (fresh (fresh t)))) (omega (arith, c0, c1, c2))) in
+      let k : Class = class bad me f tees in
+      let s0 = reader_one f tees source.0 (count t) (news (count t) (omega arith) (omega (arith, c0, c1, c2, c3)) ∙ not_own (count t) (omega arith)) in
+      let s1 = soft_one f tees (count (fresh t)) (news (count (fresh t)) (omega (arith, c0)) (omega (arith, c1, c2, c3)) ∙ not_own (count (fresh t)) (omega (arith, c0))) in
+      let s2 = soft_one f tees (count (fresh (fresh t))) (news (count (fresh (fresh t))) (omega (arith, c0, c1)) (omega (arith, c2, c3)) ∙ not_own (count (fresh (fresh t))) (omega (arith, c0, c1))) in
+      let o = pipe_own f tees (nat_eq (length s.pipes) me.0) (count (fresh (fresh (fresh t)))) (news (count (fresh (fresh (fresh t)))) (omega (arith, c0, c1, c2)) (omega (arith, c3)) ∙ own_one (count (fresh (fresh (fresh t)))) (omega (arith, c0, c1, c2))) in
       let x : pipe.Slots = pipe.set_up source dest prevent signal (record { 0 = count (fresh (fresh (fresh t))) }) in
       let p = pipes-append k 0 s.pipes x (length s.pipes) (omega arith) (omega (arith, g)) (omega (arith, o)) in
       let e = begins-good k (record { 0 = length s.pipes }) (record { 0 = count t }) (record { 0 = count (fresh (fresh t)) }) signal (calls.reason_of signal s) (triggered k signal (omega (arith, g))) in
@@ -254,7 +269,7 @@ module _ (bad : Badness) (me : PipeId) (own : Option ℕ) (s : Slots) (known : K
       → Known bad me own (piped source dest prevent signal).done.slots (piped source dest prevent signal).done.caused
   pipe-known source dest prevent signal =
       let c = pipe-count source dest prevent signal in
-      known-next bad me own s _ [] _ of_pipe known (omega (arith, c)) (pipe-good source dest prevent signal)
+      known-next bad me own s _ [] _ of_pipe known refl (omega (arith, c)) (pipe-good source dest prevent signal)
 
   -- the pipe that is looked at: its promise hands on
   pub own-known : (source dest : StreamId) (prevent : Prevent) (signal : Option SignalId) (q : ℕ) → me.0 ≡ length s.pipes → q ≡ count s.promises + 3
@@ -262,21 +277,21 @@ module _ (bad : Badness) (me : PipeId) (own : Option ℕ) (s : Slots) (known : K
   own-known source dest prevent signal q m e =
       let c = pipe-count source dest prevent signal in
       known-new bad me own (Some q) s (piped source dest prevent signal).done.slots [] (piped source dest prevent signal).done.caused of_pipe known
-      (omega (arith, c, e), new_one (known.hands q) q e) (omega (arith, c)) (pipe-good source dest prevent signal)
+      (omega (arith, c, e), new_one (known.hands q) q e) (λ i n. n) (omega (arith, c)) (λ f tees reads new good exact. pipe-good source dest prevent signal f tees new good)
     where
       new_one : (b : Bool) (i : ℕ) → i ≡ count s.promises + 3 → (if nat_lt i (count s.promises) then b else of_pipe i) ≡ true
       new_one b i h = grind (arith, h, m)
 
   -- a transform stream: its promises hand on
 
-  loud_one : (f : ℕ → Bool) (n : ℕ) → f n ≡ true → loud (class bad me f) n ≡ 0
-  loud_one f n e = grind (arith, e)
+  loud_one : (f tees : ℕ → Bool) (n : ℕ) → f n ≡ true → loud (class bad me f tees) n ≡ 0
+  loud_one f tees n e = grind (arith, e)
 
-  new_half : (f : ℕ → Bool) (kind : Kind) (i j : StreamId) (change : PromiseId) → of_kind bad.of kind ≡ 0 → loud (class bad me f) change.0 ≡ 0 → in_transform (class bad me f) (transform.set_up kind i j change) ≡ 0
-  new_half f kind i j change e h = omega (arith, e, h)
+  new_half : (f tees : ℕ → Bool) (kind : Kind) (i j : StreamId) (change : PromiseId) → of_kind bad.of kind ≡ 0 → loud (class bad me f tees) change.0 ≡ 0 → in_transform (class bad me f tees) (transform.set_up kind i j change) ≡ 0
+  new_half f tees kind i j change e h = omega (arith, e, h)
 
-  starts : (f : ℕ → Bool) (p : PromiseId) (j : StreamId) (start : StartBy) → in_effects (class bad me f) (calls.start_transform p j start ∷ []) ≡ 0
-  starts f p j start = grind arith
+  starts : (f tees : ℕ → Bool) (p : PromiseId) (j : StreamId) (start : StartBy) → in_effects (class bad me f tees) (calls.start_transform p j start ∷ []) ≡ 0
+  starts f tees p j start = grind arith
 
   transform-known : (kind : Kind) (a b : ℕ) (start : StartBy) (i j : StreamId) → of_kind bad.of kind ≡ 0 → Known bad me own (calls.make_transform kind a b start i j s).done.slots (calls.make_transform kind a b start i j s).done.caused
   transform-known kind a b start i j fair =
@@ -285,78 +300,106 @@ module _ (bad : Badness) (me : PipeId) (own : Option ℕ) (s : Slots) (known : K
       let c1 = fresh-count (fresh t) in
       let c2 = fresh-count (fresh (fresh t)) in
       let c3 = fresh-count (fresh (fresh (fresh t))) in
-      known-next bad me own s (calls.make_transform kind a b start i j s).done.slots [] (calls.make_transform kind a b start i j s).done.caused (λ i. true) known (omega (arith, c0, c1, c2, c3))
-      (λ f news g.
-      let k : Class = class bad me f in
-      let l0 = loud_one f (count t) (news (count t) (omega arith) (omega (arith, c0, c1, c2, c3))) in
-      let l1 = loud_one f (count (fresh t)) (news (count (fresh t)) (omega (arith, c0)) (omega (arith, c1, c2, c3))) in
-      let l2 = loud_one f (count (fresh (fresh t))) (news (count (fresh (fresh t))) (omega (arith, c0, c1)) (omega (arith, c2, c3))) in
-      let l3 = loud_one f (count (fresh (fresh (fresh t)))) (news (count (fresh (fresh (fresh t)))) (omega (arith, c0, c1, c2)) (omega (arith, c3))) in
+      known-next bad me own s (calls.make_transform kind a b start i j s).done.slots [] (calls.make_transform kind a b start i j s).done.caused (λ i. true) known refl (omega (arith, c0, c1, c2, c3))
+      (λ f tees news g.
+      let k : Class = class bad me f tees in
+      let l0 = loud_one f tees (count t) (news (count t) (omega arith) (omega (arith, c0, c1, c2, c3))) in
+      let l1 = loud_one f tees (count (fresh t)) (news (count (fresh t)) (omega (arith, c0)) (omega (arith, c1, c2, c3))) in
+      let l2 = loud_one f tees (count (fresh (fresh t))) (news (count (fresh (fresh t))) (omega (arith, c0, c1)) (omega (arith, c2, c3))) in
+      let l3 = loud_one f tees (count (fresh (fresh (fresh t)))) (news (count (fresh (fresh (fresh t)))) (omega (arith, c0, c1, c2)) (omega (arith, c3))) in
       let me_ : TransformId = record { 0 = length s.transforms } in
       let w : Stream = WritableStream (writable.set_up (HalfOf me_) a Count) in
       let r : Stream = ReadableStream (readable.set_up (HalfOf me_) b Count) in
       let x : transform.Slots = transform.set_up kind i j (record { 0 = count t }) in
-      let s0 = streams-append k s.streams w in
-      let s1 = streams-append k (s.streams ++ w ∷ []) r in
-      let h = new_half f kind i j (record { 0 = count t }) fair l0 in
+      let s0 = streams-append k 0 s.streams w (length s.streams) (omega arith) (omega (arith, g)) refl in
+      let s1 = streams-append k 0 (s.streams ++ w ∷ []) r (length (s.streams ++ w ∷ [])) (omega arith) s0 refl in
+      let h = new_half f tees kind i j (record { 0 = count t }) fair l0 in
       let z = transforms-append k s.transforms x in
-      let e = starts f (record { 0 = count (fresh t) }) j start in
+      let e = starts f tees (record { 0 = count (fresh t) }) j start in
       let p = fresh-keeps k (fresh (fresh (fresh t))) (fresh-keeps k (fresh (fresh t)) (fresh-keeps k (fresh t) (fresh-keeps k t (omega (arith, g))))) in
       omega (arith, g, l0, l1, l2, l3, s0, s1, h, z, e, p))
+
+  -- a tee: its promises hand on, and its reader isn't let go of
+  tee-known : (source i j : StreamId) → Paired bad.of (calls.make_tee source i j s).done.slots → Known bad me own (calls.make_tee source i j s).done.slots (calls.make_tee source i j s).done.caused
+  tee-known source i j paired =
+      let t : Table = s.promises in
+      let c0 = fresh-count t in
+      let c1 = fresh-count (fresh t) in
+      let me_ : TeeId = record { 0 = length s.tees } in
+      let x : tee.Slots = tee.set_up source i j (record { 0 = count (fresh t) }) in
+      let pair : bad.of (Pair me_) ≡ 0 = paired me_ (tee_shape x) (tee_last s.tees x) in
+      known-turn bad me own s (calls.make_tee source i j s).done.slots [] (calls.make_tee source i j s).done.caused (λ i. true) known (λ n e. teed-more n s.tees x e) (omega (arith, c0, c1))
+      (λ f tees reads news g exact.
+      let k : Class = class bad me f tees in
+      let l0 = loud_one f tees (count t) (news (count t) (omega arith) (omega (arith, c0, c1))) in
+      let l1 = loud_one f tees (count (fresh t)) (news (count (fresh t)) (omega (arith, c0)) (omega (arith, c1))) in
+      let reader : in_reader k source.0 (Some (record { 0 = count t })) ≡ 0 = read_by (tees source.0) (soft k (count t)) (λ e. reads source e) in
+      let w : Stream = ReadableStream (readable.set_up (BranchOf me_ First) 1 Count) in
+      let r : Stream = ReadableStream (readable.set_up (BranchOf me_ Second) 1 Count) in
+      let s0 = streams-append k 0 s.streams w (length s.streams) (omega arith) (omega (arith, g)) refl in
+      let s1 = streams-append k 0 (s.streams ++ w ∷ []) r (length (s.streams ++ w ∷ [])) (omega arith) s0 refl in
+      let z = tees-append k 0 s.tees x (length s.tees) (omega arith) (omega (arith, g)) (omega (arith, pair, l1)) in
+      let p = fresh-keeps k (fresh t) (fresh-keeps k t (omega (arith, g))) in
+      omega (arith, g, l0, l1, reader, s1, z, p))
+    where
+      read_by : (b : Bool) (n : ℕ) → (b ≡ false → is_teed source (calls.make_tee source i j s).done.slots ≡ false) → (if b then 0 else n) ≡ 0
+      read_by true n reads = refl
+      read_by false n reads = let m = teed-last source s.tees (tee.set_up source i j (record { 0 = count (fresh s.promises) })) refl in let l = reads refl in cc
 
   pub call-known : (c : Call) → Begins (begin c s)
   call-known c =
       each_call Begins c s (record {
-        unchanged = λ reply b n. known;
-        rejected = λ b n. promising-known (λ p. Settle p (Err type_error) ∷ []) false (λ f p e. let z = settles_one f p.0 type_error e in omega (arith, z));
-        make_readable = λ mark size start b n. plain-known _ _ refl (λ f g. let a = streams-append (class bad me f) s.streams (ReadableStream (readable.set_up Host mark size)) in omega (arith, g, a));
-        make_writable = λ mark size start b n. plain-known _ _ refl (λ f g. let a = streams-append (class bad me f) s.streams (WritableStream (writable.set_up Host mark size)) in omega (arith, g, a));
-        get_byob = λ i is e b n.
+        unchanged = λ reply b n pairs. known;
+        rejected = λ b n pairs. promising-known (λ p. Settle p (Err type_error) ∷ []) false (λ f tees p e. let z = settles_one f tees p.0 type_error e in omega (arith, z));
+        make_tee = λ i e there free untied b n pairs. tee-known i _ _ pairs;
+        make_readable = λ mark size start b n pairs. plain-known _ _ refl refl (λ f tees g. let a = streams-append (class bad me f tees) 0 s.streams (ReadableStream (readable.set_up Host mark size)) (length s.streams) (omega arith) (omega (arith, g)) refl in omega (arith, g, a));
+        make_writable = λ mark size start b n pairs. plain-known _ _ refl refl (λ f tees g. let a = streams-append (class bad me f tees) 0 s.streams (WritableStream (writable.set_up Host mark size)) (length s.streams) (omega arith) (omega (arith, g)) refl in omega (arith, g, a));
+        get_byob = λ i is e b n pairs.
             let c = fresh-count s.promises in
-            known-next bad me own s _ [] _ (λ i. false) known (omega (arith, c))
-            (λ f news g.
-            let one = soft_one f (count s.promises) (news (count s.promises) (omega arith) (omega (arith, c))) in
-            let t = fresh-keeps (class bad me f) s.promises (omega (arith, g)) in omega (arith, g, one, t));
-        release_byob = λ l closed i e b n. release_reader-known i _ (is_readable (source_at i s).state);
-        read_into = λ l i closed room element least e h b n. promising-known (λ p. Byte i (PullInto room element (least * element) (PromiseRequest p)) ∷ []) false (λ f p e. let z = soft_one f p.0 e in omega (arith, z));
-        enqueue_bytes = λ i bytes e is some can b n. plain-known s _ refl (λ f g. omega (arith, g));
-        finish_bytes = λ i e is can b n. plain-known s _ refl (λ f g. omega (arith, g));
-        make_request = λ i reply is b n. plain-known _ _ refl (λ f g. omega (arith, g));
-        respond = λ r i bytes e is can b n. plain-known s _ refl (λ f g. omega (arith, g));
-        make_bytes = λ mark auto start b n. plain-known _ _ refl (λ f g. let a = streams-append (class bad me f) s.streams (ByteStream (byte.set_up mark auto)) in omega (arith, g, a));
-        get_reader = λ i e b n.
+            known-next bad me own s _ [] _ (λ i. false) known refl (omega (arith, c))
+            (λ f tees news g.
+            let one = reader_one f tees i.0 (count s.promises) (news (count s.promises) (omega arith) (omega (arith, c))) in
+            let t = fresh-keeps (class bad me f tees) s.promises (omega (arith, g)) in omega (arith, g, one, t));
+        release_byob = λ l closed i e b n pairs. release_reader-known i _ (is_readable (source_at i s).state);
+        read_into = λ l i closed room element least e h b n pairs. promising-known (λ p. Byte i (PullInto room element (least * element) (PromiseRequest p)) ∷ []) false (λ f tees p e. let z = soft_one f tees p.0 e in omega (arith, z));
+        enqueue_bytes = λ i bytes e is some can b n pairs. plain-known s _ refl refl (λ f tees g. omega (arith, g));
+        finish_bytes = λ i e is can b n pairs. plain-known s _ refl refl (λ f tees g. omega (arith, g));
+        make_request = λ i reply is b n pairs. plain-known _ _ refl refl (λ f tees g. omega (arith, g));
+        respond = λ r i bytes e is can b n pairs. plain-known s _ refl refl (λ f tees g. omega (arith, g));
+        make_bytes = λ mark auto start b n pairs. plain-known _ _ refl refl (λ f tees g. let a = streams-append (class bad me f tees) 0 s.streams (ByteStream (byte.set_up mark auto)) (length s.streams) (omega arith) (omega (arith, g)) refl in omega (arith, g, a));
+        get_reader = λ i e b n pairs.
             let c = fresh-count s.promises in
-            known-next bad me own s _ [] _ (λ i. false) known (omega (arith, c))
-            (λ f news g.
-            let one = soft_one f (count s.promises) (news (count s.promises) (omega arith) (omega (arith, c))) in
-            let t = fresh-keeps (class bad me f) s.promises (omega (arith, g)) in omega (arith, g, one, t));
-        get_writer = λ i e b n.
+            known-next bad me own s _ [] _ (λ i. false) known refl (omega (arith, c))
+            (λ f tees news g.
+            let one = reader_one f tees i.0 (count s.promises) (news (count s.promises) (omega arith) (omega (arith, c))) in
+            let t = fresh-keeps (class bad me f tees) s.promises (omega (arith, g)) in omega (arith, g, one, t));
+        get_writer = λ i e b n pairs.
             let c = fresh-count s.promises in
             let d = fresh-count (fresh s.promises) in
-            known-next bad me own s _ [] _ (λ i. false) known (omega (arith, c, d))
-            (λ f news g.
-            let one = soft_one f (count s.promises) (news (count s.promises) (omega arith) (omega (arith, c, d))) in
-            let two = soft_one f (count (fresh s.promises)) (news (count (fresh s.promises)) (omega (arith, c)) (omega (arith, d))) in
-            let t = fresh-keeps (class bad me f) (fresh s.promises) (fresh-keeps (class bad me f) s.promises (omega (arith, g))) in omega (arith, g, one, two, t));
-        release_reader = λ l closed i e b n. release_reader-known i _ (is_readable (source_at i s).state);
-        release_writer = λ l i w e h b n. release_writer-known i _ (is_pending_at w.ready s.promises) (is_pending_at w.closed (with_renewed s.promises (is_pending_at w.ready s.promises)));
-        cancel = λ reason i b n. promising-known (λ p. Readable i (Cancel reason p) ∷ []) false (λ f p e. omega (arith, b));
-        read = λ l i closed e h b n. promising-known (λ p. Readable i (Read (PromiseRequest p)) ∷ []) false (λ f p e. let z = soft_one f p.0 e in omega (arith, z));
-        write = λ l v i e b n. promising-known (λ p. Writable i (Write v p) ∷ []) false (λ f p e. let z = soft_one f p.0 e in omega (arith, z));
-        close = λ i b n. promising-known (λ p. Writable i (Close p) ∷ []) false (λ f p e. let z = soft_one f p.0 e in omega (arith, z));
-        abort = λ reason i e b n. promising-known (λ p. Writable i (Abort reason p) ∷ []) true (λ f p e. grind (arith, b, e));
-        enqueue = λ i v e o can b n. plain-known s _ refl (λ f g. omega (arith, g));
-        enqueue_half = λ i t v e o can b n. plain-known s _ refl (λ f g. omega (arith, g));
-        fail_half = λ t reason b n. plain-known s _ refl (λ f g. omega (arith, g, b));
-        terminate = λ t b n. plain-known s _ refl (λ f g. omega (arith, g, b));
-        make_transform = λ kind m l start b n.
+            known-next bad me own s _ [] _ (λ i. false) known refl (omega (arith, c, d))
+            (λ f tees news g.
+            let one = soft_one f tees (count s.promises) (news (count s.promises) (omega arith) (omega (arith, c, d))) in
+            let two = soft_one f tees (count (fresh s.promises)) (news (count (fresh s.promises)) (omega (arith, c)) (omega (arith, d))) in
+            let t = fresh-keeps (class bad me f tees) (fresh s.promises) (fresh-keeps (class bad me f tees) s.promises (omega (arith, g))) in omega (arith, g, one, two, t));
+        release_reader = λ l closed i e b n pairs. release_reader-known i _ (is_readable (source_at i s).state);
+        release_writer = λ l i w e h b n pairs. release_writer-known i _ (is_pending_at w.ready s.promises) (is_pending_at w.closed (with_renewed s.promises (is_pending_at w.ready s.promises)));
+        cancel = λ reason i b n pairs. promising-known (λ p. Readable i (Cancel reason p) ∷ []) false (λ f tees p e. omega (arith, b));
+        read = λ l i closed e h b n pairs. promising-known (λ p. Readable i (Read (PromiseRequest p)) ∷ []) false (λ f tees p e. let z = soft_one f tees p.0 e in omega (arith, z));
+        write = λ l v i e b n pairs. promising-known (λ p. Writable i (Write v p) ∷ []) false (λ f tees p e. let z = soft_one f tees p.0 e in omega (arith, z));
+        close = λ i b n pairs. promising-known (λ p. Writable i (Close p) ∷ []) false (λ f tees p e. let z = soft_one f tees p.0 e in omega (arith, z));
+        abort = λ reason i e b n pairs. promising-known (λ p. Writable i (Abort reason p) ∷ []) true (λ f tees p e. grind (arith, b, e));
+        enqueue = λ i v e o can b n pairs. plain-known s _ refl refl (λ f tees g. omega (arith, g));
+        enqueue_half = λ i t v e o can b n pairs. plain-known s _ refl refl (λ f tees g. omega (arith, g));
+        fail_half = λ t reason b n pairs. plain-known s _ refl refl (λ f tees g. omega (arith, g, b));
+        terminate = λ t b n pairs. plain-known s _ refl refl (λ f tees g. omega (arith, g, b));
+        make_transform = λ kind m l start b n pairs.
             transform-known kind m l start _ _
             (let z = kinds-append bad.of s.transforms (transform.set_up kind (record { 0 = length s.streams }) (record { 0 = length s.streams + 1 }) (record { 0 = count s.promises })) in omega (arith, n, z));
-        finish = λ i b n. plain-known s _ refl (λ f g. omega (arith, g));
-        fail_readable = λ i reason b n. plain-known s _ refl (λ f g. omega (arith, g, b));
-        fail_writable = λ i reason b n. plain-known s _ refl (λ f g. omega (arith, g, b));
-        pipe = λ source dest prevent signal e f l m b n. pipe-known source dest prevent signal;
-        make_signal = λ b n. plain-known _ _ refl (λ f g. let a = signals-append (class bad me f) s.signals in omega (arith, g, a));
-        trigger = λ a reason b n. plain-known s _ refl (λ f g. omega (arith, g, b));
-        settle = λ h answer p e b n. plain-known _ _ refl (λ f g. grind (arith, g, b));
+        finish = λ i b n pairs. plain-known s _ refl refl (λ f tees g. omega (arith, g));
+        fail_readable = λ i reason b n pairs. plain-known s _ refl refl (λ f tees g. omega (arith, g, b));
+        fail_writable = λ i reason b n pairs. plain-known s _ refl refl (λ f tees g. omega (arith, g, b));
+        pipe = λ source dest prevent signal e f l m b n pairs. pipe-known source dest prevent signal;
+        make_signal = λ b n pairs. plain-known _ _ refl refl (λ f tees g. let a = signals-append (class bad me f tees) s.signals in omega (arith, g, a));
+        trigger = λ a reason b n pairs. plain-known s _ refl refl (λ f tees g. omega (arith, g, b));
+        settle = λ h answer p e b n pairs. plain-known _ _ refl refl (λ f tees g. grind (arith, g, b));
       })

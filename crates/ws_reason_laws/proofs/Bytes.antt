@@ -28,8 +28,8 @@ use Rattle.ws_steps.specs.Readable as readable
 use Rattle.ws_laws.proofs.Tables.{either}
 use Rattle.ws_reason_laws.specs.Reasons.{pull_errs}
 use Rattle.ws_reason_laws.proofs.InTable.{settle-good}
-use Rattle.ws_reason_laws.proofs.Readables.{Good, effects-append, requests-append, close_all-good, close-good, error-good, release_by-good, initialize-good}
-use Rattle.ws_reason_laws.proofs.Weights.{Class, cancelled, of_readable, of_byte, in_request, in_requests, in_effects, in_reader}
+use Rattle.ws_reason_laws.proofs.Readables.{Good, lets_go, effects-append, requests-append, close_all-good, close-good, error-good, release_by-good, initialize-good}
+use Rattle.ws_reason_laws.proofs.Weights.{Class, cancelled, of_readable, of_byte, in_request, in_requests, in_effects, soft_reader, in_reader}
 
 -- the stream within, and what is outside
 abbrev pub inner : Acts → readable.Acts
@@ -94,15 +94,15 @@ module _ (k : Class) (me : StreamId) where
 
   -- the ends
 
-  keeping-fine : (a : Acts) (r : Option PromiseId) → in_reader k r ≡ 0 → Fine a → Good k me (byte.close_keeping (inner a) r)
-  keeping-fine a None z h = h
-  keeping-fine a (Some closed) z h = let s = settle-good k closed (Ok Undefined) a.out.promises (omega (arith, h)) refl in omega (arith, h, s)
+  keeping-fine : (a : Acts) (r : Option PromiseId) → Fine a → Good k me (byte.close_keeping (inner a) r)
+  keeping-fine a None h = h
+  keeping-fine a (Some closed) h = let s = settle-good k closed (Ok Undefined) a.out.promises (omega (arith, h)) refl in omega (arith, h, s)
 
   byte_close-fine : (a : Acts) → Keeps a (byte.stream_close me a)
   unfolding byte.stream_close
   byte_close-fine a h =
       either Fine (byte.has_byob_reader a.slots) (byte.in_stream byte.close_stream_keeping a) (byte.in_stream (readable.stream_close me) a)
-      (λ y. keeping-fine (byte.with_slots (record a.slots { stream = record a.slots.stream { state = Closed } }) a) a.slots.stream.reader (omega (arith, h)) (omega (arith, h)))
+      (λ y. keeping-fine (byte.with_slots (record a.slots { stream = record a.slots.stream { state = Closed } }) a) a.slots.stream.reader (omega (arith, h)))
       (λ n. close-good k me (inner a) h)
 
   byte_error-fine : (r : Plain) (a : Acts) → k.bad r ≡ 0 → Keeps a (byte.controller_error me r a)
@@ -298,7 +298,7 @@ module _ (k : Class) (me : StreamId) where
   unfolding byte.stream_cancel readable.disturb
   cancel-fine r p a z h = cancel_by-fine r p (byte.in_stream readable.disturb a) a.slots.stream.state refl z h
 
-  initialize-fine : (kind : ReaderKind) (c : PromiseId) (a : Acts) → in_reader k (Some c) ≡ 0 → Keeps a (byte.reader_initialize kind c a)
+  initialize-fine : (kind : ReaderKind) (c : PromiseId) (a : Acts) → in_reader k me.0 (Some c) ≡ 0 → Keeps a (byte.reader_initialize kind c a)
   unfolding byte.reader_initialize
   initialize-fine kind c a z h = meant-fine (is_none a.slots.stream.reader) _ a (λ h. initialize-good k me c (inner a) z h) h
 
@@ -306,26 +306,27 @@ module _ (k : Class) (me : StreamId) where
   ended-fine a false h = h
   ended-fine a true h = pull-fine (byte.with_slots (record a.slots { stream = record a.slots.stream { pull_again = false } }) a) h
 
-  pub byte_readable-good : (operation : ReadableOperation) (a : Acts) → of_readable k me operation ≡ 0 → (readable_errs operation a.slots ≡ true → k.bad type_error ≡ 0) → Keeps a (byte_readable_operation me operation a)
+  pub byte_readable-good : (operation : ReadableOperation) (a : Acts) → of_readable k me operation ≡ 0 → (readable_errs operation a.slots ≡ true → k.bad type_error ≡ 0) → (lets_go operation ≡ true → soft_reader k a.slots.stream.reader ≡ 0) → Keeps a (byte_readable_operation me operation a)
   unfolding byte.reader_release readable.reader_release readable.disturb byte.read byte.default_reader_read byte.cancel_if_readable byte.start_settled byte.pull_settled
-  byte_readable-good (names.InitializeReader c) a f e h = initialize-fine Default c a f h
-  byte_readable-good names.ReleaseReader a f e h = release_by-good k me (inner a) a.slots.stream.reader (omega (arith, h)) h
-  byte_readable-good names.Disturb a f e h = h
-  byte_readable-good (names.Read q) a f e h =
-      meant-fine (byte.may_read a.slots) (byte.read_by me q (byte.in_stream readable.disturb a) a.slots.stream.state) a (λ h. read-fine q (byte.in_stream readable.disturb a) a.slots.stream.state f h) h
-  byte_readable-good (names.Cancel r p) a f e h = cancel-fine r p a f h
-  byte_readable-good (names.CancelIfReadable r p) a f e h =
+  byte_readable-good (names.InitializeReader c) a f e z h = initialize-fine Default c a f h
+  byte_readable-good names.ReleaseReader a f e z h = release_by-good k me (inner a) a.slots.stream.reader (z refl) h
+  byte_readable-good names.Disturb a f e z h = h
+  byte_readable-good (names.Read q) a f e z h =
+      either Fine (byte.is_of_tee q) a (byte.if_meant (byte.may_read a.slots) (byte.read_by me q (byte.in_stream readable.disturb a) a.slots.stream.state) a) (λ t. h)
+      (λ t. meant-fine (byte.may_read a.slots) (byte.read_by me q (byte.in_stream readable.disturb a) a.slots.stream.state) a (λ h. read-fine q (byte.in_stream readable.disturb a) a.slots.stream.state f h) h)
+  byte_readable-good (names.Cancel r p) a f e z h = cancel-fine r p a f h
+  byte_readable-good (names.CancelIfReadable r p) a f e z h =
       let s = settle-good k p (Ok Undefined) a.out.promises (omega (arith, h)) refl in
       either Fine (readable.is_readable a.slots.stream.state) (byte.stream_cancel me r p a) _ (λ i. cancel-fine r p a f h) (λ i. omega (arith, h, s))
-  byte_readable-good (names.Enqueue v) a f e h = h
-  byte_readable-good names.Close a f e h = controller_close-fine a e h
-  byte_readable-good (names.Error r) a f e h = byte_error-fine r a f h
-  byte_readable-good (names.StartSettled (Ok v)) a f e h = pull-fine (byte.with_slots (record a.slots { stream = record a.slots.stream { started = true } }) a) h
-  byte_readable-good (names.StartSettled (Err r)) a f e h = byte_error-fine r a f h
-  byte_readable-good (names.PullSettled (Ok v)) a f e h = ended-fine (byte.with_slots (record a.slots { stream = record a.slots.stream { pulling = false } }) a) a.slots.stream.pull_again h
-  byte_readable-good (names.PullSettled (Err r)) a f e h = byte_error-fine r a f h
+  byte_readable-good (names.Enqueue v) a f e z h = h
+  byte_readable-good names.Close a f e z h = controller_close-fine a e h
+  byte_readable-good (names.Error r) a f e z h = byte_error-fine r a f h
+  byte_readable-good (names.StartSettled (Ok v)) a f e z h = pull-fine (byte.with_slots (record a.slots { stream = record a.slots.stream { started = true } }) a) h
+  byte_readable-good (names.StartSettled (Err r)) a f e z h = byte_error-fine r a f h
+  byte_readable-good (names.PullSettled (Ok v)) a f e z h = ended-fine (byte.with_slots (record a.slots { stream = record a.slots.stream { pulling = false } }) a) a.slots.stream.pull_again h
+  byte_readable-good (names.PullSettled (Err r)) a f e z h = byte_error-fine r a f h
 
-  pub byte-good : (operation : ByteOperation) (a : Acts) → of_byte k operation ≡ 0 → (byte_errs operation a.slots ≡ true → k.bad type_error ≡ 0) → Keeps a (byte_operation me operation a)
+  pub byte-good : (operation : ByteOperation) (a : Acts) → of_byte k me operation ≡ 0 → (byte_errs operation a.slots ≡ true → k.bad type_error ≡ 0) → Keeps a (byte_operation me operation a)
   unfolding byte.read_into byte.respond
   byte-good (own_names.InitializeByobReader c) a f e h = initialize-fine Byob c a f h
   byte-good (own_names.Enqueue b) a f e h = enqueue-fine b a h

@@ -7,7 +7,7 @@ use Rattle.ws_value.specs.declared.value.Plain.{Plain}
 use Rattle.ws_value.specs.declared.value.Plain.TheVariants.{Undefined}
 use Rattle.ws_value.specs.declared.value.Value.{Value}
 use Rattle.ws_steps.specs.declared.effects.Owner.{Owner}
-use Rattle.ws_steps.specs.declared.effects.Owner.TheVariants.{Host, HalfOf}
+use Rattle.ws_steps.specs.declared.effects.Owner.TheVariants.{Host, HalfOf, BranchOf}
 use Rattle.ws_steps.specs.declared.writable.PendingAbort.{PendingAbort}
 use Rattle.ws_steps.specs.declared.writable.WritableOperation.{WritableOperation}
 use Rattle.ws_steps.specs.declared.writable.WritableOperation.TheVariants as names
@@ -122,6 +122,7 @@ module _ (me : StreamId) where
       told : (owner : Owner) → Stills a (add_pending_abort r p (signalled me r a owner))
       told Host = grind arith
       told (HalfOf t) = grind arith
+      told (BranchOf t half) = grind arith
 
   failed-still : (e : Plain) (a : Acts) → Stills a (close_settled me (Err e) a)
   unfolding close_settled finish_in_flight_close_with_error

@@ -1,24 +1,27 @@
 -- Which effects store a TypeError in a byte stream: a close and a read into a room, and these only where they stand first on the agenda.
-use Rattle.std.proofs.Common.{◌≡◌, ℕ, zero, suc, ◌*◌, Bool, true, false, not, ◌&&◌, if◌then◌else◌, List, [], ◌∷◌, ◌++◌, length, Option, Some, None, slice_get, nat_eq, refl, subst, ◌∙◌, map, arith}
+use Rattle.std.proofs.Common.{◌≡◌, ℕ, zero, suc, ◌*◌, Bool, true, false, not, ◌&&◌, if◌then◌else◌, List, [], ◌∷◌, ◌++◌, length, Option, Some, None, slice_get, nat_eq, inl, inr, refl, subst, ◌∙◌, map, arith}
 use Rattle.ws_value.specs.declared.ids.PipeId.{PipeId}
 use Rattle.ws_value.specs.declared.ids.StreamId.{StreamId}
+use Rattle.ws_value.specs.declared.ids.TeeId.{TeeId}
 use Rattle.ws_value.specs.declared.value.Plain.{Plain}
 use Rattle.ws_value.specs.declared.value.Value.{Value}
 use Rattle.ws_steps.specs.declared.byte.ByteOperation.TheVariants.{PullInto}
 use Rattle.ws_steps.specs.declared.calls.Call.{Call}
-use Rattle.ws_steps.specs.declared.calls.Call.TheVariants.{MakeReadable, MakeBytes, MakeWritable, MakeTransform, GetReader, GetByob, GetWriter, Cancel, CancelBy, Read, ReadInto, Write, Close as CloseWritable, CloseBy, Abort as AbortWritable, AbortBy, Closed, Ready, Release, Enqueue, Finish, Fail, Terminate, Request, Respond, Desired, DesiredBy, Pipe as PipeCall, MakeSignal, Trigger as TriggerCall, Settle as SettleCall, State, Step}
+use Rattle.ws_steps.specs.declared.calls.Call.TheVariants.{MakeReadable, MakeBytes, MakeWritable, MakeTransform, Tee as TeeCall, GetReader, GetByob, GetWriter, Cancel, CancelBy, Read, ReadInto, Write, Close as CloseWritable, CloseBy, Abort as AbortWritable, AbortBy, Closed, Ready, Release, Enqueue, Finish, Fail, Terminate, Request, Respond, Desired, DesiredBy, Pipe as PipeCall, MakeSignal, Trigger as TriggerCall, Settle as SettleCall, State, Step}
 use Rattle.ws_steps.specs.declared.effects.Effect.{Effect}
-use Rattle.ws_steps.specs.declared.effects.Effect.TheVariants.{Readable, Byte, Writable, Pipe, Signal, Transform, StartAlgorithm, PullAlgorithm, CancelAlgorithm, WriteAlgorithm, CloseAlgorithm, AbortAlgorithm, ChunkSteps, CloseSteps, CloseStepsWith, ErrorSteps}
+use Rattle.ws_steps.specs.declared.effects.Effect.TheVariants.{Readable, Byte, Writable, Pipe, Signal, Transform, Tee, StartAlgorithm, PullAlgorithm, CancelAlgorithm, WriteAlgorithm, CloseAlgorithm, AbortAlgorithm, ChunkSteps, CloseSteps, CloseStepsWith, ErrorSteps}
 use Rattle.ws_steps.specs.declared.effects.Owner.{Owner}
-use Rattle.ws_steps.specs.declared.effects.Owner.TheVariants.{HalfOf}
+use Rattle.ws_steps.specs.declared.effects.Owner.TheVariants.{HalfOf, BranchOf}
 use Rattle.ws_steps.specs.declared.locks.Lock.{Lock}
 use Rattle.ws_steps.specs.declared.locks.Lock.TheVariants.{Reader, ByobReader, Writer as WriterLock, ReleasedWriter, Inner}
 use Rattle.ws_steps.specs.declared.pipes.SignalOperation.{SignalOperation}
 use Rattle.ws_steps.specs.declared.pipes.SignalOperation.TheVariants.{Add, Forget, Trigger}
 use Rattle.ws_steps.specs.declared.promises.Job.{Job}
 use Rattle.ws_steps.specs.declared.readable.ReadRequest.{ReadRequest}
-use Rattle.ws_steps.specs.declared.readable.ReadRequest.TheVariants.{Promise, Pipe as PipeRequest}
+use Rattle.ws_steps.specs.declared.readable.ReadRequest.TheVariants.{Promise, Pipe as PipeRequest, Tee as TeeRequest}
 use Rattle.ws_steps.specs.declared.readable.ReadableOperation.TheVariants as names
+use Rattle.ws_steps.specs.declared.tee.Half.TheVariants.{First, Second}
+use Rattle.ws_steps.specs.declared.tee.TeeOperation.{TeeOperation}
 use Rattle.ws_steps.specs.declared.transform.TransformId.{TransformId}
 use Rattle.ws_steps.specs.declared.transform.TransformOperation.{TransformOperation}
 use Rattle.ws_steps.specs.Bytes as byte
@@ -26,18 +29,20 @@ use Rattle.ws_steps.specs.Calls as calls
 use Rattle.ws_steps.specs.Calls.{Begun, begin}
 use Rattle.ws_steps.specs.Effects.{type_error}
 use Rattle.ws_steps.specs.Jobs.{job_effects}
-use Rattle.ws_steps.specs.Operations.{transform_operation}
+use Rattle.ws_steps.specs.Operations.{transform_operation, tee_operation}
 use Rattle.ws_steps.specs.Queues.{is_empty}
-use Rattle.ws_steps.specs.Slots.{Slots, found, has_byte, byte_at, is_byte_stream, halves_at, on_transform_at, lock_at}
+use Rattle.ws_steps.specs.Slots.{Slots, found, has_byte, byte_at, is_byte_stream, halves_at, on_transform_at, on_tee_at, lock_at}
+use Rattle.ws_steps.specs.Tee as tee
 use Rattle.ws_steps.specs.Transform as transform
 use Rattle.ws_steps.specs.Turns.{row}
 use Rattle.ws_laws.proofs.Halves as halves
 use Rattle.ws_laws.proofs.Lists.{Each, each-append, each-map}
 use Rattle.ws_laws.proofs.PipeDoes.{PipeCauses}
-use Rattle.ws_laws.proofs.Rows.{ChunkCauses, EndCauses, SignalCauses, row-causes}
-use Rattle.ws_laws.proofs.Shapes.{transform_shape, transform_shapes, stream_shape, ReadableOf, map-there}
+use Rattle.ws_laws.proofs.Rows.{ChunkCauses, EndCauses, ErrorCauses, SignalCauses, row-causes}
+use Rattle.ws_laws.proofs.Shapes.{transform_shape, transform_shapes, tee_shape, tee_shapes, stream_shape, ReadableOf, map-there}
 use Rattle.ws_laws.proofs.StaysBytes.{row-byte}
 use Rattle.ws_laws.proofs.Tables.{either}
+use Rattle.ws_laws.proofs.TeeDoes.{TeeCauses, tee-causes}
 use Rattle.ws_laws.proofs.TransformDoes.{TransformCauses, transform-causes}
 use Rattle.ws_reason_laws.specs.Reasons.{erred_with, erred_by, erred_by_read}
 use Rattle.ws_reason_laws.proofs.Bytes.{readable_errs, byte_errs}
@@ -99,10 +104,17 @@ tame-stays s z same e t = grind (arith, t)
 chunk-mild : (v : Value) (request : ReadRequest) → ChunkCauses IsMild v request
 chunk-mild v (Promise p) = tt
 chunk-mild v (PipeRequest p) = tt
+chunk-mild v (TeeRequest t) = tt
 
 end-mild : (request : ReadRequest) → EndCauses IsMild request
 end-mild (Promise p) = tt
 end-mild (PipeRequest p) = tt
+end-mild (TeeRequest t) = tt
+
+error-mild : (request : ReadRequest) → ErrorCauses IsMild request
+error-mild (Promise p) = tt
+error-mild (PipeRequest p) = tt
+error-mild (TeeRequest t) = tt
 
 pipe-mild : (p : PipeId) (source dest : StreamId) (e : Effect) → PipeCauses p source dest e → IsMild e
 pipe-mild p source dest e c = grind (arith, c)
@@ -133,12 +145,28 @@ transformed t operation s h (Some x) e =
     each-map (TransformCauses t x.writable x.readable) (IsTame s) (transform-tame t x.writable x.readable s default) _
     (transform-causes t (halves_at x s) operation (record { slots = x; out = found s }) tt).1.1.1
 
+tee-tame : (t : TeeId) (source first second : StreamId) (s : Slots) → has_byte first s ≡ false → has_byte second s ≡ false → (e : Effect) → TeeCauses t source first second e → IsTame s e
+tee-tame t source first second s n m (Readable i names.Close) (inl c) = rw c n
+tee-tame t source first second s n m (Readable i names.Close) (inr c) = rw c m
+tee-tame t source first second s n m (Byte i (PullInto room element minimum request)) c = c
+tee-tame t source first second s n m e c = grind (arith, c)
+
+teed : (t : TeeId) (operation : TeeOperation) (s : Slots) → halves.Halved s → (o : Option tee.Slots) → slice_get s.tees t.0 ≡ o → Each (IsTame s) (on_tee_at (tee_operation t operation) t s o).caused
+teed t operation s h None e = tt
+teed t operation s h (Some x) e =
+    let shape : slice_get (tee_shapes s) t.0 ≡ Some (tee_shape x) = map-there tee_shape s.tees t.0 x e in
+    let first : has_byte x.branch1 s ≡ false = half-default s.streams x.branch1.0 (BranchOf t First) (h.branches t (tee_shape x) shape).0 in
+    let second : has_byte x.branch2 s ≡ false = half-default s.streams x.branch2.0 (BranchOf t Second) (h.branches t (tee_shape x) shape).1 in
+    each-map (TeeCauses t x.source x.branch1 x.branch2) (IsTame s) (tee-tame t x.source x.branch1 x.branch2 s first second) _
+    ((tee-causes t operation (record { slots = x; out = found s })).effects tt)
+
 mild-row : (e : Effect) (s : Slots) → Each IsMild (row e s).caused → Each (IsTame s) (row e s).caused
 mild-row e s m = each-map IsMild (IsTame s) (mild-tame s) (row e s).caused m
 
 row-tame : (e : Effect) (s : Slots) → halves.Halved s → Each (IsTame s) (row e s).caused
 unfolding row
 row-tame (Transform t operation) s h = transformed t operation s h (slice_get s.transforms t.0) refl
+row-tame (Tee t operation) s h = teed t operation s h (slice_get s.tees t.0) refl
 row-tame (Readable j operation) s h = mild-row (Readable j operation) s (row-causes IsMild (Readable j operation) s (record { pull = tt; cancel = λ r p. tt; chunk = λ r v. tt; close = λ r. tt; error = λ r e. tt }))
 row-tame (Byte j operation) s h =
     mild-row (Byte j operation) s
@@ -148,15 +176,15 @@ row-tame (Writable j operation) s h =
 row-tame (Pipe p operation) s h = mild-row (Pipe p operation) s (row-causes IsMild (Pipe p operation) s (pipe-mild p))
 row-tame (Signal a operation) s h = mild-row (Signal a operation) s (row-causes IsMild (Signal a operation) s (signal-mild operation))
 row-tame (StartAlgorithm j step start) s h = mild-row (StartAlgorithm j step start) s (row-causes IsMild (StartAlgorithm j step start) s (λ g u. tt, λ c u. tt))
-row-tame (PullAlgorithm j) s h = mild-row (PullAlgorithm j) s (row-causes IsMild (PullAlgorithm j) s (λ c u. tt, λ t u. tt))
-row-tame (CancelAlgorithm j r p) s h = mild-row (CancelAlgorithm j r p) s (row-causes IsMild (CancelAlgorithm j r p) s (λ c u. tt, λ t u. tt))
+row-tame (PullAlgorithm j) s h = mild-row (PullAlgorithm j) s (row-causes IsMild (PullAlgorithm j) s (λ c u. tt, (λ t u. tt, (λ t. tt, λ u. tt))))
+row-tame (CancelAlgorithm j r p) s h = mild-row (CancelAlgorithm j r p) s (row-causes IsMild (CancelAlgorithm j r p) s (λ c u. tt, (λ t u. tt, λ t half u. tt)))
 row-tame (WriteAlgorithm j) s h = mild-row (WriteAlgorithm j) s (row-causes IsMild (WriteAlgorithm j) s (tt, λ t u. tt))
 row-tame (CloseAlgorithm j) s h = mild-row (CloseAlgorithm j) s (row-causes IsMild (CloseAlgorithm j) s (λ c u. tt, λ t u. tt))
 row-tame (AbortAlgorithm j r p) s h = mild-row (AbortAlgorithm j r p) s (row-causes IsMild (AbortAlgorithm j r p) s (λ c u. tt, λ t u. tt))
 row-tame (ChunkSteps j q v) s h = mild-row (ChunkSteps j q v) s (row-causes IsMild (ChunkSteps j q v) s (chunk-mild v q))
 row-tame (CloseSteps j q) s h = mild-row (CloseSteps j q) s (row-causes IsMild (CloseSteps j q) s (end-mild q))
 row-tame (CloseStepsWith j q b) s h = mild-row (CloseStepsWith j q b) s (row-causes IsMild (CloseStepsWith j q b) s (end-mild q))
-row-tame (ErrorSteps j q e) s h = mild-row (ErrorSteps j q e) s (row-causes IsMild (ErrorSteps j q e) s (end-mild q))
+row-tame (ErrorSteps j q e) s h = mild-row (ErrorSteps j q e) s (row-causes IsMild (ErrorSteps j q e) s (error-mild q))
 row-tame e s h = mild-row e s (row-causes IsMild e s tt)
 
 pub erring-row : (bad : Plain → ℕ) (s : Slots) (e : Effect) (es : List Effect) → halves.Halved s → Erring bad s (e ∷ es) → Erring bad (row e s).slots ((row e s).caused ++ es)
@@ -177,6 +205,7 @@ call-mild (MakeReadable mark size start) s o = grind arith
 call-mild (MakeBytes mark auto start) s o = grind arith
 call-mild (MakeWritable mark size start) s o = grind arith
 call-mild (MakeTransform kind m n start) s o = grind arith
+call-mild (TeeCall i) s o = grind arith
 call-mild (GetReader i) s o = grind arith
 call-mild (GetByob i) s o = grind arith
 call-mild (GetWriter i) s o = grind arith

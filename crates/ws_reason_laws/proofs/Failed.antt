@@ -14,7 +14,7 @@ use Rattle.ws_steps.specs.Promises.{outcome_at}
 use Rattle.ws_steps.specs.Run.{Entry, Called, Worked, Heard, run, reply_to}
 use Rattle.ws_steps.specs.Slots.{Slots, empty, source_at, writable_at}
 use Rattle.ws_reason_laws.specs.Origins.{through, origins}
-use Rattle.ws_reason_laws.specs.Reasons.{reason_of, given, failure_of, failures, cancel_of, cancels, IsFree, EachReasonWasGiven, EachReasonWasAFailure, EachStoredErrorWasAFailure, BringsNothing}
+use Rattle.ws_reason_laws.specs.Reasons.{reason_of, given, failure_of, failures, cancel_of, cancels, IsFree, EachReasonWasGiven, EachReasonWasAFailure, EachStoredErrorWasAFailure, BringsNothing, NeedsTee}
 use Rattle.ws_reason_laws.proofs.Among.{same_reason, reason_same, is_among, among_contained, contained_among}
 use Rattle.ws_reason_laws.proofs.Brought.{among-append, through-among, none-through, through-erred, erred-among}
 use Rattle.ws_reason_laws.proofs.Given.{reason-has-an-origin}
@@ -76,23 +76,23 @@ module _ (entries : List Entry) (r : Plain) where
 
 -- between free ends
 pub free-origin : (opening xs : List Entry) (i j : StreamId) (prevent : Prevent) (signal : Option SignalId) (q : PromiseId) (r : Plain) → let s : Slots = run opening empty in
-    let entries : List Entry = opening ++ Called (Pipe i j prevent signal) ∷ xs in IsFree i j s → reply_to (Pipe i j prevent signal) s ≡ Promise q
+    let entries : List Entry = opening ++ Called (Pipe i j prevent signal) ∷ xs in IsFree i j s → reply_to (Pipe i j prevent signal) s ≡ Promise q → NeedsTee r entries
     → outcome_at (run entries empty).promises q ≡ Some (Rejected r) → Contains (origins entries) r
-free-origin opening xs i j prevent signal q r free reply out =
+free-origin opening xs i j prevent signal q r free reply need out =
     reason-has-an-origin opening xs i j prevent signal q r
     (record { source = free.source; dest = free.dest; source_unlocked = free.source_unlocked; dest_unlocked = free.dest_unlocked }) reply
-    (λ e. record { closing = free.not_closing; closed = free.not_closed }) out
+    (λ e. record { closing = free.not_closing; closed = free.not_closed }) need out
 
 pub reason-was-a-failure : EachReasonWasAFailure
-reason-was-a-failure opening xs i j prevent signal q r free reply but nor out =
-    was-failure (opening ++ Called (Pipe i j prevent signal) ∷ xs) r but nor (free-origin opening xs i j prevent signal q r free reply out)
+reason-was-a-failure opening xs i j prevent signal q r free reply but nor need out =
+    was-failure (opening ++ Called (Pipe i j prevent signal) ∷ xs) r but nor (free-origin opening xs i j prevent signal q r free reply need out)
 
 pub reason-was-given : EachReasonWasGiven
-reason-was-given opening xs i j prevent signal q r free reply but out =
-    was-given (opening ++ Called (Pipe i j prevent signal) ∷ xs) r but (free-origin opening xs i j prevent signal q r free reply out)
+reason-was-given opening xs i j prevent signal q r free reply but need out =
+    was-given (opening ++ Called (Pipe i j prevent signal) ∷ xs) r but (free-origin opening xs i j prevent signal q r free reply need out)
 
 pub stored-error-was-a-failure : EachStoredErrorWasAFailure
 stored-error-was-a-failure = record {
-  readable = λ entries i but nor e. was-failure entries (source_at i (run entries empty)).stored_error but nor (stored-error-has-an-origin.readable entries i e);
-  writable = λ entries i but nor e. was-failure entries (writable_at i (run entries empty)).stored_error but nor (stored-error-has-an-origin.writable entries i e);
+  readable = λ entries i but nor need e. was-failure entries (source_at i (run entries empty)).stored_error but nor (stored-error-has-an-origin.readable entries i need e);
+  writable = λ entries i but nor need e. was-failure entries (writable_at i (run entries empty)).stored_error but nor (stored-error-has-an-origin.writable entries i need e);
 }

@@ -1,5 +1,5 @@
 -- Over every run: a pipe's promise is rejected only with a reason that has an origin.
-use Rattle.std.proofs.Common.{◌≡◌, ℕ, ◌+◌, Bool, true, false, List, [], ◌∷◌, ◌++◌, length, Option, Some, None, slice_get, refl, sym, ap, subst, ◌∙◌, arith, nat_eq, Contains}
+use Rattle.std.proofs.Common.{◌≡◌, ℕ, ◌+◌, ◌≤◌, Bool, true, false, if◌then◌else◌, map, List, [], ◌∷◌, ◌++◌, length, Option, Some, None, slice_get, refl, sym, ap, subst, ◌∙◌, arith, nat_eq, Contains}
 use Rattle.std.specs.Option.{option_map}
 use Rattle.ws_value.specs.declared.ids.PipeId.{PipeId}
 use Rattle.ws_value.specs.declared.ids.PromiseId.{PromiseId}
@@ -8,6 +8,7 @@ use Rattle.ws_value.specs.declared.ids.StreamId.{StreamId}
 use Rattle.ws_value.specs.declared.value.Outcome.{Outcome}
 use Rattle.ws_value.specs.declared.value.Outcome.TheVariants.{Rejected}
 use Rattle.ws_value.specs.declared.value.Plain.{Plain}
+use Rattle.ws_value.specs.declared.value.Plain.TheVariants.{Pair}
 use Rattle.ws_steps.specs.declared.calls.Call.{Call}
 use Rattle.ws_steps.specs.declared.calls.Call.TheVariants.{Pipe}
 use Rattle.ws_steps.specs.declared.calls.Reply.{Reply}
@@ -20,21 +21,24 @@ use Rattle.ws_steps.specs.Pipes as pipe
 use Rattle.ws_steps.specs.Promises.{Entry as PromiseEntry, Table, next_id, fresh, outcome_at, entry_at}
 use Rattle.ws_steps.specs.Run.{Entry, Called, step, run, reply_to}
 use Rattle.ws_steps.specs.Slots.{Slots, empty}
+use Rattle.ws_steps.specs.Tee as tee
+use Rattle.ws_laws.proofs.Shapes.{tee_shape}
 use Rattle.ws_pipe_laws.proofs.Kept.{each_pipe_stays}
 use Rattle.ws_reason_laws.specs.Origins.{through, origins, AreUnlocked, IsOpen, EachReasonHasAnOrigin}
-use Rattle.ws_reason_laws.specs.Reasons.{failures}
+use Rattle.ws_reason_laws.specs.Reasons.{failures, is_pair, NeedsTee}
 use Rattle.ws_laws.proofs.Halves.{halved-empty}
 use Rattle.ws_reason_laws.proofs.Among.{same_reason, reason_same, reason_self, is_among, bad_unless, all-good, good_among, among_contained}
 use Rattle.ws_reason_laws.proofs.Answers.{bad_call, bad-append}
 use Rattle.ws_reason_laws.proofs.Begins.{own-known}
 use Rattle.ws_reason_laws.proofs.Halved.{Halved, half_at, halved-end, halved-before, halved-begun}
 use Rattle.ws_reason_laws.proofs.InTable.{entry-good, fresh-count}
-use Rattle.ws_reason_laws.proofs.Known.{Badness, class, Known}
+use Rattle.ws_reason_laws.proofs.Known.{Badness, class, teed_at, teed-at, Known}
 use Rattle.ws_reason_laws.proofs.Moments.{moment-empty}
 use Rattle.ws_reason_laws.proofs.Newly.{made-opens}
 use Rattle.ws_reason_laws.proofs.Opening.{NewOpens}
 use Rattle.ws_reason_laws.proofs.Runs.{Whole, call-whole, run_then, bad_run, first-good, run-whole}
-use Rattle.ws_reason_laws.proofs.Weights.{Class, in_outcome, in_entry, in_table, minds, count}
+use Rattle.ws_reason_laws.proofs.Teed.{Paired, paired-before}
+use Rattle.ws_reason_laws.proofs.Weights.{Class, in_outcome, in_entry, in_table, bad_of, minds, count}
 
 none_some : (y : pipe.Slots) → ◌≡◌ {A = Option pipe.Slots} None (Some y) → ⊥
 none_some y e = cc
@@ -119,7 +123,7 @@ pipe-whole bad opening i j prevent signal q f e ready good there w =
 
 known-empty : (bad : Badness) (me : PipeId) → Known bad me None empty []
 unfolding in_table
-known-empty bad me = record { hands = λ i. true; mine = tt; good = λ f same. refl }
+known-empty bad me = record { hands = λ i. true; mine = tt; good = λ f g same reads. refl }
 
 pub whole-empty : (bad : Badness) (me : PipeId) → Whole bad me None empty []
 whole-empty bad me = record { moment = moment-empty; halved = λ i y e. cc; opens = λ p x e m g. cc; known = known-empty bad me; halves = halved-empty; erring = tt }
@@ -140,9 +144,9 @@ rejected-good k n (Some x) r h e g =
 whole_rejected : (bad : Badness) (me : PipeId) (q : PromiseId) (s : Slots) (r : Plain) → Whole bad me (Some q.0) s [] → outcome_at s.promises q ≡ Some (Rejected r) → bad.of r ≡ 0
 whole_rejected bad me q s r w out =
     let f : ℕ → Bool = w.known.hands in
-    let g = w.known.good f (λ i h. refl) in
-    let e = entry-good (class bad me f) q s.promises (omega (arith, g)) in
-    rejected-good (class bad me f) q.0 (entry_at s.promises q) r e out w.known.mine.1
+    let g = w.known.good f (teed_at s) (λ i h. refl) (teed-at s) in
+    let e = entry-good (class bad me f (teed_at s)) q s.promises (omega (arith, g)) in
+    rejected-good (class bad me f (teed_at s)) q.0 (entry_at s.promises q) r e out w.known.mine.1
 
 -- the law
 
@@ -157,9 +161,9 @@ run-append bad (x ∷ xs) ys s =
 -- where no reason is bad that calls gave by which something fails, or brought through a transform stream, none is bad with which the pipe's
 -- promise is rejected
 good-rejection : (bad : Badness) (opening xs : List Entry) (i j : StreamId) (prevent : Prevent) (signal : Option SignalId) (q : PromiseId) (r : Plain) → let s : Slots = run opening empty in
-    let entries : List Entry = opening ++ Called (Pipe i j prevent signal) ∷ xs in bad_run bad entries empty ≡ 0 → Halved bad.half (run entries empty)
+    let entries : List Entry = opening ++ Called (Pipe i j prevent signal) ∷ xs in bad_run bad entries empty ≡ 0 → Halved bad.half (run entries empty) → Paired bad.of (run entries empty)
     → AreUnlocked i j s → reply_to (Pipe i j prevent signal) s ≡ Promise q → (nat_eq (bad.of type_error) 0 ≡ false → IsOpen j s) → outcome_at (run entries empty).promises q ≡ Some (Rejected r) → bad.of r ≡ 0
-good-rejection bad opening xs i j prevent signal q r good halved free reply ready out =
+good-rejection bad opening xs i j prevent signal q r good halved paired free reply ready out =
     let s : Slots = run opening empty in
     let c : Call = Pipe i j prevent signal in
     let me : PipeId = record { 0 = length s.pipes } in
@@ -168,15 +172,16 @@ good-rejection bad opening xs i j prevent signal q r good halved free reply read
     let d = first-good bad (Called c) xs s in
     let rest : run (opening ++ Called c ∷ xs) empty ≡ run (Called c ∷ xs) s = run_then opening (Called c ∷ xs) empty in
     let later : Halved bad.half (run (Called c ∷ xs) s) = subst (Halved bad.half) rest halved in
+    let pairs : Paired bad.of (run (Called c ∷ xs) s) = subst (Paired bad.of) rest paired in
     let w1 : Whole bad me None s [] =
-    run-whole bad me None (Before me) (λ s x xs f. f) (before-new mind me) [] opening (pipe_past s.pipes) (omega (arith, a, good)) (halved-before bad.half (Called c ∷ xs) s later) (whole-empty bad me) in
+    run-whole bad me None (Before me) (λ s x xs f. f) (before-new mind me) [] opening (pipe_past s.pipes) (omega (arith, a, good)) (halved-before bad.half (Called c ∷ xs) s later) (paired-before bad.of (Called c ∷ xs) s pairs) (whole-empty bad me) in
     let w2 : Whole bad me (Some q.0) (step s (Called c)) [] = pipe-whole bad opening i j prevent signal q free reply ready (omega (arith, a, d, good)) (halved-begun bad.half c xs s later) w1 in
     let pre : List Entry = opening ++ Called c ∷ [] in
     let at : run pre empty ≡ step s (Called c) = run_then opening (Called c ∷ []) empty in
     let t = (each_pipe_stays me s).in_call c (pipe.set_up i j prevent signal (next_id (fresh (fresh (fresh s.promises))))) (there (begin-is i j prevent signal s q free reply)) in
     let after : bad_run bad xs (step s (Called c)) ≡ 0 = omega (arith, a, d, good) in
     let w3 : Whole bad me (Some q.0) (run xs (run pre empty)) [] =
-    run-whole bad me (Some q.0) (After me) (after-next me) (after-new mind me) pre xs (rw at (t.slots, t.there)) (rw at after) (rw at later) (rw at w2) in
+    run-whole bad me (Some q.0) (After me) (after-next me) (after-new mind me) pre xs (rw at (t.slots, t.there)) (rw at after) (rw at later) (rw at pairs) (rw at w2) in
     let all_ : run (opening ++ Called c ∷ xs) empty ≡ run xs (run pre empty) = run_then opening (Called c ∷ xs) empty ∙ ap (λ (z : Slots). run xs z) (sym at) in
     whole_rejected bad me q (run xs (run pre empty)) r w3 (rw all_ at out)
   where
@@ -184,35 +189,78 @@ good-rejection bad opening xs i j prevent signal q r good halved free reply read
         → slice_get (begin (Pipe i j prevent signal) (run opening empty)).done.slots.pipes (length (run opening empty).pipes) ≡ Some (pipe.set_up i j prevent signal (next_id (fresh (fresh (fresh (run opening empty).promises)))))
     there b = rw b (pipe_last (run opening empty).pipes _)
 
+-- pairs aren't bad where there are tees
+abbrev pub but_pairs : List tee.Slots → (Plain → ℕ) → Plain → ℕ
+but_pairs [] bad r = bad r
+but_pairs (x ∷ xs) bad r = if is_pair r then 0 else bad r
+
+pairs-less : (xs : List tee.Slots) (bad : Plain → ℕ) (r : Plain) → but_pairs xs bad r ≤ bad r
+pairs-less [] bad r = omega arith
+pairs-less (x ∷ xs) bad r = by (is_pair r)
+  where
+    by : (b : Bool) → (if b then 0 else bad r) ≤ bad r
+    by true = omega arith
+    by false = omega arith
+
+pairs-all : (xs : List tee.Slots) (bad : Plain → ℕ) (rs : List Plain) → bad_of (but_pairs xs bad) rs ≤ bad_of bad rs
+pairs-all xs bad [] = omega arith
+pairs-all xs bad (r ∷ rs) = let a = pairs-less xs bad r in let b = pairs-all xs bad rs in omega (arith, a, b)
+
+unpaired : (xs : List tee.Slots) (bad : Plain → ℕ) (r : Plain) → (is_pair r ≡ true → xs ≡ []) → but_pairs xs bad r ≡ 0 → bad r ≡ 0
+unpaired [] bad r n h = h
+unpaired (x ∷ xs) bad r n h = by (is_pair r) n h
+  where
+    by : (b : Bool) → (b ≡ true → x ∷ xs ≡ []) → (if b then 0 else bad r) ≡ 0 → bad r ≡ 0
+    by true n h = let e = n refl in cc
+    by false n h = h
+
 -- only the origins of a run count, and these others
 abbrev pub but_origins : List Plain → List Entry → Badness
-but_origins others entries = record { of = bad_unless (others ++ origins entries); half = half_at (run entries empty) }
+but_origins others entries = record { of = but_pairs (run entries empty).tees (bad_unless (others ++ origins entries)); half = half_at (run entries empty) }
+
+-- where there is a tee no pair is bad
+pub paired-end : (others : List Plain) (entries : List Entry) → Paired (but_origins others entries).of (run entries empty)
+paired-end others entries t x e = by (run entries empty).tees e
+  where
+    by : (xs : List tee.Slots) → slice_get (map tee_shape xs) t.0 ≡ Some x → but_pairs xs (bad_unless (others ++ origins entries)) (Pair t) ≡ 0
+    by [] e = cc
+    by (y ∷ ys) e = refl
+
+pub of-origins : (others : List Plain) (entries : List Entry) (r : Plain) → NeedsTee r entries → (but_origins others entries).of r ≡ 0 → is_among r (others ++ origins entries) ≡ true
+of-origins others entries r n h = good_among (others ++ origins entries) r (unpaired (run entries empty).tees (bad_unless (others ++ origins entries)) r n h)
 
 pub origins-good : (others : List Plain) (entries : List Entry) → bad_run (but_origins others entries) entries empty ≡ 0
 origins-good others entries =
-    let bad : Plain → ℕ = bad_unless (others ++ origins entries) in
-    let a = all-good (others ++ origins entries) in
+    let bad : Plain → ℕ = but_pairs (run entries empty).tees (bad_unless (others ++ origins entries)) in
+    let g = all-good (others ++ origins entries) in
+    let l = pairs-all (run entries empty).tees (bad_unless (others ++ origins entries)) (others ++ origins entries) in
+    let a : bad_of bad (others ++ origins entries) ≡ 0 = omega (arith, g, l) in
     let b = bad-append bad others (origins entries) in
     let c = bad-append bad (failures entries) (through entries empty) in
     omega (arith, a, b, c)
 
 -- where a TypeError is one of the reasons it isn't bad
-unfair : (rs : List Plain) → nat_eq (bad_unless (type_error ∷ rs) type_error) 0 ≡ false → ⊥
-unfair rs n = let s : is_among type_error (type_error ∷ rs) ≡ true = rw (reason_self type_error) refl in let m : nat_eq 0 0 ≡ false = rw s at n in cc
+fair : (rs : List Plain) → nat_eq (bad_unless (type_error ∷ rs) type_error) 0 ≡ false → ⊥
+fair rs n = let s : is_among type_error (type_error ∷ rs) ≡ true = rw (reason_self type_error) refl in let m : nat_eq 0 0 ≡ false = rw s at n in cc
+
+unfair : (xs : List tee.Slots) (rs : List Plain) → nat_eq (but_pairs xs (bad_unless (type_error ∷ rs)) type_error) 0 ≡ false → ⊥
+unfair [] rs n = fair rs n
+unfair (x ∷ xs) rs n = fair rs n
 
 pub reason-has-an-origin : EachReasonHasAnOrigin
-reason-has-an-origin opening xs i j prevent signal q r free reply ready out = by (same_reason type_error r) refl
+reason-has-an-origin opening xs i j prevent signal q r free reply ready need out = by (same_reason type_error r) refl
   where
     by : (b : Bool) → same_reason type_error r ≡ b → Contains (origins (opening ++ Called (Pipe i j prevent signal) ∷ xs)) r
     by true e =
         let entries : List Entry = opening ++ Called (Pipe i j prevent signal) ∷ xs in
         let o : IsOpen j (run opening empty) = ready (sym (reason_same type_error r e)) in
         among_contained r (origins entries)
-        (good_among (origins entries) r (good-rejection (but_origins [] entries) opening xs i j prevent signal q r (origins-good [] entries) (halved-end (run entries empty)) free reply (λ n. o) out))
+        (of-origins [] entries r need
+        (good-rejection (but_origins [] entries) opening xs i j prevent signal q r (origins-good [] entries) (halved-end (run entries empty)) (paired-end [] entries) free reply (λ n. o) out))
     by false e =
         let entries : List Entry = opening ++ Called (Pipe i j prevent signal) ∷ xs in
         let good =
-        good-rejection (but_origins (type_error ∷ []) entries) opening xs i j prevent signal q r (origins-good (type_error ∷ []) entries) (halved-end (run entries empty)) free reply
-        (λ n. absurd (unfair (origins entries) n)) out in
-        let among : is_among r (type_error ∷ origins entries) ≡ true = good_among (type_error ∷ origins entries) r good in
+        good-rejection (but_origins (type_error ∷ []) entries) opening xs i j prevent signal q r (origins-good (type_error ∷ []) entries) (halved-end (run entries empty)) (paired-end (type_error ∷ []) entries) free reply
+        (λ n. absurd (unfair (run entries empty).tees (origins entries) n)) out in
+        let among : is_among r (type_error ∷ origins entries) ≡ true = of-origins (type_error ∷ []) entries r need good in
         among_contained r (origins entries) (rw e at among)

@@ -3,9 +3,11 @@ pub mod InTable
 pub mod Readables
 pub mod Bytes
 pub mod Erring
+pub mod Teed
 pub mod Writables
 pub mod Pipes
 pub mod Transforms
+pub mod Tees
 pub mod Rows
 pub mod Known
 pub mod Halved

@@ -240,6 +240,7 @@ module _ (me : PipeId) (y : pipe.Slots) where
         pipe = λ z source dest prevent signal promise k. (piped z (pipe.set_up source dest prevent signal promise) k.0, k.1);
         signal = λ z k. k;
         transform = λ z kind i j change k. k;
+        tee = λ z source first second cancel k. k;
         bytes = λ z mark auto k. added z _ k;
         byob_requests = λ z hs k. k;
         readable = λ z owner mark size k. added z _ k;
@@ -256,6 +257,7 @@ begin-there me y c s k =
       pipe = λ z source dest prevent signal promise k. piped me y z (pipe.set_up source dest prevent signal promise) k;
       signal = λ z k. k;
       transform = λ z kind i j change k. k;
+      tee = λ z source first second cancel k. k;
       bytes = λ z mark auto k. k;
       byob_requests = λ z hs k. k;
       readable = λ z owner mark size k. k;

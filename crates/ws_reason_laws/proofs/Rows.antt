@@ -1,5 +1,5 @@
 -- The row of each effect keeps that nothing bad stands anywhere, where the promises that it makes are of the right kind.
-use Rattle.std.proofs.Common.{◌≡◌, ℕ, zero, suc, ◌+◌, ◌≤◌, ◌<◌, Bool, true, false, if◌then◌else◌, List, [], ◌∷◌, ◌++◌, length, Option, Some, None, Result, Err, slice_get, slice_set, refl, subst, arith}
+use Rattle.std.proofs.Common.{◌≡◌, ℕ, zero, suc, ◌+◌, ◌≤◌, ◌<◌, Bool, true, false, ◌||◌, if◌then◌else◌, List, [], ◌∷◌, ◌++◌, length, Option, Some, None, Result, Err, slice_get, slice_set, refl, ap, subst, arith}
 use Rattle.ws_value.specs.declared.ids.PipeId.{PipeId}
 use Rattle.ws_value.specs.declared.ids.PromiseId.{PromiseId}
 use Rattle.ws_value.specs.declared.ids.SignalId.{SignalId}
@@ -14,11 +14,11 @@ use Rattle.ws_steps.specs.declared.calls.HostCall.{HostCall}
 use Rattle.ws_steps.specs.declared.calls.StartBy.{StartBy}
 use Rattle.ws_steps.specs.declared.calls.StartBy.TheVariants.{Now, Later}
 use Rattle.ws_steps.specs.declared.effects.Effect.{Effect}
-use Rattle.ws_steps.specs.declared.effects.Effect.TheVariants.{Readable, Writable, Pipe, Signal, Transform, StartAlgorithm, PullAlgorithm, CancelAlgorithm, WriteAlgorithm, CloseAlgorithm, AbortAlgorithm, ChunkSteps, CloseSteps, ErrorSteps, Give, Settle, Queue, CallHost}
+use Rattle.ws_steps.specs.declared.effects.Effect.TheVariants.{Readable, Writable, Pipe, Signal, Transform, Tee, StartAlgorithm, PullAlgorithm, CancelAlgorithm, WriteAlgorithm, CloseAlgorithm, AbortAlgorithm, ChunkSteps, CloseSteps, ErrorSteps, Give, Settle, Queue, CallHost}
 use Rattle.ws_steps.specs.declared.effects.Gift.{Gift}
 use Rattle.ws_steps.specs.declared.effects.Gift.TheVariants.{This, Fresh}
 use Rattle.ws_steps.specs.declared.effects.Owner.{Owner}
-use Rattle.ws_steps.specs.declared.effects.Owner.TheVariants.{Host, HalfOf}
+use Rattle.ws_steps.specs.declared.effects.Owner.TheVariants.{Host, HalfOf, BranchOf}
 use Rattle.ws_steps.specs.declared.effects.Use.{Use}
 use Rattle.ws_steps.specs.declared.effects.Use.TheVariants.{React}
 use Rattle.ws_steps.specs.declared.pipes.PipeOperation.{PipeOperation}
@@ -27,19 +27,22 @@ use Rattle.ws_steps.specs.declared.pipes.SignalOperation.TheVariants.{Add, Forge
 use Rattle.ws_steps.specs.declared.promises.Step.{Step}
 use Rattle.ws_steps.specs.declared.promises.Step.TheVariants.{ReadablePull, ReturnUndefined, WritableClose, WritableAbort}
 use Rattle.ws_steps.specs.declared.readable.ReadRequest.{ReadRequest}
-use Rattle.ws_steps.specs.declared.readable.ReadRequest.TheVariants.{Promise, Pipe as PipeRequest}
+use Rattle.ws_steps.specs.declared.readable.ReadRequest.TheVariants.{Promise, Pipe as PipeRequest, Tee as TeeRequest}
 use Rattle.ws_steps.specs.declared.readable.ReadableOperation.{ReadableOperation}
+use Rattle.ws_value.specs.declared.ids.TeeId.{TeeId}
+use Rattle.ws_steps.specs.declared.tee.TeeOperation.{TeeOperation}
 use Rattle.ws_steps.specs.declared.transform.TransformId.{TransformId}
 use Rattle.ws_steps.specs.declared.transform.TransformOperation.{TransformOperation}
 use Rattle.ws_steps.specs.declared.writable.WritableOperation.{WritableOperation}
-use Rattle.ws_steps.specs.Operations.{readable_operation, writable_operation, pipe_operation, signal_operation, transform_operation}
+use Rattle.ws_steps.specs.Operations.{readable_operation, writable_operation, pipe_operation, signal_operation, transform_operation, tee_operation}
 use Rattle.ws_steps.specs.Pipes as pipe
 use Rattle.ws_steps.specs.Pipes.{abort_all, trigger_unless}
 use Rattle.ws_steps.specs.Promises.{Table, next_id, fresh, fresh_settled, settle, tell, use_gift, queue_micro}
 use Rattle.ws_steps.specs.Readable as readable
+use Rattle.ws_steps.specs.Tee as tee
 use Rattle.ws_steps.specs.Transform as transform
 use Rattle.ws_steps.specs.Writable as writable
-use Rattle.ws_steps.specs.Slots.{Slots, Stream, ReadableStream, WritableStream, Done, nothing, found, has_readable, has_writable, readable_at, writable_at, as_readable, as_source, as_writable, owner_at, put_readable, put_writable, on_readable, on_writable, on_pipe_at, on_signal_at, on_transform_at, ends_at, halves_at}
+use Rattle.ws_steps.specs.Slots.{Slots, Stream, ReadableStream, WritableStream, Done, nothing, found, has_readable, has_writable, readable_at, writable_at, as_readable, as_source, as_writable, owner_at, put_readable, put_writable, on_readable, on_writable, on_pipe_at, on_signal_at, on_transform_at, on_tee_at, is_teed, is_readable_stream, is_byte_stream, has_source, source_at, ends_at, halves_at}
 use Rattle.ws_steps.specs.Turns.{row, start_algorithm, pull_algorithm, cancel_algorithm, write_algorithm, close_algorithm, abort_algorithm, chunk_steps, close_steps, error_steps, call_host}
 use Rattle.ws_laws.proofs.Rows.{Changes, row-changes}
 use Rattle.ws_laws.proofs.Tables.{either, readable_there, writable_there, readable_acts, writable_acts}
@@ -49,9 +52,10 @@ use Rattle.ws_reason_laws.proofs.Pipes.{Finds, hands_on, pipe-good}
 use Rattle.ws_steps.specs.Effects.{type_error}
 use Rattle.ws_reason_laws.proofs.Bytes.{inner, byte_readable-good, byte-good}
 use Rattle.ws_reason_laws.proofs.Erring.{errs}
-use Rattle.ws_reason_laws.proofs.Readables.{Good, effects-append, readable-good}
+use Rattle.ws_reason_laws.proofs.Readables.{Good, lets_go, effects-append, readable-good}
+use Rattle.ws_reason_laws.proofs.Tees.{tee-good}
 use Rattle.ws_reason_laws.proofs.Transforms.{transform-good}
-use Rattle.ws_reason_laws.proofs.Weights.{Class, of_result, of_reason, cancelled, of_step, soft, loud, loud_one, settles, in_table, in_request, uses, of_use, gives, of_readable, of_byte, of_writable, of_pipe, of_signal, of_transform, in_effect, in_effects, is_errored, in_readable, has_error, in_writable, in_stream, in_streams, in_pipe, in_pipes, in_signals, minds, in_ends, in_transform, in_transforms, in_halves, in_slots, AllGood, count}
+use Rattle.ws_reason_laws.proofs.Weights.{Class, of_result, of_reason, cancelled, of_step, soft, loud, loud_one, settles, in_table, in_request, uses, of_use, gives, of_readable, of_byte, of_writable, of_pipe, of_signal, of_transform, of_tee, soft_reader, in_reader, in_effect, in_effects, is_errored, in_readable, has_error, in_writable, in_stream, in_streams, in_pipe, in_pipes, in_signals, minds, in_ends, in_transform, in_transforms, in_halves, in_tee, in_tees, in_slots, AllGood, count}
 use Rattle.ws_reason_laws.proofs.Writables.{Expects, writable-good}
 use Rattle.ws_steps.specs.declared.effects.Effect.TheVariants.{CloseStepsWith}
 use Rattle.ws_steps.specs.Slots.{ByteStream, has_byte, byte_at, on_byte, put_byte}
@@ -64,19 +68,24 @@ use Rattle.ws_steps.specs.Bytes as byte
 
 -- places
 
-pub streams-set : (k : Class) (xs : List Stream) (i : ℕ) (y : Stream) → in_streams k xs ≡ 0 → in_stream k y ≡ 0 → in_streams k (slice_set xs i y) ≡ 0
-streams-set k [] i y h g = refl
-streams-set k (x ∷ xs) zero y h g = omega (arith, h, g)
-streams-set k (x ∷ xs) (suc i) y h g = let e = streams-set k xs i y (omega (arith, h)) g in omega (arith, h, e)
+pub streams-set : (k : Class) (n : ℕ) (xs : List Stream) (i : ℕ) (y : Stream) (at : ℕ) → at ≡ n + i → in_streams k n xs ≡ 0 → in_stream k at y ≡ 0 → in_streams k n (slice_set xs i y) ≡ 0
+streams-set k n [] i y at e h g = refl
+streams-set k n (x ∷ xs) zero y at e h g =
+    let same : at ≡ n = omega (arith, e) in let f : in_stream k n y ≡ 0 = subst (λ (m : ℕ). in_stream k m y ≡ 0) same g in omega (arith, h, f)
+streams-set k n (x ∷ xs) (suc i) y at e h g = let f = streams-set k (suc n) xs i y at (omega (arith, e)) (omega (arith, h)) g in omega (arith, h, f)
 
-abbrev pub in_place : Class → Option Stream → ℕ
-in_place k None = 0
-in_place k (Some x) = in_stream k x
+abbrev pub in_place : Class → ℕ → Option Stream → ℕ
+in_place k n None = 0
+in_place k n (Some x) = in_stream k n x
 
-pub stream-there : (k : Class) (xs : List Stream) (i : ℕ) → in_streams k xs ≡ 0 → in_place k (slice_get xs i) ≡ 0
-stream-there k [] i h = refl
-stream-there k (x ∷ xs) zero h = omega (arith, h)
-stream-there k (x ∷ xs) (suc i) h = stream-there k xs i (omega (arith, h))
+streams-there : (k : Class) (n : ℕ) (xs : List Stream) (i at : ℕ) → at ≡ n + i → in_streams k n xs ≡ 0 → in_place k at (slice_get xs i) ≡ 0
+streams-there k n [] i at e h = refl
+streams-there k n (x ∷ xs) zero at e h =
+    let same : n ≡ at = omega (arith, e) in let z : in_stream k n x ≡ 0 = omega (arith, h) in subst (λ (m : ℕ). in_stream k m x ≡ 0) same z
+streams-there k n (x ∷ xs) (suc i) at e h = streams-there k (suc n) xs i at (omega (arith, e)) (omega (arith, h))
+
+pub stream-there : (k : Class) (xs : List Stream) (i : ℕ) → in_streams k 0 xs ≡ 0 → in_place k i (slice_get xs i) ≡ 0
+stream-there k xs i h = streams-there k 0 xs i i (omega arith) h
 
 pipes-set : (k : Class) (n : ℕ) (xs : List pipe.Slots) (i : ℕ) (y : pipe.Slots) (at : ℕ) → at ≡ n + i → in_pipes k n xs ≡ 0 → in_pipe k at y ≡ 0 → in_pipes k n (slice_set xs i y) ≡ 0
 pipes-set k n [] i y at e h g = refl
@@ -124,15 +133,38 @@ transform-there k [] i h = refl
 transform-there k (x ∷ xs) zero h = omega (arith, h)
 transform-there k (x ∷ xs) (suc i) h = transform-there k xs i (omega (arith, h))
 
+tees-set : (k : Class) (n : ℕ) (xs : List tee.Slots) (i : ℕ) (y : tee.Slots) (at : ℕ) → at ≡ n + i → in_tees k n xs ≡ 0 → in_tee k at y ≡ 0 → in_tees k n (slice_set xs i y) ≡ 0
+tees-set k n [] i y at e h g = refl
+tees-set k n (x ∷ xs) zero y at e h g =
+    let same : at ≡ n = omega (arith, e) in let f : in_tee k n y ≡ 0 = subst (λ (m : ℕ). in_tee k m y ≡ 0) same g in omega (arith, h, f)
+tees-set k n (x ∷ xs) (suc i) y at e h g = let f = tees-set k (suc n) xs i y at (omega (arith, e)) (omega (arith, h)) g in omega (arith, h, f)
+
+tee-there : (k : Class) (n : ℕ) (xs : List tee.Slots) (i : ℕ) (x : tee.Slots) (at : ℕ) → at ≡ n + i → slice_get xs i ≡ Some x → in_tees k n xs ≡ 0 → in_tee k at x ≡ 0
+tee-there k n [] i x at e f h = cc
+tee-there k n (y ∷ xs) zero x at e f h =
+    let same : n ≡ at = omega (arith, e) in
+    let z : in_tee k n y ≡ 0 = omega (arith, h) in
+    let is : y ≡ x = some_tee y x f in
+    subst (λ (m : ℕ). in_tee k m x ≡ 0) same (subst (λ (v : tee.Slots). in_tee k n v ≡ 0) is z)
+  where
+    some_tee : (v w : tee.Slots) → ◌≡◌ {A = Option tee.Slots} (Some v) (Some w) → v ≡ w
+    some_tee v w e = cc
+tee-there k n (y ∷ xs) (suc i) x at e f h = tee-there k (suc n) xs i x at (omega (arith, e)) f (omega (arith, h))
+
 -- what is to be known before an effect, where `me` is the pipe that is looked at
 
 abbrev pub Fits : (Plain → ℕ) → (ℕ → Bool) → PipeId → Effect → Slots → Type 0
 Fits bad half me (Writable i operation) s = has_writable i s ≡ true → Expects operation (writable_at i s)
 Fits bad half me (Pipe p operation) s = (x : pipe.Slots) → slice_get s.pipes p.0 ≡ Some x → Finds (minds bad half me p x.source x.prevent) (ends_at x s) x
-Fits bad half me (Readable i operation) s = errs (Readable i operation) s ≡ true → bad type_error ≡ 0
+Fits bad half me (Readable i operation) s = (errs (Readable i operation) s ≡ true → bad type_error ≡ 0) × (lets_go operation ≡ true → is_teed i s ≡ false)
 Fits bad half me (Byte i operation) s = errs (Byte i operation) s ≡ true → bad type_error ≡ 0
 Fits bad half me (CancelAlgorithm i r p) s = is_half (owner_at i s) ≡ true → half i.0 ≡ true
 Fits bad half me _ s = Unit {0}
+
+-- the reader of a stream that is let go of is soft
+abbrev pub Soft : Class → Effect → Slots → Type 0
+Soft k (Readable i operation) s = has_source i s ≡ true → lets_go operation ≡ true → soft_reader k (source_at i s).reader ≡ 0
+Soft k _ s = Unit {0}
 
 -- whether the promises that an effect makes hand on
 abbrev pub kind : Effect → Bool
@@ -142,35 +174,45 @@ kind _ = true
 
 -- what a pipe finds
 
-pub source-good : (k : Class) (o : Option Stream) → in_place k o ≡ 0 → (if is_errored (as_source o).state then k.bad (as_source o).stored_error else 0) ≡ 0
-source-good k None h = refl
-source-good k (Some (ReadableStream x)) h = omega (arith, h)
-source-good k (Some (ByteStream x)) h = omega (arith, h)
-source-good k (Some (WritableStream x)) h = refl
+pub source-good : (k : Class) (n : ℕ) (o : Option Stream) → in_place k n o ≡ 0 → (if is_errored (as_source o).state then k.bad (as_source o).stored_error else 0) ≡ 0
+source-good k n None h = refl
+source-good k n (Some (ReadableStream x)) h = omega (arith, h)
+source-good k n (Some (ByteStream x)) h = omega (arith, h)
+source-good k n (Some (WritableStream x)) h = refl
 
-half-good : (k : Class) (o : Option Stream) → in_place k o ≡ 0 → (if is_errored (as_readable o).state then k.bad (as_readable o).stored_error else 0) ≡ 0
-half-good k None h = refl
-half-good k (Some (ReadableStream x)) h = omega (arith, h)
-half-good k (Some (ByteStream x)) h = refl
-half-good k (Some (WritableStream x)) h = refl
+reader-soft_by : (k : Class) (n : ℕ) (r : Option PromiseId) → k.teed n ≡ false → in_reader k n r ≡ 0 → soft_reader k r ≡ 0
+reader-soft_by k n None t h = refl
+reader-soft_by k n (Some closed) t h = rw t at h
 
-pub dest-good : (k : Class) (o : Option Stream) → in_place k o ≡ 0
+pub reader-soft : (k : Class) (n : ℕ) (o : Option Stream) → (is_readable_stream o || is_byte_stream o) ≡ true → k.teed n ≡ false → in_place k n o ≡ 0 → soft_reader k (as_source o).reader ≡ 0
+reader-soft k n None there t h = cc
+reader-soft k n (Some (ReadableStream x)) there t h = reader-soft_by k n x.reader t (omega (arith, h))
+reader-soft k n (Some (ByteStream x)) there t h = reader-soft_by k n x.stream.reader t (omega (arith, h))
+reader-soft k n (Some (WritableStream x)) there t h = cc
+
+half-good : (k : Class) (n : ℕ) (o : Option Stream) → in_place k n o ≡ 0 → (if is_errored (as_readable o).state then k.bad (as_readable o).stored_error else 0) ≡ 0
+half-good k n None h = refl
+half-good k n (Some (ReadableStream x)) h = omega (arith, h)
+half-good k n (Some (ByteStream x)) h = refl
+half-good k n (Some (WritableStream x)) h = refl
+
+pub dest-good : (k : Class) (n : ℕ) (o : Option Stream) → in_place k n o ≡ 0
     → (if has_error (as_writable o).state then k.bad (as_writable o).stored_error else 0) + loud_one k (writable.answered_abort (as_writable o)) ≡ 0
-dest-good k None h = refl
-dest-good k (Some (ReadableStream x)) h = refl
-dest-good k (Some (ByteStream x)) h = refl
-dest-good k (Some (WritableStream x)) h = grind (arith, h)
+dest-good k n None h = refl
+dest-good k n (Some (ReadableStream x)) h = refl
+dest-good k n (Some (ByteStream x)) h = refl
+dest-good k n (Some (WritableStream x)) h = grind (arith, h)
 
 ends-good : (k : Class) (x : pipe.Slots) (s : Slots) → in_slots k s ≡ 0 → in_ends k (ends_at x s) ≡ 0
 ends-good k x s h =
-    let a = source-good k (slice_get s.streams x.source.0) (stream-there k s.streams x.source.0 (omega (arith, h))) in
-    let b = dest-good k (slice_get s.streams x.dest.0) (stream-there k s.streams x.dest.0 (omega (arith, h))) in
+    let a = source-good k x.source.0 (slice_get s.streams x.source.0) (stream-there k s.streams x.source.0 (omega (arith, h))) in
+    let b = dest-good k x.dest.0 (slice_get s.streams x.dest.0) (stream-there k s.streams x.dest.0 (omega (arith, h))) in
     omega (arith, a, b)
 
 halves-good : (k : Class) (x : transform.Slots) (s : Slots) → in_slots k s ≡ 0 → in_halves k (halves_at x s) ≡ 0
 halves-good k x s h =
-    let a = half-good k (slice_get s.streams x.readable.0) (stream-there k s.streams x.readable.0 (omega (arith, h))) in
-    let b = dest-good k (slice_get s.streams x.writable.0) (stream-there k s.streams x.writable.0 (omega (arith, h))) in
+    let a = half-good k x.readable.0 (slice_get s.streams x.readable.0) (stream-there k s.streams x.readable.0 (omega (arith, h))) in
+    let b = dest-good k x.writable.0 (slice_get s.streams x.writable.0) (stream-there k s.streams x.writable.0 (omega (arith, h))) in
     omega (arith, a, b)
 
 -- there are never fewer promises
@@ -212,14 +254,15 @@ module _ (k : Class) (m : ℕ) where
   new_soft : (s : Slots) → News s false → count s.promises < m → soft k (count s.promises) ≡ 0
   new_soft s f l = let e = f (count s.promises) (omega arith) l in grind (arith, e)
 
-  default-row : (i : StreamId) (operation : ReadableOperation) (s : Slots) → in_slots k s ≡ 0 → of_readable k i operation ≡ 0 → Row (on_readable (readable_operation i operation) i s)
-  default-row i operation s h f =
+  default-row : (i : StreamId) (operation : ReadableOperation) (s : Slots) → in_slots k s ≡ 0 → of_readable k i operation ≡ 0 → (has_source i s ≡ true → lets_go operation ≡ true → soft_reader k (source_at i s).reader ≡ 0) → Row (on_readable (readable_operation i operation) i s)
+  default-row i operation s h f gone =
       either Row (has_readable i s) (put_readable i s (readable_operation i operation (readable_acts i s))) (nothing s)
       (λ e.
-      let there : in_readable k (readable_at i s) ≡ 0 = subst (λ (o : Option Stream). in_place k o ≡ 0) (readable_there (slice_get s.streams i.0) e) (stream-there k s.streams i.0 (omega (arith, h))) in
+      let there : in_readable k i.0 (readable_at i s) ≡ 0 = subst (λ (o : Option Stream). in_place k i.0 o ≡ 0) (readable_there (slice_get s.streams i.0) e) (stream-there k s.streams i.0 (omega (arith, h))) in
       let y : readable.Acts = readable_operation i operation (readable_acts i s) in
-      let g = readable-good k i operation (readable_acts i s) f (omega (arith, h, there)) in
-      let z = streams-set k s.streams i.0 (ReadableStream y.slots) (omega (arith, h)) (omega (arith, g)) in
+      let same : (source_at i s).reader ≡ (readable_at i s).reader = ap (λ (o : Option Stream). (as_source o).reader) (readable_there (slice_get s.streams i.0) e) in
+      let g = readable-good k i operation (readable_acts i s) f (λ r. subst (λ (p : Option PromiseId). soft_reader k p ≡ 0) same (gone (rw e refl) r)) (omega (arith, h, there)) in
+      let z = streams-set k 0 s.streams i.0 (ReadableStream y.slots) i.0 (omega arith) (omega (arith, h)) (omega (arith, g)) in
       omega (arith, h, g, z))
       (λ e. omega (arith, h))
 
@@ -229,30 +272,36 @@ module _ (k : Class) (m : ℕ) where
   on_byte-row i operation s h keeps =
       either Row (has_byte i s) (put_byte i s (operation (byte_acts i s))) (nothing s)
       (λ e.
-      let there : in_readable k (byte_at i s).stream ≡ 0 = subst (λ (o : Option Stream). in_place k o ≡ 0) (byte_there (slice_get s.streams i.0) e) (stream-there k s.streams i.0 (omega (arith, h))) in
+      let there : in_readable k i.0 (byte_at i s).stream ≡ 0 = subst (λ (o : Option Stream). in_place k i.0 o ≡ 0) (byte_there (slice_get s.streams i.0) e) (stream-there k s.streams i.0 (omega (arith, h))) in
       let y : byte.Acts = operation (byte_acts i s) in
       let g = keeps e (omega (arith, h, there)) in
-      let z = streams-set k s.streams i.0 (ByteStream y.slots) (omega (arith, h)) (omega (arith, g)) in
+      let z = streams-set k 0 s.streams i.0 (ByteStream y.slots) i.0 (omega arith) (omega (arith, h)) (omega (arith, g)) in
       omega (arith, h, g, z))
       (λ e. omega (arith, h))
 
-  readable-row : (i : StreamId) (operation : ReadableOperation) (s : Slots) → in_slots k s ≡ 0 → of_readable k i operation ≡ 0 → (errs (Readable i operation) s ≡ true → k.bad type_error ≡ 0) → Row (on_source operation i s)
-  readable-row i operation s h f x =
+  readable-row : (i : StreamId) (operation : ReadableOperation) (s : Slots) → in_slots k s ≡ 0 → of_readable k i operation ≡ 0 → (errs (Readable i operation) s ≡ true → k.bad type_error ≡ 0) → (has_source i s ≡ true → lets_go operation ≡ true → soft_reader k (source_at i s).reader ≡ 0) → Row (on_source operation i s)
+  readable-row i operation s h f x gone =
       either Row (has_byte i s) (on_byte (byte_readable_operation i operation) i s) (on_readable (readable_operation i operation) i s)
-      (λ there. on_byte-row i (byte_readable_operation i operation) s h (λ e g. byte_readable-good k i operation (byte_acts i s) f (λ r. x (rw (e, r) refl)) g))
-      (λ absent. default-row i operation s h f)
+      (λ there. on_byte-row i (byte_readable_operation i operation) s h (λ e g. byte_readable-good k i operation (byte_acts i s) f (λ r. x (rw (e, r) refl)) (λ r. subst (λ (p : Option PromiseId). soft_reader k p ≡ 0) (same e) (gone (is_source e) r)) g))
+      (λ absent. default-row i operation s h f gone)
+    where
+      is_source : has_byte i s ≡ true → has_source i s ≡ true
+      is_source e = grind (arith, e)
 
-  byte-row : (i : StreamId) (operation : ByteOperation) (s : Slots) → in_slots k s ≡ 0 → of_byte k operation ≡ 0 → (errs (Byte i operation) s ≡ true → k.bad type_error ≡ 0) → Row (on_byte (byte_operation i operation) i s)
+      same : has_byte i s ≡ true → (source_at i s).reader ≡ (byte_at i s).stream.reader
+      same e = ap (λ (o : Option Stream). (as_source o).reader) (byte_there (slice_get s.streams i.0) e)
+
+  byte-row : (i : StreamId) (operation : ByteOperation) (s : Slots) → in_slots k s ≡ 0 → of_byte k i operation ≡ 0 → (errs (Byte i operation) s ≡ true → k.bad type_error ≡ 0) → Row (on_byte (byte_operation i operation) i s)
   byte-row i operation s h f x = on_byte-row i (byte_operation i operation) s h (λ e g. byte-good k i operation (byte_acts i s) f (λ r. x (rw (e, r) refl)) g)
 
   writable-row : (i : StreamId) (operation : WritableOperation) (s : Slots) → in_slots k s ≡ 0 → of_writable k operation ≡ 0 → (has_writable i s ≡ true → Expects operation (writable_at i s)) → News s false → Until (on_writable (writable_operation i operation) i s)
   writable-row i operation s h f x l =
       either Until (has_writable i s) (put_writable i s (writable_operation i operation (writable_acts i s))) (nothing s)
       (λ e q.
-      let there : in_writable k (writable_at i s) ≡ 0 = subst (λ (o : Option Stream). in_place k o ≡ 0) (writable_there (slice_get s.streams i.0) e) (stream-there k s.streams i.0 (omega (arith, h))) in
+      let there : in_writable k (writable_at i s) ≡ 0 = subst (λ (o : Option Stream). in_place k i.0 o ≡ 0) (writable_there (slice_get s.streams i.0) e) (stream-there k s.streams i.0 (omega (arith, h))) in
       let y : writable.Acts = writable_operation i operation (writable_acts i s) in
       let g = writable-good k i (count s.promises) m (new_soft s l) operation (writable_acts i s) f (x e) refl (omega (arith, h, there)) q in
-      let z = streams-set k s.streams i.0 (WritableStream y.slots) (omega (arith, h)) (omega (arith, g)) in
+      let z = streams-set k 0 s.streams i.0 (WritableStream y.slots) i.0 (omega arith) (omega (arith, h)) (omega (arith, g)) in
       omega (arith, h, g, z))
       (λ e q. omega (arith, h))
 
@@ -294,6 +343,20 @@ module _ (k : Class) (m : ℕ) where
       let b : transform.Acts = transform_operation t (halves_at x s) operation a in
       let g = transform-good k t (halves_at x s) (halves-good k x s h) m operation a f (λ i n z. all_loud i (l i n z)) (omega (arith, h, there)) q in
       let z = transforms-set k s.transforms t.0 b.slots (omega (arith, h)) (omega (arith, g)) in
+      omega (arith, h, g, z)
+    where
+      all_loud : (i : ℕ) → k.hands i ≡ true → loud k i ≡ 0
+      all_loud i e = grind (arith, e)
+
+  tee-row : (t : TeeId) (operation : TeeOperation) (s : Slots) (o : Option tee.Slots) → slice_get s.tees t.0 ≡ o → in_slots k s ≡ 0 → of_tee k operation ≡ 0 → News s true
+      → Until (on_tee_at (tee_operation t operation) t s o)
+  tee-row t operation s None e h f l q = omega (arith, h)
+  tee-row t operation s (Some x) e h f l q =
+      let there : in_tee k t.0 x ≡ 0 = tee-there k 0 s.tees t.0 x t.0 (omega arith) e (omega (arith, h)) in
+      let a : tee.Acts = record { slots = x; out = found s } in
+      let b : tee.Acts = tee_operation t operation a in
+      let g = tee-good k t m operation a f (λ i n z. all_loud i (l i n z)) (omega (arith, h, there)) q in
+      let z = tees-set k 0 s.tees t.0 b.slots t.0 (omega arith) (omega (arith, h)) (omega (arith, g)) in
       omega (arith, h, g, z)
     where
       all_loud : (i : ℕ) → k.hands i ≡ true → loud k i ≡ 0
@@ -348,64 +411,74 @@ module _ (k : Class) (m : ℕ) where
   pulls : (i : StreamId) (u : Use) (owner : Owner) → of_use k u ≡ 0 → in_effects k (pull_algorithm i u owner) ≡ 0
   pulls i u Host z = omega (arith, z)
   pulls i u (HalfOf t) z = omega (arith, z)
+  pulls i u (BranchOf t half) z = omega (arith, z)
 
   cancels : (i : StreamId) (r : Plain) (u : Use) (owner : Owner) → cancelled k i r ≡ 0 → (is_half owner ≡ true → k.half i.0 ≡ true) → of_use k u ≡ 0 → in_effects k (cancel_algorithm i r u owner) ≡ 0
   cancels i r u Host f x z = omega (arith, z)
   cancels i r u (HalfOf t) f x z = let b : k.bad r ≡ 0 = rw (x refl) at f in omega (arith, b, z)
+  cancels i r u (BranchOf t half) f x z = omega (arith, z)
 
   hands : (i : StreamId) (owner : Owner) → in_effects k (write_algorithm i owner) ≡ 0
   hands i Host = refl
   hands i (HalfOf t) = refl
+  hands i (BranchOf t half) = refl
 
   closes : (i : StreamId) (u : Use) (owner : Owner) → of_use k u ≡ 0 → in_effects k (close_algorithm i u owner) ≡ 0
   closes i u Host z = omega (arith, z)
   closes i u (HalfOf t) z = omega (arith, z)
+  closes i u (BranchOf t half) z = omega (arith, z)
 
   aborts : (i : StreamId) (r : Plain) (u : Use) (owner : Owner) → k.bad r ≡ 0 → of_use k u ≡ 0 → in_effects k (abort_algorithm i r u owner) ≡ 0
   aborts i r u Host f z = omega (arith, z)
   aborts i r u (HalfOf t) f z = omega (arith, f, z)
+  aborts i r u (BranchOf t half) f z = omega (arith, z)
 
   chunk-row : (v : Value) (s : Slots) (request : ReadRequest) → in_slots k s ≡ 0 → Row (chunk_steps v s request)
   chunk-row v s (Promise p) h = let a = answer-keeps k p (Given v) s.promises (omega (arith, h)) refl in omega (arith, h, a)
   chunk-row v s (PipeRequest p) h = omega (arith, h)
+  chunk-row v s (TeeRequest t) h = omega (arith, h)
 
   close-row : (s : Slots) (request : ReadRequest) → in_slots k s ≡ 0 → Row (close_steps s request)
   close-row s (Promise p) h = let a = answer-keeps k p (Finished (PlainValue Undefined)) s.promises (omega (arith, h)) refl in omega (arith, h, a)
   close-row s (PipeRequest p) h = omega (arith, h)
+  close-row s (TeeRequest t) h = omega (arith, h)
 
   close_with-row : (b : List ℕ) (s : Slots) (request : ReadRequest) → in_slots k s ≡ 0 → Row (close_steps_with b s request)
   close_with-row b s (Promise p) h = let a = answer-keeps k p (Finished (Bytes b)) s.promises (omega (arith, h)) refl in omega (arith, h, a)
   close_with-row b s (PipeRequest p) h = omega (arith, h)
+  close_with-row b s (TeeRequest t) h = omega (arith, h)
 
   error-row : (e : Plain) (s : Slots) (request : ReadRequest) → in_slots k s ≡ 0 → in_request k request ≡ 0 → Row (error_steps e s request)
   error-row e s (Promise p) h f = let a = settle_soft k p (Err e) s.promises (omega (arith, h)) f in omega (arith, h, a)
   error-row e s (PipeRequest p) h f = omega (arith, h)
+  error-row e s (TeeRequest t) h f = omega (arith, h)
 
-  pub row-good : (e : Effect) (s : Slots) → in_slots k s ≡ 0 → in_effect k e ≡ 0 → Fits k.bad k.half k.me e s → News s (kind e) → Until (row e s)
+  pub row-good : (e : Effect) (s : Slots) → in_slots k s ≡ 0 → in_effect k e ≡ 0 → Fits k.bad k.half k.me e s → Soft k e s → News s (kind e) → Until (row e s)
   unfolding row
-  row-good (Readable i operation) s h f x l q = readable-row i operation s h f x
-  row-good (Byte i operation) s h f x l q = byte-row i operation s h f x
-  row-good (Writable i operation) s h f x l q = writable-row i operation s h f x l q
-  row-good (Pipe p operation) s h f x l q = pipe-row p operation s (slice_get s.pipes p.0) refl h f x l q
-  row-good (Signal a operation) s h f x l q = signal-row a operation s (slice_get s.signals a.0) refl h f
-  row-good (Transform t operation) s h f x l q = transform-row t operation s (slice_get s.transforms t.0) refl h f l q
-  row-good (StartAlgorithm i step start) s h f x l q = start-row i step s start h f l q
-  row-good (PullAlgorithm i) s h f x l q = promises-row s s.promises s.hosts _ h (omega (arith, h)) (pulls i (React (ReadablePull i) None) (owner_at i s) refl)
-  row-good (CancelAlgorithm i r p) s h f x l q = promises-row s s.promises s.hosts _ h (omega (arith, h)) (cancels i r (React ReturnUndefined (Some p)) (owner_at i s) f x refl)
-  row-good (WriteAlgorithm i) s h f x l q = promises-row s s.promises s.hosts _ h (omega (arith, h)) (hands i (owner_at i s))
-  row-good (CloseAlgorithm i) s h f x l q = promises-row s s.promises s.hosts _ h (omega (arith, h)) (closes i (React (WritableClose i) None) (owner_at i s) refl)
-  row-good (AbortAlgorithm i r p) s h f x l q = promises-row s s.promises s.hosts _ h (omega (arith, h)) (aborts i r (React (WritableAbort i p) None) (owner_at i s) f refl)
-  row-good (ChunkSteps i request v) s h f x l q = chunk-row v s request h
-  row-good (CloseSteps i request) s h f x l q = close-row s request h
-  row-good (CloseStepsWith i request b) s h f x l q = close_with-row b s request h
-  row-good (ErrorSteps i request e) s h f x l q = error-row e s request h f
-  row-good (Give gift u) s h f x l q = promises-row s (use_gift gift u s.promises) s.hosts [] h (give-row gift u s h f l q) refl
-  row-good (Settle p o) s h f x l q = promises-row s (settle p o s.promises) s.hosts [] h (settle-keeps k p o s.promises (omega (arith, h)) f) refl
-  row-good (Queue micro) s h f x l q = promises-row s (queue_micro micro s.promises) s.hosts [] h (micro-keeps k micro s.promises (omega (arith, h))) refl
-  row-good (CallHost call u) s h f x l q = call-row call u s h f l q
+  row-good (Readable i operation) s h f x gone l q = readable-row i operation s h f x.0 gone
+  row-good (Byte i operation) s h f x gone l q = byte-row i operation s h f x
+  row-good (Writable i operation) s h f x gone l q = writable-row i operation s h f x l q
+  row-good (Pipe p operation) s h f x gone l q = pipe-row p operation s (slice_get s.pipes p.0) refl h f x l q
+  row-good (Signal a operation) s h f x gone l q = signal-row a operation s (slice_get s.signals a.0) refl h f
+  row-good (Transform t operation) s h f x gone l q = transform-row t operation s (slice_get s.transforms t.0) refl h f l q
+  row-good (Tee t operation) s h f x gone l q = tee-row t operation s (slice_get s.tees t.0) refl h f l q
+  row-good (StartAlgorithm i step start) s h f x gone l q = start-row i step s start h f l q
+  row-good (PullAlgorithm i) s h f x gone l q = promises-row s s.promises s.hosts _ h (omega (arith, h)) (pulls i (React (ReadablePull i) None) (owner_at i s) refl)
+  row-good (CancelAlgorithm i r p) s h f x gone l q = promises-row s s.promises s.hosts _ h (omega (arith, h)) (cancels i r (React ReturnUndefined (Some p)) (owner_at i s) f x refl)
+  row-good (WriteAlgorithm i) s h f x gone l q = promises-row s s.promises s.hosts _ h (omega (arith, h)) (hands i (owner_at i s))
+  row-good (CloseAlgorithm i) s h f x gone l q = promises-row s s.promises s.hosts _ h (omega (arith, h)) (closes i (React (WritableClose i) None) (owner_at i s) refl)
+  row-good (AbortAlgorithm i r p) s h f x gone l q = promises-row s s.promises s.hosts _ h (omega (arith, h)) (aborts i r (React (WritableAbort i p) None) (owner_at i s) f refl)
+  row-good (ChunkSteps i request v) s h f x gone l q = chunk-row v s request h
+  row-good (CloseSteps i request) s h f x gone l q = close-row s request h
+  row-good (CloseStepsWith i request b) s h f x gone l q = close_with-row b s request h
+  row-good (ErrorSteps i request e) s h f x gone l q = error-row e s request h f
+  row-good (Give gift u) s h f x gone l q = promises-row s (use_gift gift u s.promises) s.hosts [] h (give-row gift u s h f l q) refl
+  row-good (Settle p o) s h f x gone l q = promises-row s (settle p o s.promises) s.hosts [] h (settle-keeps k p o s.promises (omega (arith, h)) f) refl
+  row-good (Queue micro) s h f x gone l q = promises-row s (queue_micro micro s.promises) s.hosts [] h (micro-keeps k micro s.promises (omega (arith, h))) refl
+  row-good (CallHost call u) s h f x gone l q = call-row call u s h f l q
 
-  pub turn-good : (e : Effect) (es : List Effect) (s : Slots) → AllGood k s (e ∷ es) → Fits k.bad k.half k.me e s → News s (kind e) → count (row e s).slots.promises ≤ m → AllGood k (row e s).slots ((row e s).caused ++ es)
-  turn-good e es s h x l q =
-      let a = row-good e s (omega (arith, h)) (omega (arith, h)) x l q in
+  pub turn-good : (e : Effect) (es : List Effect) (s : Slots) → AllGood k s (e ∷ es) → Fits k.bad k.half k.me e s → Soft k e s → News s (kind e) → count (row e s).slots.promises ≤ m → AllGood k (row e s).slots ((row e s).caused ++ es)
+  turn-good e es s h x gone l q =
+      let a = row-good e s (omega (arith, h)) (omega (arith, h)) x gone l q in
       let b = effects-append k (row e s).caused es in
       omega (arith, h, a, b)

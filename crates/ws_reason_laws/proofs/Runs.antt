@@ -38,6 +38,7 @@ use Rattle.ws_reason_laws.proofs.Newly.{each-opens}
 use Rattle.ws_reason_laws.proofs.Opening.{Opens, NewOpens, row-opens, call-opens, job-opens}
 use Rattle.ws_reason_laws.proofs.Pipes.{Finds}
 use Rattle.ws_reason_laws.proofs.Rows.{Fits}
+use Rattle.ws_reason_laws.proofs.Teed.{unteed, Paired, paired-begun}
 use Rattle.ws_reason_laws.proofs.Weights.{bad_of, minds}
 
 -- what holds at each moment of a run, where reasons are weighed, `me` is the pipe that is looked at, and `own` its promise once it is made
@@ -70,7 +71,7 @@ module _ (bad : Badness) (me : PipeId) (own : Option ℕ) where
   fits : (s : Slots) (e : Effect) (es : List Effect) → W s (e ∷ es) → Fits bad.of bad.half me e s
   fits s (OnWritable i operation) es w = λ there. moment-fits i operation s es w.moment there
   fits s (OnPipe p operation) es w = λ x there. finds p operation s es (w.opens p) x there
-  fits s (OnReadable i operation) es w = w.erring.0
+  fits s (OnReadable i operation) es w = (w.erring.0, unteed i operation s es w.moment.locked)
   fits s (Byte i operation) es w = w.erring.0
   fits s (CancelAlgorithm i r p) es w = halved-owner bad.half s w.halved i
   fits s e es w = tt
@@ -177,27 +178,27 @@ module _ (bad : Badness) (me : PipeId) (own : Option ℕ) where
         erring = erring-call bad.of s c (erred-part bad c s (omega (arith, h)));
       })
 
-  called-known : (c : Call) (s : Slots) → bad_call bad c s ≡ 0 → Whole bad me own s [] → Known bad me own (begin c s).done.slots (begin c s).done.caused
-  called-known c s h w = call-known bad me own s w.known c (begun-good bad c s w.halved h) (begun-kinds bad c s h (kinds-known bad me own s w.known))
+  called-known : (c : Call) (s : Slots) → bad_call bad c s ≡ 0 → Paired bad.of (begin c s).done.slots → Whole bad me own s [] → Known bad me own (begin c s).done.slots (begin c s).done.caused
+  called-known c s h p w = call-known bad me own s w.known c (begun-good bad c s w.halved h) (begun-kinds bad c s h (kinds-known bad me own s w.known)) p
 
   -- what is known of the pipe as a run goes on
   module _ (Phase : Slots → List Entry → Type 0) (next : (s : Slots) (x : Entry) (xs : List Entry) → Phase s (x ∷ xs) → Phase (step s x) xs)
       (new : (s : Slots) (c : Call) (xs : List Entry) → Phase s (Called c ∷ xs) → NewOpens (Mind bad me own me) me c s) where
-    step-whole : (pre : List Entry) (x : Entry) (xs : List Entry) → Phase (run pre empty) (x ∷ xs) → bad_entry bad x (run pre empty) ≡ 0 → Halved bad.half (run (x ∷ xs) (run pre empty)) → Whole bad me own (run pre empty) [] → Whole bad me own (step (run pre empty) x) []
-    step-whole pre (Called c) xs f h there w =
-        call-whole pre c h (halved-begun bad.half c xs (run pre empty) there) (new (run pre empty) c xs f) own (called-known c (run pre empty) h w) w
-    step-whole pre Worked xs f h there w = worked-whole bad me own (run pre empty) w
-    step-whole pre Heard xs f h there w = heard-whole bad me own (run pre empty) w
+    step-whole : (pre : List Entry) (x : Entry) (xs : List Entry) → Phase (run pre empty) (x ∷ xs) → bad_entry bad x (run pre empty) ≡ 0 → Halved bad.half (run (x ∷ xs) (run pre empty)) → Paired bad.of (run (x ∷ xs) (run pre empty)) → Whole bad me own (run pre empty) [] → Whole bad me own (step (run pre empty) x) []
+    step-whole pre (Called c) xs f h there p w =
+        call-whole pre c h (halved-begun bad.half c xs (run pre empty) there) (new (run pre empty) c xs f) own (called-known c (run pre empty) h (paired-begun bad.of c xs (run pre empty) p) w) w
+    step-whole pre Worked xs f h there p w = worked-whole bad me own (run pre empty) w
+    step-whole pre Heard xs f h there p w = heard-whole bad me own (run pre empty) w
 
-    pub run-whole : (pre xs : List Entry) → Phase (run pre empty) xs → bad_run bad xs (run pre empty) ≡ 0 → Halved bad.half (run xs (run pre empty)) → Whole bad me own (run pre empty) []
+    pub run-whole : (pre xs : List Entry) → Phase (run pre empty) xs → bad_run bad xs (run pre empty) ≡ 0 → Halved bad.half (run xs (run pre empty)) → Paired bad.of (run xs (run pre empty)) → Whole bad me own (run pre empty) []
         → Whole bad me own (run xs (run pre empty)) []
-    run-whole pre [] f h there w = w
-    run-whole pre (x ∷ xs) f h there w =
+    run-whole pre [] f h there p w = w
+    run-whole pre (x ∷ xs) f h there p w =
         let s : Slots = run pre empty in
         let g = first-good bad x xs s in
         let same : run (pre ++ x ∷ []) empty ≡ step s x = run_then pre (x ∷ []) empty in
-        let after : Whole bad me own (step s x) [] = step-whole pre x xs f (omega (arith, g, h)) there w in
+        let after : Whole bad me own (step s x) [] = step-whole pre x xs f (omega (arith, g, h)) there p w in
         let phase : Phase (step s x) xs = next s x xs f in
         let rest : bad_run bad xs (step s x) ≡ 0 = omega (arith, g, h) in
         subst (λ (z : Slots). Whole bad me own (run xs z) []) same
-        (run-whole (pre ++ x ∷ []) xs (subst (λ (z : Slots). Phase z xs) (sym same) phase) (subst (λ (z : Slots). bad_run bad xs z ≡ 0) (sym same) rest) (subst (λ (z : Slots). Halved bad.half (run xs z)) (sym same) there) (subst (λ (z : Slots). Whole bad me own z []) (sym same) after))
+        (run-whole (pre ++ x ∷ []) xs (subst (λ (z : Slots). Phase z xs) (sym same) phase) (subst (λ (z : Slots). bad_run bad xs z ≡ 0) (sym same) rest) (subst (λ (z : Slots). Halved bad.half (run xs z)) (sym same) there) (subst (λ (z : Slots). Paired bad.of (run xs z)) (sym same) p) (subst (λ (z : Slots). Whole bad me own z []) (sym same) after))

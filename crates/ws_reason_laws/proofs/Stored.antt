@@ -10,10 +10,11 @@ use Rattle.ws_steps.specs.Run.{Entry, run}
 use Rattle.ws_steps.specs.Slots.{Slots, empty, source_at, writable_at}
 use Rattle.ws_steps.specs.Writable.{is_erroring, is_errored}
 use Rattle.ws_reason_laws.specs.Origins.{origins, EachStoredErrorHasAnOrigin}
-use Rattle.ws_reason_laws.proofs.Among.{good_among, among_contained}
-use Rattle.ws_reason_laws.proofs.Given.{Before, before-new, pipe_past, whole-empty, but_origins, origins-good}
+use Rattle.ws_reason_laws.specs.Reasons.{NeedsTee}
+use Rattle.ws_reason_laws.proofs.Among.{among_contained}
+use Rattle.ws_reason_laws.proofs.Given.{Before, before-new, pipe_past, whole-empty, but_origins, origins-good, paired-end, of-origins}
 use Rattle.ws_reason_laws.proofs.Halved.{halved-end}
-use Rattle.ws_reason_laws.proofs.Known.{Badness, class}
+use Rattle.ws_reason_laws.proofs.Known.{Badness, class, teed_at, teed-at}
 use Rattle.ws_reason_laws.proofs.Rows.{stream-there, source-good, dest-good}
 use Rattle.ws_reason_laws.proofs.Runs.{Whole, run-whole}
 use Rattle.ws_reason_laws.proofs.Weights.{Class, in_streams, has_error, is_errored as is_source_errored, minds}
@@ -35,29 +36,29 @@ module _ (entries : List Entry) (i : StreamId) where
   me = record { 0 = length s.pipes }
 
   -- nothing bad stands in any stream
-  streams-good : (f : ℕ → Bool) × (in_streams (class bad me f) s.streams ≡ 0)
+  streams-good : (f : ℕ → Bool) × (in_streams (class bad me f (teed_at s)) 0 s.streams ≡ 0)
   streams-good =
       let w : Whole bad me None s [] =
-      run-whole bad me None (Before me) (λ s x xs f. f) (before-new (minds bad.of bad.half me me) me) [] entries (pipe_past s.pipes) (origins-good [] entries) (halved-end s) (whole-empty bad me) in
-      let g = w.known.good w.known.hands (λ i h. refl) in
+      run-whole bad me None (Before me) (λ s x xs f. f) (before-new (minds bad.of bad.half me me) me) [] entries (pipe_past s.pipes) (origins-good [] entries) (halved-end s) (paired-end [] entries) (whole-empty bad me) in
+      let g = w.known.good w.known.hands (teed_at s) (λ i h. refl) (teed-at s) in
       (w.known.hands, omega (arith, g))
 
-  has_origin : (r : Plain) → bad.of r ≡ 0 → Contains (origins entries) r
-  has_origin r h = among_contained r (origins entries) (good_among (origins entries) r h)
+  has_origin : (r : Plain) → NeedsTee r entries → bad.of r ≡ 0 → Contains (origins entries) r
+  has_origin r n h = among_contained r (origins entries) (of-origins [] entries r n h)
 
-  readable-stored : (source_at i s).state ≡ Errored → Contains (origins entries) (source_at i s).stored_error
-  readable-stored e =
+  readable-stored : NeedsTee (source_at i s).stored_error entries → (source_at i s).state ≡ Errored → Contains (origins entries) (source_at i s).stored_error
+  readable-stored n e =
       let g = streams-good in
-      let k : Class = class bad me g.0 in
-      let h = source-good k (slice_get s.streams i.0) (stream-there k s.streams i.0 g.1) in
-      has_origin (source_at i s).stored_error (errored-bad (source_at i s).state (bad.of (source_at i s).stored_error) e h)
+      let k : Class = class bad me g.0 (teed_at s) in
+      let h = source-good k i.0 (slice_get s.streams i.0) (stream-there k s.streams i.0 g.1) in
+      has_origin (source_at i s).stored_error n (errored-bad (source_at i s).state (bad.of (source_at i s).stored_error) e h)
 
-  writable-stored : (is_erroring (writable_at i s).state || is_errored (writable_at i s).state) ≡ true → Contains (origins entries) (writable_at i s).stored_error
-  writable-stored e =
+  writable-stored : NeedsTee (writable_at i s).stored_error entries → (is_erroring (writable_at i s).state || is_errored (writable_at i s).state) ≡ true → Contains (origins entries) (writable_at i s).stored_error
+  writable-stored n e =
       let g = streams-good in
-      let k : Class = class bad me g.0 in
-      let h = dest-good k (slice_get s.streams i.0) (stream-there k s.streams i.0 g.1) in
-      has_origin (writable_at i s).stored_error (erroring-bad (writable_at i s).state (bad.of (writable_at i s).stored_error) _ e h)
+      let k : Class = class bad me g.0 (teed_at s) in
+      let h = dest-good k i.0 (slice_get s.streams i.0) (stream-there k s.streams i.0 g.1) in
+      has_origin (writable_at i s).stored_error n (erroring-bad (writable_at i s).state (bad.of (writable_at i s).stored_error) _ e h)
 
 pub stored-error-has-an-origin : EachStoredErrorHasAnOrigin
-stored-error-has-an-origin = record { readable = λ entries i e. readable-stored entries i e; writable = λ entries i e. writable-stored entries i e }
+stored-error-has-an-origin = record { readable = λ entries i n e. readable-stored entries i n e; writable = λ entries i n e. writable-stored entries i n e }

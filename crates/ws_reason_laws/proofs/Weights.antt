@@ -1,7 +1,7 @@
 -- What is bad about reasons, wherever they stand. A class weighs each reason, 0 where it may stand, and tells of each promise whether it hands
--- on the reason with which it is rejected. The others are the promises of readers and writers, of reads, writes and closes, and of other
--- pipes than one: those may be rejected with any reason, and nothing that looks at a reason reacts to them. The reason with which the readable
--- half of a transform stream is cancelled becomes an error, and so may a TypeError.
+-- on the reason with which it is rejected. The others are the promises of readers, but those of tees, and of writers, of reads, writes and
+-- closes, and of other pipes than one: those may be rejected with any reason, and nothing that looks at a reason reacts to them. The reason
+-- with which the readable half of a transform stream is cancelled becomes an error, and so may a TypeError.
 use Rattle.std.proofs.Common.{◌≡◌, ℕ, suc, ◌+◌, Bool, true, false, not, ◌&&◌, ◌||◌, nat_eq, if◌then◌else◌, List, [], ◌∷◌, length, Option, Some, None, Result, Ok, Err}
 use Rattle.ws_value.specs.declared.ids.PipeId.{PipeId}
 use Rattle.ws_value.specs.declared.ids.PromiseId.{PromiseId}
@@ -9,10 +9,11 @@ use Rattle.ws_value.specs.declared.ids.StreamId.{StreamId}
 use Rattle.ws_value.specs.declared.value.Outcome.{Outcome}
 use Rattle.ws_value.specs.declared.value.Outcome.TheVariants.{Rejected}
 use Rattle.ws_value.specs.declared.value.Plain.{Plain}
+use Rattle.ws_value.specs.declared.value.Plain.TheVariants.{Pair}
 use Rattle.ws_steps.specs.declared.byte.ByteOperation.{ByteOperation}
 use Rattle.ws_steps.specs.declared.byte.ByteOperation.TheVariants as byte_names
 use Rattle.ws_steps.specs.declared.effects.Effect.{Effect}
-use Rattle.ws_steps.specs.declared.effects.Effect.TheVariants.{Readable as OnReadable, Byte, Writable as OnWritable, Pipe as OnPipe, Signal as OnSignal, Transform as OnTransform, StartAlgorithm, CancelAlgorithm, AbortAlgorithm, ErrorSteps, Give, Settle as SettleEffect, CallHost}
+use Rattle.ws_steps.specs.declared.effects.Effect.TheVariants.{Readable as OnReadable, Byte, Writable as OnWritable, Pipe as OnPipe, Signal as OnSignal, Transform as OnTransform, Tee as OnTee, StartAlgorithm, CancelAlgorithm, AbortAlgorithm, ErrorSteps, Give, Settle as SettleEffect, CallHost}
 use Rattle.ws_steps.specs.declared.effects.Gift.{Gift}
 use Rattle.ws_steps.specs.declared.effects.Gift.TheVariants.{This, Fresh}
 use Rattle.ws_steps.specs.declared.effects.Use.{Use}
@@ -32,11 +33,13 @@ use Rattle.ws_steps.specs.declared.promises.Reaction.TheVariants.{Perform, Adopt
 use Rattle.ws_steps.specs.declared.promises.Step.{Step}
 use Rattle.ws_steps.specs.declared.promises.Step.TheVariants.{PipeEnds, PipeReady, PipeWrote, TransformAborted, TransformCancelled}
 use Rattle.ws_steps.specs.declared.readable.ReadRequest.{ReadRequest}
-use Rattle.ws_steps.specs.declared.readable.ReadRequest.TheVariants.{Promise, Pipe as PipeRequest}
+use Rattle.ws_steps.specs.declared.readable.ReadRequest.TheVariants.{Promise, Pipe as PipeRequest, Tee as TeeRequest}
 use Rattle.ws_steps.specs.declared.readable.ReadableOperation.{ReadableOperation}
 use Rattle.ws_steps.specs.declared.readable.ReadableOperation.TheVariants.{InitializeReader, Read, Cancel, CancelIfReadable, Error, StartSettled, PullSettled}
 use Rattle.ws_steps.specs.declared.readable.ReadableState.{ReadableState}
 use Rattle.ws_steps.specs.declared.readable.ReadableState.TheVariants as state
+use Rattle.ws_steps.specs.declared.tee.TeeOperation.{TeeOperation}
+use Rattle.ws_steps.specs.declared.tee.TeeOperation.TheVariants as tee_names
 use Rattle.ws_steps.specs.declared.transform.Halves.{Halves}
 use Rattle.ws_steps.specs.declared.transform.Kind.{Kind}
 use Rattle.ws_steps.specs.declared.transform.Kind.TheVariants.{Identity}
@@ -53,6 +56,7 @@ use Rattle.ws_steps.specs.Pipes as pipe
 use Rattle.ws_steps.specs.Promises.{Entry, Table}
 use Rattle.ws_steps.specs.Readable as readable
 use Rattle.ws_steps.specs.Slots.{Slots, Stream, ReadableStream, ByteStream, WritableStream}
+use Rattle.ws_steps.specs.Tee as tee
 use Rattle.ws_steps.specs.Transform as transform
 use Rattle.ws_steps.specs.Writable as writable
 
@@ -63,6 +67,8 @@ pub record Class : Type 0 where
   pub me : PipeId
   -- whether the stream of this number is a half of a transform stream
   pub half : ℕ → Bool
+  -- whether a tee reads the stream of this number: its reader isn't let go of
+  pub teed : ℕ → Bool
 
 abbrev pub of_result : Class → Result Plain Plain → ℕ
 of_result k (Ok v) = 0
@@ -150,6 +156,7 @@ in_table k t = in_entries k 0 t.entries + in_jobs k t.jobs
 abbrev pub in_request : Class → ReadRequest → ℕ
 in_request k (Promise p) = soft k p.0
 in_request k (PipeRequest p) = 0
+in_request k (TeeRequest t) = 0
 
 abbrev pub in_requests : Class → List ReadRequest → ℕ
 in_requests k [] = 0
@@ -169,8 +176,18 @@ abbrev pub gives : Class → Gift → Use → ℕ
 gives k (This p) u = uses k p.0 u
 gives k (Fresh o) u = of_result k o + of_use k u
 
+-- the closed promise of a reader of stream n, and where no tee reads that
+
+abbrev pub soft_reader : Class → Option PromiseId → ℕ
+soft_reader k None = 0
+soft_reader k (Some closed) = soft k closed.0
+
+abbrev pub in_reader : Class → ℕ → Option PromiseId → ℕ
+in_reader k n None = 0
+in_reader k n (Some closed) = if k.teed n then 0 else soft k closed.0
+
 abbrev pub of_readable : Class → StreamId → ReadableOperation → ℕ
-of_readable k i (InitializeReader closed) = soft k closed.0
+of_readable k i (InitializeReader closed) = in_reader k i.0 (Some closed)
 of_readable k i (Read request) = in_request k request
 of_readable k i (Cancel r p) = cancelled k i r
 of_readable k i (CancelIfReadable r p) = cancelled k i r
@@ -179,10 +196,10 @@ of_readable k i (StartSettled o) = of_result k o
 of_readable k i (PullSettled o) = of_result k o
 of_readable k i _ = 0
 
-abbrev pub of_byte : Class → ByteOperation → ℕ
-of_byte k (byte_names.InitializeByobReader closed) = soft k closed.0
-of_byte k (byte_names.PullInto room element minimum request) = in_request k request
-of_byte k _ = 0
+abbrev pub of_byte : Class → StreamId → ByteOperation → ℕ
+of_byte k i (byte_names.InitializeByobReader closed) = in_reader k i.0 (Some closed)
+of_byte k i (byte_names.PullInto room element minimum request) = in_request k request
+of_byte k i _ = 0
 
 abbrev pub of_writable : Class → WritableOperation → ℕ
 of_writable k (write.SetUpWriter w) = soft k w.ready.0 + soft k w.closed.0
@@ -220,13 +237,20 @@ of_transform k (transform_names.AbortSettled p r o) = k.bad r + of_result k o
 of_transform k (transform_names.CancelSettled p r o) = k.bad r + of_result k o
 of_transform k _ = 0
 
+-- a branch is cancelled with any reason: that goes no further but within a pair
+abbrev pub of_tee : Class → TeeOperation → ℕ
+of_tee k (tee_names.CancelBranch half r u) = of_use k u
+of_tee k (tee_names.ReaderSettled o) = of_result k o
+of_tee k _ = 0
+
 abbrev pub in_effect : Class → Effect → ℕ
 in_effect k (OnReadable i operation) = of_readable k i operation
-in_effect k (Byte i operation) = of_byte k operation
+in_effect k (Byte i operation) = of_byte k i operation
 in_effect k (OnWritable i operation) = of_writable k operation
 in_effect k (OnPipe p operation) = of_pipe k operation
 in_effect k (OnSignal a operation) = of_signal k operation
 in_effect k (OnTransform t operation) = of_transform k operation
+in_effect k (OnTee t operation) = of_tee k operation
 in_effect k (StartAlgorithm i step start) = of_step k step
 in_effect k (CancelAlgorithm i r p) = cancelled k i r
 in_effect k (AbortAlgorithm i r p) = k.bad r
@@ -247,12 +271,9 @@ is_errored state.Readable = false
 is_errored state.Closed = false
 is_errored state.Errored = true
 
-abbrev pub in_reader : Class → Option PromiseId → ℕ
-in_reader k None = 0
-in_reader k (Some closed) = soft k closed.0
-
-abbrev pub in_readable : Class → readable.Slots → ℕ
-in_readable k x = (if is_errored x.state then k.bad x.stored_error else 0) + (in_reader k x.reader + in_requests k x.requests)
+-- of the stream of number n
+abbrev pub in_readable : Class → ℕ → readable.Slots → ℕ
+in_readable k n x = (if is_errored x.state then k.bad x.stored_error else 0) + (in_reader k n x.reader + in_requests k x.requests)
 
 -- whether there is a stored error
 abbrev pub has_error : WritableState → Bool
@@ -272,14 +293,14 @@ in_abort k (Some abort) = loud k abort.promise.0 + (if abort.was_already_errorin
 abbrev pub in_writable : Class → writable.Slots → ℕ
 in_writable k x = (if has_error x.state then k.bad x.stored_error else 0) + (in_writer k x.writer + in_abort k x.pending_abort)
 
-abbrev pub in_stream : Class → Stream → ℕ
-in_stream k (ReadableStream x) = in_readable k x
-in_stream k (ByteStream x) = in_readable k x.stream
-in_stream k (WritableStream x) = in_writable k x
+abbrev pub in_stream : Class → ℕ → Stream → ℕ
+in_stream k n (ReadableStream x) = in_readable k n x
+in_stream k n (ByteStream x) = in_readable k n x.stream
+in_stream k n (WritableStream x) = in_writable k x
 
-abbrev pub in_streams : Class → List Stream → ℕ
-in_streams k [] = 0
-in_streams k (x ∷ xs) = in_stream k x + in_streams k xs
+abbrev pub in_streams : Class → ℕ → List Stream → ℕ
+in_streams k n [] = 0
+in_streams k n (x ∷ xs) = in_stream k n x + in_streams k (suc n) xs
 
 -- a cancel does nothing with its reason but hand it to the host, or to a transform stream
 abbrev pub in_action : Class → StreamId → Option Action → ℕ
@@ -332,8 +353,16 @@ abbrev pub in_halves : Class → Halves → ℕ
 in_halves k halves =
     (if is_errored halves.readable_state then k.bad halves.readable_error else 0) + (if has_error halves.writable_state then k.bad halves.writable_error else 0)
 
+-- tee n: it cancels its source with a pair, and its cancel promise is settled as that is
+abbrev pub in_tee : Class → ℕ → tee.Slots → ℕ
+in_tee k n x = k.bad (Pair (record { 0 = n })) + loud k x.cancel.0
+
+abbrev pub in_tees : Class → ℕ → List tee.Slots → ℕ
+in_tees k n [] = 0
+in_tees k n (x ∷ xs) = in_tee k n x + in_tees k (suc n) xs
+
 abbrev pub in_slots : Class → Slots → ℕ
-in_slots k s = in_streams k s.streams + (in_pipes k 0 s.pipes + (in_signals k s.signals + (in_transforms k s.transforms + in_table k s.promises)))
+in_slots k s = in_streams k 0 s.streams + (in_pipes k 0 s.pipes + (in_signals k s.signals + (in_transforms k s.transforms + (in_tees k 0 s.tees + in_table k s.promises))))
 
 -- nothing bad stands in the slots, nor in what is still to be performed
 abbrev pub AllGood : Class → Slots → List Effect → Type 0

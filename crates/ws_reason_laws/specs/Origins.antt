@@ -9,7 +9,7 @@ use Rattle.ws_steps.specs.declared.calls.Call.{Call}
 use Rattle.ws_steps.specs.declared.calls.Call.TheVariants.{MakeTransform, Cancel, CancelBy, ReadInto, Finish, Terminate, Pipe}
 use Rattle.ws_steps.specs.declared.calls.Reply.TheVariants.{Promise}
 use Rattle.ws_steps.specs.declared.effects.Owner.{Owner}
-use Rattle.ws_steps.specs.declared.effects.Owner.TheVariants.{Host, HalfOf}
+use Rattle.ws_steps.specs.declared.effects.Owner.TheVariants.{Host, HalfOf, BranchOf}
 use Rattle.ws_steps.specs.declared.locks.Lock.{Lock}
 use Rattle.ws_steps.specs.declared.locks.Lock.TheVariants.{Reader, ByobReader}
 use Rattle.ws_steps.specs.declared.pipes.Prevent.{Prevent}
@@ -23,12 +23,13 @@ use Rattle.ws_steps.specs.Run.{Entry, Called, Worked, Heard, step, run, reply_to
 use Rattle.ws_steps.specs.Slots.{Slots, most_streams, empty, has_source, has_writable, readable_at, source_at, writable_at, lock_at}
 use Rattle.ws_steps.specs.Writable.{is_closed, is_closing, is_erroring, is_errored}
 use Rattle.ws_steps.specs.WritableLooks as writable_looks
-use Rattle.ws_reason_laws.specs.Reasons.{failures, erred_by}
+use Rattle.ws_reason_laws.specs.Reasons.{NeedsTee, failures, erred_by}
 
 -- whether a stream performs the algorithms of a transform stream
 abbrev pub is_half : Owner → Bool
 is_half Host = false
 is_half (HalfOf t) = true
+is_half (BranchOf t half) = false
 
 -- a reason that comes to stream i, where that is the readable half of a transform stream: it becomes the error of the writable half
 abbrev pub to_half : StreamId → Plain → Slots → List Plain
@@ -95,12 +96,13 @@ abbrev pub EachReasonHasAnOrigin : Type 0
 EachReasonHasAnOrigin =
     (opening xs : List Entry) (i j : StreamId) (prevent : Prevent) (signal : Option SignalId) (q : PromiseId) (r : Plain)
     → let s : Slots = run opening empty in let entries : List Entry = opening ++ Called (Pipe i j prevent signal) ∷ xs in
-    AreUnlocked i j s → reply_to (Pipe i j prevent signal) s ≡ Promise q → (r ≡ type_error → IsOpen j s)
+    AreUnlocked i j s → reply_to (Pipe i j prevent signal) s ≡ Promise q → (r ≡ type_error → IsOpen j s) → NeedsTee r entries
     → outcome_at (run entries empty).promises q ≡ Some (Rejected r) → Contains (origins entries) r
 
 -- and so is the error that a stream has stored: a readable stream that is errored, and a writable stream that is erroring or errored
 pub record EachStoredErrorHasAnOrigin : Type 0 where
   pub readable : (entries : List Entry) (i : StreamId) → let s : Slots = run entries empty in
-      (source_at i s).state ≡ Errored → Contains (origins entries) (source_at i s).stored_error
+      NeedsTee (source_at i s).stored_error entries → (source_at i s).state ≡ Errored → Contains (origins entries) (source_at i s).stored_error
   pub writable : (entries : List Entry) (i : StreamId) → let s : Slots = run entries empty in
-      (is_erroring (writable_at i s).state || is_errored (writable_at i s).state) ≡ true → Contains (origins entries) (writable_at i s).stored_error
+      NeedsTee (writable_at i s).stored_error entries → (is_erroring (writable_at i s).state || is_errored (writable_at i s).state) ≡ true
+      → Contains (origins entries) (writable_at i s).stored_error

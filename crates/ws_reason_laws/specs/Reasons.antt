@@ -5,6 +5,7 @@ use Rattle.ws_value.specs.declared.ids.SignalId.{SignalId}
 use Rattle.ws_value.specs.declared.ids.StreamId.{StreamId}
 use Rattle.ws_value.specs.declared.value.Outcome.TheVariants.{Rejected}
 use Rattle.ws_value.specs.declared.value.Plain.{Plain}
+use Rattle.ws_value.specs.declared.value.Plain.TheVariants.{Undefined, Number, Fault as FaultReason, Pair, Local}
 use Rattle.ws_steps.specs.declared.calls.Answer.{Answer}
 use Rattle.ws_steps.specs.declared.calls.Answer.TheVariants.{Ok as AnswerOk, Fail as AnswerFail}
 use Rattle.ws_steps.specs.declared.calls.Call.{Call}
@@ -123,6 +124,18 @@ pub record BringsNothing (entries : List Entry) : Type 0 where
   pub transforms : (run entries empty).transforms ≡ []
   pub erred : erred entries empty ≡ []
 
+-- a pair of reasons, with which the source of a tee is cancelled
+abbrev pub is_pair : Plain → Bool
+is_pair Undefined = false
+is_pair (Number n) = false
+is_pair (FaultReason f) = false
+is_pair (Pair t) = true
+is_pair (Local n) = false
+
+-- a reason that is a pair comes only where there is a tee
+abbrev pub NeedsTee : Plain → List Entry → Type 0
+NeedsTee r entries = is_pair r ≡ true → (run entries empty).tees ≡ []
+
 -- In every run, whatever else the host does in it: a pipe that was made between two such ends rejects its promise only with a reason that a
 -- call of the run gave; but with a TypeError also where there is a transform stream, since the writable half of one that is terminated fails with
 -- that, which no call gives, or where a call stored one in a byte stream
@@ -131,7 +144,7 @@ EachReasonWasGiven =
     (opening xs : List Entry) (i j : StreamId) (prevent : Prevent) (signal : Option SignalId) (q : PromiseId) (r : Plain)
     → let s : Slots = run opening empty in let entries : List Entry = opening ++ Called (Pipe i j prevent signal) ∷ xs in
     IsFree i j s → reply_to (Pipe i j prevent signal) s ≡ Promise q
-    → (r ≡ type_error → BringsNothing entries)
+    → (r ≡ type_error → BringsNothing entries) → NeedsTee r entries
     → outcome_at (run entries empty).promises q ≡ Some (Rejected r) → Contains (given entries) r
 
 -- and never with that of a cancel alone, nor with a TypeError that no call gave, where there is no transform stream and no call stored one in a byte
@@ -141,7 +154,7 @@ EachReasonWasAFailure =
     (opening xs : List Entry) (i j : StreamId) (prevent : Prevent) (signal : Option SignalId) (q : PromiseId) (r : Plain)
     → let s : Slots = run opening empty in let entries : List Entry = opening ++ Called (Pipe i j prevent signal) ∷ xs in
     IsFree i j s → reply_to (Pipe i j prevent signal) s ≡ Promise q
-    → (Contains (cancels entries) r → (run entries empty).transforms ≡ []) → (r ≡ type_error → BringsNothing entries)
+    → (Contains (cancels entries) r → (run entries empty).transforms ≡ []) → (r ≡ type_error → BringsNothing entries) → NeedsTee r entries
     → outcome_at (run entries empty).promises q ≡ Some (Rejected r) → Contains (failures entries) r
 
 -- in every run, the error that a stream has stored is the reason of a failure: of a readable stream that is errored, and of a writable stream that
@@ -150,7 +163,9 @@ EachReasonWasAFailure =
 pub record EachStoredErrorWasAFailure : Type 0 where
   pub readable : (entries : List Entry) (i : StreamId) → let s : Slots = run entries empty in
       (Contains (cancels entries) (source_at i s).stored_error → s.transforms ≡ []) → ((source_at i s).stored_error ≡ type_error → BringsNothing entries)
+      → NeedsTee (source_at i s).stored_error entries
       → (source_at i s).state ≡ Errored → Contains (failures entries) (source_at i s).stored_error
   pub writable : (entries : List Entry) (i : StreamId) → let s : Slots = run entries empty in
       (Contains (cancels entries) (writable_at i s).stored_error → s.transforms ≡ []) → ((writable_at i s).stored_error ≡ type_error → BringsNothing entries)
+      → NeedsTee (writable_at i s).stored_error entries
       → (is_erroring (writable_at i s).state || is_errored (writable_at i s).state) ≡ true → Contains (failures entries) (writable_at i s).stored_error
