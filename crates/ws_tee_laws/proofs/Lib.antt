@@ -1,0 +1,13 @@
+pub mod Pairs
+pub mod Branches
+pub mod Cancels
+pub mod Handing
+pub mod OneRead
+pub mod Handed
+pub mod Homes
+pub mod Given
+pub mod Entering
+pub mod Fronts
+pub mod Hands
+pub mod Runs
+pub mod Parts
