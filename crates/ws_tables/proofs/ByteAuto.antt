@@ -10,6 +10,7 @@ use Rattle.ws_steps.specs.declared.byte.ReaderKind.{ReaderKind}
 use Rattle.ws_steps.specs.declared.byte.ReaderKind.TheVariants.{Default, Byob}
 use Rattle.ws_steps.specs.declared.byte.RoomKind.TheVariants.{ForByob}
 use Rattle.ws_steps.specs.declared.readable.ReadRequest.{ReadRequest}
+use Rattle.ws_steps.specs.declared.readable.ReadRequest.TheVariants.{Promise, Pipe, Tee}
 use Rattle.ws_steps.specs.declared.readable.ReadableOperation.{ReadableOperation}
 use Rattle.ws_steps.specs.declared.readable.ReadableOperation.TheVariants as names
 use Rattle.ws_steps.specs.declared.readable.ReadableState.{ReadableState}
@@ -92,7 +93,9 @@ module _ (i : StreamId) where
   byte_readable-auto (names.InitializeReader closed) a = initialize-auto Default closed a
   byte_readable-auto names.ReleaseReader a = refl
   byte_readable-auto names.Disturb a = refl
-  byte_readable-auto (names.Read q) a = meant-auto (byte.may_read a.slots) _ a (read-auto q _ a.slots.stream.state)
+  byte_readable-auto (names.Read (Promise p)) a = meant-auto (byte.may_read a.slots) _ a (read-auto (Promise p) _ a.slots.stream.state)
+  byte_readable-auto (names.Read (Pipe p)) a = meant-auto (byte.may_read a.slots) _ a (read-auto (Pipe p) _ a.slots.stream.state)
+  byte_readable-auto (names.Read (Tee t)) a = refl
   byte_readable-auto (names.Cancel r p) a = cancel-auto r p a
   byte_readable-auto (names.CancelIfReadable r p) a = let h = cancel-auto r p a in grind (arith, h)
   byte_readable-auto (names.Enqueue v) a = refl

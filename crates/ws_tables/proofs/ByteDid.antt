@@ -9,15 +9,15 @@ use Rattle.ws_steps.specs.declared.byte.ByteOperation.{ByteOperation}
 use Rattle.ws_steps.specs.declared.effects.Effect.{Effect}
 use Rattle.ws_steps.specs.declared.effects.Effect.TheVariants.{Readable, Byte}
 use Rattle.ws_steps.specs.declared.readable.ReadableOperation.{ReadableOperation}
-use Rattle.ws_steps.specs.Places.{effect_price, own, prices_of, queued_alone, requests_alone, members_alone, descriptors_alone}
+use Rattle.ws_steps.specs.Places.{effect_price, own, prices_of, tees_keep, queued_alone, requests_alone, members_alone, descriptors_alone}
 use Rattle.ws_steps.specs.Slots.{Slots, Done}
 use Rattle.ws_steps.specs.Turns.{row}
-use Rattle.ws_tables.specs.View.{slots_of, stream_of}
-use Rattle.ws_tables.specs.Room.{places_of, byte_lists, room_of, members_room, waiting_in, HasFewTransforms, IsKept, Performs}
+use Rattle.ws_tables.specs.View.{slots_of, stream_of, tee_of}
+use Rattle.ws_tables.specs.Room.{places_of, byte_lists, room_of, members_room, waiting_in, HasFew, AreSourced, IsKept, Performs}
 use Rattle.ws_tables.specs.declared.tables.Stream.TheVariants.{Bytes}
 use Rattle.ws_tables.specs.declared.tables.Tables.{Tables}
 use Rattle.ws_tables.proofs.Bytes.{ByteTook, bytes-ready, ready-bytes}
-use Rattle.ws_tables.proofs.Counts.{counted-on, row-more, row-few}
+use Rattle.ws_tables.proofs.Counts.{counted-on, row-more, row-few, row-sourced}
 use Rattle.ws_tables.proofs.Streams.{waits-among, waits-after, map-put, rooms-put, cover, noted-grown, noted-length}
 
 -- what the operation e of byte stream i takes: x and y are the record before and after it, p and fx the promises and the agenda
@@ -44,6 +44,8 @@ pub record Put (i : StreamId) (t z : Tables) (x y : SeenByteStream) (p : Seen) (
   pub full : z.full ≡ t.full
   pub aborts : z.aborts ≡ t.aborts
   pub pipes : z.pipes ≡ t.pipes
+  pub tees : z.tees ≡ t.tees
+  pub uncopied : z.uncopied ≡ t.uncopied
 
 module _ (e : Effect) (i : StreamId) (t : Tables) (x y : SeenByteStream) (p : Seen) (fx : SeenAgenda) (did : Acted e i t x y p fx) where
   rooms-stay : own descriptors_alone e ≡ 0 → (n : ℕ) → HasSpares n x → HasSpares n y
@@ -91,7 +93,8 @@ module _ (e : Effect) (i : StreamId) (t : Tables) (x y : SeenByteStream) (p : Se
               let g = noted-grown (vec_len t.grown) (vec_len z.grown) (effect_price queued_alone e) (effect_price requests_alone e) (prices_of queued_alone fx.effects) (prices_of requests_alone fx.effects) had has
               did.took.queued.caused did.took.requested.caused (paid-for had has before after)
               (rw (z.grown.ok.0, t.grown.ok.0, put.grown) (noted-length t.grown.items i (had && not has))) in
-              omega (arith, g, q, r);
+              let o = ap (λ v. tees_keep requests_alone (map tee_of v.items)) put.tees in
+              omega (arith, g, q, r, o);
           members = ap (λ v. map members_room v.items) put.signals;
           full = let none = did.took.members in let l = ap vec_len put.full in omega (arith, none, m, l);
         }
@@ -109,8 +112,10 @@ module _ (e : Effect) (i : StreamId) (t : Tables) (x y : SeenByteStream) (p : Se
           (cover t.grown.items i (Bytes y) had has (Bytes x) t.streams.items was.covered did.at (λ h. before.1 (ready-bytes x h)) (λ h. bytes-ready y (after.0 h)));
       aborts = rw (put.aborts, put.signals) was.aborts;
       members = rw (put.full, put.signals) was.members;
+      copied = rw (put.uncopied, put.tees) was.copied;
+      sourced = subst AreSourced (sym (performs promise_room effect_room).slots) (row-sourced e (slots_of t) was.sourced);
       counted = rw (put.pipes, ap (λ (s : Slots). s.promises) put.slots) (counted-on (length t.promises.table.entries) (length p.table.entries) t.pipes.items (row-more e (slots_of t) _ is) was.counted);
-      few = subst HasFewTransforms (sym (performs promise_room effect_room).slots) (row-few e (slots_of t) was.few);
+      few = subst HasFew (sym (performs promise_room effect_room).slots) (row-few e (slots_of t) was.few);
     }
 
 -- a descriptor comes with a request

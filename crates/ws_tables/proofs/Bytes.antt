@@ -135,9 +135,9 @@ took prices a b holds frees quiet =
       members = omega (arith, fm);
     }
 
-pub byte_readable-took : (me : StreamId) (operation : ReadableOperation) (a : byte.Acts) → a.out.effects ≡ [] → ByteTook (λ π. readable_price π operation) a (byte_readable_operation me operation a)
+pub byte_readable-took : (me : StreamId) (operation : ReadableOperation) (a : byte.Acts) → a.out.effects ≡ [] → ByteTook (λ π. readable_price π me operation) a (byte_readable_operation me operation a)
 byte_readable-took me operation a quiet =
-    took (λ π. readable_price π operation) a (byte_readable_operation me operation a) (λ π q r d l m k. byte_readable-takes π q r d me operation a l m k)
+    took (λ π. readable_price π me operation) a (byte_readable_operation me operation a) (λ π q r d l m k. byte_readable-takes π q r d me operation a l m k)
     (λ π free. byte_readable-free π free me operation a (rw quiet refl)) quiet
 
 pub byte-took : (me : StreamId) (operation : ByteOperation) (a : byte.Acts) → a.out.effects ≡ [] → ByteTook (λ π. byte_price π operation) a (byte_operation me operation a)

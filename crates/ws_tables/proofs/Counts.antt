@@ -1,5 +1,5 @@
--- How many promises there are, and what pipes count of them; and how many streams and transform streams.
-use Rattle.std.proofs.Common.{◌≡◌, ◌≤◌, ℕ, ⊎_elim, List, [], ◌∷◌, length, map, Some, Result, sym, ap, subst, ◌∙◌, arith}
+-- How many promises there are, and what pipes count of them; how many streams, transform streams and tees; and whose sources streams are.
+use Rattle.std.proofs.Common.{◌≡◌, ◌≤◌, ℕ, ⊎_elim, List, [], ◌∷◌, length, map, Some, Result, refl, sym, ap, subst, ◌∙◌, arith}
 use Rattle.std.specs.Prelude.{slice_get, slice_set}
 use Rattle.std.proofs.lemmas.List.{length-map}
 use Rattle.ws_value.specs.declared.ids.PromiseId.{PromiseId}
@@ -17,15 +17,16 @@ use Rattle.ws_steps.specs.declared.promises.Micro.{Micro}
 use Rattle.ws_steps.specs.Pipes as pipe
 use Rattle.ws_steps.specs.Promises.{Entry, Table, settle, use_gift, queue_micro, taken, after_first, after_next_job, watch}
 use Rattle.ws_steps.specs.Operations.{writable_operation}
-use Rattle.ws_steps.specs.Slots.{Slots, Done, on_writable}
+use Rattle.ws_steps.specs.Slots.{Slots, Done, on_writable, reads_any}
+use Rattle.ws_steps.specs.Tee as tee
 use Rattle.ws_steps.specs.Turns.{row}
 use Rattle.ws_steps.proofs.PromiseLaws.{length-fresh}
 use Rattle.ws_room_laws.proofs.Rows.{get-other, same-or}
 use Rattle.ws_room_laws.proofs.Tables.{length-set}
 use Rattle.ws_laws.proofs.Cases.{Puts, settle-cases, answer-cases, react-cases, follow-cases, unfollow-cases, watch-cases}
 use Rattle.ws_laws.proofs.Rows.{Changes, row-changes}
-use Rattle.ws_laws.proofs.Shapes.{stream_shape, transform_shape, row-stream_shapes, row-transform_shapes}
-use Rattle.ws_tables.specs.Room.{AreCounted, HasFewTransforms}
+use Rattle.ws_laws.proofs.Shapes.{stream_shape, transform_shape, tee_shape, row-stream_shapes, row-transform_shapes, row-tee_shapes}
+use Rattle.ws_tables.specs.Room.{AreCounted, HasFew, HaveOwnSources, AreSourced}
 use Rattle.ws_tables.proofs.Streams.{put-is}
 
 -- promises get no fewer
@@ -107,13 +108,42 @@ counted-put n m xs j y more h small i x is =
     (λ other. counted-on n m xs more h i x (sym (get-other xs j i y other) ∙ is))
     (same-or i j)
 
--- of streams and transform streams there are as many as before
+-- of streams, transform streams and tees there are as many as before
 
 same-length : {X Y : Type 0} (f : X → Y) (xs ys : List X) → map f xs ≡ map f ys → length xs ≡ length ys
 same-length f xs ys is = sym (length-map xs f) ∙ (ap length is ∙ length-map ys f)
 
-pub row-few : (e : Effect) (s : Slots) → HasFewTransforms s → HasFewTransforms (row e s).slots
+pub row-few : (e : Effect) (s : Slots) → HasFew s → HasFew (row e s).slots
 row-few e s few =
     let a = same-length stream_shape (row e s).slots.streams s.streams (row-stream_shapes e s) in
     let b = same-length transform_shape (row e s).slots.transforms s.transforms (row-transform_shapes e s) in
-    omega (arith, a, b, few)
+    let c = same-length tee_shape (row e s).slots.tees s.tees (row-tee_shapes e s) in
+    let f = few.0 in let g = few.1 in
+    (omega (arith, a, b, f), omega (arith, a, c, g))
+
+-- and each tee reads the stream that it read
+
+same-reads : (i : StreamId) (xs ys : List tee.Slots) → map tee_shape ys ≡ map tee_shape xs → reads_any i ys ≡ reads_any i xs
+same-reads i [] [] same = refl
+same-reads i [] (y ∷ ys) same = cc
+same-reads i (x ∷ xs) [] same = cc
+same-reads i (x ∷ xs) (y ∷ ys) same =
+    let first : tee_shape y ≡ tee_shape x = cc in
+    let others : map tee_shape ys ≡ map tee_shape xs = cc in
+    let source : y.source ≡ x.source = ap (λ z. z.source) first in
+    rw (source, same-reads i xs ys others) refl
+
+pub same-sources : (n : ℕ) (xs ys : List tee.Slots) → map tee_shape ys ≡ map tee_shape xs → HaveOwnSources n xs → HaveOwnSources n ys
+same-sources n [] [] same own = tt
+same-sources n [] (y ∷ ys) same own = cc
+same-sources n (x ∷ xs) [] same own = tt
+same-sources n (x ∷ xs) (y ∷ ys) same own =
+    let first : tee_shape y ≡ tee_shape x = cc in
+    let others : map tee_shape ys ≡ map tee_shape xs = cc in
+    let source : y.source ≡ x.source = ap (λ z. z.source) first in
+    (rw source own.0, (rw (source, same-reads x.source xs ys others) own.1.0, same-sources n xs ys others own.1.1))
+
+pub row-sourced : (e : Effect) (s : Slots) → AreSourced s → AreSourced (row e s).slots
+row-sourced e s own =
+    let many = same-length stream_shape (row e s).slots.streams s.streams (row-stream_shapes e s) in
+    rw many (same-sources (length s.streams) s.tees (row e s).slots.tees (row-tee_shapes e s) own)

@@ -23,7 +23,7 @@ use Rattle.ws_tables.specs.declared.tables.Stream.{Stream as StreamRecord}
 use Rattle.ws_tables.specs.declared.tables.Stream.TheVariants as records
 use Rattle.ws_tables.proofs.Bytes.{byte_readable-took, byte-took, readable-free, byte_readable-free, byte-free, descriptors-free}
 use Rattle.ws_tables.proofs.Fits.{members-free}
-use Rattle.ws_tables.proofs.Keeps.{signals-keep-is}
+use Rattle.ws_tables.proofs.Keeps.{signals-keep-is, tees-queued, tees-descriptors}
 use Rattle.ws_tables.proofs.Streams.{Took, readable-took, writable-took, get-map}
 
 -- the entries of a queue, with the places of descriptors
@@ -66,20 +66,20 @@ queues-put n c s j x y d is put price took i =
     (λ other. let stays = ap held_at (get-other s.streams j.0 i.0 y other) in omega (arith, m, now, stays, price))
     (same-or i.0 j.0)
 
-readable-queues : (j : StreamId) (operation : ReadableOperation) (s : Slots) (o : Option Stream) → slice_get s.streams j.0 ≡ o → Queues (readable_price queued_alone operation) s (on_source operation j s)
-readable-queues j operation s None is = rw is (queues-nothing (readable_price queued_alone operation) s)
-readable-queues j operation s (Some (WritableStream x)) is = rw is (queues-nothing (readable_price queued_alone operation) s)
+readable-queues : (j : StreamId) (operation : ReadableOperation) (s : Slots) (o : Option Stream) → slice_get s.streams j.0 ≡ o → Queues (readable_price queued_alone j operation) s (on_source operation j s)
+readable-queues j operation s None is = rw is (queues-nothing (readable_price queued_alone j operation) s)
+readable-queues j operation s (Some (WritableStream x)) is = rw is (queues-nothing (readable_price queued_alone j operation) s)
 readable-queues j operation s (Some (ReadableStream x)) is =
     let a : readable.Acts = record { slots = x; out = found s } in
     let b : readable.Acts = readable_operation j operation a in
     rw is
-    (queues-put (readable_price queued_alone operation) (prices_of queued_alone b.out.effects) s j (ReadableStream x) (ReadableStream b.slots)
+    (queues-put (readable_price queued_alone j operation) (prices_of queued_alone b.out.effects) s j (ReadableStream x) (ReadableStream b.slots)
     (record { slots = record s { streams = slice_set s.streams j.0 (ReadableStream b.slots); promises = b.out.promises }; caused = b.out.effects }) is refl refl (readable-took j operation a refl).queued)
 readable-queues j operation s (Some (ByteStream x)) is =
     let a : byte.Acts = record { slots = x; out = found s } in
     let b : byte.Acts = byte_readable_operation j operation a in
     rw is
-    (queues-put (readable_price queued_alone operation) (prices_of queued_alone b.out.effects) s j (ByteStream x) (ByteStream b.slots)
+    (queues-put (readable_price queued_alone j operation) (prices_of queued_alone b.out.effects) s j (ByteStream x) (ByteStream b.slots)
     (record { slots = record s { streams = slice_set s.streams j.0 (ByteStream b.slots); promises = b.out.promises }; caused = b.out.effects }) is refl refl (byte_readable-took j operation a refl).queued)
 
 byte-queues : (j : StreamId) (operation : ByteOperation) (s : Slots) (o : Option Stream) → slice_get s.streams j.0 ≡ o → Queues (byte_price queued_alone operation) s (on_byte (byte_operation j operation) j s)
@@ -109,13 +109,14 @@ same-queues : (e : Effect) (s : Slots) → (row e s).slots.streams ≡ s.streams
 unfolding table_size
 same-queues e s same i =
     let z : Slots = (row e s).slots in
-    let h = row-takes queued_alone (record { 0 = 0 }) (record { 0 = 0 }) e s in
+    let h = row-takes queued_alone (record { 0 = 0 }) (record { 0 = 0 }) (record { here = refl; others = λ j. omega arith }) e s in
     let a = ap (λ (xs : List Stream). entries_of queued_alone (slice_get xs 0)) same in
     let b = ap (all_keep queued_alone) same in
     let c = ap (λ (xs : List Stream). held_at (slice_get xs i.0)) same in
     let f = members-free queued_alone refl (slice_get s.signals 0) in let g = members-free queued_alone refl (slice_get z.signals 0) in
     let k = signals-keep-is queued_alone s.signals in let l = signals-keep-is queued_alone z.signals in
-    omega (arith, h, a, b, c, f, g, k, l)
+    let m = tees-queued s.tees in let n = tees-queued z.tees in
+    omega (arith, h, a, b, c, f, g, k, l, m, n)
 
 pub row-queues : (e : Effect) (s : Slots) → Queues (effect_price queued_alone e) s (row e s)
 unfolding row
@@ -129,7 +130,7 @@ row-queues e s = same-queues e s (row-streams e s tt)
 abbrev Describes : ℕ → ℕ → Done → Type 0
 Describes own_price n d = own_price + prices_of descriptors_alone d.caused ≤ n
 
-own-readable : (i : StreamId) (operation : ReadableOperation) → own descriptors_alone (Readable i operation) ≤ readable_price descriptors_alone operation
+own-readable : (i : StreamId) (operation : ReadableOperation) → own descriptors_alone (Readable i operation) ≤ readable_price descriptors_alone i operation
 own-readable i operation = grind arith
 
 own-byte : (i : StreamId) (operation : ByteOperation) → own descriptors_alone (Byte i operation) ≤ byte_price descriptors_alone operation
@@ -139,7 +140,7 @@ own-writable : (i : StreamId) (operation : WritableOperation) → own descriptor
 own-writable i operation = grind arith
 
 readable-describes : (j : StreamId) (operation : ReadableOperation) (s : Slots) (o : Option Stream) → slice_get s.streams j.0 ≡ o
-    → Describes (own descriptors_alone (Readable j operation)) (readable_price descriptors_alone operation) (on_source operation j s)
+    → Describes (own descriptors_alone (Readable j operation)) (readable_price descriptors_alone j operation) (on_source operation j s)
 readable-describes j operation s None is = rw is (let h = own-readable j operation in omega (arith, h))
 readable-describes j operation s (Some (WritableStream x)) is = rw is (let h = own-readable j operation in omega (arith, h))
 readable-describes j operation s (Some (ReadableStream x)) is =
@@ -175,12 +176,13 @@ same-describes : (e : Effect) (s : Slots) → (row e s).slots.streams ≡ s.stre
 unfolding table_size
 same-describes e s same none =
     let z : Slots = (row e s).slots in
-    let h = row-takes descriptors_alone (record { 0 = 0 }) (record { 0 = 0 }) e s in
+    let h = row-takes descriptors_alone (record { 0 = 0 }) (record { 0 = 0 }) (record { here = refl; others = λ j. omega arith }) e s in
     let a = ap (λ (xs : List Stream). entries_of descriptors_alone (slice_get xs 0)) same in
     let b = ap (all_keep descriptors_alone) same in
     let f = members-free descriptors_alone refl (slice_get s.signals 0) in let g = members-free descriptors_alone refl (slice_get z.signals 0) in
     let k = signals-keep-is descriptors_alone s.signals in let l = signals-keep-is descriptors_alone z.signals in
-    omega (arith, h, a, b, f, g, k, l, none)
+    let m = tees-descriptors s.tees in let n = tees-descriptors z.tees in
+    omega (arith, h, a, b, f, g, k, l, none, m, n)
 
 -- only an operation of a readable stream has a descriptor of its own
 abbrev IsNoOther : Effect → Type 0

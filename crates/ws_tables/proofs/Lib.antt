@@ -3,6 +3,7 @@ pub mod ByteDid
 pub mod Bytes
 pub mod Counts
 pub mod Fits
+pub mod Handing
 pub mod Held
 pub mod Keeps
 pub mod Loops
@@ -10,4 +11,5 @@ pub mod Places
 pub mod Preparing
 pub mod Records
 pub mod Streams
+pub mod Tees
 pub mod Turns

@@ -82,32 +82,32 @@ pub each-one : {A : Type 0} (xs : List A) → each 1 xs ≡ length xs
 each-one [] = refl
 each-one (x ∷ xs) = let h = each-one xs in omega (arith, h)
 
-readable-none : (operation : ReadableOperation) → readable_price members_alone operation ≡ 0
-readable-none operation = grind arith
+readable-none : (i : StreamId) (operation : ReadableOperation) → readable_price members_alone i operation ≡ 0
+readable-none i operation = grind arith
 
 writable-none : (operation : WritableOperation) → writable_price members_alone operation ≡ 0
 writable-none operation = grind arith
 
 -- what an operation takes of the lists of its stream
 
-pub record ReadableTook (operation : ReadableOperation) (a b : readable.Acts) : Type 0 where
-  pub queued : Took (readable_price queued_alone operation) (length a.slots.queue) (length b.slots.queue) (prices_of queued_alone b.out.effects)
-  pub requested : Took (readable_price requests_alone operation) (length a.slots.requests) (length b.slots.requests) (prices_of requests_alone b.out.effects)
-  pub turns : prices_of turns_alone b.out.effects + 2 * length b.slots.requests + 1 ≤ 2 * length a.slots.requests + readable_price turns_alone operation
+pub record ReadableTook (me : StreamId) (operation : ReadableOperation) (a b : readable.Acts) : Type 0 where
+  pub queued : Took (readable_price queued_alone me operation) (length a.slots.queue) (length b.slots.queue) (prices_of queued_alone b.out.effects)
+  pub requested : Took (readable_price requests_alone me operation) (length a.slots.requests) (length b.slots.requests) (prices_of requests_alone b.out.effects)
+  pub turns : prices_of turns_alone b.out.effects + 2 * length b.slots.requests + 1 ≤ 2 * length a.slots.requests + readable_price turns_alone me operation
   pub members : prices_of members_alone b.out.effects ≤ 0
 
-pub readable-took : (me : StreamId) (operation : ReadableOperation) (a : readable.Acts) → a.out.effects ≡ [] → ReadableTook operation a (readable_operation me operation a)
+pub readable-took : (me : StreamId) (operation : ReadableOperation) (a : readable.Acts) → a.out.effects ≡ [] → ReadableTook me operation a (readable_operation me operation a)
 unfolding table_size
 readable-took me operation a quiet =
     let b : readable.Acts = readable_operation me operation a in
     let none : (prices_of queued_alone a.out.effects ≡ 0) × (prices_of requests_alone a.out.effects ≡ 0) × (prices_of turns_alone a.out.effects ≡ 0) × (prices_of members_alone a.out.effects ≡ 0) = rw quiet (refl, refl, refl, refl) in
-    let q = readable-takes queued_alone 1 0 me operation a (omega arith) (omega arith) in
-    let r = readable-takes requests_alone 0 1 me operation a (omega arith) (omega arith) in
-    let c = readable-takes queued_alone 0 0 me operation a (omega arith) (omega arith) in
-    let d = readable-takes requests_alone 0 0 me operation a (omega arith) (omega arith) in
-    let t = readable-takes turns_alone 0 0 me operation a (omega arith) (omega arith) in
-    let m = readable-takes members_alone 0 0 me operation a (omega arith) (omega arith) in
-    let price = readable-none operation in
+    let q = readable-takes queued_alone 1 0 me operation a (omega arith) (omega arith) (omega arith) in
+    let r = readable-takes requests_alone 0 1 me operation a (omega arith) (omega arith) (omega arith) in
+    let c = readable-takes queued_alone 0 0 me operation a (omega arith) (omega arith) (omega arith) in
+    let d = readable-takes requests_alone 0 0 me operation a (omega arith) (omega arith) (omega arith) in
+    let t = readable-takes turns_alone 0 0 me operation a (omega arith) (omega arith) (omega arith) in
+    let m = readable-takes members_alone 0 0 me operation a (omega arith) (omega arith) (omega arith) in
+    let price = readable-none me operation in
     let at = each-times 2 a.slots.requests in
     let bt = each-times 2 b.slots.requests in
     let aq = each-one a.slots.queue in

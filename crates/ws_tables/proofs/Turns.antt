@@ -3,7 +3,7 @@ use Rattle.std.proofs.Common.{◌≡◌, ◌<◌, ◌≤◌, ◌+◌, ℕ, zero,
 use Rattle.std.specs.Prelude.{slice_get, vec_len}
 use Rattle.ws_value.specs.declared.ids.StreamId.{StreamId}
 use Rattle.ws_steps.specs.declared.effects.Effect.{Effect}
-use Rattle.ws_steps.specs.Places.{effect_price, prices_of, measure, turns_alone, promises_alone, jobs_alone, events_alone, hosts_alone, queued_alone, requests_alone, members_alone, descriptors_alone, own}
+use Rattle.ws_steps.specs.Places.{effect_price, prices_of, measure, turns_alone, promises_alone, jobs_alone, events_alone, hosts_alone, queued_alone, requests_alone, requests_at, members_alone, descriptors_alone, copies_alone, own}
 use Rattle.ws_steps.specs.Slots.{Slots, causes}
 use Rattle.ws_steps.specs.Turns.{row, performed}
 use Rattle.ws_room_laws.proofs.Readables.{prices-append}
@@ -11,11 +11,12 @@ use Rattle.ws_room_laws.proofs.Rows.{falls, measure-fall}
 use Rattle.ws_room_laws.proofs.Room.{effects-stand}
 use Rattle.ws_room_laws.proofs.Turns.{performed_next, performed_none}
 use Rattle.ws_tables.specs.View.{slots_of}
-use Rattle.ws_tables.specs.Room.{Places, Lists, HasRooms, EachHasRooms, RoomsStay, room_of, members_room, CanPutFirst, HasRoomFor, HasRoomForAll, IsKept, Performs, PerformsAll, TakesOut, effects_of}
+use Rattle.ws_tables.specs.Room.{Places, Lists, HasRooms, EachHasRooms, RoomsStay, room_of, members_room, CanPutFirst, HasRoomFor, HasRoomForAll, AreCopied, IsKept, Performs, PerformsAll, TakesOut, effects_of}
 use Rattle.ws_tables.specs.declared.tables.Stream.{Stream as StreamRecord}
 use Rattle.ws_tables.specs.declared.tables.Stream.TheVariants.{Readable, Bytes, Writable}
 use Rattle.ws_tables.specs.declared.tables.Tables.{Tables}
-use Rattle.ws_tables.proofs.Fits.{Takes, takes, requested-at, described-at, within-less, members-at, same-room, own-within}
+use Rattle.ws_tables.proofs.Fits.{Takes, takes, requested-at, described-at, within-less, members-at, same-room, own-within, own-within-at, own-copies}
+use Rattle.ws_tables.proofs.Handing.{row-hands}
 use Rattle.ws_tables.proofs.Held.{held_at, queued-at, row-queues, row-describes}
 use Rattle.ws_tables.proofs.Keeps.{later-is}
 use Rattle.ws_tables.proofs.Places.{kept_same}
@@ -31,6 +32,10 @@ pub record Performing (t s : Tables) : Type 0 where
   pub kept : IsKept s
   pub fits : CanPutFirst s
 
+copied-same : (es : List Effect) (s a : Tables) → a.tees ≡ s.tees → AreCopied es s → AreCopied es a
+copied-same [] s a same copied = tt
+copied-same (e ∷ es) s a same copied = rw same copied
+
 -- an effect was taken out: there are places for all as before
 pub taken-room : (es : List Effect) (s a : Tables) → TakesOut s a → HasRoomForAll es s → HasRoomForAll es a
 taken-room es s a out room =
@@ -39,18 +44,19 @@ taken-room es s a out room =
     let o = ap (λ (p : Places). p.others) caps in
     let same = out.records in
     record {
-      promises = rw (out.promises, same.waiting, same.aborts) room.promises;
-      jobs = rw (out.promises, same.waiting, same.aborts) room.jobs;
-      events = rw (out.promises, same.waiting, same.aborts) room.events;
-      hosts = rw (out.hosts, same.waiting, same.aborts) room.hosts;
-      caused = rw (c, same.waiting, same.aborts) room.caused;
-      others = rw (o, same.waiting, same.aborts) room.others;
-      lists = rw (same.streams) room.lists;
+      promises = rw (out.promises, same.waiting, same.aborts, same.tees) room.promises;
+      jobs = rw (out.promises, same.waiting, same.aborts, same.tees) room.jobs;
+      events = rw (out.promises, same.waiting, same.aborts, same.tees) room.events;
+      hosts = rw (out.hosts, same.waiting, same.aborts, same.tees) room.hosts;
+      caused = rw (c, same.waiting, same.aborts, same.tees) room.caused;
+      others = rw (o, same.waiting, same.aborts, same.tees) room.others;
+      lists = rw (same.streams, same.tees) room.lists;
       once = room.once;
       rooms = rw (same.streams) room.rooms;
-      grown = rw (same.grown) room.grown;
+      grown = rw (same.grown, same.tees) room.grown;
       members = rw (same.signals) room.members;
       full = rw (same.full) room.full;
+      copies = copied-same es s a same.tees room.copies;
     }
 
 pub taken-kept : (s a : Tables) → TakesOut s a → IsKept s → IsKept a
@@ -82,20 +88,22 @@ room-for e rest t room =
       lists = λ i x is.
           let h = room.lists i x is in
           let hq = h.queue in let hr = h.requests in
+          let own-r = own-within-at (record { 0 = i }) e in
           record {
             queue = omega (arith, hq, q);
-            requests = omega (arith, hr, r);
+            requests = omega (arith, hr, own-r);
             descriptors = within-less _ _ (room_of x).descriptors (omega (arith, d)) h.descriptors;
           };
       rooms = λ i x is. rooms-less _ _ x (omega (arith, d)) (room.rooms i x is);
       grown = let h = room.grown in omega (arith, h);
       members = λ i x is. let h = room.members i x is in omega (arith, h, m);
       full = let h = room.full in omega (arith, h, m);
+      copies = room.copies.0;
     }
 
 -- what the row takes with all that is left
 took : (e : Effect) (rest : List Effect) (s : Slots) → Takes (λ π. prices_of π (e ∷ rest)) s (row e s).slots ((row e s).caused ++ rest)
-took e rest s = takes (λ π. prices_of π (e ∷ rest)) s (row e s).slots ((row e s).caused ++ rest) (λ π i a. let h = falls π i a e rest s in omega (arith, h))
+took e rest s = takes (λ π. prices_of π (e ∷ rest)) s (row e s).slots ((row e s).caused ++ rest) (λ π i a c. let h = falls π i a c e rest s in omega (arith, h))
 
 left : (e : Effect) (rest : List Effect) (t t' : Tables) → Performs e t t' → Takes (λ π. prices_of π (e ∷ rest)) (slots_of t) (slots_of t') (t'.caused.effects ++ rest)
 left e rest t t' did = rw (did.slots, did.caused) (took e rest (slots_of t))
@@ -120,6 +128,22 @@ rooms-left : (e : Effect) (rest : List Effect) (t t' : Tables) → HasRoomForAll
 rooms-left e rest t t' room did =
     rooms-by (own descriptors_alone e) (prices_of descriptors_alone (t'.caused.effects ++ rest)) (effect_price descriptors_alone e) (prices_of descriptors_alone rest)
     (prices_of descriptors_alone t'.caused.effects) t.streams.items t'.streams.items (describes e t t' did) room.once (prices-append descriptors_alone t'.caused.effects rest) room.rooms did.rooms
+
+-- where none is handed on, no copy is asked for
+pub copied-none : (es : List Effect) (t : Tables) → prices_of copies_alone es ≡ 0 → AreCopied es t
+copied-none [] t none = tt
+copied-none (e ∷ es) t none =
+    let less = own-copies e in
+    let nothing-own : own copies_alone e ≡ 0 = omega (arith, less, none) in
+    (rw nothing-own (λ i x is. tt), omega (arith, none))
+
+-- no chunk is handed on but by the first
+copies-left : (e : Effect) (rest : List Effect) (t t' : Tables) → HasRoomForAll (e ∷ rest) t → Performs e t t' → AreCopied (t'.caused.effects ++ rest) t'
+copies-left e rest t t' room did =
+    let a : prices_of copies_alone t'.caused.effects ≡ 0 = ap (prices_of copies_alone) did.caused ∙ row-hands e (slots_of t) in
+    let b = prices-append copies_alone t'.caused.effects rest in
+    let c = room.copies.1 in
+    copied-none (t'.caused.effects ++ rest) t' (omega (arith, a, b, c))
 
 -- each effect that is left takes a turn
 pub put-fits : (e : Effect) (rest : List Effect) (t t' : Tables) → HasRoomForAll (e ∷ rest) t → IsKept t → Performs e t t' → vec_len t.others ≡ length rest → CanPutFirst t'
@@ -173,16 +197,17 @@ next-room e rest t t' room kept did kept' =
           let lr = ap (λ (l : Lists). l.requests) lists in
           let a = queues e t t' did (record { 0 = i }) in
           let b = took.requested (record { 0 = i }) in
+          let ra = prices-append (requests_at (record { 0 = i })) t'.caused.effects rest in
           let d = took.described (record { 0 = i }) in
           let qx = queued-at t.streams.items i x before.1.0 in
           let qy = queued-at t'.streams.items i y is in
-          let rx = requested-at t.streams.items i x before.1.0 in
-          let ry = requested-at t'.streams.items i y is in
+          let rx = requested-at (record { 0 = i }) t.streams.items i x before.1.0 in
+          let ry = requested-at (record { 0 = i }) t'.streams.items i y is in
           let dx = described-at t.streams.items i x before.1.0 in
           let dy = described-at t'.streams.items i y is in
           record {
             queue = omega (arith, hq, a, qx, qy, lq, q);
-            requests = omega (arith, hr, b, rx, ry, lr);
+            requests = omega (arith, hr, b, ra, rx, ry, lr);
             descriptors =
                 rw (ap (λ (l : Lists). l.descriptors) lists)
                 (within-less _ _ (room_of x).descriptors (omega (arith, d, dx, dy)) h.descriptors);
@@ -200,6 +225,7 @@ next-room e rest t t' room kept did kept' =
           let my = members-at t'.signals.items i y is in
           omega (arith, h, a, mx, my, lists);
       full = let h = room.full in let a = did.full in omega (arith, h, a, fc, m);
+      copies = copies-left e rest t t' room did;
     }
 
 module _ (t s a : Tables) (e : Effect) (was : Performing t s) (first : effects_of s ≡ e ∷ reverse a.others.items) (out : TakesOut s a) where

@@ -1,15 +1,17 @@
 -- The places in memory that a realm has, and those that it may come to need.
-use Rattle.std.specs.Prelude.{ℕ, ◌≡◌, ◌+◌, ◌*◌, ◌≤◌, ◌<◌, ◌⊎◌, List, [], ◌∷◌, ◌++◌, length, map, reverse, Option, Some, None, Bool, ◌&&◌, not, if◌then◌else◌, ⊤, Contains, slice_get, vec_len, vec_capacity}
+use Rattle.std.specs.Prelude.{ℕ, zero, suc, ◌≡◌, ◌+◌, ◌*◌, ◌≤◌, ◌<◌, ◌⊎◌, List, [], ◌∷◌, ◌++◌, length, map, reverse, Option, Some, None, Bool, false, ◌&&◌, not, if◌then◌else◌, ⊤, Contains, slice_get, vec_len, vec_capacity}
 use Rattle.ws_value.specs.declared.ids.SignalId.{SignalId}
 use Rattle.ws_value.specs.declared.ids.StreamId.{StreamId}
 use Rattle.ws_pipe.specs.Seen.{SeenSignal, HasMemberRoom, aborts_of}
 use Rattle.ws_promise.specs.Seen.{Room, HasPromiseRoom, HasJobRoom, HasEventRoom, HasRoom}
 use Rattle.ws_byte.specs.Seen.{Lists as ByteLists, HasSpares}
 use Rattle.ws_queue.specs.Seen.{Lists as TwoLists}
+use Rattle.ws_tee.specs.Seen.{SeenTee, CanHand}
 use Rattle.ws_steps.specs.declared.effects.Effect.{Effect}
 use Rattle.ws_steps.specs.Pipes as pipe
-use Rattle.ws_steps.specs.Places.{Prices, own, effect_price, prices_of, steps_price, abort_price, turns_alone, promises_alone, jobs_alone, events_alone, hosts_alone, queued_alone, requests_alone, members_alone, descriptors_alone}
-use Rattle.ws_steps.specs.Slots.{Slots, Stream as SeenStream, ReadableStream, ByteStream, WritableStream, causes}
+use Rattle.ws_steps.specs.Places.{Prices, own, effect_price, prices_of, steps_price, abort_price, tees_keep, turns_alone, promises_alone, jobs_alone, events_alone, hosts_alone, queued_alone, requests_alone, requests_at, members_alone, descriptors_alone, copies_alone}
+use Rattle.ws_steps.specs.Slots.{Slots, Stream as SeenStream, ReadableStream, ByteStream, WritableStream, causes, reads_any}
+use Rattle.ws_steps.specs.Tee as tee
 use Rattle.ws_steps.specs.Turns.{row, performed}
 use Rattle.ws_tables.specs.View.{slots_of}
 use Rattle.ws_tables.specs.declared.tables.Stream.{Stream}
@@ -62,9 +64,9 @@ pub record HasLists (q r d : ℕ) (x : Stream) : Type 0 where
   pub requests : r + requested_in x ≤ (room_of x).requests
   pub descriptors : IsWithin (d + described_in x) (room_of x).descriptors
 
--- in each stream
-abbrev pub EachHasLists : ℕ → ℕ → ℕ → List Stream → Type 0
-EachHasLists q r d xs = (i : ℕ) (x : Stream) → slice_get xs i ≡ Some x → HasLists q r d x
+-- in each stream, for so many requests by its number
+abbrev pub EachHasLists : ℕ → (ℕ → ℕ) → ℕ → List Stream → Type 0
+EachHasLists q r d xs = (i : ℕ) (x : Stream) → slice_get xs i ≡ Some x → HasLists q (r i) d x
 
 -- a byte stream whose controller allocates rooms has n of them
 abbrev pub HasRooms : ℕ → Stream → Type 0
@@ -108,6 +110,26 @@ AllHaveMembers full xs = (a : SignalId) (x : SeenSignal) → slice_get xs a.0 �
 abbrev pub HaveMembers : Tables → Type 0
 HaveMembers t = AllHaveMembers t.full.items t.signals.items
 
+-- what a tee holds can be handed on, where n chunks are handed on
+abbrev pub HasCopies : ℕ → SeenTee → Type 0
+HasCopies zero x = ⊤
+HasCopies (suc n) x = CanHand x
+
+abbrev pub EachHasCopies : ℕ → List SeenTee → Type 0
+EachHasCopies n xs = (i : ℕ) (x : SeenTee) → slice_get xs i ≡ Some x → HasCopies n x
+
+-- each tee can hand on what it holds, unless copies are to be made
+abbrev pub IsCopied : Tables → Type 0
+IsCopied t = t.uncopied ≡ false → EachHasCopies 1 t.tees.items
+
+-- each tee reads one of the n streams that there are, and no two read the same
+abbrev pub HaveOwnSources : ℕ → List tee.Slots → Type 0
+HaveOwnSources n [] = ⊤
+HaveOwnSources n (x ∷ xs) = (x.source.0 < n) × ((reads_any x.source xs ≡ false) × HaveOwnSources n xs)
+
+abbrev pub AreSourced : Slots → Type 0
+AreSourced s = HaveOwnSources (length s.streams) s.tees
+
 -- the places that the tables have, beside those in the lists of streams and signals
 pub record Places : Type 0 where
   pub promises : Room
@@ -128,7 +150,7 @@ places_of t =
       full = vec_capacity t.full;
     }
 
--- what is kept for later: the read requests that wait, and the aborts of pipes by signals that weren't triggered
+-- what is kept for later: the read requests that wait, the aborts of pipes by signals that weren't triggered, and what tees do to their sources
 
 abbrev pub waits_of : SeenStream → ℕ
 waits_of (ReadableStream r) = length r.requests
@@ -145,7 +167,7 @@ aborts_in (x ∷ xs) = aborts_of x + aborts_in xs
 
 -- and what that may take
 abbrev pub later : Prices → Tables → ℕ
-later π t = t.waiting * steps_price π + t.aborts * abort_price π
+later π t = t.waiting * steps_price π + t.aborts * abort_price π + tees_keep π (slots_of t).tees
 
 -- each pipe made a promise for each of its writes that haven't settled
 abbrev pub AreCounted : ℕ → List pipe.Slots → Type 0
@@ -154,19 +176,21 @@ AreCounted n xs = (i : ℕ) (x : pipe.Slots) → slice_get xs i ≡ Some x → x
 abbrev pub IsCounted : Slots → Type 0
 IsCounted s = AreCounted (length s.promises.entries) s.pipes
 
--- each transform stream was made with two streams, so there are no more of them than streams
-abbrev pub HasFewTransforms : Slots → Type 0
-HasFewTransforms s = length s.transforms ≤ length s.streams
+-- each transform stream was made with two streams, and each tee, so there are no more of them than streams
+abbrev pub HasFew : Slots → Type 0
+HasFew s = (length s.transforms ≤ length s.streams) × (length s.tees ≤ length s.streams)
 
 -- what holds of the tables at each moment: how many read requests wait is known and how many pipes a trigger would abort, and in which
--- streams and signals places are to be made
+-- streams and signals places are to be made, and whether copies of chunks are
 pub record IsKept (t : Tables) : Type 0 where
   pub waiting : t.waiting ≡ waiting_in (slots_of t).streams
   pub covered : IsCovered t
   pub aborts : t.aborts ≡ aborts_in (slots_of t).signals
   pub members : HaveMembers t
+  pub copied : IsCopied t
+  pub sourced : AreSourced (slots_of t)
   pub counted : IsCounted (slots_of t)
-  pub few : HasFewTransforms (slots_of t)
+  pub few : HasFew (slots_of t)
 
 -- there are places for what the row of an effect takes by itself, and for the streams that it may come to note
 pub record HasRoomFor (e : Effect) (t : Tables) : Type 0 where
@@ -176,11 +200,21 @@ pub record HasRoomFor (e : Effect) (t : Tables) : Type 0 where
   pub hosts : own hosts_alone e + vec_len t.hosts ≤ vec_capacity t.hosts
   pub caused : effect_price turns_alone e + later turns_alone t + 6 ≤ t.caused.capacity
   pub others : effect_price turns_alone e + later turns_alone t + 6 ≤ vec_capacity t.others
-  pub lists : EachHasLists (own queued_alone e) (own requests_alone e) (own descriptors_alone e) t.streams.items
+  pub lists : EachHasLists (own queued_alone e) (λ i. own (requests_at (record { 0 = i })) e) (own descriptors_alone e) t.streams.items
   pub rooms : EachHasRooms (own descriptors_alone e) t.streams.items
   pub grown : effect_price queued_alone e + effect_price requests_alone e + vec_len t.grown ≤ vec_capacity t.grown
   pub members : EachHasMembers (own members_alone e) t.signals.items
   pub full : own members_alone e + vec_len t.full ≤ vec_capacity t.full
+  pub copies : EachHasCopies (own copies_alone e) t.tees.items
+
+-- the requests that these effects, and tees, may yet make at stream i
+abbrev pub asked : List Effect → Tables → ℕ → ℕ
+asked es t i = prices_of (requests_at (record { 0 = i })) es + tees_keep (requests_at (record { 0 = i })) (slots_of t).tees
+
+-- there are copies of chunks, where the first of these effects hands one on. None behind it does
+abbrev pub AreCopied : List Effect → Tables → Type 0
+AreCopied [] t = ⊤
+AreCopied (e ∷ es) t = EachHasCopies (own copies_alone e) t.tees.items × (prices_of copies_alone es ≡ 0)
 
 -- there are places for these effects and all that comes of them, and for one more event
 pub record HasRoomForAll (es : List Effect) (t : Tables) : Type 0 where
@@ -190,26 +224,27 @@ pub record HasRoomForAll (es : List Effect) (t : Tables) : Type 0 where
   pub hosts : prices_of hosts_alone es + later hosts_alone t + vec_len t.hosts ≤ vec_capacity t.hosts
   pub caused : prices_of turns_alone es + later turns_alone t + 6 ≤ t.caused.capacity
   pub others : prices_of turns_alone es + later turns_alone t + 6 ≤ vec_capacity t.others
-  pub lists : EachHasLists (prices_of queued_alone es) (prices_of requests_alone es) (prices_of descriptors_alone es) t.streams.items
+  pub lists : EachHasLists (prices_of queued_alone es) (asked es t) (prices_of descriptors_alone es) t.streams.items
   -- one descriptor may come yet, at most, and each byte stream has a room for it
   pub once : prices_of descriptors_alone es ≤ 1
   pub rooms : EachHasRooms (prices_of descriptors_alone es) t.streams.items
-  pub grown : prices_of queued_alone es + prices_of requests_alone es + vec_len t.grown ≤ vec_capacity t.grown
+  pub grown : prices_of queued_alone es + prices_of requests_alone es + tees_keep requests_alone (slots_of t).tees + vec_len t.grown ≤ vec_capacity t.grown
   pub members : EachHasMembers (prices_of members_alone es) t.signals.items
   pub full : prices_of members_alone es + vec_len t.full ≤ vec_capacity t.full
+  pub copies : AreCopied es t
 
--- so many for each read request that waits, so many for each pipe that a trigger would abort, and so many more
-abbrev pub places_for : ℕ → ℕ → ℕ → Tables → ℕ
-places_for a_wait an_abort more t = t.waiting * a_wait + t.aborts * an_abort + more
+-- so many for each read request that waits, so many for each pipe that a trigger would abort, so many for each tee, and so many more
+abbrev pub places_for : ℕ → ℕ → ℕ → ℕ → Tables → ℕ
+places_for a_wait an_abort a_tee more t = t.waiting * a_wait + t.aborts * an_abort + vec_len t.tees * a_tee + more
 
 -- there are places for the next call or job, whichever it is
 pub record IsPrepared (t : Tables) : Type 0 where
-  pub promises : HasRoom (places_for 0 8 14 t) t.promises
-  pub jobs : HasJobRoom (places_for 1 7 11 t) t.promises
-  pub hosts : places_for 0 2 3 t + vec_len t.hosts ≤ vec_capacity t.hosts
-  pub caused : places_for 2 14 34 t ≤ t.caused.capacity
-  pub others : places_for 2 14 34 t ≤ vec_capacity t.others
-  pub grown : vec_len t.grown + 6 ≤ vec_capacity t.grown
+  pub promises : HasRoom (places_for 0 8 3 14 t) t.promises
+  pub jobs : HasJobRoom (places_for 1 7 5 11 t) t.promises
+  pub hosts : places_for 0 2 2 3 t + vec_len t.hosts ≤ vec_capacity t.hosts
+  pub caused : places_for 2 14 15 34 t ≤ t.caused.capacity
+  pub others : places_for 2 14 15 34 t ≤ vec_capacity t.others
+  pub grown : vec_len t.grown + places_for 0 0 1 6 t ≤ vec_capacity t.grown
   pub places : EachHasPlaces t.streams.items
   pub full : vec_len t.full < vec_capacity t.full
   pub members : EachHasMembers 1 t.signals.items
@@ -217,6 +252,8 @@ pub record IsPrepared (t : Tables) : Type 0 where
   pub byob_requests : vec_len t.byob_requests < vec_capacity t.byob_requests
   pub streams : vec_len t.streams + 2 ≤ vec_capacity t.streams
   pub transforms : vec_len t.transforms < vec_capacity t.transforms
+  pub tees : vec_len t.tees < vec_capacity t.tees
+  pub copies : EachHasCopies 1 t.tees.items
   pub pipes : vec_len t.pipes < vec_capacity t.pipes
   pub signals : vec_len t.signals < vec_capacity t.signals
 
@@ -226,7 +263,7 @@ pub record IsResting (t : Tables) : Type 0 where
   pub others : t.others.items ≡ []
   pub kept : IsKept t
 
--- nothing changed that concerns the lists of streams and signals, and no pipe
+-- nothing changed that concerns the lists of streams and signals, and no pipe and no tee
 pub record KeepsRecords (t t' : Tables) : Type 0 where
   pub streams : t'.streams ≡ t.streams
   pub grown : t'.grown ≡ t.grown
@@ -235,6 +272,8 @@ pub record KeepsRecords (t t' : Tables) : Type 0 where
   pub signals : t'.signals ≡ t.signals
   pub full : t'.full ≡ t.full
   pub aborts : t'.aborts ≡ t.aborts
+  pub tees : t'.tees ≡ t.tees
+  pub uncopied : t'.uncopied ≡ t.uncopied
 
 -- the row of an effect is performed, in the places that there are
 pub record Performs (e : Effect) (t t' : Tables) : Type 0 where
@@ -244,8 +283,8 @@ pub record Performs (e : Effect) (t t' : Tables) : Type 0 where
   pub places : places_of t' ≡ places_of t
   pub lists : map room_of t'.streams.items ≡ map room_of t.streams.items
   pub rooms : own descriptors_alone e ≡ 0 → RoomsStay t.streams.items t'.streams.items
-  pub grown : vec_len t'.grown + prices_of queued_alone t'.caused.effects + prices_of requests_alone t'.caused.effects
-      ≤ vec_len t.grown + effect_price queued_alone e + effect_price requests_alone e
+  pub grown : vec_len t'.grown + prices_of queued_alone t'.caused.effects + prices_of requests_alone t'.caused.effects + tees_keep requests_alone (slots_of t').tees
+      ≤ vec_len t.grown + effect_price queued_alone e + effect_price requests_alone e + tees_keep requests_alone (slots_of t).tees
   pub members : map members_room t'.signals.items ≡ map members_room t.signals.items
   pub full : vec_len t'.full + prices_of members_alone t'.caused.effects ≤ vec_len t.full + effect_price members_alone e
 
@@ -315,6 +354,12 @@ pub record StaysBesideStreams (t t' : Tables) : Type 0 where
 -- nothing changed beside the signals, and where places are to be made there
 pub record StaysBesideSignals (t t' : Tables) : Type 0 where
   pub tables : t' ≡ record t { signals = t'.signals; full = t'.full }
+
+-- nothing changed beside the tees, and whether copies are to be made there
+pub record StaysBesideTees (t t' : Tables) : Type 0 where
+  pub tables : t' ≡ record t { tees = t'.tees; uncopied = t'.uncopied }
+  pub length : vec_len t'.tees ≡ vec_len t.tees
+  pub capacity : vec_capacity t'.tees ≡ vec_capacity t.tees
 
 -- nothing changed beside the agenda
 pub record StaysBesideAgenda (t t' : Tables) : Type 0 where

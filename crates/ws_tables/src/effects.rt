@@ -6,7 +6,7 @@ ghost use Rattle.ws_tables.specs.Room.{HasRoomFor, IsKept, KeepsRecords, Perform
 use crate::tables::Tables;
 use ws_steps::{
     Effect, Event, Gift, HostCall, Owner, PipeOperation, ReadRequest, StartBy, Step, Taker,
-    TransformOperation, Use, WritableOperation,
+    TeeOperation, TransformOperation, Use, WritableOperation,
 };
 use ws_value::{Chunk, HostId, Plain, PromiseId, StreamId, Value};
 
@@ -47,6 +47,11 @@ impl Tables {
             Owner::HalfOf(t) => self
                 .caused
                 .push(Effect::Transform(t, TransformOperation::SourcePull(u))),
+            Owner::BranchOf(t, _) => {
+                self.caused.push(Effect::Tee(t, TeeOperation::PullBranch));
+                self.caused
+                    .push(Effect::Give(Gift::Fresh(Ok(Plain::Undefined)), u));
+            }
         }
     }
 
@@ -66,6 +71,10 @@ impl Tables {
                 let operation = TransformOperation::SourceCancel(reason, u);
                 self.caused.push(Effect::Transform(t, operation));
             }
+            Owner::BranchOf(t, half) => {
+                let operation = TeeOperation::CancelBranch(half, reason, u);
+                self.caused.push(Effect::Tee(t, operation));
+            }
         }
     }
 
@@ -78,7 +87,7 @@ impl Tables {
         ensures records { KeepsRecords self.old self.new }
     {
         match self.owner(i) {
-            Owner::Host => self.caused.push(Effect::Writable(
+            Owner::Host | Owner::BranchOf(_, _) => self.caused.push(Effect::Writable(
                 i,
                 WritableOperation::HandOn(Taker::ToHost),
             )),
@@ -99,7 +108,9 @@ impl Tables {
     {
         let u = Use::React(Step::WritableClose(i), None);
         match self.owner(i) {
-            Owner::Host => self.caused.push(Effect::CallHost(HostCall::Close(i), u)),
+            Owner::Host | Owner::BranchOf(_, _) => {
+                self.caused.push(Effect::CallHost(HostCall::Close(i), u))
+            }
             Owner::HalfOf(t) => self
                 .caused
                 .push(Effect::Transform(t, TransformOperation::SinkClose(u))),
@@ -115,7 +126,7 @@ impl Tables {
     {
         let u = Use::React(Step::WritableAbort(i, promise), None);
         match self.owner(i) {
-            Owner::Host => self
+            Owner::Host | Owner::BranchOf(_, _) => self
                 .caused
                 .push(Effect::CallHost(HostCall::Abort(i, reason), u)),
             Owner::HalfOf(t) => {
@@ -153,6 +164,9 @@ impl Tables {
             ReadRequest::Pipe(p) => self
                 .caused
                 .push(Effect::Pipe(p, PipeOperation::KeepChunk(chunk))),
+            ReadRequest::Tee(t) => self
+                .caused
+                .push(Effect::Tee(t, TeeOperation::KeepChunk(chunk))),
         }
     }
 
@@ -169,6 +183,7 @@ impl Tables {
                     .finish(promise, Value::Plain(Plain::Undefined))
             }
             ReadRequest::Pipe(p) => self.caused.push(Effect::Pipe(p, PipeOperation::ReadEnded)),
+            ReadRequest::Tee(t) => self.caused.push(Effect::Tee(t, TeeOperation::SourceClosed)),
         }
     }
 
@@ -183,6 +198,7 @@ impl Tables {
         match request {
             ReadRequest::Promise(promise) => self.promises.finish(promise, Value::Bytes(chunk)),
             ReadRequest::Pipe(p) => self.caused.push(Effect::Pipe(p, PipeOperation::ReadEnded)),
+            ReadRequest::Tee(t) => self.caused.push(Effect::Tee(t, TeeOperation::SourceClosed)),
         }
     }
 
@@ -196,6 +212,9 @@ impl Tables {
         match request {
             ReadRequest::Promise(promise) => self.promises.reject(promise, e),
             ReadRequest::Pipe(p) => self.caused.push(Effect::Pipe(p, PipeOperation::ReadEnded)),
+            ReadRequest::Tee(t) => self
+                .caused
+                .push(Effect::Tee(t, TeeOperation::SourceErrored)),
         }
     }
 
@@ -215,6 +234,7 @@ impl Tables {
             Effect::Pipe(p, operation) => self.perform_pipe(p, operation),
             Effect::Signal(a, operation) => self.perform_signal(a, operation),
             Effect::Transform(t, operation) => self.perform_transform(t, operation),
+            Effect::Tee(t, operation) => self.perform_tee(t, operation),
             Effect::StartAlgorithm(i, step, start) => self.start_algorithm(i, step, start),
             Effect::PullAlgorithm(i) => self.pull_algorithm(i),
             Effect::CancelAlgorithm(i, reason, promise) => {

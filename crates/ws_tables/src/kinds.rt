@@ -7,6 +7,7 @@ mod pipe;
 mod readable;
 mod signal;
 mod source;
+mod tee;
 mod transform;
 mod writable;
 

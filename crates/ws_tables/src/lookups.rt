@@ -10,7 +10,7 @@ impl Tables {
     ghost use Rattle.ws_tables.specs.View.{slots_of};
 
     /// Whose algorithms a stream performs.
-    pub(crate) fn owner(&self, i: StreamId) -> Owner
+    pub fn owner(&self, i: StreamId) -> Owner
         ensures { result ≡ owner_at i (slots_of self.now) }
     {
         match self.streams.get(i.0 as usize) {

@@ -8,6 +8,7 @@ use ws_pipe::{Pipe, Signal};
 use ws_promise::{Agenda, Promises};
 use ws_readable::Readable;
 use ws_steps::{Effect, Lock};
+use ws_tee::Tee;
 use ws_transform::Transform;
 use ws_value::{NoMemory, PromiseId, SignalId, StreamId};
 use ws_writable::Writable;
@@ -26,6 +27,7 @@ pub struct Tables {
     pub alloc: Global,
     pub streams: Vec<Stream>,
     pub transforms: Vec<Transform>,
+    pub tees: Vec<Tee>,
     pub pipes: Vec<Pipe>,
     pub signals: Vec<Signal>,
     pub locks: Vec<Lock>,
@@ -46,6 +48,8 @@ pub struct Tables {
     pub aborts: usize,
     /// The signals in whose lists places are to be made before the next call or job.
     pub full: Vec<SignalId>,
+    /// Whether a tee may hold a chunk of which it has no second copy, so that one is to be made before the next call or job.
+    pub uncopied: bool,
     /// How many calls and jobs were performed.
     pub age: u64,
 }
@@ -63,6 +67,7 @@ impl Tables {
             alloc,
             streams: Vec::new(alloc),
             transforms: Vec::new(alloc),
+            tees: Vec::new(alloc),
             pipes: Vec::new(alloc),
             signals: Vec::new(alloc),
             locks: Vec::new(alloc),
@@ -75,6 +80,7 @@ impl Tables {
             grown: Vec::new(alloc),
             aborts: 0,
             full: Vec::new(alloc),
+            uncopied: false,
             age: 0,
         })
     }

@@ -15,6 +15,7 @@ use Rattle.ws_tables.specs.Room.{places_of}
 use Rattle.ws_tables.proofs.ByteAuto.{byte-auto}
 use Rattle.ws_tables.proofs.ByteDid.{Acted, Put, paid-for, performs, kept, byte-priced}
 use Rattle.ws_tables.proofs.Bytes.{ByteTook, byte-took}
+use Rattle.ws_tables.proofs.Fits.{byte-here}
 use Rattle.ws_tables.proofs.Streams.{byte-within, stands-at, waits-among, byte-absent, byte-row}
 use Rattle.ws_tables.proofs.tables.Tables.perform_byte.Goals as goal
 
@@ -35,7 +36,8 @@ at c =
 pub perform_byte-requires-clause-room : goal.perform_byte-requires-clause-room
 perform_byte-requires-clause-room c =
     let lists = c.requires.room.lists c.args.i.0 (Bytes c.in-Bytes.stream) (at c) in
-    record { queue = lists.queue; requests = lists.requests; descriptors = lists.descriptors }
+    let here = byte-here c.args.i c.args.operation in let r = lists.requests in
+    record { queue = lists.queue; requests = omega (arith, here, r); descriptors = lists.descriptors }
 
 pub perform_byte-requires-clause-effect_room : goal.perform_byte-requires-clause-effect_room
 perform_byte-requires-clause-effect_room c =
@@ -114,6 +116,8 @@ put c =
       full = ap (λ (t : Tables). t.full) same;
       aborts = ap (λ (t : Tables). t.aborts) same;
       pipes = ap (λ (t : Tables). t.pipes) same;
+      tees = ap (λ (t : Tables). t.tees) same;
+      uncopied = ap (λ (t : Tables). t.uncopied) same;
     }
 
 pub returns-clause-performs : goal.returns-clause-performs

@@ -15,6 +15,7 @@ use Rattle.ws_tables.specs.Room.{places_of}
 use Rattle.ws_tables.proofs.ByteAuto.{byte_readable-auto}
 use Rattle.ws_tables.proofs.ByteDid.{Acted, Put, paid-for, performs, kept, byte_readable-priced, rooms-for, spares-own}
 use Rattle.ws_tables.proofs.Bytes.{ByteTook, byte_readable-took}
+use Rattle.ws_tables.proofs.Fits.{readable-here}
 use Rattle.ws_tables.proofs.Streams.{byte-within, stands-at, waits-among, byte_readable-absent, byte_readable-row}
 use Rattle.ws_tables.proofs.tables.Tables.perform_byte_readable.Goals as goal
 
@@ -37,9 +38,10 @@ perform-requires-clause-room c =
     let lists = c.requires.room.lists c.args.i.0 (Bytes c.in-Bytes.stream) (at c) in
     let rooms = c.requires.room.rooms c.args.i.0 (Bytes c.in-Bytes.stream) (at c) in
     let queue = lists.queue in
+    let here = readable-here c.args.i c.args.operation in let r = lists.requests in
     record {
       queue = omega (arith, queue);
-      requests = lists.requests;
+      requests = omega (arith, here, r);
       descriptors = lists.descriptors;
       spares = rooms-for c.in-Bytes.stream c.args.operation c.args.i rooms;
     }
@@ -55,9 +57,9 @@ overflow_sub-self c =
     let among = waits-among c.args.self.now.streams.items c.args.i.0 (Bytes c.in-Bytes.stream) (at c.before) in
     omega (arith, among, c.requires.kept.waiting)
 
-took : (c : goal.After-perform) → ByteTook (λ π. readable_price π c.args.operation) (acts_of c.in-Bytes.stream c.args.self.now.promises c.args.self.now.caused) (acts_of c.perform.new.self c.perform.new.p c.perform.new.fx)
+took : (c : goal.After-perform) → ByteTook (λ π. readable_price π c.args.i c.args.operation) (acts_of c.in-Bytes.stream c.args.self.now.promises c.args.self.now.caused) (acts_of c.perform.new.self c.perform.new.p c.perform.new.fx)
 took c =
-    subst (ByteTook (λ π. readable_price π c.args.operation) (acts_of c.in-Bytes.stream c.args.self.now.promises c.args.self.now.caused)) (sym c.perform.ensures.row)
+    subst (ByteTook (λ π. readable_price π c.args.i c.args.operation) (acts_of c.in-Bytes.stream c.args.self.now.promises c.args.self.now.caused)) (sym c.perform.ensures.row)
     (byte_readable-took c.args.i c.args.operation (acts_of c.in-Bytes.stream c.args.self.now.promises c.args.self.now.caused) c.requires.quiet)
 
 pub overflow_add-self : goal.overflow_add-self
@@ -121,6 +123,8 @@ put c =
       full = ap (λ (t : Tables). t.full) same;
       aborts = ap (λ (t : Tables). t.aborts) same;
       pipes = ap (λ (t : Tables). t.pipes) same;
+      tees = ap (λ (t : Tables). t.tees) same;
+      uncopied = ap (λ (t : Tables). t.uncopied) same;
     }
 
 pub returns-clause-performs : goal.returns-clause-performs

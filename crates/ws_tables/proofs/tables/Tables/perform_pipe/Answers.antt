@@ -76,6 +76,8 @@ returns-clause-kept c =
       covered = was.covered;
       aborts = was.aborts;
       members = was.members;
+      copied = was.copied;
+      sourced = was.sourced;
       counted = counted-put (length old.promises.table.entries) (length c.perform.new.p.table.entries) old.pipes.items c.args.p.0 c.perform.new.self more was.counted c.perform.ensures.counted;
-      few = was.few;
+      few = (was.few.0, was.few.1);
     }

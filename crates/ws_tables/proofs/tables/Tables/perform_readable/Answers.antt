@@ -4,7 +4,7 @@ use Rattle.ws_steps.specs.declared.effects.Effect.{Effect}
 use Rattle.ws_steps.specs.declared.effects.Effect.TheVariants.{Readable as ReadableEffect}
 use Rattle.ws_steps.specs.Turns.{row}
 use Rattle.ws_queue.specs.Seen.{Lists}
-use Rattle.ws_steps.specs.Places.{prices_of, readable_price, queued_alone, requests_alone, members_alone}
+use Rattle.ws_steps.specs.Places.{prices_of, tees_keep, readable_price, queued_alone, requests_alone, members_alone}
 use Rattle.ws_readable.specs.Seen.{acts_of}
 use Rattle.ws_steps.specs.Operations.{readable_operation}
 use Rattle.ws_steps.specs.Slots.{Done}
@@ -12,9 +12,10 @@ use Rattle.ws_steps.proofs.StreamLaws.{on_readable-at}
 use Rattle.ws_tables.specs.declared.tables.Stream.TheVariants.{Readable}
 use Rattle.ws_tables.specs.declared.tables.Tables.{Tables}
 use Rattle.ws_tables.specs.View.{slots_of, stream_of}
-use Rattle.ws_tables.specs.Room.{places_of, two_lists, room_of, members_room, waiting_in, HasFewTransforms, IsCounted}
+use Rattle.ws_tables.specs.Room.{places_of, two_lists, room_of, members_room, waiting_in, HasFew, AreSourced, IsCounted}
 use Rattle.ws_tables.proofs.Streams.{readable-within, stands-at, waits-among, waits-after, map-put, rooms-put, ReadableTook, readable-took, has-both, both-have, paid, cover, readable-row, noted-grown, noted-length}
-use Rattle.ws_tables.proofs.Counts.{counted-on, row-more, row-few}
+use Rattle.ws_tables.proofs.Counts.{counted-on, row-more, row-few, row-sourced}
+use Rattle.ws_tables.proofs.Fits.{readable-here}
 use Rattle.ws_tables.proofs.tables.Tables.perform_readable.Goals as goal
 
 pub index_mut-requires : goal.index_mut-requires
@@ -31,7 +32,8 @@ at c =
 pub perform-requires-clause-room : goal.perform-requires-clause-room
 perform-requires-clause-room c =
     let lists = c.requires.room.lists c.args.i.0 (Readable c.in-Readable.stream) (at c) in
-    record { queue = lists.queue; requests = lists.requests }
+    let here = readable-here c.args.i c.args.operation in let r = lists.requests in
+    record { queue = lists.queue; requests = omega (arith, here, r) }
 
 pub perform-requires-clause-effect_room : goal.perform-requires-clause-effect_room
 perform-requires-clause-effect_room c =
@@ -44,9 +46,9 @@ overflow_sub-self c =
     let kept = waits-among c.args.self.now.streams.items c.args.i.0 (Readable c.in-Readable.stream) (at c.before) in
     omega (arith, kept, c.requires.kept.waiting)
 
-took : (c : goal.After-perform) → ReadableTook c.args.operation (acts_of c.in-Readable.stream c.args.self.now.promises c.args.self.now.caused) (acts_of c.perform.new.self c.perform.new.p c.perform.new.fx)
+took : (c : goal.After-perform) → ReadableTook c.args.i c.args.operation (acts_of c.in-Readable.stream c.args.self.now.promises c.args.self.now.caused) (acts_of c.perform.new.self c.perform.new.p c.perform.new.fx)
 took c =
-    subst (ReadableTook c.args.operation (acts_of c.in-Readable.stream c.args.self.now.promises c.args.self.now.caused)) (sym c.perform.ensures.row)
+    subst (ReadableTook c.args.i c.args.operation (acts_of c.in-Readable.stream c.args.self.now.promises c.args.self.now.caused)) (sym c.perform.ensures.row)
     (readable-took c.args.i c.args.operation (acts_of c.in-Readable.stream c.args.self.now.promises c.args.self.now.caused) c.requires.quiet)
 
 pub overflow_add-self : goal.overflow_add-self
@@ -57,12 +59,12 @@ overflow_add-self c =
     omega (arith, kept, turns, small, c.requires.kept.waiting, c.requires.room.others)
 
 paid_for : (c : goal.After-note_growth-arg-1) → c.has_room-had_room.result ≡ true → c.has_room-has_room.result ≡ false
-    → prices_of queued_alone c.perform.new.fx.effects + prices_of requests_alone c.perform.new.fx.effects < readable_price queued_alone c.args.operation + readable_price requests_alone c.args.operation
+    → prices_of queued_alone c.perform.new.fx.effects + prices_of requests_alone c.perform.new.fx.effects < readable_price queued_alone c.args.i c.args.operation + readable_price requests_alone c.args.i c.args.operation
 paid_for c had has =
     let t = took c.before.before.before.before in
     let room = c.perform.ensures.room in
     paid (length c.in-Readable.stream.slots.queue) (length c.perform.new.self.slots.queue) (length c.in-Readable.stream.slots.requests) (length c.perform.new.self.slots.requests)
-    (readable_price queued_alone c.args.operation) (readable_price requests_alone c.args.operation) (prices_of queued_alone c.perform.new.fx.effects) (prices_of requests_alone c.perform.new.fx.effects)
+    (readable_price queued_alone c.args.i c.args.operation) (readable_price requests_alone c.args.i c.args.operation) (prices_of queued_alone c.perform.new.fx.effects) (prices_of requests_alone c.perform.new.fx.effects)
     c.in-Readable.stream.room.queue c.in-Readable.stream.room.requests t.queued t.requested (sym c.has_room-had_room.ensures ∙ had)
     (ap (λ (l : Lists). nat_le 4 (l.queue - length c.perform.new.self.slots.queue) && nat_le 4 (l.requests - length c.perform.new.self.slots.requests)) (sym room) ∙ (sym c.has_room-has_room.ensures ∙ has))
 
@@ -100,12 +102,13 @@ returns-clause-performs c =
       lists = ap (λ (t : Tables). map room_of t.streams.items) same ∙ map-put room_of old.streams.items c.args.i.0 (Readable c.in-Readable.stream) (Readable c.perform.new.self) (at c.before.before.before.before.before.before) (ap two_lists c.perform.ensures.room);
       rooms = λ none. rw (ap (λ (t : Tables). t.streams.items) same) (rooms-put old.streams.items c.args.i.0 (Readable c.in-Readable.stream) (Readable c.perform.new.self) (at c.before.before.before.before.before.before) (λ n h. tt));
       grown =
-          let g = noted-grown (vec_len old.grown) (vec_len c.note_growth.new.self.grown) (readable_price queued_alone c.args.operation) (readable_price requests_alone c.args.operation)
+          let g = noted-grown (vec_len old.grown) (vec_len c.note_growth.new.self.grown) (readable_price queued_alone c.args.i c.args.operation) (readable_price requests_alone c.args.i c.args.operation)
           (prices_of queued_alone c.perform.new.fx.effects) (prices_of requests_alone c.perform.new.fx.effects) c.has_room-had_room.result c.has_room-has_room.result
           t.queued.caused t.requested.caused (paid_for c.before) (rw (c.note_growth.new.self.grown.ok.0, old.grown.ok.0, c.note_growth.ensures.grown) (noted-length old.grown.items c.args.i (c.has_room-had_room.result && not c.has_room-has_room.result))) in
           let q = ap (prices_of queued_alone) caused in
           let r = ap (prices_of requests_alone) caused in
-          omega (arith, g, q, r);
+          let o = ap (λ (t : Tables). tees_keep requests_alone (slots_of t).tees) same in
+          omega (arith, g, q, r, o);
       members = ap (λ (t : Tables). map members_room t.signals.items) same;
       full =
           let none = t.members in
@@ -135,8 +138,10 @@ returns-clause-kept c =
           (record { queue = both.0; requests = both.1; descriptors = tt }, tt)));
       aborts = rw same c.requires.kept.aborts;
       members = rw same c.requires.kept.members;
+      copied = rw same c.requires.kept.copied;
+      sourced = subst AreSourced (sym (returns-clause-performs c).slots) (row-sourced (ReadableEffect c.args.i c.args.operation) (slots_of old) c.requires.kept.sourced);
       counted =
           subst (λ (t : Tables). IsCounted (slots_of t)) (sym same)
           (counted-on (length old.promises.table.entries) (length c.perform.new.p.table.entries) old.pipes.items (row-more (ReadableEffect c.args.i c.args.operation) (slots_of old) _ (left c)) c.requires.kept.counted);
-      few = subst HasFewTransforms (sym (returns-clause-performs c).slots) (row-few (ReadableEffect c.args.i c.args.operation) (slots_of old) c.requires.kept.few);
+      few = subst HasFew (sym (returns-clause-performs c).slots) (row-few (ReadableEffect c.args.i c.args.operation) (slots_of old) c.requires.kept.few);
     }

@@ -5,13 +5,13 @@ use Rattle.ws_steps.specs.declared.effects.Effect.{Effect}
 use Rattle.ws_steps.specs.declared.effects.Effect.TheVariants.{Signal}
 use Rattle.ws_steps.specs.Operations.{signal_operation}
 use Rattle.ws_steps.specs.Pipes as pipe
-use Rattle.ws_steps.specs.Places.{prices_of, own_signal, queued_alone, requests_alone, members_alone}
+use Rattle.ws_steps.specs.Places.{prices_of, tees_keep, own_signal, queued_alone, requests_alone, members_alone}
 use Rattle.ws_steps.specs.Slots.{Done, put_signal}
 use Rattle.ws_steps.specs.Turns.{row}
 use Rattle.ws_steps.proofs.StreamLaws.{map-set}
 use Rattle.ws_tables.specs.declared.tables.Tables.{Tables}
 use Rattle.ws_tables.specs.View.{slots_of, signal_of}
-use Rattle.ws_tables.specs.Room.{places_of, room_of, members_room, aborts_in, HasFewTransforms, IsCounted}
+use Rattle.ws_tables.specs.Room.{places_of, room_of, members_room, aborts_in, HasFew, AreSourced, IsCounted}
 use Rattle.ws_tables.proofs.Records.{signal-absent, signal-row, signal-own, SignalTook, signal-did, aborts-among, aborts-after, paid-member, has-place, place-has, noted-full, cover-signal}
 use Rattle.ws_tables.proofs.Streams.{stands-at, get-map, map-put, noted-length}
 use Rattle.ws_tables.proofs.tables.Tables.perform_signal.Goals as goal
@@ -94,7 +94,8 @@ returns-clause-performs c =
           let r = ap (prices_of requests_alone) caused in
           let g = ap (λ (t : Tables). vec_len t.grown) same in
           let tq = t.queued in let tr = t.requested in
-          omega (arith, q, r, g, tq, tr);
+          let o = ap (λ (t : Tables). tees_keep requests_alone (slots_of t).tees) same in
+          omega (arith, q, r, g, tq, tr, o);
       members = ap (λ (t : Tables). map members_room t.signals.items) same ∙ map-put members_room old.signals.items c.args.a.0 c.index_mut-signal.result.now y (at c.before.before.before.before.before) c.perform.ensures.room;
       full =
           let g = noted-full (vec_len old.full) (vec_len c.note_full.new.self.full) (own_signal members_alone c.args.operation) (prices_of members_alone c.perform.new.fx.effects)
@@ -125,6 +126,8 @@ returns-clause-kept c =
           (cover-signal old.full.items c.args.a y c.has_room-had_room.result c.has_room-has_room.result x old.signals.items c.requires.kept.members is
           (λ h. c.has_room-had_room.ensures ∙ place-has (length x.signal.pipes) x.room h)
           (λ has. has-place (length y.signal.pipes) y.room (sym c.has_room-has_room.ensures ∙ has)));
+      copied = rw same c.requires.kept.copied;
+      sourced = subst (λ (t : Tables). AreSourced (slots_of t)) (sym same) c.requires.kept.sourced;
       counted = subst (λ (t : Tables). IsCounted (slots_of t)) (sym same) c.requires.kept.counted;
-      few = subst (λ (t : Tables). HasFewTransforms (slots_of t)) (sym same) c.requires.kept.few;
+      few = subst (λ (t : Tables). HasFew (slots_of t)) (sym same) c.requires.kept.few;
     }

@@ -4,7 +4,7 @@ use Rattle.ws_steps.specs.declared.effects.Effect.{Effect}
 use Rattle.ws_steps.specs.declared.effects.Effect.TheVariants.{Writable as WritableEffect}
 use Rattle.ws_steps.specs.Turns.{row}
 use Rattle.ws_queue.specs.Seen.{Lists}
-use Rattle.ws_steps.specs.Places.{prices_of, writable_price, queued_alone, requests_alone, members_alone}
+use Rattle.ws_steps.specs.Places.{prices_of, tees_keep, writable_price, queued_alone, requests_alone, members_alone}
 use Rattle.ws_writable.specs.Seen.{acts_of}
 use Rattle.ws_steps.specs.Operations.{writable_operation}
 use Rattle.ws_steps.specs.Slots.{Done, on_writable}
@@ -12,9 +12,10 @@ use Rattle.ws_steps.proofs.StreamLaws.{on_writable-at}
 use Rattle.ws_tables.specs.declared.tables.Stream.TheVariants.{Writable}
 use Rattle.ws_tables.specs.declared.tables.Tables.{Tables}
 use Rattle.ws_tables.specs.View.{slots_of, stream_of}
-use Rattle.ws_tables.specs.Room.{places_of, two_lists, room_of, members_room, waiting_in, HasFewTransforms, IsCounted}
+use Rattle.ws_tables.specs.Room.{places_of, two_lists, room_of, members_room, waiting_in, HasFew, AreSourced, IsCounted}
+use Rattle.ws_tables.proofs.Fits.{writable-here}
 use Rattle.ws_tables.proofs.Streams.{writable-within, stands-at, waits-after, map-put, rooms-put, WritableTook, writable-took, has-both, both-have, paid, cover, writable-absent, noted-grown, noted-length}
-use Rattle.ws_tables.proofs.Counts.{counted-on, writable-more, row-few}
+use Rattle.ws_tables.proofs.Counts.{counted-on, writable-more, row-few, row-sourced}
 use Rattle.ws_tables.proofs.tables.Tables.perform_writable.Goals as goal
 
 pub returns-then-not-has_writable-clause-performs : goal.returns-then-not-has_writable-clause-performs
@@ -35,7 +36,8 @@ at c =
 pub perform-requires-clause-room : goal.perform-requires-clause-room
 perform-requires-clause-room c =
     let lists = c.requires.room.lists c.args.i.0 (Writable c.in-Writable.stream) (at c) in
-    record { promises = c.requires.room.promises; events = c.requires.room.events; queue = lists.queue; requests = lists.requests }
+    let here = writable-here c.args.i c.args.operation in let r = lists.requests in
+    record { promises = c.requires.room.promises; events = c.requires.room.events; queue = lists.queue; requests = omega (arith, here, r) }
 
 pub perform-requires-clause-effect_room : goal.perform-requires-clause-effect_room
 perform-requires-clause-effect_room c =
@@ -96,7 +98,8 @@ returns-clause-performs c =
           t.queued.caused t.requested.caused (paid_for c.before) (rw (c.note_growth.new.self.grown.ok.0, old.grown.ok.0, c.note_growth.ensures.grown) (noted-length old.grown.items c.args.i (c.has_room-had_room.result && not c.has_room-has_room.result))) in
           let q = ap (prices_of queued_alone) caused in
           let r = ap (prices_of requests_alone) caused in
-          omega (arith, g, q, r);
+          let o = ap (λ (t : Tables). tees_keep requests_alone (slots_of t).tees) same in
+          omega (arith, g, q, r, o);
       members = ap (λ (t : Tables). map members_room t.signals.items) same;
       full =
           let none = t.members in
@@ -125,8 +128,10 @@ returns-clause-kept c =
           (record { queue = both.0; requests = both.1; descriptors = tt }, tt)));
       aborts = rw same c.requires.kept.aborts;
       members = rw same c.requires.kept.members;
+      copied = rw same c.requires.kept.copied;
+      sourced = subst AreSourced (sym (returns-clause-performs c).slots) (row-sourced (WritableEffect c.args.i c.args.operation) (slots_of old) c.requires.kept.sourced);
       counted =
           subst (λ (t : Tables). IsCounted (slots_of t)) (sym same)
           (counted-on (length old.promises.table.entries) (length c.perform.new.p.table.entries) old.pipes.items (writable-more c.args.i c.args.operation (slots_of old) _ (left c)) c.requires.kept.counted);
-      few = subst HasFewTransforms (sym (returns-clause-performs c).slots) (row-few (WritableEffect c.args.i c.args.operation) (slots_of old) c.requires.kept.few);
+      few = subst HasFew (sym (returns-clause-performs c).slots) (row-few (WritableEffect c.args.i c.args.operation) (slots_of old) c.requires.kept.few);
     }
