@@ -1,41 +1,63 @@
 -- A call or a job has begun: there are places for its effects and all that comes of them.
-use Rattle.std.proofs.Common.{◌≡◌, ◌≤◌, ℕ, zero, suc, ◌+◌, ◌⊎◌, inl, inr, ⊎_elim, List, [], ◌∷◌, ◌++◌, length, map, Option, Some, None, refl, sym, ap, subst, ◌∙◌, length-append, arith}
-use Rattle.std.specs.Prelude.{slice_get, vec_len}
+use Rattle.std.proofs.Common.{◌≡◌, ◌≤◌, ◌<◌, true, Result, ℕ, zero, suc, ◌+◌, ◌⊎◌, inl, inr, ⊎_elim, List, [], ◌∷◌, ◌++◌, length, map, Option, Some, None, refl, sym, ap, subst, ◌∙◌, length-append, arith}
+use Rattle.std.specs.Prelude.{⊤, slice_get, vec_len}
+use Rattle.std.proofs.lemmas.List.{length-map}
 use Rattle.std.proofs.lemmas.List.Elements.{Contains-append_left, Contains-append_right}
+use Rattle.ws_value.specs.declared.ids.PromiseId.{PromiseId}
+use Rattle.ws_value.specs.declared.ids.TeeId.{TeeId}
+use Rattle.ws_value.specs.declared.value.Plain.{Plain}
 use Rattle.ws_value.specs.declared.ids.SignalId.{SignalId}
 use Rattle.ws_value.specs.declared.ids.StreamId.{StreamId}
 use Rattle.ws_pipe.specs.Seen.{SeenSignal, HasMemberRoom, aborts_of}
+use Rattle.ws_tee.specs.Seen.{SeenTee}
 use Rattle.ws_steps.specs.declared.calls.Call.{Call}
 use Rattle.ws_steps.specs.declared.calls.Reply.{Reply}
 use Rattle.ws_steps.specs.declared.calls.Reply.TheVariants as replies
+use Rattle.ws_steps.specs.declared.effects.Effect.{Effect}
 use Rattle.ws_steps.specs.declared.promises.Job.{Job}
+use Rattle.ws_steps.specs.declared.promises.Job.TheVariants.{Reaction, Follow, Settle, Micro as MicroJob}
+use Rattle.ws_steps.specs.declared.promises.Micro.{Micro}
+use Rattle.ws_steps.specs.declared.promises.Micro.TheVariants.{PipeLook, PipeWrite, PipeNoParts, TeeHand}
+use Rattle.ws_steps.specs.declared.promises.Step.{Step}
+use Rattle.ws_steps.specs.declared.tee.Half.TheVariants.{First, Second}
 use Rattle.ws_steps.specs.Calls.{Begun, begin}
-use Rattle.ws_steps.specs.Jobs.{job_begun, begin_job}
+use Rattle.ws_steps.specs.Jobs.{steps, returned, resolved, micro_steps, job_effects, job_begun, begin_job}
 use Rattle.ws_steps.specs.Pipes as pipe
-use Rattle.ws_steps.specs.Places.{Prices, all_keep, signals_keep, need, size, prices_of, step_price, entries_of, members_of, turns_alone, promises_alone, jobs_alone, events_alone, hosts_alone, queued_alone, requests_alone, members_alone, descriptors_alone}
-use Rattle.ws_steps.specs.Promises.{after_next_job, next_id, next_job}
+use Rattle.ws_steps.specs.Places.{Prices, Counts, all_kept, tees_keep, need, size, prices_of, own, step_price, entries_of, members_of, turns_alone, promises_alone, jobs_alone, events_alone, hosts_alone, queued_alone, requests_alone, requests_at, members_alone, descriptors_alone, copies_alone}
+use Rattle.ws_steps.specs.Promises.{after_next_job, fresh, next_id, next_job}
 use Rattle.ws_steps.specs.Bytes as byte
 use Rattle.ws_steps.specs.Readable as readable
+use Rattle.ws_steps.specs.Tee as tee
 use Rattle.ws_steps.specs.Transform as transform
 use Rattle.ws_steps.specs.Writable as writable
-use Rattle.ws_steps.specs.declared.effects.Owner.TheVariants.{Host, HalfOf}
+use Rattle.ws_steps.specs.declared.effects.Owner.TheVariants.{Host, HalfOf, BranchOf}
 use Rattle.ws_steps.specs.declared.readable.SizeBy.TheVariants.{Count}
 use Rattle.ws_steps.specs.declared.transform.TransformId.{TransformId}
-use Rattle.ws_steps.specs.Slots.{Slots, Stream, ReadableStream, ByteStream, WritableStream, Done}
+use Rattle.ws_steps.specs.Slots.{Slots, Stream, ReadableStream, ByteStream, WritableStream, Done, is_readable_stream}
 use Rattle.ws_steps.proofs.PromiseLaws.{length-fresh}
+use Rattle.ws_room_laws.proofs.Readables.{prices-append}
 use Rattle.ws_room_laws.proofs.Room.{Begins as BeginsWithin, begin-fits, job-fits}
 use Rattle.ws_laws.proofs.Begin.{Makes, begin-makes}
 use Rattle.ws_laws.proofs.EachCall.{each_call}
-use Rattle.ws_tables.specs.View.{slots_of, stream_of, signal_of}
-use Rattle.ws_tables.specs.Room.{Places, places_of, room_of, queued_in, requested_in, described_in, waiting_in, aborts_in, IsWithin, HasLists, HasRooms, AllCovered, AllHaveMembers, AreCounted, IsCounted, HasFewTransforms, HasRoomForAll, IsPrepared, IsResting, IsKept}
+use Rattle.ws_tables.specs.View.{slots_of, stream_of, signal_of, tee_of}
+use Rattle.ws_tables.specs.Room.{Places, places_of, room_of, queued_in, requested_in, described_in, waiting_in, aborts_in, IsWithin, HasLists, HasRooms, AllCovered, AllHaveMembers, AreCounted, IsCounted, HasFew, HaveOwnSources, AreSourced, HasCopies, AreCopied, asked, HasRoomForAll, IsPrepared, IsResting, IsKept}
 use Rattle.ws_calls.specs.Begin.{IsBegun, IsEmpty, Answers, Begins, MakesNone, MakesOne, MakesTwo, MakesSignal, RecordsAfter}
 use Rattle.ws_tables.specs.declared.tables.Stream.{Stream as StreamRecord}
 use Rattle.ws_tables.specs.declared.tables.Stream.TheVariants.{Readable, Bytes, Writable}
 use Rattle.ws_tables.specs.declared.tables.Tables.{Tables}
 use Rattle.ws_tables.proofs.Counts.{counted-on, next-more}
-use Rattle.ws_tables.proofs.Fits.{Takes, takes, within-less, queued-within, members-at}
-use Rattle.ws_tables.proofs.Keeps.{later-is}
-use Rattle.ws_tables.proofs.Turns.{rooms-less, no-rooms}
+use Rattle.ws_tables.proofs.Fits.{Takes, takes, within-less, queued-within, copies-within, all-at-one, members-at}
+use Rattle.ws_tables.proofs.Keeps.{later-is, one-tee, no-tee, more-sources, own-new, tees-turns, tees-promises, tees-jobs, tees-events, tees-hosts, tees-requests}
+use Rattle.ws_tables.proofs.Turns.{rooms-less, no-rooms, copied-none}
+
+-- each tee reads a stream that there was, and no two read the same; there is one tee more at most, and no stream fewer
+abbrev Sourced : Slots → Done → Type 0
+Sourced s d = HaveOwnSources (length s.streams) d.slots.tees × ((length s.streams ≤ length d.slots.streams) × (length d.slots.tees ≤ length s.tees + 1))
+
+-- none of these effects hands a chunk on, but for the first
+abbrev HandsFirst : List Effect → Type 0
+HandsFirst [] = ⊤
+HandsFirst (e ∷ es) = prices_of copies_alone es ≡ 0
 
 -- what has begun leaves the places as they are, and makes one stream, or two, or one signal, or none of these
 record Starts (d : Done) (t t' : Tables) : Type 0 where
@@ -46,7 +68,10 @@ record Starts (d : Done) (t t' : Tables) : Type 0 where
   waiting : t'.waiting ≡ t.waiting
   aborts : t'.aborts ≡ t.aborts
   counted : IsCounted d.slots
-  few : HasFewTransforms d.slots
+  few : HasFew d.slots
+  sourced : Sourced (slots_of t) d
+  -- the first effect alone may hand a chunk on
+  handing : HandsFirst d.caused
   records : MakesNone t t' ⊎ (MakesOne t t' ⊎ (MakesSignal t t' ⊎ MakesTwo t t'))
 
 which-made : (reply : Reply) (t t' : Tables) → RecordsAfter reply t t' → MakesNone t t' ⊎ (MakesOne t t' ⊎ (MakesSignal t t' ⊎ MakesTwo t t'))
@@ -106,13 +131,17 @@ cover-signal full xs x covered i y is =
 kept : (d : Done) (t t' : Tables) → Starts d t t' → IsKept t → IsKept t'
 kept d t t' start was =
     let counted : IsCounted (slots_of t') = subst (λ (s : Slots). IsCounted s) (sym start.slots) start.counted in
-    let few : HasFewTransforms (slots_of t') = subst HasFewTransforms (sym start.slots) start.few in
+    let few : HasFew (slots_of t') = subst HasFew (sym start.slots) start.few in
+    let own : AreSourced (slots_of t') =
+    subst AreSourced (sym start.slots) (more-sources (length (slots_of t).streams) (length d.slots.streams) d.slots.tees start.sourced.1.0 start.sourced.0) in
     ⊎_elim
     (λ (none : MakesNone t t'). record {
       waiting = start.waiting ∙ (was.waiting ∙ ap (λ v. waiting_in (map stream_of v.items)) (sym none.streams));
       covered = rw (none.grown, none.streams) was.covered;
       aborts = start.aborts ∙ (was.aborts ∙ ap (λ v. aborts_in (map signal_of v.items)) (sym none.signals));
       members = rw (none.full, none.signals) was.members;
+      copied = rw (none.uncopied, none.tees) was.copied;
+      sourced = own;
       counted = counted;
       few = few;
     })
@@ -122,6 +151,8 @@ kept d t t' start was =
       covered = rw (one.grown, one.streams) (cover-new t.grown.items t.streams.items one.stream was.covered);
       aborts = start.aborts ∙ (was.aborts ∙ ap (λ v. aborts_in (map signal_of v.items)) (sym one.signals));
       members = rw (one.full, one.signals) was.members;
+      copied = rw (one.uncopied, one.tees) was.copied;
+      sourced = own;
       counted = counted;
       few = few;
     })
@@ -131,6 +162,8 @@ kept d t t' start was =
       covered = rw (one.grown, one.streams) was.covered;
       aborts = start.aborts ∙ (was.aborts ∙ (sym (aborts-new t.signals.items one.signal one.empty) ∙ ap (λ xs. aborts_in (map signal_of xs)) (sym one.signals)));
       members = rw (one.full, one.signals) (cover-signal t.full.items t.signals.items one.signal was.members);
+      copied = rw (one.uncopied, one.tees) was.copied;
+      sourced = own;
       counted = counted;
       few = few;
     })
@@ -143,6 +176,8 @@ kept d t t' start was =
       covered = rw (two.grown, two.streams) (cover-two t.grown.items t.streams.items two.first two.second was.covered);
       aborts = start.aborts ∙ (was.aborts ∙ ap (λ v. aborts_in (map signal_of v.items)) (sym two.signals));
       members = rw (two.full, two.signals) was.members;
+      copied = λ is. rw (two.tees is) (was.copied (two.uncopied is));
+      sourced = own;
       counted = counted;
       few = few;
     })
@@ -154,11 +189,20 @@ within-none : (n : ℕ) → n ≡ 0 → (places : Option ℕ) → IsWithin n pla
 within-none n none None = tt
 within-none n none (Some p) = omega (arith, none)
 
+-- one chunk is handed on at most
+
+own-one : (e : Effect) → own copies_alone e ≤ 1
+own-one e = grind arith
+
+fewer-copies : (n : ℕ) (x : SeenTee) → n ≤ 1 → HasCopies 1 x → HasCopies n x
+fewer-copies zero x less can = tt
+fewer-copies (suc n) x less can = can
+
 -- what is taken stays within what is prepared for any call or job
-module _ (d : Done) (t t' : Tables) (within : (π : Prices) (i : StreamId) (a : SignalId) → BeginsWithin π i a (all_keep π (slots_of t).streams + signals_keep π (slots_of t).signals + step_price π) (slots_of t) d)
+module _ (d : Done) (t t' : Tables) (within : (π : Prices) (i : StreamId) (a : SignalId) → Counts π i → BeginsWithin π i a (all_kept π (slots_of t) + step_price π) (slots_of t) d)
     (ready : IsPrepared t) (was : IsKept t) (start : Starts d t t') where
   took : Takes step_price (slots_of t) (slots_of t') t'.caused.effects
-  took = rw (start.slots, start.caused) (takes step_price (slots_of t) d.slots d.caused (λ π i a. let h = within π i a in omega (arith, h)))
+  took = rw (start.slots, start.caused) (takes step_price (slots_of t) d.slots d.caused (λ π i a c. let h = within π i a c in omega (arith, h)))
 
   -- what the effects make in lists
 
@@ -166,16 +210,17 @@ module _ (d : Done) (t t' : Tables) (within : (π : Prices) (i : StreamId) (a : 
   queued-few same =
       let items = ap (λ v. map stream_of v.items) same in
       queued-within 4 (slots_of t) (slots_of t') t'.caused.effects items
-      (subst (λ (z : Slots). (i : StreamId) (a : SignalId) → size queued_alone i a z + need queued_alone z t'.caused.effects ≤ size queued_alone i a (slots_of t) + (all_keep queued_alone (slots_of t).streams + signals_keep queued_alone (slots_of t).signals + 4))
+      (subst (λ (z : Slots). (i : StreamId) (a : SignalId) → size queued_alone i a z + need queued_alone z t'.caused.effects ≤ size queued_alone i a (slots_of t) + (all_kept queued_alone (slots_of t) + 4))
       (sym start.slots)
-      (subst (λ es. (i : StreamId) (a : SignalId) → size queued_alone i a d.slots + need queued_alone d.slots es ≤ size queued_alone i a (slots_of t) + (all_keep queued_alone (slots_of t).streams + signals_keep queued_alone (slots_of t).signals + 4))
-      (sym start.caused) (λ i a. within queued_alone i a)))
+      (subst (λ es. (i : StreamId) (a : SignalId) → size queued_alone i a d.slots + need queued_alone d.slots es ≤ size queued_alone i a (slots_of t) + (all_kept queued_alone (slots_of t) + 4))
+      (sym start.caused) (λ i a. within queued_alone i a (record { here = refl; others = λ j. omega arith }))))
 
-  requested-few : t'.streams ≡ t.streams → prices_of requests_alone t'.caused.effects ≤ 2
-  requested-few same =
-      let a = took.requested (record { 0 = 0 }) in
+  requested-few : t'.streams ≡ t.streams → t'.tees ≡ t.tees → prices_of requests_alone t'.caused.effects ≤ 2
+  requested-few same tees =
+      let a = took.asked (record { 0 = 0 }) in
       let q = ap (λ v. entries_of requests_alone (slice_get (map stream_of v.items) 0)) same in
-      omega (arith, a, q)
+      let k = ap (λ v. tees_keep requests_alone (map tee_of v.items)) tees in
+      omega (arith, a, q, k)
 
   described-few : t'.streams ≡ t.streams → prices_of descriptors_alone t'.caused.effects ≤ 1
   described-few same =
@@ -194,28 +239,46 @@ module _ (d : Done) (t t' : Tables) (within : (π : Prices) (i : StreamId) (a : 
   abbrev Few : Type 0
   Few = (prices_of queued_alone t'.caused.effects ≤ 4) × (prices_of requests_alone t'.caused.effects ≤ 2) × (prices_of descriptors_alone t'.caused.effects ≤ 1)
 
-  abbrev Has : StreamRecord → Type 0
-  Has y = HasLists (prices_of queued_alone t'.caused.effects) (prices_of requests_alone t'.caused.effects) (prices_of descriptors_alone t'.caused.effects) y × HasRooms (prices_of descriptors_alone t'.caused.effects) y
+  abbrev Has : ℕ → StreamRecord → Type 0
+  Has i y = HasLists (prices_of queued_alone t'.caused.effects) (asked t'.caused.effects t' i) (prices_of descriptors_alone t'.caused.effects) y × HasRooms (prices_of descriptors_alone t'.caused.effects) y
 
-  before-has : Few → (i : ℕ) (y : StreamRecord) → slice_get t.streams.items i ≡ Some y → Has y
+  -- a tee keeps one place at its source
+  asked-few : (i : ℕ) → asked t'.caused.effects t' i ≤ prices_of requests_alone t'.caused.effects + 1
+  asked-few i =
+      let a = all-at-one (record { 0 = i }) t'.caused.effects in
+      let b = one-tee (length (slots_of t').streams) (record { 0 = i }) (slots_of t').tees (kept d t t' start was).sourced in
+      omega (arith, a, b)
+
+  -- and none at a new stream
+  asked-none : prices_of requests_alone t'.caused.effects ≡ 0 → (i : ℕ) → length t.streams.items ≤ i → asked t'.caused.effects t' i ≡ 0
+  asked-none none i new =
+      let a = all-at-one (record { 0 = i }) t'.caused.effects in
+      let m = length-map t.streams.items stream_of in
+      let b = no-tee (length (slots_of t).streams) (record { 0 = i }) d.slots.tees (omega (arith, new, m)) start.sourced.0 in
+      let k = ap (λ (s : Slots). tees_keep (requests_at (record { 0 = i })) s.tees) start.slots in
+      omega (arith, a, b, k, none)
+
+  before-has : Few → (i : ℕ) (y : StreamRecord) → slice_get t.streams.items i ≡ Some y → Has i y
   before-has few i y before =
       let h = ready.places i y before in
       let hq = h.0.queue in let hr = h.0.requests in
-      let q = few.0 in let r = few.1 in let n = few.2 in (
+      let q = few.0 in let r = few.1 in let n = few.2 in let one = asked-few i in (
         record {
           queue = omega (arith, hq, q);
-          requests = omega (arith, hr, r);
+          requests = omega (arith, hr, r, one);
           descriptors = within-less _ _ (room_of y).descriptors (omega (arith, n)) h.0.descriptors;
         },
         rooms-less _ _ y n h.1,
       )
 
-  new-has : prices_of queued_alone t'.caused.effects ≡ 0 → prices_of requests_alone t'.caused.effects ≡ 0 → prices_of descriptors_alone t'.caused.effects ≡ 0 → (x y : StreamRecord) → IsEmpty x → x ≡ y → Has y
-  new-has q r n x y empty same =
-      let eq = ap queued_in (sym same) ∙ empty.queued in let er = ap requested_in (sym same) ∙ empty.requested in let en = ap described_in (sym same) ∙ empty.described in (
+  new-has : prices_of queued_alone t'.caused.effects ≡ 0 → prices_of requests_alone t'.caused.effects ≡ 0 → prices_of descriptors_alone t'.caused.effects ≡ 0
+      → (i : ℕ) → length t.streams.items ≤ i → (x y : StreamRecord) → IsEmpty x → x ≡ y → Has i y
+  new-has q r n i new x y empty same =
+      let eq = ap queued_in (sym same) ∙ empty.queued in let er = ap requested_in (sym same) ∙ empty.requested in let en = ap described_in (sym same) ∙ empty.described in
+      let none = asked-none r i new in (
         record {
           queue = omega (arith, q, eq);
-          requests = omega (arith, r, er);
+          requests = omega (arith, none, er);
           descriptors = within-none (prices_of descriptors_alone t'.caused.effects + described_in y) (omega (arith, n, en)) (room_of y).descriptors;
         },
         rooms-less _ 0 y (omega (arith, n)) (no-rooms y),
@@ -224,32 +287,34 @@ module _ (d : Done) (t t' : Tables) (within : (π : Prices) (i : StreamId) (a : 
   few : Few
   few =
       ⊎_elim
-      (λ (none : MakesNone t t'). (queued-few none.streams, requested-few none.streams, described-few none.streams))
+      (λ (none : MakesNone t t'). (queued-few none.streams, requested-few none.streams none.tees, described-few none.streams))
       (λ made. ⊎_elim
       (λ (one : MakesOne t t'). let q = one.queued in let r = one.requested in let n = one.described in (omega (arith, q), omega (arith, r), omega (arith, n)))
       (λ rest. ⊎_elim
-      (λ (one : MakesSignal t t'). (queued-few one.streams, requested-few one.streams, described-few one.streams))
+      (λ (one : MakesSignal t t'). (queued-few one.streams, requested-few one.streams one.tees, described-few one.streams))
       (λ (two : MakesTwo t t'). let q = two.queued in let r = two.requested in let n = two.described in (omega (arith, q), omega (arith, r), omega (arith, n)))
       rest)
       made)
       start.records
 
-  same-has : (i : ℕ) (y : StreamRecord) → slice_get t'.streams.items i ≡ Some y → t'.streams ≡ t.streams → Has y
+  same-has : (i : ℕ) (y : StreamRecord) → slice_get t'.streams.items i ≡ Some y → t'.streams ≡ t.streams → Has i y
   same-has i y is same = before-has few i y (ap (λ v. slice_get v.items i) (sym same) ∙ is)
 
-  one-has : (i : ℕ) (y : StreamRecord) → slice_get t'.streams.items i ≡ Some y → MakesOne t t' → Has y
+  one-has : (i : ℕ) (y : StreamRecord) → slice_get t'.streams.items i ≡ Some y → MakesOne t t' → Has i y
   one-has i y is one =
-      ⊎_elim (before-has few i y) (λ h. new-has one.queued one.requested one.described one.stream y one.empty h.1)
+      ⊎_elim (before-has few i y) (λ h. let at = h.0 in new-has one.queued one.requested one.described i (omega (arith, at)) one.stream y one.empty h.1)
       (added t.streams.items one.stream y i (ap (λ xs. slice_get xs i) (sym one.streams) ∙ is))
 
-  two-has : (i : ℕ) (y : StreamRecord) → slice_get t'.streams.items i ≡ Some y → MakesTwo t t' → Has y
+  two-has : (i : ℕ) (y : StreamRecord) → slice_get t'.streams.items i ≡ Some y → MakesTwo t t' → Has i y
   two-has i y is two =
       ⊎_elim
-      (λ before. ⊎_elim (before-has few i y) (λ h. new-has two.queued two.requested two.described two.first y two.first_empty h.1) (added t.streams.items two.first y i before))
-      (λ h. new-has two.queued two.requested two.described two.second y two.second_empty h.1)
+      (λ before.
+      ⊎_elim (before-has few i y) (λ h. let at = h.0 in new-has two.queued two.requested two.described i (omega (arith, at)) two.first y two.first_empty h.1)
+      (added t.streams.items two.first y i before))
+      (λ h. let at = h.0 in let many = length-append t.streams.items (two.first ∷ []) in new-has two.queued two.requested two.described i (omega (arith, at, many)) two.second y two.second_empty h.1)
       (added (t.streams.items ++ two.first ∷ []) two.second y i (ap (λ xs. slice_get xs i) (sym two.streams) ∙ is))
 
-  each-has : (i : ℕ) (y : StreamRecord) → slice_get t'.streams.items i ≡ Some y → Has y
+  each-has : (i : ℕ) (y : StreamRecord) → slice_get t'.streams.items i ≡ Some y → Has i y
   each-has i y is =
       ⊎_elim (λ (none : MakesNone t t'). same-has i y is none.streams)
       (λ made. ⊎_elim (λ (one : MakesOne t t'). one-has i y is one)
@@ -272,6 +337,29 @@ module _ (d : Done) (t t' : Tables) (within : (π : Prices) (i : StreamId) (a : 
       (λ h. let m = one.members in let e = ap (λ (x : SeenSignal). length x.signal.pipes) (sym h.1) ∙ ap (λ (x : pipe.Signal). length x.pipes) one.empty in omega (arith, m, e))
       (added t.signals.items one.signal y i (ap (λ xs. slice_get xs i) (sym one.signals) ∙ is))
 
+  -- where a chunk is handed on, the tees are as before, which were prepared
+
+  first-copied : (es : List Effect) → t'.tees ≡ t.tees → HandsFirst es → AreCopied es t'
+  first-copied [] same hands = tt
+  first-copied (e ∷ es) same hands = (λ i x is. fewer-copies (own copies_alone e) x (own-one e) (ready.copies i x (ap (λ v. slice_get v.items i) (sym same) ∙ is)), hands)
+
+  each-copied : AreCopied t'.caused.effects t'
+  each-copied =
+      let hands = subst HandsFirst (sym start.caused) start.handing in
+      ⊎_elim (λ (none : MakesNone t t'). first-copied t'.caused.effects none.tees hands)
+      (λ made. ⊎_elim (λ (one : MakesOne t t'). first-copied t'.caused.effects one.tees hands)
+      (λ rest.
+      ⊎_elim (λ (one : MakesSignal t t'). first-copied t'.caused.effects one.tees hands)
+      (λ (two : MakesTwo t t'). copied-none t'.caused.effects t' two.copies) rest) made) start.records
+
+  -- what tees keep of each kind
+
+  same-tees : t'.tees ≡ t.tees → length (slots_of t').tees ≡ length (slots_of t).tees
+  same-tees same = ap (λ v. length (map tee_of v.items)) same
+
+  many-tees : length (slots_of t).tees ≡ vec_len t.tees
+  many-tees = let m = length-map t.tees.items tee_of in let l = t.tees.ok.0 in omega (arith, m, l)
+
   fits : HasRoomForAll t'.caused.effects t'
   fits =
       let caps = start.places in
@@ -285,27 +373,35 @@ module _ (d : Done) (t t' : Tables) (within : (π : Prices) (i : StreamId) (a : 
       let fc = ap (λ (p : Places). p.full) caps in
       let now = kept d t t' start was in
       let turns = later-is turns_alone t refl was in let turns' = later-is turns_alone t' refl now in
+      let xs = (slots_of t).tees in
+      let n = many-tees in
+      let most = tees-turns xs in
       record {
-        promises = let h = ready.promises.promises in let a = took.promises in let k = later-is promises_alone t refl was in let k' = later-is promises_alone t' refl now in omega (arith, h, a, pr, k, k');
-        jobs = let h = ready.jobs in let a = took.jobs in let k = later-is jobs_alone t refl was in let k' = later-is jobs_alone t' refl now in omega (arith, h, a, jr, k, k');
-        events = let h = ready.promises.events in let a = took.events in let k = later-is events_alone t refl was in let k' = later-is events_alone t' refl now in omega (arith, h, a, er, k, k');
+        promises = let h = ready.promises.promises in let a = took.promises in let k = later-is promises_alone t refl was in let k' = later-is promises_alone t' refl now in omega (arith, h, a, pr, k, k', n, tees-promises xs);
+        jobs = let h = ready.jobs in let a = took.jobs in let k = later-is jobs_alone t refl was in let k' = later-is jobs_alone t' refl now in omega (arith, h, a, jr, k, k', n, tees-jobs xs);
+        events = let h = ready.promises.events in let a = took.events in let k = later-is events_alone t refl was in let k' = later-is events_alone t' refl now in omega (arith, h, a, er, k, k', n, tees-events xs);
         hosts =
             let h = ready.hosts in let a = took.hosts in let k = later-is hosts_alone t refl was in let k' = later-is hosts_alone t' refl now in
-            let l = t.hosts.ok.0 in let l' = t'.hosts.ok.0 in omega (arith, h, a, hc, l, l', k, k');
-        caused = let h = ready.caused in let a = took.turns in omega (arith, h, a, ac, turns, turns');
-        others = let h = ready.others in let a = took.turns in omega (arith, h, a, oc, turns, turns');
+            let l = t.hosts.ok.0 in let l' = t'.hosts.ok.0 in omega (arith, h, a, hc, l, l', k, k', n, tees-hosts xs);
+        caused = let h = ready.caused in let a = took.turns in omega (arith, h, a, ac, turns, turns', n, most);
+        others = let h = ready.others in let a = took.turns in omega (arith, h, a, oc, turns, turns', n, most);
         lists = λ i y is. (each-has i y is).0;
         once = few.2;
         rooms = λ i y is. (each-has i y is).1;
         grown =
             let h = ready.grown in
+            let m = tees-requests (slots_of t').tees in
+            let k = ap (λ (s : Slots). length s.tees) start.slots in
+            let o = start.sourced.1.1 in
             ⊎_elim
-            (λ (none : MakesNone t t'). let q = queued-few none.streams in let r = requested-few none.streams in let l = ap vec_len none.grown in omega (arith, h, q, r, l, gc))
+            (λ (none : MakesNone t t').
+            let q = queued-few none.streams in let r = requested-few none.streams none.tees in let l = ap vec_len none.grown in let e = same-tees none.tees in omega (arith, h, q, r, l, gc, m, n, e))
             (λ made. ⊎_elim
-            (λ (one : MakesOne t t'). let q = one.queued in let r = one.requested in let l = one.counted in omega (arith, h, q, r, l, gc))
+            (λ (one : MakesOne t t'). let q = one.queued in let r = one.requested in let l = one.counted in let e = same-tees one.tees in omega (arith, h, q, r, l, gc, m, n, e))
             (λ rest. ⊎_elim
-            (λ (one : MakesSignal t t'). let q = queued-few one.streams in let r = requested-few one.streams in let l = ap vec_len one.grown in omega (arith, h, q, r, l, gc))
-            (λ (two : MakesTwo t t'). let q = two.queued in let r = two.requested in let l = two.counted in omega (arith, h, q, r, l, gc))
+            (λ (one : MakesSignal t t').
+            let q = queued-few one.streams in let r = requested-few one.streams one.tees in let l = ap vec_len one.grown in let e = same-tees one.tees in omega (arith, h, q, r, l, gc, m, n, e))
+            (λ (two : MakesTwo t t'). let q = two.queued in let r = two.requested in let l = two.counted in omega (arith, h, q, r, l, gc, m, n, k, o))
             rest)
             made)
             start.records;
@@ -325,10 +421,11 @@ module _ (d : Done) (t t' : Tables) (within : (π : Prices) (i : StreamId) (a : 
             rest)
             made)
             start.records;
+        copies = each-copied;
       }
 
 starts : (d : Done) (t t' : Tables)
-    → ((π : Prices) (i : StreamId) (a : SignalId) → BeginsWithin π i a (all_keep π (slots_of t).streams + signals_keep π (slots_of t).signals + step_price π) (slots_of t) d)
+    → ((π : Prices) (i : StreamId) (a : SignalId) → Counts π i → BeginsWithin π i a (all_kept π (slots_of t) + step_price π) (slots_of t) d)
     → IsPrepared t → IsResting t → Starts d t t' → IsBegun t'
 starts d t t' within ready rest start = record {
   others = ap (λ v. v.items) start.others ∙ rest.others;
@@ -349,6 +446,7 @@ counted-makes = record {
   pipe = λ s i j p a q k. counted-new (length s.promises.entries) s.pipes (pipe.set_up i j p a q) refl k;
   signal = λ s k. k;
   transform = λ s kind w r p k. k;
+  tee = λ s source i j p k. k;
   readable = λ s o m b k. k;
   bytes = λ s m a k. k;
   byob_requests = λ s r k. k;
@@ -365,12 +463,12 @@ job-counted s k = begun-counted s (next_job s.promises) k
 
 -- a call that makes a transform stream makes two streams, and no other makes one
 
-begin-few : (c : Call) (s : Slots) → HasFewTransforms s → HasFewTransforms (begin c s).done.slots
-begin-few c s few = each_call (λ (b : Begun). HasFewTransforms b.done.slots) c s (record {
+begin-few : (c : Call) (s : Slots) → HasFew s → HasFew (begin c s).done.slots
+begin-few c s few = each_call (λ (b : Begun). HasFew b.done.slots) c s (record {
   unchanged = λ reply. few;
   rejected = few;
-  make_readable = λ mark size start. let a = length-append s.streams (ReadableStream (readable.set_up Host mark size) ∷ []) in omega (arith, a, few);
-  make_bytes = λ mark auto start. let a = length-append s.streams (ByteStream (byte.set_up mark auto) ∷ []) in omega (arith, a, few);
+  make_readable = λ mark size start. let x = few.0 in let y = few.1 in let a = length-append s.streams (ReadableStream (readable.set_up Host mark size) ∷ []) in (omega (arith, a, x), omega (arith, a, y));
+  make_bytes = λ mark auto start. let x = few.0 in let y = few.1 in let a = length-append s.streams (ByteStream (byte.set_up mark auto) ∷ []) in (omega (arith, a, x), omega (arith, a, y));
   get_byob = λ i is e. few;
   release_byob = λ l closed i e. few;
   read_into = λ l i closed room element least e h. few;
@@ -378,16 +476,27 @@ begin-few c s few = each_call (λ (b : Begun). HasFewTransforms b.done.slots) c 
   finish_bytes = λ i e is can. few;
   make_request = λ i reply is. few;
   respond = λ r i b e is can. few;
-  make_writable = λ mark size start. let a = length-append s.streams (WritableStream (writable.set_up Host mark size) ∷ []) in omega (arith, a, few);
+  make_writable = λ mark size start. let x = few.0 in let y = few.1 in let a = length-append s.streams (WritableStream (writable.set_up Host mark size) ∷ []) in (omega (arith, a, x), omega (arith, a, y));
   make_transform = λ kind m n start.
+      let f = few.0 in let g = few.1 in
       let me : TransformId = record { 0 = length s.transforms } in
       let w : Stream = WritableStream (writable.set_up (HalfOf me) m Count) in
       let r : Stream = ReadableStream (readable.set_up (HalfOf me) n Count) in
-      let x : transform.Slots = transform.set_up kind (record { 0 = length s.streams }) (record { 0 = length s.streams + 1 }) (next_id s.promises) in
+      let z : transform.Slots = transform.set_up kind (record { 0 = length s.streams }) (record { 0 = length s.streams + 1 }) (next_id s.promises) in
       let a = length-append s.streams (w ∷ []) in
       let b = length-append (s.streams ++ w ∷ []) (r ∷ []) in
-      let d = length-append s.transforms (x ∷ []) in
-      omega (arith, a, b, d, few);
+      let d = length-append s.transforms (z ∷ []) in
+      (omega (arith, a, b, d, f), omega (arith, a, b, g));
+  make_tee = λ source e there free untied.
+      let f = few.0 in let g = few.1 in
+      let me : TeeId = record { 0 = length s.tees } in
+      let x : Stream = ReadableStream (readable.set_up (BranchOf me First) 1 Count) in
+      let y : Stream = ReadableStream (readable.set_up (BranchOf me Second) 1 Count) in
+      let z : tee.Slots = tee.set_up source (record { 0 = length s.streams }) (record { 0 = length s.streams + 1 }) (next_id (fresh s.promises)) in
+      let a = length-append s.streams (x ∷ []) in
+      let b = length-append (s.streams ++ x ∷ []) (y ∷ []) in
+      let d = length-append s.tees (z ∷ []) in
+      (omega (arith, a, b, f), omega (arith, a, b, d, g));
   get_reader = λ i e. few;
   get_writer = λ i e. few;
   release_reader = λ l closed i e. few;
@@ -410,17 +519,130 @@ begin-few c s few = each_call (λ (b : Begun). HasFewTransforms b.done.slots) c 
   settle = λ h answer p e. few;
 })
 
-begun-few : (s : Slots) (job : Option Job) → HasFewTransforms s → HasFewTransforms (job_begun s job).slots
+-- a stream that is there has a number below their count
+is-within : (xs : List Stream) (i : ℕ) → is_readable_stream (slice_get xs i) ≡ true → i < length xs
+is-within [] i there = cc
+is-within (x ∷ xs) zero there = omega arith
+is-within (x ∷ xs) (suc i) there = let h = is-within xs i there in omega (arith, h)
+
+-- the tees read streams of their own, after a call too
+
+begin-sourced : (c : Call) (s : Slots) → AreSourced s → Sourced s (begin c s).done
+begin-sourced c s own =
+    let same : HaveOwnSources (length s.streams) s.tees × ((length s.streams ≤ length s.streams) × (length s.tees ≤ length s.tees + 1)) = (own, (omega arith, omega arith)) in
+    each_call (λ (b : Begun). Sourced s b.done) c s (record {
+      unchanged = λ reply. same;
+      rejected = same;
+      make_readable = λ mark size start. let a = length-append s.streams (ReadableStream (readable.set_up Host mark size) ∷ []) in (own, (omega (arith, a), omega arith));
+      make_bytes = λ mark auto start. let a = length-append s.streams (ByteStream (byte.set_up mark auto) ∷ []) in (own, (omega (arith, a), omega arith));
+      get_byob = λ i is e. same;
+      release_byob = λ l closed i e. same;
+      read_into = λ l i closed room element least e h. same;
+      enqueue_bytes = λ i b e is some can. same;
+      finish_bytes = λ i e is can. same;
+      make_request = λ i reply is. same;
+      respond = λ r i b e is can. same;
+      make_writable = λ mark size start. let a = length-append s.streams (WritableStream (writable.set_up Host mark size) ∷ []) in (own, (omega (arith, a), omega arith));
+      make_transform = λ kind m n start.
+          let me : TransformId = record { 0 = length s.transforms } in
+          let w : Stream = WritableStream (writable.set_up (HalfOf me) m Count) in
+          let r : Stream = ReadableStream (readable.set_up (HalfOf me) n Count) in
+          let a = length-append s.streams (w ∷ []) in
+          let b = length-append (s.streams ++ w ∷ []) (r ∷ []) in
+          (own, (omega (arith, a, b), omega arith));
+      make_tee = λ source e there free untied.
+          let me : TeeId = record { 0 = length s.tees } in
+          let x : Stream = ReadableStream (readable.set_up (BranchOf me First) 1 Count) in
+          let y : Stream = ReadableStream (readable.set_up (BranchOf me Second) 1 Count) in
+          let z : tee.Slots = tee.set_up source (record { 0 = length s.streams }) (record { 0 = length s.streams + 1 }) (next_id (fresh s.promises)) in
+          let a = length-append s.streams (x ∷ []) in
+          let b = length-append (s.streams ++ x ∷ []) (y ∷ []) in
+          let d = length-append s.tees (z ∷ []) in
+          (own-new (length s.streams) s.tees z (is-within s.streams source.0 there) untied own, (omega (arith, a, b), omega (arith, d)));
+      get_reader = λ i e. same;
+      get_writer = λ i e. same;
+      release_reader = λ l closed i e. same;
+      release_writer = λ l i w e f. same;
+      cancel = λ reason i. same;
+      read = λ l i closed e f. same;
+      write = λ l v i e. same;
+      close = λ i. same;
+      abort = λ reason i e. same;
+      enqueue = λ i v e o can. same;
+      enqueue_half = λ i t v e o can. same;
+      finish = λ i. same;
+      fail_readable = λ i reason. same;
+      fail_writable = λ i reason. same;
+      fail_half = λ t reason. same;
+      terminate = λ t. same;
+      pipe = λ source dest prevent signal e f l m. same;
+      make_signal = same;
+      trigger = λ a reason. same;
+      settle = λ h answer p e. same;
+    })
+
+begun-few : (s : Slots) (job : Option Job) → HasFew s → HasFew (job_begun s job).slots
 begun-few s None few = few
 begun-few s (Some job) few = few
 
-job-few : (s : Slots) → HasFewTransforms s → HasFewTransforms (begin_job s).slots
+job-few : (s : Slots) → HasFew s → HasFew (begin_job s).slots
 unfolding begin_job
 job-few s few = begun-few s (next_job s.promises) few
 
+begun-sourced : (s : Slots) (job : Option Job) → AreSourced s → Sourced s (job_begun s job)
+begun-sourced s None own = (own, (omega arith, omega arith))
+begun-sourced s (Some job) own = (own, (omega arith, omega arith))
+
+job-sourced : (s : Slots) → AreSourced s → Sourced s (begin_job s)
+unfolding begin_job
+job-sourced s own = begun-sourced s (next_job s.promises) own
+
+-- no call hands a chunk on, and of the jobs one microtask, which does nothing more
+
+hands-none : (es : List Effect) → prices_of copies_alone es ≡ 0 → HandsFirst es
+hands-none [] none = tt
+hands-none (e ∷ es) none = omega (arith, none)
+
+begin-hands : (c : Call) (s : Slots) → HandsFirst (begin c s).done.caused
+begin-hands c s =
+    let less = copies-within 0 s (begin c s).done.slots (begin c s).done.caused
+    (λ i a. let h = begin-fits copies_alone i a (record { here = refl; others = λ j. omega arith }) s c in omega (arith, h)) in
+    hands-none (begin c s).done.caused (omega (arith, less))
+
+steps-hand : (step : Step) (outcome : Result Plain Plain) → prices_of copies_alone (steps step outcome) ≡ 0
+steps-hand step outcome = grind arith
+
+resolved-hands : (derived : Option PromiseId) (outcome : Result Plain Plain) → prices_of copies_alone (resolved derived outcome) ≡ 0
+resolved-hands None outcome = refl
+resolved-hands (Some p) outcome = refl
+
+micro-hands : (m : Micro) → HandsFirst (micro_steps m)
+micro-hands (PipeLook p) = refl
+micro-hands (PipeWrite p) = refl
+micro-hands (PipeNoParts p) = refl
+micro-hands (TeeHand t) = refl
+
+effects-hand : (job : Job) → HandsFirst (job_effects job)
+effects-hand (Reaction step outcome derived) =
+    let a = steps-hand step outcome in
+    let b = resolved-hands derived (returned step outcome) in
+    let c = prices-append copies_alone (steps step outcome) (resolved derived (returned step outcome)) in
+    hands-none (job_effects (Reaction step outcome derived)) (omega (arith, a, b, c))
+effects-hand (Follow p q) = tt
+effects-hand (Settle p outcome) = refl
+effects-hand (MicroJob m) = micro-hands m
+
+begun-hands : (s : Slots) (job : Option Job) → HandsFirst (job_begun s job).caused
+begun-hands s None = tt
+begun-hands s (Some job) = effects-hand job
+
+job-hands : (s : Slots) → HandsFirst (begin_job s).caused
+unfolding begin_job
+job-hands s = begun-hands s (next_job s.promises)
+
 pub call-begins : (c : Call) (reply : Reply) (t t' : Tables) → IsPrepared t → IsResting t → Answers (begin c (slots_of t)) reply t t' → IsBegun t'
 call-begins c reply t t' ready rest did =
-    starts (begin c (slots_of t)).done t t' (λ π i a. let h = begin-fits π i a (slots_of t) c in omega (arith, h)) ready rest
+    starts (begin c (slots_of t)).done t t' (λ π i a counts. let h = begin-fits π i a counts (slots_of t) c in omega (arith, h)) ready rest
     (record {
       slots = did.slots;
       caused = did.caused;
@@ -430,13 +652,15 @@ call-begins c reply t t' ready rest did =
       aborts = did.aborts;
       counted = begin-makes IsCounted counted-makes c (slots_of t) rest.kept.counted;
       few = begin-few c (slots_of t) rest.kept.few;
+      sourced = begin-sourced c (slots_of t) rest.kept.sourced;
+      handing = begin-hands c (slots_of t);
       records = which-made reply t t' did.records;
     })
 
 pub job-begins : (t t' : Tables) → IsPrepared t → IsResting t → Begins (begin_job (slots_of t)) t t' → IsBegun t'
 job-begins t t' ready rest did =
     let same = did.records in
-    starts (begin_job (slots_of t)) t t' (λ π i a. job-fits π i a (slots_of t)) ready rest
+    starts (begin_job (slots_of t)) t t' (λ π i a counts. job-fits π i a counts (slots_of t)) ready rest
     (record {
       slots = did.slots;
       caused = did.caused;
@@ -446,5 +670,7 @@ job-begins t t' ready rest did =
       aborts = same.aborts;
       counted = job-counted (slots_of t) rest.kept.counted;
       few = job-few (slots_of t) rest.kept.few;
-      records = inl (record { streams = same.streams; grown = same.grown; signals = same.signals; full = same.full });
+      sourced = job-sourced (slots_of t) rest.kept.sourced;
+      handing = job-hands (slots_of t);
+      records = inl (record { streams = same.streams; grown = same.grown; signals = same.signals; full = same.full; tees = same.tees; uncopied = same.uncopied });
     })

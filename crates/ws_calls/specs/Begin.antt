@@ -1,5 +1,5 @@
 -- What calls and jobs begin with, in the places that there are.
-use Rattle.std.specs.Prelude.{◌≡◌, ◌+◌, ◌≤◌, ◌<◌, [], ◌∷◌, ◌++◌, length, Bool, None, vec_len, vec_capacity}
+use Rattle.std.specs.Prelude.{◌≡◌, ◌+◌, ◌≤◌, ◌<◌, [], ◌∷◌, ◌++◌, length, Bool, false, None, vec_len, vec_capacity}
 use Rattle.ws_value.specs.declared.ids.PromiseId.{PromiseId}
 use Rattle.ws_pipe.specs.Seen.{SeenSignal}
 use Rattle.ws_promise.specs.Seen.{HasPromiseRoom}
@@ -10,7 +10,7 @@ use Rattle.ws_steps.specs.declared.byte.ReaderKind.TheVariants.{Default, Byob}
 use Rattle.ws_steps.specs.declared.locks.Lock.{Lock}
 use Rattle.ws_steps.specs.declared.locks.Lock.TheVariants.{Reader, ByobReader}
 use Rattle.ws_steps.specs.Pipes.{new_signal}
-use Rattle.ws_steps.specs.Places.{prices_of, queued_alone, requests_alone, members_alone, descriptors_alone}
+use Rattle.ws_steps.specs.Places.{prices_of, queued_alone, requests_alone, members_alone, descriptors_alone, copies_alone}
 use Rattle.ws_steps.specs.Slots.{Done}
 use Rattle.ws_steps.specs.Calls.{Begun, with_renewed, reject_renewed}
 use Rattle.ws_tables.specs.View.{slots_of}
@@ -33,13 +33,15 @@ pub record CanBegin (t : Tables) : Type 0 where
   pub effects : 7 ≤ t.caused.capacity
   pub locks : vec_len t.locks + 2 ≤ vec_capacity t.locks
 
--- there are places for two streams, one transform stream, one pipe, one signal and one BYOB request more; of transform streams there are no more than of
--- streams, so there are numbers for them
+-- there are places for two streams, one transform stream, one tee, one pipe, one signal and one BYOB request more; of transform streams and tees
+-- there are no more than of streams, so there are numbers for them
 pub record CanMake (t : Tables) : Type 0 where
   pub streams : vec_len t.streams + 2 ≤ vec_capacity t.streams
   pub grown : vec_len t.grown + 2 ≤ vec_capacity t.grown
   pub transforms : vec_len t.transforms < vec_capacity t.transforms
   pub few : vec_len t.transforms ≤ vec_len t.streams
+  pub tees : vec_len t.tees < vec_capacity t.tees
+  pub few_tees : vec_len t.tees ≤ vec_len t.streams
   pub pipes : vec_len t.pipes < vec_capacity t.pipes
   pub signals : vec_len t.signals < vec_capacity t.signals
   pub byob_requests : vec_len t.byob_requests < vec_capacity t.byob_requests
@@ -63,8 +65,11 @@ pub record MakesOne (t t' : Tables) : Type 0 where
   pub described : prices_of descriptors_alone t'.caused.effects ≡ 0
   pub signals : t'.signals ≡ t.signals
   pub full : t'.full ≡ t.full
+  pub tees : t'.tees ≡ t.tees
+  pub uncopied : t'.uncopied ≡ t.uncopied
 
--- two streams are made, which have no entries, and what is caused makes none; places are to be made there
+-- two streams are made, which have no entries, and what is caused makes none; places are to be made there. They may be the branches
+-- of a new tee, which is then looked at for a copy
 pub record MakesTwo (t t' : Tables) : Type 0 where
   pub first : Stream
   pub second : Stream
@@ -76,8 +81,11 @@ pub record MakesTwo (t t' : Tables) : Type 0 where
   pub queued : prices_of queued_alone t'.caused.effects ≡ 0
   pub requested : prices_of requests_alone t'.caused.effects ≡ 0
   pub described : prices_of descriptors_alone t'.caused.effects ≡ 0
+  pub copies : prices_of copies_alone t'.caused.effects ≡ 0
   pub signals : t'.signals ≡ t.signals
   pub full : t'.full ≡ t.full
+  pub tees : t'.uncopied ≡ false → t'.tees ≡ t.tees
+  pub uncopied : t'.uncopied ≡ false → t.uncopied ≡ false
 
 -- one signal is made, which has no pipes, and nothing is caused; places are to be made there
 pub record MakesSignal (t t' : Tables) : Type 0 where
@@ -89,12 +97,16 @@ pub record MakesSignal (t t' : Tables) : Type 0 where
   pub members : prices_of members_alone t'.caused.effects ≡ 0
   pub streams : t'.streams ≡ t.streams
   pub grown : t'.grown ≡ t.grown
+  pub tees : t'.tees ≡ t.tees
+  pub uncopied : t'.uncopied ≡ t.uncopied
 
 pub record MakesNone (t t' : Tables) : Type 0 where
   pub streams : t'.streams ≡ t.streams
   pub grown : t'.grown ≡ t.grown
   pub signals : t'.signals ≡ t.signals
   pub full : t'.full ≡ t.full
+  pub tees : t'.tees ≡ t.tees
+  pub uncopied : t'.uncopied ≡ t.uncopied
 
 -- a call that answers so makes a stream, or two, or a signal, or none of these
 abbrev pub RecordsAfter : Reply → Tables → Tables → Type 0

@@ -9,7 +9,7 @@ ghost use Rattle.ws_tables.specs.View.{slots_of};
 ghost use Rattle.ws_calls.specs.Begin.{Answers, CanBegin, CanMake, IsSameBeside};
 
 use crate::jobs::begin_job;
-use crate::{byob, controllers, locks, pipes, readers, streams, transforms, writers};
+use crate::{byob, controllers, locks, pipes, readers, streams, tees, transforms, writers};
 use ws_steps::{Call, Reply};
 use ws_tables::Tables;
 
@@ -40,6 +40,7 @@ fn begin(tables: &mut Tables, call: Call) -> Reply
         Call::GetReader(i) => readers::get_reader(tables, i),
         Call::GetByob(i) => byob::get_byob(tables, i),
         Call::GetWriter(i) => writers::get_writer(tables, i),
+        Call::Tee(i) => tees::tee(tables, i),
         Call::Cancel(i, reason) => readers::cancel(tables, i, reason),
         Call::CancelBy(l, reason) => readers::cancel_by(tables, l, reason),
         Call::Read(l) => readers::read(tables, l),

@@ -54,17 +54,16 @@ pub(crate) fn enqueue(tables: &mut Tables, i: StreamId, chunk: Value) -> Reply
     if !tables.has_readable(i) {
         return enqueue_bytes(tables, i, chunk);
     }
-    let owner = tables.readable(i).owner();
-    if !tables.readable(i).can_close_or_enqueue() {
-        return TYPE_ERROR;
-    }
-    match owner {
-        Owner::Host => tables
+    let can_enqueue = tables.readable(i).can_close_or_enqueue();
+    match tables.readable(i).owner() {
+        Owner::Host if can_enqueue => tables
             .caused
             .push(Effect::Readable(i, ReadableOperation::Enqueue(chunk))),
-        Owner::HalfOf(t) => tables
+        Owner::HalfOf(t) if can_enqueue => tables
             .caused
             .push(Effect::Transform(t, TransformOperation::Enqueue(chunk))),
+        Owner::Host | Owner::HalfOf(_) => return TYPE_ERROR,
+        Owner::BranchOf(_, _) => return UNSUPPORTED,
     }
     Reply::Done
 }
@@ -96,8 +95,9 @@ pub(crate) fn finish(tables: &mut Tables, i: StreamId) -> Reply
     if !tables.has_readable(i) {
         return finish_bytes(tables, i);
     }
-    if let Owner::HalfOf(_) = tables.readable(i).owner() {
-        return UNSUPPORTED;
+    match tables.readable(i).owner() {
+        Owner::Host => {}
+        Owner::HalfOf(_) | Owner::BranchOf(_, _) => return UNSUPPORTED,
     }
     if !tables.readable(i).can_close_or_enqueue() {
         return TYPE_ERROR;
@@ -121,6 +121,7 @@ pub(crate) fn fail(tables: &mut Tables, i: StreamId, reason: Plain) -> Reply
             Owner::HalfOf(t) => tables
                 .caused
                 .push(Effect::Transform(t, TransformOperation::Error(reason))),
+            Owner::BranchOf(_, _) => return UNSUPPORTED,
         }
         return Reply::Done;
     }
@@ -133,8 +134,9 @@ pub(crate) fn fail(tables: &mut Tables, i: StreamId, reason: Plain) -> Reply
     if !tables.has_writable(i) {
         return UNSUPPORTED;
     }
-    if let Owner::HalfOf(_) = tables.writable(i).owner() {
-        return UNSUPPORTED;
+    match tables.writable(i).owner() {
+        Owner::Host => {}
+        Owner::HalfOf(_) | Owner::BranchOf(_, _) => return UNSUPPORTED,
     }
     tables.caused.push(Effect::Writable(i, WritableOperation::ErrorIfNeeded(reason)));
     Reply::Done
@@ -147,6 +149,10 @@ pub(crate) fn desired(tables: &mut Tables, i: StreamId) -> Reply
 {
     if !tables.has_source(i) {
         return UNSUPPORTED;
+    }
+    match tables.owner(i) {
+        Owner::Host | Owner::HalfOf(_) => {}
+        Owner::BranchOf(_, _) => return UNSUPPORTED,
     }
     let size = tables.source_desired_size(i);
     Reply::Size(size)

@@ -7,7 +7,7 @@ ghost use Rattle.ws_tables.specs.View.{slots_of};
 ghost use Rattle.ws_calls.specs.Begin.{Begins};
 
 use ws_steps::{
-    Effect, Job, Micro, PipeOperation, ReadableOperation, Step, TransformOperation,
+    Effect, Job, Micro, PipeOperation, ReadableOperation, Step, TeeOperation, TransformOperation,
     WritableOperation,
 };
 use ws_tables::Tables;
@@ -38,6 +38,7 @@ fn returned(step: Step, outcome: Result<Plain, Plain>) -> Result<Plain, Plain>
         Step::TransformFlushed(_, _) => Ok(Plain::Undefined),
         Step::TransformAborted(_, _, _) => Ok(Plain::Undefined),
         Step::TransformCancelled(_, _, _) => Ok(Plain::Undefined),
+        Step::TeeEnds(_) => Ok(Plain::Undefined),
     }
 }
 
@@ -113,6 +114,10 @@ fn cause_steps(tables: &mut Tables, step: Step, outcome: Result<Plain, Plain>)
             let operation = TransformOperation::CancelSettled(promise, reason, outcome);
             tables.caused.push(Effect::Transform(t, operation));
         }
+        Step::TeeEnds(t) => {
+            let operation = TeeOperation::ReaderSettled(outcome);
+            tables.caused.push(Effect::Tee(t, operation));
+        }
     }
 }
 
@@ -128,6 +133,7 @@ fn cause_micro(tables: &mut Tables, micro: Micro)
             .caused
             .push(Effect::Pipe(p, PipeOperation::WriteChunk)),
         Micro::PipeNoParts(p) => tables.caused.push(Effect::Pipe(p, PipeOperation::NoParts)),
+        Micro::TeeHand(t) => tables.caused.push(Effect::Tee(t, TeeOperation::HandChunk)),
     }
 }
 

@@ -1,7 +1,7 @@
 use Rattle.std.proofs.Common.{◌∙◌, ◌+◌, ap, arith}
 use Rattle.std.proofs.lemmas.List.{length-map}
 use Rattle.ws_steps.specs.Slots.{Slots}
-use Rattle.ws_tables.specs.View.{stream_of}
+use Rattle.ws_tables.specs.View.{stream_of, tee_of}
 use Rattle.ws_laws.proofs.Ages.{begin-age}
 use Rattle.ws_calls.proofs.Beginning.{call-begins}
 use Rattle.ws_calls.proofs.begin.perform_call.Goals as goal
@@ -12,11 +12,14 @@ begin-reply-requires-clause-room c =
     let t = c.args.tables.now in
     let few = c.requires.resting.kept.few in
     let many = length-map t.streams.items stream_of in
+    let tees = length-map t.tees.items tee_of in
     record {
       streams = ready.streams;
       grown = let h = ready.grown in omega (arith, h);
+      tees = ready.tees;
+      few_tees = let g = few.1 in omega (arith, g, many, tees, t.tees.ok.0, t.streams.ok.0);
       transforms = ready.transforms;
-      few = omega (arith, few, many, t.transforms.ok.0, t.streams.ok.0);
+      few = let f = few.0 in omega (arith, f, many, t.transforms.ok.0, t.streams.ok.0);
       pipes = ready.pipes;
       signals = ready.signals;
       byob_requests = ready.byob_requests;

@@ -18,5 +18,5 @@ returns-in-None-clause-begins c =
       caused = c.requires.quiet ∙ ap (λ (d : Done). d.caused) (sym begun);
       others = refl;
       places = ap (λ (p : Seen). record (places_of old) { promises = p.room }) same;
-      records = record { streams = refl; grown = refl; waiting = refl; pipes = refl; signals = refl; full = refl; aborts = refl };
+      records = record { streams = refl; grown = refl; waiting = refl; pipes = refl; signals = refl; full = refl; aborts = refl; tees = refl; uncopied = refl };
     }
