@@ -39,7 +39,7 @@ rests-still t u more rest = record {
 -- and prepared still, where places are left
 pub ready-still : (t : Tables) (u : Table) → Less t.promises.table u → IsPrepared t → IsPrepared (record t { promises = record t.promises { table = u } })
 ready-still t u less ready = record {
-  promises = less-room (places_for 0 8 14 t) t.promises u less ready.promises;
+  promises = less-room (places_for 0 8 3 14 t) t.promises u less ready.promises;
   jobs = let a = less.jobs in let h = ready.jobs in omega (arith, a, h);
   hosts = ready.hosts;
   caused = ready.caused;
@@ -52,6 +52,8 @@ ready-still t u less ready = record {
   byob_requests = ready.byob_requests;
   streams = ready.streams;
   transforms = ready.transforms;
+  tees = ready.tees;
+  copies = ready.copies;
   pipes = ready.pipes;
   signals = ready.signals;
 }

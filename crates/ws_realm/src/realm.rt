@@ -6,7 +6,7 @@ ghost use Rattle.ws_steps.specs.declared.calls.Thrown.{Thrown};
 ghost use Rattle.ws_steps.specs.Laws.{errs};
 ghost use Rattle.ws_steps.specs.Queues.{is_empty};
 ghost use Rattle.ws_steps.specs.Run as run;
-ghost use Rattle.ws_steps.specs.Slots.{empty};
+ghost use Rattle.ws_steps.specs.Slots.{empty, pair_at};
 ghost use Rattle.ws_realm.specs.Seen.{StopsWithin, outcome_named, oldest};
 ghost use Rattle.ws_realm.specs.declared.realm.Why.TheVariants as why;
 
@@ -15,7 +15,7 @@ use std::marker::Model;
 use ws_calls::{perform_call, perform_job};
 use ws_steps::{Call, Event, Reply};
 use ws_tables::Tables;
-use ws_value::{NoMemory, Outcome, PromiseId};
+use ws_value::{NoMemory, Outcome, Plain, PromiseId, TeeId};
 
 /// The most calls and jobs of a realm.
 const OLDEST: u64 = 1 << 62;
@@ -36,7 +36,7 @@ pub struct NoRoom {
     pub why: Why,
 }
 
-/// A realm of readable, writable and transform streams, with their readers and writers, the BYOB requests of byte streams, its pipes and signals, its promises, its one job queue, and what its host hasn't heard of yet. It is seen as its slots, and whether all memory was taken that the next call or job can need.
+/// A realm of readable, writable and transform streams, with their readers and writers, the BYOB requests of byte streams, its tees, its pipes and signals, its promises, its one job queue, and what its host hasn't heard of yet. It is seen as its slots, and whether all memory was taken that the next call or job can need.
 #[derive(Drop)]
 pub struct Realm {
     tables: Tables,
@@ -69,7 +69,7 @@ impl Realm {
         })
     }
 
-    /// Takes all memory that the next call or job can need, whichever it is: after Ok that one is performed without taking any. For each byte stream whose controller allocates rooms that includes one room, which the next read may use. A refusal changes nothing.
+    /// Takes all memory that the next call or job can need, whichever it is: after Ok that one is performed without taking any. For each byte stream whose controller allocates rooms that includes one room, which the next read may use, and for each tee a second copy of the chunk that it holds. A refusal changes nothing.
     pub fn prepare(&mut self) -> Result<(), Why>
         ensures slots { self.new.slots ≡ self.old.slots }
         ensures ready { OnOk result (self.new.prepared ≡ true) }
@@ -186,6 +186,13 @@ impl Realm {
         ensures { result ≡ table.rank_at self.now.slots.promises p }
     {
         self.tables.promises.rank(p)
+    }
+
+    /// The two reasons that tee `t` keeps, which `Plain::Pair` names: none says that there is no such tee, or that not both of its branches were cancelled yet.
+    pub fn pair(&self, t: TeeId) -> Option<(Plain, Plain)>
+        ensures { result ≡ pair_at t self.now.slots }
+    {
+        self.tables.pair(t)
     }
 
     /// Takes out what the host hears of next.
