@@ -2,7 +2,7 @@
 use Rattle.std.proofs.Common.{◌≡◌, ℕ, ◌^◌, true, false, List, [], ◌∷◌, Some, None, Ok, Err, refl}
 use Rattle.std.specs.Prelude.{codes, replicate}
 use Rattle.ws_steps.specs.declared.calls.Call.{Call}
-use Rattle.ws_steps.specs.declared.calls.Call.TheVariants.{MakeReadable, MakeBytes, MakeWritable, MakeTransform, GetReader, GetByob, GetWriter, Write, Close, CloseBy, Abort, AbortBy, Ready, Cancel, CancelBy, Read, ReadInto, Closed, Release, Enqueue, Finish, Fail, Terminate, Request, Respond, Desired, DesiredBy, Pipe, MakeSignal, Trigger, Settle, State, Step}
+use Rattle.ws_steps.specs.declared.calls.Call.TheVariants.{MakeReadable, MakeBytes, MakeWritable, MakeTransform, GetReader, GetByob, GetWriter, Tee, Write, Close, CloseBy, Abort, AbortBy, Ready, Cancel, CancelBy, Read, ReadInto, Closed, Release, Enqueue, Finish, Fail, Terminate, Request, Respond, Desired, DesiredBy, Pipe, MakeSignal, Trigger, Settle, State, Step}
 use Rattle.ws_steps.specs.declared.calls.StartBy.TheVariants.{Now, Later}
 use Rattle.ws_steps.specs.declared.calls.Answer.TheVariants.{Ok as AnswerOk, Fail as AnswerFail}
 use Rattle.ws_steps.specs.declared.readable.SizeBy.TheVariants.{Count, ByteLength}
@@ -46,6 +46,9 @@ spelled_readable = refl
 
 spelled_reader : AloneIs (codes "reader s0") (GetReader (record { 0 = 0 }))
 spelled_reader = refl
+
+spelled_tee : AloneIs (codes "tee s4294967295") (Tee (record { 0 = 4294967295 }))
+spelled_tee = refl
 
 spelled_writable : AloneIs (codes "writable 1 count now") (MakeWritable 1 Count Now)
 spelled_writable = refl

@@ -5,7 +5,7 @@ use Rattle.std.specs.Str.{bytes_eq}
 use Rattle.ws_value.specs.declared.ids.LockId.{LockId}
 use Rattle.ws_value.specs.declared.ids.StreamId.{StreamId}
 use Rattle.ws_steps.specs.declared.calls.Call.{Call}
-use Rattle.ws_steps.specs.declared.calls.Call.TheVariants.{MakeReadable, MakeBytes, MakeWritable, MakeTransform, GetReader, GetByob, GetWriter, Cancel, CancelBy, Read, ReadInto, Write, Close, CloseBy, Abort, AbortBy, Closed, Ready, Release, Enqueue, Finish, Fail, Terminate, Request, Respond, Desired, DesiredBy, Pipe, MakeSignal, Trigger, Settle, State, Step}
+use Rattle.ws_steps.specs.declared.calls.Call.TheVariants.{MakeReadable, MakeBytes, MakeWritable, MakeTransform, GetReader, GetByob, GetWriter, Tee, Cancel, CancelBy, Read, ReadInto, Write, Close, CloseBy, Abort, AbortBy, Closed, Ready, Release, Enqueue, Finish, Fail, Terminate, Request, Respond, Desired, DesiredBy, Pipe, MakeSignal, Trigger, Settle, State, Step}
 use Rattle.ws_steps.specs.declared.calls.StartBy.{StartBy}
 use Rattle.ws_steps.specs.declared.calls.StartBy.TheVariants.{Now, Later}
 use Rattle.ws_steps.specs.declared.calls.Answer.TheVariants.{Ok as AnswerOk, Fail as AnswerFail}
@@ -161,11 +161,12 @@ call_alone word =
     else if bytes_eq word (codes "step") then Some Step
     else None
 
--- a word and one more: `reader S`, `byob S`, `writer S`, `read L`, `closed L`, `ready L`, `release L`, `close S` or `L`,
--- `finish S`, `terminate S`, `request S`, `desired S` or `L`, `state S`
+-- a word and one more: `reader S`, `tee S`, `byob S`, `writer S`, `read L`, `closed L`, `ready L`, `release L`,
+-- `close S` or `L`, `finish S`, `terminate S`, `request S`, `desired S` or `L`, `state S`
 abbrev pub call_on_one : List ℕ → List ℕ → Option Call
 call_on_one word first =
     if bytes_eq word (codes "reader") then option_map GetReader (stream_named first)
+    else if bytes_eq word (codes "tee") then option_map Tee (stream_named first)
     else if bytes_eq word (codes "byob") then option_map GetByob (stream_named first)
     else if bytes_eq word (codes "writer") then option_map GetWriter (stream_named first)
     else if bytes_eq word (codes "read") then option_map Read (lock_named first)

@@ -295,6 +295,8 @@ fn call_on_one(word: &[u8], first: &[u8]) -> Option<Call>
 {
     if word == b"reader".as_slice() {
         stream_named(first).map(Call::GetReader)
+    } else if word == b"tee".as_slice() {
+        stream_named(first).map(Call::Tee)
     } else if word == b"byob".as_slice() {
         stream_named(first).map(Call::GetByob)
     } else if word == b"writer".as_slice() {

@@ -96,60 +96,77 @@ state_with_every_flag : reply_line 5 None (State (record { state = Erroring; fla
 unfolding digits letter_where letters_of
 state_with_every_flag = refl
 
-host_start : host_text (record { 0 = 0 }) (Start (record { 0 = 0 })) ≡ codes "  host h0 start s0\n"
+host_start : host_text None (record { 0 = 0 }) (Start (record { 0 = 0 })) ≡ codes "  host h0 start s0\n"
 unfolding digits
 host_start = refl
 
-host_pull : host_text (record { 0 = 1 }) (Pull (record { 0 = 0 })) ≡ codes "  host h1 pull s0\n"
+host_pull : host_text None (record { 0 = 1 }) (Pull (record { 0 = 0 })) ≡ codes "  host h1 pull s0\n"
 unfolding digits
 host_pull = refl
 
-host_cancel : host_text (record { 0 = 2 }) (Cancel (record { 0 = 1 }) (Fault (User 7))) ≡ codes "  host h2 cancel s1 e7\n"
+host_cancel : host_text None (record { 0 = 2 }) (Cancel (record { 0 = 1 }) (Fault (User 7))) ≡ codes "  host h2 cancel s1 e7\n"
 unfolding digits
 host_cancel = refl
 
-given_number : settled_text (Some 0) (Some (Given (Plain (Number 1)))) ≡ codes "  p0 given n1\n"
+given_number : settled_text None (Some 0) (Some (Given (Plain (Number 1)))) ≡ codes "  p0 given n1\n"
 unfolding digits
 given_number = refl
 
-given_bytes : settled_text (Some 1) (Some (Given (Bytes (97 ∷ 98 ∷ 255 ∷ [])))) ≡ codes "  p1 given x6162ff\n"
+given_bytes : settled_text None (Some 1) (Some (Given (Bytes (97 ∷ 98 ∷ 255 ∷ [])))) ≡ codes "  p1 given x6162ff\n"
 unfolding digits encode_with
 given_bytes = refl
 
 -- a read of a BYOB reader that ended: its room is handed back with the bytes that it has, or with none
-finished_bytes : settled_text (Some 0) (Some (Finished (Bytes (1 ∷ 2 ∷ [])))) ≡ codes "  p0 finished x0102\n"
+finished_bytes : settled_text None (Some 0) (Some (Finished (Bytes (1 ∷ 2 ∷ [])))) ≡ codes "  p0 finished x0102\n"
 unfolding digits encode_with
 finished_bytes = refl
 
-finished_no_bytes : settled_text (Some 0) (Some (Finished (Bytes []))) ≡ codes "  p0 finished x\n"
+finished_no_bytes : settled_text None (Some 0) (Some (Finished (Bytes []))) ≡ codes "  p0 finished x\n"
 unfolding digits encode_with
 finished_no_bytes = refl
 
-finished : settled_text (Some 10) (Some (Finished (Plain Undefined))) ≡ codes "  p10 finished undefined\n"
+finished : settled_text None (Some 10) (Some (Finished (Plain Undefined))) ≡ codes "  p10 finished undefined\n"
 unfolding digits
 finished = refl
 
-fulfilled : settled_text (Some 0) (Some (Fulfilled Undefined)) ≡ codes "  p0 fulfilled undefined\n"
+fulfilled : settled_text None (Some 0) (Some (Fulfilled Undefined)) ≡ codes "  p0 fulfilled undefined\n"
 unfolding digits
 fulfilled = refl
 
-rejected_by_a_fault : settled_text (Some 0) (Some (Rejected (Fault TypeError))) ≡ codes "  p0 rejected TypeError\n"
+rejected_by_a_fault : settled_text None (Some 0) (Some (Rejected (Fault TypeError))) ≡ codes "  p0 rejected TypeError\n"
 unfolding digits
 rejected_by_a_fault = refl
 
-rejected_by_a_stage : settled_text (Some 0) (Some (Rejected (Fault (Stage 1 2 3)))) ≡ codes "  p0 rejected Stage(1,2,3)\n"
+rejected_by_a_stage : settled_text None (Some 0) (Some (Rejected (Fault (Stage 1 2 3)))) ≡ codes "  p0 rejected Stage(1,2,3)\n"
 unfolding digits
 rejected_by_a_stage = refl
 
-rejected_by_a_pair : settled_text (Some 0) (Some (Rejected (Pair (record { 0 = 0 })))) ≡ codes "  p0 rejected pair\n"
+rejected_by_a_pair : settled_text None (Some 0) (Some (Rejected (Pair (record { 0 = 0 })))) ≡ codes "  p0 rejected pair\n"
 unfolding digits
 rejected_by_a_pair = refl
 
-rejected_by_a_local : settled_text (Some 0) (Some (Rejected (Local 4294967295))) ≡ codes "  p0 rejected k4294967295\n"
+-- the two reasons of a tee, where they are known
+cancelled_by_a_pair : host_text (Some (Fault (User 1), Undefined)) (record { 0 = 1 }) (Cancel (record { 0 = 0 }) (Pair (record { 0 = 0 }))) ≡ codes "  host h1 cancel s0 [e1,undefined]\n"
+unfolding digits
+cancelled_by_a_pair = refl
+
+pair_inside_a_pair : host_text (Some (Pair (record { 0 = 1 }), Fault (User 3))) (record { 0 = 1 }) (Cancel (record { 0 = 0 }) (Pair (record { 0 = 0 }))) ≡ codes "  host h1 cancel s0 [pair,e3]\n"
+unfolding digits
+pair_inside_a_pair = refl
+
+rejected_by_a_known_pair : settled_text (Some (Number 7, Local 0)) (Some 0) (Some (Rejected (Pair (record { 0 = 0 })))) ≡ codes "  p0 rejected [n7,k0]\n"
+unfolding digits
+rejected_by_a_known_pair = refl
+
+signalled_by_a_pair : signal_text (Some (Number 1, Number 2)) (record { 0 = 0 }) (Pair (record { 0 = 0 })) ≡ codes "  signal s0 [n1,n2]\n"
+unfolding digits
+signalled_by_a_pair = refl
+
+rejected_by_a_local : settled_text None (Some 0) (Some (Rejected (Local 4294967295))) ≡ codes "  p0 rejected k4294967295\n"
 unfolding digits
 rejected_by_a_local = refl
 
-unknown : settled_text (Some 5) None ≡ codes "  p5 unknown\n"
+unknown : settled_text None (Some 5) None ≡ codes "  p5 unknown\n"
 unfolding digits
 unknown = refl
 
@@ -159,30 +176,30 @@ again = refl
 not_again : again_text false ≡ []
 not_again = refl
 
-host_write : host_text (record { 0 = 0 }) (Write (record { 0 = 0 }) (Plain (Number 1))) ≡ codes "  host h0 write s0 n1\n"
+host_write : host_text None (record { 0 = 0 }) (Write (record { 0 = 0 }) (Plain (Number 1))) ≡ codes "  host h0 write s0 n1\n"
 unfolding digits
 host_write = refl
 
-host_close : host_text (record { 0 = 2 }) (Close (record { 0 = 1 })) ≡ codes "  host h2 close s1\n"
+host_close : host_text None (record { 0 = 2 }) (Close (record { 0 = 1 })) ≡ codes "  host h2 close s1\n"
 unfolding digits
 host_close = refl
 
-host_abort : host_text (record { 0 = 1 }) (Abort (record { 0 = 0 }) (Fault (User 7))) ≡ codes "  host h1 abort s0 e7\n"
+host_abort : host_text None (record { 0 = 1 }) (Abort (record { 0 = 0 }) (Fault (User 7))) ≡ codes "  host h1 abort s0 e7\n"
 unfolding digits
 host_abort = refl
 
-host_transform : host_text (record { 0 = 0 }) (Transform (record { 0 = 1 }) (Plain (Number 1))) ≡ codes "  host h0 transform s1 n1\n"
+host_transform : host_text None (record { 0 = 0 }) (Transform (record { 0 = 1 }) (Plain (Number 1))) ≡ codes "  host h0 transform s1 n1\n"
 unfolding digits
 host_transform = refl
 
-host_flush : host_text (record { 0 = 1 }) (Flush (record { 0 = 1 })) ≡ codes "  host h1 flush s1\n"
+host_flush : host_text None (record { 0 = 1 }) (Flush (record { 0 = 1 })) ≡ codes "  host h1 flush s1\n"
 unfolding digits
 host_flush = refl
 
-host_cancel_transform : host_text (record { 0 = 2 }) (CancelTransform (record { 0 = 1 }) (Fault (User 7))) ≡ codes "  host h2 canceltransform s1 e7\n"
+host_cancel_transform : host_text None (record { 0 = 2 }) (CancelTransform (record { 0 = 1 }) (Fault (User 7))) ≡ codes "  host h2 canceltransform s1 e7\n"
 unfolding digits
 host_cancel_transform = refl
 
-signal : signal_text (record { 0 = 0 }) (Fault (User 7)) ≡ codes "  signal s0 e7\n"
+signal : signal_text None (record { 0 = 0 }) (Fault (User 7)) ≡ codes "  signal s0 e7\n"
 unfolding digits
 signal = refl

@@ -1,10 +1,10 @@
 //! Values, reasons and faults.
 ghost use Rattle.std.specs.Prelude.{◌≡◌, ◌++◌, OnOk};
 ghost use Rattle.hex.specs.Hex.{encode_lower};
-ghost use Rattle.ws_print.specs.Values.{fault_text, plain_text, value_text};
+ghost use Rattle.ws_print.specs.Values.{fault_text, lone_text, pair_text, plain_text, value_text, tee_in, tee_in_value};
 
 use crate::append::{append, append_numbered};
-use ws_value::{Fault, NoMemory, Plain, Value};
+use ws_value::{Fault, NoMemory, Plain, TeeId, Value};
 
 /// Appends the text of a stage that found its input malformed.
 fn print_stage(out: &mut Vec<u8>, index: u32, code: u8, place: u128) -> Result<(), NoMemory>
@@ -34,9 +34,9 @@ pub fn print_fault(out: &mut Vec<u8>, fault: Fault) -> Result<(), NoMemory>
     }
 }
 
-/// Appends a plain value.
-pub fn print_plain(out: &mut Vec<u8>, plain: Plain) -> Result<(), NoMemory>
-    ensures appended { OnOk result (out.new.items ≡ out.old.items ++ plain_text plain) }
+/// Appends a plain value, and of two reasons that a tee keeps only that they are a pair.
+fn print_lone(out: &mut Vec<u8>, plain: Plain) -> Result<(), NoMemory>
+    ensures appended { OnOk result (out.new.items ≡ out.old.items ++ lone_text plain) }
 {
     match plain {
         Plain::Undefined => append(out, b"undefined"),
@@ -44,6 +44,62 @@ pub fn print_plain(out: &mut Vec<u8>, plain: Plain) -> Result<(), NoMemory>
         Plain::Fault(fault) => print_fault(out, fault),
         Plain::Pair(_) => append(out, b"pair"),
         Plain::Local(number) => append_numbered(out, b"k", number),
+    }
+}
+
+/// Appends the two reasons that a tee keeps.
+fn print_pair(out: &mut Vec<u8>, pair: Option<(Plain, Plain)>) -> Result<(), NoMemory>
+    ensures appended { OnOk result (out.new.items ≡ out.old.items ++ pair_text pair) }
+{
+    match pair {
+        Some((first, second)) => {
+            append(out, b"[")?;
+            print_lone(out, first)?;
+            append(out, b",")?;
+            print_lone(out, second)?;
+            append(out, b"]")
+        }
+        None => append(out, b"pair"),
+    }
+}
+
+/// Appends a plain value, with the two reasons that its tee keeps, where it is a pair.
+pub fn print_plain(
+    out: &mut Vec<u8>,
+    plain: Plain,
+    pair: Option<(Plain, Plain)>,
+) -> Result<(), NoMemory>
+    ensures appended { OnOk result (out.new.items ≡ out.old.items ++ plain_text pair plain) }
+{
+    match plain {
+        Plain::Pair(_) => print_pair(out, pair),
+        Plain::Undefined => print_lone(out, plain),
+        Plain::Number(_) => print_lone(out, plain),
+        Plain::Fault(_) => print_lone(out, plain),
+        Plain::Local(_) => print_lone(out, plain),
+    }
+}
+
+/// The tee whose two reasons a plain value names.
+pub fn tee_in(plain: Plain) -> Option<TeeId>
+    ensures { result ≡ tee_in plain }
+{
+    match plain {
+        Plain::Pair(tee) => Some(tee),
+        Plain::Undefined => None,
+        Plain::Number(_) => None,
+        Plain::Fault(_) => None,
+        Plain::Local(_) => None,
+    }
+}
+
+/// The tee whose two reasons a value names.
+pub fn tee_in_value(value: &Value) -> Option<TeeId>
+    ensures { result ≡ tee_in_value value.now }
+{
+    match value {
+        Value::Plain(plain) => tee_in(*plain),
+        Value::Bytes(_) => None,
     }
 }
 
@@ -59,11 +115,15 @@ fn print_hex(out: &mut Vec<u8>, bytes: &[u8]) -> Result<(), NoMemory>
 }
 
 /// Appends a value.
-pub fn print_value(out: &mut Vec<u8>, value: &Value) -> Result<(), NoMemory>
-    ensures appended { OnOk result (out.new.items ≡ out.old.items ++ value_text value.now) }
+pub fn print_value(
+    out: &mut Vec<u8>,
+    value: &Value,
+    pair: Option<(Plain, Plain)>,
+) -> Result<(), NoMemory>
+    ensures appended { OnOk result (out.new.items ≡ out.old.items ++ value_text pair value.now) }
 {
     match value {
-        Value::Plain(plain) => print_plain(out, *plain),
+        Value::Plain(plain) => print_plain(out, *plain, pair),
         Value::Bytes(bytes) => {
             append(out, b"x")?;
             print_hex(out, bytes.as_slice())

@@ -1,24 +1,39 @@
 -- Events that are printed one after another.
 use Rattle.std.proofs.Common.{◌≡◌, ℕ, zero, suc, List, [], ◌∷◌, ◌++◌, drop, refl, sym, ◌∙◌, ap, subst, append_assoc, append-nil}
-use Rattle.std.specs.Prelude.{Some, None}
+use Rattle.std.specs.Prelude.{Option, Some, None}
+use Rattle.ws_value.specs.declared.ids.TeeId.{TeeId}
+use Rattle.ws_value.specs.declared.value.Plain.{Plain}
 use Rattle.ws_steps.specs.declared.calls.Event.{Event}
 use Rattle.ws_steps.specs.declared.calls.Event.TheVariants.{Host, Settled, Signal}
+use Rattle.ws_steps.specs.Promises.{rank_at}
 use Rattle.ws_steps.specs.Run.{heard}
 use Rattle.ws_steps.specs.Slots.{Slots, with_promises}
 use Rattle.ws_steps.specs.Run.{after_event, first_event, later_events}
 use Rattle.ws_script.specs.Heard.{IsPartlyHeard}
-use Rattle.ws_script.specs.Printed.{event_text, events_text}
+use Rattle.ws_print.specs.Events.{host_text, settled_text, signal_text, tee_in_call, tee_in_outcome}
+use Rattle.ws_print.specs.Values.{tee_in}
+use Rattle.ws_realm.specs.Seen.{outcome_named}
+use Rattle.ws_script.specs.Printed.{pair_named, event_text, events_text}
 
 -- the events that wait are these
 left : List Event → Slots → Slots
 left events s = with_promises (record s.promises { events = events }) s
 
+same_pair : (s : Slots) (waiting : List Event) (tee : Option TeeId) → pair_named (left waiting s) tee ≡ pair_named s tee
+unfolding left
+same_pair s waiting None = refl
+same_pair s waiting (Some t) = refl
+
 -- how an event is printed doesn't depend on the events that wait
 same_event : (s : Slots) (waiting : List Event) (event : Event) → event_text (left waiting s) event ≡ event_text s event
 unfolding left
-same_event s waiting (Host id call) = refl
-same_event s waiting (Settled p) = refl
-same_event s waiting (Signal stream reason) = refl
+same_event s waiting (Host id call) =
+    ap (λ (pair : Option (Plain × Plain)). host_text pair id call) (same_pair s waiting (tee_in_call call))
+same_event s waiting (Settled p) =
+    ap (λ (pair : Option (Plain × Plain)). settled_text pair (rank_at s.promises p) (outcome_named p s))
+    (same_pair s waiting (tee_in_outcome (outcome_named p s)))
+same_event s waiting (Signal stream reason) =
+    ap (λ (pair : Option (Plain × Plain)). signal_text pair stream reason) (same_pair s waiting (tee_in reason))
 
 same_events : (s : Slots) (waiting events : List Event) → events_text (left waiting s) events ≡ events_text s events
 same_events s waiting [] = refl

@@ -1,14 +1,17 @@
 //! The printed text of one task.
 ghost use Rattle.std.specs.Prelude.{◌≡◌, ◌++◌, IfOk, OnOk, OnErr};
 ghost use Rattle.ws_steps.specs.Run.{heard};
-ghost use Rattle.ws_script.specs.Printed.{rank_named, event_text, events_text, step_text};
+ghost use Rattle.ws_script.specs.Printed.{rank_named, pair_named, event_text, events_text, step_text};
 ghost use Rattle.ws_script.specs.Heard.{IsPartlyHeard};
 
 use std::alloc::Global;
-use ws_print::{print_again, print_host, print_reply, print_settled, print_signal};
+use ws_print::{
+    print_again, print_host, print_reply, print_settled, print_signal, tee_in, tee_in_call,
+    tee_in_outcome,
+};
 use ws_realm::Realm;
 use ws_steps::{Event, Reply};
-use ws_value::{Blob, NoMemory};
+use ws_value::{Blob, NoMemory, Plain, TeeId};
 
 /// Room for the lines of most tasks.
 const ROOM: usize = 96;
@@ -32,16 +35,31 @@ fn rank_named(reply: &Reply, realm: &Realm) -> Option<u64>
     }
 }
 
+/// The two reasons that a tee keeps, where an event tells these.
+fn pair_named(realm: &Realm, tee: Option<TeeId>) -> Option<(Plain, Plain)>
+    ensures { result ≡ pair_named realm.now.slots tee }
+{
+    realm.pair(tee?)
+}
+
 /// Appends the line of an event.
 fn append_event(text: &mut Vec<u8>, realm: &Realm, event: Event) -> Result<(), NoMemory>
     ensures { OnOk result (text.new.items ≡ text.old.items ++ event_text realm.now.slots event) }
 {
     match event {
-        Event::Host { id, call } => print_host(text, id, &call),
-        Event::Settled(promise) => {
-            print_settled(text, realm.rank(promise), realm.outcome(promise))
+        Event::Host { id, call } => {
+            let pair = pair_named(realm, tee_in_call(&call));
+            print_host(text, id, &call, pair)
         }
-        Event::Signal { stream, reason } => print_signal(text, stream, reason),
+        Event::Settled(promise) => {
+            let outcome = realm.outcome(promise);
+            let pair = pair_named(realm, tee_in_outcome(outcome));
+            print_settled(text, realm.rank(promise), outcome, pair)
+        }
+        Event::Signal { stream, reason } => {
+            let pair = pair_named(realm, tee_in(reason));
+            print_signal(text, stream, reason, pair)
+        }
     }
 }
 
