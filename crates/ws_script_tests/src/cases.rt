@@ -4,6 +4,10 @@ use crate::bytes::BYTES;
 use crate::pipes::PIPED;
 use crate::refused::REFUSED;
 use crate::scripts::WORKED;
+use crate::tee_cancels::TEE_CANCELS;
+use crate::tee_ends::TEE_ENDS;
+use crate::tee_reads::TEE_READS;
+use crate::tees::TEED;
 use crate::transform_ends::TRANSFORM_ENDS;
 use crate::transform_errors::TRANSFORM_ERRORS;
 use crate::transforms::TRANSFORMED;
@@ -91,6 +95,10 @@ fn worked_scripts(rt: HostRuntime) -> Result<(), Fail> {
         .chain(&TRANSFORMED)
         .chain(&TRANSFORM_ENDS)
         .chain(&TRANSFORM_ERRORS)
+        .chain(&TEED)
+        .chain(&TEE_READS)
+        .chain(&TEE_CANCELS)
+        .chain(&TEE_ENDS)
     {
         let case = Case {
             text: text.as_bytes(),

@@ -18,6 +18,16 @@ mod refused;
 #[cfg(test)]
 mod scripts;
 #[cfg(test)]
+mod tee_cancels;
+#[cfg(test)]
+mod tee_chain;
+#[cfg(test)]
+mod tee_ends;
+#[cfg(test)]
+mod tee_reads;
+#[cfg(test)]
+mod tees;
+#[cfg(test)]
 mod transform_ends;
 #[cfg(test)]
 mod transform_errors;

@@ -131,6 +131,30 @@ fn long_scripts(rt: HostRuntime) -> Result<(), Fail> {
         ends: b"\n512 made s1022 s1023\n513 too many\n514 too many\n",
         length: 0,
     };
+    let no_room_for_both_branches = Long {
+        input: Repeated {
+            text: b"readable 0 count now\n",
+            times: 1023,
+            last: b"tee s0\nreader s0\ntee s0\nreadable 0 count now\n",
+        },
+        failed_writes: &[],
+        status: Status::Done,
+        begins: b"1 made s0\n2 made s1\n",
+        ends: b"\n1023 made s1022\n1024 too many\n1025 lock l0\n1026 throws TypeError\n1027 made s1023\n",
+        length: 0,
+    };
+    let room_for_both_branches = Long {
+        input: Repeated {
+            text: b"readable 0 count now\n",
+            times: 1022,
+            last: b"tee s0\ntee s0\ntee s1\n",
+        },
+        failed_writes: &[],
+        status: Status::Done,
+        begins: b"1 made s0\n2 made s1\n",
+        ends: b"\n1022 made s1021\n1023 made s1022 s1023\n  host h0 pull s0\n1024 throws TypeError\n1025 too many\n",
+        length: 0,
+    };
     let written_in_parts = Long {
         input: Repeated {
             text: b"step\n",
@@ -147,6 +171,8 @@ fn long_scripts(rt: HostRuntime) -> Result<(), Fail> {
         after_too_many,
         no_room_for_both_halves,
         room_for_both_halves,
+        no_room_for_both_branches,
+        room_for_both_branches,
         written_in_parts,
     ] {
         assert!(rt; holds(&rt, rt.alloc(), &case)?);

@@ -2,6 +2,7 @@
 use crate::cases::perform;
 use crate::pipes::PIPED;
 use crate::scripts::WORKED;
+use crate::tee_reads::TEE_READS;
 use crate::transforms::TRANSFORMED;
 use std::alloc::Global;
 use std::sync::Wait;
@@ -28,7 +29,12 @@ fn prints<R: Threads + Wait>(
 
 #[test]
 fn a_refused_allocation(rt: HostRuntime) -> Result<(), Fail> {
-    for (text, printed) in WORKED.iter().chain(&PIPED).chain(&TRANSFORMED) {
+    for (text, printed) in WORKED
+        .iter()
+        .chain(&PIPED)
+        .chain(&TRANSFORMED)
+        .chain(&TEE_READS)
+    {
         match prints(&rt, rt.alloc(), text, printed) {
             Ok(holds) => assert!(rt; holds, "{text}"),
             Err(NoMemory) => {}

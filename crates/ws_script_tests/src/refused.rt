@@ -1,7 +1,7 @@
 //! Scripts that are refused.
 
 /// A script, and its first line outside the grammar.
-pub const REFUSED: [(&str, u32); 65] = [
+pub const REFUSED: [(&str, u32); 70] = [
     ("readable 0 count now\nnothing s0\n", 2),
     ("# one\n\nread l01", 3),
     ("nothing s0", 1),
@@ -70,4 +70,9 @@ pub const REFUSED: [(&str, u32); 65] = [
     ("respond q0 undefined", 1),
     ("respond q0 x0", 1),
     ("respond q340282366920938463463374607431768211456 x", 1),
+    ("readable 0 count now\ntee", 2),
+    ("tee l0", 1),
+    ("tee s0 s1", 1),
+    ("tee s01", 1),
+    ("tee s4294967296", 1),
 ];
