@@ -22,6 +22,7 @@ from realm import Lock, Realm, Throw
 from replies import (Done, Locked, Look, Made, MadeTwo, Named, Reply, Requested, SignalMade, Size,
                      Throws, TooMany)
 from signals import AbortSignal
+from tee import Tee
 from transform import (Transformer, TransformStreamDefaultController, new_transform_stream)
 from values import RANGE_ERROR, TYPE_ERROR, UNDEFINED, Bytes, Fault, Value
 from writable import WritableStream
@@ -122,6 +123,24 @@ def make_transform(realm: Realm, is_host: bool, writable_high_water_mark: int,
     realm.streams += [stream.writable, stream.readable]
     realm.transform_controllers |= {writable: stream.controller, readable: stream.controller}
     return MadeTwo(writable, readable)
+
+
+def tee(realm: Realm, stream: int) -> Reply:
+    """stream.tee()"""
+    readable = realm.readable(stream)
+    if readable.is_locked():
+        raise Throw("TypeError")
+    if not isinstance(readable.controller, ReadableStreamDefaultController):
+        raise Throw("Unsupported")
+    first = len(realm.streams)
+    second = first + 1
+    if second >= MOST_STREAMS:
+        return TooMany()
+    made = Tee(readable)
+    realm.locks.append(None)
+    realm.streams += made.branches
+    realm.branches |= {first, second}
+    return MadeTwo(first, second)
 
 
 def get_reader(realm: Realm, stream: int) -> Reply:

@@ -27,7 +27,7 @@ from writable_writer import WritableStreamDefaultWriter
 # How often each kind of line is written where no habit changes it. Streams, readers and
 # writers are made beside these, where some are wanted.
 COMMONNESS: dict[str, float] = {
-    "reader": 1.2, "read": 8.0, "enqueue": 8.0, "finish": 1.0, "cancel stream": 0.6,
+    "tee": 0.6, "reader": 1.2, "read": 8.0, "enqueue": 8.0, "finish": 1.0, "cancel stream": 0.6,
     "cancel reader": 0.8,
     "byob": 1.2, "readinto": 8.0, "request": 1.5, "respond": 1.5,
     "writer": 1.2, "write": 9.0, "close stream": 1.0, "close writer": 2.0,
@@ -94,6 +94,7 @@ class Author:
         self._goes_round = False
         self._most_alive = random.choice((1, 1, 2, 3)) + len(self._kinds) - 1
         self._writers: dict[str, Callable[[], str | None]] = {
+            "tee": lambda: self._of_stream("tee", ReadableStream),
             "reader": lambda: self._of_stream("reader", ReadableStream),
             "read": lambda: self._of_lock("read", ReadableStreamDefaultReader),
             "enqueue": self._enqueue,
@@ -147,11 +148,14 @@ class Author:
         elif self._random.random() < self._limited:
             call = f"@{self._random.choice(LIMITS)} {call}"
         self._lines.append(call)
+        made = len(self._realm.streams)
         perform_task(self._realm, task_in(len(self._lines), call.encode("ascii").split(b" ")))
+        if "tee s" in call and len(self._realm.streams) > made:
+            self._destinations.setdefault(int(call.split("tee s")[1]), set()).update((made, made + 1))
 
     def _note_pipe(self, source: int, dest: int) -> None:
-        """Keeps in mind where a pipe leads. It may close a circle of transform streams, whose
-        jobs have no end."""
+        """Keeps in mind where a pipe leads, as a tee leads to its branches. A pipe may close a
+        circle through transform streams, whose jobs have no end."""
         self._destinations.setdefault(source, set()).add(dest)
         reached, left = set(), [dest]
         while left:

@@ -194,6 +194,7 @@ FORMS: dict[bytes, tuple[Form, ...]] = {
     b"transform": (((kind_is_host, high_water_mark, high_water_mark, start_is_later),
                     calls.make_transform),),
     b"reader": (((stream,), calls.get_reader),),
+    b"tee": (((stream,), calls.tee),),
     b"byob": (((stream,), calls.get_byob_reader),),
     b"writer": (((stream,), calls.get_writer),),
     b"read": (((lock,), calls.read),),

@@ -4,7 +4,7 @@ from promises import PromiseState
 from readable_reader import ReadResult
 from replies import (Done, Event, HostCalled, Locked, Look, Made, MadeTwo, Named, Reply, Requested,
                      Settled, Signalled, SignalMade, Size, Throws, TooMany)
-from values import Bytes, Fault, HostError, HostValue, Number, Undefined, Value
+from values import Bytes, Fault, HostError, HostValue, Number, Pair, Undefined, Value
 
 
 def text_of_value(value: Value) -> str:
@@ -22,7 +22,14 @@ def text_of_value(value: Value) -> str:
             return f"x{content.hex()}"
         case Fault(name):
             return name
+        case Pair(first, second):
+            return f"[{text_in_pair(first)},{text_in_pair(second)}]"
     raise AssertionError(f"{value!r} isn't a value")
+
+
+def text_in_pair(value: Value) -> str:
+    """A reason inside a pair, where a pair is told by a word."""
+    return "pair" if isinstance(value, Pair) else text_of_value(value)
 
 
 def text_of_reply(reply: Reply) -> str:
@@ -32,8 +39,8 @@ def text_of_reply(reply: Reply) -> str:
             return "done"
         case Made(stream):
             return f"made s{stream}"
-        case MadeTwo(writable, readable):
-            return f"made s{writable} s{readable}"
+        case MadeTwo(first, second):
+            return f"made s{first} s{second}"
         case Locked(lock):
             return f"lock l{lock}"
         case SignalMade(signal):

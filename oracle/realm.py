@@ -44,7 +44,9 @@ class Realm:
         self.streams: list[Stream] = []
         # By the numbers of both halves of each transform stream.
         self.transform_controllers: dict[int, TransformStreamDefaultController] = {}
-        # A reader or a writer of a pipe's own has a number, and no call may name it.
+        # The branches of tees, of whose controllers the host has none.
+        self.branches: set[int] = set()
+        # A reader or a writer of a pipe's own, or a tee's reader, has a number, and no call may name it.
         self.locks: list[Lock | None] = []
         self.signals: list[AbortSignal] = []
         self.byob_requests: list[ReadableStreamBYOBRequest] = []
@@ -75,6 +77,8 @@ class Realm:
         """The controller that the host has of a stream. Of a transform stream it has one, by its
         readable half, and none of the two halves' own."""
         stream = self.stream(number)
+        if number in self.branches:
+            raise Throw("Unsupported")
         if number not in self.transform_controllers:
             return stream.controller
         if not isinstance(stream, ReadableStream):

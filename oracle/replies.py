@@ -22,10 +22,11 @@ class Made:
 
 @dataclass
 class MadeTwo:
-    """A transform stream was made, with a writable and a readable half."""
+    """Two streams were made: the writable and the readable half of a transform stream, or the
+    branches of a tee."""
 
-    writable: int
-    readable: int
+    first: int
+    second: int
 
 
 @dataclass

@@ -4,6 +4,8 @@ A chunk is any value. A reason is a value that isn't bytes. Faults are the error
 the streams make themselves; a script can't write them, but sees them in what is printed.
 """
 
+from __future__ import annotations
+
 from dataclasses import dataclass
 
 
@@ -47,7 +49,15 @@ class Fault:
     name: str
 
 
-Value = Undefined | Number | HostError | HostValue | Bytes | Fault
+@dataclass(frozen=True)
+class Pair:
+    """The two reasons with which the branches of a tee were cancelled."""
+
+    first: Value
+    second: Value
+
+
+Value = Undefined | Number | HostError | HostValue | Bytes | Fault | Pair
 
 UNDEFINED = Undefined()
 TYPE_ERROR = Fault("TypeError")
