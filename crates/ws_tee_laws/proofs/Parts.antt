@@ -32,13 +32,13 @@ module _ (t : TeeId) (b : StreamId) where
   along-entered [] = refl
   along-entered (m ∷ ms) = ap (λ (vs : List Value). (effect_flow b m.effect m.found).entered ++ vs) (along-entered ms)
 
-  over-handed : (xs : List Entry) (s : Slots) → (over none_went went_then (λ z x. in_step none_went went_then (told t b) z x) xs s).handed ≡ run_handed t xs s
+  pub over-handed : (xs : List Entry) (s : Slots) → (over none_went went_then (λ z x. in_step none_went went_then (told t b) z x) xs s).handed ≡ run_handed t xs s
   over-handed [] s = refl
   over-handed (x ∷ xs) s =
       ap (λ (vs : List Value). vs ++ (over none_went went_then (λ z x. in_step none_went went_then (told t b) z x) xs (step s x)).handed) (along-handed (moments_in s x))
       ∙ ap (λ (vs : List Value). in_step [] (λ f g. f ++ g) (handed_by t) s x ++ vs) (over-handed xs (step s x))
 
-  over-entered : (xs : List Entry) (s : Slots) → (over none_went went_then (λ z x. in_step none_went went_then (told t b) z x) xs s).entered ≡ (run_flow b xs s).entered
+  pub over-entered : (xs : List Entry) (s : Slots) → (over none_went went_then (λ z x. in_step none_went went_then (told t b) z x) xs s).entered ≡ (run_flow b xs s).entered
   over-entered [] s = refl
   over-entered (x ∷ xs) s =
       ap (λ (vs : List Value). vs ++ (over none_went went_then (λ z x. in_step none_went went_then (told t b) z x) xs (step s x)).entered) (along-entered (moments_in s x))
