@@ -1,10 +1,14 @@
 //! Scripts that are refused.
 
 /// A script, and its first line outside the grammar.
-pub const REFUSED: [(&str, u32); 70] = [
+pub const REFUSED: [(&str, u32); 74] = [
     ("readable 0 count now\nnothing s0\n", 2),
     ("# one\n\nread l01", 3),
     ("nothing s0", 1),
+    ("readable 01 count now", 1),
+    ("readable 18446744073709551616 count now", 1),
+    ("enqueue s0 x0", 1),
+    ("settle h0", 1),
     ("step\n# a comment\n\n \t\r\nnothing s0\nnothing", 5),
     ("step\nread l01", 2),
     ("read l+1", 1),

@@ -1,7 +1,7 @@
 //! Scripts with all that they print.
 
 /// Scripts and what they print, by the Streams Standard and ECMAScript's order of jobs.
-pub const WORKED: [(&str, &str); 15] = [
+pub const WORKED: [(&str, &str); 17] = [
     (READ_BEFORE_ENQUEUE, READ_BEFORE_ENQUEUE_PRINTS),
     (
         TWO_READS_ONE_FURTHER_PULL,
@@ -23,6 +23,8 @@ pub const WORKED: [(&str, &str); 15] = [
     (CANCELS, CANCELS_PRINTS),
     ("", ""),
     ("# a comment\r\n\n \t", ""),
+    ("@100000 step", "1 done\n"),
+    ("read l5", "1 throws Unsupported\n"),
 ];
 
 /// The chunk goes to the request.
