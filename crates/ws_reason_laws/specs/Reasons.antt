@@ -132,7 +132,7 @@ is_pair (FaultReason f) = false
 is_pair (Pair t) = true
 is_pair (Local n) = false
 
--- a reason that is a pair comes only where there is a tee
+-- the premise that a reason is no pair, or that the run has no tee. With a tee its source is cancelled with a pair that no call gave
 abbrev pub NeedsTee : Plain → List Entry → Type 0
 NeedsTee r entries = is_pair r ≡ true → (run entries empty).tees ≡ []
 
