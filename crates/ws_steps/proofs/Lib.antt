@@ -10,3 +10,4 @@ mod WorkedPipes
 mod WorkedTransforms
 mod WorkedBytes
 mod WorkedTees
+mod WorkedCross

@@ -2,6 +2,7 @@
 use Rattle.std.specs.Prelude.{ℕ, ◌+◌, ◌*◌, ◌%◌, Bool, true, false, not, ◌&&◌, ◌||◌, nat_eq, nat_lt, if◌then◌else◌, List, [], ◌∷◌, ◌++◌, length, Option, Some, None, Result, Ok, Err, slice_set}
 use Rattle.ws_value.specs.declared.ids.LockId.{LockId}
 use Rattle.ws_value.specs.declared.ids.PipeId.{PipeId}
+use Rattle.ws_value.specs.declared.ids.PortId.{PortId}
 use Rattle.ws_value.specs.declared.ids.PromiseId.{PromiseId}
 use Rattle.ws_value.specs.declared.fault.Fault.{Fault}
 use Rattle.ws_value.specs.declared.fault.Fault.TheVariants.{RangeError as RangeFault}
@@ -18,18 +19,18 @@ use Rattle.ws_steps.specs.declared.byte.ByteOperation.TheVariants.{InitializeByo
 use Rattle.ws_steps.specs.declared.calls.Answer.{Answer}
 use Rattle.ws_steps.specs.declared.calls.Answer.TheVariants.{Ok as AnswerOk, Fail as AnswerFail}
 use Rattle.ws_steps.specs.declared.calls.Call.{Call}
-use Rattle.ws_steps.specs.declared.calls.Call.TheVariants.{MakeReadable, MakeBytes, MakeWritable, MakeTransform, GetReader, GetByob, GetWriter, Tee, Cancel, CancelBy, Read, ReadInto, Write, Close, CloseBy, Abort, AbortBy, Closed, Ready, Release, Enqueue, Finish, Fail, Terminate, Request, Respond, Desired, DesiredBy, Pipe, MakeSignal, Trigger, Settle, State, Step}
+use Rattle.ws_steps.specs.declared.calls.Call.TheVariants.{MakeReadable, MakeBytes, MakeWritable, MakeTransform, GetReader, GetByob, GetWriter, Tee, Cancel, CancelBy, Read, ReadInto, Write, Close, CloseBy, Abort, AbortBy, Closed, Ready, Release, Enqueue, Finish, Fail, Terminate, Request, Respond, Desired, DesiredBy, Pipe, MakeSignal, Trigger, Send, Open, Deliver, Settle, State, Step}
 use Rattle.ws_steps.specs.declared.calls.Reply.{Reply}
-use Rattle.ws_steps.specs.declared.calls.Reply.TheVariants.{Done as ReplyDone, Made, MadeTwo, Lock as ReplyLock, Promise, Signal as ReplySignal, Request as ReplyRequest, Size, State as ReplyState, Throws, TooMany}
+use Rattle.ws_steps.specs.declared.calls.Reply.TheVariants.{Done as ReplyDone, Made, MadeTwo, Lock as ReplyLock, Promise, Signal as ReplySignal, Port as ReplyPort, MadePort, Request as ReplyRequest, Size, State as ReplyState, Throws, TooMany}
 use Rattle.ws_steps.specs.declared.calls.HostCall.TheVariants.{Start as HostStart}
 use Rattle.ws_steps.specs.declared.calls.StartBy.{StartBy}
 use Rattle.ws_steps.specs.declared.calls.StartBy.TheVariants.{Now, Later}
-use Rattle.ws_steps.specs.declared.calls.Thrown.TheVariants.{TypeError, RangeError, Unsupported}
+use Rattle.ws_steps.specs.declared.calls.Thrown.TheVariants.{TypeError, RangeError, DataClone, Unsupported}
 use Rattle.ws_steps.specs.declared.effects.Effect.{Effect}
-use Rattle.ws_steps.specs.declared.effects.Effect.TheVariants.{Readable, Byte, Writable, Pipe as OnPipe, Signal as OnSignal, Transform as OnTransform, StartAlgorithm, Give, Settle as SettlePromise, Queue, CallHost}
+use Rattle.ws_steps.specs.declared.effects.Effect.TheVariants.{Readable, Byte, Writable, Pipe as OnPipe, Signal as OnSignal, Transform as OnTransform, Port as OnPort, StartAlgorithm, Give, Settle as SettlePromise, Queue, CallHost}
 use Rattle.ws_steps.specs.declared.effects.Gift.TheVariants.{This}
 use Rattle.ws_steps.specs.declared.effects.Owner.{Owner}
-use Rattle.ws_steps.specs.declared.effects.Owner.TheVariants.{Host, HalfOf, BranchOf}
+use Rattle.ws_steps.specs.declared.effects.Owner.TheVariants.{Host, HalfOf, BranchOf, EndOf}
 use Rattle.ws_steps.specs.declared.effects.Use.TheVariants.{React, Resolve}
 use Rattle.ws_steps.specs.declared.locks.Lock.{Lock}
 use Rattle.ws_steps.specs.declared.locks.Lock.TheVariants.{Reader as ReaderLock, ByobReader, Writer as WriterLock, ReleasedWriter, Inner}
@@ -39,6 +40,9 @@ use Rattle.ws_steps.specs.declared.readable.ReadableOperation.TheVariants.{Initi
 use Rattle.ws_steps.specs.declared.pipes.PipeOperation.TheVariants.{Abort as AbortPipe}
 use Rattle.ws_steps.specs.declared.pipes.Prevent.{Prevent}
 use Rattle.ws_steps.specs.declared.pipes.SignalOperation.TheVariants.{Add as AddPipe, Trigger as TriggerSignal}
+use Rattle.ws_steps.specs.declared.port.PortOperation.TheVariants.{Deliver as DeliverMessage}
+use Rattle.ws_steps.specs.declared.port.Side.{Side}
+use Rattle.ws_steps.specs.declared.port.Side.TheVariants.{Readable as ReadableSide, Writable as WritableSide}
 use Rattle.ws_steps.specs.declared.promises.Micro.TheVariants.{PipeLook}
 use Rattle.ws_steps.specs.declared.promises.Step.TheVariants.{ReadableStart, WritableStart, PipeEnds, TeeEnds}
 use Rattle.ws_steps.specs.declared.readable.SizeBy.{SizeBy}
@@ -52,6 +56,7 @@ use Rattle.ws_steps.specs.declared.writable.Writer.{Writer}
 use Rattle.ws_steps.specs.Promises.{Table, next_id, fresh, watch, is_pending_at}
 use Rattle.ws_steps.specs.Effects.{type_error}
 use Rattle.ws_steps.specs.Bytes as byte
+use Rattle.ws_steps.specs.Cross as cross
 use Rattle.ws_steps.specs.Descriptors.{Descriptor, room_left, respond_throws}
 use Rattle.ws_steps.specs.Pipes as pipe
 use Rattle.ws_steps.specs.Queues.{is_empty}
@@ -61,7 +66,7 @@ use Rattle.ws_steps.specs.Tee as tee
 use Rattle.ws_steps.specs.Transform as transform
 use Rattle.ws_steps.specs.Writable as writable
 use Rattle.ws_steps.specs.WritableLooks as writable_looks
-use Rattle.ws_steps.specs.Slots.{Slots, most_streams, Stream, ReadableStream, ByteStream, WritableStream, Done, nothing, causes, with_promises, has_readable, has_byte, has_source, has_writable, readable_at, byte_at, source_at, writable_at, stream_of_request, lock_at, host_at, owner_at, signal_at, has_signal, is_teed}
+use Rattle.ws_steps.specs.Slots.{Slots, most_streams, Stream, ReadableStream, ByteStream, WritableStream, Done, nothing, causes, with_promises, has_readable, has_byte, has_source, has_writable, readable_at, byte_at, source_at, writable_at, stream_of_request, lock_at, host_at, owner_at, signal_at, has_signal, has_port, is_teed}
 
 -- a call's reply, and what it leaves and causes
 pub record Begun : Type 0 where
@@ -77,6 +82,9 @@ unsupported s = replies (Throws Unsupported) s
 
 abbrev pub throws_type_error : Slots → Begun
 throws_type_error s = replies (Throws TypeError) s
+
+abbrev pub throws_data_clone : Slots → Begun
+throws_data_clone s = replies (Throws DataClone) s
 
 -- what answers so
 abbrev pub begun : Reply → Done → Begun
@@ -376,12 +384,13 @@ if_it_can i operation s =
     if readable.can_close_or_enqueue (readable_at i s) then does (Readable i operation ∷ []) s else throws_type_error s
 
 -- enqueue() of the controller of a readable stream, by whose it is: that of the host's source, or that of a transform stream; the host has
--- no controller of a branch of a tee
+-- no controller of a branch of a tee, nor of the end of a port
 abbrev pub enqueue_by : Value → StreamId → Slots → Owner → Begun
 enqueue_by v i s Host = if_it_can i (EnqueueChunk v) s
 enqueue_by v i s (HalfOf t) =
     if readable.can_close_or_enqueue (readable_at i s) then does (OnTransform t (EnqueueByTransform v) ∷ []) s else throws_type_error s
 enqueue_by v i s (BranchOf t half) = unsupported s
+enqueue_by v i s (EndOf c) = unsupported s
 
 abbrev pub enqueue : Value → StreamId → Slots → Begun
 enqueue v i s = enqueue_by v i s (readable_at i s).owner
@@ -401,6 +410,7 @@ abbrev pub finish_by : StreamId → Slots → Owner → Begun
 finish_by i s Host = if_it_can i CloseReadable s
 finish_by i s (HalfOf t) = unsupported s
 finish_by i s (BranchOf t half) = unsupported s
+finish_by i s (EndOf c) = unsupported s
 
 abbrev pub finish : StreamId → Slots → Begun
 finish i s = finish_by i s (readable_at i s).owner
@@ -422,12 +432,14 @@ abbrev pub fail_readable_by : Plain → StreamId → Slots → Owner → Begun
 fail_readable_by reason i s Host = does (Readable i (ErrorReadable reason) ∷ []) s
 fail_readable_by reason i s (HalfOf t) = does (OnTransform t (ErrorTransform reason) ∷ []) s
 fail_readable_by reason i s (BranchOf t half) = unsupported s
+fail_readable_by reason i s (EndOf c) = unsupported s
 
--- error() of the controller of a host's sink; the host has no controller of the writable half of a transform stream
+-- error() of the controller of a host's sink; the host has no controller of the writable half of a transform stream, nor of the end of a port
 abbrev pub fail_writable_by : Plain → StreamId → Slots → Owner → Begun
 fail_writable_by reason i s Host = does (Writable i (ErrorIfNeeded reason) ∷ []) s
 fail_writable_by reason i s (HalfOf t) = unsupported s
 fail_writable_by reason i s (BranchOf t half) = unsupported s
+fail_writable_by reason i s (EndOf c) = unsupported s
 
 -- the controller of a stream of any kind
 abbrev pub fail : Plain → StreamId → Slots → Begun
@@ -441,6 +453,7 @@ abbrev pub terminate_by : Slots → Owner → Begun
 terminate_by s Host = unsupported s
 terminate_by s (HalfOf t) = does (OnTransform t TerminateTransform ∷ []) s
 terminate_by s (BranchOf t half) = unsupported s
+terminate_by s (EndOf c) = unsupported s
 
 abbrev pub terminate : StreamId → Slots → Begun
 terminate i s = terminate_by s (readable_at i s).owner
@@ -450,6 +463,7 @@ abbrev pub desired_by : StreamId → Slots → Owner → Begun
 desired_by i s Host = replies (Size (readable_looks.desired_by (source_at i s) (source_at i s).state)) s
 desired_by i s (HalfOf t) = replies (Size (readable_looks.desired_by (source_at i s) (source_at i s).state)) s
 desired_by i s (BranchOf t half) = unsupported s
+desired_by i s (EndOf c) = unsupported s
 
 abbrev pub desired : StreamId → Slots → Begun
 desired i s = desired_by i s (owner_at i s)
@@ -582,6 +596,58 @@ pipe_call source dest prevent signal s =
 abbrev pub make_signal : Slots → Begun
 make_signal s = begun (ReplySignal (record { 0 = length s.signals })) (nothing (record s { signals = s.signals ++ pipe.new_signal ∷ [] }))
 
+-- ports
+
+-- the stream at this end of port c, which counts its chunks: a readable one with the mark 0, or a writable one with the mark 1
+abbrev pub end_of : PortId → Side → Stream
+end_of c ReadableSide = ReadableStream (readable.set_up (EndOf c) 0 Count)
+end_of c WritableSide = WritableStream (writable.set_up (EndOf c) 1 Count)
+
+-- its start algorithm gives undefined
+abbrev pub start_end : StreamId → Side → Effect
+start_end i ReadableSide = StartAlgorithm i (ReadableStart i) Now
+start_end i WritableSide = StartAlgorithm i (WritableStart i) Now
+
+-- a new port with the new stream i. The backpressure promise of a writable end is new
+abbrev pub add_port : StreamId → Slots → Side → Slots
+add_port i s ReadableSide =
+    record (add_stream (end_of (record { 0 = length s.ports }) ReadableSide) s) { ports = s.ports ++ cross.set_up ReadableSide i None ∷ [] }
+add_port i s WritableSide =
+    record (add_stream (end_of (record { 0 = length s.ports }) WritableSide) s) {
+      ports = s.ports ++ cross.set_up WritableSide i (Some (next_id s.promises)) ∷ [];
+      promises = fresh s.promises;
+    }
+
+-- SetUpCrossRealmTransformReadable, SetUpCrossRealmTransformWritable
+abbrev pub open_end : Side → StreamId → Slots → Begun
+open_end side i s = begun (MadePort i (record { 0 = length s.ports })) (causes (start_end i side ∷ []) (add_port i s side))
+
+abbrev pub no_prevent : Prevent
+no_prevent = record { close = false; abort = false; cancel = false }
+
+-- the end of a new port is set up, and then a pipe begins
+abbrev pub sent_by : StreamId → Side → Slots → Begun → Begun
+sent_by i side s piped =
+    begun (ReplyPort (record { 0 = length s.ports })) (record piped.done { caused = start_end i side ∷ piped.done.caused })
+
+-- the transfer steps of a readable stream: a pipe from it into a writable stream i at the end of a new port
+abbrev pub send_readable : StreamId → StreamId → Slots → Begun
+send_readable source i s = sent_by i WritableSide s (pipe_to source i no_prevent None (add_port i s WritableSide))
+
+-- the transfer steps of a writable stream: a pipe into it from a readable stream i at the end of a new port
+abbrev pub send_writable : StreamId → StreamId → Slots → Begun
+send_writable dest i s = sent_by i ReadableSide s (pipe_to i dest no_prevent None (add_port i s ReadableSide))
+
+abbrev pub send : StreamId → Slots → Begun
+send i s =
+    if has_source i s
+    then unlocked_readable i throws_data_clone (λ source. make_stream (send_readable source)) s
+    else unlocked_writable i throws_data_clone (λ dest. make_stream (send_writable dest)) s
+
+-- a call on a port, where there is one of this number
+abbrev pub for_port : PortId → (Slots → Begun) → Slots → Begun
+for_port c operation s = if has_port c s then operation s else unsupported s
+
 -- the checks of a call in their order; what it answers and makes, and its effects
 unfoldable pub begin : Call → Slots → Begun
 begin (MakeReadable mark size start) s = make_stream (make_readable mark size start) s
@@ -615,6 +681,9 @@ begin (DesiredBy l) s = by_writer desired_of_writer throws_type_error s (lock_at
 begin (Pipe source dest prevent signal) s = pipe_call source dest prevent signal s
 begin MakeSignal s = make_signal s
 begin (Trigger a reason) s = for_signal a (does (OnSignal a (TriggerSignal reason) ∷ [])) s
+begin (Send i) s = send i s
+begin (Open side) s = make_stream (open_end side) s
+begin (Deliver c m) s = for_port c (does (OnPort c (DeliverMessage m) ∷ [])) s
 begin (Settle h answer) s = settle_host h answer s (host_at h s)
 begin (State i) s = look i s
 begin Step s = replies ReplyDone s

@@ -1,17 +1,19 @@
 -- One job: it is taken out of the queue, and causes its effects.
 use Rattle.std.specs.Prelude.{List, [], ◌∷◌, ◌++◌, Option, Some, None, Result, Ok, Err}
+use Rattle.ws_value.specs.declared.ids.PortId.{PortId}
 use Rattle.ws_value.specs.declared.ids.PromiseId.{PromiseId}
 use Rattle.ws_value.specs.declared.value.Plain.{Plain}
 use Rattle.ws_value.specs.declared.value.Plain.TheVariants.{Undefined}
 use Rattle.ws_steps.specs.declared.effects.Effect.{Effect}
-use Rattle.ws_steps.specs.declared.effects.Effect.TheVariants.{Readable, Writable, Pipe, Transform, Tee, Settle as SettlePromise}
+use Rattle.ws_steps.specs.declared.effects.Effect.TheVariants.{Readable, Writable, Pipe, Transform, Tee, Port, Settle as SettlePromise}
 use Rattle.ws_steps.specs.declared.pipes.PipeOperation.TheVariants.{Look, LookReady, WriteChunk, WriteEnded, ActionSettled, PartSettled, NoParts}
+use Rattle.ws_steps.specs.declared.port.PortOperation.TheVariants.{WriteGoesOn as PortGoesOn}
 use Rattle.ws_steps.specs.declared.promises.Job.{Job}
 use Rattle.ws_steps.specs.declared.promises.Job.TheVariants.{Reaction, Follow, Settle, Micro as MicroJob}
 use Rattle.ws_steps.specs.declared.promises.Micro.{Micro}
 use Rattle.ws_steps.specs.declared.promises.Micro.TheVariants.{PipeLook, PipeWrite, PipeNoParts, TeeHand}
 use Rattle.ws_steps.specs.declared.promises.Step.{Step}
-use Rattle.ws_steps.specs.declared.promises.Step.TheVariants.{ReadableStart, ReadablePull, ReturnUndefined, WritableStart, WritableWrite, WritableClose, WritableAbort, PipeEnds, PipeReady, PipeWrote, PipeActed, PipePart, TransformChanged, Transformed, TransformFlushed, TransformAborted, TransformCancelled, TeeEnds}
+use Rattle.ws_steps.specs.declared.promises.Step.TheVariants.{ReadableStart, ReadablePull, ReturnUndefined, WritableStart, WritableWrite, WritableClose, WritableAbort, PipeEnds, PipeReady, PipeWrote, PipeActed, PipePart, TransformChanged, Transformed, TransformFlushed, TransformAborted, TransformCancelled, TeeEnds, PortUnblocked}
 use Rattle.ws_steps.specs.declared.readable.ReadableOperation.TheVariants.{StartSettled, PullSettled}
 use Rattle.ws_steps.specs.declared.tee.TeeOperation.TheVariants.{HandChunk, ReaderSettled}
 use Rattle.ws_steps.specs.declared.transform.TransformId.{TransformId}
@@ -24,6 +26,11 @@ use Rattle.ws_steps.specs.Slots.{Slots, Done, nothing, causes, with_promises}
 abbrev pub changed : TransformId → PromiseId → Result Plain Plain → List Effect
 changed t d (Ok v) = Transform t (WriteGoesOn d) ∷ []
 changed t d (Err r) = SettlePromise d (Err r) ∷ []
+
+-- the write that waited for a backpressure promise goes on; on rejection there are no steps
+abbrev pub unblocked : PortId → PromiseId → Result Plain Plain → List Effect
+unblocked c d (Ok v) = Port c (PortGoesOn d) ∷ []
+unblocked c d (Err r) = SettlePromise d (Err r) ∷ []
 
 -- where the transform algorithm failed, the transform stream is errored
 abbrev pub transformed : TransformId → Result Plain Plain → List Effect
@@ -50,6 +57,7 @@ steps (TransformFlushed t p) outcome = Transform t (FlushSettled p outcome) ∷ 
 steps (TransformAborted t p r) outcome = Transform t (SinkAbortSettled p r outcome) ∷ []
 steps (TransformCancelled t p r) outcome = Transform t (CancelSettled p r outcome) ∷ []
 steps (TeeEnds t) outcome = Tee t (ReaderSettled outcome) ∷ []
+steps (PortUnblocked c d) outcome = unblocked c d outcome
 
 -- what the steps return or throw; where there are none for the outcome, it goes on
 abbrev pub returned : Step → Result Plain Plain → Result Plain Plain
@@ -72,6 +80,7 @@ returned (TransformFlushed t p) outcome = Ok Undefined
 returned (TransformAborted t p r) outcome = Ok Undefined
 returned (TransformCancelled t p r) outcome = Ok Undefined
 returned (TeeEnds t) outcome = Ok Undefined
+returned (PortUnblocked c d) outcome = Ok Undefined
 
 -- the derived promise, where there is one, is resolved with what the steps return, once they are performed
 abbrev pub resolved : Option PromiseId → Result Plain Plain → List Effect

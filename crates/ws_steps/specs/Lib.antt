@@ -10,6 +10,7 @@ pub mod WritableLooks
 pub mod Pipes
 pub mod Transform
 pub mod Tee
+pub mod Cross
 pub mod Operations
 pub mod Slots
 pub mod Places
@@ -22,6 +23,8 @@ pub mod ReadableHistory
 pub mod ByteHistory
 pub mod WritableHistory
 pub mod TeeHistory
+pub mod PortHistory
 pub mod Laws
 pub mod ByteLaws
 pub mod TeeLaws
+pub mod PortLaws

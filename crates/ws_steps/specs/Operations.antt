@@ -1,6 +1,7 @@
 -- The operations of one record that stand on the agenda, by their names.
-use Rattle.std.specs.Prelude.{length}
+use Rattle.std.specs.Prelude.{length, Bool}
 use Rattle.ws_value.specs.declared.ids.PipeId.{PipeId}
+use Rattle.ws_value.specs.declared.ids.PortId.{PortId}
 use Rattle.ws_value.specs.declared.ids.StreamId.{StreamId}
 use Rattle.ws_value.specs.declared.ids.TeeId.{TeeId}
 use Rattle.ws_steps.specs.declared.byte.ByteOperation.{ByteOperation}
@@ -11,6 +12,8 @@ use Rattle.ws_steps.specs.declared.pipes.PipeOperation.{PipeOperation}
 use Rattle.ws_steps.specs.declared.pipes.PipeOperation.TheVariants.{Look, LookReady, KeepChunk, ReadEnded, WriteChunk, GoOn, WriteEnded, Abort as AbortPipe, ActionSettled, PartSettled, NoParts}
 use Rattle.ws_steps.specs.declared.pipes.SignalOperation.{SignalOperation}
 use Rattle.ws_steps.specs.declared.pipes.SignalOperation.TheVariants.{Add, Forget, Trigger}
+use Rattle.ws_steps.specs.declared.port.PortOperation.{PortOperation}
+use Rattle.ws_steps.specs.declared.port.PortOperation.TheVariants.{Pull, Leave, Write as WriteByPort, WriteGoesOn as PortGoesOn, PostChunk, Close as CloseByPort, Deliver, Unblock as UnblockPort}
 use Rattle.ws_steps.specs.declared.readable.ReadableOperation.{ReadableOperation}
 use Rattle.ws_steps.specs.declared.readable.ReadableOperation.TheVariants.{InitializeReader, ReleaseReader, Disturb, Read, Cancel, CancelIfReadable, Enqueue, Close, Error, StartSettled, PullSettled}
 use Rattle.ws_steps.specs.declared.tee.TeeOperation.{TeeOperation}
@@ -22,6 +25,7 @@ use Rattle.ws_steps.specs.declared.transform.TransformOperation.TheVariants.{Sin
 use Rattle.ws_steps.specs.declared.writable.WritableOperation.{WritableOperation}
 use Rattle.ws_steps.specs.declared.writable.WritableOperation.TheVariants.{SetUpWriter, ReleaseWriter, Write, Close as CloseWritable, ClosePropagating, Abort, AbortIfWritable, ErrorIfNeeded, HandOn, StartSettled as WritableStartSettled, WriteSettled, CloseSettled, AbortSettled}
 use Rattle.ws_steps.specs.Bytes as byte
+use Rattle.ws_steps.specs.Cross as cross
 use Rattle.ws_steps.specs.Pipes as pipe
 use Rattle.ws_steps.specs.Readable as readable
 use Rattle.ws_steps.specs.Tee as tee
@@ -121,3 +125,14 @@ tee_operation me HandChunk a = tee.hand_chunk me a
 tee_operation me Handed a = tee.handed me a
 tee_operation me (CancelBranch half r u) a = tee.cancel_branch me half r u a
 tee_operation me (ReaderSettled outcome) a = tee.reader_settled outcome a
+
+-- `clones` tells whether the chunk that is first in the queue of a writable end can be cloned
+abbrev pub port_operation : PortId → Bool → PortOperation → cross.Acts → cross.Acts
+port_operation me clones Pull a = cross.pull me a
+port_operation me clones (Leave r u) a = cross.leave me r u a
+port_operation me clones (WriteByPort u) a = cross.write me u a
+port_operation me clones (PortGoesOn d) a = cross.write_goes_on me clones d a
+port_operation me clones (PostChunk v d) a = cross.post_chunk me v d a
+port_operation me clones (CloseByPort u) a = cross.close me u a
+port_operation me clones (Deliver m) a = cross.deliver me m a
+port_operation me clones UnblockPort a = cross.unblock a

@@ -12,13 +12,15 @@ use Rattle.ws_steps.specs.declared.byte.ByteOperation.TheVariants.{InitializeByo
 use Rattle.ws_steps.specs.declared.calls.StartBy.{StartBy}
 use Rattle.ws_steps.specs.declared.calls.StartBy.TheVariants.{Now, Later}
 use Rattle.ws_steps.specs.declared.effects.Effect.{Effect}
-use Rattle.ws_steps.specs.declared.effects.Effect.TheVariants.{Readable, Byte, Writable, Pipe, Signal, Transform, Tee, StartAlgorithm, PullAlgorithm, CancelAlgorithm, WriteAlgorithm, CloseAlgorithm, AbortAlgorithm, ChunkSteps, CloseSteps, CloseStepsWith, ErrorSteps, Give, Settle, Queue, CallHost}
+use Rattle.ws_steps.specs.declared.effects.Effect.TheVariants.{Readable, Byte, Writable, Pipe, Signal, Transform, Tee, Port, StartAlgorithm, PullAlgorithm, CancelAlgorithm, WriteAlgorithm, CloseAlgorithm, AbortAlgorithm, ChunkSteps, CloseSteps, CloseStepsWith, ErrorSteps, Give, Settle, Queue, CallHost}
 use Rattle.ws_steps.specs.declared.effects.Gift.{Gift}
 use Rattle.ws_steps.specs.declared.effects.Gift.TheVariants.{This, Fresh}
 use Rattle.ws_steps.specs.declared.pipes.PipeOperation.{PipeOperation}
 use Rattle.ws_steps.specs.declared.pipes.PipeOperation.TheVariants.{Look, LookReady, KeepChunk, ReadEnded, WriteChunk, GoOn, WriteEnded, Abort as AbortPipe, ActionSettled, PartSettled, NoParts}
 use Rattle.ws_steps.specs.declared.pipes.SignalOperation.{SignalOperation}
 use Rattle.ws_steps.specs.declared.pipes.SignalOperation.TheVariants.{Add, Forget, Trigger}
+use Rattle.ws_steps.specs.declared.port.PortOperation.{PortOperation}
+use Rattle.ws_steps.specs.declared.port.PortOperation.TheVariants.{Pull, Leave, Write as WriteByPort, WriteGoesOn as PortGoesOn, PostChunk, Close as CloseByPort, Deliver, Unblock as UnblockPort}
 use Rattle.ws_steps.specs.declared.readable.ReadRequest.{ReadRequest}
 use Rattle.ws_steps.specs.declared.readable.ReadRequest.TheVariants.{Promise, Pipe as PipeRequest, Tee as TeeRequest}
 use Rattle.ws_steps.specs.declared.readable.ReadableOperation.{ReadableOperation}
@@ -28,7 +30,7 @@ use Rattle.ws_steps.specs.declared.tee.TeeOperation.TheVariants.{PullBranch, Kee
 use Rattle.ws_steps.specs.declared.tee.TeePhase.{TeePhase}
 use Rattle.ws_steps.specs.declared.tee.TeePhase.TheVariants.{Resting, Reading, Over}
 use Rattle.ws_steps.specs.declared.transform.Taker.{Taker}
-use Rattle.ws_steps.specs.declared.transform.Taker.TheVariants.{ToHost, ToTransform}
+use Rattle.ws_steps.specs.declared.transform.Taker.TheVariants.{ToHost, ToTransform, ToPort}
 use Rattle.ws_steps.specs.declared.transform.TransformOperation.{TransformOperation}
 use Rattle.ws_steps.specs.declared.transform.TransformOperation.TheVariants.{SinkWrite, WriteGoesOn, TransformChunk, Enqueue as EnqueueByTransform, Enqueued, Error as ErrorTransform, Unblock, Terminate, SourcePull, SinkClose, SinkAbort, SourceCancel, FlushSettled, AbortSettled as SinkAbortSettled, CancelSettled}
 use Rattle.ws_steps.specs.declared.writable.WritableOperation.{WritableOperation}
@@ -109,10 +111,11 @@ byte_price π (PullInto room element minimum request) = price π 6 1 2 1 1 1 1 +
 byte_price π (MakeRequest q) = price π 1 0 0 0 0 0 0
 byte_price π (Respond b) = price π 4 1 1 1 1 1 0
 
--- of who takes a chunk that is handed on: a call of the host's algorithm, or a transform, which may enqueue into its readable half
+-- of who takes a chunk that is handed on: a call of the host's algorithm, a transform, which may enqueue into its readable half, or a port
 abbrev pub taker_price : Prices → Taker → ℕ
 taker_price π ToHost = price π 1 1 1 1 1 0 0
 taker_price π (ToTransform t d) = price π 7 3 2 1 1 1 0
+taker_price π (ToPort c d) = price π 2 1 1 1 0 0 0
 
 abbrev pub writable_price : Prices → WritableOperation → ℕ
 writable_price π (SetUpWriter w) = price π 1 0 0 0 0 0 0
@@ -185,6 +188,17 @@ tee_price π Handed = price π 7 1 2 1 1 0 1
 tee_price π (CancelBranch half r u) = price π 2 1 1 0 0 0 0
 tee_price π (ReaderSettled outcome) = price π 4 0 0 0 0 0 0
 
+-- an operation of a port; what a message does to its stream is counted in
+abbrev pub port_price : Prices → PortOperation → ℕ
+port_price π Pull = price π 1 0 0 1 0 0 0
+port_price π (Leave r u) = price π 2 1 1 1 0 0 0
+port_price π (WriteByPort u) = price π 3 2 2 0 0 0 0
+port_price π (PortGoesOn d) = price π 4 2 1 1 0 0 0
+port_price π (PostChunk v d) = price π 2 1 1 1 0 0 0
+port_price π (CloseByPort u) = price π 2 1 1 1 0 0 0
+port_price π (Deliver m) = price π 7 3 2 1 1 1 0
+port_price π UnblockPort = price π 1 0 0 0 0 0 0
+
 abbrev pub effect_price : Prices → Effect → ℕ
 effect_price π (Readable i operation) = readable_price π i operation
 effect_price π (Byte i operation) = byte_price π operation
@@ -193,6 +207,7 @@ effect_price π (Pipe p operation) = pipe_price π operation
 effect_price π (Signal a operation) = signal_price π operation
 effect_price π (Transform t operation) = transform_price π operation
 effect_price π (Tee t operation) = tee_price π operation
+effect_price π (Port c operation) = port_price π operation
 effect_price π (StartAlgorithm i step start) = start_price π start
 effect_price π (PullAlgorithm i) = price π 3 1 1 1 1 0 0
 effect_price π (CancelAlgorithm i r p) = price π 4 2 2 1 1 0 0
@@ -425,6 +440,15 @@ own_tee π HandChunk = π.copy
 own_tee π (CancelBranch half r u) = π.promise
 own_tee π _ = 0
 
+abbrev pub own_port : Prices → PortOperation → ℕ
+own_port π Pull = π.event
+own_port π (Leave r u) = π.event
+own_port π (WriteByPort u) = π.promise
+own_port π (PortGoesOn d) = π.promise + π.event
+own_port π (PostChunk v d) = π.event
+own_port π (CloseByPort u) = π.event
+own_port π _ = 0
+
 abbrev pub own : Prices → Effect → ℕ
 own π (Readable i operation) = own_readable π i operation
 own π (Byte i operation) = own_byte π operation
@@ -433,6 +457,7 @@ own π (Pipe p operation) = own_pipe π operation
 own π (Signal a operation) = own_signal π operation
 own π (Transform t operation) = own_transform π operation
 own π (Tee t operation) = own_tee π operation
+own π (Port c operation) = own_port π operation
 own π (Queue m) = π.job
 own π (StartAlgorithm i step start) = own_start π start
 own π (Give gift u) = own_gift π gift

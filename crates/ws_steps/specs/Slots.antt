@@ -3,6 +3,7 @@ use Rattle.std.specs.Prelude.{ℕ, nat_eq, nat_lt, Bool, true, false, ◌&&◌, 
 use Rattle.ws_value.specs.declared.ids.HostId.{HostId}
 use Rattle.ws_value.specs.declared.ids.LockId.{LockId}
 use Rattle.ws_value.specs.declared.ids.PipeId.{PipeId}
+use Rattle.ws_value.specs.declared.ids.PortId.{PortId}
 use Rattle.ws_value.specs.declared.ids.PromiseId.{PromiseId}
 use Rattle.ws_value.specs.declared.ids.RequestId.{RequestId}
 use Rattle.ws_value.specs.declared.ids.SignalId.{SignalId}
@@ -15,6 +16,7 @@ use Rattle.ws_steps.specs.declared.effects.Owner.TheVariants.{Host}
 use Rattle.ws_steps.specs.declared.locks.Lock.{Lock}
 use Rattle.ws_steps.specs.declared.pipes.Ends.{Ends}
 use Rattle.ws_steps.specs.declared.pipes.Phase.TheVariants.{Over}
+use Rattle.ws_steps.specs.declared.port.Side.TheVariants.{Readable as ReadableSide}
 use Rattle.ws_steps.specs.declared.readable.ReadableState.TheVariants.{Closed as ReadableClosed}
 use Rattle.ws_steps.specs.declared.readable.SizeBy.TheVariants.{Count}
 use Rattle.ws_steps.specs.declared.tee.TeePhase.TheVariants.{Over as TeeOver}
@@ -26,8 +28,9 @@ use Rattle.ws_steps.specs.declared.writable.Writer.{Writer}
 use Rattle.ws_steps.specs.Promises.{Table, no_promises}
 use Rattle.ws_steps.specs.Effects.{Out}
 use Rattle.ws_steps.specs.Bytes as byte
+use Rattle.ws_steps.specs.Cross as cross
 use Rattle.ws_steps.specs.Pipes as pipe
-use Rattle.ws_steps.specs.Queues.{total_of}
+use Rattle.ws_steps.specs.Queues.{total_of, first_value}
 use Rattle.ws_steps.specs.Readable as readable
 use Rattle.ws_steps.specs.Tee as tee
 use Rattle.ws_steps.specs.Transform as transform
@@ -43,6 +46,7 @@ pub record Slots : Type 0 where
   pub streams : List Stream
   pub transforms : List transform.Slots
   pub tees : List tee.Slots
+  pub ports : List cross.Slots
   pub pipes : List pipe.Slots
   pub signals : List pipe.Signal
   pub locks : List Lock
@@ -56,7 +60,7 @@ pub record Slots : Type 0 where
 
 -- a new realm
 abbrev pub empty : Slots
-empty = record { streams = []; transforms = []; tees = []; pipes = []; signals = []; locks = []; promises = no_promises; hosts = []; byob_requests = []; age = 0 }
+empty = record { streams = []; transforms = []; tees = []; ports = []; pipes = []; signals = []; locks = []; promises = no_promises; hosts = []; byob_requests = []; age = 0 }
 
 -- what stands where there is no such stream: one that takes nothing, gives nothing, and has no writer
 abbrev pub no_readable : readable.Slots
@@ -82,6 +86,10 @@ no_tee =
     record
     (tee.set_up (record { 0 = most_streams }) (record { 0 = most_streams }) (record { 0 = most_streams }) (record { 0 = 0 }))
     { phase = TeeOver; answered = true }
+
+-- what stands where there is no such port: one that isn't entangled, at a stream that no realm has
+abbrev pub no_port : cross.Slots
+no_port = record (cross.set_up ReadableSide (record { 0 = most_streams }) None) { live = false }
 
 -- what stands where there is no such pipe: one that is over, between streams that no realm has
 abbrev pub no_pipe : pipe.Slots
@@ -224,6 +232,24 @@ is_teed i s = reads_any i s.tees
 -- the two reasons that a tee keeps, where there is one of this number and both its branches were cancelled
 abbrev pub pair_at : TeeId → Slots → Option (Plain × Plain)
 pair_at t s = tee.pair (tee_at t s)
+
+abbrev pub as_port : Option cross.Slots → cross.Slots
+as_port None = no_port
+as_port (Some x) = x
+
+abbrev pub port_at : PortId → Slots → cross.Slots
+port_at c s = as_port (slice_get s.ports c.0)
+
+abbrev pub has_port : PortId → Slots → Bool
+has_port c s = is_some (slice_get s.ports c.0)
+
+-- whether there is a port of this number that is entangled
+abbrev pub is_live : PortId → Slots → Bool
+is_live c s = (port_at c s).live
+
+-- whether the chunk that is first in the queue of the stream at this port, where that is writable, can be cloned
+abbrev pub clones_at : cross.Slots → Slots → Bool
+clones_at x s = cross.clones_first (first_value (writable_at x.stream s).queue)
 
 abbrev pub as_signal : Option pipe.Signal → pipe.Signal
 as_signal None = pipe.new_signal
@@ -370,3 +396,14 @@ on_tee_at operation t s (Some x) = put_tee t s (operation (record { slots = x; o
 -- an operation of a tee, where there is one of this number
 abbrev pub on_tee : (tee.Acts → tee.Acts) → TeeId → Slots → Done
 on_tee operation t s = on_tee_at operation t s (slice_get s.tees t.0)
+
+abbrev pub put_port : PortId → Slots → cross.Acts → Done
+put_port c s a = record { slots = record s { ports = slice_set s.ports c.0 a.slots; promises = a.out.promises }; caused = a.out.effects }
+
+abbrev pub on_port_at : (Bool → cross.Acts → cross.Acts) → PortId → Slots → Option cross.Slots → Done
+on_port_at operation c s None = nothing s
+on_port_at operation c s (Some x) = put_port c s (operation (clones_at x s) (record { slots = x; out = found s }))
+
+-- an operation of a port, where there is one of this number
+abbrev pub on_port : (Bool → cross.Acts → cross.Acts) → PortId → Slots → Done
+on_port operation c s = on_port_at operation c s (slice_get s.ports c.0)

@@ -14,13 +14,14 @@ use Rattle.ws_steps.specs.declared.calls.HostCall.TheVariants.{Start as HostStar
 use Rattle.ws_steps.specs.declared.calls.StartBy.{StartBy}
 use Rattle.ws_steps.specs.declared.calls.StartBy.TheVariants.{Now, Later}
 use Rattle.ws_steps.specs.declared.effects.Effect.{Effect}
-use Rattle.ws_steps.specs.declared.effects.Effect.TheVariants.{Readable, Byte, Writable, Pipe, Signal, Transform, Tee, StartAlgorithm, PullAlgorithm, CancelAlgorithm, WriteAlgorithm, CloseAlgorithm, AbortAlgorithm, ChunkSteps, CloseSteps, CloseStepsWith, ErrorSteps, Give, Settle, Queue, CallHost}
+use Rattle.ws_steps.specs.declared.effects.Effect.TheVariants.{Readable, Byte, Writable, Pipe, Signal, Transform, Tee, Port, StartAlgorithm, PullAlgorithm, CancelAlgorithm, WriteAlgorithm, CloseAlgorithm, AbortAlgorithm, ChunkSteps, CloseSteps, CloseStepsWith, ErrorSteps, Give, Settle, Queue, CallHost}
 use Rattle.ws_steps.specs.declared.effects.Gift.TheVariants.{This, Fresh}
 use Rattle.ws_steps.specs.declared.effects.Owner.{Owner}
-use Rattle.ws_steps.specs.declared.effects.Owner.TheVariants.{Host, HalfOf, BranchOf}
+use Rattle.ws_steps.specs.declared.effects.Owner.TheVariants.{Host, HalfOf, BranchOf, EndOf}
 use Rattle.ws_steps.specs.declared.effects.Use.{Use}
 use Rattle.ws_steps.specs.declared.effects.Use.TheVariants.{React, Resolve}
 use Rattle.ws_steps.specs.declared.pipes.PipeOperation.TheVariants.{KeepChunk, ReadEnded}
+use Rattle.ws_steps.specs.declared.port.PortOperation.TheVariants.{Pull as PullByPort, Leave, Write as WriteByPort, Close as CloseByPort}
 use Rattle.ws_steps.specs.declared.promises.Step.{Step}
 use Rattle.ws_steps.specs.declared.promises.Step.TheVariants.{ReadablePull, ReturnUndefined, WritableWrite, WritableClose, WritableAbort}
 use Rattle.ws_steps.specs.declared.readable.ReadRequest.{ReadRequest}
@@ -31,9 +32,9 @@ use Rattle.ws_steps.specs.declared.transform.Taker.TheVariants.{ToHost}
 use Rattle.ws_steps.specs.declared.transform.TransformOperation.TheVariants.{SinkWrite, SourcePull, SinkClose, SinkAbort, SourceCancel}
 use Rattle.ws_steps.specs.declared.writable.WritableOperation.TheVariants.{HandOn}
 use Rattle.ws_steps.specs.Promises.{next_id, fresh, settle, answer, tell, use_this, use_gift, queue_micro}
-use Rattle.ws_steps.specs.Operations.{readable_operation, byte_readable_operation, byte_operation, writable_operation, pipe_operation, signal_operation, transform_operation, tee_operation}
+use Rattle.ws_steps.specs.Operations.{readable_operation, byte_readable_operation, byte_operation, writable_operation, pipe_operation, signal_operation, transform_operation, tee_operation, port_operation}
 use Rattle.ws_steps.specs.Places.{measure}
-use Rattle.ws_steps.specs.Slots.{Slots, Done, nothing, causes, with_promises, owner_at, has_byte, on_readable, on_byte, on_writable, on_pipe, on_signal, on_transform, on_tee}
+use Rattle.ws_steps.specs.Slots.{Slots, Done, nothing, causes, with_promises, owner_at, has_byte, on_readable, on_byte, on_writable, on_pipe, on_signal, on_transform, on_tee, on_port}
 
 -- the algorithms of a stream, by whose they are, and what is done with the promise that they give
 
@@ -48,29 +49,34 @@ abbrev pub pull_algorithm : StreamId → Use → Owner → List Effect
 pull_algorithm i u Host = CallHost (HostPull i) u ∷ []
 pull_algorithm i u (HalfOf t) = Transform t (SourcePull u) ∷ []
 pull_algorithm i u (BranchOf t half) = Tee t PullBranch ∷ Give (Fresh (Ok Undefined)) u ∷ []
+pull_algorithm i u (EndOf c) = Port c PullByPort ∷ Give (Fresh (Ok Undefined)) u ∷ []
 
 abbrev pub cancel_algorithm : StreamId → Plain → Use → Owner → List Effect
 cancel_algorithm i r u Host = CallHost (HostCancel i r) u ∷ []
 cancel_algorithm i r u (HalfOf t) = Transform t (SourceCancel r u) ∷ []
 cancel_algorithm i r u (BranchOf t half) = Tee t (CancelBranch half r u) ∷ []
+cancel_algorithm i r u (EndOf c) = Port c (Leave r u) ∷ []
 
 -- the algorithms of a writable stream. None is a branch of a tee; if one were, its algorithms would be the host's
 
--- the chunk at the front of the queue is handed on: to the host at once, and to a transform stream once it has no backpressure
+-- the chunk at the front of the queue is handed on: to the host at once, and to a transform stream or a port once it has no backpressure
 abbrev pub write_algorithm : StreamId → Owner → List Effect
 write_algorithm i Host = Writable i (HandOn ToHost) ∷ []
 write_algorithm i (HalfOf t) = Transform t (SinkWrite (React (WritableWrite i) None)) ∷ []
 write_algorithm i (BranchOf t half) = Writable i (HandOn ToHost) ∷ []
+write_algorithm i (EndOf c) = Port c (WriteByPort (React (WritableWrite i) None)) ∷ []
 
 abbrev pub close_algorithm : StreamId → Use → Owner → List Effect
 close_algorithm i u Host = CallHost (HostClose i) u ∷ []
 close_algorithm i u (HalfOf t) = Transform t (SinkClose u) ∷ []
 close_algorithm i u (BranchOf t half) = CallHost (HostClose i) u ∷ []
+close_algorithm i u (EndOf c) = Port c (CloseByPort u) ∷ []
 
 abbrev pub abort_algorithm : StreamId → Plain → Use → Owner → List Effect
 abort_algorithm i r u Host = CallHost (HostAbort i r) u ∷ []
 abort_algorithm i r u (HalfOf t) = Transform t (SinkAbort r u) ∷ []
 abort_algorithm i r u (BranchOf t half) = CallHost (HostAbort i r) u ∷ []
+abort_algorithm i r u (EndOf c) = Port c (Leave r u) ∷ []
 
 -- the steps of a read request, by whom it answers
 
@@ -118,6 +124,7 @@ row (Pipe p operation) s = on_pipe (λ ends. pipe_operation p ends operation) p 
 row (Signal a operation) s = on_signal (signal_operation operation) a s
 row (Transform t operation) s = on_transform (λ halves. transform_operation t halves operation) t s
 row (Tee t operation) s = on_tee (tee_operation t operation) t s
+row (Port c operation) s = on_port (λ clones. port_operation c clones operation) c s
 row (StartAlgorithm i step start) s = start_algorithm i step s start
 row (PullAlgorithm i) s = causes (pull_algorithm i (React (ReadablePull i) None) (owner_at i s)) s
 row (CancelAlgorithm i r p) s = causes (cancel_algorithm i r (React ReturnUndefined (Some p)) (owner_at i s)) s

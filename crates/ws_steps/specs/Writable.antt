@@ -10,15 +10,16 @@ use Rattle.ws_value.specs.declared.value.Value.{Value}
 use Rattle.ws_steps.specs.declared.effects.Effect.{Effect}
 use Rattle.ws_steps.specs.declared.calls.Event.TheVariants.{Signal}
 use Rattle.ws_steps.specs.declared.calls.HostCall.TheVariants.{Write as HostWrite}
-use Rattle.ws_steps.specs.declared.effects.Effect.TheVariants.{Transform as OnTransform, WriteAlgorithm, CloseAlgorithm, AbortAlgorithm, CallHost}
+use Rattle.ws_steps.specs.declared.effects.Effect.TheVariants.{Transform as OnTransform, Port as OnPort, WriteAlgorithm, CloseAlgorithm, AbortAlgorithm, CallHost}
 use Rattle.ws_steps.specs.declared.effects.Owner.{Owner}
-use Rattle.ws_steps.specs.declared.effects.Owner.TheVariants.{Host, HalfOf, BranchOf}
+use Rattle.ws_steps.specs.declared.effects.Owner.TheVariants.{Host, HalfOf, BranchOf, EndOf}
 use Rattle.ws_steps.specs.declared.effects.Use.TheVariants.{React}
+use Rattle.ws_steps.specs.declared.port.PortOperation.TheVariants.{PostChunk}
 use Rattle.ws_steps.specs.declared.promises.Step.TheVariants.{WritableWrite}
 use Rattle.ws_steps.specs.declared.queue.Queued.{Queued}
 use Rattle.ws_steps.specs.declared.readable.SizeBy.{SizeBy}
 use Rattle.ws_steps.specs.declared.transform.Taker.{Taker}
-use Rattle.ws_steps.specs.declared.transform.Taker.TheVariants.{ToHost, ToTransform}
+use Rattle.ws_steps.specs.declared.transform.Taker.TheVariants.{ToHost, ToTransform, ToPort}
 use Rattle.ws_steps.specs.declared.transform.TransformOperation.TheVariants.{TransformChunk}
 use Rattle.ws_steps.specs.declared.writable.PendingAbort.{PendingAbort}
 use Rattle.ws_steps.specs.declared.writable.WritableState.{WritableState}
@@ -277,10 +278,11 @@ advance_queue me a =
 abbrev pub write_to_host : StreamId → Value → Effect
 write_to_host me v = CallHost (HostWrite me v) (React (WritableWrite me) None)
 
--- a chunk is taken: the host's write algorithm is called with it, or a transform algorithm is performed
+-- a chunk is taken: the host's write algorithm is called with it, a transform algorithm is performed, or it is posted
 abbrev pub taken_by : StreamId → Value → Taker → Effect
 taken_by me v ToHost = write_to_host me v
 taken_by me v (ToTransform t d) = OnTransform t (TransformChunk v d)
+taken_by me v (ToPort c d) = OnPort c (PostChunk v d)
 
 abbrev pub hand_on_first : StreamId → Taker → Acts → Option WriteRecord → Acts
 hand_on_first me taker a None = a
@@ -442,11 +444,12 @@ abbrev pub begin_abort : StreamId → Plain → PromiseId → Acts → Acts
 begin_abort me r p a =
     if is_erroring a.slots.state then add_pending_abort r p a else start_erroring me r (add_pending_abort r p a)
 
--- the host's sink hears of its first abort by a signal; nobody does for the half of a transform stream
+-- the host's sink hears of its first abort by a signal; nobody does for the half of a transform stream, or the end of a port
 abbrev pub signalled : StreamId → Plain → Acts → Owner → Acts
 signalled me r a Host = with_promises (tell (Signal me r) a.out.promises) a
 signalled me r a (HalfOf t) = a
 signalled me r a (BranchOf t half) = a
+signalled me r a (EndOf c) = a
 
 -- WritableStreamAbort, where no abort is pending: where the stream is closed or errored, the promise is resolved with undefined. Else
 -- the sink hears of it before what the abort settles. The promise, which is new, with the reason is the pending abort, and where the

@@ -1,10 +1,10 @@
 //! What stands on a realm's agenda.
 use crate::{
-    ByteOperation, Half, HostCall, Micro, PipeOperation, ReadRequest, ReadableOperation,
-    SignalOperation, StartBy, Step, TeeOperation, TransformId, TransformOperation,
-    WritableOperation,
+    ByteOperation, Half, HostCall, Micro, PipeOperation, PortOperation, ReadRequest,
+    ReadableOperation, SignalOperation, StartBy, Step, TeeOperation, TransformId,
+    TransformOperation, WritableOperation,
 };
-use ws_value::{Chunk, PipeId, Plain, PromiseId, SignalId, StreamId, TeeId, Value};
+use ws_value::{Chunk, PipeId, Plain, PortId, PromiseId, SignalId, StreamId, TeeId, Value};
 
 /// Whose algorithms a stream performs.
 #[derive(Clone, Copy, Debug, PartialEq, Eq)]
@@ -15,6 +15,8 @@ pub enum Owner {
     HalfOf(TransformId),
     /// Those of a tee, of which it is this branch.
     BranchOf(TeeId, Half),
+    /// Those of a cross-realm transform, at this end of a port.
+    EndOf(PortId),
 }
 
 /// The promise that an algorithm gives.
@@ -52,6 +54,8 @@ pub enum Effect {
     Transform(TransformId, TransformOperation),
     /// An operation of a tee.
     Tee(TeeId, TeeOperation),
+    /// An operation of a port.
+    Port(PortId, PortOperation),
     /// The start algorithm of a stream is performed, and the step reacts to its result.
     StartAlgorithm(StreamId, Step, StartBy),
     /// The pull algorithm of a readable stream is performed, and its controller reacts to the promise.

@@ -6,6 +6,7 @@ mod calls;
 mod effects;
 mod locks;
 mod pipes;
+mod port;
 mod promises;
 mod queue;
 mod readable;
@@ -18,6 +19,7 @@ pub use calls::{Answer, Call, Event, Flags, HostCall, Reply, StartBy, StateIs, T
 pub use effects::{Effect, Gift, Owner, Use};
 pub use locks::Lock;
 pub use pipes::{Action, Ends, Phase, PipeOperation, Prevent, SignalOperation};
+pub use port::{PortOperation, Side};
 pub use promises::{Job, Micro, Reaction, Step};
 pub use queue::Queued;
 pub use readable::{ReadRequest, ReadableOperation, ReadableState, SizeBy};

@@ -1,6 +1,6 @@
 //! The parts of a transform stream, which has a writable and a readable half.
 use crate::{ReadableState, Use, WritableState};
-use ws_value::{Plain, PromiseId, Value};
+use ws_value::{Plain, PortId, PromiseId, Value};
 
 /// A transform stream. No call and no event names it; its halves are streams, with numbers of their own.
 #[derive(Clone, Copy, Debug, PartialEq, Eq)]
@@ -22,6 +22,8 @@ pub enum Taker {
     ToHost,
     /// The transform algorithm of a transform stream, with the promise that is the result of the reaction to its own.
     ToTransform(TransformId, PromiseId),
+    /// The write algorithm of a cross-realm transform, which posts it, with the promise that is its result.
+    ToPort(PortId, PromiseId),
 }
 
 /// What a transform stream looks at of its two halves.
