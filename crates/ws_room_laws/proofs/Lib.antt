@@ -5,6 +5,7 @@ pub mod Writables
 pub mod Pipes
 pub mod Transforms
 pub mod Tees
+pub mod Ports
 pub mod Rows
 pub mod Turns
 pub mod Room

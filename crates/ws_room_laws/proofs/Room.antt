@@ -5,6 +5,7 @@ use Rattle.ws_value.specs.declared.fault.Fault.{Fault}
 use Rattle.ws_value.specs.declared.ids.HostId.{HostId}
 use Rattle.ws_value.specs.declared.ids.LockId.{LockId}
 use Rattle.ws_value.specs.declared.ids.PipeId.{PipeId}
+use Rattle.ws_value.specs.declared.ids.PortId.{PortId}
 use Rattle.ws_value.specs.declared.ids.PromiseId.{PromiseId}
 use Rattle.ws_value.specs.declared.ids.RequestId.{RequestId}
 use Rattle.ws_value.specs.declared.ids.SignalId.{SignalId}
@@ -13,11 +14,14 @@ use Rattle.ws_value.specs.declared.ids.TeeId.{TeeId}
 use Rattle.ws_value.specs.declared.value.Plain.{Plain}
 use Rattle.ws_steps.specs.declared.{calls.Answer.{Answer}, calls.Call.{Call}}
 use Rattle.ws_steps.specs.declared.calls.Call.TheVariants as names
-use Rattle.ws_steps.specs.declared.{calls.Reply.{Reply}, calls.Reply.TheVariants.{Done as ReplyDone, Made, MadeTwo, Lock as ReplyLock, Promise, Signal as ReplySignal, Request as ReplyRequest, Size, State as ReplyState, Throws, TooMany}}
-use Rattle.ws_steps.specs.declared.{calls.Thrown.TheVariants.{TypeError, Unsupported}, calls.StartBy.{StartBy}, calls.StartBy.TheVariants.{Now, Later}, effects.Effect.{Effect}}
-use Rattle.ws_steps.specs.declared.{effects.Effect.TheVariants.{Readable, Byte, Writable, Signal as OnSignal, Transform as OnTransform, StartAlgorithm, Settle as SettlePromise}, effects.Owner.{Owner}, effects.Owner.TheVariants.{Host, HalfOf, BranchOf}}
+use Rattle.ws_steps.specs.declared.{calls.Reply.{Reply}, calls.Reply.TheVariants.{Done as ReplyDone, Made, MadeTwo, Lock as ReplyLock, Promise, Signal as ReplySignal, Port as ReplyPort, MadePort, Request as ReplyRequest, Size, State as ReplyState, Throws, TooMany}}
+use Rattle.ws_steps.specs.declared.{calls.Thrown.TheVariants.{TypeError, DataClone, Unsupported}, calls.StartBy.{StartBy}, calls.StartBy.TheVariants.{Now, Later}, effects.Effect.{Effect}}
+use Rattle.ws_steps.specs.declared.{effects.Effect.TheVariants.{Readable, Byte, Writable, Signal as OnSignal, Transform as OnTransform, Port as OnPort, StartAlgorithm, Settle as SettlePromise}, effects.Owner.{Owner}, effects.Owner.TheVariants.{Host, HalfOf, BranchOf, EndOf}}
 use Rattle.ws_steps.specs.declared.{readable.ReadRequest.TheVariants.{Promise as PromiseRequest}, readable.ReadableOperation.{ReadableOperation}}
 use Rattle.ws_steps.specs.declared.readable.ReadableOperation.TheVariants.{ReleaseReader, Read as ReadChunk, Cancel as CancelStream, Enqueue as EnqueueChunk, Close as CloseReadable, Error as ErrorReadable}
+use Rattle.ws_steps.specs.declared.port.PortOperation.TheVariants.{Deliver as DeliverMessage}
+use Rattle.ws_steps.specs.declared.port.Side.{Side}
+use Rattle.ws_steps.specs.declared.port.Side.TheVariants.{Readable as ReadableSide, Writable as WritableSide}
 use Rattle.ws_steps.specs.declared.tee.Half.TheVariants.{First, Second}
 use Rattle.ws_steps.specs.declared.transform.Kind.{Kind}
 use Rattle.ws_steps.specs.declared.transform.TransformOperation.TheVariants.{Enqueue as EnqueueByTransform, Error as ErrorTransform, Terminate as TerminateTransform}
@@ -39,7 +43,7 @@ use Rattle.ws_steps.specs.Pipes as pipe
 use Rattle.ws_steps.specs.Readable as readable
 use Rattle.ws_steps.specs.Tee as tee
 use Rattle.ws_steps.specs.Writable as writable
-use Rattle.ws_steps.specs.Slots.{Slots, most_streams, Stream, ReadableStream, ByteStream, WritableStream, Done, causes, has_readable, has_byte, has_source, has_writable, has_signal, readable_at, byte_at, source_at, stream_of_request, writable_at, lock_at, host_at, owner_at, is_teed}
+use Rattle.ws_steps.specs.Slots.{Slots, most_streams, Stream, ReadableStream, ByteStream, WritableStream, Done, causes, has_readable, has_byte, has_source, has_writable, has_signal, has_port, readable_at, byte_at, source_at, stream_of_request, writable_at, lock_at, host_at, owner_at, is_teed}
 use Rattle.ws_steps.specs.Places.{Prices, Counts, all_kept, tee_keeps, tees_keep, price, each, effect_price, prices_of, keeps, all_keep, signals_keep, need, measure, step_price, room, size, entries_of, members_of, table_size}
 use Rattle.ws_steps.specs.Turns.{row, turns, after_turns, performed, Agenda}
 use Rattle.ws_steps.specs.Jobs.{steps, returned, resolved, job_effects, job_begun, begin_job}
@@ -332,6 +336,7 @@ module _ (π : Prices) (i : StreamId) (g : SignalId) (counts : Counts π i) (s :
   enqueue-fits : (v : Value) (j : StreamId) (o : Owner) → Fits (calls.enqueue_by v j s o)
   enqueue-fits v j Host = can-fits j (EnqueueChunk v) (omega arith)
   enqueue-fits v j (BranchOf t half) = unsupported-fits
+  enqueue-fits v j (EndOf c) = unsupported-fits
   enqueue-fits v j (HalfOf t) =
       if-fits (readable.can_close_or_enqueue (readable_at j s)) (calls.does (OnTransform t (EnqueueByTransform v) ∷ []) s) (calls.throws_type_error s)
       (does-fits (OnTransform t (EnqueueByTransform v) ∷ []) (omega arith)) type_error-fits
@@ -340,6 +345,7 @@ module _ (π : Prices) (i : StreamId) (g : SignalId) (counts : Counts π i) (s :
   finish-fits j Host = can-fits j CloseReadable (omega arith)
   finish-fits j (HalfOf t) = unsupported-fits
   finish-fits j (BranchOf t half) = unsupported-fits
+  finish-fits j (EndOf c) = unsupported-fits
 
   enqueue_bytes-fits : (j : StreamId) (v : Value) → Fits (calls.enqueue_bytes j s v)
   enqueue_bytes-fits j (PlainValue v) = type_error-fits
@@ -380,11 +386,13 @@ module _ (π : Prices) (i : StreamId) (g : SignalId) (counts : Counts π i) (s :
   fail_readable-fits r j Host = does-fits (Readable j (ErrorReadable r) ∷ []) (omega arith)
   fail_readable-fits r j (HalfOf t) = does-fits (OnTransform t (ErrorTransform r) ∷ []) (omega arith)
   fail_readable-fits r j (BranchOf t half) = unsupported-fits
+  fail_readable-fits r j (EndOf c) = unsupported-fits
 
   fail_writable-fits : (r : Plain) (j : StreamId) (o : Owner) → Fits (calls.fail_writable_by r j s o)
   fail_writable-fits r j Host = does-fits (Writable j (ErrorIfNeeded r) ∷ []) (omega arith)
   fail_writable-fits r j (HalfOf t) = unsupported-fits
   fail_writable-fits r j (BranchOf t half) = unsupported-fits
+  fail_writable-fits r j (EndOf c) = unsupported-fits
 
   fail-fits : (r : Plain) (j : StreamId) → Fits (calls.fail r j s)
   fail-fits r j =
@@ -399,11 +407,13 @@ module _ (π : Prices) (i : StreamId) (g : SignalId) (counts : Counts π i) (s :
   terminate-fits Host = unsupported-fits
   terminate-fits (HalfOf t) = does-fits (OnTransform t TerminateTransform ∷ []) (omega arith)
   terminate-fits (BranchOf t half) = unsupported-fits
+  terminate-fits (EndOf c) = unsupported-fits
 
   desired-fits : (j : StreamId) (o : Owner) → Fits (calls.desired_by j s o)
   desired-fits j Host = replies-fits (calls.desired_by j s Host).reply
   desired-fits j (HalfOf t) = replies-fits (calls.desired_by j s Host).reply
   desired-fits j (BranchOf t half) = unsupported-fits
+  desired-fits j (EndOf c) = unsupported-fits
 
   look-fits : (j : StreamId) → Fits (calls.look j s)
   look-fits j =
@@ -457,6 +467,54 @@ module _ (π : Prices) (i : StreamId) (g : SignalId) (counts : Counts π i) (s :
   signal-fits : Fits (calls.make_signal s)
   signal-fits = let h = append-signals s.signals in let f = append-members s.signals g.0 in omega (arith, h, f)
 
+  -- ports
+
+  data_clone-fits : Fits (calls.throws_data_clone s)
+  data_clone-fits = replies-fits (Throws DataClone)
+
+  open-fits : (side : Side) (j : StreamId) → Fits (calls.open_end side j s)
+  open-fits ReadableSide j =
+      let x : Stream = calls.end_of (record { 0 = length s.ports }) ReadableSide in
+      let a = append-keep s.streams x in
+      let b = append-entries s.streams x i.0 refl in omega (arith, a, b)
+  open-fits WritableSide j =
+      let x : Stream = calls.end_of (record { 0 = length s.ports }) WritableSide in
+      let a = append-keep s.streams x in
+      let b = append-entries s.streams x i.0 refl in
+      let f = fresh-size π s.promises in omega (arith, a, b, f)
+
+  -- an end is set up, and a pipe begins
+  send-fits : (side : Side) (source dest j : StreamId) → Fits (calls.sent_by j side s (calls.pipe_to source dest calls.no_prevent None (calls.add_port j s side)))
+  send-fits ReadableSide source dest j =
+      let x : Stream = calls.end_of (record { 0 = length s.ports }) ReadableSide in
+      let t : Table = s.promises in
+      let a = append-keep s.streams x in
+      let b = append-entries s.streams x i.0 refl in
+      let f = fresh-size π t in
+      let h = fresh-size π (fresh t) in
+      let k = fresh-size π (fresh (fresh t)) in
+      let l = fresh-size π (fresh (fresh (fresh t))) in omega (arith, a, b, f, h, k, l)
+  send-fits WritableSide source dest j =
+      let x : Stream = calls.end_of (record { 0 = length s.ports }) WritableSide in
+      let t : Table = s.promises in
+      let a = append-keep s.streams x in
+      let b = append-entries s.streams x i.0 refl in
+      let f = fresh-size π t in
+      let h = fresh-size π (fresh t) in
+      let k = fresh-size π (fresh (fresh t)) in
+      let l = fresh-size π (fresh (fresh (fresh t))) in
+      let m = fresh-size π (fresh (fresh (fresh (fresh t)))) in omega (arith, a, b, f, h, k, l, m)
+
+  send_call-fits : (j : StreamId) → Fits (calls.send j s)
+  send_call-fits j =
+      let new : StreamId = record { 0 = length s.streams } in
+      if-fits (has_source j s) (calls.unlocked_readable j calls.throws_data_clone (λ source. calls.make_stream (calls.send_readable source)) s)
+      (calls.unlocked_writable j calls.throws_data_clone (λ dest. calls.make_stream (calls.send_writable dest)) s)
+      (unlocked_readable-fits j calls.throws_data_clone (λ source. calls.make_stream (calls.send_readable source)) data_clone-fits
+      (make-fits (calls.send_readable j) (send-fits WritableSide j new new)))
+      (unlocked_writable-fits j calls.throws_data_clone (λ dest. calls.make_stream (calls.send_writable dest)) data_clone-fits
+      (make-fits (calls.send_writable j) (send-fits ReadableSide new j new)))
+
   pub begin-fits : (c : Call) → Fits (begin c s)
   unfolding begin
   begin-fits (names.MakeReadable mark size start) =
@@ -500,6 +558,10 @@ module _ (π : Prices) (i : StreamId) (g : SignalId) (counts : Counts π i) (s :
   begin-fits (names.Pipe source dest prevent signal) = pipe_call-fits source dest prevent signal
   begin-fits names.MakeSignal = signal-fits
   begin-fits (names.Trigger b r) = for_signal-fits b (calls.does (OnSignal b (TriggerSignal r) ∷ [])) (does-fits (OnSignal b (TriggerSignal r) ∷ []) (omega arith))
+  begin-fits (names.Send j) = send_call-fits j
+  begin-fits (names.Open side) = make-fits (calls.open_end side) (open-fits side (record { 0 = length s.streams }))
+  begin-fits (names.Deliver c m) =
+      if-fits (has_port c s) (calls.does (OnPort c (DeliverMessage m) ∷ []) s) (calls.unsupported s) (does-fits (OnPort c (DeliverMessage m) ∷ []) (omega arith)) unsupported-fits
   begin-fits (names.Settle h answer) = settle-fits h answer (host_at h s)
   begin-fits (names.State j) = look-fits j
   begin-fits names.Step = replies-fits ReplyDone
@@ -540,6 +602,8 @@ named-size π i g (Made j) s = omega arith
 named-size π i g (MadeTwo j k) s = omega arith
 named-size π i g (ReplyLock l) s = omega arith
 named-size π i g (ReplySignal b) s = omega arith
+named-size π i g (ReplyPort c) s = omega arith
+named-size π i g (MadePort j c) s = omega arith
 named-size π i g (Size n) s = omega arith
 named-size π i g (ReplyRequest request) s = omega arith
 named-size π i g (ReplyState looks) s = omega arith

@@ -3,6 +3,7 @@
 use Rattle.std.proofs.Common.{◌≡◌, ◌≤◌, ◌<◌, ℕ, zero, suc, ◌+◌, ◌*◌, ◌⊎◌, inl, inr, ⊎_elim, ◌∙◌, List, [], ◌∷◌, ◌++◌, length, length-append, Option, Some, None, Err, refl, ap, subst, arith}
 use Rattle.std.specs.Prelude.{slice_get, slice_set}
 use Rattle.ws_value.specs.declared.ids.PipeId.{PipeId}
+use Rattle.ws_value.specs.declared.ids.PortId.{PortId}
 use Rattle.ws_value.specs.declared.ids.SignalId.{SignalId}
 use Rattle.ws_value.specs.declared.ids.StreamId.{StreamId}
 use Rattle.ws_value.specs.declared.ids.TeeId.{TeeId}
@@ -14,20 +15,22 @@ use Rattle.ws_value.specs.declared.value.Value.TheVariants.{Plain as PlainValue,
 use Rattle.ws_steps.specs.declared.{calls.Event.TheVariants.{Host as HostCalled}, calls.HostCall.{HostCall}, calls.StartBy.{StartBy}, calls.StartBy.TheVariants.{Now, Later}}
 use Rattle.ws_steps.specs.declared.byte.ByteOperation.{ByteOperation}
 use Rattle.ws_steps.specs.declared.effects.Effect.{Effect}
-use Rattle.ws_steps.specs.declared.effects.Effect.TheVariants.{Readable, Byte, Writable, Pipe, Signal, Transform, Tee, StartAlgorithm, PullAlgorithm, CancelAlgorithm, WriteAlgorithm, CloseAlgorithm, AbortAlgorithm, ChunkSteps, CloseSteps, CloseStepsWith, ErrorSteps, Give, Settle, Queue, CallHost}
-use Rattle.ws_steps.specs.declared.{effects.Owner.{Owner}, effects.Owner.TheVariants.{Host, HalfOf, BranchOf}, effects.Use.{Use}, effects.Use.TheVariants.{React}, promises.Step.{Step}}
+use Rattle.ws_steps.specs.declared.effects.Effect.TheVariants.{Readable, Byte, Writable, Pipe, Signal, Transform, Tee, Port, StartAlgorithm, PullAlgorithm, CancelAlgorithm, WriteAlgorithm, CloseAlgorithm, AbortAlgorithm, ChunkSteps, CloseSteps, CloseStepsWith, ErrorSteps, Give, Settle, Queue, CallHost}
+use Rattle.ws_steps.specs.declared.{effects.Owner.{Owner}, effects.Owner.TheVariants.{Host, HalfOf, BranchOf, EndOf}, effects.Use.{Use}, effects.Use.TheVariants.{React}, promises.Step.{Step}}
 use Rattle.ws_steps.specs.declared.{promises.Step.TheVariants.{ReadablePull, ReturnUndefined, WritableClose, WritableAbort}, readable.ReadRequest.{ReadRequest}}
 use Rattle.ws_steps.specs.declared.{readable.ReadRequest.TheVariants.{Promise, Pipe as PipeRequest, Tee as TeeRequest}, pipes.PipeOperation.{PipeOperation}, pipes.SignalOperation.{SignalOperation}, readable.ReadableOperation.{ReadableOperation}, tee.TeeOperation.{TeeOperation}, transform.TransformId.{TransformId}, transform.TransformOperation.{TransformOperation}, writable.WritableOperation.{WritableOperation}}
 use Rattle.ws_steps.specs.Promises.{Table, next_id, fresh, tell}
-use Rattle.ws_steps.specs.Operations.{readable_operation, byte_readable_operation, byte_operation, writable_operation, pipe_operation, signal_operation, transform_operation, tee_operation}
+use Rattle.ws_steps.specs.Operations.{readable_operation, byte_readable_operation, byte_operation, writable_operation, pipe_operation, signal_operation, transform_operation, tee_operation, port_operation}
 use Rattle.ws_steps.specs.Bytes as byte
 use Rattle.ws_steps.specs.Pipes as pipe
 use Rattle.ws_steps.specs.Readable as readable
 use Rattle.ws_steps.specs.Tee as tee
+use Rattle.ws_steps.specs.Cross as cross
+use Rattle.ws_steps.specs.declared.port.PortOperation.{PortOperation}
 use Rattle.ws_steps.specs.Transform as transform
 use Rattle.ws_steps.specs.Writable as writable
-use Rattle.ws_steps.specs.Slots.{Slots, Stream, ReadableStream, ByteStream, WritableStream, Done, nothing, owner_at, found, ends_at, halves_at, on_byte, on_writable, on_pipe, on_signal, on_transform, on_tee}
-use Rattle.ws_steps.specs.Places.{Prices, Counts, all_kept, tee_price, tee_keeps, tees_keep, price, each, effect_price, readable_price, byte_price, writable_price, start_price, prices_of, pipe_price, signal_price, transform_price, keeps, all_keep, signal_keeps, signals_keep, need, turns_alone, measure, table_size, entries_of, members_of, size}
+use Rattle.ws_steps.specs.Slots.{Slots, Stream, ReadableStream, ByteStream, WritableStream, Done, nothing, owner_at, found, ends_at, halves_at, on_byte, on_writable, on_pipe, on_signal, on_transform, on_tee, on_port, clones_at}
+use Rattle.ws_steps.specs.Places.{Prices, Counts, all_kept, tee_price, port_price, tee_keeps, tees_keep, price, each, effect_price, readable_price, byte_price, writable_price, start_price, prices_of, pipe_price, signal_price, transform_price, keeps, all_keep, signal_keeps, signals_keep, need, turns_alone, measure, table_size, entries_of, members_of, size}
 use Rattle.ws_steps.specs.Turns.{start_algorithm, pull_algorithm, cancel_algorithm, write_algorithm, close_algorithm, abort_algorithm, chunk_steps, close_steps, close_steps_with, error_steps, on_source, call_host, row}
 use Rattle.ws_room_laws.proofs.Tables.{settle-size, given-size, finished-size, fresh-size, tell-size, use-size, gift-size, micro-size}
 use Rattle.ws_room_laws.proofs.Readables.{readable-takes, prices-append}
@@ -36,6 +39,7 @@ use Rattle.ws_room_laws.proofs.Writables.{writable-takes}
 use Rattle.ws_room_laws.proofs.Pipes.{pipe-takes, signal-takes}
 use Rattle.ws_room_laws.proofs.Transforms.{transform-takes}
 use Rattle.ws_room_laws.proofs.Tees.{tee-takes}
+use Rattle.ws_room_laws.proofs.Ports.{port-takes}
 
 -- what a row takes
 abbrev Takes : Prices → StreamId → SignalId → ℕ → Slots → Done → Type 0
@@ -236,6 +240,18 @@ tee-row π i a c t operation s (Some x) is =
     let k = tees-set π s.tees t.0 x (tee_operation t operation z).slots is in
     rw is (let h = tee-takes π t c.others operation z in omega (arith, h, k))
 
+-- ports
+
+port-least : (π : Prices) (operation : PortOperation) → π.turn ≤ port_price π operation
+port-least π operation = grind arith
+
+port-row : (π : Prices) (i : StreamId) (a : SignalId) (p : PortId) (operation : PortOperation) (s : Slots) (o : Option cross.Slots) → slice_get s.ports p.0 ≡ o
+    → Takes π i a (port_price π operation) s (on_port (λ clones. port_operation p clones operation) p s)
+port-row π i a p operation s None is = rw is (nothing-takes π i a s (port_price π operation) (port-least π operation))
+port-row π i a p operation s (Some x) is =
+    let z : cross.Acts = record { slots = x; out = found s } in
+    rw is (let h = port-takes π p (clones_at x s) operation z in omega (arith, h))
+
 -- algorithms
 
 start-row : (π : Prices) (i j : StreamId) (a : SignalId) (step : Step) (s : Slots) (start : StartBy) → Takes π i a (start_price π start) s (start_algorithm j step s start)
@@ -246,26 +262,31 @@ pull-row : (π : Prices) (j : StreamId) (u : Use) (o : Owner) → prices_of π (
 pull-row π j u Host = omega arith
 pull-row π j u (HalfOf t) = omega arith
 pull-row π j u (BranchOf t half) = omega arith
+pull-row π j u (EndOf c) = omega arith
 
 cancel-row : (π : Prices) (j : StreamId) (r : Plain) (u : Use) (o : Owner) → prices_of π (cancel_algorithm j r u o) ≤ price π 3 2 2 1 1 0 0
 cancel-row π j r u Host = omega arith
 cancel-row π j r u (HalfOf t) = omega arith
 cancel-row π j r u (BranchOf t half) = omega arith
+cancel-row π j r u (EndOf c) = omega arith
 
 write-row : (π : Prices) (j : StreamId) (o : Owner) → prices_of π (write_algorithm j o) ≤ price π 10 4 3 1 1 1 0
 write-row π j Host = omega arith
 write-row π j (HalfOf t) = omega arith
 write-row π j (BranchOf t half) = omega arith
+write-row π j (EndOf c) = omega arith
 
 close-row : (π : Prices) (j : StreamId) (u : Use) (o : Owner) → prices_of π (close_algorithm j u o) ≤ price π 3 2 2 1 1 0 0
 close-row π j u Host = omega arith
 close-row π j u (HalfOf t) = omega arith
 close-row π j u (BranchOf t half) = omega arith
+close-row π j u (EndOf c) = omega arith
 
 abort-row : (π : Prices) (j : StreamId) (r : Plain) (u : Use) (o : Owner) → prices_of π (abort_algorithm j r u o) ≤ price π 3 2 2 1 1 0 0
 abort-row π j r u Host = omega arith
 abort-row π j r u (HalfOf t) = omega arith
 abort-row π j r u (BranchOf t half) = omega arith
+abort-row π j r u (EndOf c) = omega arith
 
 -- the steps of read requests
 
@@ -312,6 +333,7 @@ row-takes π i a c (Pipe p operation) s = pipe-row π i a p operation s (slice_g
 row-takes π i a c (Signal b operation) s = signal-row π i a b operation s (slice_get s.signals b.0) refl
 row-takes π i a c (Transform t operation) s = transform-row π i a t operation s (slice_get s.transforms t.0) refl
 row-takes π i a c (Tee t operation) s = tee-row π i a c t operation s (slice_get s.tees t.0) refl
+row-takes π i a c (Port p operation) s = port-row π i a p operation s (slice_get s.ports p.0) refl
 row-takes π i a c (StartAlgorithm j step start) s = start-row π i j a step s start
 row-takes π i a c (PullAlgorithm j) s = let h = pull-row π j (React (ReadablePull j) None) (owner_at j s) in omega (arith, h)
 row-takes π i a c (CancelAlgorithm j r p) s = let h = cancel-row π j r (React ReturnUndefined (Some p)) (owner_at j s) in omega (arith, h)

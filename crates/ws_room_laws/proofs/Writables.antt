@@ -5,7 +5,7 @@ use Rattle.ws_value.specs.declared.ids.StreamId.{StreamId}
 use Rattle.ws_value.specs.declared.value.Plain.{Plain}
 use Rattle.ws_value.specs.declared.value.Plain.TheVariants.{Undefined}
 use Rattle.ws_value.specs.declared.value.Value.{Value}
-use Rattle.ws_steps.specs.declared.{calls.Event.TheVariants.{Signal}, effects.Owner.{Owner}, effects.Owner.TheVariants.{Host, HalfOf, BranchOf}, queue.Queued.{Queued}, writable.PendingAbort.{PendingAbort}}
+use Rattle.ws_steps.specs.declared.{calls.Event.TheVariants.{Signal}, effects.Owner.{Owner}, effects.Owner.TheVariants.{Host, HalfOf, BranchOf, EndOf}, queue.Queued.{Queued}, writable.PendingAbort.{PendingAbort}}
 use Rattle.ws_steps.specs.declared.writable.WritableOperation.{WritableOperation}
 use Rattle.ws_steps.specs.declared.writable.WritableOperation.TheVariants as names
 use Rattle.ws_steps.specs.declared.{writable.WritableState.TheVariants.{Erroring, Closed}, writable.WriteRecord.{WriteRecord}, writable.WriteRecord.TheVariants.{Chunk, CloseMark}}
@@ -181,6 +181,7 @@ module _ (π : Prices) (q r : ℕ) (me : StreamId) where
   signal-takes e a Host = let h = tell-size π (Signal me e) a.out.promises in omega (arith, h)
   signal-takes e a (HalfOf t) = omega arith
   signal-takes e a (BranchOf t half) = omega arith
+  signal-takes e a (EndOf c) = omega arith
 
   begin-takes : (e : Plain) (p : PromiseId) (a : Acts) → Takes (price π 4 3 2 1 1 0 0) a (begin_abort me e p a)
   begin-takes e p a = let h = erring-takes e (add_pending_abort e p a) in grind (arith, h)
