@@ -1,20 +1,23 @@
 -- The age of a realm counts its calls and jobs, over every run.
 use Rattle.std.proofs.Common.{◌≡◌, ◌+◌, ℕ, [], ◌∷◌, refl, sym, ◌∙◌, add-zero, arith}
 use Rattle.ws_steps.specs.declared.{calls.Call.{Call}, calls.StartBy.TheVariants.{Now, Later}, calls.Reply.{Reply}, calls.Reply.TheVariants.{Promise}, effects.Effect.{Effect}}
-use Rattle.ws_steps.specs.declared.{effects.Effect.TheVariants.{Readable, Byte, Writable, Pipe, Signal, Transform, Tee, StartAlgorithm, ChunkSteps, CloseSteps, CloseStepsWith, ErrorSteps}, promises.Job.{Job}}
+use Rattle.ws_steps.specs.declared.{effects.Effect.TheVariants.{Readable, Byte, Writable, Pipe, Signal, Transform, Tee, Port, StartAlgorithm, ChunkSteps, CloseSteps, CloseStepsWith, ErrorSteps}, promises.Job.{Job}}
 use Rattle.ws_steps.specs.declared.readable.ReadRequest.TheVariants.{Promise as PromiseRequest, Pipe as PipeRequest, Tee as TeeRequest}
 use Rattle.std.specs.Prelude.{Option, Some, None, slice_get}
 use Rattle.ws_value.specs.declared.ids.PipeId.{PipeId}
+use Rattle.ws_value.specs.declared.ids.PortId.{PortId}
 use Rattle.ws_value.specs.declared.ids.SignalId.{SignalId}
 use Rattle.ws_value.specs.declared.ids.TeeId.{TeeId}
 use Rattle.ws_steps.specs.declared.tee.TeeOperation.{TeeOperation}
 use Rattle.ws_steps.specs.Tee as tee
+use Rattle.ws_steps.specs.Cross as cross
+use Rattle.ws_steps.specs.declared.port.PortOperation.{PortOperation}
 use Rattle.ws_steps.specs.declared.{pipes.PipeOperation.{PipeOperation}, pipes.SignalOperation.{SignalOperation}, transform.TransformId.{TransformId}, transform.TransformOperation.{TransformOperation}}
-use Rattle.ws_steps.specs.Operations.{pipe_operation, signal_operation, transform_operation, tee_operation}
+use Rattle.ws_steps.specs.Operations.{pipe_operation, signal_operation, transform_operation, tee_operation, port_operation}
 use Rattle.ws_steps.specs.Pipes as pipe
 use Rattle.ws_steps.specs.Transform as transform
 use Rattle.ws_steps.specs.Promises.{next_job}
-use Rattle.ws_steps.specs.Slots.{Slots, Done, has_writable, on_pipe_at, on_signal_at, on_transform_at, on_tee_at}
+use Rattle.ws_steps.specs.Slots.{Slots, Done, has_writable, on_pipe_at, on_signal_at, on_transform_at, on_tee_at, on_port_at}
 use Rattle.ws_steps.specs.Turns.{row, performed, call_host}
 use Rattle.ws_steps.specs.Jobs.{job_begun, begin_job}
 use Rattle.ws_steps.specs.Calls.{begin, named}
@@ -41,6 +44,10 @@ tee-age : (t : TeeId) (operation : TeeOperation) (s : Slots) (o : Option tee.Slo
 tee-age t operation s None = refl
 tee-age t operation s (Some x) = refl
 
+port-age : (c : PortId) (operation : PortOperation) (s : Slots) (o : Option cross.Slots) → (on_port_at (λ clones. port_operation c clones operation) c s o).slots.age ≡ s.age
+port-age c operation s None = refl
+port-age c operation s (Some x) = refl
+
 row-age : (e : Effect) (s : Slots) → (row e s).slots.age ≡ s.age
 unfolding row call_host
 row-age (Readable i operation) s = source-leaves (λ z. z.age) (λ z x o. refl) i operation s
@@ -50,6 +57,7 @@ row-age (Pipe p operation) s = pipe-age p operation s (slice_get s.pipes p.0)
 row-age (Signal a operation) s = signal-age a operation s (slice_get s.signals a.0)
 row-age (Transform t operation) s = transform-age t operation s (slice_get s.transforms t.0)
 row-age (Tee t operation) s = tee-age t operation s (slice_get s.tees t.0)
+row-age (Port c operation) s = port-age c operation s (slice_get s.ports c.0)
 row-age (StartAlgorithm i step Now) s = refl
 row-age (StartAlgorithm i step Later) s = refl
 row-age (ChunkSteps i (PromiseRequest p) v) s = refl
@@ -71,7 +79,7 @@ performed-age d = performed-goes tt (λ f g. tt) untold (λ e s. tt) (λ h s es.
 
 pub begin-age : (c : Call) (s : Slots) → (begin c s).done.slots.age ≡ s.age
 begin-age c s =
-    begin-makes (λ z. z.age ≡ s.age) (record { promise = λ z h. h; locks = λ z ls h. h; hosts = λ z hs h. h; pipe = λ z i j p a q h. h; signal = λ z h. h; transform = λ z k i j p h. h; tee = λ z k i j p h. h; readable = λ z o m b h. h; bytes = λ z m a h. h; byob_requests = λ z r h. h; writable = λ z o m b h. h }) c s refl
+    begin-makes (λ z. z.age ≡ s.age) (record { promise = λ z h. h; locks = λ z ls h. h; hosts = λ z hs h. h; pipe = λ z i j p a q h. h; signal = λ z h. h; transform = λ z k i j p h. h; tee = λ z k i j p h. h; port = λ z d i p h. h; readable = λ z o m b h. h; bytes = λ z m a h. h; byob_requests = λ z r h. h; writable = λ z o m b h. h }) c s refl
 
 pub named-age : (reply : Reply) (s : Slots) → (named reply s).age ≡ s.age
 named-age (Promise p) s = refl

@@ -1,11 +1,11 @@
 -- What calls and jobs begin with: what a call makes and takes before its effects are performed, and the first effects.
-use Rattle.std.proofs.Common.{arith, ◌≡◌, ℕ, Bool, true, false, List, [], ◌∷◌, ◌++◌, Option}
+use Rattle.std.proofs.Common.{arith, ◌≡◌, ℕ, Bool, true, false, List, [], ◌∷◌, ◌++◌, Option, None}
 use Rattle.ws_value.specs.declared.ids.PromiseId.{PromiseId}
 use Rattle.ws_value.specs.declared.ids.SignalId.{SignalId}
 use Rattle.ws_value.specs.declared.ids.StreamId.{StreamId}
 use Rattle.ws_value.specs.declared.value.Value.{Value}
 use Rattle.ws_steps.specs.declared.{calls.Call.{Call}, calls.Call.TheVariants.{Enqueue as EnqueueCall}, readable.ReadableOperation.TheVariants.{Enqueue}, effects.Effect.{Effect}}
-use Rattle.ws_steps.specs.declared.{effects.Effect.TheVariants.{Readable, Byte, Writable, Pipe, Signal, Transform, Tee, StartAlgorithm, Give, Settle, Queue, CallHost}, pipes.Prevent.{Prevent}, locks.Lock.{Lock}, promises.Job.{Job}, readable.SizeBy.{SizeBy}}
+use Rattle.ws_steps.specs.declared.{effects.Effect.TheVariants.{Readable, Byte, Writable, Pipe, Signal, Transform, Tee, Port, StartAlgorithm, Give, Settle, Queue, CallHost}, pipes.Prevent.{Prevent}, locks.Lock.{Lock}, promises.Job.{Job}, readable.SizeBy.{SizeBy}}
 use Rattle.ws_steps.specs.declared.writable.WritableOperation.TheVariants.{HandOn}
 use Rattle.ws_steps.specs.Promises.{Table, fresh, is_pending_at}
 use Rattle.ws_steps.specs.Bytes as byte
@@ -13,10 +13,14 @@ use Rattle.ws_steps.specs.Pipes as pipes
 use Rattle.ws_steps.specs.Readable as readable
 use Rattle.ws_steps.specs.Transform as transforms
 use Rattle.ws_steps.specs.Tee as tees
+use Rattle.ws_steps.specs.Cross as ports
+use Rattle.ws_steps.specs.declared.port.PortOperation.TheVariants.{PostChunk}
+use Rattle.ws_steps.specs.declared.port.Side.{Side}
+use Rattle.ws_steps.specs.declared.port.Side.TheVariants.{Readable as ReadableSide, Writable as WritableSide}
 use Rattle.ws_steps.specs.Writable as writable
 use Rattle.ws_steps.specs.Slots.{Slots, ReadableStream, ByteStream, WritableStream, with_promises, source_at}
 use Rattle.ws_steps.specs.Jobs.{job_effects}
-use Rattle.ws_steps.specs.Calls.{Begun, begin, add_stream, with_renewed}
+use Rattle.ws_steps.specs.Calls.{Begun, begin, add_stream, add_port, pipe_to, no_prevent, with_renewed}
 use Rattle.ws_steps.specs.declared.{calls.HostCall.TheVariants.{Start as HostStart}, effects.Owner.{Owner}, transform.Kind.{Kind}, transform.TransformOperation.TheVariants.{Enqueue as EnqueueByTransform, TransformChunk}}
 use Rattle.ws_laws.proofs.EachCall.{each_call}
 use Rattle.ws_laws.proofs.Lists.{Each, each-map}
@@ -33,6 +37,8 @@ pub record Makes (Q : Slots → Type 0) : Type 0 where
       → Q (record s { transforms = s.transforms ++ transforms.set_up kind writable readable change ∷ [] })
   pub tee : (s : Slots) (source first second : StreamId) (cancel : PromiseId) → Q s
       → Q (record s { tees = s.tees ++ tees.set_up source first second cancel ∷ [] })
+  pub port : (s : Slots) (side : Side) (stream : StreamId) (backpressure : Option PromiseId) → Q s
+      → Q (record s { ports = s.ports ++ ports.set_up side stream backpressure ∷ [] })
   pub readable : (s : Slots) (owner : Owner) (mark : ℕ) (size : SizeBy) → Q s → Q (add_stream (ReadableStream (readable.set_up owner mark size)) s)
   pub bytes : (s : Slots) (mark auto : ℕ) → Q s → Q (add_stream (ByteStream (byte.set_up mark auto)) s)
   pub byob_requests : (s : Slots) (requests : List StreamId) → Q s → Q (record s { byob_requests = requests })
@@ -42,6 +48,13 @@ module _ (Q : Slots → Type 0) (makes : Makes Q) where
   renewed-makes : (s : Slots) (kept : Bool) → Q s → Q (with_promises (with_renewed s.promises kept) s)
   renewed-makes s true q = q
   renewed-makes s false q = makes.promise s q
+
+  port-makes : (s : Slots) (side : Side) (i : StreamId) → Q s → Q (add_port i s side)
+  port-makes s ReadableSide i q = makes.port _ ReadableSide i _ (makes.readable s _ 0 _ q)
+  port-makes s WritableSide i q = makes.promise _ (makes.port _ WritableSide i _ (makes.writable s _ 1 _ q))
+
+  piped-makes : (s : Slots) (source dest : StreamId) → Q s → Q (pipe_to source dest no_prevent None s).done.slots
+  piped-makes s source dest q = makes.locks _ _ (makes.pipe _ source dest _ None _ (makes.promise _ (makes.promise _ (makes.promise _ (makes.promise s q)))))
 
   pub begin-makes : (c : Call) (s : Slots) → Q s → Q (begin c s).done.slots
   begin-makes c s q = each_call (λ (b : Begun). Q b.done.slots) c s (record {
@@ -81,6 +94,10 @@ module _ (Q : Slots → Type 0) (makes : Makes Q) where
     pipe = λ source dest prevent signal e f l m.
         makes.locks _ _ (makes.pipe _ source dest prevent signal _ (makes.promise _ (makes.promise _ (makes.promise _ (makes.promise s q)))));
     make_signal = makes.signal s q;
+    open_end = λ side. port-makes s side _ q;
+    send_readable = λ i there free. piped-makes _ i _ (port-makes s WritableSide _ q);
+    send_writable = λ i there free. piped-makes _ _ i (port-makes s ReadableSide _ q);
+    deliver = λ p m e is. q;
     trigger = λ a reason. q;
     settle = λ h answer p e. makes.hosts s _ q;
   })
@@ -99,6 +116,8 @@ IsFirst E (Transform t (EnqueueByTransform v)) = (i : StreamId) × E i v
 IsFirst E (Transform t (TransformChunk v d)) = ⊥
 IsFirst E (Transform t operation) = Unit {0}
 IsFirst E (Tee t operation) = Unit {0}
+IsFirst E (Port p (PostChunk v d)) = ⊥
+IsFirst E (Port p operation) = Unit {0}
 IsFirst E (Give gift u) = Unit {0}
 IsFirst E (Settle p o) = Unit {0}
 IsFirst E (Queue m) = Unit {0}

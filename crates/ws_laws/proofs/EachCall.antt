@@ -3,6 +3,8 @@ use Rattle.std.proofs.Common.{◌≡◌, ℕ, ◌+◌, List, [], ◌∷◌, ◌+
 use Rattle.ws_value.specs.declared.fault.Fault.{Fault}
 use Rattle.ws_value.specs.declared.ids.HostId.{HostId}
 use Rattle.ws_value.specs.declared.ids.LockId.{LockId}
+use Rattle.ws_value.specs.declared.ids.PortId.{PortId}
+use Rattle.ws_value.specs.declared.value.Message.{Message}
 use Rattle.ws_value.specs.declared.ids.PromiseId.{PromiseId}
 use Rattle.ws_value.specs.declared.ids.RequestId.{RequestId}
 use Rattle.ws_value.specs.declared.ids.SignalId.{SignalId}
@@ -12,10 +14,12 @@ use Rattle.ws_value.specs.declared.value.Value.{Value}
 use Rattle.ws_value.specs.declared.value.Value.TheVariants.{Plain as PlainValue, Bytes}
 use Rattle.ws_steps.specs.declared.byte.ByteOperation.TheVariants.{Enqueue as EnqueueBytes, MakeRequest, Respond as RespondBytes}
 use Rattle.ws_steps.specs.declared.{calls.Answer.{Answer}, calls.Call.{Call}}
-use Rattle.ws_steps.specs.declared.calls.Call.TheVariants.{MakeReadable, MakeBytes, MakeWritable, MakeTransform, GetReader, GetByob, GetWriter, Tee, Cancel, CancelBy, Read, ReadInto, Write, Close, CloseBy, Abort, AbortBy, Closed, Ready, Release, Enqueue, Finish, Fail, Terminate, Request, Respond, Desired, DesiredBy, Pipe, MakeSignal, Trigger, Settle, State, Step}
+use Rattle.ws_steps.specs.declared.calls.Call.TheVariants.{MakeReadable, MakeBytes, MakeWritable, MakeTransform, GetReader, GetByob, GetWriter, Tee, Cancel, CancelBy, Read, ReadInto, Write, Close, CloseBy, Abort, AbortBy, Closed, Ready, Release, Enqueue, Finish, Fail, Terminate, Request, Respond, Desired, DesiredBy, Pipe, MakeSignal, Trigger, Send, Open, Deliver, Settle, State, Step}
 use Rattle.ws_steps.specs.declared.{locks.Lock.{Lock}, locks.Lock.TheVariants.{Reader as ReaderLock, ByobReader, Writer as WriterLock, ReleasedWriter, Inner}, calls.Reply.{Reply}}
 use Rattle.ws_steps.specs.declared.{calls.Reply.TheVariants.{Done as ReplyDone, Promise, Request as ReplyRequest, State as ReplyState, Throws, TooMany}, calls.StartBy.{StartBy}}
-use Rattle.ws_steps.specs.declared.{calls.Thrown.TheVariants.{TypeError, Unsupported}, effects.Effect.TheVariants.{Readable as OnReadable, Byte, Writable as OnWritable, Signal as OnSignal, Transform as OnTransform}, effects.Owner.{Owner}, effects.Owner.TheVariants.{Host, HalfOf, BranchOf}, pipes.Prevent.{Prevent}, pipes.SignalOperation.TheVariants.{Trigger as TriggerSignal}}
+use Rattle.ws_steps.specs.declared.{calls.Thrown.TheVariants.{TypeError, DataClone, Unsupported}, effects.Effect.TheVariants.{Readable as OnReadable, Byte, Writable as OnWritable, Signal as OnSignal, Transform as OnTransform, Port as OnPort}, effects.Owner.{Owner}, effects.Owner.TheVariants.{Host, HalfOf, BranchOf, EndOf}, pipes.Prevent.{Prevent}, pipes.SignalOperation.TheVariants.{Trigger as TriggerSignal}}
+use Rattle.ws_steps.specs.declared.port.PortOperation.TheVariants.{Deliver as DeliverMessage}
+use Rattle.ws_steps.specs.declared.port.Side.{Side}
 use Rattle.ws_steps.specs.declared.readable.ReadableOperation.{ReadableOperation}
 use Rattle.ws_steps.specs.declared.{readable.ReadableOperation.TheVariants.{Enqueue as EnqueueChunk, Close as CloseReadable, Error as ErrorReadable}, readable.SizeBy.{SizeBy}}
 use Rattle.ws_steps.specs.declared.{transform.Kind.{Kind}, transform.TransformId.{TransformId}, transform.TransformOperation.TheVariants.{Enqueue as EnqueueByTransform, Error as ErrorTransform, Terminate as TerminateTransform}}
@@ -27,7 +31,7 @@ use Rattle.ws_steps.specs.Readable as readable
 use Rattle.ws_steps.specs.ReadableLooks as readable_looks
 use Rattle.ws_steps.specs.Writable as writable
 use Rattle.ws_steps.specs.WritableLooks as writable_looks
-use Rattle.ws_steps.specs.Slots.{Slots, most_streams, causes, has_readable, has_byte, has_source, has_writable, has_signal, readable_at, byte_at, source_at, stream_of_request, writable_at, lock_at, host_at, is_teed, owner_at}
+use Rattle.ws_steps.specs.Slots.{Slots, most_streams, causes, has_readable, has_byte, has_source, has_writable, has_signal, has_port, readable_at, byte_at, source_at, stream_of_request, writable_at, lock_at, host_at, is_teed, owner_at}
 use Rattle.ws_steps.specs.Calls.{Begun, begin, replies, unsupported, by_reader, by_writer, of_writer}
 use Rattle.ws_steps.specs.Calls as calls
 use Rattle.ws_laws.proofs.Tables.{either, eq_numbers}
@@ -72,6 +76,10 @@ pub record Beginnings (P : Begun → Type 0) (c : Call) (s : Slots) : Type 0 whe
   pub pipe : (source dest : StreamId) (prevent : Prevent) (signal : Option SignalId) → has_source source s ≡ true → has_writable dest s ≡ true
       → readable_looks.is_locked (source_at source s) ≡ false → writable_looks.is_locked (writable_at dest s) ≡ false → P (calls.pipe_to source dest prevent signal s)
   pub make_signal : P (calls.make_signal s)
+  pub open_end : (side : Side) → P (calls.open_end side (record { 0 = length s.streams }) s)
+  pub send_readable : (i : StreamId) → has_source i s ≡ true → readable_looks.is_locked (source_at i s) ≡ false → P (calls.send_readable i (record { 0 = length s.streams }) s)
+  pub send_writable : (i : StreamId) → has_writable i s ≡ true → writable_looks.is_locked (writable_at i s) ≡ false → P (calls.send_writable i (record { 0 = length s.streams }) s)
+  pub deliver : (p : PortId) (m : Message) → c ≡ Deliver p m → has_port p s ≡ true → P (calls.does (OnPort p (DeliverMessage m) ∷ []) s)
   pub trigger : (a : SignalId) (reason : Plain) → P (calls.does (OnSignal a (TriggerSignal reason) ∷ []) s)
   pub settle : (h : HostId) (answer : Answer) (p : PromiseId) → host_at h s ≡ Some p → P (calls.settle_host h answer s (Some p))
 
@@ -214,11 +222,13 @@ module _ (P : Begun → Type 0) (c : Call) (s : Slots) (o : Beginnings P c s) wh
       either P (readable.can_close_or_enqueue (readable_at i s)) (calls.does (OnTransform t (EnqueueByTransform v) ∷ []) s) (calls.throws_type_error s)
       (λ can. o.enqueue_half i t v e is can) (λ e. o.unchanged (Throws TypeError))
   enqueue-each i v (BranchOf t half) e is = unsupported_each
+  enqueue-each i v (EndOf p) e is = unsupported_each
 
   finish-each : (i : StreamId) (owner : Owner) → P (calls.finish_by i s owner)
   finish-each i Host = if_it_can-each i CloseReadable (λ e. o.finish i)
   finish-each i (HalfOf t) = unsupported_each
   finish-each i (BranchOf t half) = unsupported_each
+  finish-each i (EndOf p) = unsupported_each
 
   enqueue_bytes-each : (i : StreamId) (v : Value) → c ≡ Enqueue i v → has_byte i s ≡ true → P (calls.enqueue_bytes i s v)
   enqueue_bytes-each i (PlainValue v) e is = o.unchanged (Throws TypeError)
@@ -253,21 +263,25 @@ module _ (P : Begun → Type 0) (c : Call) (s : Slots) (o : Beginnings P c s) wh
   fail_readable-each i reason Host = o.fail_readable i reason
   fail_readable-each i reason (HalfOf t) = o.fail_half t reason
   fail_readable-each i reason (BranchOf t half) = unsupported_each
+  fail_readable-each i reason (EndOf p) = unsupported_each
 
   fail_writable-each : (i : StreamId) (reason : Plain) (owner : Owner) → P (calls.fail_writable_by reason i s owner)
   fail_writable-each i reason Host = o.fail_writable i reason
   fail_writable-each i reason (HalfOf t) = unsupported_each
   fail_writable-each i reason (BranchOf t half) = unsupported_each
+  fail_writable-each i reason (EndOf p) = unsupported_each
 
   terminate-each : (owner : Owner) → P (calls.terminate_by s owner)
   terminate-each Host = unsupported_each
   terminate-each (HalfOf t) = o.terminate t
   terminate-each (BranchOf t half) = unsupported_each
+  terminate-each (EndOf p) = unsupported_each
 
   desired-each : (i : StreamId) (owner : Owner) → P (calls.desired_by i s owner)
   desired-each i Host = o.unchanged (calls.desired_by i s Host).reply
   desired-each i (HalfOf t) = o.unchanged (calls.desired_by i s (HalfOf t)).reply
   desired-each i (BranchOf t half) = unsupported_each
+  desired-each i (EndOf p) = unsupported_each
 
   tee-each : (i : StreamId) → c ≡ Tee i → P (calls.unlocked_readable i calls.throws_type_error calls.tee_of s)
   tee-each i e =
@@ -294,6 +308,16 @@ module _ (P : Begun → Type 0) (c : Call) (s : Slots) (o : Beginnings P c s) wh
       (λ l. either P (writable_looks.is_locked (writable_at dest s)) _ _ (λ m. o.rejected) (λ m. o.pipe source dest prevent signal e f l m))))
       (λ f. unsupported_each))
       (λ e. unsupported_each)
+
+  send-each : (i : StreamId) → P (calls.send i s)
+  send-each i =
+      either P (has_source i s) _ _
+      (λ there. either P (has_source i s) _ _
+      (λ same. either P (readable_looks.is_locked (source_at i s)) _ _ (λ l. o.unchanged (Throws DataClone)) (λ free. made_by (calls.send_readable i) (o.send_readable i there free)))
+      (λ n. unsupported_each))
+      (λ isnt. either P (has_writable i s) _ _
+      (λ there. either P (writable_looks.is_locked (writable_at i s)) _ _ (λ l. o.unchanged (Throws DataClone)) (λ free. made_by (calls.send_writable i) (o.send_writable i there free)))
+      (λ n. unsupported_each))
 
 pub each_call : (P : Begun → Type 0) (c : Call) (s : Slots) → Beginnings P c s → P (begin c s)
 unfolding begin
@@ -340,6 +364,10 @@ each_call P (DesiredBy l) s o =
 each_call P (Pipe source dest prevent signal) s o = pipe-each P _ s o source dest prevent signal
 each_call P MakeSignal s o = o.make_signal
 each_call P (Trigger a reason) s o = for_signal-each P _ s o (calls.does (OnSignal a (TriggerSignal reason) ∷ [])) a (o.trigger a reason)
+each_call P (Send i) s o = send-each P _ s o i
+each_call P (Open side) s o = made_by P _ s o (calls.open_end side) (o.open_end side)
+each_call P (Deliver p m) s o =
+    either P (has_port p s) (calls.does (OnPort p (DeliverMessage m) ∷ []) s) (unsupported s) (λ e. o.deliver p m refl e) (λ e. o.unchanged (Throws Unsupported))
 each_call P (Settle h answer) s o = settle-each P _ s o h answer (host_at h s) refl
 each_call P (State i) s o =
     either P (has_source i s) _ _ (λ e. o.unchanged (ReplyState (readable_looks.state_of (source_at i s))))

@@ -9,7 +9,7 @@ use Rattle.ws_steps.specs.declared.calls.Reply.TheVariants.{Promise}
 use Rattle.ws_steps.specs.declared.calls.StartBy.{StartBy}
 use Rattle.ws_steps.specs.declared.promises.Job.{Job}
 use Rattle.ws_steps.specs.declared.effects.Effect.{Effect}
-use Rattle.ws_steps.specs.declared.effects.Owner.TheVariants.{Host, HalfOf, BranchOf}
+use Rattle.ws_steps.specs.declared.effects.Owner.TheVariants.{Host, HalfOf, BranchOf, EndOf}
 use Rattle.ws_steps.specs.declared.readable.SizeBy.TheVariants.{Count}
 use Rattle.ws_steps.specs.declared.tee.Half.{Half}
 use Rattle.ws_steps.specs.declared.tee.Half.TheVariants.{First, Second}
@@ -30,6 +30,9 @@ use Rattle.ws_steps.specs.Calls as calls
 use Rattle.ws_laws.proofs.EachCall.{each_call}
 use Rattle.ws_laws.proofs.Shapes.{StreamShape, ReadableOf, BytesOf, WritableOf, TransformShape, TeeShape, branch_of, stream_shape, transform_shape, tee_shape, stream_shapes, transform_shapes, tee_shapes, row-stream_shapes, row-transform_shapes, row-tee_shapes}
 use Rattle.ws_laws.proofs.Walker.{Stays, untold, performed-goes, run-stays}
+use Rattle.ws_value.specs.declared.ids.PortId.{PortId}
+use Rattle.ws_steps.specs.declared.port.Side.{Side}
+use Rattle.ws_steps.specs.declared.port.Side.TheVariants.{Readable as ReadableSide, Writable as WritableSide}
 
 -- lists that grow
 
@@ -106,6 +109,26 @@ host-bytes xs ts bs a = record {
   halves = λ t x is. (get-stays xs (BytesOf ∷ []) x.readable.0 _ (a.halves t x is).0, get-stays xs (BytesOf ∷ []) x.writable.0 _ (a.halves t x is).1);
   branch = λ i t half is. ⊎_elim (λ old. a.branch i t half old) (λ new. cc) (get-either xs BytesOf i.0 (ReadableOf (BranchOf t half)) is);
   branches = λ t x is. (get-stays xs (BytesOf ∷ []) x.branch1.0 _ (a.branches t x is).0, get-stays xs (BytesOf ∷ []) x.branch2.0 _ (a.branches t x is).1);
+}
+
+-- and one at the end of a port
+
+end-readable : (c : PortId) (xs : List StreamShape) (ts : List TransformShape) (bs : List TeeShape) → AreHalves xs ts bs → AreHalves (xs ++ ReadableOf (EndOf c) ∷ []) ts bs
+end-readable c xs ts bs a = record {
+  readable = λ i t is. ⊎_elim (λ old. a.readable i t old) (λ new. cc) (get-either xs (ReadableOf (EndOf c)) i.0 (ReadableOf (HalfOf t)) is);
+  writable = λ i t is. ⊎_elim (λ old. a.writable i t old) (λ new. cc) (get-either xs (ReadableOf (EndOf c)) i.0 (WritableOf (HalfOf t)) is);
+  halves = λ t x is. (get-stays xs (ReadableOf (EndOf c) ∷ []) x.readable.0 _ (a.halves t x is).0, get-stays xs (ReadableOf (EndOf c) ∷ []) x.writable.0 _ (a.halves t x is).1);
+  branch = λ i t half is. ⊎_elim (λ old. a.branch i t half old) (λ new. cc) (get-either xs (ReadableOf (EndOf c)) i.0 (ReadableOf (BranchOf t half)) is);
+  branches = λ t x is. (get-stays xs (ReadableOf (EndOf c) ∷ []) x.branch1.0 _ (a.branches t x is).0, get-stays xs (ReadableOf (EndOf c) ∷ []) x.branch2.0 _ (a.branches t x is).1);
+}
+
+end-writable : (c : PortId) (xs : List StreamShape) (ts : List TransformShape) (bs : List TeeShape) → AreHalves xs ts bs → AreHalves (xs ++ WritableOf (EndOf c) ∷ []) ts bs
+end-writable c xs ts bs a = record {
+  readable = λ i t is. ⊎_elim (λ old. a.readable i t old) (λ new. cc) (get-either xs (WritableOf (EndOf c)) i.0 (ReadableOf (HalfOf t)) is);
+  writable = λ i t is. ⊎_elim (λ old. a.writable i t old) (λ new. cc) (get-either xs (WritableOf (EndOf c)) i.0 (WritableOf (HalfOf t)) is);
+  halves = λ t x is. (get-stays xs (WritableOf (EndOf c) ∷ []) x.readable.0 _ (a.halves t x is).0, get-stays xs (WritableOf (EndOf c) ∷ []) x.writable.0 _ (a.halves t x is).1);
+  branch = λ i t half is. ⊎_elim (λ old. a.branch i t half old) (λ new. cc) (get-either xs (WritableOf (EndOf c)) i.0 (ReadableOf (BranchOf t half)) is);
+  branches = λ t x is. (get-stays xs (WritableOf (EndOf c) ∷ []) x.branch1.0 _ (a.branches t x is).0, get-stays xs (WritableOf (EndOf c) ∷ []) x.branch2.0 _ (a.branches t x is).1);
 }
 
 -- and a transform stream
@@ -278,6 +301,14 @@ tee-made i s h =
     (made-tee xs (transform_shapes s) (tee_shapes s) h (tee_shape x) me (sym (length-map tee_shape s.tees)) (sym same)
     (ap (λ k. k + 1) (sym same) ∙ sym (one-more xs (ReadableOf (BranchOf me First)))))
 
+port-halved : (side : Side) (i : StreamId) (s : Slots) → Halved s → Halved (calls.add_port i s side)
+port-halved ReadableSide i s h =
+    let me : PortId = record { 0 = length s.ports } in
+    rw (map-append stream_shape s.streams (calls.end_of me ReadableSide ∷ [])) (end-readable me (stream_shapes s) (transform_shapes s) (tee_shapes s) h)
+port-halved WritableSide i s h =
+    let me : PortId = record { 0 = length s.ports } in
+    rw (map-append stream_shape s.streams (calls.end_of me WritableSide ∷ [])) (end-writable me (stream_shapes s) (transform_shapes s) (tee_shapes s) h)
+
 call-halved : (c : Call) (s : Slots) → Halved s → Halved (begin c s).done.slots
 call-halved c s h = each_call (λ (b : Begun). Halved b.done.slots) c s (record {
   unchanged = λ reply. h;
@@ -312,6 +343,10 @@ call-halved c s h = each_call (λ (b : Begun). Halved b.done.slots) c s (record 
   terminate = λ t. h;
   pipe = λ source dest prevent signal e f l m. h;
   make_signal = h;
+  open_end = λ side. port-halved side (record { 0 = length s.streams }) s h;
+  send_readable = λ i there free. port-halved WritableSide (record { 0 = length s.streams }) s h;
+  send_writable = λ i there free. port-halved ReadableSide (record { 0 = length s.streams }) s h;
+  deliver = λ p m e is. h;
   trigger = λ a reason. h;
   settle = λ a answer p e. h;
 })
@@ -337,6 +372,10 @@ halved-empty = record { readable = λ i t is. cc; writable = λ i t is. cc; halv
 -- each of these shapes is among those
 abbrev pub Among : List TransformShape → List TransformShape → Type 0
 Among ts us = (t : TransformId) (x : TransformShape) → slice_get ts t.0 ≡ Some x → slice_get us t.0 ≡ Some x
+
+among-port : (s : Slots) (side : Side) (i : StreamId) → Among (transform_shapes s) (transform_shapes (calls.add_port i s side))
+among-port s ReadableSide i t x h = h
+among-port s WritableSide i t x h = h
 
 pub call-among : (c : Call) (s : Slots) → Among (transform_shapes s) (transform_shapes (begin c s).done.slots)
 call-among c s = each_call (λ (b : Begun). Among (transform_shapes s) (transform_shapes b.done.slots)) c s (record {
@@ -372,6 +411,10 @@ call-among c s = each_call (λ (b : Begun). Among (transform_shapes s) (transfor
   terminate = λ a t x h. h;
   pipe = λ source dest prevent signal e f l m t x h. h;
   make_signal = λ t x h. h;
+  open_end = λ side t x h. among-port s side (record { 0 = length s.streams }) t x h;
+  send_readable = λ i there free t x h. among-port s WritableSide (record { 0 = length s.streams }) t x h;
+  send_writable = λ i there free t x h. among-port s ReadableSide (record { 0 = length s.streams }) t x h;
+  deliver = λ p m e is t x h. h;
   trigger = λ a reason t x h. h;
   settle = λ a answer p e t x h. h;
 })
@@ -412,6 +455,10 @@ run-among (x ∷ xs) s = λ t y h. run-among xs (step s x) t y (step-among x s t
 abbrev pub AmongTees : List TeeShape → List TeeShape → Type 0
 AmongTees ts us = (t : TeeId) (x : TeeShape) → slice_get ts t.0 ≡ Some x → slice_get us t.0 ≡ Some x
 
+among-port_tees : (s : Slots) (side : Side) (i : StreamId) → AmongTees (tee_shapes s) (tee_shapes (calls.add_port i s side))
+among-port_tees s ReadableSide i t x h = h
+among-port_tees s WritableSide i t x h = h
+
 pub call-among_tees : (c : Call) (s : Slots) → AmongTees (tee_shapes s) (tee_shapes (begin c s).done.slots)
 call-among_tees c s = each_call (λ (b : Begun). AmongTees (tee_shapes s) (tee_shapes b.done.slots)) c s (record {
   unchanged = λ reply t x h. h;
@@ -446,6 +493,10 @@ call-among_tees c s = each_call (λ (b : Begun). AmongTees (tee_shapes s) (tee_s
   terminate = λ a t x h. h;
   pipe = λ source dest prevent signal e f l m t x h. h;
   make_signal = λ t x h. h;
+  open_end = λ side t x h. among-port_tees s side (record { 0 = length s.streams }) t x h;
+  send_readable = λ i there free t x h. among-port_tees s WritableSide (record { 0 = length s.streams }) t x h;
+  send_writable = λ i there free t x h. among-port_tees s ReadableSide (record { 0 = length s.streams }) t x h;
+  deliver = λ p m e is t x h. h;
   trigger = λ a reason t x h. h;
   settle = λ a answer p e t x h. h;
 })

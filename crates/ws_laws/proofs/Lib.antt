@@ -12,6 +12,7 @@ pub mod WritableDoes
 pub mod PipeDoes
 pub mod TransformDoes
 pub mod TeeDoes
+pub mod PortDoes
 pub mod Rows
 pub mod EachCall
 pub mod Begin
@@ -21,6 +22,7 @@ pub mod Order
 pub mod Shapes
 pub mod StaysBytes
 pub mod Halves
+pub mod Ended
 pub mod Stays
 pub mod Watched
 pub mod Throws

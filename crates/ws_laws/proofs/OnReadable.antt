@@ -31,6 +31,12 @@ use Rattle.ws_laws.proofs.Lists.{Each}
 use Rattle.ws_laws.proofs.Rows.{Causes, ChunkCauses, EndCauses, ErrorCauses, IsNoPipe, IsNoTee, row-causes, row-locks, row-pipes, row-tees, row-streams}
 use Rattle.ws_laws.proofs.Begin.{begin-makes}
 use Rattle.ws_laws.proofs.Walker.{IsHistory, GoesUntold, RestsUntold, Stays, step-goes_untold, run-holds}
+use Rattle.ws_value.specs.declared.ids.PortId.{PortId}
+use Rattle.ws_steps.specs.declared.effects.Effect.TheVariants.{Port}
+use Rattle.ws_steps.specs.declared.port.PortOperation.{PortOperation}
+use Rattle.ws_steps.specs.Operations.{port_operation}
+use Rattle.ws_steps.specs.Slots.{on_port_at, clones_at}
+use Rattle.ws_steps.specs.Cross as crossing
 
 -- what is seen of effects, one after another
 abbrev pub all_seen : {V : Type 0} → (Effect → List V) → List Effect → List V
@@ -51,7 +57,7 @@ is_still NoParts = true
 is_still _ = false
 
 -- effects that are neither an operation nor a request's steps of readable stream i, nor an operation of a pipe that causes another, nor
--- one of a signal. One of a transform stream or of a tee is among them, though it may cause an operation of the stream
+-- one of a signal. One of a transform stream, of a tee or of a port is among them, though it may cause an operation of the stream
 abbrev pub IsForeign : StreamId → Effect → Type 0
 IsForeign i (Readable j operation) = is_same i j ≡ false
 IsForeign i (ChunkSteps j request v) = is_same i j ≡ false
@@ -83,9 +89,10 @@ error-foreign i (Promise p) = tt
 error-foreign i (PipeRequest p) = refl
 error-foreign i (TeeRequest t) = tt
 
--- other effects than operations of transform streams
+-- other effects than operations of transform streams and of ports
 abbrev pub IsNoTransform : Effect → Type 0
 IsNoTransform (Transform t operation) = ⊥
+IsNoTransform (Port c operation) = ⊥
 IsNoTransform _ = Unit {0}
 
 -- an operation of a byte controller causes what is foreign, where it isn't that of stream i
@@ -97,15 +104,16 @@ foreign-causes : (i : StreamId) (e : Effect) → IsNoPipe e → IsNoTransform e 
 foreign-causes i (Readable j operation) n m d b f = record { pull = tt; cancel = λ r p. tt; chunk = λ r v. f; close = λ r. f; error = λ r e. f }
 foreign-causes i (Byte j operation) n m d b f = record { readable = record { pull = tt; cancel = λ r p. tt; chunk = λ r v. b; close = λ r. b; error = λ r e. b }; close_with = λ r c. tt }
 foreign-causes i (CloseStepsWith j request c) n m d b f = end-foreign i request
-foreign-causes i (Writable j operation) n m d b f = record { write = tt; close = tt; abort = λ r p. tt; hand_on = λ v. tt; take = λ v t d. tt }
+foreign-causes i (Writable j operation) n m d b f = record { write = tt; close = tt; abort = λ r p. tt; hand_on = λ v. tt; take = λ v t d. tt; post = λ v c d. tt }
 foreign-causes i (StartAlgorithm j step start) n m d b f = (λ g u. tt, λ c u. tt)
-foreign-causes i (PullAlgorithm j) n m d b f = (λ c u. tt, (λ t u. tt, (λ t. tt, λ u. tt)))
-foreign-causes i (CancelAlgorithm j r p) n m d b f = (λ c u. tt, (λ t u. tt, λ t half u. tt))
-foreign-causes i (WriteAlgorithm j) n m d b f = (tt, λ t u. tt)
-foreign-causes i (CloseAlgorithm j) n m d b f = (λ c u. tt, λ t u. tt)
-foreign-causes i (AbortAlgorithm j r p) n m d b f = (λ c u. tt, λ t u. tt)
+foreign-causes i (PullAlgorithm j) n m d b f = (λ c u. tt, (λ t u. tt, (λ t. tt, (λ u. tt, λ c. tt))))
+foreign-causes i (CancelAlgorithm j r p) n m d b f = (λ c u. tt, (λ t u. tt, (λ t half u. tt, λ c u. tt)))
+foreign-causes i (WriteAlgorithm j) n m d b f = (tt, (λ t u. tt, λ c u. tt))
+foreign-causes i (CloseAlgorithm j) n m d b f = (λ c u. tt, (λ t u. tt, λ c u. tt))
+foreign-causes i (AbortAlgorithm j r p) n m d b f = (λ c u. tt, (λ t u. tt, λ c u. tt))
 foreign-causes i (Pipe p operation) n m d b f = absurd n
 foreign-causes i (Transform t operation) n m d b f = absurd m
+foreign-causes i (Port c operation) n m d b f = absurd m
 foreign-causes i (Tee t operation) n m d b f = absurd d
 foreign-causes i (Signal a operation) n m d b f = absurd f
 foreign-causes i (ChunkSteps j request v) n m d b f = chunk-foreign i v request
@@ -151,6 +159,10 @@ transformed t operation s x = transform_operation t (halves_at x s) operation (r
 abbrev pub teed : TeeId → TeeOperation → Slots → teeing.Slots → teeing.Acts
 teed t operation s x = tee_operation t operation (record { slots = x; out = found s })
 
+-- what an operation of a port leaves
+abbrev pub ported : PortId → PortOperation → Slots → crossing.Slots → crossing.Acts
+ported c operation s x = port_operation c (clones_at x s) operation (record { slots = x; out = found s })
+
 -- K and M at a moment, where stream i has no byte controller
 pub record Kept {H V : Type 0} (seen : Effect → List V) (i : StreamId) (K : H → Holders → readable.Slots → List V → Type 0) (M : H → Holders → Type 0)
     (h : H) (o : Holders) (streams : List Stream) (es : List Effect) : Type 0 where
@@ -186,6 +198,9 @@ pub record IsLaw {H V : Type 0} (none : H) (after : H → H → H) (told : Effec
   -- and one of a transform stream
   pub transform : (t : TransformId) (operation : TransformOperation) (s : Slots) (x : transforms.Slots) (es : List Effect) → P s (Transform t operation ∷ es) → slice_get s.transforms t.0 ≡ Some x
       → (h : H) → K h (holders s) (readable_at i s) (all_seen seen es) → K h (holders s) (readable_at i s) (all_seen seen (transformed t operation s x).out.effects ++ all_seen seen es)
+  -- and one of a port
+  pub port : (c : PortId) (operation : PortOperation) (s : Slots) (x : crossing.Slots) (es : List Effect) → P s (Port c operation ∷ es) → slice_get s.ports c.0 ≡ Some x
+      → (h : H) → K h (holders s) (readable_at i s) (all_seen seen es) → K h (holders s) (readable_at i s) (all_seen seen (ported c operation s x).out.effects ++ all_seen seen es)
   -- and one of a tee
   pub tee : (t : TeeId) (operation : TeeOperation) (s : Slots) (x : teeing.Slots) (es : List Effect) → P s (Tee t operation ∷ es) → slice_get s.tees t.0 ≡ Some x
       → (h : H) → K h (holders s) (readable_at i s) (all_seen seen es)
@@ -315,6 +330,15 @@ module _ {H V : Type 0} (none : H) (after : H → H → H) (told : Effect → Sl
     held = λ c. rw (all_seen-append seen (transformed t operation s x).out.effects es) (law.transform t operation s x es known e h (rw (law.unseen (Transform t operation) tt) at k.held c));
   }
 
+  port_place : (c : PortId) (operation : PortOperation) (h : H) (s : Slots) (es : List Effect) (o : Option crossing.Slots) → slice_get s.ports c.0 ≡ o
+      → P s (Port c operation ∷ es) → Is h s (Port c operation ∷ es)
+      → let d : Done = on_port_at (λ clones. port_operation c clones operation) c s o in Is h d.slots (d.caused ++ es)
+  port_place c operation h s es None e known k = record { unmade = k.unmade; held = λ b. rw (law.unseen (Port c operation) tt) at k.held b }
+  port_place c operation h s es (Some x) e known k = record {
+    unmade = k.unmade;
+    held = λ b. rw (all_seen-append seen (ported c operation s x).out.effects es) (law.port c operation s x es known e h (rw (law.unseen (Port c operation) tt) at k.held b));
+  }
+
   tee_place : (t : TeeId) (operation : TeeOperation) (h : H) (s : Slots) (es : List Effect) (o : Option teeing.Slots) → slice_get s.tees t.0 ≡ o
       → P s (Tee t operation ∷ es) → Is h s (Tee t operation ∷ es)
       → let d : Done = on_tee_at (tee_operation t operation) t s o in Is h d.slots (d.caused ++ es)
@@ -338,6 +362,8 @@ module _ {H V : Type 0} (none : H) (after : H → H → H) (told : Effect → Sl
   row-kept h s (Signal a operation) es known k = rw (law.signal_untold a operation s, law.history.right h) (signal_place a operation h s es (slice_get s.signals a.0) k)
   row-kept h s (Transform t operation) es known k =
       rw (law.untold (Transform t operation) s tt, law.history.right h) (transform_place t operation h s es (slice_get s.transforms t.0) refl known k)
+  row-kept h s (Port c operation) es known k =
+      rw (law.untold (Port c operation) s tt, law.history.right h) (port_place c operation h s es (slice_get s.ports c.0) refl known k)
   row-kept h s (Tee t operation) es known k =
       rw (law.untold (Tee t operation) s tt, law.history.right h) (tee_place t operation h s es (slice_get s.tees t.0) refl known k)
   row-kept h s e es known k =
@@ -375,6 +401,7 @@ module _ {H V : Type 0} (none : H) (after : H → H → H) (told : Effect → Sl
         signal = λ z k. k;
         transform = λ z kind writable readable change k. k;
         tee = λ z source first second cancel k. k;
+        port = λ z side stream backpressure k. k;
         readable = λ z owner mark size k. appended (ReadableStream (readable.set_up owner mark size)) h (holders s) z (nat_eq i.0 (length z.streams)) refl k (λ c. law.made owner mark size h (holders s));
         bytes = λ z mark auto k. appended (ByteStream (byte.set_up mark auto)) h (holders s) z (nat_eq i.0 (length z.streams)) refl k (λ c. cc);
         byob_requests = λ z r k. k;

@@ -66,6 +66,20 @@ use Rattle.ws_laws.proofs.Tables.{either, same_id, readable_acts, eq_numbers, un
 use Rattle.ws_laws.proofs.TeeDoes.{TeeCauses}
 use Rattle.ws_laws.proofs.TransformDoes.{TransformCauses}
 use Rattle.ws_laws.proofs.Walker.{Stays}
+use Rattle.ws_value.specs.declared.ids.PortId.{PortId}
+use Rattle.ws_value.specs.declared.value.Message.{Message}
+use Rattle.ws_value.specs.declared.value.Message.TheVariants.{Pull as PullMessage, Chunk as ChunkMessage, Close as CloseMessage, Error as ErrorMessage}
+use Rattle.ws_value.specs.Values.{is_cloneable}
+use Rattle.ws_steps.specs.declared.port.PortOperation.{PortOperation}
+use Rattle.ws_steps.specs.declared.port.PortOperation.TheVariants as ports
+use Rattle.ws_steps.specs.declared.port.Side.{Side}
+use Rattle.ws_steps.specs.declared.port.Side.TheVariants.{Readable as ReadableSide, Writable as WritableSide}
+use Rattle.ws_steps.specs.declared.effects.Effect.TheVariants.{Port}
+use Rattle.ws_steps.specs.declared.effects.Owner.TheVariants.{EndOf}
+use Rattle.ws_steps.specs.Cross as cross
+use Rattle.ws_steps.specs.Operations.{port_operation}
+use Rattle.ws_steps.specs.Slots.{on_port_at, clones_at}
+use Rattle.ws_laws.proofs.PortDoes.{PortCauses}
 
 -- operations of a transform stream that lead to no operation of a stream
 abbrev pub is_resting : TransformOperation → Bool
@@ -167,6 +181,12 @@ Below s = (j : StreamId) (t : TeeId) (half : Half) → owner_at j s ≡ BranchOf
 row-below : (e : Effect) (s : Slots) → Below s → Below (row e s).slots
 row-below e s below = λ j t half is. rw (row-tee_shapes e s) (below j t half (sym (row-owner j e s) ∙ is))
 
+-- whether an operation of a port may do something to its stream
+abbrev pub is_going : PortOperation → Bool
+is_going (ports.WriteGoesOn d) = true
+is_going (ports.Deliver m) = true
+is_going _ = false
+
 module _ (i : StreamId) where
   -- whether stream j is stream i, or was made after it
   abbrev pub is_from : StreamId → Bool
@@ -181,6 +201,7 @@ module _ (i : StreamId) where
   pull_reaches s Host = false
   pull_reaches s (HalfOf t) = false
   pull_reaches s (BranchOf t half) = reaches (slice_get (tee_shapes s) t.0)
+  pull_reaches s (EndOf c) = false
 
   abbrev pub tee_takes : Slots → TeeId → TeeOperation → Bool
   tee_takes s t tees.PullBranch = reaches (slice_get (tee_shapes s) t.0)
@@ -199,6 +220,7 @@ module _ (i : StreamId) where
   may_take s (Signal a operation) = true
   may_take s (Transform t operation) = not_true (is_resting operation)
   may_take s (Tee t operation) = tee_takes s t operation
+  may_take s (Port c operation) = is_going operation
   may_take s _ = false
 
   -- an operation of stream i itself
@@ -255,6 +277,7 @@ module _ (i : StreamId) where
   pull-same : (s z : Slots) (owner : Owner) → tee_shapes z ≡ tee_shapes s → pull_reaches z owner ≡ pull_reaches s owner
   pull-same s z Host e = refl
   pull-same s z (HalfOf t) e = refl
+  pull-same s z (EndOf c) e = refl
   pull-same s z (BranchOf t half) e = ap (λ (bs : List TeeShape). reaches (slice_get bs t.0)) e
 
   row-may : (e f : Effect) (s : Slots) → may_take (row e s).slots f ≡ may_take s f
@@ -283,6 +306,7 @@ module _ (i : StreamId) where
   owner-pulls : (j : StreamId) (s : Slots) (owner : Owner) → owner_at j s ≡ owner → Below s → j.0 ≤ i.0 → pull_reaches s owner ≡ false
   owner-pulls j s Host is below n = refl
   owner-pulls j s (HalfOf t) is below n = refl
+  owner-pulls j s (EndOf c) is below n = refl
   owner-pulls j s (BranchOf t half) is below n = let b = below j t half is in rw b.1.0 (source-before b.0 j b.1.1 n)
 
   -- that of stream i, or of one made before it, leads to no read of it
@@ -378,6 +402,40 @@ module _ (i : StreamId) where
   pub tee-quiet : (t : TeeId) (operation : TeeOperation) (s : Slots) → tee_takes s t operation ≡ false → Each (IsQuiet s) (on_tee_at (tee_operation t operation) t s (slice_get s.tees t.0)).caused
   tee-quiet t operation s n = tee-place s t operation (slice_get s.tees t.0) refl n
 
+  -- and one of a port that does nothing to its stream
+
+  post-quiet : (z : Slots) (c : PortId) (m : Message) (a : cross.Acts) → Each (IsQuiet z) a.out.effects → Each (IsQuiet z) (cross.post c m a).out.effects
+  post-quiet z c m a h = either (λ (b : cross.Acts). Each (IsQuiet z) b.out.effects) a.slots.live (cross.posting c m a) a (λ e. h) (λ e. h)
+
+  fail-quiet : (z : Slots) (c : PortId) (m : Message) (a : cross.Acts) (clones : Bool) → Each (IsQuiet z) a.out.effects → Each (IsQuiet z) (cross.post_or_fail c m a clones).out.effects
+  fail-quiet z c m a true h = post-quiet z c m a h
+  fail-quiet z c m a false h = post-quiet z c (ErrorMessage cross.data_clone) a h
+
+  wait-quiet : (z : Slots) (c : PortId) (d : PromiseId) (p : Option PromiseId) → IsQuiet z (cross.wait_for p c d)
+  wait-quiet z c d None = refl
+  wait-quiet z c d (Some p) = refl
+
+  unblock-quiet : (z : Slots) (a : cross.Acts) (p : Option PromiseId) → Each (IsQuiet z) a.out.effects → Each (IsQuiet z) (cross.unblock_by a p).out.effects
+  unblock-quiet z a None h = h
+  unblock-quiet z a (Some p) h = h
+
+  port-does-quiet : (z : Slots) (c : PortId) (clones : Bool) (operation : PortOperation) (a : cross.Acts) → Each (IsQuiet z) a.out.effects → is_going operation ≡ false
+      → Each (IsQuiet z) (port_operation c clones operation a).out.effects
+  unfolding cross.pull cross.leave cross.close cross.write cross.post_chunk cross.unblock
+  port-does-quiet z c clones ports.Pull a h n = post-quiet z c PullMessage a h
+  port-does-quiet z c clones (ports.Leave r u) a h n = each-append (IsQuiet z) _ _ (fail-quiet z c (ErrorMessage r) a (is_cloneable r) h) (refl, tt)
+  port-does-quiet z c clones (ports.Write u) a h n = each-append (IsQuiet z) a.out.effects _ h (wait-quiet z c _ a.slots.backpressure, (refl, tt))
+  port-does-quiet z c clones (ports.WriteGoesOn d) a h n = cc
+  port-does-quiet z c clones (ports.PostChunk v d) a h n = each-append (IsQuiet z) _ _ (post-quiet z c (ChunkMessage v) a h) (refl, tt)
+  port-does-quiet z c clones (ports.Close u) a h n = each-append (IsQuiet z) _ _ (post-quiet z c CloseMessage a h) (refl, tt)
+  port-does-quiet z c clones (ports.Deliver m) a h n = cc
+  port-does-quiet z c clones ports.Unblock a h n = unblock-quiet z a a.slots.backpressure h
+
+  pub port-quiet : (z : Slots) (c : PortId) (operation : PortOperation) (s : Slots) (o : Option cross.Slots) → is_going operation ≡ false
+      → Each (IsQuiet z) (on_port_at (λ clones. port_operation c clones operation) c s o).caused
+  port-quiet z c operation s None n = tt
+  port-quiet z c operation s (Some x) n = port-does-quiet z c (clones_at x s) operation (record { slots = x; out = found s }) tt n
+
   -- an operation of a readable stream that leads to no read of stream i
 
   quiet-ends : (s : Slots) (j : StreamId) → OfEnds (λ (x : Out). Each (IsQuiet s) x.effects) j
@@ -415,6 +473,7 @@ module _ (i : StreamId) where
   pull_algorithm-quiet j u s Host n = (refl, tt)
   pull_algorithm-quiet j u s (HalfOf t) n = (refl, tt)
   pull_algorithm-quiet j u s (BranchOf t half) n = (n, (refl, tt))
+  pull_algorithm-quiet j u s (EndOf c) n = (refl, (refl, tt))
 
   row-quiet : (e : Effect) (s : Slots) → Below s → may_take s e ≡ false → Each (IsQuiet s) (row e s).caused
   unfolding row
@@ -423,10 +482,11 @@ module _ (i : StreamId) where
   row-quiet (Pipe p operation) s below n = pipe-quiet s p operation s (slice_get s.pipes p.0) (true_of (is_still operation) n)
   row-quiet (Transform t operation) s below n = transform-quiet s t operation s (slice_get s.transforms t.0) (true_of (is_resting operation) n)
   row-quiet (Tee t operation) s below n = tee-quiet t operation s n
+  row-quiet (Port c operation) s below n = port-quiet s c operation s (slice_get s.ports c.0) n
   row-quiet (PullAlgorithm j) s below n = pull_algorithm-quiet j (React (ReadablePull j) None) s (owner_at j s) n
-  row-quiet (CancelAlgorithm j r p) s below n = row-causes (IsQuiet s) (CancelAlgorithm j r p) s (λ call u. refl, (λ t u. refl, λ t half u. refl))
-  row-quiet (CloseAlgorithm j) s below n = row-causes (IsQuiet s) (CloseAlgorithm j) s (λ call u. refl, λ t u. refl)
-  row-quiet (AbortAlgorithm j r p) s below n = row-causes (IsQuiet s) (AbortAlgorithm j r p) s (λ call u. refl, λ t u. refl)
+  row-quiet (CancelAlgorithm j r p) s below n = row-causes (IsQuiet s) (CancelAlgorithm j r p) s (λ call u. refl, (λ t u. refl, (λ t half u. refl, λ c u. refl)))
+  row-quiet (CloseAlgorithm j) s below n = row-causes (IsQuiet s) (CloseAlgorithm j) s (λ call u. refl, (λ t u. refl, λ c u. refl))
+  row-quiet (AbortAlgorithm j r p) s below n = row-causes (IsQuiet s) (AbortAlgorithm j r p) s (λ call u. refl, (λ t u. refl, λ c u. refl))
   row-quiet (StartAlgorithm j step start) s below n = row-causes (IsQuiet s) (StartAlgorithm j step start) s (λ g u. refl, λ c u. refl)
   row-quiet (ChunkSteps j request v) s below n = row-causes (IsQuiet s) (ChunkSteps j request v) s (chunk-quiet s v request)
   row-quiet (CloseStepsWith j request b) s below n = row-causes (IsQuiet s) (CloseStepsWith j request b) s (end-quiet s request)
@@ -454,6 +514,11 @@ module _ (i : StreamId) where
   tee-calm t source first second (CloseStepsWith j request b) c = absurd c
   tee-calm t source first second _ c = tt
 
+  pub port-calm : (c : PortId) (stream : StreamId) (e : Effect) → PortCauses c stream e → IsNoGift e
+  port-calm c stream (ChunkSteps j request v) k = absurd k
+  port-calm c stream (CloseStepsWith j request b) k = absurd k
+  port-calm c stream _ k = tt
+
   pub signal-calm : (operation : SignalOperation) → SignalCauses IsNoGift operation
   signal-calm (Add p) = tt
   signal-calm (Forget p) = tt
@@ -470,13 +535,14 @@ module _ (i : StreamId) where
   row-calm : (e : Effect) (s : Slots) → may_take s e ≡ true → is_own e ≡ false → Calm (row e s).caused
   row-calm (Readable j operation) s m n = row-causes IsNoGift (Readable j operation) s (record { pull = tt; cancel = λ r p. tt; chunk = λ r v. n; close = λ r. tt; error = λ r e. tt })
   row-calm (Byte j operation) s m n = let wrong : true ≡ false = sym m ∙ n in cc
-  row-calm (Writable j operation) s m n = row-causes IsNoGift (Writable j operation) s (record { write = tt; close = tt; abort = λ r p. tt; hand_on = λ v. tt; take = λ v t d. tt })
-  row-calm (PullAlgorithm j) s m n = row-causes IsNoGift (PullAlgorithm j) s (λ c u. tt, (λ t u. tt, (λ t. tt, λ u. tt)))
-  row-calm (WriteAlgorithm j) s m n = row-causes IsNoGift (WriteAlgorithm j) s (tt, λ t u. tt)
+  row-calm (Writable j operation) s m n = row-causes IsNoGift (Writable j operation) s (record { write = tt; close = tt; abort = λ r p. tt; hand_on = λ v. tt; take = λ v t d. tt; post = λ v c d. tt })
+  row-calm (PullAlgorithm j) s m n = row-causes IsNoGift (PullAlgorithm j) s (λ c u. tt, (λ t u. tt, (λ t. tt, (λ u. tt, λ c. tt))))
+  row-calm (WriteAlgorithm j) s m n = row-causes IsNoGift (WriteAlgorithm j) s (tt, (λ t u. tt, λ c u. tt))
   row-calm (Pipe p operation) s m n = row-causes IsNoGift (Pipe p operation) s (pipe-calm p)
   row-calm (Signal a operation) s m n = row-causes IsNoGift (Signal a operation) s (signal-calm operation)
   row-calm (Transform t operation) s m n = row-causes IsNoGift (Transform t operation) s (transform-calm t)
   row-calm (Tee t operation) s m n = row-causes IsNoGift (Tee t operation) s (tee-calm t)
+  row-calm (Port c operation) s m n = row-causes IsNoGift (Port c operation) s (port-calm c)
   row-calm _ s m n = cc
 
   -- each effect keeps the order
@@ -576,6 +642,10 @@ module _ (s : Slots) (source : StreamId) (there : has_readable source s ≡ true
   tee-below : Below Made
   tee-below = λ j t half is. made-by j t half (nat_eq j.0 (length s.streams)) (nat_eq j.0 (length One)) refl refl is
 
+port-below : (s : Slots) (side : Side) (i : StreamId) → Below s → Below (calls.add_port i s side)
+port-below s ReadableSide i k = added-below s (calls.end_of (record { 0 = length s.ports }) ReadableSide) (λ t half e. cc) k
+port-below s WritableSide i k = added-below s (calls.end_of (record { 0 = length s.ports }) WritableSide) (λ t half e. cc) k
+
 call-below : (c : Call) (s : Slots) → Below s → Below (begin c s).done.slots
 call-below c s k = each_call (λ (b : Begun). Below b.done.slots) c s (record {
   unchanged = λ reply. k;
@@ -613,6 +683,10 @@ call-below c s k = each_call (λ (b : Begun). Below b.done.slots) c s (record {
   terminate = λ t. k;
   pipe = λ source dest prevent signal e f l m. k;
   make_signal = k;
+  open_end = λ side. port-below s side (record { 0 = length s.streams }) k;
+  send_readable = λ i there free. port-below s WritableSide (record { 0 = length s.streams }) k;
+  send_writable = λ i there free. port-below s ReadableSide (record { 0 = length s.streams }) k;
+  deliver = λ p m e is. k;
   trigger = λ a reason. k;
   settle = λ a answer p e. k;
 })

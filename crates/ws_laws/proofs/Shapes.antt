@@ -2,6 +2,7 @@
 -- each transform stream, and the source and the two branches of each tee. So each half of a transform stream is its own, and each branch of a tee.
 use Rattle.std.proofs.Common.{◌≡◌, ℕ, zero, suc, List, [], ◌∷◌, map, Option, Some, None, Ok, Err, slice_get, slice_set, refl, sym, ap, ◌∙◌, arith}
 use Rattle.ws_value.specs.declared.ids.PipeId.{PipeId}
+use Rattle.ws_value.specs.declared.ids.PortId.{PortId}
 use Rattle.ws_value.specs.declared.ids.PromiseId.{PromiseId}
 use Rattle.ws_value.specs.declared.ids.SignalId.{SignalId}
 use Rattle.ws_value.specs.declared.ids.StreamId.{StreamId}
@@ -10,7 +11,7 @@ use Rattle.ws_value.specs.declared.value.Plain.{Plain}
 use Rattle.ws_value.specs.declared.value.Value.{Value}
 use Rattle.ws_steps.specs.declared.byte.ByteOperation.{ByteOperation}
 use Rattle.ws_steps.specs.declared.effects.Effect.{Effect}
-use Rattle.ws_steps.specs.declared.effects.Effect.TheVariants.{Readable as OnReadable, Byte, Writable as OnWritable, Pipe, Signal, Transform, Tee, StartAlgorithm, ChunkSteps, CloseSteps, CloseStepsWith, ErrorSteps}
+use Rattle.ws_steps.specs.declared.effects.Effect.TheVariants.{Readable as OnReadable, Byte, Writable as OnWritable, Pipe, Signal, Transform, Tee, Port, StartAlgorithm, ChunkSteps, CloseSteps, CloseStepsWith, ErrorSteps}
 use Rattle.ws_steps.specs.declared.calls.StartBy.TheVariants.{Now, Later}
 use Rattle.ws_steps.specs.declared.effects.Owner.{Owner}
 use Rattle.ws_steps.specs.declared.effects.Owner.TheVariants.{Host}
@@ -26,14 +27,16 @@ use Rattle.ws_steps.specs.declared.transform.TransformId.{TransformId}
 use Rattle.ws_steps.specs.declared.transform.TransformOperation.{TransformOperation}
 use Rattle.ws_steps.specs.declared.writable.WritableOperation.{WritableOperation}
 use Rattle.ws_steps.specs.declared.writable.WritableOperation.TheVariants as writes
-use Rattle.ws_steps.specs.Operations.{readable_operation, byte_readable_operation, byte_operation, writable_operation, pipe_operation, signal_operation, transform_operation, tee_operation}
+use Rattle.ws_steps.specs.Operations.{readable_operation, byte_readable_operation, byte_operation, writable_operation, pipe_operation, signal_operation, transform_operation, tee_operation, port_operation}
 use Rattle.ws_steps.specs.Bytes as byte
 use Rattle.ws_steps.specs.Pipes as pipe
 use Rattle.ws_steps.specs.Readable as readable
 use Rattle.ws_steps.specs.Tee as tee
+use Rattle.ws_steps.specs.Cross as cross
+use Rattle.ws_steps.specs.declared.port.PortOperation.{PortOperation}
 use Rattle.ws_steps.specs.Transform as transform
 use Rattle.ws_steps.specs.Writable as writable
-use Rattle.ws_steps.specs.Slots.{Slots, Stream, ReadableStream, ByteStream, WritableStream, Done, on_readable, on_byte, has_byte, byte_at, put_byte, found, halves_at, on_pipe_at, on_signal_at, on_transform_at, on_tee_at, has_readable, has_writable, readable_at, writable_at, nothing, owner_of, owner_at, put_readable, put_writable}
+use Rattle.ws_steps.specs.Slots.{Slots, Stream, ReadableStream, ByteStream, WritableStream, Done, on_readable, on_byte, has_byte, byte_at, put_byte, found, halves_at, on_pipe_at, on_signal_at, on_transform_at, on_tee_at, on_port_at, has_readable, has_writable, readable_at, writable_at, nothing, owner_of, owner_at, put_readable, put_writable}
 use Rattle.ws_steps.specs.Turns.{row, call_host}
 use Rattle.ws_laws.proofs.Tables.{either, readable_acts, byte_acts, writable_acts, readable_there, byte_there, writable_there}
 use Rattle.ws_laws.proofs.Rows.{row-streams, row-tees, byte-leaves, source-leaves}
@@ -213,6 +216,10 @@ tee-transforms : (t : TeeId) (operation : TeeOperation) (s : Slots) (o : Option 
 tee-transforms t operation s None = refl
 tee-transforms t operation s (Some x) = refl
 
+port-transforms : (c : PortId) (operation : PortOperation) (s : Slots) (o : Option cross.Slots) → (on_port_at (λ clones. port_operation c clones operation) c s o).slots.transforms ≡ s.transforms
+port-transforms c operation s None = refl
+port-transforms c operation s (Some x) = refl
+
 pub row-transform_shapes : (e : Effect) (s : Slots) → transform_shapes (row e s).slots ≡ transform_shapes s
 unfolding row call_host
 row-transform_shapes (OnReadable i operation) s = source-leaves (λ z. transform_shapes z) (λ z x o. refl) i operation s
@@ -223,6 +230,7 @@ row-transform_shapes (Pipe p operation) s = ap (map transform_shape) (pipe-trans
 row-transform_shapes (Signal a operation) s = ap (map transform_shape) (signal-transforms a operation s (slice_get s.signals a.0))
 row-transform_shapes (Transform t operation) s = transform-shape t operation s (slice_get s.transforms t.0) refl
 row-transform_shapes (Tee t operation) s = ap (map transform_shape) (tee-transforms t operation s (slice_get s.tees t.0))
+row-transform_shapes (Port c operation) s = ap (map transform_shape) (port-transforms c operation s (slice_get s.ports c.0))
 row-transform_shapes (StartAlgorithm i step Now) s = refl
 row-transform_shapes (StartAlgorithm i step Later) s = refl
 row-transform_shapes (ChunkSteps i (Promise p) v) s = refl

@@ -36,6 +36,7 @@ module _ (before : Table) where
     signal = λ s k. k;
     transform = λ s x i j p k. k;
     tee = λ s x i j p k. k;
+    port = λ s side i p k. k;
     readable = λ s o m b k. k;
     bytes = λ s m a k. k;
     byob_requests = λ s r k. k;

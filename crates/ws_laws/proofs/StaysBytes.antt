@@ -47,6 +47,7 @@ module _ (i : StreamId) where
     signal = λ z k. k;
     transform = λ z kind w r p k. k;
     tee = λ z source first second p k. k;
+    port = λ z side stream p k. k;
     readable = λ z owner mark size k. there-stays z.streams _ i.0 k;
     bytes = λ z mark auto k. there-stays z.streams _ i.0 k;
     byob_requests = λ z r k. k;

@@ -52,6 +52,10 @@ throws_nothing c s calm = each_call (Idle s) c s (record {
   fail_writable = λ i reason t h. cc;
   pipe = λ source dest prevent signal e f l m t h. cc;
   make_signal = λ t h. cc;
+  open_end = λ side t h. cc;
+  send_readable = λ i there free t h. cc;
+  send_writable = λ i there free t h. cc;
+  deliver = λ p m e is t h. cc;
   trigger = λ a reason t h. cc;
   settle = λ a answer p e t h. cc;
 })

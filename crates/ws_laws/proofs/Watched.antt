@@ -175,6 +175,7 @@ begin-grows c s = begin-makes (λ z. Grows s.promises z.promises) (record {
   signal = λ z k. k;
   transform = λ z kind i j p k. k;
   tee = λ z i j l p k. k;
+  port = λ z side i p k. k;
   readable = λ z owner mark size k. k;
   bytes = λ z mark auto k. k;
   byob_requests = λ z r k. k;

@@ -2,13 +2,15 @@
 -- algorithms of this stream and the call of the host's write algorithm.
 use Rattle.std.proofs.Common.{Bool, true, false, not, ◌&&◌, ◌||◌, is_none, List, [], ◌∷◌, Option, Some, None, Result, Ok, Err, if◌then◌else◌}
 use Rattle.ws_value.specs.declared.ids.PromiseId.{PromiseId}
+use Rattle.ws_value.specs.declared.ids.PortId.{PortId}
 use Rattle.ws_value.specs.declared.ids.StreamId.{StreamId}
 use Rattle.ws_value.specs.declared.value.Plain.{Plain}
 use Rattle.ws_value.specs.declared.value.Plain.TheVariants.{Undefined}
 use Rattle.ws_value.specs.declared.value.Value.{Value}
-use Rattle.ws_steps.specs.declared.{calls.Event.TheVariants.{Signal}, effects.Effect.TheVariants.{Transform as OnTransform, WriteAlgorithm, CloseAlgorithm, AbortAlgorithm}, effects.Owner.{Owner}}
-use Rattle.ws_steps.specs.declared.{effects.Owner.TheVariants.{Host, HalfOf, BranchOf}, writable.PendingAbort.{PendingAbort}, writable.WritableOperation.{WritableOperation}}
-use Rattle.ws_steps.specs.declared.{transform.Taker.{Taker}, transform.Taker.TheVariants.{ToHost, ToTransform}, transform.TransformId.{TransformId}, transform.TransformOperation.TheVariants.{TransformChunk}}
+use Rattle.ws_steps.specs.declared.{calls.Event.TheVariants.{Signal}, effects.Effect.TheVariants.{Transform as OnTransform, Port as OnPort, WriteAlgorithm, CloseAlgorithm, AbortAlgorithm}, effects.Owner.{Owner}}
+use Rattle.ws_steps.specs.declared.{effects.Owner.TheVariants.{Host, HalfOf, BranchOf, EndOf}, writable.PendingAbort.{PendingAbort}, writable.WritableOperation.{WritableOperation}}
+use Rattle.ws_steps.specs.declared.{transform.Taker.{Taker}, transform.Taker.TheVariants.{ToHost, ToTransform, ToPort}, transform.TransformId.{TransformId}, transform.TransformOperation.TheVariants.{TransformChunk}}
+use Rattle.ws_steps.specs.declared.port.PortOperation.TheVariants.{PostChunk}
 use Rattle.ws_steps.specs.declared.writable.WritableOperation.TheVariants as names
 use Rattle.ws_steps.specs.declared.{writable.WritableState.{WritableState}, writable.WritableState.TheVariants.{Writable, Erroring, Errored, Closed}, writable.WriteRecord.{WriteRecord}}
 use Rattle.ws_steps.specs.declared.{writable.WriteRecord.TheVariants.{Chunk, InFlight, CloseMark}, writable.Writer.{Writer}}
@@ -28,7 +30,7 @@ pub record OfAlgorithms (Q : Out → Type 0) (i : StreamId) : Type 0 where
   pub close : (x : Out) → Q x → Q (cause (CloseAlgorithm i) x)
   pub abort : (x : Out) (r : Plain) (p : PromiseId) → Q x → Q (cause (AbortAlgorithm i r p) x)
 
--- and with the handing on of a chunk, to the host or to a transform stream
+-- and with the handing on of a chunk, to the host, to a transform stream or to a port
 pub record OfWritable (Q : Out → Type 0) (i : StreamId) : Type 0 where
   pub settle : (x : Out) (p : PromiseId) (o : Result Plain Plain) → Q x → Q (settling p o x)
   pub fresh : (x : Out) → Q x → Q (record x { promises = fresh x.promises })
@@ -38,6 +40,7 @@ pub record OfWritable (Q : Out → Type 0) (i : StreamId) : Type 0 where
   pub abort : (x : Out) (r : Plain) (p : PromiseId) → Q x → Q (cause (AbortAlgorithm i r p) x)
   pub hand_on : (x : Out) (v : Value) → Q x → Q (cause (write_to_host i v) x)
   pub take : (x : Out) (v : Value) (t : TransformId) (d : PromiseId) → Q x → Q (cause (OnTransform t (TransformChunk v d)) x)
+  pub post : (x : Out) (v : Value) (c : PortId) (d : PromiseId) → Q x → Q (cause (OnPort c (PostChunk v d)) x)
 
 abbrev pub IsHandOn : WritableOperation → Type 0
 IsHandOn (names.HandOn taker) = Unit {0}
@@ -180,6 +183,7 @@ module _ (Q : Out → Type 0) (i : StreamId) (of : OfAlgorithms Q i) where
   signalled-does r a Host h = of.tell a.out r h
   signalled-does r a (HalfOf t) h = h
   signalled-does r a (BranchOf t half) h = h
+  signalled-does r a (EndOf c) h = h
 
   abort-does : (r : Plain) (p : PromiseId) (a : Acts) → Does a (begin_abort i r p a)
   abort-does r p a h =
@@ -262,6 +266,7 @@ module _ (Q : Out → Type 0) (i : StreamId) (of : OfWritable Q i) where
   hand_on-does taker a None h = h
   hand_on-does ToHost a (Some (Chunk v)) h = of.hand_on a.out v h
   hand_on-does (ToTransform t d) a (Some (Chunk v)) h = of.take a.out v t d h
+  hand_on-does (ToPort c d) a (Some (Chunk v)) h = of.post a.out v c d h
   hand_on-does taker a (Some InFlight) h = h
   hand_on-does taker a (Some CloseMark) h = h
 
