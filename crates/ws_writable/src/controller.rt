@@ -1,16 +1,19 @@
 //! The operations of the default controller.
 ghost use Rattle.std.specs.Prelude.{◌≡◌};
 ghost use Rattle.ws_promise.specs.Seen.{HasEffectRoom, Seen};
+ghost use Rattle.ws_steps.specs.Cross.{clones_first};
 ghost use Rattle.ws_steps.specs.Queues.{first_value};
 ghost use Rattle.ws_steps.specs.Writable as rows;
 ghost use Rattle.ws_writable.specs.Seen.{HasQueueRoom, acts_of, is_chunk};
 
 use crate::Writable;
 use ws_promise::{Agenda, Promises};
-use ws_steps::{Effect, HostCall, Step, Taker, TransformOperation, Use, WriteRecord};
+use ws_steps::{
+    Effect, HostCall, PortOperation, Step, Taker, TransformOperation, Use, WriteRecord,
+};
 use ws_value::{StreamId, Value};
 
-/// A chunk is taken: the host's write algorithm is called with it, or a transform algorithm is performed.
+/// A chunk is taken: the host's write algorithm is called with it, a transform algorithm is performed, or it is posted.
 fn taken_by(me: StreamId, chunk: Value, taker: Taker) -> Effect
     ensures { result ≡ rows.taken_by me chunk taker }
 {
@@ -22,6 +25,7 @@ fn taken_by(me: StreamId, chunk: Value, taker: Taker) -> Effect
         Taker::ToTransform(t, promise) => {
             Effect::Transform(t, TransformOperation::TransformChunk(chunk, promise))
         }
+        Taker::ToPort(c, promise) => Effect::Port(c, PortOperation::PostChunk(chunk, promise)),
     }
 }
 
@@ -70,6 +74,18 @@ impl Writable {
         ensures { result ≡ is_chunk (first_value self.now.slots.queue) }
     {
         matches!(self.queue.first(), Some(WriteRecord::Chunk(_)))
+    }
+
+    /// Whether the chunk at the front of the queue can be sent in a message; where there is none, nothing can fail.
+    pub fn first_clones(&self) -> bool
+        ensures { result ≡ clones_first (first_value self.now.slots.queue) }
+    {
+        match self.queue.first() {
+            None => true,
+            Some(WriteRecord::Chunk(chunk)) => chunk.cloneable(),
+            Some(WriteRecord::InFlight) => true,
+            Some(WriteRecord::CloseMark) => true,
+        }
     }
 
     /// The chunk at the front of the queue is handed on. Its place, with its size, stays.

@@ -258,7 +258,7 @@ impl Writable {
         self.start_erroring(me, p, fx, reason);
     }
 
-    /// The host's sink hears of its first abort by a signal; nobody does for the half of a transform stream.
+    /// The host's sink hears of its first abort by a signal; nobody does for the half of a transform stream, or the end of a port.
     fn signal(&mut self, me: StreamId, p: &mut Promises, reason: Plain)
         requires event_room { HasEventRoom 1 p.old }
         ensures row { (fx : SeenAgenda) → acts_of self.new p.new fx
@@ -271,6 +271,7 @@ impl Writable {
             Owner::Host => p.tell(Event::Signal { stream: me, reason }),
             Owner::HalfOf(_) => {}
             Owner::BranchOf(_, _) => {}
+            Owner::EndOf(_) => {}
         }
     }
 
