@@ -1,5 +1,8 @@
 -- A byte stream that isn't readable stays what it is, and performs no chunk steps.
 use Rattle.std.proofs.Common.{◌≡◌, ℕ, Bool, true, false, not, ◌&&◌, if◌then◌else◌, List, [], ◌∷◌, ◌++◌, length, take, drop, Option, slice_get, refl, sym, ap, ◌∙◌, append_assoc, append-nil, arith}
+use Rattle.ws_laws.proofs.PortDoes.{PortCauses}
+use Rattle.ws_steps.specs.declared.effects.Effect.TheVariants.{Port}
+use Rattle.ws_value.specs.declared.ids.PortId.{PortId}
 use Rattle.ws_value.specs.declared.ids.TeeId.{TeeId}
 use Rattle.std.specs.Prelude.{is_none, Ok, Err}
 use Rattle.ws_value.specs.declared.ids.PromiseId.{PromiseId}
@@ -261,6 +264,10 @@ module _ (i : StreamId) (state : ReadableState) (ended : readable.is_readable st
   tee_of t source first second (ChunkSteps j q v) c = absurd c
   tee_of t source first second _ c = tt
 
+  port_of : (c : PortId) (stream : StreamId) (e : Effect) → PortCauses c stream e → IsNoChunkOf i e
+  port_of c stream (ChunkSteps j q v) k = absurd k
+  port_of c stream _ k = tt
+
   signal_of : (operation : SignalOperation) → SignalCauses (IsNoChunkOf i) operation
   signal_of (Add p) = tt
   signal_of (Forget p) = tt
@@ -306,7 +313,7 @@ module _ (i : StreamId) (state : ReadableState) (ended : readable.is_readable st
   unfolding row
   writable-kept j op s h =
       left (Writable j op) s h (on_writable-look as_byte (λ b c. refl) (writable_operation j op) j s i (is_same i j) refl)
-      (row-causes (IsNoChunkOf i) (Writable j op) s (record { write = tt; close = tt; abort = λ r p. tt; hand_on = λ v. tt; take = λ v t d. tt }))
+      (row-causes (IsNoChunkOf i) (Writable j op) s (record { write = tt; close = tt; abort = λ r p. tt; hand_on = λ v. tt; take = λ v t d. tt; post = λ v c d. tt }))
 
   row-kept : (e : Effect) (s : realm.Slots) → IsSound i s → HasEndedAt s → Kept (row e s)
   row-kept (OnReadable j op) s k h = readable-kept j op s (is_same i j) refl h
@@ -316,12 +323,13 @@ module _ (i : StreamId) (state : ReadableState) (ended : readable.is_readable st
   row-kept (Signal a op) s k h = apart-kept (Signal a op) s tt h (row-causes (IsNoChunkOf i) (Signal a op) s (signal_of op))
   row-kept (Transform t op) s k h = apart-kept (Transform t op) s tt h (row-causes (IsNoChunkOf i) (Transform t op) s (transform_of t))
   row-kept (Tee t op) s k h = apart-kept (Tee t op) s tt h (row-causes (IsNoChunkOf i) (Tee t op) s (tee_of t))
+  row-kept (Port c op) s k h = apart-kept (Port c op) s tt h (row-causes (IsNoChunkOf i) (Port c op) s (port_of c))
   row-kept (StartAlgorithm j step start) s k h = apart-kept (StartAlgorithm j step start) s tt h (row-causes (IsNoChunkOf i) (StartAlgorithm j step start) s (λ g u. tt, λ c u. tt))
-  row-kept (PullAlgorithm j) s k h = apart-kept (PullAlgorithm j) s tt h (row-causes (IsNoChunkOf i) (PullAlgorithm j) s (λ c u. tt, (λ t u. tt, (λ t. tt, λ u. tt))))
-  row-kept (CancelAlgorithm j r p) s k h = apart-kept (CancelAlgorithm j r p) s tt h (row-causes (IsNoChunkOf i) (CancelAlgorithm j r p) s (λ c u. tt, (λ t u. tt, λ t half u. tt)))
-  row-kept (WriteAlgorithm j) s k h = apart-kept (WriteAlgorithm j) s tt h (row-causes (IsNoChunkOf i) (WriteAlgorithm j) s (tt, λ t u. tt))
-  row-kept (CloseAlgorithm j) s k h = apart-kept (CloseAlgorithm j) s tt h (row-causes (IsNoChunkOf i) (CloseAlgorithm j) s (λ c u. tt, λ t u. tt))
-  row-kept (AbortAlgorithm j r p) s k h = apart-kept (AbortAlgorithm j r p) s tt h (row-causes (IsNoChunkOf i) (AbortAlgorithm j r p) s (λ c u. tt, λ t u. tt))
+  row-kept (PullAlgorithm j) s k h = apart-kept (PullAlgorithm j) s tt h (row-causes (IsNoChunkOf i) (PullAlgorithm j) s (λ c u. tt, (λ t u. tt, (λ t. tt, (λ u. tt, λ c. tt)))))
+  row-kept (CancelAlgorithm j r p) s k h = apart-kept (CancelAlgorithm j r p) s tt h (row-causes (IsNoChunkOf i) (CancelAlgorithm j r p) s (λ c u. tt, (λ t u. tt, (λ t half u. tt, λ q u. tt))))
+  row-kept (WriteAlgorithm j) s k h = apart-kept (WriteAlgorithm j) s tt h (row-causes (IsNoChunkOf i) (WriteAlgorithm j) s (tt, (λ t u. tt, λ q u. tt)))
+  row-kept (CloseAlgorithm j) s k h = apart-kept (CloseAlgorithm j) s tt h (row-causes (IsNoChunkOf i) (CloseAlgorithm j) s (λ c u. tt, (λ t u. tt, λ q u. tt)))
+  row-kept (AbortAlgorithm j r p) s k h = apart-kept (AbortAlgorithm j r p) s tt h (row-causes (IsNoChunkOf i) (AbortAlgorithm j r p) s (λ c u. tt, (λ t u. tt, λ q u. tt)))
   row-kept (ChunkSteps j q v) s k h = apart-kept (ChunkSteps j q v) s tt h (row-causes (IsNoChunkOf i) (ChunkSteps j q v) s (chunk_of v q))
   row-kept (CloseSteps j q) s k h = apart-kept (CloseSteps j q) s tt h (row-causes (IsNoChunkOf i) (CloseSteps j q) s (end_of q))
   row-kept (CloseStepsWith j q b) s k h = apart-kept (CloseStepsWith j q b) s tt h (row-causes (IsNoChunkOf i) (CloseStepsWith j q b) s (end_of q))

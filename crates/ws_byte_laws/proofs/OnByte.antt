@@ -1,6 +1,8 @@
 -- A law of a byte stream's record, of what has gone through it, and of the bytes that are still to be given: what each operation keeps, each
 -- effect, each step and each run keeps.
 use Rattle.std.proofs.Common.{◌≡◌, ℕ, zero, suc, Bool, true, false, ◌&&◌, ◌||◌, List, [], ◌∷◌, ◌++◌, map, length, Option, Some, None, nat_eq, slice_get, le-ltb, arith, refl, sym, ap, ◌∙◌, append_assoc, append-nil, if◌then◌else◌}
+use Rattle.ws_laws.proofs.Order.{port-calm}
+use Rattle.ws_steps.specs.declared.effects.Effect.TheVariants.{Port}
 use Rattle.std.specs.Prelude.{is_some, is_none}
 use Rattle.ws_steps.specs.Effects.{Out, cause}
 use Rattle.ws_steps.specs.Promises.{Table}
@@ -121,17 +123,18 @@ error_still i (TeeRequest t) = tt
 pub still-calm : (i : StreamId) (e : Effect) (s : realm.Slots) → IsStill e → Calm i (row e s).caused
 still-calm i (OnReadable j op) s n = absurd n
 still-calm i (Byte j op) s n = absurd n
-still-calm i (Writable j op) s n = row-causes (IsNoGift i) (Writable j op) s (record { write = tt; close = tt; abort = λ r p. tt; hand_on = λ v. tt; take = λ v t d. tt })
+still-calm i (Writable j op) s n = row-causes (IsNoGift i) (Writable j op) s (record { write = tt; close = tt; abort = λ r p. tt; hand_on = λ v. tt; take = λ v t d. tt; post = λ v c d. tt })
 still-calm i (Pipe p op) s n = row-causes (IsNoGift i) (Pipe p op) s (pipe-calm i p)
 still-calm i (Signal a op) s n = row-causes (IsNoGift i) (Signal a op) s (signal-calm i op)
 still-calm i (Transform t op) s n = row-causes (IsNoGift i) (Transform t op) s (transform-calm i t)
 still-calm i (Tee t op) s n = row-causes (IsNoGift i) (Tee t op) s (tee-calm i t)
+still-calm i (Port c op) s n = row-causes (IsNoGift i) (Port c op) s (port-calm i c)
 still-calm i (StartAlgorithm j step start) s n = row-causes (IsNoGift i) (StartAlgorithm j step start) s (λ g u. tt, λ c u. tt)
-still-calm i (PullAlgorithm j) s n = row-causes (IsNoGift i) (PullAlgorithm j) s (λ c u. tt, (λ t u. tt, (λ t. tt, λ u. tt)))
-still-calm i (CancelAlgorithm j r p) s n = row-causes (IsNoGift i) (CancelAlgorithm j r p) s (λ c u. tt, (λ t u. tt, λ t half u. tt))
-still-calm i (WriteAlgorithm j) s n = row-causes (IsNoGift i) (WriteAlgorithm j) s (tt, λ t u. tt)
-still-calm i (CloseAlgorithm j) s n = row-causes (IsNoGift i) (CloseAlgorithm j) s (λ c u. tt, λ t u. tt)
-still-calm i (AbortAlgorithm j r p) s n = row-causes (IsNoGift i) (AbortAlgorithm j r p) s (λ c u. tt, λ t u. tt)
+still-calm i (PullAlgorithm j) s n = row-causes (IsNoGift i) (PullAlgorithm j) s (λ c u. tt, (λ t u. tt, (λ t. tt, (λ u. tt, λ c. tt))))
+still-calm i (CancelAlgorithm j r p) s n = row-causes (IsNoGift i) (CancelAlgorithm j r p) s (λ c u. tt, (λ t u. tt, (λ t half u. tt, λ q u. tt)))
+still-calm i (WriteAlgorithm j) s n = row-causes (IsNoGift i) (WriteAlgorithm j) s (tt, (λ t u. tt, λ q u. tt))
+still-calm i (CloseAlgorithm j) s n = row-causes (IsNoGift i) (CloseAlgorithm j) s (λ c u. tt, (λ t u. tt, λ q u. tt))
+still-calm i (AbortAlgorithm j r p) s n = row-causes (IsNoGift i) (AbortAlgorithm j r p) s (λ c u. tt, (λ t u. tt, λ q u. tt))
 still-calm i (ChunkSteps j q v) s n = row-causes (IsNoGift i) (ChunkSteps j q v) s (chunk_still i v q)
 still-calm i (CloseSteps j q) s n = row-causes (IsNoGift i) (CloseSteps j q) s (end_still i q)
 still-calm i (CloseStepsWith j q b) s n = row-causes (IsNoGift i) (CloseStepsWith j q b) s (end_still i q)
@@ -427,6 +430,7 @@ module _ (i : StreamId) (K : ByteFlow → byte.Slots → List ℕ → Type 0) (l
     signal = λ z k. k;
     transform = λ z kind writable readable change k. k;
     tee = λ z source first second cancel k. k;
+    port = λ z side stream backpressure k. k;
     readable = λ z owner mark size k. appended (ReadableStream (readable.set_up owner mark size)) h z.streams (nat_eq i.0 (length z.streams)) refl k (λ c. cc);
     bytes = λ z mark auto k. appended (ByteStream (byte.set_up mark auto)) h z.streams (nat_eq i.0 (length z.streams)) refl k (λ c f. made mark auto h f);
     byob_requests = λ z r k. k;

@@ -135,6 +135,7 @@ module _ (i : StreamId) where
     signal = λ z k. k;
     transform = λ z kind writable readable change k. k;
     tee = λ z source first second cancel k. k;
+    port = λ z side stream backpressure k. k;
     readable = λ z owner mark size k. appended (ReadableStream (readable.set_up owner mark size)) z.streams (nat_eq i.0 (length z.streams)) refl k (λ c. cc);
     bytes = λ z mark auto k. appended (ByteStream (byte.set_up mark auto)) z.streams (nat_eq i.0 (length z.streams)) refl k (λ c. new_sound mark auto);
     byob_requests = λ z r k. k;

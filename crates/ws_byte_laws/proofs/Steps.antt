@@ -1,5 +1,8 @@
 -- One step of a byte stream.
 use Rattle.std.proofs.Common.{◌≡◌, ◌≢◌, ◌⊎◌, inl, inr, ℕ, zero, suc, Bool, true, false, List, [], ◌∷◌, ◌++◌, Option, Some, None, slice_get, refl, sym, ap, ◌∙◌, append_assoc, append-nil, ◌&&◌, ◌||◌, arith, if◌then◌else◌}
+use Rattle.ws_laws.proofs.PortDoes.{PortCauses}
+use Rattle.ws_steps.specs.declared.effects.Effect.TheVariants.{Port}
+use Rattle.ws_value.specs.declared.ids.PortId.{PortId}
 use Rattle.ws_steps.specs.ByteHistory.{kept, ByteFlow, no_bytes, bytes_then, entered_by, cancels, responds, shared_bytes, own_bytes, effect_bytes, step_bytes, run_bytes, value_bytes}
 use Rattle.ws_steps.specs.Operations.{byte_readable_operation, byte_operation}
 use Rattle.ws_steps.specs.declared.readable.ReadableState.TheVariants.{Readable}
@@ -62,6 +65,7 @@ module _ (i : StreamId) where
     signal = λ z k. k;
     transform = λ z kind w r p k. k;
     tee = λ z source first second cancel k. k;
+    port = λ z side stream backpressure k. k;
     readable = λ z owner mark size k. place_stays z.streams _ x i.0 k;
     bytes = λ z mark auto k. place_stays z.streams _ x i.0 k;
     byob_requests = λ z r k. k;
@@ -150,6 +154,10 @@ tee_other : (t : TeeId) (source first second : StreamId) (e : Effect) → TeeCau
 tee_other t source first second (Byte j op) c = absurd c
 tee_other t source first second _ c = tt
 
+port_other : (c : PortId) (stream : StreamId) (e : Effect) → PortCauses c stream e → IsNoByte e
+port_other c stream (Byte j op) k = absurd k
+port_other c stream _ k = tt
+
 signal_other : (operation : SignalOperation) → SignalCauses IsNoByte operation
 signal_other (Add p) = tt
 signal_other (Forget p) = tt
@@ -159,17 +167,18 @@ signal_other (Trigger r) = λ p. tt
 pub row-other : (e : Effect) (s : realm.Slots) → Each IsNoByte (row e s).caused
 row-other (OnReadable j op) s = row-causes IsNoByte (OnReadable j op) s (record { pull = tt; cancel = λ r p. tt; chunk = λ r v. tt; close = λ r. tt; error = λ r e. tt })
 row-other (Byte j op) s = row-causes IsNoByte (Byte j op) s (record { readable = record { pull = tt; cancel = λ r p. tt; chunk = λ r v. tt; close = λ r. tt; error = λ r e. tt }; close_with = λ r b. tt })
-row-other (Writable j op) s = row-causes IsNoByte (Writable j op) s (record { write = tt; close = tt; abort = λ r p. tt; hand_on = λ v. tt; take = λ v t d. tt })
+row-other (Writable j op) s = row-causes IsNoByte (Writable j op) s (record { write = tt; close = tt; abort = λ r p. tt; hand_on = λ v. tt; take = λ v t d. tt; post = λ v c d. tt })
 row-other (Pipe p op) s = row-causes IsNoByte (Pipe p op) s (pipe_other p)
 row-other (Signal a op) s = row-causes IsNoByte (Signal a op) s (signal_other op)
 row-other (Transform t op) s = row-causes IsNoByte (Transform t op) s (transform_other t)
 row-other (Tee t op) s = row-causes IsNoByte (Tee t op) s (tee_other t)
+row-other (Port c op) s = row-causes IsNoByte (Port c op) s (port_other c)
 row-other (StartAlgorithm j step start) s = row-causes IsNoByte (StartAlgorithm j step start) s (λ g u. tt, λ c u. tt)
-row-other (PullAlgorithm j) s = row-causes IsNoByte (PullAlgorithm j) s (λ c u. tt, (λ t u. tt, (λ t. tt, λ u. tt)))
-row-other (CancelAlgorithm j r p) s = row-causes IsNoByte (CancelAlgorithm j r p) s (λ c u. tt, (λ t u. tt, λ t half u. tt))
-row-other (WriteAlgorithm j) s = row-causes IsNoByte (WriteAlgorithm j) s (tt, λ t u. tt)
-row-other (CloseAlgorithm j) s = row-causes IsNoByte (CloseAlgorithm j) s (λ c u. tt, λ t u. tt)
-row-other (AbortAlgorithm j r p) s = row-causes IsNoByte (AbortAlgorithm j r p) s (λ c u. tt, λ t u. tt)
+row-other (PullAlgorithm j) s = row-causes IsNoByte (PullAlgorithm j) s (λ c u. tt, (λ t u. tt, (λ t. tt, (λ u. tt, λ c. tt))))
+row-other (CancelAlgorithm j r p) s = row-causes IsNoByte (CancelAlgorithm j r p) s (λ c u. tt, (λ t u. tt, (λ t half u. tt, λ q u. tt)))
+row-other (WriteAlgorithm j) s = row-causes IsNoByte (WriteAlgorithm j) s (tt, (λ t u. tt, λ q u. tt))
+row-other (CloseAlgorithm j) s = row-causes IsNoByte (CloseAlgorithm j) s (λ c u. tt, (λ t u. tt, λ q u. tt))
+row-other (AbortAlgorithm j r p) s = row-causes IsNoByte (AbortAlgorithm j r p) s (λ c u. tt, (λ t u. tt, λ q u. tt))
 row-other (ChunkSteps j q v) s = row-causes IsNoByte (ChunkSteps j q v) s (chunk_other v q)
 row-other (CloseSteps j q) s = row-causes IsNoByte (CloseSteps j q) s (end_other q)
 row-other (CloseStepsWith j q b) s = row-causes IsNoByte (CloseStepsWith j q b) s (end_other q)

@@ -12,6 +12,7 @@ use Rattle.ws_steps.specs.Laws.{EachReadableStep}
 use Rattle.ws_laws.proofs.Lists.{append_none}
 use Rattle.ws_readable_laws.proofs.Runs.{Keeps, between, run-orderly, step-kept, run-kept}
 use Rattle.ws_readable_laws.proofs.Ended.{entry_ended}
+use Rattle.ws_laws.proofs.Halves.{run-halved, halved-empty}
 
 -- a step is told from what is queued
 abbrev queued_before : readable.Slots → Flow
@@ -57,6 +58,6 @@ each_readable_step entries x i later =
       closed = λ g c e. drops_none f.given (values z.queue) h.dropped (values r.queue ++ f.entered) b.all (b.whole c e);
       front = (values z.queue ++ h.dropped, sym b.all);
       ended = λ n.
-          let none = entry_ended i x s n in
+          let none = entry_ended i x s (run-halved entries empty halved-empty) n in
           (none, none_of f.given (values z.queue ++ h.dropped) (values r.queue) f.entered b.all ((k.held kind).held.balanced.gone (no_state r.state n)) none);
     }

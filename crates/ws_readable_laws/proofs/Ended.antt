@@ -1,5 +1,12 @@
 -- A readable stream that has ended stays so, and accepts nothing, whatever a step performs.
-use Rattle.std.proofs.Common.{◌≡◌, ◌≢◌, Bool, true, false, List, [], ◌∷◌, ◌++◌, Option, Some, None, Ok, Err, ◌⊎◌, inl, inr, ⊎_elim, refl, sym, ap, ◌∙◌, slice_get, arith}
+use Rattle.ws_steps.specs.declared.port.Side.{Side}
+use Rattle.ws_steps.specs.declared.port.Side.TheVariants.{Readable as ReadableSide, Writable as WritableSide}
+use Rattle.ws_steps.specs.Calls as calls
+use Rattle.ws_laws.proofs.Halves.{Halved}
+use Rattle.ws_laws.proofs.Shapes.{StreamShape, stream_shape, stream_shapes, transform_shapes, tee_shapes}
+use Rattle.ws_laws.proofs.Tables.{eq_numbers, unequal_numbers}
+use Rattle.ws_readable_laws.proofs.Quiet as entering
+use Rattle.std.proofs.Common.{◌≡◌, ◌≢◌, Bool, true, false, List, [], ◌∷◌, ◌++◌, Option, Some, None, Ok, Err, ◌⊎◌, inl, inr, ⊎_elim, refl, sym, ap, ◌∙◌, slice_get, nat_eq, length, map, ℕ, zero, suc, ◌∙◌, arith}
 use Rattle.ws_value.specs.declared.ids.PromiseId.{PromiseId}
 use Rattle.ws_value.specs.declared.ids.StreamId.{StreamId}
 use Rattle.ws_value.specs.declared.value.Value.{Value}
@@ -165,6 +172,16 @@ idle-enters i (CallHost call u) s d = refl
 idle-enters i _ s d = absurd d
 
 -- where the stream is over, or nothing is to be performed but what leads to no operation, nothing enters
+get-other : (xs : List Stream) (y : Stream) (n : ℕ) → n ≢ length xs → slice_get (xs ++ y ∷ []) n ≡ slice_get xs n
+get-other [] y zero other = absurd (other refl)
+get-other [] y (suc n) other = refl
+get-other (x ∷ xs) y zero other = refl
+get-other (x ∷ xs) y (suc n) other = get-other xs y n (λ e. other (ap suc e))
+
+get-none : {X Y : Type 0} (f : X → Y) (xs : List X) → slice_get (map f xs) (length xs) ≡ None
+get-none f [] = refl
+get-none f (x ∷ xs) = get-none f xs
+
 module _ (i : StreamId) where
   abbrev Rests : Slots → List Effect → Type 0
   Rests s es = IsOver i s ⊎ Each IsIdle es
@@ -183,16 +200,57 @@ module _ (i : StreamId) where
       (λ h s e es k. (ap (λ vs. vs ++ (effect_flow i e s).entered) k.0 ∙ rests-enter e s es k.1, rests-on e s es k.1))
       no_flow d (refl, r)).0
 
-  -- a call leaves the streams as they are, or makes some and begins with nothing else
-  abbrev Begins : Slots → Begun → Type 0
-  Begins s b = (b.done.slots.streams ≡ s.streams) ⊎ Each IsIdle b.done.caused
+  -- the stream is made at the end of a port, and no message comes
+  abbrev IsNew : Begun → Type 0
+  IsNew b = Each (entering.Quiet i false) b.done.caused × entering.Apart i false b.done.slots
 
-  call-begins : (c : Call) (s : Slots) → Begins s (begin c s)
-  call-begins c s = each_call (Begins s) c s (record {
+  -- a call leaves the streams as they are, or makes some and begins with nothing else, or makes one at the end of a port
+  abbrev Begins : Slots → Begun → Type 0
+  Begins s b = (b.done.slots.streams ≡ s.streams) ⊎ (Each IsIdle b.done.caused ⊎ (IsOver i b.done.slots ⊎ IsNew b))
+
+  made-over : (y : Stream) (s : Slots) → nat_eq i.0 (length s.streams) ≡ false → IsOver i s → IsOver i (calls.add_stream y s)
+  made-over y s other n = rw (get-other s.streams y i.0 (unequal_numbers i.0 (length s.streams) other)) n
+
+  no-old : (s : Slots) (j : StreamId) (x : StreamShape) (same : Bool) → same ≡ is_same i j → nat_eq i.0 (length s.streams) ≡ true → slice_get (stream_shapes s) j.0 ≡ Some x → same ≡ false
+  no-old s j x false e new is = refl
+  no-old s j x true e new is =
+      let at : i ≡ j = same_id i j (sym e) in
+      let wrong : slice_get (stream_shapes s) i.0 ≡ Some x = rw at is in
+      let none : slice_get (stream_shapes s) i.0 ≡ None = rw (eq_numbers i.0 (length s.streams) new) (get-none stream_shape s.streams) in
+      let both : ◌≡◌ {A = Option StreamShape} None (Some x) = sym none ∙ wrong in cc
+
+  new-apart : (s z : Slots) → transform_shapes z ≡ transform_shapes s → tee_shapes z ≡ tee_shapes s → nat_eq i.0 (length s.streams) ≡ true → Halved s → entering.Apart i false z
+  new-apart s z ts bs new halved = rw (ts, bs) (record {
+    halves = λ t x is kind. no-old s x.readable _ (is_same i x.readable) refl new (halved.halves t x is).0;
+    branches = λ t x is. let b = halved.branches t x is in (no-old s x.branch1 _ (is_same i x.branch1) refl new b.0, no-old s x.branch2 _ (is_same i x.branch2) refl new b.1);
+    ends = λ yes. cc;
+  })
+
+  abbrev Sent : Slots → Side → StreamId → StreamId → Begun
+  Sent s side source dest = let me : StreamId = record { 0 = length s.streams } in calls.sent_by me side s (calls.pipe_to source dest calls.no_prevent None (calls.add_port me s side))
+
+  sent-new : (s : Slots) (side : Side) (source dest : StreamId) → Halved s → nat_eq i.0 (length s.streams) ≡ true → IsNew (Sent s side source dest)
+  sent-new s ReadableSide source dest halved e = ((tt, (tt, (tt, (tt, (tt, (tt, (tt, tt))))))), new-apart s (Sent s ReadableSide source dest).done.slots refl refl e halved)
+  sent-new s WritableSide source dest halved e = ((tt, (tt, (tt, (tt, (tt, (tt, (tt, tt))))))), new-apart s (Sent s WritableSide source dest).done.slots refl refl e halved)
+
+  sent-over : (s : Slots) (side : Side) (source dest : StreamId) → nat_eq i.0 (length s.streams) ≡ false → IsOver i s → IsOver i (Sent s side source dest).done.slots
+  sent-over s ReadableSide source dest e n = made-over (calls.end_of (record { 0 = length s.ports }) ReadableSide) s e n
+  sent-over s WritableSide source dest e n = made-over (calls.end_of (record { 0 = length s.ports }) WritableSide) s e n
+
+  sent-begins : (s : Slots) (side : Side) (source dest : StreamId) (new : Bool) → new ≡ nat_eq i.0 (length s.streams) → Halved s → IsOver i s → Begins s (Sent s side source dest)
+  sent-begins s side source dest true e halved n = inr (inr (inr (sent-new s side source dest halved (sym e))))
+  sent-begins s side source dest false e halved n = inr (inr (inl (sent-over s side source dest (sym e) n)))
+
+  opened-idle : (s : Slots) (side : Side) → let me : StreamId = record { 0 = length s.streams } in Each IsIdle (calls.open_end side me s).done.caused
+  opened-idle s ReadableSide = (tt, tt)
+  opened-idle s WritableSide = (tt, tt)
+
+  call-begins : (c : Call) (s : Slots) → Halved s → IsOver i s → Begins s (begin c s)
+  call-begins c s halved over = each_call (Begins s) c s (record {
     unchanged = λ reply. inl refl;
     rejected = inl refl;
-    make_readable = λ mark size start. inr (tt, tt);
-    make_bytes = λ mark auto start. inr (tt, tt);
+    make_readable = λ mark size start. inr (inl (tt, tt));
+    make_bytes = λ mark auto start. inr (inl (tt, tt));
     get_byob = λ i is e. inl refl;
     release_byob = λ l closed i e. inl refl;
     read_into = λ l i closed room element least e h. inl refl;
@@ -200,9 +258,9 @@ module _ (i : StreamId) where
     finish_bytes = λ i e is can. inl refl;
     make_request = λ i reply is. inl refl;
     respond = λ q i b e is can. inl refl;
-    make_writable = λ mark size start. inr (tt, tt);
-    make_transform = λ kind m n start. inr (grind arith);
-    make_tee = λ i e is free untied. inr (tt, (tt, (tt, (tt, tt))));
+    make_writable = λ mark size start. inr (inl (tt, tt));
+    make_transform = λ kind m n start. inr (inl (grind arith));
+    make_tee = λ i e is free untied. inr (inl (tt, (tt, (tt, (tt, tt)))));
     get_reader = λ i e. inl refl;
     get_writer = λ i e. inl refl;
     release_reader = λ l closed i e. inl refl;
@@ -221,6 +279,10 @@ module _ (i : StreamId) where
     terminate = λ t. inl refl;
     pipe = λ source dest prevent signal e f l m. inl refl;
     make_signal = inl refl;
+    open_end = λ side. inr (inl (opened-idle s side));
+    send_readable = λ source there free. sent-begins s WritableSide source (record { 0 = length s.streams }) (nat_eq i.0 (length s.streams)) refl halved over;
+    send_writable = λ dest there free. sent-begins s ReadableSide (record { 0 = length s.streams }) dest (nat_eq i.0 (length s.streams)) refl halved over;
+    deliver = λ p m e is. inl refl;
     trigger = λ a reason. inl refl;
     settle = λ h answer p e. inl refl;
   })
@@ -237,12 +299,15 @@ module _ (i : StreamId) where
   same-over : (s : Slots) (xs : List Stream) → xs ≡ s.streams → IsOver i s → is_readable (as_readable (slice_get xs i.0)).state ≡ false
   same-over s xs e n = rw e n
 
-  pub entry_ended : (x : Entry) (s : Slots) → (readable_at i s).state ≢ Readable → (step_flow i s x).entered ≡ []
+  pub entry_ended : (x : Entry) (s : Slots) → Halved s → (readable_at i s).state ≢ Readable → (step_flow i s x).entered ≡ []
   unfolding begin_job
-  entry_ended (Called c) s n =
+  entry_ended (Called c) s halved n =
       let over = no_state (readable_at i s).state n in
-      rests-enters (begin c s).done (⊎_elim (λ e. inl (same-over s (begin c s).done.slots.streams e over)) (λ d. inr d) (call-begins c s))
-  entry_ended Worked s n =
+      ⊎_elim (λ e. rests-enters (begin c s).done (inl (same-over s (begin c s).done.slots.streams e over)))
+      (λ k. ⊎_elim (λ d. rests-enters (begin c s).done (inr d))
+      (λ w. ⊎_elim (λ o. rests-enters (begin c s).done (inl o)) (λ new. entering.none_enters i false (begin c s).done new.0 new.1) w) k)
+      (call-begins c s halved over)
+  entry_ended Worked s halved n =
       let over = no_state (readable_at i s).state n in
       rests-enters (begin_job s) (inl (same-over s (begin_job s).slots.streams (job-streams s (next_job s.promises)) over))
-  entry_ended Heard s n = rests-enters (record { slots = s; caused = [] }) (inr tt)
+  entry_ended Heard s halved n = rests-enters (record { slots = s; caused = [] }) (inr tt)

@@ -1,11 +1,11 @@
 -- The order of a readable stream over every run.
-use Rattle.std.proofs.Common.{◌≡◌, ℕ, Bool, true, false, slice_get, Option, Some, None, ◌||◌, ◌&&◌, le-ltb, if◌then◌else◌, List, [], ◌∷◌, ◌++◌, ◌⊎◌, inl, inr, refl, sym, ap, ◌∙◌, append_assoc, append-nil, add_assoc, zero-add, add-zero, arith}
+use Rattle.std.proofs.Common.{◌≡◌, ℕ, Bool, true, false, slice_get, Option, Some, None, ◌||◌, ◌&&◌, le-ltb, if◌then◌else◌, List, [], ◌∷◌, ◌++◌, ◌⊎◌, inl, inr, refl, sym, ap, subst, ◌∙◌, append_assoc, append-nil, add_assoc, zero-add, add-zero, arith}
 use Rattle.ws_value.specs.declared.ids.PipeId.{PipeId}
 use Rattle.ws_value.specs.declared.ids.StreamId.{StreamId}
 use Rattle.ws_value.specs.declared.ids.TeeId.{TeeId}
 use Rattle.ws_value.specs.declared.value.Plain.{Plain}
 use Rattle.ws_value.specs.declared.value.Value.{Value}
-use Rattle.ws_steps.specs.declared.{effects.Effect.{Effect}, effects.Effect.TheVariants.{Readable as OnReadable, Pipe, Signal, Transform, Tee, ChunkSteps, CloseSteps, ErrorSteps}, effects.Owner.{Owner}, pipes.PipeOperation.{PipeOperation}, pipes.SignalOperation.{SignalOperation}, pipes.SignalOperation.TheVariants.{Add, Forget, Trigger}, queue.Queued.{Queued}}
+use Rattle.ws_steps.specs.declared.{effects.Effect.{Effect}, effects.Effect.TheVariants.{Readable as OnReadable, Pipe, Signal, Transform, Tee, Port, ChunkSteps, CloseSteps, ErrorSteps}, effects.Owner.{Owner}, pipes.PipeOperation.{PipeOperation}, pipes.SignalOperation.{SignalOperation}, pipes.SignalOperation.TheVariants.{Add, Forget, Trigger}, queue.Queued.{Queued}}
 use Rattle.ws_steps.specs.declared.{readable.ReadRequest.{ReadRequest}, readable.ReadableOperation.{ReadableOperation}, readable.ReadableOperation.TheVariants.{Read, Cancel, CancelIfReadable, Enqueue}}
 use Rattle.ws_steps.specs.declared.{readable.ReadableState.{ReadableState}, readable.ReadableState.TheVariants.{Readable, Closed, Errored}, readable.SizeBy.{SizeBy}, transform.TransformId.{TransformId}, transform.TransformOperation.{TransformOperation}}
 use Rattle.ws_steps.specs.Effects.{Out}
@@ -15,9 +15,12 @@ use Rattle.ws_steps.specs.Pipes.{abort_all, trigger_unless}
 use Rattle.ws_steps.specs.Readable as readable
 use Rattle.ws_steps.specs.Transform as transform
 use Rattle.ws_steps.specs.Tee as tee
+use Rattle.ws_steps.specs.Cross as cross
+use Rattle.ws_steps.specs.declared.port.PortOperation.{PortOperation}
+use Rattle.ws_value.specs.declared.ids.PortId.{PortId}
 use Rattle.ws_steps.specs.declared.tee.TeeOperation.{TeeOperation}
 use Rattle.ws_steps.specs.Readable.{Acts, is_readable, accept_for, accept, call_pull_if_needed, controller_enqueue, after_take, pull_from, pull_steps, read_by, default_reader_read, can_close_or_enqueue, waiting}
-use Rattle.ws_steps.specs.Slots.{Slots, empty, found, ends_at, halves_at, has_readable, readable_at, no_readable}
+use Rattle.ws_steps.specs.Slots.{Slots, empty, found, ends_at, halves_at, clones_at, has_readable, readable_at, no_readable}
 use Rattle.ws_steps.specs.Run.{Entry, step, run}
 use Rattle.ws_steps.specs.Histories.{is_same}
 use Rattle.ws_steps.specs.ReadableHistory.{Flow, no_flow, flow_then, values, operation_flow, effect_flow, step_flow, run_flow}
@@ -29,10 +32,11 @@ use Rattle.ws_laws.proofs.Begin.{IsFirst, Any, Enqueues, Never, each-any, begin-
 use Rattle.ws_laws.proofs.PipeDoes.{PipeCauses, IsQuiet, is_looking, pipe-causes, pipe-quiet}
 use Rattle.ws_laws.proofs.Walker.{IsHistory, run-stays}
 use Rattle.ws_laws.proofs.OnReadable as on_readable
-use Rattle.ws_laws.proofs.Order.{IsQuiet as IsQuietEffect, IsNoGift, Calm, Orderly, is_resting, is_from, may_pull, tee_takes, true_of, transform-quiet, tee-quiet, transform-calm, tee-calm, behind-active, behind-tee, orderly-stays, orderly-empty}
+use Rattle.ws_laws.proofs.Order.{IsQuiet as IsQuietEffect, IsNoGift, Calm, Orderly, is_resting, is_from, may_pull, tee_takes, true_of, transform-quiet, tee-quiet, port-quiet, transform-calm, tee-calm, port-calm, Behind, is_going, behind-active, behind-tee, orderly-stays, orderly-empty}
 use Rattle.ws_laws.proofs.TransformDoes.{TransformCauses, transform-causes}
 use Rattle.ws_laws.proofs.TeeDoes.{TeeCauses, tee-causes}
-use Rattle.ws_laws.proofs.OnReadable.{Holders, holders, IsForeign, AreSteps, IsLaw, Kept, is_still, piped, transformed, teed, all_seen, all_seen-append}
+use Rattle.ws_laws.proofs.PortDoes.{PortCauses, port-causes}
+use Rattle.ws_laws.proofs.OnReadable.{Holders, holders, IsForeign, AreSteps, IsLaw, Kept, is_still, piped, transformed, teed, ported, all_seen, all_seen-append}
 use Rattle.ws_readable_laws.proofs.Operations.{Held, same_flow, or_false, due, with_due, given_to, first_given, operation_keeps}
 
 -- what is seen of the agenda: an operation that may give, one of a pipe that may read, and chunk steps of the stream
@@ -363,6 +367,17 @@ module _ (i : StreamId) where
       each-map (TeeCauses t x.source x.branch1 x.branch2) (IsNoGift i) (tee-calm i t x.source x.branch1 x.branch2) (teed t operation s x).out.effects
       ((tee-causes t operation (record { slots = x; out = found s })).effects tt)
 
+  port_keeps : (c : PortId) (operation : PortOperation) (s : Slots) (x : cross.Slots) (es : List Effect) (goes : Bool) → goes ≡ is_going operation → Orderly i s (Port c operation ∷ es)
+      → (cs : List Effect) → cs ≡ (ported c operation s x).out.effects → Calm i cs
+      → (h : Flow) (r : readable.Slots) → Ordered h r (all_seen (mark i) es) → Ordered h r (all_seen (mark i) cs ++ all_seen (mark i) es)
+  port_keeps c operation s x es false e o cs same calm h r k = resting_keeps s cs es (rw same (port-quiet i s c operation s (Some x) (sym e))) calm h r k
+  port_keeps c operation s x es true e o cs same calm h r k = active_keeps cs es calm (subst (λ b. Behind i b es) (sym e) o.ordered.0) h r k
+
+  port_causes : (c : PortId) (operation : PortOperation) (s : Slots) (x : cross.Slots) → Calm i (ported c operation s x).out.effects
+  port_causes c operation s x =
+      each-map (PortCauses c x.stream) (IsNoGift i) (port-calm i c x.stream) (ported c operation s x).out.effects
+      (port-causes c (clones_at x s) operation (record { slots = x; out = found s }) tt).1.1
+
   first_marks : (es : List Effect) → Each (IsFirst Any) es → (pending (all_seen (mark i) es) ≡ []) × Clear (all_seen (mark i) es)
   first_marks [] f = (refl, tt)
   first_marks (OnReadable j operation ∷ es) f = taken_first (is_same i j) (is_taking operation) (all_seen (mark i) es) (first_marks es f.1)
@@ -427,6 +442,8 @@ module _ (i : StreamId) where
     transform = λ t operation s x es known e h k. transform_keeps t operation s x es (is_resting operation) refl known h (readable_at i s) k;
     tee = λ t operation s x es known e h k.
         tee_keeps t operation s x es (tee_takes i s t operation) refl known e (teed t operation s x).out.effects refl (tee_causes t operation s x) h (readable_at i s) k;
+    port = λ c operation s x es known e h k.
+        port_keeps c operation s x es (is_going operation) refl known (ported c operation s x).out.effects refl (port_causes c operation s x) h (readable_at i s) k;
     tee_unmade = λ t operation s x e h n. n;
     pipe = λ p operation s x es known e h k. piped_keeps p operation s x h (readable_at i s) (all_seen (mark i) es) k;
     pipe_unmade = λ p operation s x e h n. n;

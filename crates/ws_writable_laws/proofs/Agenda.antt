@@ -1,4 +1,5 @@
 -- What holds of a writable stream at each moment of a run, with the effects that stand on the agenda; and what each effect keeps of it.
+use Rattle.ws_steps.specs.declared.port.PortOperation.TheVariants.{PostChunk}
 use Rattle.std.proofs.Common.{◌≡◌, Option, ◌+◌, List, [], ◌∷◌, ◌++◌, None, slice_get, refl, ap, arith, ℕ, ◌≤◌, false, length, Result, append-nil, Bool, true, Some, sym, subst, ◌∙◌}
 use Rattle.ws_value.specs.declared.ids.StreamId.{StreamId}
 use Rattle.ws_value.specs.declared.ids.PipeId.{PipeId}
@@ -13,9 +14,9 @@ use Rattle.ws_steps.specs.Writable as writable
 use Rattle.ws_steps.specs.Slots.{Slots, Done, found as found_outside, ends_at, halves_at, owner_at, on_pipe_at, on_signal_at, on_transform_at, on_tee_at, writable_at, on_writable, as_writable, WritableStream, nothing, put_writable, no_writable, has_writable}
 use Rattle.ws_steps.specs.WritableHistory.{Writes, no_writes, writes_then, effect_writes, first_chunk, operation_writes}
 use Rattle.ws_steps.specs.declared.{calls.Event.{Event}, calls.Event.TheVariants.{Host as HostCalled, Signal}, calls.HostCall.{HostCall}}
-use Rattle.ws_steps.specs.declared.effects.Effect.TheVariants.{Readable, Writable, Pipe, Signal, Transform, Tee, Queue, PullAlgorithm, CancelAlgorithm, WriteAlgorithm, CloseAlgorithm, AbortAlgorithm, ChunkSteps, CloseSteps, ErrorSteps, StartAlgorithm, Give, CallHost}
+use Rattle.ws_steps.specs.declared.effects.Effect.TheVariants.{Readable, Writable, Pipe, Signal, Transform, Tee, Port, Queue, PullAlgorithm, CancelAlgorithm, WriteAlgorithm, CloseAlgorithm, AbortAlgorithm, ChunkSteps, CloseSteps, ErrorSteps, StartAlgorithm, Give, CallHost}
 use Rattle.ws_steps.specs.declared.{effects.Gift.{Gift}, effects.Gift.TheVariants.{This}, effects.Use.{Use}, effects.Use.TheVariants.{React}, pipes.PipeOperation.{PipeOperation}, pipes.SignalOperation.{SignalOperation}, readable.ReadRequest.{ReadRequest}, readable.ReadRequest.TheVariants.{Promise, Pipe as PipeRequest, Tee as TeeRequest}, promises.Step.{Step}, readable.ReadableOperation.{ReadableOperation}}
-use Rattle.ws_steps.specs.declared.{effects.Owner.{Owner}, effects.Owner.TheVariants.{Host, HalfOf, BranchOf}, promises.Step.TheVariants.{ReadablePull, ReturnUndefined, WritableClose, WritableAbort}}
+use Rattle.ws_steps.specs.declared.{effects.Owner.{Owner}, effects.Owner.TheVariants.{Host, HalfOf, BranchOf, EndOf}, promises.Step.TheVariants.{ReadablePull, ReturnUndefined, WritableClose, WritableAbort}}
 use Rattle.ws_steps.specs.declared.{transform.TransformId.{TransformId}, transform.TransformOperation.{TransformOperation}, transform.TransformOperation.TheVariants.{TransformChunk}}
 use Rattle.ws_steps.specs.declared.writable.WritableOperation.{WritableOperation}
 use Rattle.ws_steps.specs.Effects.{Out, cause, settling}
@@ -31,16 +32,24 @@ use Rattle.ws_steps.specs.Turns.{call_host, chunk_steps, close_steps, error_step
 use Rattle.ws_steps.specs.Histories.{is_same}
 use Rattle.ws_steps.specs.declared.{writable.WritableOperation.TheVariants.{HandOn}}
 use Rattle.ws_laws.proofs.Tables.{either, writable_acts, on_writable-other, on_writable-none, is_same-refl, same_id, on_writable-same, no_writable_there}
-use Rattle.ws_laws.proofs.Halves.{Halved, halved-stays}
+use Rattle.ws_laws.proofs.Halves.{Halved}
 use Rattle.ws_laws.proofs.Lists.{Each}
 use Rattle.ws_laws.proofs.PipeDoes.{IsStepOf, PipeCauses, OfPipe, pipe-causes, pipe-does}
 use Rattle.ws_laws.proofs.TransformDoes.{transform-does}
 use Rattle.ws_laws.proofs.WritableDoes.{writable-does, IsHandOn}
 use Rattle.ws_laws.proofs.Weights.{weigh, weigh-micro, weigh-fresh, weigh-settle, weigh-react, weigh-follow, weigh-answer}
-use Rattle.ws_writable_laws.proofs.Shape.{is_start, is_write, is_close, is_abort, leads_to, hands, closes, all, all-append, mass, weight, of_use, of_reaction, of_transform, of_tee, core_of}
+use Rattle.ws_writable_laws.proofs.Shape.{is_start, is_write, is_close, is_abort, leads_to, hands, closes, all, all-append, mass, weight, of_use, of_reaction, of_transform, of_tee, of_port, core_of}
 use Rattle.ws_writable_laws.proofs.Transforms.{IsPlain, transform-leads, transform-hands, transform-alone, start-plain, write-plain, close-plain, abort-plain, weight-transform}
 use Rattle.ws_writable_laws.proofs.Operations.{Due, Held, Less, with_effects, so_far, later_effects, fine-less, Fine, handed, chunk_handed, writes-nothing, with_operation, operation-held}
-use Rattle.ws_writable_laws.proofs.Handed.{NoHalf, no-half, nothing_chunk, nothing_handed, same-handed, acting, writes-acted, owned-held}
+use Rattle.ws_writable_laws.proofs.Ports.{port-leads, port-hands, port-alone, weight-port}
+use Rattle.ws_laws.proofs.PortDoes.{port-does}
+use Rattle.ws_laws.proofs.Ended.{Ended}
+use Rattle.ws_value.specs.declared.ids.PortId.{PortId}
+use Rattle.ws_steps.specs.Cross as cross
+use Rattle.ws_steps.specs.declared.{port.PortOperation.{PortOperation}, promises.Step.TheVariants.{PortUnblocked}}
+use Rattle.ws_steps.specs.Operations.{port_operation}
+use Rattle.ws_steps.specs.Slots.{on_port_at, clones_at}
+use Rattle.ws_writable_laws.proofs.Handed.{NoHalf, NoEnd, Tied, tied-row, no-half, no-end, nothing_chunk, nothing_handed, same-handed, acting, writes-acted, owned-held}
 use Rattle.ws_steps.specs.Slots.{on_byte}
 use Rattle.ws_steps.specs.Turns.{on_source, close_steps_with}
 use Rattle.ws_steps.specs.declared.effects.Effect.TheVariants.{Byte, CloseStepsWith}
@@ -61,11 +70,12 @@ pub record Unmade (i : StreamId) (h : Writes) (s : Slots) (es : List Effect) : T
   pub starts : weight (is_start i) s.promises + all (leads_to (is_start i)) es ≡ 0
   pub aborts : weight (is_abort i) s.promises + all (leads_to (is_abort i)) es ≡ 0
 
--- what holds of stream i at each moment, and of the halves of transform streams
+-- what holds of stream i at each moment, and of the halves of transform streams and the ends of ports
 pub record Kept (i : StreamId) (h : Writes) (s : Slots) (es : List Effect) : Type 0 where
   pub unmade : slice_get s.streams i.0 ≡ None → Unmade i h s es
   pub held : Held i (among i s.promises) h es (writable_at i s)
   pub halved : Halved s
+  pub ended : Ended s
 
 -- the stream stays as it is, what was to be told of it was told or is still to be told, and no more is under way
 pub record Lighter (i : StreamId) (h g : Writes) (s z : Slots) (es fs : List Effect) : Type 0 where
@@ -76,13 +86,14 @@ pub record Lighter (i : StreamId) (h g : Writes) (s z : Slots) (es fs : List Eff
   pub told : so_far i g fs (writable_at i s) ≡ so_far i h es (writable_at i s)
   pub less : Less (with_effects i (among i z.promises) fs) (with_effects i (among i s.promises) es)
 
-pub kept-lighter : (i : StreamId) (h g : Writes) (s z : Slots) (es fs : List Effect) → Lighter i h g s z es fs → Halved z → Kept i h s es → Kept i g z fs
-kept-lighter i h g s z es fs l halved k =
+pub kept-lighter : (i : StreamId) (h g : Writes) (s z : Slots) (es fs : List Effect) → Lighter i h g s z es fs → Tied z → Kept i h s es → Kept i g z fs
+kept-lighter i h g s z es fs l tied k =
     let n = ap (λ (x : Writes). x.closes) l.told in
     record {
       unmade = λ e. let u = k.unmade (l.there e) in let t = l.less in grind arith;
       held = record { behind = l.behind; dropped = k.held.dropped; fine = rw (l.place, l.told, l.core) (fine-less _ (with_effects i (among i s.promises) es) _ k.held.dropped _ l.less k.held.fine) };
-      halved = halved;
+      halved = tied.0;
+      ended = tied.1;
     }
 
 -- what an effect, or what comes first, may leave in its place
@@ -114,7 +125,7 @@ pub record Leaves (i : StreamId) (e : Effect) (s z : Slots) (cs : List Effect) :
   pub there : slice_get z.streams i.0 ≡ None → slice_get s.streams i.0 ≡ None
   pub place : writable_at i z ≡ writable_at i s
   pub alone : all (hands i) (later_effects cs) ≡ 0
-  pub hands : owner_at i s ≡ Host → NoHalf i s → all (hands i) cs ≡ hands i e
+  pub hands : owner_at i s ≡ Host → NoHalf i s → NoEnd i s → all (hands i) cs ≡ hands i e
   pub closes : all (closes i) cs ≡ 0
   pub starts : weight (is_start i) z.promises + all (leads_to (is_start i)) cs ≤ weight (is_start i) s.promises + leads_to (is_start i) e
   pub writes : weight (is_write i) z.promises + all (leads_to (is_write i)) cs ≤ weight (is_write i) s.promises + leads_to (is_write i) e
@@ -129,11 +140,11 @@ so_far-next : (i : StreamId) (h : Writes) (n : ℕ) (es fs : List Effect) (w : w
     → so_far i (writes_then h (closing_told n)) fs w ≡ so_far i h es w
 so_far-next i h n es fs w e f = grind (arith, append-nil)
 
-pub leaves-kept : (i : StreamId) (e : Effect) (s z : Slots) (cs : List Effect) (h : Writes) (es : List Effect) → Leaves i e s z cs → effect_writes i e s ≡ closing_told (closes i e) → Halved z → Kept i h s (e ∷ es)
+pub leaves-kept : (i : StreamId) (e : Effect) (s z : Slots) (cs : List Effect) (h : Writes) (es : List Effect) → Leaves i e s z cs → effect_writes i e s ≡ closing_told (closes i e) → Tied z → Kept i h s (e ∷ es)
     → Kept i (writes_then h (effect_writes i e s)) z (cs ++ es)
-leaves-kept i e s z cs h es l t halved k =
+leaves-kept i e s z cs h es l t tied k =
     let behind : all (hands i) es ≡ 0 = k.held.behind in
-    let hs = same-handed (all (hands i) (cs ++ es)) (hands i e + all (hands i) es) (slice_get s.streams i.0) (λ o. let a = all-append (hands i) cs es in let b = l.hands o (no-half s i k.halved o) in omega arith) in
+    let hs = same-handed (all (hands i) (cs ++ es)) (hands i e + all (hands i) es) (slice_get s.streams i.0) (λ o. let a = all-append (hands i) cs es in let b = l.hands o (no-half s i k.halved o) (no-end s i k.ended o) in omega arith) in
     let cl : closes i e + all (closes i) (cs ++ es) ≡ closes i e + all (closes i) es = let a = all-append (closes i) cs es in let b = l.closes in omega arith in
     rw t (kept-lighter i h (writes_then h (closing_told (closes i e))) s z (e ∷ es) (cs ++ es) (record {
       there = l.there;
@@ -142,7 +153,7 @@ leaves-kept i e s z cs h es l t halved k =
       core = hs.0;
       told = so_far-next i h (closes i e) (e ∷ es) (cs ++ es) _ hs.1 cl;
       less = grind (arith, all-append);
-    }) halved k)
+    }) tied k)
 
 -- promises
 
@@ -236,6 +247,7 @@ writable-outside i j operation s =
       abort = λ x r p q. causes-outside i b t x (AbortAlgorithm j r p) (λ n. rw n refl) q;
       hand_on = λ x v q. causes-outside i b t x (write_to_host j v) (λ n. rw n refl) q;
       take = λ x v u d q. causes-outside i b t x (Transform u (TransformChunk v d)) (λ n. refl) q;
+      post = λ x v c d q. causes-outside i b t x (Port c (PostChunk v d)) (λ n. refl) q;
     }) operation (writable_acts j s) (λ n. refl, same_weight t)
 
 elsewhere-leaves : (i j : StreamId) (operation : WritableOperation) (s : Slots) → is_same i j ≡ false
@@ -248,9 +260,10 @@ elsewhere-leaves i j operation s n =
 
 -- an operation that keeps what holds of its stream, with the effects that stand behind it
 after-own : (i : StreamId) (h : Writes) (t : Writes) (es : List Effect) (s z : Slots) (b : Acts) → slice_get z.streams i.0 ≡ Some (WritableStream b.slots) → z.promises ≡ b.out.promises → Lightens s.promises b.out.promises → all (hands i) es ≡ 0
-    → Halved z → Held i (with_effects i (among i s.promises) es) (writes_then (record h { closes = h.closes + all (closes i) es }) t) b.out.effects b.slots → Kept i (writes_then h t) z (b.out.effects ++ es)
-after-own i h t es s z b place promises l none halved k = record {
-  halved = halved;
+    → Tied z → Held i (with_effects i (among i s.promises) es) (writes_then (record h { closes = h.closes + all (closes i) es }) t) b.out.effects b.slots → Kept i (writes_then h t) z (b.out.effects ++ es)
+after-own i h t es s z b place promises l none tied k = record {
+  halved = tied.0;
+  ended = tied.1;
   unmade = λ e. cc;
   held = rw place (record {
     behind = behind-next i b.out.effects es k.behind none;
@@ -313,7 +326,7 @@ absent-kept i operation h es s t k =
       core = rw none (nothing_handed (all (hands i) es) ∙ sym (nothing_handed (all (hands i) (Writable i operation ∷ es))));
       told = rw (none, nothing_chunk (all (hands i) es), nothing_chunk (all (hands i) (Writable i operation ∷ es))) (grind arith);
       less = grind arith;
-    }) k.halved k)
+    }) (k.halved, k.ended) k)
 
 own-kept : (i : StreamId) (operation : WritableOperation) (h : Writes) (es : List Effect) (s : Slots) → Kept i h s (Writable i operation ∷ es)
     → Kept i (writes_then h (operation_writes operation (writable_at i s))) (on_writable (writable_operation i operation) i s).slots ((on_writable (writable_operation i operation) i s).caused ++ es)
@@ -321,7 +334,7 @@ unfolding row
 own-kept i operation h es s k =
     let told : Writes = operation_writes operation (writable_at i s) in
     let b : Acts = writable_operation i operation (writable_acts i s) in
-    let here : has_writable i s ≡ true → Halved (put_writable i s b).slots = λ t. rw t at (halved-stays.row s (Writable i operation) es k.halved) in
+    let here : has_writable i s ≡ true → Tied (put_writable i s b).slots = λ t. rw t at (tied-row s (Writable i operation) es k.halved k.ended) in
     either (λ (d : Done). Kept i (writes_then h told) d.slots (d.caused ++ es)) (has_writable i s) (put_writable i s b) (nothing s)
     (λ t. after-own i h told es s (put_writable i s b).slots b (rw t at (on_writable-same (writable_operation i operation) i s t)) refl (writable-outside i i operation s).1 k.held.behind (here t) (there-held i operation h es s k))
     (λ t. absent-kept i operation h es s t k)
@@ -367,7 +380,7 @@ pipe-leaves i p operation s (Some x) =
       there = λ e. e;
       place = refl;
       alone = n;
-      hands = λ o apart. c.hands;
+      hands = λ o apart free. c.hands;
       closes = c.closes;
       starts = omega (arith, w1, c.starts);
       writes = omega (arith, w2, c.writes);
@@ -393,7 +406,7 @@ signal-leaves i a operation s (Some x) =
       there = λ e. e;
       place = refl;
       alone = n;
-      hands = λ o apart. c.hands;
+      hands = λ o apart free. c.hands;
       closes = c.closes;
       starts = omega (arith, c.starts);
       writes = omega (arith, c.writes);
@@ -439,7 +452,7 @@ transform-leaves i t operation s (Some x) is =
       there = λ e. e;
       place = refl;
       alone = c.0;
-      hands = λ o apart. transform-hands i t (halves_at x s) operation a (apart t x is) refl;
+      hands = λ o apart free. transform-hands i t (halves_at x s) operation a (apart t x is) refl;
       closes = c.1;
       starts = omega (arith, w1, l1);
       writes = omega (arith, w2, l2);
@@ -480,8 +493,35 @@ tee-leaves i t operation s (Some x) =
       there = λ e. e;
       place = refl;
       alone = none_behind i b.out.effects c.0;
-      hands = λ o apart. c.0;
+      hands = λ o apart free. c.0;
       closes = c.1;
+      starts = omega (arith, w1, l1);
+      writes = omega (arith, w2, l2);
+      closes_on = omega (arith, w3, l3);
+      aborts = omega (arith, w4, l4);
+    }
+
+-- an operation of a port
+
+port-leaves : (i : StreamId) (c : PortId) (operation : PortOperation) (s : Slots) (o : Option cross.Slots) → slice_get s.ports c.0 ≡ o
+    → let d : Done = on_port_at (λ clones. port_operation c clones operation) c s o in Leaves i (Port c operation) s d.slots d.caused
+port-leaves i c operation s None is = grind arith
+port-leaves i c operation s (Some x) is =
+    let a : cross.Acts = record { slots = x; out = found_outside s } in
+    let b : cross.Acts = port_operation c (clones_at x s) operation a in
+    let p = port-alone i c (clones_at x s) operation a refl in
+    let w : (f : Step → ℕ) → weight f b.out.promises ≤ weight f s.promises =
+    λ f. port-does (λ z. weight f z ≤ weight f s.promises) (weight-port f s.promises) c (clones_at x s) operation a (omega arith) in
+    let l : (f : Step → ℕ) → ((me : PortId) (q : PromiseId) → f (PortUnblocked me q) ≡ 0) → all (leads_to f) b.out.effects ≤ of_port f operation =
+    λ f none. port-leads f c (clones_at x s) operation a none refl in
+    let w1 = w (is_start i) in let w2 = w (is_write i) in let w3 = w (is_close i) in let w4 = w (is_abort i) in
+    let l1 = l (is_start i) (λ me q. refl) in let l2 = l (is_write i) (λ me q. refl) in let l3 = l (is_close i) (λ me q. refl) in let l4 = l (is_abort i) (λ me q. refl) in
+    record {
+      there = λ e. e;
+      place = refl;
+      alone = p.0;
+      hands = λ o apart free. port-hands i c (clones_at x s) operation a (free c x is) refl;
+      closes = p.1;
       starts = omega (arith, w1, l1);
       writes = omega (arith, w2, l2);
       closes_on = omega (arith, w3, l3);
@@ -494,28 +534,36 @@ pull-leaves : (i j : StreamId) (s : Slots) (o : Owner) → Leaves i (PullAlgorit
 pull-leaves i j s Host = grind arith
 pull-leaves i j s (HalfOf t) = grind arith
 pull-leaves i j s (BranchOf t half) = grind arith
+pull-leaves i j s (EndOf c) = grind arith
 
 cancel-leaves : (i j : StreamId) (r : Plain) (p : PromiseId) (s : Slots) (o : Owner) → Leaves i (CancelAlgorithm j r p) s s (cancel_algorithm j r (React ReturnUndefined (Some p)) o)
 cancel-leaves i j r p s Host = grind arith
 cancel-leaves i j r p s (HalfOf t) = grind arith
 cancel-leaves i j r p s (BranchOf t half) = grind arith
+cancel-leaves i j r p s (EndOf c) = grind arith
 
 close-leaves : (i j : StreamId) (s : Slots) (o : Owner) → Leaves i (CloseAlgorithm j) s s (close_algorithm j (React (WritableClose j) None) o)
 close-leaves i j s Host = grind arith
 close-leaves i j s (HalfOf t) = grind arith
 close-leaves i j s (BranchOf t half) = grind arith
+close-leaves i j s (EndOf c) = grind arith
 
 abort-leaves : (i j : StreamId) (r : Plain) (p : PromiseId) (s : Slots) (o : Owner) → Leaves i (AbortAlgorithm j r p) s s (abort_algorithm j r (React (WritableAbort j p) None) o)
 abort-leaves i j r p s Host = grind arith
 abort-leaves i j r p s (HalfOf t) = grind arith
 abort-leaves i j r p s (BranchOf t half) = grind arith
+abort-leaves i j r p s (EndOf c) = grind arith
 
 write-leaves : (i j : StreamId) (s : Slots) (owner : Owner) (same : Bool) → same ≡ is_same i j → owner_at j s ≡ owner → Leaves i (WriteAlgorithm j) s s (write_algorithm j owner)
 write-leaves i j s Host same e is = grind arith
 write-leaves i j s (HalfOf t) false e is = grind (arith, e)
 write-leaves i j s (BranchOf t half) same e is = grind arith
+write-leaves i j s (EndOf c) false e is = grind (arith, e)
 write-leaves i j s (HalfOf t) true e is =
     let half : owner_at i s ≡ HalfOf t = rw (same_id i j (sym e)) is in
+    let wrong : owner_at i s ≡ Host → ⊥ = λ o. cc in grind (arith, e, wrong)
+write-leaves i j s (EndOf c) true e is =
+    let end : owner_at i s ≡ EndOf c = rw (same_id i j (sym e)) is in
     let wrong : owner_at i s ≡ Host → ⊥ = λ o. cc in grind (arith, e, wrong)
 
 pub row-leaves : (i : StreamId) (e : Effect) (s : Slots) → Elsewhere i e → Leaves i e s (row e s).slots (row e s).caused
@@ -526,6 +574,7 @@ row-leaves i (Writable j operation) s x = elsewhere-leaves i j operation s x
 row-leaves i (Pipe p operation) s x = pipe-leaves i p operation s (slice_get s.pipes p.0)
 row-leaves i (Transform t operation) s x = transform-leaves i t operation s (slice_get s.transforms t.0) refl
 row-leaves i (Tee t operation) s x = tee-leaves i t operation s (slice_get s.tees t.0)
+row-leaves i (Port c operation) s x = port-leaves i c operation s (slice_get s.ports c.0) refl
 row-leaves i (PullAlgorithm j) s x = pull-leaves i j s (owner_at j s)
 row-leaves i (CancelAlgorithm j r p) s x = cancel-leaves i j r p s (owner_at j s)
 row-leaves i (WriteAlgorithm j) s x = write-leaves i j s (owner_at j s) (is_same i j) refl refl
@@ -546,7 +595,7 @@ pub elsewhere_told : (i : StreamId) (e : Effect) (s : Slots) → Elsewhere i e �
 elsewhere_told i e s x = grind arith
 
 elsewhere-kept : (i : StreamId) (h : Writes) (s : Slots) (e : Effect) (es : List Effect) → Elsewhere i e → Kept i h s (e ∷ es) → Kept i (writes_then h (effect_writes i e s)) (row e s).slots ((row e s).caused ++ es)
-elsewhere-kept i h s e es x k = leaves-kept i e s (row e s).slots (row e s).caused h es (row-leaves i e s x) (elsewhere_told i e s x) (halved-stays.row s e es k.halved) k
+elsewhere-kept i h s e es x k = leaves-kept i e s (row e s).slots (row e s).caused h es (row-leaves i e s x) (elsewhere_told i e s x) (tied-row s e es k.halved k.ended) k
 
 -- what is shown of an effect's stream where it is another, and where it is this one
 pub same_or : (A : StreamId → Type 0) (i j : StreamId) (same : Bool) → same ≡ is_same i j → (is_same i j ≡ false → A j) → A i → A j

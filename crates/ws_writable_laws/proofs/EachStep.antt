@@ -1,4 +1,19 @@
 -- One step of a writable stream.
+use Rattle.ws_steps.specs.declared.port.Side.TheVariants.{Readable as ReadableSide, Writable as WritableSide}
+use Rattle.ws_steps.specs.declared.byte.ReaderKind.TheVariants.{Default as DefaultKind}
+use Rattle.ws_steps.specs.declared.effects.Effect.TheVariants.{Queue}
+use Rattle.ws_steps.specs.Calls as calls
+use Rattle.ws_steps.specs.declared.readable.ReadableOperation.TheVariants.{Disturb}
+use Rattle.ws_steps.specs.Slots.{has_byte}
+use Rattle.ws_steps.specs.Slots.{on_byte}
+use Rattle.ws_steps.specs.Slots.{on_readable}
+use Rattle.ws_steps.specs.declared.writable.WritableOperation.TheVariants.{SetUpWriter}
+use Rattle.ws_steps.specs.declared.port.Side.{Side}
+use Rattle.ws_steps.specs.declared.writable.Writer.{Writer}
+use Rattle.ws_value.specs.declared.ids.PromiseId.{PromiseId}
+use Rattle.ws_steps.specs.Bytes as byte
+use Rattle.ws_steps.specs.Readable as readable
+use Rattle.ws_steps.specs.declared.readable.ReadableOperation.TheVariants.{InitializeReader}
 use Rattle.std.proofs.Common.{◌≡◌, ◌⊎◌, inl, inr, ⊎_elim, Option, Some, None, ap, Bool, true, false, List, [], ◌∷◌, ◌++◌, refl, sym, ◌∙◌, append_assoc, append-nil, arith}
 use Rattle.ws_value.specs.declared.ids.StreamId.{StreamId}
 use Rattle.ws_value.specs.declared.value.Value.{Value}
@@ -18,7 +33,7 @@ use Rattle.ws_steps.specs.WritableHistory.{Writes, no_writes, writes_then, todo,
 use Rattle.ws_steps.specs.Laws.{IsWritableStep, EachWritableStep}
 use Rattle.ws_laws.proofs.EachCall.{each_call}
 use Rattle.ws_laws.proofs.Lists.{Each, each-append, append_cancel, append_none}
-use Rattle.ws_laws.proofs.Rows.{Causes, row-causes, row-streams}
+use Rattle.ws_laws.proofs.Rows.{row-causes, row-streams}
 use Rattle.ws_laws.proofs.Tables.{either, same_id, writable_acts, on_writable-other, on_writable-same}
 use Rattle.ws_laws.proofs.Walker.{performed-goes}
 use Rattle.ws_writable_laws.proofs.Shape.{Core, core_of, Told}
@@ -52,14 +67,48 @@ row-ended i e s ended = rw (row-streams e s tt) ended
 
 -- what a call that makes a stream begins with, and what comes of that
 abbrev IsMaking : Effect → Type 0
+IsMaking (Readable j (InitializeReader closed)) = Unit {0}
+IsMaking (Readable j Disturb) = Unit {0}
+IsMaking (Writable j (SetUpWriter w)) = Unit {0}
+IsMaking (Queue m) = Unit {0}
 IsMaking (StartAlgorithm j step start) = Unit {0}
 IsMaking (Give gift u) = Unit {0}
 IsMaking (Settle p o) = Unit {0}
 IsMaking (CallHost call u) = Unit {0}
 IsMaking _ = ⊥
 
-making-causes : (e : Effect) → IsMaking e → Causes IsMaking e
-making-causes e m = grind arith
+default-initializes : (j : StreamId) (closed : PromiseId) (s : Slots) → (on_readable (readable.reader_generic_initialize closed) j s).caused ≡ []
+unfolding readable.reader_generic_initialize
+default-initializes j closed s = grind arith
+
+byte-initializes : (j : StreamId) (closed : PromiseId) (s : Slots) → (on_byte (byte.reader_initialize DefaultKind closed) j s).caused ≡ []
+unfolding byte.reader_initialize readable.reader_generic_initialize
+byte-initializes j closed s = grind arith
+
+initializes : (j : StreamId) (closed : PromiseId) (s : Slots) → (row (Readable j (InitializeReader closed)) s).caused ≡ []
+unfolding row
+initializes j closed s =
+    either (λ (d : Done). d.caused ≡ []) (has_byte j s) (on_byte (byte.reader_initialize DefaultKind closed) j s) (on_readable (readable.reader_generic_initialize closed) j s)
+    (λ is. byte-initializes j closed s) (λ n. default-initializes j closed s)
+
+disturbs : (j : StreamId) (s : Slots) → (row (Readable j Disturb) s).caused ≡ []
+unfolding row readable.disturb
+disturbs j s = grind arith
+
+sets_up : (j : StreamId) (w : Writer) (s : Slots) → (row (Writable j (SetUpWriter w)) s).caused ≡ []
+unfolding row set_up_writer
+sets_up j w s = grind arith
+
+making-row : (e : Effect) (s : Slots) → IsMaking e → Each IsMaking (row e s).caused
+making-row (Readable j (InitializeReader closed)) s m = rw (initializes j closed s) tt
+making-row (Readable j Disturb) s m = rw (disturbs j s) tt
+making-row (Writable j (SetUpWriter w)) s m = rw (sets_up j w s) tt
+making-row (Queue q) s m = row-causes IsMaking (Queue q) s tt
+making-row (StartAlgorithm j step start) s m = row-causes IsMaking (StartAlgorithm j step start) s (λ g u. tt, λ c u. tt)
+making-row (Give gift u) s m = row-causes IsMaking (Give gift u) s tt
+making-row (Settle p o) s m = row-causes IsMaking (Settle p o) s tt
+making-row (CallHost call u) s m = row-causes IsMaking (CallHost call u) s tt
+making-row _ s m = absurd m
 
 making_none : (i : StreamId) (e : Effect) (s : Slots) → IsMaking e → (effect_writes i e s).written ≡ []
 making_none i e s m = grind arith
@@ -77,7 +126,7 @@ row_unwritten i h s e es u =
     ⊎_elim
     (λ m. record {
       none = rw (u.none, making_none i e s m.0) refl;
-      idle = inl (each-append IsMaking (row e s).caused es (row-causes IsMaking e s (making-causes e m.0)) m.1);
+      idle = inl (each-append IsMaking (row e s).caused es (making-row e s m.0) m.1);
     })
     (λ b. record { none = rw (u.none, ended_none i e s b) refl; idle = inr (row-ended i e s b) })
     u.idle
@@ -88,6 +137,10 @@ performed_none i d b = (performed-goes no_writes writes_then is_history (effect_
 job_ended : (i : StreamId) (s : Slots) (job : Option Job) → has_ended (writable_at i s).state ≡ true → has_ended (writable_at i (job_begun s job).slots).state ≡ true
 job_ended i s None e = e
 job_ended i s (Some job) e = e
+
+open-making : (side : Side) (j : StreamId) → Each IsMaking (calls.start_end j side ∷ [])
+open-making ReadableSide j = (tt, tt)
+open-making WritableSide j = (tt, tt)
 
 call_none : (i : StreamId) (s : Slots) (c : Call) → has_ended (writable_at i s).state ≡ true → Each IsMaking (begin c s).done.caused ⊎ (has_ended (writable_at i (begin c s).done.slots).state ≡ true)
 call_none i s c e =
@@ -124,6 +177,10 @@ call_none i s c e =
       fail_writable = λ j reason. inr e;
       pipe = λ source dest prevent signal f g k l. inr e;
       make_signal = inr e;
+      open_end = λ side. inl (open-making side _);
+      send_readable = λ j there free. inl (grind arith);
+      send_writable = λ j there free. inl (grind arith);
+      deliver = λ c m asked is. inr e;
       trigger = λ a reason. inr e;
       settle = λ h answer p f. inr e;
     })
@@ -149,6 +206,7 @@ forgotten-kept i h s e k =
     record {
       unmade = λ g. let u = k.unmade g in grind arith;
       halved = k.halved;
+      ended = k.ended;
       held = record { behind = refl; dropped = []; fine = rw (so_far-nothing i (forgotten h) (writable_at i s)) (record { shape = r.shape; closing = r.closing; told = t; owed = r.owed }) };
     }
 

@@ -9,12 +9,12 @@ use Rattle.ws_value.specs.declared.value.Outcome.{Outcome}
 use Rattle.ws_value.specs.declared.value.Plain.{Plain}
 use Rattle.ws_value.specs.declared.value.Value.{Value}
 use Rattle.ws_steps.specs.declared.{calls.Call.{Call}, calls.Event.{Event}, calls.Event.TheVariants.{Host as HostCalled, Signal}, calls.HostCall.{HostCall}}
-use Rattle.ws_steps.specs.declared.{calls.HostCall.TheVariants.{Write as HostWrite, Close as HostClose, Transform as HostTransform, Flush as HostFlush, CancelTransform as HostCancelTransform}, effects.Effect.{Effect}, effects.Owner.{Owner}, effects.Owner.TheVariants.{Host, HalfOf, BranchOf}}
-use Rattle.ws_steps.specs.declared.effects.Effect.TheVariants.{Readable, Writable, Pipe, Signal as SignalEffect, Transform, Tee, Queue, PullAlgorithm, CancelAlgorithm, WriteAlgorithm, CloseAlgorithm, AbortAlgorithm, ChunkSteps, CloseSteps, ErrorSteps, StartAlgorithm, CallHost}
+use Rattle.ws_steps.specs.declared.{calls.HostCall.TheVariants.{Write as HostWrite, Close as HostClose, Transform as HostTransform, Flush as HostFlush, CancelTransform as HostCancelTransform}, effects.Effect.{Effect}, effects.Owner.{Owner}, effects.Owner.TheVariants.{Host, HalfOf, BranchOf, EndOf}}
+use Rattle.ws_steps.specs.declared.effects.Effect.TheVariants.{Readable, Writable, Pipe, Signal as SignalEffect, Transform, Tee, Port, Queue, PullAlgorithm, CancelAlgorithm, WriteAlgorithm, CloseAlgorithm, AbortAlgorithm, ChunkSteps, CloseSteps, ErrorSteps, StartAlgorithm, CallHost}
 use Rattle.ws_steps.specs.declared.{effects.Gift.{Gift}, effects.Use.{Use}, promises.Job.{Job}, promises.Reaction.{Reaction}, readable.ReadableOperation.{ReadableOperation}}
 use Rattle.ws_steps.specs.declared.{writable.WritableOperation.{WritableOperation}, writable.WritableOperation.TheVariants.{HandOn}}
 use Rattle.ws_steps.specs.declared.{promises.Step.TheVariants.{ReadablePull, ReturnUndefined, WritableClose, WritableAbort}, effects.Use.TheVariants.{React}}
-use Rattle.ws_steps.specs.declared.{transform.Taker.{Taker}, transform.Taker.TheVariants.{ToHost, ToTransform}, transform.TransformId.{TransformId}, transform.TransformOperation.{TransformOperation}}
+use Rattle.ws_steps.specs.declared.{transform.Taker.{Taker}, transform.Taker.TheVariants.{ToHost, ToTransform, ToPort}, transform.TransformId.{TransformId}, transform.TransformOperation.{TransformOperation}}
 use Rattle.ws_steps.specs.Effects.{Out, cause}
 use Rattle.ws_steps.specs.Operations.{writable_operation, pipe_operation, signal_operation, transform_operation, tee_operation}
 use Rattle.ws_steps.specs.Promises.{Table, fresh, settle, answer, react, follow, unfollow, use_this, use_gift, queue_micro, tell, taken, after_next_job, watch}
@@ -39,12 +39,20 @@ use Rattle.ws_laws.proofs.EachCall.{each_call}
 use Rattle.ws_laws.proofs.Lists.{append_none}
 use Rattle.ws_laws.proofs.Walker as walker
 use Rattle.ws_laws.proofs.Walker.{GoesUntold, performed-goes}
-use Rattle.ws_writable_laws.proofs.Handed.{NoHalf, no-half}
+use Rattle.ws_writable_laws.proofs.Handed.{NoHalf, NoEnd, Tied, tied-row, tied-call, no-half, no-end}
+use Rattle.ws_laws.proofs.Ended.{Ended, ended-stays, ended-empty, AlwaysEnded}
+use Rattle.ws_laws.proofs.PortDoes.{PortCauses, port-causes, port-does}
+use Rattle.ws_value.specs.declared.ids.PortId.{PortId}
+use Rattle.ws_steps.specs.Cross as cross
+use Rattle.ws_steps.specs.declared.port.PortOperation.{PortOperation}
+use Rattle.ws_steps.specs.declared.calls.Event.TheVariants.{Post}
+use Rattle.ws_steps.specs.Operations.{port_operation}
+use Rattle.ws_steps.specs.Slots.{on_port_at, clones_at}
 use Rattle.ws_writable_laws.proofs.Runs.{nothing-writes, is_history, call-was, run-was}
 use Rattle.ws_laws.proofs.Tables.{writable_acts, same_id}
 use Rattle.ws_laws.proofs.Lists.{Each, each-append, each-map}
 use Rattle.ws_laws.proofs.Begin.{IsFirst, Enqueues, Never, begin-first, job-first}
-use Rattle.ws_laws.proofs.Halves.{Halved, halved-stays, halved-empty, step-halved}
+use Rattle.ws_laws.proofs.Halves.{halved-empty, step-halved}
 use Rattle.ws_laws.proofs.Rows.{SignalCauses, row-causes}
 use Rattle.ws_laws.proofs.Shapes.{row-owner}
 use Rattle.ws_laws.proofs.TransformDoes.{TransformCauses, transform-causes, transform-does}
@@ -304,39 +312,68 @@ module _ (i : StreamId) (ear : Ear) where
       tee-does (λ z. heard z ≡ heard s.promises) (record { fresh = λ z h. fresh-heard z ∙ h; micro = λ z m h. micro-heard m z ∙ h }) t operation a refl in
       record { events = same ∙ sym (append-nil (heard s.promises)); caused = silent ∙ sym ear.none; alone = none_later b.out.effects silent }
 
+  -- ports
+
+  port_effect-silent : (me : PortId) (stream : StreamId) (e : Effect) → PortCauses me stream e → of_effect e ≡ []
+  port_effect-silent me stream (CallHost call u) c = absurd c
+  port_effect-silent me stream _ c = refl
+
+  port-silent : (me : PortId) (stream : StreamId) (es : List Effect) → Each (PortCauses me stream) es → of_effects es ≡ []
+  port-silent me stream [] c = refl
+  port-silent me stream (e ∷ es) c = rw (port_effect-silent me stream e c.0, port-silent me stream es c.1) refl
+
+  port-hears : (c : PortId) (operation : PortOperation) (s : Slots) (o : Option cross.Slots)
+      → let d : Done = on_port_at (λ clones. port_operation c clones operation) c s o in Hears (Port c operation) s d.slots d.caused
+  port-hears c operation s None = let m = ear.none in grind (arith, append-nil)
+  port-hears c operation s (Some x) =
+      let a : cross.Acts = record { slots = x; out = found s } in
+      let b : cross.Acts = port_operation c (clones_at x s) operation a in
+      let silent = port-silent c x.stream b.out.effects (port-causes c (clones_at x s) operation a tt).1.1 in
+      let same : heard b.out.promises ≡ heard s.promises =
+      port-does (λ z. heard z ≡ heard s.promises)
+      (record { fresh = λ z h. fresh-heard z ∙ h; settle = λ z p o h. settle-heard p o z ∙ h; post = λ z p m h. silent-heard (Post p m) z refl ∙ h }) c (clones_at x s) operation a refl in
+      record { events = same ∙ sym (append-nil (heard s.promises)); caused = silent ∙ sym ear.none; alone = none_later b.out.effects silent }
+
   -- algorithms, by whose they are
 
   pull-hears : (j : StreamId) (s : Slots) (o : Owner) → Hears (PullAlgorithm j) s s (pull_algorithm j (React (ReadablePull j) None) o)
   pull-hears j s Host = let m = ear.none in grind (arith, append-nil)
   pull-hears j s (HalfOf t) = let m = ear.none in grind (arith, append-nil)
   pull-hears j s (BranchOf t half) = let m = ear.none in grind (arith, append-nil)
+  pull-hears j s (EndOf c) = let m = ear.none in grind (arith, append-nil)
 
   cancel-hears : (j : StreamId) (r : Plain) (p : PromiseId) (s : Slots) (o : Owner) → Hears (CancelAlgorithm j r p) s s (cancel_algorithm j r (React ReturnUndefined (Some p)) o)
   cancel-hears j r p s Host = let m = ear.none in grind (arith, append-nil)
   cancel-hears j r p s (HalfOf t) = let m = ear.none in grind (arith, append-nil)
   cancel-hears j r p s (BranchOf t half) = let m = ear.none in grind (arith, append-nil)
+  cancel-hears j r p s (EndOf c) = let m = ear.none in grind (arith, append-nil)
 
   write-hears : (j : StreamId) (s : Slots) (o : Owner) → Hears (WriteAlgorithm j) s s (write_algorithm j o)
   write-hears j s Host = let m = ear.none in grind (arith, append-nil)
   write-hears j s (HalfOf t) = let m = ear.none in grind (arith, append-nil)
   write-hears j s (BranchOf t half) = let m = ear.none in grind (arith, append-nil)
+  write-hears j s (EndOf c) = let m = ear.none in grind (arith, append-nil)
 
   abort-hears : (j : StreamId) (r : Plain) (p : PromiseId) (s : Slots) (o : Owner) → Hears (AbortAlgorithm j r p) s s (abort_algorithm j r (React (WritableAbort j p) None) o)
   abort-hears j r p s Host = let m = ear.none in grind (arith, append-nil)
   abort-hears j r p s (HalfOf t) = let m = ear.none in grind (arith, append-nil)
   abort-hears j r p s (BranchOf t half) = let m = ear.none in grind (arith, append-nil)
+  abort-hears j r p s (EndOf c) = let m = ear.none in grind (arith, append-nil)
 
   -- the close algorithm of this stream is the host's
   close-hears : (j : StreamId) (s : Slots) (o : Owner) (same : Bool) → same ≡ is_same i j → (same ≡ true → o ≡ Host) → Hears (CloseAlgorithm j) s s (close_algorithm j (React (WritableClose j) None) o)
   close-hears j s Host same e host = let n = ear.closes in let m = ear.none in grind (arith, append-nil)
   close-hears j s (HalfOf t) true e host = let wrong : HalfOf t ≡ Host = host refl in cc
   close-hears j s (BranchOf t half) true e host = let wrong : BranchOf t half ≡ Host = host refl in cc
+  close-hears j s (EndOf c) true e host = let wrong : EndOf c ≡ Host = host refl in cc
   close-hears j s (HalfOf t) false e host = let m = ear.none in grind (arith, append-nil, e)
   close-hears j s (BranchOf t half) false e host = let m = ear.none in grind (arith, append-nil, e)
+  close-hears j s (EndOf c) false e host = let m = ear.none in grind (arith, append-nil, e)
 
   -- its chunks are handed on to the host alone
   abbrev HandsToHost : Effect → Type 0
   HandsToHost (Writable j (HandOn (ToTransform t d))) = is_same i j ≡ false
+  HandsToHost (Writable j (HandOn (ToPort c d))) = is_same i j ≡ false
   HandsToHost _ = Unit {0}
 
   hand_on-hears : (j : StreamId) (taker : Taker) (s : Slots) → HandsToHost (Writable j (HandOn taker))
@@ -344,6 +381,7 @@ module _ (i : StreamId) (ear : Ear) where
   unfolding hand_on
   hand_on-hears j ToHost s n = let m = ear.none in grind (arith, ear.acts, append-nil)
   hand_on-hears j (ToTransform t d) s n = let m = ear.none in grind (arith, append-nil, n)
+  hand_on-hears j (ToPort c d) s n = let m = ear.none in grind (arith, append-nil, n)
 
   row-hears : (e : Effect) (s : Slots) → owner_at i s ≡ Host → HandsToHost e → Hears e s (row e s).slots (row e s).caused
   unfolding row
@@ -353,6 +391,7 @@ module _ (i : StreamId) (ear : Ear) where
   row-hears (Writable j operation) s o n = others-hear j operation s (λ u. u)
   row-hears (Transform t operation) s o n = transform-hears t operation s (slice_get s.transforms t.0)
   row-hears (Tee t operation) s o n = tee-hears t operation s (slice_get s.tees t.0)
+  row-hears (Port c operation) s o n = port-hears c operation s (slice_get s.ports c.0)
   row-hears (PullAlgorithm j) s o n = pull-hears j s (owner_at j s)
   row-hears (CancelAlgorithm j r p) s o n = cancel-hears j r p s (owner_at j s)
   row-hears (WriteAlgorithm j) s o n = write-hears j s (owner_at j s)
@@ -388,6 +427,7 @@ module _ (i : StreamId) (ear : Ear) where
 
   pipe-host : (p : PipeId) (source dest : StreamId) (e : Effect) → PipeCauses p source dest e → HandsToHost e
   pipe-host p source dest (Writable j (HandOn (ToTransform t d))) c = absurd c
+  pipe-host p source dest (Writable j (HandOn (ToPort me d))) c = absurd c
   pipe-host p source dest _ c = tt
 
   signal-host : (operation : SignalOperation) → SignalCauses HandsToHost operation
@@ -397,6 +437,7 @@ module _ (i : StreamId) (ear : Ear) where
 
   transform_effect-host : (t : TransformId) (w r : StreamId) → is_same i w ≡ false → (e : Effect) → TransformCauses t w r e → HandsToHost e
   transform_effect-host t w r n (Writable j (HandOn (ToTransform u d))) c = rw c.0 n
+  transform_effect-host t w r n (Writable j (HandOn (ToPort me d))) c = absurd c
   transform_effect-host t w r n _ c = tt
 
   transform-host : (t : TransformId) (operation : TransformOperation) (s : Slots) (o : Option transform.Slots) → slice_get s.transforms t.0 ≡ o → NoHalf i s
@@ -410,35 +451,48 @@ module _ (i : StreamId) (ear : Ear) where
   tee_effect-host t source first second (Writable j operation) c = absurd c
   tee_effect-host t source first second _ c = tt
 
-  row-host : (e : Effect) (s : Slots) → NoHalf i s → Each HandsToHost (row e s).caused
+  port_effect-host : (me : PortId) (stream : StreamId) → is_same i stream ≡ false → (e : Effect) → PortCauses me stream e → HandsToHost e
+  port_effect-host me stream n (Writable j (HandOn (ToTransform t d))) c = absurd c
+  port_effect-host me stream n (Writable j (HandOn (ToPort p d))) c = rw c.0 n
+  port_effect-host me stream n _ c = tt
+
+  port-host : (c : PortId) (operation : PortOperation) (s : Slots) (o : Option cross.Slots) → slice_get s.ports c.0 ≡ o → NoEnd i s
+      → Each HandsToHost (on_port_at (λ clones. port_operation c clones operation) c s o).caused
+  port-host c operation s None is free = tt
+  port-host c operation s (Some x) is free =
+      let a : cross.Acts = record { slots = x; out = found s } in
+      each-map (PortCauses c x.stream) HandsToHost (port_effect-host c x.stream (free c x is)) _ (port-causes c (clones_at x s) operation a tt).1.1
+
+  row-host : (e : Effect) (s : Slots) → NoHalf i s → NoEnd i s → Each HandsToHost (row e s).caused
   unfolding row
-  row-host (Transform t operation) s apart = transform-host t operation s (slice_get s.transforms t.0) refl apart
-  row-host (Tee t operation) s apart = row-causes HandsToHost (Tee t operation) s (tee_effect-host t)
-  row-host (Readable j operation) s apart = row-causes HandsToHost (Readable j operation) s (record { pull = tt; cancel = λ r p. tt; chunk = λ r v. tt; close = λ r. tt; error = λ r e. tt })
-  row-host (Byte j operation) s apart =
+  row-host (Transform t operation) s apart free = transform-host t operation s (slice_get s.transforms t.0) refl apart
+  row-host (Tee t operation) s apart free = row-causes HandsToHost (Tee t operation) s (tee_effect-host t)
+  row-host (Port c operation) s apart free = port-host c operation s (slice_get s.ports c.0) refl free
+  row-host (Readable j operation) s apart free = row-causes HandsToHost (Readable j operation) s (record { pull = tt; cancel = λ r p. tt; chunk = λ r v. tt; close = λ r. tt; error = λ r e. tt })
+  row-host (Byte j operation) s apart free =
       row-causes HandsToHost (Byte j operation) s (record { readable = record { pull = tt; cancel = λ r p. tt; chunk = λ r v. tt; close = λ r. tt; error = λ r e. tt }; close_with = λ r b. tt })
-  row-host (CloseStepsWith j (Promise p) b) s apart = tt
-  row-host (CloseStepsWith j (PipeRequest p) b) s apart = (tt, tt)
-  row-host (CloseStepsWith j (TeeRequest t) b) s apart = (tt, tt)
-  row-host (Writable j operation) s apart = row-causes HandsToHost (Writable j operation) s (record { write = tt; close = tt; abort = λ r p. tt; hand_on = λ v. tt; take = λ v t d. tt })
-  row-host (Pipe p operation) s apart = row-causes HandsToHost (Pipe p operation) s (pipe-host p)
-  row-host (SignalEffect a operation) s apart = row-causes HandsToHost (SignalEffect a operation) s (signal-host operation)
-  row-host (StartAlgorithm j step start) s apart = row-causes HandsToHost (StartAlgorithm j step start) s (λ g u. tt, λ c u. tt)
-  row-host (PullAlgorithm j) s apart = row-causes HandsToHost (PullAlgorithm j) s (λ c u. tt, (λ t u. tt, (λ t. tt, λ u. tt)))
-  row-host (CancelAlgorithm j r p) s apart = row-causes HandsToHost (CancelAlgorithm j r p) s (λ c u. tt, (λ t u. tt, λ t half u. tt))
-  row-host (WriteAlgorithm j) s apart = row-causes HandsToHost (WriteAlgorithm j) s (tt, λ t u. tt)
-  row-host (CloseAlgorithm j) s apart = row-causes HandsToHost (CloseAlgorithm j) s (λ c u. tt, λ t u. tt)
-  row-host (AbortAlgorithm j r p) s apart = row-causes HandsToHost (AbortAlgorithm j r p) s (λ c u. tt, λ t u. tt)
-  row-host (ChunkSteps j (Promise p) v) s apart = tt
-  row-host (ChunkSteps j (PipeRequest p) v) s apart = (tt, tt)
-  row-host (ChunkSteps j (TeeRequest t) v) s apart = (tt, tt)
-  row-host (CloseSteps j (Promise p)) s apart = tt
-  row-host (CloseSteps j (PipeRequest p)) s apart = (tt, tt)
-  row-host (CloseSteps j (TeeRequest t)) s apart = (tt, tt)
-  row-host (ErrorSteps j (Promise p) e) s apart = tt
-  row-host (ErrorSteps j (PipeRequest p) e) s apart = (tt, tt)
-  row-host (ErrorSteps j (TeeRequest t) e) s apart = (tt, tt)
-  row-host _ s apart = tt
+  row-host (CloseStepsWith j (Promise p) b) s apart free = tt
+  row-host (CloseStepsWith j (PipeRequest p) b) s apart free = (tt, tt)
+  row-host (CloseStepsWith j (TeeRequest t) b) s apart free = (tt, tt)
+  row-host (Writable j operation) s apart free = row-causes HandsToHost (Writable j operation) s (record { write = tt; close = tt; abort = λ r p. tt; hand_on = λ v. tt; take = λ v t d. tt; post = λ v t d. tt })
+  row-host (Pipe p operation) s apart free = row-causes HandsToHost (Pipe p operation) s (pipe-host p)
+  row-host (SignalEffect a operation) s apart free = row-causes HandsToHost (SignalEffect a operation) s (signal-host operation)
+  row-host (StartAlgorithm j step start) s apart free = row-causes HandsToHost (StartAlgorithm j step start) s (λ g u. tt, λ c u. tt)
+  row-host (PullAlgorithm j) s apart free = row-causes HandsToHost (PullAlgorithm j) s (λ c u. tt, (λ t u. tt, (λ t. tt, (λ u. tt, λ c. tt))))
+  row-host (CancelAlgorithm j r p) s apart free = row-causes HandsToHost (CancelAlgorithm j r p) s (λ c u. tt, (λ t u. tt, (λ t half u. tt, λ c u. tt)))
+  row-host (WriteAlgorithm j) s apart free = row-causes HandsToHost (WriteAlgorithm j) s (tt, (λ t u. tt, λ c u. tt))
+  row-host (CloseAlgorithm j) s apart free = row-causes HandsToHost (CloseAlgorithm j) s (λ c u. tt, (λ t u. tt, λ c u. tt))
+  row-host (AbortAlgorithm j r p) s apart free = row-causes HandsToHost (AbortAlgorithm j r p) s (λ c u. tt, (λ t u. tt, λ c u. tt))
+  row-host (ChunkSteps j (Promise p) v) s apart free = tt
+  row-host (ChunkSteps j (PipeRequest p) v) s apart free = (tt, tt)
+  row-host (ChunkSteps j (TeeRequest t) v) s apart free = (tt, tt)
+  row-host (CloseSteps j (Promise p)) s apart free = tt
+  row-host (CloseSteps j (PipeRequest p)) s apart free = (tt, tt)
+  row-host (CloseSteps j (TeeRequest t)) s apart free = (tt, tt)
+  row-host (ErrorSteps j (Promise p) e) s apart free = tt
+  row-host (ErrorSteps j (PipeRequest p) e) s apart free = (tt, tt)
+  row-host (ErrorSteps j (TeeRequest t) e) s apart free = (tt, tt)
+  row-host _ s apart free = tt
 
   row-told : (base : List Value) (h : Writes) (s : Slots) (e : Effect) (es : List Effect) → owner_at i s ≡ Host → HandsToHost e → Told base h s (e ∷ es) → Told base (writes_then h (effect_writes i e s)) (row e s).slots ((row e s).caused ++ es)
   row-told base h s e es o u t =
@@ -460,19 +514,20 @@ module _ (i : StreamId) (ear : Ear) where
 
   first-host : (E : StreamId → Value → Type 0) (e : Effect) → IsFirst E e → HandsToHost e
   first-host E (Writable j (HandOn (ToTransform t d))) f = absurd f
+  first-host E (Writable j (HandOn (ToPort c d))) f = absurd f
   first-host E _ f = tt
 
   -- what is known of a stream of the host
   abbrev Known : List Value → Writes → Slots → List Effect → Type 0
-  Known base h s es = (owner_at i s ≡ Host → Told base h s es × Each HandsToHost es) × Halved s
+  Known base h s es = (owner_at i s ≡ Host → Told base h s es × Each HandsToHost es) × Tied s
 
   row-known : (base : List Value) (h : Writes) (s : Slots) (e : Effect) (es : List Effect) → Known base h s (e ∷ es) → Known base (writes_then h (effect_writes i e s)) (row e s).slots ((row e s).caused ++ es)
   row-known base h s e es k = (
     λ host.
         let o : owner_at i s ≡ Host = sym (row-owner i e s) ∙ host in
         let t = k.0 o in
-        (row-told base h s e es o t.1.0 t.0, each-append HandsToHost (row e s).caused es (row-host e s (no-half s i k.1 o)) t.1.1),
-    halved-stays.row s e es k.1,
+        (row-told base h s e es o t.1.0 t.0, each-append HandsToHost (row e s).caused es (row-host e s (no-half s i k.1.0 o) (no-end s i k.1.1 o)) t.1.1),
+    tied-row s e es k.1.0 k.1.1,
   )
 
   told-goes : (base : List Value) → GoesUntold writes_then (effect_writes i) (Known base)
@@ -483,7 +538,7 @@ module _ (i : StreamId) (ear : Ear) where
         quiet-told base h s (begin c s).done.slots (begin c s).done.caused b.0 b.1 (k.0 (call-was i s s c (λ o. o) host)).0,
         each-map (IsFirst (Enqueues c)) HandsToHost (first-host (Enqueues c)) (begin c s).done.caused (begin-first c s),
       ),
-      halved-stays.call s c k.1,
+      tied-call s c k.1.0 k.1.1,
     );
     job = λ h s job e k. (
       λ host. (
@@ -515,21 +570,24 @@ module _ (i : StreamId) (ear : Ear) where
   taken_first (e ∷ es) = rw (append-nil (of_event e)) refl
 
   -- what the host takes in a step, and what is there after it, is what was there before, and what the step told
-  step-heard : (s : Slots) (x : RunEntry) → Halved s → owner_at i (step s x) ≡ Host → of_events (taken_in_step s x) ++ heard (step s x).promises ≡ heard s.promises ++ ear.history (step_writes i s x)
-  step-heard s (Called c) halved host =
-      step_told s (step_writes i s (Called c)) (step s (Called c)) ((walker.called-goes_untold no_writes writes_then is_history (effect_writes i) (Known (heard s.promises)) (told-goes (heard s.promises)) no_writes s c (λ o. (at_first s, tt), halved)).0 host).0
-  step-heard s Worked halved host =
-      step_told s (step_writes i s Worked) (step s Worked) ((walker.worked-goes_untold no_writes writes_then is_history (effect_writes i) (Known (heard s.promises)) (told-goes (heard s.promises)) no_writes s (λ o. (at_first s, tt), halved)).0 host).0
-  step-heard s Heard halved host = rw (nothing_told s, ear.none, append-nil) (taken_first s.promises.events)
+  step-heard : (s : Slots) (x : RunEntry) → Tied s → owner_at i (step s x) ≡ Host → of_events (taken_in_step s x) ++ heard (step s x).promises ≡ heard s.promises ++ ear.history (step_writes i s x)
+  step-heard s (Called c) tied host =
+      step_told s (step_writes i s (Called c)) (step s (Called c)) ((walker.called-goes_untold no_writes writes_then is_history (effect_writes i) (Known (heard s.promises)) (told-goes (heard s.promises)) no_writes s c (λ o. (at_first s, tt), tied)).0 host).0
+  step-heard s Worked tied host =
+      step_told s (step_writes i s Worked) (step s Worked) ((walker.worked-goes_untold no_writes writes_then is_history (effect_writes i) (Known (heard s.promises)) (told-goes (heard s.promises)) no_writes s (λ o. (at_first s, tt), tied)).0 host).0
+  step-heard s Heard tied host = rw (nothing_told s, ear.none, append-nil) (taken_first s.promises.events)
 
-  pub run-heard : (xs : List RunEntry) (s : Slots) → Halved s → owner_at i (run xs s) ≡ Host → of_events (run_events xs s) ≡ heard s.promises ++ ear.history (run_writes i xs s)
-  run-heard [] s halved host = sym (ap (λ vs. heard s.promises ++ vs) ear.none ∙ append-nil (heard s.promises))
-  run-heard (x ∷ xs) s halved host =
+  step-ended : (x : RunEntry) (s : Slots) → Ended s → Ended (step s x)
+  step-ended x s h = walker.run-stays AlwaysEnded ended-stays (λ z k. k) (x ∷ []) s h
+
+  pub run-heard : (xs : List RunEntry) (s : Slots) → Tied s → owner_at i (run xs s) ≡ Host → of_events (run_events xs s) ≡ heard s.promises ++ ear.history (run_writes i xs s)
+  run-heard [] s tied host = sym (ap (λ vs. heard s.promises ++ vs) ear.none ∙ append-nil (heard s.promises))
+  run-heard (x ∷ xs) s tied host =
       let f : Writes = step_writes i s x in
       let g : Writes = run_writes i xs (step s x) in
       let a = events-append (taken_in_step s x) (run_events xs (step s x)) in
-      let b = run-heard xs (step s x) (step-halved x s halved) host in
-      let c = step-heard s x halved (run-was i xs (step s x) host) in
+      let b = run-heard xs (step s x) (step-halved x s tied.0, step-ended x s tied.1) host in
+      let c = step-heard s x tied (run-was i xs (step s x) host) in
       let d = ear.after f g in grind (arith, append_assoc)
 
 -- writes
@@ -544,4 +602,4 @@ writes-heard i (e ∷ es) = let n = writes-heard i es in grind arith
 
 pub acted_was_heard : ActedWasHeard
 unfolding hears_writes
-acted_was_heard entries i = λ host. sym (run-heard i hears_writes entries empty halved-empty host) ∙ writes-heard i (run_events entries empty)
+acted_was_heard entries i = λ host. sym (run-heard i hears_writes entries empty (halved-empty, ended-empty) host) ∙ writes-heard i (run_events entries empty)

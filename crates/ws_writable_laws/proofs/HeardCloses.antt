@@ -10,6 +10,7 @@ use Rattle.ws_steps.specs.Histories.{run_events}
 use Rattle.ws_steps.specs.WritableHistory.{run_writes, heard_closes}
 use Rattle.ws_steps.specs.Laws.{ClosesWereHeard}
 use Rattle.ws_laws.proofs.Halves.{halved-empty}
+use Rattle.ws_laws.proofs.Ended.{ended-empty}
 use Rattle.ws_writable_laws.proofs.Heard.{Ear, of_events, run-heard}
 
 -- a mark for each close
@@ -36,4 +37,4 @@ closes-heard i (e ∷ es) = let c = closes-heard i es in grind (arith, length-ap
 pub closes_were_heard : ClosesWereHeard
 unfolding hears_closes
 closes_were_heard entries i = λ host.
-    sym (length-marks (run_writes i entries empty).closes) ∙ (sym (ap length (run-heard i hears_closes entries empty halved-empty host)) ∙ closes-heard i (run_events entries empty))
+    sym (length-marks (run_writes i entries empty).closes) ∙ (sym (ap length (run-heard i hears_closes entries empty (halved-empty, ended-empty) host)) ∙ closes-heard i (run_events entries empty))

@@ -1,6 +1,7 @@
 pub mod Shape
 pub mod Operations
 pub mod Transforms
+pub mod Ports
 pub mod Handed
 pub mod Agenda
 pub mod Runs

@@ -12,7 +12,7 @@ use Rattle.ws_steps.specs.Promises.{settle}
 use Rattle.ws_steps.specs.Queues.{first_value, with_first_value, rest_of, enqueued, size_of}
 use Rattle.ws_steps.specs.Writable.{Slots, Acts, with_promises, is_writable, is_erroring, is_errored, is_closed, is_in_flight, reject_close_and_closed, abort_by, finish_abort, fail_writes, finish_erroring, reject_ready, start_erroring, deal_with_rejection, controller_error_if_needed, first_request, later_requests, process_write, process_close, process_first, advance_queue, has_ended, update_backpressure, refresh_backpressure, write_ended, without_first, write_settled, close_ended, abort_ended, clear_error, fulfil_closed, finish_in_flight_close, finish_in_flight_close_with_error, close_settled, start_settled, abort_settled, is_closing, enqueue_chunk, controller_write, add_write_request, write_refusal, write_by, writer_write, controller_close, add_close_request, fulfil_ready, stream_close, close_with_error_propagation, add_pending_abort, begin_abort, signalled, stream_abort, abort_if_writable, set_up_writer, release_by, writer_release}
 use Rattle.ws_steps.specs.WritableHistory.{Writes, todo, first_chunk, fulfilled_by, no_writes, writes_then, written_by, written_unless, operation_writes}
-use Rattle.ws_steps.specs.declared.{effects.Effect.TheVariants.{Writable as OnWritable}, effects.Owner.{Owner}, effects.Owner.TheVariants.{Host, HalfOf, BranchOf}}
+use Rattle.ws_steps.specs.declared.{effects.Effect.TheVariants.{Writable as OnWritable}, effects.Owner.{Owner}, effects.Owner.TheVariants.{Host, HalfOf, BranchOf, EndOf}}
 use Rattle.ws_steps.specs.declared.writable.WritableOperation.{WritableOperation}
 use Rattle.ws_steps.specs.declared.writable.WritableOperation.TheVariants.{SetUpWriter, ReleaseWriter, Write, Close, ClosePropagating, Abort, AbortIfWritable, ErrorIfNeeded, HandOn, StartSettled, WriteSettled, CloseSettled, AbortSettled}
 use Rattle.ws_steps.specs.Effects.{type_error}
@@ -72,6 +72,7 @@ abbrev handed_by_owner : Slots → Owner → Slots
 handed_by_owner s Host = record s { queue = handed_queue s.queue }
 handed_by_owner s (HalfOf t) = s
 handed_by_owner s (BranchOf t half) = s
+handed_by_owner s (EndOf c) = s
 
 abbrev pub handed : ℕ → Slots → Slots
 handed zero s = s
@@ -81,6 +82,7 @@ abbrev owner_handed : Slots → Owner → List Value
 owner_handed s Host = first_chunk s.queue
 owner_handed s (HalfOf t) = []
 owner_handed s (BranchOf t half) = []
+owner_handed s (EndOf c) = []
 
 abbrev pub chunk_handed : ℕ → Slots → List Value
 chunk_handed zero s = []
@@ -232,6 +234,8 @@ process_write-held i n h d a v Host o e w b q f =
 process_write-held i n h d a v (HalfOf t) o e w b q f =
     let k : h.closes + 0 ≡ h.closes = omega arith in rw q (record { behind = refl; dropped = d; fine = rw (is_same-refl i, ← o, k, append-nil h.acted) (rw (← o) at (process-half n h d (core_of a.slots) v (rw (← o) refl) e w b f)) })
 process_write-held i n h d a v (BranchOf t half) o e w b q f =
+    let k : h.closes + 0 ≡ h.closes = omega arith in rw q (record { behind = refl; dropped = d; fine = rw (is_same-refl i, ← o, k, append-nil h.acted) (rw (← o) at (process-half n h d (core_of a.slots) v (rw (← o) refl) e w b f)) })
+process_write-held i n h d a v (EndOf c) o e w b q f =
     let k : h.closes + 0 ≡ h.closes = omega arith in rw q (record { behind = refl; dropped = d; fine = rw (is_same-refl i, ← o, k, append-nil h.acted) (rw (← o) at (process-half n h d (core_of a.slots) v (rw (← o) refl) e w b f)) })
 
 process_first-held : (i : StreamId) (n : Due) (h : Writes) (d : List Value) (a : Acts) (first : Option WriteRecord) → first_value a.slots.queue ≡ first → is_some a.slots.write_in_flight ≡ false → a.slots.started ≡ true → a.out.effects ≡ []
@@ -415,6 +419,7 @@ pub signalled-same : (i : StreamId) (r : Plain) (a : Acts) (owner : Owner) → S
 signalled-same i r a Host = record { core = refl; effects = refl }
 signalled-same i r a (HalfOf t) = record { core = refl; effects = refl }
 signalled-same i r a (BranchOf t half) = record { core = refl; effects = refl }
+signalled-same i r a (EndOf c) = record { core = refl; effects = refl }
 
 abort-held : (i : StreamId) (r : Plain) (p : PromiseId) (n : Due) (h : Writes) (d : List Value) (a : Acts) → a.out.effects ≡ [] → Fine n h d (core_of a.slots) → Held i n h (stream_abort i r p a).out.effects (stream_abort i r p a).slots
 unfolding stream_abort

@@ -1,5 +1,6 @@
 -- The order of a writable stream over every run.
 use Rattle.std.proofs.Common.{◌≡◌, ◌≢◌, ℕ, ◌+◌, ◌≤◌, Bool, true, false, nat_eq, List, [], ◌∷◌, ◌++◌, length, Option, Some, None, slice_get, refl, sym, ap, subst, ◌∙◌, arith, append_assoc, append-nil}
+use Rattle.ws_steps.specs.declared.effects.Owner.TheVariants.{EndOf}
 use Rattle.ws_value.specs.declared.ids.PipeId.{PipeId}
 use Rattle.ws_value.specs.declared.ids.PromiseId.{PromiseId}
 use Rattle.ws_value.specs.declared.ids.SignalId.{SignalId}
@@ -26,7 +27,12 @@ use Rattle.ws_steps.specs.Laws.{IsLawfulWritable, EachWritableIsLawful}
 use Rattle.ws_laws.proofs.Lists.{append_none}
 use Rattle.ws_laws.proofs.Tables.{is_same-refl, same_id, eq_numbers, unequal_numbers, place_last, place_before, no_stream}
 use Rattle.ws_laws.proofs.EachCall.{each_call}
-use Rattle.ws_laws.proofs.Halves.{Halved, halved-stays, halved-empty, get-stays}
+use Rattle.ws_laws.proofs.Halves.{halved-empty, get-stays}
+use Rattle.ws_laws.proofs.Ended.{ended-empty}
+use Rattle.ws_writable_laws.proofs.Handed.{Tied, tied-call}
+use Rattle.ws_value.specs.declared.ids.PortId.{PortId}
+use Rattle.ws_steps.specs.declared.port.Side.{Side}
+use Rattle.ws_steps.specs.declared.port.Side.TheVariants.{Readable as ReadableSide, Writable as WritableSide}
 use Rattle.ws_laws.proofs.Shapes.{row-owner}
 use Rattle.ws_laws.proofs.Walker as walker
 use Rattle.ws_laws.proofs.Walker.{IsHistory, GoesUntold, RestsUntold}
@@ -41,38 +47,38 @@ use Rattle.ws_steps.specs.Bytes as byte
 
 -- the stream stays, the promises weigh no more, and nothing is caused that concerns it
 clear-kept : (i : StreamId) (h : Writes) (s z : Slots) (cs : List Effect) → (slice_get z.streams i.0 ≡ None → slice_get s.streams i.0 ≡ None) → writable_at i z ≡ writable_at i s → Lightens s.promises z.promises → all (mass i) cs ≡ 0
-    → Halved z → Kept i h s [] → Kept i h z cs
-clear-kept i h s z cs there place l m halved k =
+    → Tied z → Kept i h s [] → Kept i h z cs
+clear-kept i h s z cs there place l m tied k =
     let c = massless i cs m in
     let n = none_behind i cs c.hands in
-    let l1 = l (is_start i) in let l2 = l (is_write i) in let l3 = l (is_close i) in let l4 = l (is_abort i) in kept-lighter i h h s z [] cs (grind (arith, append-nil)) halved k
+    let l1 = l (is_start i) in let l2 = l (is_write i) in let l3 = l (is_close i) in let l4 = l (is_abort i) in kept-lighter i h h s z [] cs (grind (arith, append-nil)) tied k
 
-still-kept : (i : StreamId) (h : Writes) (s z : Slots) (cs : List Effect) → z.streams ≡ s.streams → Lightens s.promises z.promises → all (mass i) cs ≡ 0 → Halved z → Kept i h s [] → Kept i h z cs
-still-kept i h s z cs e l m halved k = clear-kept i h s z cs (λ n. rw e at n) (rw e refl) l m halved k
+still-kept : (i : StreamId) (h : Writes) (s z : Slots) (cs : List Effect) → z.streams ≡ s.streams → Lightens s.promises z.promises → all (mass i) cs ≡ 0 → Tied z → Kept i h s [] → Kept i h z cs
+still-kept i h s z cs e l m tied k = clear-kept i h s z cs (λ n. rw e at n) (rw e refl) l m tied k
 
 -- new streams
 
-added_other : (i : StreamId) (h : Writes) (s : Slots) (y : Stream) (cs : List Effect) → i.0 ≢ length s.streams → all (mass i) cs ≡ 0 → Halved (calls.add_stream y s) → Kept i h s [] → Kept i h (calls.add_stream y s) cs
-added_other i h s y cs n m halved k =
+added_other : (i : StreamId) (h : Writes) (s : Slots) (y : Stream) (cs : List Effect) → i.0 ≢ length s.streams → all (mass i) cs ≡ 0 → Tied (calls.add_stream y s) → Kept i h s [] → Kept i h (calls.add_stream y s) cs
+added_other i h s y cs n m tied k =
     let same = place_before s.streams y i.0 n in
-    clear-kept i h s (calls.add_stream y s) cs (λ e. sym same ∙ e) (ap as_writable same) (same_weight s.promises) m halved k
+    clear-kept i h s (calls.add_stream y s) cs (λ e. sym same ∙ e) (ap as_writable same) (same_weight s.promises) m tied k
 
-added_bytes : (i : StreamId) (h : Writes) (s : Slots) (b : byte.Slots) (cs : List Effect) (here : Bool) → here ≡ nat_eq i.0 (length s.streams) → all (mass i) cs ≡ 0 → Halved (calls.add_stream (ByteStream b) s) → Kept i h s []
+added_bytes : (i : StreamId) (h : Writes) (s : Slots) (b : byte.Slots) (cs : List Effect) (here : Bool) → here ≡ nat_eq i.0 (length s.streams) → all (mass i) cs ≡ 0 → Tied (calls.add_stream (ByteStream b) s) → Kept i h s []
     → Kept i h (calls.add_stream (ByteStream b) s) cs
-added_bytes i h s b cs false e m halved k = added_other i h s (ByteStream b) cs (unequal_numbers i.0 (length s.streams) (sym e)) m halved k
-added_bytes i h s b cs true e m halved k =
+added_bytes i h s b cs false e m tied k = added_other i h s (ByteStream b) cs (unequal_numbers i.0 (length s.streams) (sym e)) m tied k
+added_bytes i h s b cs true e m tied k =
     let at_end : i.0 ≡ length s.streams = eq_numbers i.0 (length s.streams) (sym e) in
     let before = no_stream i s.streams at_end in
     let after : slice_get (s.streams ++ ByteStream b ∷ []) i.0 ≡ Some (ByteStream b) = rw at_end (place_last s.streams (ByteStream b)) in
-    clear-kept i h s (calls.add_stream (ByteStream b) s) cs (λ n. cc) (ap as_writable after ∙ sym (ap as_writable before)) (same_weight s.promises) m halved k
+    clear-kept i h s (calls.add_stream (ByteStream b) s) cs (λ n. cc) (ap as_writable after ∙ sym (ap as_writable before)) (same_weight s.promises) m tied k
 
-added_readable : (i : StreamId) (h : Writes) (s : Slots) (r : readable.Slots) (cs : List Effect) (here : Bool) → here ≡ nat_eq i.0 (length s.streams) → all (mass i) cs ≡ 0 → Halved (calls.add_stream (ReadableStream r) s) → Kept i h s [] → Kept i h (calls.add_stream (ReadableStream r) s) cs
-added_readable i h s r cs false e m halved k = added_other i h s (ReadableStream r) cs (unequal_numbers i.0 (length s.streams) (sym e)) m halved k
-added_readable i h s r cs true e m halved k =
+added_readable : (i : StreamId) (h : Writes) (s : Slots) (r : readable.Slots) (cs : List Effect) (here : Bool) → here ≡ nat_eq i.0 (length s.streams) → all (mass i) cs ≡ 0 → Tied (calls.add_stream (ReadableStream r) s) → Kept i h s [] → Kept i h (calls.add_stream (ReadableStream r) s) cs
+added_readable i h s r cs false e m tied k = added_other i h s (ReadableStream r) cs (unequal_numbers i.0 (length s.streams) (sym e)) m tied k
+added_readable i h s r cs true e m tied k =
     let at_end : i.0 ≡ length s.streams = eq_numbers i.0 (length s.streams) (sym e) in
     let before = no_stream i s.streams at_end in
     let after : slice_get (s.streams ++ ReadableStream r ∷ []) i.0 ≡ Some (ReadableStream r) = rw at_end (place_last s.streams (ReadableStream r)) in
-    clear-kept i h s (calls.add_stream (ReadableStream r) s) cs (λ n. cc) (ap as_writable after ∙ sym (ap as_writable before)) (same_weight s.promises) m halved k
+    clear-kept i h s (calls.add_stream (ReadableStream r) s) cs (λ n. cc) (ap as_writable after ∙ sym (ap as_writable before)) (same_weight s.promises) m tied k
 
 -- a stream of which nothing has happened
 new-fine : (i : StreamId) (mark : ℕ) (size : SizeBy) (start : StartBy) (h : Writes) (s : Slots) (d : List Value) → Unmade i h s [] → Fine (with_effects i (among i s.promises) []) (so_far i h [] no_writable) d (core_of no_writable)
@@ -80,18 +86,19 @@ new-fine : (i : StreamId) (mark : ℕ) (size : SizeBy) (start : StartBy) (h : Wr
 new-fine i mark size start h s d u f =
     let one = is_same-refl i in grind (arith, append_none, append-nil)
 
-added_writable : (i j : StreamId) (mark : ℕ) (size : SizeBy) (start : StartBy) (h : Writes) (s : Slots) (here : Bool) → here ≡ is_same i j → j.0 ≡ length s.streams → Halved (calls.add_stream (WritableStream (writable.set_up Host mark size)) s) → Kept i h s []
+added_writable : (i j : StreamId) (mark : ℕ) (size : SizeBy) (start : StartBy) (h : Writes) (s : Slots) (here : Bool) → here ≡ is_same i j → j.0 ≡ length s.streams → Tied (calls.add_stream (WritableStream (writable.set_up Host mark size)) s) → Kept i h s []
     → Kept i h (calls.add_stream (WritableStream (writable.set_up Host mark size)) s) (StartAlgorithm j (WritableStart j) start ∷ [])
-added_writable i j mark size start h s false e at_end halved k =
-    added_other i h s (WritableStream (writable.set_up Host mark size)) (StartAlgorithm j (WritableStart j) start ∷ []) (λ f. unequal_numbers i.0 j.0 (sym e) (f ∙ sym at_end)) (rw (← e) refl) halved k
-added_writable i j mark size start h s true e at_end halved k =
+added_writable i j mark size start h s false e at_end tied k =
+    added_other i h s (WritableStream (writable.set_up Host mark size)) (StartAlgorithm j (WritableStart j) start ∷ []) (λ f. unequal_numbers i.0 j.0 (sym e) (f ∙ sym at_end)) (rw (← e) refl) tied k
+added_writable i j mark size start h s true e at_end tied k =
     let is : i ≡ j = same_id i j (sym e) in
     let z : Slots = calls.add_stream (WritableStream (writable.set_up Host mark size)) s in
     let at_i : i.0 ≡ length s.streams = ap (λ (l : StreamId). l.0) is ∙ at_end in
     let before = no_stream i s.streams at_i in
     let after : slice_get z.streams i.0 ≡ Some (WritableStream (writable.set_up Host mark size)) = rw at_i (place_last s.streams (WritableStream (writable.set_up Host mark size))) in
     subst (λ (l : StreamId). Kept i h z (StartAlgorithm l (WritableStart l) start ∷ [])) is (record {
-      halved = halved;
+      halved = tied.0;
+      ended = tied.1;
       unmade = λ n. cc;
       held = rw after (record { behind = refl; dropped = []; fine = new-fine i mark size start h s k.held.dropped (k.unmade before) (rw before at k.held.fine) });
     })
@@ -175,25 +182,26 @@ module _ (i : StreamId) (h : Writes) (kind : Kind) (m n : ℕ) (start : StartBy)
       rw none_handed (new-half (with_effects i (among i Made.done.slots.promises) Made.done.caused) _ (record { 0 = length s.transforms }) m
       (omega (arith, u3, none_closed)) (nothing.0, nothing.1) (omega (arith, l1, a1, o, u1)) (omega (arith, l2, a2, w2)) (omega (arith, l3, a3, w3)) (omega (arith, l4, a4, u4)))
 
-  transform-kept : (one two : Bool) → one ≡ nat_eq i.0 (length s.streams) → two ≡ nat_eq i.0 (length (s.streams ++ First ∷ [])) → Halved Made.done.slots → Kept i h s [] → Kept i h Made.done.slots Made.done.caused
-  transform-kept true two e f halved k =
+  transform-kept : (one two : Bool) → one ≡ nat_eq i.0 (length s.streams) → two ≡ nat_eq i.0 (length (s.streams ++ First ∷ [])) → Tied Made.done.slots → Kept i h s [] → Kept i h Made.done.slots Made.done.caused
+  transform-kept true two e f tied k =
       let at : i.0 ≡ length s.streams = eq_numbers i.0 (length s.streams) (sym e) in
       let before = no_stream i s.streams at in
       let there : slice_get ((s.streams ++ First ∷ []) ++ Second ∷ []) i.0 ≡ Some First = get-stays (s.streams ++ First ∷ []) (Second ∷ []) i.0 First (rw at (place_last s.streams First)) in
       record {
-        halved = halved;
+        halved = tied.0;
+        ended = tied.1;
         unmade = λ n. cc;
         held = rw there (record { behind = none_behind i Made.done.caused none_handed; dropped = []; fine = new_half-fine k.held.dropped (k.unmade before) (rw before at k.held.fine) });
       }
-  transform-kept false true e f halved k =
+  transform-kept false true e f tied k =
       let at : i.0 ≡ length (s.streams ++ First ∷ []) = eq_numbers i.0 (length (s.streams ++ First ∷ [])) (sym f) in
       let before : slice_get s.streams i.0 ≡ None = sym (place_before s.streams First i.0 (unequal_numbers i.0 (length s.streams) (sym e))) ∙ no_stream i (s.streams ++ First ∷ []) at in
       let there : slice_get ((s.streams ++ First ∷ []) ++ Second ∷ []) i.0 ≡ Some Second = rw at (place_last (s.streams ++ First ∷ []) Second) in
-      clear-kept i h s Made.done.slots Made.done.caused (λ n. cc) (ap as_writable there ∙ sym (ap as_writable before)) (fresh_four s.promises) (made-mass (sym e)) halved k
-  transform-kept false false e f halved k =
+      clear-kept i h s Made.done.slots Made.done.caused (λ n. cc) (ap as_writable there ∙ sym (ap as_writable before)) (fresh_four s.promises) (made-mass (sym e)) tied k
+  transform-kept false false e f tied k =
       let same : slice_get ((s.streams ++ First ∷ []) ++ Second ∷ []) i.0 ≡ slice_get s.streams i.0 =
       place_before (s.streams ++ First ∷ []) Second i.0 (unequal_numbers i.0 (length (s.streams ++ First ∷ [])) (sym f)) ∙ place_before s.streams First i.0 (unequal_numbers i.0 (length s.streams) (sym e)) in
-      clear-kept i h s Made.done.slots Made.done.caused (λ n. sym same ∙ n) (ap as_writable same) (fresh_four s.promises) (made-mass (sym e)) halved k
+      clear-kept i h s Made.done.slots Made.done.caused (λ n. sym same ∙ n) (ap as_writable same) (fresh_four s.promises) (made-mass (sym e)) tied k
 
 -- a tee is made: its branches are readable streams
 
@@ -219,15 +227,83 @@ tee-place i source s =
     let a = readable_added i s.streams (branch s FirstHalf) (nat_eq i.0 (length s.streams)) refl in
     let b = readable_added i xs (branch s SecondHalf) (nat_eq i.0 (length xs)) refl in (λ n. a.0 (b.0 n), b.1 ∙ a.1)
 
-tee-kept : (i source : StreamId) (h : Writes) (s : Slots) → Halved (tee_made source s).slots → Kept i h s [] → Kept i h (tee_made source s).slots (tee_made source s).caused
-tee-kept i source h s halved k =
+tee-kept : (i source : StreamId) (h : Writes) (s : Slots) → Tied (tee_made source s).slots → Kept i h s [] → Kept i h (tee_made source s).slots (tee_made source s).caused
+tee-kept i source h s tied k =
     let p = tee-place i source s in
     clear-kept i h s (tee_made source s).slots (tee_made source s).caused p.0 p.1
-    (lightly s.promises (fresh s.promises) (fresh (fresh s.promises)) (lightens-fresh s.promises) (lightens-fresh (fresh s.promises))) refl halved k
+    (lightly s.promises (fresh s.promises) (fresh (fresh s.promises)) (lightens-fresh s.promises) (lightens-fresh (fresh s.promises))) refl tied k
+
+-- a port is made, with its stream
+
+new-end : (n : Due) (h : Writes) (c : PortId) → h.closes ≡ 0 → (h.written ≡ []) × (h.fulfilled ≡ 0) → n.starts ≤ 1 → n.writes ≤ 0 → n.closes ≤ 0 → n.aborts ≤ 0 → Fine n h [] (core_of (writable.set_up (EndOf c) 1 Count))
+new-end n h c e w a b d f = grind arith
+
+module _ (i j : StreamId) (c : PortId) (h : Writes) (s z : Slots) (rest : List Effect) (l : Lightens s.promises z.promises) (m : all (mass i) rest ≡ 0) where
+  abbrev End : Stream
+  End = WritableStream (writable.set_up (EndOf c) 1 Count)
+
+  new-end-fine : (d : List Value) → is_same i j ≡ true → Unmade i h s [] → Fine (with_effects i (among i s.promises) []) (so_far i h [] no_writable) d (core_of no_writable)
+      → let es : List Effect = StartAlgorithm j (WritableStart j) Now ∷ rest in let w : writable.Slots = writable.set_up (EndOf c) 1 Count in
+      Fine (with_effects i (among i z.promises) es) (so_far i h es w) [] (core_of (handed (all (hands i) es) w))
+  new-end-fine d same u f =
+      let n = massless i rest m in
+      let l1 = l (is_start i) in let l2 = l (is_write i) in let l3 = l (is_close i) in let l4 = l (is_abort i) in
+      let n1 = n.starts in let n2 = n.writes in let n3 = n.closes_on in let n4 = n.aborts in let n5 = n.hands in let n6 = n.closes in
+      let u1 = u.starts in let u3 = u.closes in let u4 = u.aborts in let w2 = f.owed.writes in let w3 = f.owed.closes in
+      let nothing = f.told.closed refl (omega (arith, u3)) in
+      let one = ap one_if same in
+      let es : List Effect = StartAlgorithm j (WritableStart j) Now ∷ rest in
+      let none : all (hands i) es ≡ 0 = omega (arith, n5) in
+      rw none (new-end (with_effects i (among i z.promises) es) _ c (omega (arith, u3, n6)) (nothing.0, nothing.1) (omega (arith, l1, n1, one, u1)) (omega (arith, l2, n2, w2)) (omega (arith, l3, n3, w3)) (omega (arith, l4, n4, u4)))
+
+  writable_end-kept : (here : Bool) → here ≡ is_same i j → j.0 ≡ length s.streams → z.streams ≡ s.streams ++ End ∷ [] → Tied z → Kept i h s [] → Kept i h z (StartAlgorithm j (WritableStart j) Now ∷ rest)
+  writable_end-kept false e at_end streams tied k =
+      let same : slice_get z.streams i.0 ≡ slice_get s.streams i.0 = ap (λ (xs : List Stream). slice_get xs i.0) streams ∙ place_before s.streams End i.0 (λ f. unequal_numbers i.0 j.0 (sym e) (f ∙ sym at_end)) in
+      clear-kept i h s z (StartAlgorithm j (WritableStart j) Now ∷ rest) (λ n. sym same ∙ n) (ap as_writable same) l (rw (← e) (omega (arith, m))) tied k
+  writable_end-kept true e at_end streams tied k =
+      let is : i ≡ j = same_id i j (sym e) in
+      let at_i : i.0 ≡ length s.streams = ap (λ (l : StreamId). l.0) is ∙ at_end in
+      let before = no_stream i s.streams at_i in
+      let after : slice_get z.streams i.0 ≡ Some End = ap (λ (xs : List Stream). slice_get xs i.0) streams ∙ (rw at_i (place_last s.streams End)) in
+      record {
+        halved = tied.0;
+        ended = tied.1;
+        unmade = λ n. cc;
+        held = rw after (record { behind = (massless i rest m).hands; dropped = []; fine = new-end-fine k.held.dropped (sym e) (k.unmade before) (rw before at k.held.fine) });
+      }
+
+  readable_end-kept : z.streams ≡ s.streams ++ ReadableStream (readable.set_up (EndOf c) 0 Count) ∷ [] → Tied z → Kept i h s [] → Kept i h z (StartAlgorithm j (ReadableStart j) Now ∷ rest)
+  readable_end-kept streams tied k =
+      let p = readable_added i s.streams (readable.set_up (EndOf c) 0 Count) (nat_eq i.0 (length s.streams)) refl in
+      clear-kept i h s z (StartAlgorithm j (ReadableStart j) Now ∷ rest) (λ n. p.0 (rw streams at n)) (ap (λ (xs : List Stream). as_writable (slice_get xs i.0)) streams ∙ p.1) l (omega (arith, m)) tied k
+
+open-kept : (i : StreamId) (h : Writes) (s : Slots) (side : Side) → let d : Done = (calls.open_end side (record { 0 = length s.streams }) s).done in Tied d.slots → Kept i h s [] → Kept i h d.slots d.caused
+open-kept i h s ReadableSide tied k =
+    readable_end-kept i (record { 0 = length s.streams }) (record { 0 = length s.ports }) h s (calls.add_port (record { 0 = length s.streams }) s ReadableSide) [] (same_weight s.promises) refl refl tied k
+open-kept i h s WritableSide tied k =
+    let j : StreamId = record { 0 = length s.streams } in
+    writable_end-kept i j (record { 0 = length s.ports }) h s (calls.add_port j s WritableSide) [] (lightens-fresh s.promises) refl (is_same i j) refl refl refl tied k
+
+-- and a pipe with it
+
+send_readable-kept : (i source : StreamId) (h : Writes) (s : Slots) → let d : Done = (calls.send_readable source (record { 0 = length s.streams }) s).done in Tied d.slots → Kept i h s [] → Kept i h d.slots d.caused
+send_readable-kept i source h s tied k =
+    let j : StreamId = record { 0 = length s.streams } in
+    let a : Slots = calls.add_port j s WritableSide in
+    let d : Done = (calls.pipe_to source j calls.no_prevent None a).done in
+    writable_end-kept i j (record { 0 = length s.ports }) h s d.slots d.caused (lightly s.promises (fresh s.promises) d.slots.promises (lightens-fresh s.promises) (fresh_four (fresh s.promises)))
+    (pipe_to-mass i source j calls.no_prevent None a) (is_same i j) refl refl refl tied k
+
+send_writable-kept : (i dest : StreamId) (h : Writes) (s : Slots) → let d : Done = (calls.send_writable dest (record { 0 = length s.streams }) s).done in Tied d.slots → Kept i h s [] → Kept i h d.slots d.caused
+send_writable-kept i dest h s tied k =
+    let j : StreamId = record { 0 = length s.streams } in
+    let a : Slots = calls.add_port j s ReadableSide in
+    let d : Done = (calls.pipe_to j dest calls.no_prevent None a).done in
+    readable_end-kept i j (record { 0 = length s.ports }) h s d.slots d.caused (fresh_four s.promises) (pipe_to-mass i j dest calls.no_prevent None a) refl tied k
 
 pub call-kept : (i : StreamId) (h : Writes) (s : Slots) (c : Call) → Kept i h s [] → Kept i h (begin c s).done.slots (begin c s).done.caused
 call-kept i h s c k =
-    each_call (λ (b : Begun). Halved b.done.slots → Kept i h b.done.slots b.done.caused) c s (record {
+    each_call (λ (b : Begun). Tied b.done.slots → Kept i h b.done.slots b.done.caused) c s (record {
       unchanged = λ reply o. k;
       rejected = λ o. still-kept i h s (with_promises (fresh s.promises) s) _ refl (lightens-fresh s.promises) refl o k;
       make_readable = λ mark size start o. added_readable i h s (readable.set_up Host mark size) _ (nat_eq i.0 (length s.streams)) refl refl o k;
@@ -266,9 +342,13 @@ call-kept i h s c k =
       pipe = λ source dest prevent signal e f l m o.
           still-kept i h s _ _ refl (fresh_four s.promises) (pipe_to-mass i source dest prevent signal s) o k;
       make_signal = λ o. still-kept i h s _ _ refl (same_weight s.promises) refl o k;
+      open_end = λ side o. open-kept i h s side o k;
+      send_readable = λ j there free o. send_readable-kept i j h s o k;
+      send_writable = λ j there free o. send_writable-kept i j h s o k;
+      deliver = λ p m e is o. still-kept i h s s _ refl (same_weight s.promises) refl o k;
       trigger = λ a reason o. still-kept i h s s _ refl (same_weight s.promises) refl o k;
       settle = λ a answer p e o. still-kept i h s _ _ refl (same_weight s.promises) refl o k;
-    }) (halved-stays.call s c k.halved)
+    }) (tied-call s c k.halved k.ended)
 
 -- jobs
 
@@ -289,7 +369,7 @@ job-kept i h s job e k =
     λ f. let l = b.leads f in let n : weight f (after_next_job s.promises) + taken_off (of_reaction f) job ≤ weight f s.promises = rw e at (weigh-next (of_reaction f) s.promises) in omega arith in
     let n = none_behind i fs b.hands in
     let l1 = less (is_start i) in let l2 = less (is_write i) in let l3 = less (is_close i) in let l4 = less (is_abort i) in
-    kept-lighter i h h s (with_promises (after_next_job s.promises) s) [] fs (grind (arith, append-nil)) k.halved k
+    kept-lighter i h h s (with_promises (after_next_job s.promises) s) [] fs (grind (arith, append-nil)) (k.halved, k.ended) k
 
 -- runs
 
@@ -307,14 +387,14 @@ goes i = record {
   row = row-kept i;
   call = call-kept i;
   job = job-kept i;
-  answered = λ h s p k. still-kept i h s (with_promises (watch p s.promises) s) [] refl (λ f. weigh-watch (of_reaction f) p s.promises) refl k.halved k;
-  older = λ h s k. still-kept i h s (older s) [] refl (same_weight s.promises) refl k.halved k;
+  answered = λ h s p k. still-kept i h s (with_promises (watch p s.promises) s) [] refl (λ f. weigh-watch (of_reaction f) p s.promises) refl (k.halved, k.ended) k;
+  older = λ h s k. still-kept i h s (older s) [] refl (same_weight s.promises) refl (k.halved, k.ended) k;
 }
 
 pub rests : (i : StreamId) → RestsUntold (Kept i)
 unfolding weigh
 rests i = record {
-  heard = λ h s k. still-kept i h s (after_event s) [] refl (λ f. omega arith) refl k.halved k;
+  heard = λ h s k. still-kept i h s (after_event s) [] refl (λ f. omega arith) refl (k.halved, k.ended) k;
 }
 
 pub step-kept : (i : StreamId) (h : Writes) (s : Slots) (x : Entry) → Kept i h s [] → Kept i (writes_then h (step_writes i s x)) (step s x) []
@@ -326,6 +406,7 @@ none_made i = record {
   unmade = λ e. record { closes = refl; starts = refl; aborts = refl };
   held = record { behind = refl; dropped = []; fine = grind arith };
   halved = halved-empty;
+  ended = ended-empty;
 }
 
 pub run-kept : (entries : List Entry) (i : StreamId) → Kept i (run_writes i entries empty) (run entries empty) []
@@ -347,6 +428,10 @@ hosted_at i s host = hosted-owner (slice_get s.streams i.0) host
 before : (s : Slots) (y : Stream) (i : StreamId) (o : Option Stream) → slice_get s.streams i.0 ≡ o → owner_at i (calls.add_stream y s) ≡ Host → owner_at i s ≡ Host
 before s y i None is h = rw is refl
 before s y i (Some x) is h = rw is (rw (get-stays s.streams (y ∷ []) i.0 x is) at h)
+
+port-owner : (i : StreamId) (s : Slots) (side : Side) → owner_at i (calls.add_port (record { 0 = length s.streams }) s side) ≡ Host → owner_at i (calls.add_stream (calls.end_of (record { 0 = length s.ports }) side) s) ≡ Host
+port-owner i s ReadableSide o = o
+port-owner i s WritableSide o = o
 
 -- a stream that is the host's after a step was so before it
 
@@ -393,6 +478,10 @@ call-was i first s c k = each_call (λ (b : Begun). WasHost i first b.done.slots
   terminate = λ t. k;
   pipe = λ source dest prevent signal e f l m. k;
   make_signal = k;
+  open_end = λ side o. k (before s (calls.end_of (record { 0 = length s.ports }) side) i (slice_get s.streams i.0) refl (port-owner i s side o));
+  send_readable = λ j there free o. k (before s (calls.end_of (record { 0 = length s.ports }) WritableSide) i (slice_get s.streams i.0) refl o);
+  send_writable = λ j there free o. k (before s (calls.end_of (record { 0 = length s.ports }) ReadableSide) i (slice_get s.streams i.0) refl o);
+  deliver = λ p m e is. k;
   trigger = λ a reason. k;
   settle = λ a answer p e. k;
 })

@@ -9,8 +9,8 @@ use Rattle.ws_steps.specs.declared.writable.WriteRecord.TheVariants.{Chunk, InFl
 use Rattle.ws_steps.specs.Queues.{is_empty, rest_of}
 use Rattle.ws_steps.specs.Writable.{Slots, has_ended, is_closed}
 use Rattle.ws_steps.specs.WritableHistory.{Writes, todo, chunk_of}
-use Rattle.ws_steps.specs.declared.{effects.Effect.{Effect}, effects.Effect.TheVariants.{Writable, Transform, Tee, StartAlgorithm, WriteAlgorithm, CloseAlgorithm, AbortAlgorithm, Give, CallHost}}
-use Rattle.ws_steps.specs.declared.{effects.Use.{Use}, effects.Use.TheVariants.{React, Resolve}, effects.Owner.{Owner}, effects.Owner.TheVariants.{Host, HalfOf, BranchOf}, promises.Reaction.{Reaction}, promises.Reaction.TheVariants.{Perform, Adopt}}
+use Rattle.ws_steps.specs.declared.{effects.Effect.{Effect}, effects.Effect.TheVariants.{Writable, Transform, Tee, Port, StartAlgorithm, WriteAlgorithm, CloseAlgorithm, AbortAlgorithm, Give, CallHost}}
+use Rattle.ws_steps.specs.declared.{effects.Use.{Use}, effects.Use.TheVariants.{React, Resolve}, effects.Owner.{Owner}, effects.Owner.TheVariants.{Host, HalfOf, BranchOf, EndOf}, promises.Reaction.{Reaction}, promises.Reaction.TheVariants.{Perform, Adopt}}
 use Rattle.ws_steps.specs.declared.{promises.Step.{Step}, promises.Step.TheVariants.{WritableStart, WritableWrite, WritableClose, WritableAbort}}
 use Rattle.ws_steps.specs.declared.{transform.Taker.TheVariants.{ToHost}, transform.TransformOperation.{TransformOperation}, transform.TransformOperation.TheVariants.{SinkWrite, SourcePull, SinkClose, SinkAbort, SourceCancel}}
 use Rattle.ws_steps.specs.declared.writable.WritableOperation.{WritableOperation}
@@ -18,6 +18,7 @@ use Rattle.ws_steps.specs.declared.writable.WritableOperation.TheVariants.{HandO
 use Rattle.ws_steps.specs.Histories.{is_same}
 use Rattle.ws_steps.specs.Promises.{Table}
 use Rattle.ws_steps.specs.declared.{tee.TeeOperation.{TeeOperation}, tee.TeeOperation.TheVariants.{CancelBranch}}
+use Rattle.ws_steps.specs.declared.{port.PortOperation.{PortOperation}, port.PortOperation.TheVariants.{Leave, Write as WriteByPort, Close as CloseByPort}}
 use Rattle.ws_laws.proofs.Weights.{weigh}
 
 abbrev pub one_if : Bool → ℕ
@@ -28,6 +29,7 @@ abbrev pub is_host : Owner → Bool
 is_host Host = true
 is_host (HalfOf t) = false
 is_host (BranchOf t half) = false
+is_host (EndOf c) = false
 
 -- the slots that matter here, and whether the algorithms are the host's
 pub record Core : Type 0 where
@@ -212,10 +214,18 @@ abbrev pub of_tee : (Step → ℕ) → TeeOperation → ℕ
 of_tee f (CancelBranch half r u) = of_use f u
 of_tee f _ = 0
 
+-- an operation of a port that is told it
+abbrev pub of_port : (Step → ℕ) → PortOperation → ℕ
+of_port f (Leave r u) = of_use f u
+of_port f (WriteByPort u) = of_use f u
+of_port f (CloseByPort u) = of_use f u
+of_port f _ = 0
+
 abbrev pub leads_to : (Step → ℕ) → Effect → ℕ
 leads_to f (Writable i operation) = of_operation f i operation
 leads_to f (Transform t operation) = of_transform f operation
 leads_to f (Tee t operation) = of_tee f operation
+leads_to f (Port c operation) = of_port f operation
 leads_to f (StartAlgorithm i step start) = f step
 leads_to f (WriteAlgorithm i) = f (WritableWrite i)
 leads_to f (CloseAlgorithm i) = f (WritableClose i)
