@@ -1,19 +1,29 @@
 -- The reaction that ends the action of a pipe stands at most once, with the jobs and the operation that it leads to, and only while the
 -- action is under way.
+use Rattle.ws_steps.specs.declared.port.PortOperation.TheVariants.{PostChunk}
+use Rattle.ws_steps.specs.Slots.{clones_at}
+use Rattle.ws_laws.proofs.PortDoes.{port-does}
+use Rattle.ws_steps.specs.Slots.{on_port_at}
+use Rattle.ws_steps.specs.Operations.{port_operation}
+use Rattle.ws_steps.specs.declared.port.PortOperation.{PortOperation}
+use Rattle.ws_value.specs.declared.ids.PortId.{PortId}
+use Rattle.ws_steps.specs.Cross as cross
 use Rattle.std.proofs.Common.{◌≡◌, ℕ, zero, suc, ◌+◌, ◌≤◌, Bool, true, false, nat_eq, List, [], ◌∷◌, ◌++◌, length, Option, Some, None, Result, Ok, Err, slice_get, slice_set, refl, sym, arith}
 use Rattle.ws_value.specs.declared.ids.{PipeId.{PipeId}, PromiseId.{PromiseId}, SignalId.{SignalId}, StreamId.{StreamId}, TeeId.{TeeId}}
 use Rattle.ws_steps.specs.declared.tee.TeeOperation.{TeeOperation}
 use Rattle.ws_steps.specs.Tee as tee
+use Rattle.ws_steps.specs.declared.port.Side.{Side}
+use Rattle.ws_steps.specs.declared.port.Side.TheVariants.{Readable as ReadableSide, Writable as WritableSide}
 use Rattle.ws_laws.proofs.TeeDoes.{OfTee, tee-does}
 use Rattle.ws_value.specs.declared.value.{Outcome.TheVariants.{Given, Finished}, Plain.{Plain}, Plain.TheVariants.{Undefined}, Value.{Value}, Value.TheVariants.{Plain as PlainValue, Bytes}}
 use Rattle.ws_steps.specs.declared.{calls.Call.{Call}, calls.HostCall.{HostCall}, calls.Event.TheVariants.{Signal as SignalEvent}, calls.StartBy.{StartBy}, calls.StartBy.TheVariants.{Now, Later}}
 use Rattle.ws_steps.specs.declared.effects.Effect.{Effect}
-use Rattle.ws_steps.specs.declared.effects.Effect.TheVariants.{Readable as OnReadable, Writable as OnWritable, Pipe as OnPipe, Signal as OnSignal, Transform as OnTransform, Tee as OnTee, StartAlgorithm, PullAlgorithm, CancelAlgorithm, WriteAlgorithm, CloseAlgorithm, AbortAlgorithm, ChunkSteps, CloseSteps, ErrorSteps, Give, Settle, Queue, CallHost}
-use Rattle.ws_steps.specs.declared.effects.{Owner.{Owner}, Owner.TheVariants.{Host, HalfOf, BranchOf}, Use.{Use}, Use.TheVariants.{React}}
+use Rattle.ws_steps.specs.declared.effects.Effect.TheVariants.{Readable as OnReadable, Writable as OnWritable, Pipe as OnPipe, Signal as OnSignal, Transform as OnTransform, Tee as OnTee, Port as OnPort, StartAlgorithm, PullAlgorithm, CancelAlgorithm, WriteAlgorithm, CloseAlgorithm, AbortAlgorithm, ChunkSteps, CloseSteps, ErrorSteps, Give, Settle, Queue, CallHost}
+use Rattle.ws_steps.specs.declared.effects.{Owner.{Owner}, Owner.TheVariants.{Host, HalfOf, BranchOf, EndOf}, Use.{Use}, Use.TheVariants.{React}}
 use Rattle.ws_steps.specs.declared.pipes.{Phase.{Phase}, Phase.TheVariants.{Flowing, Waiting, Acting, Over}}
 use Rattle.ws_steps.specs.declared.pipes.{PipeOperation.{PipeOperation}, PipeOperation.TheVariants.{ActionSettled}, SignalOperation.{SignalOperation}}
 use Rattle.ws_steps.specs.declared.promises.{Job.{Job}, Job.TheVariants.{Reaction as ReactionJob, Follow, Settle as SettleJob, Micro as MicroJob}, Micro.TheVariants.{PipeLook, PipeWrite, PipeNoParts, TeeHand}}
-use Rattle.ws_steps.specs.declared.promises.{Step.{Step}, Step.TheVariants.{ReadableStart, ReadablePull, ReturnUndefined, WritableStart, WritableWrite, WritableClose, WritableAbort, PipeEnds, PipeReady, PipeWrote, PipeActed, PipePart, TransformChanged, Transformed, TransformFlushed, TransformAborted, TransformCancelled, TeeEnds}}
+use Rattle.ws_steps.specs.declared.promises.{Step.{Step}, Step.TheVariants.{ReadableStart, ReadablePull, ReturnUndefined, WritableStart, WritableWrite, WritableClose, WritableAbort, PipeEnds, PipeReady, PipeWrote, PipeActed, PipePart, TransformChanged, PortUnblocked, Transformed, TransformFlushed, TransformAborted, TransformCancelled, TeeEnds}}
 use Rattle.ws_steps.specs.declared.readable.{ReadRequest.{ReadRequest}, ReadRequest.TheVariants.{Promise, Pipe as PipeRequest, Tee as TeeRequest}, ReadableOperation.{ReadableOperation}}
 use Rattle.ws_steps.specs.declared.transform.{TransformId.{TransformId}, TransformOperation.{TransformOperation}, TransformOperation.TheVariants.{TransformChunk}, Halves.{Halves}}
 use Rattle.ws_steps.specs.declared.writable.{WritableOperation.{WritableOperation}, WritableOperation.TheVariants.{ReleaseWriter}}
@@ -45,8 +55,9 @@ use Rattle.ws_promise_laws.proofs.Holds.{when}
 use Rattle.ws_promise_laws.proofs.Piping.{PipeExpects}
 use Rattle.ws_promise_laws.proofs.Tokens.{one_if}
 use Rattle.ws_writable_laws.proofs.Agenda.{weight-tell, weight-gift, weight-host}
-use Rattle.ws_writable_laws.proofs.Shape.{of_reaction, of_transform, of_tee, weight, all, all-append}
+use Rattle.ws_writable_laws.proofs.Shape.{of_reaction, of_transform, of_tee, of_port, weight, all, all-append}
 use Rattle.ws_writable_laws.proofs.Transforms.{weight-transform}
+use Rattle.ws_writable_laws.proofs.Ports.{weight-port}
 use Rattle.ws_promise_laws.proofs.PipeActs.{is_acting, acts_now, is_end, ends_action, ends_by, operation-moves}
 use Rattle.ws_steps.specs.Slots.{source_at, on_byte}
 use Rattle.ws_steps.specs.Turns.{on_source, close_steps_with}
@@ -170,6 +181,7 @@ module _ (p : PipeId) where
         abort = λ x r q h. causes-light t x (AbortAlgorithm i r q) refl h;
         hand_on = λ x v h. causes-light t x (write_to_host i v) refl h;
         take = λ x v half d h. causes-light t x (OnTransform half (TransformChunk v d)) refl h;
+        post = λ x v c d h. causes-light t x (OnPort c (PostChunk v d)) refl h;
       }) operation (writable_acts i s) (omega arith) in
       either (Carries s 0) (has_writable i s) (put_writable i s (writable_operation i operation (writable_acts i s))) (nothing s) (λ e. (refl, omega (arith, h))) (λ e. (refl, omega arith))
 
@@ -216,6 +228,19 @@ module _ (p : PipeId) where
       let l = tee-ends t operation a refl in
       (refl, omega (arith, w, l))
 
+  port-ends : (c : PortId) (clones : Bool) (operation : PortOperation) (a : cross.Acts) → a.out.effects ≡ [] → all (ends_by p) (port_operation c clones operation a).out.effects ≤ of_port (ends_action p) operation
+  unfolding cross.pull cross.leave cross.close cross.write cross.write_goes_on cross.post_chunk cross.unblock cross.deliver
+  port-ends c clones operation a none = grind (arith, none)
+
+  port-carries : (c : PortId) (operation : PortOperation) (s : Slots) (o : Option cross.Slots)
+      → Carries s (of_port (ends_action p) operation) (on_port_at (λ clones. port_operation c clones operation) c s o)
+  port-carries c operation s None = (refl, omega arith)
+  port-carries c operation s (Some x) =
+      let a : cross.Acts = record { slots = x; out = found s } in
+      let w = port-does (λ z. under_way z ≤ under_way s.promises) (weight-port (ends_action p) s.promises) c (clones_at x s) operation a (omega arith) in
+      let l = port-ends c (clones_at x s) operation a refl in
+      (refl, omega (arith, w, l))
+
   start-carries : (i : StreamId) (step : Step) (s : Slots) (start : StartBy) → Carries s (ends_action p step) (start_algorithm i step s start)
   start-carries i step s Now = (refl, omega arith)
   start-carries i step s Later = let k = weigh-fresh (of_reaction (ends_action p)) s.promises in (refl, omega (arith, k))
@@ -246,26 +271,31 @@ module _ (p : PipeId) where
   pulls i s Host = (refl, omega arith)
   pulls i s (HalfOf t) = (refl, omega arith)
   pulls i s (BranchOf t half) = (refl, omega arith)
+  pulls i s (EndOf c) = (refl, omega arith)
 
   cancels : (i : StreamId) (r : Plain) (q : PromiseId) (s : Slots) (owner : Owner) → Carries s 0 (causes (cancel_algorithm i r (React ReturnUndefined (Some q)) owner) s)
   cancels i r q s Host = (refl, omega arith)
   cancels i r q s (HalfOf t) = (refl, omega arith)
   cancels i r q s (BranchOf t half) = (refl, omega arith)
+  cancels i r q s (EndOf c) = (refl, omega arith)
 
   hands_on : (i : StreamId) (s : Slots) (owner : Owner) → Carries s 0 (causes (write_algorithm i owner) s)
   hands_on i s Host = (refl, omega arith)
   hands_on i s (HalfOf t) = (refl, omega arith)
   hands_on i s (BranchOf t half) = (refl, omega arith)
+  hands_on i s (EndOf c) = (refl, omega arith)
 
   closes : (i : StreamId) (s : Slots) (owner : Owner) → Carries s 0 (causes (close_algorithm i (React (WritableClose i) None) owner) s)
   closes i s Host = (refl, omega arith)
   closes i s (HalfOf t) = (refl, omega arith)
   closes i s (BranchOf t half) = (refl, omega arith)
+  closes i s (EndOf c) = (refl, omega arith)
 
   aborts-on : (i : StreamId) (r : Plain) (q : PromiseId) (s : Slots) (owner : Owner) → Carries s 0 (causes (abort_algorithm i r (React (WritableAbort i q) None) owner) s)
   aborts-on i r q s Host = (refl, omega arith)
   aborts-on i r q s (HalfOf t) = (refl, omega arith)
   aborts-on i r q s (BranchOf t half) = (refl, omega arith)
+  aborts-on i r q s (EndOf c) = (refl, omega arith)
 
   host-pipes : (call : HostCall) (u : Use) (s : Slots) → (call_host call u s).pipes ≡ s.pipes
   unfolding call_host
@@ -281,6 +311,7 @@ module _ (p : PipeId) where
   row-waits s (OnSignal a operation) es w = carried s (OnSignal a operation) es (signal-carries a operation s (slice_get s.signals a.0)) w
   row-waits s (OnTransform t operation) es w = carried s (OnTransform t operation) es (transform-carries t operation s (slice_get s.transforms t.0)) w
   row-waits s (OnTee t operation) es w = carried s (OnTee t operation) es (tee-carries t operation s (slice_get s.tees t.0)) w
+  row-waits s (OnPort c operation) es w = carried s (OnPort c operation) es (port-carries c operation s (slice_get s.ports c.0)) w
   row-waits s (StartAlgorithm i step start) es w = carried s (StartAlgorithm i step start) es (start-carries i step s start) w
   row-waits s (PullAlgorithm i) es w = carried s (PullAlgorithm i) es (pulls i s (owner_at i s)) w
   row-waits s (CancelAlgorithm i r q) es w = carried s (CancelAlgorithm i r q) es (cancels i r q s (owner_at i s)) w
@@ -316,6 +347,7 @@ module _ (p : PipeId) where
     signal = λ z k. k;
     transform = λ z kind i j change k. k;
     tee = λ z source first second cancel k. k;
+    port = λ z side stream backpressure k. k;
     readable = λ z owner mark size k. k;
     bytes = λ z mark auto k. k;
     byob_requests = λ z r k. k;
@@ -334,6 +366,10 @@ module _ (p : PipeId) where
   start-none : (q : PromiseId) (j : StreamId) (start : StartBy) → all (ends_by p) (calls.start_transform q j start ∷ []) ≡ 0
   start-none q j Now = refl
   start-none q j Later = refl
+
+  end-none : (side : Side) (j : StreamId) → all (ends_by p) (calls.start_end j side ∷ []) ≡ 0
+  end-none ReadableSide j = refl
+  end-none WritableSide j = refl
 
   call-none : (c : Call) (s : Slots) → all (ends_by p) (begin c s).done.caused ≡ 0
   call-none c s = each_call (λ (b : Begun). all (ends_by p) b.done.caused ≡ 0) c s (record {
@@ -374,6 +410,12 @@ module _ (p : PipeId) where
         let n = begins-none (record { 0 = length s.pipes }) (next_id s.promises) (next_id (fresh (fresh s.promises))) signal (calls.reason_of signal s) in
         omega (arith, n);
     make_signal = refl;
+    open_end = λ side. end-none side _;
+    send_readable = λ source there free.
+        let n = begins-none (record { 0 = length s.pipes }) (next_id (fresh s.promises)) (next_id (fresh (fresh (fresh s.promises)))) None None in omega (arith, n);
+    send_writable = λ dest there free.
+        let n = begins-none (record { 0 = length s.pipes }) (next_id s.promises) (next_id (fresh (fresh s.promises))) None None in omega (arith, n);
+    deliver = λ c m asked has. refl;
     trigger = λ a reason. refl;
     settle = λ h answer q e. refl;
   })
@@ -397,7 +439,9 @@ module _ (p : PipeId) where
   in_steps (PipeActed q) o = omega arith
   in_steps (PipePart q) o = refl
   in_steps (TransformChanged t d) (Ok v) = refl
+  in_steps (PortUnblocked c d) (Ok v) = refl
   in_steps (TransformChanged t d) (Err r) = refl
+  in_steps (PortUnblocked c d) (Err r) = refl
   in_steps (Transformed t) (Ok v) = refl
   in_steps (Transformed t) (Err r) = refl
   in_steps (TransformFlushed t q) o = refl

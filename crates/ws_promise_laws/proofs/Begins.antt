@@ -14,11 +14,16 @@ use Rattle.ws_steps.specs.declared.byte.ByteOperation.TheVariants.{PullInto}
 use Rattle.ws_steps.specs.declared.{calls.Answer.{Answer}, calls.Call.{Call}, effects.Effect.{Effect}, effects.Effect.TheVariants.{Settle as SettleEffect, Readable, Writable}}
 use Rattle.ws_steps.specs.declared.{promises.Job.{Job}, promises.Job.TheVariants.{Reaction as ReactionJob, Follow, Settle, Micro as MicroJob}, promises.Micro.TheVariants.{PipeLook, PipeWrite, PipeNoParts, TeeHand}, pipes.Prevent.{Prevent}}
 use Rattle.ws_steps.specs.declared.promises.Step.{Step}
-use Rattle.ws_steps.specs.declared.{calls.StartBy.{StartBy}, calls.StartBy.TheVariants.{Now, Later}, effects.Owner.TheVariants.{HalfOf, BranchOf}, readable.SizeBy.TheVariants.{Count}, transform.Kind.{Kind}, transform.TransformId.{TransformId}}
+use Rattle.ws_steps.specs.declared.{calls.StartBy.{StartBy}, calls.StartBy.TheVariants.{Now, Later}, effects.Owner.TheVariants.{HalfOf, BranchOf, EndOf}, readable.SizeBy.TheVariants.{Count}, transform.Kind.{Kind}, transform.TransformId.{TransformId}}
 use Rattle.ws_steps.specs.Transform as transform
-use Rattle.ws_promise_laws.proofs.Realm.{in_transforms, in_tees}
-use Rattle.ws_promise_laws.proofs.Streams.{in_transform, in_tee}
-use Rattle.ws_steps.specs.declared.promises.Step.TheVariants.{ReadableStart, ReadablePull, ReturnUndefined, WritableStart, WritableWrite, WritableClose, WritableAbort, PipeEnds, PipeReady, PipeWrote, PipeActed, PipePart, TransformChanged, Transformed, TransformFlushed, TransformAborted, TransformCancelled, TeeEnds}
+use Rattle.ws_promise_laws.proofs.Realm.{in_transforms, in_tees, in_ports}
+use Rattle.ws_promise_laws.proofs.Streams.{in_transform, in_tee, in_port}
+use Rattle.ws_promise_laws.proofs.Tokens.{of_effect}
+use Rattle.ws_value.specs.declared.ids.PortId.{PortId}
+use Rattle.ws_steps.specs.Cross as cross
+use Rattle.ws_steps.specs.declared.port.Side.{Side}
+use Rattle.ws_steps.specs.declared.port.Side.TheVariants.{Readable as ReadableSide, Writable as WritableSide}
+use Rattle.ws_steps.specs.declared.promises.Step.TheVariants.{ReadableStart, ReadablePull, ReturnUndefined, WritableStart, WritableWrite, WritableClose, WritableAbort, PipeEnds, PipeReady, PipeWrote, PipeActed, PipePart, TransformChanged, PortUnblocked, Transformed, TransformFlushed, TransformAborted, TransformCancelled, TeeEnds}
 use Rattle.ws_steps.specs.Calls as calls
 use Rattle.ws_steps.specs.Effects.{type_error}
 use Rattle.ws_steps.specs.Pipes as pipe
@@ -210,6 +215,56 @@ make_tee-sound source s k =
       calm = made.calm;
     }
 
+-- a port is made, with its stream: the backpressure promise of a writable one stands in it
+
+in_ports-append : (x : PromiseId) (cs : List cross.Slots) (c : cross.Slots) → in_ports x (cs ++ c ∷ []) ≡ in_ports x cs + in_port x c
+in_ports-append x [] c = omega arith
+in_ports-append x (d ∷ cs) c = let n = in_ports-append x cs c in omega (arith, n)
+
+port-sound : (side : Side) (s : Slots) → Sound none s → Sound none (calls.add_port (record { 0 = length s.streams }) s side)
+port-sound ReadableSide s k =
+    let me : PortId = record { 0 = length s.ports } in
+    let i : StreamId = record { 0 = length s.streams } in
+    let r : readable.Slots = readable.set_up (EndOf me) 0 Count in
+    let one : Slots = calls.add_stream (ReadableStream r) s in
+    let made : Sound none one = added-sound (ReadableStream r) s (λ x. refl) (λ x. refl) (λ e. refl) k in
+    let new : cross.Slots = cross.set_up ReadableSide i None in
+    record {
+      holds =
+          holds-less (λ x. none x + firm_in x one) (loosely_in one) _ (loosely_in one) one.promises made.holds
+          (λ x. let h = in_ports-append x s.ports new in omega (arith, h)) (λ x. let h = in_ports-append x s.ports new in omega (arith, h));
+      calm = made.calm;
+    }
+port-sound WritableSide s k =
+    let me : PortId = record { 0 = length s.ports } in
+    let i : StreamId = record { 0 = length s.streams } in
+    let w : writable.Slots = writable.set_up (EndOf me) 1 Count in
+    let one : Slots = calls.add_stream (WritableStream w) s in
+    let first : Sound none one = added-sound (WritableStream w) s (λ x. let h = when_none (is_awaited w) in omega arith) (λ x. let h = when_none (not (is_awaited w)) in omega arith) (λ e. refl) k in
+    let a : Slots = with_promises (fresh s.promises) one in
+    let fa : PromiseId → ℕ = λ x. none x + names x (next_id s.promises) in
+    let made : Sound fa a = fresh-sound none one first in
+    let new : cross.Slots = cross.set_up WritableSide i (Some (next_id s.promises)) in
+    record {
+      holds =
+          holds-less (λ x. fa x + firm_in x a) (loosely_in a) _ (loosely_in a) a.promises made.holds
+          (λ x. let h = in_ports-append x s.ports new in omega (arith, h)) (λ x. let h = in_ports-append x s.ports new in omega (arith, h));
+      calm = made.calm;
+    }
+
+in_start_end : (x : PromiseId) (j : StreamId) (side : Side) → of_effect x (calls.start_end j side) ≡ 0
+in_start_end x j ReadableSide = refl
+in_start_end x j WritableSide = refl
+
+-- and a pipe with it
+sent-sound : (source dest j : StreamId) (side : Side) (s : Slots) → Sound none s
+    → Begins (calls.sent_by j side s (calls.pipe_to source dest calls.no_prevent None (calls.add_port (record { 0 = length s.streams }) s side)))
+sent-sound source dest j side s k =
+    let a : Slots = calls.add_port (record { 0 = length s.streams }) s side in
+    let piped : Begun = calls.pipe_to source dest calls.no_prevent None a in
+    sound-less (λ x. in_effects x piped.done.caused) _ piped.done.slots (λ x. let n = in_start_end x j side in omega (arith, n))
+    (pipe_to-sound source dest calls.no_prevent None a (port-sound side s k))
+
 pub begin-sound : (c : Call) (s : Slots) → Sound none s → Begins (begin c s)
 begin-sound c s k = each_call Begins c s (record {
   unchanged = λ reply. k;
@@ -267,6 +322,10 @@ begin-sound c s k = each_call Begins c s (record {
   fail_writable = λ i reason. sound-less none _ s (λ x. omega arith) k;
   pipe = λ source dest prevent signal e f l m. pipe_to-sound source dest prevent signal s k;
   make_signal = record { holds = holds-less (λ x. 0 + firm_in x s) (loosely_in s) _ (loosely_in s) s.promises k.holds (λ x. omega arith) (λ x. omega arith); calm = k.calm };
+  open_end = λ side. sound-less none _ _ (λ x. let n = in_start_end x (record { 0 = length s.streams }) side in omega (arith, n)) (port-sound side s k);
+  send_readable = λ source there free. sent-sound source (record { 0 = length s.streams }) (record { 0 = length s.streams }) WritableSide s k;
+  send_writable = λ dest there free. sent-sound (record { 0 = length s.streams }) dest (record { 0 = length s.streams }) ReadableSide s k;
+  deliver = λ c m asked has. sound-less none _ s (λ x. omega arith) k;
   trigger = λ a reason. sound-less none _ s (λ x. omega arith) k;
   settle = λ h answer p e. host-sound h answer p s e k;
 })
@@ -287,7 +346,9 @@ in_steps x (PipeWrote p) o = refl
 in_steps x (PipeActed p) o = refl
 in_steps x (PipePart p) o = refl
 in_steps x (TransformChanged t d) (Ok v) = omega arith
+in_steps x (PortUnblocked c d) (Ok v) = omega arith
 in_steps x (TransformChanged t d) (Err r) = omega arith
+in_steps x (PortUnblocked c d) (Err r) = omega arith
 in_steps x (Transformed t) (Ok v) = refl
 in_steps x (Transformed t) (Err r) = refl
 in_steps x (TransformFlushed t p) o = omega arith

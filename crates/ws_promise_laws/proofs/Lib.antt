@@ -6,6 +6,7 @@ pub mod Following
 pub mod Streams
 pub mod Transforming
 pub mod Teeing
+pub mod Porting
 pub mod Readables
 pub mod Bytes
 pub mod Piping

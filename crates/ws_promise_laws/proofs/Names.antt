@@ -7,9 +7,9 @@ use Rattle.ws_steps.specs.declared.calls.Reply.{Reply}
 use Rattle.ws_steps.specs.declared.calls.Call.TheVariants.{Request, Respond}
 use Rattle.ws_value.specs.declared.{ids.HostId.{HostId}, ids.LockId.{LockId}, ids.SignalId.{SignalId}, ids.PromiseId.{PromiseId}, ids.StreamId.{StreamId}, value.Plain.{Plain}, value.Value.{Value}}
 use Rattle.ws_steps.specs.declared.{calls.Answer.{Answer}, calls.Call.{Call}, pipes.Prevent.{Prevent}, readable.ReadableOperation.{ReadableOperation}, readable.ReadableOperation.TheVariants.{Enqueue as EnqueueChunk, Close as CloseReadable}}
-use Rattle.ws_steps.specs.declared.calls.Call.TheVariants.{MakeReadable, MakeBytes, MakeWritable, MakeTransform, Terminate, GetReader, GetByob, GetWriter, Tee, Cancel, CancelBy, Read, ReadInto, Write, Close, CloseBy, Abort, AbortBy, Closed, Ready, Release, Enqueue, Finish, Fail, Desired, DesiredBy, Pipe, MakeSignal, Trigger, Settle, State, Step}
+use Rattle.ws_steps.specs.declared.calls.Call.TheVariants.{MakeReadable, MakeBytes, MakeWritable, MakeTransform, Terminate, GetReader, GetByob, GetWriter, Tee, Cancel, CancelBy, Read, ReadInto, Write, Close, CloseBy, Abort, AbortBy, Closed, Ready, Release, Enqueue, Finish, Fail, Desired, DesiredBy, Pipe, MakeSignal, Trigger, Send, Open, Deliver, Settle, State, Step}
 use Rattle.ws_steps.specs.declared.calls.Reply.TheVariants.{Promise as Named}
-use Rattle.ws_steps.specs.declared.{effects.Effect.{Effect}, effects.Owner.{Owner}, effects.Owner.TheVariants.{Host, HalfOf, BranchOf}, locks.Lock.{Lock}, locks.Lock.TheVariants.{Reader as ReaderLock, Writer as WriterLock, ReleasedWriter, Inner}, writable.PendingAbort.{PendingAbort}, writable.Writer.{Writer}}
+use Rattle.ws_steps.specs.declared.{effects.Effect.{Effect}, effects.Owner.{Owner}, effects.Owner.TheVariants.{Host, HalfOf, BranchOf, EndOf}, locks.Lock.{Lock}, locks.Lock.TheVariants.{Reader as ReaderLock, Writer as WriterLock, ReleasedWriter, Inner}, writable.PendingAbort.{PendingAbort}, writable.Writer.{Writer}}
 use Rattle.ws_steps.specs.Calls as calls
 use Rattle.ws_steps.specs.Calls.{Begun, begin, by_reader, by_writer, of_writer, closed_by, ready_by, renewed, with_renewed}
 use Rattle.ws_steps.specs.Jobs.{job_effects}
@@ -37,7 +37,9 @@ use Rattle.ws_promise_laws.proofs.Tokens.{one_if}
 use Rattle.ws_value.specs.declared.ids.RequestId.{RequestId}
 use Rattle.ws_value.specs.declared.fault.Fault.{Fault}
 use Rattle.ws_steps.specs.Descriptors.{Descriptor, respond_throws}
-use Rattle.ws_steps.specs.Slots.{stream_of_request, is_teed, owner_at}
+use Rattle.ws_steps.specs.Slots.{stream_of_request, is_teed, owner_at, has_port}
+use Rattle.ws_steps.specs.declared.port.Side.{Side}
+use Rattle.ws_steps.specs.declared.port.Side.TheVariants.{Readable as ReadableSide, Writable as WritableSide}
 use Rattle.ws_value.specs.declared.value.Value.TheVariants.{Plain as PlainValue, Bytes}
 use Rattle.ws_steps.specs.Slots.{ByteStream, has_byte, byte_at, has_source, source_at}
 use Rattle.ws_steps.specs.declared.locks.Lock.TheVariants.{ByobReader}
@@ -280,31 +282,37 @@ enqueue-begins : (v : Value) (i : StreamId) (s : Slots) (owner : Owner) → Begi
 enqueue-begins v i s Host = if_it_can-begins s i (EnqueueChunk v)
 enqueue-begins v i s (HalfOf t) = either Begins (readable.can_close_or_enqueue (readable_at i s)) _ _ (λ f. tt) (λ f. tt)
 enqueue-begins v i s (BranchOf t half) = tt
+enqueue-begins v i s (EndOf c) = tt
 
 finish-begins : (i : StreamId) (s : Slots) (owner : Owner) → Begins (calls.finish_by i s owner)
 finish-begins i s Host = if_it_can-begins s i CloseReadable
 finish-begins i s (HalfOf t) = tt
 finish-begins i s (BranchOf t half) = tt
+finish-begins i s (EndOf c) = tt
 
 fail_readable-begins : (reason : Plain) (i : StreamId) (s : Slots) (owner : Owner) → Begins (calls.fail_readable_by reason i s owner)
 fail_readable-begins reason i s Host = tt
 fail_readable-begins reason i s (HalfOf t) = tt
 fail_readable-begins reason i s (BranchOf t half) = tt
+fail_readable-begins reason i s (EndOf c) = tt
 
 fail_writable-begins : (reason : Plain) (i : StreamId) (s : Slots) (owner : Owner) → Begins (calls.fail_writable_by reason i s owner)
 fail_writable-begins reason i s Host = tt
 fail_writable-begins reason i s (HalfOf t) = tt
 fail_writable-begins reason i s (BranchOf t half) = tt
+fail_writable-begins reason i s (EndOf c) = tt
 
 terminate-begins : (s : Slots) (owner : Owner) → Begins (calls.terminate_by s owner)
 terminate-begins s Host = tt
 terminate-begins s (HalfOf t) = tt
 terminate-begins s (BranchOf t half) = tt
+terminate-begins s (EndOf c) = tt
 
 desired-begins : (i : StreamId) (s : Slots) (owner : Owner) → Begins (calls.desired_by i s owner)
 desired-begins i s Host = tt
 desired-begins i s (HalfOf t) = tt
 desired-begins i s (BranchOf t half) = tt
+desired-begins i s (EndOf c) = tt
 
 -- the promise that a call is answered is there as the call begins
 call-answers : (c : Call) (s : Slots) → Known s → Begins (begin c s)
@@ -348,6 +356,12 @@ call-answers (Pipe source dest prevent signal) s k =
     (λ e. tt)
 call-answers MakeSignal s k = tt
 call-answers (Trigger a reason) s k = either Begins (has_signal a s) _ _ (λ e. tt) (λ e. tt)
+call-answers (Send i) s k =
+    either Begins (has_source i s) _ _
+    (λ e. unlocked_readable-begins calls.throws_data_clone (λ source. calls.make_stream (calls.send_readable source)) s i tt (either Begins (nat_lt (length s.streams) most_streams) _ _ (λ f. tt) (λ f. tt)))
+    (λ e. unlocked_writable-begins calls.throws_data_clone (λ dest. calls.make_stream (calls.send_writable dest)) s i tt (either Begins (nat_lt (length s.streams) most_streams) _ _ (λ f. tt) (λ f. tt)))
+call-answers (Open side) s k = either Begins (nat_lt (length s.streams) most_streams) _ _ (λ e. tt) (λ e. tt)
+call-answers (Deliver c m) s k = either Begins (has_port c s) _ _ (λ e. tt) (λ e. tt)
 call-answers (Settle h answer) s k = host-begins h answer s (host_at h s)
 call-answers (State i) s k = either Begins (has_source i s) _ _ (λ e. tt) (λ e. either Begins (has_writable i s) _ _ (λ f. tt) (λ f. tt))
 call-answers Step s k = tt
@@ -364,6 +378,31 @@ renewed-stands t false = (grows-fresh t).stands
 
 fresh-stands : (t : Table) → Stands t (fresh t)
 fresh-stands t = (grows-fresh t).stands
+
+port-stands : (s : Slots) (side : Side) → Stands s.promises (calls.add_port (record { 0 = length s.streams }) s side).promises
+port-stands s ReadableSide = stands-same s.promises
+port-stands s WritableSide = fresh-stands s.promises
+
+port-locks : (s : Slots) (side : Side) → (calls.add_port (record { 0 = length s.streams }) s side).locks ≡ s.locks
+port-locks s ReadableSide = refl
+port-locks s WritableSide = refl
+
+open-locks : (s : Slots) (side : Side) → OfLocks (calls.add_port (record { 0 = length s.streams }) s side).promises s.locks
+    → let z : Slots = (calls.open_end side (record { 0 = length s.streams }) s).done.slots in OfLocks z.promises z.locks
+open-locks s ReadableSide h = h
+open-locks s WritableSide h = h
+
+-- a pipe keeps two more
+sent-locks : (source dest : StreamId) (side : Side) (s : Slots) → let a : Slots = calls.add_port (record { 0 = length s.streams }) s side in OfLocks a.promises s.locks
+    → let z : Slots = (calls.pipe_to source dest calls.no_prevent None a).done.slots in OfLocks z.promises z.locks
+sent-locks source dest side s old =
+    let a : Slots = calls.add_port (record { 0 = length s.streams }) s side in
+    let t : Table = a.promises in
+    let two : Stands t (fresh (fresh t)) = stands-then t (fresh t) (fresh (fresh t)) (fresh-stands t) (fresh-stands (fresh t)) in
+    let four : Stands t (fresh (fresh (fresh (fresh t)))) =
+    stands-then t (fresh (fresh t)) (fresh (fresh (fresh (fresh t)))) two
+    (stands-then (fresh (fresh t)) (fresh (fresh (fresh t))) (fresh (fresh (fresh (fresh t)))) (fresh-stands (fresh (fresh t))) (fresh-stands (fresh (fresh (fresh t))))) in
+    rw (port-locks s side) (locks-append (fresh (fresh (fresh (fresh t)))) s.locks (Inner ∷ Inner ∷ []) (locks-later t (fresh (fresh (fresh (fresh t)))) s.locks four old) (tt, (tt, tt)))
 
 begin-locks : (c : Call) (s : Slots) → Known s → OfLocks (begin c s).done.slots.promises (begin c s).done.slots.locks
 begin-locks c s k =
@@ -421,6 +460,10 @@ begin-locks c s k =
       fail_writable = λ i reason. k.locks;
       pipe = λ source dest prevent signal e f l m. locks-append (fresh (fresh (fresh (fresh t)))) s.locks (Inner ∷ Inner ∷ []) (later (fresh (fresh (fresh (fresh t)))) four) (tt, (tt, tt));
       make_signal = k.locks;
+      open_end = λ side. open-locks s side (later _ (port-stands s side));
+      send_readable = λ source there free. sent-locks source (record { 0 = length s.streams }) WritableSide s (later _ (port-stands s WritableSide));
+      send_writable = λ dest there free. sent-locks (record { 0 = length s.streams }) dest ReadableSide s (later _ (port-stands s ReadableSide));
+      deliver = λ c m asked has. k.locks;
       trigger = λ a reason. k.locks;
       settle = λ h answer p e. k.locks;
     })

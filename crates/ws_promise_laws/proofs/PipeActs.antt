@@ -3,7 +3,7 @@ use Rattle.std.proofs.Common.{◌≡◌, ℕ, ◌+◌, ◌-◌, ◌≤◌, Bool,
 use Rattle.ws_value.specs.declared.ids.{PipeId.{PipeId}, PromiseId.{PromiseId}, SignalId.{SignalId}}
 use Rattle.ws_value.specs.declared.value.{Plain.{Plain}, Plain.TheVariants.{Undefined}, Value.{Value}}
 use Rattle.ws_steps.specs.declared.effects.Effect.{Effect}
-use Rattle.ws_steps.specs.declared.effects.Effect.TheVariants.{Readable as OnReadable, Writable as OnWritable, Pipe as OnPipe, Transform as OnTransform, Tee as OnTee, StartAlgorithm, Give, Settle, CallHost}
+use Rattle.ws_steps.specs.declared.effects.Effect.TheVariants.{Readable as OnReadable, Writable as OnWritable, Pipe as OnPipe, Transform as OnTransform, Tee as OnTee, Port as OnPort, StartAlgorithm, Give, Settle, CallHost}
 use Rattle.ws_steps.specs.declared.pipes.{Action.{Action}, Action.TheVariants.{AbortDest, CancelSource, CloseDest, BySignal}, Ends.{Ends}, Phase.{Phase}, Phase.TheVariants.{Flowing, Waiting, Acting, Over}}
 use Rattle.ws_steps.specs.declared.pipes.{PipeOperation.{PipeOperation}, PipeOperation.TheVariants.{Look, LookReady, KeepChunk, ReadEnded, WriteChunk, GoOn, WriteEnded, Abort as AbortPipe, ActionSettled, PartSettled, NoParts}}
 use Rattle.ws_steps.specs.declared.promises.{Step.{Step}, Step.TheVariants.{PipeReady, PipeWrote, PipeActed}}
@@ -20,7 +20,7 @@ use Rattle.ws_steps.specs.Writable.{is_writable, is_closed}
 use Rattle.ws_laws.proofs.Tables.{either}
 use Rattle.ws_promise_laws.proofs.Holds.{when}
 use Rattle.ws_promise_laws.proofs.Tokens.{one_if}
-use Rattle.ws_writable_laws.proofs.Shape.{of_use, of_transform, of_tee, all, all-append}
+use Rattle.ws_writable_laws.proofs.Shape.{of_use, of_transform, of_tee, of_port, all, all-append}
 
 -- whether the action is under way
 abbrev pub is_acting : Phase → Bool
@@ -48,6 +48,7 @@ abbrev pub ends_by : PipeId → Effect → ℕ
 ends_by p (OnPipe q operation) = when (is_end operation) (one_if (nat_eq p.0 q.0))
 ends_by p (OnTransform t operation) = of_transform (ends_action p) operation
 ends_by p (OnTee t operation) = of_tee (ends_action p) operation
+ends_by p (OnPort c operation) = of_port (ends_action p) operation
 ends_by p (StartAlgorithm i step start) = ends_action p step
 ends_by p (Give gift u) = of_use (ends_action p) u
 ends_by p (CallHost call u) = of_use (ends_action p) u

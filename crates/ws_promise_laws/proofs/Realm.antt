@@ -6,6 +6,12 @@ use Rattle.ws_value.specs.declared.ids.StreamId.{StreamId}
 use Rattle.ws_value.specs.declared.ids.TeeId.{TeeId}
 use Rattle.ws_steps.specs.declared.tee.TeeOperation.{TeeOperation}
 use Rattle.ws_promise_laws.proofs.Teeing.{tees}
+use Rattle.ws_promise_laws.proofs.Porting.{ports}
+use Rattle.ws_value.specs.declared.ids.PortId.{PortId}
+use Rattle.ws_steps.specs.Cross as cross
+use Rattle.ws_steps.specs.declared.port.PortOperation.{PortOperation}
+use Rattle.ws_steps.specs.Operations.{port_operation}
+use Rattle.ws_steps.specs.Slots.{on_port_at, clones_at}
 use Rattle.ws_steps.specs.declared.{pipes.Phase.TheVariants.{Over}, pipes.PipeOperation.{PipeOperation}, readable.ReadableOperation.{ReadableOperation}, writable.WritableOperation.{WritableOperation}}
 use Rattle.ws_steps.specs.Histories.{is_same}
 use Rattle.ws_steps.specs.declared.{transform.TransformId.{TransformId}, transform.TransformOperation.{TransformOperation}}
@@ -23,8 +29,8 @@ use Rattle.ws_promise_laws.proofs.Readables.{reads}
 use Rattle.ws_promise_laws.proofs.Bytes.{Keeps, bytes, byte_reads}
 use Rattle.ws_promise_laws.proofs.Tokens.{of_byte}
 use Rattle.ws_laws.proofs.Tables.{either}
-use Rattle.ws_promise_laws.proofs.Streams.{in_readable, in_writable, loose_in, in_pipe, in_transform, in_tee, Calm, Reads, Writes, Pipes, Transforms, Tees}
-use Rattle.ws_promise_laws.proofs.Tokens.{names_any, of_readable, of_writable, of_transform, of_tee, in_effects}
+use Rattle.ws_promise_laws.proofs.Streams.{in_readable, in_writable, loose_in, in_pipe, in_transform, in_tee, in_port, Calm, Reads, Writes, Pipes, Transforms, Tees, Ports}
+use Rattle.ws_promise_laws.proofs.Tokens.{names_any, of_readable, of_writable, of_transform, of_tee, of_port, in_effects}
 use Rattle.ws_promise_laws.proofs.Transforming.{transforms}
 use Rattle.ws_promise_laws.proofs.WritableAsks.{Expects, writes}
 use Rattle.ws_steps.specs.Slots.{ByteStream, has_byte, byte_at, on_byte, put_byte}
@@ -69,8 +75,13 @@ abbrev pub in_tees : PromiseId → List tee.Slots → ℕ
 in_tees x [] = 0
 in_tees x (t ∷ ts) = in_tee x t + in_tees x ts
 
+-- so much for each port
+abbrev pub in_ports : PromiseId → List cross.Slots → ℕ
+in_ports x [] = 0
+in_ports x (c ∷ cs) = in_port x c + in_ports x cs
+
 abbrev pub firm_in : PromiseId → Slots → ℕ
-firm_in x s = in_all (in_stream x) s.streams + (in_pipes x s.pipes + (in_hosts x s.hosts + (in_transforms x s.transforms + in_tees x s.tees)))
+firm_in x s = in_all (in_stream x) s.streams + (in_pipes x s.pipes + (in_hosts x s.hosts + (in_transforms x s.transforms + (in_tees x s.tees + in_ports x s.ports))))
 
 abbrev pub loosely_in : Slots → PromiseId → ℕ
 loosely_in s x = in_all (loose_in_stream x) s.streams
@@ -107,7 +118,7 @@ blank = ReadableStream no_readable
 
 -- how often a promise stands outside stream i
 abbrev beside : (PromiseId → ℕ) → StreamId → Slots → PromiseId → ℕ
-beside f i s x = f x + (in_all (in_stream x) (slice_set s.streams i.0 blank) + (in_pipes x s.pipes + (in_hosts x s.hosts + (in_transforms x s.transforms + in_tees x s.tees))))
+beside f i s x = f x + (in_all (in_stream x) (slice_set s.streams i.0 blank) + (in_pipes x s.pipes + (in_hosts x s.hosts + (in_transforms x s.transforms + (in_tees x s.tees + in_ports x s.ports)))))
 
 abbrev loosely_beside : StreamId → Slots → PromiseId → ℕ
 loosely_beside i s x = in_all (loose_in_stream x) (slice_set s.streams i.0 blank)
@@ -276,7 +287,7 @@ on_pipe-sound f p operation s None e expected k = k
 on_pipe-sound f p operation s (Some y) e expected k =
     let a : pipe.Acts = record { slots = y; out = found s } in
     let b : pipe.Acts = pipe_operation p (ends_at y s) operation a in
-    let beside_pipe : PromiseId → ℕ = λ x. f x + (in_all (in_stream x) s.streams + (in_pipes x (slice_set s.pipes p.0 (spent y)) + (in_hosts x s.hosts + (in_transforms x s.transforms + in_tees x s.tees)))) in
+    let beside_pipe : PromiseId → ℕ = λ x. f x + (in_all (in_stream x) s.streams + (in_pipes x (slice_set s.pipes p.0 (spent y)) + (in_hosts x s.hosts + (in_transforms x s.transforms + (in_tees x s.tees + in_ports x s.ports))))) in
     let before : Pipes beside_pipe (loosely_in s) a =
     holds-less _ (loosely_in s) (λ x. beside_pipe x + (in_pipe x y + 0)) (loosely_in s) s.promises k.holds
     (λ x. let c = in_pipes-set x p.0 s.pipes y (spent y) e in omega arith) (λ x. let c = in_pipes-set x p.0 s.pipes y (spent y) e in omega arith) in
@@ -315,7 +326,7 @@ on_transform-sound f t operation s None e k = sound-less (λ x. f x + of_transfo
 on_transform-sound f t operation s (Some y) e k =
     let a : transform.Acts = record { slots = y; out = found s } in
     let b : transform.Acts = transform_operation t (halves_at y s) operation a in
-    let around : PromiseId → ℕ = λ x. f x + (in_all (in_stream x) s.streams + (in_pipes x s.pipes + (in_hosts x s.hosts + (others x t.0 s.transforms + in_tees x s.tees)))) in
+    let around : PromiseId → ℕ = λ x. f x + (in_all (in_stream x) s.streams + (in_pipes x s.pipes + (in_hosts x s.hosts + (others x t.0 s.transforms + (in_tees x s.tees + in_ports x s.ports))))) in
     let before : Transforms (λ x. around x + of_transform x operation) (loosely_in s) a =
     holds-less _ (loosely_in s) (λ x. (around x + of_transform x operation) + (in_transform x y + 0)) (loosely_in s) s.promises k.holds
     (λ x. let c = others-all x t.0 s.transforms y e in omega arith) (λ x. let c = others-all x t.0 s.transforms y e in omega arith) in
@@ -354,7 +365,7 @@ on_tee-sound f t operation s None e k = sound-less (λ x. f x + of_tee x operati
 on_tee-sound f t operation s (Some y) e k =
     let a : tee.Acts = record { slots = y; out = found s } in
     let b : tee.Acts = tee_operation t operation a in
-    let around : PromiseId → ℕ = λ x. f x + (in_all (in_stream x) s.streams + (in_pipes x s.pipes + (in_hosts x s.hosts + (in_transforms x s.transforms + other_tees x t.0 s.tees)))) in
+    let around : PromiseId → ℕ = λ x. f x + (in_all (in_stream x) s.streams + (in_pipes x s.pipes + (in_hosts x s.hosts + (in_transforms x s.transforms + (other_tees x t.0 s.tees + in_ports x s.ports))))) in
     let before : Tees (λ x. around x + of_tee x operation) (loosely_in s) a =
     holds-less _ (loosely_in s) (λ x. (around x + of_tee x operation) + (in_tee x y + 0)) (loosely_in s) s.promises k.holds
     (λ x. let c = other_tees-all x t.0 s.tees y e in omega arith) (λ x. let c = other_tees-all x t.0 s.tees y e in omega arith) in
@@ -363,5 +374,44 @@ on_tee-sound f t operation s (Some y) e k =
           holds-less (λ x. around x + (in_tee x b.slots + in_effects x b.out.effects)) (loosely_in s) _ _ b.out.promises (tees around (loosely_in s) t operation a before)
           (λ x. let c = other_tees-all x t.0 s.tees y e in let d = in_tees-set x t.0 s.tees y b.slots e in omega arith)
           (λ x. let c = other_tees-all x t.0 s.tees y e in let d = in_tees-set x t.0 s.tees y b.slots e in omega arith);
+      calm = k.calm;
+    }
+
+-- operations on ports
+
+some_port : (p q : cross.Slots) → ◌≡◌ {A = Option cross.Slots} (Some p) (Some q) → p ≡ q
+some_port p q e = cc
+
+in_ports-set : (x : PromiseId) (k : ℕ) (cs : List cross.Slots) (old y : cross.Slots) → slice_get cs k ≡ Some old → in_ports x (slice_set cs k y) + in_port x old ≡ in_ports x cs + in_port x y
+in_ports-set x k [] old y e = cc
+in_ports-set x zero (c ∷ cs) old y e = rw (some_port c old e) (omega arith)
+in_ports-set x (suc k) (c ∷ cs) old y e = let rest = in_ports-set x k cs old y e in omega arith
+
+-- how often a promise stands in the others
+abbrev other_ports : PromiseId → ℕ → List cross.Slots → ℕ
+other_ports x k [] = 0
+other_ports x zero (c ∷ cs) = in_ports x cs
+other_ports x (suc k) (c ∷ cs) = in_port x c + other_ports x k cs
+
+other_ports-all : (x : PromiseId) (k : ℕ) (cs : List cross.Slots) (old : cross.Slots) → slice_get cs k ≡ Some old → other_ports x k cs + in_port x old ≡ in_ports x cs
+other_ports-all x k [] old e = cc
+other_ports-all x zero (c ∷ cs) old e = rw (some_port c old e) (omega arith)
+other_ports-all x (suc k) (c ∷ cs) old e = let rest = other_ports-all x k cs old e in omega arith
+
+pub on_port-sound : (f : PromiseId → ℕ) (c : PortId) (operation : PortOperation) (s : Slots) (o : Option cross.Slots) → slice_get s.ports c.0 ≡ o
+    → Sound (λ x. f x + of_port x operation) s → Leaves f (on_port_at (λ clones. port_operation c clones operation) c s o)
+on_port-sound f c operation s None e k = sound-less (λ x. f x + of_port x operation) (λ x. f x + 0) s (λ x. omega arith) k
+on_port-sound f c operation s (Some y) e k =
+    let a : cross.Acts = record { slots = y; out = found s } in
+    let b : cross.Acts = port_operation c (clones_at y s) operation a in
+    let around : PromiseId → ℕ = λ x. f x + (in_all (in_stream x) s.streams + (in_pipes x s.pipes + (in_hosts x s.hosts + (in_transforms x s.transforms + (in_tees x s.tees + other_ports x c.0 s.ports))))) in
+    let before : Ports (λ x. around x + of_port x operation) (loosely_in s) a =
+    holds-less _ (loosely_in s) (λ x. (around x + of_port x operation) + (in_port x y + 0)) (loosely_in s) s.promises k.holds
+    (λ x. let n = other_ports-all x c.0 s.ports y e in omega arith) (λ x. let n = other_ports-all x c.0 s.ports y e in omega arith) in
+    record {
+      holds =
+          holds-less (λ x. around x + (in_port x b.slots + in_effects x b.out.effects)) (loosely_in s) _ _ b.out.promises (ports around (loosely_in s) c (clones_at y s) operation a before)
+          (λ x. let n = other_ports-all x c.0 s.ports y e in let d = in_ports-set x c.0 s.ports y b.slots e in omega arith)
+          (λ x. let n = other_ports-all x c.0 s.ports y e in let d = in_ports-set x c.0 s.ports y b.slots e in omega arith);
       calm = k.calm;
     }

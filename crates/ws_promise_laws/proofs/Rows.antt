@@ -12,8 +12,8 @@ use Rattle.ws_value.specs.declared.value.Value.{Value}
 use Rattle.ws_value.specs.declared.value.Value.TheVariants.{Plain as PlainValue, Bytes}
 use Rattle.ws_steps.specs.declared.{calls.Event.TheVariants.{Host as HostCalled}, calls.HostCall.{HostCall}, calls.StartBy.{StartBy}, calls.StartBy.TheVariants.{Now, Later}}
 use Rattle.ws_steps.specs.declared.effects.Effect.{Effect}
-use Rattle.ws_steps.specs.declared.effects.Effect.TheVariants.{Readable, Writable, Pipe, Signal, Transform, Tee, StartAlgorithm, PullAlgorithm, CancelAlgorithm, WriteAlgorithm, CloseAlgorithm, AbortAlgorithm, ChunkSteps, CloseSteps, ErrorSteps, Give, Settle, Queue, CallHost}
-use Rattle.ws_steps.specs.declared.{effects.Gift.{Gift}, effects.Gift.TheVariants.{This, Fresh}, effects.Owner.{Owner}, effects.Owner.TheVariants.{Host, HalfOf, BranchOf}, effects.Use.{Use}}
+use Rattle.ws_steps.specs.declared.effects.Effect.TheVariants.{Readable, Writable, Pipe, Signal, Transform, Tee, Port, StartAlgorithm, PullAlgorithm, CancelAlgorithm, WriteAlgorithm, CloseAlgorithm, AbortAlgorithm, ChunkSteps, CloseSteps, ErrorSteps, Give, Settle, Queue, CallHost}
+use Rattle.ws_steps.specs.declared.{effects.Gift.{Gift}, effects.Gift.TheVariants.{This, Fresh}, effects.Owner.{Owner}, effects.Owner.TheVariants.{Host, HalfOf, BranchOf, EndOf}, effects.Use.{Use}}
 use Rattle.ws_steps.specs.declared.{effects.Use.TheVariants.{React, Resolve}, promises.Step.{Step}}
 use Rattle.ws_steps.specs.declared.{promises.Step.TheVariants.{ReadablePull, ReturnUndefined, WritableClose, WritableAbort}, readable.ReadRequest.{ReadRequest}, readable.ReadRequest.TheVariants.{Promise, Pipe as PipeRequest, Tee as TeeRequest}, pipes.SignalOperation.{SignalOperation}}
 use Rattle.ws_steps.specs.Promises.{Table, next_id, fresh, fresh_settled, settle, answer, tell, use_this, use_gift, queue_micro, is_pending}
@@ -27,7 +27,7 @@ use Rattle.ws_promise_laws.proofs.Holds.{Holds, holds-less}
 use Rattle.ws_promise_laws.proofs.Piping.{PipeExpects}
 use Rattle.ws_promise_laws.proofs.Settling.{holds-fresh, holds-fresh_settled}
 use Rattle.ws_promise_laws.proofs.Reacting.{holds-react, holds-told, holds-micro}
-use Rattle.ws_promise_laws.proofs.Realm.{Sound, Leaves, sound-less, in_hosts, firm_in, loosely_in, on_source-sound, on_byte-sound, on_writable-sound, on_pipe-sound, on_transform-sound, on_tee-sound}
+use Rattle.ws_promise_laws.proofs.Realm.{Sound, Leaves, sound-less, in_hosts, firm_in, loosely_in, on_source-sound, on_byte-sound, on_writable-sound, on_pipe-sound, on_transform-sound, on_tee-sound, on_port-sound}
 use Rattle.ws_promise_laws.proofs.Settling.{holds-settle, holds-answer}
 use Rattle.ws_promise_laws.proofs.Tokens.{names, of_request, of_use, of_effect, in_effects, in_step}
 use Rattle.ws_promise_laws.proofs.WritableAsks.{Expects}
@@ -95,26 +95,31 @@ pulls : (x : PromiseId) (i : StreamId) (u : Use) (owner : Owner) → in_effects 
 pulls x i u Host = refl
 pulls x i u (HalfOf t) = refl
 pulls x i u (BranchOf t half) = omega arith
+pulls x i u (EndOf c) = omega arith
 
 cancels : (x : PromiseId) (i : StreamId) (r : Plain) (u : Use) (owner : Owner) → in_effects x (cancel_algorithm i r u owner) ≡ of_use x u + 0
 cancels x i r u Host = refl
 cancels x i r u (HalfOf t) = refl
 cancels x i r u (BranchOf t half) = refl
+cancels x i r u (EndOf c) = refl
 
 hands_on : (x : PromiseId) (i : StreamId) (owner : Owner) → in_effects x (write_algorithm i owner) ≡ 0
 hands_on x i Host = refl
 hands_on x i (HalfOf t) = refl
 hands_on x i (BranchOf t half) = refl
+hands_on x i (EndOf c) = refl
 
 closes : (x : PromiseId) (i : StreamId) (u : Use) (owner : Owner) → in_effects x (close_algorithm i u owner) ≡ of_use x u + 0
 closes x i u Host = refl
 closes x i u (HalfOf t) = refl
 closes x i u (BranchOf t half) = refl
+closes x i u (EndOf c) = refl
 
 aborts : (x : PromiseId) (i : StreamId) (r : Plain) (u : Use) (owner : Owner) → in_effects x (abort_algorithm i r u owner) ≡ of_use x u + 0
 aborts x i r u Host = refl
 aborts x i r u (HalfOf t) = refl
 aborts x i r u (BranchOf t half) = refl
+aborts x i r u (EndOf c) = refl
 
 started-sound : (f : PromiseId → ℕ) (i : StreamId) (step : Step) (s : Slots) (start : StartBy) → Sound (λ x. f x + of_effect x (StartAlgorithm i step start)) s → Leaves f (start_algorithm i step s start)
 started-sound f i step s Now k = sound-less (λ x. f x + in_step x step) (λ x. f x + ((in_step x step + 0) + 0)) s (λ x. omega arith) k
@@ -172,6 +177,7 @@ row-sound f (Pipe p operation) s e k = on_pipe-sound f p operation s (slice_get 
 row-sound f (Signal a operation) s e k = signal-sound f a operation s (slice_get s.signals a.0) k
 row-sound f (Transform t operation) s e k = on_transform-sound f t operation s (slice_get s.transforms t.0) refl k
 row-sound f (Tee t operation) s e k = on_tee-sound f t operation s (slice_get s.tees t.0) refl k
+row-sound f (Port c operation) s e k = on_port-sound f c operation s (slice_get s.ports c.0) refl k
 row-sound f (StartAlgorithm i step start) s e k = started-sound f i step s start k
 row-sound f (PullAlgorithm i) s e k = sound-less (λ x. f x + 0) _ s (λ x. let n = pulls x i (React (ReadablePull i) None) (owner_at i s) in omega arith) k
 row-sound f (CancelAlgorithm i r p) s e k = sound-less (λ x. f x + names x p) _ s (λ x. let n = cancels x i r (React ReturnUndefined (Some p)) (owner_at i s) in omega arith) k

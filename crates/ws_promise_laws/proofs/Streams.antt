@@ -5,6 +5,7 @@ use Rattle.ws_steps.specs.declared.{pipes.Phase.{Phase}, pipes.Phase.TheVariants
 use Rattle.ws_steps.specs.Pipes as pipe
 use Rattle.ws_steps.specs.Readable as readable
 use Rattle.ws_steps.specs.Tee as tee
+use Rattle.ws_steps.specs.Cross as cross
 use Rattle.ws_steps.specs.Transform as transform
 use Rattle.ws_steps.specs.Writable as writable
 use Rattle.ws_promise_laws.proofs.Tokens.{names, names_any, of_request, in_effects}
@@ -108,3 +109,13 @@ in_tee x s = when (not s.answered) (names x s.cancel)
 -- what an operation on a tee keeps, where promises stand so often outside it and its effects
 abbrev pub Tees : (f l : PromiseId → ℕ) → tee.Acts → Type 0
 Tees f l a = Holds (λ x. f x + (in_tee x a.slots + in_effects x a.out.effects)) l a.out.promises
+
+-- ports
+
+-- the backpressure promise is to be settled
+abbrev pub in_port : PromiseId → cross.Slots → ℕ
+in_port x s = names_any x s.backpressure
+
+-- what an operation on a port keeps, where promises stand so often outside it and its effects
+abbrev pub Ports : (f l : PromiseId → ℕ) → cross.Acts → Type 0
+Ports f l a = Holds (λ x. f x + (in_port x a.slots + in_effects x a.out.effects)) l a.out.promises

@@ -4,15 +4,17 @@ use Rattle.ws_value.specs.declared.ids.PromiseId.{PromiseId}
 use Rattle.ws_steps.specs.declared.byte.ByteOperation.{ByteOperation}
 use Rattle.ws_steps.specs.declared.byte.ByteOperation.TheVariants.{InitializeByobReader, PullInto}
 use Rattle.ws_steps.specs.declared.effects.Effect.{Effect}
-use Rattle.ws_steps.specs.declared.effects.Effect.TheVariants.{Readable, Byte, Writable, Pipe, Signal, Transform, Tee, StartAlgorithm, PullAlgorithm, CancelAlgorithm, WriteAlgorithm, CloseAlgorithm, AbortAlgorithm, ChunkSteps, CloseSteps, CloseStepsWith, ErrorSteps, Give, Settle as SettleEffect, Queue, CallHost}
+use Rattle.ws_steps.specs.declared.effects.Effect.TheVariants.{Readable, Byte, Writable, Pipe, Signal, Transform, Tee, Port, StartAlgorithm, PullAlgorithm, CancelAlgorithm, WriteAlgorithm, CloseAlgorithm, AbortAlgorithm, ChunkSteps, CloseSteps, CloseStepsWith, ErrorSteps, Give, Settle as SettleEffect, Queue, CallHost}
 use Rattle.ws_steps.specs.declared.{effects.Use.{Use}, effects.Use.TheVariants.{React, Resolve}, promises.Job.{Job}}
 use Rattle.ws_steps.specs.declared.{promises.Job.TheVariants.{Reaction as ReactionJob, Follow, Settle, Micro as MicroJob}, promises.Reaction.{Reaction}}
-use Rattle.ws_steps.specs.declared.{promises.Reaction.TheVariants.{Perform, Adopt}, promises.Step.{Step}, promises.Step.TheVariants.{WritableAbort, TransformChanged, TransformFlushed, TransformAborted, TransformCancelled}, readable.ReadRequest.{ReadRequest}}
+use Rattle.ws_steps.specs.declared.{promises.Reaction.TheVariants.{Perform, Adopt}, promises.Step.{Step}, promises.Step.TheVariants.{WritableAbort, TransformChanged, TransformFlushed, TransformAborted, TransformCancelled, PortUnblocked}, readable.ReadRequest.{ReadRequest}}
 use Rattle.ws_steps.specs.declared.{readable.ReadRequest.TheVariants.{Promise, Pipe as PipeRequest, Tee as TeeRequest}, readable.ReadableOperation.{ReadableOperation}}
 use Rattle.ws_steps.specs.declared.{readable.ReadableOperation.TheVariants.{InitializeReader, Read, Cancel, CancelIfReadable}, writable.WritableOperation.{WritableOperation}}
 use Rattle.ws_steps.specs.declared.writable.WritableOperation.TheVariants.{SetUpWriter, Write, Close as CloseWritable, ClosePropagating, Abort, AbortIfWritable, HandOn, AbortSettled}
-use Rattle.ws_steps.specs.declared.transform.Taker.TheVariants.{ToTransform}
+use Rattle.ws_steps.specs.declared.transform.Taker.TheVariants.{ToTransform, ToPort}
 use Rattle.ws_steps.specs.declared.transform.TransformOperation.{TransformOperation}
+use Rattle.ws_steps.specs.declared.port.PortOperation.{PortOperation}
+use Rattle.ws_steps.specs.declared.port.PortOperation.TheVariants.{Leave, Write as WriteByPort, WriteGoesOn as PortGoesOn, PostChunk, Close as CloseByPort}
 use Rattle.ws_steps.specs.declared.tee.TeeOperation.{TeeOperation}
 use Rattle.ws_steps.specs.declared.tee.TeeOperation.TheVariants.{CancelBranch}
 use Rattle.ws_steps.specs.declared.transform.TransformOperation.TheVariants.{SinkWrite, WriteGoesOn, TransformChunk, SourcePull, SinkClose, SinkAbort, SourceCancel, FlushSettled, AbortSettled as SinkAbortSettled, CancelSettled}
@@ -37,6 +39,7 @@ in_step x (TransformChanged t d) = names x d
 in_step x (TransformFlushed t p) = names x p
 in_step x (TransformAborted t p r) = names x p
 in_step x (TransformCancelled t p r) = names x p
+in_step x (PortUnblocked c d) = names x d
 in_step x _ = 0
 
 abbrev pub in_reaction : PromiseId → Reaction → ℕ
@@ -87,6 +90,7 @@ of_writable x (ClosePropagating p) = names x p
 of_writable x (Abort r p) = names x p
 of_writable x (AbortIfWritable r p) = names x p
 of_writable x (HandOn (ToTransform t d)) = names x d
+of_writable x (HandOn (ToPort c d)) = names x d
 of_writable x (AbortSettled p outcome) = names x p
 of_writable x _ = 0
 
@@ -107,6 +111,14 @@ abbrev pub of_tee : PromiseId → TeeOperation → ℕ
 of_tee x (CancelBranch half r u) = of_use x u
 of_tee x _ = 0
 
+abbrev pub of_port : PromiseId → PortOperation → ℕ
+of_port x (Leave r u) = of_use x u
+of_port x (WriteByPort u) = of_use x u
+of_port x (PortGoesOn d) = names x d
+of_port x (PostChunk v d) = names x d
+of_port x (CloseByPort u) = of_use x u
+of_port x _ = 0
+
 abbrev pub of_effect : PromiseId → Effect → ℕ
 of_effect x (Readable i operation) = of_readable x operation
 of_effect x (Byte i operation) = of_byte x operation
@@ -115,6 +127,7 @@ of_effect x (Pipe p operation) = 0
 of_effect x (Signal a operation) = 0
 of_effect x (Transform t operation) = of_transform x operation
 of_effect x (Tee t operation) = of_tee x operation
+of_effect x (Port c operation) = of_port x operation
 of_effect x (StartAlgorithm i step start) = in_step x step
 of_effect x (PullAlgorithm i) = 0
 of_effect x (CancelAlgorithm i r p) = names x p

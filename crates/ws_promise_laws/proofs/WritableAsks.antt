@@ -1,11 +1,12 @@
 -- What the calls on a writable stream keep: no promise that isn't open is settled.
 use Rattle.ws_writable_laws.proofs.Shape.{has_mark}
+use Rattle.ws_value.specs.declared.ids.PortId.{PortId}
 use Rattle.ws_writable_laws.proofs.Expects.{Marked}
 use Rattle.ws_steps.specs.declared.writable.WritableOperation.{WritableOperation}
 use Rattle.ws_steps.specs.declared.writable.WritableOperation.TheVariants.{SetUpWriter, ReleaseWriter, Write, Close, ClosePropagating, Abort, AbortIfWritable, ErrorIfNeeded, HandOn, StartSettled, WriteSettled, CloseSettled, AbortSettled}
 use Rattle.ws_steps.specs.Operations.{writable_operation}
-use Rattle.ws_steps.specs.declared.{transform.Taker.TheVariants.{ToHost, ToTransform}, transform.TransformId.{TransformId}, writable.WriteRecord.{WriteRecord}, writable.WriteRecord.TheVariants.{Chunk, InFlight, CloseMark}}
-use Rattle.ws_steps.specs.declared.{effects.Owner.{Owner}, effects.Owner.TheVariants.{Host, HalfOf, BranchOf}}
+use Rattle.ws_steps.specs.declared.{transform.Taker.TheVariants.{ToHost, ToTransform, ToPort}, transform.TransformId.{TransformId}, writable.WriteRecord.{WriteRecord}, writable.WriteRecord.TheVariants.{Chunk, InFlight, CloseMark}}
+use Rattle.ws_steps.specs.declared.{effects.Owner.{Owner}, effects.Owner.TheVariants.{Host, HalfOf, BranchOf, EndOf}}
 use Rattle.std.proofs.Common.{◌≡◌, ℕ, ◌+◌, Bool, true, false, not, ◌&&◌, ◌||◌, if◌then◌else◌, is_some, List, [], ◌∷◌, ◌++◌, Option, Some, None, Result, Ok, Err, refl, sym, ap, subst, arith}
 use Rattle.ws_value.specs.declared.ids.PromiseId.{PromiseId}
 use Rattle.ws_value.specs.declared.ids.StreamId.{StreamId}
@@ -61,6 +62,13 @@ hand_to-keeps me f l t d a (Some CloseMark) k = writes-less f l (λ x. names x d
 hand_to-keeps me f l t d a (Some InFlight) k = writes-less f l (λ x. names x d) a a refl (λ x. grind arith) (λ x. grind arith) k.calm k
 hand_to-keeps me f l t d a (Some (Chunk v)) k =
     writes-less f l (λ x. names x d) a (hand_on_first me (ToTransform t d) a (Some (Chunk v))) refl (λ x. grind (arith, in_effects-append)) (λ x. grind (arith, in_effects-append)) k.calm k
+
+hand_port-keeps : (me : StreamId) (f l : PromiseId → ℕ) (c : PortId) (d : PromiseId) (a : Acts) (first : Option WriteRecord) → Writes (λ x. f x + names x d) l a → Writes f l (hand_on_first me (ToPort c d) a first)
+hand_port-keeps me f l c d a None k = writes-less f l (λ x. names x d) a a refl (λ x. grind arith) (λ x. grind arith) k.calm k
+hand_port-keeps me f l c d a (Some CloseMark) k = writes-less f l (λ x. names x d) a a refl (λ x. grind arith) (λ x. grind arith) k.calm k
+hand_port-keeps me f l c d a (Some InFlight) k = writes-less f l (λ x. names x d) a a refl (λ x. grind arith) (λ x. grind arith) k.calm k
+hand_port-keeps me f l c d a (Some (Chunk v)) k =
+    writes-less f l (λ x. names x d) a (hand_on_first me (ToPort c d) a (Some (Chunk v))) refl (λ x. grind (arith, in_effects-append)) (λ x. grind (arith, in_effects-append)) k.calm k
 
 hand_on-keeps : (me : StreamId) (f l : PromiseId → ℕ) (a : Acts) → Writes f l a → Writes f l (hand_on me ToHost a)
 unfolding hand_on
@@ -120,6 +128,7 @@ signalled-keeps : (me : StreamId) (f l : PromiseId → ℕ) (r : Plain) (a : Act
 signalled-keeps me f l r a Host k = record { holds = holds-told (firm f a) (loose l a) _ a.out.promises k.holds; calm = k.calm }
 signalled-keeps me f l r a (HalfOf t) k = k
 signalled-keeps me f l r a (BranchOf t half) k = k
+signalled-keeps me f l r a (EndOf c) k = k
 
 begin_abort-keeps : (me : StreamId) (f l : PromiseId → ℕ) (r : Plain) (p : PromiseId) (a : Acts) → has_ended a.slots.state ≡ false → Writes (λ x. f x + names x p) l a → Writes f l (begin_abort me r p a)
 begin_abort-keeps me f l r p a alive k =
@@ -224,6 +233,7 @@ writes f l i (AbortIfWritable r p) a e k = abort_if_writable-keeps i f l r p a k
 writes f l i (ErrorIfNeeded r) a e k = controller_error_if_needed-keeps i f l r a (ungiven f l a k)
 writes f l i (HandOn ToHost) a e k = hand_on-keeps i f l a (ungiven f l a k)
 writes f l i (HandOn (ToTransform t d)) a e k = hand_to-keeps i f l t d a (first_value a.slots.queue) k
+writes f l i (HandOn (ToPort c d)) a e k = hand_port-keeps i f l c d a (first_value a.slots.queue) k
 writes f l i (StartSettled o) a e k = start_settled-keeps i f l o a e.1 e.0 (ungiven f l a k)
 writes f l i (WriteSettled o) a e k = write_settled-keeps i f l o a e.1 e.0 (ungiven f l a k)
 writes f l i (CloseSettled o) a e k = close_settled-keeps i f l o a e (ungiven f l a k)
