@@ -1,6 +1,9 @@
 -- The reads that are asked of a stream for promises are those of the calls that read from it: no other call, no job and no effect asks one.
 -- Those of pipes are for none.
 use Rattle.std.proofs.Common.{◌≡◌, Bool, true, false, ◌&&◌, List, [], ◌∷◌, ◌++◌, Option, Some, None, if◌then◌else◌, refl, sym, ap, ◌∙◌, append-nil, arith}
+use Rattle.ws_laws.proofs.PortDoes.{PortCauses}
+use Rattle.ws_steps.specs.declared.effects.Effect.TheVariants.{Port}
+use Rattle.ws_value.specs.declared.ids.PortId.{PortId}
 use Rattle.std.proofs.lemmas.Bool.{false≢true}
 use Rattle.ws_value.specs.declared.value.Value.{Value}
 use Rattle.ws_value.specs.declared.{ids.LockId.{LockId}, ids.PipeId.{PipeId}, ids.PromiseId.{PromiseId}, ids.StreamId.{StreamId}}
@@ -70,20 +73,25 @@ tee-quiet : (t : TeeId) (source first second : StreamId) (e : Effect) → TeeCau
 tee-quiet t source first second (Readable i (Read (Promise p))) c = let other = c.1 in absurd (cc)
 tee-quiet t source first second _ c = tt
 
+port-quiet : (c : PortId) (stream : StreamId) (e : Effect) → PortCauses c stream e → Quiet e
+port-quiet c stream (Readable i (Read (Promise p))) k = absurd k
+port-quiet c stream _ k = tt
+
 quiet-causes : (e : Effect) → Causes Quiet e
 quiet-causes (Readable j operation) = record { pull = tt; cancel = λ r p. tt; chunk = λ r v. tt; close = λ r. tt; error = λ r e. tt }
 quiet-causes (Byte j operation) = record { readable = record { pull = tt; cancel = λ r p. tt; chunk = λ r v. tt; close = λ r. tt; error = λ r e. tt }; close_with = λ r b. tt }
-quiet-causes (Writable j operation) = record { write = tt; close = tt; abort = λ r p. tt; hand_on = λ v. tt; take = λ v t d. tt }
+quiet-causes (Writable j operation) = record { write = tt; close = tt; abort = λ r p. tt; hand_on = λ v. tt; take = λ v t d. tt; post = λ v c d. tt }
 quiet-causes (Pipe p operation) = pipe-quiet p
 quiet-causes (Signal a operation) = signal-quiet operation
 quiet-causes (StartAlgorithm j step start) = (λ g u. tt, λ c u. tt)
-quiet-causes (PullAlgorithm j) = (λ c u. tt, (λ t u. tt, (λ t. tt, λ u. tt)))
-quiet-causes (CancelAlgorithm j r p) = (λ c u. tt, (λ t u. tt, λ t half u. tt))
-quiet-causes (WriteAlgorithm j) = (tt, λ t u. tt)
+quiet-causes (PullAlgorithm j) = (λ c u. tt, (λ t u. tt, (λ t. tt, (λ u. tt, λ c. tt))))
+quiet-causes (CancelAlgorithm j r p) = (λ c u. tt, (λ t u. tt, (λ t half u. tt, λ q u. tt)))
+quiet-causes (WriteAlgorithm j) = (tt, (λ t u. tt, λ q u. tt))
 quiet-causes (Transform t operation) = transform-quiet t
 quiet-causes (Tee t operation) = tee-quiet t
-quiet-causes (CloseAlgorithm j) = (λ c u. tt, λ t u. tt)
-quiet-causes (AbortAlgorithm j r p) = (λ c u. tt, λ t u. tt)
+quiet-causes (Port c operation) = port-quiet c
+quiet-causes (CloseAlgorithm j) = (λ c u. tt, (λ t u. tt, λ q u. tt))
+quiet-causes (AbortAlgorithm j r p) = (λ c u. tt, (λ t u. tt, λ q u. tt))
 quiet-causes (ChunkSteps j request v) = chunk-quiet v request
 quiet-causes (CloseSteps j request) = end-quiet request
 quiet-causes (CloseStepsWith j request b) = end-quiet request

@@ -1,5 +1,10 @@
--- Operations by which a reader comes stand before all other effects.
+-- Operations by which a reader comes stand before all other effects, but for what a start algorithm leads to.
 use Rattle.std.proofs.Common.{◌≡◌, ◌+◌, Bool, List, [], ◌∷◌, ◌++◌, length, Option, Some, None, arith}
+use Rattle.ws_steps.specs.declared.effects.Effect.TheVariants.{CallHost}
+use Rattle.ws_steps.specs.declared.effects.Effect.TheVariants.{Give}
+use Rattle.ws_steps.specs.declared.effects.Effect.TheVariants.{StartAlgorithm}
+use Rattle.ws_laws.proofs.PortDoes.{PortCauses}
+use Rattle.ws_value.specs.declared.ids.PortId.{PortId}
 use Rattle.ws_value.specs.declared.ids.PipeId.{PipeId}
 use Rattle.ws_value.specs.declared.ids.PromiseId.{PromiseId}
 use Rattle.ws_value.specs.declared.ids.SignalId.{SignalId}
@@ -33,6 +38,8 @@ use Rattle.ws_laws.proofs.Tables.{either}
 use Rattle.ws_laws.proofs.TeeDoes.{TeeCauses}
 use Rattle.ws_laws.proofs.TransformDoes.{TransformCauses}
 use Rattle.ws_laws.proofs.Walker.{Stays}
+use Rattle.ws_steps.specs.declared.port.Side.{Side}
+use Rattle.ws_steps.specs.declared.port.Side.TheVariants.{Readable as ReadableSide, Writable as WritableSide}
 
 -- other effects
 abbrev pub IsNoInit : Effect → Type 0
@@ -42,17 +49,27 @@ IsNoInit _ = Unit {0}
 abbrev pub InitFirst : List Effect → Type 0
 InitFirst [] = Unit {0}
 InitFirst (Readable j (InitializeReader closed) ∷ es) = InitFirst es
+InitFirst (StartAlgorithm j step start ∷ es) = InitFirst es
+InitFirst (Give gift u ∷ es) = InitFirst es
+InitFirst (CallHost call u ∷ es) = InitFirst es
 InitFirst (e ∷ es) = Each IsNoInit es
+
+-- neither a start algorithm nor what it leads to
+abbrev IsOther : Effect → Type 0
+IsOther (StartAlgorithm j step start) = ⊥
+IsOther (Give gift u) = ⊥
+IsOther (CallHost call u) = ⊥
+IsOther _ = Unit {0}
 
 none-first : (es : List Effect) → Each IsNoInit es → InitFirst es
 none-first [] n = tt
-none-first (e ∷ es) n = by e n.0
+none-first (e ∷ es) n = by e n.0 (none-first es n.1)
   where
-    by : (e : Effect) → IsNoInit e → InitFirst (e ∷ es)
-    by e k = grind (arith, k, n)
+    by : (e : Effect) → IsNoInit e → InitFirst es → InitFirst (e ∷ es)
+    by e k h = grind (arith, k, n, h)
 
-first-behind : (e : Effect) (es : List Effect) → IsNoInit e → InitFirst (e ∷ es) → Each IsNoInit es
-first-behind e es n t = grind (arith, n, t)
+first-behind : (e : Effect) (es : List Effect) → IsNoInit e → IsOther e → InitFirst (e ∷ es) → Each IsNoInit es
+first-behind e es n o t = grind (arith, n, o, t)
 
 -- none is caused
 
@@ -65,8 +82,11 @@ transform-none me writable readable e c = grind (arith, c)
 tee-none : (me : TeeId) (source first second : StreamId) (e : Effect) → TeeCauses me source first second e → IsNoInit e
 tee-none me source first second e c = grind (arith, c)
 
+port-none : (c : PortId) (stream : StreamId) (e : Effect) → PortCauses c stream e → IsNoInit e
+port-none c stream e k = grind (arith, k)
+
 none-causes : (e : Effect) → Causes IsNoInit e
-none-causes e = grind (arith, pipe-none, transform-none, tee-none)
+none-causes e = grind (arith, pipe-none, transform-none, tee-none, port-none)
 
 default-initializes : (j : StreamId) (closed : PromiseId) (s : Slots) → (on_readable (reader_generic_initialize closed) j s).caused ≡ []
 unfolding reader_generic_initialize
@@ -83,8 +103,13 @@ initializes j closed s =
     (λ is. byte-initializes j closed s) (λ n. default-initializes j closed s)
 
 row-first : (s : Slots) (e : Effect) (es : List Effect) → InitFirst (e ∷ es) → InitFirst ((row e s).caused ++ es)
+unfolding row
 row-first s (Readable j (InitializeReader closed)) es t = rw (initializes j closed s) t
-row-first s e es t = none-first ((row e s).caused ++ es) (each-append IsNoInit (row e s).caused es (row-causes IsNoInit e s (none-causes e)) (first-behind e es tt t))
+row-first s (StartAlgorithm j step Now) es t = t
+row-first s (StartAlgorithm j step Later) es t = t
+row-first s (Give gift u) es t = t
+row-first s (CallHost call u) es t = t
+row-first s e es t = none-first ((row e s).caused ++ es) (each-append IsNoInit (row e s).caused es (row-causes IsNoInit e s (none-causes e)) (first-behind e es tt tt t))
 
 -- calls and jobs
 
@@ -96,9 +121,17 @@ begins-none me a b signal (Some r) = (tt, tt)
 begins-none me a b None None = grind arith
 begins-none me a b (Some g) None = grind arith
 
-start-none : (q : PromiseId) (j : StreamId) (start : StartBy) → IsNoInit (calls.start_transform q j start)
-start-none q j Now = tt
-start-none q j Later = tt
+start-first : (q : PromiseId) (j : StreamId) (start : StartBy) → InitFirst (calls.start_transform q j start ∷ [])
+start-first q j Now = tt
+start-first q j Later = tt
+
+opened-first : (s : Slots) (i : StreamId) (side : Side) → InitFirst (calls.open_end side i s).done.caused
+opened-first s i ReadableSide = tt
+opened-first s i WritableSide = tt
+
+sent-first : (s z : Slots) (i source dest : StreamId) (side : Side) → InitFirst (calls.sent_by i side s (calls.pipe_to source dest calls.no_prevent None z)).done.caused
+sent-first s z i source dest ReadableSide = (tt, begins-none (record { 0 = length z.pipes }) (next_id z.promises) (next_id (fresh (fresh z.promises))) None None)
+sent-first s z i source dest WritableSide = (tt, begins-none (record { 0 = length z.pipes }) (next_id z.promises) (next_id (fresh (fresh z.promises))) None None)
 
 call-first : (c : Call) (s : Slots) → InitFirst (begin c s).done.caused
 call-first c s = each_call (λ (b : Begun). InitFirst b.done.caused) c s (record {
@@ -132,8 +165,8 @@ call-first c s = each_call (λ (b : Begun). InitFirst b.done.caused) c s (record
   write = λ l v i e. tt;
   close = λ i. tt;
   abort = λ reason i e. tt;
-  make_transform = λ kind m n start. (tt, (tt, (tt, (start-none (next_id (fresh s.promises)) (record { 0 = length s.streams + 1 }) start, tt))));
-  make_tee = λ i e is free untied. (tt, (tt, tt));
+  make_transform = λ kind m n start. start-first (next_id (fresh s.promises)) (record { 0 = length s.streams + 1 }) start;
+  make_tee = λ i e is free untied. tt;
   enqueue = λ i v e o can. tt;
   enqueue_half = λ i t v e o can. tt;
   fail_half = λ t reason. tt;
@@ -144,6 +177,10 @@ call-first c s = each_call (λ (b : Begun). InitFirst b.done.caused) c s (record
   pipe = λ source dest prevent signal e f l m.
       (tt, begins-none (record { 0 = length s.pipes }) (next_id s.promises) (next_id (fresh (fresh s.promises))) signal (calls.reason_of signal s));
   make_signal = tt;
+  open_end = λ side. opened-first s (record { 0 = length s.streams }) side;
+  send_readable = λ i there free. sent-first s (calls.add_port (record { 0 = length s.streams }) s WritableSide) (record { 0 = length s.streams }) i (record { 0 = length s.streams }) WritableSide;
+  send_writable = λ i there free. sent-first s (calls.add_port (record { 0 = length s.streams }) s ReadableSide) (record { 0 = length s.streams }) (record { 0 = length s.streams }) i ReadableSide;
+  deliver = λ p m e is. tt;
   trigger = λ a reason. tt;
   settle = λ h answer q e. tt;
 })

@@ -1,5 +1,5 @@
 -- The reads of a readable stream over every run: what calls and jobs begin with.
-use Rattle.std.proofs.Common.{◌≡◌, ℕ, ◌+◌, ◌≤◌, Bool, true, false, nat_eq, is_some, List, [], ◌∷◌, ◌++◌, Option, Some, None, slice_get, slice_set, length, refl, sym, ap, ◌∙◌, arith}
+use Rattle.std.proofs.Common.{◌≡◌, ℕ, ◌+◌, ◌≤◌, Bool, true, false, nat_eq, is_some, List, [], ◌∷◌, ◌++◌, Option, Some, None, slice_get, slice_set, length, refl, sym, ap, ◌∙◌, arith, ◌||◌}
 use Rattle.std.proofs.lemmas.List.Elements.{All-nil}
 use Rattle.ws_value.specs.declared.{ids.PipeId.{PipeId}, ids.PromiseId.{PromiseId}, ids.SignalId.{SignalId}, ids.StreamId.{StreamId}, ids.LockId.{LockId}}
 use Rattle.ws_value.specs.declared.value.{Plain.{Plain}}
@@ -11,12 +11,12 @@ use Rattle.ws_steps.specs.declared.pipes.{PipeOperation.{PipeOperation}, Prevent
 use Rattle.ws_steps.specs.declared.byte.ByteOperation.TheVariants.{InitializeByobReader}
 use Rattle.ws_steps.specs.Histories.{is_same}
 use Rattle.ws_steps.specs.Jobs.{job_effects}
-use Rattle.ws_steps.specs.Calls.{Begun, begin, renewed, with_renewed, reject_renewed, start_transform, make_tee, pipe_to, pipe_begins, reason_of}
+use Rattle.ws_steps.specs.Calls.{Begun, begin, renewed, with_renewed, reject_renewed, start_transform, make_tee, pipe_to, pipe_begins, reason_of, open_end, start_end, add_port, end_of, no_prevent, send_readable, send_writable}
 use Rattle.ws_steps.specs.Pipes as pipe
 use Rattle.ws_steps.specs.Pipes.{abort_all, trigger_unless}
 use Rattle.ws_steps.specs.Promises.{Table, next_id, fresh, is_pending_at}
 use Rattle.ws_steps.specs.Readable as readable
-use Rattle.ws_steps.specs.Slots.{Slots, Stream, Done as Begins, empty, has_readable, has_byte, has_source, lock_at, source_at, readable_at, as_readable, no_readable}
+use Rattle.ws_steps.specs.Slots.{Slots, Stream, Done as Begins, empty, has_readable, has_byte, has_source, lock_at, source_at, readable_at, as_readable, no_readable, is_byte_stream}
 use Rattle.ws_steps.specs.Run.{Entry, run}
 use Rattle.ws_steps.specs.ReadableHistory.{run_flow, run_reads}
 use Rattle.ws_steps.specs.Laws.{Allows}
@@ -25,7 +25,7 @@ use Rattle.ws_laws.proofs.OnReadable as on_readable
 use Rattle.ws_laws.proofs.OnReadable.{Holders, holders, with_pipe, piped, is_still, IsForeign, AreSteps, IsLaw, Kept, all_seen, all_seen-append}
 use Rattle.ws_laws.proofs.Order.{is_resting, Orderly, orderly-stays, orderly-empty}
 use Rattle.ws_laws.proofs.Truth.{false_true}
-use Rattle.ws_laws.proofs.Tables.{either, is_same-refl, no_readable_there, same_id, eq_numbers, unequal_numbers, no_stream, place_before}
+use Rattle.ws_laws.proofs.Tables.{either, is_same-refl, no_readable_there, same_id, eq_numbers, unequal_numbers, no_stream, place_before, place_last}
 use Rattle.ws_laws.proofs.Walker.{Stays}
 use Rattle.ws_promise_laws.proofs.Acting.{EachWaits, waits-stays, waits-heard, none-waits}
 use Rattle.ws_promise_laws.proofs.Tokens.{one_if}
@@ -36,13 +36,15 @@ use Rattle.ws_readable_laws.proofs.Runs as flows
 use Rattle.ws_read_laws.proofs.Marks.{Mark, Stands, Aborts, pipe_mark, marks, pending, given_of}
 use Rattle.ws_read_laws.proofs.Told.{Told, no_told, told_then, told, run_done, run_decided, over-parts, is_history, Held, Unmade, operation-held, absent-held, steps-held, steps-unmade, made-held}
 use Rattle.ws_read_laws.proofs.Pipes.{pipe-held, pipe-unmade, no_pipe-held, signal-held, no_signal-held, known_expects}
-use Rattle.ws_read_laws.proofs.Transforms.{transform-held, tee-held, tee-unmade}
+use Rattle.ws_read_laws.proofs.Transforms.{transform-held, tee-held, tee-unmade, port-held}
 use Rattle.ws_value.specs.declared.ids.TeeId.{TeeId}
 use Rattle.ws_steps.specs.declared.tee.Half.TheVariants.{First, Second}
 use Rattle.ws_steps.specs.declared.effects.Owner.TheVariants.{BranchOf}
 use Rattle.ws_steps.specs.declared.readable.SizeBy.TheVariants.{Count}
 use Rattle.ws_steps.specs.Tee as tee
 use Rattle.ws_steps.specs.Slots.{ReadableStream, is_readable_stream}
+use Rattle.ws_steps.specs.declared.port.Side.{Side}
+use Rattle.ws_steps.specs.declared.port.Side.TheVariants.{Readable as ReadableSide, Writable as WritableSide}
 
 module _ (i : StreamId) where
   -- with what calls and jobs begin
@@ -279,6 +281,43 @@ module _ (i : StreamId) where
             });
       }
 
+  -- a stream at an end of a port
+
+  opened : (h : Told) (j : StreamId) (s : Slots) (side : Side) → let d : Begins = (open_end side j s).done in Now h (holders s) d.slots.streams [] → Now h (holders d.slots) d.slots.streams d.caused
+  opened h j s ReadableSide k = others h s.locks s.locks s.pipes s.tees _ _ refl tt k
+  opened h j s WritableSide k = others h s.locks s.locks s.pipes s.tees _ _ refl tt k
+
+  abbrev new_port : Slots → Side → Slots
+  new_port s side = add_port (record { 0 = length s.streams }) s side
+
+  sent_comes : (h : Told) (source dest : StreamId) (s : Slots) (side : Side) → has_source source (new_port s side) ≡ true → is_some (source_at source (new_port s side)).reader ≡ false
+      → let d : Begins = (pipe_to source dest no_prevent None (new_port s side)).done in
+      Now h (holders s) (new_port s side).streams [] → Now h (holders d.slots) (new_port s side).streams (start_end (record { 0 = length s.streams }) side ∷ d.caused)
+  sent_comes h source dest s ReadableSide there free k =
+      let m = pipe_comes h source dest no_prevent None (new_port s ReadableSide) (is_same i source) refl there free k in record { unmade = m.unmade; held = m.held }
+  sent_comes h source dest s WritableSide there free k =
+      let m = pipe_comes h source dest no_prevent None (new_port s WritableSide) (is_same i source) refl there free k in record { unmade = m.unmade; held = m.held }
+
+  source_before : (j : StreamId) (s : Slots) → has_source j s ≡ true → slice_get (new_port s WritableSide).streams j.0 ≡ slice_get s.streams j.0
+  source_before j s there = place_before s.streams _ j.0 (unequal_numbers j.0 (length s.streams) (by (nat_eq j.0 (length s.streams)) refl))
+    where
+      none_there : (o : Option Stream) → o ≡ None → (is_readable_stream o || is_byte_stream o) ≡ true → ⊥
+      none_there o e f = cc
+
+      by : (last : Bool) → last ≡ nat_eq j.0 (length s.streams) → nat_eq j.0 (length s.streams) ≡ false
+      by false e = sym e
+      by true e = absurd (none_there (slice_get s.streams j.0) (no_stream j s.streams (eq_numbers j.0 (length s.streams) (sym e))) there)
+
+  send_from : (h : Told) (j : StreamId) (s : Slots) → has_source j s ≡ true → is_some (source_at j s).reader ≡ false
+      → let d : Begins = (send_readable j (record { 0 = length s.streams }) s).done in Now h (holders s) d.slots.streams [] → Now h (holders d.slots) d.slots.streams d.caused
+  send_from h j s there free k =
+      let same = source_before j s there in sent_comes h j (record { 0 = length s.streams }) s WritableSide (rw same there) (rw same free) k
+
+  send_into : (h : Told) (j : StreamId) (s : Slots)
+      → let d : Begins = (send_writable j (record { 0 = length s.streams }) s).done in Now h (holders s) d.slots.streams [] → Now h (holders d.slots) d.slots.streams d.caused
+  send_into h j s k =
+      let last = place_last s.streams (end_of (record { 0 = length s.ports }) ReadableSide) in sent_comes h (record { 0 = length s.streams }) j s ReadableSide (rw last refl) (rw last refl) k
+
   start_others : (q : PromiseId) (j : StreamId) (start : StartBy) → AllOther (all_seen (marks i) (start_transform q j start ∷ []))
   start_others q j StartNow = tt
   start_others q j Later = tt
@@ -326,6 +365,10 @@ module _ (i : StreamId) where
     fail_writable = λ j reason k. others h s.locks s.locks s.pipes s.tees _ _ refl tt k;
     pipe = λ source dest prevent signal e f free g k. pipe_comes h source dest prevent signal s (is_same i source) refl e free k;
     make_signal = λ k. others h s.locks s.locks s.pipes s.tees s.streams [] refl tt k;
+    open_end = λ side k. opened h (record { 0 = length s.streams }) s side k;
+    send_readable = λ j there free k. send_from h j s there free k;
+    send_writable = λ j there free k. send_into h j s k;
+    deliver = λ p m e is k. others h s.locks s.locks s.pipes s.tees s.streams _ refl tt k;
     trigger = λ a reason k. others h s.locks s.locks s.pipes s.tees s.streams _ refl tt k;
     settle = λ host answer p e k. others h s.locks s.locks s.pipes s.tees _ _ refl tt k;
   })
@@ -389,6 +432,7 @@ module _ (i : StreamId) where
     transform = λ t operation s x es known e h k. transform-held i t operation s x es (is_resting operation) refl known.1.0 h (holders s) (readable_at i s) k;
     tee = λ t operation s x es known e h k. tee-held i t operation s x es known.1.0 known.1.1 e h k;
     tee_unmade = tee-unmade i;
+    port = λ c operation s x es known e h k. port-held i c operation s x es known.1.0 h (holders s) (readable_at i s) k;
     known = known-stays;
     known_heard = λ s k. (waits-heard s k.0, (record { ordered = tt; below = k.1.0.below }, tt));
     known_first = (λ p. none-waits p, (orderly-empty i, tt));

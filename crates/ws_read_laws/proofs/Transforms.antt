@@ -1,10 +1,10 @@
 -- The reads of a readable stream as transform streams and tees go on: what is done to the readable half, or to a branch or a source, stands
 -- before no steps that give a chunk where it may take.
-use Rattle.std.proofs.Common.{◌≡◌, ℕ, Bool, true, false, is_some, List, [], ◌∷◌, ◌++◌, Some, slice_get, refl, sym, ap, arith}
+use Rattle.std.proofs.Common.{◌≡◌, ℕ, Bool, true, false, is_some, List, [], ◌∷◌, ◌++◌, Some, slice_get, refl, sym, ap, arith, subst}
 use Rattle.ws_value.specs.declared.ids.StreamId.{StreamId}
 use Rattle.ws_value.specs.declared.ids.TeeId.{TeeId}
 use Rattle.ws_steps.specs.declared.effects.Effect.{Effect}
-use Rattle.ws_steps.specs.declared.effects.Effect.TheVariants.{Readable as OnReadable, Pipe as OnPipe, Signal as OnSignal, Transform as OnTransform, Tee as OnTee, ChunkSteps, CloseSteps, ErrorSteps}
+use Rattle.ws_steps.specs.declared.effects.Effect.TheVariants.{Readable as OnReadable, Pipe as OnPipe, Signal as OnSignal, Transform as OnTransform, Tee as OnTee, Port as OnPort, ChunkSteps, CloseSteps, ErrorSteps}
 use Rattle.ws_steps.specs.declared.readable.ReadableOperation.TheVariants.{Read, Cancel, Enqueue, Close, Error}
 use Rattle.ws_steps.specs.declared.tee.TeeOperation.{TeeOperation}
 use Rattle.ws_steps.specs.declared.transform.TransformId.{TransformId}
@@ -13,10 +13,10 @@ use Rattle.ws_steps.specs.Histories.{is_same}
 use Rattle.ws_steps.specs.Readable as readable
 use Rattle.ws_steps.specs.Tee as tee
 use Rattle.ws_steps.specs.Transform as transform
-use Rattle.ws_steps.specs.Slots.{Slots, found, halves_at, readable_at}
+use Rattle.ws_steps.specs.Slots.{Slots, found, halves_at, readable_at, clones_at}
 use Rattle.ws_laws.proofs.Lists.{Each, each-map}
-use Rattle.ws_laws.proofs.OnReadable.{Holders, holders, with_tee, transformed, teed, all_seen}
-use Rattle.ws_laws.proofs.Order.{IsQuiet, Orderly, is_from, is_resting, tee_takes, behind-active, behind-tee, tee-quiet}
+use Rattle.ws_laws.proofs.OnReadable.{Holders, holders, with_tee, transformed, teed, all_seen, ported}
+use Rattle.ws_laws.proofs.Order.{IsQuiet, Orderly, is_from, is_resting, tee_takes, behind-active, behind-tee, tee-quiet, Behind, is_going, port-quiet}
 use Rattle.ws_laws.proofs.ReadableDoes.{is_taking}
 use Rattle.ws_laws.proofs.Tables.{same_id}
 use Rattle.ws_laws.proofs.TeeDoes.{TeeCauses, tee-causes}
@@ -27,6 +27,10 @@ use Rattle.ws_read_laws.proofs.Goods.{calm_given, no_inits, reader_there, Good, 
 use Rattle.ws_read_laws.proofs.Holding.{teeing-set, teeing-there, owners}
 use Rattle.ws_read_laws.proofs.Marks.{Mark, marks, pending, given_of}
 use Rattle.ws_read_laws.proofs.Told.{Told, Held, Unmade}
+use Rattle.ws_value.specs.declared.ids.PortId.{PortId}
+use Rattle.ws_steps.specs.declared.port.PortOperation.{PortOperation}
+use Rattle.ws_steps.specs.Cross as cross
+use Rattle.ws_laws.proofs.PortDoes.{PortCauses, port-causes}
 
 each-both : (P Q R : Effect → Type 0) → ((e : Effect) → P e → Q e → R e) → (es : List Effect) → Each P es → Each Q es → Each R es
 each-both P Q R f [] a b = tt
@@ -140,6 +144,34 @@ module _ (i : StreamId) where
       caused-held h (holders s) (with_tee t b.slots s) (readable_at i s) b.out.effects ms (omega (arith, same))
       (each-both (TeeCauses t x.source x.branch1 x.branch2) (Takes ms) (Good i n locked ms) (tee-good n locked ms t x.source x.branch1 x.branch2 there) b.out.effects (c.effects tt)
       (tee-takes t operation s x es (tee_takes i s t operation) refl order is)) k
+
+  -- and so to the stream at the end of a port
+
+  port-good : (n : ℕ) (locked : Bool) (ms : List Mark) (c : PortId) (stream : StreamId) (e : Effect) → PortCauses c stream e → Takes ms e → Good i n locked ms e
+  port-good n locked ms c stream (OnReadable j (Enqueue v)) k g = λ same. record { finds = λ alone. tt; stays = refl; gives = g same }
+  port-good n locked ms c stream (OnReadable j Close) k g = λ same. record { finds = λ alone. tt; stays = refl; gives = g same }
+  port-good n locked ms c stream (OnReadable j (Error e)) k g = λ same. record { finds = λ alone. tt; stays = refl; gives = g same }
+  port-good n locked ms c stream (OnReadable j operation) k g = absurd k
+  port-good n locked ms c stream (OnPipe q operation) k g = absurd k
+  port-good n locked ms c stream (OnSignal a operation) k g = absurd k
+  port-good n locked ms c stream (ChunkSteps j request v) k g = absurd k
+  port-good n locked ms c stream (CloseSteps j request) k g = absurd k
+  port-good n locked ms c stream (ErrorSteps j request e) k g = absurd k
+  port-good n locked ms c stream _ k g = tt
+
+  port-takes : (c : PortId) (operation : PortOperation) (s : Slots) (x : cross.Slots) (es : List Effect) (goes : Bool) → goes ≡ is_going operation → Orderly i s (OnPort c operation ∷ es)
+      → Each (Takes (all_seen (marks i) es)) (ported c operation s x).out.effects
+  port-takes c operation s x es true e order = all-take (all_seen (marks i) es) (calm_given i es (subst (λ b. Behind i b es) (sym e) order.ordered.0)) (ported c operation s x).out.effects
+  port-takes c operation s x es false e order =
+      each-map (IsQuiet i s) (Takes (all_seen (marks i) es)) (quiet-takes s (all_seen (marks i) es)) (ported c operation s x).out.effects (port-quiet i s c operation s (Some x) (sym e))
+
+  pub port-held : (c : PortId) (operation : PortOperation) (s : Slots) (x : cross.Slots) (es : List Effect) → Orderly i s (OnPort c operation ∷ es)
+      → (h : Told) (o : Holders) (r : readable.Slots) → Held i h o r (all_seen (marks i) es) → Held i h o r (all_seen (marks i) (ported c operation s x).out.effects ++ all_seen (marks i) es)
+  port-held c operation s x es order h o r k =
+      let ms : List Mark = all_seen (marks i) es in
+      caused-held h o o r (ported c operation s x).out.effects ms refl
+      (each-both (PortCauses c x.stream) (Takes ms) (Good i (owners i o) (is_some r.reader) ms) (port-good (owners i o) (is_some r.reader) ms c x.stream) (ported c operation s x).out.effects
+      (port-causes c (clones_at x s) operation (record { slots = x; out = found s }) tt).1.1 (port-takes c operation s x es (is_going operation) refl order)) k
 
   pub tee-unmade : (t : TeeId) (operation : TeeOperation) (s : Slots) (x : tee.Slots) → slice_get s.tees t.0 ≡ Some x → (h : Told) → Unmade i h (holders s) → Unmade i h (with_tee t (teed t operation s x).slots s)
   tee-unmade t operation s x is h u =

@@ -12,7 +12,7 @@ use Rattle.ws_steps.specs.declared.{calls.Call.{Call}, calls.Call.TheVariants.{W
 use Rattle.ws_steps.specs.declared.effects.Effect.TheVariants.{Writable, Pipe, CloseAlgorithm}
 use Rattle.ws_steps.specs.declared.{locks.Lock.{Lock}, locks.Lock.TheVariants.{Reader, Writer, ReleasedWriter, Inner}, promises.Job.{Job}, promises.Job.TheVariants.{Reaction as ReactionJob, Follow, Settle as SettleJob, Micro as MicroJob}}
 use Rattle.ws_steps.specs.declared.{promises.Micro.TheVariants.{PipeLook, PipeWrite, PipeNoParts, TeeHand}, promises.Step.{Step}}
-use Rattle.ws_steps.specs.declared.promises.Step.TheVariants.{ReadableStart, ReadablePull, ReturnUndefined, WritableStart, WritableWrite, WritableClose, WritableAbort, PipeEnds, PipeReady, PipeWrote, PipeActed, PipePart, TransformChanged, Transformed, TransformFlushed, TransformAborted, TransformCancelled, TeeEnds}
+use Rattle.ws_steps.specs.declared.promises.Step.TheVariants.{ReadableStart, ReadablePull, ReturnUndefined, WritableStart, WritableWrite, WritableClose, WritableAbort, PipeEnds, PipeReady, PipeWrote, PipeActed, PipePart, TransformChanged, PortUnblocked, Transformed, TransformFlushed, TransformAborted, TransformCancelled, TeeEnds}
 use Rattle.ws_steps.specs.declared.{pipes.Phase.{Phase}, pipes.Phase.TheVariants.{Flowing, Waiting, Acting, Over}, pipes.PipeOperation.TheVariants.{WriteChunk}, writable.WritableOperation.TheVariants.{Write}}
 use Rattle.ws_steps.specs.Promises.{next_id, next_job}
 use Rattle.ws_steps.specs.Pipes as pipe
@@ -321,7 +321,9 @@ steps_quiet (PipeWrote p) o = (tt, tt)
 steps_quiet (PipeActed p) o = (tt, tt)
 steps_quiet (PipePart p) o = (tt, tt)
 steps_quiet (TransformChanged t d) (Ok v) = (tt, tt)
+steps_quiet (PortUnblocked c d) (Ok v) = (tt, tt)
 steps_quiet (TransformChanged t d) (Err r) = (tt, tt)
+steps_quiet (PortUnblocked c d) (Err r) = (tt, tt)
 steps_quiet (Transformed t) (Ok v) = tt
 steps_quiet (Transformed t) (Err r) = (tt, tt)
 steps_quiet (TransformFlushed t p) o = (tt, tt)

@@ -1,6 +1,8 @@
 -- A pipe causes a write only where it writes the chunk that it holds.
 use Rattle.ws_value.specs.declared.ids.TeeId.{TeeId}
-use Rattle.ws_steps.specs.declared.effects.Effect.TheVariants.{Tee}
+use Rattle.ws_laws.proofs.PortDoes.{PortCauses}
+use Rattle.ws_value.specs.declared.ids.PortId.{PortId}
+use Rattle.ws_steps.specs.declared.effects.Effect.TheVariants.{Tee, Port}
 use Rattle.std.proofs.Common.{Option, Some, None, arith}
 use Rattle.ws_value.specs.declared.ids.PipeId.{PipeId}
 use Rattle.ws_value.specs.declared.ids.{StreamId.{StreamId}}
@@ -117,20 +119,26 @@ tee-quiet t source first second (Writable i (Write v p)) c = absurd c
 tee-quiet t source first second (Pipe p operation) c = absurd c
 tee-quiet t source first second _ c = tt
 
+port-quiet : (c : PortId) (stream : StreamId) (e : Effect) → PortCauses c stream e → Quiet e
+port-quiet c stream (Writable i (Write v p)) k = absurd k
+port-quiet c stream (Pipe p operation) k = absurd k
+port-quiet c stream _ k = tt
+
 pub quiet-causes : (e : Effect) → IsNoPipe e → Causes Quiet e
 quiet-causes (Readable j operation) n = record { pull = tt; cancel = λ r p. tt; chunk = λ r v. tt; close = λ r. tt; error = λ r e. tt }
 quiet-causes (Byte j operation) n = record { readable = record { pull = tt; cancel = λ r p. tt; chunk = λ r v. tt; close = λ r. tt; error = λ r e. tt }; close_with = λ r b. tt }
-quiet-causes (Writable j operation) n = record { write = tt; close = tt; abort = λ r p. tt; hand_on = λ v. tt; take = λ v t d. tt }
+quiet-causes (Writable j operation) n = record { write = tt; close = tt; abort = λ r p. tt; hand_on = λ v. tt; take = λ v t d. tt; post = λ v c d. tt }
 quiet-causes (Pipe p operation) n = absurd n
 quiet-causes (Signal a operation) n = signal_quiet operation
 quiet-causes (Transform t operation) n = λ writable readable e c. transform-quiet t writable readable e c
 quiet-causes (Tee t operation) n = tee-quiet t
+quiet-causes (Port c operation) n = port-quiet c
 quiet-causes (StartAlgorithm j step start) n = (λ g u. tt, λ c u. tt)
-quiet-causes (PullAlgorithm j) n = (λ c u. tt, (λ t u. tt, (λ t. tt, λ u. tt)))
-quiet-causes (CancelAlgorithm j r p) n = (λ c u. tt, (λ t u. tt, λ t half u. tt))
-quiet-causes (WriteAlgorithm j) n = (tt, λ t u. tt)
-quiet-causes (CloseAlgorithm j) n = (λ c u. tt, λ t u. tt)
-quiet-causes (AbortAlgorithm j r p) n = (λ c u. tt, λ t u. tt)
+quiet-causes (PullAlgorithm j) n = (λ c u. tt, (λ t u. tt, (λ t. tt, (λ u. tt, λ c. tt))))
+quiet-causes (CancelAlgorithm j r p) n = (λ c u. tt, (λ t u. tt, (λ t half u. tt, λ c u. tt)))
+quiet-causes (WriteAlgorithm j) n = (tt, (λ t u. tt, λ c u. tt))
+quiet-causes (CloseAlgorithm j) n = (λ c u. tt, (λ t u. tt, λ c u. tt))
+quiet-causes (AbortAlgorithm j r p) n = (λ c u. tt, (λ t u. tt, λ c u. tt))
 quiet-causes (ChunkSteps j request v) n = chunk-quiet v request
 quiet-causes (CloseSteps j request) n = end-quiet request
 quiet-causes (CloseStepsWith j request b) n = end-quiet request

@@ -107,6 +107,7 @@ operation-keeps i operation a =
       abort = λ x r p k. k;
       hand_on = λ x v k. k;
       take = λ x v t d k. k;
+      post = λ x v c d k. k;
     }) operation a (keeps-same a.out.promises)
 
 own-lined : (i : StreamId) (h : Both) (s : Slots) (operation : WritableOperation) (there : Bool) → there ≡ has_writable i s → Knows h.writes operation (writable_at i s)
@@ -204,6 +205,7 @@ call-lined i h c s l =
       signal = λ z m. m;
       transform = λ z kind half other change m. m;
       tee = λ z source first second cancel m. m;
+      port = λ z side stream backpressure m. m;
       bytes = λ z mark auto m. added i h z (ByteStream (byte.set_up mark auto)) refl refl m;
       byob_requests = λ z hosts m. m;
       readable = λ z owner mark size m. added i h z (ReadableStream (readable.set_up owner mark size)) refl refl m;
