@@ -296,6 +296,7 @@ module _ (p : PipeId) (i : StreamId) where
         signal = λ z k. k;
         transform = λ z kind i j change k. k;
         tee = λ z source first second cancel k. k;
+        port = λ z side stream backpressure k. k;
         bytes = λ z mark auto k. (stream-made p h.through z _ refl k.0, stream_rest h z _ refl k.1);
         byob_requests = λ z hs k. k;
         readable = λ z owner mark size k. (stream-made p h.through z _ refl k.0, stream_rest h z _ refl k.1);

@@ -1,10 +1,13 @@
 -- In every run, a pipe passes on what it reads, and one read of it at most is under way.
+use Rattle.ws_steps.specs.declared.port.Side.{Side}
+use Rattle.ws_steps.specs.declared.port.Side.TheVariants.{Readable as ReadableSide, Writable as WritableSide}
 use Rattle.std.proofs.Common.{◌≡◌, ◌⊎◌, inl, inr, ⊎_elim, ℕ, zero, suc, ◌+◌, ◌≤◌, Bool, true, false, nat_eq, List, [], ◌∷◌, ◌++◌, length, length-append, Option, Some, None, slice_get, slice_set, refl, sym, ap, subst, ◌∙◌, append_assoc, append-nil, arith}
+use Rattle.ws_pipe_laws.proofs.Reading.{port-none}
 use Rattle.ws_value.specs.declared.{ids.PipeId.{PipeId}, ids.PromiseId.{PromiseId}, ids.SignalId.{SignalId}, ids.StreamId.{StreamId}}
 use Rattle.ws_value.specs.declared.value.{Plain.{Plain}, Value.{Value}}
 use Rattle.ws_steps.specs.declared.calls.{Call.{Call}, StartBy.{StartBy}, StartBy.TheVariants.{Now, Later}}
 use Rattle.ws_steps.specs.declared.effects.Effect.{Effect}
-use Rattle.ws_steps.specs.declared.effects.Effect.TheVariants.{Readable as OnReadable, Writable as OnWritable, Pipe as OnPipe, Signal as OnSignal, StartAlgorithm, PullAlgorithm, CancelAlgorithm, WriteAlgorithm, CloseAlgorithm, AbortAlgorithm, ChunkSteps, CloseSteps, ErrorSteps, Transform as OnTransform, Tee as OnTee}
+use Rattle.ws_steps.specs.declared.effects.Effect.TheVariants.{Readable as OnReadable, Writable as OnWritable, Pipe as OnPipe, Signal as OnSignal, StartAlgorithm, PullAlgorithm, CancelAlgorithm, WriteAlgorithm, CloseAlgorithm, AbortAlgorithm, ChunkSteps, CloseSteps, ErrorSteps, Transform as OnTransform, Tee as OnTee, Port as OnPort}
 use Rattle.ws_steps.specs.declared.pipes.{PipeOperation.{PipeOperation}, Prevent.{Prevent}, SignalOperation.{SignalOperation}, SignalOperation.TheVariants.{Add, Forget, Trigger}}
 use Rattle.ws_steps.specs.declared.promises.{Job.{Job}}
 use Rattle.ws_steps.specs.declared.readable.{ReadRequest.{ReadRequest}, ReadRequest.TheVariants.{Promise, Pipe as PipeRequest, Tee as TeeRequest}, ReadableOperation.{ReadableOperation}}
@@ -147,17 +150,18 @@ module _ (p : PipeId) where
   pub idle-causes : (e : Effect) → IsIdle e → Causes (IsNone p) e
   idle-causes (OnReadable j operation) n = absurd n
   idle-causes (Byte j operation) n = absurd n
-  idle-causes (OnWritable j operation) n = record { write = refl; close = refl; abort = λ r q. refl; hand_on = λ v. refl; take = λ v t d. refl }
+  idle-causes (OnWritable j operation) n = record { write = refl; close = refl; abort = λ r q. refl; hand_on = λ v. refl; take = λ v t d. refl; post = λ v c d. refl }
   idle-causes (OnPipe q operation) n = absurd n
   idle-causes (OnSignal a operation) n = signal-none operation
   idle-causes (OnTransform t operation) n = transform-none p t
   idle-causes (OnTee t operation) n = tee-none p t
+  idle-causes (OnPort c operation) n = port-none p c
   idle-causes (StartAlgorithm j step start) n = (λ g u. refl, λ c u. refl)
-  idle-causes (PullAlgorithm j) n = (λ c u. refl, (λ t u. refl, (λ t. refl, λ u. refl)))
-  idle-causes (CancelAlgorithm j r q) n = (λ c u. refl, (λ t u. refl, λ t half u. refl))
-  idle-causes (WriteAlgorithm j) n = (refl, λ t u. refl)
-  idle-causes (CloseAlgorithm j) n = (λ c u. refl, λ t u. refl)
-  idle-causes (AbortAlgorithm j r q) n = (λ c u. refl, λ t u. refl)
+  idle-causes (PullAlgorithm j) n = (λ c u. refl, (λ t u. refl, (λ t. refl, (λ u. refl, λ c. refl))))
+  idle-causes (CancelAlgorithm j r q) n = (λ c u. refl, (λ t u. refl, (λ t half u. refl, λ c u. refl)))
+  idle-causes (WriteAlgorithm j) n = (refl, (λ t u. refl, λ c u. refl))
+  idle-causes (CloseAlgorithm j) n = (λ c u. refl, (λ t u. refl, λ c u. refl))
+  idle-causes (AbortAlgorithm j r q) n = (λ c u. refl, (λ t u. refl, λ c u. refl))
   idle-causes (ChunkSteps j request v) n = absurd n
   idle-causes (CloseSteps j request) n = absurd n
   idle-causes (CloseStepsWith j request b) n = absurd n
@@ -288,6 +292,10 @@ module _ (p : PipeId) where
   start-none q j Now = refl
   start-none q j Later = refl
 
+  end-none : (side : Side) (j : StreamId) → all (of_effect p) (calls.start_end j side ∷ []) ≡ 0
+  end-none ReadableSide j = refl
+  end-none WritableSide j = refl
+
   pub call-none : (c : Call) (s : Slots) → all (of_effect p) (begin c s).done.caused ≡ 0
   call-none c s = each_call (λ (b : Begun). all (of_effect p) b.done.caused ≡ 0) c s (record {
     unchanged = λ reply. refl;
@@ -327,6 +335,12 @@ module _ (p : PipeId) where
         let n = begins-none (record { 0 = length s.pipes }) (next_id s.promises) (next_id (fresh (fresh s.promises))) signal (calls.reason_of signal s) in
         omega (arith, n);
     make_signal = refl;
+    open_end = λ side. end-none side _;
+    send_readable = λ source there free.
+        let n = begins-none (record { 0 = length s.pipes }) (next_id (fresh s.promises)) (next_id (fresh (fresh (fresh s.promises)))) None None in omega (arith, n);
+    send_writable = λ dest there free.
+        let n = begins-none (record { 0 = length s.pipes }) (next_id s.promises) (next_id (fresh (fresh s.promises))) None None in omega (arith, n);
+    deliver = λ c m asked has. refl;
     trigger = λ a reason. refl;
     settle = λ h answer q e. refl;
   })
@@ -364,6 +378,7 @@ module _ (p : PipeId) where
         signal = λ z k. k;
         transform = λ z kind i j change k. k;
         tee = λ z source first second cancel k. k;
+        port = λ z side stream backpressure k. k;
         bytes = λ z mark auto k. stream-made h z _ refl k;
         byob_requests = λ z hs k. k;
         readable = λ z owner mark size k. stream-made h z _ refl k;

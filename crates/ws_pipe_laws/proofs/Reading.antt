@@ -1,5 +1,7 @@
 -- The reads of a pipe that are under way: what each operation of a pipe, and each of a readable stream, does to them.
 use Rattle.std.proofs.Common.{◌≡◌, ℕ, ◌+◌, ◌-◌, ◌≤◌, Bool, true, false, not, ◌&&◌, ◌||◌, nat_eq, is_none, if◌then◌else◌, List, [], ◌∷◌, ◌++◌, length, Option, Some, None, Result, Ok, Err, refl, ap, arith}
+use Rattle.ws_laws.proofs.PortDoes.{PortCauses}
+use Rattle.ws_value.specs.declared.ids.PortId.{PortId}
 use Rattle.ws_value.specs.declared.{ids.PipeId.{PipeId}, ids.PromiseId.{PromiseId}, ids.StreamId.{StreamId}}
 use Rattle.ws_value.specs.declared.value.{Plain.{Plain}, Value.{Value}}
 use Rattle.ws_steps.specs.declared.effects.Effect.{Effect}
@@ -247,6 +249,17 @@ tee-none p t source first second (CloseStepsWith i request b) c = absurd c
 tee-none p t source first second (ErrorSteps i request e) c = absurd c
 tee-none p t source first second (Byte i operation) c = absurd c
 tee-none p t source first second _ c = refl
+
+pub port-none : (p : PipeId) (me : PortId) (stream : StreamId) (e : Effect) → PortCauses me stream e → IsNone p e
+port-none p me stream (OnReadable i (names.Read request)) c = absurd c
+port-none p me stream (OnReadable i operation) c = grind arith
+port-none p me stream (OnPipe q operation) c = absurd c
+port-none p me stream (ChunkSteps i request v) c = absurd c
+port-none p me stream (CloseSteps i request) c = absurd c
+port-none p me stream (CloseStepsWith i request b) c = absurd c
+port-none p me stream (ErrorSteps i request e) c = absurd c
+port-none p me stream (Byte i operation) c = absurd c
+port-none p me stream _ c = refl
 
 -- operations of readable streams hand each request on
 

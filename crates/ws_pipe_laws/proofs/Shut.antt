@@ -1,12 +1,16 @@
 -- A step that ends with a pipe not flowing starts no read of it.
+use Rattle.ws_steps.specs.declared.port.Side.{Side}
+use Rattle.ws_steps.specs.declared.port.Side.TheVariants.{Readable as ReadableSide, Writable as WritableSide}
 use Rattle.std.proofs.Common.{◌≡◌, ◌≢◌, ◌⊎◌, inl, inr, ⊎_elim, ℕ, ◌+◌, ◌-◌, zero, suc, length, Bool, true, false, nat_eq, List, [], ◌∷◌, ◌++◌, Option, Some, None, Result, Ok, Err, slice_get, slice_set, refl, sym, ap, subst, ◌∙◌, add_assoc, zero-add, add-zero, arith}
+use Rattle.ws_laws.proofs.PortDoes.{PortCauses}
+use Rattle.ws_value.specs.declared.ids.PortId.{PortId}
 use Rattle.ws_value.specs.declared.{ids.PipeId.{PipeId}, ids.PromiseId.{PromiseId}, ids.SignalId.{SignalId}, ids.StreamId.{StreamId}, value.Plain.{Plain}, value.Value.{Value}}
 use Rattle.ws_steps.specs.declared.calls.{Call.{Call}, Reply.{Reply}, Reply.TheVariants.{Promise as Named}, StartBy.{StartBy}, StartBy.TheVariants.{Now, Later}}
-use Rattle.ws_steps.specs.declared.effects.{Effect.{Effect}, Effect.TheVariants.{Readable as OnReadable, Writable as OnWritable, Pipe, Signal, Transform as OnTransform, Tee as OnTee, StartAlgorithm, PullAlgorithm, CancelAlgorithm, WriteAlgorithm, CloseAlgorithm, AbortAlgorithm, ChunkSteps, CloseSteps, ErrorSteps}}
+use Rattle.ws_steps.specs.declared.effects.{Effect.{Effect}, Effect.TheVariants.{Readable as OnReadable, Writable as OnWritable, Pipe, Signal, Transform as OnTransform, Tee as OnTee, Port as OnPort, StartAlgorithm, PullAlgorithm, CancelAlgorithm, WriteAlgorithm, CloseAlgorithm, AbortAlgorithm, ChunkSteps, CloseSteps, ErrorSteps}}
 use Rattle.ws_steps.specs.declared.pipes.{Ends.{Ends}, Phase.{Phase}, Phase.TheVariants.{Flowing, Waiting, Acting, Over}, PipeOperation.{PipeOperation}, SignalOperation.{SignalOperation}, SignalOperation.TheVariants.{Add, Forget, Trigger}}
 use Rattle.ws_steps.specs.declared.pipes.PipeOperation.TheVariants.{Look, LookReady, KeepChunk, ReadEnded, WriteChunk, GoOn, WriteEnded, Abort as AbortPipe, ActionSettled, PartSettled, NoParts}
 use Rattle.ws_steps.specs.declared.promises.{Job.{Job}, Job.TheVariants.{Reaction as ReactionJob, Follow, Settle as SettleJob, Micro as MicroJob}, Micro.TheVariants.{PipeLook, PipeWrite, PipeNoParts, TeeHand}}
-use Rattle.ws_steps.specs.declared.promises.{Step.{Step}, Step.TheVariants.{ReadableStart, ReadablePull, ReturnUndefined, WritableStart, WritableWrite, WritableClose, WritableAbort, PipeEnds, PipeReady, PipeWrote, PipeActed, PipePart, TransformChanged, Transformed, TransformFlushed, TransformAborted, TransformCancelled, TeeEnds}}
+use Rattle.ws_steps.specs.declared.promises.{Step.{Step}, Step.TheVariants.{ReadableStart, ReadablePull, ReturnUndefined, WritableStart, WritableWrite, WritableClose, WritableAbort, PipeEnds, PipeReady, PipeWrote, PipeActed, PipePart, TransformChanged, PortUnblocked, Transformed, TransformFlushed, TransformAborted, TransformCancelled, TeeEnds}}
 use Rattle.ws_steps.specs.declared.readable.ReadableOperation.TheVariants.{ReleaseReader, StartSettled, PullSettled}
 use Rattle.ws_steps.specs.declared.writable.WritableOperation.TheVariants.{ReleaseWriter, StartSettled as WritableStartSettled, WriteSettled, CloseSettled, AbortSettled}
 use Rattle.ws_steps.specs.declared.readable.{ReadRequest.{ReadRequest}, ReadRequest.TheVariants.{Promise, Pipe as PipeRequest, Tee as TeeRequest}}
@@ -118,22 +122,28 @@ module _ (p : PipeId) where
   tee-end t source first second (Signal a (Trigger r)) c = absurd c
   tee-end t source first second _ c = tt
 
+  port-end : (me : PortId) (stream : StreamId) (e : Effect) → PortCauses me stream e → IsNoEnd e
+  port-end me stream (Pipe q operation) c = absurd c
+  port-end me stream (Signal a (Trigger r)) c = absurd c
+  port-end me stream _ c = tt
+
   causes-end : (e : Effect) → IsNoEnd e → Causes IsNoEnd e
   causes-end (OnReadable j operation) n = record { pull = tt; cancel = λ r q. tt; chunk = λ r v. tt; close = λ r. tt; error = λ r e. tt }
   causes-end (Byte j operation) n = record { readable = record { pull = tt; cancel = λ r q. tt; chunk = λ r v. tt; close = λ r. tt; error = λ r e. tt }; close_with = λ r b. tt }
-  causes-end (OnWritable j operation) n = record { write = tt; close = tt; abort = λ r q. tt; hand_on = λ v. tt; take = λ v t d. tt }
+  causes-end (OnWritable j operation) n = record { write = tt; close = tt; abort = λ r q. tt; hand_on = λ v. tt; take = λ v t d. tt; post = λ v c d. tt }
   causes-end (Pipe q operation) n = pipe-end q
   causes-end (Signal a (Trigger r)) n = absurd n
   causes-end (Signal a (Add q)) n = tt
   causes-end (Signal a (Forget q)) n = tt
   causes-end (OnTransform t operation) n = transform-end t
   causes-end (OnTee t operation) n = tee-end t
+  causes-end (OnPort c operation) n = port-end c
   causes-end (StartAlgorithm j step start) n = (λ g u. tt, λ c u. tt)
-  causes-end (PullAlgorithm j) n = (λ c u. tt, (λ t u. tt, (λ t. tt, λ u. tt)))
-  causes-end (CancelAlgorithm j r q) n = (λ c u. tt, (λ t u. tt, λ t half u. tt))
-  causes-end (WriteAlgorithm j) n = (tt, λ t u. tt)
-  causes-end (CloseAlgorithm j) n = (λ c u. tt, λ t u. tt)
-  causes-end (AbortAlgorithm j r q) n = (λ c u. tt, λ t u. tt)
+  causes-end (PullAlgorithm j) n = (λ c u. tt, (λ t u. tt, (λ t. tt, (λ u. tt, λ c. tt))))
+  causes-end (CancelAlgorithm j r q) n = (λ c u. tt, (λ t u. tt, (λ t half u. tt, λ c u. tt)))
+  causes-end (WriteAlgorithm j) n = (tt, (λ t u. tt, λ c u. tt))
+  causes-end (CloseAlgorithm j) n = (λ c u. tt, (λ t u. tt, λ c u. tt))
+  causes-end (AbortAlgorithm j r q) n = (λ c u. tt, (λ t u. tt, λ c u. tt))
   causes-end (ChunkSteps j request v) n = chunk-end v request
   causes-end (CloseSteps j request) n = end-end request
   causes-end (CloseStepsWith j request b) n = end-end request
@@ -176,20 +186,25 @@ module _ (p : PipeId) where
   tee-look t source first second (Pipe q operation) c = absurd c
   tee-look t source first second _ c = tt
 
+  port-look : (me : PortId) (stream : StreamId) (e : Effect) → PortCauses me stream e → IsNoLook e
+  port-look me stream (Pipe q operation) c = absurd c
+  port-look me stream _ c = tt
+
   causes-look : (e : Effect) → IsNoPipe e → Causes IsNoLook e
   causes-look (OnReadable j operation) n = record { pull = tt; cancel = λ r q. tt; chunk = λ r v. tt; close = λ r. tt; error = λ r e. tt }
   causes-look (Byte j operation) n = record { readable = record { pull = tt; cancel = λ r q. tt; chunk = λ r v. tt; close = λ r. tt; error = λ r e. tt }; close_with = λ r b. tt }
-  causes-look (OnWritable j operation) n = record { write = tt; close = tt; abort = λ r q. tt; hand_on = λ v. tt; take = λ v t d. tt }
+  causes-look (OnWritable j operation) n = record { write = tt; close = tt; abort = λ r q. tt; hand_on = λ v. tt; take = λ v t d. tt; post = λ v c d. tt }
   causes-look (Pipe q operation) n = absurd n
   causes-look (Signal a operation) n = signal-look operation
   causes-look (OnTransform t operation) n = transform-look t
   causes-look (OnTee t operation) n = tee-look t
+  causes-look (OnPort c operation) n = port-look c
   causes-look (StartAlgorithm j step start) n = (λ g u. tt, λ c u. tt)
-  causes-look (PullAlgorithm j) n = (λ c u. tt, (λ t u. tt, (λ t. tt, λ u. tt)))
-  causes-look (CancelAlgorithm j r q) n = (λ c u. tt, (λ t u. tt, λ t half u. tt))
-  causes-look (WriteAlgorithm j) n = (tt, λ t u. tt)
-  causes-look (CloseAlgorithm j) n = (λ c u. tt, λ t u. tt)
-  causes-look (AbortAlgorithm j r q) n = (λ c u. tt, λ t u. tt)
+  causes-look (PullAlgorithm j) n = (λ c u. tt, (λ t u. tt, (λ t. tt, (λ u. tt, λ c. tt))))
+  causes-look (CancelAlgorithm j r q) n = (λ c u. tt, (λ t u. tt, (λ t half u. tt, λ c u. tt)))
+  causes-look (WriteAlgorithm j) n = (tt, (λ t u. tt, λ c u. tt))
+  causes-look (CloseAlgorithm j) n = (λ c u. tt, (λ t u. tt, λ c u. tt))
+  causes-look (AbortAlgorithm j r q) n = (λ c u. tt, (λ t u. tt, λ c u. tt))
   causes-look (ChunkSteps j request v) n = chunk-look v request
   causes-look (CloseSteps j request) n = end-look request
   causes-look (CloseStepsWith j request b) n = end-look request
@@ -389,6 +404,10 @@ module _ (p : PipeId) where
   start-look q j Now = tt
   start-look q j Later = tt
 
+  first-look : (side : Side) (j : StreamId) → IsNoLook (calls.start_end j side)
+  first-look ReadableSide j = tt
+  first-look WritableSide j = tt
+
   call-look : (c : Call) (s : Slots) → Each IsNoLook (begin c s).done.caused
   call-look c s = each_call (λ (b : Begun). Each IsNoLook b.done.caused) c s (record {
     unchanged = λ reply. tt;
@@ -427,6 +446,12 @@ module _ (p : PipeId) where
     pipe = λ source dest prevent signal e f l m.
         (tt, (tt, (tt, begins-look (record { 0 = length s.pipes }) (next_id s.promises) (next_id (fresh (fresh s.promises))) signal (calls.reason_of signal s))));
     make_signal = tt;
+    open_end = λ side. (first-look side _, tt);
+    send_readable = λ source there free.
+        (tt, (tt, (tt, (tt, begins-look (record { 0 = length s.pipes }) (next_id (fresh s.promises)) (next_id (fresh (fresh (fresh s.promises)))) None None))));
+    send_writable = λ dest there free.
+        (tt, (tt, (tt, (tt, begins-look (record { 0 = length s.pipes }) (next_id s.promises) (next_id (fresh (fresh s.promises))) None None))));
+    deliver = λ c m asked has. (tt, tt);
     trigger = λ a reason. (tt, tt);
     settle = λ h answer q e. (tt, tt);
   })
@@ -458,7 +483,9 @@ module _ (p : PipeId) where
   steps-may z (PipeActed q) o derived r = MayNone refl ((λ e. refl), resolved-look derived r)
   steps-may z (PipePart q) o derived r = one-may z (Pipe q (PartSettled o)) derived r (λ e. refl)
   steps-may z (TransformChanged t d) (Ok v) derived r = MayNone refl (tt, resolved-look derived r)
+  steps-may z (PortUnblocked c d) (Ok v) derived r = MayNone refl (tt, resolved-look derived r)
   steps-may z (TransformChanged t d) (Err e) derived r = MayNone refl (tt, resolved-look derived r)
+  steps-may z (PortUnblocked c d) (Err e) derived r = MayNone refl (tt, resolved-look derived r)
   steps-may z (Transformed t) (Ok v) derived r = MayNone refl (resolved-look derived r)
   steps-may z (Transformed t) (Err e) derived r = MayNone refl (tt, resolved-look derived r)
   steps-may z (TransformFlushed t q) o derived r = MayNone refl (tt, resolved-look derived r)

@@ -1,9 +1,16 @@
 -- What the trigger of a signal causes, and that a signal keeps its reason.
+use Rattle.ws_value.specs.declared.ids.PortId.{PortId}
+use Rattle.ws_steps.specs.Cross as cross
+use Rattle.ws_steps.specs.declared.port.PortOperation.{PortOperation}
+use Rattle.ws_steps.specs.Operations.{port_operation}
+use Rattle.ws_steps.specs.Slots.{on_port_at}
 use Rattle.std.proofs.Common.{◌≡◌, ℕ, zero, suc, true, is_some, List, [], ◌∷◌, ◌++◌, map, Option, Some, None, slice_get, slice_set, refl, sym, ap, ◌∙◌}
+use Rattle.ws_steps.specs.declared.port.PortOperation.{PortOperation}
+use Rattle.ws_value.specs.declared.ids.PortId.{PortId}
 use Rattle.ws_value.specs.declared.{ids.PipeId.{PipeId}, ids.SignalId.{SignalId}, value.Plain.{Plain}}
 use Rattle.ws_steps.specs.declared.calls.StartBy.TheVariants.{Now, Later}
 use Rattle.ws_steps.specs.declared.effects.Effect.{Effect}
-use Rattle.ws_steps.specs.declared.effects.Effect.TheVariants.{Readable, Writable, Pipe, Signal, Transform, Tee, StartAlgorithm, ChunkSteps, CloseSteps, ErrorSteps}
+use Rattle.ws_steps.specs.declared.effects.Effect.TheVariants.{Readable, Writable, Pipe, Signal, Transform, Tee, Port, StartAlgorithm, ChunkSteps, CloseSteps, ErrorSteps}
 use Rattle.ws_steps.specs.declared.pipes.{PipeOperation.{PipeOperation}, PipeOperation.TheVariants.{Abort as AbortPipe}, SignalOperation.{SignalOperation}, SignalOperation.TheVariants.{Add, Forget, Trigger}}
 use Rattle.ws_steps.specs.declared.readable.ReadRequest.TheVariants.{Promise, Pipe as PipeRequest, Tee as TeeRequest}
 use Rattle.ws_steps.specs.declared.transform.{TransformId.{TransformId}, TransformOperation.{TransformOperation}}
@@ -93,6 +100,11 @@ tee-signals : (t : TeeId) (operation : TeeOperation) (s : Slots) (o : Option tee
 tee-signals t operation s None = refl
 tee-signals t operation s (Some x) = refl
 
+port-signals : (c : PortId) (operation : PortOperation) (s : Slots) (o : Option cross.Slots)
+    → (on_port_at (λ clones. port_operation c clones operation) c s o).slots.signals ≡ s.signals
+port-signals c operation s None = refl
+port-signals c operation s (Some x) = refl
+
 pub row-signals : (e : Effect) (s : Slots) → IsNoSignal e → (row e s).slots.signals ≡ s.signals
 unfolding row call_host
 row-signals (Readable i operation) s n = source-leaves (λ z. z.signals) (λ z x o. refl) i operation s
@@ -103,6 +115,7 @@ row-signals (Pipe p operation) s n = pipe-signals p operation s (slice_get s.pip
 row-signals (Signal a operation) s n = absurd n
 row-signals (Transform t operation) s n = transform-signals t operation s (slice_get s.transforms t.0)
 row-signals (Tee t operation) s n = tee-signals t operation s (slice_get s.tees t.0)
+row-signals (Port c operation) s n = port-signals c operation s (slice_get s.ports c.0)
 row-signals (StartAlgorithm i step Now) s n = refl
 row-signals (StartAlgorithm i step Later) s n = refl
 row-signals (ChunkSteps i (Promise p) v) s n = refl
@@ -168,6 +181,7 @@ module _ (a : SignalId) (q : Plain) where
       signal = λ z k. last_reason z.signals a.0 new_signal q k;
       transform = λ z kind i j change k. k;
       tee = λ z source first second cancel k. k;
+      port = λ z side stream backpressure k. k;
       bytes = λ z mark auto k. k;
       byob_requests = λ z hs k. k;
       readable = λ z owner mark size k. k;

@@ -1,7 +1,9 @@
 -- When a read of a pipe starts.
 use Rattle.std.proofs.Common.{◌≡◌, ◌≢◌, ◌⊎◌, inl, inr, ℕ, ◌+◌, ◌-◌, Bool, true, false, not, ◌&&◌, ◌||◌, nat_eq, if◌then◌else◌, List, [], ◌∷◌, Option, Some, None, Result, Ok, Err, refl, sym, ap, ◌∙◌, arith}
+use Rattle.ws_laws.proofs.PortDoes.{PortCauses}
+use Rattle.ws_value.specs.declared.ids.PortId.{PortId}
 use Rattle.ws_value.specs.declared.{ids.PipeId.{PipeId}, ids.PromiseId.{PromiseId}, ids.StreamId.{StreamId}, value.Plain.{Plain}, value.Plain.TheVariants.{Undefined}, value.Value.{Value}}
-use Rattle.ws_steps.specs.declared.effects.{Effect.{Effect}, Effect.TheVariants.{Readable as OnReadable, Writable as OnWritable, Pipe as OnPipe, Signal, Transform as OnTransform, Tee as OnTee, StartAlgorithm, PullAlgorithm, CancelAlgorithm, WriteAlgorithm, CloseAlgorithm, AbortAlgorithm, ChunkSteps, CloseSteps, ErrorSteps}}
+use Rattle.ws_steps.specs.declared.effects.{Effect.{Effect}, Effect.TheVariants.{Readable as OnReadable, Writable as OnWritable, Pipe as OnPipe, Signal, Transform as OnTransform, Tee as OnTee, Port as OnPort, StartAlgorithm, PullAlgorithm, CancelAlgorithm, WriteAlgorithm, CloseAlgorithm, AbortAlgorithm, ChunkSteps, CloseSteps, ErrorSteps}}
 use Rattle.ws_steps.specs.declared.pipes.{Action.{Action}, Action.TheVariants.{AbortDest, CancelSource, CloseDest, BySignal}, Ends.{Ends}, Phase.{Phase}, Phase.TheVariants.{Flowing, Waiting, Acting, Over}}
 use Rattle.ws_steps.specs.declared.pipes.{SignalOperation.{SignalOperation}, SignalOperation.TheVariants.{Add, Forget, Trigger}}
 use Rattle.ws_steps.specs.declared.pipes.{PipeOperation.{PipeOperation}, PipeOperation.TheVariants.{Look, LookReady, KeepChunk, ReadEnded, WriteChunk, GoOn, WriteEnded, Abort as AbortPipe, ActionSettled, PartSettled, NoParts}}
@@ -200,6 +202,10 @@ module _ (p : PipeId) where
   tee-none t source first second (OnReadable i (Read request)) c = ap (is_of p) c.1
   tee-none t source first second _ c = tt
 
+  port-none : (me : PortId) (stream : StreamId) (e : Effect) → PortCauses me stream e → IsNone e
+  port-none me stream (OnReadable i (Read request)) c = absurd c
+  port-none me stream _ c = tt
+
   -- a pipe reads for itself
   own_read : (q : PipeId) (request : ReadRequest) → nat_eq p.0 q.0 ≡ false → request ≡ PipeRequest q → is_of p request ≡ 0
   own_read q request n e = rw (e, n) refl
@@ -217,17 +223,18 @@ module _ (p : PipeId) where
   none-causes : (e : Effect) → ((o : PipeOperation) → e ≢ OnPipe p o) → Causes IsNone e
   none-causes (OnReadable j operation) n = record { pull = tt; cancel = λ r q. tt; chunk = λ r v. tt; close = λ r. tt; error = λ r e. tt }
   none-causes (Byte j operation) n = record { readable = record { pull = tt; cancel = λ r q. tt; chunk = λ r v. tt; close = λ r. tt; error = λ r e. tt }; close_with = λ r b. tt }
-  none-causes (OnWritable j operation) n = record { write = tt; close = tt; abort = λ r q. tt; hand_on = λ v. tt; take = λ v t d. tt }
+  none-causes (OnWritable j operation) n = record { write = tt; close = tt; abort = λ r q. tt; hand_on = λ v. tt; take = λ v t d. tt; post = λ v c d. tt }
   none-causes (OnPipe q operation) n = pipe-none q (other_pipe q operation n (nat_eq p.0 q.0) refl)
   none-causes (Signal a operation) n = signal-none operation
   none-causes (OnTransform t operation) n = transform-none t
   none-causes (OnTee t operation) n = tee-none t
+  none-causes (OnPort c operation) n = port-none c
   none-causes (StartAlgorithm j step start) n = (λ g u. tt, λ c u. tt)
-  none-causes (PullAlgorithm j) n = (λ c u. tt, (λ t u. tt, (λ t. tt, λ u. tt)))
-  none-causes (CancelAlgorithm j r q) n = (λ c u. tt, (λ t u. tt, λ t half u. tt))
-  none-causes (WriteAlgorithm j) n = (tt, λ t u. tt)
-  none-causes (CloseAlgorithm j) n = (λ c u. tt, λ t u. tt)
-  none-causes (AbortAlgorithm j r q) n = (λ c u. tt, λ t u. tt)
+  none-causes (PullAlgorithm j) n = (λ c u. tt, (λ t u. tt, (λ t. tt, (λ u. tt, λ c. tt))))
+  none-causes (CancelAlgorithm j r q) n = (λ c u. tt, (λ t u. tt, (λ t half u. tt, λ c u. tt)))
+  none-causes (WriteAlgorithm j) n = (tt, (λ t u. tt, λ c u. tt))
+  none-causes (CloseAlgorithm j) n = (λ c u. tt, (λ t u. tt, λ c u. tt))
+  none-causes (AbortAlgorithm j r q) n = (λ c u. tt, (λ t u. tt, λ c u. tt))
   none-causes (ChunkSteps j request v) n = chunk-none v request
   none-causes (CloseSteps j request) n = end-none request
   none-causes (CloseStepsWith j request b) n = end-none request

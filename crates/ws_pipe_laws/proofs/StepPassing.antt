@@ -1,10 +1,12 @@
 -- What a pipe holds before a step, and what it reads in it, it passes on in this step or holds afterwards.
 use Rattle.std.proofs.Common.{◌≡◌, ◌⊎◌, inl, inr, ⊎_elim, ℕ, Bool, true, false, nat_eq, if◌then◌else◌, List, [], ◌∷◌, ◌++◌, Option, Some, None, Result, slice_get, refl, sym, ap, ◌∙◌, append_assoc, arith}
+use Rattle.ws_laws.proofs.PortDoes.{PortCauses}
+use Rattle.ws_value.specs.declared.ids.PortId.{PortId}
 use Rattle.ws_value.specs.declared.{ids.PipeId.{PipeId}, ids.PromiseId.{PromiseId}, ids.StreamId.{StreamId}}
 use Rattle.ws_value.specs.declared.value.{Plain.{Plain}, Value.{Value}}
 use Rattle.ws_steps.specs.declared.calls.Call.{Call}
 use Rattle.ws_steps.specs.declared.effects.Effect.{Effect}
-use Rattle.ws_steps.specs.declared.effects.Effect.TheVariants.{Readable as OnReadable, Writable as OnWritable, Pipe as OnPipe, Signal as OnSignal, Transform as OnTransform, Tee as OnTee, StartAlgorithm, PullAlgorithm, CancelAlgorithm, WriteAlgorithm, CloseAlgorithm, AbortAlgorithm, ChunkSteps, CloseSteps, ErrorSteps}
+use Rattle.ws_steps.specs.declared.effects.Effect.TheVariants.{Readable as OnReadable, Writable as OnWritable, Pipe as OnPipe, Signal as OnSignal, Transform as OnTransform, Tee as OnTee, Port as OnPort, StartAlgorithm, PullAlgorithm, CancelAlgorithm, WriteAlgorithm, CloseAlgorithm, AbortAlgorithm, ChunkSteps, CloseSteps, ErrorSteps}
 use Rattle.ws_steps.specs.declared.pipes.{Phase.{Phase}, Phase.TheVariants.{Flowing, Waiting, Acting, Over}, PipeOperation.{PipeOperation}, PipeOperation.TheVariants.{WriteChunk, GoOn}, SignalOperation.{SignalOperation}, SignalOperation.TheVariants.{Add, Forget, Trigger}}
 use Rattle.ws_steps.specs.declared.promises.{Job.{Job}, Job.TheVariants.{Reaction as ReactionJob, Follow, Settle as SettleJob, Micro as MicroJob}, Micro.TheVariants.{PipeLook, PipeWrite, PipeNoParts, TeeHand}, Step.{Step}}
 use Rattle.ws_steps.specs.declared.readable.{ReadRequest.{ReadRequest}, ReadRequest.TheVariants.{Promise, Pipe as PipeRequest, Tee as TeeRequest}}
@@ -70,21 +72,26 @@ module _ (p : PipeId) where
   tee-none t source first second (OnPipe q WriteChunk) c = absurd c
   tee-none t source first second _ c = tt
 
+  port-none : (me : PortId) (stream : StreamId) (e : Effect) → PortCauses me stream e → IsNoWrite e
+  port-none me stream (OnPipe q WriteChunk) c = absurd c
+  port-none me stream _ c = tt
+
   -- no effect causes one
   none-causes : (e : Effect) → Causes IsNoWrite e
   none-causes (OnReadable j operation) = record { pull = tt; cancel = λ r q. tt; chunk = λ r v. tt; close = λ r. tt; error = λ r e. tt }
   none-causes (Byte j operation) = record { readable = record { pull = tt; cancel = λ r q. tt; chunk = λ r v. tt; close = λ r. tt; error = λ r e. tt }; close_with = λ r b. tt }
-  none-causes (OnWritable j operation) = record { write = tt; close = tt; abort = λ r q. tt; hand_on = λ v. tt; take = λ v t d. tt }
+  none-causes (OnWritable j operation) = record { write = tt; close = tt; abort = λ r q. tt; hand_on = λ v. tt; take = λ v t d. tt; post = λ v c d. tt }
   none-causes (OnPipe q operation) = pipe-none q
   none-causes (OnSignal a operation) = signal-none operation
   none-causes (OnTransform t operation) = transform-none t
   none-causes (OnTee t operation) = tee-none t
+  none-causes (OnPort c operation) = port-none c
   none-causes (StartAlgorithm j step start) = (λ g u. tt, λ c u. tt)
-  none-causes (PullAlgorithm j) = (λ c u. tt, (λ t u. tt, (λ t. tt, λ u. tt)))
-  none-causes (CancelAlgorithm j r q) = (λ c u. tt, (λ t u. tt, λ t half u. tt))
-  none-causes (WriteAlgorithm j) = (tt, λ t u. tt)
-  none-causes (CloseAlgorithm j) = (λ c u. tt, λ t u. tt)
-  none-causes (AbortAlgorithm j r q) = (λ c u. tt, λ t u. tt)
+  none-causes (PullAlgorithm j) = (λ c u. tt, (λ t u. tt, (λ t. tt, (λ u. tt, λ c. tt))))
+  none-causes (CancelAlgorithm j r q) = (λ c u. tt, (λ t u. tt, (λ t half u. tt, λ c u. tt)))
+  none-causes (WriteAlgorithm j) = (tt, (λ t u. tt, λ c u. tt))
+  none-causes (CloseAlgorithm j) = (λ c u. tt, (λ t u. tt, λ c u. tt))
+  none-causes (AbortAlgorithm j r q) = (λ c u. tt, (λ t u. tt, λ c u. tt))
   none-causes (ChunkSteps j request v) = chunk-none v request
   none-causes (CloseSteps j request) = end-none request
   none-causes (CloseStepsWith j request b) = end-none request

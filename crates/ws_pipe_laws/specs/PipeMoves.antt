@@ -1,5 +1,5 @@
 -- What one operation of a pipe does: its moves, what it keeps, and how a pipe is made.
-use Rattle.std.specs.Prelude.{◌-◌, ◌≡◌, ◌⊎◌, Bool, true, false, not, ◌&&◌, List, ◌∷◌, ◌++◌, Option, Some, None, slice_get, Result, Ok, Err, []}
+use Rattle.std.specs.Prelude.{◌-◌, ◌≡◌, ◌⊎◌, Bool, true, false, not, ◌&&◌, List, ◌∷◌, ◌++◌, Option, Some, None, slice_get, length, Result, Ok, Err, []}
 use Rattle.ws_value.specs.declared.ids.PipeId.{PipeId}
 use Rattle.ws_value.specs.declared.ids.PromiseId.{PromiseId}
 use Rattle.ws_value.specs.declared.ids.SignalId.{SignalId}
@@ -7,7 +7,7 @@ use Rattle.ws_value.specs.declared.ids.StreamId.{StreamId}
 use Rattle.ws_value.specs.declared.value.Plain.{Plain}
 use Rattle.ws_value.specs.declared.value.Plain.TheVariants.{Undefined}
 use Rattle.ws_steps.specs.declared.calls.Call.{Call}
-use Rattle.ws_steps.specs.declared.calls.Call.TheVariants.{Pipe as PipeCall}
+use Rattle.ws_steps.specs.declared.calls.Call.TheVariants.{Pipe as PipeCall, Send as SendCall}
 use Rattle.ws_steps.specs.declared.calls.Reply.{Reply}
 use Rattle.ws_steps.specs.declared.calls.Reply.TheVariants.{Promise as PromiseReply}
 use Rattle.ws_steps.specs.declared.effects.Effect.{Effect}
@@ -31,7 +31,7 @@ use Rattle.ws_steps.specs.Operations.{pipe_operation}
 use Rattle.ws_pipe_laws.specs.PipeHistory.{shutdown, shutdown_by, is_live, error_after}
 use Rattle.ws_steps.specs.Pipes.{Slots, Acts}
 use Rattle.ws_steps.specs.Promises.{Table, next_id, fresh}
-use Rattle.ws_steps.specs.Calls.{Begun, begin}
+use Rattle.ws_steps.specs.Calls.{Begun, begin, no_prevent}
 use Rattle.ws_steps.specs.Run.{Entry, Called, run, step}
 use Rattle.ws_steps.specs.Slots as realm
 use Rattle.ws_steps.specs.Writable.{is_writable}
@@ -221,12 +221,21 @@ pub record IsNewPipe (from to : StreamId) (not_to : Prevent) (by : Option Signal
   pub unsettled : y.unsettled ≡ 0
   pub waits : y.waits ≡ false
 
--- what call c, which begins so, adds to the pipes: none; or, where it is a pipeTo, a new one between its streams, after the others
+-- the stream at the end of a new port
+abbrev pub new_end : realm.Slots → StreamId
+new_end s = record { 0 = length s.streams }
+
+-- what call c, which begins so, adds to the pipes: none; or, where it is a pipeTo, a new one between its streams, after the others; or, where it
+-- sends a stream, one between that and the stream at the end of the new port, whose promise no reply names
 pub data MakesPipes (c : Call) (s : realm.Slots) (b : Begun) : Type 0 where
   MakesNone : b.done.slots.pipes ≡ s.pipes → MakesPipes c s b
   MakesOne : (from to : StreamId) (not_to : Prevent) (by : Option SignalId) (y : Slots) → c ≡ PipeCall from to not_to by
       → b.done.slots.pipes ≡ s.pipes ++ y ∷ [] → IsNewPipe from to not_to by b.reply y → MakesPipes c s b
+  SendsReadable : (i : StreamId) (y : Slots) → c ≡ SendCall i → realm.has_source i s ≡ true → b.done.slots.pipes ≡ s.pipes ++ y ∷ []
+      → IsNewPipe i (new_end s) no_prevent None (PromiseReply y.promise) y → MakesPipes c s b
+  SendsWritable : (i : StreamId) (y : Slots) → c ≡ SendCall i → realm.has_source i s ≡ false → realm.has_writable i s ≡ true → b.done.slots.pipes ≡ s.pipes ++ y ∷ []
+      → IsNewPipe (new_end s) i no_prevent None (PromiseReply y.promise) y → MakesPipes c s b
 
--- Only a pipeTo makes a pipe, and one that flows, whatever it finds
+-- Only a pipeTo and the sending of a stream make a pipe, and one that flows, whatever they find
 abbrev pub EachPipeBeginsFlowing : Type 0
 EachPipeBeginsFlowing = (c : Call) (s : realm.Slots) → MakesPipes c s (begin c s)

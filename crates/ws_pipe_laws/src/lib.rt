@@ -11,7 +11,7 @@ pub fn each_pipe_moves()
     ensures { EachPipeMoves }
 {}
 
-/// Only a pipeTo makes a pipe, whatever it finds: one between its streams, which flows, with no read under way, no chunk held and each write settled, and whose promise is answered.
+/// Only a pipeTo makes a pipe, and the sending of a stream, whatever they find: a pipeTo one between its streams, whose promise is answered, and a sending one between the stream and that at the end of the new port. It flows, with no read under way, no chunk held and each write settled.
 pub fn each_pipe_begins_flowing()
     ensures { EachPipeBeginsFlowing }
 {}

@@ -1,15 +1,16 @@
 -- The reactions to a pipe's writes, with the jobs and the operations that they lead to, are at most its writes that haven't settled.
+use Rattle.ws_steps.specs.declared.port.PortOperation.TheVariants.{PostChunk}
 use Rattle.std.proofs.Common.{◌≡◌, ℕ, zero, suc, ◌+◌, ◌≤◌, Bool, true, false, nat_eq, List, [], ◌∷◌, ◌++◌, length, Option, Some, None, Result, Ok, Err, slice_get, slice_set, refl, sym, ap, subst, if◌then◌else◌, arith}
 use Rattle.ws_value.specs.declared.ids.{PipeId.{PipeId}, PromiseId.{PromiseId}, SignalId.{SignalId}, StreamId.{StreamId}}
 use Rattle.ws_value.specs.declared.value.{Outcome.TheVariants.{Given, Finished}, Plain.{Plain}, Plain.TheVariants.{Undefined}, Value.{Value}, Value.TheVariants.{Plain as PlainValue, Bytes}}
 use Rattle.ws_steps.specs.declared.{calls.Call.{Call}, calls.HostCall.{HostCall}, calls.Event.TheVariants.{Signal as SignalEvent}, calls.StartBy.{StartBy}, calls.StartBy.TheVariants.{Now, Later}}
 use Rattle.ws_steps.specs.declared.effects.Effect.{Effect}
-use Rattle.ws_steps.specs.declared.effects.Effect.TheVariants.{Readable as OnReadable, Writable as OnWritable, Pipe as OnPipe, Signal as OnSignal, Transform as OnTransform, Tee as OnTee, StartAlgorithm, PullAlgorithm, CancelAlgorithm, WriteAlgorithm, CloseAlgorithm, AbortAlgorithm, ChunkSteps, CloseSteps, ErrorSteps, Give, Settle, Queue, CallHost}
-use Rattle.ws_steps.specs.declared.effects.{Owner.{Owner}, Owner.TheVariants.{Host, HalfOf, BranchOf}, Use.{Use}, Use.TheVariants.{React}}
+use Rattle.ws_steps.specs.declared.effects.Effect.TheVariants.{Readable as OnReadable, Writable as OnWritable, Pipe as OnPipe, Signal as OnSignal, Transform as OnTransform, Tee as OnTee, Port as OnPort, StartAlgorithm, PullAlgorithm, CancelAlgorithm, WriteAlgorithm, CloseAlgorithm, AbortAlgorithm, ChunkSteps, CloseSteps, ErrorSteps, Give, Settle, Queue, CallHost}
+use Rattle.ws_steps.specs.declared.effects.{Owner.{Owner}, Owner.TheVariants.{Host, HalfOf, BranchOf, EndOf}, Use.{Use}, Use.TheVariants.{React}}
 use Rattle.ws_steps.specs.declared.pipes.{Phase.{Phase}, Phase.TheVariants.{Flowing, Waiting, Acting, Over}}
 use Rattle.ws_steps.specs.declared.pipes.{PipeOperation.{PipeOperation}, SignalOperation.{SignalOperation}}
 use Rattle.ws_steps.specs.declared.promises.{Job.{Job}, Job.TheVariants.{Reaction as ReactionJob, Follow, Settle as SettleJob, Micro as MicroJob}, Micro.TheVariants.{PipeLook, PipeWrite, PipeNoParts, TeeHand}}
-use Rattle.ws_steps.specs.declared.promises.{Step.{Step}, Step.TheVariants.{ReadableStart, ReadablePull, ReturnUndefined, WritableStart, WritableWrite, WritableClose, WritableAbort, PipeEnds, PipeReady, PipeWrote, PipeActed, PipePart, TransformChanged, Transformed, TransformFlushed, TransformAborted, TransformCancelled, TeeEnds}}
+use Rattle.ws_steps.specs.declared.promises.{Step.{Step}, Step.TheVariants.{ReadableStart, ReadablePull, ReturnUndefined, WritableStart, WritableWrite, WritableClose, WritableAbort, PipeEnds, PipeReady, PipeWrote, PipeActed, PipePart, TransformChanged, PortUnblocked, Transformed, TransformFlushed, TransformAborted, TransformCancelled, TeeEnds}}
 use Rattle.ws_steps.specs.declared.readable.{ReadRequest.{ReadRequest}, ReadRequest.TheVariants.{Promise, Pipe as PipeRequest, Tee as TeeRequest}, ReadableOperation.{ReadableOperation}}
 use Rattle.ws_steps.specs.declared.transform.{TransformId.{TransformId}, TransformOperation.{TransformOperation}, TransformOperation.TheVariants.{TransformChunk}, Halves.{Halves}}
 use Rattle.ws_steps.specs.declared.writable.{WritableOperation.{WritableOperation}, WritableOperation.TheVariants.{ReleaseWriter}}
@@ -39,6 +40,16 @@ use Rattle.ws_laws.proofs.WritableDoes.{writable-does}
 use Rattle.ws_writable_laws.proofs.Agenda.{weight-tell, weight-gift, weight-host}
 use Rattle.ws_writable_laws.proofs.Shape.{of_reaction, of_transform, weight, all, all-append}
 use Rattle.ws_writable_laws.proofs.Transforms.{weight-transform}
+use Rattle.ws_writable_laws.proofs.Ports.{weight-port}
+use Rattle.ws_writable_laws.proofs.Shape.{of_port}
+use Rattle.ws_value.specs.declared.ids.PortId.{PortId}
+use Rattle.ws_steps.specs.Cross as cross
+use Rattle.ws_steps.specs.declared.port.PortOperation.{PortOperation}
+use Rattle.ws_steps.specs.Operations.{port_operation}
+use Rattle.ws_steps.specs.Slots.{on_port_at, clones_at}
+use Rattle.ws_laws.proofs.PortDoes.{port-does}
+use Rattle.ws_steps.specs.declared.port.Side.{Side}
+use Rattle.ws_steps.specs.declared.port.Side.TheVariants.{Readable as ReadableSide, Writable as WritableSide}
 use Rattle.ws_laws.proofs.Lists.{each-map}
 use Rattle.ws_laws.proofs.PipeDoes.{pipe-causes}
 use Rattle.ws_pipe_laws.specs.PipeHistory.{is_acting}
@@ -174,6 +185,7 @@ module _ (p : PipeId) where
         abort = λ x r q h. causes-light t x (AbortAlgorithm i r q) refl h;
         hand_on = λ x v h. causes-light t x (write_to_host i v) refl h;
         take = λ x v half d h. causes-light t x (OnTransform half (TransformChunk v d)) refl h;
+        post = λ x v c d h. causes-light t x (OnPort c (PostChunk v d)) refl h;
       }) operation (writable_acts i s) (omega arith) in
       either (Carries s 0) (has_writable i s) (put_writable i s (writable_operation i operation (writable_acts i s))) (nothing s) (λ e. (refl, omega (arith, h))) (λ e. (refl, omega arith))
 
@@ -220,6 +232,19 @@ module _ (p : PipeId) where
       let l = tee-pays t operation a refl in
       (refl, omega (arith, w, l))
 
+  port-pays : (c : PortId) (clones : Bool) (operation : PortOperation) (a : cross.Acts) → a.out.effects ≡ [] → all (pays p) (port_operation c clones operation a).out.effects ≤ of_port (of_write p) operation
+  unfolding cross.pull cross.leave cross.close cross.write cross.write_goes_on cross.post_chunk cross.unblock cross.deliver
+  port-pays c clones operation a none = grind (arith, none)
+
+  port-carries : (c : PortId) (operation : PortOperation) (s : Slots) (o : Option cross.Slots)
+      → Carries s (of_port (of_write p) operation) (on_port_at (λ clones. port_operation c clones operation) c s o)
+  port-carries c operation s None = (refl, omega arith)
+  port-carries c operation s (Some x) =
+      let a : cross.Acts = record { slots = x; out = found s } in
+      let w = port-does (λ z. under_way z ≤ under_way s.promises) (weight-port (of_write p) s.promises) c (clones_at x s) operation a (omega arith) in
+      let l = port-pays c (clones_at x s) operation a refl in
+      (refl, omega (arith, w, l))
+
   start-carries : (i : StreamId) (step : Step) (s : Slots) (start : StartBy) → Carries s (of_write p step) (start_algorithm i step s start)
   start-carries i step s Now = (refl, omega arith)
   start-carries i step s Later = let k = weigh-fresh (of_reaction (of_write p)) s.promises in (refl, omega (arith, k))
@@ -250,26 +275,31 @@ module _ (p : PipeId) where
   pulls i s Host = (refl, omega arith)
   pulls i s (HalfOf t) = (refl, omega arith)
   pulls i s (BranchOf t half) = (refl, omega arith)
+  pulls i s (EndOf c) = (refl, omega arith)
 
   cancels : (i : StreamId) (r : Plain) (q : PromiseId) (s : Slots) (owner : Owner) → Carries s 0 (causes (cancel_algorithm i r (React ReturnUndefined (Some q)) owner) s)
   cancels i r q s Host = (refl, omega arith)
   cancels i r q s (HalfOf t) = (refl, omega arith)
   cancels i r q s (BranchOf t half) = (refl, omega arith)
+  cancels i r q s (EndOf c) = (refl, omega arith)
 
   hands_on : (i : StreamId) (s : Slots) (owner : Owner) → Carries s 0 (causes (write_algorithm i owner) s)
   hands_on i s Host = (refl, omega arith)
   hands_on i s (HalfOf t) = (refl, omega arith)
   hands_on i s (BranchOf t half) = (refl, omega arith)
+  hands_on i s (EndOf c) = (refl, omega arith)
 
   closes : (i : StreamId) (s : Slots) (owner : Owner) → Carries s 0 (causes (close_algorithm i (React (WritableClose i) None) owner) s)
   closes i s Host = (refl, omega arith)
   closes i s (HalfOf t) = (refl, omega arith)
   closes i s (BranchOf t half) = (refl, omega arith)
+  closes i s (EndOf c) = (refl, omega arith)
 
   aborts-on : (i : StreamId) (r : Plain) (q : PromiseId) (s : Slots) (owner : Owner) → Carries s 0 (causes (abort_algorithm i r (React (WritableAbort i q) None) owner) s)
   aborts-on i r q s Host = (refl, omega arith)
   aborts-on i r q s (HalfOf t) = (refl, omega arith)
   aborts-on i r q s (BranchOf t half) = (refl, omega arith)
+  aborts-on i r q s (EndOf c) = (refl, omega arith)
 
   host-pipes : (call : HostCall) (u : Use) (s : Slots) → (call_host call u s).pipes ≡ s.pipes
   unfolding call_host
@@ -284,6 +314,7 @@ module _ (p : PipeId) where
   row-owes s (OnSignal a operation) es w = carried s (OnSignal a operation) es (signal-carries a operation s (slice_get s.signals a.0)) w
   row-owes s (OnTransform t operation) es w = carried s (OnTransform t operation) es (transform-carries t operation s (slice_get s.transforms t.0)) w
   row-owes s (OnTee t operation) es w = carried s (OnTee t operation) es (tee-carries t operation s (slice_get s.tees t.0)) w
+  row-owes s (OnPort c operation) es w = carried s (OnPort c operation) es (port-carries c operation s (slice_get s.ports c.0)) w
   row-owes s (StartAlgorithm i step start) es w = carried s (StartAlgorithm i step start) es (start-carries i step s start) w
   row-owes s (PullAlgorithm i) es w = carried s (PullAlgorithm i) es (pulls i s (owner_at i s)) w
   row-owes s (CancelAlgorithm i r q) es w = carried s (CancelAlgorithm i r q) es (cancels i r q s (owner_at i s)) w
@@ -320,6 +351,7 @@ module _ (p : PipeId) where
     signal = λ z k. k;
     transform = λ z kind i j change k. k;
     tee = λ z source first second cancel k. k;
+    port = λ z side stream backpressure k. k;
     bytes = λ z mark auto k. k;
     byob_requests = λ z hs k. k;
     readable = λ z owner mark size k. k;
@@ -338,6 +370,10 @@ module _ (p : PipeId) where
   start-none : (q : PromiseId) (j : StreamId) (start : StartBy) → all (pays p) (calls.start_transform q j start ∷ []) ≡ 0
   start-none q j Now = refl
   start-none q j Later = refl
+
+  end-none : (side : Side) (j : StreamId) → all (pays p) (calls.start_end j side ∷ []) ≡ 0
+  end-none ReadableSide j = refl
+  end-none WritableSide j = refl
 
   call-none : (c : Call) (s : Slots) → all (pays p) (begin c s).done.caused ≡ 0
   call-none c s = each_call (λ (b : Begun). all (pays p) b.done.caused ≡ 0) c s (record {
@@ -378,6 +414,12 @@ module _ (p : PipeId) where
         let n = begins-none (record { 0 = length s.pipes }) (next_id s.promises) (next_id (fresh (fresh s.promises))) signal (calls.reason_of signal s) in
         omega (arith, n);
     make_signal = refl;
+    open_end = λ side. end-none side _;
+    send_readable = λ source there free.
+        let n = begins-none (record { 0 = length s.pipes }) (next_id (fresh s.promises)) (next_id (fresh (fresh (fresh s.promises)))) None None in omega (arith, n);
+    send_writable = λ dest there free.
+        let n = begins-none (record { 0 = length s.pipes }) (next_id s.promises) (next_id (fresh (fresh s.promises))) None None in omega (arith, n);
+    deliver = λ c m asked has. refl;
     trigger = λ a reason. refl;
     settle = λ h answer q e. refl;
   })
@@ -405,7 +447,9 @@ module _ (p : PipeId) where
   in_steps (PipeActed q) o = let n = no_answer (nat_eq p.0 q.0) in omega (arith, n)
   in_steps (PipePart q) o = let n = no_answer (nat_eq p.0 q.0) in omega (arith, n)
   in_steps (TransformChanged t d) (Ok v) = refl
+  in_steps (PortUnblocked c d) (Ok v) = refl
   in_steps (TransformChanged t d) (Err r) = refl
+  in_steps (PortUnblocked c d) (Err r) = refl
   in_steps (Transformed t) (Ok v) = refl
   in_steps (Transformed t) (Err r) = refl
   in_steps (TransformFlushed t q) o = refl
@@ -504,6 +548,7 @@ same_action p (PipeReady q) = refl
 same_action p (PipeWrote q) = refl
 same_action p (PipePart q) = refl
 same_action p (TransformChanged t d) = refl
+same_action p (PortUnblocked c d) = refl
 same_action p (Transformed t) = refl
 same_action p (TransformFlushed t q) = refl
 same_action p (TransformAborted t q r) = refl

@@ -1,9 +1,10 @@
 -- What each operation of a pipe does to the reactions to its writes.
 use Rattle.std.proofs.Common.{◌≡◌, ℕ, ◌+◌, ◌-◌, ◌≤◌, true, false, not, ◌&&◌, ◌||◌, nat_eq, is_none, if◌then◌else◌, List, [], ◌∷◌, Option, Some, None, Result, Ok, Err, refl, arith}
+use Rattle.ws_writable_laws.proofs.Shape.{of_port}
 use Rattle.ws_value.specs.declared.{ids.PipeId.{PipeId}, ids.PromiseId.{PromiseId}, ids.StreamId.{StreamId}}
 use Rattle.ws_value.specs.declared.value.{Plain.{Plain}, Value.{Value}}
 use Rattle.ws_steps.specs.declared.effects.Effect.{Effect}
-use Rattle.ws_steps.specs.declared.effects.Effect.TheVariants.{Readable as OnReadable, Pipe as OnPipe, Transform as OnTransform, Tee as OnTee, StartAlgorithm, Give, CallHost}
+use Rattle.ws_steps.specs.declared.effects.Effect.TheVariants.{Readable as OnReadable, Pipe as OnPipe, Transform as OnTransform, Tee as OnTee, Port as OnPort, StartAlgorithm, Give, CallHost}
 use Rattle.ws_steps.specs.declared.effects.{Gift.TheVariants.{This}, Use.TheVariants.{React}}
 use Rattle.ws_steps.specs.declared.pipes.{Action.{Action}, Action.TheVariants.{AbortDest, CancelSource, CloseDest, BySignal}, Ends.{Ends}, Phase.{Phase}, Phase.TheVariants.{Flowing, Waiting, Acting, Over}}
 use Rattle.ws_steps.specs.declared.pipes.{PipeOperation.{PipeOperation}, PipeOperation.TheVariants.{Look, LookReady, KeepChunk, ReadEnded, WriteChunk, GoOn, WriteEnded, Abort as AbortPipe, ActionSettled, PartSettled, NoParts}}
@@ -34,6 +35,7 @@ abbrev pub pays : PipeId → Effect → ℕ
 pays p (OnPipe q operation) = if nat_eq p.0 q.0 then is_ended operation else 0
 pays p (OnTransform t operation) = of_transform (of_write p) operation
 pays p (OnTee t operation) = of_tee (of_write p) operation
+pays p (OnPort c operation) = of_port (of_write p) operation
 pays p (StartAlgorithm i step start) = of_write p step
 pays p (Give gift u) = of_use (of_write p) u
 pays p (CallHost call u) = of_use (of_write p) u
@@ -200,6 +202,7 @@ other-paid p q n source dest (OnPipe r GoOn) c = no_answer (nat_eq p.0 r.0)
 other-paid p q n source dest (OnPipe r operation) c = absurd c
 other-paid p q n source dest (OnTransform t operation) c = absurd c
 other-paid p q n source dest (OnTee t operation) c = absurd c
+other-paid p q n source dest (OnPort me operation) c = absurd c
 other-paid p q n source dest (StartAlgorithm i step start) c = absurd c
 other-paid p q n source dest (Give (This d) (React step None)) c = other_step p q n step c
 other-paid p q n source dest (Give gift u) c = absurd c
