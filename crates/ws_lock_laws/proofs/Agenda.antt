@@ -1,4 +1,6 @@
 -- What stands on the agenda of the lock of a stream: operations that take it, and that let go of it.
+use Rattle.ws_steps.specs.declared.effects.Effect.TheVariants.{StartAlgorithm, Give}
+use Rattle.ws_steps.specs.declared.calls.StartBy.TheVariants.{Now}
 use Rattle.std.proofs.Common.{◌≡◌, ℕ, List, [], ◌∷◌, refl, arith}
 use Rattle.ws_value.specs.declared.ids.StreamId.{StreamId}
 use Rattle.ws_steps.specs.declared.byte.ByteOperation.{ByteOperation}
@@ -87,9 +89,11 @@ pub goes_none-all : (d : Side) (i : StreamId) (es : List Effect) → Each IsCalm
 goes_none-all d i [] n = refl
 goes_none-all d i (e ∷ es) n = let k = goes_none d i e n.0 in let rest = goes_none-all d i es n.1 in omega (arith, k, rest)
 
--- operations that take a lock stand before all others
+-- operations that take a lock stand before all others, but for those by which a start goes on
 abbrev pub TakesFirst : List Effect → Type 0
 TakesFirst [] = Unit {0}
+TakesFirst (StartAlgorithm j step Now ∷ es) = TakesFirst es
+TakesFirst (Give gift u ∷ es) = TakesFirst es
 TakesFirst (OnReadable j (InitializeReader closed) ∷ es) = TakesFirst es
 TakesFirst (Byte j (InitializeByobReader closed) ∷ es) = TakesFirst es
 TakesFirst (OnWritable j (SetUpWriter w) ∷ es) = TakesFirst es
@@ -97,11 +101,16 @@ TakesFirst (e ∷ es) = Each IsNoTake es
 
 pub takes_first : (es : List Effect) → Each IsNoTake es → TakesFirst es
 takes_first [] n = tt
-takes_first (e ∷ es) n = by e n.0
+takes_first (e ∷ es) n = by e n.0 (takes_first es n.1)
   where
-    by : (e : Effect) → IsNoTake e → TakesFirst (e ∷ es)
-    by e k = grind (arith, k, n)
+    by : (e : Effect) → IsNoTake e → TakesFirst es → TakesFirst (e ∷ es)
+    by e k rest = grind (arith, k, n, rest)
+
+abbrev pub IsNoStart : Effect → Type 0
+IsNoStart (StartAlgorithm j step start) = ⊥
+IsNoStart (Give gift u) = ⊥
+IsNoStart _ = Unit {0}
 
 -- behind another operation stands none that takes one
-pub takes_behind : (e : Effect) (es : List Effect) → IsNoTake e → TakesFirst (e ∷ es) → Each IsNoTake es
-takes_behind e es n t = grind (arith, n, t)
+pub takes_behind : (e : Effect) (es : List Effect) → IsNoTake e → IsNoStart e → TakesFirst (e ∷ es) → Each IsNoTake es
+takes_behind e es n m t = grind (arith, n, m, t)

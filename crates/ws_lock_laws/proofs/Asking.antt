@@ -1,5 +1,7 @@
 -- A stream without a reader has no read requests, and one that a pipe has none but the pipe's: each effect keeps that. A read stands first
 -- on the agenda, and is of who has the stream.
+use Rattle.ws_value.specs.declared.ids.PortId.{PortId}
+use Rattle.ws_laws.proofs.PortDoes.{PortCauses}
 use Rattle.std.proofs.Common.{◌≡◌, ℕ, ◌+◌, ◌≤◌, zero, suc, Bool, true, false, nat_eq, is_some, if◌then◌else◌, List, [], ◌∷◌, ◌++◌, length, ◌&&◌, Option, Some, None, slice_get, slice_set, refl, sym, ap, subst, ◌∙◌, arith}
 use Rattle.ws_value.specs.declared.{ids.PipeId.{PipeId}, ids.StreamId.{StreamId}}
 use Rattle.ws_steps.specs.declared.byte.{ByteOperation.{ByteOperation}, ByteOperation.TheVariants.{InitializeByobReader, PullInto, Respond}, ReaderKind.TheVariants.{Default, Byob}}
@@ -25,7 +27,7 @@ use Rattle.ws_read_laws.proofs.Line.{operation-reader}
 use Rattle.ws_pipe_laws.specs.PipeMoves.{starting}
 use Rattle.ws_pipe_laws.specs.PipeReads.{one_if, is_of}
 use Rattle.ws_lock_laws.specs.Locks.{Reading, has_lock, holders, holds, in_pipes, in_tees, is_locked}
-use Rattle.ws_lock_laws.proofs.Agenda.{IsNoTake, TakesFirst, takes_none, takes_none-all, takes_behind}
+use Rattle.ws_lock_laws.proofs.Agenda.{IsNoTake, IsNoStart, TakesFirst, takes_none, takes_none-all, takes_behind}
 use Rattle.ws_lock_laws.proofs.ByteReaders.{Look, look, byte_readable-reader, byte-reader}
 use Rattle.ws_lock_laws.proofs.Holding.{pipes-there, pipes-two, tees-there}
 use Rattle.ws_lock_laws.proofs.PipeReads.{IsNoRead, NoRead, OneRead, Reads, operation-reads}
@@ -109,10 +111,10 @@ locked_by : (l : Bool) → 1 ≤ one_if l → l ≡ true
 locked_by true e = refl
 locked_by false e = absurd (omega (arith, e))
 
-pub has-locked : (i : StreamId) (s : Slots) (e : Effect) (es : List Effect) → IsNoTake e → TakesFirst (e ∷ es) → Balanced Reading i s (e ∷ es) → 1 ≤ holders Reading i s → is_locked Reading i s ≡ true
-has-locked i s e es n t k h =
+pub has-locked : (i : StreamId) (s : Slots) (e : Effect) (es : List Effect) → IsNoTake e → IsNoStart e → TakesFirst (e ∷ es) → Balanced Reading i s (e ∷ es) → 1 ≤ holders Reading i s → is_locked Reading i s ≡ true
+has-locked i s e es n m t k h =
     let a = takes_none Reading i e n in
-    let b = takes_none-all Reading i es (takes_behind e es n t) in
+    let b = takes_none-all Reading i es (takes_behind e es n m t) in
     let even = k.even in
     locked_by (is_locked Reading i s) (omega (arith, a, b, even, h))
 
@@ -158,12 +160,12 @@ into-locked : (s : Slots) (i : StreamId) (operation : ByteOperation) (es : List 
 into-locked s i operation es t k asks room element minimum request e =
     let some = (subst (λ (z : ByteOperation). Asks s (Byte i z ∷ es)) e asks).some in
     let split = holders-split i s in
-    has-locked i s (Byte i (PullInto room element minimum request)) es tt (subst (λ (z : ByteOperation). TakesFirst (Byte i z ∷ es)) e t) (subst (λ (z : ByteOperation). Balanced Reading i s (Byte i z ∷ es)) e k) (omega (arith, some, split))
+    has-locked i s (Byte i (PullInto room element minimum request)) es tt tt (subst (λ (z : ByteOperation). TakesFirst (Byte i z ∷ es)) e t) (subst (λ (z : ByteOperation). Balanced Reading i s (Byte i z ∷ es)) e k) (omega (arith, some, split))
 
 pub read-locked : (s : Slots) (i : StreamId) (operation : ReadableOperation) (es : List Effect) → TakesFirst (OnReadable i operation ∷ es) → Balanced Reading i s (OnReadable i operation ∷ es) → Asks s (OnReadable i operation ∷ es)
     → (request : ReadRequest) → operation ≡ Read request → is_locked Reading i s ≡ true
 read-locked s i operation es t k asks request e =
-    has-locked i s (OnReadable i (Read request)) es tt (subst (λ (z : ReadableOperation). TakesFirst (OnReadable i z ∷ es)) e t) (subst (λ (z : ReadableOperation). Balanced Reading i s (OnReadable i z ∷ es)) e k)
+    has-locked i s (OnReadable i (Read request)) es tt tt (subst (λ (z : ReadableOperation). TakesFirst (OnReadable i z ∷ es)) e t) (subst (λ (z : ReadableOperation). Balanced Reading i s (OnReadable i z ∷ es)) e k)
     (read-has s i operation es asks request e)
 
 default-queued : (s : Slots) (i : StreamId) (operation : ReadableOperation) (es : List Effect) → TakesFirst (OnReadable i operation ∷ es) → Balanced Reading i s (OnReadable i operation ∷ es) → Asks s (OnReadable i operation ∷ es)
@@ -441,8 +443,11 @@ tee-asks t operation s es (Some x) e none k = by (tee-reads t operation (record 
 transform_silent : (me : TransformId) (writable readable : StreamId) (e : Effect) → TransformCauses me writable readable e → IsNoRead e
 transform_silent me writable readable e c = grind (arith, c)
 
+port_silent : (me : PortId) (stream : StreamId) (e : Effect) → PortCauses me stream e → IsNoRead e
+port_silent me stream e c = grind (arith, c)
+
 read-causes : (e : Effect) → IsNoPipe e → IsNoTee e → Causes IsNoRead e
-read-causes e n m = grind (arith, n, m, transform_silent)
+read-causes e n m = grind (arith, n, m, transform_silent, port_silent)
 
 pub other-silent : (s : Slots) (e : Effect) (es : List Effect) → IsNoPipe e → IsNoTee e → ReadsFirst (e ∷ es) → Each IsNoRead ((row e s).caused ++ es)
 other-silent s e es n m first = each-append IsNoRead (row e s).caused es (row-causes IsNoRead e s (read-causes e n m)) first

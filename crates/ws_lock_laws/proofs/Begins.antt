@@ -1,4 +1,13 @@
 -- Who has the lock of a stream as calls and jobs begin.
+use Rattle.ws_steps.specs.declared.promises.Step.TheVariants.{ReadableStart, WritableStart}
+use Rattle.ws_steps.specs.declared.effects.Effect.TheVariants.{StartAlgorithm}
+use Rattle.ws_steps.specs.declared.promises.Step.{Step}
+use Rattle.ws_steps.specs.declared.port.Side.{Side as PortSide}
+use Rattle.ws_steps.specs.declared.port.Side.TheVariants.{Readable as ReadableSide, Writable as WritableSide}
+use Rattle.ws_value.specs.declared.ids.PortId.{PortId}
+use Rattle.ws_laws.proofs.Halves.{get-stays}
+use Rattle.ws_steps.specs.Slots.{has_source, is_byte_stream}
+use Rattle.std.proofs.Common.{◌||◌}
 use Rattle.std.proofs.Common.{◌≡◌, ◌⊎◌, inl, inr, ⊎_elim, ℕ, ◌+◌, Bool, true, false, nat_eq, is_some, List, [], ◌∷◌, ◌++◌, length, Option, Some, None, slice_get, refl, sym, ap, ◌∙◌, arith}
 use Rattle.ws_value.specs.declared.{ids.LockId.{LockId}, ids.PipeId.{PipeId}, ids.PromiseId.{PromiseId}, ids.SignalId.{SignalId}, ids.StreamId.{StreamId}, value.Plain.{Plain}}
 use Rattle.ws_steps.specs.declared.byte.ByteOperation.TheVariants.{InitializeByobReader}
@@ -30,14 +39,14 @@ use Rattle.ws_laws.proofs.Truth.{false_true}
 use Rattle.ws_writable_laws.proofs.Shape.{all, all-append}
 use Rattle.ws_pipe_laws.specs.PipeReads.{one_if}
 use Rattle.ws_lock_laws.specs.Locks.{Side, Reading, Writing, end_of, has, has_lock, holders, in_locks, is_locked}
-use Rattle.ws_lock_laws.proofs.Agenda.{takes, goes, IsNoTake, IsCalm, calm_takes, takes_none-all, goes_none-all, TakesFirst, takes_first}
+use Rattle.ws_lock_laws.proofs.Agenda.{takes, goes, IsNoTake, IsCalm, calm_takes, takes_none, goes_none, takes_none-all, goes_none-all, TakesFirst, takes_first}
 use Rattle.ws_lock_laws.proofs.Holding.{locks-append, locks-set, pipes-append}
 use Rattle.ws_lock_laws.proofs.Rows.{is_there, Balanced, IsToldBytes, take-causes}
 use Rattle.ws_steps.specs.Slots.{ByteStream}
 use Rattle.ws_steps.specs.Bytes as byte
 use Rattle.ws_value.specs.declared.ids.TeeId.{TeeId}
 use Rattle.ws_steps.specs.declared.tee.Half.TheVariants.{First, Second}
-use Rattle.ws_steps.specs.declared.effects.Owner.TheVariants.{BranchOf}
+use Rattle.ws_steps.specs.declared.effects.Owner.TheVariants.{BranchOf, EndOf}
 use Rattle.ws_steps.specs.Tee as tee
 use Rattle.ws_lock_laws.specs.Locks.{in_tees, tees_off}
 use Rattle.ws_lock_laws.proofs.Holding.{tees-append}
@@ -65,12 +74,28 @@ start-calm q j Later = tt
 pub no_takes : (es : List Effect) → Each IsCalm es → Each IsNoTake es
 no_takes es c = each-map IsCalm IsNoTake calm_takes es c
 
+starts-first : (j : StreamId) (step : Step) (start : StartBy) → TakesFirst (StartAlgorithm j step start ∷ [])
+starts-first j step StartNow = tt
+starts-first j step Later = tt
+
+transform-first : (q : PromiseId) (j : StreamId) (start : StartBy) → TakesFirst (calls.start_transform q j start ∷ [])
+transform-first q j StartNow = tt
+transform-first q j Later = tt
+
+end-first : (side : PortSide) (j : StreamId) → TakesFirst (calls.start_end j side ∷ [])
+end-first ReadableSide j = tt
+end-first WritableSide j = tt
+
+pub end-calm : (side : PortSide) (j : StreamId) → IsCalm (calls.start_end j side)
+end-calm ReadableSide j = tt
+end-calm WritableSide j = tt
+
 pub call-first : (c : Call) (s : Slots) → TakesFirst (begin c s).done.caused
 call-first c s = each_call (λ (b : Begun). TakesFirst b.done.caused) c s (record {
   unchanged = λ reply. tt;
   rejected = tt;
-  make_readable = λ mark size start. tt;
-  make_writable = λ mark size start. tt;
+  make_readable = λ mark size start. starts-first (record { 0 = length s.streams }) (ReadableStart (record { 0 = length s.streams })) start;
+  make_writable = λ mark size start. starts-first (record { 0 = length s.streams }) (WritableStart (record { 0 = length s.streams })) start;
   get_byob = λ i is e. tt;
   release_byob = λ l closed i e.
       let kept : Bool = readable.is_readable (source_at i s).state in
@@ -80,7 +105,7 @@ call-first c s = each_call (λ (b : Begun). TakesFirst b.done.caused) c s (recor
   finish_bytes = λ i e is can. tt;
   make_request = λ i reply is. tt;
   respond = λ r i b e is can. tt;
-  make_bytes = λ mark auto start. tt;
+  make_bytes = λ mark auto start. starts-first (record { 0 = length s.streams }) (ReadableStart (record { 0 = length s.streams })) start;
   get_reader = λ i e. tt;
   get_writer = λ i e. tt;
   release_reader = λ l closed i e.
@@ -97,10 +122,9 @@ call-first c s = each_call (λ (b : Begun). TakesFirst b.done.caused) c s (recor
   write = λ l v i e. tt;
   close = λ i. tt;
   abort = λ reason i e. tt;
-  make_tee = λ i e is free untied. (tt, (tt, tt));
+  make_tee = λ i e is free untied. tt;
   make_transform = λ kind m n start.
-      let first : Effect = calls.start_transform (next_id (fresh s.promises)) (record { 0 = length s.streams + 1 }) start in
-      (tt, (tt, (tt, (calm_takes first (start-calm (next_id (fresh s.promises)) (record { 0 = length s.streams + 1 }) start), tt))));
+      transform-first (next_id (fresh s.promises)) (record { 0 = length s.streams + 1 }) start;
   enqueue = λ i v e o can. tt;
   enqueue_half = λ i t v e o can. tt;
   fail_half = λ t reason. tt;
@@ -111,6 +135,10 @@ call-first c s = each_call (λ (b : Begun). TakesFirst b.done.caused) c s (recor
   pipe = λ source dest prevent signal e f l m.
       no_takes _ (begins-calm (record { 0 = length s.pipes }) (next_id s.promises) (next_id (fresh (fresh s.promises))) signal (calls.reason_of signal s));
   make_signal = tt;
+  open_end = λ side. end-first side _;
+  send_readable = λ source there free. (tt, (tt, (tt, tt)));
+  send_writable = λ dest there free. (tt, (tt, (tt, tt)));
+  deliver = λ c m asked has. tt;
   trigger = λ a reason. tt;
   settle = λ h answer q e. tt;
 })
@@ -174,6 +202,10 @@ call-told c s = each_call (λ (b : Begun). Each (IsToldBytes b.done.slots) b.don
   pipe = λ source dest prevent signal e f l m.
       (tt, (tt, (tt, told_all (calls.pipe_to source dest prevent signal s).done.slots _ (no_takes _ (begins-calm (record { 0 = length s.pipes }) (next_id s.promises) (next_id (fresh (fresh s.promises))) signal (calls.reason_of signal s))))));
   make_signal = tt;
+  open_end = λ side. told_all (calls.open_end side (record { 0 = length s.streams }) s).done.slots (calls.start_end (record { 0 = length s.streams }) side ∷ []) (calm_takes (calls.start_end (record { 0 = length s.streams }) side) (end-calm side (record { 0 = length s.streams })), tt);
+  send_readable = λ source there free. (tt, (tt, (tt, (tt, (tt, (tt, (tt, tt)))))));
+  send_writable = λ dest there free. (tt, (tt, (tt, (tt, (tt, (tt, (tt, tt)))))));
+  deliver = λ c m asked has. (tt, tt);
   trigger = λ a reason. (tt, tt);
   settle = λ h answer q e. (tt, tt);
 })
@@ -313,6 +345,16 @@ not_new j xs there = by (nat_eq j.0 (length xs)) refl
 
 pub before_one : (j : StreamId) (xs : List Stream) (x : Stream) → is_readable_stream (slice_get xs j.0) ≡ true → slice_get (xs ++ x ∷ []) j.0 ≡ slice_get xs j.0
 before_one j xs x there = place_before xs x j.0 (unequal_numbers j.0 (length xs) (not_new j xs there))
+
+-- and so does each that is there
+
+pub source-stays : (o : Option Stream) (xs : List Stream) (x : Stream) (n : ℕ) → slice_get xs n ≡ o → (is_readable_stream o || is_byte_stream o) ≡ true → slice_get (xs ++ x ∷ []) n ≡ slice_get xs n
+source-stays None xs x n is there = cc
+source-stays (Some y) xs x n is there = get-stays xs (x ∷ []) n y is ∙ sym is
+
+pub writable-stays : (o : Option Stream) (xs : List Stream) (x : Stream) (n : ℕ) → slice_get xs n ≡ o → is_writable_stream o ≡ true → slice_get (xs ++ x ∷ []) n ≡ slice_get xs n
+writable-stays None xs x n is there = cc
+writable-stays (Some y) xs x n is there = get-stays xs (x ∷ []) n y is ∙ sym is
 
 module _ (i : StreamId) where
   get_reader-balanced : (d : Side) (j : StreamId) (s : Slots) → is_some (source_at j s).reader ≡ false → Balanced d i s [] → Balanced d i (calls.get_reader j s).done.slots (calls.get_reader j s).done.caused
@@ -471,6 +513,54 @@ module _ (i : StreamId) where
           let both : Slots = add_stream (ReadableStream (readable.set_up (BranchOf me Second) 1 Count)) (add_stream (ReadableStream (readable.set_up (BranchOf me First) 1 Count)) s) in
           enters Writing i both two (calls.make_tee source j l s).done.slots (calls.make_tee source j l s).done.caused false (omega (arith, n, m)) refl refl refl (λ e. absurd (cc))
 
+  -- a port, and its stream, which is new
+
+  with_start : (d : Side) (side : PortSide) (j : StreamId) (z : Slots) (es : List Effect) → Balanced d i z es → Balanced d i z (calls.start_end j side ∷ es)
+  with_start d side j z es k =
+      let calm = end-calm side j in
+      let t = takes_none d i (calls.start_end j side) (calm_takes (calls.start_end j side) calm) in
+      let g = goes_none d i (calls.start_end j side) calm in
+      let even = k.even in
+      let few = k.few in
+      record { even = omega (arith, t, g, even); few = omega (arith, g, few) }
+
+  port-balanced : (d : Side) (side : PortSide) (s : Slots) → Balanced d i s [] → Balanced d i (calls.add_port (record { 0 = length s.streams }) s side) []
+  port-balanced d ReadableSide s k =
+      let me : PortId = record { 0 = length s.ports } in
+      let one = made d i s k (ReadableStream (readable.set_up (EndOf me) 0 Count)) [] (new_readable d (EndOf me) 0 Count) tt in
+      record { even = one.even; few = one.few }
+  port-balanced d WritableSide s k =
+      let me : PortId = record { 0 = length s.ports } in
+      let one = made d i s k (WritableStream (writable.set_up (EndOf me) 1 Count)) [] (new_writable d (EndOf me) 1 Count) tt in
+      record { even = one.even; few = one.few }
+
+  open-balanced : (d : Side) (side : PortSide) (s : Slots) → Balanced d i s [] → let b : Begun = calls.open_end side (record { 0 = length s.streams }) s in Balanced d i b.done.slots b.done.caused
+  open-balanced d side s k = with_start d side (record { 0 = length s.streams }) (calls.add_port (record { 0 = length s.streams }) s side) [] (port-balanced d side s k)
+
+  -- and a pipe takes it, with a stream that was there
+
+  send_readable-balanced : (d : Side) (source : StreamId) (s : Slots) → has_source source s ≡ true → is_some (source_at source s).reader ≡ false → Balanced d i s []
+      → let b : Begun = calls.send_readable source (record { 0 = length s.streams }) s in Balanced d i b.done.slots b.done.caused
+  send_readable-balanced d source s there free k =
+      let j : StreamId = record { 0 = length s.streams } in
+      let me : PortId = record { 0 = length s.ports } in
+      let w : Stream = WritableStream (writable.set_up (EndOf me) 1 Count) in
+      let z : Slots = calls.add_port j s WritableSide in
+      let here : slice_get z.streams source.0 ≡ slice_get s.streams source.0 = source-stays (slice_get s.streams source.0) s.streams w source.0 refl there in
+      let new : slice_get z.streams j.0 ≡ Some w = place_last s.streams w in
+      with_start d WritableSide j _ _ (pipe-balanced d source j calls.no_prevent None z (rw here free) (rw new refl) (rw new refl) (port-balanced d WritableSide s k))
+
+  send_writable-balanced : (d : Side) (dest : StreamId) (s : Slots) → has_writable dest s ≡ true → is_some (writable_at dest s).writer ≡ false → Balanced d i s []
+      → let b : Begun = calls.send_writable dest (record { 0 = length s.streams }) s in Balanced d i b.done.slots b.done.caused
+  send_writable-balanced d dest s there free k =
+      let j : StreamId = record { 0 = length s.streams } in
+      let me : PortId = record { 0 = length s.ports } in
+      let r : Stream = ReadableStream (readable.set_up (EndOf me) 0 Count) in
+      let z : Slots = calls.add_port j s ReadableSide in
+      let here : slice_get z.streams dest.0 ≡ slice_get s.streams dest.0 = writable-stays (slice_get s.streams dest.0) s.streams r dest.0 refl there in
+      let new : slice_get z.streams j.0 ≡ Some r = place_last s.streams r in
+      with_start d ReadableSide j _ _ (pipe-balanced d j dest calls.no_prevent None z (rw new refl) (rw here there) (rw here free) (port-balanced d ReadableSide s k))
+
   -- each call
 
   abbrev Now : Side → Begun → Type 0
@@ -522,6 +612,10 @@ module _ (i : StreamId) where
         fail_writable = λ j reason. inl (quiet _ _ refl refl refl refl (tt, tt));
         pipe = λ source dest prevent signal e f free writer. inl (pipe-balanced d source dest prevent signal s free f writer k);
         make_signal = inl (quiet _ _ refl refl refl refl tt);
+        open_end = λ side. inl (open-balanced d side s k);
+        send_readable = λ source there free. inl (send_readable-balanced d source s there free k);
+        send_writable = λ dest there free. inl (send_writable-balanced d dest s there free k);
+        deliver = λ c m asked has. inl (quiet _ _ refl refl refl refl (tt, tt));
         trigger = λ a reason. inl (quiet _ _ refl refl refl refl (tt, tt));
         settle = λ h answer q e. inl (quiet _ _ refl refl refl refl (tt, tt));
       })

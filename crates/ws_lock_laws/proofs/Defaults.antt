@@ -1,4 +1,8 @@
 -- The source of each tee has a default controller, over every run.
+use Rattle.ws_steps.specs.declared.port.Side.{Side as PortSide}
+use Rattle.std.proofs.Common.{length}
+use Rattle.ws_steps.specs.declared.port.Side.TheVariants.{Readable as ReadableSide, Writable as WritableSide}
+use Rattle.ws_steps.specs.Calls as calls
 use Rattle.std.proofs.Common.{◌≡◌, ℕ, zero, suc, ◌⊎◌, inl, inr, ⊎_elim, true, List, [], ◌∷◌, ◌++◌, map, Option, Some, None, slice_get, refl, ap, subst}
 use Rattle.ws_steps.specs.declared.calls.Call.{Call}
 use Rattle.ws_steps.specs.declared.effects.Effect.{Effect}
@@ -57,6 +61,10 @@ tee-more : (xs : List Stream) (ts : List tee.Slots) (y : tee.Slots) → is_reada
 tee-more xs ts y there h t x is =
     ⊎_elim (h t x) (λ same. subst (λ (z : tee.Slots). is_readable_stream (slice_get xs z.source.0) ≡ true) same there) (last-or ts y x t is)
 
+port-defaults : (s : Slots) (side : PortSide) → Defaulted s [] → Defaulted (calls.open_end side (record { 0 = length s.streams }) s).done.slots []
+port-defaults s ReadableSide h = one-more s.streams s.tees _ h
+port-defaults s WritableSide h = one-more s.streams s.tees _ h
+
 call-defaults : (c : Call) (s : Slots) → Defaulted s [] → Defaulted (begin c s).done.slots []
 call-defaults c s h = each_call (λ (b : Begun). ReadDefaults b.done.slots.streams b.done.slots.tees) c s (record {
   unchanged = λ reply. h;
@@ -91,6 +99,10 @@ call-defaults c s h = each_call (λ (b : Begun). ReadDefaults b.done.slots.strea
   terminate = λ t. h;
   pipe = λ source dest prevent signal e f l m. h;
   make_signal = h;
+  open_end = λ side. port-defaults s side h;
+  send_readable = λ source there free. one-more s.streams s.tees _ h;
+  send_writable = λ dest there free. one-more s.streams s.tees _ h;
+  deliver = λ c m asked has. h;
   trigger = λ a reason. h;
   settle = λ a answer p e. h;
 })

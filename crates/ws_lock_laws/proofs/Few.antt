@@ -1,4 +1,10 @@
 -- There are no more streams than a realm may have, over every run.
+use Rattle.ws_steps.specs.declared.port.Side.{Side as PortSide}
+use Rattle.ws_steps.specs.declared.port.Side.TheVariants.{Readable as ReadableSide, Writable as WritableSide}
+use Rattle.ws_steps.specs.WritableLooks as writable_looks
+use Rattle.ws_steps.specs.Slots.{writable_at}
+use Rattle.ws_steps.specs.Calls as calls
+use Rattle.ws_steps.specs.declared.calls.Call.TheVariants.{Send, Open}
 use Rattle.std.proofs.Common.{◌≡◌, ℕ, zero, suc, ◌+◌, ◌≤◌, Bool, true, false, nat_lt, nat_eq, List, [], ◌∷◌, ◌++◌, length, map, slice_get, refl, sym, ap, ◌∙◌, arith}
 use Rattle.ws_value.specs.declared.ids.StreamId.{StreamId}
 use Rattle.ws_steps.specs.declared.calls.Call.{Call}
@@ -46,6 +52,8 @@ module _ (s : Slots) (few : length s.streams ≤ most_streams) where
   IsNoMake (MakeWritable mark size start) = ⊥
   IsNoMake (MakeTransform kind m n start) = ⊥
   IsNoMake (Tee i) = ⊥
+  IsNoMake (Send i) = ⊥
+  IsNoMake (Open side) = ⊥
   IsNoMake _ = Unit {0}
 
   still : (c : Call) → IsNoMake c → (begin c s).done.slots.streams ≡ s.streams
@@ -61,6 +69,23 @@ module _ (s : Slots) (few : length s.streams ≤ most_streams) where
       (λ f. either IsFew (is_teed i s) _ _ (λ g. few)
       (λ g. either IsFew (nat_lt (length s.streams + 1) most_streams) _ _ (λ k. room-two most_streams s.streams _ _ k) (λ k. few))))) (λ h. few)
 
+  send-few : (i : StreamId) → IsFew (begin (Send i) s)
+  unfolding begin
+  send-few i =
+      either IsFew (has_source i s) _ _
+      (λ h. either IsFew (has_source i s) _ _
+      (λ e. either IsFew (is_locked (source_at i s)) _ _ (λ f. few)
+      (λ f. either IsFew (nat_lt (length s.streams) most_streams) _ _ (λ k. room-one most_streams s.streams _ k) (λ k. few)))
+      (λ e. few))
+      (λ h. either IsFew (has_writable i s) _ _
+      (λ e. either IsFew (writable_looks.is_locked (writable_at i s)) _ _ (λ f. few)
+      (λ f. either IsFew (nat_lt (length s.streams) most_streams) _ _ (λ k. room-one most_streams s.streams _ k) (λ k. few)))
+      (λ e. few))
+
+  open-few : (side : PortSide) → nat_lt (length s.streams) most_streams ≡ true → IsFew (calls.open_end side (record { 0 = length s.streams }) s)
+  open-few ReadableSide k = room-one most_streams s.streams _ k
+  open-few WritableSide k = room-one most_streams s.streams _ k
+
   pub call-few : (c : Call) → IsFew (begin c s)
   unfolding begin
   call-few (MakeReadable mark size start) = either IsFew (nat_lt (length s.streams) most_streams) _ _ (λ e. room-one most_streams s.streams _ e) (λ e. few)
@@ -68,6 +93,8 @@ module _ (s : Slots) (few : length s.streams ≤ most_streams) where
   call-few (MakeWritable mark size start) = either IsFew (nat_lt (length s.streams) most_streams) _ _ (λ e. room-one most_streams s.streams _ e) (λ e. few)
   call-few (MakeTransform kind m n start) = either IsFew (nat_lt (length s.streams + 1) most_streams) _ _ (λ e. room-two most_streams s.streams _ _ e) (λ e. few)
   call-few (Tee i) = tee-few i
+  call-few (Send i) = send-few i
+  call-few (Open side) = either IsFew (nat_lt (length s.streams) most_streams) _ _ (λ e. open-few side e) (λ e. few)
   call-few c = rw (ap length (still c tt)) few
 
 pub row-few : (e : Effect) (s : Slots) → length s.streams ≤ most_streams → length (row e s).slots.streams ≤ most_streams
@@ -106,3 +133,8 @@ other_than m xs n few e = let l = within xs n e in other_number n m (nat_eq n m)
 
 pub not-no_stream : (entries : List Entry) (i : StreamId) → has_writable i (run entries empty) ≡ true → is_same i no_stream ≡ false
 not-no_stream entries i there = other_than most_streams (run entries empty).streams i.0 (run-few entries) there
+
+-- nor has a new stream
+
+pub new_other : (n m : ℕ) → nat_lt n m ≡ true → nat_eq n m ≡ false
+new_other n m less = let e : n + 1 ≤ m = grind arith in other_number n m (nat_eq n m) refl e

@@ -1,4 +1,7 @@
 -- The kind of the reader of a byte stream as calls begin.
+use Rattle.ws_steps.specs.declared.port.Side.{Side as PortSide}
+use Rattle.ws_steps.specs.declared.port.Side.TheVariants.{Readable as ReadableSide, Writable as WritableSide}
+use Rattle.ws_steps.specs.Slots.{has_source}
 use Rattle.std.proofs.Common.{◌≡◌, ℕ, ◌+◌, ◌≤◌, Bool, true, false, nat_eq, is_some, List, [], ◌∷◌, ◌++◌, length, Option, Some, None, slice_get, refl, sym, ap, arith, ◌∙◌}
 use Rattle.ws_value.specs.declared.{ids.LockId.{LockId}, ids.PipeId.{PipeId}, ids.PromiseId.{PromiseId}, ids.SignalId.{SignalId}, ids.StreamId.{StreamId}}
 use Rattle.ws_steps.specs.declared.calls.{Call.{Call}, StartBy.{StartBy}}
@@ -29,11 +32,11 @@ use Rattle.ws_lock_laws.proofs.Holding.{pipes-append}
 use Rattle.ws_lock_laws.proofs.ReaderKinds.{has_default, has_byob, count_locks, count-append, count-set, defaults, byobs, takes_default, takes_byob, default_none-all, byob_none-all, byte_look, KindHeld, OfKind, fewer}
 use Rattle.ws_value.specs.declared.ids.TeeId.{TeeId}
 use Rattle.ws_steps.specs.declared.tee.Half.TheVariants.{First, Second}
-use Rattle.ws_steps.specs.declared.effects.Owner.TheVariants.{BranchOf}
+use Rattle.ws_steps.specs.declared.effects.Owner.TheVariants.{BranchOf, EndOf}
 use Rattle.ws_steps.specs.Tee as tee
 use Rattle.ws_steps.specs.Slots.{has_readable}
 use Rattle.ws_lock_laws.proofs.Holding.{tees-append}
-use Rattle.ws_lock_laws.proofs.Begins.{before_one}
+use Rattle.ws_lock_laws.proofs.Begins.{before_one, end-calm, source-stays}
 
 -- a stream that isn't locked may be had by any
 free-held : (o : Option Stream) (m n x y : ℕ) → has_lock Reading o ≡ false → KindHeld (byte_look o) m n → KindHeld (byte_look o) x y
@@ -175,6 +178,45 @@ teed i s k source j l there free =
     let p = tees-append Reading i s.tees new in
     default-enters i both two (calls.make_tee source j l s).done.slots (calls.make_tee source j l s).done.caused (is_same i source) (omega (arith, n)) (omega (arith, m, p)) refl (omega arith) refl (unlocked i both two source open_)
 
+-- a port, and its stream, which is new
+
+started : (i : StreamId) (side : PortSide) (j : StreamId) (z : Slots) (es : List Effect) → OfKind i z es → OfKind i z (calls.start_end j side ∷ es)
+started i side j z es k =
+    let first : List Effect = calls.start_end j side ∷ [] in
+    let none : Each IsNoTake first = (calm_takes (calls.start_end j side) (end-calm side j), tt) in
+    let d = default_none-all i first none in
+    let b = byob_none-all i first none in
+    let m = k.default_taken in
+    let n = k.byob_taken in
+    record { default_taken = omega (arith, d, m); byob_taken = omega (arith, b, n); kind = k.kind }
+
+ported : (i : StreamId) (s : Slots) → OfKind i s [] → (side : PortSide) → OfKind i (calls.add_port (record { 0 = length s.streams }) s side) []
+ported i s k ReadableSide =
+    let one = made i s k (ReadableStream (readable.set_up (EndOf (record { 0 = length s.ports })) 0 Count)) [] (λ m n. tt) tt in
+    record { default_taken = one.default_taken; byob_taken = one.byob_taken; kind = one.kind }
+ported i s k WritableSide =
+    let one = made i s k (WritableStream (writable.set_up (EndOf (record { 0 = length s.ports })) 1 Count)) [] (λ m n. tt) tt in
+    record { default_taken = one.default_taken; byob_taken = one.byob_taken; kind = one.kind }
+
+-- and a pipe takes it, with a stream that was there
+
+sent_readable : (i : StreamId) (s : Slots) → OfKind i s [] → (source : StreamId) → has_source source s ≡ true → is_some (source_at source s).reader ≡ false
+    → let b : Begun = calls.send_readable source (record { 0 = length s.streams }) s in OfKind i b.done.slots b.done.caused
+sent_readable i s k source there free =
+    let j : StreamId = record { 0 = length s.streams } in
+    let w : Stream = WritableStream (writable.set_up (EndOf (record { 0 = length s.ports })) 1 Count) in
+    let z : Slots = calls.add_port j s WritableSide in
+    let here : slice_get z.streams source.0 ≡ slice_get s.streams source.0 = source-stays (slice_get s.streams source.0) s.streams w source.0 refl there in
+    started i WritableSide j _ _ (piped i z (ported i s k WritableSide) source j calls.no_prevent None (rw here free))
+
+sent_writable : (i : StreamId) (s : Slots) → OfKind i s [] → (dest : StreamId) → let b : Begun = calls.send_writable dest (record { 0 = length s.streams }) s in OfKind i b.done.slots b.done.caused
+sent_writable i s k dest =
+    let j : StreamId = record { 0 = length s.streams } in
+    let r : Stream = ReadableStream (readable.set_up (EndOf (record { 0 = length s.ports })) 0 Count) in
+    let z : Slots = calls.add_port j s ReadableSide in
+    let new : slice_get z.streams j.0 ≡ Some r = place_last s.streams r in
+    started i ReadableSide j _ _ (piped i z (ported i s k ReadableSide) j dest calls.no_prevent None (rw new refl))
+
 pub call-kind : (i : StreamId) (c : Call) (s : Slots) → OfKind i s [] → OfKind i (begin c s).done.slots (begin c s).done.caused
 call-kind i c s k =
     let still : (z : Slots) (es : List Effect) → z.locks ≡ s.locks → z.pipes ≡ s.pipes → z.tees ≡ s.tees → z.streams ≡ s.streams → Each IsNoTake es → OfKind i z es = quiet i s k in
@@ -222,6 +264,10 @@ call-kind i c s k =
       terminate = λ t. still _ _ refl refl refl refl (tt, tt);
       pipe = λ source dest prevent signal e f free writer. piped i s k source dest prevent signal free;
       make_signal = still _ _ refl refl refl refl tt;
+      open_end = λ side. started i side (record { 0 = length s.streams }) _ [] (ported i s k side);
+      send_readable = λ source there free. sent_readable i s k source there free;
+      send_writable = λ dest there free. sent_writable i s k dest;
+      deliver = λ c m asked has. still _ _ refl refl refl refl (tt, tt);
       trigger = λ a reason. still _ _ refl refl refl refl (tt, tt);
       settle = λ h answer q e. still _ _ refl refl refl refl (tt, tt);
     })

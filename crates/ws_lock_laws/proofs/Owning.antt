@@ -1,4 +1,10 @@
 -- A pipe that isn't over has both its ends, and no call of the host has to do with them.
+use Rattle.ws_steps.specs.declared.port.Side.{Side as PortSide}
+use Rattle.ws_steps.specs.declared.port.Side.TheVariants.{Readable as ReadableSide, Writable as WritableSide}
+use Rattle.ws_laws.proofs.Tables.{no_stream}
+use Rattle.ws_steps.specs.declared.calls.Call.TheVariants.{Send, Open}
+use Rattle.ws_steps.specs.Slots.{most_streams}
+use Rattle.std.proofs.Common.{nat_lt}
 use Rattle.std.proofs.Common.{◌≡◌, ◌≢◌, ℕ, ◌+◌, ◌*◌, ◌≤◌, Bool, true, false, not, ◌&&◌, nat_eq, is_some, List, [], ◌∷◌, ◌++◌, length, Option, Some, None, slice_get, refl, sym, ap, ◌∙◌, arith}
 use Rattle.ws_value.specs.declared.{ids.LockId.{LockId}, ids.PipeId.{PipeId}, ids.PromiseId.{PromiseId}, ids.SignalId.{SignalId}, ids.StreamId.{StreamId}, value.Plain.{Plain}}
 use Rattle.ws_steps.specs.declared.byte.ByteOperation.{ByteOperation}
@@ -78,7 +84,8 @@ module _ (source dest : StreamId) where
       (no_reader : (l : LockId) (closed : PromiseId) → lock_at l s ≢ Some (Reader (Some source) closed))
       (no_byob_reader : (l : LockId) (closed : PromiseId) → lock_at l s ≢ Some (ByobReader (Some source) closed))
       (free_dest : (i : StreamId) → has_writable i s ≡ true → is_some (writable_at i s).writer ≡ false → is_same i dest ≡ false)
-      (write_apart : (l : LockId) (i : StreamId) → has_writable i s ≡ true → lock_at l s ≡ Some (WriterLock i) → is_same i dest ≡ false) where
+      (write_apart : (l : LockId) (i : StreamId) → has_writable i s ≡ true → lock_at l s ≡ Some (WriterLock i) → is_same i dest ≡ false)
+      (new_dest : nat_lt (length s.streams) most_streams ≡ true → is_same (record { 0 = length s.streams }) dest ≡ false) where
     free_source : (i : StreamId) (same : Bool) → same ≡ is_same i source → is_some (source_at i s).reader ≡ false → is_same i source ≡ false
     free_source i false n e = sym n
     free_source i true n e =
@@ -199,6 +206,38 @@ module _ (source dest : StreamId) where
         by None there = unlocked there
         by (Some a) there = either Spares (has_signal a s) _ _ (λ e. unlocked there) (λ e. refl)
 
+    -- a new stream isn't the source, which is there
+    new_source : (same : Bool) → same ≡ is_same (record { 0 = length s.streams }) source → is_same (record { 0 = length s.streams }) source ≡ false
+    new_source false n = sym n
+    new_source true n =
+        let j : StreamId = record { 0 = length s.streams } in
+        let none : is_locked Reading source s ≡ false = rw (← same_id j source (sym n), no_stream j s.streams refl) refl in
+        false_true (is_locked Reading source s) source_locked none
+
+    opens : (side : PortSide) → all_spare source dest (calls.start_end (record { 0 = length s.streams }) side ∷ []) ≡ true
+    opens ReadableSide = refl
+    opens WritableSide = refl
+
+    sends_readable : (i : StreamId) → is_same i source ≡ false → nat_lt (length s.streams) most_streams ≡ true → Spares (calls.send_readable i (record { 0 = length s.streams }) s)
+    sends_readable i n room =
+        let m = new_dest room in
+        let last = begins-spares (record { 0 = length s.pipes }) (next_id (fresh s.promises)) (next_id (fresh (fresh (fresh s.promises)))) None None in
+        rw (n, m, last) refl
+
+    sends_writable : (i : StreamId) → is_same i dest ≡ false → Spares (calls.send_writable i (record { 0 = length s.streams }) s)
+    sends_writable i m =
+        let n = new_source (is_same (record { 0 = length s.streams }) source) refl in
+        let last = begins-spares (record { 0 = length s.pipes }) (next_id s.promises) (next_id (fresh (fresh s.promises))) None None in
+        rw (n, m, last) refl
+
+    sends : (i : StreamId) → Spares (calls.send i s)
+    sends i =
+        either Spares (has_source i s) _ _
+        (λ h. free_readable i calls.throws_data_clone (λ from. calls.make_stream (calls.send_readable from)) refl
+        (λ n. either Spares (nat_lt (length s.streams) most_streams) _ _ (λ room. sends_readable i n room) (λ e. refl)))
+        (λ h. free_writable i calls.throws_data_clone (λ to. calls.make_stream (calls.send_writable to)) refl
+        (λ n. either Spares (nat_lt (length s.streams) most_streams) _ _ (λ room. sends_writable i n) (λ e. refl)))
+
     reads_into : (l : LockId) (room : List ℕ) (element least : ℕ) → Spares (calls.read_into_by room element least s (lock_at l s))
     reads_into l room element least =
         either Spares (not (calls.is_view (length room) element && nat_eq least 1)) (calls.unsupported s) _ (λ h. refl)
@@ -222,6 +261,8 @@ module _ (source dest : StreamId) where
     IsApart (AbortBy l reason) = ⊥
     IsApart (Release l) = ⊥
     IsApart (Pipe from to prevent signal) = ⊥
+    IsApart (Send i) = ⊥
+    IsApart (Open side) = ⊥
     IsApart _ = Unit {0}
 
     apart : (c : Call) → IsApart c → Spares (begin c s)
@@ -247,6 +288,8 @@ module _ (source dest : StreamId) where
     each_call (AbortBy l reason) = with_writer (calls.abort reason) calls.rejected l (lock_at l s) refl (λ i n. aborts reason i (writable.answered_abort (writable_at i s)) n) refl
     each_call (Release l) = releases l (lock_at l s) refl
     each_call (Pipe from to prevent signal) = pipes from to prevent signal
+    each_call (Send i) = sends i
+    each_call (Open side) = either Spares (nat_lt (length s.streams) most_streams) _ _ (λ e. opens side) (λ e. refl)
     each_call c = apart c tt
 
 -- of a pipe that isn't over
@@ -256,6 +299,13 @@ free_dest dest s locked i false n e = sym n
 free_dest dest s locked i true n e =
     let free : is_some (writable_at dest s).writer ≡ false = rw (← same_id i dest (sym n)) e in
     false_true (is_locked Writing dest s) locked (locked_writer (slice_get s.streams dest.0) free)
+
+new_dest : (dest : StreamId) (s : Slots) → is_locked Writing dest s ≡ true → (same : Bool) → same ≡ is_same (record { 0 = length s.streams }) dest → is_same (record { 0 = length s.streams }) dest ≡ false
+new_dest dest s locked false n = sym n
+new_dest dest s locked true n =
+    let j : StreamId = record { 0 = length s.streams } in
+    let none : is_locked Writing dest s ≡ false = rw (← same_id j dest (sym n), no_stream j s.streams refl) refl in
+    false_true (is_locked Writing dest s) locked none
 
 write_apart : (dest : StreamId) (s : Slots) → ((l : LockId) → lock_at l s ≢ Some (WriterLock dest)) → (l : LockId) (i : StreamId) (same : Bool) → same ≡ is_same i dest → lock_at l s ≡ Some (WriterLock i) → is_same i dest ≡ false
 write_apart dest s no_writer l i false n e = sym n
@@ -294,7 +344,8 @@ owned entries p x e over =
       no_byob_reader = no_byob_reader;
       no_writer = no_writer;
       calls = each_call x.source x.dest s source.0 no_reader no_byob_reader
-          (λ i there e. free_dest x.dest s dest.0 i (is_same i x.dest) refl e) (λ l i there e. write_apart x.dest s no_writer l i (is_same i x.dest) refl e);
+          (λ i there e. free_dest x.dest s dest.0 i (is_same i x.dest) refl e) (λ l i there e. write_apart x.dest s no_writer l i (is_same i x.dest) refl e)
+          (λ room. new_dest x.dest s dest.0 (is_same (record { 0 = length s.streams }) x.dest) refl);
     }
 
 pub each_pipe_owns_its_ends : EachPipeOwnsItsEnds

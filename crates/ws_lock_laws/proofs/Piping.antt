@@ -1,5 +1,7 @@
 -- An operation of a pipe takes no lock, and lets go of those of its ends where it is over.
 use Rattle.std.proofs.Common.{◌≡◌, ◌+◌, Bool, true, false, List, [], ◌∷◌, Option, Some, None, Result, refl, sym, ap, ◌∙◌, arith}
+use Rattle.ws_laws.proofs.PortDoes.{PortCauses}
+use Rattle.ws_value.specs.declared.ids.PortId.{PortId}
 use Rattle.ws_value.specs.declared.{ids.PipeId.{PipeId}, ids.PromiseId.{PromiseId}, ids.SignalId.{SignalId}, ids.StreamId.{StreamId}, value.Plain.{Plain}}
 use Rattle.ws_steps.specs.declared.effects.{Effect.{Effect}, Effect.TheVariants.{Settle}}
 use Rattle.ws_steps.specs.declared.pipes.{Action.{Action}, Action.TheVariants.{AbortDest, CancelSource, CloseDest, BySignal}, Ends.{Ends}, Phase.{Phase}}
@@ -35,6 +37,9 @@ transform_calm me writable readable e c = grind (arith, c)
 -- and so a tee
 pub tee_calm : (me : TeeId) (source first second : StreamId) (e : Effect) → TeeCauses me source first second e → IsCalm e
 tee_calm me source first second e c = grind (arith, c)
+
+pub port_calm : (me : PortId) (stream : StreamId) (e : Effect) → PortCauses me stream e → IsCalm e
+port_calm me stream e c = grind (arith, c)
 
 -- an action lets go of none
 

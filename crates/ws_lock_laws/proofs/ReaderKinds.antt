@@ -291,5 +291,5 @@ row-kind i s (OnWritable j operation) es t w b m k =
     kept i s (row e s).slots e es (row e s).caused (row-locks e s) (row-pipes e s tt) (row-in_tees Reading i e s) (row-causes IsNoTake e s (take-causes e))
     (rw (on_writable-look byte_look (λ b c. refl) (writable_operation j operation) j s i (is_same i j) refl) k.kind) k
 row-kind i s (OnPipe p operation) es t w b m k =
-    pipe-kept i s p operation es (slice_get s.pipes p.0) refl (takes_behind (OnPipe p operation) es tt t) w k (row-causes IsNoTake (OnPipe p operation) s (take-causes (OnPipe p operation)))
+    pipe-kept i s p operation es (slice_get s.pipes p.0) refl (takes_behind (OnPipe p operation) es tt tt t) w k (row-causes IsNoTake (OnPipe p operation) s (take-causes (OnPipe p operation)))
 row-kind i s e es t w b m k = apart-kept i s e es tt tt k

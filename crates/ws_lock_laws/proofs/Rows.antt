@@ -1,4 +1,8 @@
 -- The holders of the lock of a stream are as many as its lock says, where what stands on the agenda is counted: each effect keeps that.
+use Rattle.ws_steps.specs.declared.effects.Effect.TheVariants.{StartAlgorithm, Give}
+use Rattle.ws_laws.proofs.PortDoes.{PortCauses}
+use Rattle.ws_value.specs.declared.ids.PortId.{PortId}
+use Rattle.ws_steps.specs.declared.calls.StartBy.TheVariants.{Now, Later}
 use Rattle.std.proofs.Common.{◌≡◌, ℕ, ◌+◌, ◌≤◌, Bool, true, false, if◌then◌else◌, ◌||◌, is_some, List, [], ◌∷◌, ◌++◌, Option, Some, None, Result, slice_get, refl, sym, ap, subst, ◌∙◌, arith}
 use Rattle.ws_value.specs.declared.{ids.PipeId.{PipeId}, ids.PromiseId.{PromiseId}, ids.StreamId.{StreamId}, value.Plain.{Plain}}
 use Rattle.ws_steps.specs.declared.byte.ByteOperation.{ByteOperation}
@@ -37,7 +41,7 @@ use Rattle.ws_lock_laws.specs.Locks.{Side, Reading, Writing, has_lock, holders, 
 use Rattle.ws_lock_laws.proofs.Agenda.{takes, goes, reader_takes, byob_takes, reader_goes, writer_takes, writer_goes, IsNoTake, IsCalm, calm_takes, takes_none-all, goes_none-all, TakesFirst, takes_first, takes_behind}
 use Rattle.ws_lock_laws.proofs.ByteReaders.{byte_readable-reader, byte-reader, has_after_bytes}
 use Rattle.ws_lock_laws.proofs.Holding.{pipes-set, row-in_tees}
-use Rattle.ws_lock_laws.proofs.Piping.{pipe_takes, transform_calm, tee_calm, operation-goes}
+use Rattle.ws_lock_laws.proofs.Piping.{pipe_takes, transform_calm, tee_calm, port_calm, operation-goes}
 use Rattle.ws_lock_laws.proofs.Writers.{has_writer, operation-writer}
 use Rattle.ws_value.specs.declared.ids.TeeId.{TeeId}
 use Rattle.ws_laws.proofs.TeeDoes.{TeeCauses}
@@ -50,13 +54,16 @@ transform_takes me writable readable e c = calm_takes e (transform_calm me writa
 tee_takes : (me : TeeId) (source first second : StreamId) (e : Effect) → TeeCauses me source first second e → IsNoTake e
 tee_takes me source first second e c = calm_takes e (tee_calm me source first second e c)
 
+port_takes : (me : PortId) (stream : StreamId) (e : Effect) → PortCauses me stream e → IsNoTake e
+port_takes me stream e c = calm_takes e (port_calm me stream e c)
+
 -- none takes a lock
 pub take-causes : (e : Effect) → Causes IsNoTake e
-take-causes e = grind (arith, pipe_takes, transform_takes, tee_takes)
+take-causes e = grind (arith, pipe_takes, transform_takes, tee_takes, port_takes)
 
 -- and but for operations of pipes none lets go of one
 calm-causes : (e : Effect) → IsNoPipe e → Causes IsCalm e
-calm-causes e n = grind (arith, n, transform_calm, tee_calm)
+calm-causes e n = grind (arith, n, transform_calm, tee_calm, port_calm)
 
 -- those that take a lock cause nothing
 
@@ -85,10 +92,14 @@ sets_up j w s = grind arith
 -- so these stand first
 
 pub first-row : (s : Slots) (e : Effect) (es : List Effect) → TakesFirst (e ∷ es) → TakesFirst ((row e s).caused ++ es)
+unfolding row
 first-row s (OnReadable j (InitializeReader closed)) es t = rw (initializes j closed s) t
 first-row s (Byte j (InitializeByobReader closed)) es t = rw (byob-initializes j closed s) t
 first-row s (OnWritable j (SetUpWriter w)) es t = rw (sets_up j w s) t
-first-row s e es t = takes_first ((row e s).caused ++ es) (each-append IsNoTake (row e s).caused es (row-causes IsNoTake e s (take-causes e)) (takes_behind e es tt t))
+first-row s (StartAlgorithm j step Now) es t = t
+first-row s (StartAlgorithm j step Later) es t = (tt, t)
+first-row s (Give gift u) es t = t
+first-row s e es t = takes_first ((row e s).caused ++ es) (each-append IsNoTake (row e s).caused es (row-causes IsNoTake e s (take-causes e)) (takes_behind e es tt tt t))
 
 -- whether there is such a stream
 abbrev pub is_there : Side → Option Stream → Bool

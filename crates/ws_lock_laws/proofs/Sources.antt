@@ -1,5 +1,10 @@
 -- The reads that wait at streams over every run: none where there is no reader, and at the source of a pipe its own alone, one where it is
 -- reading.
+use Rattle.ws_steps.specs.declared.port.Side.{Side as PortSide}
+use Rattle.ws_steps.specs.Slots.{Done}
+use Rattle.ws_steps.specs.declared.port.Side.TheVariants.{Readable as ReadableSide, Writable as WritableSide}
+use Rattle.ws_lock_laws.proofs.Begins.{source-stays}
+use Rattle.ws_steps.specs.declared.effects.Owner.TheVariants.{EndOf}
 use Rattle.std.proofs.Common.{◌≡◌, ◌⊎◌, inl, inr, ⊎_elim, ℕ, zero, suc, ◌+◌, ◌≤◌, Bool, true, false, nat_eq, if◌then◌else◌, is_some, List, [], ◌∷◌, ◌++◌, length, All, Option, Some, None, slice_get, refl, sym, ap, subst, arith}
 use Rattle.std.specs.Prelude.{is_none}
 use Rattle.std.proofs.lemmas.List.Elements.{All-nil, All-cons}
@@ -123,6 +128,10 @@ abbrev IsNoInto : Call → Type 0
 IsNoInto (ReadInto l room element least) = ⊥
 IsNoInto _ = Unit {0}
 
+end-silent : (side : PortSide) (s : Slots) → let d : Done = (calls.open_end side (record { 0 = length s.streams }) s).done in ReadsFirst d.caused × Asks d.slots d.caused
+end-silent ReadableSide s = (tt, tt)
+end-silent WritableSide s = (tt, tt)
+
 other-asks : (c : Call) (s : Slots) → IsNoInto c → ((i : StreamId) → Balanced Reading i s []) → ReadsFirst (begin c s).done.caused × Asks (begin c s).done.slots (begin c s).done.caused
 other-asks c s other k = each_call (λ (b : Begun). ReadsFirst b.done.caused × Asks b.done.slots b.done.caused) c s (record {
   unchanged = λ reply. (tt, tt);
@@ -167,6 +176,12 @@ other-asks c s other k = each_call (λ (b : Begun). ReadsFirst b.done.caused × 
   pipe = λ source dest prevent signal e f l m.
       ((tt, (tt, begins-silent (record { 0 = length s.pipes }) (next_id s.promises) (next_id (fresh (fresh s.promises))) signal (calls.reason_of signal s))), tt);
   make_signal = (tt, tt);
+  open_end = λ side. end-silent side s;
+  send_readable = λ source there free.
+      ((tt, (tt, (tt, begins-silent (record { 0 = length s.pipes }) (next_id (fresh s.promises)) (next_id (fresh (fresh (fresh s.promises)))) None None))), tt);
+  send_writable = λ dest there free.
+      ((tt, (tt, (tt, begins-silent (record { 0 = length s.pipes }) (next_id s.promises) (next_id (fresh (fresh s.promises))) None None))), tt);
+  deliver = λ c m asked has. (tt, tt);
   trigger = λ a reason. (tt, tt);
   settle = λ h answer q e. (tt, tt);
 })
@@ -217,6 +232,11 @@ stream-made i x s none k = by (nat_eq i.0 (length s.streams)) refl
         let now : slice_get (s.streams ++ x ∷ []) i.0 ≡ Some x = rw (eq_numbers i.0 (length s.streams) (sym e)) (place_last s.streams x) in
         rw (now) (record { free = λ f. rw none (omega arith); own = λ p h. rw none (omega arith) })
 
+port-queued : (i : StreamId) (side : PortSide) (s : Slots) → Queued i (slice_get s.streams i.0) s.pipes
+    → let z : Slots = calls.add_port (record { 0 = length s.streams }) s side in Queued i (slice_get z.streams i.0) z.pipes
+port-queued i ReadableSide s k = stream-made i (ReadableStream (readable.set_up (EndOf (record { 0 = length s.ports })) 0 Count)) s refl k
+port-queued i WritableSide s k = stream-made i (WritableStream (writable.set_up (EndOf (record { 0 = length s.ports })) 1 Count)) s refl k
+
 call-queued : (c : Call) (s : Slots) → EachQueued s → EachQueued (begin c s).done.slots
 call-queued c s k = each_call (λ (b : Begun). EachQueued b.done.slots) c s (record {
   unchanged = λ reply. k;
@@ -258,6 +278,19 @@ call-queued c s k = each_call (λ (b : Begun). EachQueued b.done.slots) c s (rec
   fail_writable = λ i reason. k;
   pipe = λ source dest prevent signal e f free m i. pipe-made i source dest prevent signal (next_id (fresh (fresh (fresh s.promises)))) s free (k i);
   make_signal = k;
+  open_end = λ side i. port-queued i side s (k i);
+  send_readable = λ source there free i.
+      let w : Stream = WritableStream (writable.set_up (EndOf (record { 0 = length s.ports })) 1 Count) in
+      let z : Slots = calls.add_port (record { 0 = length s.streams }) s WritableSide in
+      let here : slice_get z.streams source.0 ≡ slice_get s.streams source.0 = source-stays (slice_get s.streams source.0) s.streams w source.0 refl there in
+      pipe-made i source (record { 0 = length s.streams }) calls.no_prevent None (next_id (fresh (fresh (fresh z.promises)))) z (rw here free) (port-queued i WritableSide s (k i));
+  send_writable = λ dest there free i.
+      let j : StreamId = record { 0 = length s.streams } in
+      let r : Stream = ReadableStream (readable.set_up (EndOf (record { 0 = length s.ports })) 0 Count) in
+      let z : Slots = calls.add_port j s ReadableSide in
+      let new : slice_get z.streams j.0 ≡ Some r = place_last s.streams r in
+      pipe-made i j dest calls.no_prevent None (next_id (fresh (fresh (fresh z.promises)))) z (rw new refl) (port-queued i ReadableSide s (k i));
+  deliver = λ c m asked has. k;
   trigger = λ a reason. k;
   settle = λ h answer q e. k;
 })
@@ -281,6 +314,10 @@ module _ (p : PipeId) where
   start-none : (q : PromiseId) (j : StreamId) (start : StartBy) → all (of_effect p) (calls.start_transform q j start ∷ []) ≡ 0
   start-none q j Now = refl
   start-none q j Later = refl
+
+  end-none : (side : PortSide) (j : StreamId) → all (of_effect p) (calls.start_end j side ∷ []) ≡ 0
+  end-none ReadableSide j = refl
+  end-none WritableSide j = refl
 
   call-none : (c : Call) (s : Slots) → all (of_effect p) (begin c s).done.caused ≡ 0
   call-none c s = each_call (λ (b : Begun). all (of_effect p) b.done.caused ≡ 0) c s (record {
@@ -321,6 +358,12 @@ module _ (p : PipeId) where
         let n = begins-none (record { 0 = length s.pipes }) (next_id s.promises) (next_id (fresh (fresh s.promises))) signal (calls.reason_of signal s) in
         omega (arith, n);
     make_signal = refl;
+    open_end = λ side. end-none side _;
+    send_readable = λ source there free.
+        let n = begins-none (record { 0 = length s.pipes }) (next_id (fresh s.promises)) (next_id (fresh (fresh (fresh s.promises)))) None None in omega (arith, n);
+    send_writable = λ dest there free.
+        let n = begins-none (record { 0 = length s.pipes }) (next_id s.promises) (next_id (fresh (fresh s.promises))) None None in omega (arith, n);
+    deliver = λ c m asked has. refl;
     trigger = λ a reason. refl;
     settle = λ h answer q e. refl;
   })
@@ -350,6 +393,7 @@ module _ (p : PipeId) where
         signal = λ z k. k;
         transform = λ z kind i j change k. k;
         tee = λ z source first second cancel k. k;
+        port = λ z side stream backpressure k. k;
         bytes = λ z mark auto k. stream-under z _ refl k;
         byob_requests = λ z hs k. k;
         readable = λ z owner mark size k. stream-under z _ refl k;

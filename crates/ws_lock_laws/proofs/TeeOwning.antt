@@ -1,5 +1,11 @@
 -- A tee has its source alone: each operation of a reader that stands for the source is the tee's own, and no call of the host has to do
 -- with it.
+use Rattle.ws_steps.specs.declared.port.Side.{Side as PortSide}
+use Rattle.ws_steps.specs.declared.port.Side.TheVariants.{Readable as ReadableSide, Writable as WritableSide}
+use Rattle.ws_value.specs.declared.ids.PortId.{PortId}
+use Rattle.ws_laws.proofs.PortDoes.{PortCauses}
+use Rattle.ws_lock_laws.proofs.Few.{new_other}
+use Rattle.ws_steps.specs.Calls as calls
 use Rattle.std.proofs.Common.{◌≡◌, ◌≢◌, ℕ, zero, suc, ◌+◌, ◌≤◌, Bool, true, false, ◌&&◌, nat_eq, if◌then◌else◌, is_some, List, [], ◌∷◌, ◌++◌, length, map, All, Option, Some, None, slice_get, refl, sym, ap, subst, ◌∙◌, append_assoc, arith}
 use Rattle.std.proofs.lemmas.List.Elements.{All-nil, All-cons}
 use Rattle.ws_value.specs.declared.ids.{LockId.{LockId}, PipeId.{PipeId}, PromiseId.{PromiseId}, StreamId.{StreamId}, TeeId.{TeeId}}
@@ -114,8 +120,11 @@ module _ (t : TeeId) (i : StreamId) where
   transform_fair : (me : TransformId) (writable readable : StreamId) (e : Effect) → TransformCauses me writable readable e → Fair t i e
   transform_fair me writable readable e c = grind (arith, c)
 
+  port_fair : (me : PortId) (stream : StreamId) (e : Effect) → PortCauses me stream e → Fair t i e
+  port_fair me stream e c = grind (arith, c)
+
   other-fair : (e : Effect) → IsNoPipe e → IsNoTee e → Causes (Fair t i) e
-  other-fair e n m = grind (arith, n, m, transform_fair)
+  other-fair e n m = grind (arith, n, m, transform_fair, port_fair)
 
   at : (j source : StreamId) → j ≡ source → is_same j i ≡ true → source ≡ i
   at j source e h = sym e ∙ same_id j i h
@@ -360,7 +369,7 @@ module _ (t : TeeId) where
     pub calls-spare : (c : Call) → all_spare x.source no_stream (begin c s).done.caused ≡ true
     calls-spare c =
         owning.each_call x.source no_stream s locked-now no_reader no_byob_reader
-        (λ i there free. other_than most_streams s.streams i.0 k.few there) (λ l i there lock. other_than most_streams s.streams i.0 k.few there) c
+        (λ i there free. other_than most_streams s.streams i.0 k.few there) (λ l i there lock. other_than most_streams s.streams i.0 k.few there) (λ room. new_other (length s.streams) most_streams room) c
 
   there : (o : Option Stream) → has_lock Reading o ≡ true → (y : Stream) × (o ≡ Some y)
   there None e = cc
@@ -375,6 +384,7 @@ module _ (t : TeeId) where
     signal = λ z k. k;
     transform = λ z kind a b change k. k;
     tee = λ z source first second cancel k. k;
+    port = λ z side stream backpressure k. k;
     readable = λ z owner mark size k. get-stays z.streams _ i.0 y k;
     bytes = λ z mark auto k. get-stays z.streams _ i.0 y k;
     byob_requests = λ z requests k. k;
@@ -422,6 +432,10 @@ module _ (t : TeeId) where
         let same : x.source ≡ i = ap (λ (z : TeeShape). z.source) (made-shape s.tees y t.0 x now none) in
         rw same ((tt, (tt, (tt, (tt, tt)))), rw (append_assoc s.streams) (source-free i _ is free))
 
+    opened : (side : PortSide) (x : TeeShape) → slice_get (tee_shapes (calls.open_end side (record { 0 = length s.streams }) s).done.slots) t.0 ≡ Some x → slice_get (tee_shapes s) t.0 ≡ Some x
+    opened ReadableSide x e = e
+    opened WritableSide x e = e
+
     call-new : (c : Call) → IsNew (begin c s)
     call-new c = each_call IsNew c s (record {
       unchanged = λ reply x e. absent x e;
@@ -456,6 +470,10 @@ module _ (t : TeeId) where
       terminate = λ u x e. absent x e;
       pipe = λ source dest prevent signal f g l m x e. absent x e;
       make_signal = λ x e. absent x e;
+      open_end = λ side x e. absent x (opened side x e);
+      send_readable = λ source there free x e. absent x e;
+      send_writable = λ dest there free x e. absent x e;
+      deliver = λ c m asked has x e. absent x e;
       trigger = λ a reason x e. absent x e;
       settle = λ h answer p f x e. absent x e;
     })

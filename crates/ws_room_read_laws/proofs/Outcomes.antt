@@ -129,6 +129,7 @@ module _ (q : PromiseId) (space unit least : ℕ) where
     signal = λ z k. k;
     transform = λ z kind i j p k. k;
     tee = λ z source first second cancel k. k;
+    port = λ z side stream backpressure k. k;
     readable = λ z owner mark size k. k;
     bytes = λ z mark auto k. k;
     byob_requests = λ z r k. k;

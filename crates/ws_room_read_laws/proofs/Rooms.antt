@@ -1,5 +1,8 @@
 -- What holds of every stream, and of what stands on the agenda, at each moment of a run.
 use Rattle.std.proofs.Common.{◌≡◌, ◌≢◌, ◌≤◌, ℕ, zero, suc, Bool, true, false, nat_eq, List, [], ◌∷◌, ◌++◌, length, Option, Some, None, is_some, slice_get, slice_set, refl, sym, ap, ◌∙◌, subst, arith}
+use Rattle.ws_laws.proofs.PortDoes.{PortCauses}
+use Rattle.ws_steps.specs.declared.effects.Effect.TheVariants.{Port}
+use Rattle.ws_value.specs.declared.ids.PortId.{PortId}
 use Rattle.ws_value.specs.declared.ids.{LockId.{LockId}, PipeId.{PipeId}, PromiseId.{PromiseId}, StreamId.{StreamId}}
 use Rattle.ws_value.specs.declared.{value.Value.{Value}}
 use Rattle.ws_steps.specs.declared.byte.{ByteOperation.{ByteOperation}, ByteOperation.TheVariants.{PullInto}}
@@ -42,6 +45,9 @@ use Rattle.ws_room_read_laws.proofs.Operations.{weight, weighs, all-light, reada
 use Rattle.ws_room_read_laws.proofs.DefaultHands.{readable-hands}
 use Rattle.ws_laws.proofs.TeeDoes.{TeeCauses}
 use Rattle.ws_value.specs.declared.ids.TeeId.{TeeId}
+use Rattle.ws_steps.specs.declared.port.Side.{Side}
+use Rattle.ws_steps.specs.declared.port.Side.TheVariants.{Readable as ReadableSide, Writable as WritableSide}
+use Rattle.ws_steps.specs.Calls as calls
 
 -- a read into a room comes by a reader
 
@@ -86,6 +92,10 @@ held-reader s l i closed k h there =
     let locked : is_locked Reading i s ≡ true = is_locked_by (is_locked Reading i s) (omega (arith, even, n, self)) in
     some_reader (byte_at i s).stream.reader (sym (lock-there (slice_get s.streams i.0) (byte_at i s) (byte_there (slice_get s.streams i.0) there)) ∙ locked)
 
+start-told : (s : Slots) (i : StreamId) (side : Side) → IsTold s (calls.start_end i side)
+start-told s i ReadableSide = tt
+start-told s i WritableSide = tt
+
 call-told : (c : Call) (s : Slots) → Locked s [] → Each (IsTold (begin c s).done.slots) (begin c s).done.caused
 call-told c s k = each_call (λ (b : Begun). Each (IsTold b.done.slots) b.done.caused) c s (record {
   unchanged = λ reply. tt;
@@ -120,6 +130,10 @@ call-told c s k = each_call (λ (b : Begun). Each (IsTold b.done.slots) b.done.c
   fail_writable = λ i reason. (tt, tt);
   pipe = λ source dest prevent signal e f free m. grind (arith, each-append);
   make_signal = tt;
+  open_end = λ side. (start-told (calls.open_end side (record { 0 = length s.streams }) s).done.slots (record { 0 = length s.streams }) side, tt);
+  send_readable = λ i there free. (tt, (tt, (tt, (tt, (tt, (tt, (tt, tt)))))));
+  send_writable = λ i there free. (tt, (tt, (tt, (tt, (tt, (tt, (tt, tt)))))));
+  deliver = λ p m e is. (tt, tt);
   trigger = λ a reason. (tt, tt);
   settle = λ h answer q e. grind (arith, each-append);
 })
@@ -222,6 +236,9 @@ module _ (w : ReadRequest → ℕ) (space unit least : ℕ) where
     tee-fair : (t : TeeId) (source first second : StreamId) (e : Effect) → TeeCauses t source first second e → fair e
     tee-fair t source first second e c = grind (arith, c, teeless)
 
+    port-fair : (c : PortId) (stream : StreamId) (e : Effect) → PortCauses c stream e → fair e
+    port-fair c stream e k = grind (arith, k, teeless)
+
     signal-fair : (operation : SignalOperation) → SignalCauses fair operation
     signal-fair (Add p) = tt
     signal-fair (Forget p) = tt
@@ -235,17 +252,18 @@ module _ (w : ReadRequest → ℕ) (space unit least : ℕ) where
     row-leaves (OnReadable i op) s k t n f = source-leaves i op s (k i) n f
     row-leaves (Byte i op) s k t n f = bytes-leaves i op s (k i) t n f
     row-leaves (OnWritable i op) s k t n f =
-        (writable-streams i op s f, row-causes fair (OnWritable i op) s (record { write = tt; close = tt; abort = λ r p. tt; hand_on = λ v. tt; take = λ v t d. tt }))
+        (writable-streams i op s f, row-causes fair (OnWritable i op) s (record { write = tt; close = tt; abort = λ r p. tt; hand_on = λ v. tt; take = λ v t d. tt; post = λ v c d. tt }))
     row-leaves (Pipe p op) s k t n f = apart-leaves (Pipe p op) s tt f (row-causes fair (Pipe p op) s (pipe-fair p))
     row-leaves (Signal a op) s k t n f = apart-leaves (Signal a op) s tt f (row-causes fair (Signal a op) s (signal-fair op))
     row-leaves (Tee u op) s k t n f = apart-leaves (Tee u op) s tt f (row-causes fair (Tee u op) s (tee-fair u))
+    row-leaves (Port c op) s k t n f = apart-leaves (Port c op) s tt f (row-causes fair (Port c op) s (port-fair c))
     row-leaves (Transform u op) s k t n f = apart-leaves (Transform u op) s tt f (row-causes fair (Transform u op) s (transform-fair u))
     row-leaves (StartAlgorithm j step start) s k t n f = apart-leaves (StartAlgorithm j step start) s tt f (row-causes fair (StartAlgorithm j step start) s (λ g u. tt, λ c u. tt))
-    row-leaves (PullAlgorithm j) s k t n f = apart-leaves (PullAlgorithm j) s tt f (row-causes fair (PullAlgorithm j) s (λ c u. tt, (λ t u. tt, (λ t. tt, λ u. tt))))
-    row-leaves (CancelAlgorithm j r p) s k t n f = apart-leaves (CancelAlgorithm j r p) s tt f (row-causes fair (CancelAlgorithm j r p) s (λ c u. tt, (λ t u. tt, λ t half u. tt)))
-    row-leaves (WriteAlgorithm j) s k t n f = apart-leaves (WriteAlgorithm j) s tt f (row-causes fair (WriteAlgorithm j) s (tt, λ t u. tt))
-    row-leaves (CloseAlgorithm j) s k t n f = apart-leaves (CloseAlgorithm j) s tt f (row-causes fair (CloseAlgorithm j) s (λ c u. tt, λ t u. tt))
-    row-leaves (AbortAlgorithm j r p) s k t n f = apart-leaves (AbortAlgorithm j r p) s tt f (row-causes fair (AbortAlgorithm j r p) s (λ c u. tt, λ t u. tt))
+    row-leaves (PullAlgorithm j) s k t n f = apart-leaves (PullAlgorithm j) s tt f (row-causes fair (PullAlgorithm j) s (λ c u. tt, (λ t u. tt, (λ t. tt, (λ u. tt, λ c. tt)))))
+    row-leaves (CancelAlgorithm j r p) s k t n f = apart-leaves (CancelAlgorithm j r p) s tt f (row-causes fair (CancelAlgorithm j r p) s (λ c u. tt, (λ t u. tt, (λ t half u. tt, λ q u. tt))))
+    row-leaves (WriteAlgorithm j) s k t n f = apart-leaves (WriteAlgorithm j) s tt f (row-causes fair (WriteAlgorithm j) s (tt, (λ t u. tt, λ q u. tt)))
+    row-leaves (CloseAlgorithm j) s k t n f = apart-leaves (CloseAlgorithm j) s tt f (row-causes fair (CloseAlgorithm j) s (λ c u. tt, (λ t u. tt, λ q u. tt)))
+    row-leaves (AbortAlgorithm j r p) s k t n f = apart-leaves (AbortAlgorithm j r p) s tt f (row-causes fair (AbortAlgorithm j r p) s (λ c u. tt, (λ t u. tt, λ q u. tt)))
     row-leaves (ChunkSteps j q v) s k t n f = apart-leaves (ChunkSteps j q v) s tt f (row-causes fair (ChunkSteps j q v) s (chunk-fair v q))
     row-leaves (CloseSteps j q) s k t n f = apart-leaves (CloseSteps j q) s tt f (row-causes fair (CloseSteps j q) s (end-fair q))
     row-leaves (CloseStepsWith j q b) s k t n f = apart-leaves (CloseStepsWith j q b) s tt f (row-causes fair (CloseStepsWith j q b) s (end-fair q))
@@ -272,11 +290,16 @@ module _ (w : ReadRequest → ℕ) (space unit least : ℕ) where
       signal = λ z k. k;
       transform = λ z kind writable readable change k. k;
       tee = λ z source first second cancel k. k;
+      port = λ z side stream backpressure k. k;
       readable = λ z owner mark size k. λ i. appended (ReadableStream (readable.set_up owner mark size)) z.streams i.0 (nat_eq i.0 (length z.streams)) refl refl (k i);
       bytes = λ z mark auto k. λ i. appended (ByteStream (byte.set_up mark auto)) z.streams i.0 (nat_eq i.0 (length z.streams)) refl (new-even mark auto) (k i);
       byob_requests = λ z r k. k;
       writable = λ z owner mark size k. λ i. appended (WritableStream (writable.set_up owner mark size)) z.streams i.0 (nat_eq i.0 (length z.streams)) refl tt (k i);
     }) c s f
+
+    start-fair : (i : StreamId) (side : Side) → IsFair w space unit least (calls.start_end i side)
+    start-fair i ReadableSide = tt
+    start-fair i WritableSide = tt
 
     -- a call reads for a new promise
     call-fair : (c : Call) (s : Slots) → w (Promise (next_id s.promises)) ≡ 0 → AreFair w space unit least (begin c s).done.caused
@@ -313,6 +336,10 @@ module _ (w : ReadRequest → ℕ) (space unit least : ℕ) where
       fail_writable = λ i reason. (tt, tt);
       pipe = λ source dest prevent signal e f free m. grind (arith, each-append);
       make_signal = tt;
+      open_end = λ side. (start-fair (record { 0 = length s.streams }) side, tt);
+      send_readable = λ i there free. (tt, (tt, (tt, (tt, (tt, (tt, (tt, tt)))))));
+      send_writable = λ i there free. (tt, (tt, (tt, (tt, (tt, (tt, (tt, tt)))))));
+      deliver = λ p m e is. (tt, tt);
       trigger = λ a reason. (tt, tt);
       settle = λ h answer q e. grind (arith, each-append);
     })
