@@ -3,10 +3,10 @@ use Rattle.std.proofs.Common.{◌≡◌, ℕ, Bool, true, false, nat_eq, if◌th
 use Rattle.ws_value.specs.declared.ids.{PipeId.{PipeId}, StreamId.{StreamId}}
 use Rattle.ws_value.specs.declared.value.Value.{Value}
 use Rattle.ws_steps.specs.declared.effects.{Effect.{Effect}, Owner.TheVariants.{HalfOf}}
-use Rattle.ws_steps.specs.declared.effects.Effect.TheVariants.{Readable as OnReadable, Writable as OnWritable, Pipe as OnPipe, Signal as OnSignal, Transform as OnTransform, Tee as OnTee, StartAlgorithm, PullAlgorithm, CancelAlgorithm, WriteAlgorithm, CloseAlgorithm, AbortAlgorithm, ChunkSteps, CloseSteps, ErrorSteps}
+use Rattle.ws_steps.specs.declared.effects.Effect.TheVariants.{Readable as OnReadable, Writable as OnWritable, Pipe as OnPipe, Signal as OnSignal, Transform as OnTransform, Tee as OnTee, Port as OnPort, StartAlgorithm, PullAlgorithm, CancelAlgorithm, WriteAlgorithm, CloseAlgorithm, AbortAlgorithm, ChunkSteps, CloseSteps, ErrorSteps}
 use Rattle.ws_steps.specs.declared.pipes.{SignalOperation.{SignalOperation}, SignalOperation.TheVariants.{Add, Forget, Trigger}}
 use Rattle.ws_steps.specs.declared.readable.{ReadRequest.{ReadRequest}, ReadRequest.TheVariants.{Promise, Pipe as PipeRequest, Tee as TeeRequest}}
-use Rattle.ws_steps.specs.declared.transform.{Taker.{Taker}, Taker.TheVariants.{ToHost, ToTransform}, TransformId.{TransformId}}
+use Rattle.ws_steps.specs.declared.transform.{Taker.{Taker}, Taker.TheVariants.{ToHost, ToTransform, ToPort}, TransformId.{TransformId}}
 use Rattle.ws_steps.specs.declared.transform.TransformOperation.TheVariants as names
 use Rattle.ws_steps.specs.declared.writable.{WritableOperation.{WritableOperation}, WriteRecord.{WriteRecord}, WriteRecord.TheVariants.{Chunk, InFlight, CloseMark}}
 use Rattle.ws_steps.specs.declared.writable.WritableOperation.TheVariants.{HandOn}
@@ -30,7 +30,12 @@ use Rattle.ws_transform_laws.proofs.Ordering.{first-told, first-none}
 use Rattle.ws_transform_laws.proofs.Prompt.{IsPlain, IsNoHalf, Placed, others-plain}
 use Rattle.ws_steps.specs.declared.effects.Effect.TheVariants.{Byte, CloseStepsWith}
 use Rattle.ws_value.specs.declared.ids.TeeId.{TeeId}
+use Rattle.ws_value.specs.declared.ids.PortId.{PortId}
 use Rattle.ws_laws.proofs.TeeDoes.{TeeCauses}
+use Rattle.ws_laws.proofs.PortDoes.{PortCauses}
+use Rattle.ws_laws.proofs.Ended.{end_shape}
+use Rattle.ws_steps.specs.declared.port.Side.{Side}
+use Rattle.ws_steps.specs.declared.port.Side.TheVariants.{Readable as ReadableSide, Writable as WritableSide}
 
 abbrev pub IsWritable : Effect → Type 0
 IsWritable (OnWritable j operation) = Unit {0}
@@ -102,6 +107,10 @@ module _ (t : TransformId) where
   tee-idle u source first second (OnTransform y operation) c = absurd c
   tee-idle u source first second _ c = refl
 
+  port-idle : (u : PortId) (stream : StreamId) (e : Effect) → PortCauses u stream e → Idle e
+  port-idle u stream (OnTransform y operation) c = absurd c
+  port-idle u stream _ c = refl
+
   pub row-idle : (e : Effect) (s : Slots) → (IsWritable e → ⊥) → pending (row e s).caused ≡ []
   row-idle (OnReadable j operation) s n = idle-pending (row (OnReadable j operation) s).caused (row-causes Idle (OnReadable j operation) s (record { pull = refl; cancel = λ r q. refl; chunk = λ r v. refl; close = λ r. refl; error = λ r e. refl }))
   row-idle (Byte j operation) s n =
@@ -112,12 +121,13 @@ module _ (t : TransformId) where
   row-idle (OnSignal a operation) s n = idle-pending (row (OnSignal a operation) s).caused (row-causes Idle (OnSignal a operation) s (signal-idle operation))
   row-idle (OnTransform u operation) s n = idle-pending (row (OnTransform u operation) s).caused (row-causes Idle (OnTransform u operation) s (transform-idle u))
   row-idle (OnTee u operation) s n = idle-pending (row (OnTee u operation) s).caused (row-causes Idle (OnTee u operation) s (tee-idle u))
+  row-idle (OnPort u operation) s n = idle-pending (row (OnPort u operation) s).caused (row-causes Idle (OnPort u operation) s (port-idle u))
   row-idle (StartAlgorithm j step start) s n = idle-pending (row (StartAlgorithm j step start) s).caused (row-causes Idle (StartAlgorithm j step start) s (λ g u. refl, λ c u. refl))
-  row-idle (PullAlgorithm j) s n = idle-pending (row (PullAlgorithm j) s).caused (row-causes Idle (PullAlgorithm j) s (λ c u. refl, (λ y u. refl, (λ k. refl, λ u. refl))))
-  row-idle (CancelAlgorithm j r q) s n = idle-pending (row (CancelAlgorithm j r q) s).caused (row-causes Idle (CancelAlgorithm j r q) s (λ c u. refl, (λ y u. refl, λ k half u. refl)))
-  row-idle (WriteAlgorithm j) s n = idle-pending (row (WriteAlgorithm j) s).caused (row-causes Idle (WriteAlgorithm j) s (refl, λ y u. refl))
-  row-idle (CloseAlgorithm j) s n = idle-pending (row (CloseAlgorithm j) s).caused (row-causes Idle (CloseAlgorithm j) s (λ c u. refl, λ y u. refl))
-  row-idle (AbortAlgorithm j r q) s n = idle-pending (row (AbortAlgorithm j r q) s).caused (row-causes Idle (AbortAlgorithm j r q) s (λ c u. refl, λ y u. refl))
+  row-idle (PullAlgorithm j) s n = idle-pending (row (PullAlgorithm j) s).caused (row-causes Idle (PullAlgorithm j) s (λ c u. refl, (λ y u. refl, (λ k. refl, (λ u. refl, λ q. refl)))))
+  row-idle (CancelAlgorithm j r q) s n = idle-pending (row (CancelAlgorithm j r q) s).caused (row-causes Idle (CancelAlgorithm j r q) s (λ c u. refl, (λ y u. refl, (λ k half u. refl, λ y u. refl))))
+  row-idle (WriteAlgorithm j) s n = idle-pending (row (WriteAlgorithm j) s).caused (row-causes Idle (WriteAlgorithm j) s (refl, (λ y u. refl, λ z u. refl)))
+  row-idle (CloseAlgorithm j) s n = idle-pending (row (CloseAlgorithm j) s).caused (row-causes Idle (CloseAlgorithm j) s (λ c u. refl, (λ y u. refl, λ z u. refl)))
+  row-idle (AbortAlgorithm j r q) s n = idle-pending (row (AbortAlgorithm j r q) s).caused (row-causes Idle (AbortAlgorithm j r q) s (λ c u. refl, (λ y u. refl, λ z u. refl)))
   row-idle (ChunkSteps j r v) s n = idle-pending (row (ChunkSteps j r v) s).caused (row-causes Idle (ChunkSteps j r v) s (chunk-idle v r))
   row-idle (CloseSteps j r) s n = idle-pending (row (CloseSteps j r) s).caused (row-causes Idle (CloseSteps j r) s (end-idle r))
   row-idle (CloseStepsWith j r b) s n = idle-pending (row (CloseStepsWith j r b) s).caused (row-causes Idle (CloseStepsWith j r b) s (end-idle r))
@@ -158,6 +168,10 @@ module _ (i : StreamId) (t : TransformId) where
   same-half : (s : Slots) (u : TransformId) → Halved s → Linked s → slice_get (stream_shapes s) i.0 ≡ Some (WritableOf (HalfOf u)) → u ≡ t
   same-half s u halved l is = let both : ◌≡◌ {A = Option StreamShape} (Some (WritableOf (HalfOf u))) (Some (WritableOf (HalfOf t))) = sym is ∙ linked-shape s halved l in cc
 
+  no_end : (c : PortId) (side : Side) → ◌≡◌ {A = Option StreamShape} (Some (WritableOf (HalfOf t))) (Some (end_shape c side)) → ⊥
+  no_end c ReadableSide e = cc
+  no_end c WritableSide e = cc
+
   taken-here : (s : Slots) (taker : Taker) (v : Value) → Halved s → Linked s → Placed s (OnWritable i (HandOn taker)) → v ∷ [] ≡ pending t (writable.taken_by i v taker ∷ [])
   taken-here s ToHost v halved l p = absurd (subst IsNoHalf (linked-owner s halved l) p)
   taken-here s (ToTransform u d) v halved l p =
@@ -166,6 +180,7 @@ module _ (i : StreamId) (t : TransformId) where
     where
       self-eq : (n : ℕ) → nat_eq n n ≡ true
       self-eq n = grind arith
+  taken-here s (ToPort c d) v halved l p = absurd (no_end c p.0 (sym (linked-shape s halved l) ∙ p.1))
 
   taken-there : (s : Slots) (j : StreamId) (taker : Taker) (v : Value) → Halved s → Linked s → is_same i j ≡ false → Placed s (OnWritable j (HandOn taker)) → [] ≡ pending t (writable.taken_by j v taker ∷ [])
   taken-there s j ToHost v halved l n p = refl
@@ -175,6 +190,7 @@ module _ (i : StreamId) (t : TransformId) where
       by false e = refl
       by true e =
           let is : t ≡ u = ap (λ (k : ℕ). record { 0 = k }) (eq_numbers t.0 u.0 (sym e)) in no-other s j halved l n (rw is p)
+  taken-there s j (ToPort c d) v halved l n p = refl
 
   first-here : (s : Slots) (taker : Taker) (a : writable.Acts) (first : Option WriteRecord) → Halved s → Linked s → Placed s (OnWritable i (HandOn taker)) → a.out.effects ≡ [] → first_value a.slots.queue ≡ first
       → first_chunk a.slots.queue ≡ pending t (writable.hand_on_first i taker a first).out.effects

@@ -2,8 +2,8 @@
 use Rattle.std.proofs.Common.{◌≡◌, ℕ, Bool, false, List, [], ◌∷◌, Option, Some, None, slice_get, refl, arith}
 use Rattle.ws_value.specs.declared.ids.{PipeId.{PipeId}, PromiseId.{PromiseId}, StreamId.{StreamId}}
 use Rattle.ws_value.specs.declared.value.Plain.{Plain}
-use Rattle.ws_steps.specs.declared.effects.{Effect.{Effect}, Owner.{Owner}, Owner.TheVariants.{Host, HalfOf, BranchOf}, Use.TheVariants.{React}}
-use Rattle.ws_steps.specs.declared.effects.Effect.TheVariants.{Readable as OnReadable, Writable as OnWritable, Pipe as OnPipe, Signal as OnSignal, Transform as OnTransform, Tee as OnTee, StartAlgorithm, PullAlgorithm, CancelAlgorithm, WriteAlgorithm, CloseAlgorithm, AbortAlgorithm, ChunkSteps, CloseSteps, ErrorSteps}
+use Rattle.ws_steps.specs.declared.effects.{Effect.{Effect}, Owner.{Owner}, Owner.TheVariants.{Host, HalfOf, BranchOf, EndOf}, Use.TheVariants.{React}}
+use Rattle.ws_steps.specs.declared.effects.Effect.TheVariants.{Readable as OnReadable, Writable as OnWritable, Pipe as OnPipe, Signal as OnSignal, Transform as OnTransform, Tee as OnTee, Port as OnPort, StartAlgorithm, PullAlgorithm, CancelAlgorithm, WriteAlgorithm, CloseAlgorithm, AbortAlgorithm, ChunkSteps, CloseSteps, ErrorSteps}
 use Rattle.ws_steps.specs.declared.promises.Step.{Step}
 use Rattle.ws_steps.specs.declared.transform.{TransformId.{TransformId}, TransformOperation.{TransformOperation}}
 use Rattle.ws_steps.specs.declared.transform.TransformOperation.TheVariants as names
@@ -13,7 +13,7 @@ use Rattle.ws_steps.specs.declared.readable.ReadableOperation.{ReadableOperation
 use Rattle.ws_steps.specs.declared.writable.WritableOperation.{WritableOperation}
 use Rattle.ws_steps.specs.declared.transform.Halves.{Halves}
 use Rattle.ws_steps.specs.Effects.{Out, cause}
-use Rattle.ws_steps.specs.Operations.{writable_operation, pipe_operation, signal_operation, transform_operation, tee_operation}
+use Rattle.ws_steps.specs.Operations.{writable_operation, pipe_operation, signal_operation, transform_operation, tee_operation, port_operation}
 use Rattle.ws_steps.specs.Pipes as pipe
 use Rattle.ws_steps.specs.Pipes.{abort_all}
 use Rattle.ws_steps.specs.Transform as transform
@@ -26,8 +26,8 @@ use Rattle.ws_laws.proofs.Lists.{Each}
 use Rattle.ws_laws.proofs.PipeDoes.{IsStepOf, PipeCauses, pipe-causes}
 use Rattle.ws_laws.proofs.Tables.{either, writable_acts}
 use Rattle.ws_laws.proofs.WritableDoes.{writable-does}
-use Rattle.ws_steps.specs.Slots.{Slots, Done, nothing, found, ends_at, halves_at, owner_at, has_writable, put_writable, on_writable, on_pipe_at, on_signal_at, on_transform_at, on_tee_at}
-use Rattle.ws_writable_laws.proofs.Shape.{all, all-append, of_tee}
+use Rattle.ws_steps.specs.Slots.{Slots, Done, nothing, found, ends_at, halves_at, owner_at, has_writable, put_writable, on_writable, on_pipe_at, on_signal_at, on_transform_at, on_tee_at, on_port_at, clones_at}
+use Rattle.ws_writable_laws.proofs.Shape.{all, all-append, of_tee, of_port}
 use Rattle.ws_transform_laws.specs.TransformHistory.{is_same_transform}
 use Rattle.ws_writable_laws.proofs.Shape.{leads_to, of_transform}
 use Rattle.ws_transform_laws.proofs.Waited.{changing}
@@ -39,8 +39,12 @@ use Rattle.ws_steps.specs.Turns.{on_source}
 use Rattle.ws_laws.proofs.ReadableDoes.{OfReadable}
 use Rattle.ws_laws.proofs.Rows.{source-out, byte-out}
 use Rattle.ws_value.specs.declared.ids.TeeId.{TeeId}
+use Rattle.ws_value.specs.declared.ids.PortId.{PortId}
 use Rattle.ws_steps.specs.declared.tee.TeeOperation.{TeeOperation}
+use Rattle.ws_steps.specs.declared.port.PortOperation.{PortOperation}
 use Rattle.ws_steps.specs.Tee as tee
+use Rattle.ws_steps.specs.Cross as cross
+use Rattle.ws_steps.specs.declared.port.PortOperation.TheVariants.{PostChunk}
 
 module _ (t : TransformId) where
   abbrev pub asks_sink : Effect → Bool
@@ -64,9 +68,17 @@ module _ (t : TransformId) where
   unfolding tee.pull_branch tee.keep_chunk tee.source_closed tee.source_errored tee.hand_chunk tee.handed tee.cancel_branch tee.reader_settled
   tee-none s u operation a c none = grind (arith, c, none)
 
+  port-none : (s : Slots) (u : PortId) (clones : Bool) (operation : PortOperation) (a : cross.Acts) → of_port (changing t) operation ≡ 0 → a.out.effects ≡ [] → none_of s (port_operation u clones operation a).out.effects ≡ 0
+  unfolding cross.pull cross.leave cross.close cross.write cross.write_goes_on cross.post_chunk cross.unblock cross.deliver
+  port-none s u clones operation a c none = grind (arith, c, none)
+
   pub on_tee-none : (s : Slots) (u : TeeId) (operation : TeeOperation) (o : Option tee.Slots) → of_tee (changing t) operation ≡ 0 → none_of s (on_tee_at (tee_operation u operation) u s o).caused ≡ 0
   on_tee-none s u operation None c = refl
   on_tee-none s u operation (Some x) c = tee-none s u operation (record { slots = x; out = found s }) c refl
+
+  pub on_port-none : (s : Slots) (u : PortId) (operation : PortOperation) (o : Option cross.Slots) → of_port (changing t) operation ≡ 0 → none_of s (on_port_at (λ clones. port_operation u clones operation) u s o).caused ≡ 0
+  on_port-none s u operation None c = refl
+  on_port-none s u operation (Some x) c = port-none s u (clones_at x s) operation (record { slots = x; out = found s }) c refl
 
   pipe-step : (p : PipeId) (step : Step) → IsStepOf p step → changing t step ≡ 0
   pipe-step p step c = grind arith
@@ -116,6 +128,7 @@ module _ (t : TransformId) where
         abort = λ x c p h. causing-none s x (AbortAlgorithm j c p) refl h;
         hand_on = λ x v h. causing-none s x (write_to_host j v) refl h;
         take = λ x v u d h. causing-none s x (OnTransform u (names.TransformChunk v d)) refl h;
+        post = λ x v u d h. causing-none s x (OnPort u (PostChunk v d)) refl h;
       }) operation (writable_acts j s) refl) (λ none. refl)
 
   others-none : (s : Slots) (j : StreamId) → OfReadable (λ (x : Out). none_of s x.effects ≡ 0) j
@@ -144,26 +157,31 @@ module _ (t : TransformId) where
   pull-none s j Host = refl
   pull-none s j (HalfOf u) = refl
   pull-none s j (BranchOf u half) = refl
+  pull-none s j (EndOf c) = refl
 
   pub cancel-none : (s : Slots) (j : StreamId) (c : Plain) (p : PromiseId) (owner : Owner) → none_of s (cancel_algorithm j c (React ReturnUndefined (Some p)) owner) ≡ 0
   cancel-none s j c p Host = refl
   cancel-none s j c p (HalfOf u) = refl
   cancel-none s j c p (BranchOf u half) = refl
+  cancel-none s j c p (EndOf q) = refl
 
   pub write-none : (s : Slots) (j : StreamId) (owner : Owner) → none_of s (write_algorithm j owner) ≡ 0
   write-none s j Host = refl
   write-none s j (HalfOf u) = refl
   write-none s j (BranchOf u half) = refl
+  write-none s j (EndOf c) = refl
 
   pub close-none : (s : Slots) (j : StreamId) (owner : Owner) → none_of s (close_algorithm j (React (WritableClose j) None) owner) ≡ 0
   close-none s j Host = refl
   close-none s j (HalfOf u) = refl
   close-none s j (BranchOf u half) = refl
+  close-none s j (EndOf c) = refl
 
   pub abort-none : (s : Slots) (j : StreamId) (c : Plain) (p : PromiseId) (owner : Owner) → none_of s (abort_algorithm j c (React (WritableAbort j p) None) owner) ≡ 0
   abort-none s j c p Host = refl
   abort-none s j c p (HalfOf u) = refl
   abort-none s j c p (BranchOf u half) = refl
+  abort-none s j c p (EndOf q) = refl
 
   -- each effect
   pub row-none : (e : Effect) (s : Slots) → asks_sink e ≡ false → leads_to (changing t) e ≡ 0 → none_of s (row e s).caused ≡ 0
@@ -175,6 +193,7 @@ module _ (t : TransformId) where
   row-none (OnSignal a operation) s o n = signal-none s a operation (slice_get s.signals a.0)
   row-none (OnTransform u operation) s o n = on_transform-none s u operation (slice_get s.transforms u.0) o n
   row-none (OnTee u operation) s o n = on_tee-none s u operation (slice_get s.tees u.0) n
+  row-none (OnPort u operation) s o n = on_port-none s u operation (slice_get s.ports u.0) n
   row-none (StartAlgorithm j step start) s o n = start-none s s j step start n
   row-none (PullAlgorithm j) s o n = pull-none s j (owner_at j s)
   row-none (CancelAlgorithm j c p) s o n = cancel-none s j c p (owner_at j s)

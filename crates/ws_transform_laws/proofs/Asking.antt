@@ -121,6 +121,7 @@ module _ (t : TransformId) where
     signal = λ z k. carried z _ (λ x e. e) (λ n p w. w) 0 (omega arith) (omega arith) k;
     transform = λ z kind w r change k. carried z _ (λ x e. get-stays z.transforms _ t.0 x e) (λ n p w. w) 0 (omega arith) (omega arith) k;
     tee = λ z source first second cancel k. carried z _ (λ x e. e) (λ n p w. w) 0 (omega arith) (omega arith) k;
+    port = λ z side stream backpressure k. carried z _ (λ x e. e) (λ n p w. w) 0 (omega arith) (omega arith) k;
     bytes = λ z mark auto k. carried z _ (λ x e. e) (λ n p w. w) 0 (omega arith) (omega arith) k;
     byob_requests = λ z hs k. carried z _ (λ x e. e) (λ n p w. w) 0 (omega arith) (omega arith) k;
     readable = λ z o mark size k. carried z _ (λ x e. e) (λ n p w. w) 0 (omega arith) (omega arith) k;

@@ -2,7 +2,7 @@
 use Rattle.std.proofs.Common.{◌≡◌, Bool, true, false, ℕ, List, Option, Some, None, Ok, Err, slice_get, slice_set, refl, sym, ap, ◌∙◌, arith}
 use Rattle.ws_steps.specs.declared.calls.StartBy.TheVariants.{Now, Later}
 use Rattle.ws_steps.specs.declared.effects.{Effect.{Effect}, Use.{Use}}
-use Rattle.ws_steps.specs.declared.effects.Effect.TheVariants.{Readable as OnReadable, Writable as OnWritable, Pipe as OnPipe, Signal as OnSignal, Transform as OnTransform, Tee as OnTee, StartAlgorithm, ChunkSteps, CloseSteps, ErrorSteps}
+use Rattle.ws_steps.specs.declared.effects.Effect.TheVariants.{Readable as OnReadable, Writable as OnWritable, Pipe as OnPipe, Signal as OnSignal, Transform as OnTransform, Tee as OnTee, Port as OnPort, StartAlgorithm, ChunkSteps, CloseSteps, ErrorSteps}
 use Rattle.ws_steps.specs.declared.readable.ReadRequest.TheVariants.{Promise, Pipe as PipeRequest, Tee as TeeRequest}
 use Rattle.ws_steps.specs.declared.transform.{Halves.{Halves}, TransformId.{TransformId}, TransformOperation.{TransformOperation}}
 use Rattle.ws_steps.specs.declared.transform.TransformOperation.TheVariants as names
@@ -17,6 +17,7 @@ use Rattle.ws_transform_laws.specs.TransformHistory.{is_same_transform}
 use Rattle.ws_transform_laws.proofs.Changing.{place-same, pipe-transforms, signal-transforms, tee-transforms}
 use Rattle.ws_steps.specs.declared.effects.Effect.TheVariants.{Byte, CloseStepsWith}
 use Rattle.ws_laws.proofs.Rows.{source-leaves, byte-leaves}
+use Rattle.ws_transform_laws.proofs.Changing.{port-transforms}
 
 -- an operation that may change the backpressure
 abbrev pub IsTurning : TransformOperation → Type 0
@@ -109,6 +110,7 @@ row-keeps t (OnPipe p operation) s n = ap (λ (ts : List Slots). (as_transform (
 row-keeps t (OnSignal a operation) s n = ap (λ (ts : List Slots). (as_transform (slice_get ts t.0)).backpressure) (signal-transforms a operation s (slice_get s.signals a.0))
 row-keeps t (OnTransform u operation) s n = transform-keeps t u operation s n
 row-keeps t (OnTee u operation) s n = ap (λ (ts : List Slots). (as_transform (slice_get ts t.0)).backpressure) (tee-transforms u operation s (slice_get s.tees u.0))
+row-keeps t (OnPort u operation) s n = ap (λ (ts : List Slots). (as_transform (slice_get ts t.0)).backpressure) (port-transforms u operation s (slice_get s.ports u.0))
 row-keeps t (StartAlgorithm i step Now) s n = refl
 row-keeps t (StartAlgorithm i step Later) s n = refl
 row-keeps t (ChunkSteps i (Promise p) v) s n = refl

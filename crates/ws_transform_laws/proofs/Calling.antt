@@ -1,11 +1,12 @@
 -- Each chunk with which a transform algorithm of the host's is performed is on its way to the host.
+use Rattle.ws_laws.proofs.Rows.{row-causes}
 use Rattle.std.proofs.Common.{◌≡◌, ℕ, Bool, true, false, nat_eq, if◌then◌else◌, List, [], ◌∷◌, ◌++◌, Option, Some, None, slice_get, refl, sym, ap, ◌∙◌, arith, append_assoc}
 use Rattle.ws_value.specs.declared.ids.{PromiseId.{PromiseId}, StreamId.{StreamId}}
 use Rattle.ws_value.specs.declared.value.Value.{Value}
 use Rattle.ws_steps.specs.declared.calls.{HostCall.TheVariants.{Transform as HostTransform}}
-use Rattle.ws_steps.specs.declared.effects.{Effect.{Effect}, Owner.{Owner}, Owner.TheVariants.{Host, HalfOf, BranchOf}, Use.{Use}, Use.TheVariants.{Resolve}}
+use Rattle.ws_steps.specs.declared.effects.{Effect.{Effect}, Owner.{Owner}, Owner.TheVariants.{Host, HalfOf, BranchOf, EndOf}, Use.{Use}, Use.TheVariants.{Resolve}}
 use Rattle.ws_steps.specs.declared.effects.Effect.TheVariants.{Writable as OnWritable, Transform as OnTransform, WriteAlgorithm, CallHost}
-use Rattle.ws_steps.specs.declared.transform.{Halves.{Halves}, Kind.{Kind}, Kind.TheVariants.{Identity, Host as HostKind}, Taker.{Taker}, Taker.TheVariants.{ToHost, ToTransform}, TransformId.{TransformId}}
+use Rattle.ws_steps.specs.declared.transform.{Halves.{Halves}, Kind.{Kind}, Kind.TheVariants.{Identity, Host as HostKind}, Taker.{Taker}, Taker.TheVariants.{ToHost, ToTransform, ToPort}, TransformId.{TransformId}}
 use Rattle.ws_steps.specs.declared.transform.TransformOperation.TheVariants as names
 use Rattle.ws_steps.specs.declared.writable.{WritableState.{WritableState}, WritableState.TheVariants.{Writable, Erroring, Errored, Closed}, WriteRecord.{WriteRecord}, WriteRecord.TheVariants.{Chunk, InFlight, CloseMark}, WritableOperation.TheVariants.{HandOn}}
 use Rattle.ws_steps.specs.Histories.{is_same}
@@ -23,6 +24,9 @@ use Rattle.ws_transform_laws.specs.TransformHistory.{is_same_transform, effect_t
 use Rattle.ws_transform_laws.proofs.Halving.{map-from}
 use Rattle.ws_transform_laws.proofs.Hearing.{hear}
 use Rattle.ws_transform_laws.proofs.Prompt.{IsPlain, Placed, plain-caused}
+use Rattle.ws_value.specs.declared.ids.PortId.{PortId}
+use Rattle.ws_steps.specs.declared.effects.Effect.TheVariants.{Port as OnPort}
+use Rattle.ws_laws.proofs.PortDoes.{PortCauses}
 
 module _ (r : StreamId) where
   -- the chunks that stand on the agenda, of which the host is about to hear
@@ -52,6 +56,7 @@ module _ (r : StreamId) where
   taken-calls : (j : StreamId) (taker : Taker) (v : Value) → calling (writable.taken_by j v taker ∷ []) ≡ []
   taken-calls j ToHost v = refl
   taken-calls j (ToTransform u d) v = refl
+  taken-calls j (ToPort c d) v = refl
 
   first-calls : (j : StreamId) (taker : Taker) (a : writable.Acts) (first : Option WriteRecord) → a.out.effects ≡ [] → calling (writable.hand_on_first j taker a first).out.effects ≡ []
   first-calls j taker a None none = rw none refl
@@ -69,6 +74,7 @@ module _ (r : StreamId) where
   write-calls j Host = refl
   write-calls j (HalfOf t) = refl
   write-calls j (BranchOf t half) = refl
+  write-calls j (EndOf c) = refl
 
   performs-none : (u : TransformId) (use_ : Use) (a : transform.Acts) → a.out.effects ≡ [] → calling (transform.perform_transform u use_ a).out.effects ≡ []
   performs-none u use_ a none = rw none refl
@@ -102,6 +108,17 @@ untransformed : (t : TransformId) (e : Effect) (s : Slots) → (IsTransforming e
 untransformed t (OnTransform u (names.TransformChunk v d)) s n = absurd (n tt)
 untransformed t _ s n = refl
 
+abbrev IsNoCall : StreamId → Effect → Type 0
+IsNoCall r e = calling_of r e ≡ []
+
+none-calling : (r : StreamId) (es : List Effect) → Each (IsNoCall r) es → calling r es ≡ []
+none-calling r [] p = refl
+none-calling r (e ∷ es) p = rw (p.0, none-calling r es p.1) refl
+
+port-calls : (r : StreamId) (c : PortId) (stream : StreamId) (e : Effect) → PortCauses c stream e → IsNoCall r e
+port-calls r c stream (CallHost call u) k = absurd k
+port-calls r c stream _ k = refl
+
 other-calls : (r : StreamId) (e : Effect) (s : Slots) → (IsTransforming e → ⊥) → calling r (row e s).caused ≡ []
 unfolding row
 other-calls r (OnWritable j (HandOn taker)) s n = hand_on-calls r s j taker
@@ -109,6 +126,7 @@ other-calls r (WriteAlgorithm j) s n = write-calls r j (owner_at j s)
 other-calls r (OnTransform u (names.TransformChunk v d)) s n = absurd (n tt)
 other-calls r (OnTransform u (names.SinkWrite use_)) s n = sink-row r s u use_ (slice_get s.transforms u.0)
 other-calls r (OnTransform u (names.WriteGoesOn d)) s n = goes-row r s u d (slice_get s.transforms u.0)
+other-calls r (OnPort c operation) s n = none-calling r (row (OnPort c operation) s).caused (row-causes (IsNoCall r) (OnPort c operation) s (port-calls r c))
 other-calls r e s n = plain-calling r (row e s).caused (plain-caused e s refl)
 
 module _ (t : TransformId) (r : StreamId) where

@@ -2,8 +2,8 @@
 use Rattle.std.proofs.Common.{◌≡◌, ℕ, ◌+◌, Bool, true, false, List, [], ◌∷◌, Option, Some, None, slice_get, refl, sym, ap, ◌∙◌, arith}
 use Rattle.ws_value.specs.declared.ids.{PipeId.{PipeId}, PromiseId.{PromiseId}, StreamId.{StreamId}}
 use Rattle.ws_value.specs.declared.value.Plain.{Plain}
-use Rattle.ws_steps.specs.declared.effects.{Effect.{Effect}, Owner.{Owner}, Owner.TheVariants.{Host, HalfOf, BranchOf}, Use.TheVariants.{React}}
-use Rattle.ws_steps.specs.declared.effects.Effect.TheVariants.{Readable as OnReadable, Writable as OnWritable, Pipe as OnPipe, Signal as OnSignal, Transform as OnTransform, Tee as OnTee, StartAlgorithm, PullAlgorithm, CancelAlgorithm, WriteAlgorithm, CloseAlgorithm, AbortAlgorithm, ChunkSteps, CloseSteps, ErrorSteps, Give, CallHost}
+use Rattle.ws_steps.specs.declared.effects.{Effect.{Effect}, Owner.{Owner}, Owner.TheVariants.{Host, HalfOf, BranchOf, EndOf}, Use.TheVariants.{React}}
+use Rattle.ws_steps.specs.declared.effects.Effect.TheVariants.{Readable as OnReadable, Writable as OnWritable, Pipe as OnPipe, Signal as OnSignal, Transform as OnTransform, Tee as OnTee, Port as OnPort, StartAlgorithm, PullAlgorithm, CancelAlgorithm, WriteAlgorithm, CloseAlgorithm, AbortAlgorithm, ChunkSteps, CloseSteps, ErrorSteps, Give, CallHost}
 use Rattle.ws_steps.specs.declared.promises.Step.{Step}
 use Rattle.ws_steps.specs.declared.promises.Step.TheVariants.{TransformCancelled}
 use Rattle.ws_steps.specs.declared.transform.{TransformId.{TransformId}, TransformOperation.{TransformOperation}}
@@ -14,7 +14,7 @@ use Rattle.ws_steps.specs.declared.readable.ReadableOperation.{ReadableOperation
 use Rattle.ws_steps.specs.declared.writable.WritableOperation.{WritableOperation}
 use Rattle.ws_steps.specs.declared.transform.Halves.{Halves}
 use Rattle.ws_steps.specs.Effects.{Out, cause}
-use Rattle.ws_steps.specs.Operations.{readable_operation, writable_operation, pipe_operation, signal_operation, transform_operation, tee_operation}
+use Rattle.ws_steps.specs.Operations.{readable_operation, writable_operation, pipe_operation, signal_operation, transform_operation, tee_operation, port_operation}
 use Rattle.ws_steps.specs.Pipes as pipe
 use Rattle.ws_steps.specs.Pipes.{abort_all}
 use Rattle.ws_steps.specs.Readable as readable
@@ -24,7 +24,7 @@ use Rattle.ws_steps.specs.Writable.{write_to_host}
 use Rattle.ws_steps.specs.declared.calls.{StartBy.{StartBy}, StartBy.TheVariants.{Now, Later}}
 use Rattle.ws_steps.specs.declared.promises.Step.TheVariants.{ReadablePull, ReturnUndefined, WritableClose, WritableAbort}
 use Rattle.ws_steps.specs.declared.readable.ReadRequest.TheVariants.{Promise, Pipe as PipeRequest, Tee as TeeRequest}
-use Rattle.ws_steps.specs.Slots.{readable_at, as_readable, ReadableStream, on_tee_at}
+use Rattle.ws_steps.specs.Slots.{readable_at, as_readable, ReadableStream, on_tee_at, on_port_at, clones_at}
 use Rattle.ws_steps.specs.Turns.{row, start_algorithm, pull_algorithm, cancel_algorithm, write_algorithm, close_algorithm, abort_algorithm}
 use Rattle.ws_laws.proofs.Halves.{Halved}
 use Rattle.ws_laws.proofs.Shapes.{ReadableOf, TransformShape, stream_shape, stream_shapes, transform_shapes, map-there}
@@ -36,7 +36,7 @@ use Rattle.ws_laws.proofs.Tables.{either, readable_acts, writable_acts}
 use Rattle.ws_laws.proofs.WritableDoes.{writable-does}
 use Rattle.ws_transform_laws.proofs.Wanting.{IsNoPull, Causes, Rests, Cancels, Pulls, PullsFirst, PullsLast, operation-causes}
 use Rattle.ws_steps.specs.Slots.{Slots, Done, nothing, found, ends_at, halves_at, owner_at, has_readable, has_writable, put_writable, on_readable, on_writable, on_pipe_at, on_signal_at, on_transform_at}
-use Rattle.ws_writable_laws.proofs.Shape.{one_if, of_use, all, all-append, of_tee}
+use Rattle.ws_writable_laws.proofs.Shape.{one_if, of_use, all, all-append, of_tee, of_port}
 use Rattle.ws_transform_laws.specs.TransformHistory.{is_same_transform}
 use Rattle.ws_steps.specs.declared.effects.Effect.TheVariants.{Byte, CloseStepsWith}
 use Rattle.ws_steps.specs.declared.byte.ByteOperation.{ByteOperation}
@@ -49,13 +49,18 @@ use Rattle.ws_laws.proofs.ByteDoes.{byte-does}
 use Rattle.ws_laws.proofs.Rows.{source-out}
 use Rattle.ws_transform_laws.proofs.Sources.{byte-host}
 use Rattle.ws_value.specs.declared.ids.TeeId.{TeeId}
+use Rattle.ws_value.specs.declared.ids.PortId.{PortId}
 use Rattle.ws_steps.specs.declared.tee.TeeOperation.{TeeOperation}
+use Rattle.ws_steps.specs.declared.port.PortOperation.{PortOperation}
 use Rattle.ws_steps.specs.Tee as tee
+use Rattle.ws_steps.specs.Cross as cross
+use Rattle.ws_steps.specs.declared.port.PortOperation.TheVariants.{PostChunk}
 
 abbrev pub is_half : TransformId → Owner → Bool
 is_half t Host = false
 is_half t (HalfOf u) = is_same_transform t u
 is_half t (BranchOf u half) = false
+is_half t (EndOf c) = false
 
 module _ (t : TransformId) where
   -- whether a stream performs the algorithms of the transform stream
@@ -83,6 +88,7 @@ module _ (t : TransformId) where
   abbrev pub cancels : Slots → Effect → ℕ
   cancels s (OnTransform u operation) = of_cancel u operation
   cancels s (OnTee u operation) = of_tee is_cancelled operation
+  cancels s (OnPort u operation) = of_port is_cancelled operation
   cancels s (CancelAlgorithm j c p) = one_if (mine s j)
   cancels s (StartAlgorithm j step start) = is_cancelled step
   cancels s (Give gift u) = of_use is_cancelled u
@@ -106,9 +112,17 @@ module _ (t : TransformId) where
   unfolding tee.pull_branch tee.keep_chunk tee.source_closed tee.source_errored tee.hand_chunk tee.handed tee.cancel_branch tee.reader_settled
   tee-none s u operation a c none = grind (arith, c, none)
 
+  port-none : (s : Slots) (u : PortId) (clones : Bool) (operation : PortOperation) (a : cross.Acts) → of_port is_cancelled operation ≡ 0 → a.out.effects ≡ [] → none_of s (port_operation u clones operation a).out.effects ≡ 0
+  unfolding cross.pull cross.leave cross.close cross.write cross.write_goes_on cross.post_chunk cross.unblock cross.deliver
+  port-none s u clones operation a c none = grind (arith, c, none)
+
   pub on_tee-none : (s : Slots) (u : TeeId) (operation : TeeOperation) (o : Option tee.Slots) → of_tee is_cancelled operation ≡ 0 → none_of s (on_tee_at (tee_operation u operation) u s o).caused ≡ 0
   on_tee-none s u operation None c = refl
   on_tee-none s u operation (Some x) c = tee-none s u operation (record { slots = x; out = found s }) c refl
+
+  pub on_port-none : (s : Slots) (u : PortId) (operation : PortOperation) (o : Option cross.Slots) → of_port is_cancelled operation ≡ 0 → none_of s (on_port_at (λ clones. port_operation u clones operation) u s o).caused ≡ 0
+  on_port-none s u operation None c = refl
+  on_port-none s u operation (Some x) c = port-none s u (clones_at x s) operation (record { slots = x; out = found s }) c refl
 
   pipe-step : (p : PipeId) (step : Step) → IsStepOf p step → is_cancelled step ≡ 0
   pipe-step p step c = grind arith
@@ -158,6 +172,7 @@ module _ (t : TransformId) where
         abort = λ x c p h. causing-none s x (AbortAlgorithm j c p) refl h;
         hand_on = λ x v h. causing-none s x (write_to_host j v) refl h;
         take = λ x v u d h. causing-none s x (OnTransform u (names.TransformChunk v d)) refl h;
+        post = λ x v u d h. causing-none s x (OnPort u (PostChunk v d)) refl h;
       }) operation (writable_acts j s) refl) (λ none. refl)
 
   others-none : (s : Slots) (j : StreamId) → mine s j ≡ false → OfReadable (λ (x : Out). none_of s x.effects ≡ 0) j
@@ -209,26 +224,31 @@ module _ (t : TransformId) where
   pull-none s j Host = refl
   pull-none s j (HalfOf u) = refl
   pull-none s j (BranchOf u half) = refl
+  pull-none s j (EndOf c) = refl
 
   pub cancel-none : (s : Slots) (j : StreamId) (c : Plain) (p : PromiseId) (owner : Owner) → one_if (is_half t owner) ≡ 0 → none_of s (cancel_algorithm j c (React ReturnUndefined (Some p)) owner) ≡ 0
   cancel-none s j c p Host n = refl
   cancel-none s j c p (HalfOf u) n = omega arith
   cancel-none s j c p (BranchOf u half) n = refl
+  cancel-none s j c p (EndOf q) n = refl
 
   pub write-none : (s : Slots) (j : StreamId) (owner : Owner) → none_of s (write_algorithm j owner) ≡ 0
   write-none s j Host = refl
   write-none s j (HalfOf u) = refl
   write-none s j (BranchOf u half) = refl
+  write-none s j (EndOf c) = refl
 
   pub close-none : (s : Slots) (j : StreamId) (owner : Owner) → none_of s (close_algorithm j (React (WritableClose j) None) owner) ≡ 0
   close-none s j Host = refl
   close-none s j (HalfOf u) = refl
   close-none s j (BranchOf u half) = refl
+  close-none s j (EndOf c) = refl
 
   pub abort-none : (s : Slots) (j : StreamId) (c : Plain) (p : PromiseId) (owner : Owner) → none_of s (abort_algorithm j c (React (WritableAbort j p) None) owner) ≡ 0
   abort-none s j c p Host = refl
   abort-none s j c p (HalfOf u) = refl
   abort-none s j c p (BranchOf u half) = refl
+  abort-none s j c p (EndOf q) = refl
 
   -- the stream is the readable half
   module _ (r : StreamId) where
@@ -247,6 +267,7 @@ module _ (t : TransformId) where
             let same : h.0 ≡ x.0 = cc in
             sym x.1.1 ∙ (sym (ap (λ (y : TransformShape). y.readable) same) ∙ h.1.1)
         by (BranchOf u half) at k = cc
+        by (EndOf c) at k = cc
 
     default-none : (s : Slots) (j : StreamId) (operation : ReadableOperation) → Halved s → Reads t r s → has_byte j s ≡ false → can_close_or_enqueue (readable_at r (on_readable (readable_operation j operation) j s).slots) ≡ true
         → none_of s (on_readable (readable_operation j operation) j s).caused ≡ 0
@@ -278,6 +299,7 @@ module _ (t : TransformId) where
     row-none (OnSignal a operation) s halved h can n = signal-none s a operation (slice_get s.signals a.0)
     row-none (OnTransform u operation) s halved h can n = on_transform-none s u operation (slice_get s.transforms u.0) n
     row-none (OnTee u operation) s halved h can n = on_tee-none s u operation (slice_get s.tees u.0) n
+    row-none (OnPort u operation) s halved h can n = on_port-none s u operation (slice_get s.ports u.0) n
     row-none (StartAlgorithm j step start) s halved h can n = start-none s s j step start n
     row-none (PullAlgorithm j) s halved h can n = pull-none s j (owner_at j s)
     row-none (CancelAlgorithm j c p) s halved h can n = cancel-none s j c p (owner_at j s) n
@@ -308,6 +330,7 @@ module _ (t : TransformId) where
   none-owned (OnSignal a operation) s o n = signal-none s a operation (slice_get s.signals a.0)
   none-owned (OnTransform u operation) s o n = on_transform-none s u operation (slice_get s.transforms u.0) n
   none-owned (OnTee u operation) s o n = on_tee-none s u operation (slice_get s.tees u.0) n
+  none-owned (OnPort u operation) s o n = on_port-none s u operation (slice_get s.ports u.0) n
   none-owned (StartAlgorithm j step start) s o n = start-none s s j step start n
   none-owned (PullAlgorithm j) s o n = pull-none s j (owner_at j s)
   none-owned (CancelAlgorithm j c p) s o n = cancel-none s j c p (owner_at j s) n

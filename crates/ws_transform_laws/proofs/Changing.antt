@@ -3,7 +3,7 @@ use Rattle.std.proofs.Common.{◌≡◌, ◌⊎◌, inl, inr, ℕ, zero, suc, Bo
 use Rattle.ws_value.specs.declared.ids.{PipeId.{PipeId}, PromiseId.{PromiseId}, SignalId.{SignalId}}
 use Rattle.ws_value.specs.declared.value.Plain.{Plain}
 use Rattle.ws_steps.specs.declared.calls.{HostCall.{HostCall}, StartBy.TheVariants.{Now, Later}}
-use Rattle.ws_steps.specs.declared.effects.{Effect.{Effect}, Effect.TheVariants.{Readable as OnReadable, Writable as OnWritable, Pipe as OnPipe, Signal as OnSignal, Transform as OnTransform, Tee as OnTee, StartAlgorithm, ChunkSteps, CloseSteps, ErrorSteps}, Use.{Use}}
+use Rattle.ws_steps.specs.declared.effects.{Effect.{Effect}, Effect.TheVariants.{Readable as OnReadable, Writable as OnWritable, Pipe as OnPipe, Signal as OnSignal, Transform as OnTransform, Tee as OnTee, Port as OnPort, StartAlgorithm, ChunkSteps, CloseSteps, ErrorSteps}, Use.{Use}}
 use Rattle.ws_steps.specs.declared.pipes.{PipeOperation.{PipeOperation}, SignalOperation.{SignalOperation}}
 use Rattle.ws_steps.specs.declared.promises.Step.{Step}
 use Rattle.ws_steps.specs.declared.promises.Step.TheVariants.{TransformFlushed, TransformAborted, TransformCancelled}
@@ -11,11 +11,11 @@ use Rattle.ws_steps.specs.declared.readable.{ReadRequest.TheVariants.{Promise, P
 use Rattle.ws_steps.specs.declared.transform.{Halves.{Halves}, TransformId.{TransformId}, TransformOperation.{TransformOperation}}
 use Rattle.ws_steps.specs.declared.transform.TransformOperation.TheVariants as names
 use Rattle.ws_steps.specs.declared.writable.{WritableState.{WritableState}, WritableState.TheVariants.{Writable as IsWritable, Erroring, Errored as WritableErrored, Closed as WritableClosed}}
-use Rattle.ws_steps.specs.Operations.{writable_operation, pipe_operation, signal_operation, transform_operation, tee_operation}
+use Rattle.ws_steps.specs.Operations.{writable_operation, pipe_operation, signal_operation, transform_operation, tee_operation, port_operation}
 use Rattle.ws_steps.specs.Pipes as pipe
 use Rattle.ws_steps.specs.Promises.{fresh, settle}
 use Rattle.ws_steps.specs.Slots as realm
-use Rattle.ws_steps.specs.Slots.{Done, nothing, found, halves_at, has_readable, has_writable, on_pipe_at, on_signal_at, on_transform_at, put_readable, put_writable, on_tee_at}
+use Rattle.ws_steps.specs.Slots.{Done, nothing, found, halves_at, has_readable, has_writable, on_pipe_at, on_signal_at, on_transform_at, put_readable, put_writable, on_tee_at, on_port_at}
 use Rattle.ws_steps.specs.Transform.{Slots, Acts, done, set_backpressure, unblock, differs, enqueue, enqueued, transform_error, terminate, transform_chunk, perform_transform, wait_for_change, sink_write, write_in, write_goes_on, source_pull, finish_by, sink_close, sink_abort, source_cancel, flushed_in, flush_settled, aborted_in, abort_settled, cancelled_in, cancel_settled}
 use Rattle.ws_steps.specs.Turns.{row, call_host}
 use Rattle.ws_steps.proofs.PromiseLaws.{slice_get-set_other}
@@ -23,8 +23,11 @@ use Rattle.ws_laws.proofs.Tables.{either, writable_acts, eq_numbers, unequal_num
 use Rattle.ws_steps.specs.declared.effects.Effect.TheVariants.{Byte, CloseStepsWith}
 use Rattle.ws_laws.proofs.Rows.{source-leaves, byte-leaves}
 use Rattle.ws_value.specs.declared.ids.TeeId.{TeeId}
+use Rattle.ws_value.specs.declared.ids.PortId.{PortId}
 use Rattle.ws_steps.specs.declared.tee.TeeOperation.{TeeOperation}
+use Rattle.ws_steps.specs.declared.port.PortOperation.{PortOperation}
 use Rattle.ws_steps.specs.Tee as tee
+use Rattle.ws_steps.specs.Cross as cross
 
 abbrev pub Turned : Acts → Acts → Type 0
 Turned a b = ((b.slots.change ≡ a.slots.change) × (b.slots.backpressure ≡ a.slots.backpressure)) ⊎ (b.out.promises ≡ fresh (settle a.slots.change done a.out.promises))
@@ -140,6 +143,10 @@ pub tee-transforms : (u : TeeId) (operation : TeeOperation) (s : realm.Slots) (o
 tee-transforms u operation s None = refl
 tee-transforms u operation s (Some x) = refl
 
+pub port-transforms : (u : PortId) (operation : PortOperation) (s : realm.Slots) (o : Option cross.Slots) → (on_port_at (λ clones. port_operation u clones operation) u s o).slots.transforms ≡ s.transforms
+port-transforms u operation s None = refl
+port-transforms u operation s (Some x) = refl
+
 pub row-turns : (t : TransformId) (e : Effect) (x : Slots) (s : realm.Slots) → slice_get s.transforms t.0 ≡ Some x → Turns t x s (row e s).slots
 unfolding row call_host
 row-turns t (OnReadable i operation) x s there = kept t x s _ (source-leaves (λ z. z.transforms) (λ z y o. refl) i operation s) there
@@ -150,6 +157,7 @@ row-turns t (OnPipe p operation) x s there = kept t x s _ (pipe-transforms p ope
 row-turns t (OnSignal a operation) x s there = kept t x s _ (signal-transforms a operation s (slice_get s.signals a.0)) there
 row-turns t (OnTransform u operation) x s there = transform-turns t u operation x s (slice_get s.transforms u.0) (nat_eq t.0 u.0) refl refl there
 row-turns t (OnTee u operation) x s there = kept t x s _ (tee-transforms u operation s (slice_get s.tees u.0)) there
+row-turns t (OnPort u operation) x s there = kept t x s _ (port-transforms u operation s (slice_get s.ports u.0)) there
 row-turns t (StartAlgorithm i step Now) x s there = kept t x s _ refl there
 row-turns t (StartAlgorithm i step Later) x s there = kept t x s _ refl there
 row-turns t (ChunkSteps i (Promise p) v) x s there = kept t x s _ refl there

@@ -2,15 +2,15 @@
 use Rattle.std.proofs.Common.{◌≡◌, Bool, true, false, List, [], ◌∷◌, ◌++◌, Option, Some, None, Result, Ok, Err, slice_get, refl, ap, ◌∙◌, arith}
 use Rattle.ws_value.specs.declared.{ids.PipeId.{PipeId}, ids.PromiseId.{PromiseId}, ids.StreamId.{StreamId}, value.Plain.{Plain}, value.Plain.TheVariants.{Undefined}, value.Value.{Value}}
 use Rattle.ws_steps.specs.declared.calls.{Call.{Call}}
-use Rattle.ws_steps.specs.declared.effects.{Effect.{Effect}, Owner.{Owner}, Owner.TheVariants.{Host, HalfOf, BranchOf}, Use.{Use}}
-use Rattle.ws_steps.specs.declared.effects.Effect.TheVariants.{Readable as OnReadable, Writable as OnWritable, Pipe as OnPipe, Signal as OnSignal, Transform as OnTransform, Tee as OnTee, StartAlgorithm, PullAlgorithm, CancelAlgorithm, WriteAlgorithm, CloseAlgorithm, AbortAlgorithm, ChunkSteps, CloseSteps, ErrorSteps}
+use Rattle.ws_steps.specs.declared.effects.{Effect.{Effect}, Owner.{Owner}, Owner.TheVariants.{Host, HalfOf, BranchOf, EndOf}, Use.{Use}}
+use Rattle.ws_steps.specs.declared.effects.Effect.TheVariants.{Readable as OnReadable, Writable as OnWritable, Pipe as OnPipe, Signal as OnSignal, Transform as OnTransform, Tee as OnTee, Port as OnPort, StartAlgorithm, PullAlgorithm, CancelAlgorithm, WriteAlgorithm, CloseAlgorithm, AbortAlgorithm, ChunkSteps, CloseSteps, ErrorSteps}
 use Rattle.ws_steps.specs.declared.pipes.{SignalOperation.{SignalOperation}, SignalOperation.TheVariants.{Add, Forget, Trigger}}
 use Rattle.ws_steps.specs.declared.promises.{Job.{Job}}
 use Rattle.ws_steps.specs.declared.promises.Job.TheVariants.{Reaction as ReactionJob}
 use Rattle.ws_steps.specs.declared.promises.Step.TheVariants.{TransformChanged}
 use Rattle.ws_steps.specs.declared.readable.ReadRequest.{ReadRequest}
 use Rattle.ws_steps.specs.declared.readable.ReadRequest.TheVariants.{Promise, Pipe as PipeRequest, Tee as TeeRequest}
-use Rattle.ws_steps.specs.declared.transform.{Halves.{Halves}, Kind.{Kind}, Kind.TheVariants.{Identity, Host as HostKind}, Taker.{Taker}, Taker.TheVariants.{ToHost, ToTransform}, TransformId.{TransformId}, TransformOperation.{TransformOperation}}
+use Rattle.ws_steps.specs.declared.transform.{Halves.{Halves}, Kind.{Kind}, Kind.TheVariants.{Identity, Host as HostKind}, Taker.{Taker}, Taker.TheVariants.{ToHost, ToTransform, ToPort}, TransformId.{TransformId}, TransformOperation.{TransformOperation}}
 use Rattle.ws_steps.specs.declared.transform.TransformOperation.TheVariants as names
 use Rattle.ws_steps.specs.declared.writable.{WritableOperation.TheVariants.{HandOn}, WriteRecord.{WriteRecord}, WriteRecord.TheVariants.{Chunk, InFlight, CloseMark}}
 use Rattle.ws_steps.specs.declared.writable.WritableState.{WritableState}
@@ -34,7 +34,9 @@ use Rattle.ws_transform_laws.proofs.Backpressure.{pressed}
 use Rattle.ws_transform_laws.proofs.Prompt.{IsPlain, may_carry, plain-caused, call-plain, job-plain}
 use Rattle.ws_steps.specs.declared.effects.Effect.TheVariants.{Byte, CloseStepsWith}
 use Rattle.ws_value.specs.declared.ids.TeeId.{TeeId}
+use Rattle.ws_value.specs.declared.ids.PortId.{PortId}
 use Rattle.ws_laws.proofs.TeeDoes.{TeeCauses}
+use Rattle.ws_laws.proofs.PortDoes.{PortCauses}
 
 -- an effect by which no write goes on
 abbrev pub IsNoGoing : Effect → Type 0
@@ -73,20 +75,25 @@ tee-rests : (u : TeeId) (source first second : StreamId) (e : Effect) → TeeCau
 tee-rests u source first second (OnTransform y operation) c = absurd c
 tee-rests u source first second _ c = tt
 
+port-rests : (u : PortId) (stream : StreamId) (e : Effect) → PortCauses u stream e → IsNoGoing e
+port-rests u stream (OnTransform y operation) c = absurd c
+port-rests u stream _ c = tt
+
 rests-causes : (e : Effect) → Causes IsNoGoing e
 rests-causes (OnReadable j operation) = record { pull = tt; cancel = λ c p. tt; chunk = λ q v. tt; close = λ q. tt; error = λ q e. tt }
 rests-causes (Byte j operation) = record { readable = record { pull = tt; cancel = λ c p. tt; chunk = λ q v. tt; close = λ q. tt; error = λ q e. tt }; close_with = λ r b. tt }
-rests-causes (OnWritable j operation) = record { write = tt; close = tt; abort = λ c p. tt; hand_on = λ v. tt; take = λ v u d. tt }
+rests-causes (OnWritable j operation) = record { write = tt; close = tt; abort = λ c p. tt; hand_on = λ v. tt; take = λ v u d. tt; post = λ v u d. tt }
 rests-causes (OnPipe p operation) = pipe-rests p
 rests-causes (OnSignal a operation) = signal-rests operation
 rests-causes (OnTransform u operation) = transform-rests u
 rests-causes (OnTee u operation) = tee-rests u
+rests-causes (OnPort u operation) = port-rests u
 rests-causes (StartAlgorithm j step start) = (λ g u. tt, λ c u. tt)
-rests-causes (PullAlgorithm j) = (λ c u. tt, (λ y u. tt, (λ k. tt, λ u. tt)))
-rests-causes (CancelAlgorithm j c p) = (λ c u. tt, (λ y u. tt, λ k half u. tt))
-rests-causes (WriteAlgorithm j) = (tt, λ y u. tt)
-rests-causes (CloseAlgorithm j) = (λ c u. tt, λ y u. tt)
-rests-causes (AbortAlgorithm j c p) = (λ c u. tt, λ y u. tt)
+rests-causes (PullAlgorithm j) = (λ c u. tt, (λ y u. tt, (λ k. tt, (λ u. tt, λ q. tt))))
+rests-causes (CancelAlgorithm j c p) = (λ c u. tt, (λ y u. tt, (λ k half u. tt, λ y u. tt)))
+rests-causes (WriteAlgorithm j) = (tt, (λ y u. tt, λ z u. tt))
+rests-causes (CloseAlgorithm j) = (λ c u. tt, (λ y u. tt, λ z u. tt))
+rests-causes (AbortAlgorithm j c p) = (λ c u. tt, (λ y u. tt, λ z u. tt))
 rests-causes (ChunkSteps j q v) = chunk-rests v q
 rests-causes (CloseSteps j q) = end-rests q
 rests-causes (CloseStepsWith j q b) = end-rests q
@@ -200,6 +207,7 @@ module _ (t : TransformId) where
   taken-ready : (W : Type 0) (j : StreamId) (taker : Taker) (v : Value) → (due_of (OnWritable j (HandOn taker)) ≡ true → W) → Ready W (writable.taken_by j v taker ∷ [])
   taken-ready W j ToHost v k = (λ e. absurd (cc), tt)
   taken-ready W j (ToTransform u d) v k = (k, tt)
+  taken-ready W j (ToPort c d) v k = (λ e. absurd (cc), tt)
 
   first-ready : (W : Type 0) (j : StreamId) (taker : Taker) (a : writable.Acts) (first : Option WriteRecord) → a.out.effects ≡ [] → (due_of (OnWritable j (HandOn taker)) ≡ true → W) → Ready W (writable.hand_on_first j taker a first).out.effects
   first-ready W j taker a None none k = rw none tt
@@ -217,6 +225,7 @@ module _ (t : TransformId) where
   write-ready W j Host = (λ e. absurd (cc), tt)
   write-ready W j (HalfOf u) = (λ e. absurd (cc), tt)
   write-ready W j (BranchOf u half) = (λ e. absurd (cc), tt)
+  write-ready W j (EndOf c) = (λ e. absurd (cc), tt)
 
   plain-ready : (W : Type 0) (e : Effect) (s : Slots) → may_carry e ≡ false → Ready W (row e s).caused
   plain-ready W e s c = not-due-ready W (row e s).caused (plain-not-due (row e s).caused (plain-caused e s c) (row-causes IsNoGoing e s (rests-causes e)))
@@ -226,6 +235,11 @@ module _ (t : TransformId) where
   SinksOf (OnTransform u (names.SinkWrite w)) s W = Sinks u s W
   SinksOf _ s W = Unit {0}
 
+  port-not_due : (c : PortId) (stream : StreamId) (e : Effect) → PortCauses c stream e → due_of e ≡ false
+  port-not_due c stream (OnTransform u operation) k = absurd k
+  port-not_due c stream (OnWritable j (HandOn (ToTransform u d))) k = absurd k
+  port-not_due c stream _ k = refl
+
   pub row-due : (W : Type 0) (e : Effect) (s : Slots) → (due_of e ≡ true → W) → SinksOf e s W → Ready W (row e s).caused
   unfolding row
   row-due W (OnWritable j (HandOn taker)) s k w = hand_on-ready W s j taker k
@@ -233,4 +247,5 @@ module _ (t : TransformId) where
   row-due W (OnTransform u (names.WriteGoesOn d)) s k w = goes-on W s u d (slice_get s.transforms u.0) k
   row-due W (OnTransform u (names.TransformChunk v d)) s k w = chunk-on W s u v d (slice_get s.transforms u.0)
   row-due W (WriteAlgorithm j) s k w = write-ready W j (owner_at j s)
+  row-due W (OnPort c operation) s k w = not-due-ready W (row (OnPort c operation) s).caused (row-causes (λ e. due_of e ≡ false) (OnPort c operation) s (port-not_due c))
   row-due W e s k w = plain-ready W e s refl

@@ -3,7 +3,7 @@ use Rattle.std.proofs.Common.{◌≡◌, ℕ, zero, suc, Bool, true, false, ◌&
 use Rattle.ws_value.specs.declared.ids.{StreamId.{StreamId}}
 use Rattle.ws_value.specs.declared.value.Value.{Value}
 use Rattle.ws_steps.specs.declared.calls.{Call.{Call}, Call.TheVariants.{Enqueue as EnqueueCall}}
-use Rattle.ws_steps.specs.declared.effects.{Effect.{Effect}, Owner.{Owner}, Owner.TheVariants.{Host, HalfOf, BranchOf}}
+use Rattle.ws_steps.specs.declared.effects.{Effect.{Effect}, Owner.{Owner}, Owner.TheVariants.{Host, HalfOf, BranchOf, EndOf}}
 use Rattle.ws_steps.specs.declared.effects.Effect.TheVariants.{Readable as OnReadable, Transform as OnTransform}
 use Rattle.ws_steps.specs.declared.promises.Job.{Job}
 use Rattle.ws_steps.specs.declared.readable.ReadableOperation.TheVariants.{Enqueue}
@@ -21,6 +21,7 @@ use Rattle.ws_steps.specs.Slots.{Slots, ReadableStream, Done, empty, has_readabl
 use Rattle.ws_steps.specs.Transform as transform
 use Rattle.ws_steps.specs.Turns.{moments, row}
 use Rattle.ws_laws.proofs.Begin.{IsFirst, Enqueues, Never, begin-first, job-first}
+use Rattle.ws_laws.proofs.Ended.{Ended, ended-stays, run-ended}
 use Rattle.ws_laws.proofs.Halves.{Halved, halved-stays, halved-empty, run-halved, step-shapes, step-among}
 use Rattle.ws_laws.proofs.Lists.{Each, each-map}
 use Rattle.ws_laws.proofs.Shapes.{StreamShape, ReadableOf, TransformShape, stream_shape, stream_shapes, transform_shapes, transform_shape, map-there, row-transform_shapes}
@@ -46,6 +47,7 @@ module _ (t : TransformId) (r : StreamId) where
     even : base ++ h.two ≡ h.one ++ entering t r es
     enter : Enter t r s es
     halved : Halved s
+    ended : Ended s
     reads : Reads t r s
 
   lists : (base one two ee taken told_ caused es : List Value) → base ++ two ≡ one ++ (ee ++ es) → es ≡ [] → ee ++ taken ≡ told_ ++ caused → base ++ (two ++ taken) ≡ (one ++ told_) ++ (caused ++ es)
@@ -53,12 +55,13 @@ module _ (t : TransformId) (r : StreamId) where
 
   row-enters : (base : List Value) (h : Both) (s : Slots) (e : Effect) (es : List Effect) → Enters base h s (e ∷ es) → Enters base (both_then h (told e s)) (row e s).slots ((row e s).caused ++ es)
   row-enters base h s e es k =
-      let g = row-goes t r e s k.halved k.reads k.enter.0 in
+      let g = row-goes t r e s k.halved k.ended k.reads k.enter.0 in
       let more = entering-append t r (row e s).caused es in
       record {
         even = rw more (lists base h.one h.two (entering_of t r e) (effect_enqueued t e s) (effect_flow r e s).entered (entering t r (row e s).caused) (entering t r es) k.even (quiet-entering t r es k.enter.1) g.even);
         enter = enter-append t r (row e s).slots (row e s).caused es g.enter k.enter.1;
         halved = halved-stays.row s e es k.halved;
+        ended = ended-stays.row s e es k.ended;
         reads = (k.reads.0, (ap (λ (vs : List TransformShape). slice_get vs t.0) (row-transform_shapes e s) ∙ k.reads.1.0, k.reads.1.1));
       }
 
@@ -108,6 +111,7 @@ module _ (t : TransformId) (r : StreamId) where
       either (λ (b : Begun). Starts b (accepted_by r (EnqueueCall j v) b.reply)) (can_close_or_enqueue (readable_at j s)) (calls.does (OnTransform u (names.Enqueue v) ∷ []) s) (calls.throws_type_error s)
       (λ can. ((λ here. rw (same_id r j (sym same ∙ here)) can, tt), rw same (sym (append-nil (if is_same r j then v ∷ [] else []))))) (λ cannot. (tt, refl))
   by-owner j v s (BranchOf u half) there is halved h = (tt, refl)
+  by-owner j v s (EndOf c) there is halved h = (tt, refl)
 
   -- a byte stream is another
   by-bytes : (j : StreamId) (v : Value) (s : Slots) → is_same r j ≡ false → Starts (calls.enqueue_bytes j s v) (accepted_by r (EnqueueCall j v) (calls.enqueue_bytes j s v).reply)
@@ -133,6 +137,7 @@ module _ (t : TransformId) (r : StreamId) where
       was Host k = either (λ (b : Begun). Reads t r b.done.slots → Reads t r s) (can_close_or_enqueue (readable_at j s)) (calls.does (OnReadable j (Enqueue v) ∷ []) s) (calls.throws_type_error s) (λ e x. x) (λ e x. x) k
       was (HalfOf u) k = either (λ (b : Begun). Reads t r b.done.slots → Reads t r s) (can_close_or_enqueue (readable_at j s)) (calls.does (OnTransform u (names.Enqueue v) ∷ []) s) (calls.throws_type_error s) (λ e x. x) (λ e x. x) k
       was (BranchOf u half) k = k
+      was (EndOf c) k = k
   call-starts c s halved h =
       let q = each-map (IsFirst (Enqueues c)) (Quiet t r) (first-quiet (Enqueues c) (λ j v e. cc)) (begin c s).done.caused (begin-first c s) in
       (quiet-enter t r (begin c s).done.slots (begin c s).done.caused q, sym (quiet-entering t r (begin c s).done.caused q))
@@ -157,15 +162,25 @@ module _ (t : TransformId) (r : StreamId) where
       by (Some job) = halved
   begun-halved Heard s halved = halved
 
+  begun-ended : (x : Entry) (s : Slots) → Ended s → Ended (begun_by s x).slots
+  unfolding begin_job
+  begun-ended (Called c) s ended = ended-stays.call s c ended
+  begun-ended Worked s ended = by (next_job s.promises)
+    where
+      by : (job : Option Job) → Ended (job_begun s job).slots
+      by None = ended
+      by (Some job) = ended
+  begun-ended Heard s ended = ended
+
   -- a step
 
-  pub step-enters : (x : Entry) (s : Slots) → Halved s → Reads t r (step s x) → (step_flow r s x).entered ≡ accepted_in_step r s x ++ step_enqueued t s x
-  step-enters x s halved h =
+  pub step-enters : (x : Entry) (s : Slots) → Halved s → Ended s → Reads t r (step s x) → (step_flow r s x).entered ≡ accepted_in_step r s x ++ step_enqueued t s x
+  step-enters x s halved ended h =
       let d : Done = begun_by s x in
       let reads : Reads t r d.slots = (h.0, (ap (λ (vs : List TransformShape). slice_get vs t.0) (sym (step-shapes x s)) ∙ h.1.0, h.1.1)) in
       let st = entry-starts x s halved reads in
       let base : List Value = accepted_in_step r s x in
-      let k = performed-goes neither both_then are_both told (Enters base) (row-enters base) neither d (record { even = append-nil base ∙ st.1; enter = st.0; halved = begun-halved x s halved; reads = reads }) in
+      let k = performed-goes neither both_then are_both told (Enters base) (row-enters base) neither d (record { even = append-nil base ∙ st.1; enter = st.0; halved = begun-halved x s halved; ended = begun-ended x s ended; reads = reads }) in
       let one = along-map neither both_then [] ◌++◌ (λ (b : Both). b.one) refl (λ a b. refl) told (moments d) in
       let two = along-map neither both_then [] ◌++◌ (λ (b : Both). b.two) refl (λ a b. refl) told (moments d) in
       let flow = along-map no_flow flow_then [] ◌++◌ (λ (f : Flow). f.entered) refl (λ a b. refl) (effect_flow r) (moments d) in
@@ -174,7 +189,7 @@ module _ (t : TransformId) (r : StreamId) where
 pub each_step_enters : EachStepEnters
 each_step_enters entries x t y is =
     let s : Slots = run entries empty in
-    step-enters t y.readable x s (run-halved entries empty halved-empty) (transform_shape y, (map-there transform_shape (step s x).transforms t.0 y is, refl))
+    step-enters t y.readable x s (run-halved entries empty halved-empty) (run-ended entries) (transform_shape y, (map-there transform_shape (step s x).transforms t.0 y is, refl))
 
 -- a transform stream of the host enqueues nothing by itself
 
@@ -215,13 +230,13 @@ module _ (t : TransformId) where
         kind = (k.kind.0, (ap (λ (vs : List TransformShape). slice_get vs t.0) (row-transform_shapes e s) ∙ k.kind.1.0, k.kind.1.1));
       }) [] d (record { none = refl; kind = h })).none
 
-  job-enters : (s : Slots) (r : StreamId) (x : TransformShape) → Halved s → slice_get (transform_shapes s) t.0 ≡ Some x → x.readable ≡ r → x.kind ≡ HostKind → (step_flow r s Worked).entered ≡ []
-  job-enters s r x halved is half kind =
+  job-enters : (s : Slots) (r : StreamId) (x : TransformShape) → Halved s → Ended s → slice_get (transform_shapes s) t.0 ≡ Some x → x.readable ≡ r → x.kind ≡ HostKind → (step_flow r s Worked).entered ≡ []
+  job-enters s r x halved ended is half kind =
       let after : slice_get (transform_shapes (step s Worked)) t.0 ≡ Some x = step-among Worked s t x is in
       let begun : slice_get (transform_shapes (begin_job s).slots) t.0 ≡ Some x = ap (λ (vs : List TransformShape). slice_get vs t.0) (sym (step-shapes Worked s)) ∙ after in
-      step-enters t r Worked s halved (x, (after, half)) ∙ none-enqueued (begin_job s) (x, (begun, kind))
+      step-enters t r Worked s halved ended (x, (after, half)) ∙ none-enqueued (begin_job s) (x, (begun, kind))
 
 pub jobs_enter_nothing : JobsEnterNothing
 jobs_enter_nothing entries t y is kind =
     let s : Slots = run entries empty in
-    job-enters t s y.readable (transform_shape y) (run-halved entries empty halved-empty) (map-there transform_shape s.transforms t.0 y is) refl kind
+    job-enters t s y.readable (transform_shape y) (run-halved entries empty halved-empty) (run-ended entries) (map-there transform_shape s.transforms t.0 y is) refl kind

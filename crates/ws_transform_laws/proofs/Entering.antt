@@ -4,7 +4,7 @@ use Rattle.std.proofs.Common.{◌≡◌, ℕ, zero, suc, Bool, true, false, ◌&
 use Rattle.ws_value.specs.declared.ids.{PipeId.{PipeId}, PromiseId.{PromiseId}, StreamId.{StreamId}}
 use Rattle.ws_value.specs.declared.value.Value.{Value}
 use Rattle.ws_steps.specs.declared.effects.{Effect.{Effect}, Owner.TheVariants.{HalfOf}}
-use Rattle.ws_steps.specs.declared.effects.Effect.TheVariants.{Readable as OnReadable, Writable as OnWritable, Pipe as OnPipe, Signal as OnSignal, Transform as OnTransform, Tee as OnTee, StartAlgorithm, PullAlgorithm, CancelAlgorithm, WriteAlgorithm, CloseAlgorithm, AbortAlgorithm, ChunkSteps, CloseSteps, ErrorSteps}
+use Rattle.ws_steps.specs.declared.effects.Effect.TheVariants.{Readable as OnReadable, Writable as OnWritable, Pipe as OnPipe, Signal as OnSignal, Transform as OnTransform, Tee as OnTee, Port as OnPort, StartAlgorithm, PullAlgorithm, CancelAlgorithm, WriteAlgorithm, CloseAlgorithm, AbortAlgorithm, ChunkSteps, CloseSteps, ErrorSteps}
 use Rattle.ws_steps.specs.declared.pipes.{SignalOperation.TheVariants.{Add, Forget, Trigger}}
 use Rattle.ws_steps.specs.declared.readable.{ReadRequest.TheVariants.{Promise, Pipe as PipeRequest, Tee as TeeRequest}, ReadableOperation.{ReadableOperation}, ReadableOperation.TheVariants.{Enqueue}}
 use Rattle.ws_steps.specs.declared.transform.{Halves.{Halves}, Kind.{Kind}, Kind.TheVariants.{Identity, Host as HostKind}, TransformId.{TransformId}, TransformOperation.{TransformOperation}}
@@ -27,10 +27,15 @@ use Rattle.ws_steps.specs.declared.effects.Effect.TheVariants.{Byte, CloseStepsW
 use Rattle.ws_steps.specs.Slots.{has_byte}
 use Rattle.ws_laws.proofs.StaysBytes.{bytes-told}
 use Rattle.ws_value.specs.declared.ids.TeeId.{TeeId}
+use Rattle.ws_value.specs.declared.ids.PortId.{PortId}
 use Rattle.ws_steps.specs.declared.tee.TeeOperation.{TeeOperation}
+use Rattle.ws_steps.specs.declared.port.PortOperation.{PortOperation}
 use Rattle.ws_steps.specs.Tee as tee
+use Rattle.ws_steps.specs.Cross as cross
 use Rattle.ws_laws.proofs.TeeDoes.{TeeCauses}
-use Rattle.ws_transform_laws.proofs.Branches.{tee-caused, not-branch}
+use Rattle.ws_laws.proofs.PortDoes.{PortCauses}
+use Rattle.ws_laws.proofs.Ended.{Ended}
+use Rattle.ws_transform_laws.proofs.Branches.{tee-caused, port-caused, not-branch, not-end}
 
 module _ (t : TransformId) (r : StreamId) where
   -- an effect that leads to no enqueue into the stream by an enqueue that stands on the agenda
@@ -103,6 +108,7 @@ module _ (t : TransformId) (r : StreamId) where
   IsOther (OnReadable j (Enqueue v)) = ⊥
   IsOther (OnTransform u operation) = ⊥
   IsOther (OnTee u operation) = ⊥
+  IsOther (OnPort u operation) = ⊥
   IsOther _ = Unit {0}
 
   pipe-quiet : (p : PipeId) (source dest : StreamId) (e : Effect) → PipeCauses p source dest e → Quiet e
@@ -116,19 +122,20 @@ module _ (t : TransformId) (r : StreamId) where
   quiet-causes : (e : Effect) → IsOther e → Causes Quiet e
   quiet-causes (OnReadable j operation) n = readable-quiet j operation
   quiet-causes (Byte j operation) n = record { readable = record { pull = tt; cancel = λ c p. tt; chunk = λ c v. tt; close = λ c. tt; error = λ c e. tt }; close_with = λ c b. tt }
-  quiet-causes (OnWritable j operation) n = record { write = tt; close = tt; abort = λ c p. tt; hand_on = λ v. tt; take = λ v u d. tt }
+  quiet-causes (OnWritable j operation) n = record { write = tt; close = tt; abort = λ c p. tt; hand_on = λ v. tt; take = λ v u d. tt; post = λ v u d. tt }
   quiet-causes (StartAlgorithm j step start) n = (λ g u. tt, λ c u. tt)
-  quiet-causes (PullAlgorithm j) n = (λ c u. tt, (λ y u. tt, (λ k. tt, λ u. tt)))
-  quiet-causes (CancelAlgorithm j c p) n = (λ c u. tt, (λ y u. tt, λ k half u. tt))
-  quiet-causes (WriteAlgorithm j) n = (tt, λ y u. tt)
-  quiet-causes (CloseAlgorithm j) n = (λ c u. tt, λ y u. tt)
-  quiet-causes (AbortAlgorithm j c p) n = (λ c u. tt, λ y u. tt)
+  quiet-causes (PullAlgorithm j) n = (λ c u. tt, (λ y u. tt, (λ k. tt, (λ u. tt, λ q. tt))))
+  quiet-causes (CancelAlgorithm j c p) n = (λ c u. tt, (λ y u. tt, (λ k half u. tt, λ y u. tt)))
+  quiet-causes (WriteAlgorithm j) n = (tt, (λ y u. tt, λ z u. tt))
+  quiet-causes (CloseAlgorithm j) n = (λ c u. tt, (λ y u. tt, λ z u. tt))
+  quiet-causes (AbortAlgorithm j c p) n = (λ c u. tt, (λ y u. tt, λ z u. tt))
   quiet-causes (OnPipe p operation) n = pipe-quiet p
   quiet-causes (OnSignal a (Trigger c)) n = λ p. tt
   quiet-causes (OnSignal a (Add p)) n = tt
   quiet-causes (OnSignal a (Forget p)) n = tt
   quiet-causes (OnTransform u operation) n = absurd n
   quiet-causes (OnTee u operation) n = absurd n
+  quiet-causes (OnPort u operation) n = absurd n
   quiet-causes (ChunkSteps j (Promise p) v) n = tt
   quiet-causes (ChunkSteps j (PipeRequest p) v) n = tt
   quiet-causes (ChunkSteps j (TeeRequest k) v) n = tt
@@ -156,6 +163,7 @@ module _ (t : TransformId) (r : StreamId) where
   other-told (OnReadable j (Enqueue v)) s n = absurd n
   other-told (OnTransform u operation) s n = absurd n
   other-told (OnTee u operation) s n = absurd n
+  other-told (OnPort u operation) s n = absurd n
   other-told _ s n = refl
 
   other-goes : (e : Effect) (s : Slots) → IsOther e → Goes e s (row e s).slots (row e s).caused
@@ -217,6 +225,21 @@ module _ (t : TransformId) (r : StreamId) where
       record {
         enter = quiet-enter (row (OnTee u operation) s).slots (row (OnTee u operation) s).caused q;
         even = sym (quiet-entering (row (OnTee u operation) s).caused q);
+      }
+
+  -- and one of a port
+
+  port-quiet : (s : Slots) (u : PortId) (x : cross.Slots) → Halved s → Ended s → Reads s → slice_get s.ports u.0 ≡ Some x → (e : Effect) → PortCauses u x.stream e → Quiet e
+  port-quiet s u x halved ended h at (OnReadable j (Enqueue v)) c = not-end s r t u x j ended (half-shape s halved h) at c
+  port-quiet s u x halved ended h at (OnTransform y operation) c = absurd c
+  port-quiet s u x halved ended h at _ c = tt
+
+  port-goes : (u : PortId) (operation : PortOperation) (s : Slots) → Halved s → Ended s → Reads s → Goes (OnPort u operation) s (row (OnPort u operation) s).slots (row (OnPort u operation) s).caused
+  port-goes u operation s halved ended h =
+      let q : Each Quiet (row (OnPort u operation) s).caused = port-caused Quiet u operation s (λ x at e c. port-quiet s u x halved ended h at e c) in
+      record {
+        enter = quiet-enter (row (OnPort u operation) s).slots (row (OnPort u operation) s).caused q;
+        even = sym (quiet-entering (row (OnPort u operation) s).caused q);
       }
 
   self : (k : ℕ) → nat_eq k k ≡ true
@@ -362,9 +385,10 @@ module _ (t : TransformId) (r : StreamId) where
   transform-half u (names.TransformChunk v d) s = chunk-half u v d s
   transform-half u operation s = resting-half u operation s (λ k. k) refl
 
-  pub row-goes : (e : Effect) (s : Slots) → Halved s → Reads s → Placed s e → Goes e s (row e s).slots (row e s).caused
+  pub row-goes : (e : Effect) (s : Slots) → Halved s → Ended s → Reads s → Placed s e → Goes e s (row e s).slots (row e s).caused
   unfolding row
-  row-goes (OnReadable j (Enqueue v)) s halved h p = enqueue-goes j v s p
-  row-goes (OnTransform u operation) s halved h p = transform-half u operation s (slice_get s.transforms u.0) refl halved h p
-  row-goes (OnTee u operation) s halved h p = tee-goes u operation s halved h
-  row-goes e s halved h p = other-goes e s tt
+  row-goes (OnReadable j (Enqueue v)) s halved ended h p = enqueue-goes j v s p
+  row-goes (OnTransform u operation) s halved ended h p = transform-half u operation s (slice_get s.transforms u.0) refl halved h p
+  row-goes (OnTee u operation) s halved ended h p = tee-goes u operation s halved h
+  row-goes (OnPort u operation) s halved ended h p = port-goes u operation s halved ended h
+  row-goes e s halved ended h p = other-goes e s tt

@@ -3,11 +3,11 @@ use Rattle.std.proofs.Common.{◌≡◌, ℕ, ◌+◌, ◌<◌, Bool, true, fals
 use Rattle.ws_value.specs.declared.ids.{PipeId.{PipeId}, PromiseId.{PromiseId}, StreamId.{StreamId}}
 use Rattle.ws_value.specs.declared.value.Plain.{Plain}
 use Rattle.ws_steps.specs.declared.effects.{Effect.{Effect}}
-use Rattle.ws_steps.specs.declared.effects.Effect.TheVariants.{Readable as OnReadable, Writable as OnWritable, Pipe as OnPipe, Signal as OnSignal, Transform as OnTransform, Tee as OnTee, StartAlgorithm, PullAlgorithm, CancelAlgorithm, WriteAlgorithm, CloseAlgorithm, AbortAlgorithm, ChunkSteps, CloseSteps, ErrorSteps}
+use Rattle.ws_steps.specs.declared.effects.Effect.TheVariants.{Readable as OnReadable, Writable as OnWritable, Pipe as OnPipe, Signal as OnSignal, Transform as OnTransform, Tee as OnTee, Port as OnPort, StartAlgorithm, PullAlgorithm, CancelAlgorithm, WriteAlgorithm, CloseAlgorithm, AbortAlgorithm, ChunkSteps, CloseSteps, ErrorSteps}
 use Rattle.ws_steps.specs.declared.pipes.SignalOperation.TheVariants.{Add, Forget, Trigger}
 use Rattle.ws_steps.specs.declared.promises.{Job.{Job}, Micro.TheVariants.{PipeLook, PipeWrite, PipeNoParts, TeeHand}}
 use Rattle.ws_steps.specs.declared.promises.Job.TheVariants.{Reaction as ReactionJob, Follow, Settle, Micro as MicroJob}
-use Rattle.ws_steps.specs.declared.promises.Step.TheVariants.{ReadableStart, ReadablePull, ReturnUndefined, WritableStart, WritableWrite, WritableClose, WritableAbort, PipeEnds, PipeReady, PipeWrote, PipeActed, PipePart, TransformChanged, Transformed, TransformFlushed, TransformAborted, TransformCancelled, TeeEnds}
+use Rattle.ws_steps.specs.declared.promises.Step.TheVariants.{ReadableStart, ReadablePull, ReturnUndefined, WritableStart, WritableWrite, WritableClose, WritableAbort, PipeEnds, PipeReady, PipeWrote, PipeActed, PipePart, TransformChanged, Transformed, TransformFlushed, TransformAborted, TransformCancelled, TeeEnds, PortUnblocked}
 use Rattle.ws_steps.specs.declared.readable.{ReadRequest.TheVariants.{Promise, Pipe as PipeRequest, Tee as TeeRequest}, ReadableOperation.TheVariants.{Close}, ReadableState.{ReadableState}, ReadableState.TheVariants.{Readable, Closed, Errored}}
 use Rattle.ws_steps.specs.declared.transform.{Halves.{Halves}, TransformId.{TransformId}, TransformOperation.{TransformOperation}}
 use Rattle.ws_steps.specs.declared.transform.TransformOperation.TheVariants as names
@@ -19,6 +19,7 @@ use Rattle.ws_steps.specs.Run.{Worked, run, step}
 use Rattle.ws_steps.specs.Slots.{Slots, Done, empty, found, halves_at, on_transform_at}
 use Rattle.ws_steps.specs.Transform as transform
 use Rattle.ws_steps.specs.Turns.{moments, row}
+use Rattle.ws_laws.proofs.Ended.{Ended, ended-stays, run-ended}
 use Rattle.ws_laws.proofs.Halves.{Halved, halved-stays, halved-empty, run-halved, step-shapes, step-among}
 use Rattle.ws_laws.proofs.Lists.{Each, each-append}
 use Rattle.ws_laws.proofs.PipeDoes.{PipeCauses}
@@ -30,9 +31,12 @@ use Rattle.ws_transform_laws.specs.TransformLaws.{FlushesClose}
 use Rattle.ws_transform_laws.proofs.Entering.{Reads, apart, half-shape}
 use Rattle.ws_steps.specs.declared.effects.Effect.TheVariants.{Byte, CloseStepsWith}
 use Rattle.ws_value.specs.declared.ids.TeeId.{TeeId}
+use Rattle.ws_value.specs.declared.ids.PortId.{PortId}
 use Rattle.ws_steps.specs.Tee as tee
+use Rattle.ws_steps.specs.Cross as cross
 use Rattle.ws_laws.proofs.TeeDoes.{TeeCauses}
-use Rattle.ws_transform_laws.proofs.Branches.{tee-caused, not-branch}
+use Rattle.ws_laws.proofs.PortDoes.{PortCauses}
+use Rattle.ws_transform_laws.proofs.Branches.{tee-caused, port-caused, not-branch, not-end}
 
 module _ (t : TransformId) (r : StreamId) where
   -- an effect that closes the stream neither now nor by what it causes
@@ -45,6 +49,7 @@ module _ (t : TransformId) (r : StreamId) where
   abbrev IsOther : Effect → Type 0
   IsOther (OnTransform u operation) = ⊥
   IsOther (OnTee u operation) = ⊥
+  IsOther (OnPort u operation) = ⊥
   IsOther _ = Unit {0}
 
   pipe-calm : (p : PipeId) (source dest : StreamId) (e : Effect) → PipeCauses p source dest e → Calm e
@@ -55,19 +60,20 @@ module _ (t : TransformId) (r : StreamId) where
   calm-causes : (e : Effect) → IsOther e → Causes Calm e
   calm-causes (OnReadable j operation) n = record { pull = tt; cancel = λ c p. tt; chunk = λ c v. tt; close = λ c. tt; error = λ c e. tt }
   calm-causes (Byte j operation) n = record { readable = record { pull = tt; cancel = λ c p. tt; chunk = λ c v. tt; close = λ c. tt; error = λ c e. tt }; close_with = λ r b. tt }
-  calm-causes (OnWritable j operation) n = record { write = tt; close = tt; abort = λ c p. tt; hand_on = λ v. tt; take = λ v u d. tt }
+  calm-causes (OnWritable j operation) n = record { write = tt; close = tt; abort = λ c p. tt; hand_on = λ v. tt; take = λ v u d. tt; post = λ v u d. tt }
   calm-causes (StartAlgorithm j step start) n = (λ g u. tt, λ c u. tt)
-  calm-causes (PullAlgorithm j) n = (λ c u. tt, (λ y u. tt, (λ k. tt, λ u. tt)))
-  calm-causes (CancelAlgorithm j c p) n = (λ c u. tt, (λ y u. tt, λ k half u. tt))
-  calm-causes (WriteAlgorithm j) n = (tt, λ y u. tt)
-  calm-causes (CloseAlgorithm j) n = (λ c u. tt, λ y u. tt)
-  calm-causes (AbortAlgorithm j c p) n = (λ c u. tt, λ y u. tt)
+  calm-causes (PullAlgorithm j) n = (λ c u. tt, (λ y u. tt, (λ k. tt, (λ u. tt, λ q. tt))))
+  calm-causes (CancelAlgorithm j c p) n = (λ c u. tt, (λ y u. tt, (λ k half u. tt, λ y u. tt)))
+  calm-causes (WriteAlgorithm j) n = (tt, (λ y u. tt, λ z u. tt))
+  calm-causes (CloseAlgorithm j) n = (λ c u. tt, (λ y u. tt, λ z u. tt))
+  calm-causes (AbortAlgorithm j c p) n = (λ c u. tt, (λ y u. tt, λ z u. tt))
   calm-causes (OnPipe p operation) n = pipe-calm p
   calm-causes (OnSignal a (Trigger c)) n = λ p. tt
   calm-causes (OnSignal a (Add p)) n = tt
   calm-causes (OnSignal a (Forget p)) n = tt
   calm-causes (OnTransform u operation) n = absurd n
   calm-causes (OnTee u operation) n = absurd n
+  calm-causes (OnPort u operation) n = absurd n
   calm-causes (ChunkSteps j (Promise p) v) n = tt
   calm-causes (ChunkSteps j (PipeRequest p) v) n = tt
   calm-causes (ChunkSteps j (TeeRequest k) v) n = tt
@@ -133,11 +139,17 @@ module _ (t : TransformId) (r : StreamId) where
   tee-calm s u x halved h at (OnTransform y operation) c = absurd c
   tee-calm s u x halved h at _ c = tt
 
-  row-calm : (e : Effect) (s : Slots) → Halved s → Reads t r s → Calm e → All (row e s).caused
+  port-calm : (s : Slots) (u : PortId) (x : cross.Slots) → Halved s → Ended s → Reads t r s → slice_get s.ports u.0 ≡ Some x → (e : Effect) → PortCauses u x.stream e → Calm e
+  port-calm s u x halved ended h at (OnReadable j Close) c = not-end s r t u x j ended (half-shape t r s halved h) at c
+  port-calm s u x halved ended h at (OnTransform y operation) c = absurd c
+  port-calm s u x halved ended h at _ c = tt
+
+  row-calm : (e : Effect) (s : Slots) → Halved s → Ended s → Reads t r s → Calm e → All (row e s).caused
   unfolding row
-  row-calm (OnTransform u operation) s halved h c = transform-calm u operation s (slice_get s.transforms u.0) refl halved h c
-  row-calm (OnTee u operation) s halved h c = tee-caused Calm u operation s (λ x at e k. tee-calm s u x halved h at e k)
-  row-calm e s halved h c = row-causes Calm e s (calm-causes e tt)
+  row-calm (OnTransform u operation) s halved ended h c = transform-calm u operation s (slice_get s.transforms u.0) refl halved h c
+  row-calm (OnTee u operation) s halved ended h c = tee-caused Calm u operation s (λ x at e k. tee-calm s u x halved h at e k)
+  row-calm (OnPort u operation) s halved ended h c = port-caused Calm u operation s (λ x at e k. port-calm s u x halved ended h at e k)
+  row-calm e s halved ended h c = row-causes Calm e s (calm-causes e tt)
 
   calm-closes : (e : Effect) (s : Slots) → Calm e → effect_closings r e s ≡ 0
   calm-closes (OnReadable j Close) s c = rw c refl
@@ -163,6 +175,8 @@ module _ (t : TransformId) (r : StreamId) where
   job-calm (ReactionJob (WritableAbort j p) o derived) n = (tt, resolved-calm derived _)
   job-calm (ReactionJob (PipeEnds p) o derived) n = (tt, resolved-calm derived _)
   job-calm (ReactionJob (TeeEnds t) o derived) n = (tt, resolved-calm derived _)
+  job-calm (ReactionJob (PortUnblocked q d) (Ok v) derived) n = (tt, resolved-calm derived _)
+  job-calm (ReactionJob (PortUnblocked q d) (Err e) derived) n = (tt, resolved-calm derived _)
   job-calm (ReactionJob (PipeReady p) o derived) n = (tt, resolved-calm derived _)
   job-calm (ReactionJob (PipeWrote p) o derived) n = (tt, resolved-calm derived _)
   job-calm (ReactionJob (PipeActed p) o derived) n = (tt, resolved-calm derived _)
@@ -192,38 +206,44 @@ module _ (t : TransformId) (r : StreamId) where
     none : n ≡ 0
     calm : All es
     halved : Halved s
+    ended : Ended s
     reads : Reads t r s
 
-  pub none-closes : (d : Done) → All d.caused → Halved d.slots → Reads t r d.slots → along 0 ◌+◌ (effect_closings r) (moments d) ≡ 0
-  none-closes d calm halved reads =
+  pub none-closes : (d : Done) → All d.caused → Halved d.slots → Ended d.slots → Reads t r d.slots → along 0 ◌+◌ (effect_closings r) (moments d) ≡ 0
+  none-closes d calm halved ended reads =
       let k = performed-goes 0 ◌+◌ are_numbers (effect_closings r) Closes
       (λ n s e es k. record {
         none = rw (k.none, calm-closes e s k.calm.0) refl;
-        calm = each-append Calm (row e s).caused es (row-calm e s k.halved k.reads k.calm.0) k.calm.1;
+        calm = each-append Calm (row e s).caused es (row-calm e s k.halved k.ended k.reads k.calm.0) k.calm.1;
         halved = halved-stays.row s e es k.halved;
+        ended = ended-stays.row s e es k.ended;
         reads = (k.reads.0, (ap (λ (vs : List TransformShape). slice_get vs t.0) (row-transform_shapes e s) ∙ k.reads.1.0, k.reads.1.1));
-      }) 0 d (record { none = refl; calm = calm; halved = halved; reads = reads }) in
+      }) 0 d (record { none = refl; calm = calm; halved = halved; ended = ended; reads = reads }) in
       let n = k.none in omega arith
 
   job-halved : (s : Slots) (job : Option Job) → Halved s → Halved (job_begun s job).slots
   job-halved s None h = h
   job-halved s (Some job) h = h
 
-  unflushed : (s : Slots) (x : TransformShape) → Halved s → slice_get (transform_shapes s) t.0 ≡ Some x → x.readable ≡ r → is_flushed t (next_job s.promises) ≡ false → step_closings r s Worked ≡ 0
+  job-ended : (s : Slots) (job : Option Job) → Ended s → Ended (job_begun s job).slots
+  job-ended s None h = h
+  job-ended s (Some job) h = h
+
+  unflushed : (s : Slots) (x : TransformShape) → Halved s → Ended s → slice_get (transform_shapes s) t.0 ≡ Some x → x.readable ≡ r → is_flushed t (next_job s.promises) ≡ false → step_closings r s Worked ≡ 0
   unfolding begin_job
-  unflushed s x halved is half n =
+  unflushed s x halved ended is half n =
       let after : slice_get (transform_shapes (step s Worked)) t.0 ≡ Some x = step-among Worked s t x is in
       let begun : slice_get (transform_shapes (begin_job s).slots) t.0 ≡ Some x = ap (λ (vs : List TransformShape). slice_get vs t.0) (sym (step-shapes Worked s)) ∙ after in
-      none-closes (begin_job s) (begun-calm s (next_job s.promises) n) (job-halved s (next_job s.promises) halved) (x, (begun, half))
+      none-closes (begin_job s) (begun-calm s (next_job s.promises) n) (job-halved s (next_job s.promises) halved) (job-ended s (next_job s.promises) ended) (x, (begun, half))
 
-  flush-closes : (s : Slots) (x : TransformShape) → Halved s → slice_get (transform_shapes s) t.0 ≡ Some x → x.readable ≡ r → 0 < step_closings r s Worked → is_flushed t (next_job s.promises) ≡ true
-  flush-closes s x halved is half some = by (is_flushed t (next_job s.promises)) refl
+  flush-closes : (s : Slots) (x : TransformShape) → Halved s → Ended s → slice_get (transform_shapes s) t.0 ≡ Some x → x.readable ≡ r → 0 < step_closings r s Worked → is_flushed t (next_job s.promises) ≡ true
+  flush-closes s x halved ended is half some = by (is_flushed t (next_job s.promises)) refl
     where
       by : (b : Bool) → b ≡ is_flushed t (next_job s.promises) → is_flushed t (next_job s.promises) ≡ true
       by true e = sym e
-      by false e = let none = unflushed s x halved is half (sym e) in absurd (omega arith)
+      by false e = let none = unflushed s x halved ended is half (sym e) in absurd (omega arith)
 
 pub flushes_close : FlushesClose
 flushes_close entries t y is some =
     let s : Slots = run entries empty in
-    flush-closes t y.readable s (transform_shape y) (run-halved entries empty halved-empty) (map-there transform_shape s.transforms t.0 y is) refl some
+    flush-closes t y.readable s (transform_shape y) (run-halved entries empty halved-empty) (run-ended entries) (map-there transform_shape s.transforms t.0 y is) refl some

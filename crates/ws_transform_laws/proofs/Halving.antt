@@ -38,7 +38,7 @@ use Rattle.ws_transform_laws.proofs.Waiting.{Waits, Queued, waits-changes, queue
 
 -- the transform stream of a half
 
-none_needs : (o : Option Stream) → is_writable_stream o ≡ false → needs (as_writable o) ≡ true → {A : Type 0} → A
+pub none_needs : (o : Option Stream) → is_writable_stream o ≡ false → needs (as_writable o) ≡ true → {A : Type 0} → A
 none_needs None e n = cc
 none_needs (Some (ReadableStream r)) e n = cc
 none_needs (Some (ByteStream b)) e n = cc
@@ -61,7 +61,7 @@ half-there i t s halved there owner =
     let x = map-from transform_shape s.transforms t.0 h.0 h.1.0 in
     (x.0, (x.1.0, ap (λ (y : TransformShape). y.writable) x.1.1 ∙ h.1.1))
 
-needs-there : (i : StreamId) (s : Slots) → needs (writable_at i s) ≡ true → has_writable i s ≡ true
+pub needs-there : (i : StreamId) (s : Slots) → needs (writable_at i s) ≡ true → has_writable i s ≡ true
 needs-there i s n = by (has_writable i s) refl
   where
     by : (b : Bool) → b ≡ has_writable i s → has_writable i s ≡ true
@@ -245,6 +245,7 @@ module _ (i : StreamId) (t : TransformId) where
         signal = λ z k. staged-on z _ [] refl (record { transforms = λ x e. e; waits = λ f p w. w; queued = λ f q. q }) k;
         transform = λ z kind w r change k. staged-on z _ [] refl (record { transforms = λ x e. get-stays z.transforms _ t.0 x e; waits = λ f p w. w; queued = λ f q. q }) k;
         tee = λ z source first second cancel k. staged-on z _ [] refl (record { transforms = λ x e. e; waits = λ f p w. w; queued = λ f q. q }) k;
+        port = λ z side stream backpressure k. staged-on z _ [] refl (record { transforms = λ x e. e; waits = λ f p w. w; queued = λ f q. q }) k;
         bytes = λ z mark auto k. added z _ (nat_eq i.0 (length z.streams)) refl refl k;
         byob_requests = λ z hs k. staged-on z _ [] refl (record { transforms = λ x e. e; waits = λ f p w. w; queued = λ f q. q }) k;
         readable = λ z o mark size k. added z _ (nat_eq i.0 (length z.streams)) refl refl k;

@@ -21,6 +21,7 @@ use Rattle.ws_steps.specs.Turns.{Moment, row, call_host}
 use Rattle.ws_steps.specs.Writable as writable
 use Rattle.ws_laws.proofs.Begin.{begin-makes}
 use Rattle.ws_laws.proofs.EachCall.{each_call}
+use Rattle.ws_laws.proofs.Ended.{ended-empty}
 use Rattle.ws_laws.proofs.Halves.{get-either, halved-empty}
 use Rattle.ws_laws.proofs.Shapes.{StreamShape, ReadableOf, stream_shape, TransformShape, stream_shapes, transform_shapes, transform_shape, map-there, row-stream_shapes, row-transform_shapes}
 use Rattle.ws_laws.proofs.Tables.{either, same_id, eq_numbers}
@@ -36,6 +37,9 @@ use Rattle.ws_transform_laws.proofs.Told.{Both, neither, both_then, are_both}
 use Rattle.ws_transform_laws.proofs.Transformed.{each_acted_is_transformed}
 use Rattle.ws_value.specs.declared.ids.TeeId.{TeeId}
 use Rattle.ws_steps.specs.declared.tee.Half.TheVariants.{First, Second}
+use Rattle.ws_steps.specs.declared.port.Side.{Side}
+use Rattle.ws_steps.specs.declared.port.Side.TheVariants.{Writable as WritableSide}
+use Rattle.ws_steps.specs.declared.port.Side.TheVariants.{Readable as ReadableSide}
 
 -- lists that grow
 
@@ -176,6 +180,17 @@ module _ (t : TransformId) (r : StreamId) where
         streams = λ none. none-before stream_shape s.streams (first ∷ []) r.0 (none-before stream_shape (s.streams ++ first ∷ []) (second ∷ []) r.0 none);
       }
 
+  ported-grown : (s : Slots) (side : Side) (i : StreamId) → Grown s (calls.add_port i s side)
+  ported-grown s ReadableSide i = record { hosted = λ m. inl m; transforms = λ none. none; streams = λ none. none-before stream_shape s.streams (calls.end_of (record { 0 = length s.ports }) ReadableSide ∷ []) r.0 none }
+  ported-grown s WritableSide i = record { hosted = λ m. inl m; transforms = λ none. none; streams = λ none. none-before stream_shape s.streams (calls.end_of (record { 0 = length s.ports }) WritableSide ∷ []) r.0 none }
+
+  grown-on : (s a z : Slots) → z.streams ≡ a.streams → z.transforms ≡ a.transforms → Grown s a → Grown s z
+  grown-on s a z e f g = record {
+    hosted = λ m. g.hosted (m.0, (rw f at m.1.0, m.1.1));
+    transforms = λ none. g.transforms (rw f at none);
+    streams = λ none. g.streams (rw e at none);
+  }
+
   call-grown : (s : Slots) (c : Call) → Grown s (begin c s).done.slots
   call-grown s c = each_call (λ (b : Begun). Grown s b.done.slots) c s (record {
     unchanged = λ reply. same-grown s s refl refl;
@@ -210,6 +225,10 @@ module _ (t : TransformId) (r : StreamId) where
     terminate = λ u. same-grown s s refl refl;
     pipe = λ source dest prevent signal e f l m. same-grown s _ refl refl;
     make_signal = same-grown s _ refl refl;
+    open_end = λ side. ported-grown s side (record { 0 = length s.streams });
+    send_readable = λ j there free. grown-on s (calls.add_port (record { 0 = length s.streams }) s WritableSide) _ refl refl (ported-grown s WritableSide (record { 0 = length s.streams }));
+    send_writable = λ j there free. grown-on s (calls.add_port (record { 0 = length s.streams }) s ReadableSide) _ refl refl (ported-grown s ReadableSide (record { 0 = length s.streams }));
+    deliver = λ p m e is. same-grown s s refl refl;
     trigger = λ a reason. same-grown s s refl refl;
     settle = λ a answer p e. same-grown s _ refl refl;
   })
@@ -223,6 +242,7 @@ module _ (t : TransformId) (r : StreamId) where
     signal = λ z k. k;
     transform = λ z kind w y change k. k;
     tee = λ z source first second cancel k. k;
+    port = λ z side stream backpressure k. k;
     bytes = λ z mark auto k. k;
     byob_requests = λ z hs k. k;
     readable = λ z o mark size k. k;
@@ -273,7 +293,7 @@ module _ (t : TransformId) (r : StreamId) where
     heard = λ h s k.
         let same = takes h.two s.promises.events in
         record {
-          prompted = record { halved = k.prompted.halved; prompt = tt };
+          prompted = record { halved = k.prompted.halved; ended = k.prompted.ended; prompt = tt };
           tells = record {
             hosted = λ m. rw (append-nil h.one, same) (k.tells.hosted m);
             unmade = λ none. rw (append-nil h.one) (k.tells.unmade none);
@@ -308,7 +328,7 @@ module _ (t : TransformId) (r : StreamId) where
       rw (a, c, ← b) (grind (arith, append_assoc, append-nil))
 
   none-known : Known neither empty []
-  none-known = record { prompted = record { halved = halved-empty; prompt = tt }; tells = record { hosted = λ m. refl; unmade = λ none. refl; unheard = λ none. refl } }
+  none-known = record { prompted = record { halved = halved-empty; ended = ended-empty; prompt = tt }; tells = record { hosted = λ m. refl; unmade = λ none. refl; unheard = λ none. refl } }
 
   pub run-tells : (entries : List Entry) → Hosted t r (run entries empty) → run_transformed t entries empty ≡ heard_transforms r (run_events entries empty)
   run-tells entries m =

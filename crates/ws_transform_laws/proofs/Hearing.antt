@@ -4,16 +4,16 @@ use Rattle.ws_value.specs.declared.ids.{HostId.{HostId}, PromiseId.{PromiseId}, 
 use Rattle.ws_value.specs.declared.value.{Outcome.{Outcome}, Outcome.TheVariants.{Given, Finished}, Plain.{Plain}, Plain.TheVariants.{Undefined}, Value.{Value}, Value.TheVariants.{Plain as PlainValue, Bytes}}
 use Rattle.ws_steps.specs.declared.calls.{Event.{Event}, Event.TheVariants.{Host as HostCalled, Signal as SignalEvent}, HostCall.{HostCall}, StartBy.TheVariants.{Now, Later}}
 use Rattle.ws_steps.specs.declared.effects.{Effect.{Effect}, Gift.{Gift}, Use.{Use}}
-use Rattle.ws_steps.specs.declared.effects.Effect.TheVariants.{Readable as OnReadable, Writable as OnWritable, Pipe as OnPipe, Signal as OnSignal, Transform as OnTransform, Tee as OnTee, StartAlgorithm, ChunkSteps, CloseSteps, ErrorSteps, Give, Settle as SettlePromise, Queue, CallHost}
+use Rattle.ws_steps.specs.declared.effects.Effect.TheVariants.{Readable as OnReadable, Writable as OnWritable, Pipe as OnPipe, Signal as OnSignal, Transform as OnTransform, Tee as OnTee, Port as OnPort, StartAlgorithm, ChunkSteps, CloseSteps, ErrorSteps, Give, Settle as SettlePromise, Queue, CallHost}
 use Rattle.ws_steps.specs.declared.pipes.{PipeOperation.{PipeOperation}, SignalOperation.{SignalOperation}}
 use Rattle.ws_steps.specs.declared.promises.{Job.{Job}, Micro.{Micro}, Reaction.{Reaction}}
 use Rattle.ws_steps.specs.declared.readable.ReadRequest.TheVariants.{Promise, Pipe as PipeRequest, Tee as TeeRequest}
 use Rattle.ws_steps.specs.declared.transform.{TransformId.{TransformId}, TransformOperation.{TransformOperation}}
 use Rattle.ws_steps.specs.Effects.{Out}
-use Rattle.ws_steps.specs.Operations.{writable_operation, pipe_operation, signal_operation, transform_operation, tee_operation}
+use Rattle.ws_steps.specs.Operations.{writable_operation, pipe_operation, signal_operation, transform_operation, tee_operation, port_operation}
 use Rattle.ws_steps.specs.Pipes as pipe
 use Rattle.ws_steps.specs.Promises.{Table, fresh, settle, answer, tell, react, follow, unfollow, queue_micro, use_this, use_gift, taken, after_next_job, watch}
-use Rattle.ws_steps.specs.Slots.{Slots, Done, found, ends_at, halves_at, has_writable, nothing, put_writable, on_pipe_at, on_signal_at, on_transform_at, on_tee_at}
+use Rattle.ws_steps.specs.Slots.{Slots, Done, found, ends_at, halves_at, has_writable, nothing, put_writable, on_pipe_at, on_signal_at, on_transform_at, on_tee_at, on_port_at, clones_at}
 use Rattle.ws_steps.specs.Transform as transform
 use Rattle.ws_steps.specs.Turns.{row, call_host}
 use Rattle.ws_laws.proofs.PipeDoes.{pipe-does}
@@ -25,9 +25,14 @@ use Rattle.ws_steps.specs.declared.effects.Effect.TheVariants.{Byte, CloseStepsW
 use Rattle.ws_laws.proofs.Rows.{source-out, byte-out}
 use Rattle.ws_laws.proofs.ReadableDoes.{OfReadable}
 use Rattle.ws_value.specs.declared.ids.TeeId.{TeeId}
+use Rattle.ws_value.specs.declared.ids.PortId.{PortId}
 use Rattle.ws_steps.specs.declared.tee.TeeOperation.{TeeOperation}
+use Rattle.ws_steps.specs.declared.port.PortOperation.{PortOperation}
 use Rattle.ws_steps.specs.Tee as tee
+use Rattle.ws_steps.specs.Cross as cross
 use Rattle.ws_laws.proofs.TeeDoes.{tee-does}
+use Rattle.ws_laws.proofs.PortDoes.{port-does}
+use Rattle.ws_steps.specs.declared.calls.Event.TheVariants.{Post}
 
 abbrev pub IsCall : Effect → Type 0
 IsCall (CallHost call u) = Unit {0}
@@ -124,6 +129,11 @@ module _ (r : StreamId) where
   tee-heard t operation s (Some x) =
       tee-does (λ z. heard z ≡ heard s.promises) (record { fresh = λ z h. fresh-heard z ∙ h; micro = λ z m h. micro-heard m z ∙ h }) t operation (record { slots = x; out = found s }) refl
 
+  port-heard : (c : PortId) (operation : PortOperation) (s : Slots) (o : Option cross.Slots) → heard (on_port_at (λ clones. port_operation c clones operation) c s o).slots.promises ≡ heard s.promises
+  port-heard c operation s None = refl
+  port-heard c operation s (Some x) =
+      port-does (λ z. heard z ≡ heard s.promises) (record { fresh = λ z h. fresh-heard z ∙ h; settle = λ z p o h. settle-heard p o z ∙ h; post = λ z d m h. silent-heard (Post d m) z refl ∙ h }) c (clones_at x s) operation (record { slots = x; out = found s }) refl
+
   settles-heard : (j : StreamId) (t : Table) → OfReadable (λ (x : Out). heard x.promises ≡ heard t) j
   settles-heard j t = record {
     settle = λ x p o h. settle-heard p o x.promises ∙ h;
@@ -151,11 +161,13 @@ module _ (r : StreamId) where
         abort = λ x c p h. h;
         hand_on = λ x v h. h;
         take = λ x v t d h. h;
+        post = λ x v t d h. h;
       }) operation (writable_acts j s) refl) (λ none. refl)
   row-heard (OnPipe p operation) s n = pipe-heard p operation s (slice_get s.pipes p.0)
   row-heard (OnSignal a operation) s n = signal-heard a operation s (slice_get s.signals a.0)
   row-heard (OnTransform t operation) s n = transform-heard t operation s (slice_get s.transforms t.0)
   row-heard (OnTee t operation) s n = tee-heard t operation s (slice_get s.tees t.0)
+  row-heard (OnPort t operation) s n = port-heard t operation s (slice_get s.ports t.0)
   row-heard (StartAlgorithm j step Now) s n = refl
   row-heard (StartAlgorithm j step Later) s n = fresh-heard s.promises
   row-heard (ChunkSteps j (Promise p) v) s n = answer-heard p (Given v) s.promises

@@ -2,7 +2,7 @@
 use Rattle.std.proofs.Common.{◌≡◌, Bool, true, false, ℕ, List, Option, Some, None, Ok, Err, slice_get, slice_set, refl, sym, ap, ◌∙◌, arith}
 use Rattle.ws_steps.specs.declared.calls.StartBy.TheVariants.{Now, Later}
 use Rattle.ws_steps.specs.declared.effects.{Effect.{Effect}}
-use Rattle.ws_steps.specs.declared.effects.Effect.TheVariants.{Readable as OnReadable, Writable as OnWritable, Pipe as OnPipe, Signal as OnSignal, Transform as OnTransform, Tee as OnTee, StartAlgorithm, ChunkSteps, CloseSteps, ErrorSteps}
+use Rattle.ws_steps.specs.declared.effects.Effect.TheVariants.{Readable as OnReadable, Writable as OnWritable, Pipe as OnPipe, Signal as OnSignal, Transform as OnTransform, Tee as OnTee, Port as OnPort, StartAlgorithm, ChunkSteps, CloseSteps, ErrorSteps}
 use Rattle.ws_steps.specs.declared.readable.ReadRequest.TheVariants.{Promise, Pipe as PipeRequest, Tee as TeeRequest}
 use Rattle.ws_steps.specs.declared.transform.{Halves.{Halves}, TransformId.{TransformId}, TransformOperation.{TransformOperation}}
 use Rattle.ws_steps.specs.declared.transform.TransformOperation.TheVariants as names
@@ -19,6 +19,7 @@ use Rattle.ws_value.specs.declared.ids.PromiseId.{PromiseId}
 use Rattle.ws_transform_laws.proofs.Backpressure.{IsTurning, IsTurned}
 use Rattle.ws_steps.specs.declared.effects.Effect.TheVariants.{Byte, CloseStepsWith}
 use Rattle.ws_laws.proofs.Rows.{source-leaves, byte-leaves}
+use Rattle.ws_transform_laws.proofs.Changing.{port-transforms}
 
 operation-keeps : (me : TransformId) (halves : Halves) (operation : TransformOperation) (a : Acts) → (IsTurning operation → ⊥) → (transform_operation me halves operation a).slots.change ≡ a.slots.change
 unfolding transform_error terminate enqueue transform_chunk sink_write write_goes_on sink_close sink_abort source_cancel flush_settled abort_settled cancel_settled
@@ -84,6 +85,7 @@ row-change t (OnPipe p operation) s n = ap (λ (ts : List Slots). (as_transform 
 row-change t (OnSignal a operation) s n = ap (λ (ts : List Slots). (as_transform (slice_get ts t.0)).change) (signal-transforms a operation s (slice_get s.signals a.0))
 row-change t (OnTransform u operation) s n = transform-keeps t u operation s n
 row-change t (OnTee u operation) s n = ap (λ (ts : List Slots). (as_transform (slice_get ts t.0)).change) (tee-transforms u operation s (slice_get s.tees u.0))
+row-change t (OnPort u operation) s n = ap (λ (ts : List Slots). (as_transform (slice_get ts t.0)).change) (port-transforms u operation s (slice_get s.ports u.0))
 row-change t (StartAlgorithm i step Now) s n = refl
 row-change t (StartAlgorithm i step Later) s n = refl
 row-change t (ChunkSteps i (Promise p) v) s n = refl

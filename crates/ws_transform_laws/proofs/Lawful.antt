@@ -84,12 +84,12 @@ row-has i e s =
 
 -- a write that is fulfilled was handed on
 
-too-many : (a b c : ℕ) (w : Bool) → 1 ≤ a → a + (1 + b) ≤ one_if w → {A : Type 0} → A
+pub too-many : (a b c : ℕ) (w : Bool) → 1 ≤ a → a + (1 + b) ≤ one_if w → {A : Type 0} → A
 too-many a b c true f g = absurd (omega arith)
 too-many a b c false f g = absurd (omega arith)
 
-module _ (i : StreamId) (t : TransformId) where
-  settled-leads : (o : Result Plain Plain) → leads_to (is_write i) (OnWritable i (WriteSettled o)) ≡ 1
+module _ (i : StreamId) where
+  pub settled-leads : (o : Result Plain Plain) → leads_to (is_write i) (OnWritable i (WriteSettled o)) ≡ 1
   settled-leads o = rw (is_same-refl i) refl
 
   pub settled-flies : (h : Writes) (s : Slots) (es : List Effect) (o : Result Plain Plain) → Known i h s (OnWritable i (WriteSettled o) ∷ es) → is_some (writable_at i s).write_in_flight ≡ true
@@ -99,9 +99,10 @@ module _ (i : StreamId) (t : TransformId) where
       by true f = refl
       by false f = absurd (omega arith)
 
-  fails-within : (j : Job) → fails i j ≤ of_job (of_reaction (is_write i)) j
+  pub fails-within : (j : Job) → fails i j ≤ of_job (of_reaction (is_write i)) j
   fails-within j = grind arith
 
+module _ (i : StreamId) (t : TransformId) where
   pub none-settles : {A : Type 0} (h : Writes) (s : Slots) (es : List Effect) (v : Plain) → Going i t h s (OnWritable i (WriteSettled (Ok v)) ∷ es) → Known i h s (OnWritable i (WriteSettled (Ok v)) ∷ es) → Stage i t s (OnWritable i (WriteSettled (Ok v)) ∷ es) → A
   none-settles h s es v g k (Begins rest eq) = cc
   none-settles h s es v g k (Sinks rest eq) = cc
@@ -110,14 +111,14 @@ module _ (i : StreamId) (t : TransformId) where
   none-settles h s es v g k (Rests d tok w) =
       let open_ = token-open i t _ d s g.straight.sound tok in
       let few = waits-weigh (of_reaction (is_write i)) 1 d s.promises open_ w in
-      let l = settled-leads (Ok v) in
+      let l = settled-leads i (Ok v) in
       too-many (weight (is_write i) s.promises) (all (leads_to (is_write i)) es) 0 (is_some (writable_at i s).write_in_flight) few (rw l at k.owed.writes)
   none-settles h s es v g k (GoesOn d rest w eq) = cc
   none-settles h s es v g k (Throws d r rest w eq) = cc
   none-settles h s es v g k (Hands d rest eq) = cc
   none-settles h s es v g k (Failing q) =
-      let few = queued-weigh (fails i) (of_reaction (is_write i)) 1 s.promises fails-within q in
-      let l = settled-leads (Ok v) in
+      let few = queued-weigh (fails i) (of_reaction (is_write i)) 1 s.promises (fails-within i) q in
+      let l = settled-leads i (Ok v) in
       too-many (weight (is_write i) s.promises) (all (leads_to (is_write i)) es) 0 (is_some (writable_at i s).write_in_flight) few (rw l at k.owed.writes)
   none-settles h s es v g k (Fails r rest eq) = cc
 
@@ -128,7 +129,7 @@ module _ (i : StreamId) (t : TransformId) where
   pub settled-led : (h : Writes) (s : Slots) (es : List Effect) (v : Plain) → owner_at i s ≡ HalfOf t → Going i t h s (OnWritable i (WriteSettled (Ok v)) ∷ es) → Known i h s (OnWritable i (WriteSettled (Ok v)) ∷ es)
       → has_ended (writable_at i s).state ≡ false → leads (writable_at i s).queue ≡ true
   settled-led h s es v o g k alive =
-      needs-not (writable_at i s) (leads (writable_at i s).queue) refl alive (settled-flies h s es (Ok v) k) (λ n. none-settles h s es v g k (g.staged o n).1)
+      needs-not (writable_at i s) (leads (writable_at i s).queue) refl alive (settled-flies i h s es (Ok v) k) (λ n. none-settles h s es v g k (g.staged o n).1)
 
   -- the law, with what is on the agenda
 
@@ -175,7 +176,7 @@ module _ (i : StreamId) (t : TransformId) where
       record {
         shape = rw n at k.shape;
         closing = rw n at k.closing;
-        flying = λ o is. settled-flies h s es o (subst (λ (x : WritableOperation). Known i h s (OnWritable i x ∷ es)) is k);
+        flying = λ o is. settled-flies i h s es o (subst (λ (x : WritableOperation). Known i h s (OnWritable i x ∷ es)) is k);
         led = λ v is. settled-led h s es v owner (subst (λ (x : WritableOperation). Going i t h s (OnWritable i x ∷ es)) is g) (subst (λ (x : WritableOperation). Known i h s (OnWritable i x ∷ es)) is k);
         ending = λ o is. close-flies o (subst (λ (x : WritableOperation). Known i h s (OnWritable i x ∷ es)) is k);
       }
@@ -284,6 +285,7 @@ module _ (i : StreamId) (t : TransformId) where
         signal = λ z k. k;
         transform = λ z kind w r change k. k;
         tee = λ z source first second cancel k. k;
+        port = λ z side stream backpressure k. k;
         bytes = λ z mark auto k. added h z _ (nat_eq i.0 (length z.streams)) refl (λ no. cc) k;
         byob_requests = λ z hs k. k;
         readable = λ z o mark size k. added h z _ (nat_eq i.0 (length z.streams)) refl (λ no. cc) k;

@@ -10,6 +10,12 @@ pub mod Lawful
 pub mod Steps
 pub mod Branches
 pub mod Sunk
+pub mod PortPromises
+pub mod PortTurns
+pub mod PortStages
+pub mod PortHalving
+pub mod PortLawful
+pub mod PortSteps
 pub mod Prompt
 pub mod Told
 pub mod Acted
@@ -37,3 +43,5 @@ pub mod Keeping
 pub mod Waited
 pub mod Asked
 pub mod Asking
+pub mod PortAsked
+pub mod PortMoves

@@ -3,7 +3,7 @@
 use Rattle.std.proofs.Common.{◌≡◌, ◌⊎◌, inl, inr, Bool, true, false, not, ◌&&◌, ◌||◌, is_some, is_none, if◌then◌else◌, List, [], ◌∷◌, ◌++◌, Option, Some, None, Result, Ok, Err, refl, sym, subst, ap, ◌∙◌, arith}
 use Rattle.ws_value.specs.declared.ids.{PromiseId.{PromiseId}, StreamId.{StreamId}}
 use Rattle.ws_value.specs.declared.value.{Plain.{Plain}, Plain.TheVariants.{Undefined}, Value.{Value}}
-use Rattle.ws_steps.specs.declared.{effects.Effect.{Effect}, effects.Effect.TheVariants.{WriteAlgorithm}, effects.Owner.{Owner}, effects.Owner.TheVariants.{Host, HalfOf, BranchOf}, queue.Queued.{Queued}, transform.Taker.{Taker}}
+use Rattle.ws_steps.specs.declared.{effects.Effect.{Effect}, effects.Effect.TheVariants.{WriteAlgorithm}, effects.Owner.{Owner}, effects.Owner.TheVariants.{Host, HalfOf, BranchOf, EndOf}, queue.Queued.{Queued}, transform.Taker.{Taker}}
 use Rattle.ws_steps.specs.declared.writable.{PendingAbort.{PendingAbort}, WritableState.{WritableState}, WritableState.TheVariants.{Writable, Erroring, Closed}, WriteRecord.{WriteRecord}, WriteRecord.TheVariants.{Chunk, InFlight, CloseMark}, Writer.{Writer}}
 use Rattle.ws_steps.specs.declared.writable.WritableOperation.{WritableOperation}
 use Rattle.ws_steps.specs.declared.writable.WritableOperation.TheVariants.{SetUpWriter, ReleaseWriter, Write, Close, ClosePropagating, Abort, AbortIfWritable, ErrorIfNeeded, HandOn, StartSettled, WriteSettled, CloseSettled, AbortSettled}
@@ -218,6 +218,7 @@ pub signalled-same : (i : StreamId) (r : Plain) (a : Acts) (owner : Owner) → S
 signalled-same i r a Host = record { core = refl; effects = refl }
 signalled-same i r a (HalfOf t) = record { core = refl; effects = refl }
 signalled-same i r a (BranchOf t half) = record { core = refl; effects = refl }
+signalled-same i r a (EndOf c) = record { core = refl; effects = refl }
 
 abort-next : (i : StreamId) (was : Bool) (r : Plain) (p : PromiseId) (a : Acts) → Still was a → Next i was (stream_abort i r p a)
 unfolding stream_abort

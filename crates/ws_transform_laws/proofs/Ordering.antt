@@ -3,7 +3,7 @@
 use Rattle.std.proofs.Common.{◌≡◌, ℕ, zero, suc, ◌+◌, ◌<◌, Bool, true, false, not, ◌&&◌, ◌||◌, is_some, is_none, if◌then◌else◌, List, [], ◌∷◌, ◌++◌, length, Option, Some, None, Result, Ok, Err, refl, sym, subst, ap, ◌∙◌, arith, append_assoc, append-nil, length-append}
 use Rattle.ws_value.specs.declared.ids.{PromiseId.{PromiseId}, StreamId.{StreamId}}
 use Rattle.ws_value.specs.declared.value.{Plain.{Plain}, Plain.TheVariants.{Undefined}, Value.{Value}}
-use Rattle.ws_steps.specs.declared.{effects.Effect.{Effect}, queue.Queued.{Queued}, transform.Taker.{Taker}, transform.Taker.TheVariants.{ToHost, ToTransform}}
+use Rattle.ws_steps.specs.declared.{effects.Effect.{Effect}, queue.Queued.{Queued}, transform.Taker.{Taker}, transform.Taker.TheVariants.{ToHost, ToTransform, ToPort}}
 use Rattle.ws_steps.specs.declared.writable.{PendingAbort.{PendingAbort}, WritableState.TheVariants.{Writable, Erroring, Errored}, WriteRecord.{WriteRecord}, WriteRecord.TheVariants.{Chunk, InFlight, CloseMark}}
 use Rattle.ws_steps.specs.declared.writable.WritableOperation.{WritableOperation}
 use Rattle.ws_steps.specs.declared.writable.WritableOperation.TheVariants.{WriteSettled, CloseSettled}
@@ -367,6 +367,7 @@ first-none (q ∷ qs) e = cc
 taken-closes : (i : StreamId) (me : StreamId) (v : Value) (taker : Taker) → all (closes i) (writable.taken_by me v taker ∷ []) ≡ 0
 taken-closes i me v ToHost = refl
 taken-closes i me v (ToTransform t d) = refl
+taken-closes i me v (ToPort c d) = refl
 
 pub hand_on-by : (i : StreamId) (taker : Taker) (h : Writes) (d : List Value) (a : Acts) (first : Option WriteRecord) → first_value a.slots.queue ≡ first → Shape h.closes (core_of a.slots) → Calm h d a
     → Orders i (record h { acted = h.acted ++ first_chunk a.slots.queue }) (hand_on_first i taker a first)

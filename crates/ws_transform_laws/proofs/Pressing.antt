@@ -2,8 +2,8 @@
 use Rattle.std.proofs.Common.{◌≡◌, inl, inr, ℕ, Bool, true, false, not, List, [], ◌∷◌, ◌++◌, Option, Some, None, Ok, Err, slice_get, refl, sym, subst, ap, ◌∙◌, arith}
 use Rattle.ws_value.specs.declared.ids.{PipeId.{PipeId}, PromiseId.{PromiseId}, StreamId.{StreamId}}
 use Rattle.ws_value.specs.declared.value.{Value.{Value}}
-use Rattle.ws_steps.specs.declared.effects.{Effect.{Effect}, Gift.TheVariants.{Fresh}, Owner.{Owner}, Owner.TheVariants.{Host, HalfOf, BranchOf}, Use.{Use}}
-use Rattle.ws_steps.specs.declared.effects.Effect.TheVariants.{Readable as OnReadable, Writable as OnWritable, Pipe as OnPipe, Signal as OnSignal, Transform as OnTransform, Tee as OnTee, StartAlgorithm, PullAlgorithm, CancelAlgorithm, WriteAlgorithm, CloseAlgorithm, AbortAlgorithm, ChunkSteps, CloseSteps, ErrorSteps, Give}
+use Rattle.ws_steps.specs.declared.effects.{Effect.{Effect}, Gift.TheVariants.{Fresh}, Owner.{Owner}, Owner.TheVariants.{Host, HalfOf, BranchOf, EndOf}, Use.{Use}}
+use Rattle.ws_steps.specs.declared.effects.Effect.TheVariants.{Readable as OnReadable, Writable as OnWritable, Pipe as OnPipe, Signal as OnSignal, Transform as OnTransform, Tee as OnTee, Port as OnPort, StartAlgorithm, PullAlgorithm, CancelAlgorithm, WriteAlgorithm, CloseAlgorithm, AbortAlgorithm, ChunkSteps, CloseSteps, ErrorSteps, Give}
 use Rattle.ws_steps.specs.declared.pipes.SignalOperation.TheVariants.{Add, Forget, Trigger}
 use Rattle.ws_steps.specs.declared.readable.{ReadRequest.TheVariants.{Promise, Pipe as PipeRequest, Tee as TeeRequest}, ReadableOperation.{ReadableOperation}, ReadableOperation.TheVariants.{InitializeReader, Enqueue}}
 use Rattle.ws_steps.specs.declared.transform.{Halves.{Halves}, Kind.{Kind}, Kind.TheVariants.{Identity, Host as HostKind}, TransformId.{TransformId}, TransformOperation.{TransformOperation}}
@@ -14,6 +14,7 @@ use Rattle.ws_steps.specs.Effects.{Out}
 use Rattle.ws_steps.specs.Slots.{Slots, Done, nothing, found, halves_at, owner_at, as_readable, has_readable, readable_at, put_readable, on_readable, on_transform_at}
 use Rattle.ws_steps.specs.Transform as transform
 use Rattle.ws_steps.specs.Turns.{row, pull_algorithm}
+use Rattle.ws_laws.proofs.Ended.{Ended}
 use Rattle.ws_laws.proofs.Halves.{Halved}
 use Rattle.ws_laws.proofs.Lists.{Each, each-append, each-map}
 use Rattle.ws_laws.proofs.PipeDoes.{PipeCauses}
@@ -37,9 +38,12 @@ use Rattle.ws_steps.specs.Turns.{on_source}
 use Rattle.ws_laws.proofs.Tables.{byte_acts}
 use Rattle.ws_laws.proofs.ByteDoes.{byte_readable-does, byte-does}
 use Rattle.ws_value.specs.declared.ids.TeeId.{TeeId}
+use Rattle.ws_value.specs.declared.ids.PortId.{PortId}
 use Rattle.ws_steps.specs.Tee as tee
+use Rattle.ws_steps.specs.Cross as cross
 use Rattle.ws_laws.proofs.TeeDoes.{TeeCauses}
-use Rattle.ws_transform_laws.proofs.Branches.{tee-caused, not-branch}
+use Rattle.ws_laws.proofs.PortDoes.{PortCauses}
+use Rattle.ws_transform_laws.proofs.Branches.{tee-caused, port-caused, not-branch, not-end}
 
 module _ (t : TransformId) (r : StreamId) where
   -- an enqueue into the readable half
@@ -263,6 +267,7 @@ module _ (t : TransformId) (r : StreamId) where
   IsOther (Byte j operation) = ⊥
   IsOther (OnTransform u operation) = ⊥
   IsOther (OnTee u operation) = ⊥
+  IsOther (OnPort u operation) = ⊥
   IsOther (PullAlgorithm j) = ⊥
   IsOther _ = Unit {0}
 
@@ -271,13 +276,14 @@ module _ (t : TransformId) (r : StreamId) where
   other-causes z (Byte j operation) n = absurd n
   other-causes z (OnTransform u operation) n = absurd n
   other-causes z (OnTee u operation) n = absurd n
+  other-causes z (OnPort u operation) n = absurd n
   other-causes z (PullAlgorithm j) n = absurd n
-  other-causes z (OnWritable j operation) n = record { write = tt; close = tt; abort = λ c p. tt; hand_on = λ v. tt; take = λ v u d. tt }
+  other-causes z (OnWritable j operation) n = record { write = tt; close = tt; abort = λ c p. tt; hand_on = λ v. tt; take = λ v u d. tt; post = λ v u d. tt }
   other-causes z (StartAlgorithm j step start) n = (λ g u. tt, λ c u. tt)
-  other-causes z (CancelAlgorithm j c p) n = (λ c u. tt, (λ y u. tt, λ k half u. tt))
-  other-causes z (WriteAlgorithm j) n = (tt, λ y u. tt)
-  other-causes z (CloseAlgorithm j) n = (λ c u. tt, λ y u. tt)
-  other-causes z (AbortAlgorithm j c p) n = (λ c u. tt, λ y u. tt)
+  other-causes z (CancelAlgorithm j c p) n = (λ c u. tt, (λ y u. tt, (λ k half u. tt, λ y u. tt)))
+  other-causes z (WriteAlgorithm j) n = (tt, (λ y u. tt, λ z u. tt))
+  other-causes z (CloseAlgorithm j) n = (λ c u. tt, (λ y u. tt, λ z u. tt))
+  other-causes z (AbortAlgorithm j c p) n = (λ c u. tt, (λ y u. tt, λ z u. tt))
   other-causes z (OnPipe p operation) n = pipe-calm z p
   other-causes z (OnSignal a (Trigger c)) n = λ p. tt
   other-causes z (OnSignal a (Add p)) n = tt
@@ -300,6 +306,7 @@ module _ (t : TransformId) (r : StreamId) where
   pull-calm z j w Host n = (tt, tt)
   pull-calm z j w (HalfOf u) n = (n, tt)
   pull-calm z j w (BranchOf u half) n = (tt, (tt, tt))
+  pull-calm z j w (EndOf c) n = (tt, (tt, tt))
 
   -- an operation of a transform stream that is calm
 
@@ -357,12 +364,21 @@ module _ (t : TransformId) (r : StreamId) where
   tee-calm s z u x halved h at (PullAlgorithm j) c = absurd c
   tee-calm s z u x halved h at _ c = tt
 
+  -- and one of a port
+
+  port-calm : (s z : Slots) (u : PortId) (x : cross.Slots) → Halved s → Ended s → Reads t r s → slice_get s.ports u.0 ≡ Some x → (e : Effect) → PortCauses u x.stream e → IsCalm t r z e
+  port-calm s z u x halved ended h at (OnReadable j (Enqueue v)) c = not-end s r t u x j ended (half-shape t r s halved h) at c
+  port-calm s z u x halved ended h at (OnReadable j (InitializeReader q)) c = absurd c
+  port-calm s z u x halved ended h at (OnTransform y operation) c = absurd c
+  port-calm s z u x halved ended h at (PullAlgorithm j) c = absurd c
+  port-calm s z u x halved ended h at _ c = tt
+
   -- an effect that is calm, with calm ones behind it
 
-  pub calm-row : (e : Effect) (s : Slots) (es : List Effect) → Halved s → Reads t r s → Fine t r (not (can r s)) (e ∷ es) → (is_same r r ≡ true → (operation : ReadableOperation) → e ≡ OnReadable r operation → Finds r operation (readable_at r s))
+  pub calm-row : (e : Effect) (s : Slots) (es : List Effect) → Halved s → Ended s → Reads t r s → Fine t r (not (can r s)) (e ∷ es) → (is_same r r ≡ true → (operation : ReadableOperation) → e ≡ OnReadable r operation → Finds r operation (readable_at r s))
       → IsCalm t r s e → Calms t r s es → (unwanted t r s ≡ true → pressed t s ≡ true) → Fits t r (row e s).slots ((row e s).caused ++ es)
   unfolding row
-  calm-row (OnReadable j operation) s es halved h f finds c k claim = by (is_same r j) refl
+  calm-row (OnReadable j operation) s es halved ended h f finds c k claim = by (is_same r j) refl
     where
       by : (same : Bool) → same ≡ is_same r j → Fits t r (row (OnReadable j operation) s).slots ((row (OnReadable j operation) s).caused ++ es)
       by true e =
@@ -374,14 +390,17 @@ module _ (t : TransformId) (r : StreamId) where
           let l : Leaves t r (OnReadable j operation) s = away t r (OnReadable j operation) s (λ o is. let at : j ≡ r = cc in let yes : is_same r j ≡ true = rw at (is_same-refl r) in absurd (cc)) (λ u. u) in
           leaves-calm t r (OnReadable j operation) s es l (other-calm s (row (OnReadable j operation) s).slots j operation (λ there. owned-stays t r s (OnReadable j operation) j ∙ not-owned s j halved h n there)
           (λ there. owned-stays t r s (OnReadable j operation) j ∙ not-mine t s j there) n) k claim
-  calm-row (Byte j operation) s es halved h f finds c k claim =
+  calm-row (Byte j operation) s es halved ended h f finds c k claim =
       leaves-calm t r (Byte j operation) s es (away t r (Byte j operation) s (λ o is. cc) (λ u. u))
       (bytes-calm s (row (Byte j operation) s).slots j operation (λ there. owned-stays t r s (Byte j operation) j ∙ not-mine t s j there) (λ there. not-bytes t r s j halved h there)) k claim
-  calm-row (OnTransform u operation) s es halved h f finds c k claim = transform-calm u operation s es halved h f c k claim
-  calm-row (OnTee u operation) s es halved h f finds c k claim =
+  calm-row (OnTransform u operation) s es halved ended h f finds c k claim = transform-calm u operation s es halved h f c k claim
+  calm-row (OnTee u operation) s es halved ended h f finds c k claim =
       leaves-calm t r (OnTee u operation) s es (away t r (OnTee u operation) s (λ o is. cc) (λ u. u))
       (tee-caused (IsCalm t r (row (OnTee u operation) s).slots) u operation s (λ x at e d. tee-calm s (row (OnTee u operation) s).slots u x halved h at e d)) k claim
-  calm-row (PullAlgorithm j) s es halved h f finds c k claim =
+  calm-row (OnPort u operation) s es halved ended h f finds c k claim =
+      leaves-calm t r (OnPort u operation) s es (away t r (OnPort u operation) s (λ o is. cc) (λ u. u))
+      (port-caused (IsCalm t r (row (OnPort u operation) s).slots) u operation s (λ x at e d. port-calm s (row (OnPort u operation) s).slots u x halved ended h at e d)) k claim
+  calm-row (PullAlgorithm j) s es halved ended h f finds c k claim =
       leaves-calm t r (PullAlgorithm j) s es (away t r (PullAlgorithm j) s (λ o is. cc) (λ u. u)) (pull-calm s j _ (owner_at j s) c.0) k claim
-  calm-row e s es halved h f finds c k claim =
+  calm-row e s es halved ended h f finds c k claim =
       leaves-calm t r e s es (away t r e s (λ o is. cc) (λ u. u)) (row-causes (IsCalm t r (row e s).slots) e s (other-causes (row e s).slots e tt)) k claim

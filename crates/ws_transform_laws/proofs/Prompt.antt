@@ -4,12 +4,12 @@ use Rattle.std.proofs.Common.{◌≡◌, Bool, true, false, List, [], ◌∷◌,
 use Rattle.ws_value.specs.declared.ids.{PipeId.{PipeId}, PromiseId.{PromiseId}, StreamId.{StreamId}}
 use Rattle.ws_value.specs.declared.value.{Plain.{Plain}, Value.{Value}}
 use Rattle.ws_steps.specs.declared.calls.{Call.{Call}, StartBy.{StartBy}, StartBy.TheVariants.{Now, Later}, HostCall.TheVariants.{Transform as HostTransform}}
-use Rattle.ws_steps.specs.declared.effects.{Effect.{Effect}, Owner.{Owner}, Owner.TheVariants.{Host, HalfOf, BranchOf}, Use.{Use}, Use.TheVariants.{Resolve}}
-use Rattle.ws_steps.specs.declared.effects.Effect.TheVariants.{Readable as OnReadable, Writable as OnWritable, Pipe as OnPipe, Signal as OnSignal, Transform as OnTransform, Tee as OnTee, StartAlgorithm, PullAlgorithm, CancelAlgorithm, WriteAlgorithm, CloseAlgorithm, AbortAlgorithm, ChunkSteps, CloseSteps, ErrorSteps, CallHost}
+use Rattle.ws_steps.specs.declared.effects.{Effect.{Effect}, Owner.{Owner}, Owner.TheVariants.{Host, HalfOf, BranchOf, EndOf}, Use.{Use}, Use.TheVariants.{Resolve}}
+use Rattle.ws_steps.specs.declared.effects.Effect.TheVariants.{Readable as OnReadable, Writable as OnWritable, Pipe as OnPipe, Signal as OnSignal, Transform as OnTransform, Tee as OnTee, Port as OnPort, StartAlgorithm, PullAlgorithm, CancelAlgorithm, WriteAlgorithm, CloseAlgorithm, AbortAlgorithm, ChunkSteps, CloseSteps, ErrorSteps, CallHost}
 use Rattle.ws_steps.specs.declared.pipes.{SignalOperation.{SignalOperation}, SignalOperation.TheVariants.{Add, Forget, Trigger}}
 use Rattle.ws_steps.specs.declared.promises.{Job.{Job}, Step.{Step}}
 use Rattle.ws_steps.specs.declared.readable.{ReadRequest.{ReadRequest}, ReadRequest.TheVariants.{Promise, Pipe as PipeRequest, Tee as TeeRequest}}
-use Rattle.ws_steps.specs.declared.transform.{Halves.{Halves}, Kind.{Kind}, Kind.TheVariants.{Identity, Host as HostKind}, Taker.{Taker}, Taker.TheVariants.{ToHost, ToTransform}, TransformId.{TransformId}, TransformOperation.{TransformOperation}}
+use Rattle.ws_steps.specs.declared.transform.{Halves.{Halves}, Kind.{Kind}, Kind.TheVariants.{Identity, Host as HostKind}, Taker.{Taker}, Taker.TheVariants.{ToHost, ToTransform, ToPort}, TransformId.{TransformId}, TransformOperation.{TransformOperation}}
 use Rattle.ws_steps.specs.declared.transform.TransformOperation.TheVariants as names
 use Rattle.ws_steps.specs.declared.writable.{WritableOperation.{WritableOperation}, WriteRecord.{WriteRecord}, WriteRecord.TheVariants.{Chunk, InFlight, CloseMark}}
 use Rattle.ws_steps.specs.declared.writable.WritableOperation.TheVariants.{HandOn}
@@ -36,7 +36,22 @@ use Rattle.ws_laws.proofs.Walker.{Stays}
 use Rattle.ws_laws.proofs.WritableDoes.{IsHandOn, others-do}
 use Rattle.ws_steps.specs.declared.effects.Effect.TheVariants.{Byte, CloseStepsWith}
 use Rattle.ws_value.specs.declared.ids.TeeId.{TeeId}
+use Rattle.ws_value.specs.declared.ids.PortId.{PortId}
 use Rattle.ws_laws.proofs.TeeDoes.{TeeCauses}
+use Rattle.ws_steps.specs.Cross as cross
+use Rattle.ws_steps.specs.Slots.{on_port_at, clones_at}
+use Rattle.ws_steps.specs.Operations.{port_operation}
+use Rattle.ws_steps.specs.declared.effects.Effect.TheVariants.{Give}
+use Rattle.ws_steps.specs.declared.effects.Gift.TheVariants.{Fresh}
+use Rattle.ws_steps.specs.declared.port.PortOperation.{PortOperation}
+use Rattle.ws_steps.specs.declared.port.PortOperation.TheVariants.{WriteGoesOn as WriteByPortGoesOn}
+use Rattle.ws_steps.specs.declared.port.Side.{Side}
+use Rattle.ws_value.specs.declared.value.Message.{Message}
+use Rattle.ws_value.specs.declared.value.Message.TheVariants.{Error as ErrorMessage}
+use Rattle.ws_laws.proofs.Ended.{Ended, ended-stays, end_shape}
+use Rattle.ws_transform_laws.proofs.Branches.{at-end}
+use Rattle.std.proofs.Common.{Err}
+use Rattle.std.proofs.Common.{ap}
 
 -- whether an effect carries a chunk from the writable half of a transform stream, or to the host's algorithm of one
 abbrev pub IsPlain : Effect → Type 0
@@ -45,16 +60,18 @@ IsPlain (OnTransform u (names.TransformChunk v d)) = ⊥
 IsPlain (CallHost (HostTransform j v) u) = ⊥
 IsPlain _ = Unit {0}
 
--- an owner other than a transform stream
+-- an owner other than a transform stream and a port
 abbrev pub IsNoHalf : Owner → Type 0
 IsNoHalf Host = Unit {0}
 IsNoHalf (HalfOf t) = ⊥
 IsNoHalf (BranchOf t half) = Unit {0}
+IsNoHalf (EndOf c) = ⊥
 
 -- it names a stream whose it is
 abbrev pub Placed : Slots → Effect → Type 0
 Placed s (OnWritable j (HandOn ToHost)) = IsNoHalf (owner_at j s)
 Placed s (OnWritable j (HandOn (ToTransform u d))) = slice_get (stream_shapes s) j.0 ≡ Some (WritableOf (HalfOf u))
+Placed s (OnWritable j (HandOn (ToPort c d))) = (side : Side) × (slice_get (stream_shapes s) j.0 ≡ Some (end_shape c side))
 Placed s (OnTransform u (names.TransformChunk v d)) = (x : TransformShape) × (slice_get (transform_shapes s) u.0 ≡ Some x)
 Placed s (CallHost (HostTransform j v) w) = (u : TransformId) × (slice_get (stream_shapes s) j.0 ≡ Some (ReadableOf (HalfOf u)))
 Placed s _ = Unit {0}
@@ -116,6 +133,18 @@ tee-plain u source first second (OnTransform y operation) c = absurd c
 tee-plain u source first second (CallHost call w) c = absurd c
 tee-plain u source first second _ c = tt
 
+-- operations of a port that may carry a chunk
+abbrev pub hands_on : PortOperation → Bool
+hands_on (WriteByPortGoesOn d) = true
+hands_on _ = false
+
+post-plain : (c : PortId) (m : Message) (a : cross.Acts) → Each IsPlain a.out.effects → Each IsPlain (cross.post c m a).out.effects
+post-plain c m a h = either (λ (b : cross.Acts). Each IsPlain b.out.effects) a.slots.live (cross.posting c m a) a (λ e. h) (λ e. h)
+
+port-plain : (c : PortId) (clones : Bool) (operation : PortOperation) (a : cross.Acts) → hands_on operation ≡ false → a.out.effects ≡ [] → Each IsPlain (port_operation c clones operation a).out.effects
+unfolding cross.pull cross.leave cross.close cross.write cross.post_chunk cross.unblock cross.deliver
+port-plain c clones operation a h none = grind (arith, h, none, post-plain)
+
 -- operations of a transform stream that may carry a chunk
 abbrev pub carries : TransformOperation → Bool
 carries (names.SinkWrite u) = true
@@ -175,6 +204,7 @@ on_transform-prompt s t operation (Some x) is halved same = transform-prompt s (
 taken-prompt : (s z : Slots) (j : StreamId) (taker : Taker) (v : Value) → transform_shapes z ≡ transform_shapes s → Halved s → Placed s (OnWritable j (HandOn taker)) → Prompt z (writable.taken_by j v taker ∷ [])
 taken-prompt s z j ToHost v same halved p = (tt, tt)
 taken-prompt s z j (ToTransform u d) v same halved p = let h = halved.writable j u p in ((h.0, rw same h.1.0), tt)
+taken-prompt s z j (ToPort c d) v same halved p = (tt, tt)
 
 first-prompt : (s z : Slots) (j : StreamId) (taker : Taker) (a : writable.Acts) (first : Option WriteRecord) → transform_shapes z ≡ transform_shapes s → Halved s → Placed s (OnWritable j (HandOn taker)) → a.out.effects ≡ []
     → Prompt z (writable.hand_on_first j taker a first).out.effects
@@ -206,6 +236,7 @@ write-prompt : (s : Slots) (j : StreamId) (owner : Owner) → owner_at j s ≡ o
 write-prompt s j Host e = (rw e tt, tt)
 write-prompt s j (HalfOf t) e = (tt, tt)
 write-prompt s j (BranchOf t half) e = (rw e tt, tt)
+write-prompt s j (EndOf c) e = (tt, tt)
 
 -- algorithms, by whose they are
 
@@ -217,21 +248,25 @@ pull-plain : (j : StreamId) (u : Use) (owner : Owner) → Each IsPlain (pull_alg
 pull-plain j u Host = (tt, tt)
 pull-plain j u (HalfOf t) = (tt, tt)
 pull-plain j u (BranchOf t half) = (tt, (tt, tt))
+pull-plain j u (EndOf c) = (tt, (tt, tt))
 
 cancel-plain : (j : StreamId) (r : Plain) (u : Use) (owner : Owner) → Each IsPlain (cancel_algorithm j r u owner)
 cancel-plain j r u Host = (tt, tt)
 cancel-plain j r u (HalfOf t) = (tt, tt)
 cancel-plain j r u (BranchOf t half) = (tt, tt)
+cancel-plain j r u (EndOf c) = (tt, tt)
 
 close-plain : (j : StreamId) (u : Use) (owner : Owner) → Each IsPlain (close_algorithm j u owner)
 close-plain j u Host = (tt, tt)
 close-plain j u (HalfOf t) = (tt, tt)
 close-plain j u (BranchOf t half) = (tt, tt)
+close-plain j u (EndOf c) = (tt, tt)
 
 abort-plain : (j : StreamId) (r : Plain) (u : Use) (owner : Owner) → Each IsPlain (abort_algorithm j r u owner)
 abort-plain j r u Host = (tt, tt)
 abort-plain j r u (HalfOf t) = (tt, tt)
 abort-plain j r u (BranchOf t half) = (tt, tt)
+abort-plain j r u (EndOf c) = (tt, tt)
 
 row-plain : (e : Effect) (s : Slots) → Each IsPlain (row e s).caused → Prompt (row e s).slots (row e s).caused
 row-plain e s k = plain-prompt (row e s).slots (row e s).caused k
@@ -240,12 +275,17 @@ row-plain e s k = plain-prompt (row e s).slots (row e s).caused k
 abbrev pub may_carry : Effect → Bool
 may_carry (OnWritable j (HandOn taker)) = true
 may_carry (OnTransform u operation) = carries operation
+may_carry (OnPort c operation) = hands_on operation
 may_carry (WriteAlgorithm j) = true
 may_carry _ = false
 
 on_transform-plain : (s : Slots) (t : TransformId) (operation : TransformOperation) (o : Option transform.Slots) → carries operation ≡ false → Each IsPlain (on_transform_at (λ halves. transform_operation t halves operation) t s o).caused
 on_transform-plain s t operation None c = tt
 on_transform-plain s t operation (Some x) c = transform-plain t (halves_at x s) operation (record { slots = x; out = found s }) c refl
+
+on_port-plain : (s : Slots) (c : PortId) (operation : PortOperation) (o : Option cross.Slots) → hands_on operation ≡ false → Each IsPlain (on_port_at (λ clones. port_operation c clones operation) c s o).caused
+on_port-plain s c operation None h = tt
+on_port-plain s c operation (Some x) h = port-plain c (clones_at x s) operation (record { slots = x; out = found s }) h refl
 
 pub plain-caused : (e : Effect) (s : Slots) → may_carry e ≡ false → Each IsPlain (row e s).caused
 unfolding row
@@ -258,6 +298,7 @@ plain-caused (OnPipe q operation) s c = row-causes IsPlain (OnPipe q operation) 
 plain-caused (OnSignal a operation) s c = row-causes IsPlain (OnSignal a operation) s (signal-plain operation)
 plain-caused (OnTransform t operation) s c = on_transform-plain s t operation (slice_get s.transforms t.0) c
 plain-caused (OnTee t operation) s c = row-causes IsPlain (OnTee t operation) s (tee-plain t)
+plain-caused (OnPort p operation) s c = on_port-plain s p operation (slice_get s.ports p.0) c
 plain-caused (StartAlgorithm j step start) s c = start-plain j step s start
 plain-caused (PullAlgorithm j) s c = pull-plain j _ (owner_at j s)
 plain-caused (CancelAlgorithm j r q) s c = cancel-plain j r _ (owner_at j s)
@@ -270,12 +311,33 @@ plain-caused (CloseStepsWith j r b) s c = row-causes IsPlain (CloseStepsWith j r
 plain-caused (ErrorSteps j r e) s c = row-causes IsPlain (ErrorSteps j r e) s (error-plain r)
 plain-caused _ s c = tt
 
-row-prompt : (s : Slots) (e : Effect) → Halved s → Placed s e → Prompt (row e s).slots (row e s).caused
+-- a write of a port goes on
+
+handing-prompt : (s z : Slots) (c : PortId) (x : cross.Slots) (d : PromiseId) (a : cross.Acts) (clones : Bool) → stream_shapes z ≡ stream_shapes s → Ended s → slice_get s.ports c.0 ≡ Some x → a.slots.stream ≡ x.stream → a.out.effects ≡ []
+    → Prompt z (cross.hand_on c d a clones).out.effects
+handing-prompt s z c x d a true same ended at stream none = rw (none, stream, same) ((x.side, at-end s c x ended at), tt)
+handing-prompt s z c x d a false same ended at stream none =
+    let p = post-plain c (ErrorMessage cross.data_clone) a (rw none tt) in plain-prompt z _ (plain-append _ (Give (Fresh (Err cross.data_clone)) (Resolve d) ∷ []) p (tt, tt))
+
+going-prompt : (s z : Slots) (c : PortId) (x : cross.Slots) (d : PromiseId) (a : cross.Acts) (clones : Bool) (p : Option PromiseId) → stream_shapes z ≡ stream_shapes s → Ended s → slice_get s.ports c.0 ≡ Some x → a.slots ≡ x → a.out.effects ≡ []
+    → Prompt z (cross.go_on c clones d a p).out.effects
+going-prompt s z c x d a clones None same ended at is none = handing-prompt s z c x d (cross.hold_back a) clones same ended at (ap (λ (y : cross.Slots). y.stream) is) none
+going-prompt s z c x d a clones (Some p) same ended at is none = rw none (tt, tt)
+
+on_port-prompt : (s : Slots) (c : PortId) (d : PromiseId) (o : Option cross.Slots) → slice_get s.ports c.0 ≡ o → Ended s
+    → let e = on_port_at (λ clones. port_operation c clones (WriteByPortGoesOn d)) c s o in stream_shapes e.slots ≡ stream_shapes s → Prompt e.slots e.caused
+unfolding cross.write_goes_on
+on_port-prompt s c d None at ended same = tt
+on_port-prompt s c d (Some x) at ended same =
+    going-prompt s (on_port_at (λ clones. port_operation c clones (WriteByPortGoesOn d)) c s (Some x)).slots c x d (record { slots = x; out = found s }) (clones_at x s) x.backpressure same ended at refl refl
+
+row-prompt : (s : Slots) (e : Effect) → Halved s → Ended s → Placed s e → Prompt (row e s).slots (row e s).caused
 unfolding row
-row-prompt s (OnWritable j (HandOn taker)) halved p = hand_on-prompt s j taker halved p
-row-prompt s (OnTransform t operation) halved p = on_transform-prompt s t operation (slice_get s.transforms t.0) refl halved (row-stream_shapes (OnTransform t operation) s)
-row-prompt s (WriteAlgorithm j) halved p = write-prompt s j (owner_at j s) refl
-row-prompt s e halved p = row-plain e s (plain-caused e s refl)
+row-prompt s (OnWritable j (HandOn taker)) halved ended p = hand_on-prompt s j taker halved p
+row-prompt s (OnTransform t operation) halved ended p = on_transform-prompt s t operation (slice_get s.transforms t.0) refl halved (row-stream_shapes (OnTransform t operation) s)
+row-prompt s (OnPort c (WriteByPortGoesOn d)) halved ended p = on_port-prompt s c d (slice_get s.ports c.0) refl ended (row-stream_shapes (OnPort c (WriteByPortGoesOn d)) s)
+row-prompt s (WriteAlgorithm j) halved ended p = write-prompt s j (owner_at j s) refl
+row-prompt s e halved ended p = row-plain e s (plain-caused e s refl)
 
 -- what calls and jobs begin with
 
@@ -294,13 +356,14 @@ job-plain job = each-map (IsFirst Never) IsPlain (first-plain Never) (job_effect
 -- over every run
 pub record Prompted (s : Slots) (es : List Effect) : Type 0 where
   pub halved : Halved s
+  pub ended : Ended s
   pub prompt : Prompt s es
 
 pub prompted-stays : Stays Prompted
 prompted-stays = record {
-  row = λ s e es k. record { halved = halved-stays.row s e es k.halved; prompt = prompt-append (row e s).slots (row e s).caused es (row-prompt s e k.halved k.prompt.0) k.prompt.1 };
-  call = λ s c k. record { halved = halved-stays.call s c k.halved; prompt = plain-prompt (begin c s).done.slots (begin c s).done.caused (call-plain c s) };
-  job = λ s job e k. record { halved = k.halved; prompt = plain-prompt (with_promises (after_next_job s.promises) s) (job_effects job) (job-plain job) };
-  answered = λ s p k. record { halved = k.halved; prompt = tt };
-  older = λ s k. record { halved = k.halved; prompt = tt };
+  row = λ s e es k. record { halved = halved-stays.row s e es k.halved; ended = ended-stays.row s e es k.ended; prompt = prompt-append (row e s).slots (row e s).caused es (row-prompt s e k.halved k.ended k.prompt.0) k.prompt.1 };
+  call = λ s c k. record { halved = halved-stays.call s c k.halved; ended = ended-stays.call s c k.ended; prompt = plain-prompt (begin c s).done.slots (begin c s).done.caused (call-plain c s) };
+  job = λ s job e k. record { halved = k.halved; ended = k.ended; prompt = plain-prompt (with_promises (after_next_job s.promises) s) (job_effects job) (job-plain job) };
+  answered = λ s p k. record { halved = k.halved; ended = k.ended; prompt = tt };
+  older = λ s k. record { halved = k.halved; ended = k.ended; prompt = tt };
 }

@@ -3,7 +3,7 @@ use Rattle.std.proofs.Common.{◌≡◌, ℕ, ◌+◌, ◌≤◌, Bool, true, fa
 use Rattle.ws_value.specs.declared.ids.{PipeId.{PipeId}, PromiseId.{PromiseId}, StreamId.{StreamId}}
 use Rattle.ws_value.specs.declared.value.Plain.{Plain}
 use Rattle.ws_steps.specs.declared.effects.{Effect.{Effect}}
-use Rattle.ws_steps.specs.declared.effects.Effect.TheVariants.{Readable as OnReadable, Writable as OnWritable, Pipe as OnPipe, Signal as OnSignal, Transform as OnTransform, Tee as OnTee, StartAlgorithm, PullAlgorithm, CancelAlgorithm, WriteAlgorithm, CloseAlgorithm, AbortAlgorithm, ChunkSteps, CloseSteps, ErrorSteps, Give, CallHost}
+use Rattle.ws_steps.specs.declared.effects.Effect.TheVariants.{Readable as OnReadable, Writable as OnWritable, Pipe as OnPipe, Signal as OnSignal, Transform as OnTransform, Tee as OnTee, Port as OnPort, StartAlgorithm, PullAlgorithm, CancelAlgorithm, WriteAlgorithm, CloseAlgorithm, AbortAlgorithm, ChunkSteps, CloseSteps, ErrorSteps, Give, CallHost}
 use Rattle.ws_steps.specs.declared.pipes.SignalOperation.TheVariants.{Add, Forget, Trigger}
 use Rattle.ws_steps.specs.declared.readable.{ReadRequest.TheVariants.{Promise, Pipe as PipeRequest, Tee as TeeRequest}, ReadableOperation.{ReadableOperation}, ReadableOperation.TheVariants.{Close, Error}}
 use Rattle.ws_steps.specs.declared.transform.{Halves.{Halves}, TransformId.{TransformId}, TransformOperation.{TransformOperation}}
@@ -37,7 +37,9 @@ use Rattle.ws_steps.specs.Turns.{on_source}
 use Rattle.ws_laws.proofs.Tables.{on_byte-readable}
 use Rattle.ws_transform_laws.proofs.Sources.{byte-unread, source-apart}
 use Rattle.ws_value.specs.declared.ids.TeeId.{TeeId}
+use Rattle.ws_value.specs.declared.ids.PortId.{PortId}
 use Rattle.ws_laws.proofs.TeeDoes.{TeeCauses}
+use Rattle.ws_laws.proofs.PortDoes.{PortCauses}
 
 -- what a stream can take, over an effect
 
@@ -110,6 +112,7 @@ module _ (t : TransformId) (r : StreamId) where
     settle = λ z p o h. none-left _ _ (weigh-settle (of_reaction (is_cancelled t)) p o z) h;
     answer = λ z p o h. none-left _ _ (weigh-answer (of_reaction (is_cancelled t)) p o z) h;
     micro = λ z m h. none-left _ _ (weigh-micro (of_reaction (is_cancelled t)) m z) h;
+    post = λ z c m h. weight-tell (is_cancelled t) _ z ∙ h;
     signal = λ z i c h. weight-tell (is_cancelled t) _ z ∙ h;
   }) e s (λ u. u) w
 
@@ -126,7 +129,7 @@ module _ (t : TransformId) (r : StreamId) where
 
   -- unblocking
 
-  abbrev ends : Effect → Bool
+  abbrev pub ends : Effect → Bool
   ends (OnReadable j Close) = is_same r j
   ends (OnReadable j (Error c)) = is_same r j
   ends _ = false
@@ -183,6 +186,10 @@ module _ (t : TransformId) (r : StreamId) where
   tee-plain u source first second (OnTransform y operation) c = absurd c
   tee-plain u source first second _ c = tt
 
+  port-plain : (u : PortId) (stream : StreamId) (e : Effect) → PortCauses u stream e → IsPlain e
+  port-plain u stream (OnTransform y operation) c = absurd c
+  port-plain u stream _ c = tt
+
   abbrev IsOther : Effect → Type 0
   IsOther (OnTransform u operation) = ⊥
   IsOther _ = Unit {0}
@@ -190,19 +197,20 @@ module _ (t : TransformId) (r : StreamId) where
   plain-causes : (e : Effect) → IsOther e → Causes IsPlain e
   plain-causes (OnReadable j operation) n = record { pull = tt; cancel = λ c p. tt; chunk = λ c v. tt; close = λ c. tt; error = λ c e. tt }
   plain-causes (Byte j operation) n = record { readable = record { pull = tt; cancel = λ c p. tt; chunk = λ c v. tt; close = λ c. tt; error = λ c e. tt }; close_with = λ r b. tt }
-  plain-causes (OnWritable j operation) n = record { write = tt; close = tt; abort = λ c p. tt; hand_on = λ v. tt; take = λ v u d. tt }
+  plain-causes (OnWritable j operation) n = record { write = tt; close = tt; abort = λ c p. tt; hand_on = λ v. tt; take = λ v u d. tt; post = λ v u d. tt }
   plain-causes (StartAlgorithm j step start) n = (λ g u. tt, λ c u. tt)
-  plain-causes (PullAlgorithm j) n = (λ c u. tt, (λ y u. tt, (λ k. tt, λ u. tt)))
-  plain-causes (CancelAlgorithm j c p) n = (λ c u. tt, (λ y u. tt, λ k half u. tt))
-  plain-causes (WriteAlgorithm j) n = (tt, λ y u. tt)
-  plain-causes (CloseAlgorithm j) n = (λ c u. tt, λ y u. tt)
-  plain-causes (AbortAlgorithm j c p) n = (λ c u. tt, λ y u. tt)
+  plain-causes (PullAlgorithm j) n = (λ c u. tt, (λ y u. tt, (λ k. tt, (λ u. tt, λ q. tt))))
+  plain-causes (CancelAlgorithm j c p) n = (λ c u. tt, (λ y u. tt, (λ k half u. tt, λ y u. tt)))
+  plain-causes (WriteAlgorithm j) n = (tt, (λ y u. tt, λ z u. tt))
+  plain-causes (CloseAlgorithm j) n = (λ c u. tt, (λ y u. tt, λ z u. tt))
+  plain-causes (AbortAlgorithm j c p) n = (λ c u. tt, (λ y u. tt, λ z u. tt))
   plain-causes (OnPipe p operation) n = pipe-plain p
   plain-causes (OnSignal a (Trigger c)) n = λ p. tt
   plain-causes (OnSignal a (Add p)) n = tt
   plain-causes (OnSignal a (Forget p)) n = tt
   plain-causes (OnTransform u operation) n = absurd n
   plain-causes (OnTee u operation) n = tee-plain u
+  plain-causes (OnPort u operation) n = port-plain u
   plain-causes (ChunkSteps j (Promise p) v) n = tt
   plain-causes (ChunkSteps j (PipeRequest p) v) n = tt
   plain-causes (ChunkSteps j (TeeRequest k) v) n = tt
@@ -319,7 +327,7 @@ module _ (t : TransformId) (r : StreamId) where
       ending _ a k = cc
 
   -- once it is performed, the stream is shut where it was or the effect shuts it
-  shut-by : (e : Effect) (s : Slots) → not (can r s) || ends e ≡ true → not (can r (row e s).slots) ≡ true
+  pub shut-by : (e : Effect) (s : Slots) → not (can r s) || ends e ≡ true → not (can r (row e s).slots) ≡ true
   shut-by e s k = by (can r s) (ends e) refl refl k
     where
       shut_now : can r (row e s).slots ≡ false → not (can r (row e s).slots) ≡ true

@@ -3,16 +3,16 @@ use Rattle.std.proofs.Common.{Option, Some, None, Result, slice_get}
 use Rattle.ws_value.specs.declared.ids.{PipeId.{PipeId}, PromiseId.{PromiseId}, SignalId.{SignalId}, StreamId.{StreamId}}
 use Rattle.ws_value.specs.declared.value.{Outcome.{Outcome}, Outcome.TheVariants.{Given, Finished}, Plain.{Plain}, Plain.TheVariants.{Undefined}, Value.TheVariants.{Plain as PlainValue, Bytes}}
 use Rattle.ws_steps.specs.declared.calls.{Event.TheVariants.{Signal as SignalEvent}, StartBy.TheVariants.{Now, Later}}
-use Rattle.ws_steps.specs.declared.effects.{Effect.{Effect}, Effect.TheVariants.{Readable as OnReadable, Writable as OnWritable, Pipe as OnPipe, Signal as OnSignal, Transform as OnTransform, Tee as OnTee, StartAlgorithm, ChunkSteps, CloseSteps, ErrorSteps, Give, Settle as SettlePromise, Queue, CallHost}}
+use Rattle.ws_steps.specs.declared.effects.{Effect.{Effect}, Effect.TheVariants.{Readable as OnReadable, Writable as OnWritable, Pipe as OnPipe, Signal as OnSignal, Transform as OnTransform, Tee as OnTee, Port as OnPort, StartAlgorithm, ChunkSteps, CloseSteps, ErrorSteps, Give, Settle as SettlePromise, Queue, CallHost}}
 use Rattle.ws_steps.specs.declared.pipes.{PipeOperation.{PipeOperation}, SignalOperation.{SignalOperation}}
 use Rattle.ws_steps.specs.declared.promises.Micro.{Micro}
 use Rattle.ws_steps.specs.declared.readable.ReadRequest.TheVariants.{Promise, Pipe as PipeRequest, Tee as TeeRequest}
 use Rattle.ws_steps.specs.declared.transform.{TransformId.{TransformId}, TransformOperation.{TransformOperation}}
 use Rattle.ws_steps.specs.Effects.{Out}
-use Rattle.ws_steps.specs.Operations.{writable_operation, pipe_operation, signal_operation, transform_operation, tee_operation}
+use Rattle.ws_steps.specs.Operations.{writable_operation, pipe_operation, signal_operation, transform_operation, tee_operation, port_operation}
 use Rattle.ws_steps.specs.Pipes as pipe
 use Rattle.ws_steps.specs.Promises.{Table, fresh, settle, answer, tell, queue_micro}
-use Rattle.ws_steps.specs.Slots.{Slots, Done, found, ends_at, halves_at, has_writable, nothing, put_writable, on_pipe_at, on_signal_at, on_transform_at, on_tee_at}
+use Rattle.ws_steps.specs.Slots.{Slots, Done, found, ends_at, halves_at, has_writable, nothing, put_writable, on_pipe_at, on_signal_at, on_transform_at, on_tee_at, on_port_at, clones_at}
 use Rattle.ws_steps.specs.Transform as transform
 use Rattle.ws_steps.specs.Turns.{row}
 use Rattle.ws_laws.proofs.PipeDoes.{pipe-does}
@@ -23,9 +23,15 @@ use Rattle.ws_steps.specs.declared.effects.Effect.TheVariants.{Byte, CloseStepsW
 use Rattle.ws_laws.proofs.Rows.{source-out, byte-out}
 use Rattle.ws_laws.proofs.ReadableDoes.{OfReadable}
 use Rattle.ws_value.specs.declared.ids.TeeId.{TeeId}
+use Rattle.ws_value.specs.declared.ids.PortId.{PortId}
 use Rattle.ws_steps.specs.declared.tee.TeeOperation.{TeeOperation}
+use Rattle.ws_steps.specs.declared.port.PortOperation.{PortOperation}
 use Rattle.ws_steps.specs.Tee as tee
+use Rattle.ws_steps.specs.Cross as cross
 use Rattle.ws_laws.proofs.TeeDoes.{tee-does}
+use Rattle.ws_value.specs.declared.value.Message.{Message}
+use Rattle.ws_laws.proofs.PortDoes.{port-does}
+use Rattle.ws_steps.specs.declared.calls.Event.TheVariants.{Post}
 
 abbrev pub IsUsing : Effect → Type 0
 IsUsing (Give gift u) = Unit {0}
@@ -37,6 +43,7 @@ pub record Spares (T : Table → Type 0) : Type 0 where
   pub settle : (t : Table) (p : PromiseId) (o : Result Plain Plain) → T t → T (settle p o t)
   pub answer : (t : Table) (p : PromiseId) (o : Outcome) → T t → T (answer p o t)
   pub micro : (t : Table) (m : Micro) → T t → T (queue_micro m t)
+  pub post : (t : Table) (c : PortId) (m : Message) → T t → T (tell (Post c m) t)
   pub signal : (t : Table) (i : StreamId) (r : Plain) → T t → T (tell (SignalEvent i r) t)
 
 module _ (T : Table → Type 0) (of : Spares T) where
@@ -55,6 +62,10 @@ module _ (T : Table → Type 0) (of : Spares T) where
   by-tee : (t : TeeId) (operation : TeeOperation) (s : Slots) (o : Option tee.Slots) → T s.promises → T (on_tee_at (tee_operation t operation) t s o).slots.promises
   by-tee t operation s None h = h
   by-tee t operation s (Some x) h = tee-does T (record { fresh = of.fresh; micro = of.micro }) t operation (record { slots = x; out = found s }) h
+
+  by-port : (c : PortId) (operation : PortOperation) (s : Slots) (o : Option cross.Slots) → T s.promises → T (on_port_at (λ clones. port_operation c clones operation) c s o).slots.promises
+  by-port c operation s None h = h
+  by-port c operation s (Some x) h = port-does T (record { fresh = of.fresh; settle = of.settle; post = of.post }) c (clones_at x s) operation (record { slots = x; out = found s }) h
 
   settles : (j : StreamId) → OfReadable (λ (x : Out). T x.promises) j
   settles j = record {
@@ -81,11 +92,13 @@ module _ (T : Table → Type 0) (of : Spares T) where
         abort = λ x c p h. h;
         hand_on = λ x v h. h;
         take = λ x v t d h. h;
+        post = λ x v t d h. h;
       }) operation (writable_acts j s) h) (λ none. h)
   row-spares (OnPipe p operation) s n h = by-pipe p operation s (slice_get s.pipes p.0) h
   row-spares (OnSignal a operation) s n h = by-signal a operation s (slice_get s.signals a.0) h
   row-spares (OnTransform t operation) s n h = by-transform t operation s (slice_get s.transforms t.0) h
   row-spares (OnTee t operation) s n h = by-tee t operation s (slice_get s.tees t.0) h
+  row-spares (OnPort t operation) s n h = by-port t operation s (slice_get s.ports t.0) h
   row-spares (StartAlgorithm j step Now) s n h = h
   row-spares (StartAlgorithm j step Later) s n h = of.fresh s.promises h
   row-spares (ChunkSteps j (Promise p) v) s n h = of.answer s.promises p (Given v) h

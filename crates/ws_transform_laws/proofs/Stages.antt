@@ -34,7 +34,7 @@ use Rattle.ws_transform_laws.proofs.Waiting.{Waits, Queued, waits-changes, queue
 pub open-at : (f : PromiseId → ℕ) (p : PromiseId) (s : Slots) → Sound f s → 1 ≤ f p + (firm_in p s + weigh (in_reaction p) s.promises) → is_open p s.promises ≡ true
 open-at f p s k few = let h = k.holds.once p in open_when (is_open p s.promises) (omega arith)
 
-names-self : (p : PromiseId) → names p p ≡ 1
+pub names-self : (p : PromiseId) → names p p ≡ 1
 names-self p = grind arith
 
 change-stands : (p : PromiseId) (ts : List transform.Slots) (k : ℕ) (x : transform.Slots) → slice_get ts k ≡ Some x → names p x.change ≤ in_transforms p ts
@@ -56,7 +56,7 @@ abbrev pub fails : StreamId → Job → ℕ
 fails i (ReactionJob step (Err e) derived) = is_write i step
 fails i _ = 0
 
-weigh-more : (f g : Reaction → ℕ) → ((r : Reaction) → f r ≤ g r) → (t : Table) → weigh f t ≤ weigh g t
+pub weigh-more : (f g : Reaction → ℕ) → ((r : Reaction) → f r ≤ g r) → (t : Table) → weigh f t ≤ weigh g t
 unfolding weigh
 weigh-more f g l t = let a = entries t.entries in let b = jobs t.jobs in omega arith
   where
@@ -85,13 +85,13 @@ goes-names t d r = grind arith
 goes-job : (t : TransformId) (d : PromiseId) (o : Result Plain Plain) (r : Reaction) → of_reaction (goes_on t d) r ≤ of_job (of_reaction (goes_on t d)) (job_of o r)
 goes-job t d o r = grind arith
 
-write-fails : (i : StreamId) (e : Plain) (r : Reaction) → of_reaction (is_write i) r ≤ fails i (job_of (Err e) r)
+pub write-fails : (i : StreamId) (e : Plain) (r : Reaction) → of_reaction (is_write i) r ≤ fails i (job_of (Err e) r)
 write-fails i e r = grind arith
 
 goes-self : (t : TransformId) (d : PromiseId) → goes_on t d (TransformChanged t d) ≡ 1
 goes-self t d = grind arith
 
-write-self : (i : StreamId) → is_write i (WritableWrite i) ≡ 1
+pub write-self : (i : StreamId) → is_write i (WritableWrite i) ≡ 1
 write-self i = rw (is_same-refl i) refl
 
 abbrev pub IsWriteSettled : WritableOperation → Type 0

@@ -46,6 +46,7 @@ shaped-stays i y = record {
     signal = λ z k. k;
     transform = λ z kind w r change k. k;
     tee = λ z source first second cancel k. k;
+    port = λ z side stream backpressure k. k;
     bytes = λ z mark auto k. more z.streams i.0 _ y k;
     byob_requests = λ z hs k. k;
     readable = λ z o mark size k. more z.streams i.0 _ y k;
@@ -59,11 +60,11 @@ shaped-stays i y = record {
 step-shaped : (i : StreamId) (y : StreamShape) (x : Entry) (s : Slots) → Shaped i y s [] → Shaped i y (step s x) []
 step-shaped i y x s k = walker.run-stays (Shaped i y) (shaped-stays i y) (λ z k. k) (x ∷ []) s k
 
-record Remains (i : StreamId) (s z : Slots) : Type 0 where
-  owner : owner_at i z ≡ owner_at i s
-  there : has_writable i z ≡ true
+pub record Remains (i : StreamId) (s z : Slots) : Type 0 where
+  pub owner : owner_at i z ≡ owner_at i s
+  pub there : has_writable i z ≡ true
 
-step-remains : (i : StreamId) (x : Entry) (s : Slots) → has_writable i s ≡ true → Remains i s (step s x)
+pub step-remains : (i : StreamId) (x : Entry) (s : Slots) → has_writable i s ≡ true → Remains i s (step s x)
 step-remains i x s there =
     let y : StreamShape = WritableOf (owner_at i s) in
     let after = step-shaped i y x s (writable-shape i s (owner_at i s) there refl) in
@@ -71,7 +72,7 @@ step-remains i x s there =
 
 -- a stream that has ended acts on nothing: its past may be forgotten, but for its closing
 
-forgotten-ordered : (h : Writes) (d : List Value) (c : Core) → has_ended c.state ≡ true → Ordered h d c → Ordered (forgotten h) [] c
+pub forgotten-ordered : (h : Writes) (d : List Value) (c : Core) → has_ended c.state ≡ true → Ordered h d c → Ordered (forgotten h) [] c
 forgotten-ordered h d c e o = let q = o.ended e in record {
   all = rw q refl;
   live = λ f. refl;
@@ -83,7 +84,7 @@ forgotten-ordered h d c e o = let q = o.ended e in record {
   closed = o.closed;
 }
 
-alive-there : (i : StreamId) (s : Slots) → has_ended (writable_at i s).state ≡ false → has_writable i s ≡ true
+pub alive-there : (i : StreamId) (s : Slots) → has_ended (writable_at i s).state ≡ false → has_writable i s ≡ true
 alive-there i s e = by (has_writable i s) refl
   where
     by : (b : Bool) → b ≡ has_writable i s → has_writable i s ≡ true
@@ -91,6 +92,17 @@ alive-there i s e = by (has_writable i s) refl
     by false f =
         let none : writable_at i s ≡ no_writable = no_writable_there (slice_get s.streams i.0) (sym f) in
         let no : has_ended no_writable.state ≡ false = subst (λ (w : writable.Slots). has_ended w.state ≡ false) none e in cc
+
+-- nothing was dropped of a stream that isn't errored
+pub none-dropped : (h : Writes) (d : List Value) (c : Core) → is_errored c.state ≡ false → Ordered h d c → d ≡ []
+none-dropped h d c f o =
+    let closed : is_closed c.state ≡ true → d ≡ [] = λ e.
+    let all : h.acted ++ [] ≡ h.acted ++ (todo c.queue ++ d) = append-nil h.acted ∙ ((o.whole (o.closed e)).0 ∙ o.all) in
+    (append_none (todo c.queue) d (sym (append_cancel h.acted [] (todo c.queue ++ d) all))).1 in
+    by c.state refl closed
+  where
+    by : (s : WritableState) → s ≡ c.state → (is_closed c.state ≡ true → d ≡ []) → d ≡ []
+    by s e k = grind (arith, e, k, f, o.live)
 
 module _ (i : StreamId) (t : TransformId) where
   step-orderly : (h : Writes) (s : Slots) (x : Entry) → Orderly i t h s [] → Orderly i t (writes_then h (step_writes i s x)) (step s x) []
@@ -115,17 +127,6 @@ module _ (i : StreamId) (t : TransformId) where
           let all : (step_writes i s x).acted ++ (todo (writable_at i (step s x)).queue ++ m.0) ≡ [] = sym m.1.all ∙ entry_none i s x e in
           (append_none (step_writes i s x).acted (todo (writable_at i (step s x)).queue ++ m.0) all).0
       by false f = (after.untold (sym f)).1.0
-
-  -- nothing was dropped of a stream that isn't errored
-  none-dropped : (h : Writes) (d : List Value) (c : Core) → is_errored c.state ≡ false → Ordered h d c → d ≡ []
-  none-dropped h d c f o =
-      let closed : is_closed c.state ≡ true → d ≡ [] = λ e.
-      let all : h.acted ++ [] ≡ h.acted ++ (todo c.queue ++ d) = append-nil h.acted ∙ ((o.whole (o.closed e)).0 ∙ o.all) in
-      (append_none (todo c.queue) d (sym (append_cancel h.acted [] (todo c.queue ++ d) all))).1 in
-      by c.state refl closed
-    where
-      by : (s : WritableState) → s ≡ c.state → (is_closed c.state ≡ true → d ≡ []) → d ≡ []
-      by s e k = grind (arith, e, k, f, o.live)
 
   half-step : (h : Writes) (s : Slots) (x : Entry) → owner_at i (step s x) ≡ HalfOf t → Orderly i t h s [] → (ended : Bool) → ended ≡ has_ended (writable_at i s).state
       → IsWritableStep (step_writes i s x) (writable_at i s) (writable_at i (step s x))

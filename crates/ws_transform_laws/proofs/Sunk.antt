@@ -3,18 +3,24 @@ use Rattle.std.proofs.Common.{◌≡◌, ℕ, zero, suc, true, List, [], ◌∷�
 use Rattle.ws_value.specs.declared.ids.StreamId.{StreamId}
 use Rattle.ws_steps.specs.declared.calls.Call.{Call}
 use Rattle.ws_steps.specs.declared.effects.Owner.{Owner}
-use Rattle.ws_steps.specs.declared.effects.Owner.TheVariants.{Host, HalfOf, BranchOf}
+use Rattle.ws_steps.specs.declared.effects.Owner.TheVariants.{Host, HalfOf, BranchOf, EndOf}
 use Rattle.ws_steps.specs.Calls.{Begun, begin}
 use Rattle.ws_steps.specs.Run.{Entry, run}
 use Rattle.ws_steps.specs.Slots.{Slots, Stream, ReadableStream, ByteStream, WritableStream, empty, has_writable, owner_at, owner_of, is_writable_stream}
 use Rattle.ws_laws.proofs.EachCall.{each_call}
 use Rattle.ws_laws.proofs.Shapes.{StreamShape, ReadableOf, BytesOf, WritableOf, stream_shape, stream_shapes, row-stream_shapes}
 use Rattle.ws_laws.proofs.Walker.{Stays, run-stays}
+use Rattle.ws_steps.specs.declared.port.Side.{Side}
+use Rattle.std.proofs.Common.{length}
+use Rattle.ws_steps.specs.Calls.{add_port}
+use Rattle.ws_steps.specs.declared.port.Side.TheVariants.{Writable as WritableSide}
+use Rattle.ws_steps.specs.declared.port.Side.TheVariants.{Readable as ReadableSide}
 
 abbrev pub IsNoBranch : Owner → Type 0
 IsNoBranch Host = Unit {0}
 IsNoBranch (HalfOf t) = Unit {0}
 IsNoBranch (BranchOf t half) = ⊥
+IsNoBranch (EndOf c) = Unit {0}
 
 abbrev IsSunk : StreamShape → Type 0
 IsSunk (ReadableOf o) = Unit {0}
@@ -31,6 +37,10 @@ AreSunk s = AllSunk (stream_shapes s)
 more : (xs ys : List Stream) → AllSunk (map stream_shape xs) → AllSunk (map stream_shape ys) → AllSunk (map stream_shape (xs ++ ys))
 more [] ys a b = b
 more (x ∷ xs) ys a b = (a.0, more xs ys a.1 b)
+
+port-sunk : (s : Slots) (side : Side) (i : StreamId) → AreSunk s → AreSunk (add_port i s side)
+port-sunk s ReadableSide i h = more s.streams _ h (tt, tt)
+port-sunk s WritableSide i h = more s.streams _ h (tt, tt)
 
 call-sunk : (c : Call) (s : Slots) → AreSunk s → AreSunk (begin c s).done.slots
 call-sunk c s h = each_call (λ (b : Begun). AreSunk b.done.slots) c s (record {
@@ -66,6 +76,10 @@ call-sunk c s h = each_call (λ (b : Begun). AreSunk b.done.slots) c s (record {
   terminate = λ t. h;
   pipe = λ source dest prevent signal e f l m. h;
   make_signal = h;
+  open_end = λ side. port-sunk s side (record { 0 = length s.streams }) h;
+  send_readable = λ i there free. port-sunk s WritableSide (record { 0 = length s.streams }) h;
+  send_writable = λ i there free. port-sunk s ReadableSide (record { 0 = length s.streams }) h;
+  deliver = λ p m e is. h;
   trigger = λ a reason. h;
   settle = λ a answer p e. h;
 })

@@ -4,7 +4,8 @@ use Rattle.std.proofs.Common.{◌≡◌, ◌⊎◌, inl, inr, ℕ, ◌+◌, ◌�
 use Rattle.ws_value.specs.declared.ids.{PipeId.{PipeId}, PromiseId.{PromiseId}, StreamId.{StreamId}}
 use Rattle.ws_value.specs.declared.value.{Value.{Value}}
 use Rattle.ws_steps.specs.declared.effects.{Effect.{Effect}, Gift.{Gift}, Gift.TheVariants.{This}, Owner.TheVariants.{HalfOf}, Use.{Use}, Use.TheVariants.{React}}
-use Rattle.ws_steps.specs.declared.effects.Effect.TheVariants.{Readable as OnReadable, Pipe as OnPipe, Transform as OnTransform, Tee as OnTee, PullAlgorithm, ChunkSteps, Give}
+use Rattle.ws_steps.specs.declared.effects.Effect.TheVariants.{Readable as OnReadable, Pipe as OnPipe, Transform as OnTransform, Tee as OnTee, StartAlgorithm, PullAlgorithm, ChunkSteps, Give}
+use Rattle.ws_steps.specs.declared.calls.StartBy.TheVariants.{Now}
 use Rattle.ws_steps.specs.declared.pipes.PipeOperation.TheVariants.{KeepChunk}
 use Rattle.ws_steps.specs.declared.promises.Step.TheVariants.{ReadablePull}
 use Rattle.ws_steps.specs.declared.readable.{ReadRequest.TheVariants.{Promise, Pipe as PipeRequest, Tee as TeeRequest}, ReadableOperation.{ReadableOperation}, ReadableOperation.TheVariants.{InitializeReader, Enqueue}}
@@ -91,9 +92,17 @@ module _ (t : TransformId) (r : StreamId) where
   abbrev pub Claim : Slots → List Effect → Type 0
   Claim s es = tells es ≡ 0 → (unwanted s ≡ true → pressed t s ≡ true) × (0 < pulls es → unwanted s ≡ false)
 
+  -- the start of a stream whose start algorithm gives undefined
+  abbrev pub IsStarting : Effect → Type 0
+  IsStarting (StartAlgorithm j step Now) = Unit {0}
+  IsStarting (Give gift u) = Unit {0}
+  IsStarting _ = ⊥
+
   pub data Fits (s : Slots) (es : List Effect) : Type 0 where
     Fronts : Front s es → Claim s es → Fits s es
     Enters : (v : Value) (rest : List Effect) → es ≡ OnReadable r (Enqueue v) ∷ OnTransform t names.Enqueued ∷ rest → Calms s rest → Fits s es
+    Starts : (e : Effect) (p : PromiseId) (rest : List Effect) → es ≡ e ∷ OnReadable r (InitializeReader p) ∷ rest → IsStarting e → is_some (readable_at r s).reader ≡ false → Calms s rest
+        → (unwanted s ≡ true → pressed t s ≡ true) → Fits s es
     Opens : (p : PromiseId) (rest : List Effect) → es ≡ OnReadable r (InitializeReader p) ∷ rest → is_some (readable_at r s).reader ≡ false → Calms s rest → (unwanted s ≡ true → pressed t s ≡ true) → Fits s es
 
   pub calm-front : (s : Slots) (es : List Effect) → Calms s es → Front s es

@@ -21,6 +21,7 @@ use Rattle.ws_steps.specs.Turns.{row}
 use Rattle.ws_steps.specs.Writable as writable
 use Rattle.ws_steps.specs.WritableHistory.{Writes, no_writes, writes_then, operation_writes, effect_writes, run_writes}
 use Rattle.ws_laws.proofs.EachCall.{each_call}
+use Rattle.ws_laws.proofs.Ended.{ended-empty}
 use Rattle.ws_laws.proofs.Halves.{get-either, halved-empty}
 use Rattle.ws_laws.proofs.Shapes.{TransformShape, transform_shapes, transform_shape, map-there, row-transform_shapes}
 use Rattle.ws_laws.proofs.Tables.{either, same_id, eq_numbers, no_stream, no_writable_there}
@@ -37,6 +38,9 @@ use Rattle.ws_transform_laws.proofs.Told.{Both, neither, both_then, are_both, ov
 use Rattle.ws_value.specs.declared.ids.TeeId.{TeeId}
 use Rattle.ws_steps.specs.declared.tee.Half.{Half}
 use Rattle.ws_steps.specs.declared.tee.Half.TheVariants.{First, Second}
+use Rattle.ws_steps.specs.declared.port.Side.{Side}
+use Rattle.ws_steps.specs.declared.port.Side.TheVariants.{Writable as WritableSide}
+use Rattle.ws_steps.specs.declared.port.Side.TheVariants.{Readable as ReadableSide}
 
 -- lists that grow
 
@@ -169,6 +173,10 @@ module _ (i : StreamId) (t : TransformId) where
     unmade = λ none. k.unmade (rw f at none);
   }
 
+  ported : (h : Both) (s : Slots) (side : Side) (j : StreamId) → Rest h s → Rest h (calls.add_port j s side)
+  ported h s ReadableSide j k = record { linked = k.linked; unacted = λ none. k.unacted (has-before s.streams (calls.end_of (record { 0 = length s.ports }) ReadableSide ∷ []) i.0 none); unmade = k.unmade }
+  ported h s WritableSide j k = record { linked = k.linked; unacted = λ none. k.unacted (has-before s.streams (calls.end_of (record { 0 = length s.ports }) WritableSide ∷ []) i.0 none); unmade = k.unmade }
+
   call-even : (h : Both) (s : Slots) (c : Call) → Rest h s → Rest h (begin c s).done.slots
   call-even h s c k = each_call (λ (b : Begun). Rest h b.done.slots) c s (record {
     unchanged = λ reply. k;
@@ -203,6 +211,10 @@ module _ (i : StreamId) (t : TransformId) where
     terminate = λ u. k;
     pipe = λ source dest prevent signal e f l m. same-even h s _ refl refl k;
     make_signal = same-even h s _ refl refl k;
+    open_end = λ side. ported h s side (record { 0 = length s.streams }) k;
+    send_readable = λ j there free. same-even h (calls.add_port (record { 0 = length s.streams }) s WritableSide) _ refl refl (ported h s WritableSide (record { 0 = length s.streams }) k);
+    send_writable = λ j there free. same-even h (calls.add_port (record { 0 = length s.streams }) s ReadableSide) _ refl refl (ported h s ReadableSide (record { 0 = length s.streams }) k);
+    deliver = λ p m e is. k;
     trigger = λ a reason. k;
     settle = λ a answer p e. same-even h s _ refl refl k;
   })
@@ -223,10 +235,10 @@ module _ (i : StreamId) (t : TransformId) where
   }
 
   acting-rests : RestsUntold Acts
-  acting-rests = record { heard = λ h s g. record { prompted = record { halved = g.prompted.halved; prompt = tt }; even = same-even h s _ refl refl g.even } }
+  acting-rests = record { heard = λ h s g. record { prompted = record { halved = g.prompted.halved; ended = g.prompted.ended; prompt = tt }; even = same-even h s _ refl refl g.even } }
 
   none-acts : Acts neither empty []
-  none-acts = record { prompted = record { halved = halved-empty; prompt = tt }; even = record { linked = λ l. refl; unacted = λ none. refl; unmade = λ none. refl } }
+  none-acts = record { prompted = record { halved = halved-empty; ended = ended-empty; prompt = tt }; even = record { linked = λ l. refl; unacted = λ none. refl; unmade = λ none. refl } }
 
   run-acts : (entries : List Entry) → Linked i t (run entries empty) → (run_writes i entries empty).acted ≡ run_transformed t entries empty
   run-acts entries l =

@@ -112,6 +112,7 @@ module _ (t : TransformId) where
     settle = λ z p o h. within _ _ _ (weigh-settle (of_reaction changing) p o z) h;
     answer = λ z p o h. within _ _ _ (weigh-answer (of_reaction changing) p o z) h;
     micro = λ z m h. within _ _ _ (weigh-micro (of_reaction changing) m z) h;
+    post = λ z c m h. rw (weight-tell changing _ z) h;
     signal = λ z i c h. rw (weight-tell changing _ z) h;
   }) e s (λ u. u) (omega arith)
 

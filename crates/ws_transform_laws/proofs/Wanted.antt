@@ -1,7 +1,10 @@
 -- Over every run, where a transform stream has no backpressure its readable half wants a chunk.
+use Rattle.ws_steps.specs.declared.calls.StartBy.TheVariants.{Now}
+use Rattle.ws_transform_laws.proofs.Backpressure.{pressed}
+use Rattle.ws_value.specs.declared.ids.PromiseId.{PromiseId}
 use Rattle.std.proofs.Common.{◌≡◌, inl, inr, Bool, true, false, not, ◌||◌, if◌then◌else◌, List, [], ◌∷◌, ◌++◌, Option, Some, None, slice_get, refl, sym, subst, ap, ◌∙◌, arith}
 use Rattle.ws_value.specs.declared.ids.{StreamId.{StreamId}}
-use Rattle.ws_steps.specs.declared.effects.{Effect.{Effect}, Owner.{Owner}, Owner.TheVariants.{Host, HalfOf, BranchOf}}
+use Rattle.ws_steps.specs.declared.effects.{Effect.{Effect}, Owner.{Owner}, Owner.TheVariants.{Host, HalfOf, BranchOf, EndOf}}
 use Rattle.ws_steps.specs.declared.effects.Effect.TheVariants.{Readable as OnReadable, CancelAlgorithm}
 use Rattle.ws_steps.specs.declared.readable.{ReadRequest.{ReadRequest}, ReadableOperation.{ReadableOperation}, ReadableOperation.TheVariants.{InitializeReader, ReleaseReader, Enqueue}}
 use Rattle.ws_steps.specs.declared.transform.TransformId.{TransformId}
@@ -11,6 +14,7 @@ use Rattle.ws_steps.specs.ReadableHistory.{Reads, no_reads, reads_then, operatio
 use Rattle.ws_steps.specs.Slots.{Slots, Stream, ReadableStream, ByteStream, WritableStream, is_readable_stream, is_byte_stream, as_readable, as_source, owner_at, readable_at}
 use Rattle.ws_steps.specs.Transform as transform
 use Rattle.ws_steps.specs.Turns.{row}
+use Rattle.ws_laws.proofs.Ended.{Ended, ended-stays}
 use Rattle.ws_laws.proofs.Halves.{Halved, halved-stays}
 use Rattle.ws_laws.proofs.Shapes.{ReadableOf, WritableOf, TransformShape, stream_shape, map-there, stream_shapes, transform_shapes, transform_shape, owner-told, row-transform_shapes}
 use Rattle.ws_laws.proofs.Tables.{eq_numbers, is_same-refl}
@@ -21,8 +25,14 @@ use Rattle.ws_transform_laws.proofs.Entering.{Reads as IsRead, reads-default}
 use Rattle.ws_transform_laws.proofs.Halving.{map-from}
 use Rattle.ws_transform_laws.proofs.Pressing.{calm-row, own-row, enters-row}
 use Rattle.ws_transform_laws.proofs.Shutting.{can, Uncancelled, Fine, row-uncancelled, row-fine, row-weight}
-use Rattle.ws_transform_laws.proofs.Telling.{owned-stays, IsCalm, Front, Claim, Fits, Fronts, Enters, Opens, calm-tells, mild-row, told-row}
+use Rattle.ws_transform_laws.proofs.Telling.{owned-stays, IsCalm, Front, Claim, Fits, Fronts, Enters, Starts, IsStarting, Opens, calm-tells, mild-row, told-row}
 use Rattle.ws_transform_laws.proofs.Wanting.{Finds}
+use Rattle.std.proofs.Common.{is_some}
+use Rattle.ws_transform_laws.proofs.Telling.{Calms}
+use Rattle.ws_transform_laws.proofs.Telling.{unwanted}
+use Rattle.ws_steps.specs.declared.effects.Effect.TheVariants.{StartAlgorithm}
+use Rattle.ws_steps.specs.declared.effects.Effect.TheVariants.{Give}
+use Rattle.ws_transform_laws.proofs.Telling.{calms-on}
 
 module _ (t : TransformId) (r : StreamId) where
   cancels-same : (s : Slots) (e f : Effect) → cancels t (row e s).slots f ≡ cancels t s f
@@ -36,6 +46,7 @@ module _ (t : TransformId) (r : StreamId) where
   -- what is known of a transform stream and its readable half, where no read of that was released
   pub record Known (h : Reads) (s : Slots) (es : List Effect) : Type 0 where
     pub halved : Halved s
+    pub ended : Ended s
     pub unmade : slice_get (transform_shapes s) t.0 ≡ None → (weight (is_cancelled t) s.promises ≡ 0) × (none_of t s es ≡ 0)
     pub uncancelled : IsRead t r s → Uncancelled t r s es
     pub fine : IsRead t r s → Fine t r (not (can r s)) es
@@ -72,18 +83,26 @@ module _ (t : TransformId) (r : StreamId) where
   After s [] = Unit {0}
   After s (e ∷ es) = Fits t r (row e s).slots ((row e s).caused ++ es)
 
-  front-row : (s : Slots) (e : Effect) (es : List Effect) → Halved s → IsRead t r s → Fine t r (not (can r s)) (e ∷ es) → (effect_reads r e s).released ≡ [] → Front t r s (e ∷ es) → Claim t r s (e ∷ es) → After s (e ∷ es)
-  front-row s e es halved h f rel (inl k) claim =
-      calm-row t r e s es halved h f (λ same operation is. finds s operation (subst (IsCalm t r s) is k.0) (subst (λ (x : Effect). (effect_reads r x s).released ≡ []) is rel)) k.0 k.1 (claim (calm-tells t r s (e ∷ es) k)).0
-  front-row s e es halved h f rel (inr (inl k)) claim =
+  front-row : (s : Slots) (e : Effect) (es : List Effect) → Halved s → Ended s → IsRead t r s → Fine t r (not (can r s)) (e ∷ es) → (effect_reads r e s).released ≡ [] → Front t r s (e ∷ es) → Claim t r s (e ∷ es) → After s (e ∷ es)
+  front-row s e es halved ended h f rel (inl k) claim =
+      calm-row t r e s es halved ended h f (λ same operation is. finds s operation (subst (IsCalm t r s) is k.0) (subst (λ (x : Effect). (effect_reads r x s).released ≡ []) is rel)) k.0 k.1 (claim (calm-tells t r s (e ∷ es) k)).0
+  front-row s e es halved ended h f rel (inr (inl k)) claim =
       let x = read-there s h in mild-row t r e s es x.0 (read-owner s halved h) x.1.0 k.0 k.1 claim
-  front-row s e es halved h f rel (inr (inr k)) claim =
+  front-row s e es halved ended h f rel (inr (inr k)) claim =
       let x = read-there s h in told-row t r e s es x.0 x.1.0 x.1.1 k.0 k.1
 
-  fits-row : (s : Slots) (e : Effect) (es : List Effect) → Halved s → IsRead t r s → Fine t r (not (can r s)) (e ∷ es) → (effect_reads r e s).released ≡ [] → Fits t r s (e ∷ es) → After s (e ∷ es)
-  fits-row s e es halved h f rel (Fronts k claim) = front-row s e es halved h f rel k claim
-  fits-row s e es halved h f rel (Enters v rest eq k) = subst (After s) (sym eq) (enters-row t r v s rest k)
-  fits-row s e es halved h f rel (Opens p rest eq none k claim) = subst (After s) (sym eq) (own-row t r (InitializeReader p) s rest (reads-default t r s halved h) none k claim)
+  starts-row : (s : Slots) (e : Effect) (p : PromiseId) (rest : List Effect) → IsStarting t r e → is_some (readable_at r s).reader ≡ false → Calms t r s rest → (unwanted t r s ≡ true → pressed t s ≡ true)
+      → After s (e ∷ OnReadable r (InitializeReader p) ∷ rest)
+  unfolding row
+  starts-row s (StartAlgorithm j step Now) p rest st none k claim = Starts _ p rest refl tt none k claim
+  starts-row s (Give gift u) p rest st none k claim = Opens p rest refl none (calms-on t r s (Give gift u) rest k) claim
+  starts-row s e p rest st none k claim = absurd st
+
+  fits-row : (s : Slots) (e : Effect) (es : List Effect) → Halved s → Ended s → IsRead t r s → Fine t r (not (can r s)) (e ∷ es) → (effect_reads r e s).released ≡ [] → Fits t r s (e ∷ es) → After s (e ∷ es)
+  fits-row s e es halved ended h f rel (Fronts k claim) = front-row s e es halved ended h f rel k claim
+  fits-row s e es halved ended h f rel (Enters v rest eq k) = subst (After s) (sym eq) (enters-row t r v s rest k)
+  fits-row s e es halved ended h f rel (Starts d p rest eq st none k claim) = subst (After s) (sym eq) (starts-row s d p rest st none k claim)
+  fits-row s e es halved ended h f rel (Opens p rest eq none k claim) = subst (After s) (sym eq) (own-row t r (InitializeReader p) s rest (reads-default t r s halved h) none k claim)
 
   -- a transform stream that isn't made yet
   none-owns : (s : Slots) → Halved s → slice_get (transform_shapes s) t.0 ≡ None → (j : StreamId) → mine t s j ≡ false
@@ -100,6 +119,7 @@ module _ (t : TransformId) (r : StreamId) where
               let x = k u refl in
               let both : ◌≡◌ {A = Option TransformShape} None (Some x.0) = sym none ∙ (ap (slice_get (transform_shapes s)) at ∙ x.1) in cc
       absent (BranchOf u half) k = refl
+      absent (EndOf c) k = refl
 
       by : (o : Option Stream) → o ≡ slice_get s.streams j.0 → mine t s j ≡ false
       by None e = rw (← e) refl
@@ -125,12 +145,13 @@ module _ (t : TransformId) (r : StreamId) where
       let before : IsRead t r (row e s).slots → IsRead t r s = λ m. (m.0, (rw shapes at m.1.0, m.1.1)) in
       record {
         halved = halved-stays.row s e es k.halved;
+        ended = ended-stays.row s e es k.ended;
         unmade = λ none. unmade-row s e es k.halved (rw shapes at none) (k.unmade (rw shapes at none));
         uncancelled = λ m. row-uncancelled t r e s es k.halved (before m) (k.uncancelled (before m)) (none-same s e es) (none-same s e (row e s).caused);
         fine = λ m. row-fine t r e s es (before m) (k.uncancelled (before m)) (k.fine (before m));
         fits = λ rel m.
             let both = append_no_requests h.released (effect_reads r e s).released rel in
-            fits-row s e es k.halved (before m) (k.fine (before m)) both.1 (k.fits both.0 (before m));
+            fits-row s e es k.halved k.ended (before m) (k.fine (before m)) both.1 (k.fits both.0 (before m));
       }
     where
       append_no_requests : (xs ys : List ReadRequest) → xs ++ ys ≡ [] → (xs ≡ []) × (ys ≡ [])

@@ -28,7 +28,7 @@ use Rattle.ws_transform_laws.proofs.Seen.{Seen, nothing_seen, seen_then, are_see
 use Rattle.ws_transform_laws.proofs.Due.{due_of, Ready, not-due-ready, ready-append, call-due, job-ready, SinksOf, row-due}
 use Rattle.ws_transform_laws.proofs.Entering.{Reads as IsRead}
 use Rattle.ws_transform_laws.proofs.Shutting.{readable-stays}
-use Rattle.ws_transform_laws.proofs.Telling.{unwanted, Fits, Fronts, Enters, Opens, calm-tells}
+use Rattle.ws_transform_laws.proofs.Telling.{unwanted, Fits, Fronts, Enters, Starts, IsStarting, Opens, calm-tells}
 use Rattle.ws_transform_laws.proofs.Told.{along-map}
 use Rattle.ws_transform_laws.proofs.Wanted.{Known, read-there}
 use Rattle.ws_transform_laws.proofs.WantedRuns.{goes, rests, none-known, at-rest, are_reads}
@@ -51,6 +51,7 @@ module _ (t : TransformId) (r : StreamId) where
       by true n free (Fronts (inr (inl k)) claim) = absurd k.0
       by true n free (Fronts (inr (inr k)) claim) = absurd k.0
       by true n free (Enters v rest eq k) = cc
+      by true n free (Starts d p rest eq st none k claim) = let is : d ≡ OnTransform u (names.SinkWrite w) = cc in absurd (subst (IsStarting t r) is st)
       by true n free (Opens p rest eq none k claim) = cc
   sinks s _ es f = tt
 
