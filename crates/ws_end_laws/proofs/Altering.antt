@@ -1,5 +1,13 @@
 -- What goes on with each change of promises goes on with the row of each effect, where an answer never rejects.
+use Rattle.ws_steps.specs.Cross as cross
+use Rattle.ws_steps.specs.declared.calls.Event.TheVariants.{Post}
+use Rattle.ws_value.specs.declared.ids.PortId.{PortId}
+use Rattle.ws_steps.specs.declared.port.PortOperation.{PortOperation}
+use Rattle.ws_steps.specs.Operations.{port_operation}
+use Rattle.ws_steps.specs.Slots.{on_port_at, clones_at}
+use Rattle.ws_laws.proofs.PortDoes.{port-does}
 use Rattle.std.proofs.Common.{◌≡◌, true, Option, Some, None, Result, refl, slice_get}
+use Rattle.ws_steps.specs.declared.effects.Effect.TheVariants.{Port}
 use Rattle.ws_laws.proofs.TeeDoes.{tee-does}
 use Rattle.ws_steps.specs.Operations.{tee_operation}
 use Rattle.ws_steps.specs.Slots.{on_tee_at}
@@ -81,6 +89,12 @@ module _ (T : Table → Type 0) (alters : Alters T) where
   tee-alters t operation s None h = h
   tee-alters t operation s (Some x) h = tee-does T (record { fresh = alters.fresh; micro = alters.micro }) t operation (record { slots = x; out = found s }) h
 
+  port-alters : (c : PortId) (operation : PortOperation) (s : Slots) (o : Option cross.Slots) → T s.promises
+      → T (on_port_at (λ clones. port_operation c clones operation) c s o).slots.promises
+  port-alters c operation s None h = h
+  port-alters c operation s (Some x) h =
+      port-does T (record { fresh = alters.fresh; settle = alters.settle; post = λ t d m k. alters.tell t (Post d m) k }) c (clones_at x s) operation (record { slots = x; out = found s }) h
+
   of-alters : (i : StreamId) → OfReadable (λ (x : Out). T x.promises) i
   of-alters i = record {
     settle = λ x p o h. alters.settle x.promises p o h;
@@ -106,11 +120,13 @@ module _ (T : Table → Type 0) (alters : Alters T) where
         abort = λ x r p h. h;
         hand_on = λ x v h. h;
         take = λ x v t d h. h;
+        post = λ x v c d h. h;
       }) operation (writable_acts i s) h) (λ e. h)
   row-alters (Pipe p operation) s h = pipe-alters p operation s (slice_get s.pipes p.0) h
   row-alters (Signal a operation) s h = signal-alters a operation s (slice_get s.signals a.0) h
   row-alters (Transform t operation) s h = transform-alters t operation s (slice_get s.transforms t.0) h
   row-alters (Tee t operation) s h = tee-alters t operation s (slice_get s.tees t.0) h
+  row-alters (Port c operation) s h = port-alters c operation s (slice_get s.ports c.0) h
   row-alters (StartAlgorithm i step Now) s h = h
   row-alters (StartAlgorithm i step Later) s h = alters.fresh s.promises h
   row-alters (ChunkSteps i (Promise p) v) s h = alters.answer s.promises p (Given v) refl h

@@ -1,6 +1,8 @@
 -- While a pipe flows or waits, no close of its destination stands on the agenda.
 use Rattle.ws_value.specs.declared.ids.TeeId.{TeeId}
-use Rattle.ws_steps.specs.declared.effects.Effect.TheVariants.{Tee as OnTee}
+use Rattle.ws_laws.proofs.PortDoes.{PortCauses}
+use Rattle.ws_value.specs.declared.ids.PortId.{PortId}
+use Rattle.ws_steps.specs.declared.effects.Effect.TheVariants.{Tee as OnTee, Port as OnPort}
 use Rattle.std.proofs.Common.{◌≡◌, ◌⊎◌, ◌≤◌, Bool, true, false, not, ◌&&◌, nat_eq, List, [], ◌∷◌, Option, Some, None, slice_get, refl, ap, ◌∙◌, arith}
 use Rattle.ws_value.specs.declared.{ids.PipeId.{PipeId}, ids.StreamId.{StreamId}, value.Plain.{Plain}}
 use Rattle.ws_steps.specs.declared.calls.Call.{Call}
@@ -61,24 +63,28 @@ module _ (j : StreamId) where
   tee-none : (t : TeeId) (source first second : StreamId) (e : Effect) → TeeCauses t source first second e → NoClose e
   tee-none t source first second e c = grind (arith, c)
 
+  port-none : (c : PortId) (stream : StreamId) (e : Effect) → PortCauses c stream e → NoClose e
+  port-none c stream e k = grind (arith, k)
+
   none-causes : (e : Effect) → IsNoPipe e → Causes NoClose e
   none-causes (OnReadable i operation) n = record { pull = refl; cancel = λ r q. refl; chunk = λ r v. refl; close = λ r. refl; error = λ r e. refl }
   none-causes (Byte i operation) n = record { readable = record { pull = refl; cancel = λ r q. refl; chunk = λ r v. refl; close = λ r. refl; error = λ r e. refl }; close_with = λ r b. refl }
-  none-causes (OnWritable i operation) n = record { write = refl; close = refl; abort = λ r q. refl; hand_on = λ v. refl; take = λ v t d. refl }
+  none-causes (OnWritable i operation) n = record { write = refl; close = refl; abort = λ r q. refl; hand_on = λ v. refl; take = λ v t d. refl; post = λ v c d. refl }
   none-causes (OnPipe q operation) n = absurd n
   none-causes (OnSignal a operation) n = signal-none operation
   none-causes (OnTransform t operation) n = transform-none t
   none-causes (OnTee t operation) n = tee-none t
+  none-causes (OnPort c operation) n = port-none c
   none-causes (StartAlgorithm i step start) n = (λ g u. refl, λ c u. refl)
-  none-causes (PullAlgorithm i) n = (λ c u. refl, (λ t u. refl, (λ t. refl, λ u. refl)))
-  none-causes (CancelAlgorithm i r q) n = (λ c u. refl, (λ t u. refl, λ t half u. refl))
-  none-causes (WriteAlgorithm i) n = (by (is_same j i), λ t u. refl)
+  none-causes (PullAlgorithm i) n = (λ c u. refl, (λ t u. refl, (λ t. refl, (λ u. refl, λ c. refl))))
+  none-causes (CancelAlgorithm i r q) n = (λ c u. refl, (λ t u. refl, (λ t half u. refl, λ q u. refl)))
+  none-causes (WriteAlgorithm i) n = (by (is_same j i), (λ t u. refl, λ q u. refl))
     where
       by : (b : Bool) → b && false ≡ false
       by true = refl
       by false = refl
-  none-causes (CloseAlgorithm i) n = (λ c u. refl, λ t u. refl)
-  none-causes (AbortAlgorithm i r q) n = (λ c u. refl, λ t u. refl)
+  none-causes (CloseAlgorithm i) n = (λ c u. refl, (λ t u. refl, λ q u. refl))
+  none-causes (AbortAlgorithm i r q) n = (λ c u. refl, (λ t u. refl, λ q u. refl))
   none-causes (ChunkSteps i (Promise q) v) n = tt
   none-causes (ChunkSteps i (PipeRequest q) v) n = refl
   none-causes (ChunkSteps i (TeeRequest t) v) n = refl

@@ -1,5 +1,6 @@
 -- The job by which a pipe hears of its action is the only one, where its reaction is registered or its job is queued.
 use Rattle.std.proofs.Common.{◌≡◌, ◌⊎◌, inl, inr, ℕ, zero, suc, ◌+◌, ◌≤◌, Bool, true, false, nat_eq, List, [], ◌∷◌, ◌++◌, Option, Some, None, Result, Ok, Err, slice_get, refl, sym, ap, subst, ◌∙◌, arith}
+use Rattle.ws_steps.specs.declared.promises.Step.TheVariants.{PortUnblocked}
 use Rattle.ws_steps.specs.declared.promises.Micro.TheVariants.{TeeHand}
 use Rattle.ws_steps.specs.declared.promises.Step.TheVariants.{TeeEnds}
 use Rattle.ws_value.specs.declared.{ids.PipeId.{PipeId}, ids.PromiseId.{PromiseId}, value.Plain.{Plain}}
@@ -67,7 +68,9 @@ module _ (p : PipeId) where
   steps-told (PipeActed q) o r derived n = (not_it (nat_eq p.0 q.0) n, resolved-told derived r)
   steps-told (PipePart q) o r derived n = (tt, resolved-told derived r)
   steps-told (TransformChanged t d) (Ok v) r derived n = (tt, resolved-told derived r)
+  steps-told (PortUnblocked c d) (Ok v) r derived n = (tt, resolved-told derived r)
   steps-told (TransformChanged t d) (Err e) r derived n = (tt, resolved-told derived r)
+  steps-told (PortUnblocked c d) (Err e) r derived n = (tt, resolved-told derived r)
   steps-told (Transformed t) (Ok v) r derived n = resolved-told derived r
   steps-told (Transformed t) (Err e) r derived n = (tt, resolved-told derived r)
   steps-told (TransformFlushed t d) o r derived n = (tt, resolved-told derived r)

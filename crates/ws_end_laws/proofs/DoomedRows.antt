@@ -1,6 +1,8 @@
 -- What each effect, each call and each job does to a pipe that closes a destination that fails.
 use Rattle.ws_value.specs.declared.ids.TeeId.{TeeId}
-use Rattle.ws_steps.specs.declared.effects.Effect.TheVariants.{Tee as OnTee}
+use Rattle.ws_laws.proofs.PortDoes.{PortCauses}
+use Rattle.ws_value.specs.declared.ids.PortId.{PortId}
+use Rattle.ws_steps.specs.declared.effects.Effect.TheVariants.{Tee as OnTee, Port as OnPort}
 use Rattle.std.proofs.Common.{◌≡◌, ◌⊎◌, inl, inr, ⊎_elim, Bool, true, false, List, [], ◌∷◌, ◌++◌, Option, Some, None, Err, slice_get, refl, sym, ap, subst, arith}
 use Rattle.ws_value.specs.declared.{ids.PipeId.{PipeId}, ids.PromiseId.{PromiseId}, ids.StreamId.{StreamId}, value.Plain.{Plain}}
 use Rattle.ws_steps.specs.declared.calls.Call.{Call}
@@ -164,20 +166,25 @@ module _ (p : PipeId) where
   tee-told t source first second (OnPipe q operation) c = absurd c
   tee-told t source first second _ c = tt
 
+  port-told : (c : PortId) (stream : StreamId) (e : Effect) → PortCauses c stream e → NotTold p e
+  port-told c stream (OnPipe q operation) k = absurd k
+  port-told c stream _ k = tt
+
   told-causes : (e : Effect) → Causes (NotTold p) e
   told-causes (OnReadable i operation) = record { pull = tt; cancel = λ r q. tt; chunk = λ r v. tt; close = λ r. tt; error = λ r e. tt }
   told-causes (Byte i operation) = record { readable = record { pull = tt; cancel = λ r q. tt; chunk = λ r v. tt; close = λ r. tt; error = λ r e. tt }; close_with = λ r b. tt }
-  told-causes (OnWritable i operation) = record { write = tt; close = tt; abort = λ r q. tt; hand_on = λ v. tt; take = λ v t d. tt }
+  told-causes (OnWritable i operation) = record { write = tt; close = tt; abort = λ r q. tt; hand_on = λ v. tt; take = λ v t d. tt; post = λ v c d. tt }
   told-causes (OnPipe q operation) = λ source dest e c. pipe-told p q source dest e c
   told-causes (OnSignal a operation) = signal-told operation
   told-causes (OnTransform t operation) = transform-told t
   told-causes (OnTee t operation) = tee-told t
+  told-causes (OnPort c operation) = port-told c
   told-causes (StartAlgorithm i step start) = (λ g u. tt, λ c u. tt)
-  told-causes (PullAlgorithm i) = (λ c u. tt, (λ t u. tt, (λ t. tt, λ u. tt)))
-  told-causes (CancelAlgorithm i r q) = (λ c u. tt, (λ t u. tt, λ t half u. tt))
-  told-causes (WriteAlgorithm i) = (tt, λ t u. tt)
-  told-causes (CloseAlgorithm i) = (λ c u. tt, λ t u. tt)
-  told-causes (AbortAlgorithm i r q) = (λ c u. tt, λ t u. tt)
+  told-causes (PullAlgorithm i) = (λ c u. tt, (λ t u. tt, (λ t. tt, (λ u. tt, λ c. tt))))
+  told-causes (CancelAlgorithm i r q) = (λ c u. tt, (λ t u. tt, (λ t half u. tt, λ q u. tt)))
+  told-causes (WriteAlgorithm i) = (tt, (λ t u. tt, λ q u. tt))
+  told-causes (CloseAlgorithm i) = (λ c u. tt, (λ t u. tt, λ q u. tt))
+  told-causes (AbortAlgorithm i r q) = (λ c u. tt, (λ t u. tt, λ q u. tt))
   told-causes (ChunkSteps i (Promise q) v) = tt
   told-causes (ChunkSteps i (PipeRequest q) v) = tt
   told-causes (ChunkSteps i (TeeRequest t) v) = tt

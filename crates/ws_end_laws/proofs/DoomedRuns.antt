@@ -86,6 +86,7 @@ call-table T f c s k = begin-makes (λ z. T z.promises) (record {
   signal = λ z k. k;
   transform = λ z kind i j change k. k;
   tee = λ z source first second cancel k. k;
+  port = λ z side stream backpressure k. k;
   bytes = λ z mark auto k. k;
   byob_requests = λ z hs k. k;
   readable = λ z owner mark size k. k;

@@ -182,4 +182,5 @@ operation-keeps i operation a =
       abort = λ x r p k. k;
       hand_on = λ x v k. k;
       take = λ x v t d k. k;
+      post = λ x v c d k. k;
     }) operation a (keeps-same a.out.promises)

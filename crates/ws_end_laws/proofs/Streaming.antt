@@ -92,6 +92,7 @@ module _ (i : StreamId) (W : writable.Slots → Type 0) (none : W no_writable �
     signal = λ z k. k;
     transform = λ z kind i j change k. k;
     tee = λ z source first second cancel k. k;
+    port = λ z side stream backpressure k. k;
     bytes = λ z mark auto k. added z.streams _ k;
     byob_requests = λ z hs k. k;
     readable = λ z owner mark size k. added z.streams _ k;

@@ -1,5 +1,9 @@
 -- Which effects make a pipe react to its action: those of the operation by which it begins to act, and no other; and which tell it of the outcome.
 use Rattle.ws_value.specs.declared.ids.TeeId.{TeeId}
+use Rattle.ws_laws.proofs.PortDoes.{PortCauses}
+use Rattle.ws_value.specs.declared.ids.PortId.{PortId}
+use Rattle.ws_steps.specs.declared.effects.Owner.TheVariants.{EndOf}
+use Rattle.ws_steps.specs.declared.effects.Effect.TheVariants.{Port}
 use Rattle.std.proofs.Common.{◌≡◌, Bool, true, false, nat_eq, List, [], ◌∷◌, Option, Some, None, Ok, Err, refl, ap, ◌∙◌, arith}
 use Rattle.ws_value.specs.declared.{ids.PipeId.{PipeId}, ids.PromiseId.{PromiseId}, ids.StreamId.{StreamId}, ids.SignalId.{SignalId}}
 use Rattle.ws_value.specs.declared.value.Plain.{Plain}
@@ -28,6 +32,7 @@ use Rattle.ws_laws.proofs.TeeDoes.{TeeCauses}
 use Rattle.ws_host_laws.proofs.Carried.{CarriesTee, TeeUses, row-tees_use, Carries, Uses, Own, row-uses}
 use Rattle.ws_host_laws.proofs.Dests.{NoClose}
 use Rattle.ws_steps.specs.declared.effects.Effect.TheVariants.{Byte, CloseStepsWith}
+use Rattle.ws_host_laws.proofs.Ported.{CarriesPort, PortUses, row-port_uses}
 
 -- the reaction of pipe p to its action
 abbrev pub acts_on : PipeId → Step → Bool
@@ -45,6 +50,7 @@ Fits p V (CallHost call u) = NoUse p u
 Fits p V (StartAlgorithm i step start) = acts_on p step ≡ false
 Fits p V (Transform t operation) = Carries (NoUse p) operation
 Fits p V (Tee t operation) = CarriesTee (NoUse p) operation
+Fits p V (Port c operation) = CarriesPort (NoUse p) operation
 Fits p V (Pipe q (ActionSettled (Ok v))) = nat_eq p.0 q.0 ≡ true → V
 Fits p V _ = Unit {0}
 
@@ -69,6 +75,7 @@ module _ (p : PipeId) (V : Type 0) where
   pipe-fits q source dest (Pipe r (ActionSettled o)) n c = absurd c
   pipe-fits q source dest (Transform t operation) n c = absurd c
   pipe-fits q source dest (Tee t operation) n c = absurd c
+  pipe-fits q source dest (Port w operation) n c = absurd c
   pipe-fits q source dest _ n c = tt
 
   chunk-fits : (v : Value) (request : ReadRequest) → ChunkCauses (Fits p V) v request
@@ -99,26 +106,31 @@ module _ (p : PipeId) (V : Type 0) where
   pull-fits i Host step d n = (n, tt)
   pull-fits i (HalfOf t) step d n = (n, tt)
   pull-fits i (BranchOf t half) step d n = (tt, (n, tt))
+  pull-fits i (EndOf c) step d n = (tt, (n, tt))
 
   cancel-fits : (i : StreamId) (r : Plain) (owner : Owner) (step : Step) (d : Option PromiseId) → acts_on p step ≡ false → Each (Fits p V) (cancel_algorithm i r (React step d) owner)
   cancel-fits i r Host step d n = (n, tt)
   cancel-fits i r (HalfOf t) step d n = (n, tt)
   cancel-fits i r (BranchOf t half) step d n = (n, tt)
+  cancel-fits i r (EndOf c) step d n = (n, tt)
 
   abort-fits : (i : StreamId) (r : Plain) (owner : Owner) (step : Step) (d : Option PromiseId) → acts_on p step ≡ false → Each (Fits p V) (abort_algorithm i r (React step d) owner)
   abort-fits i r Host step d n = (n, tt)
   abort-fits i r (HalfOf t) step d n = (n, tt)
   abort-fits i r (BranchOf t half) step d n = (n, tt)
+  abort-fits i r (EndOf c) step d n = (n, tt)
 
   write-fits : (i : StreamId) (owner : Owner) → Each (Fits p V) (write_algorithm i owner)
   write-fits i Host = (tt, tt)
   write-fits i (HalfOf t) = (refl, tt)
   write-fits i (BranchOf t half) = (tt, tt)
+  write-fits i (EndOf c) = (refl, tt)
 
   close-fits : (i : StreamId) (owner : Owner) (step : Step) (d : Option PromiseId) → acts_on p step ≡ false → Each (Fits p V) (close_algorithm i (React step d) owner)
   close-fits i Host step d n = (n, tt)
   close-fits i (HalfOf t) step d n = (n, tt)
   close-fits i (BranchOf t half) step d n = (n, tt)
+  close-fits i (EndOf c) step d n = (n, tt)
 
   own : Own (NoUse p)
   own = record { resolve = λ q. tt; changed = λ t q. refl; transformed = λ t q. refl; flushed = λ t q. refl; aborted = λ t q r. refl; cancelled = λ t q r. refl }
@@ -129,16 +141,21 @@ module _ (p : PipeId) (V : Type 0) where
   tee-uses-fit : (e : Effect) → TeeUses (NoUse p) e → Fits p V e
   tee-uses-fit e u = grind (arith, u)
 
+  port-uses-fit : (e : Effect) → PortUses (NoUse p) (λ i. Unit {0}) e → Fits p V e
+  port-uses-fit e u = grind (arith, u)
+
   pub caused-fit : (e : Effect) (s : Slots) → NotOf p e → Fits p V e → Each (Fits p V) (row e s).caused
   unfolding row
   caused-fit (Readable i operation) s n f = row-causes (Fits p V) (Readable i operation) s (record { pull = tt; cancel = λ r q. tt; chunk = λ r v. tt; close = λ r. tt; error = λ r e. tt })
   caused-fit (Byte i operation) s n f =
       row-causes (Fits p V) (Byte i operation) s (record { readable = record { pull = tt; cancel = λ r q. tt; chunk = λ r v. tt; close = λ r. tt; error = λ r e. tt }; close_with = λ r b. tt })
-  caused-fit (Writable i operation) s n f = row-causes (Fits p V) (Writable i operation) s (record { write = tt; close = tt; abort = λ r q. tt; hand_on = λ v. refl; take = λ v t d. tt })
+  caused-fit (Writable i operation) s n f = row-causes (Fits p V) (Writable i operation) s (record { write = tt; close = tt; abort = λ r q. tt; hand_on = λ v. refl; take = λ v t d. tt; post = λ v c d. tt })
   caused-fit (Pipe q operation) s n f = row-causes (Fits p V) (Pipe q operation) s (λ source dest e c. pipe-fits q source dest e n c)
   caused-fit (Signal a operation) s n f = row-causes (Fits p V) (Signal a operation) s (signal-fits operation)
   caused-fit (Transform t operation) s n f = each-map (Uses (NoUse p) (λ i. Unit {0})) (Fits p V) uses-fit (row (Transform t operation) s).caused (row-uses (NoUse p) (λ i. Unit {0}) own t operation s f (λ x e. tt))
   caused-fit (Tee t operation) s n f = each-map (TeeUses (NoUse p)) (Fits p V) tee-uses-fit (row (Tee t operation) s).caused (row-tees_use (NoUse p) (λ q. tt) t operation s f)
+  caused-fit (Port c operation) s n f =
+      each-map (PortUses (NoUse p) (λ i. Unit {0})) (Fits p V) port-uses-fit (row (Port c operation) s).caused (row-port_uses (NoUse p) (λ i. Unit {0}) (λ q. tt) (λ d q. refl) c operation s f (λ x e. tt))
   caused-fit (StartAlgorithm i step start) s n f = start-fits i step s start f
   caused-fit (PullAlgorithm i) s n f = pull-fits i (owner_at i s) _ _ refl
   caused-fit (CancelAlgorithm i r q) s n f = cancel-fits i r (owner_at i s) _ _ refl
@@ -233,20 +250,24 @@ module _ (i : StreamId) where
   tee-closes : (t : TeeId) (source first second : StreamId) (e : Effect) → TeeCauses t source first second e → NoClose i e
   tee-closes t source first second e c = grind (arith, c)
 
+  port-closes : (c : PortId) (stream : StreamId) (e : Effect) → PortCauses c stream e → NoClose i e
+  port-closes c stream e k = grind (arith, k)
+
   closes : (e : Effect) → IsNoPipe e → Causes (NoClose i) e
   closes (Readable j operation) n = record { pull = tt; cancel = λ r q. tt; chunk = λ r v. tt; close = λ r. tt; error = λ r e. tt }
   closes (Byte j operation) n = record { readable = record { pull = tt; cancel = λ r q. tt; chunk = λ r v. tt; close = λ r. tt; error = λ r e. tt }; close_with = λ r b. tt }
-  closes (Writable j operation) n = record { write = tt; close = tt; abort = λ r q. tt; hand_on = λ v. tt; take = λ v t d. tt }
+  closes (Writable j operation) n = record { write = tt; close = tt; abort = λ r q. tt; hand_on = λ v. tt; take = λ v t d. tt; post = λ v c d. tt }
   closes (Pipe q operation) n = absurd n
   closes (Signal a operation) n = signal-closes operation
   closes (Transform t operation) n = transform-closes t
   closes (Tee t operation) n = tee-closes t
+  closes (Port c operation) n = port-closes c
   closes (StartAlgorithm j step start) n = (λ g u. tt, λ c u. tt)
-  closes (PullAlgorithm j) n = (λ c u. tt, (λ t u. tt, (λ t. tt, λ u. tt)))
-  closes (CancelAlgorithm j r q) n = (λ c u. tt, (λ t u. tt, λ t half u. tt))
-  closes (WriteAlgorithm j) n = (tt, λ t u. tt)
-  closes (CloseAlgorithm j) n = (λ c u. tt, λ t u. tt)
-  closes (AbortAlgorithm j r q) n = (λ c u. tt, λ t u. tt)
+  closes (PullAlgorithm j) n = (λ c u. tt, (λ t u. tt, (λ t. tt, (λ u. tt, λ c. tt))))
+  closes (CancelAlgorithm j r q) n = (λ c u. tt, (λ t u. tt, (λ t half u. tt, λ q u. tt)))
+  closes (WriteAlgorithm j) n = (tt, (λ t u. tt, λ q u. tt))
+  closes (CloseAlgorithm j) n = (λ c u. tt, (λ t u. tt, λ q u. tt))
+  closes (AbortAlgorithm j r q) n = (λ c u. tt, (λ t u. tt, λ q u. tt))
   closes (ChunkSteps j request v) n = chunk-closes v request
   closes (CloseSteps j request) n = end-closes request
   closes (CloseStepsWith j request b) n = end-closes request

@@ -21,6 +21,7 @@ use Rattle.ws_laws.proofs.Walker.{IsHistory, GoesUntold, RestsUntold}
 use Rattle.ws_host_laws.specs.HostCalls.{effect_called, step_called, run_called, called, IsItsCall, AllEvents}
 use Rattle.ws_host_laws.specs.HostLaws.{EachEventIsItsCall}
 use Rattle.ws_host_laws.proofs.Plain.{IsPlain, row-plainly, host_added, row-hosts}
+use Rattle.ws_steps.specs.declared.calls.Event.TheVariants.{Post}
 
 -- lists
 
@@ -52,6 +53,7 @@ its_call-grows : (h g : List HostCall) (e : Event) → IsItsCall h e → IsItsCa
 its_call-grows h g (Host id call) k = place-grows h g id.0 call k
 its_call-grows h g (Settled p) k = tt
 its_call-grows h g (Signal i r) k = tt
+its_call-grows h g (Post c m) k = tt
 
 events-grow : (h g : List HostCall) (es : List Event) → AllEvents (IsItsCall h) es → AllEvents (IsItsCall (h ++ g)) es
 events-grow h g [] k = tt
@@ -159,6 +161,7 @@ plain-told h e s n k =
       answer = λ t p o m k. answer-told h t p o k;
       micro = λ t m k. same-told h t (queue_micro m t) (micro-events t m) k;
       signal = λ t i r k. events-append (IsItsCall h) t.events (Signal i r ∷ []) k (tt, tt);
+      post = λ t c m k. events-append (IsItsCall h) t.events (Post c m ∷ []) k (tt, tt);
     }) e s n k
 
 row-told : (h : List HostCall) (s : Slots) (e : Effect) → length s.hosts ≡ length h → Told h s.promises → Told (h ++ effect_called e s) (row e s).slots.promises

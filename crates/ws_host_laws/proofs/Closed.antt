@@ -89,6 +89,7 @@ module _ (j : StreamId) where
     signal = λ z m. m;
     transform = λ z kind half other change m. m;
     tee = λ z source first second cancel m. m;
+    port = λ z side stream backpressure m. m;
     bytes = λ z mark auto m. λ c. m (added-before z.streams (ByteStream (byte.set_up mark auto)) j.0 refl c);
     byob_requests = λ z hs m. m;
     readable = λ z owner mark size m. λ c. m (added-before z.streams (ReadableStream (readable.set_up owner mark size)) j.0 refl c);

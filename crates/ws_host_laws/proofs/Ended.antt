@@ -1,30 +1,27 @@
 -- A pipe without preventClose that ended without an error closed its destination, which was writable and not closing when it began.
-use Rattle.std.proofs.Common.{◌≡◌, ℕ, zero, suc, ◌≤◌, Bool, true, false, ◌||◌, is_some, List, [], ◌∷◌, ◌++◌, length, Option, Some, None, Result, Ok, Err, slice_get, refl, sym, ap, subst, ◌∙◌, arith, append_assoc}
+use Rattle.std.proofs.Common.{◌≡◌, ℕ, zero, suc, ◌≤◌, Bool, true, false, ◌||◌, is_some, List, [], ◌∷◌, ◌++◌, length, Option, Some, None, Result, Ok, Err, slice_get, refl, sym, ap, subst, ◌∙◌, arith, append_assoc, inl, inr}
 use Rattle.ws_value.specs.declared.{ids.PipeId.{PipeId}, ids.PromiseId.{PromiseId}, ids.SignalId.{SignalId}, ids.StreamId.{StreamId}}
 use Rattle.ws_value.specs.declared.value.Plain.{Plain}
 use Rattle.ws_steps.specs.declared.calls.{Call.{Call}, Call.TheVariants.{Pipe as PipeCall}}
-use Rattle.ws_steps.specs.declared.pipes.{Phase.TheVariants.{Flowing}, Prevent.{Prevent}}
+use Rattle.ws_steps.specs.declared.pipes.{Prevent.{Prevent}}
 use Rattle.ws_steps.specs.declared.promises.{Job.{Job}, Job.TheVariants.{Reaction as ReactionJob, Follow, Settle, Micro as MicroJob}, Reaction.{Reaction}, Reaction.TheVariants.{Perform, Adopt}, Step.{Step}}
 use Rattle.ws_steps.specs.declared.writable.WritableState.{WritableState}
 use Rattle.ws_steps.specs.declared.writable.WritableState.TheVariants.{Closed}
-use Rattle.ws_steps.specs.Calls.{Begun, begin, pipe_begins, pipe_to, pipe_unlocked, for_writable, for_signal_where, rejected, unsupported, reason_of}
+use Rattle.ws_steps.specs.Calls.{begin}
 use Rattle.ws_steps.specs.Histories.{along, over}
 use Rattle.ws_steps.specs.Pipes as pipe
 use Rattle.ws_steps.specs.Pipes.{is_flowing}
 use Rattle.ws_steps.specs.Promises.{Entry as PromiseEntry, Table, live}
-use Rattle.ws_steps.specs.ReadableLooks as readable_looks
-use Rattle.ws_steps.specs.WritableLooks as writable_looks
 use Rattle.ws_steps.specs.Run.{Entry, Called, run, step, moments_in}
-use Rattle.ws_steps.specs.Slots.{Slots, Stream, empty, as_writable, as_pipe, pipe_at, no_writable, is_writable_stream, has_source, has_signal, has_writable, source_at, writable_at}
+use Rattle.ws_steps.specs.Slots.{Slots, Stream, empty, as_writable, as_pipe, pipe_at, no_writable, has_writable, writable_at}
 use Rattle.ws_steps.specs.Turns.{Moment}
 use Rattle.ws_steps.specs.Writable as writable
 use Rattle.ws_steps.specs.Writable.{is_closed, is_closing, is_writable}
-use Rattle.ws_laws.proofs.Lists.{Each}
-use Rattle.ws_laws.proofs.Tables.{either, no_writable_there}
+use Rattle.ws_laws.proofs.Tables.{no_writable_there}
 use Rattle.ws_laws.proofs.Walker.{run-stays}
 use Rattle.ws_promise_laws.proofs.Runs.{Straight, straight-stays, straight-heard, straight-empty}
 use Rattle.ws_pipe_laws.specs.PipeHistory.{is_acting, Course, no_course, course_then, effect_course, run_course}
-use Rattle.ws_pipe_laws.specs.PipeMoves.{MakesPipes, MakesNone, MakesOne}
+use Rattle.ws_pipe_laws.specs.PipeMoves.{MakesPipes, MakesNone, MakesOne, SendsReadable, SendsWritable}
 use Rattle.ws_pipe_laws.specs.PipeReads.{IsCourseAt, one_if}
 use Rattle.ws_pipe_laws.specs.PipeWrites.{in_reactions, in_entries, in_jobs, outstanding, of_action}
 use Rattle.ws_pipe_laws.proofs.Courses.{each_pipe_has_a_course}
@@ -36,12 +33,12 @@ use Rattle.ws_host_laws.proofs.Called.{place-last}
 use Rattle.ws_host_laws.proofs.Reactions.{any_marked, entry_marked, JobFits, JobsFit, Good}
 use Rattle.ws_host_laws.proofs.Closing.{is_closed_in, closed_in}
 use Rattle.ws_host_laws.proofs.Staying.{Open}
-use Rattle.ws_host_laws.proofs.Dests.{NoClose}
 use Rattle.ws_host_laws.proofs.Acts.{acts_on, call-fits}
 use Rattle.ws_host_laws.proofs.Piped.{Source, Told, Calm}
 use Rattle.ws_host_laws.proofs.PipedRows.{EndWell, effect_ends, Piped}
-use Rattle.ws_host_laws.proofs.PipedRuns.{SamePlace, call-same, call-good, called-piped, step_ends, ends, PipedAfter, next-piped, rest-piped}
+use Rattle.ws_host_laws.proofs.PipedRuns.{call-same, call-good, called-piped, step_ends, ends, PipedAfter, next-piped, rest-piped}
 use Rattle.ws_host_laws.proofs.Closed.{close-was-settled}
+use Rattle.ws_host_laws.proofs.Making.{New, Adds, call-adds}
 
 -- each promise that is to be settled is open, over every run
 run-straight : (entries : List Entry) → Straight (run entries empty) []
@@ -92,35 +89,6 @@ module _ (p : PipeId) where
       let at : one_if (is_acting (pipe_at p s).phase) ≡ 0 = ap (λ (o : Option pipe.Slots). one_if (is_acting (as_pipe o).phase)) e in
       none-good P W s.promises (omega arith)
 
--- a pipeTo closes nothing
-
-module _ (i : StreamId) where
-  abbrev Closes : Begun → Type 0
-  Closes b = Each (NoClose i) b.done.caused
-
-  begins-close : (me : PipeId) (a b : PromiseId) (signal : Option SignalId) (reason : Option Plain) → Each (NoClose i) (pipe_begins me a b signal reason)
-  begins-close me a b signal (Some r) = (tt, tt)
-  begins-close me a b None None = (tt, (tt, (tt, tt)))
-  begins-close me a b (Some c) None = (tt, (tt, (tt, (tt, tt))))
-
-  to-close : (source dest : StreamId) (prevent : Prevent) (signal : Option SignalId) (s : Slots) → Closes (pipe_to source dest prevent signal s)
-  to-close source dest prevent signal s = (tt, (tt, (tt, begins-close _ _ _ signal (reason_of signal s))))
-
-  unlocked-close : (source dest : StreamId) (prevent : Prevent) (signal : Option SignalId) (s : Slots) → Closes (pipe_unlocked source dest prevent signal s)
-  unlocked-close source dest prevent signal s =
-      either Closes (readable_looks.is_locked (source_at source s)) (rejected s) _ (λ e. (tt, tt))
-      (λ e. either Closes (writable_looks.is_locked (writable_at dest s)) (rejected s) (pipe_to source dest prevent signal s) (λ f. (tt, tt)) (λ f. to-close source dest prevent signal s))
-
-  signal-close : (source dest : StreamId) (prevent : Prevent) (signal at : Option SignalId) (s : Slots) → Closes (for_signal_where at (pipe_unlocked source dest prevent signal) s)
-  signal-close source dest prevent signal None s = unlocked-close source dest prevent signal s
-  signal-close source dest prevent signal (Some a) s = either Closes (has_signal a s) (pipe_unlocked source dest prevent signal s) (unsupported s) (λ e. unlocked-close source dest prevent signal s) (λ e. tt)
-
-  pipe-close : (source dest : StreamId) (prevent : Prevent) (signal : Option SignalId) (s : Slots) → Closes (begin (PipeCall source dest prevent signal) s)
-  unfolding begin
-  pipe-close source dest prevent signal s =
-      either Closes (has_source source s) (for_writable dest (for_signal_where signal (pipe_unlocked source dest prevent signal)) s) (unsupported s)
-      (λ e. either Closes (has_writable dest s) (for_signal_where signal (pipe_unlocked source dest prevent signal) s) (unsupported s) (λ f. signal-close source dest prevent signal signal s) (λ f. tt)) (λ e. tt)
-
 -- the ends of a pipe over a run are those of its course
 
 along_ends : (p : PipeId) (ms : List Moment) → (along no_course course_then (effect_course p) ms).ended ≡ along [] ◌++◌ (effect_ends p) ms
@@ -137,7 +105,7 @@ past : (ps : List pipe.Slots) → slice_get ps (length ps) ≡ None
 past [] = refl
 past (x ∷ ps) = past ps
 
-writable_open : (state : WritableState) → is_writable state ≡ true → is_closed state ≡ false
+pub writable_open : (state : WritableState) → is_writable state ≡ true → is_closed state ≡ false
 writable_open state e = grind arith
 
 writable_there : (i : StreamId) (s : Slots) → is_writable (writable_at i s).state ≡ true → has_writable i s ≡ true
@@ -155,12 +123,15 @@ state_closed o e = grind arith
 not_both : (o : Option Stream) → is_closed_in o ≡ true → is_closed (as_writable o).state ≡ false → ⊥
 not_both o e f = grind arith
 
-module _ (before : List Entry) (source dest : StreamId) (prevent : Prevent) (signal : Option SignalId) (m : MakesAPipe before source dest prevent signal) where
+-- A call after these entries that makes a pipe, which closes its destination; and the destination is writable and not closing as the call has begun
+pub record Makes (before : List Entry) (c : Call) : Type 0 where
+  pub new : New (run before empty) (begin c (run before empty))
+  pub closes : new.slots.prevent.close ≡ false
+  pub open_now : Open (writable_at new.slots.dest (begin c (run before empty)).done.slots)
+
+module _ (before : List Entry) (c : Call) (m : Makes before c) where
   abbrev s : Slots
   s = run before empty
-
-  abbrev c : Call
-  c = PipeCall source dest prevent signal
 
   abbrev z : Slots
   z = (begin c s).done.slots
@@ -168,93 +139,119 @@ module _ (before : List Entry) (source dest : StreamId) (prevent : Prevent) (sig
   abbrev p : PipeId
   p = next_pipe before
 
+  abbrev y : pipe.Slots
+  y = m.new.slots
+
   pub not_made : slice_get s.pipes p.0 ≡ None
   not_made = past s.pipes
 
-  pub stands : has_writable dest s ≡ true
-  stands = writable_there dest s m.writable
+  no_ends : ends p y.dest before ≡ []
+  no_ends = sym (over_ends p y.dest before empty) ∙ ap (λ (k : Course). k.ended) (subst (IsCourseAt (run_course p before empty)) not_made (each_pipe_has_a_course before p))
 
-  place : SamePlace dest s z
-  place = call-same p dest c s stands
+  pub begun : Piped p y.dest [] z (begin c s).done.caused
+  begun = record {
+    x = y;
+    there = ap (λ (ps : List pipe.Slots). slice_get ps p.0) m.new.made ∙ place-last s.pipes y;
+    dest = refl;
+    closes = m.closes;
+    straight = straight-stays.call s c (run-straight before);
+    locked = locked-stays.call s c (run-locked before);
+    stands = m.new.stands;
+    started = λ f. absurd (not_both (slice_get z.streams y.dest.0) f m.open_now.closed);
+    live = λ f. (m.open_now, m.new.calm);
+    plain = λ f. let g : true ≡ false = sym (ap is_flowing m.new.flows) ∙ f in absurd (cc);
+    table = call-good p y.dest (Source p y.dest y z) (Told p y.dest y z) c s (unmade-good p (Source p y.dest y z) (Told p y.dest y z) before not_made);
+    shape = Calm (call-fits p (Told p y.dest y z) c s);
+    ended = tt;
+  }
 
-  open_now : Open (writable_at dest z)
-  open_now =
-      subst Open (sym (ap as_writable place)) (record { closing = m.not_closing; closed = writable_open (writable_at dest s).state m.writable })
-
-  -- the pipe that the call makes
-  record New : Type 0 where
-    y : pipe.Slots
-    there : slice_get z.pipes p.0 ≡ Some y
-    to : y.dest ≡ dest
-    closes : y.prevent.close ≡ false
-    flows : y.phase ≡ Flowing
-
-  some_there : slice_get s.pipes p.0 ≡ slice_get z.pipes p.0 → ⊥
-  some_there e = let n : is_some (slice_get z.pipes p.0) ≡ false = ap is_some (sym e ∙ not_made) in let t = m.made in cc
-
-  same_call : (from to : StreamId) (not_to : Prevent) (by : Option SignalId) → c ≡ PipeCall from to not_to by → (to ≡ dest) × (not_to ≡ prevent)
-  same_call from to not_to by e = (cc, cc)
-
-  new : New
-  new = by (each_pipe_begins_flowing c s)
-    where
-      by : MakesPipes c s (begin c s) → New
-      by (MakesNone e) = absurd (some_there (ap (λ (ps : List pipe.Slots). slice_get ps p.0) (sym e)))
-      by (MakesOne from to not_to on y e f n) =
-          let same = same_call from to not_to on e in
-          record {
-            y = y;
-            there = ap (λ (ps : List pipe.Slots). slice_get ps p.0) f ∙ place-last s.pipes y;
-            to = n.dest ∙ same.0;
-            closes = ap (λ (q : Prevent). q.close) (n.prevent ∙ same.1) ∙ m.closes;
-            flows = n.phase;
-          }
-
-  no_ends : ends p dest before ≡ []
-  no_ends = sym (over_ends p dest before empty) ∙ ap (λ (k : Course). k.ended) (subst (IsCourseAt (run_course p before empty)) not_made (each_pipe_has_a_course before p))
-
-  pub begun : Piped p dest [] z (begin c s).done.caused
-  begun =
-      let n = new in
-      let closed : closed_in dest z ≡ closed_in dest s = ap is_closed_in place in
-      let o = open_now in
-      record {
-        x = n.y;
-        there = n.there;
-        dest = n.to;
-        closes = n.closes;
-        straight = straight-stays.call s c (run-straight before);
-        locked = locked-stays.call s c (run-locked before);
-        stands = ap is_writable_stream place ∙ stands;
-        started = λ f. absurd (not_both (slice_get z.streams dest.0) f o.closed);
-        live = λ f. (o, pipe-close dest source dest prevent signal s);
-        plain = λ f. let g : true ≡ false = sym (ap is_flowing n.flows) ∙ f in absurd (cc);
-        table = call-good p dest (Source p dest n.y z) (Told p dest n.y z) c s (unmade-good p (Source p dest n.y z) (Told p dest n.y z) before not_made);
-        shape = Calm (call-fits p (Told p dest n.y z) c s);
-        ended = tt;
-      }
-
-  pub made_after : PipedAfter p dest (before ++ Called c ∷ [])
-  made_after = next-piped p dest before (Called c) (subst (λ (h : List (Option Plain)). Piped p dest (h ++ step_ends p dest s (Called c)) (step s (Called c)) []) (sym no_ends) (called-piped p dest [] c s begun))
+  pub made_after : PipedAfter p y.dest (before ++ Called c ∷ [])
+  made_after =
+      next-piped p y.dest before (Called c)
+      (subst (λ (h : List (Option Plain)). Piped p y.dest (h ++ step_ends p y.dest s (Called c)) (step s (Called c)) []) (sym no_ends) (called-piped p y.dest [] c s begun))
 
   -- it goes on to the end of the run
-  pub piped : (after : List Entry) → PipedAfter p dest (with_pipe before source dest prevent signal after)
+  pub piped : (after : List Entry) → PipedAfter p y.dest (before ++ Called c ∷ after)
   piped after =
-      subst (PipedAfter p dest) (append_assoc before (Called c ∷ []) after)
-      (rest-piped p dest after (before ++ Called c ∷ []) made_after)
+      subst (PipedAfter p y.dest) (append_assoc before (Called c ∷ []) after)
+      (rest-piped p y.dest after (before ++ Called c ∷ []) made_after)
 
 -- such a pipe that ended without an error has a destination that is closed
-pub fulfilled-closed : (before after : List Entry) (source dest : StreamId) (prevent : Prevent) (signal : Option SignalId) → let entries : List Entry = with_pipe before source dest prevent signal after in
-    MakesAPipe before source dest prevent signal → (run_course (next_pipe before) entries empty).ended ≡ None ∷ [] → closed_in dest (run entries empty) ≡ true
-fulfilled-closed before after source dest prevent signal m e =
-    let entries : List Entry = with_pipe before source dest prevent signal after in
-    let k = piped before source dest prevent signal m after in
+pub fulfilled-closed : (before after : List Entry) (c : Call) (m : Makes before c) → let entries : List Entry = before ++ Called c ∷ after in
+    (run_course (next_pipe before) entries empty).ended ≡ None ∷ [] → closed_in m.new.slots.dest (run entries empty) ≡ true
+fulfilled-closed before after c m e =
+    let entries : List Entry = before ++ Called c ∷ after in
+    let dest : StreamId = m.new.slots.dest in
+    let k = piped before c m after in
     let h : ends (next_pipe before) dest entries ≡ None ∷ [] = sym (over_ends (next_pipe before) dest entries empty) ∙ e in
     let f : EndWell (closed_in dest (run entries empty) ≡ true) (None ∷ []) = subst (EndWell (closed_in dest (run entries empty) ≡ true)) h k.ended in
     f.0 refl
 
+-- a pipeTo makes such a pipe
+
+module _ (before : List Entry) (source dest : StreamId) (prevent : Prevent) (signal : Option SignalId) (m : MakesAPipe before source dest prevent signal) where
+  abbrev old : Slots
+  old = run before empty
+
+  abbrev c : Call
+  c = PipeCall source dest prevent signal
+
+  abbrev after : Slots
+  after = (begin c old).done.slots
+
+  abbrev number : PipeId
+  number = next_pipe before
+
+  stands : has_writable dest old ≡ true
+  stands = writable_there dest old m.writable
+
+  open_now : Open (writable_at dest after)
+  open_now =
+      subst Open (sym (ap as_writable (call-same number dest c old stands))) (record { closing = m.not_closing; closed = writable_open (writable_at dest old).state m.writable })
+
+  some_there : slice_get old.pipes number.0 ≡ slice_get after.pipes number.0 → ⊥
+  some_there e = let n : is_some (slice_get after.pipes number.0) ≡ false = ap is_some (sym e ∙ past old.pipes) in let t = m.made in cc
+
+  same_call : (from to : StreamId) (not_to : Prevent) (by : Option SignalId) → c ≡ PipeCall from to not_to by → (to ≡ dest) × (not_to ≡ prevent)
+  same_call from to not_to by e = (cc, cc)
+
+  some_pipe : (x w : pipe.Slots) → ◌≡◌ {A = Option pipe.Slots} (Some x) (Some w) → x ≡ w
+  some_pipe x w e = cc
+
+  -- the pipe is that of the call
+  same_new : (x w : pipe.Slots) → after.pipes ≡ old.pipes ++ x ∷ [] → after.pipes ≡ old.pipes ++ w ∷ [] → x ≡ w
+  same_new x w e f = some_pipe x w (sym (place-last old.pipes x) ∙ (ap (λ (ps : List pipe.Slots). slice_get ps number.0) (sym e ∙ f) ∙ place-last old.pipes w))
+
+  is_its : (n : New old (begin c old)) → (n.slots.dest ≡ dest) × (n.slots.prevent ≡ prevent)
+  is_its n = by (each_pipe_begins_flowing c old)
+    where
+      by : MakesPipes c old (begin c old) → (n.slots.dest ≡ dest) × (n.slots.prevent ≡ prevent)
+      by (MakesNone e) = absurd (some_there (ap (λ (ps : List pipe.Slots). slice_get ps number.0) (sym e)))
+      by (MakesOne from to not_to on w e f k) =
+          let same = same_call from to not_to on e in
+          let is = same_new n.slots w n.made f in
+          (ap (λ (x : pipe.Slots). x.dest) is ∙ (k.dest ∙ same.0), ap (λ (x : pipe.Slots). x.prevent) is ∙ (k.prevent ∙ same.1))
+      by (SendsReadable i w e has f k) = absurd (cc)
+      by (SendsWritable i w e isnt has f k) = absurd (cc)
+
+  made : (k : Makes before c) × (k.new.slots.dest ≡ dest)
+  made = by (call-adds c old)
+    where
+      by : Adds old (begin c old) → (k : Makes before c) × (k.new.slots.dest ≡ dest)
+      by (inl e) = absurd (some_there (ap (λ (ps : List pipe.Slots). slice_get ps number.0) (sym e)))
+      by (inr n) =
+          let is = is_its n in (
+            record {
+              new = n;
+              closes = ap (λ (q : Prevent). q.close) is.1 ∙ m.closes;
+              open_now = subst (λ (j : StreamId). Open (writable_at j after)) (sym is.0) open_now;
+            },
+            is.0,
+          )
+
 pub each_fulfilled_pipe_closed_its_destination : EachFulfilledPipeClosedItsDestination
 each_fulfilled_pipe_closed_its_destination before after source dest prevent signal m e =
     let entries : List Entry = with_pipe before source dest prevent signal after in
-    let closed = fulfilled-closed before after source dest prevent signal m e in
+    let k = made before source dest prevent signal m in
+    let closed : closed_in dest (run entries empty) ≡ true = subst (λ (j : StreamId). closed_in j (run entries empty) ≡ true) k.1 (fulfilled-closed before after (PipeCall source dest prevent signal) k.0 e) in
     record { closed = state_closed (slice_get (run entries empty).streams dest.0) closed; settled = λ host. close-was-settled entries dest host closed }

@@ -1,6 +1,7 @@
 -- What becomes of the promise of a close, in an operation of the stream: it is still that of the close request or of the close in flight, or it
 -- is rejected, or the stream is closed.
 use Rattle.std.proofs.Common.{◌≡◌, ℕ, Bool, true, false, not, ◌&&◌, ◌||◌, is_some, is_none, ◌⊎◌, inl, inr, nat_eq, List, [], ◌∷◌, Option, Some, None, Result, Ok, Err, refl, sym, ap, ◌∙◌, arith, if◌then◌else◌}
+use Rattle.ws_steps.specs.declared.effects.Owner.TheVariants.{EndOf}
 use Rattle.ws_value.specs.declared.ids.PromiseId.{PromiseId}
 use Rattle.ws_value.specs.declared.ids.StreamId.{StreamId}
 use Rattle.ws_value.specs.declared.value.Plain.{Plain}
@@ -311,6 +312,7 @@ module _ (q : PromiseId) where
     signalled-fated r a Host f = alike-fated a (signalled me r a Host) (record { request = refl; flight = refl; keeps = keeps-tell _ a.out.promises }) f
     signalled-fated r a (HalfOf t) f = f
     signalled-fated r a (BranchOf t half) f = f
+    signalled-fated r a (EndOf c) f = f
 
     begin_abort-fated : (r : Plain) (p : PromiseId) (a : Acts) → Fated a → Fated (begin_abort me r p a)
     begin_abort-fated r p a f =

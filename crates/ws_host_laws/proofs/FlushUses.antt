@@ -1,6 +1,8 @@
 -- Which reactions the effects of a realm make: that of a transform stream of the host's to its flush algorithm is made by the host call to flush it
 -- alone.
 use Rattle.std.proofs.Common.{◌≡◌, ℕ, Bool, true, false, nat_eq, List, [], Option, Some, None, Ok, Err, slice_get, refl, sym, ap, subst, ◌∙◌, arith}
+use Rattle.ws_steps.specs.declared.effects.Owner.TheVariants.{EndOf}
+use Rattle.ws_steps.specs.declared.effects.Effect.TheVariants.{Port}
 use Rattle.ws_laws.proofs.Lists.{each-map}
 use Rattle.ws_value.specs.declared.{ids.PipeId.{PipeId}, ids.PromiseId.{PromiseId}, ids.StreamId.{StreamId}}
 use Rattle.ws_value.specs.declared.value.Plain.{Plain}
@@ -32,6 +34,7 @@ use Rattle.ws_laws.proofs.Tables.{eq_numbers}
 use Rattle.ws_host_laws.proofs.Carried.{CarriesTee, TeeUses, row-tees_use, Carries}
 use Rattle.ws_host_laws.proofs.Sourced.{UseIs, NoUse}
 use Rattle.ws_steps.specs.declared.effects.Effect.TheVariants.{Byte, CloseStepsWith}
+use Rattle.ws_host_laws.proofs.Ported.{CarriesPort, PortUses, row-port_uses}
 
 -- the reaction of transform stream t to its flush algorithm
 abbrev pub flushes_it : TransformId → Step → Bool
@@ -56,6 +59,7 @@ module _ (t : TransformId) (r : StreamId) where
   Fits (StartAlgorithm i step start) = flushes_it t step ≡ false
   Fits (Transform k operation) = Carries No operation
   Fits (Tee k operation) = CarriesTee No operation
+  Fits (Port c operation) = CarriesPort No operation
   Fits _ = Unit {0}
 
   pipe_step-no : (p : PipeId) (step : Step) → IsStepOf p step → flushes_it t step ≡ false
@@ -73,6 +77,7 @@ module _ (t : TransformId) (r : StreamId) where
   pipe-fits p source dest (StartAlgorithm i step start) c = absurd c
   pipe-fits p source dest (Transform k operation) c = absurd c
   pipe-fits p source dest (Tee k operation) c = absurd c
+  pipe-fits p source dest (Port q operation) c = absurd c
   pipe-fits p source dest _ c = tt
 
   chunk-fits : (v : Value) (request : ReadRequest) → ChunkCauses Fits v request
@@ -109,26 +114,31 @@ module _ (t : TransformId) (r : StreamId) where
   pull-fits i Host u n = (no_call _ u n, tt)
   pull-fits i (HalfOf k) u n = (n, tt)
   pull-fits i (BranchOf k half) u n = (tt, (n, tt))
+  pull-fits i (EndOf c) u n = (tt, (n, tt))
 
   cancel-fits : (i : StreamId) (e : Plain) (owner : Owner) (u : Use) → No u → Each Fits (cancel_algorithm i e u owner)
   cancel-fits i e Host u n = (no_call _ u n, tt)
   cancel-fits i e (HalfOf k) u n = (n, tt)
   cancel-fits i e (BranchOf k half) u n = (n, tt)
+  cancel-fits i e (EndOf c) u n = (n, tt)
 
   abort-fits : (i : StreamId) (e : Plain) (owner : Owner) (u : Use) → No u → Each Fits (abort_algorithm i e u owner)
   abort-fits i e Host u n = (no_call _ u n, tt)
   abort-fits i e (HalfOf k) u n = (n, tt)
   abort-fits i e (BranchOf k half) u n = (no_call _ u n, tt)
+  abort-fits i e (EndOf c) u n = (n, tt)
 
   close-fits : (i : StreamId) (owner : Owner) (u : Use) → No u → Each Fits (close_algorithm i u owner)
   close-fits i Host u n = (no_call _ u n, tt)
   close-fits i (HalfOf k) u n = (n, tt)
   close-fits i (BranchOf k half) u n = (no_call _ u n, tt)
+  close-fits i (EndOf c) u n = (n, tt)
 
   write-fits : (i : StreamId) (owner : Owner) → Each Fits (write_algorithm i owner)
   write-fits i Host = (tt, tt)
   write-fits i (HalfOf k) = (refl, tt)
   write-fits i (BranchOf k half) = (tt, tt)
+  write-fits i (EndOf c) = (refl, tt)
 
   -- so do those of transform streams, but for the flush
 
@@ -201,12 +211,15 @@ module _ (t : TransformId) (r : StreamId) where
   tee-uses-fit : (e : Effect) → TeeUses No e → Fits e
   tee-uses-fit e u = grind (arith, u)
 
+  port-uses-fit : (e : Effect) → PortUses No (λ i. Unit {0}) e → Fits e
+  port-uses-fit e u = grind (arith, u)
+
   pub caused-fit : (e : Effect) (s : Slots) → IsHosts t r s → Fits e → Each Fits (row e s).caused
   unfolding row
   caused-fit (Readable i operation) s h f = row-causes Fits (Readable i operation) s (record { pull = tt; cancel = λ e q. tt; chunk = λ q v. tt; close = λ q. tt; error = λ q e. tt })
   caused-fit (Byte i operation) s h f =
       row-causes Fits (Byte i operation) s (record { readable = record { pull = tt; cancel = λ r q. tt; chunk = λ r v. tt; close = λ r. tt; error = λ r e. tt }; close_with = λ r b. tt })
-  caused-fit (Writable i operation) s h f = row-causes Fits (Writable i operation) s (record { write = tt; close = tt; abort = λ e q. tt; hand_on = λ v e. no_true e; take = λ v k d. tt })
+  caused-fit (Writable i operation) s h f = row-causes Fits (Writable i operation) s (record { write = tt; close = tt; abort = λ e q. tt; hand_on = λ v e. no_true e; take = λ v k d. tt; post = λ v c d. tt })
   caused-fit (Pipe p operation) s h f = row-causes Fits (Pipe p operation) s pipe-fits-of
     where
       pipe-fits-of : (source dest : StreamId) (e : Effect) → PipeCauses p source dest e → Fits e
@@ -214,6 +227,8 @@ module _ (t : TransformId) (r : StreamId) where
   caused-fit (Signal b operation) s h f = row-causes Fits (Signal b operation) s (signal-fits operation)
   caused-fit (Transform k operation) s h f = transform-fits k operation s (slice_get s.transforms k.0) refl h f
   caused-fit (Tee k operation) s h f = each-map (TeeUses No) Fits tee-uses-fit (row (Tee k operation) s).caused (row-tees_use No (λ q. tt) k operation s f)
+  caused-fit (Port c operation) s h f =
+      each-map (PortUses No (λ i. Unit {0})) Fits port-uses-fit (row (Port c operation) s).caused (row-port_uses No (λ i. Unit {0}) (λ q. tt) (λ d q. refl) c operation s f (λ x e. tt))
   caused-fit (StartAlgorithm i step start) s h f = start-fits i step s start f
   caused-fit (PullAlgorithm i) s h f = pull-fits i (owner_at i s) _ refl
   caused-fit (CancelAlgorithm i e p) s h f = cancel-fits i e (owner_at i s) _ refl

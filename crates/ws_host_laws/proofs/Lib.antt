@@ -8,11 +8,13 @@ pub mod Fates
 pub mod Staying
 pub mod Dests
 pub mod Carried
+pub mod Ported
 pub mod Acts
 pub mod Piped
 pub mod PipedRows
 pub mod PipedMoves
 pub mod PipedRuns
+pub mod Making
 pub mod Ended
 pub mod Doomed
 pub mod Writing

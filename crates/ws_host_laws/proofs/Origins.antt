@@ -1,9 +1,9 @@
--- Each pipe that is there after a run was made by a pipeTo of it, as the one of the next number.
-use Rattle.std.proofs.Common.{◌≡◌, ℕ, zero, suc, ◌+◌, ◌≤◌, ◌<◌, Bool, true, false, List, [], ◌∷◌, ◌++◌, length, Option, Some, None, slice_get, slice_set, refl, sym, ap, subst, ◌∙◌, append_assoc, append-nil, nat_lt, arith}
-use Rattle.ws_value.specs.declared.{ids.PipeId.{PipeId}, ids.SignalId.{SignalId}, ids.StreamId.{StreamId}}
-use Rattle.ws_steps.specs.declared.calls.{Call.{Call}, Call.TheVariants.{Pipe as PipeCall}, Reply.{Reply}, Reply.TheVariants.{Promise as Named}}
+-- Each pipe that is there after a run was made by a call of it, as the one of the next number.
+use Rattle.std.proofs.Common.{◌≡◌, ℕ, zero, suc, ◌+◌, ◌≤◌, ◌<◌, Bool, true, false, List, [], ◌∷◌, ◌++◌, length, Option, Some, None, slice_get, slice_set, refl, sym, ap, subst, ◌∙◌, append_assoc, append-nil, nat_lt, arith, inl, inr}
+use Rattle.ws_value.specs.declared.{ids.PipeId.{PipeId}}
+use Rattle.ws_steps.specs.declared.calls.{Call.{Call}, Reply.{Reply}, Reply.TheVariants.{Promise as Named}}
 use Rattle.ws_steps.specs.declared.effects.{Effect.{Effect}, Effect.TheVariants.{Pipe as OnPipe}}
-use Rattle.ws_steps.specs.declared.pipes.{Prevent.{Prevent}, PipeOperation.{PipeOperation}}
+use Rattle.ws_steps.specs.declared.pipes.{PipeOperation.{PipeOperation}}
 use Rattle.ws_steps.specs.declared.promises.Job.{Job}
 use Rattle.ws_steps.specs.Calls.{begin, named}
 use Rattle.ws_steps.specs.Jobs.{job_begun, begin_job}
@@ -15,9 +15,8 @@ use Rattle.ws_steps.specs.Slots.{Slots, Done, empty, on_pipe_at}
 use Rattle.ws_steps.specs.Turns.{row, performed}
 use Rattle.ws_laws.proofs.Rows.{row-pipes}
 use Rattle.ws_laws.proofs.Walker.{performed-goes, untold}
-use Rattle.ws_pipe_laws.specs.PipeMoves.{IsNewPipe, MakesPipes, MakesNone, MakesOne}
-use Rattle.ws_pipe_laws.proofs.Made.{each_pipe_begins_flowing}
 use Rattle.ws_host_laws.proofs.PipedRuns.{run-last}
+use Rattle.ws_host_laws.proofs.Making.{New, Adds, call-adds}
 
 -- how many pipes there are after effects, and after a step
 
@@ -58,48 +57,31 @@ worked-length : (s : Slots) → length (step s Worked).pipes ≡ length s.pipes
 unfolding begin_job
 worked-length s = performed-length (begin_job s) ∙ begun-length s (next_job s.promises)
 
--- In a run a pipeTo made the pipe
+-- In a run a call made the pipe
 pub record Origin (entries : List Entry) (p : PipeId) : Type 0 where
   pub before : List Entry
   pub after : List Entry
-  pub source : StreamId
-  pub dest : StreamId
-  pub prevent : Prevent
-  pub signal : Option SignalId
-  pub split : entries ≡ before ++ Called (PipeCall source dest prevent signal) ∷ after
+  pub call : Call
+  pub split : entries ≡ before ++ Called call ∷ after
   pub number : p.0 ≡ length (run before empty).pipes
-  pub slots : pipe.Slots
-  pub made : (begin (PipeCall source dest prevent signal) (run before empty)).done.slots.pipes ≡ (run before empty).pipes ++ slots ∷ []
-  pub new : IsNewPipe source dest prevent signal (begin (PipeCall source dest prevent signal) (run before empty)).reply slots
+  pub new : New (run before empty) (begin call (run before empty))
 
 module _ (p : PipeId) where
-  call-origin : (before after : List Entry) (c : Call) → let s : Slots = run before empty in length s.pipes ≤ p.0 → p.0 < length (step s (Called c)).pipes → MakesPipes c s (begin c s) → Origin (before ++ Called c ∷ after) p
-  call-origin before after c few more (MakesNone e) =
+  call-origin : (before after : List Entry) (c : Call) → let s : Slots = run before empty in length s.pipes ≤ p.0 → p.0 < length (step s (Called c)).pipes → Adds s (begin c s) → Origin (before ++ Called c ∷ after) p
+  call-origin before after c few more (inl e) =
       let s : Slots = run before empty in
       let n = called-length c s in
       let m : length (begin c s).done.slots.pipes ≡ length s.pipes = ap (λ (ps : List pipe.Slots). length ps) e in
       absurd (omega (arith, n, m, few, more))
-  call-origin before after c few more (MakesOne from to not_to by y is made new) =
+  call-origin before after c few more (inr new) =
       let s : Slots = run before empty in
       let n = called-length c s in
-      let m : length (begin c s).done.slots.pipes ≡ length (s.pipes ++ y ∷ []) = ap (λ (ps : List pipe.Slots). length ps) made in
-      let one = length-one s.pipes y in
-      record {
-        before = before;
-        after = after;
-        source = from;
-        dest = to;
-        prevent = not_to;
-        signal = by;
-        split = ap (λ (d : Call). before ++ Called d ∷ after) is;
-        number = omega (arith, n, m, one, few, more);
-        slots = y;
-        made = subst (λ (d : Call). (begin d s).done.slots.pipes ≡ s.pipes ++ y ∷ []) is made;
-        new = subst (λ (d : Call). IsNewPipe from to not_to by (begin d s).reply y) is new;
-      }
+      let m : length (begin c s).done.slots.pipes ≡ length (s.pipes ++ new.slots ∷ []) = ap (λ (ps : List pipe.Slots). length ps) new.made in
+      let one = length-one s.pipes new.slots in
+      record { before = before; after = after; call = c; split = refl; number = omega (arith, n, m, one, few, more); new = new }
 
   step-origin : (before after : List Entry) (x : Entry) → let s : Slots = run before empty in length s.pipes ≤ p.0 → p.0 < length (step s x).pipes → Origin (before ++ x ∷ after) p
-  step-origin before after (Called c) few more = call-origin before after c few more (each_pipe_begins_flowing c (run before empty))
+  step-origin before after (Called c) few more = call-origin before after c few more (call-adds c (run before empty))
   step-origin before after Worked few more = let n = worked-length (run before empty) in absurd (omega (arith, n, few, more))
   step-origin before after Heard few more = absurd (omega (arith, few, more))
 

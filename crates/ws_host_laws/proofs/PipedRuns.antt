@@ -172,6 +172,7 @@ module _ (p : PipeId) (i : StreamId) where
     signal = λ z m. m;
     transform = λ z kind half other change m. m;
     tee = λ z source first second cancel m. m;
+    port = λ z side stream backpressure m. m;
     bytes = λ z mark auto m. m;
     byob_requests = λ z hs m. m;
     readable = λ z owner mark size m. m;
@@ -187,6 +188,7 @@ module _ (p : PipeId) (i : StreamId) where
     signal = λ z m. m;
     transform = λ z kind half other change m. m;
     tee = λ z source first second cancel m. m;
+    port = λ z side stream backpressure m. m;
     bytes = λ z mark auto m. place-grows z.streams (ByteStream (byte.set_up mark auto) ∷ []) i.0 y m;
     byob_requests = λ z hs m. m;
     readable = λ z owner mark size m. place-grows z.streams (ReadableStream (readable.set_up owner mark size) ∷ []) i.0 y m;
@@ -202,6 +204,7 @@ module _ (p : PipeId) (i : StreamId) where
     signal = λ z m. m;
     transform = λ z kind half other change m. m;
     tee = λ z source first second cancel m. m;
+    port = λ z side stream backpressure m. m;
     bytes = λ z mark auto m. m;
     byob_requests = λ z hs m. m;
     readable = λ z owner mark size m. m;
@@ -217,6 +220,7 @@ module _ (p : PipeId) (i : StreamId) where
     signal = λ z m. m;
     transform = λ z kind half other change m. m;
     tee = λ z source first second cancel m. m;
+    port = λ z side stream backpressure m. m;
     bytes = λ z mark auto m. m;
     byob_requests = λ z hs m. m;
     readable = λ z owner mark size m. m;

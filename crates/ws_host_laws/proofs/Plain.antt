@@ -1,8 +1,9 @@
 -- What each effect does to promises but for the two that react, and what it does to the calls that the host hasn't settled.
 use Rattle.std.proofs.Common.{◌∙◌, ◌≡◌, false, List, [], ◌∷◌, ◌++◌, Option, Some, None, Result, refl, sym, slice_get, append-nil}
+use Rattle.ws_steps.specs.declared.effects.Effect.TheVariants.{Port}
 use Rattle.ws_laws.proofs.TeeDoes.{tee-does}
-use Rattle.ws_steps.specs.Operations.{tee_operation}
-use Rattle.ws_steps.specs.Slots.{on_tee_at}
+use Rattle.ws_steps.specs.Operations.{tee_operation, port_operation}
+use Rattle.ws_steps.specs.Slots.{on_tee_at, on_port_at, clones_at}
 use Rattle.ws_steps.specs.Tee as tee
 use Rattle.ws_steps.specs.declared.tee.TeeOperation.{TeeOperation}
 use Rattle.ws_value.specs.declared.ids.TeeId.{TeeId}
@@ -35,6 +36,12 @@ use Rattle.ws_steps.specs.declared.effects.Effect.TheVariants.{Byte, CloseStepsW
 use Rattle.ws_laws.proofs.Rows.{source-out, byte-out, source-leaves, byte-leaves}
 use Rattle.ws_laws.proofs.ReadableDoes.{OfReadable}
 use Rattle.ws_value.specs.declared.value.Value.TheVariants.{Bytes}
+use Rattle.ws_value.specs.declared.ids.PortId.{PortId}
+use Rattle.ws_value.specs.declared.value.Message.{Message}
+use Rattle.ws_steps.specs.declared.calls.Event.TheVariants.{Post}
+use Rattle.ws_steps.specs.declared.port.PortOperation.{PortOperation}
+use Rattle.ws_steps.specs.Cross as cross
+use Rattle.ws_laws.proofs.PortDoes.{port-does}
 
 -- what goes on with each change of promises but for reactions, followings and the telling of a host call
 pub record Plainly (T : Table → Type 0) : Type 0 where
@@ -43,6 +50,7 @@ pub record Plainly (T : Table → Type 0) : Type 0 where
   pub answer : (t : Table) (p : PromiseId) (o : Outcome) → is_pending o ≡ false → T t → T (answer p o t)
   pub micro : (t : Table) (m : Micro) → T t → T (queue_micro m t)
   pub signal : (t : Table) (i : StreamId) (r : Plain) → T t → T (tell (Signalled i r) t)
+  pub post : (t : Table) (c : PortId) (m : Message) → T t → T (tell (Post c m) t)
 
 -- neither a promise is used, nor the host called
 abbrev pub IsPlain : Effect → Type 0
@@ -72,6 +80,12 @@ module _ (T : Table → Type 0) (does : Plainly T) where
   tee-plainly t operation s None h = h
   tee-plainly t operation s (Some x) h = tee-does T (record { fresh = does.fresh; micro = does.micro }) t operation (record { slots = x; out = found s }) h
 
+  port-plainly : (c : PortId) (operation : PortOperation) (s : Slots) (o : Option cross.Slots) → T s.promises
+      → T (on_port_at (λ clones. port_operation c clones operation) c s o).slots.promises
+  port-plainly c operation s None h = h
+  port-plainly c operation s (Some x) h =
+      port-does T (record { fresh = does.fresh; settle = does.settle; post = does.post }) c (clones_at x s) operation (record { slots = x; out = found s }) h
+
   settles : (i : StreamId) → OfReadable (λ (x : Out). T x.promises) i
   settles i = record {
     settle = λ x p o h. does.settle x.promises p o h;
@@ -97,11 +111,13 @@ module _ (T : Table → Type 0) (does : Plainly T) where
         abort = λ x r p h. h;
         hand_on = λ x v h. h;
         take = λ x v t d h. h;
+        post = λ x v c d h. h;
       }) operation (writable_acts i s) h) (λ e. h)
   row-plainly (Pipe p operation) s n h = pipe-plainly p operation s (slice_get s.pipes p.0) h
   row-plainly (Signal a operation) s n h = signal-plainly a operation s (slice_get s.signals a.0) h
   row-plainly (Transform t operation) s n h = transform-plainly t operation s (slice_get s.transforms t.0) h
   row-plainly (Tee t operation) s n h = tee-plainly t operation s (slice_get s.tees t.0) h
+  row-plainly (Port c operation) s n h = port-plainly c operation s (slice_get s.ports c.0) h
   row-plainly (StartAlgorithm i step Now) s n h = h
   row-plainly (StartAlgorithm i step Later) s n h = does.fresh s.promises h
   row-plainly (ChunkSteps i (Promise p) v) s n h = does.answer s.promises p (Given v) refl h
@@ -143,6 +159,11 @@ tee-hosts : (t : TeeId) (operation : TeeOperation) (s : Slots) (o : Option tee.S
 tee-hosts t operation s None = refl
 tee-hosts t operation s (Some x) = refl
 
+port-hosts : (c : PortId) (operation : PortOperation) (s : Slots) (o : Option cross.Slots)
+    → (on_port_at (λ clones. port_operation c clones operation) c s o).slots.hosts ≡ s.hosts
+port-hosts c operation s None = refl
+port-hosts c operation s (Some x) = refl
+
 -- the promise of a host call, where an effect is one
 abbrev pub host_added : Effect → Slots → List (Option PromiseId)
 host_added (CallHost call u) s = Some (next_id s.promises) ∷ []
@@ -160,6 +181,7 @@ row-hosts (Pipe p operation) s = rw (append-nil s.hosts) (pipe-hosts p operation
 row-hosts (Signal a operation) s = rw (append-nil s.hosts) (signal-hosts a operation s (slice_get s.signals a.0))
 row-hosts (Transform t operation) s = rw (append-nil s.hosts) (transform-hosts t operation s (slice_get s.transforms t.0))
 row-hosts (Tee t operation) s = rw (append-nil s.hosts) (tee-hosts t operation s (slice_get s.tees t.0))
+row-hosts (Port c operation) s = rw (append-nil s.hosts) (port-hosts c operation s (slice_get s.ports c.0))
 row-hosts (StartAlgorithm i step Now) s = sym (append-nil s.hosts)
 row-hosts (StartAlgorithm i step Later) s = sym (append-nil s.hosts)
 row-hosts (ChunkSteps i (Promise p) v) s = sym (append-nil s.hosts)

@@ -15,6 +15,7 @@ use Rattle.ws_laws.proofs.Cases.{Puts, settle-cases, answer-cases, react-cases, 
 use Rattle.ws_laws.proofs.Outcomes.{Keeps, keeps-fresh, keeps-settle, keeps-answer, keeps-react, keeps-follow, keeps-micro, keeps-tell}
 use Rattle.ws_promise_laws.proofs.Holds.{place_at, put-placed, eq_promises}
 use Rattle.ws_host_laws.proofs.Plain.{Plainly}
+use Rattle.ws_steps.specs.declared.calls.Event.TheVariants.{Post}
 
 module _ (is : Step → Bool) where
   abbrev pub marked : Reaction → Bool
@@ -216,6 +217,7 @@ module _ (is : Step → Bool) where
       answer = λ t p o n k. lift t (answer p o t) (λ g. inl (answer-good t p o g)) (keeps-answer p o t) k;
       micro = λ t m k. lift t (queue_micro m t) (λ g. inl (micro-good t m g)) (keeps-micro m t) k;
       signal = λ t i r k. lift t (tell (Signal i r) t) (λ g. inl (entries-good t (tell (Signal i r) t) refl g.queued g)) (keeps-tell (Signal i r) t) k;
+      post = λ t c m k. lift t (tell (Post c m) t) (λ g. inl (entries-good t (tell (Post c m) t) refl g.queued g)) (keeps-tell (Post c m) t) k;
     }
       where
         lift : (t z : Table) → (Good P W t → GoodOr z) → Keeps t z → GoodOr t → GoodOr z

@@ -2,11 +2,11 @@
 -- made.
 use Rattle.std.proofs.Common.{◌≡◌, ℕ, zero, suc, ◌<◌, Bool, true, false, ◌||◌, get_or, All, nat_eq, List, [], ◌∷◌, ◌++◌, length, Option, Some, None, slice_get, refl, sym, ap, subst, ◌∙◌, arith, append_assoc, append-nil, if◌then◌else◌}
 use Rattle.std.proofs.lemmas.List.Elements.{All-nil, All-cons}
-use Rattle.ws_value.specs.declared.{ids.PipeId.{PipeId}, ids.PromiseId.{PromiseId}, ids.SignalId.{SignalId}, ids.StreamId.{StreamId}}
+use Rattle.ws_value.specs.declared.{ids.PipeId.{PipeId}, ids.PromiseId.{PromiseId}, ids.StreamId.{StreamId}}
 use Rattle.ws_value.specs.declared.value.{Outcome.TheVariants.{Fulfilled}, Plain.TheVariants.{Undefined}, Value.{Value}}
-use Rattle.ws_steps.specs.declared.calls.{Call.{Call}, Call.TheVariants.{Pipe as PipeCall}}
+use Rattle.ws_steps.specs.declared.calls.{Call.{Call}}
 use Rattle.ws_steps.specs.declared.effects.{Effect.{Effect}, Effect.TheVariants.{Pipe}}
-use Rattle.ws_steps.specs.declared.pipes.{PipeOperation.TheVariants.{WriteChunk}, Prevent.{Prevent}}
+use Rattle.ws_steps.specs.declared.pipes.{PipeOperation.TheVariants.{WriteChunk}}
 use Rattle.ws_steps.specs.declared.writable.WritableState.{WritableState}
 use Rattle.ws_steps.specs.declared.writable.WritableState.TheVariants.{Closed}
 use Rattle.ws_steps.specs.Pipes as pipe
@@ -27,10 +27,10 @@ use Rattle.ws_write_laws.proofs.Lined.{none_left}
 use Rattle.ws_write_laws.proofs.Runs.{each_write_is_settled}
 use Rattle.ws_pipe_laws.specs.PipeHistory.{effect_promises, operation_promises, effect_moment, step_moments, run_course, run_moments, promises_made}
 use Rattle.ws_wrote_laws.proofs.Keeping.{row-stands}
-use Rattle.ws_host_laws.specs.HostLaws.{MakesAPipe, next_pipe, with_pipe}
+use Rattle.ws_host_laws.specs.HostLaws.{next_pipe}
 use Rattle.ws_host_laws.proofs.Called.{lists-history}
 use Rattle.ws_host_laws.proofs.Closing.{is_closed_in, closed_in}
-use Rattle.ws_host_laws.proofs.Ended.{begun, not_made, fulfilled-closed, state_closed, made_after}
+use Rattle.ws_host_laws.proofs.Ended.{begun, not_made, fulfilled-closed, state_closed, made_after, Makes}
 use Rattle.ws_host_laws.proofs.PipedRuns.{PipedAfter, call-there, rest-piped, run-last}
 use Rattle.ws_host_laws.proofs.Writing.{AllIn, Writings, no_writings, writings_then, writings-history, effect_writings, step_writings, Writing, Failed, Passed, About, called-writing, step-writing}
 
@@ -161,28 +161,28 @@ all-fulfilled entries i c =
     let all : k.first ≡ run_promised i entries empty = sym (append-nil k.first) ∙ (ap (λ (ds : List PromiseId). k.first ++ ds) (sym none) ∙ k.split) in
     subst (AllFulfilled (run entries empty).promises) all k.fulfilled
 
-module _ (before : List Entry) (source dest : StreamId) (prevent : Prevent) (signal : Option SignalId) (m : MakesAPipe before source dest prevent signal) where
+module _ (before : List Entry) (c : Call) (m : Makes before c) where
   abbrev p : PipeId
   p = next_pipe before
 
-  abbrev c : Call
-  c = PipeCall source dest prevent signal
+  abbrev dest : StreamId
+  dest = m.new.slots.dest
 
   none-yet : (writings p dest before empty).made ≡ []
-  none-yet = ap (λ (h : Writings). h.made) (over_both p dest before empty) ∙ run-unmade p before (not_made before source dest prevent signal m)
+  none-yet = ap (λ (h : Writings). h.made) (over_both p dest before empty) ∙ run-unmade p before (not_made before c m)
 
   first-writing : WritingAfter p dest (before ++ Called c ∷ [])
   first-writing =
       next-writing p dest before (Called c)
-      (called-writing p dest (writings p dest before empty) c (run before empty) (([], begun before source dest prevent signal m), Passed (subst (λ (ds : List PromiseId). AllIn ds (writings p dest before empty).promised) (sym none-yet) tt)))
+      (called-writing p dest (writings p dest before empty) c (run before empty) (([], begun before c m), Passed (subst (λ (ds : List PromiseId). AllIn ds (writings p dest before empty).promised) (sym none-yet) tt)))
 
-  all-writing : (after : List Entry) → WritingAfter p dest (with_pipe before source dest prevent signal after)
+  all-writing : (after : List Entry) → WritingAfter p dest (before ++ Called c ∷ after)
   all-writing after =
-      subst (WritingAfter p dest) (append_assoc before (Called c ∷ []) after) (rest-writing p dest after (before ++ Called c ∷ []) (made_after before source dest prevent signal m) first-writing)
+      subst (WritingAfter p dest) (append_assoc before (Called c ∷ []) after) (rest-writing p dest after (before ++ Called c ∷ []) (made_after before c m) first-writing)
 
-  settled-writing : (after : List Entry) → let entries : List Entry = with_pipe before source dest prevent signal after in
+  settled-writing : (after : List Entry) → let entries : List Entry = before ++ Called c ∷ after in
       closed_in dest (run entries empty) ≡ true → Writing p dest (writings p dest entries empty) (run entries empty) [] → AllIn (writings p dest entries empty).made (writings p dest entries empty).promised
-  settled-writing after closed (Failed d) = not_failed _ (closed_state (slice_get (run (with_pipe before source dest prevent signal after) empty).streams dest.0) closed) d.failed
+  settled-writing after closed (Failed d) = not_failed _ (closed_state (slice_get (run (before ++ Called c ∷ after) empty).streams dest.0) closed) d.failed
     where
       closed_state : (o : Option Stream) → is_closed_in o ≡ true → is_closed (as_writable o).state ≡ true
       closed_state o e = grind arith
@@ -190,15 +190,15 @@ module _ (before : List Entry) (source dest : StreamId) (prevent : Prevent) (sig
   settled-writing after closed (About v d ms rest f g a o) = absurd (cc)
 
 -- such a pipe, where its destination was writable and not closing as it was made
-pub open-succeeded : (before after : List Entry) (source dest : StreamId) (prevent : Prevent) (signal : Option SignalId) → let entries : List Entry = with_pipe before source dest prevent signal after in
-    MakesAPipe before source dest prevent signal → (run_course (next_pipe before) entries empty).ended ≡ None ∷ []
-    → AllFulfilled (run entries empty).promises (promises_made (next_pipe before) (run_moments entries empty))
-open-succeeded before after source dest prevent signal m e =
-    let entries : List Entry = with_pipe before source dest prevent signal after in
+pub open-succeeded : (before after : List Entry) (c : Call) → Makes before c → let entries : List Entry = before ++ Called c ∷ after in
+    (run_course (next_pipe before) entries empty).ended ≡ None ∷ [] → AllFulfilled (run entries empty).promises (promises_made (next_pipe before) (run_moments entries empty))
+open-succeeded before after c m e =
+    let entries : List Entry = before ++ Called c ∷ after in
     let p : PipeId = next_pipe before in
+    let dest : StreamId = m.new.slots.dest in
     let s : Slots = run entries empty in
-    let closed = fulfilled-closed before after source dest prevent signal m e in
-    let among = settled-writing before source dest prevent signal m after closed (all-writing before source dest prevent signal m after) in
+    let closed = fulfilled-closed before after c m e in
+    let among = settled-writing before c m after closed (all-writing before c m after) in
     let both = over_both p dest entries empty in
     let made : (writings p dest entries empty).made ≡ promises_made p (run_moments entries empty) = ap (λ (h : Writings). h.made) both ∙ over_made p dest entries empty in
     let promised : (writings p dest entries empty).promised ≡ run_promised dest entries empty = ap (λ (h : Writings). h.promised) both in

@@ -171,18 +171,17 @@ module _ (p : PipeId) (i : StreamId) where
 
   -- a pipe that a call makes so
   pub none-made : (before after : List Entry) (c : Call) → let s : Slots = run before empty in let z : Slots = (begin c s).done.slots in
-      made before empty ≡ [] → has_writable i s ≡ true → Spent (writable_at i s) → Sits z.pipes → made (before ++ Called c ∷ after) empty ≡ []
+      made before empty ≡ [] → has_writable i z ≡ true → Spent (writable_at i z) → Sits z.pipes → made (before ++ Called c ∷ after) empty ≡ []
   none-made before after c none stands spent sits =
       let s : Slots = run before empty in
       let z : Slots = (begin c s).done.slots in
-      let place : SamePlace i s z = call-same p i c s stands in
       let begun : Unread (made before empty) z (begin c s).done.caused = record {
         through = run_through p before empty;
         passing = (passing.goes p).call (run_through p before empty) s c (passing.each_is before p);
         writes = run_writes i before empty;
         kept = (writes.goes i).call (run_writes i before empty) s c (writes.run-kept before i);
-        stands = ap is_writable_stream place ∙ stands;
-        spent = subst (λ (o : Option Stream). Spent (as_writable o)) (sym place) spent;
+        stands = stands;
+        spent = spent;
         sits = sits;
         none = none;
       } in

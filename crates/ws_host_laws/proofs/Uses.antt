@@ -1,5 +1,8 @@
 -- Which reactions the effects of a realm make: that of a stream to its close algorithm is made by the host call to close it alone.
 use Rattle.std.proofs.Common.{◌≡◌, Bool, true, false, Option, None, Ok, Err, refl, sym, ap, subst, arith}
+use Rattle.ws_value.specs.declared.ids.PortId.{PortId}
+use Rattle.ws_steps.specs.declared.effects.Owner.TheVariants.{EndOf}
+use Rattle.ws_steps.specs.declared.effects.Effect.TheVariants.{Port}
 use Rattle.ws_value.specs.declared.{ids.PipeId.{PipeId}, ids.PromiseId.{PromiseId}, ids.StreamId.{StreamId}}
 use Rattle.ws_value.specs.declared.value.Plain.{Plain}
 use Rattle.ws_value.specs.declared.value.Value.{Value}
@@ -27,6 +30,7 @@ use Rattle.ws_host_laws.proofs.Carried.{CarriesTee, TeeUses, row-tees_use, Carri
 use Rattle.ws_host_laws.proofs.Reactions.{JobFits}
 use Rattle.ws_host_laws.proofs.Sourced as sourced
 use Rattle.ws_steps.specs.declared.effects.Effect.TheVariants.{Byte, CloseStepsWith}
+use Rattle.ws_host_laws.proofs.Ported.{CarriesPort, PortUses, row-port_uses}
 
 -- the reaction of stream j to its close algorithm
 abbrev pub closes_it : StreamId → Step → Bool
@@ -47,6 +51,7 @@ Fits j V (CallHost call u) = UseIs j call u
 Fits j V (StartAlgorithm i step start) = closes_it j step ≡ false
 Fits j V (Transform t operation) = Carries (NoUse j) operation
 Fits j V (Tee t operation) = CarriesTee (NoUse j) operation
+Fits j V (Port c operation) = CarriesPort (NoUse j) operation
 Fits j V (Writable i (CloseSettled (Ok v))) = is_same i j ≡ true → V
 Fits j V _ = Unit {0}
 
@@ -73,6 +78,7 @@ module _ (j : StreamId) where
     pipe-fits p source dest (Writable i (CloseSettled o)) c = absurd c
     pipe-fits p source dest (Transform t operation) c = absurd c
     pipe-fits p source dest (Tee t operation) c = absurd c
+    pipe-fits p source dest (Port q operation) c = absurd c
     pipe-fits p source dest _ c = tt
 
     chunk-fits : (v : Value) (request : ReadRequest) → ChunkCauses (Fits j V) v request
@@ -103,31 +109,41 @@ module _ (j : StreamId) where
     pull-fits i Host step d n = ((λ e. absurd (cc)), tt)
     pull-fits i (HalfOf t) step d n = (n, tt)
     pull-fits i (BranchOf t half) step d n = (tt, (n, tt))
+    pull-fits i (EndOf c) step d n = (tt, (n, tt))
 
     cancel-fits : (i : StreamId) (r : Plain) (owner : Owner) (step : Step) (d : Option PromiseId) → closes_it j step ≡ false → Each (Fits j V) (cancel_algorithm i r (React step d) owner)
     cancel-fits i r Host step d n = ((λ e. absurd (cc)), tt)
     cancel-fits i r (HalfOf t) step d n = (n, tt)
     cancel-fits i r (BranchOf t half) step d n = (n, tt)
+    cancel-fits i r (EndOf c) step d n = (n, tt)
 
     abort-fits : (i : StreamId) (r : Plain) (owner : Owner) (step : Step) (d : Option PromiseId) → closes_it j step ≡ false → Each (Fits j V) (abort_algorithm i r (React step d) owner)
     abort-fits i r Host step d n = ((λ e. absurd (cc)), tt)
     abort-fits i r (HalfOf t) step d n = (n, tt)
     abort-fits i r (BranchOf t half) step d n = ((λ e. absurd (cc)), tt)
+    abort-fits i r (EndOf c) step d n = (n, tt)
 
     write-fits : (i : StreamId) (owner : Owner) → Each (Fits j V) (write_algorithm i owner)
     write-fits i Host = (tt, tt)
     write-fits i (HalfOf t) = (refl, tt)
     write-fits i (BranchOf t half) = (tt, tt)
+    write-fits i (EndOf c) = (refl, tt)
 
     -- a half is another stream
     half_other : (i : StreamId) (t : TransformId) (b : Bool) → is_same i j ≡ b → (is_same i j ≡ true → HalfOf t ≡ Host) → is_same i j ≡ false
     half_other i t false e h = e
     half_other i t true e h = let n = h e in cc
 
+    -- and so is an end
+    end_other : (i : StreamId) (c : PortId) (b : Bool) → is_same i j ≡ b → (is_same i j ≡ true → EndOf c ≡ Host) → is_same i j ≡ false
+    end_other i c false e h = e
+    end_other i c true e h = let n = h e in cc
+
     close-fits : (i : StreamId) (owner : Owner) → (is_same i j ≡ true → owner ≡ Host) → Each (Fits j V) (close_algorithm i (React (WritableClose i) None) owner)
     close-fits i Host h = ((λ e. ap (λ (k : StreamId). HostClose k) (same_id i j e)), tt)
     close-fits i (HalfOf t) h = (half_other i t (is_same i j) refl h, tt)
     close-fits i (BranchOf t half) h = ((λ e. ap (λ (k : StreamId). HostClose k) (same_id i j e)), tt)
+    close-fits i (EndOf c) h = (end_other i c (is_same i j) refl h, tt)
 
     own : Own (NoUse j)
     own = record { resolve = λ q. tt; changed = λ t q. refl; transformed = λ t q. refl; flushed = λ t q. refl; aborted = λ t q r. refl; cancelled = λ t q r. refl }
@@ -145,17 +161,22 @@ module _ (j : StreamId) where
     tee-uses-fit : (e : Effect) → TeeUses (NoUse j) e → Fits j V e
     tee-uses-fit e u = grind (arith, u)
 
+    port-uses-fit : (e : Effect) → PortUses (NoUse j) (λ i. Unit {0}) e → Fits j V e
+    port-uses-fit e u = grind (arith, u)
+
     -- of a stream of the host
     pub caused-fit : (e : Effect) (s : Slots) → owner_at j s ≡ Host → Fits j V e → Each (Fits j V) (row e s).caused
     unfolding row
     caused-fit (Readable i operation) s h f = row-causes (Fits j V) (Readable i operation) s (record { pull = tt; cancel = λ r q. tt; chunk = λ r v. tt; close = λ r. tt; error = λ r e. tt })
     caused-fit (Byte i operation) s h f =
         row-causes (Fits j V) (Byte i operation) s (record { readable = record { pull = tt; cancel = λ r q. tt; chunk = λ r v. tt; close = λ r. tt; error = λ r e. tt }; close_with = λ r b. tt })
-    caused-fit (Writable i operation) s h f = row-causes (Fits j V) (Writable i operation) s (record { write = tt; close = tt; abort = λ r q. tt; hand_on = λ v e. no_true e; take = λ v t d. tt })
+    caused-fit (Writable i operation) s h f = row-causes (Fits j V) (Writable i operation) s (record { write = tt; close = tt; abort = λ r q. tt; hand_on = λ v e. no_true e; take = λ v t d. tt; post = λ v c d. tt })
     caused-fit (Pipe p operation) s h f = row-causes (Fits j V) (Pipe p operation) s (pipe-fits p)
     caused-fit (Signal a operation) s h f = row-causes (Fits j V) (Signal a operation) s (signal-fits operation)
     caused-fit (Transform t operation) s h f = each-map (Uses (NoUse j) (λ i. Unit {0})) (Fits j V) uses-fit (row (Transform t operation) s).caused (row-uses (NoUse j) (λ i. Unit {0}) own t operation s f (λ x e. tt))
     caused-fit (Tee t operation) s h f = each-map (TeeUses (NoUse j)) (Fits j V) tee-uses-fit (row (Tee t operation) s).caused (row-tees_use (NoUse j) (λ q. tt) t operation s f)
+    caused-fit (Port c operation) s h f =
+        each-map (PortUses (NoUse j) (λ i. Unit {0})) (Fits j V) port-uses-fit (row (Port c operation) s).caused (row-port_uses (NoUse j) (λ i. Unit {0}) (λ q. tt) (λ d q. refl) c operation s f (λ x e. tt))
     caused-fit (StartAlgorithm i step start) s h f = start-fits i step s start f
     caused-fit (PullAlgorithm i) s h f = pull-fits i (owner_at i s) _ _ refl
     caused-fit (CancelAlgorithm i r p) s h f = cancel-fits i r (owner_at i s) _ _ refl

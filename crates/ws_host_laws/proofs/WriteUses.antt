@@ -1,6 +1,11 @@
 -- Which reactions the effects of a realm make: that of stream j to its write algorithm is made by the host call of that algorithm, and by no other;
 -- and how many such calls are made.
 use Rattle.ws_value.specs.declared.ids.TeeId.{TeeId}
+use Rattle.ws_laws.proofs.PortDoes.{PortCauses}
+use Rattle.ws_steps.specs.declared.transform.Taker.TheVariants.{ToPort}
+use Rattle.ws_value.specs.declared.ids.PortId.{PortId}
+use Rattle.ws_steps.specs.declared.effects.Owner.TheVariants.{EndOf}
+use Rattle.ws_steps.specs.declared.effects.Effect.TheVariants.{Port}
 use Rattle.std.proofs.Common.{◌≡◌, ℕ, ◌+◌, Bool, true, false, List, [], ◌∷◌, length, Option, None, Ok, Err, refl, sym, subst, arith, append-nil}
 use Rattle.ws_value.specs.declared.{ids.PipeId.{PipeId}, ids.PromiseId.{PromiseId}, ids.StreamId.{StreamId}}
 use Rattle.ws_value.specs.declared.value.Plain.{Plain}
@@ -26,7 +31,7 @@ use Rattle.ws_laws.proofs.PipeDoes.{IsStepOf, PipeCauses}
 use Rattle.ws_laws.proofs.Rows.{ChunkCauses, EndCauses, ErrorCauses, SignalCauses, row-causes}
 use Rattle.ws_laws.proofs.TransformDoes.{TransformCauses}
 use Rattle.ws_laws.proofs.TeeDoes.{TeeCauses}
-use Rattle.ws_writable_laws.proofs.Handed.{NoHalf}
+use Rattle.ws_writable_laws.proofs.Handed.{NoHalf, NoEnd}
 use Rattle.ws_host_laws.proofs.Carried.{CarriesTee, TeeUses, row-tees_use, Carries, Uses, Own, row-uses}
 use Rattle.ws_host_laws.proofs.Reactions.{JobFits}
 use Rattle.ws_steps.specs.declared.writable.WritableOperation.{WritableOperation}
@@ -40,6 +45,7 @@ use Rattle.ws_laws.proofs.WritableDoes.{IsHandOn, others-do}
 use Rattle.ws_writable_laws.proofs.Shape.{all, all-append}
 use Rattle.ws_host_laws.specs.HostCalls.{effect_called, write_of, writes_of}
 use Rattle.ws_steps.specs.declared.effects.Effect.TheVariants.{Byte, CloseStepsWith}
+use Rattle.ws_host_laws.proofs.Ported.{CarriesPort, PortUses, row-port_uses}
 
 -- the reaction of stream j to its write algorithm
 abbrev pub writes_it : StreamId → Step → Bool
@@ -59,14 +65,16 @@ abbrev NoUse : StreamId → Use → Type 0
 NoUse j u = marks j u ≡ false
 
 -- what is known of an effect: no promise is used by that reaction, but that of such a host call, which is; and where it tells that the write was
--- fulfilled, V holds. The stream hands on to no transform stream
+-- fulfilled, V holds. The stream hands on to no transform stream and to no port
 abbrev pub Fits : StreamId → Type 0 → Effect → Type 0
 Fits j V (Give gift u) = marks j u ≡ false
 Fits j V (CallHost call u) = is_write_call j call ≡ marks j u
 Fits j V (StartAlgorithm i step start) = writes_it j step ≡ false
 Fits j V (Transform t operation) = Carries (NoUse j) operation
 Fits j V (Tee t operation) = CarriesTee (NoUse j) operation
+Fits j V (Port c operation) = CarriesPort (NoUse j) operation
 Fits j V (Writable i (HandOn (ToTransform t d))) = is_same j i ≡ false
+Fits j V (Writable i (HandOn (ToPort c d))) = is_same j i ≡ false
 Fits j V (Writable i (WriteSettled (Ok v))) = is_same j i ≡ true → V
 Fits j V _ = Unit {0}
 
@@ -90,6 +98,7 @@ module _ (j : StreamId) where
     pipe-fits p source dest (Writable i (WriteSettled o)) c = absurd c
     pipe-fits p source dest (Transform t operation) c = absurd c
     pipe-fits p source dest (Tee t operation) c = absurd c
+    pipe-fits p source dest (Port q operation) c = absurd c
     pipe-fits p source dest (Writable i (HandOn taker)) c = absurd c
     pipe-fits p source dest _ c = tt
 
@@ -121,31 +130,41 @@ module _ (j : StreamId) where
     pull-fits i Host step d n = (sym n, tt)
     pull-fits i (HalfOf t) step d n = (n, tt)
     pull-fits i (BranchOf t half) step d n = (tt, (n, tt))
+    pull-fits i (EndOf c) step d n = (tt, (n, tt))
 
     cancel-fits : (i : StreamId) (r : Plain) (owner : Owner) (step : Step) (d : Option PromiseId) → writes_it j step ≡ false → Each (Fits j V) (cancel_algorithm i r (React step d) owner)
     cancel-fits i r Host step d n = (sym n, tt)
     cancel-fits i r (HalfOf t) step d n = (n, tt)
     cancel-fits i r (BranchOf t half) step d n = (n, tt)
+    cancel-fits i r (EndOf c) step d n = (n, tt)
 
     abort-fits : (i : StreamId) (r : Plain) (owner : Owner) (step : Step) (d : Option PromiseId) → writes_it j step ≡ false → Each (Fits j V) (abort_algorithm i r (React step d) owner)
     abort-fits i r Host step d n = (sym n, tt)
     abort-fits i r (HalfOf t) step d n = (n, tt)
     abort-fits i r (BranchOf t half) step d n = (sym n, tt)
+    abort-fits i r (EndOf c) step d n = (n, tt)
 
     -- a half is another stream
     half_other : (i : StreamId) (t : TransformId) (b : Bool) → is_same j i ≡ b → (is_same j i ≡ true → HalfOf t ≡ Host) → is_same j i ≡ false
     half_other i t false e h = e
     half_other i t true e h = let n = h e in cc
 
+    -- and so is an end
+    end_other : (i : StreamId) (c : PortId) (b : Bool) → is_same j i ≡ b → (is_same j i ≡ true → EndOf c ≡ Host) → is_same j i ≡ false
+    end_other i c false e h = e
+    end_other i c true e h = let n = h e in cc
+
     write-fits : (i : StreamId) (owner : Owner) → (is_same j i ≡ true → owner ≡ Host) → Each (Fits j V) (write_algorithm i owner)
     write-fits i Host h = (tt, tt)
     write-fits i (HalfOf t) h = (half_other i t (is_same j i) refl h, tt)
     write-fits i (BranchOf t half) h = (tt, tt)
+    write-fits i (EndOf c) h = (end_other i c (is_same j i) refl h, tt)
 
     close-fits : (i : StreamId) (owner : Owner) → Each (Fits j V) (close_algorithm i (React (WritableClose i) None) owner)
     close-fits i Host = (refl, tt)
     close-fits i (HalfOf t) = (refl, tt)
     close-fits i (BranchOf t half) = (refl, tt)
+    close-fits i (EndOf c) = (refl, tt)
 
     own : Own (NoUse j)
     own = record { resolve = λ q. refl; changed = λ t q. refl; transformed = λ t q. refl; flushed = λ t q. refl; aborted = λ t q r. refl; cancelled = λ t q r. refl }
@@ -159,29 +178,34 @@ module _ (j : StreamId) where
     tee-uses-fit : (e : Effect) → TeeUses (NoUse j) e → Fits j V e
     tee-uses-fit e u = grind (arith, u)
 
+    port-uses-fit : (e : Effect) → PortUses (NoUse j) (λ i. is_same j i ≡ false) e → Fits j V e
+    port-uses-fit e u = grind (arith, u)
+
     -- of a stream of the host
-    pub caused-fit : (e : Effect) (s : Slots) → owner_at j s ≡ Host → NoHalf j s → Fits j V e → Each (Fits j V) (row e s).caused
+    pub caused-fit : (e : Effect) (s : Slots) → owner_at j s ≡ Host → NoHalf j s → NoEnd j s → Fits j V e → Each (Fits j V) (row e s).caused
     unfolding row
-    caused-fit (Readable i operation) s h none f = row-causes (Fits j V) (Readable i operation) s (record { pull = tt; cancel = λ r q. tt; chunk = λ r v. tt; close = λ r. tt; error = λ r e. tt })
-    caused-fit (Byte i operation) s h none f =
+    caused-fit (Readable i operation) s h none ends f = row-causes (Fits j V) (Readable i operation) s (record { pull = tt; cancel = λ r q. tt; chunk = λ r v. tt; close = λ r. tt; error = λ r e. tt })
+    caused-fit (Byte i operation) s h none ends f =
         row-causes (Fits j V) (Byte i operation) s (record { readable = record { pull = tt; cancel = λ r q. tt; chunk = λ r v. tt; close = λ r. tt; error = λ r e. tt }; close_with = λ r b. tt })
-    caused-fit (Writable i operation) s h none f = row-causes (Fits j V) (Writable i operation) s (record { write = tt; close = tt; abort = λ r q. tt; hand_on = λ v. refl; take = λ v t d. tt })
-    caused-fit (Pipe p operation) s h none f = row-causes (Fits j V) (Pipe p operation) s (pipe-fits p)
-    caused-fit (Signal a operation) s h none f = row-causes (Fits j V) (Signal a operation) s (signal-fits operation)
-    caused-fit (Transform t operation) s h none f =
+    caused-fit (Writable i operation) s h none ends f = row-causes (Fits j V) (Writable i operation) s (record { write = tt; close = tt; abort = λ r q. tt; hand_on = λ v. refl; take = λ v t d. tt; post = λ v c d. tt })
+    caused-fit (Pipe p operation) s h none ends f = row-causes (Fits j V) (Pipe p operation) s (pipe-fits p)
+    caused-fit (Signal a operation) s h none ends f = row-causes (Fits j V) (Signal a operation) s (signal-fits operation)
+    caused-fit (Transform t operation) s h none ends f =
         each-map (Uses (NoUse j) (λ i. is_same j i ≡ false)) (Fits j V) uses-fit (row (Transform t operation) s).caused (row-uses (NoUse j) (λ i. is_same j i ≡ false) own t operation s f (none t))
-    caused-fit (Tee t operation) s h none f = each-map (TeeUses (NoUse j)) (Fits j V) tee-uses-fit (row (Tee t operation) s).caused (row-tees_use (NoUse j) (λ q. refl) t operation s f)
-    caused-fit (StartAlgorithm i step start) s h none f = start-fits i step s start f
-    caused-fit (PullAlgorithm i) s h none f = pull-fits i (owner_at i s) _ _ refl
-    caused-fit (CancelAlgorithm i r p) s h none f = cancel-fits i r (owner_at i s) _ _ refl
-    caused-fit (WriteAlgorithm i) s h none f = write-fits i (owner_at i s) (hosted i s h)
-    caused-fit (CloseAlgorithm i) s h none f = close-fits i (owner_at i s)
-    caused-fit (AbortAlgorithm i r p) s h none f = abort-fits i r (owner_at i s) _ _ refl
-    caused-fit (ChunkSteps i request v) s h none f = row-causes (Fits j V) (ChunkSteps i request v) s (chunk-fits v request)
-    caused-fit (CloseSteps i request) s h none f = row-causes (Fits j V) (CloseSteps i request) s (end-fits request)
-    caused-fit (CloseStepsWith i request b) s h none f = row-causes (Fits j V) (CloseStepsWith i request b) s (end-fits request)
-    caused-fit (ErrorSteps i request e) s h none f = row-causes (Fits j V) (ErrorSteps i request e) s (error-fits request)
-    caused-fit _ s h none f = tt
+    caused-fit (Tee t operation) s h none ends f = each-map (TeeUses (NoUse j)) (Fits j V) tee-uses-fit (row (Tee t operation) s).caused (row-tees_use (NoUse j) (λ q. refl) t operation s f)
+    caused-fit (Port c operation) s h none ends f =
+        each-map (PortUses (NoUse j) (λ i. is_same j i ≡ false)) (Fits j V) port-uses-fit (row (Port c operation) s).caused (row-port_uses (NoUse j) (λ i. is_same j i ≡ false) (λ q. refl) (λ d q. refl) c operation s f (ends c))
+    caused-fit (StartAlgorithm i step start) s h none ends f = start-fits i step s start f
+    caused-fit (PullAlgorithm i) s h none ends f = pull-fits i (owner_at i s) _ _ refl
+    caused-fit (CancelAlgorithm i r p) s h none ends f = cancel-fits i r (owner_at i s) _ _ refl
+    caused-fit (WriteAlgorithm i) s h none ends f = write-fits i (owner_at i s) (hosted i s h)
+    caused-fit (CloseAlgorithm i) s h none ends f = close-fits i (owner_at i s)
+    caused-fit (AbortAlgorithm i r p) s h none ends f = abort-fits i r (owner_at i s) _ _ refl
+    caused-fit (ChunkSteps i request v) s h none ends f = row-causes (Fits j V) (ChunkSteps i request v) s (chunk-fits v request)
+    caused-fit (CloseSteps i request) s h none ends f = row-causes (Fits j V) (CloseSteps i request) s (end-fits request)
+    caused-fit (CloseStepsWith i request b) s h none ends f = row-causes (Fits j V) (CloseStepsWith i request b) s (end-fits request)
+    caused-fit (ErrorSteps i request e) s h none ends f = row-causes (Fits j V) (ErrorSteps i request e) s (error-fits request)
+    caused-fit _ s h none ends f = tt
 
     pub call-fits : (c : Call) (s : Slots) → Each (Fits j V) (begin c s).done.caused
     call-fits c s = each_call (λ (b : Begun). Each (Fits j V) b.done.caused) c s (grind arith)
@@ -240,32 +264,40 @@ module _ (j : StreamId) where
   pull-pends i u Host = (refl, tt)
   pull-pends i u (HalfOf t) = (refl, tt)
   pull-pends i u (BranchOf t half) = (refl, (refl, tt))
+  pull-pends i u (EndOf c) = (refl, (refl, tt))
 
   cancel-pends : (i : StreamId) (r : Plain) (u : Use) (owner : Owner) → Each NoPend (cancel_algorithm i r u owner)
   cancel-pends i r u Host = (refl, tt)
   cancel-pends i r u (HalfOf t) = (refl, tt)
   cancel-pends i r u (BranchOf t half) = (refl, tt)
+  cancel-pends i r u (EndOf c) = (refl, tt)
 
   abort-pends : (i : StreamId) (r : Plain) (u : Use) (owner : Owner) → Each NoPend (abort_algorithm i r u owner)
   abort-pends i r u Host = (refl, tt)
   abort-pends i r u (HalfOf t) = (refl, tt)
   abort-pends i r u (BranchOf t half) = (refl, tt)
+  abort-pends i r u (EndOf c) = (refl, tt)
 
   close-pends : (i : StreamId) (u : Use) (owner : Owner) → Each NoPend (close_algorithm i u owner)
   close-pends i u Host = (refl, tt)
   close-pends i u (HalfOf t) = (refl, tt)
   close-pends i u (BranchOf t half) = (refl, tt)
+  close-pends i u (EndOf c) = (refl, tt)
 
   write-pends : (i : StreamId) (owner : Owner) → Each NoPend (write_algorithm i owner)
   write-pends i Host = (refl, tt)
   write-pends i (HalfOf t) = (refl, tt)
   write-pends i (BranchOf t half) = (refl, tt)
+  write-pends i (EndOf c) = (refl, tt)
 
   transform-pends : (t : TransformId) (writable readable : StreamId) (e : Effect) → TransformCauses t writable readable e → NoPend e
   transform-pends t writable readable e c = grind (arith, c)
 
   tee-pends : (t : TeeId) (source first second : StreamId) (e : Effect) → TeeCauses t source first second e → NoPend e
   tee-pends t source first second e c = grind (arith, c)
+
+  port-pends : (c : PortId) (stream : StreamId) (e : Effect) → PortCauses c stream e → NoPend e
+  port-pends c stream e k = grind (arith, k)
 
   others-pend : (i : StreamId) (operation : WritableOperation) (s : Slots) → (IsHandOn operation → ⊥) → all (pends j) (on_writable (writable_operation i operation) i s).caused ≡ 0
   others-pend i operation s u =
@@ -293,11 +325,13 @@ module _ (j : StreamId) where
       (none_pend _ (row-causes NoPend (Byte i operation) s (record { readable = record { pull = refl; cancel = λ r q. refl; chunk = λ r v. refl; close = λ r. refl; error = λ r e. refl }; close_with = λ r b. refl }))) refl refl
   row-called V (Writable i (HandOn ToHost)) s f = grind (arith, append-nil)
   row-called V (Writable i (HandOn (ToTransform t d))) s f = grind (arith, append-nil, f)
+  row-called V (Writable i (HandOn (ToPort c d))) s f = grind (arith, append-nil, f)
   row-called V (Writable i operation) s f = zero_called 0 _ 0 _ refl (others-pend i operation s (λ u. u)) refl (not_acted i operation s (λ u. u))
   row-called V (Pipe p operation) s f = zero_called 0 _ 0 0 refl (none_pend _ (row-causes NoPend (Pipe p operation) s (pipe-pends p))) refl refl
   row-called V (Signal a operation) s f = zero_called 0 _ 0 0 refl (none_pend _ (row-causes NoPend (Signal a operation) s (signal-pends operation))) refl refl
   row-called V (Transform t operation) s f = zero_called 0 _ 0 0 refl (none_pend _ (row-causes NoPend (Transform t operation) s (transform-pends t))) refl refl
   row-called V (Tee t operation) s f = zero_called 0 _ 0 0 refl (none_pend _ (row-causes NoPend (Tee t operation) s (tee-pends t))) refl refl
+  row-called V (Port c operation) s f = zero_called 0 _ 0 0 refl (none_pend _ (row-causes NoPend (Port c operation) s (port-pends c))) refl refl
   row-called V (StartAlgorithm i step start) s f = zero_called 0 _ 0 0 refl (none_pend _ (start-pends i step s start)) refl refl
   row-called V (PullAlgorithm i) s f = zero_called 0 _ 0 0 refl (none_pend _ (pull-pends i _ (owner_at i s))) refl refl
   row-called V (CancelAlgorithm i r p) s f = zero_called 0 _ 0 0 refl (none_pend _ (cancel-pends i r _ (owner_at i s))) refl refl

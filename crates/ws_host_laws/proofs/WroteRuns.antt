@@ -32,7 +32,7 @@ use Rattle.ws_steps.specs.declared.effects.Gift.TheVariants.{This}
 use Rattle.ws_laws.proofs.Weights.{weigh, of_reactions, of_entries, of_jobs}
 use Rattle.ws_laws.proofs.Walker.{IsHistory}
 use Rattle.ws_writable_laws.proofs.Agenda.{Kept, found}
-use Rattle.ws_writable_laws.proofs.Handed.{NoHalf, no-half}
+use Rattle.ws_writable_laws.proofs.Handed.{NoHalf, no-half, NoEnd, no-end}
 use Rattle.ws_writable_laws.proofs.Runs.{hosted_at}
 use Rattle.ws_writable_laws.proofs.Operations.{same_once, handed}
 use Rattle.ws_writable_laws.proofs.Shape.{core_of, hands, all, all-append, leads_to, is_write, of_reaction, one_if, weight}
@@ -238,15 +238,16 @@ module _ (j : StreamId) where
   pub row-effects : (h : Past) (s : Slots) (e : Effect) (es : List Effect) → owner_at j s ≡ Host → Held h s (e ∷ es) → Each (Fits j (LastWell j (next j h.sofar e s))) ((row e s).caused ++ es)
   row-effects h s e es host k =
       let free : NoHalf j s = no-half s j k.holds.kept.halved host in
+      let apart : NoEnd j s = no-end s j k.holds.kept.ended host in
       let W : Type 0 = LastWell j h.sofar in
       let U : Type 0 = LastWell j (next j h.sofar e s) in
       ⊎_elim
       (λ (n : pends j e ≡ 0).
       let weaker : W → U = last-stays j h.sofar (effect_sofar e s) (no_calls e s n) in
-      each-append (Fits j U) (row e s).caused es (caused-fit j U e s host free (fits-weaker j W U weaker e k.effects.0)) (each-map (Fits j W) (Fits j U) (fits-weaker j W U weaker) es k.effects.1))
+      each-append (Fits j U) (row e s).caused es (caused-fit j U e s host free apart (fits-weaker j W U weaker e k.effects.0)) (each-map (Fits j W) (Fits j U) (fits-weaker j W U weaker) es k.effects.1))
       (λ (n : pends j e ≡ 1).
       let a = alone h.both.writes s e es k.holds.kept (pend_one_leads W e k.effects.0 n) in
-      each-append (Fits j U) (row e s).caused es (caused-fit j U e s host free (any_fit W U e k.effects.0 n)) (zero-fits W U es a.others k.effects.1))
+      each-append (Fits j U) (row e s).caused es (caused-fit j U e s host free apart (any_fit W U e k.effects.0 n)) (zero-fits W U es a.others k.effects.1))
       (pends_one e)
     where
       any_fit : (V U : Type 0) (e : Effect) → Fits j V e → pends j e ≡ 1 → Fits j U e

@@ -292,6 +292,7 @@ module _ (t : TransformId) (i r : StreamId) where
     signal = λ z k. k;
     transform = λ z kind w q change k. k;
     tee = λ z source first second cancel k. k;
+    port = λ z side stream backpressure k. k;
     bytes = λ z mark auto k. k;
     byob_requests = λ z hs k. k;
     readable = λ z o mark size k. k;

@@ -1,5 +1,8 @@
 -- What the host is called for by a transform stream, and what waits for it to settle that.
 use Rattle.std.proofs.Common.{◌≡◌, ℕ, ◌≤◌, Bool, true, false, nat_eq, length, List, [], ◌∷◌, ◌++◌, Option, Some, None, slice_get, refl, sym, ap, ◌∙◌, arith}
+use Rattle.ws_laws.proofs.PortDoes.{PortCauses}
+use Rattle.ws_steps.specs.declared.effects.Owner.TheVariants.{EndOf}
+use Rattle.ws_value.specs.declared.ids.PortId.{PortId}
 use Rattle.ws_laws.proofs.TeeDoes.{TeeCauses}
 use Rattle.ws_value.specs.declared.ids.TeeId.{TeeId}
 use Rattle.ws_steps.specs.declared.effects.Effect.TheVariants.{Tee as OnTee}
@@ -7,7 +10,7 @@ use Rattle.ws_value.specs.declared.{ids.PipeId.{PipeId}, ids.PromiseId.{PromiseI
 use Rattle.ws_steps.specs.declared.calls.{Call.{Call}, Event.{Event}, Event.TheVariants.{Host as HostCalled}, HostCall.{HostCall}, StartBy.{StartBy}, StartBy.TheVariants.{Now, Later}}
 use Rattle.ws_steps.specs.declared.calls.HostCall.TheVariants.{Transform as HostTransform, Flush as HostFlush}
 use Rattle.ws_steps.specs.declared.effects.{Effect.{Effect}, Owner.{Owner}, Owner.TheVariants.{Host, HalfOf, BranchOf}, Use.{Use}, Use.TheVariants.{React, Resolve}}
-use Rattle.ws_steps.specs.declared.effects.Effect.TheVariants.{Readable as OnReadable, Writable as OnWritable, Pipe as OnPipe, Signal as OnSignal, Transform as OnTransform, StartAlgorithm, PullAlgorithm, CancelAlgorithm, WriteAlgorithm, CloseAlgorithm, AbortAlgorithm, ChunkSteps, CloseSteps, ErrorSteps, CallHost}
+use Rattle.ws_steps.specs.declared.effects.Effect.TheVariants.{Readable as OnReadable, Writable as OnWritable, Pipe as OnPipe, Signal as OnSignal, Transform as OnTransform, Port as OnPort, StartAlgorithm, PullAlgorithm, CancelAlgorithm, WriteAlgorithm, CloseAlgorithm, AbortAlgorithm, ChunkSteps, CloseSteps, ErrorSteps, CallHost}
 use Rattle.ws_steps.specs.declared.pipes.{SignalOperation.{SignalOperation}, SignalOperation.TheVariants.{Add, Forget, Trigger}}
 use Rattle.ws_steps.specs.declared.promises.{Job.{Job}, Reaction.{Reaction}, Reaction.TheVariants.{Perform}, Step.{Step}, Step.TheVariants.{Transformed, TransformFlushed}}
 use Rattle.ws_steps.specs.declared.readable.{ReadRequest.{ReadRequest}, ReadRequest.TheVariants.{Promise, Pipe as PipeRequest, Tee as TeeRequest}}
@@ -90,6 +93,10 @@ module _ (t : TransformId) (i r : StreamId) where
   tee-asked u source first second (CallHost call w) c = absurd c
   tee-asked u source first second _ c = tt
 
+  port-asked : (c : PortId) (stream : StreamId) (e : Effect) → PortCauses c stream e → IsAsked e
+  port-asked c stream (CallHost call w) k = absurd k
+  port-asked c stream _ k = tt
+
   -- no operation but that calls it
   others-asked : (u : TransformId) (halves : Halves) (operation : TransformOperation) (a : transform.Acts)
       → ((v : Value) (d : PromiseId) → operation ≡ names_of.TransformChunk v d → ⊥) → a.out.effects ≡ []
@@ -126,36 +133,42 @@ module _ (t : TransformId) (i r : StreamId) where
   pull-asked j u Host = (tt, tt)
   pull-asked j u (HalfOf k) = (tt, tt)
   pull-asked j u (BranchOf k half) = (tt, (tt, tt))
+  pull-asked j u (EndOf c) = (tt, (tt, tt))
 
   cancel-asked : (j : StreamId) (c : Plain) (u : Use) (owner : Owner) → Asked (cancel_algorithm j c u owner)
   cancel-asked j c u Host = (tt, tt)
   cancel-asked j c u (HalfOf k) = (tt, tt)
   cancel-asked j c u (BranchOf k half) = (tt, tt)
+  cancel-asked j c u (EndOf q) = (tt, tt)
 
   write-asked : (j : StreamId) (owner : Owner) → Asked (write_algorithm j owner)
   write-asked j Host = (tt, tt)
   write-asked j (HalfOf k) = (tt, tt)
   write-asked j (BranchOf k half) = (tt, tt)
+  write-asked j (EndOf c) = (tt, tt)
 
   close-asked : (j : StreamId) (u : Use) (owner : Owner) → Asked (close_algorithm j u owner)
   close-asked j u Host = (tt, tt)
   close-asked j u (HalfOf k) = (tt, tt)
   close-asked j u (BranchOf k half) = (tt, tt)
+  close-asked j u (EndOf c) = (tt, tt)
 
   abort-asked : (j : StreamId) (c : Plain) (u : Use) (owner : Owner) → Asked (abort_algorithm j c u owner)
   abort-asked j c u Host = (tt, tt)
   abort-asked j c u (HalfOf k) = (tt, tt)
   abort-asked j c u (BranchOf k half) = (tt, tt)
+  abort-asked j c u (EndOf q) = (tt, tt)
 
   pub row-asked : (e : Effect) (s : Slots) → IsSole s → Asked (row e s).caused
   unfolding row
   row-asked (OnReadable j operation) s h = row-causes IsAsked (OnReadable j operation) s (record { pull = tt; cancel = λ c p. tt; chunk = λ q v. tt; close = λ q. tt; error = λ q e. tt })
   row-asked (Byte j operation) s h = row-causes IsAsked (Byte j operation) s (record { readable = record { pull = tt; cancel = λ c p. tt; chunk = λ q v. tt; close = λ q. tt; error = λ q e. tt }; close_with = λ q b. tt })
-  row-asked (OnWritable j operation) s h = row-causes IsAsked (OnWritable j operation) s (record { write = tt; close = tt; abort = λ c p. tt; hand_on = λ v. tt; take = λ v u d. tt })
+  row-asked (OnWritable j operation) s h = row-causes IsAsked (OnWritable j operation) s (record { write = tt; close = tt; abort = λ c p. tt; hand_on = λ v. tt; take = λ v u d. tt; post = λ v c d. tt })
   row-asked (OnPipe p operation) s h = row-causes IsAsked (OnPipe p operation) s (pipe-asked p)
   row-asked (OnSignal a operation) s h = row-causes IsAsked (OnSignal a operation) s (signal-asked operation)
   row-asked (OnTransform u operation) s h = transform-asked s u operation (slice_get s.transforms u.0) refl h
   row-asked (OnTee u operation) s h = row-causes IsAsked (OnTee u operation) s (tee-asked u)
+  row-asked (OnPort c operation) s h = row-causes IsAsked (OnPort c operation) s (port-asked c)
   row-asked (StartAlgorithm j step start) s h = start-asked s j step start
   row-asked (PullAlgorithm j) s h = pull-asked j _ (owner_at j s)
   row-asked (CancelAlgorithm j c p) s h = cancel-asked j c _ (owner_at j s)
@@ -224,6 +237,12 @@ module _ (t : TransformId) (i r : StreamId) where
     tee-closing u source first second (CloseAlgorithm j) c = absurd c
     tee-closing u source first second _ c = tt
 
+    port-closing : (c : PortId) (stream : StreamId) (e : Effect) → PortCauses c stream e → IsClosing s V e
+    port-closing c stream (CallHost call w) k = absurd k
+    port-closing c stream (OnTransform y operation) k = absurd k
+    port-closing c stream (CloseAlgorithm j) k = absurd k
+    port-closing c stream _ k = tt
+
     absent : (j : StreamId) (operation : WritableOperation) → has_writable j s ≡ false → (row (OnWritable j operation) s).caused ≡ []
     unfolding row
     absent j operation e = rw e refl
@@ -232,7 +251,7 @@ module _ (t : TransformId) (i r : StreamId) where
     writable-closing j operation halved h = by (has_writable j s) refl
       where
         by : (b : Bool) → b ≡ has_writable j s → Closing s V (row (OnWritable j operation) s).caused
-        by true e = row-causes (IsClosing s V) (OnWritable j operation) s (record { write = tt; close = written-half t i s j halved h (sym e); abort = λ c p. tt; hand_on = λ v. tt; take = λ v u d. tt })
+        by true e = row-causes (IsClosing s V) (OnWritable j operation) s (record { write = tt; close = written-half t i s j halved h (sym e); abort = λ c p. tt; hand_on = λ v. tt; take = λ v u d. tt; post = λ v c d. tt })
         by false e = rw (absent j operation (sym e)) tt
 
     flush-by : (u : TransformId) (w : Use) (x : transform.Slots) (z : Table) (kind : Kind) (o : Option PromiseId) → (x.readable ≡ r → V)
@@ -263,26 +282,31 @@ module _ (t : TransformId) (i r : StreamId) where
     pull-closing j u Host = (tt, tt)
     pull-closing j u (HalfOf k) = (tt, tt)
     pull-closing j u (BranchOf k half) = (tt, (tt, tt))
+    pull-closing j u (EndOf c) = (tt, (tt, tt))
 
     cancel-closing : (j : StreamId) (c : Plain) (u : Use) (owner : Owner) → Closing s V (cancel_algorithm j c u owner)
     cancel-closing j c u Host = (tt, tt)
     cancel-closing j c u (HalfOf k) = (tt, tt)
     cancel-closing j c u (BranchOf k half) = (tt, tt)
+    cancel-closing j c u (EndOf q) = (tt, tt)
 
     write-closing : (j : StreamId) (owner : Owner) → Closing s V (write_algorithm j owner)
     write-closing j Host = (tt, tt)
     write-closing j (HalfOf k) = (tt, tt)
     write-closing j (BranchOf k half) = (tt, tt)
+    write-closing j (EndOf c) = (tt, tt)
 
     close-closing : (j : StreamId) (u : Use) (owner : Owner) → (is_half t owner ≡ true → V) → Closing s V (close_algorithm j u owner)
     close-closing j u Host k = (tt, tt)
     close-closing j u (HalfOf y) k = (k, tt)
     close-closing j u (BranchOf y half) k = (tt, tt)
+    close-closing j u (EndOf c) k = (tt, tt)
 
     abort-closing : (j : StreamId) (c : Plain) (u : Use) (owner : Owner) → Closing s V (abort_algorithm j c u owner)
     abort-closing j c u Host = (tt, tt)
     abort-closing j c u (HalfOf k) = (tt, tt)
     abort-closing j c u (BranchOf k half) = (tt, tt)
+    abort-closing j c u (EndOf q) = (tt, tt)
 
     pub caused-closing : (e : Effect) → Halved s → IsHalf t i s → IsSole s → IsClosing s V e → (e ≡ CloseAlgorithm i → V) → Closing s V (row e s).caused
     unfolding row
@@ -294,6 +318,7 @@ module _ (t : TransformId) (i r : StreamId) where
     caused-closing (OnSignal a operation) halved h g k v = row-causes (IsClosing s V) (OnSignal a operation) s (signal-closing operation)
     caused-closing (OnTransform u operation) halved h g k v = transform-closing u operation (slice_get s.transforms u.0) refl g k
     caused-closing (OnTee u operation) halved h g k v = row-causes (IsClosing s V) (OnTee u operation) s (tee-closing u)
+    caused-closing (OnPort c operation) halved h g k v = row-causes (IsClosing s V) (OnPort c operation) s (port-closing c)
     caused-closing (StartAlgorithm j step start) halved h g k v = start-closing j step start
     caused-closing (PullAlgorithm j) halved h g k v = pull-closing j _ (owner_at j s)
     caused-closing (CancelAlgorithm j c p) halved h g k v = cancel-closing j c _ (owner_at j s)

@@ -1,4 +1,7 @@
 -- At each moment a transform stream holds the result of one write at most.
+use Rattle.ws_steps.specs.declared.port.PortOperation.TheVariants as ports
+use Rattle.ws_steps.specs.declared.transform.Taker.TheVariants.{ToPort}
+use Rattle.ws_steps.specs.declared.effects.Effect.TheVariants.{Port as OnPort}
 use Rattle.std.proofs.Common.{◌≡◌, ◌⊎◌, inl, inr, ⊎_elim, ℕ, zero, suc, ◌+◌, ◌≤◌, List, [], ◌∷◌, Option, Some, None, arith}
 use Rattle.ws_steps.specs.declared.effects.Effect.TheVariants.{Tee as OnTee}
 use Rattle.ws_steps.specs.declared.tee.TeeOperation.TheVariants as tees
@@ -101,9 +104,13 @@ module _ (t : TransformId) where
   some-effect (OnTransform u (names_of.SinkAbort r w)) n = some-used w n
   some-effect (OnTransform u (names_of.SourceCancel r w)) n = some-used w n
   some-effect (OnTee u (tees.CancelBranch half r w)) n = some-used w n
+  some-effect (OnPort q (ports.Leave r w)) n = some-used w n
+  some-effect (OnPort q (ports.Write w)) n = some-used w n
+  some-effect (OnPort q (ports.Close w)) n = some-used w n
   some-effect (OnTransform u (names_of.TransformChunk v c)) n = (c, let a = names-self c in grind arith)
   some-effect (OnTransform u (names_of.WriteGoesOn c)) n = (c, let a = names-self c in grind arith)
   some-effect (OnWritable j (HandOn (ToTransform u c))) n = (c, let a = names-self c in grind arith)
+  some-effect (OnWritable j (HandOn (ToPort q c))) n = absurd (omega arith)
   some-effect (OnWritable j (HandOn ToHost)) n = absurd (omega arith)
   some-effect _ n = absurd (omega arith)
 

@@ -1,5 +1,8 @@
 -- A stream that has ended stays so; and once the cancel algorithm of a transform stream is performed for an abort, its writable half has ended.
 use Rattle.std.proofs.Common.{◌≡◌, ◌⊎◌, inl, inr, ⊎_elim, ℕ, ◌≤◌, Bool, true, false, is_some, nat_eq, List, [], ◌∷◌, ◌++◌, Option, Some, None, Ok, Err, slice_get, refl, sym, ap, ◌∙◌, arith}
+use Rattle.ws_laws.proofs.PortDoes.{PortCauses}
+use Rattle.ws_steps.specs.declared.effects.Owner.TheVariants.{EndOf}
+use Rattle.ws_value.specs.declared.ids.PortId.{PortId}
 use Rattle.ws_laws.proofs.TeeDoes.{TeeCauses}
 use Rattle.ws_value.specs.declared.ids.TeeId.{TeeId}
 use Rattle.ws_steps.specs.declared.effects.Effect.TheVariants.{Tee as OnTee}
@@ -7,7 +10,7 @@ use Rattle.ws_value.specs.declared.{ids.PipeId.{PipeId}, ids.PromiseId.{PromiseI
 use Rattle.ws_steps.specs.declared.calls.{Call.{Call}, StartBy.{StartBy}, StartBy.TheVariants.{Now, Later}}
 use Rattle.ws_steps.specs.declared.calls.HostCall.TheVariants.{CancelTransform as HostCancel}
 use Rattle.ws_steps.specs.declared.effects.{Effect.{Effect}, Owner.{Owner}, Owner.TheVariants.{Host, HalfOf, BranchOf}, Use.{Use}}
-use Rattle.ws_steps.specs.declared.effects.Effect.TheVariants.{Readable as OnReadable, Writable as OnWritable, Pipe as OnPipe, Signal as OnSignal, Transform as OnTransform, StartAlgorithm, PullAlgorithm, CancelAlgorithm, WriteAlgorithm, CloseAlgorithm, AbortAlgorithm, ChunkSteps, CloseSteps, ErrorSteps, CallHost}
+use Rattle.ws_steps.specs.declared.effects.Effect.TheVariants.{Readable as OnReadable, Writable as OnWritable, Pipe as OnPipe, Signal as OnSignal, Transform as OnTransform, Port as OnPort, StartAlgorithm, PullAlgorithm, CancelAlgorithm, WriteAlgorithm, CloseAlgorithm, AbortAlgorithm, ChunkSteps, CloseSteps, ErrorSteps, CallHost}
 use Rattle.ws_steps.specs.declared.pipes.{SignalOperation.{SignalOperation}, SignalOperation.TheVariants.{Add, Forget, Trigger}}
 use Rattle.ws_steps.specs.declared.promises.{Job.{Job}, Reaction.{Reaction}, Step.{Step}}
 use Rattle.ws_steps.specs.declared.readable.{ReadRequest.{ReadRequest}, ReadRequest.TheVariants.{Promise, Pipe as PipeRequest, Tee as TeeRequest}}
@@ -150,6 +153,7 @@ call-stream c s k y at = begin-makes (λ z. slice_get z.streams k ≡ Some y) (r
   signal = λ z h. h;
   transform = λ z kind w q change h. h;
   tee = λ z source first second cancel h. h;
+  port = λ z side stream backpressure h. h;
   bytes = λ z mark auto h. get-stays z.streams _ k y h;
   byob_requests = λ z hs h. h;
   readable = λ z o mark size h. get-stays z.streams _ k y h;
@@ -236,6 +240,12 @@ module _ (t : TransformId) (i r : StreamId) where
     tee-ending u source first second (AbortAlgorithm j x q) c = absurd c
     tee-ending u source first second _ c = tt
 
+    port-ending : (c : PortId) (stream : StreamId) (e : Effect) → PortCauses c stream e → IsEnding s V e
+    port-ending c stream (CallHost call w) k = absurd k
+    port-ending c stream (OnTransform y operation) k = absurd k
+    port-ending c stream (AbortAlgorithm j x q) k = absurd k
+    port-ending c stream _ k = tt
+
     absent : (j : StreamId) (operation : WritableOperation) → has_writable j s ≡ false → (row (OnWritable j operation) s).caused ≡ []
     unfolding row
     absent j operation e = rw e refl
@@ -244,7 +254,7 @@ module _ (t : TransformId) (i r : StreamId) where
     writable-ending j operation halved h = by (has_writable j s) refl
       where
         by : (b : Bool) → b ≡ has_writable j s → EndingOf s V (row (OnWritable j operation) s).caused
-        by true e = row-causes (IsEnding s V) (OnWritable j operation) s (record { write = tt; close = tt; abort = λ c p. written-half t i s j halved h (sym e); hand_on = λ v. tt; take = λ v u d. tt })
+        by true e = row-causes (IsEnding s V) (OnWritable j operation) s (record { write = tt; close = tt; abort = λ c p. written-half t i s j halved h (sym e); hand_on = λ v. tt; take = λ v u d. tt; post = λ v c d. tt })
         by false e = rw (absent j operation (sym e)) tt
 
     finish-by : (u : TransformId) (c : Plain) (step : PromiseId → Step) (w : Use) (x : transform.Slots) (z : Table) (kind : Kind) (o : Option PromiseId)
@@ -287,26 +297,31 @@ module _ (t : TransformId) (i r : StreamId) where
     pull-ending j u Host = (tt, tt)
     pull-ending j u (HalfOf k) = (tt, tt)
     pull-ending j u (BranchOf k half) = (tt, (tt, tt))
+    pull-ending j u (EndOf c) = (tt, (tt, tt))
 
     cancel-ending : (j : StreamId) (c : Plain) (u : Use) (owner : Owner) → EndingOf s V (cancel_algorithm j c u owner)
     cancel-ending j c u Host = (tt, tt)
     cancel-ending j c u (HalfOf k) = (tt, tt)
     cancel-ending j c u (BranchOf k half) = (tt, tt)
+    cancel-ending j c u (EndOf q) = (tt, tt)
 
     write-ending : (j : StreamId) (owner : Owner) → EndingOf s V (write_algorithm j owner)
     write-ending j Host = (tt, tt)
     write-ending j (HalfOf k) = (tt, tt)
     write-ending j (BranchOf k half) = (tt, tt)
+    write-ending j (EndOf c) = (tt, tt)
 
     close-ending : (j : StreamId) (u : Use) (owner : Owner) → EndingOf s V (close_algorithm j u owner)
     close-ending j u Host = (tt, tt)
     close-ending j u (HalfOf k) = (tt, tt)
     close-ending j u (BranchOf k half) = (tt, tt)
+    close-ending j u (EndOf c) = (tt, tt)
 
     algorithm-ending : (j : StreamId) (c : Plain) (u : Use) (owner : Owner) → (is_half t owner ≡ true → V) → EndingOf s V (abort_algorithm j c u owner)
     algorithm-ending j c u Host k = (tt, tt)
     algorithm-ending j c u (HalfOf y) k = (k, tt)
     algorithm-ending j c u (BranchOf y half) k = (tt, tt)
+    algorithm-ending j c u (EndOf q) k = (tt, tt)
 
     pub caused-ending : (e : Effect) → Halved s → IsHalf t i s → IsSole t i r s → IsEnding s V e
         → ((c : Plain) (p : PromiseId) → e ≡ AbortAlgorithm i c p → V) → EndingOf s V (row e s).caused
@@ -319,6 +334,7 @@ module _ (t : TransformId) (i r : StreamId) where
     caused-ending (OnSignal a operation) halved h g k v = row-causes (IsEnding s V) (OnSignal a operation) s (signal-ending operation)
     caused-ending (OnTransform u operation) halved h g k v = transform-ending u operation (slice_get s.transforms u.0) refl g k
     caused-ending (OnTee u operation) halved h g k v = row-causes (IsEnding s V) (OnTee u operation) s (tee-ending u)
+    caused-ending (OnPort c operation) halved h g k v = row-causes (IsEnding s V) (OnPort c operation) s (port-ending c)
     caused-ending (StartAlgorithm j step start) halved h g k v = start-ending j step start
     caused-ending (PullAlgorithm j) halved h g k v = pull-ending j _ (owner_at j s)
     caused-ending (CancelAlgorithm j c p) halved h g k v = cancel-ending j c _ (owner_at j s)

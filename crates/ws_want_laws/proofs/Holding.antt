@@ -1,12 +1,15 @@
 -- Over each effect: a result that is held is heard by the writable half, and no two are held.
 use Rattle.std.proofs.Common.{◌≡◌, ◌⊎◌, inl, inr, ℕ, zero, suc, ◌+◌, ◌≤◌, Bool, true, false, nat_eq, List, [], ◌∷◌, ◌++◌, Option, Some, None, slice_get, refl, sym, subst, ap, ◌∙◌, arith}
+use Rattle.ws_laws.proofs.PortDoes.{PortCauses}
+use Rattle.ws_value.specs.declared.ids.PortId.{PortId}
+use Rattle.ws_steps.specs.declared.effects.Owner.TheVariants.{EndOf}
 use Rattle.ws_laws.proofs.TeeDoes.{TeeCauses}
 use Rattle.ws_value.specs.declared.ids.TeeId.{TeeId}
 use Rattle.ws_steps.specs.declared.effects.Effect.TheVariants.{Tee as OnTee}
 use Rattle.ws_value.specs.declared.{ids.PipeId.{PipeId}, ids.PromiseId.{PromiseId}, ids.StreamId.{StreamId}, value.Value.{Value}}
 use Rattle.ws_steps.specs.declared.calls.{Call.{Call}}
 use Rattle.ws_steps.specs.declared.effects.{Effect.{Effect}, Owner.{Owner}, Owner.TheVariants.{Host, HalfOf, BranchOf}, Use.{Use}, Use.TheVariants.{React}}
-use Rattle.ws_steps.specs.declared.effects.Effect.TheVariants.{Readable as OnReadable, Writable as OnWritable, Pipe as OnPipe, Signal as OnSignal, Transform as OnTransform, StartAlgorithm, PullAlgorithm, CancelAlgorithm, WriteAlgorithm, CloseAlgorithm, AbortAlgorithm, ChunkSteps, CloseSteps, ErrorSteps}
+use Rattle.ws_steps.specs.declared.effects.Effect.TheVariants.{Readable as OnReadable, Writable as OnWritable, Pipe as OnPipe, Signal as OnSignal, Transform as OnTransform, Port as OnPort, StartAlgorithm, PullAlgorithm, CancelAlgorithm, WriteAlgorithm, CloseAlgorithm, AbortAlgorithm, ChunkSteps, CloseSteps, ErrorSteps}
 use Rattle.ws_steps.specs.declared.pipes.{SignalOperation.{SignalOperation}, SignalOperation.TheVariants.{Add, Forget, Trigger}}
 use Rattle.ws_steps.specs.declared.promises.{Job.{Job}, Step.TheVariants.{WritableWrite}}
 use Rattle.ws_steps.specs.declared.readable.{ReadRequest.{ReadRequest}, ReadRequest.TheVariants.{Promise, Pipe as PipeRequest, Tee as TeeRequest}}
@@ -61,6 +64,7 @@ module _ (t : TransformId) (i : StreamId) where
   half-of Host e = cc
   half-of (HalfOf u) e = ap HalfOf (sym (ap (λ (n : ℕ). record { 0 = n }) (eq_numbers t.0 u.0 e)))
   half-of (BranchOf u half) e = cc
+  half-of (EndOf c) e = cc
 
   pub written-half : (s : Slots) (j : StreamId) → Halved s → IsHalf s → has_writable j s ≡ true → mine t s j ≡ true → j ≡ i
   written-half s j halved h there m =
@@ -101,10 +105,16 @@ module _ (t : TransformId) (i : StreamId) where
   tee-faithful s u source first second (WriteAlgorithm j) c = absurd c
   tee-faithful s u source first second _ c = tt
 
+  port-faithful : (s : Slots) (c : PortId) (stream : StreamId) (e : Effect) → PortCauses c stream e → IsFaithful s e
+  port-faithful s c stream (OnTransform y operation) k = absurd k
+  port-faithful s c stream (WriteAlgorithm j) k = absurd k
+  port-faithful s c stream _ k = tt
+
   write-faithful : (s : Slots) (j : StreamId) (owner : Owner) → (is_half t owner ≡ true → j ≡ i) → Faithful s (write_algorithm j owner)
   write-faithful s j Host k = (tt, tt)
   write-faithful s j (HalfOf u) k = (λ same. ap (λ (n : StreamId). React (WritableWrite n) None) (k same), tt)
   write-faithful s j (BranchOf u half) k = (tt, tt)
+  write-faithful s j (EndOf c) k = (tt, tt)
 
   absent : (s : Slots) (j : StreamId) (operation : WritableOperation) → has_writable j s ≡ false → (row (OnWritable j operation) s).caused ≡ []
   unfolding row
@@ -114,7 +124,7 @@ module _ (t : TransformId) (i : StreamId) where
   writable-faithful s j operation halved h = by (has_writable j s) refl
     where
       by : (b : Bool) → b ≡ has_writable j s → Faithful s (row (OnWritable j operation) s).caused
-      by true e = row-causes (IsFaithful s) (OnWritable j operation) s (record { write = written-half s j halved h (sym e); close = tt; abort = λ c p. tt; hand_on = λ v. tt; take = λ v u d. tt })
+      by true e = row-causes (IsFaithful s) (OnWritable j operation) s (record { write = written-half s j halved h (sym e); close = tt; abort = λ c p. tt; hand_on = λ v. tt; take = λ v u d. tt; post = λ v c d. tt })
       by false e = rw (absent s j operation (sym e)) tt
 
   caused-faithful : (s : Slots) (e : Effect) → Halved s → IsHalf s → IsFaithful s e → Faithful s (row e s).caused
@@ -127,12 +137,13 @@ module _ (t : TransformId) (i : StreamId) where
   caused-faithful s (OnSignal a operation) halved h k = row-causes (IsFaithful s) (OnSignal a operation) s (signal-faithful s operation)
   caused-faithful s (OnTransform u operation) halved h k = row-causes (IsFaithful s) (OnTransform u operation) s (transform-faithful s u)
   caused-faithful s (OnTee u operation) halved h k = row-causes (IsFaithful s) (OnTee u operation) s (tee-faithful s u)
+  caused-faithful s (OnPort c operation) halved h k = row-causes (IsFaithful s) (OnPort c operation) s (port-faithful s c)
   caused-faithful s (StartAlgorithm j step start) halved h k = row-causes (IsFaithful s) (StartAlgorithm j step start) s (λ g u. tt, λ c u. tt)
-  caused-faithful s (PullAlgorithm j) halved h k = row-causes (IsFaithful s) (PullAlgorithm j) s (λ c u. tt, (λ y u. tt, (λ t. tt, λ u. tt)))
-  caused-faithful s (CancelAlgorithm j c p) halved h k = row-causes (IsFaithful s) (CancelAlgorithm j c p) s (λ c u. tt, (λ y u. tt, λ t half u. tt))
+  caused-faithful s (PullAlgorithm j) halved h k = row-causes (IsFaithful s) (PullAlgorithm j) s (λ c u. tt, (λ y u. tt, (λ t. tt, (λ u. tt, λ c. tt))))
+  caused-faithful s (CancelAlgorithm j c p) halved h k = row-causes (IsFaithful s) (CancelAlgorithm j c p) s (λ c u. tt, (λ y u. tt, (λ t half u. tt, λ q u. tt)))
   caused-faithful s (WriteAlgorithm j) halved h k = write-faithful s j (owner_at j s) k
-  caused-faithful s (CloseAlgorithm j) halved h k = row-causes (IsFaithful s) (CloseAlgorithm j) s (λ c u. tt, λ y u. tt)
-  caused-faithful s (AbortAlgorithm j c p) halved h k = row-causes (IsFaithful s) (AbortAlgorithm j c p) s (λ c u. tt, λ y u. tt)
+  caused-faithful s (CloseAlgorithm j) halved h k = row-causes (IsFaithful s) (CloseAlgorithm j) s (λ c u. tt, (λ y u. tt, λ q u. tt))
+  caused-faithful s (AbortAlgorithm j c p) halved h k = row-causes (IsFaithful s) (AbortAlgorithm j c p) s (λ c u. tt, (λ y u. tt, λ q u. tt))
   caused-faithful s (ChunkSteps j r v) halved h k = row-causes (IsFaithful s) (ChunkSteps j r v) s (chunk-faithful s v r)
   caused-faithful s (CloseSteps j r) halved h k = row-causes (IsFaithful s) (CloseSteps j r) s (end-faithful s r)
   caused-faithful s (CloseStepsWith j r b) halved h k = row-causes (IsFaithful s) (CloseStepsWith j r b) s (end-faithful s r)

@@ -1,5 +1,15 @@
 -- What holds the result of a write of a transform stream: the reaction by which it goes on, and the one to its transform algorithm, and the effects
 -- that lead to these. No effect makes more of it, but the two by which a result is made.
+use Rattle.ws_steps.specs.Cross as cross
+use Rattle.ws_steps.specs.declared.effects.Owner.TheVariants.{EndOf}
+use Rattle.std.proofs.Common.{Bool}
+use Rattle.ws_steps.specs.declared.transform.Taker.TheVariants.{ToPort}
+use Rattle.ws_steps.specs.declared.port.PortOperation.{PortOperation}
+use Rattle.ws_steps.specs.declared.port.PortOperation.TheVariants as ports
+use Rattle.ws_value.specs.declared.ids.PortId.{PortId}
+use Rattle.ws_steps.specs.Operations.{port_operation}
+use Rattle.ws_steps.specs.Slots.{on_port_at, clones_at}
+use Rattle.ws_steps.specs.declared.effects.Effect.TheVariants.{Port as OnPort}
 use Rattle.std.proofs.Common.{◌≡◌, ℕ, ◌+◌, ◌≤◌, true, false, if◌then◌else◌, nat_eq, length, List, [], ◌∷◌, Option, Some, None, slice_get, refl, arith}
 use Rattle.ws_steps.specs.Slots.{on_tee_at}
 use Rattle.ws_steps.specs.Operations.{tee_operation}
@@ -63,6 +73,9 @@ module _ (t : TransformId) (P : PromiseId → ℕ) where
   in_hand (OnTransform u (names.SinkAbort r w)) = of_used w
   in_hand (OnTransform u (names.SourceCancel r w)) = of_used w
   in_hand (OnTee u (tees.CancelBranch half r w)) = of_used w
+  in_hand (OnPort q (ports.Leave r w)) = of_used w
+  in_hand (OnPort q (ports.Write w)) = of_used w
+  in_hand (OnPort q (ports.Close w)) = of_used w
   in_hand (OnTransform u (names.TransformChunk v c)) = if is_same_transform t u then P c else 0
   in_hand (OnTransform u (names.WriteGoesOn c)) = if is_same_transform t u then P c else 0
   in_hand (OnWritable j (HandOn (ToTransform u c))) = if is_same_transform t u then P c else 0
@@ -130,6 +143,7 @@ module _ (t : TransformId) (P : PromiseId → ℕ) where
   taken-same : (j : StreamId) (taker : Taker) (v : Value) → all_in_hand (writable.taken_by j v taker ∷ []) ≤ in_hand (OnWritable j (HandOn taker))
   taken-same j ToHost v = omega arith
   taken-same j (ToTransform u c) v = omega arith
+  taken-same j (ToPort q c) v = omega arith
 
   first-same : (j : StreamId) (taker : Taker) (a : writable.Acts) (first : Option WriteRecord) → a.out.effects ≡ []
       → all_in_hand (writable.hand_on_first j taker a first).out.effects ≤ in_hand (OnWritable j (HandOn taker))
@@ -178,6 +192,16 @@ module _ (t : TransformId) (P : PromiseId → ℕ) where
   on-tee-same s u operation None = omega arith
   on-tee-same s u operation (Some x) = tee-same u operation (record { slots = x; out = found s }) refl
 
+  -- and of a port
+
+  port-same : (c : PortId) (clones : Bool) (operation : PortOperation) (a : cross.Acts) → a.out.effects ≡ [] → all_in_hand (port_operation c clones operation a).out.effects ≤ in_hand (OnPort c operation)
+  unfolding cross.pull cross.leave cross.close cross.write cross.write_goes_on cross.post_chunk cross.unblock cross.deliver
+  port-same c clones operation a none = grind (arith, none)
+
+  on-port-same : (s : Slots) (c : PortId) (operation : PortOperation) (o : Option cross.Slots) → all_in_hand (on_port_at (λ clones. port_operation c clones operation) c s o).caused ≤ in_hand (OnPort c operation)
+  on-port-same s c operation None = omega arith
+  on-port-same s c operation (Some x) = port-same c (clones_at x s) operation (record { slots = x; out = found s }) refl
+
   -- one that makes a result
 
   sink-makes : (w : Use) (a : transform.Acts) → a.out.effects ≡ []
@@ -210,26 +234,31 @@ module _ (t : TransformId) (P : PromiseId → ℕ) where
   pull-bare j Host = refl
   pull-bare j (HalfOf u) = refl
   pull-bare j (BranchOf u half) = refl
+  pull-bare j (EndOf c) = refl
 
   cancel-bare : (j : StreamId) (c : Plain) (p : PromiseId) (owner : Owner) → all_in_hand (cancel_algorithm j c (React ReturnUndefined (Some p)) owner) ≡ 0
   cancel-bare j c p Host = refl
   cancel-bare j c p (HalfOf u) = refl
   cancel-bare j c p (BranchOf u half) = refl
+  cancel-bare j c p (EndOf q) = refl
 
   write-bare : (j : StreamId) (owner : Owner) → all_in_hand (write_algorithm j owner) ≡ 0
   write-bare j Host = refl
   write-bare j (HalfOf u) = refl
   write-bare j (BranchOf u half) = refl
+  write-bare j (EndOf c) = refl
 
   close-bare : (j : StreamId) (owner : Owner) → all_in_hand (close_algorithm j (React (WritableClose j) None) owner) ≡ 0
   close-bare j Host = refl
   close-bare j (HalfOf u) = refl
   close-bare j (BranchOf u half) = refl
+  close-bare j (EndOf c) = refl
 
   abort-bare : (j : StreamId) (c : Plain) (p : PromiseId) (owner : Owner) → all_in_hand (abort_algorithm j c (React (WritableAbort j p) None) owner) ≡ 0
   abort-bare j c p Host = refl
   abort-bare j c p (HalfOf u) = refl
   abort-bare j c p (BranchOf u half) = refl
+  abort-bare j c p (EndOf q) = refl
 
   none-less : (n m : ℕ) → n ≡ 0 → n ≤ m
   none-less n m e = omega arith
@@ -244,6 +273,7 @@ module _ (t : TransformId) (P : PromiseId → ℕ) where
   row-same (OnSignal a operation) s n = none-less _ _ (each-bare _ (row-causes IsBare (OnSignal a operation) s (signal-bare operation)))
   row-same (OnTransform u operation) s n = on-same s u operation (slice_get s.transforms u.0) n
   row-same (OnTee u operation) s n = on-tee-same s u operation (slice_get s.tees u.0)
+  row-same (OnPort c operation) s n = on-port-same s c operation (slice_get s.ports c.0)
   row-same (StartAlgorithm j step start) s n = start-same s j step start
   row-same (PullAlgorithm j) s n = none-less _ _ (pull-bare j (owner_at j s))
   row-same (CancelAlgorithm j c p) s n = none-less _ _ (cancel-bare j c p (owner_at j s))
@@ -286,6 +316,7 @@ module _ (t : TransformId) (P : PromiseId → ℕ) where
     answer = λ z p o h. within _ _ _ (weigh-answer promised p o z) h;
     micro = λ z m h. within _ _ _ (weigh-micro promised m z) h;
     signal = λ z i c h. rw (told-weighs _ z) h;
+    post = λ z c m h. rw (told-weighs _ z) h;
   }) e s n (omega arith)
 
   -- no effect makes more, but one that makes a result

@@ -1,5 +1,6 @@
 -- Over every run in which the host enqueued only while no write waited.
 use Rattle.std.proofs.Common.{◌≡◌, ℕ, Bool, true, false, if◌then◌else◌, nat_eq, List, [], ◌∷◌, ◌++◌, Some, slice_get, refl, sym, ap, ◌∙◌, arith}
+use Rattle.ws_steps.specs.declared.effects.Owner.TheVariants.{EndOf}
 use Rattle.ws_value.specs.declared.{ids.PromiseId.{PromiseId}, ids.StreamId.{StreamId}, value.Value.{Value}}
 use Rattle.ws_steps.specs.declared.calls.{Call.{Call}, Call.TheVariants.{Enqueue as EnqueueCall}}
 use Rattle.ws_steps.specs.declared.effects.{Effect.{Effect}, Owner.{Owner}, Owner.TheVariants.{Host, HalfOf, BranchOf}}
@@ -126,6 +127,7 @@ module _ (t : TransformId) (i r : StreamId) where
       either (λ (b : Begun). Meanwhile (EnqueueCall j v) s b ≡ [] → Zone t b.done.slots b.done.caused) (can_close_or_enqueue (readable_at j s)) (calls.does (OnTransform u (names_of.Enqueue v) ∷ []) s) (calls.throws_type_error s)
       (λ can n. enters-zone s j v u halved h there is n) (λ cannot n. Outside refl) none
   by-owner s j v (BranchOf u half) halved h there is none = Outside refl
+  by-owner s j v (EndOf c) halved h there is none = Outside refl
 
   -- an enqueue of bytes tells no transform stream
   bytes-zone : (s : Slots) (j : StreamId) (v : Value) → let b : Begun = calls.enqueue_bytes j s v in Zone t b.done.slots b.done.caused
@@ -153,6 +155,7 @@ module _ (t : TransformId) (i r : StreamId) where
     signal = λ z k. k;
     transform = λ z kind w q change k. get-stays z.transforms _ t.0 x k;
     tee = λ z source first second cancel k. k;
+    port = λ z side stream backpressure k. k;
     bytes = λ z mark auto k. k;
     byob_requests = λ z hs k. k;
     readable = λ z o mark size k. k;

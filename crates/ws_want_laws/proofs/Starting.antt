@@ -1,4 +1,9 @@
 -- Until the host has settled the start algorithm of a transform stream, its writable half hasn't started: the reaction to its start promise is to come.
+use Rattle.ws_steps.specs.declared.port.Side.{Side}
+use Rattle.ws_laws.proofs.PortDoes.{PortCauses}
+use Rattle.ws_steps.specs.declared.effects.Owner.TheVariants.{EndOf}
+use Rattle.ws_value.specs.declared.ids.PortId.{PortId}
+use Rattle.ws_steps.specs.declared.port.Side.TheVariants.{Readable as ReadableSide, Writable as WritableSide}
 use Rattle.std.proofs.Common.{◌≡◌, ℕ, ◌+◌, ◌≤◌, ◌<◌, Bool, true, false, if◌then◌else◌, nat_eq, length, List, [], ◌∷◌, ◌++◌, Some, None, slice_get, refl, sym, subst, ap, ◌∙◌, arith}
 use Rattle.ws_steps.specs.declared.tee.Half.TheVariants.{Second}
 use Rattle.ws_steps.specs.declared.tee.Half.TheVariants.{First}
@@ -8,7 +13,7 @@ use Rattle.ws_steps.specs.declared.effects.Effect.TheVariants.{Tee as OnTee}
 use Rattle.ws_value.specs.declared.{ids.PipeId.{PipeId}, ids.PromiseId.{PromiseId}, ids.StreamId.{StreamId}, value.Plain.{Plain}, value.Value.{Value}}
 use Rattle.ws_steps.specs.declared.calls.{Call.{Call}, Event.{Event}, Event.TheVariants.{Host as HostCalled}, HostCall.{HostCall}, HostCall.TheVariants.{Start as HostStart}, StartBy.{StartBy}, StartBy.TheVariants.{Now, Later}}
 use Rattle.ws_steps.specs.declared.effects.{Effect.{Effect}, Gift.TheVariants.{This}, Owner.{Owner}, Owner.TheVariants.{Host, HalfOf, BranchOf}, Use.{Use}, Use.TheVariants.{React, Resolve}}
-use Rattle.ws_steps.specs.declared.effects.Effect.TheVariants.{Readable as OnReadable, Writable as OnWritable, Pipe as OnPipe, Signal as OnSignal, Transform as OnTransform, StartAlgorithm, PullAlgorithm, CancelAlgorithm, WriteAlgorithm, CloseAlgorithm, AbortAlgorithm, ChunkSteps, CloseSteps, ErrorSteps, Give, CallHost}
+use Rattle.ws_steps.specs.declared.effects.Effect.TheVariants.{Readable as OnReadable, Writable as OnWritable, Pipe as OnPipe, Signal as OnSignal, Transform as OnTransform, Port as OnPort, StartAlgorithm, PullAlgorithm, CancelAlgorithm, WriteAlgorithm, CloseAlgorithm, AbortAlgorithm, ChunkSteps, CloseSteps, ErrorSteps, Give, CallHost}
 use Rattle.ws_steps.specs.declared.pipes.{SignalOperation.{SignalOperation}, SignalOperation.TheVariants.{Add, Forget, Trigger}}
 use Rattle.ws_steps.specs.declared.promises.{Job.{Job}, Job.TheVariants.{Follow}, Step.{Step}, Step.TheVariants.{WritableStart}}
 use Rattle.ws_steps.specs.declared.readable.{ReadRequest.{ReadRequest}, ReadRequest.TheVariants.{Promise, Pipe as PipeRequest, Tee as TeeRequest}}
@@ -128,6 +133,11 @@ module _ (r : StreamId) where
   tee-other u source first second (StartAlgorithm j step start) c = absurd c
   tee-other u source first second _ c = tt
 
+  port-other : (c : PortId) (stream : StreamId) (e : Effect) → PortCauses c stream e → IsOther e
+  port-other c stream (CallHost call w) k = absurd k
+  port-other c stream (StartAlgorithm j step start) k = absurd k
+  port-other c stream _ k = tt
+
   start-other : (s : Slots) (j : StreamId) (step : Step) (start : StartBy) → is_same r j ≡ false → Others (start_algorithm j step s start).caused
   start-other s j step Now k = (tt, tt)
   start-other s j step Later k = (k, (tt, tt))
@@ -136,36 +146,42 @@ module _ (r : StreamId) where
   pull-other j u Host = (tt, tt)
   pull-other j u (HalfOf k) = (tt, tt)
   pull-other j u (BranchOf k half) = (tt, (tt, tt))
+  pull-other j u (EndOf c) = (tt, (tt, tt))
 
   cancel-other : (j : StreamId) (c : Plain) (u : Use) (owner : Owner) → Others (cancel_algorithm j c u owner)
   cancel-other j c u Host = (tt, tt)
   cancel-other j c u (HalfOf k) = (tt, tt)
   cancel-other j c u (BranchOf k half) = (tt, tt)
+  cancel-other j c u (EndOf q) = (tt, tt)
 
   write-other : (j : StreamId) (owner : Owner) → Others (write_algorithm j owner)
   write-other j Host = (tt, tt)
   write-other j (HalfOf k) = (tt, tt)
   write-other j (BranchOf k half) = (tt, tt)
+  write-other j (EndOf c) = (tt, tt)
 
   close-other : (j : StreamId) (u : Use) (owner : Owner) → Others (close_algorithm j u owner)
   close-other j u Host = (tt, tt)
   close-other j u (HalfOf k) = (tt, tt)
   close-other j u (BranchOf k half) = (tt, tt)
+  close-other j u (EndOf c) = (tt, tt)
 
   abort-other : (j : StreamId) (c : Plain) (u : Use) (owner : Owner) → Others (abort_algorithm j c u owner)
   abort-other j c u Host = (tt, tt)
   abort-other j c u (HalfOf k) = (tt, tt)
   abort-other j c u (BranchOf k half) = (tt, tt)
+  abort-other j c u (EndOf q) = (tt, tt)
 
   pub caused-other : (e : Effect) (s : Slots) → IsStarting e → Others (row e s).caused
   unfolding row
   caused-other (OnReadable j operation) s k = row-causes IsOther (OnReadable j operation) s (record { pull = tt; cancel = λ c p. tt; chunk = λ q v. tt; close = λ q. tt; error = λ q e. tt })
   caused-other (Byte j operation) s k = row-causes IsOther (Byte j operation) s (record { readable = record { pull = tt; cancel = λ c p. tt; chunk = λ q v. tt; close = λ q. tt; error = λ q e. tt }; close_with = λ q b. tt })
-  caused-other (OnWritable j operation) s k = row-causes IsOther (OnWritable j operation) s (record { write = tt; close = tt; abort = λ c p. tt; hand_on = λ v. tt; take = λ v u d. tt })
+  caused-other (OnWritable j operation) s k = row-causes IsOther (OnWritable j operation) s (record { write = tt; close = tt; abort = λ c p. tt; hand_on = λ v. tt; take = λ v u d. tt; post = λ v c d. tt })
   caused-other (OnPipe p operation) s k = row-causes IsOther (OnPipe p operation) s (pipe-other p)
   caused-other (OnSignal a operation) s k = row-causes IsOther (OnSignal a operation) s (signal-other operation)
   caused-other (OnTransform u operation) s k = row-causes IsOther (OnTransform u operation) s (transform-other u)
   caused-other (OnTee u operation) s k = row-causes IsOther (OnTee u operation) s (tee-other u)
+  caused-other (OnPort c operation) s k = row-causes IsOther (OnPort c operation) s (port-other c)
   caused-other (StartAlgorithm j step start) s k = start-other s j step start k
   caused-other (PullAlgorithm j) s k = pull-other j _ (owner_at j s)
   caused-other (CancelAlgorithm j c p) s k = cancel-other j c _ (owner_at j s)
@@ -262,6 +278,7 @@ call-shape k x c s h = begin-makes (λ z. slice_get (stream_shapes z) k ≡ Some
   signal = λ z h. h;
   transform = λ z kind w q change h. h;
   tee = λ z source first second cancel h. h;
+  port = λ z side stream backpressure h. h;
   bytes = λ z mark auto h. grown k x z _ h;
   byob_requests = λ z hs h. h;
   readable = λ z o mark size h. grown k x z _ h;
@@ -379,6 +396,15 @@ module _ (t : TransformId) (i r : StreamId) where
         );
   }
 
+  -- nor is one at the end of a port
+  new-end : (s : Slots) (side : Side) (z : Slots) → z.streams ≡ s.streams ++ calls.end_of (record { 0 = length s.ports }) side ∷ [] → IsOwn z → is_same r (record { 0 = length s.streams }) ≡ false
+  new-end s ReadableSide z e o = new-other s (calls.end_of (record { 0 = length s.ports }) ReadableSide) z e (λ f. cc) o
+  new-end s WritableSide z e o = new-other s (calls.end_of (record { 0 = length s.ports }) WritableSide) z e (λ f. cc) o
+
+  open-begins : (side : Side) (s : Slots) → Begins (calls.open_end side (record { 0 = length s.streams }) s)
+  open-begins ReadableSide s = plain-own _ (λ o. (new-end s ReadableSide (calls.open_end ReadableSide (record { 0 = length s.streams }) s).done.slots refl o, tt))
+  open-begins WritableSide s = plain-own _ (λ o. (new-end s WritableSide (calls.open_end WritableSide (record { 0 = length s.streams }) s).done.slots refl o, tt))
+
   pub call-begins : (c : Call) (s : Slots) → Begins (begin c s)
   call-begins c s = each_call Begins c s (record {
     unchanged = λ reply. plain _ tt;
@@ -413,6 +439,10 @@ module _ (t : TransformId) (i r : StreamId) where
     terminate = λ u. plain _ (grind arith);
     pipe = λ source dest prevent signal e f l m. plain _ (grind arith);
     make_signal = plain _ tt;
+    open_end = λ side. open-begins side s;
+    send_readable = λ j there free. plain-own _ (λ o. (new-end s WritableSide (calls.send_readable j (record { 0 = length s.streams }) s).done.slots refl o, (tt, (tt, (tt, (tt, (tt, (tt, tt))))))));
+    send_writable = λ j there free. plain-own _ (λ o. (new-end s ReadableSide (calls.send_writable j (record { 0 = length s.streams }) s).done.slots refl o, (tt, (tt, (tt, (tt, (tt, (tt, tt))))))));
+    deliver = λ p m e is. plain _ (tt, tt);
     trigger = λ a reason. plain _ (grind arith);
     settle = λ a answer p e. plain _ (grind arith);
   })

@@ -1,5 +1,6 @@
 -- A host that enqueues only as it answers enqueues only while no write waits.
 use Rattle.ws_steps.specs.Calls as calls
+use Rattle.ws_steps.specs.declared.effects.Owner.TheVariants.{EndOf}
 use Rattle.ws_steps.specs.declared.calls.{Call.{Call}, Call.TheVariants.{Enqueue as EnqueueCall}}
 use Rattle.ws_steps.specs.declared.effects.{Owner.{Owner}, Effect.TheVariants.{Readable as OnReadable, Transform as OnTransform}}
 use Rattle.ws_steps.specs.declared.readable.ReadableOperation.TheVariants.{Enqueue}
@@ -112,6 +113,7 @@ module _ (t : TransformId) (i r : StreamId) where
     owner-none j v (HalfOf u) =
         either (IsNone j v) (can_close_or_enqueue (readable_at j s)) (calls.does (OnTransform u (names_of.Enqueue v) ∷ []) s) (calls.throws_type_error s) (λ can. taken-none j v can) (λ cannot. refl)
     owner-none j v (BranchOf u half) = refl
+    owner-none j v (EndOf c) = refl
 
     -- a byte stream is another
     apart : (j : StreamId) → has_byte j s ≡ true → is_same r j ≡ false

@@ -1,5 +1,14 @@
 -- While a transform stream is told of an enqueue, or is about to be, the effects of that enqueue stand at the front of the agenda, and by none of these
 -- a write comes to wait.
+use Rattle.ws_steps.specs.Cross as cross
+use Rattle.ws_steps.specs.declared.effects.Owner.TheVariants.{EndOf}
+use Rattle.ws_laws.proofs.PortDoes.{PortCauses}
+use Rattle.ws_steps.specs.declared.port.PortOperation.TheVariants as ports
+use Rattle.ws_value.specs.declared.ids.PortId.{PortId}
+use Rattle.ws_steps.specs.Operations.{port_operation}
+use Rattle.ws_steps.specs.Slots.{on_port_at}
+use Rattle.ws_steps.specs.declared.effects.Effect.TheVariants.{Port as OnPort}
+use Rattle.ws_value.specs.declared.value.Message.TheVariants.{Pull as PullMessage}
 use Rattle.std.proofs.Common.{◌≡◌, ℕ, Bool, true, false, List, [], ◌∷◌, ◌++◌, Option, Some, None, slice_get, refl, sym, subst, ap, ◌∙◌, arith, append_assoc}
 use Rattle.ws_steps.specs.Operations.{tee_operation}
 use Rattle.ws_steps.specs.Slots.{on_tee_at}
@@ -81,6 +90,10 @@ module _ (t : TransformId) where
   tee-unmarked u source first second (OnTransform y operation) c = absurd c
   tee-unmarked u source first second _ c = refl
 
+  port-unmarked : (c : PortId) (stream : StreamId) (e : Effect) → PortCauses c stream e → IsUnmarked e
+  port-unmarked c stream (OnTransform y operation) k = absurd k
+  port-unmarked c stream _ k = refl
+
   -- an effect that tells of no enqueue of its own
   abbrev pub IsQuiet : Effect → Type 0
   IsQuiet (OnTransform u (names.TransformChunk v d)) = is_same_transform t u ≡ false
@@ -100,17 +113,18 @@ module _ (t : TransformId) where
   unfolding row
   row-unmarked (OnReadable j operation) s q = each-unmarked _ (row-causes IsUnmarked (OnReadable j operation) s (record { pull = refl; cancel = λ c p. refl; chunk = λ q v. refl; close = λ q. refl; error = λ q e. refl }))
   row-unmarked (Byte j operation) s q = each-unmarked _ (row-causes IsUnmarked (Byte j operation) s (record { readable = record { pull = refl; cancel = λ c p. refl; chunk = λ q v. refl; close = λ q. refl; error = λ q e. refl }; close_with = λ q b. refl }))
-  row-unmarked (OnWritable j operation) s q = each-unmarked _ (row-causes IsUnmarked (OnWritable j operation) s (record { write = refl; close = refl; abort = λ c p. refl; hand_on = λ v. refl; take = λ v u d. refl }))
+  row-unmarked (OnWritable j operation) s q = each-unmarked _ (row-causes IsUnmarked (OnWritable j operation) s (record { write = refl; close = refl; abort = λ c p. refl; hand_on = λ v. refl; take = λ v u d. refl; post = λ v c d. refl }))
   row-unmarked (OnPipe p operation) s q = each-unmarked _ (row-causes IsUnmarked (OnPipe p operation) s (pipe-unmarked p))
   row-unmarked (OnSignal a operation) s q = each-unmarked _ (row-causes IsUnmarked (OnSignal a operation) s (signal-unmarked operation))
   row-unmarked (OnTransform u operation) s q = on-unmarked s u operation (slice_get s.transforms u.0) q
   row-unmarked (OnTee u operation) s q = each-unmarked _ (row-causes IsUnmarked (OnTee u operation) s (tee-unmarked u))
+  row-unmarked (OnPort c operation) s q = each-unmarked _ (row-causes IsUnmarked (OnPort c operation) s (port-unmarked c))
   row-unmarked (StartAlgorithm j step start) s q = each-unmarked _ (row-causes IsUnmarked (StartAlgorithm j step start) s (λ g u. refl, λ c u. refl))
-  row-unmarked (PullAlgorithm j) s q = each-unmarked _ (row-causes IsUnmarked (PullAlgorithm j) s (λ c u. refl, (λ y u. refl, (λ t. refl, λ u. refl))))
-  row-unmarked (CancelAlgorithm j c p) s q = each-unmarked _ (row-causes IsUnmarked (CancelAlgorithm j c p) s (λ c u. refl, (λ y u. refl, λ t half u. refl)))
-  row-unmarked (WriteAlgorithm j) s q = each-unmarked _ (row-causes IsUnmarked (WriteAlgorithm j) s (refl, λ y u. refl))
-  row-unmarked (CloseAlgorithm j) s q = each-unmarked _ (row-causes IsUnmarked (CloseAlgorithm j) s (λ c u. refl, λ y u. refl))
-  row-unmarked (AbortAlgorithm j c p) s q = each-unmarked _ (row-causes IsUnmarked (AbortAlgorithm j c p) s (λ c u. refl, λ y u. refl))
+  row-unmarked (PullAlgorithm j) s q = each-unmarked _ (row-causes IsUnmarked (PullAlgorithm j) s (λ c u. refl, (λ y u. refl, (λ t. refl, (λ u. refl, λ c. refl)))))
+  row-unmarked (CancelAlgorithm j c p) s q = each-unmarked _ (row-causes IsUnmarked (CancelAlgorithm j c p) s (λ c u. refl, (λ y u. refl, (λ t half u. refl, λ q u. refl))))
+  row-unmarked (WriteAlgorithm j) s q = each-unmarked _ (row-causes IsUnmarked (WriteAlgorithm j) s (refl, (λ y u. refl, λ q u. refl)))
+  row-unmarked (CloseAlgorithm j) s q = each-unmarked _ (row-causes IsUnmarked (CloseAlgorithm j) s (λ c u. refl, (λ y u. refl, λ q u. refl)))
+  row-unmarked (AbortAlgorithm j c p) s q = each-unmarked _ (row-causes IsUnmarked (AbortAlgorithm j c p) s (λ c u. refl, (λ y u. refl, λ q u. refl)))
   row-unmarked (ChunkSteps j r v) s q = each-unmarked _ (row-causes IsUnmarked (ChunkSteps j r v) s (chunk-unmarked v r))
   row-unmarked (CloseSteps j r) s q = each-unmarked _ (row-causes IsUnmarked (CloseSteps j r) s (end-unmarked r))
   row-unmarked (CloseStepsWith j r b) s q = each-unmarked _ (row-causes IsUnmarked (CloseStepsWith j r b) s (end-unmarked r))
@@ -123,6 +137,7 @@ module _ (t : TransformId) where
   is_branch Host = false
   is_branch (HalfOf u) = false
   is_branch (BranchOf u half) = true
+  is_branch (EndOf c) = false
 
   abbrev pub IsEntering : Slots → Effect → Type 0
   IsEntering s (OnReadable j (Enqueue v)) = is_branch (owner_at j s) ≡ false
@@ -130,6 +145,7 @@ module _ (t : TransformId) where
   IsEntering s (OnTransform u names.Enqueued) = Unit {0}
   IsEntering s (OnTransform u (names.SourcePull w)) = of_use (changing t) w ≡ 0
   IsEntering s (OnTee u (KeepByTee v)) = Unit {0}
+  IsEntering s (OnPort c ports.Pull) = Unit {0}
   IsEntering s (PullAlgorithm j) = is_branch (owner_at j s) ≡ false
   IsEntering s (ChunkSteps j q v) = Unit {0}
   IsEntering s (OnPipe p (KeepChunk v)) = Unit {0}
@@ -156,6 +172,7 @@ module _ (t : TransformId) where
   pull-enters s j Host n = (refl, tt)
   pull-enters s j (HalfOf u) n = (refl, tt)
   pull-enters s j (BranchOf u half) n = cc
+  pull-enters s j (EndOf c) n = (tt, (refl, tt))
 
   -- the readable half of a transform stream is no branch
   half-owner : (s : Slots) (u : TransformId) (x : transform.Slots) → Halved s → slice_get s.transforms u.0 ≡ Some x → is_branch (owner_at x.readable s) ≡ false
@@ -182,6 +199,14 @@ module _ (t : TransformId) where
   tee-enters z u v s None = tt
   tee-enters z u v s (Some x) = tt
 
+  -- a pull of the end of a port is a post
+  port-enters : (z : Slots) (c : PortId) (s : Slots) (o : Option cross.Slots) → Enterings z (on_port_at (λ clones. port_operation c clones ports.Pull) c s o).caused
+  unfolding cross.pull
+  port-enters z c s None = tt
+  port-enters z c s (Some x) =
+      let a : cross.Acts = record { slots = x; out = found s } in
+      either (λ (b : cross.Acts). Enterings z b.out.effects) x.live (cross.posting c PullMessage a) a (λ e. tt) (λ e. tt)
+
   pub row-enters : (e : Effect) (s : Slots) → Halved s → IsEntering s e → Enterings s (row e s).caused
   unfolding row
   row-enters (OnReadable j (Enqueue v)) s halved k =
@@ -191,6 +216,7 @@ module _ (t : TransformId) where
       (λ there. readable-enters s j v (readable_acts j s) refl k) (λ none. tt))
   row-enters (OnTransform u operation) s halved k = own-enters s u operation (slice_get s.transforms u.0) refl halved k
   row-enters (OnTee u (KeepByTee v)) s halved k = tee-enters s u v s (slice_get s.tees u.0)
+  row-enters (OnPort c ports.Pull) s halved k = port-enters s c s (slice_get s.ports c.0)
   row-enters (PullAlgorithm j) s halved k = pull-enters s j (owner_at j s) k
   row-enters (ChunkSteps j (Promise p) v) s halved k = tt
   row-enters (ChunkSteps j (PipeRequest p) v) s halved k = (tt, tt)
@@ -208,6 +234,7 @@ module _ (t : TransformId) where
   entering-leads s (OnTransform u (names.Enqueue v)) k = refl
   entering-leads s (OnTransform u names.Enqueued) k = refl
   entering-leads s (OnTee u (KeepByTee v)) k = refl
+  entering-leads s (OnPort c ports.Pull) k = refl
   entering-leads s (PullAlgorithm j) k = refl
   entering-leads s (ChunkSteps j q v) k = refl
   entering-leads s (OnPipe p (KeepChunk v)) k = refl

@@ -112,6 +112,7 @@ module _ (p : PipeId) (i : StreamId) (r : readable.Slots) (C : Type 0) (closed :
         signal = λ z k. k;
         transform = λ z kind i j change k. k;
         tee = λ z source first second cancel k. k;
+        port = λ z side stream backpressure k. k;
         bytes = λ z mark auto k. k;
         byob_requests = λ z hs k. k;
         readable = λ z owner mark size k. k;
@@ -156,6 +157,7 @@ module _ (p : PipeId) where
     signal = λ z k. k;
     transform = λ z kind i j change k. k;
     tee = λ z source first second cancel k. k;
+    port = λ z side stream backpressure k. k;
     bytes = λ z mark auto k. k;
     byob_requests = λ z hs k. k;
     readable = λ z owner mark size k. k;

@@ -1,7 +1,9 @@
 -- In a step that finds a pipe not over, its destination is written what the pipe passes on, and nothing else.
 use Rattle.ws_value.specs.declared.ids.TeeId.{TeeId}
+use Rattle.ws_laws.proofs.PortDoes.{PortCauses}
+use Rattle.ws_value.specs.declared.ids.PortId.{PortId}
 use Rattle.ws_steps.specs.declared.promises.Micro.TheVariants.{TeeHand}
-use Rattle.ws_steps.specs.declared.effects.Effect.TheVariants.{Tee as OnTee}
+use Rattle.ws_steps.specs.declared.effects.Effect.TheVariants.{Tee as OnTee, Port as OnPort}
 use Rattle.std.proofs.Common.{◌≡◌, ◌≢◌, ℕ, Bool, true, false, nat_eq, if◌then◌else◌, List, [], ◌∷◌, ◌++◌, Option, Some, None, Result, refl, sym, ap, subst, ◌∙◌, append_assoc, append-nil, arith}
 use Rattle.ws_value.specs.declared.{ids.LockId.{LockId}, ids.PipeId.{PipeId}, ids.PromiseId.{PromiseId}, ids.StreamId.{StreamId}}
 use Rattle.ws_value.specs.declared.value.{Plain.{Plain}, Value.{Value}}
@@ -106,20 +108,25 @@ tee-none : (t : TeeId) (source first second : StreamId) (e : Effect) → TeeCaus
 tee-none t source first second (OnPipe q operation) c = absurd c
 tee-none t source first second _ c = tt
 
+port-none : (me : PortId) (stream : StreamId) (e : Effect) → PortCauses me stream e → IsNoWrite e
+port-none me stream (OnPipe q operation) c = absurd c
+port-none me stream _ c = tt
+
 none-causes : (e : Effect) → Causes IsNoWrite e
 none-causes (OnReadable j operation) = record { pull = tt; cancel = λ r q. tt; chunk = λ r v. tt; close = λ r. tt; error = λ r e. tt }
 none-causes (Byte j operation) = record { readable = record { pull = tt; cancel = λ r q. tt; chunk = λ r v. tt; close = λ r. tt; error = λ r e. tt }; close_with = λ r b. tt }
-none-causes (OnWritable j operation) = record { write = tt; close = tt; abort = λ r q. tt; hand_on = λ v. tt; take = λ v t d. tt }
+none-causes (OnWritable j operation) = record { write = tt; close = tt; abort = λ r q. tt; hand_on = λ v. tt; take = λ v t d. tt; post = λ v c d. tt }
 none-causes (OnPipe q operation) = pipe-none q
 none-causes (OnSignal a operation) = signal-none operation
 none-causes (OnTransform t operation) = transform-none t
 none-causes (OnTee t operation) = tee-none t
+none-causes (OnPort c operation) = port-none c
 none-causes (StartAlgorithm j step start) = (λ g u. tt, λ c u. tt)
-none-causes (PullAlgorithm j) = (λ c u. tt, (λ t u. tt, (λ t. tt, λ u. tt)))
-none-causes (CancelAlgorithm j r q) = (λ c u. tt, (λ t u. tt, λ t half u. tt))
-none-causes (WriteAlgorithm j) = (tt, λ t u. tt)
-none-causes (CloseAlgorithm j) = (λ c u. tt, λ t u. tt)
-none-causes (AbortAlgorithm j r q) = (λ c u. tt, λ t u. tt)
+none-causes (PullAlgorithm j) = (λ c u. tt, (λ t u. tt, (λ t. tt, (λ u. tt, λ c. tt))))
+none-causes (CancelAlgorithm j r q) = (λ c u. tt, (λ t u. tt, (λ t half u. tt, λ c u. tt)))
+none-causes (WriteAlgorithm j) = (tt, (λ t u. tt, λ c u. tt))
+none-causes (CloseAlgorithm j) = (λ c u. tt, (λ t u. tt, λ c u. tt))
+none-causes (AbortAlgorithm j r q) = (λ c u. tt, (λ t u. tt, λ c u. tt))
 none-causes (ChunkSteps j request v) = chunk-none v request
 none-causes (CloseSteps j request) = end-none request
 none-causes (CloseStepsWith j request b) = end-none request

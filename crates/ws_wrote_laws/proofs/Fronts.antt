@@ -1,7 +1,7 @@
 -- What is written to the destination of a pipe, while it isn't over, is a first part of what it passes on.
 use Rattle.std.proofs.Common.{◌≡◌, Bool, true, false, ℕ, zero, suc, map, is_some, List, [], ◌∷◌, ◌++◌, Option, Some, None, slice_get, Result, Ok, Err, refl, sym, ap, subst, ◌∙◌, append_assoc, append-nil, arith}
 use Rattle.ws_value.specs.declared.{ids.PipeId.{PipeId}, ids.StreamId.{StreamId}, value.Plain.{Plain}, value.Plain.TheVariants.{Undefined}, value.Value.{Value}}
-use Rattle.ws_steps.specs.declared.effects.{Owner.{Owner}, Owner.TheVariants.{Host, HalfOf, BranchOf}}
+use Rattle.ws_steps.specs.declared.effects.{Owner.{Owner}, Owner.TheVariants.{Host, HalfOf, BranchOf, EndOf}}
 use Rattle.ws_steps.specs.declared.pipes.{Ends.{Ends}, Phase.{Phase}, PipeOperation.{PipeOperation}}
 use Rattle.ws_steps.specs.declared.writable.WritableOperation.{WritableOperation}
 use Rattle.ws_steps.specs.declared.writable.WritableOperation.TheVariants as names
@@ -26,6 +26,8 @@ use Rattle.ws_steps.specs.Turns.{row}
 use Rattle.ws_transform_laws.proofs.Lawful.{each_half_is_lawful, run-orderly}
 use Rattle.ws_transform_laws.proofs.Sunk.{AreSunk, run-sunk, sink-owned}
 use Rattle.ws_transform_laws.proofs.Steps.{each_half_step}
+use Rattle.ws_transform_laws.proofs.PortLawful.{each_end_is_lawful}
+use Rattle.ws_transform_laws.proofs.PortSteps.{each_end_step}
 use Rattle.ws_writable_laws.proofs.EachStep.{each_writable_step}
 use Rattle.ws_writable_laws.proofs.Runs as writes
 use Rattle.ws_writable_laws.proofs.Runs.{each_writable_is_lawful}
@@ -84,6 +86,7 @@ sinks-stay i = record {
     signal = λ z k. k;
     transform = λ z kind first second change k. k;
     tee = λ z source first second cancel k. k;
+    port = λ z side stream backpressure k. k;
     bytes = λ z mark auto k. more-sinks z.streams _ i.0 k;
     byob_requests = λ z hs k. k;
     readable = λ z owner mark size k. more-sinks z.streams _ i.0 k;
@@ -151,6 +154,7 @@ every_writable entries i = by (owner_at i (run entries empty)) refl
         there : (b : Bool) → has_writable i (run entries empty) ≡ b → IsLawfulWritable (run_writes i entries empty) (writable_at i (run entries empty))
         there true f = absurd (rw e at (sink-owned i (run entries empty) (run-sunk entries) f))
         there false f = absent-lawful entries i f
+    by (EndOf c) e = each_end_is_lawful entries i c e
 
 every_step : (entries : List Entry) (x : Entry) (i : StreamId) → IsWritableStep (step_writes i (run entries empty) x) (writable_at i (run entries empty)) (writable_at i (step (run entries empty) x))
 every_step entries x i = by (owner_at i (step (run entries empty) x)) refl
@@ -167,6 +171,7 @@ every_step entries x i = by (owner_at i (step (run entries empty) x)) refl
             → IsWritableStep (step_writes i (run entries empty) x) (writable_at i (run entries empty)) (writable_at i (step (run entries empty) x))
         there true f = absurd (rw e at (sink-owned i (step (run entries empty) x) sunk f))
         there false f = absent-step entries x i f
+    by (EndOf c) e = each_end_step entries x i c e
 
 -- a stream that refuses writes goes on to
 

@@ -96,6 +96,7 @@ module _ (p : PipeId) (P : pipe.Slots → Type 0) (keeps : (ends : Ends) (operat
     signal = λ z k. k;
     transform = λ z kind i j change k. k;
     tee = λ z source first second cancel k. k;
+    port = λ z side stream backpressure k. k;
     bytes = λ z mark auto k. k;
     byob_requests = λ z hs k. k;
     readable = λ z owner mark size k. k;
@@ -217,6 +218,7 @@ module _ (i : StreamId) (W : writable.Slots → Type 0) (keeps : (operation : Wr
     signal = λ z k. k;
     transform = λ z kind i j change k. k;
     tee = λ z source first second cancel k. k;
+    port = λ z side stream backpressure k. k;
     bytes = λ z mark auto k. added z.streams _ k;
     byob_requests = λ z hs k. k;
     readable = λ z owner mark size k. added z.streams _ k;
@@ -315,6 +317,7 @@ module _ (i : StreamId) (R : readable.Slots → Type 0) (keeps : (operation : Re
     signal = λ z k. k;
     transform = λ z kind i j change k. k;
     tee = λ z source first second cancel k. k;
+    port = λ z side stream backpressure k. k;
     bytes = λ z mark auto k. more z.streams _ k;
     byob_requests = λ z hs k. k;
     readable = λ z owner mark size k. more z.streams _ k;

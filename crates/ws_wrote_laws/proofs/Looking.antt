@@ -1,4 +1,11 @@
 -- A pipe that shuts down without an error found its source closed, and it was closed before the step.
+use Rattle.ws_steps.specs.declared.port.PortOperation.{PortOperation}
+use Rattle.ws_steps.specs.declared.port.PortOperation.TheVariants as ports
+use Rattle.ws_steps.specs.Cross as cross
+use Rattle.ws_value.specs.declared.ids.PortId.{PortId}
+use Rattle.ws_steps.specs.Operations.{port_operation}
+use Rattle.ws_steps.specs.Slots.{on_port_at, clones_at}
+use Rattle.ws_laws.proofs.PortDoes.{PortCauses}
 use Rattle.ws_value.specs.declared.ids.TeeId.{TeeId}
 use Rattle.ws_steps.specs.declared.promises.Micro.TheVariants.{TeeHand}
 use Rattle.ws_steps.specs.declared.promises.Step.TheVariants.{TeeEnds}
@@ -8,7 +15,7 @@ use Rattle.ws_steps.specs.declared.effects.{Effect.{Effect}, Effect.TheVariants.
 use Rattle.ws_steps.specs.declared.pipes.{Action.{Action}, Ends.{Ends}, Phase.{Phase}, Phase.TheVariants.{Flowing, Waiting, Acting, Over}, PipeOperation.{PipeOperation}, Prevent.{Prevent}, SignalOperation.{SignalOperation}, SignalOperation.TheVariants.{Add, Forget, Trigger}}
 use Rattle.ws_steps.specs.declared.pipes.PipeOperation.TheVariants.{KeepChunk, WriteChunk, ActionSettled}
 use Rattle.ws_steps.specs.declared.promises.{Job.{Job}, Job.TheVariants.{Reaction as ReactionJob, Follow, Settle as SettleJob, Micro as MicroJob}, Micro.TheVariants.{PipeLook, PipeWrite, PipeNoParts}}
-use Rattle.ws_steps.specs.declared.promises.{Step.{Step}, Step.TheVariants.{ReadableStart, ReadablePull, ReturnUndefined, WritableStart, WritableWrite, WritableClose, WritableAbort, PipeEnds, PipeReady, PipeWrote, PipeActed, PipePart, TransformChanged, Transformed, TransformFlushed, TransformAborted, TransformCancelled}}
+use Rattle.ws_steps.specs.declared.promises.{Step.{Step}, Step.TheVariants.{ReadableStart, ReadablePull, ReturnUndefined, WritableStart, WritableWrite, WritableClose, WritableAbort, PipeEnds, PipeReady, PipeWrote, PipeActed, PipePart, TransformChanged, PortUnblocked, Transformed, TransformFlushed, TransformAborted, TransformCancelled}}
 use Rattle.ws_steps.specs.declared.readable.{ReadRequest.{ReadRequest}, ReadRequest.TheVariants.{Promise, Pipe as PipeRequest, Tee as TeeRequest}, ReadableOperation.TheVariants.{Enqueue}}
 use Rattle.ws_steps.specs.declared.transform.{TransformId.{TransformId}, TransformOperation.{TransformOperation}, TransformOperation.TheVariants.{SinkWrite, TransformChunk, Enqueued, SourcePull, SinkClose, SinkAbort, SourceCancel}, Halves.{Halves}}
 use Rattle.ws_steps.specs.Jobs.{job_effects, resolved, returned, steps}
@@ -21,7 +28,7 @@ use Rattle.ws_steps.specs.Readable.{call_pull_if_needed, accept, controller_enqu
 use Rattle.ws_steps.specs.Slots.{owner_at, on_tee_at, Slots, Stream, Done, nothing, found, ends_at, halves_at, has_readable, has_byte, is_readable_stream, is_byte_stream, as_readable, as_byte, as_source, put_readable, put_byte, on_pipe_at, on_readable, on_byte, on_transform_at, source_at}
 use Rattle.ws_steps.specs.Transform as transform
 use Rattle.ws_steps.specs.Tee as tee
-use Rattle.ws_steps.specs.declared.effects.{Effect.TheVariants.{Tee as OnTee}, Owner.{Owner}, Owner.TheVariants.{Host, HalfOf, BranchOf}, Use.{Use}, Use.TheVariants.{React}}
+use Rattle.ws_steps.specs.declared.effects.{Effect.TheVariants.{Tee as OnTee, Port as OnPort}, Owner.{Owner}, Owner.TheVariants.{Host, HalfOf, BranchOf, EndOf}, Use.{Use}, Use.TheVariants.{React}}
 use Rattle.ws_steps.specs.declared.tee.TeeOperation.{TeeOperation}
 use Rattle.ws_steps.specs.declared.tee.TeeOperation.TheVariants.{KeepChunk as KeepByTee}
 use Rattle.ws_steps.specs.Turns.{pull_algorithm}
@@ -70,6 +77,13 @@ abbrev is_branch : Owner → Bool
 is_branch Host = false
 is_branch (HalfOf t) = false
 is_branch (BranchOf t half) = true
+is_branch (EndOf c) = false
+
+-- operations of ports but for those by which a message comes
+abbrev IsCalmPort : PortOperation → Type 0
+IsCalmPort (ports.Deliver m) = ⊥
+IsCalmPort ports.Unblock = ⊥
+IsCalmPort _ = Unit {0}
 
 abbrev IsCalm : Slots → Effect → Type 0
 IsCalm s (OnReadable j (Enqueue v)) = is_branch (owner_at j s) ≡ false
@@ -77,6 +91,7 @@ IsCalm s (OnWritable j operation) = Unit {0}
 IsCalm s (OnPipe q (KeepChunk v)) = Unit {0}
 IsCalm s (OnTransform t operation) = IsCalmOperation operation
 IsCalm s (OnTee t (KeepByTee v)) = Unit {0}
+IsCalm s (OnPort c operation) = IsCalmPort operation
 IsCalm s (PullAlgorithm j) = is_branch (owner_at j s) ≡ false
 IsCalm s (WriteAlgorithm j) = Unit {0}
 IsCalm s (CloseAlgorithm j) = Unit {0}
@@ -92,6 +107,7 @@ calm-later : (e f : Effect) (s : Slots) → IsCalm s f → IsCalm (row e s).slot
 calm-later e (OnReadable j (Enqueue v)) s c = ap is_branch (row-owner j e s) ∙ c
 calm-later e (PullAlgorithm j) s c = ap is_branch (row-owner j e s) ∙ c
 calm-later e (OnTee t operation) s c = c
+calm-later e (OnPort me operation) s c = c
 calm-later e (OnTransform t operation) s c = c
 calm-later e f s c = c
 
@@ -111,6 +127,15 @@ unfolding tee.keep_chunk
 tee-calm z t operation s None c = tt
 tee-calm z t (KeepByTee v) s (Some x) c = tt
 tee-calm z t operation s (Some x) c = absurd c
+
+ported-calm : (z : Slots) (me : PortId) (clones : Bool) (operation : PortOperation) (a : cross.Acts) → IsCalmPort operation → a.out.effects ≡ [] → Each (IsCalm z) (port_operation me clones operation a).out.effects
+unfolding cross.pull cross.leave cross.close cross.write cross.write_goes_on cross.post_chunk
+ported-calm z me clones operation a c none = grind (arith, c, none)
+
+port-calm : (z : Slots) (me : PortId) (operation : PortOperation) (s : Slots) (o : Option cross.Slots) → IsCalm z (OnPort me operation)
+    → Each (IsCalm z) (on_port_at (λ clones. port_operation me clones operation) me s o).caused
+port-calm z me operation s None c = tt
+port-calm z me operation s (Some x) c = ported-calm z me (clones_at x s) operation (record { slots = x; out = found s }) c refl
 
 operation-calm : (s : Slots) (t : TransformId) (halves : Halves) (operation : TransformOperation) (a : transform.Acts) → IsCalmOperation operation → a.out.effects ≡ []
     → is_branch (owner_at a.slots.readable s) ≡ false → Each (IsCalm s) (transform_operation t halves operation a).out.effects
@@ -142,20 +167,22 @@ pull-calm : (s : Slots) (j : StreamId) (u : Use) (owner : Owner) → is_branch o
 pull-calm s j u Host n = (tt, tt)
 pull-calm s j u (HalfOf t) n = (tt, tt)
 pull-calm s j u (BranchOf t half) n = cc
+pull-calm s j u (EndOf c) n = (tt, (tt, tt))
 
 row-calm : (e : Effect) (s : Slots) → Halved s → IsCalm s e → Each (IsCalm s) (row e s).caused
 unfolding row
 row-calm (OnPipe q operation) s halved c = pipe-calm s q operation s (slice_get s.pipes q.0) c
 row-calm (OnTransform t operation) s halved c = transform-calm t operation s (slice_get s.transforms t.0) refl halved c
 row-calm (OnTee t operation) s halved c = tee-calm s t operation s (slice_get s.tees t.0) c
+row-calm (OnPort me operation) s halved c = port-calm s me operation s (slice_get s.ports me.0) c
 row-calm (OnReadable j (Enqueue v)) s halved c = enqueued-calm j v s c
 row-calm (OnReadable j operation) s halved c = absurd c
 row-calm (OnWritable j operation) s halved c =
-    row-causes (IsCalm s) (OnWritable j operation) s (record { write = tt; close = tt; abort = λ r q. tt; hand_on = λ v. tt; take = λ v t d. tt })
+    row-causes (IsCalm s) (OnWritable j operation) s (record { write = tt; close = tt; abort = λ r q. tt; hand_on = λ v. tt; take = λ v t d. tt; post = λ v c d. tt })
 row-calm (PullAlgorithm j) s halved c = pull-calm s j (React (ReadablePull j) None) (owner_at j s) c
-row-calm (WriteAlgorithm j) s halved c = row-causes (IsCalm s) (WriteAlgorithm j) s (tt, λ t u. tt)
-row-calm (CloseAlgorithm j) s halved c = row-causes (IsCalm s) (CloseAlgorithm j) s (λ h u. tt, λ t u. tt)
-row-calm (AbortAlgorithm j r q) s halved c = row-causes (IsCalm s) (AbortAlgorithm j r q) s (λ h u. tt, λ t u. tt)
+row-calm (WriteAlgorithm j) s halved c = row-causes (IsCalm s) (WriteAlgorithm j) s (tt, (λ t u. tt, λ c u. tt))
+row-calm (CloseAlgorithm j) s halved c = row-causes (IsCalm s) (CloseAlgorithm j) s (λ h u. tt, (λ t u. tt, λ c u. tt))
+row-calm (AbortAlgorithm j r q) s halved c = row-causes (IsCalm s) (AbortAlgorithm j r q) s (λ h u. tt, (λ t u. tt, λ c u. tt))
 row-calm (ChunkSteps j request v) s halved c = row-causes (IsCalm s) (ChunkSteps j request v) s (chunk-calm s v request)
 row-calm (Give gift u) s halved c = tt
 row-calm (Settle q o) s halved c = tt
@@ -233,20 +260,25 @@ tee-look : (t : TeeId) (source first second : StreamId) (e : Effect) → TeeCaus
 tee-look t source first second (OnPipe q operation) c = absurd c
 tee-look t source first second _ c = tt
 
+port-look : (me : PortId) (stream : StreamId) (e : Effect) → PortCauses me stream e → IsNoLook e
+port-look me stream (OnPipe q operation) c = absurd c
+port-look me stream _ c = tt
+
 look-causes : (e : Effect) → IsNoPipe e → Causes IsNoLook e
 look-causes (OnReadable j operation) n = record { pull = tt; cancel = λ r q. tt; chunk = λ r v. tt; close = λ r. tt; error = λ r e. tt }
 look-causes (Byte j operation) n = record { readable = record { pull = tt; cancel = λ r q. tt; chunk = λ r v. tt; close = λ r. tt; error = λ r e. tt }; close_with = λ r b. tt }
-look-causes (OnWritable j operation) n = record { write = tt; close = tt; abort = λ r q. tt; hand_on = λ v. tt; take = λ v t d. tt }
+look-causes (OnWritable j operation) n = record { write = tt; close = tt; abort = λ r q. tt; hand_on = λ v. tt; take = λ v t d. tt; post = λ v c d. tt }
 look-causes (OnPipe q operation) n = absurd n
 look-causes (OnSignal a operation) n = signal-look operation
 look-causes (OnTransform t operation) n = transform-look t
 look-causes (OnTee t operation) n = tee-look t
+look-causes (OnPort c operation) n = port-look c
 look-causes (StartAlgorithm j step start) n = (λ g u. tt, λ c u. tt)
-look-causes (PullAlgorithm j) n = (λ c u. tt, (λ t u. tt, (λ t. tt, λ u. tt)))
-look-causes (CancelAlgorithm j r q) n = (λ c u. tt, (λ t u. tt, λ t half u. tt))
-look-causes (WriteAlgorithm j) n = (tt, λ t u. tt)
-look-causes (CloseAlgorithm j) n = (λ c u. tt, λ t u. tt)
-look-causes (AbortAlgorithm j r q) n = (λ c u. tt, λ t u. tt)
+look-causes (PullAlgorithm j) n = (λ c u. tt, (λ t u. tt, (λ t. tt, (λ u. tt, λ c. tt))))
+look-causes (CancelAlgorithm j r q) n = (λ c u. tt, (λ t u. tt, (λ t half u. tt, λ c u. tt)))
+look-causes (WriteAlgorithm j) n = (tt, (λ t u. tt, λ c u. tt))
+look-causes (CloseAlgorithm j) n = (λ c u. tt, (λ t u. tt, λ c u. tt))
+look-causes (AbortAlgorithm j r q) n = (λ c u. tt, (λ t u. tt, λ c u. tt))
 look-causes (ChunkSteps j request v) n = chunk-look v request
 look-causes (CloseSteps j request) n = end-look request
 look-causes (CloseStepsWith j request b) n = end-look request
@@ -453,7 +485,9 @@ steps-front s (PipeWrote q) o derived r = inr (inl (resolved-look derived r))
 steps-front s (PipeActed q) o derived r = inr (inl (resolved-look derived r))
 steps-front s (PipePart q) o derived r = inr (inl (resolved-look derived r))
 steps-front s (TransformChanged t d) (Ok v) derived r = inl (tt, resolved-look derived r)
+steps-front s (PortUnblocked c d) (Ok v) derived r = inl (tt, resolved-look derived r)
 steps-front s (TransformChanged t d) (Err e) derived r = inl (tt, resolved-look derived r)
+steps-front s (PortUnblocked c d) (Err e) derived r = inl (tt, resolved-look derived r)
 steps-front s (Transformed t) (Ok v) derived r = inl (resolved-look derived r)
 steps-front s (Transformed t) (Err e) derived r = inl (tt, resolved-look derived r)
 steps-front s (TransformFlushed t q) o derived r = inl (tt, resolved-look derived r)
