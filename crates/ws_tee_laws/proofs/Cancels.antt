@@ -1,5 +1,6 @@
 -- The source of a tee is cancelled once, with the pair of the reasons, where both branches are cancelled; and by nobody else.
 use Rattle.std.proofs.Common.{◌≡◌, ◌≢◌, ⊎_elim, ℕ, zero, suc, ◌+◌, Bool, true, false, not, ◌&&◌, nat_eq, if◌then◌else◌, is_some, is_none, List, [], ◌∷◌, ◌++◌, length, Option, Some, None, Ok, Err, slice_get, slice_set, refl, sym, ap, subst, ◌∙◌, append_assoc, append-nil, arith}
+use Rattle.ws_value.specs.declared.ids.PortId.{PortId}
 use Rattle.ws_value.specs.declared.ids.{PromiseId.{PromiseId}, StreamId.{StreamId}, TeeId.{TeeId}}
 use Rattle.ws_value.specs.declared.value.{Plain.{Plain}, Plain.TheVariants.{Pair}, Value.{Value}}
 use Rattle.ws_steps.specs.declared.calls.Call.{Call}
@@ -10,7 +11,7 @@ use Rattle.ws_steps.specs.declared.readable.{ReadRequest.TheVariants.{Tee as Tee
 use Rattle.ws_steps.specs.declared.tee.{Half.{Half}, Half.TheVariants.{First, Second}, TeeOperation.{TeeOperation}, TeePhase.{TeePhase}, TeePhase.TheVariants.{Resting, Reading, Over}}
 use Rattle.ws_steps.specs.declared.tee.TeeOperation.TheVariants as names
 use Rattle.ws_steps.specs.declared.transform.TransformId.{TransformId}
-use Rattle.ws_steps.specs.Calls.{Begun, begin, make_tee}
+use Rattle.ws_steps.specs.Calls.{Begun, begin, make_tee, add_port}
 use Rattle.ws_steps.specs.Histories.{is_same}
 use Rattle.ws_steps.specs.Jobs.{job_effects}
 use Rattle.ws_steps.specs.Operations.{tee_operation}
@@ -35,6 +36,9 @@ use Rattle.ws_laws.proofs.Walker.{IsHistory, GoesUntold, RestsUntold, run-holds}
 use Rattle.ws_lock_laws.specs.LockLaws.{spares, all_spare}
 use Rattle.ws_lock_laws.proofs.Few.{no_stream}
 use Rattle.ws_lock_laws.proofs.TeeOwning.{Fair, Owned, same_tee, alone-now, piped-fair, calls-spare, owned-stays, owned-heard, owned-empty}
+use Rattle.ws_steps.specs.declared.port.Side.{Side}
+use Rattle.ws_steps.specs.declared.port.Side.TheVariants.{Readable as ReadableSide, Writable as WritableSide}
+use Rattle.ws_laws.proofs.PortDoes.{PortCauses}
 
 -- the reasons with which an effect cancels stream i
 abbrev seen : StreamId → Effect → List Plain
@@ -73,8 +77,14 @@ module _ (i : StreamId) where
   transform_not : (me : TransformId) (writable readable : StreamId) (e : Effect) → TransformCauses me writable readable e → Not i e
   transform_not me writable readable e c = grind (arith, c)
 
+  port-not : (c : PortId) (stream : StreamId) (e : Effect) → PortCauses c stream e → Not i e
+  port-not c stream (OnReadable j (Cancel r p)) k = absurd k
+  port-not c stream (OnReadable j (CancelIfReadable r p)) k = absurd k
+  port-not c stream (OnReadable j operation) k = not-cancel j operation refl
+  port-not c stream e k = refl
+
   other-not : (e : Effect) → IsNoPipe e → IsNoTee e → Causes (Not i) e
-  other-not e n m = grind (arith, n, m, transform_not)
+  other-not e n m = grind (arith, n, m, transform_not, port-not)
 
   -- an operation of the reader that may be that of two tees is none
   two_pairs : {A : Type 0} (t : TeeId) (r : Plain) → r ≡ Pair t → r ≡ Pair (record { 0 = suc t.0 }) → A
@@ -386,6 +396,7 @@ module _ (t : TeeId) where
     signal = λ z k. k;
     transform = λ z kind a b change k. k;
     tee = λ z source first second cancel k. get-stays z.tees _ t.0 x k;
+    port = λ z side stream backpressure k. k;
     readable = λ z owner mark size k. k;
     bytes = λ z mark auto k. k;
     byob_requests = λ z requests k. k;
@@ -404,6 +415,10 @@ module _ (t : TeeId) where
         let y : tee.Slots = tee.set_up i (record { 0 = length s.streams }) (record { 0 = length s.streams + 1 }) (next_id (fresh s.promises)) in
         let same : y ≡ x = ⊎_elim (λ old. gone x old) (λ new. new.1) (get-either s.tees y t.0 x now) in
         rw (← same) (none-seen i (make_tee i (record { 0 = length s.streams }) (record { 0 = length s.streams + 1 }) s).done.caused (not-cancel i i (InitializeReader (next_id s.promises)) refl, (refl, (refl, (refl, tt)))), refl)
+
+    port-tees : (s : Slots) (side : Side) → (add_port (record { 0 = length s.streams }) s side).tees ≡ s.tees
+    port-tees s ReadableSide = refl
+    port-tees s WritableSide = refl
 
     call-new : (c : Call) → IsNew (begin c s)
     call-new c = each_call IsNew c s (record {
@@ -439,6 +454,10 @@ module _ (t : TeeId) where
       terminate = λ u x e. gone x e;
       pipe = λ source dest prevent signal f g l m x e. gone x e;
       make_signal = λ x e. gone x e;
+      open_end = λ side x e. gone x (subst (λ (xs : List tee.Slots). slice_get xs t.0 ≡ Some x) (port-tees s side) e);
+      send_readable = λ i there free x e. gone x e;
+      send_writable = λ i there free x e. gone x e;
+      deliver = λ p m f is x e. gone x e;
       trigger = λ a reason x e. gone x e;
       settle = λ h answer p f x e. gone x e;
     })

@@ -1,5 +1,7 @@
 -- The closed promise of the reader with which a tee reads its source: it comes with the tee, and is rejected only where the source has errored.
 use Rattle.std.proofs.Common.{◌≡◌, ℕ, zero, suc, ◌+◌, ◌≤◌, Bool, true, false, not, ◌⊎◌, inl, inr, List, [], ◌∷◌, ◌++◌, Option, Some, slice_get, refl, sym, ap, subst, ◌∙◌, arith}
+use Rattle.ws_laws.proofs.PortDoes.{PortCauses}
+use Rattle.ws_value.specs.declared.ids.PortId.{PortId}
 use Rattle.ws_value.specs.declared.ids.{PipeId.{PipeId}, PromiseId.{PromiseId}, StreamId.{StreamId}, TeeId.{TeeId}}
 use Rattle.ws_value.specs.declared.value.{Outcome.TheVariants.{Fulfilled}}
 use Rattle.ws_steps.specs.declared.byte.ByteOperation.{ByteOperation}
@@ -148,7 +150,7 @@ module _ (t : TeeId) (i : StreamId) (p : PromiseId) where
       (initialize-fate p i (readable_acts i s) (open-of p (λ x. in_effects x (OnReadable i (names.InitializeReader p) ∷ es)) s k.sound (omega (arith, one))))
 
   no-reader : (e : Effect) → Causes NoReader e
-  no-reader e = grind (arith, transform-none, pipe-none, tee-none)
+  no-reader e = grind (arith, transform-none, pipe-none, tee-none, port-none)
     where
       transform-none : (u : TransformId) (writable readable : StreamId) (e : Effect) → TransformCauses u writable readable e → NoReader e
       transform-none u writable readable e c = grind (arith, c)
@@ -158,6 +160,9 @@ module _ (t : TeeId) (i : StreamId) (p : PromiseId) where
 
       tee-none : (u : TeeId) (source first second : StreamId) (e : Effect) → TeeCauses u source first second e → NoReader e
       tee-none u source first second e c = grind (arith, c)
+
+      port-none : (c : PortId) (stream : StreamId) (e : Effect) → PortCauses c stream e → NoReader e
+      port-none c stream e k = grind (arith, k)
 
   -- its reader comes first of all, or it is there
 

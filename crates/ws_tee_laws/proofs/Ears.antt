@@ -1,5 +1,7 @@
 -- A tee reacts to one promise alone: no other effect than the one with which it begins makes such a reaction.
 use Rattle.std.proofs.Common.{◌≡◌, ℕ, zero, suc, ◌+◌, Bool, true, false, ◌⊎◌, inl, inr, nat_eq, List, [], ◌∷◌, ◌++◌, length, map, Option, Some, None, slice_get, refl, sym, subst, ◌∙◌, arith}
+use Rattle.ws_steps.specs.declared.effects.Owner.TheVariants.{EndOf}
+use Rattle.ws_steps.specs.declared.effects.Effect.TheVariants.{Port as OnPort}
 use Rattle.ws_value.specs.declared.ids.{PipeId.{PipeId}, PromiseId.{PromiseId}, StreamId.{StreamId}, TeeId.{TeeId}}
 use Rattle.ws_value.specs.declared.value.{Plain.{Plain}, Value.{Value}}
 use Rattle.ws_steps.specs.declared.calls.{Call.{Call}, StartBy.{StartBy}, StartBy.TheVariants.{Now, Later}}
@@ -9,7 +11,7 @@ use Rattle.ws_steps.specs.declared.pipes.{SignalOperation.{SignalOperation}, Sig
 use Rattle.ws_steps.specs.declared.promises.{Job.{Job}, Reaction.TheVariants.{Perform}, Step.{Step}}
 use Rattle.ws_steps.specs.declared.promises.Step.TheVariants.{ReadablePull, TeeEnds}
 use Rattle.ws_steps.specs.declared.readable.{ReadRequest.{ReadRequest}, ReadRequest.TheVariants.{Promise, Pipe as PipeRequest, Tee as TeeRequest}}
-use Rattle.ws_steps.specs.Calls.{Begun, begin, make_tee}
+use Rattle.ws_steps.specs.Calls.{Begun, begin, make_tee, start_end}
 use Rattle.ws_steps.specs.Jobs.{job_effects}
 use Rattle.ws_steps.specs.Promises.{Table, next_id, fresh, after_next_job, watch, react, use_gift}
 use Rattle.ws_steps.specs.Slots.{Slots, owner_at}
@@ -25,6 +27,9 @@ use Rattle.ws_laws.proofs.Tables.{eq_numbers}
 use Rattle.ws_host_laws.proofs.Carried.{CarriesTee, TeeUses, row-tees_use, Carries, Uses, Own, row-uses}
 use Rattle.ws_host_laws.proofs.Plain.{row-plainly}
 use Rattle.ws_tee_laws.proofs.Rejections.{Told, NoUse, plainly-told, fresh-told, watch-told, next-told, gift-told, own-told, host-told}
+use Rattle.ws_steps.specs.declared.port.Side.{Side}
+use Rattle.ws_steps.specs.declared.port.Side.TheVariants.{Readable as ReadableSide, Writable as WritableSide}
+use Rattle.ws_host_laws.proofs.Ported.{CarriesPort, PortUses, row-port_uses}
 
 pub shape_last : (xs : List tee.Slots) (y : tee.Slots) (n : ℕ) → n ≡ length xs → slice_get (map tee_shape (xs ++ y ∷ [])) n ≡ Some (tee_shape y)
 shape_last [] y zero e = refl
@@ -61,6 +66,7 @@ module _ (t : TeeId) where
     Fits (StartAlgorithm i step start) = ends step ≡ false
     Fits (OnTransform u operation) = Carries Of operation
     Fits (OnTee u operation) = CarriesTee Of operation
+    Fits (OnPort c operation) = CarriesPort Of operation
     Fits _ = Unit {0}
 
     gift-fits : (gift : Gift) (u : Use) → Of u → GiftFits gift u
@@ -81,6 +87,7 @@ module _ (t : TeeId) where
     pipe-fits q source dest (StartAlgorithm i step start) c = absurd c
     pipe-fits q source dest (OnTransform u operation) c = absurd c
     pipe-fits q source dest (OnTee u operation) c = absurd c
+    pipe-fits q source dest (OnPort w operation) c = absurd c
     pipe-fits q source dest _ c = tt
 
     chunk-fits : (v : Value) (request : ReadRequest) → ChunkCauses Fits v request
@@ -111,26 +118,31 @@ module _ (t : TeeId) where
     pull-fits i Host = (refl, tt)
     pull-fits i (HalfOf u) = (refl, tt)
     pull-fits i (BranchOf u h) = (tt, (refl, tt))
+    pull-fits i (EndOf c) = (tt, (refl, tt))
 
     cancel-fits : (i : StreamId) (r : Plain) (owner : Owner) (step : Step) (d : Option PromiseId) → ends step ≡ false → Each Fits (cancel_algorithm i r (React step d) owner)
     cancel-fits i r Host step d n = (n, tt)
     cancel-fits i r (HalfOf u) step d n = (n, tt)
     cancel-fits i r (BranchOf u h) step d n = (n, tt)
+    cancel-fits i r (EndOf c) step d n = (n, tt)
 
     write-fits : (i : StreamId) (owner : Owner) → Each Fits (write_algorithm i owner)
     write-fits i Host = (tt, tt)
     write-fits i (HalfOf u) = (refl, tt)
     write-fits i (BranchOf u h) = (tt, tt)
+    write-fits i (EndOf c) = (refl, tt)
 
     close-fits : (i : StreamId) (owner : Owner) (step : Step) (d : Option PromiseId) → ends step ≡ false → Each Fits (close_algorithm i (React step d) owner)
     close-fits i Host step d n = (n, tt)
     close-fits i (HalfOf u) step d n = (n, tt)
     close-fits i (BranchOf u h) step d n = (n, tt)
+    close-fits i (EndOf c) step d n = (n, tt)
 
     abort-fits : (i : StreamId) (r : Plain) (owner : Owner) (step : Step) (d : Option PromiseId) → ends step ≡ false → Each Fits (abort_algorithm i r (React step d) owner)
     abort-fits i r Host step d n = (n, tt)
     abort-fits i r (HalfOf u) step d n = (n, tt)
     abort-fits i r (BranchOf u h) step d n = (n, tt)
+    abort-fits i r (EndOf c) step d n = (n, tt)
 
     own : Own Of
     own = record { resolve = λ q. tt; changed = λ u q. refl; transformed = λ u q. refl; flushed = λ u q. refl; aborted = λ u q r. refl; cancelled = λ u q r. refl }
@@ -141,6 +153,9 @@ module _ (t : TeeId) where
     tee-uses-fit : (e : Effect) → TeeUses Of e → Fits e
     tee-uses-fit e u = grind (arith, u, gift-fits)
 
+    port-uses-fit : (e : Effect) → PortUses Of (λ i. Unit {0}) e → Fits e
+    port-uses-fit e u = grind (arith, u, gift-fits)
+
     there-fits : (i : StreamId) → ReadableCauses Fits i
     there-fits i = record { pull = tt; cancel = λ r q. tt; chunk = λ r v. tt; close = λ r. tt; error = λ r e. tt }
 
@@ -149,12 +164,14 @@ module _ (t : TeeId) where
     caused-fit (OnReadable i operation) s f = row-causes Fits (OnReadable i operation) s (there-fits i)
     caused-fit (Byte i operation) s f = row-causes Fits (Byte i operation) s (record { readable = there-fits i; close_with = λ r v. tt })
     caused-fit (OnWritable i operation) s f =
-        row-causes Fits (OnWritable i operation) s (record { write = tt; close = tt; abort = λ r q. tt; hand_on = λ v. refl; take = λ v u d. tt })
+        row-causes Fits (OnWritable i operation) s (record { write = tt; close = tt; abort = λ r q. tt; hand_on = λ v. refl; take = λ v u d. tt; post = λ v c d. tt })
     caused-fit (OnPipe q operation) s f = row-causes Fits (OnPipe q operation) s (pipe-fits q)
     caused-fit (OnSignal a operation) s f = row-causes Fits (OnSignal a operation) s (signal-fits operation)
     caused-fit (OnTransform u operation) s f =
         each-map (Uses Of (λ i. Unit {0})) Fits uses-fit (row (OnTransform u operation) s).caused (row-uses Of (λ i. Unit {0}) own u operation s f (λ x e. tt))
     caused-fit (OnTee u operation) s f = each-map (TeeUses Of) Fits tee-uses-fit (row (OnTee u operation) s).caused (row-tees_use Of (λ q. tt) u operation s f)
+    caused-fit (OnPort c operation) s f =
+        each-map (PortUses Of (λ i. Unit {0})) Fits port-uses-fit (row (OnPort c operation) s).caused (row-port_uses Of (λ i. Unit {0}) (λ q. tt) (λ d q. refl) c operation s f (λ x e. tt))
     caused-fit (StartAlgorithm i step start) s f = start-fits i step s start f
     caused-fit (PullAlgorithm i) s f = pull-fits i (owner_at i s)
     caused-fit (CancelAlgorithm i r q) s f = cancel-fits i r (owner_at i s) _ _ refl
@@ -194,6 +211,7 @@ module _ (t : TeeId) where
       signal = λ z k. k;
       transform = λ z kind i j change k. k;
       tee = λ z source first second cancel k. k;
+      port = λ z side stream backpressure k. k;
       readable = λ z owner mark size k. k;
       bytes = λ z mark auto k. k;
       byob_requests = λ z requests k. k;
@@ -211,6 +229,10 @@ module _ (t : TeeId) where
         by : (next_id s.promises ≡ p) ⊎ (slice_get (tee_shapes (make_tee i (record { 0 = length s.streams }) (record { 0 = length s.streams + 1 }) s).done.slots) t.0 ≡ None) → next_id s.promises ≡ p
         by (inl same) = same
         by (inr none) = some_none _ (tee_shape (made s i)) (shape_last s.tees (made s i) t.0 (eq_numbers t.0 (length s.tees) e)) none
+
+    start-fits_end : (i : StreamId) (side : Side) → Fits (start_end i side)
+    start-fits_end i ReadableSide = refl
+    start-fits_end i WritableSide = refl
 
     call-fits : (c : Call) (s : Slots) → Meant s (begin c s).done.slots → Each Fits (begin c s).done.caused
     call-fits c s = each_call (λ (z : Begun). Meant s z.done.slots → Each Fits z.done.caused) c s (record {
@@ -246,6 +268,10 @@ module _ (t : TeeId) where
       terminate = λ u m. (tt, tt);
       pipe = λ source dest prevent signal e f l k m. grind (arith, each-append);
       make_signal = λ m. tt;
+      open_end = λ side m. (start-fits_end (record { 0 = length s.streams }) side, tt);
+      send_readable = λ i there free m. (refl, (tt, (tt, (tt, ((λ h. cc), ((λ h. cc), (tt, tt)))))));
+      send_writable = λ i there free m. (refl, (tt, (tt, (tt, ((λ h. cc), ((λ h. cc), (tt, tt)))))));
+      deliver = λ q x e is m. (tt, tt);
       trigger = λ a reason m. (tt, tt);
       settle = λ h answer q e m. grind arith;
     })

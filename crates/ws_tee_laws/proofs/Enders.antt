@@ -1,9 +1,12 @@
 -- Who closes a branch of a tee, or errors it: the tee alone, where its source is closed or its reader's closed promise was rejected.
 use Rattle.std.proofs.Common.{◌≡◌, ◌⊎◌, inl, inr, ℕ, zero, suc, Bool, true, false, nat_eq, List, [], ◌∷◌, map, Option, Some, None, Ok, Err, slice_get, refl, sym, ap, ◌∙◌, arith}
+use Rattle.ws_steps.specs.declared.effects.Owner.TheVariants.{EndOf}
+use Rattle.ws_value.specs.declared.ids.PortId.{PortId}
+use Rattle.ws_steps.specs.declared.effects.Effect.TheVariants.{Port as OnPort}
 use Rattle.ws_value.specs.declared.ids.{PromiseId.{PromiseId}, StreamId.{StreamId}, TeeId.{TeeId}}
 use Rattle.ws_value.specs.declared.value.{Plain.{Plain}}
 use Rattle.ws_steps.specs.declared.calls.Call.{Call}
-use Rattle.ws_steps.specs.declared.calls.Call.TheVariants.{MakeReadable, MakeBytes, MakeWritable, MakeTransform, Tee as TeeCall, GetReader, GetByob, GetWriter, Cancel, CancelBy, Read, ReadInto, Write, Close as CloseWritable, CloseBy, Abort as AbortWritable, AbortBy, Closed, Ready, Release, Enqueue as EnqueueCall, Finish, Fail, Terminate, Request, Respond, Desired, DesiredBy, Pipe as PipeCall, MakeSignal, Trigger as TriggerCall, Settle as SettleCall, State, Step as StepCall}
+use Rattle.ws_steps.specs.declared.calls.Call.TheVariants.{MakeReadable, MakeBytes, MakeWritable, MakeTransform, Tee as TeeCall, GetReader, GetByob, GetWriter, Cancel, CancelBy, Read, ReadInto, Write, Close as CloseWritable, CloseBy, Abort as AbortWritable, AbortBy, Closed, Ready, Release, Enqueue as EnqueueCall, Finish, Fail, Terminate, Request, Respond, Desired, DesiredBy, Pipe as PipeCall, MakeSignal, Trigger as TriggerCall, Settle as SettleCall, State, Step as StepCall, Send, Open, Deliver}
 use Rattle.ws_steps.specs.declared.effects.{Effect.{Effect}, Effect.TheVariants.{Readable as OnReadable, Tee as OnTee, Transform as OnTransform}, Owner.{Owner}, Owner.TheVariants.{Host, HalfOf, BranchOf}}
 use Rattle.ws_steps.specs.declared.promises.{Job.{Job}, Job.TheVariants.{Reaction as ReactionJob}, Step.TheVariants.{TeeEnds}}
 use Rattle.ws_steps.specs.declared.readable.ReadableOperation.TheVariants.{Close, Error}
@@ -16,9 +19,9 @@ use Rattle.ws_steps.specs.Calls.{Begun, begin}
 use Rattle.ws_steps.specs.Calls as calls
 use Rattle.ws_steps.specs.Histories.{is_same}
 use Rattle.ws_steps.specs.Jobs.{job_effects}
-use Rattle.ws_steps.specs.Operations.{tee_operation, transform_operation}
+use Rattle.ws_steps.specs.Operations.{tee_operation, transform_operation, port_operation}
 use Rattle.ws_steps.specs.Readable.{can_close_or_enqueue}
-use Rattle.ws_steps.specs.Slots.{Slots, Stream, ReadableStream, ByteStream, WritableStream, found, halves_at, has_byte, has_readable, has_writable, is_byte_stream, on_transform_at, on_tee_at, as_readable, readable_at, byte_at, writable_at}
+use Rattle.ws_steps.specs.Slots.{Slots, Stream, ReadableStream, ByteStream, WritableStream, found, halves_at, has_byte, has_readable, has_writable, is_byte_stream, on_transform_at, on_tee_at, as_readable, readable_at, byte_at, writable_at, on_port_at, clones_at}
 use Rattle.ws_steps.specs.Tee as tee
 use Rattle.ws_steps.specs.Transform as transform
 use Rattle.ws_steps.specs.Turns.{row}
@@ -26,12 +29,19 @@ use Rattle.ws_laws.proofs.Halves.{Halved}
 use Rattle.ws_laws.proofs.Lists.{Each, each-append, each-map}
 use Rattle.ws_laws.proofs.PipeDoes.{PipeCauses}
 use Rattle.ws_laws.proofs.Rows.{Causes, IsNoTee, row-causes}
-use Rattle.ws_laws.proofs.Shapes.{StreamShape, stream_shape, ReadableOf, branch_of, stream_shapes, transform_shapes, transform_shape, tee_shape, map-there}
+use Rattle.ws_laws.proofs.Shapes.{StreamShape, stream_shape, ReadableOf, branch_of, stream_shapes, transform_shapes, transform_shape, tee_shape, map-there, WritableOf}
 use Rattle.ws_laws.proofs.Tables.{either, same_id, eq_numbers, unequal_numbers}
 use Rattle.ws_laws.proofs.TeeDoes.{IsBranch, TeeCauses, tee-causes}
 use Rattle.ws_laws.proofs.TransformDoes.{TransformCauses, transform-causes}
 use Rattle.ws_tee_laws.proofs.Fronts.{shape}
 use Rattle.ws_tee_laws.proofs.Owns.{IsBasic, own-each}
+use Rattle.ws_tee_laws.proofs.Tied.{Tied}
+use Rattle.ws_steps.specs.declared.port.PortOperation.{PortOperation}
+use Rattle.ws_steps.specs.declared.port.Side.{Side}
+use Rattle.ws_steps.specs.declared.port.Side.TheVariants.{Readable as ReadableSide, Writable as WritableSide}
+use Rattle.ws_steps.specs.Cross as cross
+use Rattle.ws_laws.proofs.PortDoes.{PortCauses, port-causes}
+use Rattle.ws_laws.proofs.Ended.{end_shape, port_shape, port_shapes}
 
 -- an effect by which branch b ends, but for a cancel and what its own start and pull give
 abbrev pub ends : TeeId → StreamId → Effect → Bool
@@ -101,6 +111,9 @@ call-gentle (DesiredBy l) s o = grind arith
 call-gentle (PipeCall source dest prevent signal) s o = grind (arith, each-append)
 call-gentle MakeSignal s o = grind arith
 call-gentle (TriggerCall a reason) s o = grind arith
+call-gentle (Send i) s o = grind (arith, each-append)
+call-gentle (Open side) s o = grind arith
+call-gentle (Deliver p m) s o = grind arith
 call-gentle (SettleCall h answer) s o = grind arith
 call-gentle (State i) s o = grind arith
 call-gentle StepCall s o = grind arith
@@ -124,9 +137,9 @@ module _ (t : TeeId) (half : Half) (b : StreamId) where
   own-none ops.HandChunk a n h = own-each t (NoEnd t b) basic-none ops.HandChunk a (λ v e. (refl, (refl, refl))) h
   own-none operation a n h = own-each t (NoEnd t b) basic-none operation a tt h
 
-  module _ (s : Slots) (halved : Halved s) (x : tee.Slots) (there : slice_get s.tees t.0 ≡ Some x) (is : branch_of half (tee_shape x) ≡ b) where
+  module _ (s : Slots) (tied : Tied s) (x : tee.Slots) (there : slice_get s.tees t.0 ≡ Some x) (is : branch_of half (tee_shape x) ≡ b) where
     mine : slice_get (stream_shapes s) b.0 ≡ Some (ReadableOf (BranchOf t half))
-    mine = shape t half b s halved x there is
+    mine = shape t half b s tied x there is
 
     other : (j : StreamId) → (j ≡ b → ⊥) → is_same b j ≡ false
     other j n = by (is_same b j) refl
@@ -150,7 +163,7 @@ module _ (t : TeeId) (half : Half) (b : StreamId) where
     transformed u operation None e = tt
     transformed u operation (Some y) e =
         let at : slice_get (transform_shapes s) u.0 ≡ Some (transform_shape y) = map-there transform_shape s.transforms u.0 y e in
-        each-map (TransformCauses u y.writable y.readable) (NoEnd t b) (transform-not u y.writable y.readable (not-half y.readable u (halved.halves u (transform_shape y) at).0)) _
+        each-map (TransformCauses u y.writable y.readable) (NoEnd t b) (transform-not u y.writable y.readable (not-half y.readable u (tied.0.halves u (transform_shape y) at).0)) _
         (transform-causes u (halves_at y s) operation (record { slots = y; out = found s }) tt).1.1.1
 
     tee-not : (u : TeeId) (source first second : StreamId) → ((j : StreamId) → IsBranch first second j → j ≡ b → ⊥) → (e : Effect) → TeeCauses u source first second e → NoEnd t b e
@@ -158,9 +171,31 @@ module _ (t : TeeId) (half : Half) (b : StreamId) where
     tee-not u source first second n (OnReadable j (Error r)) c = other j (λ m. n j c m)
     tee-not u source first second n e c = grind (arith, c)
 
+    -- no port has it as its stream
+    not-end : (j : StreamId) (c : PortId) (side : Side) → slice_get (stream_shapes s) j.0 ≡ Some (end_shape c side) → j ≡ b → ⊥
+    not-end j c ReadableSide e same =
+        let both : ◌≡◌ {A = Option StreamShape} (Some (ReadableOf (EndOf c))) (Some (ReadableOf (BranchOf t half))) = sym e ∙ (ap (λ (k : StreamId). slice_get (stream_shapes s) k.0) same ∙ mine) in
+        cc
+    not-end j c WritableSide e same =
+        let both : ◌≡◌ {A = Option StreamShape} (Some (WritableOf (EndOf c))) (Some (ReadableOf (BranchOf t half))) = sym e ∙ (ap (λ (k : StreamId). slice_get (stream_shapes s) k.0) same ∙ mine) in
+        cc
+
+    port-not : (c : PortId) (stream : StreamId) → (stream ≡ b → ⊥) → (e : Effect) → PortCauses c stream e → NoEnd t b e
+    port-not c stream n (OnReadable j Close) k = other j (λ m. n (sym k ∙ m))
+    port-not c stream n (OnReadable j (Error r)) k = other j (λ m. n (sym k ∙ m))
+    port-not c stream n e k = grind (arith, k)
+
+    ported : (c : PortId) (operation : PortOperation) (o : Option cross.Slots) → slice_get s.ports c.0 ≡ o
+        → Each (NoEnd t b) (on_port_at (λ clones. port_operation c clones operation) c s o).caused
+    ported c operation None e = tt
+    ported c operation (Some y) e =
+        let at : slice_get (port_shapes s) c.0 ≡ Some (port_shape y) = map-there port_shape s.ports c.0 y e in
+        each-map (PortCauses c y.stream) (NoEnd t b) (port-not c y.stream (not-end y.stream c y.side (tied.1.ends c (port_shape y) at))) _
+        (port-causes c (clones_at y s) operation (record { slots = y; out = found s }) tt).1.1
+
     other-branch : (u : TeeId) (y : tee.Slots) (j : StreamId) → nat_eq t.0 u.0 ≡ false → slice_get s.tees u.0 ≡ Some y → IsBranch y.branch1 y.branch2 j → j ≡ b → ⊥
     other-branch u y j n at br same =
-        let k = branch-shape s u y j halved at br in
+        let k = branch-shape s u y j tied.0 at br in
         let both : ◌≡◌ {A = Option StreamShape} (Some (ReadableOf (BranchOf u k.0))) (Some (ReadableOf (BranchOf t half))) = sym k.1 ∙ (ap (λ (k : StreamId). slice_get (stream_shapes s) k.0) same ∙ mine) in
         let it : u ≡ t = cc in
         unequal_numbers t.0 u.0 n (ap (λ (v : TeeId). v.0) (sym it))
@@ -182,6 +217,7 @@ module _ (t : TeeId) (half : Half) (b : StreamId) where
     abbrev IsPlain : Effect → Type 0
     IsPlain (OnTransform u operation) = ⊥
     IsPlain (OnTee u operation) = ⊥
+    IsPlain (OnPort c operation) = ⊥
     IsPlain _ = Unit {0}
 
     plain-causes : (e : Effect) → IsPlain e → Causes (NoEnd t b) e
@@ -191,6 +227,7 @@ module _ (t : TeeId) (half : Half) (b : StreamId) where
     unfolding row
     row-none (OnTransform u operation) n = transformed u operation (slice_get s.transforms u.0) refl
     row-none (OnTee u operation) n = absurd n
+    row-none (OnPort c operation) n = ported c operation (slice_get s.ports c.0) refl
     row-none e n = row-causes (NoEnd t b) e s (plain-causes e tt)
 
     -- calls
@@ -214,6 +251,7 @@ module _ (t : TeeId) (half : Half) (b : StreamId) where
     finish-by i Host e = either Begins (can_close_or_enqueue (readable_at i s)) _ _ (λ can. (other i (not-host i e), tt)) (λ n. tt)
     finish-by i (HalfOf u) e = tt
     finish-by i (BranchOf u h) e = tt
+    finish-by i (EndOf c) e = tt
 
     finish-none : (i : StreamId) → Begins (calls.finish_call i s)
     finish-none i =
@@ -225,11 +263,13 @@ module _ (t : TeeId) (half : Half) (b : StreamId) where
     fail-by i reason Host e = (other i (not-host i e), tt)
     fail-by i reason (HalfOf u) e = (refl, tt)
     fail-by i reason (BranchOf u h) e = tt
+    fail-by i reason (EndOf c) e = tt
 
     fail-writable : (i : StreamId) (reason : Plain) (owner : Owner) → Begins (calls.fail_writable_by reason i s owner)
     fail-writable i reason Host = (refl, tt)
     fail-writable i reason (HalfOf u) = tt
     fail-writable i reason (BranchOf u h) = tt
+    fail-writable i reason (EndOf c) = tt
 
     fail-none : (i : StreamId) (reason : Plain) → Begins (calls.fail reason i s)
     fail-none i reason =

@@ -6,7 +6,7 @@ use Rattle.ws_steps.specs.declared.calls.Call.{Call}
 use Rattle.ws_steps.specs.declared.effects.{Effect.{Effect}}
 use Rattle.ws_steps.specs.declared.promises.{Job.{Job}, Job.TheVariants.{Reaction as ReactionJob}, Step.TheVariants.{TeeEnds}}
 use Rattle.ws_steps.specs.declared.readable.{ReadableState.{ReadableState}, ReadableState.TheVariants.{Readable, Closed, Errored}}
-use Rattle.ws_steps.specs.Calls.{Begun, begin, make_tee}
+use Rattle.ws_steps.specs.Calls.{Begun, begin, make_tee, add_port}
 use Rattle.ws_steps.specs.Jobs.{job_effects}
 use Rattle.ws_steps.specs.Promises.{Entry, outcome_at, entry_at, is_open_entry, is_pending, next_id, next_job, first_job, after_next_job, watch}
 use Rattle.std.specs.Option.{option_map}
@@ -30,6 +30,8 @@ use Rattle.ws_tee_laws.proofs.Closes.{FateAt, NoReader, Comes, Stage, same-at, o
 use Rattle.ws_tee_laws.proofs.Ears.{ends, Tells, some_none, row-tells, call-tells, job-tells, watch-tells}
 use Rattle.ws_tee_laws.proofs.Gifts.{Gifts, gifts-stays, gifts-heard, gifts-empty}
 use Rattle.ws_tee_laws.proofs.Rejections.{JobFits, JobsFit, IsRejected, Told, jobs-weaker, moves}
+use Rattle.ws_steps.specs.declared.port.Side.{Side}
+use Rattle.ws_steps.specs.declared.port.Side.TheVariants.{Readable as ReadableSide, Writable as WritableSide}
 
 shape-stays : (xs ys : List tee.Slots) (n : ℕ) (x : TeeShape) → slice_get (map tee_shape xs) n ≡ Some x → slice_get (map tee_shape (xs ++ ys)) n ≡ Some x
 shape-stays [] ys n x e = cc
@@ -111,6 +113,7 @@ module _ (t : TeeId) where
     signal = λ z k. k;
     transform = λ z kind i j change k. k;
     tee = λ z source first second cancel k. shape-stays z.tees _ t.0 x k;
+    port = λ z side stream backpressure k. k;
     readable = λ z owner mark size k. k;
     bytes = λ z mark auto k. k;
     byob_requests = λ z requests k. k;
@@ -132,6 +135,7 @@ module _ (t : TeeId) where
     signal = λ z k. k;
     transform = λ z kind i j change k. k;
     tee = λ z source first second cancel k. k;
+    port = λ z side stream backpressure k. k;
     readable = λ z owner mark size k. grown i s z _ k;
     bytes = λ z mark auto k. grown i s z _ k;
     byob_requests = λ z requests k. k;
@@ -160,6 +164,10 @@ module _ (t : TeeId) where
   -- the tee is made by this call
   abbrev MadeNow : Slots → Begun → Type 0
   MadeNow s b = (x : TeeShape) → slice_get (tee_shapes b.done.slots) t.0 ≡ Some x → Comes t x.source (next_id s.promises) b.done.caused
+
+  port-tees : (s : Slots) (side : Side) → (add_port (record { 0 = length s.streams }) s side).tees ≡ s.tees
+  port-tees s ReadableSide = refl
+  port-tees s WritableSide = refl
 
   call-comes : (c : Call) (s : Slots) → slice_get (tee_shapes s) t.0 ≡ None → MadeNow s (begin c s)
   call-comes c s none = each_call (MadeNow s) c s (record {
@@ -197,6 +205,10 @@ module _ (t : TeeId) where
     terminate = λ u x e. no x e;
     pipe = λ source dest prevent signal f g l m x e. no x e;
     make_signal = λ x e. no x e;
+    open_end = λ side x e. no x (subst (λ (xs : List tee.Slots). slice_get (map tee_shape xs) t.0 ≡ Some x) (port-tees s side) e);
+    send_readable = λ i there free x e. no x e;
+    send_writable = λ i there free x e. no x e;
+    deliver = λ p m f is x e. no x e;
     trigger = λ a reason x e. no x e;
     settle = λ h answer p f x e. no x e;
   })

@@ -1,13 +1,16 @@
 -- What is about to enter a branch of a tee: the enqueues into it that stand on the agenda are the tee's own, and it goes on with no other chunk
 -- before they are performed.
 use Rattle.std.proofs.Common.{◌≡◌, inl, inr, ℕ, zero, suc, ◌≤◌, Bool, true, false, not, ◌&&◌, ◌||◌, nat_eq, if◌then◌else◌, List, [], ◌∷◌, ◌++◌, map, Option, Some, None, Ok, Err, slice_get, refl, sym, ap, ◌∙◌, append_assoc, arith}
+use Rattle.std.proofs.Common.{length}
+use Rattle.ws_steps.specs.declared.effects.Effect.TheVariants.{Port as OnPort}
+use Rattle.ws_value.specs.declared.ids.PortId.{PortId}
 use Rattle.ws_value.specs.declared.ids.{PromiseId.{PromiseId}, StreamId.{StreamId}, TeeId.{TeeId}}
 use Rattle.ws_value.specs.declared.value.{Plain.{Plain}, Plain.TheVariants.{Pair}, Value.{Value}}
 use Rattle.ws_steps.specs.declared.calls.Call.{Call}
 use Rattle.ws_steps.specs.declared.effects.{Effect.{Effect}, Effect.TheVariants.{Readable as OnReadable, Tee as OnTee, Transform as OnTransform, Give}}
 use Rattle.ws_steps.specs.declared.effects.Gift.TheVariants.{This}
 use Rattle.ws_steps.specs.declared.effects.Owner.{Owner}
-use Rattle.ws_steps.specs.declared.effects.Owner.TheVariants.{Host, HalfOf, BranchOf}
+use Rattle.ws_steps.specs.declared.effects.Owner.TheVariants.{Host, HalfOf, BranchOf, EndOf}
 use Rattle.ws_steps.specs.declared.promises.Job.{Job}
 use Rattle.ws_steps.specs.declared.readable.ReadableOperation.{ReadableOperation}
 use Rattle.ws_steps.specs.declared.readable.ReadableOperation.TheVariants.{Enqueue, Close, Cancel, Error}
@@ -15,12 +18,12 @@ use Rattle.ws_steps.specs.declared.tee.{Half.{Half}, Half.TheVariants.{First, Se
 use Rattle.ws_steps.specs.declared.tee.TeeOperation.TheVariants as ops
 use Rattle.ws_steps.specs.declared.transform.TransformId.{TransformId}
 use Rattle.ws_steps.specs.declared.transform.TransformOperation.{TransformOperation}
-use Rattle.ws_steps.specs.Calls.{Begun, begin}
+use Rattle.ws_steps.specs.Calls.{Begun, begin, start_end}
 use Rattle.ws_steps.specs.Histories.{is_same}
 use Rattle.ws_steps.specs.Jobs.{job_effects}
-use Rattle.ws_steps.specs.Operations.{tee_operation, transform_operation}
+use Rattle.ws_steps.specs.Operations.{tee_operation, transform_operation, port_operation}
 use Rattle.ws_steps.specs.Promises.{next_id, fresh}
-use Rattle.ws_steps.specs.Slots.{Slots, Stream, ReadableStream, ByteStream, WritableStream, found, halves_at, on_transform_at, on_tee_at, as_readable, readable_at}
+use Rattle.ws_steps.specs.Slots.{Slots, Stream, ReadableStream, ByteStream, WritableStream, found, halves_at, on_transform_at, on_tee_at, as_readable, readable_at, on_port_at, clones_at}
 use Rattle.ws_steps.specs.Tee as tee
 use Rattle.ws_steps.specs.Tee.{Acts, causing, with_slots, reason_of, with_reason, is_wanted, on_branches, unless_cancelled, fulfil_cancel, pull_in, pull_branch, keep_chunk, close_in, close_branches, source_closed, source_errored, hand_held, hand_chunk, rested, again, handed, resolve_cancel, cancel_source, if_both, cancel_by, cancel_branch, reader_settled}
 use Rattle.ws_steps.specs.Transform as transform
@@ -31,11 +34,18 @@ use Rattle.ws_laws.proofs.Halves.{Halved}
 use Rattle.ws_laws.proofs.Lists.{Each, each-append, each-map}
 use Rattle.ws_laws.proofs.PipeDoes.{PipeCauses}
 use Rattle.ws_laws.proofs.Rows.{Causes, IsNoTee, row-causes}
-use Rattle.ws_laws.proofs.Shapes.{StreamShape, stream_shape, ReadableOf, branch_of, stream_shapes, transform_shapes, transform_shape, tee_shape, map-there}
+use Rattle.ws_laws.proofs.Shapes.{StreamShape, stream_shape, ReadableOf, branch_of, stream_shapes, transform_shapes, transform_shape, tee_shape, map-there, WritableOf}
 use Rattle.ws_laws.proofs.Tables.{either, same_id, unequal_numbers}
 use Rattle.ws_laws.proofs.TeeDoes.{IsBranch, TeeCauses, tee-causes}
 use Rattle.ws_laws.proofs.TransformDoes.{TransformCauses, transform-causes}
 use Rattle.ws_tee_laws.proofs.OneRead.{of_effect}
+use Rattle.ws_tee_laws.proofs.Tied.{Tied}
+use Rattle.ws_steps.specs.declared.port.PortOperation.{PortOperation}
+use Rattle.ws_steps.specs.declared.port.Side.{Side}
+use Rattle.ws_steps.specs.declared.port.Side.TheVariants.{Readable as ReadableSide, Writable as WritableSide}
+use Rattle.ws_steps.specs.Cross as cross
+use Rattle.ws_laws.proofs.PortDoes.{PortCauses, port-causes}
+use Rattle.ws_laws.proofs.Ended.{end_shape, port_shape, port_shapes}
 
 -- the values that are to be enqueued into stream b
 
@@ -115,12 +125,12 @@ readable-owner (x ∷ xs) (suc n) w e = readable-owner xs n w e
 
 -- who enqueues into a branch
 
-module _ (t : TeeId) (half : Half) (b : StreamId) (s : Slots) (halved : Halved s) (x : tee.Slots) (there : slice_get s.tees t.0 ≡ Some x) (is : branch_of half (tee_shape x) ≡ b) where
+module _ (t : TeeId) (half : Half) (b : StreamId) (s : Slots) (tied : Tied s) (x : tee.Slots) (there : slice_get s.tees t.0 ≡ Some x) (is : branch_of half (tee_shape x) ≡ b) where
   pub shape : slice_get (stream_shapes s) b.0 ≡ Some (ReadableOf (BranchOf t half))
   shape = rw (← is) (by half)
     where
       both : (slice_get (stream_shapes s) x.branch1.0 ≡ Some (ReadableOf (BranchOf t First))) × (slice_get (stream_shapes s) x.branch2.0 ≡ Some (ReadableOf (BranchOf t Second)))
-      both = halved.branches t (tee_shape x) (map-there tee_shape s.tees t.0 x there)
+      both = tied.0.branches t (tee_shape x) (map-there tee_shape s.tees t.0 x there)
 
       by : (h : Half) → slice_get (stream_shapes s) (branch_of h (tee_shape x)).0 ≡ Some (ReadableOf (BranchOf t h))
       by First = both.0
@@ -146,16 +156,36 @@ module _ (t : TeeId) (half : Half) (b : StreamId) (s : Slots) (halved : Halved s
   transformed u operation None e = tt
   transformed u operation (Some y) e =
       let at : slice_get (transform_shapes s) u.0 ≡ Some (transform_shape y) = map-there transform_shape s.transforms u.0 y e in
-      each-map (TransformCauses u y.writable y.readable) (NoEnq b) (transform-not u y.writable y.readable (not-half y.readable u (halved.halves u (transform_shape y) at).0)) _
+      each-map (TransformCauses u y.writable y.readable) (NoEnq b) (transform-not u y.writable y.readable (not-half y.readable u (tied.0.halves u (transform_shape y) at).0)) _
       (transform-causes u (halves_at y s) operation (record { slots = y; out = found s }) tt).1.1.1
 
   tee-not : (u : TeeId) (source first second : StreamId) → ((j : StreamId) → IsBranch first second j → j ≡ b → ⊥) → (e : Effect) → TeeCauses u source first second e → NoEnq b e
   tee-not u source first second n (OnReadable j (Enqueue v)) c = apart j v (λ m. n j c m)
   tee-not u source first second n e c = grind (arith, c)
 
+  -- no port has it as its stream
+  not-end : (j : StreamId) (c : PortId) (side : Side) → slice_get (stream_shapes s) j.0 ≡ Some (end_shape c side) → j ≡ b → ⊥
+  not-end j c ReadableSide e same =
+      let both : ◌≡◌ {A = Option StreamShape} (Some (ReadableOf (EndOf c))) (Some (ReadableOf (BranchOf t half))) = sym e ∙ (ap (λ (k : StreamId). slice_get (stream_shapes s) k.0) same ∙ shape) in
+      cc
+  not-end j c WritableSide e same =
+      let both : ◌≡◌ {A = Option StreamShape} (Some (WritableOf (EndOf c))) (Some (ReadableOf (BranchOf t half))) = sym e ∙ (ap (λ (k : StreamId). slice_get (stream_shapes s) k.0) same ∙ shape) in
+      cc
+
+  port-not : (c : PortId) (stream : StreamId) → (stream ≡ b → ⊥) → (e : Effect) → PortCauses c stream e → NoEnq b e
+  port-not c stream n (OnReadable j (Enqueue v)) k = apart j v (λ m. n (sym k ∙ m))
+  port-not c stream n e k = grind (arith, k)
+
+  ported : (c : PortId) (operation : PortOperation) (o : Option cross.Slots) → slice_get s.ports c.0 ≡ o → Each (NoEnq b) (on_port_at (λ clones. port_operation c clones operation) c s o).caused
+  ported c operation None e = tt
+  ported c operation (Some y) e =
+      let at : slice_get (port_shapes s) c.0 ≡ Some (port_shape y) = map-there port_shape s.ports c.0 y e in
+      each-map (PortCauses c y.stream) (NoEnq b) (port-not c y.stream (not-end y.stream c y.side (tied.1.ends c (port_shape y) at))) _
+      (port-causes c (clones_at y s) operation (record { slots = y; out = found s }) tt).1.1
+
   other-branch : (u : TeeId) (y : tee.Slots) (j : StreamId) → nat_eq t.0 u.0 ≡ false → slice_get s.tees u.0 ≡ Some y → IsBranch y.branch1 y.branch2 j → j ≡ b → ⊥
   other-branch u y j n at br same =
-      let k = branch-shape s u y j halved at br in
+      let k = branch-shape s u y j tied.0 at br in
       let both : ◌≡◌ {A = Option StreamShape} (Some (ReadableOf (BranchOf u k.0))) (Some (ReadableOf (BranchOf t half))) = sym k.1 ∙ (ap (λ (k : StreamId). slice_get (stream_shapes s) k.0) same ∙ shape) in
       let it : u ≡ t = cc in
       unequal_numbers t.0 u.0 n (ap (λ (v : TeeId). v.0) (sym it))
@@ -172,6 +202,7 @@ module _ (t : TeeId) (half : Half) (b : StreamId) (s : Slots) (halved : Halved s
   abbrev IsPlain : Effect → Type 0
   IsPlain (OnTransform u operation) = ⊥
   IsPlain (OnTee u operation) = ⊥
+  IsPlain (OnPort c operation) = ⊥
   IsPlain _ = Unit {0}
 
   plain-causes : (e : Effect) → IsPlain e → Causes (NoEnq b) e
@@ -181,6 +212,7 @@ module _ (t : TeeId) (half : Half) (b : StreamId) (s : Slots) (halved : Halved s
   unfolding row
   row-none (OnTransform u operation) n = transformed u operation (slice_get s.transforms u.0) refl
   row-none (OnTee u operation) n = absurd n
+  row-none (OnPort c operation) n = ported c operation (slice_get s.ports c.0) refl
   row-none e n = row-causes (NoEnq b) e s (plain-causes e tt)
 
   -- no call of the host does
@@ -189,6 +221,10 @@ module _ (t : TeeId) (half : Half) (b : StreamId) (s : Slots) (halved : Halved s
       let mine : (readable_at b s).owner ≡ BranchOf t half = readable-owner s.streams b.0 (BranchOf t half) shape in
       let wrong : Host ≡ BranchOf t half = sym e ∙ (ap (λ (k : StreamId). (readable_at k s).owner) same ∙ mine) in
       cc
+
+  start-none : (i : StreamId) (side : Side) → NoEnq b (start_end i side)
+  start-none i ReadableSide = refl
+  start-none i WritableSide = refl
 
   pub call-none : (c : Call) → Each (NoEnq b) (begin c s).done.caused
   call-none c = each_call (λ (z : Begun). Each (NoEnq b) z.done.caused) c s (record {
@@ -224,6 +260,10 @@ module _ (t : TeeId) (half : Half) (b : StreamId) (s : Slots) (halved : Halved s
     terminate = λ u. (refl, tt);
     pipe = λ source dest prevent signal e f l m. grind (arith, each-append);
     make_signal = tt;
+    open_end = λ side. (start-none (record { 0 = length s.streams }) side, tt);
+    send_readable = λ i there free. (refl, (refl, (refl, (refl, (refl, (refl, (refl, tt)))))));
+    send_writable = λ i there free. (refl, (refl, (refl, (refl, (refl, (refl, (refl, tt)))))));
+    deliver = λ p m e is. (refl, tt);
     trigger = λ a reason. (refl, tt);
     settle = λ h answer p e. grind arith;
   })

@@ -1,5 +1,8 @@
 -- Where the source of a tee has errored, no chunk of it is on its way to the tee: chunk steps stand behind nothing that may lead to an error.
 use Rattle.std.proofs.Common.{◌≡◌, ◌⊎◌, inl, inr, ⊎_elim, ℕ, zero, suc, Bool, true, false, if◌then◌else◌, List, [], ◌∷◌, ◌++◌, map, Option, Some, None, slice_get, refl, sym, ap, subst, ◌∙◌, arith}
+use Rattle.std.proofs.Common.{length}
+use Rattle.ws_laws.proofs.PortDoes.{PortCauses}
+use Rattle.ws_value.specs.declared.ids.PortId.{PortId}
 use Rattle.ws_value.specs.declared.ids.{PipeId.{PipeId}, PromiseId.{PromiseId}, StreamId.{StreamId}, TeeId.{TeeId}}
 use Rattle.ws_value.specs.declared.value.{Plain.{Plain}, Value.{Value}}
 use Rattle.ws_steps.specs.declared.byte.ByteOperation.{ByteOperation}
@@ -11,7 +14,7 @@ use Rattle.ws_steps.specs.declared.readable.ReadableOperation.TheVariants as nam
 use Rattle.ws_steps.specs.declared.tee.{TeeOperation.TheVariants.{KeepChunk}}
 use Rattle.ws_steps.specs.declared.transform.TransformId.{TransformId}
 use Rattle.ws_steps.specs.declared.writable.WritableOperation.{WritableOperation}
-use Rattle.ws_steps.specs.Calls.{Begun, begin}
+use Rattle.ws_steps.specs.Calls.{Begun, begin, add_port}
 use Rattle.ws_steps.specs.Effects.{Out}
 use Rattle.ws_steps.specs.Histories.{is_same}
 use Rattle.ws_steps.specs.Jobs.{job_effects}
@@ -35,6 +38,8 @@ use Rattle.ws_tee_laws.proofs.Dangers.{danger, Safe, row-safe}
 use Rattle.ws_lock_laws.proofs.TeeOwning.{other_tee}
 use Rattle.ws_tee_laws.proofs.Homes.{Home, Reads, reads-stays, reads-heard, reads-empty}
 use Rattle.ws_tee_laws.proofs.OneRead.{is_tee, one_of, IsNone, call_none, job_none}
+use Rattle.ws_steps.specs.declared.port.Side.{Side}
+use Rattle.ws_steps.specs.declared.port.Side.TheVariants.{Readable as ReadableSide, Writable as WritableSide}
 
 -- operations by which a readable stream doesn't error
 
@@ -165,6 +170,9 @@ module _ (t : TeeId) where
   tee_none : (u : TeeId) (source first second : StreamId) (e : Effect) → TeeCauses u source first second e → NoGift e
   tee_none u source first second e c = grind (arith, c)
 
+  port_none : (c : PortId) (stream : StreamId) (e : Effect) → PortCauses c stream e → NoGift e
+  port_none c stream e k = grind (arith, k)
+
   abbrev IsOther : Effect → Type 0
   IsOther (OnReadable j operation) = ⊥
   IsOther (Byte j operation) = ⊥
@@ -172,7 +180,7 @@ module _ (t : TeeId) where
   IsOther _ = Unit {0}
 
   other-none : (e : Effect) → IsOther e → Causes NoGift e
-  other-none e n = grind (arith, n, transform_none, pipe_none, tee_none)
+  other-none e n = grind (arith, n, transform_none, pipe_none, tee_none, port_none)
 
   chunk-none : (j : StreamId) (q : ReadRequest) (v : Value) → NoGift (ChunkSteps j q v) → Causes NoGift (ChunkSteps j q v)
   chunk-none j (Promise p) v n = tt
@@ -352,6 +360,10 @@ module _ (t : TeeId) where
   abbrev IsKind : Slots → Type 0
   IsKind s = (x : TeeShape) → slice_get (tee_shapes s) t.0 ≡ Some x → has_readable x.source s ≡ true
 
+  port-kind : (s : Slots) (side : Side) → IsKind s → IsKind (add_port (record { 0 = length s.streams }) s side)
+  port-kind s ReadableSide k = λ x e. append-there s.streams _ x.source.0 (k x e)
+  port-kind s WritableSide k = λ x e. append-there s.streams _ x.source.0 (k x e)
+
   call-kind : (c : Call) (s : Slots) → IsKind s → IsKind (begin c s).done.slots
   call-kind c s k = each_call (λ (b : Begun). IsKind b.done.slots) c s (record {
     unchanged = λ reply. k;
@@ -387,6 +399,10 @@ module _ (t : TeeId) where
     terminate = λ u. k;
     pipe = λ source dest prevent signal f g l m. k;
     make_signal = k;
+    open_end = λ side. port-kind s side k;
+    send_readable = λ i there free. port-kind s WritableSide k;
+    send_writable = λ i there free. port-kind s ReadableSide k;
+    deliver = λ p m e is. k;
     trigger = λ a reason. k;
     settle = λ h answer p f. k;
   })

@@ -1,5 +1,7 @@
 -- What the source of a tee gave was handed on, in its order, but for the chunk that the tee holds.
 use Rattle.std.proofs.Common.{◌≡◌, ⊎_elim, ℕ, ◌+◌, ◌≤◌, Bool, true, false, not, ◌&&◌, nat_eq, if◌then◌else◌, List, [], ◌∷◌, ◌++◌, length, Option, Some, None, Ok, Err, slice_get, slice_set, refl, sym, ap, subst, ◌∙◌, append_assoc, append-nil, arith}
+use Rattle.ws_laws.proofs.PortDoes.{PortCauses}
+use Rattle.ws_value.specs.declared.ids.PortId.{PortId}
 use Rattle.ws_value.specs.declared.ids.{PipeId.{PipeId}, PromiseId.{PromiseId}, StreamId.{StreamId}, TeeId.{TeeId}}
 use Rattle.ws_value.specs.declared.value.{Plain.{Plain}, Value.{Value}}
 use Rattle.ws_steps.specs.declared.{calls.Call.{Call}}
@@ -134,13 +136,16 @@ module _ (t : TeeId) where
   tee_keeps : (u : TeeId) (source first second : StreamId) (e : Effect) → TeeCauses u source first second e → Keeps e
   tee_keeps u source first second e c = grind (arith, c)
 
+  port_keeps : (c : PortId) (stream : StreamId) (e : Effect) → PortCauses c stream e → Keeps e
+  port_keeps c stream e k = grind (arith, k)
+
   abbrev IsOther : Effect → Type 0
   IsOther (OnTee u operation) = ⊥
   IsOther (ChunkSteps i q v) = ⊥
   IsOther _ = Unit {0}
 
   other-keeps : (e : Effect) → IsOther e → Causes Keeps e
-  other-keeps e n = grind (arith, n, transform_keeps, pipe_keeps)
+  other-keeps e n = grind (arith, n, transform_keeps, pipe_keeps, port_keeps)
 
   none-given : (s : Slots) (e : Effect) → IsOther e → (effect_teed t e s).given ≡ []
   none-given s (OnReadable i operation) n = either (λ (g : Teed). g.given ≡ []) (is_source_of i (slice_get s.tees t.0)) (operation_teed operation) no_teed (λ e. by operation) (λ e. refl)
@@ -409,6 +414,7 @@ module _ (t : TeeId) where
     signal = λ z k. k;
     transform = λ z kind a b change k. k;
     tee = λ z source first second cancel k. get-stays z.tees _ t.0 x k;
+    port = λ z side stream backpressure k. k;
     readable = λ z owner mark size k. k;
     bytes = λ z mark auto k. k;
     byob_requests = λ z requests k. k;
@@ -424,6 +430,7 @@ module _ (t : TeeId) where
     signal = λ z k. k;
     transform = λ z kind a b change k. k;
     tee = λ z source first second cancel k x now. ⊎_elim (λ old. k x old) (λ new. rw (← new.1) refl) (get-either z.tees (tee.set_up source first second cancel) t.0 x now);
+    port = λ z side stream backpressure k. k;
     readable = λ z owner mark size k. k;
     bytes = λ z mark auto k. k;
     byob_requests = λ z requests k. k;

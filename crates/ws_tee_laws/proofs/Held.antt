@@ -1,5 +1,7 @@
 -- A tee that hears of a rejection of its reader's closed promise holds no chunk: the microtask that hands it was queued before.
 use Rattle.std.proofs.Common.{◌≡◌, ℕ, zero, suc, Bool, true, false, ◌||◌, ◌⊎◌, inl, inr, nat_eq, List, [], ◌∷◌, ◌++◌, map, Option, Some, None, Result, Ok, Err, slice_get, refl, sym, ap, subst, ◌∙◌, arith}
+use Rattle.ws_laws.proofs.PortDoes.{PortCauses}
+use Rattle.ws_value.specs.declared.ids.PortId.{PortId}
 use Rattle.ws_value.specs.declared.ids.{PipeId.{PipeId}, PromiseId.{PromiseId}, StreamId.{StreamId}, TeeId.{TeeId}}
 use Rattle.ws_value.specs.declared.value.{Plain.{Plain}, Value.{Value}}
 use Rattle.ws_steps.specs.declared.calls.{Call.{Call}}
@@ -172,7 +174,7 @@ module _ (t : TeeId) where
     pub holds : Holds s es
 
   no-queue : (e : Effect) → Causes NoQueue e
-  no-queue e = grind (arith, transform-none, pipe-none, tee-none)
+  no-queue e = grind (arith, transform-none, pipe-none, tee-none, port-none)
     where
       transform-none : (u : TransformId) (writable readable : StreamId) (e : Effect) → TransformCauses u writable readable e → NoQueue e
       transform-none u writable readable e c = grind (arith, c)
@@ -182,6 +184,9 @@ module _ (t : TeeId) where
 
       tee-none : (u : TeeId) (source first second : StreamId) (e : Effect) → TeeCauses u source first second e → NoQueue e
       tee-none u source first second e c = grind (arith, c)
+
+      port-none : (c : PortId) (stream : StreamId) (e : Effect) → PortCauses c stream e → NoQueue e
+      port-none c stream e k = grind (arith, k)
 
   -- an operation of the tee
 
@@ -363,6 +368,7 @@ module _ (t : TeeId) where
     signal = λ z k. k;
     transform = λ z kind i j change k. k;
     tee = λ z source first second cancel k x v e held. k x v (new-held z.tees (tee.set_up source first second cancel) t.0 x v refl e held) held;
+    port = λ z side stream backpressure k. k;
     readable = λ z owner mark size k. k;
     bytes = λ z mark auto k. k;
     byob_requests = λ z requests k. k;
@@ -379,6 +385,7 @@ module _ (t : TeeId) where
     signal = λ z k. k;
     transform = λ z kind i j change k. k;
     tee = λ z source first second cancel k. k;
+    port = λ z side stream backpressure k. k;
     readable = λ z owner mark size k. k;
     bytes = λ z mark auto k. k;
     byob_requests = λ z requests k. k;

@@ -37,6 +37,8 @@ use Rattle.ws_lock_laws.proofs.Requests.{count}
 use Rattle.ws_lock_laws.proofs.TeeOwning.{Fair, Owned, other_tee, owned-stays, owned-heard, owned-empty}
 use Rattle.ws_tee_laws.proofs.Handing.{readable-hands}
 use Rattle.ws_tee_laws.proofs.OneRead.{is_tee, IsNone, call_none}
+use Rattle.ws_value.specs.declared.ids.PortId.{PortId}
+use Rattle.ws_laws.proofs.PortDoes.{PortCauses}
 
 module _ (t : TeeId) where
   -- a request that is at the wrong stream, where the tee has this shape
@@ -186,6 +188,9 @@ module _ (t : TeeId) where
     transform_home : (me : TransformId) (writable readable : StreamId) (e : Effect) → TransformCauses me writable readable e → Home o e
     transform_home me writable readable e c = grind (arith, c)
 
+    port_home : (c : PortId) (stream : StreamId) (e : Effect) → PortCauses c stream e → Home o e
+    port_home c stream e k = grind (arith, k)
+
     abbrev IsOther : Effect → Type 0
     IsOther (OnReadable i operation) = ⊥
     IsOther (Byte i operation) = ⊥
@@ -194,7 +199,7 @@ module _ (t : TeeId) where
     IsOther _ = Unit {0}
 
     other-home : (e : Effect) → IsOther e → Causes (Home o) e
-    other-home e n = grind (arith, n, transform_home)
+    other-home e n = grind (arith, n, transform_home, port_home)
 
   -- a read that is fair, and of the tee nowhere else
   abbrev Away : Option TeeShape → Effect → Type 0
@@ -325,6 +330,7 @@ module _ (t : TeeId) where
     signal = λ z k. k;
     transform = λ z kind a b change k. k;
     tee = λ z source first second cancel k. k;
+    port = λ z side stream backpressure k. k;
     readable = λ z owner mark size k. stream-made i (ReadableStream (readable.set_up owner mark size)) z refl k;
     bytes = λ z mark auto k. stream-made i (ByteStream (byte.set_up mark auto)) z refl k;
     byob_requests = λ z requests k. k;

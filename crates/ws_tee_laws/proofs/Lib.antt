@@ -7,6 +7,7 @@ pub mod Handed
 pub mod Homes
 pub mod Given
 pub mod Entering
+pub mod Tied
 pub mod Fronts
 pub mod Hands
 pub mod Runs

@@ -8,7 +8,7 @@ use Rattle.ws_steps.specs.declared.effects.{Effect.{Effect}, Effect.TheVariants.
 use Rattle.ws_steps.specs.declared.promises.{Job.{Job}}
 use Rattle.ws_steps.specs.declared.readable.{ReadableOperation.TheVariants.{Enqueue}, ReadableState.TheVariants.{Errored}, SizeBy.TheVariants.{Count}}
 use Rattle.ws_steps.specs.declared.tee.{Half.{Half}, Half.TheVariants.{First, Second}, TeePhase.TheVariants.{Over}}
-use Rattle.ws_steps.specs.Calls.{Begun, begin, make_tee}
+use Rattle.ws_steps.specs.Calls.{Begun, begin, make_tee, add_port}
 use Rattle.ws_steps.specs.Jobs.{job_effects}
 use Rattle.ws_steps.specs.Promises.{next_id, fresh, next_job, after_next_job, watch}
 use Rattle.ws_steps.specs.Readable as readable
@@ -21,7 +21,7 @@ use Rattle.ws_steps.specs.Turns.{row}
 use Rattle.ws_laws.proofs.Begin.{begin-makes}
 use Rattle.ws_laws.proofs.ByteHands.{sum_of}
 use Rattle.ws_laws.proofs.EachCall.{each_call}
-use Rattle.ws_laws.proofs.Halves.{Halved, halved-stays, halved-empty, get-stays, get-last, get-either}
+use Rattle.ws_laws.proofs.Halves.{get-stays, get-last, get-either}
 use Rattle.ws_laws.proofs.Lists.{Each, each-append}
 use Rattle.ws_laws.proofs.Rows.{row-tees}
 use Rattle.ws_laws.proofs.Shapes.{TeeShape, ReadableOf, branch_of, tee_shape, map-there, row-tee_shapes}
@@ -36,6 +36,9 @@ use Rattle.ws_tee_laws.proofs.Opening.{IsEnding, Open, row-open}
 use Rattle.ws_tee_laws.proofs.Reasons.{NoHands, view, lost, lost-on, IsLostBy, IsOver, HasFailed}
 use Rattle.ws_tee_laws.proofs.Runs.{IsLost}
 use Rattle.ws_tee_laws.proofs.Starts.{IsMine, Starts, starts-stays, starts-heard, starts-empty}
+use Rattle.ws_steps.specs.declared.port.Side.{Side}
+use Rattle.ws_steps.specs.declared.port.Side.TheVariants.{Readable as ReadableSide, Writable as WritableSide}
+use Rattle.ws_tee_laws.proofs.Tied.{Tied, tied-stays, tied-empty}
 
 none-map : {X Y : Type 0} (f : X → Y) (xs : List X) (n : ℕ) → slice_get xs n ≡ None → slice_get (map f xs) n ≡ None
 none-map f [] n e = refl
@@ -53,13 +56,13 @@ module _ (t : TeeId) (half : Half) (b : StreamId) (E : Slots → List Effect →
     pub ended : E s es
     pub gifts : Gifts t s es
     pub starts : Starts t half b s es
-    pub halved : Halved s
+    pub tied : Tied s
     pub takes : (x : tee.Slots) → slice_get s.tees t.0 ≡ Some x → branch_of half (tee_shape x) ≡ b → Open t half b s es x
 
   -- each effect
 
-  is-mine : (s : Slots) → Halved s → (x : tee.Slots) → slice_get s.tees t.0 ≡ Some x → branch_of half (tee_shape x) ≡ b → IsMine t half b s
-  is-mine s halved x there is w at = by w (sym at ∙ shape t half b s halved x there is)
+  is-mine : (s : Slots) → Tied s → (x : tee.Slots) → slice_get s.tees t.0 ≡ Some x → branch_of half (tee_shape x) ≡ b → IsMine t half b s
+  is-mine s tied x there is w at = by w (sym at ∙ shape t half b s tied x there is)
     where
       by : (w : _) → ◌≡◌ {A = Option _} (Some w) (Some (ReadableOf (BranchOf t half))) → w ≡ ReadableOf (BranchOf t half)
       by w e = cc
@@ -74,7 +77,7 @@ module _ (t : TeeId) (half : Half) (b : StreamId) (E : Slots → List Effect →
       same-shape (tee_shape x) (tee_shape y)
       (sym (map-there tee_shape s.tees t.0 x at) ∙ (sym (ap (λ (xs : List TeeShape). slice_get xs t.0) (row-tee_shapes e s)) ∙ map-there tee_shape (row e s).slots.tees t.0 y now)) in
       let before : branch_of half (tee_shape x) ≡ b = ap (branch_of half) same ∙ is in
-      row-open t half b s k.halved x at before e es y now k.gifts (k.starts (is-mine s k.halved x at before)) (k.takes x at before)
+      row-open t half b s k.tied x at before e es y now k.gifts (k.starts (is-mine s k.tied x at before)) (k.takes x at before)
 
   -- between effects
 
@@ -106,6 +109,7 @@ module _ (t : TeeId) (half : Half) (b : StreamId) (E : Slots → List Effect →
     signal = λ z k. k;
     transform = λ z kind i j change k. k;
     tee = λ z source first second cancel k. get-stays z.tees _ t.0 x k;
+    port = λ z side stream backpressure k. k;
     readable = λ z owner mark size k. k;
     bytes = λ z mark auto k. k;
     byob_requests = λ z requests k. k;
@@ -121,6 +125,7 @@ module _ (t : TeeId) (half : Half) (b : StreamId) (E : Slots → List Effect →
     signal = λ z k. k;
     transform = λ z kind i j change k. k;
     tee = λ z source first second cancel k. k;
+    port = λ z side stream backpressure k. k;
     readable = λ z owner mark size k. get-stays z.streams _ i.0 w k;
     bytes = λ z mark auto k. get-stays z.streams _ i.0 w k;
     byob_requests = λ z requests k. k;
@@ -172,6 +177,10 @@ module _ (t : TeeId) (half : Half) (b : StreamId) (E : Slots → List Effect →
             rw (← e, ← length-append s.streams (First_new ∷ []))
             (ap (λ (o : Option Stream). can_close_or_enqueue (as_readable o)) (get-last (s.streams ++ First_new ∷ []) [] Second_new))
 
+    port-tees : (s : Slots) (side : Side) → (add_port (record { 0 = length s.streams }) s side).tees ≡ s.tees
+    port-tees s ReadableSide = refl
+    port-tees s WritableSide = refl
+
     call-new : (c : Call) → IsNew (begin c s)
     call-new c = each_call IsNew c s (record {
       unchanged = λ reply x e. gone x e;
@@ -206,6 +215,10 @@ module _ (t : TeeId) (half : Half) (b : StreamId) (E : Slots → List Effect →
       terminate = λ u x e. gone x e;
       pipe = λ source dest prevent signal f g l m x e. gone x e;
       make_signal = λ x e. gone x e;
+      open_end = λ side x e. gone x (subst (λ (xs : List tee.Slots). slice_get xs t.0 ≡ Some x) (port-tees s side) e);
+      send_readable = λ i there free x e. gone x e;
+      send_writable = λ i there free x e. gone x e;
+      deliver = λ p m f is x e. gone x e;
       trigger = λ a reason x e. gone x e;
       settle = λ h answer p f x e. gone x e;
     })
@@ -218,7 +231,7 @@ module _ (t : TeeId) (half : Half) (b : StreamId) (E : Slots → List Effect →
       let mine : branch_of half (tee_shape y) ≡ b = subst (λ (z : tee.Slots). branch_of half (tee_shape z) ≡ b) (sym same) is in
       subst (λ (z : tee.Slots). Open t half b (begin c s).done.slots (begin c s).done.caused z) same
       (still s (begin c s).done.slots (begin c s).done.caused y (call-opens c s (slice_get s.streams b.0) refl) (call-errs y.source c s (slice_get s.streams y.source.0) refl)
-      (call-none t half b s k.halved y at mine c) (call-hands c s) (k.takes y at mine))
+      (call-none t half b s k.tied y at mine c) (call-hands c s) (k.takes y at mine))
 
   -- jobs
 
@@ -240,35 +253,35 @@ module _ (t : TeeId) (half : Half) (b : StreamId) (E : Slots → List Effect →
       ended = ending.goes.row s e es k.ended;
       gifts = (gifts-stays t).row s e es k.gifts;
       starts = (starts-stays t half b).row s e es k.starts;
-      halved = halved-stays.row s e es k.halved;
+      tied = tied-stays.row s e es k.tied;
       takes = row-by s e es k (slice_get s.tees t.0) refl;
     };
     call = λ s c k. record {
       ended = ending.goes.call s c k.ended;
       gifts = (gifts-stays t).call s c k.gifts;
       starts = (starts-stays t half b).call s c k.starts;
-      halved = halved-stays.call s c k.halved;
+      tied = tied-stays.call s c k.tied;
       takes = call-by c s k (slice_get s.tees t.0) refl;
     };
     job = λ s job e k. record {
       ended = ending.goes.job s job e k.ended;
       gifts = (gifts-stays t).job s job e k.gifts;
       starts = (starts-stays t half b).job s job e k.starts;
-      halved = halved-stays.job s job e k.halved;
+      tied = tied-stays.job s job e k.tied;
       takes = job-by s job e k;
     };
     answered = λ s p k. record {
       ended = ending.goes.answered s p k.ended;
       gifts = (gifts-stays t).answered s p k.gifts;
       starts = (starts-stays t half b).answered s p k.starts;
-      halved = k.halved;
+      tied = k.tied;
       takes = λ x at is. still s (with_promises (watch p s.promises) s) [] x (λ o. o) (λ h. h) tt tt (k.takes x at is);
     };
     older = λ s k. record {
       ended = ending.goes.older s k.ended;
       gifts = (gifts-stays t).older s k.gifts;
       starts = (starts-stays t half b).older s k.starts;
-      halved = k.halved;
+      tied = k.tied;
       takes = λ x at is. still s (record s { age = s.age + 1 }) [] x (λ o. o) (λ h. h) tt tt (k.takes x at is);
     };
   }
@@ -278,12 +291,12 @@ module _ (t : TeeId) (half : Half) (b : StreamId) (E : Slots → List Effect →
     ended = ending.rests s k.ended;
     gifts = gifts-heard t s k.gifts;
     starts = starts-heard t half b s k.starts;
-    halved = k.halved;
+    tied = k.tied;
     takes = λ x at is. still s (after_event s) [] x (λ o. o) (λ h. h) tt tt (k.takes x at is);
   }
 
   opens-empty : Opens empty []
-  opens-empty = record { ended = ending.begins; gifts = gifts-empty t; starts = starts-empty t half b; halved = halved-empty; takes = λ x e. cc }
+  opens-empty = record { ended = ending.begins; gifts = gifts-empty t; starts = starts-empty t half b; tied = tied-empty; takes = λ x e. cc }
 
   -- a chunk that is handed to the branch enters it, or it is lost for it
 
@@ -314,7 +327,7 @@ module _ (t : TeeId) (half : Half) (b : StreamId) (E : Slots → List Effect →
   refused-by s v es x k one f at is cannot (inl o) = let wrong : true ≡ false = sym (o.0) ∙ cannot in cc
   refused-by s v es x k one f at is cannot (inr (IsLostBy l)) =
       let now : slice_get (row (OnReadable b (Enqueue v)) s).slots.tees t.0 ≡ Some x = ap (λ (xs : List tee.Slots). slice_get xs t.0) (row-tees (OnReadable b (Enqueue v)) s tt) ∙ at in
-      lost-on t half b s k.halved x at is (OnReadable b (Enqueue v)) es x (view t s (OnReadable b (Enqueue v)) x x at now) l
+      lost-on t half b s k.tied x at is (OnReadable b (Enqueue v)) es x (view t s (OnReadable b (Enqueue v)) x x at now) l
   refused-by s v es x k one f at is cannot (inr (IsOver o)) =
       let wrong : true ≡ false = sym (following v es f) ∙ none-hands t es (over-none s (OnReadable b (Enqueue v)) es x at o one) in cc
   refused-by s v es x k one f at is cannot (inr (HasFailed g)) = let wrong : true ≡ false = sym (following v es f) ∙ none-any es g.hands.1 in cc
@@ -325,6 +338,6 @@ module _ (t : TeeId) (half : Half) (b : StreamId) (E : Slots → List Effect →
     rests = opens-heard;
     begins = opens-empty;
     more = lost-more;
-    stays = λ s e es x y k halved one at is now l. lost-on t half b s halved x at is e es y (view t s e x y at now) l;
-    refused = λ s v es x k halved one followed at is cannot. refused-by s v es x k one followed at is cannot (k.takes x at is);
+    stays = λ s e es x y k tied one at is now l. lost-on t half b s tied x at is e es y (view t s e x y at now) l;
+    refused = λ s v es x k tied one followed at is cannot. refused-by s v es x k one followed at is cannot (k.takes x at is);
   }

@@ -1,5 +1,6 @@
 -- A tee has one read under way at most, and holds no chunk beside it; and where it rests, or is over, it has none.
 use Rattle.std.proofs.Common.{◌≡◌, ◌≢◌, ℕ, zero, suc, ◌+◌, ◌≤◌, Bool, true, false, not, ◌&&◌, nat_eq, if◌then◌else◌, List, [], ◌∷◌, ◌++◌, length, Option, Some, None, Ok, Err, slice_get, slice_set, refl, sym, ap, subst, ◌∙◌, arith}
+use Rattle.ws_value.specs.declared.ids.PortId.{PortId}
 use Rattle.ws_value.specs.declared.ids.{PipeId.{PipeId}, PromiseId.{PromiseId}, StreamId.{StreamId}, TeeId.{TeeId}}
 use Rattle.ws_value.specs.declared.value.{Plain.{Plain}, Plain.TheVariants.{Pair}, Value.{Value}}
 use Rattle.ws_steps.specs.declared.byte.{ByteOperation.{ByteOperation}, ByteOperation.TheVariants.{PullInto}}
@@ -36,6 +37,7 @@ use Rattle.ws_laws.proofs.TransformDoes.{TransformCauses}
 use Rattle.ws_laws.proofs.Walker.{Stays}
 use Rattle.ws_lock_laws.proofs.Asking.{requests_at}
 use Rattle.ws_tee_laws.proofs.Handing.{readable-hands}
+use Rattle.ws_laws.proofs.PortDoes.{PortCauses}
 
 -- a request of the tee
 abbrev pub is_tee : TeeId → ReadRequest → ℕ
@@ -171,8 +173,11 @@ module _ (t : TeeId) where
   pipe_none me source dest (OnReadable i (Read q)) c = ap (is_tee t) c.1
   pipe_none me source dest e c = grind (arith, c)
 
+  port_none : (c : PortId) (stream : StreamId) (e : Effect) → PortCauses c stream e → IsNone e
+  port_none c stream e k = grind (arith, k)
+
   idle-causes : (e : Effect) → IsIdle e → Causes IsNone e
-  idle-causes e n = grind (arith, n, pipe_none, transform_none)
+  idle-causes e n = grind (arith, n, pipe_none, transform_none, port_none)
 
   idle-carries : (s : Slots) (e : Effect) → IsIdle e → sum_of (in_stream t) (row e s).slots.streams ≡ sum_of (in_stream t) s.streams → Carries s (of_effect t e) (row e s)
   idle-carries s e n k = let c = none-all (row e s).caused (row-causes IsNone e s (idle-causes e n)) in omega (arith, k, c)
@@ -393,6 +398,7 @@ module _ (t : TeeId) where
         signal = λ z k. k;
         transform = λ z kind i j change k. k;
         tee = λ z source first second cancel k. tees-append z.tees t.0 (sum_of (in_stream t) z.streams + 0) source first second cancel k;
+        port = λ z side stream backpressure k. k;
         readable = λ z owner mark size k. let c = streams-append z.streams (ReadableStream (readable.set_up owner mark size)) refl in omega (arith, c, k);
         bytes = λ z mark auto k. let c = streams-append z.streams (ByteStream (byte.set_up mark auto)) refl in omega (arith, c, k);
         byob_requests = λ z hs k. k;

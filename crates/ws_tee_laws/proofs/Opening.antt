@@ -20,7 +20,6 @@ use Rattle.ws_steps.specs.Run.{after_event}
 use Rattle.ws_steps.specs.Slots.{Slots, Stream, ReadableStream, ByteStream, WritableStream, Done, empty, found, is_readable_stream, is_byte_stream, readable_at, as_readable, put_readable, on_readable}
 use Rattle.ws_steps.specs.Tee as tee
 use Rattle.ws_steps.specs.Turns.{row, on_source}
-use Rattle.ws_laws.proofs.Halves.{Halved}
 use Rattle.ws_laws.proofs.Lists.{Each, each-append}
 use Rattle.ws_laws.proofs.Rows.{row-streams}
 use Rattle.ws_laws.proofs.Shapes.{StreamShape, ReadableOf, branch_of, stream_shape, stream_shapes, tee_shape}
@@ -33,6 +32,7 @@ use Rattle.ws_tee_laws.proofs.Owns.{closed-over}
 use Rattle.ws_tee_laws.proofs.Reasons.{View, Aside, Other, Own, view, Reason, IsLostBy, IsOver, reason-goes}
 use Rattle.ws_tee_laws.proofs.Shutting.{any_cancels, cancels-first, is_ender, operation-open}
 use Rattle.ws_tee_laws.proofs.Starts.{IsMine, IsCalm, Hears}
+use Rattle.ws_tee_laws.proofs.Tied.{Tied}
 
 -- what is to be known of the closed promise of a tee's reader: it is rejected only where the source has errored, and the tee holds nothing then
 pub record IsEnding (t : TeeId) (E : Slots → List Effect → Type 0) : Type 0 where
@@ -56,9 +56,9 @@ module _ (t : TeeId) (half : Half) (b : StreamId) where
   abbrev pub Open : Slots → List Effect → tee.Slots → Type 0
   Open s es x = (IsOpen s × Each (NoEnd t b) es) ⊎ Reason t half b s es x
 
-  module _ (s : Slots) (halved : Halved s) (x : tee.Slots) (there : slice_get s.tees t.0 ≡ Some x) (is : branch_of half (tee_shape x) ≡ b) where
+  module _ (s : Slots) (tied : Tied s) (x : tee.Slots) (there : slice_get s.tees t.0 ≡ Some x) (is : branch_of half (tee_shape x) ≡ b) where
     mine : slice_get (stream_shapes s) b.0 ≡ Some (ReadableOf (BranchOf t half))
-    mine = shape t half b s halved x there is
+    mine = shape t half b s tied x there is
 
     is-mine : IsMine t half b s
     is-mine w at = by w (sym at ∙ mine)
@@ -138,10 +138,10 @@ module _ (t : TeeId) (half : Half) (b : StreamId) where
         (subst (λ (cs : List Effect). Each (NoEnd t b) cs) (sym caused) (own-none t half b operation (record { slots = x; out = found s }) tt tt)) m
 
     open-goes : (e : Effect) (es : List Effect) (y : tee.Slots) → View t s e x y → IsCalm t half b e → IsOpen s → NoEnd t b e → Each (NoEnd t b) es → Open (row e s).slots ((row e s).caused ++ es) y
-    open-goes e es y (Aside same no_tee) c o n m = joined e es y (effect-open e n c o) (row-none t half b s halved x there is e no_tee) m
+    open-goes e es y (Aside same no_tee) c o n m = joined e es y (effect-open e n c o) (row-none t half b s tied x there is e no_tee) m
     open-goes e es y (Other u operation i apart same) c o n m =
         subst (λ (k : Effect). Open (row k s).slots ((row k s).caused ++ es) y) (sym i)
-        (joined (OnTee u operation) es y (inl (away-open (OnTee u operation) tt o)) (other-none t half b s halved x there is u operation apart) m)
+        (joined (OnTee u operation) es y (inl (away-open (OnTee u operation) tt o)) (other-none t half b s tied x there is u operation apart) m)
     open-goes e es y (Own operation i moved caused) c o n m =
         subst (λ (k : Effect). NoEnd t b k → (row k s).caused ≡ (tee_operation t operation (record { slots = x; out = found s })).out.effects → Open (row k s).slots ((row k s).caused ++ es) y) (sym i)
         (λ n caused. own-open operation es y moved caused n m o) n caused
@@ -149,4 +149,4 @@ module _ (t : TeeId) (half : Half) (b : StreamId) where
     pub row-open : (e : Effect) (es : List Effect) (y : tee.Slots) → slice_get (row e s).slots.tees t.0 ≡ Some y → Gifts t s (e ∷ es) → Hears t half b s (e ∷ es) → Open s (e ∷ es) x
         → Open (row e s).slots ((row e s).caused ++ es) y
     row-open e es y now g h (inl k) = open-goes e es y (view t s e x y there now) h.calm.0 k.0 k.1.0 k.1.1
-    row-open e es y now g h (inr r) = inr (reason-goes t half b s halved x there is e es y (view t s e x y there now) g r)
+    row-open e es y now g h (inr r) = inr (reason-goes t half b s tied x there is e es y (view t s e x y there now) g r)

@@ -120,6 +120,7 @@ module _ (q : Plain × Plain) where
       signal = λ s h. h;
       transform = λ s kind writable readable change h. h;
       tee = λ s source first second cancel h. more-keeps s.tees t.0 (tee.set_up source first second cancel) h;
+      port = λ s side stream backpressure h. h;
       readable = λ s owner mark size h. h;
       bytes = λ s mark auto h. h;
       byob_requests = λ s requests h. h;

@@ -14,6 +14,7 @@ use Rattle.ws_laws.proofs.Cases.{Puts, settle-cases, answer-cases, react-cases, 
 use Rattle.ws_promise_laws.proofs.Holds.{place_at, put-placed}
 use Rattle.ws_host_laws.proofs.Plain.{Plainly}
 use Rattle.ws_host_laws.proofs.Reactions.{marked, any_marked, entry_marked}
+use Rattle.ws_steps.specs.declared.calls.Event.TheVariants.{Post}
 
 module _ (is : Step → Bool) where
   abbrev pub JobFits : Job → Type 0
@@ -120,6 +121,7 @@ module _ (is : Step → Bool) where
     answer = λ t p o n g. answer-unheard p o t g;
     micro = λ t m g. micro-unheard m t g;
     signal = λ t i r g. tell-unheard (Signal i r) t g;
+    post = λ t c m g. tell-unheard (Post c m) t g;
   }
 
   -- the taking of a job

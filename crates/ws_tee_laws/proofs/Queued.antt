@@ -1,6 +1,7 @@
 -- The microtask of a tee's chunk is queued where the tee keeps a chunk, and nowhere else: what goes on with all other changes of promises goes
 -- on with each other effect.
 use Rattle.std.proofs.Common.{◌≡◌, Bool, true, false, not, ◌&&◌, nat_eq, [], ◌∷◌, Option, Some, None, Result, Ok, Err, refl, slice_get, arith}
+use Rattle.ws_steps.specs.declared.effects.Effect.TheVariants.{Port}
 use Rattle.ws_value.specs.declared.ids.{PipeId.{PipeId}, PromiseId.{PromiseId}, SignalId.{SignalId}, StreamId.{StreamId}, TeeId.{TeeId}}
 use Rattle.ws_value.specs.declared.value.{Outcome.{Outcome}, Outcome.TheVariants.{Given, Finished}, Plain.{Plain}, Plain.TheVariants.{Undefined, Pair}, Value.{Value}, Value.TheVariants.{Plain as PlainValue, Bytes}}
 use Rattle.ws_steps.specs.declared.calls.{Event.{Event}, Event.TheVariants.{Signal as Signalled}, HostCall.{HostCall}, StartBy.TheVariants.{Now, Later}}
@@ -14,11 +15,11 @@ use Rattle.ws_steps.specs.declared.tee.{Half.{Half}, TeeOperation.{TeeOperation}
 use Rattle.ws_steps.specs.declared.tee.TeeOperation.TheVariants as tees
 use Rattle.ws_steps.specs.declared.transform.{TransformId.{TransformId}, TransformOperation.{TransformOperation}}
 use Rattle.ws_steps.specs.Effects.{Out}
-use Rattle.ws_steps.specs.Operations.{writable_operation, pipe_operation, signal_operation, transform_operation, tee_operation}
+use Rattle.ws_steps.specs.Operations.{writable_operation, pipe_operation, signal_operation, transform_operation, tee_operation, port_operation}
 use Rattle.ws_steps.specs.Pipes as pipe
 use Rattle.ws_steps.specs.Pipes.{Acts, finalize, act_by_signal, act_by, act, proceed, shutdown, look_by, look, look_ready, go_on_in, go_on, keep_chunk, read_ended, write_held, write_chunk, write_ended, action_settled, part_settled, no_parts, abort}
 use Rattle.ws_steps.specs.Promises.{Table, fresh, settle, answer, react, follow, queue_micro, tell, next_id, use_this, use_gift, fresh_settled}
-use Rattle.ws_steps.specs.Slots.{Slots, Done, nothing, has_writable, found, ends_at, halves_at, put_writable, on_pipe_at, on_signal_at, on_transform_at, on_tee_at}
+use Rattle.ws_steps.specs.Slots.{Slots, Done, nothing, has_writable, found, ends_at, halves_at, put_writable, on_pipe_at, on_signal_at, on_transform_at, on_tee_at, on_port_at, clones_at}
 use Rattle.ws_steps.specs.Tee as tee
 use Rattle.ws_steps.specs.Transform as transform
 use Rattle.ws_steps.specs.Turns.{row, call_host}
@@ -27,6 +28,11 @@ use Rattle.ws_laws.proofs.Rows.{source-out, byte-out}
 use Rattle.ws_laws.proofs.Tables.{either, writable_acts}
 use Rattle.ws_laws.proofs.TransformDoes.{transform-does}
 use Rattle.ws_laws.proofs.WritableDoes.{writable-does}
+use Rattle.ws_value.specs.declared.ids.PortId.{PortId}
+use Rattle.ws_steps.specs.declared.calls.Event.TheVariants.{Post}
+use Rattle.ws_steps.specs.declared.port.PortOperation.{PortOperation}
+use Rattle.ws_steps.specs.Cross as cross
+use Rattle.ws_laws.proofs.PortDoes.{port-does}
 
 module _ (t : TeeId) where
   -- the microtask of the tee's chunk
@@ -172,6 +178,12 @@ module _ (t : TeeId) where
     teed u operation s None n h = h
     teed u operation s (Some x) n h = tee-does u operation (record { slots = x; out = found s }) n h
 
+    ported : (c : PortId) (operation : PortOperation) (s : Slots) (o : Option cross.Slots) → T s.promises
+        → T (on_port_at (λ clones. port_operation c clones operation) c s o).slots.promises
+    ported c operation s None h = h
+    ported c operation s (Some x) h =
+        port-does T (record { fresh = of.fresh; settle = of.settle; post = λ z d m k. of.tell z (Post d m) k }) c (clones_at x s) operation (record { slots = x; out = found s }) h
+
     settles : (i : StreamId) → OfReadable (λ (x : Out). T x.promises) i
     settles i = record {
       settle = λ x p o h. of.settle x.promises p o h;
@@ -210,11 +222,13 @@ module _ (t : TeeId) where
           abort = λ x r p h. h;
           hand_on = λ x v h. h;
           take = λ x v t d h. h;
+          post = λ x v c d h. h;
         }) operation (writable_acts i s) h) (λ e. h)
     row-quietly (Pipe p operation) s n h = piped p operation s (slice_get s.pipes p.0) h
     row-quietly (Signal a operation) s n h = signalled a operation s (slice_get s.signals a.0) h
     row-quietly (Transform u operation) s n h = transformed u operation s (slice_get s.transforms u.0) h
     row-quietly (Tee u operation) s n h = teed u operation s (slice_get s.tees u.0) n h
+    row-quietly (Port c operation) s n h = ported c operation s (slice_get s.ports c.0) h
     row-quietly (StartAlgorithm i step Now) s n h = h
     row-quietly (StartAlgorithm i step Later) s n h = of.fresh s.promises h
     row-quietly (ChunkSteps i (Promise p) v) s n h = of.answer s.promises p (Given v) h

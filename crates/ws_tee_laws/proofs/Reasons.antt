@@ -1,6 +1,7 @@
 -- Why a branch of a tee may take no chunk that is handed on: it was cancelled or is about to be, or the tee is over, or has failed: its source has
 -- errored, and it holds nothing and hands nothing on. Once there is such a reason, there is one from then on.
 use Rattle.std.proofs.Common.{◌≡◌, ◌⊎◌, inl, inr, ℕ, zero, suc, Bool, true, false, ◌&&◌, ◌||◌, nat_eq, is_some, List, [], ◌∷◌, ◌++◌, map, Option, Some, None, Err, slice_get, refl, sym, ap, subst, ◌∙◌, arith}
+use Rattle.ws_value.specs.declared.ids.PortId.{PortId}
 use Rattle.ws_value.specs.declared.ids.{PipeId.{PipeId}, PromiseId.{PromiseId}, StreamId.{StreamId}, TeeId.{TeeId}}
 use Rattle.ws_value.specs.declared.value.{Plain.{Plain}, Value.{Value}}
 use Rattle.ws_steps.specs.declared.effects.{Effect.{Effect}, Effect.TheVariants.{Tee as OnTee, CancelAlgorithm}, Owner.{Owner}, Owner.TheVariants.{BranchOf}, Use.{Use}}
@@ -14,7 +15,6 @@ use Rattle.ws_steps.specs.Slots.{Slots, Stream, ReadableStream, ByteStream, Writ
 use Rattle.ws_steps.specs.Tee as tee
 use Rattle.ws_steps.specs.Tee.{Acts, reason_of}
 use Rattle.ws_steps.specs.Turns.{row}
-use Rattle.ws_laws.proofs.Halves.{Halved}
 use Rattle.ws_laws.proofs.Lists.{Each, each-append}
 use Rattle.ws_laws.proofs.PipeDoes.{PipeCauses}
 use Rattle.ws_laws.proofs.Rows.{Causes, IsNoTee, row-causes, row-tees}
@@ -27,6 +27,8 @@ use Rattle.ws_tee_laws.proofs.Gifts.{NoGift, Gifts}
 use Rattle.ws_tee_laws.proofs.Hands.{some_tee, tees_same, tees_other, reason-stays}
 use Rattle.ws_tee_laws.proofs.Owns.{IsBasic, IsNoKeep, own-each, over-stays, none-held, cancelled-reason}
 use Rattle.ws_tee_laws.proofs.Shutting.{row-erred, same_half, cancels, any_cancels, cancels-later, cancels-first}
+use Rattle.ws_laws.proofs.PortDoes.{PortCauses}
+use Rattle.ws_tee_laws.proofs.Tied.{Tied}
 
 -- what an effect is to a tee
 
@@ -99,8 +101,11 @@ module _ (t : TeeId) where
   tee_hands u source first second n (OnTee v ops.Handed) c = ap (λ (w : TeeId). nat_eq t.0 w.0) c ∙ n
   tee_hands u source first second n e c = grind (arith, c)
 
+  port_hands : (c : PortId) (stream : StreamId) (e : Effect) → PortCauses c stream e → NoHands e
+  port_hands c stream e k = grind (arith, k)
+
   other-causes : (e : Effect) → IsNoTee e → Causes NoHands e
-  other-causes e n = grind (arith, n, transform_hands, pipe_hands)
+  other-causes e n = grind (arith, n, transform_hands, pipe_hands, port_hands)
 
   tees-cause : (u : TeeId) (operation : TeeOperation) → nat_eq t.0 u.0 ≡ false → Causes NoHands (OnTee u operation)
   tees-cause u operation n = λ source first second e c. tee_hands u source first second n e c
@@ -152,9 +157,9 @@ module _ (t : TeeId) (half : Half) (b : StreamId) where
   shape-owner (WritableStream r ∷ xs) zero w e = cc
   shape-owner (x ∷ xs) (suc n) w e = shape-owner xs n w e
 
-  module _ (s : Slots) (halved : Halved s) (x : tee.Slots) (there : slice_get s.tees t.0 ≡ Some x) (is : branch_of half (tee_shape x) ≡ b) where
+  module _ (s : Slots) (tied : Tied s) (x : tee.Slots) (there : slice_get s.tees t.0 ≡ Some x) (is : branch_of half (tee_shape x) ≡ b) where
     owner : owner_at b s ≡ BranchOf t half
-    owner = shape-owner s.streams b.0 (BranchOf t half) (shape t half b s halved x there is)
+    owner = shape-owner s.streams b.0 (BranchOf t half) (shape t half b s tied x there is)
 
     -- a reason stays
     reason-on : (e : Effect) (y : tee.Slots) → View t s e x y → is_some (reason_of half x) ≡ true → is_some (reason_of half y) ≡ true

@@ -17,6 +17,7 @@ use Rattle.ws_laws.proofs.Outcomes.{Keeps, keeps-entries, keeps-then, keeps-next
 use Rattle.ws_promise_laws.proofs.Holds.{place_at, put-placed, eq_promises}
 use Rattle.ws_host_laws.proofs.Plain.{Plainly}
 use Rattle.ws_host_laws.proofs.Reactions.{marked, any_marked, entry_marked}
+use Rattle.ws_steps.specs.declared.calls.Event.TheVariants.{Post}
 
 module _ (is : Step → Bool) where
   abbrev pub JobFits : Type 0 → Job → Type 0
@@ -166,6 +167,7 @@ module _ (is : Step → Bool) where
       answer = λ t q o n g. answer-told q o t g;
       micro = λ t m g. micro-told m t g;
       signal = λ t i r g. tell-told (Signal i r) t g;
+      post = λ t c m g. tell-told (Post c m) t g;
     }
 
     -- the use of a promise

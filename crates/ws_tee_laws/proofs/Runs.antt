@@ -7,7 +7,7 @@ use Rattle.ws_steps.specs.declared.effects.{Effect.{Effect}, Effect.TheVariants.
 use Rattle.ws_steps.specs.declared.readable.ReadableOperation.TheVariants.{Enqueue}
 use Rattle.ws_steps.specs.declared.tee.{Half.{Half}, Half.TheVariants.{First, Second}, TeeOperation.{TeeOperation}}
 use Rattle.ws_steps.specs.declared.tee.TeeOperation.TheVariants as ops
-use Rattle.ws_steps.specs.Calls.{Begun, begin, make_tee}
+use Rattle.ws_steps.specs.Calls.{Begun, begin, make_tee, add_port}
 use Rattle.ws_steps.specs.Histories.{is_same, in_step, over}
 use Rattle.ws_steps.specs.Promises.{next_id, fresh, after_next_job}
 use Rattle.ws_steps.specs.Jobs.{job_effects}
@@ -23,7 +23,7 @@ use Rattle.ws_steps.specs.Turns.{row}
 use Rattle.ws_laws.proofs.ByteHands.{sum_of}
 use Rattle.ws_laws.proofs.Begin.{begin-makes}
 use Rattle.ws_laws.proofs.EachCall.{each_call}
-use Rattle.ws_laws.proofs.Halves.{Halved, halved-stays, halved-empty, get-stays, get-either}
+use Rattle.ws_laws.proofs.Halves.{get-stays, get-either}
 use Rattle.ws_laws.proofs.Lists.{Each}
 use Rattle.ws_laws.proofs.Rows.{IsNoTee, row-tees}
 use Rattle.ws_laws.proofs.Shapes.{StreamShape, ReadableOf, branch_of, stream_shape, stream_shapes, tee_shape, map-there, row-stream_shapes, row-tee_shapes}
@@ -35,6 +35,9 @@ use Rattle.ws_tee_laws.proofs.Fronts.{enq, pend, NoEnq, pend-append, none-pend, 
 use Rattle.ws_tee_laws.proofs.Handed.{handed_by}
 use Rattle.ws_tee_laws.proofs.Hands.{Went, none_went, went_then, told, Front, Live, Shut, Left, aside-front, enqueue-front, hand-front, row-shut, some_tee, none_some, tees_same, tees_other, reason-stays}
 use Rattle.ws_tee_laws.proofs.OneRead.{One, of_effect, held_in, may_have, one-stays, one-empty}
+use Rattle.ws_steps.specs.declared.port.Side.{Side}
+use Rattle.ws_steps.specs.declared.port.Side.TheVariants.{Readable as ReadableSide, Writable as WritableSide}
+use Rattle.ws_tee_laws.proofs.Tied.{Tied, tied-stays, tied-empty}
 
 module _ (t : TeeId) (half : Half) (b : StreamId) where
   -- what is told
@@ -79,16 +82,16 @@ module _ (t : TeeId) (half : Half) (b : StreamId) where
           let both : ◌≡◌ {A = Option StreamShape} (Some (ReadableOf (BranchOf t half))) (Some (ReadableOf (BranchOf t h))) = sym mine ∙ (ap (λ (k : StreamId). slice_get (stream_shapes s) k.0) (same_id b j e) ∙ at) in
           let it : h ≡ half = cc in absurd (n it)
 
-  branches-pend : (s : Slots) (x : tee.Slots) (v : Value) (halved : Halved s) (there : slice_get s.tees t.0 ≡ Some x) → branch_of half (tee_shape x) ≡ b
+  branches-pend : (s : Slots) (x : tee.Slots) (v : Value) (tied : Tied s) (there : slice_get s.tees t.0 ≡ Some x) → branch_of half (tee_shape x) ≡ b
       → pend b (on_branches (Enqueue v) x ++ OnTee t ops.Handed ∷ []) ≡ (if is_some (reason_of half x) then [] else v ∷ [])
-  branches-pend s x v halved there is =
+  branches-pend s x v tied there is =
       pend-append b (on_branches (Enqueue v) x) (OnTee t ops.Handed ∷ []) ∙ (append-nil (pend b (on_branches (Enqueue v) x)) ∙ (pend-append b (unless_cancelled x.reason1 x.branch1 (Enqueue v)) (unless_cancelled x.reason2 x.branch2 (Enqueue v)) ∙ by half refl is))
     where
       mine : slice_get (stream_shapes s) b.0 ≡ Some (ReadableOf (BranchOf t half))
-      mine = shape t half b s halved x there is
+      mine = shape t half b s tied x there is
 
       both : (slice_get (stream_shapes s) x.branch1.0 ≡ Some (ReadableOf (BranchOf t First))) × (slice_get (stream_shapes s) x.branch2.0 ≡ Some (ReadableOf (BranchOf t Second)))
-      both = halved.branches t (tee_shape x) (map-there tee_shape s.tees t.0 x there)
+      both = tied.0.branches t (tee_shape x) (map-there tee_shape s.tees t.0 x there)
 
       first_second : {A : Type 0} → First ≡ Second → A
       first_second e = cc
@@ -131,9 +134,9 @@ pub record IsLost (t : TeeId) (half : Half) (b : StreamId) (lost : tee.Slots →
   pub rests : (s : Slots) → X s [] → X (after_event s) []
   pub begins : X empty []
   pub more : (x : tee.Slots) (es : List Effect) → lost x [] ≡ true → lost x es ≡ true
-  pub stays : (s : Slots) (e : Effect) (es : List Effect) (x y : tee.Slots) → X s (e ∷ es) → Halved s → One t s (e ∷ es) → slice_get s.tees t.0 ≡ Some x → branch_of half (tee_shape x) ≡ b
+  pub stays : (s : Slots) (e : Effect) (es : List Effect) (x y : tee.Slots) → X s (e ∷ es) → Tied s → One t s (e ∷ es) → slice_get s.tees t.0 ≡ Some x → branch_of half (tee_shape x) ≡ b
       → slice_get (row e s).slots.tees t.0 ≡ Some y → lost x (e ∷ es) ≡ true → lost y ((row e s).caused ++ es) ≡ true
-  pub refused : (s : Slots) (v : Value) (es : List Effect) (x : tee.Slots) → X s (OnReadable b (Enqueue v) ∷ es) → Halved s → One t s (OnReadable b (Enqueue v) ∷ es) → Followed t b (OnReadable b (Enqueue v) ∷ es)
+  pub refused : (s : Slots) (v : Value) (es : List Effect) (x : tee.Slots) → X s (OnReadable b (Enqueue v) ∷ es) → Tied s → One t s (OnReadable b (Enqueue v) ∷ es) → Followed t b (OnReadable b (Enqueue v) ∷ es)
       → slice_get s.tees t.0 ≡ Some x → branch_of half (tee_shape x) ≡ b → can_close_or_enqueue (readable_at b s) ≡ false → lost x ((row (OnReadable b (Enqueue v)) s).caused ++ es) ≡ true
 
 module _ (t : TeeId) (half : Half) (b : StreamId) (lost : tee.Slots → List Effect → Bool) (X : Slots → List Effect → Type 0) (law : IsLost t half b lost X) where
@@ -143,7 +146,7 @@ module _ (t : TeeId) (half : Half) (b : StreamId) (lost : tee.Slots → List Eff
 
   pub record Kept (h : Went) (s : Slots) (es : List Effect) : Type 0 where
     beside : X s es
-    halved : Halved s
+    tied : Tied s
     one : One t s es
     absent : slice_get s.tees t.0 ≡ None → h.handed ≡ []
     missing : slice_get s.streams b.0 ≡ None → h.entered ≡ []
@@ -161,12 +164,12 @@ module _ (t : TeeId) (half : Half) (b : StreamId) (lost : tee.Slots → List Eff
   -- other effects than those of the tee
   aside : (h : Went) (s : Slots) (e : Effect) (es : List Effect) (x y : tee.Slots) → IsNoTee e → Here s x → slice_get (row e s).slots.tees t.0 ≡ Some y → x ≡ y → enq b e ≡ [] → Kept h s (e ∷ es) → Fore (went_then h (told t b e s)) (row e s).slots ((row e s).caused ++ es) y
   aside h s e es x y n here now same none k =
-      let calm = row-none t half b s k.halved x here.0 here.1 e n in
+      let calm = row-none t half b s k.tied x here.0 here.1 e n in
       let f = k.fore x here.0 here.1 in
       record {
         followed = followed-calm t b (row e s).caused es calm f.followed.1;
         front = aside-front lost t half b h (told t b e s) s (row e s).slots e es (row e s).caused x y (told-handed t half b e s (not-own e n)) (told-entered t half b e s none) none calm (row-shut b e s)
-            (λ r. subst (λ (z : tee.Slots). is_some (reason_of half z) ≡ true) same r) (λ l. law.stays s e es x y k.beside k.halved k.one here.0 here.1 now l) f.front;
+            (λ r. subst (λ (z : tee.Slots). is_some (reason_of half z) ≡ true) same r) (λ l. law.stays s e es x y k.beside k.tied k.one here.0 here.1 now l) f.front;
       }
     where
       not-own : (e : Effect) → IsNoTee e → e ≡ OnTee t ops.HandChunk → ⊥
@@ -176,14 +179,14 @@ module _ (t : TeeId) (half : Half) (b : StreamId) (lost : tee.Slots → List Eff
       → Fore (went_then h (told t b (OnReadable b (Enqueue v)) s)) (row (OnReadable b (Enqueue v)) s).slots ((row (OnReadable b (Enqueue v)) s).caused ++ es) y
   enqueued h s v es x y here same k =
       let e : Effect = OnReadable b (Enqueue v) in
-      let calm = row-none t half b s k.halved x here.0 here.1 e tt in
+      let calm = row-none t half b s k.tied x here.0 here.1 e tt in
       let f = k.fore x here.0 here.1 in
       let can : Bool = can_close_or_enqueue (readable_at b s) in
       subst (λ (z : tee.Slots). Fore (went_then h (told t b e s)) (row e s).slots ((row e s).caused ++ es) z) same
       (record {
         followed = followed-calm t b (row e s).caused es calm f.followed.1;
         front = with_told h (told t b e s) (record { handed = []; entered = if can then v ∷ [] else [] }) (row e s).slots ((row e s).caused ++ es) x (told-is can refl)
-            (enqueue-front lost t half b h s (row e s).slots v es (row e s).caused x can refl calm (row-shut b e s) (λ no. law.refused s v es x k.beside k.halved k.one f.followed here.0 here.1 no) f.front);
+            (enqueue-front lost t half b h s (row e s).slots v es (row e s).caused x can refl calm (row-shut b e s) (λ no. law.refused s v es x k.beside k.tied k.one f.followed here.0 here.1 no) f.front);
       })
     where
       told-is : (can : Bool) → can_close_or_enqueue (readable_at b s) ≡ can → told t b (OnReadable b (Enqueue v)) s ≡ record { handed = []; entered = if can_close_or_enqueue (readable_at b s) then v ∷ [] else [] }
@@ -204,7 +207,7 @@ module _ (t : TeeId) (half : Half) (b : StreamId) (lost : tee.Slots → List Eff
       record {
         followed = followed-calm t b (row e s).caused es calm f.followed.1;
         front = aside-front lost t half b h (told t b e s) s (row e s).slots e es (row e s).caused x y (told-handed t half b e s (not-hand operation handless)) refl refl calm (row-shut b e s)
-            (λ r. subst (λ (z : tee.Slots). is_some (reason_of half z) ≡ true) now (reason-stays t half operation a r)) (λ l. law.stays s e es x y k.beside k.halved k.one here.0 here.1 place l) f.front;
+            (λ r. subst (λ (z : tee.Slots). is_some (reason_of half z) ≡ true) now (reason-stays t half operation a r)) (λ l. law.stays s e es x y k.beside k.tied k.one here.0 here.1 place l) f.front;
       }
     where
       not-hand : (operation : TeeOperation) → IsHandless t b operation → OnTee t operation ≡ OnTee t ops.HandChunk → ⊥
@@ -234,18 +237,18 @@ module _ (t : TeeId) (half : Half) (b : StreamId) (lost : tee.Slots → List Eff
       record {
         followed = followed-calm t b (row e s).caused es calm f.followed.1;
         front = aside-front lost t half b h (told t b e s) s (row e s).slots e es (row e s).caused x y (rw (one_self t half b, here.0, is) refl) refl refl calm (row-shut b e s)
-            (λ r. subst (λ (z : tee.Slots). is_some (reason_of half z) ≡ true) now r) (λ l. law.stays s e es x y k.beside k.halved k.one here.0 here.1 place l) f.front;
+            (λ r. subst (λ (z : tee.Slots). is_some (reason_of half z) ≡ true) now r) (λ l. law.stays s e es x y k.beside k.tied k.one here.0 here.1 place l) f.front;
       }
   hand-row h s es x y (Some v) is here now place caused k =
       let e : Effect = OnTee t ops.HandChunk in
       let f = k.fore x here.0 here.1 in
       let none : pend b es ≡ [] = unhanded t b es f.followed.1 (none-hands t es (one_here s es x v here.0 is k.one)) in
-      let p = branches-pend t half b s x v k.halved here.0 here.1 in
+      let p = branches-pend t half b s x v k.tied here.0 here.1 in
       record {
         followed = rw caused (branches-followed t half b x v es f.followed.1);
         front = with_told h (told t b e s) (record { handed = v ∷ []; entered = [] }) (row e s).slots ((row e s).caused ++ es) y (rw (one_self t half b, here.0, is) refl)
             (hand-front lost t half b h s (row e s).slots v es (row e s).caused x y (reason_of half x) refl (sym (ap (reason_of half) now) ∙ same half) none (ap (pend b) caused ∙ p) (row-shut b e s)
-            (λ l. law.stays s e es x y k.beside k.halved k.one here.0 here.1 place l) f.front);
+            (λ l. law.stays s e es x y k.beside k.tied k.one here.0 here.1 place l) f.front);
       }
     where
       same : (g : Half) → reason_of g (record x { held = None; read_again = false }) ≡ reason_of g x
@@ -258,12 +261,12 @@ module _ (t : TeeId) (half : Half) (b : StreamId) (lost : tee.Slots → List Eff
   unfolding row
   other-row h s u operation es x y apart here now same k =
       let e : Effect = OnTee u operation in
-      let calm : Each (NoEnq b) (row e s).caused = teed-none t half b s k.halved x here.0 here.1 u operation (slice_get s.tees u.0) apart refl in
+      let calm : Each (NoEnq b) (row e s).caused = teed-none t half b s k.tied x here.0 here.1 u operation (slice_get s.tees u.0) apart refl in
       let f = k.fore x here.0 here.1 in
       record {
         followed = followed-calm t b (row e s).caused es calm f.followed.1;
         front = aside-front lost t half b h (told t b e s) s (row e s).slots e es (row e s).caused x y (told-handed t half b e s not-own) refl refl calm (row-shut b e s)
-            (λ r. subst (λ (z : tee.Slots). is_some (reason_of half z) ≡ true) same r) (λ l. law.stays s e es x y k.beside k.halved k.one here.0 here.1 now l) f.front;
+            (λ r. subst (λ (z : tee.Slots). is_some (reason_of half z) ≡ true) same r) (λ l. law.stays s e es x y k.beside k.tied k.one here.0 here.1 now l) f.front;
       }
     where
       not-own : OnTee u operation ≡ OnTee t ops.HandChunk → ⊥
@@ -373,7 +376,7 @@ module _ (t : TeeId) (half : Half) (b : StreamId) (lost : tee.Slots → List Eff
   row-kept : (h : Went) (s : Slots) (e : Effect) (es : List Effect) → Kept h s (e ∷ es) → Kept (went_then h (told t b e s)) (row e s).slots ((row e s).caused ++ es)
   row-kept h s e es k = record {
     beside = law.goes.row s e es k.beside;
-    halved = halved-stays.row s e es k.halved;
+    tied = tied-stays.row s e es k.tied;
     one = (one-stays t).row s e es k.one;
     absent = λ none. let before = tees-shapes (row e s).slots.tees s.tees t.0 (row-tee_shapes e s) none in rw (k.absent before, told-none t half b e s before) refl;
     missing = λ none. let before = streams-shapes (row e s).slots.streams s.streams b.0 (row-stream_shapes e s) none in rw (k.missing before, missing-told e s before) refl;
@@ -391,6 +394,7 @@ module _ (t : TeeId) (half : Half) (b : StreamId) (lost : tee.Slots → List Eff
     signal = λ z k. k;
     transform = λ z kind i j change k. k;
     tee = λ z source first second cancel k. get-stays z.tees _ t.0 x k;
+    port = λ z side stream backpressure k. k;
     readable = λ z owner mark size k. k;
     bytes = λ z mark auto k. k;
     byob_requests = λ z requests k. k;
@@ -406,6 +410,7 @@ module _ (t : TeeId) (half : Half) (b : StreamId) (lost : tee.Slots → List Eff
     signal = λ z k. k;
     transform = λ z kind i j change k. k;
     tee = λ z source first second cancel k. k;
+    port = λ z side stream backpressure k. k;
     readable = λ z owner mark size k. get-stays z.streams _ b.0 w k;
     bytes = λ z mark auto k. get-stays z.streams _ b.0 w k;
     byob_requests = λ z requests k. k;
@@ -436,6 +441,10 @@ module _ (t : TeeId) (half : Half) (b : StreamId) (lost : tee.Slots → List Eff
         fresh-branch : (g : Half) → branch_of g (tee_shape (tee.set_up i (record { 0 = length s.streams }) (record { 0 = length s.streams + 1 }) (next_id (fresh s.promises)))) ≡ b → slice_get s.streams b.0 ≡ None
         fresh-branch First e = rw (← e) (past s.streams (length s.streams) (omega arith))
         fresh-branch Second e = rw (← e) (past s.streams (length s.streams + 1) (omega arith))
+
+    port-tees : (s : Slots) (side : Side) → (add_port (record { 0 = length s.streams }) s side).tees ≡ s.tees
+    port-tees s ReadableSide = refl
+    port-tees s WritableSide = refl
 
     call-new : (c : Call) → IsNew s (begin c s)
     call-new c = each_call (IsNew s) c s (record {
@@ -471,6 +480,10 @@ module _ (t : TeeId) (half : Half) (b : StreamId) (lost : tee.Slots → List Eff
       terminate = λ u x e. gone x e;
       pipe = λ source dest prevent signal f g l m x e. gone x e;
       make_signal = λ x e. gone x e;
+      open_end = λ side x e. gone x (subst (λ (xs : List tee.Slots). slice_get xs t.0 ≡ Some x) (port-tees s side) e);
+      send_readable = λ i there free x e. gone x e;
+      send_writable = λ i there free x e. gone x e;
+      deliver = λ p m f is x e. gone x e;
       trigger = λ a reason x e. gone x e;
       settle = λ h answer p f x e. gone x e;
     })
@@ -494,12 +507,12 @@ module _ (t : TeeId) (half : Half) (b : StreamId) (lost : tee.Slots → List Eff
   call-fore h s c k (Some y) at x now is =
       let same : y ≡ x = some_tee y x (sym (tee-stays c s y at) ∙ now) in
       let mine : branch_of half (tee_shape y) ≡ b = subst (λ (z : tee.Slots). branch_of half (tee_shape z) ≡ b) (sym same) is in
-      let calm = call-none t half b s k.halved y at mine c in
+      let calm = call-none t half b s k.tied y at mine c in
       subst (λ (z : tee.Slots). Fore h (begin c s).done.slots (begin c s).done.caused z) same
       (still-fore h s (begin c s).done.slots (begin c s).done.caused y (stays (slice_get s.streams b.0) refl) calm (k.fore y at mine))
     where
       shaped : slice_get (stream_shapes s) b.0 ≡ Some (ReadableOf (BranchOf t half))
-      shaped = shape t half b s k.halved y at (subst (λ (z : tee.Slots). branch_of half (tee_shape z) ≡ b) (sym (some_tee y x (sym (tee-stays c s y at) ∙ now))) is)
+      shaped = shape t half b s k.tied y at (subst (λ (z : tee.Slots). branch_of half (tee_shape z) ≡ b) (sym (some_tee y x (sym (tee-stays c s y at) ∙ now))) is)
 
       shape_past : (xs : List Stream) (n : ℕ) (w : StreamShape) → slice_get (map stream_shape xs) n ≡ Some w → slice_get xs n ≡ None → ⊥
       shape_past [] n w e f = cc
@@ -513,7 +526,7 @@ module _ (t : TeeId) (half : Half) (b : StreamId) (lost : tee.Slots → List Eff
   call-kept : (h : Went) (s : Slots) (c : Call) → Kept h s [] → Kept h (begin c s).done.slots (begin c s).done.caused
   call-kept h s c k = record {
     beside = law.goes.call s c k.beside;
-    halved = halved-stays.call s c k.halved;
+    tied = tied-stays.call s c k.tied;
     one = (one-stays t).call s c k.one;
     absent = λ none. k.absent (no-tee none (slice_get s.tees t.0) refl);
     missing = λ none. k.missing (no-stream none (slice_get s.streams b.0) refl);
@@ -536,21 +549,21 @@ module _ (t : TeeId) (half : Half) (b : StreamId) (lost : tee.Slots → List Eff
     call = λ h s c k. call-kept h s c k;
     job = λ h s job e k. record {
       beside = law.goes.job s job e k.beside;
-      halved = halved-stays.job s job e k.halved;
+      tied = tied-stays.job s job e k.tied;
       one = (one-stays t).job s job e k.one;
       absent = k.absent;
       missing = k.missing;
       fore = λ x now is. still-fore h s (with_promises (after_next_job s.promises) s) (job_effects job) x refl (job-none b job) (k.fore x now is);
     };
-    answered = λ h s p k. record { beside = law.goes.answered s p k.beside; halved = k.halved; one = k.one; absent = k.absent; missing = k.missing; fore = λ x now is. still-fore h s _ [] x refl tt (k.fore x now is) };
-    older = λ h s k. record { beside = law.goes.older s k.beside; halved = k.halved; one = k.one; absent = k.absent; missing = k.missing; fore = λ x now is. still-fore h s _ [] x refl tt (k.fore x now is) };
+    answered = λ h s p k. record { beside = law.goes.answered s p k.beside; tied = k.tied; one = k.one; absent = k.absent; missing = k.missing; fore = λ x now is. still-fore h s _ [] x refl tt (k.fore x now is) };
+    older = λ h s k. record { beside = law.goes.older s k.beside; tied = k.tied; one = k.one; absent = k.absent; missing = k.missing; fore = λ x now is. still-fore h s _ [] x refl tt (k.fore x now is) };
   }
 
   kept-rests : RestsUntold Kept
-  kept-rests = record { heard = λ h s k. record { beside = law.rests s k.beside; halved = k.halved; one = k.one; absent = k.absent; missing = k.missing; fore = λ x now is. still-fore h s _ [] x refl tt (k.fore x now is) } }
+  kept-rests = record { heard = λ h s k. record { beside = law.rests s k.beside; tied = k.tied; one = k.one; absent = k.absent; missing = k.missing; fore = λ x now is. still-fore h s _ [] x refl tt (k.fore x now is) } }
 
   kept-empty : Kept none_went empty []
-  kept-empty = record { beside = law.begins; halved = halved-empty; one = one-empty t; absent = λ e. refl; missing = λ e. refl; fore = λ x e. cc }
+  kept-empty = record { beside = law.begins; tied = tied-empty; one = one-empty t; absent = λ e. refl; missing = λ e. refl; fore = λ x e. cc }
 
   went-history : IsHistory none_went went_then
   went-history = record {

@@ -1,5 +1,9 @@
 -- A branch of a tee hears of no rejection of its start algorithm, nor of its pull algorithm: both give a promise that is resolved with undefined.
 use Rattle.std.proofs.Common.{◌≡◌, ℕ, zero, suc, ◌+◌, Bool, true, false, List, [], ◌∷◌, ◌++◌, length, map, Option, Some, None, Ok, Err, slice_get, refl, sym, ap, subst, ◌∙◌, arith, length-append}
+use Rattle.ws_laws.proofs.PortDoes.{PortCauses}
+use Rattle.ws_steps.specs.declared.effects.Owner.TheVariants.{EndOf}
+use Rattle.ws_value.specs.declared.ids.PortId.{PortId}
+use Rattle.ws_steps.specs.declared.effects.Effect.TheVariants.{Port as OnPort}
 use Rattle.ws_value.specs.declared.ids.{PipeId.{PipeId}, PromiseId.{PromiseId}, StreamId.{StreamId}, TeeId.{TeeId}}
 use Rattle.ws_value.specs.declared.value.{Plain.{Plain}, Value.{Value}}
 use Rattle.ws_steps.specs.declared.byte.ByteOperation.{ByteOperation}
@@ -13,7 +17,7 @@ use Rattle.ws_steps.specs.declared.readable.{ReadRequest.{ReadRequest}, ReadRequ
 use Rattle.ws_steps.specs.declared.readable.ReadableOperation.TheVariants.{StartSettled, PullSettled}
 use Rattle.ws_steps.specs.declared.tee.Half.{Half}
 use Rattle.ws_steps.specs.declared.transform.TransformId.{TransformId}
-use Rattle.ws_steps.specs.Calls.{Begun, begin, make_readable, make_bytes, make_writable, make_transform, start_transform}
+use Rattle.ws_steps.specs.Calls.{Begun, begin, make_readable, make_bytes, make_writable, make_transform, start_transform, start_end, open_end}
 use Rattle.ws_steps.specs.Histories.{is_same}
 use Rattle.ws_steps.specs.Jobs.{job_effects}
 use Rattle.ws_steps.specs.Operations.{readable_operation, byte_readable_operation, byte_operation}
@@ -39,6 +43,9 @@ use Rattle.ws_laws.proofs.Walker.{Stays}
 use Rattle.ws_host_laws.proofs.Carried.{CarriesTee, TeeUses, row-tees_use, Carries, Uses, Own, row-uses}
 use Rattle.ws_host_laws.proofs.Plain.{row-plainly}
 use Rattle.ws_tee_laws.proofs.Promised.{JobFits, JobsFit, Unheard, NoUse, GiftFits, plainly-unheard, fresh-unheard, watch-unheard, next-unheard, gift-unheard, host-unheard}
+use Rattle.ws_steps.specs.declared.port.Side.{Side}
+use Rattle.ws_steps.specs.declared.port.Side.TheVariants.{Readable as ReadableSide, Writable as WritableSide}
+use Rattle.ws_host_laws.proofs.Ported.{CarriesPort, PortUses, row-port_uses}
 
 -- the reactions of stream b to its start algorithm and its pull algorithm
 abbrev pub of_stream : StreamId → Step → Bool
@@ -91,6 +98,7 @@ module _ (t : TeeId) (half : Half) (b : StreamId) where
   Fits s (StartAlgorithm i step Later) = of_stream b step ≡ false
   Fits s (OnTransform u operation) = Carries Of operation
   Fits s (OnTee u operation) = CarriesTee Of operation
+  Fits s (OnPort c operation) = CarriesPort Of operation
   Fits s (PullAlgorithm i) = is_same b i ≡ true → IsThere s
   Fits s _ = Unit {0}
 
@@ -106,12 +114,13 @@ module _ (t : TeeId) (half : Half) (b : StreamId) where
   fits-moves s z same (StartAlgorithm i step start) f = f
   fits-moves s z same (OnTransform u operation) f = f
   fits-moves s z same (OnTee u operation) f = f
+  fits-moves s z same (OnPort c operation) f = f
   fits-moves s z same e f = f
 
   -- what effects cause
 
   is-calm : (e : Effect) → Causes IsCalm e
-  is-calm e = grind (arith, transform-calm, pipe-calm, tee-calm)
+  is-calm e = grind (arith, transform-calm, pipe-calm, tee-calm, port-calm)
     where
       transform-calm : (u : TransformId) (writable readable : StreamId) (e : Effect) → TransformCauses u writable readable e → IsCalm e
       transform-calm u writable readable e c = grind (arith, c)
@@ -121,6 +130,9 @@ module _ (t : TeeId) (half : Half) (b : StreamId) where
 
       tee-calm : (u : TeeId) (source first second : StreamId) (e : Effect) → TeeCauses u source first second e → IsCalm e
       tee-calm u source first second e c = grind (arith, c)
+
+      port-calm : (c : PortId) (stream : StreamId) (e : Effect) → PortCauses c stream e → IsCalm e
+      port-calm c stream e k = grind (arith, k)
 
   module _ (s : Slots) (mine : IsMine s) where
     pipe-step : (p : PipeId) (step : Step) → IsStepOf p step → of_stream b step ≡ false
@@ -139,6 +151,7 @@ module _ (t : TeeId) (half : Half) (b : StreamId) where
     pipe-fits p source dest (StartAlgorithm i step start) c = absurd c
     pipe-fits p source dest (OnTransform u operation) c = absurd c
     pipe-fits p source dest (OnTee u operation) c = absurd c
+    pipe-fits p source dest (OnPort q operation) c = absurd c
     pipe-fits p source dest (PullAlgorithm i) c = absurd c
     pipe-fits p source dest _ c = tt
 
@@ -171,6 +184,7 @@ module _ (t : TeeId) (half : Half) (b : StreamId) where
     pull-fits i Host n = (n, tt)
     pull-fits i (HalfOf u) n = (n, tt)
     pull-fits i (BranchOf u h) n = (tt, (tt, tt))
+    pull-fits i (EndOf c) n = (tt, (tt, tt))
 
     pull-by : (i : StreamId) (same : Bool) → is_same b i ≡ same → Fits s (PullAlgorithm i) → Each (Fits s) (pull_algorithm i (React (ReadablePull i) None) (owner_at i s))
     pull-by i false e f = pull-fits i (owner_at i s) e
@@ -183,21 +197,25 @@ module _ (t : TeeId) (half : Half) (b : StreamId) where
     cancel-fits i r Host step d n = (n, tt)
     cancel-fits i r (HalfOf u) step d n = (n, tt)
     cancel-fits i r (BranchOf u h) step d n = (n, tt)
+    cancel-fits i r (EndOf c) step d n = (n, tt)
 
     write-fits : (i : StreamId) (owner : Owner) → Each (Fits s) (write_algorithm i owner)
     write-fits i Host = (tt, tt)
     write-fits i (HalfOf u) = (refl, tt)
     write-fits i (BranchOf u h) = (tt, tt)
+    write-fits i (EndOf c) = (refl, tt)
 
     close-fits : (i : StreamId) (owner : Owner) (step : Step) (d : Option PromiseId) → of_stream b step ≡ false → Each (Fits s) (close_algorithm i (React step d) owner)
     close-fits i Host step d n = (n, tt)
     close-fits i (HalfOf u) step d n = (n, tt)
     close-fits i (BranchOf u h) step d n = (n, tt)
+    close-fits i (EndOf c) step d n = (n, tt)
 
     abort-fits : (i : StreamId) (r : Plain) (owner : Owner) (step : Step) (d : Option PromiseId) → of_stream b step ≡ false → Each (Fits s) (abort_algorithm i r (React step d) owner)
     abort-fits i r Host step d n = (n, tt)
     abort-fits i r (HalfOf u) step d n = (n, tt)
     abort-fits i r (BranchOf u h) step d n = (n, tt)
+    abort-fits i r (EndOf c) step d n = (n, tt)
 
     own : Own Of
     own = record { resolve = λ q. tt; changed = λ u q. refl; transformed = λ u q. refl; flushed = λ u q. refl; aborted = λ u q r. refl; cancelled = λ u q r. refl }
@@ -212,6 +230,9 @@ module _ (t : TeeId) (half : Half) (b : StreamId) where
 
     tee-uses-fit : (e : Effect) → TeeUses Of e → Fits s e
     tee-uses-fit e u = grind (arith, u, gift-fits)
+
+    port-uses-fit : (e : Effect) → PortUses Of (λ i. Unit {0}) e → Fits s e
+    port-uses-fit e u = grind (arith, u, gift-fits)
 
     -- an operation of a stream that is there
     there-fits : (i : StreamId) → (is_same b i ≡ true → IsThere s) → ReadableCauses (Fits s) i
@@ -258,12 +279,14 @@ module _ (t : TeeId) (half : Half) (b : StreamId) where
     caused-fit (OnReadable i operation) f = source-fits i operation (is_same b i) refl (slice_get (stream_shapes s) b.0) refl
     caused-fit (Byte i operation) f = bytes-fits i operation (is_same b i) refl (slice_get (stream_shapes s) b.0) refl
     caused-fit (OnWritable i operation) f =
-        row-causes (Fits s) (OnWritable i operation) s (record { write = tt; close = tt; abort = λ r q. tt; hand_on = λ v. refl; take = λ v u d. tt })
+        row-causes (Fits s) (OnWritable i operation) s (record { write = tt; close = tt; abort = λ r q. tt; hand_on = λ v. refl; take = λ v u d. tt; post = λ v c d. tt })
     caused-fit (OnPipe p operation) f = row-causes (Fits s) (OnPipe p operation) s (pipe-fits p)
     caused-fit (OnSignal a operation) f = row-causes (Fits s) (OnSignal a operation) s (signal-fits operation)
     caused-fit (OnTransform u operation) f =
         each-map (Uses Of (λ i. Unit {0})) (Fits s) uses-fit (row (OnTransform u operation) s).caused (row-uses Of (λ i. Unit {0}) own u operation s f (λ x e. tt))
     caused-fit (OnTee u operation) f = each-map (TeeUses Of) (Fits s) tee-uses-fit (row (OnTee u operation) s).caused (row-tees_use Of (λ q. tt) u operation s f)
+    caused-fit (OnPort c operation) f =
+        each-map (PortUses Of (λ i. Unit {0})) (Fits s) port-uses-fit (row (OnPort c operation) s).caused (row-port_uses Of (λ i. Unit {0}) (λ q. tt) (λ d q. refl) c operation s f (λ x e. tt))
     caused-fit (StartAlgorithm i step start) f = start-fits i step s start f
     caused-fit (PullAlgorithm i) f = pull-by i (is_same b i) refl f
     caused-fit (CancelAlgorithm i r p) f = cancel-fits i r (owner_at i s) _ _ refl
@@ -314,6 +337,7 @@ module _ (t : TeeId) (half : Half) (b : StreamId) where
     signal = λ z k. k;
     transform = λ z kind i j change k. k;
     tee = λ z source first second cancel k. k;
+    port = λ z side stream backpressure k. k;
     readable = λ z owner mark size k. shape-stays z.streams _ b.0 w k;
     bytes = λ z mark auto k. shape-stays z.streams _ b.0 w k;
     byob_requests = λ z requests k. k;
@@ -329,6 +353,7 @@ module _ (t : TeeId) (half : Half) (b : StreamId) where
     signal = λ z k. k;
     transform = λ z kind i j change k. k;
     tee = λ z source first second cancel k. k;
+    port = λ z side stream backpressure k. k;
     readable = λ z owner mark size k. k;
     bytes = λ z mark auto k. k;
     byob_requests = λ z requests k. k;
@@ -366,6 +391,10 @@ module _ (t : TeeId) (half : Half) (b : StreamId) where
           (start_transform (next_id (fresh s.promises)) (record { 0 = length s.streams + 1 }) start)
       begun Now = tt
       begun Later = tt
+
+  start-fits_end : (s : Slots) (i : StreamId) (side : Side) → Fits s (start_end i side)
+  start-fits_end s i ReadableSide = tt
+  start-fits_end s i WritableSide = tt
 
   call-fits : (c : Call) (s : Slots) → Begins (begin c s)
   call-fits c s = each_call Begins c s (record {
@@ -412,6 +441,10 @@ module _ (t : TeeId) (half : Half) (b : StreamId) where
     terminate = λ u m. (tt, tt);
     pipe = λ source dest prevent signal e f l k m. grind (arith, each-append);
     make_signal = λ m. tt;
+    open_end = λ side m. (start-fits_end (open_end side (record { 0 = length s.streams }) s).done.slots (record { 0 = length s.streams }) side, tt);
+    send_readable = λ i there free m. (tt, (tt, (tt, (tt, (refl, (refl, (tt, tt)))))));
+    send_writable = λ i there free m. (tt, (tt, (tt, (tt, (refl, (refl, (tt, tt)))))));
+    deliver = λ p x e is m. (tt, tt);
     trigger = λ a reason m. (tt, tt);
     settle = λ h answer p e m. grind arith;
   })
