@@ -22,6 +22,7 @@ use Rattle.ws_laws.proofs.Lists.{Each}
 use Rattle.ws_pipe_laws.proofs.AtSource.{except_few, all_off}
 use Rattle.ws_pipe_laws.proofs.PassingRuns.{call-none, call-is}
 use Rattle.ws_transform_laws.proofs.Halving.{going}
+use Rattle.ws_transform_laws.proofs.PortHalving.{port-going}
 use Rattle.ws_link_laws.specs.Link.{in_sink, in_source, lies}
 use Rattle.ws_link_laws.specs.Sound.{IsReached, IsThere, AreApart}
 use Rattle.ws_link_laws.proofs.Begins.{apart_at, free-source, free-sink, place_last, place_before, place_past}
@@ -120,7 +121,8 @@ module _ (i j : StreamId) (prevent : Prevent) (signal : Option SignalId) (s : Sl
           closes = rw at tt;
         };
         history = g.0;
-        going = λ t. rw is_begun at ((going j t).call g.0 s (Pipe i j prevent signal) (g.1 t));
+        going = λ t. rw is_begun at ((going j t).call g.0 s (Pipe i j prevent signal) (g.1.0 t));
+        porting = λ c. rw is_begun at ((port-going j c).call g.0 s (Pipe i j prevent signal) (g.1.1 c));
         few = few;
         only = omega (arith, none_, o, x, before);
         inner = (tt, (tt, (tt, begins-inner (rank (pipe_at p d.slots).phase) (calls.reason_of signal s) signal)));

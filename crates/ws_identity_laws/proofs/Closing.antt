@@ -3,9 +3,9 @@ use Rattle.std.proofs.Common.{◌≡◌, ℕ, ◌+◌, Bool, true, false, not, �
 use Rattle.ws_value.specs.declared.ids.{HostId.{HostId}, LockId.{LockId}, PipeId.{PipeId}, PromiseId.{PromiseId}, SignalId.{SignalId}, StreamId.{StreamId}}
 use Rattle.ws_value.specs.declared.value.{Plain.{Plain}, Value.{Value}}
 use Rattle.ws_steps.specs.declared.calls.{Answer.{Answer}, Call.{Call}, Reply.{Reply}, StartBy.{StartBy}, StartBy.TheVariants.{Now, Later}}
-use Rattle.ws_steps.specs.declared.calls.Call.TheVariants.{Tee as TeeCall, MakeReadable, MakeBytes, MakeWritable, MakeTransform, GetReader, GetByob, ReadInto, Request, Respond, GetWriter, Cancel, CancelBy, Read, Write, Close, CloseBy, Abort, AbortBy, Closed, Ready, Release, Enqueue, Finish, Fail, Terminate, Desired, DesiredBy, Pipe, MakeSignal, Trigger, Settle, State, Step}
+use Rattle.ws_steps.specs.declared.calls.Call.TheVariants.{Tee as TeeCall, MakeReadable, MakeBytes, MakeWritable, MakeTransform, GetReader, GetByob, ReadInto, Request, Respond, GetWriter, Cancel, CancelBy, Read, Write, Close, CloseBy, Abort, AbortBy, Closed, Ready, Release, Enqueue, Finish, Fail, Terminate, Desired, DesiredBy, Pipe, MakeSignal, Trigger, Send, Open, Deliver, Settle, State, Step}
 use Rattle.ws_steps.specs.declared.calls.Reply.TheVariants.{Promise, State as ReplyState}
-use Rattle.ws_steps.specs.declared.effects.{Owner.{Owner}, Owner.TheVariants.{Host, HalfOf, BranchOf}}
+use Rattle.ws_steps.specs.declared.effects.{Owner.{Owner}, Owner.TheVariants.{Host, HalfOf, BranchOf, EndOf}}
 use Rattle.ws_steps.specs.declared.locks.{Lock.{Lock}, Lock.TheVariants.{Reader as ReaderLock, ByobReader, Writer as WriterLock, ReleasedWriter, Inner}}
 use Rattle.ws_steps.specs.declared.pipes.Prevent.{Prevent}
 use Rattle.ws_steps.specs.declared.transform.{TransformId.{TransformId}}
@@ -23,6 +23,9 @@ use Rattle.ws_steps.specs.Writable as writable
 use Rattle.ws_steps.specs.WritableLooks as writable_looks
 use Rattle.ws_laws.proofs.Halves.{Halved, halved-stays}
 use Rattle.ws_laws.proofs.Lists.{each-append}
+use Rattle.ws_laws.proofs.Ended.{Ended, ended-stays}
+use Rattle.ws_steps.specs.declared.port.{Side.{Side}, Side.TheVariants.{Readable as ReadableSide, Writable as WritableSide}}
+use Rattle.ws_steps.specs.Slots.{has_port}
 use Rattle.ws_laws.proofs.Shapes.{StreamShape, ReadableOf, TransformShape, stream_shape, stream_shapes, transform_shapes, map-there}
 use Rattle.ws_laws.proofs.Tables.{either, same_id, is_same-refl, eq_numbers, readable_there}
 use Rattle.ws_laws.proofs.Truth.{not_false}
@@ -208,6 +211,7 @@ module _ (t : TransformId) (r : StreamId) (s : Slots) (halved : Halved s) (reads
   enqueues k v Host = either P (can_close_or_enqueue (readable_at k s)) _ _ (λ e. (tt, tt)) (λ e. tt)
   enqueues k v (HalfOf a) = either P (can_close_or_enqueue (readable_at k s)) _ _ (λ e. (tt, tt)) (λ e. tt)
   enqueues k v (BranchOf a half) = tt
+  enqueues k v (EndOf c) = tt
 
   -- a byte controller
 
@@ -235,32 +239,56 @@ module _ (t : TransformId) (r : StreamId) (s : Slots) (halved : Halved s) (reads
   finishes k Host there own = either P (can_close_or_enqueue (readable_at k s)) _ _ (λ e. (own-apart k there own, tt)) (λ e. tt)
   finishes k (HalfOf a) there own = tt
   finishes k (BranchOf a half) there own = tt
+  finishes k (EndOf c) there own = tt
 
   terminates : (k : StreamId) (o : Owner) → has_readable k s ≡ true → (readable_at k s).owner ≡ o → is_same r k ≡ false → P (calls.terminate_by s o)
   terminates k Host there own n = tt
   terminates k (HalfOf a) there own n = (half-apart k a there own n, tt)
   terminates k (BranchOf a half) there own n = tt
+  terminates k (EndOf c) there own n = tt
 
   fails_readable : (reason : Plain) (k : StreamId) (o : Owner) → P (calls.fail_readable_by reason k s o)
   fails_readable reason k Host = (tt, tt)
   fails_readable reason k (HalfOf a) = (tt, tt)
   fails_readable reason k (BranchOf a half) = tt
+  fails_readable reason k (EndOf c) = tt
 
   fails_writable : (reason : Plain) (k : StreamId) (o : Owner) → P (calls.fail_writable_by reason k s o)
   fails_writable reason k Host = (tt, tt)
   fails_writable reason k (HalfOf a) = tt
   fails_writable reason k (BranchOf a half) = tt
+  fails_writable reason k (EndOf c) = tt
 
   desires : (k : StreamId) (o : Owner) → P (calls.desired_by k s o)
   desires k Host = tt
   desires k (HalfOf a) = tt
   desires k (BranchOf a half) = tt
+  desires k (EndOf c) = tt
 
   tee_of : (k : StreamId) → P (calls.tee_of k s)
   tee_of k =
       either P (has_byte k s) (calls.unsupported s) _ (λ e. tt)
       (λ e. either P (is_teed k s) (calls.throws_type_error s) _ (λ f. tt)
       (λ f. either P (nat_lt (length s.streams + 1) most_streams) _ _ (λ g. (tt, (tt, (tt, (tt, tt))))) (λ g. tt)))
+
+  opens : (side : Side) → P (calls.open_end side (record { 0 = length s.streams }) s)
+  opens ReadableSide = (tt, tt)
+  opens WritableSide = (tt, tt)
+
+  abbrev new : StreamId
+  new = record { 0 = length s.streams }
+
+  sends_readable : (k : StreamId) → P (calls.send_readable k new s)
+  sends_readable k = let t : Table = fresh s.promises in (tt, (tt, (tt, (tt, pipe-begins (record { 0 = length s.pipes }) (next_id t) (next_id (fresh (fresh t))) None None))))
+
+  sends_writable : (k : StreamId) → P (calls.send_writable k new s)
+  sends_writable k = let t : Table = s.promises in (tt, (tt, (tt, (tt, pipe-begins (record { 0 = length s.pipes }) (next_id t) (next_id (fresh (fresh t))) None None))))
+
+  sends : (k : StreamId) → P (calls.send k s)
+  sends k =
+      either P (has_source k s) _ _
+      (λ e. unlocked_readable k calls.throws_data_clone (λ source. calls.make_stream (calls.send_readable source)) tt (either P (nat_lt (length s.streams) most_streams) _ _ (λ f. sends_readable k) (λ f. tt)))
+      (λ e. unlocked_writable k calls.throws_data_clone (λ dest. calls.make_stream (calls.send_writable dest)) tt (either P (nat_lt (length s.streams) most_streams) _ _ (λ f. sends_writable k) (λ f. tt)))
 
   pub call-calm : (c : Call) → spares r c ≡ true → P (begin c s)
   unfolding begin
@@ -302,10 +330,13 @@ module _ (t : TransformId) (r : StreamId) (s : Slots) (halved : Halved s) (reads
       (for_writable dest (calls.for_signal_where signal (calls.pipe_unlocked source dest prevent signal)) (pipe_where source dest prevent signal))
   call-calm MakeSignal l = tt
   call-calm (Trigger a reason) l = either P (has_signal a s) _ _ (λ e. (tt, tt)) (λ e. tt)
+  call-calm (Send k) l = sends k
+  call-calm (Open side) l = either P (nat_lt (length s.streams) most_streams) _ _ (λ e. opens side) (λ e. tt)
+  call-calm (Deliver q m) l = either P (has_port q s) _ _ (λ e. (tt, tt)) (λ e. tt)
   call-calm (Settle h answer) l = settle_host h answer (host_at h s)
   call-calm (State k) l = either P (has_source k s) _ _ (λ e. tt) (λ e. for_writable k (λ s. calls.replies (ReplyState (writable_looks.state_of (writable_at k s))) s) tt)
   call-calm Step l = tt
 
 -- so a call that spares it closes it in no step
-pub call-closes : (t : TransformId) (r : StreamId) (s : Slots) (c : Call) → Halved s → Reads t r s → Reads t r (begin c s).done.slots → spares r c ≡ true → step_closings r s (Called c) ≡ 0
-call-closes t r s c halved reads after l = none-closes t r (begin c s).done (call-calm t r s halved reads c l) (halved-stays.call s c halved) after
+pub call-closes : (t : TransformId) (r : StreamId) (s : Slots) (c : Call) → Halved s → Ended s → Reads t r s → Reads t r (begin c s).done.slots → spares r c ≡ true → step_closings r s (Called c) ≡ 0
+call-closes t r s c halved ended reads after l = none-closes t r (begin c s).done (call-calm t r s halved reads c l) (halved-stays.call s c halved) (ended-stays.call s c ended) after

@@ -3,8 +3,8 @@ use Rattle.std.proofs.Common.{◌≡◌, ℕ, ◌+◌, ◌≤◌, Bool, true, fa
 use Rattle.ws_value.specs.declared.ids.{PipeId.{PipeId}, PromiseId.{PromiseId}, StreamId.{StreamId}}
 use Rattle.ws_value.specs.declared.value.Plain.{Plain}
 use Rattle.ws_steps.specs.declared.calls.{Call.{Call}, StartBy.{StartBy}, StartBy.TheVariants.{Now, Later}}
-use Rattle.ws_steps.specs.declared.effects.{Effect.{Effect}, Owner.{Owner}, Owner.TheVariants.{Host, HalfOf, BranchOf}, Use.TheVariants.{React}}
-use Rattle.ws_steps.specs.declared.effects.Effect.TheVariants.{Readable as OnReadable, Writable as OnWritable, Pipe as OnPipe, Signal as OnSignal, Transform as OnTransform, Tee as OnTee, StartAlgorithm, PullAlgorithm, CancelAlgorithm, WriteAlgorithm, CloseAlgorithm, AbortAlgorithm, ChunkSteps, CloseSteps, ErrorSteps, Give, CallHost}
+use Rattle.ws_steps.specs.declared.effects.{Effect.{Effect}, Owner.{Owner}, Owner.TheVariants.{Host, HalfOf, BranchOf, EndOf}, Use.TheVariants.{React}}
+use Rattle.ws_steps.specs.declared.effects.Effect.TheVariants.{Readable as OnReadable, Writable as OnWritable, Pipe as OnPipe, Signal as OnSignal, Transform as OnTransform, Tee as OnTee, Port as OnPort, StartAlgorithm, PullAlgorithm, CancelAlgorithm, WriteAlgorithm, CloseAlgorithm, AbortAlgorithm, ChunkSteps, CloseSteps, ErrorSteps, Give, CallHost}
 use Rattle.ws_steps.specs.declared.promises.{Job.{Job}, Step.{Step}}
 use Rattle.ws_steps.specs.declared.promises.Step.TheVariants.{ReadablePull, ReturnUndefined, WritableClose, WritableAbort, TransformFlushed}
 use Rattle.ws_steps.specs.declared.readable.ReadRequest.TheVariants.{Promise, Pipe as PipeRequest, Tee as TeeRequest}
@@ -13,10 +13,10 @@ use Rattle.ws_steps.specs.declared.transform.TransformOperation.TheVariants as n
 use Rattle.ws_steps.specs.Calls.{Begun, begin}
 use Rattle.ws_steps.specs.Histories.{is_same}
 use Rattle.ws_steps.specs.Jobs.{job_effects}
-use Rattle.ws_steps.specs.Operations.{transform_operation, tee_operation}
+use Rattle.ws_steps.specs.Operations.{transform_operation, tee_operation, port_operation}
 use Rattle.ws_steps.specs.Promises.{next_job, after_next_job, watch}
 use Rattle.ws_steps.specs.Run.{Entry, run, older, after_event}
-use Rattle.ws_steps.specs.Slots.{Slots, empty, found, halves_at, owner_at, has_writable, writable_at, with_promises, on_transform_at, on_tee_at}
+use Rattle.ws_steps.specs.Slots.{Slots, empty, found, halves_at, owner_at, has_writable, writable_at, with_promises, on_transform_at, on_tee_at, on_port_at}
 use Rattle.ws_steps.specs.Transform as transform
 use Rattle.ws_steps.specs.Turns.{row, start_algorithm, pull_algorithm, cancel_algorithm, write_algorithm, close_algorithm, abort_algorithm}
 use Rattle.ws_steps.specs.WritableHistory.{Writes, no_writes, writes_then, effect_writes, run_writes}
@@ -33,19 +33,24 @@ use Rattle.ws_laws.proofs.Walker.{GoesUntold, RestsUntold}
 use Rattle.ws_laws.proofs.Weights.{weigh, of_next, taken_off, weigh-fresh, weigh-settle, weigh-answer, weigh-micro, weigh-next, weigh-watch}
 use Rattle.ws_writable_laws.proofs.Agenda.{weight-tell, weight-gift, weight-host}
 use Rattle.ws_writable_laws.proofs.Runs.{is_history}
-use Rattle.ws_writable_laws.proofs.Shape.{one_if, of_use, of_reaction, weight, of_tee}
+use Rattle.ws_writable_laws.proofs.Shape.{one_if, of_use, of_reaction, weight, of_tee, of_port}
 use Rattle.ws_transform_laws.specs.TransformHistory.{is_same_transform, is_flushed}
 use Rattle.ws_transform_laws.proofs.Sparing.{row-spares}
 use Rattle.ws_link_laws.proofs.Turns.{signal-each}
 use Rattle.ws_steps.specs.declared.effects.Effect.TheVariants.{Byte, CloseStepsWith}
 use Rattle.ws_value.specs.declared.ids.TeeId.{TeeId}
+use Rattle.ws_value.specs.declared.ids.PortId.{PortId}
 use Rattle.ws_steps.specs.declared.tee.TeeOperation.{TeeOperation}
+use Rattle.ws_steps.specs.declared.port.PortOperation.{PortOperation}
 use Rattle.ws_steps.specs.Tee as tee
+use Rattle.ws_steps.specs.Cross as cross
+use Rattle.ws_steps.specs.Slots.{clones_at}
 
 abbrev is_half : TransformId → Owner → Bool
 is_half t Host = false
 is_half t (HalfOf u) = is_same_transform t u
 is_half t (BranchOf u half) = false
+is_half t (EndOf c) = false
 
 -- transform stream t, whose writable half is stream w
 module _ (t : TransformId) (w : StreamId) where
@@ -70,6 +75,7 @@ module _ (t : TransformId) (w : StreamId) where
   abbrev flushes : Slots → Effect → ℕ
   flushes s (OnTransform u operation) = of_flush u operation
   flushes s (OnTee u operation) = of_tee is_flush operation
+  flushes s (OnPort u operation) = of_port is_flush operation
   flushes s (CloseAlgorithm j) = one_if (strange s j)
   flushes s (StartAlgorithm j step start) = is_flush step
   flushes s (Give gift u) = of_use is_flush u
@@ -99,6 +105,7 @@ module _ (t : TransformId) (w : StreamId) where
       by Host e b f = rw (← e) refl
       by (HalfOf u) e false f = rw (← e, ← f) refl
       by (BranchOf u half) e b f = rw (← e) refl
+      by (EndOf c) e b f = rw (← e) refl
       by (HalfOf u) e true f =
           let one : t ≡ u = ap (λ (n : ℕ). record { 0 = n }) (eq_numbers t.0 u.0 (sym f)) in
           let at : slice_get (stream_shapes s) j.0 ≡ Some (WritableOf (HalfOf t)) = shape ∙ ap (λ (o : Owner). Some (WritableOf o)) (sym owned ∙ (sym e ∙ ap HalfOf (sym one))) in
@@ -119,9 +126,17 @@ module _ (t : TransformId) (w : StreamId) where
   unfolding tee.pull_branch tee.keep_chunk tee.source_closed tee.source_errored tee.hand_chunk tee.handed tee.cancel_branch tee.reader_settled
   tee-none s u operation a c none = grind (arith, c, none)
 
+  port-none : (s : Slots) (u : PortId) (clones : Bool) (operation : PortOperation) (a : cross.Acts) → of_port is_flush operation ≡ 0 → a.out.effects ≡ [] → None_of s (port_operation u clones operation a).out.effects
+  unfolding cross.pull cross.leave cross.close cross.write cross.write_goes_on cross.post_chunk cross.unblock cross.deliver
+  port-none s u clones operation a c none = grind (arith, c, none)
+
   on_tee-none : (s : Slots) (u : TeeId) (operation : TeeOperation) (o : Option tee.Slots) → of_tee is_flush operation ≡ 0 → None_of s (on_tee_at (tee_operation u operation) u s o).caused
   on_tee-none s u operation None c = tt
   on_tee-none s u operation (Some x) c = tee-none s u operation (record { slots = x; out = found s }) c refl
+
+  on_port-none : (s : Slots) (u : PortId) (operation : PortOperation) (o : Option cross.Slots) → of_port is_flush operation ≡ 0 → None_of s (on_port_at (λ clones. port_operation u clones operation) u s o).caused
+  on_port-none s u operation None c = tt
+  on_port-none s u operation (Some x) c = port-none s u (clones_at x s) operation (record { slots = x; out = found s }) c refl
 
   pipe-step : (p : PipeId) (step : Step) → IsStepOf p step → is_flush step ≡ 0
   pipe-step p step c = grind arith
@@ -137,21 +152,25 @@ module _ (t : TransformId) (w : StreamId) where
   pull-none s j Host = (refl, tt)
   pull-none s j (HalfOf u) = (refl, tt)
   pull-none s j (BranchOf u half) = (refl, (refl, tt))
+  pull-none s j (EndOf c) = (refl, (refl, tt))
 
   cancel-none : (s : Slots) (j : StreamId) (c : Plain) (p : PromiseId) (owner : Owner) → None_of s (cancel_algorithm j c (React ReturnUndefined (Some p)) owner)
   cancel-none s j c p Host = (refl, tt)
   cancel-none s j c p (HalfOf u) = (refl, tt)
   cancel-none s j c p (BranchOf u half) = (refl, tt)
+  cancel-none s j c p (EndOf q) = (refl, tt)
 
   write-none : (s : Slots) (j : StreamId) (owner : Owner) → None_of s (write_algorithm j owner)
   write-none s j Host = (refl, tt)
   write-none s j (HalfOf u) = (refl, tt)
   write-none s j (BranchOf u half) = (refl, tt)
+  write-none s j (EndOf c) = (refl, tt)
 
   abort-none : (s : Slots) (j : StreamId) (c : Plain) (p : PromiseId) (owner : Owner) → None_of s (abort_algorithm j c (React (WritableAbort j p) None) owner)
   abort-none s j c p Host = (refl, tt)
   abort-none s j c p (HalfOf u) = (refl, tt)
   abort-none s j c p (BranchOf u half) = (refl, tt)
+  abort-none s j c p (EndOf q) = (refl, tt)
 
   -- a stream that isn't the half closes
   close-none : (s : Slots) (j : StreamId) (owner : Owner) → owner ≡ owner_at j s → is_same w j ≡ false → one_if (strange s j) ≡ 0 → None_of s (close_algorithm j (React (WritableClose j) None) owner)
@@ -162,6 +181,7 @@ module _ (t : TransformId) (w : StreamId) where
       by true k = cc
       by false k = refl
   close-none s j (BranchOf u half) e n c = (refl, tt)
+  close-none s j (EndOf q) e n c = (refl, tt)
 
   -- another effect than the close algorithm of the half
   abbrev IsOther : Effect → Type 0
@@ -176,12 +196,13 @@ module _ (t : TransformId) (w : StreamId) where
   row-none (OnWritable j operation) s halved fits o n = by (has_writable j s) refl
     where
       by : (there : Bool) → there ≡ has_writable j s → None_of s (row (OnWritable j operation) s).caused
-      by true e = row-causes (IsNone s) (OnWritable j operation) s (record { write = refl; close = rw (half-only s j halved fits (sym e)) refl; abort = λ c p. refl; hand_on = λ v. refl; take = λ v u d. refl })
+      by true e = row-causes (IsNone s) (OnWritable j operation) s (record { write = refl; close = rw (half-only s j halved fits (sym e)) refl; abort = λ c p. refl; hand_on = λ v. refl; take = λ v u d. refl; post = λ v u d. refl })
       by false e = rw (← e) tt
   row-none (OnPipe p operation) s halved fits o n = row-causes (IsNone s) (OnPipe p operation) s (λ source dest u c. pipe-effect s p source dest u c)
   row-none (OnSignal a operation) s halved fits o n = row-causes (IsNone s) (OnSignal a operation) s (signal-each (IsNone s) operation (λ q r. refl))
   row-none (OnTransform u operation) s halved fits o n = on_transform-none s u operation (slice_get s.transforms u.0) n
   row-none (OnTee u operation) s halved fits o n = on_tee-none s u operation (slice_get s.tees u.0) n
+  row-none (OnPort u operation) s halved fits o n = on_port-none s u operation (slice_get s.ports u.0) n
   row-none (StartAlgorithm j step start) s halved fits o n = start-none s s j step start n
   row-none (PullAlgorithm j) s halved fits o n = pull-none s j (owner_at j s)
   row-none (CancelAlgorithm j c p) s halved fits o n = cancel-none s j c p (owner_at j s)
@@ -215,6 +236,7 @@ module _ (t : TransformId) (w : StreamId) where
     answer = λ z p o h. none-left _ _ (weigh-answer (of_reaction is_flush) p o z) h;
     micro = λ z m h. none-left _ _ (weigh-micro (of_reaction is_flush) m z) h;
     signal = λ z i c h. weight-tell is_flush _ z ∙ h;
+    post = λ z i m h. weight-tell is_flush _ z ∙ h;
   }) e s (λ u. u) k
 
   -- the owners stay
@@ -265,6 +287,7 @@ module _ (t : TransformId) (w : StreamId) where
     signal = λ z k. k;
     transform = λ z kind v r change k. k;
     tee = λ z source first second cancel k. k;
+    port = λ z side stream backpressure k. k;
     bytes = λ z mark auto k. k;
     byob_requests = λ z hs k. k;
     readable = λ z o mark size k. k;

@@ -7,7 +7,7 @@ use Rattle.ws_steps.specs.declared.calls.Call.{Call}
 use Rattle.ws_steps.specs.declared.calls.Reply.{Reply}
 use Rattle.ws_steps.specs.declared.calls.Reply.TheVariants.{Promise as ReplyPromise}
 use Rattle.ws_steps.specs.declared.effects.Effect.{Effect}
-use Rattle.ws_steps.specs.declared.effects.Effect.TheVariants.{Readable as OnReadable, Byte as OnByte, Writable as OnWritable, Pipe as OnPipe, Tee as OnTee}
+use Rattle.ws_steps.specs.declared.effects.Effect.TheVariants.{Readable as OnReadable, Byte as OnByte, Writable as OnWritable, Pipe as OnPipe, Tee as OnTee, Port as OnPort}
 use Rattle.ws_steps.specs.declared.locks.Lock.{Lock}
 use Rattle.ws_steps.specs.declared.pipes.PipeOperation.{PipeOperation}
 use Rattle.ws_steps.specs.declared.promises.Job.{Job}
@@ -40,8 +40,8 @@ use Rattle.ws_link_laws.specs.Sound.{IsBare, all_spare, all_apart, all_untied}
 use Rattle.ws_link_laws.specs.Sound as sound
 use Rattle.ws_link_laws.proofs.Begins.{apart_at}
 use Rattle.ws_link_laws.proofs.Calls.{IsOuter, Begins, call-begins, call-untied}
-use Rattle.ws_link_laws.proofs.Free.{IsFar, outer-far, job-far, pipe-far, FreeSource, FreeSink, FreeBytes, source-free, bare-free, bytes-free, sink-free, apart-set, row-far, few-pipes, place_below, all_of, tees-far}
-use Rattle.ws_link_laws.proofs.Hosts.{reached-halved, row-sources, row-sinks, untied-same}
+use Rattle.ws_link_laws.proofs.Free.{IsFar, outer-far, job-far, pipe-far, FreeSource, FreeSink, FreeBytes, source-free, bare-free, bytes-free, sink-free, apart-set, row-far, few-pipes, place_below, all_of, tees-far, ports-far}
+use Rattle.ws_link_laws.proofs.Hosts.{reached-halved, reached-ended, row-sources, row-sinks, untied-same}
 use Rattle.ws_link_laws.proofs.SourceTurns.{default-bare, is_default}
 use Rattle.ws_link_laws.proofs.SinkTurns.{writable-there}
 use Rattle.ws_link_laws.proofs.Steps.{reached-step, place-append, stream_at, source_there}
@@ -224,6 +224,8 @@ row-untaken i j locks (OnWritable k operation) s es u = writable-untaken i j loc
 row-untaken i j locks (OnPipe q operation) s es u = pipe-untaken i j locks q operation s es u
 row-untaken i j locks (OnTee t operation) s es u =
     apart-untaken i j locks (OnTee t operation) s es tt tt (each-append (IsFar i j) (row (OnTee t operation) s).caused es (tees-far i j s t operation u.untied) u.far.1) u
+row-untaken i j locks (OnPort t operation) s es u =
+    apart-untaken i j locks (OnPort t operation) s es tt tt (each-append (IsFar i j) (row (OnPort t operation) s).caused es (ports-far i j s t operation) u.far.1) u
 row-untaken i j locks e s es u = apart-untaken i j locks e s es tt tt (row-far i j e s es tt u.far) u
 
 pub performed-untaken : (i j : StreamId) (locks : List Lock) (d : Done) → Untaken i j locks d.slots d.caused → Untaken i j locks (performed d) []
@@ -294,6 +296,7 @@ call-kept i j c s f = begin-makes (Kept i j s) (record {
   signal = λ z k. record { source = k.source; sink = k.sink };
   transform = λ z kind w r change k. record { source = k.source; sink = k.sink };
   tee = λ z source first second cancel k. record { source = k.source; sink = k.sink };
+  port = λ z side stream backpressure k. record { source = k.source; sink = k.sink };
   bytes = λ z mark auto k. stream-kept i j s z (ByteStream (byte.set_up mark auto)) k;
   byob_requests = λ z hs k. record { source = k.source; sink = k.sink };
   readable = λ z owner mark size k. stream-kept i j s z (ReadableStream (readable.set_up owner mark size)) k;
@@ -320,7 +323,7 @@ module _ (i j : StreamId) (s : Slots) (c : Call) (f : IsAnyFree i j s) (leave : 
   none = record { 0 = suc (length s.pipes) }
 
   begins : Begins i j none s (enters (giver_at i s) i c) (begin c s)
-  begins = call-begins i j none s f.source (reached-halved s f.reached) f.locks (λ n x e m. apart_at i j s.pipes n x f.apart e) c leave
+  begins = call-begins i j none s f.source f.sink (reached-halved s f.reached) (reached-ended s f.reached) f.locks (λ n x e m. apart_at i j s.pipes n x f.apart e) c leave
 
   kept : Kept i j s d.slots
   kept = call-kept i j c s f

@@ -3,7 +3,7 @@ use Rattle.std.proofs.Common.{◌≡◌, ℕ, zero, suc, ◌+◌, ◌<◌, Bool,
 use Rattle.ws_value.specs.declared.{ids.PipeId.{PipeId}, ids.StreamId.{StreamId}}
 use Rattle.ws_value.specs.declared.value.Value.{Value}
 use Rattle.ws_steps.specs.declared.effects.Owner.{Owner}
-use Rattle.ws_steps.specs.declared.effects.Owner.TheVariants.{Host, HalfOf, BranchOf}
+use Rattle.ws_steps.specs.declared.effects.Owner.TheVariants.{Host, HalfOf, BranchOf, EndOf}
 use Rattle.ws_steps.specs.Histories.{in_step, over, run_events}
 use Rattle.ws_steps.specs.Laws.{IsPrefixOf, enqueued_by_host}
 use Rattle.ws_steps.specs.ReadableHistory.{Flow, no_flow, flow_then, effect_flow, run_flow, accepted_in_step, accepted}
@@ -56,6 +56,7 @@ no-giver : (o : Owner) → giver_by false o ≡ OfByteSource → ⊥
 no-giver Host e = cc
 no-giver (HalfOf t) e = cc
 no-giver (BranchOf t half) e = cc
+no-giver (EndOf c) e = cc
 
 default-stays : (i : StreamId) (entries : List Entry) (s : Slots) → has_source i s ≡ true → has_byte i s ≡ false → has_byte i (run entries s) ≡ false
 default-stays i entries s there none = by (has_byte i (run entries s)) refl

@@ -26,6 +26,7 @@ use Rattle.ws_pipe_laws.proofs.PassingRuns.{Few, place_same, row-few}
 use Rattle.ws_pipe_laws.proofs.Reading.{of_effect, IsNone, none-all, other-none}
 use Rattle.ws_writable_laws.proofs.Shape.{all, all-append}
 use Rattle.ws_transform_laws.proofs.Halving.{going}
+use Rattle.ws_transform_laws.proofs.PortHalving.{port-going}
 use Rattle.ws_link_laws.specs.Link.{silence, in_sink, in_source, in_pipe}
 use Rattle.ws_link_laws.specs.Sound.{AreApart, Closes}
 use Rattle.ws_link_laws.proofs.Telling.{tells, IsSilent, silent-all, writes, chunks}
@@ -139,6 +140,7 @@ module _ (i j : StreamId) (p : PipeId) (s : Slots) (operation : PipeOperation) (
       state = state;
       history = writes_then h.history (effect_writes j e s);
       going = λ t. (going j t).row h.history s e es (h.going t);
+      porting = λ c. (port-going j c).row h.history s e es (h.porting c);
       few = row-few p s e es h.few;
       only = let a = all-append (off p i) b.out.effects es in let n = off-caused in let w = h.only in rw (streams, caused) (omega (arith, a, n, w));
       inner = rw (at, caused)
@@ -222,6 +224,7 @@ module _ (i j : StreamId) (p : PipeId) (s : Slots) (q : PipeId) (operation : Pip
           };
           history = writes_then h.history (effect_writes j e s);
           going = λ t. (going j t).row h.history s e es (h.going t);
+          porting = λ c. (port-going j c).row h.history s e es (h.porting c);
           few = row-few p s e es h.few;
           only = let f = all-append (off p i) cs es in let g = a.off in let w = h.only in rw a.streams (omega (arith, f, g, w));
           inner = rw same (each-append (IsInner i j p (rank (pipe_at p s).phase)) cs es a.inner h.inner.1);

@@ -7,7 +7,7 @@ use Rattle.ws_steps.specs.declared.effects.Effect.{Effect}
 use Rattle.ws_steps.specs.declared.effects.Effect.TheVariants.{Writable as OnWritable}
 use Rattle.ws_steps.specs.declared.queue.Queued.{Queued}
 use Rattle.ws_steps.specs.declared.transform.Taker.{Taker}
-use Rattle.ws_steps.specs.declared.transform.Taker.TheVariants.{ToHost, ToTransform}
+use Rattle.ws_steps.specs.declared.transform.Taker.TheVariants.{ToHost, ToTransform, ToPort}
 use Rattle.ws_steps.specs.declared.writable.WritableOperation.{WritableOperation}
 use Rattle.ws_steps.specs.declared.writable.WritableOperation.TheVariants.{Close, HandOn, StartSettled, WriteSettled, CloseSettled, AbortSettled}
 use Rattle.ws_steps.specs.declared.writable.WriteRecord.{WriteRecord}
@@ -32,7 +32,8 @@ use Rattle.ws_writable_laws.proofs.Agenda.{found, Kept}
 use Rattle.ws_writable_laws.proofs.Expects.{write_settled-expects, close_settled-expects, abort_settled-expects}
 use Rattle.ws_writable_laws.proofs.Operations.{same_once}
 use Rattle.ws_transform_laws.proofs.Halving.{going}
-use Rattle.ws_link_laws.specs.Link.{Ear, OfSink, OfTransform, silence, in_sink, in_source, in_pipe}
+use Rattle.ws_transform_laws.proofs.PortHalving.{port-going}
+use Rattle.ws_link_laws.specs.Link.{Ear, OfSink, OfTransform, OfPort, is_port, silence, in_sink, in_source, in_pipe}
 use Rattle.ws_link_laws.specs.Sound.{SinkFits}
 use Rattle.ws_link_laws.proofs.Ahead.{others-late, late-silent}
 use Rattle.ws_link_laws.proofs.Moves.{sink-passes}
@@ -49,6 +50,7 @@ use Rattle.ws_laws.proofs.Shapes.{row-owner, row-tee_shapes}
 -- by whom a chunk is taken that is handed on
 abbrev ear_of : StreamId → WritableOperation → Ear
 ear_of j (HandOn (ToTransform t d)) = OfTransform t j
+ear_of j (HandOn (ToPort c d)) = OfPort c
 ear_of j _ = OfSink j
 
 module _ (i j : StreamId) (p : PipeId) (s : Slots) where
@@ -60,7 +62,7 @@ module _ (i j : StreamId) (p : PipeId) (s : Slots) where
 
   -- what an operation of the destination may rely on
   needs : (operation : WritableOperation) (es : List Effect) (n : ℕ) → IsInner i j p n (OnWritable j operation) → Stands i j p s (OnWritable j operation ∷ es) → Needs (ear_of j operation) j operation (writable_at j s)
-  needs (WriteSettled (Ok v)) es n a k = flies (writable_at j s).state (writable_at j s) refl (led-by j k.history s es v k.state.sink k.going (owner_at j s) k.sunk refl)
+  needs (WriteSettled (Ok v)) es n a k = flies (writable_at j s).state (writable_at j s) refl (led-by j k.history s es v k.state.sink k.going k.porting (owner_at j s) k.sunk refl)
   needs (WriteSettled (Err r)) es n a k = none_is (writable_at j s).close_in_flight (write_settled-expects j k.history es s (Err r) (stands-kept _ k)).1
   needs (CloseSettled o) es n a k = close_settled-expects j k.history es s o (stands-kept _ k)
   needs (StartSettled o) es n a k =
@@ -72,6 +74,7 @@ module _ (i j : StreamId) (p : PipeId) (s : Slots) where
   needs (Close q) es n a k = let e = is_same-refl j in absurd (cc)
   needs (HandOn ToHost) es n a k = is_same-refl j
   needs (HandOn (ToTransform t d)) es n a k = same_number t.0
+  needs (HandOn (ToPort c d)) es n a k = same_number c.0
   needs operation es n a k = grind arith
 
 -- what is handed on is what the destination acts on
@@ -82,6 +85,15 @@ handed j ToHost a (q ∷ qs) e = by q.value
   where
     by : (r : WriteRecord) → tells (hands (OfSink j)) (hand_on_first j ToHost a (Some r)).out.effects ≡ told (chunk_of r) Open
     by (Chunk v) = let n = is_same-refl j in rw (e, n) refl
+    by InFlight = rw e refl
+    by CloseMark = rw e refl
+handed j (ToPort c d) a (q ∷ qs) e = by q.value
+  where
+    one : is_port (OfPort c) c ≡ true
+    one = grind arith
+
+    by : (r : WriteRecord) → tells (hands (OfPort c)) (hand_on_first j (ToPort c d) a (Some r)).out.effects ≡ told (chunk_of r) Open
+    by (Chunk v) = rw (e, one) refl
     by InFlight = rw e refl
     by CloseMark = rw e refl
 handed j (ToTransform t d) a (q ∷ qs) e = by q.value
@@ -113,16 +125,16 @@ module _ (i j : StreamId) (p : PipeId) (s : Slots) (k : StreamId) (operation : W
   cs = (row e s).caused
 
   quiet-writes : tells (writes j) cs ≡ silence
-  quiet-writes = silent-all (writes j) cs (row-causes (IsSilent (writes j)) e s (record { write = refl; close = refl; abort = λ r q. refl; hand_on = λ v. refl; take = λ v t d. refl }))
+  quiet-writes = silent-all (writes j) cs (row-causes (IsSilent (writes j)) e s (record { write = refl; close = refl; abort = λ r q. refl; hand_on = λ v. refl; take = λ v t d. refl; post = λ v t d. refl }))
 
   quiet-chunks : tells (chunks p) cs ≡ silence
-  quiet-chunks = silent-all (chunks p) cs (row-causes (IsSilent (chunks p)) e s (record { write = refl; close = refl; abort = λ r q. refl; hand_on = λ v. refl; take = λ v t d. refl }))
+  quiet-chunks = silent-all (chunks p) cs (row-causes (IsSilent (chunks p)) e s (record { write = refl; close = refl; abort = λ r q. refl; hand_on = λ v. refl; take = λ v t d. refl; post = λ v t d. refl }))
 
   inner-caused : (n : ℕ) → Each (IsInner i j p n) cs
-  inner-caused n = row-causes (IsInner i j p n) e s (record { write = tt; close = tt; abort = λ r q. tt; hand_on = λ v. tt; take = λ v t d. tt })
+  inner-caused n = row-causes (IsInner i j p n) e s (record { write = tt; close = tt; abort = λ r q. tt; hand_on = λ v. tt; take = λ v t d. tt; post = λ v t d. tt })
 
   last-caused : Each (IsNotLast p) cs
-  last-caused = row-causes (IsNotLast p) e s (record { write = refl; close = refl; abort = λ r q. refl; hand_on = λ v. refl; take = λ v t d. refl })
+  last-caused = row-causes (IsNotLast p) e s (record { write = refl; close = refl; abort = λ r q. refl; hand_on = λ v. refl; take = λ v t d. refl; post = λ v t d. refl })
 
   pipes : z.pipes ≡ s.pipes
   pipes = row-pipes e s tt
@@ -140,6 +152,7 @@ module _ (i j : StreamId) (p : PipeId) (s : Slots) (k : StreamId) (operation : W
     state = st;
     history = writes_then h.history (effect_writes j e s);
     going = λ t. (going j t).row h.history s e es (h.going t);
+    porting = λ c. (port-going j c).row h.history s e es (h.porting c);
     few = row-few p s e es h.few;
     only = off-only p i s e es (row-off p i s e tt) h.only;
     inner = rw pipes (each-append (IsInner i j p (rank (pipe_at p s).phase)) cs es (inner-caused (rank (pipe_at p s).phase)) h.inner.1);

@@ -25,6 +25,7 @@ use Rattle.ws_laws.proofs.Tables.{is_same-refl, same_id, readable_acts, byte_act
 use Rattle.ws_pipe_laws.proofs.AtSource.{off-only, row-off}
 use Rattle.ws_pipe_laws.proofs.PassingRuns.{row-few}
 use Rattle.ws_transform_laws.proofs.Halving.{going}
+use Rattle.ws_transform_laws.proofs.PortHalving.{port-going}
 use Rattle.ws_link_laws.specs.Entering.{entered, bytes_entered}
 use Rattle.ws_link_laws.specs.Link.{OfSource, OfByteSource, silence, in_sink, in_source, in_pipe, giver_by, giver_at}
 use Rattle.ws_link_laws.specs.Sound.{SourceFits, IsBare}
@@ -108,6 +109,7 @@ module _ (i j : StreamId) (p : PipeId) (s : Slots) (e : Effect) (es : List Effec
     state = st;
     history = writes_then h.history (effect_writes j e s);
     going = λ t. (going j t).row h.history s e es (h.going t);
+    porting = λ c. (port-going j c).row h.history s e es (h.porting c);
     few = row-few p s e es h.few;
     only = off-only p i s e es (row-off p i s e q.far) h.only;
     inner = rw pipes (each-append (IsInner i j p (rank (pipe_at p s).phase)) cs es (q.inner (rank (pipe_at p s).phase)) h.inner.1);

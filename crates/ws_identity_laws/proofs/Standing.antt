@@ -1,4 +1,6 @@
 -- What holds of a link of any ends at each moment of a step, with the effects that stand on the agenda, and what lies on it then.
+use Rattle.ws_transform_laws.proofs.PortHalving.{PortGoing}
+use Rattle.ws_value.specs.declared.ids.PortId.{PortId}
 use Rattle.std.proofs.Common.{◌≡◌, ◌≢◌, true, List, [], ◌∷◌, ◌++◌, refl, arith}
 use Rattle.ws_value.specs.declared.ids.PipeId.{PipeId}
 use Rattle.ws_value.specs.declared.ids.StreamId.{StreamId}
@@ -26,6 +28,7 @@ pub record Stands (i j : StreamId) (p : PipeId) (s : Slots) (es : List Effect) :
   pub state : State i j p s
   pub history : Writes
   pub going : (t : TransformId) → Going j t history s es
+  pub porting : (c : PortId) → PortGoing j c history s es
   pub few : Few p s es
   pub only : Only p i s.streams es
   pub inner : Each (IsInner i j p (rank (pipe_at p s).phase)) es

@@ -26,11 +26,12 @@ use Rattle.ws_laws.proofs.Walker.{IsHistory, performed-goes, nothing-told}
 use Rattle.ws_pipe_laws.proofs.AtSource.{all_off}
 use Rattle.ws_pipe_laws.proofs.PassingRuns.{call-none, job-none, call-is}
 use Rattle.ws_transform_laws.proofs.Halving.{going}
+use Rattle.ws_transform_laws.proofs.PortHalving.{port-going}
 use Rattle.ws_transform_laws.proofs.Told.{along-map}
 use Rattle.ws_link_laws.specs.Link.{silence, lies, leaves, giver_at, enters}
 use Rattle.ws_link_laws.specs.Sound.{IsReached, all_spare}
 use Rattle.ws_link_laws.proofs.Calls.{IsOuter, outer-inner, outer-last, outer-writes, outer-chunks, Begins, call-begins, call-untied}
-use Rattle.ws_link_laws.proofs.Hosts.{reached-halved, sink-owner}
+use Rattle.ws_link_laws.proofs.Hosts.{reached-halved, reached-ended, sink-owner}
 use Rattle.ws_link_laws.proofs.Pipes.{rank}
 use Rattle.ws_link_laws.proofs.Standing.{IsInner, IsNotLast, state-same}
 use Rattle.ws_link_laws.proofs.Steps.{reached-step, reached-going, reached-few, reached-is, elsewhere-is, append_ends, Grown, call-grown, source_there, grown-source, grown-state, job-inner, job-writes, job-chunks, job-ends}
@@ -65,7 +66,8 @@ link-stands i j p s l =
         closes = l.closes;
       };
       history = g.0;
-      going = g.1;
+      going = g.1.0;
+      porting = g.1.1;
       few = reached-few s p l.reached;
       only = omega (arith, n, m);
       inner = tt;
@@ -162,6 +164,7 @@ older-from i j p t locks h s k = record {
     state = state-same i j p s (older s) refl refl k.stands.state;
     history = k.stands.history;
     going = λ t. (going j t).older k.stands.history s (k.stands.going t);
+    porting = λ c. (port-going j c).older k.stands.history s (k.stands.porting c);
     few = k.stands.few;
     only = k.stands.only;
     inner = tt;
@@ -179,6 +182,7 @@ watched-from i j p t locks h s q k = record {
     state = state-same i j p s (with_promises (watch q s.promises) s) refl refl k.stands.state;
     history = k.stands.history;
     going = λ t. (going j t).answered k.stands.history s q (k.stands.going t);
+    porting = λ c. (port-going j c).answered k.stands.history s q (k.stands.porting c);
     few = k.stands.few;
     only = k.stands.only;
     inner = tt;
@@ -215,6 +219,7 @@ begun-from i j p s (Some job) e h =
         state = state-same i j p s z refl refl h.state;
         history = h.history;
         going = λ t. (going j t).job h.history s job (sym e) (h.going t);
+        porting = λ c. (port-going j c).job h.history s job (sym e) (h.porting c);
         few = let few = h.few in omega (arith, few, none_);
         only = omega (arith, only, none_, o);
         inner = job-inner i j p (rank (pipe_at p s).phase) job;
@@ -256,7 +261,7 @@ module _ (i j : StreamId) (p : PipeId) (s : Slots) (c : Call) (l : IsAnyLink i j
   before = link-stands i j p s l
 
   begins : Begins i j p s (enters (giver_at i s) i c) (begin c s)
-  begins = call-begins i j p s l.source (reached-halved s l.reached) l.locks l.apart c leave
+  begins = call-begins i j p s l.source l.sink (reached-halved s l.reached) (reached-ended s l.reached) l.locks l.apart c leave
 
   grown : Grown i j p s d.slots
   grown = call-grown i j p c s s (link-grown i j p s before)
@@ -287,6 +292,7 @@ module _ (i j : StreamId) (p : PipeId) (s : Slots) (c : Call) (l : IsAnyLink i j
         state = grown-state i j p s d.slots grown begins.apart before.state;
         history = before.history;
         going = λ t. (going j t).call before.history s c (before.going t);
+        porting = λ q. (port-going j q).call before.history s c (before.porting q);
         few = few;
         only = omega (arith, w, none_, o);
         inner = begun-inner;

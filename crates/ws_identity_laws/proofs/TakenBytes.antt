@@ -3,8 +3,8 @@ use Rattle.std.proofs.Common.{◌≡◌, ℕ, Bool, true, false, not, ◌&&◌, 
 use Rattle.ws_value.specs.declared.{ids.PipeId.{PipeId}, ids.StreamId.{StreamId}, value.Value.{Value}, value.Value.TheVariants.{Plain as PlainValue, Bytes}}
 use Rattle.ws_steps.specs.declared.byte.{ByteOperation.TheVariants.{Enqueue as EnqueueBytes}}
 use Rattle.ws_steps.specs.declared.calls.{Call.{Call}, Call.TheVariants.{Enqueue as EnqueueCall}}
-use Rattle.ws_steps.specs.declared.effects.{Effect.{Effect}, Owner.{Owner}, Owner.TheVariants.{Host, HalfOf, BranchOf}}
-use Rattle.ws_steps.specs.declared.effects.Effect.TheVariants.{Readable as OnReadable, Byte as OnByte, Writable as OnWritable, Pipe as OnPipe, Signal as OnSignal, Transform as OnTransform, Tee as OnTee, StartAlgorithm, PullAlgorithm, CancelAlgorithm, WriteAlgorithm, CloseAlgorithm, AbortAlgorithm, ChunkSteps, CloseSteps, CloseStepsWith, ErrorSteps}
+use Rattle.ws_steps.specs.declared.effects.{Effect.{Effect}, Owner.{Owner}, Owner.TheVariants.{Host, HalfOf, BranchOf, EndOf}}
+use Rattle.ws_steps.specs.declared.effects.Effect.TheVariants.{Readable as OnReadable, Byte as OnByte, Writable as OnWritable, Pipe as OnPipe, Signal as OnSignal, Transform as OnTransform, Tee as OnTee, Port as OnPort, StartAlgorithm, PullAlgorithm, CancelAlgorithm, WriteAlgorithm, CloseAlgorithm, AbortAlgorithm, ChunkSteps, CloseSteps, CloseStepsWith, ErrorSteps}
 use Rattle.ws_steps.specs.declared.pipes.SignalOperation.TheVariants.{Add, Forget, Trigger}
 use Rattle.ws_steps.specs.declared.promises.Job.{Job}
 use Rattle.ws_steps.specs.declared.readable.{ReadRequest.TheVariants.{Promise, Pipe as PipeRequest, Tee as TeeRequest}, ReadableOperation.{ReadableOperation}, ReadableOperation.TheVariants.{Enqueue}}
@@ -38,7 +38,9 @@ use Rattle.ws_identity_laws.specs.Told.{EachTakeOfBytesIsTold}
 use Rattle.ws_identity_laws.proofs.Entered.{items_of, takes-run}
 use Rattle.ws_identity_laws.proofs.Takes.{open_at}
 use Rattle.ws_value.specs.declared.ids.TeeId.{TeeId}
+use Rattle.ws_value.specs.declared.ids.PortId.{PortId}
 use Rattle.ws_laws.proofs.TeeDoes.{TeeCauses}
+use Rattle.ws_laws.proofs.PortDoes.{PortCauses}
 
 -- no effect causes an operation of a byte controller
 
@@ -58,22 +60,27 @@ tee-none : (u : TeeId) (source first second : StreamId) (e : Effect) → TeeCaus
 tee-none u source first second (OnByte j operation) c = absurd c
 tee-none u source first second _ c = tt
 
+port-none : (u : PortId) (stream : StreamId) (e : Effect) → PortCauses u stream e → IsNoByte e
+port-none u stream (OnByte j operation) c = absurd c
+port-none u stream _ c = tt
+
 causes-none : (e : Effect) → Causes IsNoByte e
 causes-none (OnReadable j operation) = record { pull = tt; cancel = λ c p. tt; chunk = λ c v. tt; close = λ c. tt; error = λ c e. tt }
 causes-none (OnByte j operation) = record { readable = record { pull = tt; cancel = λ c p. tt; chunk = λ c v. tt; close = λ c. tt; error = λ c e. tt }; close_with = λ c b. tt }
-causes-none (OnWritable j operation) = record { write = tt; close = tt; abort = λ c p. tt; hand_on = λ v. tt; take = λ v u d. tt }
+causes-none (OnWritable j operation) = record { write = tt; close = tt; abort = λ c p. tt; hand_on = λ v. tt; take = λ v u d. tt; post = λ v u d. tt }
 causes-none (StartAlgorithm j step start) = (λ g u. tt, λ c u. tt)
-causes-none (PullAlgorithm j) = (λ c u. tt, (λ y u. tt, (λ k. tt, λ u. tt)))
-causes-none (CancelAlgorithm j c p) = (λ c u. tt, (λ y u. tt, λ k half u. tt))
-causes-none (WriteAlgorithm j) = (tt, λ y u. tt)
-causes-none (CloseAlgorithm j) = (λ c u. tt, λ y u. tt)
-causes-none (AbortAlgorithm j c p) = (λ c u. tt, λ y u. tt)
+causes-none (PullAlgorithm j) = (λ c u. tt, (λ y u. tt, (λ k. tt, (λ u. tt, λ q. tt))))
+causes-none (CancelAlgorithm j c p) = (λ c u. tt, (λ y u. tt, (λ k half u. tt, λ y u. tt)))
+causes-none (WriteAlgorithm j) = (tt, (λ y u. tt, λ z u. tt))
+causes-none (CloseAlgorithm j) = (λ c u. tt, (λ y u. tt, λ z u. tt))
+causes-none (AbortAlgorithm j c p) = (λ c u. tt, (λ y u. tt, λ z u. tt))
 causes-none (OnPipe p operation) = pipe-none p
 causes-none (OnSignal a (Trigger c)) = λ p. tt
 causes-none (OnSignal a (Add p)) = tt
 causes-none (OnSignal a (Forget p)) = tt
 causes-none (OnTransform u operation) = transform-none u
 causes-none (OnTee u operation) = tee-none u
+causes-none (OnPort u operation) = port-none u
 causes-none (ChunkSteps j (Promise p) v) = tt
 causes-none (ChunkSteps j (PipeRequest p) v) = tt
 causes-none (ChunkSteps j (TeeRequest k) v) = tt
@@ -243,6 +250,7 @@ module _ (i : StreamId) where
   owner-none s j v Host n = either (Elsewhere j v) (can_close_or_enqueue (readable_at j s)) (calls.does (OnReadable j (Enqueue v) ∷ []) s) (calls.throws_type_error s) (λ can. ((refl, tt), rw n refl)) (λ cannot. (tt, refl))
   owner-none s j v (HalfOf u) n = either (Elsewhere j v) (can_close_or_enqueue (readable_at j s)) (calls.does (OnTransform u (EnqueueByTransform v) ∷ []) s) (calls.throws_type_error s) (λ can. ((refl, tt), rw n refl)) (λ cannot. (tt, refl))
   owner-none s j v (BranchOf u half) n = (tt, refl)
+  owner-none s j v (EndOf c) n = (tt, refl)
 
   other-start : (s : Slots) (j : StreamId) (v : Value) → is_same i j ≡ false → let b : Begun = calls.for_readable j (calls.enqueue v j) s in Starts b (accepted_by i (EnqueueCall j v) b.reply)
   other-start s j v n =

@@ -3,7 +3,7 @@
 use Rattle.std.proofs.Common.{◌≡◌, ◌⊎◌, inl, inr, Bool, true, false, ◌||◌, if◌then◌else◌, List, [], ◌∷◌, Option, Some, None, slice_get, refl, sym, ap, subst, ◌∙◌, arith}
 use Rattle.ws_value.specs.declared.{ids.StreamId.{StreamId}, value.Value.{Value}}
 use Rattle.ws_steps.specs.declared.byte.{ByteOperation.{ByteOperation}, ByteOperation.TheVariants.{Enqueue as EnqueueBytes}}
-use Rattle.ws_steps.specs.declared.effects.{Effect.{Effect}, Owner.{Owner}, Owner.TheVariants.{Host, HalfOf, BranchOf}}
+use Rattle.ws_steps.specs.declared.effects.{Effect.{Effect}, Owner.{Owner}, Owner.TheVariants.{Host, HalfOf, BranchOf, EndOf}}
 use Rattle.ws_steps.specs.declared.effects.Effect.TheVariants.{Readable as OnReadable, Byte as OnByte, Writable as OnWritable}
 use Rattle.ws_steps.specs.declared.readable.{ReadableOperation.{ReadableOperation}, ReadableOperation.TheVariants.{Enqueue, Close}}
 use Rattle.ws_steps.specs.Bytes as byte
@@ -20,7 +20,7 @@ use Rattle.ws_laws.proofs.Tables.{either, same_id, is_same-refl, readable_acts, 
 use Rattle.ws_transform_laws.proofs.Sources.{source-default}
 use Rattle.ws_transform_laws.proofs.Wanting.{operation-shut}
 use Rattle.ws_link_laws.specs.Entering.{entered, bytes_entered}
-use Rattle.ws_link_laws.specs.Link.{Giver, OfSource, OfByteSource, OfHalf, silence, giver_by, giver_at}
+use Rattle.ws_link_laws.specs.Link.{Giver, OfSource, OfByteSource, OfHalf, OfEnd, silence, giver_by, giver_at}
 use Rattle.ws_identity_laws.specs.Passing.{taken, effect_takes}
 use Rattle.ws_identity_laws.proofs.ByteShut.{controller_close-shuts, shared-shuts, own-shuts}
 
@@ -30,12 +30,14 @@ default-entered Host operation = refl
 default-entered (HalfOf t) (Enqueue v) = refl
 default-entered (HalfOf t) operation = grind arith
 default-entered (BranchOf t half) operation = refl
+default-entered (EndOf c) operation = refl
 
 -- and no bytes
 pub none-entered : (o : Owner) (operation : ByteOperation) → bytes_entered (giver_by false o) operation ≡ silence
 none-entered Host operation = grind arith
 none-entered (HalfOf t) operation = grind arith
 none-entered (BranchOf t half) operation = grind arith
+none-entered (EndOf c) operation = grind arith
 
 -- whether a source can take something
 abbrev pub open_at : StreamId → Slots → Bool
@@ -143,6 +145,7 @@ chunk-open g (Enqueue v) = by g
     by OfSource = inl refl
     by OfByteSource = inl refl
     by (OfHalf t) = inl refl
+    by (OfEnd c) = inl refl
 chunk-open g Close = inr refl
 chunk-open g operation = inl (grind arith)
 
@@ -152,6 +155,7 @@ bytes-open OfByteSource (EnqueueBytes []) = refl
 bytes-open OfByteSource (EnqueueBytes (n ∷ ns)) = refl
 bytes-open OfByteSource operation = grind arith
 bytes-open (OfHalf t) operation = grind arith
+bytes-open (OfEnd c) operation = grind arith
 
 own-brings : (i : StreamId) (operation : ReadableOperation) (s : Slots) → Brings i (OnReadable i operation) s
 own-brings i operation s = record { fine = by (chunk-open (giver_at i s) operation); shut = λ c. let self = is_same-refl i in rw self (taken-shut (source_at i s) _ c) }

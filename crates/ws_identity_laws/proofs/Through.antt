@@ -1,4 +1,5 @@
 -- An identity transform stream passes on what its writable half acts on.
+use Rattle.ws_laws.proofs.Ended.{run-ended}
 use Rattle.std.proofs.Common.{◌≡◌, ◌⊎◌, inl, inr, ℕ, zero, suc, ◌+◌, ◌<◌, Bool, true, false, List, [], ◌∷◌, ◌++◌, Option, Some, None, slice_get, refl, sym, ap, subst, ◌∙◌, arith, append_assoc, append-nil}
 use Rattle.ws_value.specs.declared.{ids.StreamId.{StreamId}, value.Value.{Value}}
 use Rattle.ws_steps.specs.declared.calls.{Call.TheVariants.{Enqueue as EnqueueCall}, Reply.{Reply}, Reply.TheVariants.{Done as ReplyDone, Promise}}
@@ -77,6 +78,7 @@ begun-place n y (Called c) s e = begin-makes (λ z. slice_get z.streams n ≡ So
   signal = λ z k. k;
   transform = λ z kind v r change k. k;
   tee = λ z source first second cancel k. k;
+  port = λ z side stream backpressure k. k;
   bytes = λ z mark auto k. get-stays z.streams _ n y k;
   byob_requests = λ z hs k. k;
   readable = λ z o mark size k. get-stays z.streams _ n y k;
@@ -173,7 +175,7 @@ module _ (t : TransformId) (x : transform.Slots) (identity : x.kind ≡ Identity
 
     entered : K.items ≡ step_enqueued t s entry
     entered =
-        let e = step-enters t r entry s halved reads in
+        let e = step-enters t r entry s halved (run-ended xs) reads in
         let a = accepted-none r entry s spare in
         took.items ∙ (e ∙ ap (λ vs. vs ++ step_enqueued t s entry) a)
 
@@ -189,7 +191,7 @@ module _ (t : TransformId) (x : transform.Slots) (identity : x.kind ≡ Identity
 
     -- it closes only where the half was closed
     closing : (entry : Entry) → entry_spares r entry ≡ true → 0 < step_closings r s entry → c ≡ 0 → ⊥
-    closing (Called call) l some none = let z = call-closes t r s call halved (transform_shape x, (at, refl)) (transform_shape x, (there-begun (Called call) s at, refl)) l in absurd (omega (arith, some, z))
+    closing (Called call) l some none = let z = call-closes t r s call halved (run-ended xs) (transform_shape x, (at, refl)) (transform_shape x, (there-begun (Called call) s at, refl)) l in absurd (omega (arith, some, z))
     closing Worked l some none =
         let y = map-from transform_shape s.transforms t.0 (transform_shape x) at in
         let half : y.0.readable ≡ r = ap (λ (z : TransformShape). z.readable) y.1.1 in

@@ -8,9 +8,9 @@ use Rattle.ws_value.specs.declared.value.Plain.{Plain}
 use Rattle.ws_value.specs.declared.value.Value.{Value}
 use Rattle.ws_steps.specs.declared.calls.StartBy.TheVariants.{Now, Later}
 use Rattle.ws_steps.specs.declared.effects.Effect.{Effect}
-use Rattle.ws_steps.specs.declared.effects.Effect.TheVariants.{Readable as OnReadable, Writable as OnWritable, Pipe as OnPipe, Signal as OnSignal, Transform as OnTransform, Tee as OnTee, StartAlgorithm, PullAlgorithm, CancelAlgorithm, WriteAlgorithm, CloseAlgorithm, AbortAlgorithm, ChunkSteps, CloseSteps, ErrorSteps, Give, Settle, Queue, CallHost}
+use Rattle.ws_steps.specs.declared.effects.Effect.TheVariants.{Readable as OnReadable, Writable as OnWritable, Pipe as OnPipe, Signal as OnSignal, Transform as OnTransform, Tee as OnTee, Port as OnPort, StartAlgorithm, PullAlgorithm, CancelAlgorithm, WriteAlgorithm, CloseAlgorithm, AbortAlgorithm, ChunkSteps, CloseSteps, ErrorSteps, Give, Settle, Queue, CallHost}
 use Rattle.ws_steps.specs.declared.effects.Owner.{Owner}
-use Rattle.ws_steps.specs.declared.effects.Owner.TheVariants.{Host, HalfOf, BranchOf}
+use Rattle.ws_steps.specs.declared.effects.Owner.TheVariants.{Host, HalfOf, BranchOf, EndOf}
 use Rattle.ws_steps.specs.declared.effects.Use.{Use}
 use Rattle.ws_steps.specs.declared.pipes.SignalOperation.{SignalOperation}
 use Rattle.ws_steps.specs.declared.readable.ReadRequest.TheVariants.{Promise, Pipe as PipeRequest, Tee as TeeRequest}
@@ -28,6 +28,7 @@ use Rattle.ws_laws.proofs.Tables.{is_same-refl, same_id}
 use Rattle.ws_pipe_laws.proofs.AtSource.{off-only, row-off}
 use Rattle.ws_pipe_laws.proofs.PassingRuns.{row-few}
 use Rattle.ws_transform_laws.proofs.Halving.{going}
+use Rattle.ws_transform_laws.proofs.PortHalving.{port-going}
 use Rattle.ws_link_laws.specs.Link.{OfSink, silence, in_sink}
 use Rattle.ws_link_laws.proofs.Ahead.{closing-flies}
 use Rattle.ws_link_laws.proofs.Pipes.{rank}
@@ -43,13 +44,17 @@ use Rattle.ws_identity_laws.proofs.SinkTurns.{stands-kept, writable-turned}
 use Rattle.ws_identity_laws.proofs.PipeTurns.{pipe-turned}
 use Rattle.ws_steps.specs.declared.effects.Effect.TheVariants.{Byte, CloseStepsWith}
 use Rattle.ws_value.specs.declared.ids.TeeId.{TeeId}
+use Rattle.ws_value.specs.declared.ids.PortId.{PortId}
 use Rattle.ws_steps.specs.declared.tee.TeeOperation.{TeeOperation}
+use Rattle.ws_steps.specs.declared.port.PortOperation.{PortOperation}
 use Rattle.ws_steps.specs.Tee as tee
 use Rattle.ws_laws.proofs.TeeDoes.{TeeCauses}
 use Rattle.ws_transform_laws.proofs.Branches.{tee-caused}
 use Rattle.ws_link_laws.proofs.Hosts.{untied-same}
 use Rattle.ws_laws.proofs.Shapes.{row-owner, row-tee_shapes}
 use Rattle.ws_link_laws.specs.Sound.{all_untied}
+use Rattle.ws_transform_laws.proofs.Branches.{port-caused}
+use Rattle.ws_link_laws.proofs.PortTurns.{port-writes, port-chunks, port-inner, port-last}
 
 -- an effect that is no operation of an end or of a pipe, and passes on what it brings
 record Passing (i j : StreamId) (p : PipeId) (n : ℕ) (e : Effect) (cs : List Effect) : Type 0 where
@@ -73,6 +78,7 @@ module _ (i j : StreamId) (p : PipeId) (s : Slots) (e : Effect) (es : List Effec
     state = state-same i j p s (row e s).slots streams pipes h.state;
     history = writes_then h.history (effect_writes j e s);
     going = λ t. (going j t).row h.history s e es (h.going t);
+    porting = λ c. (port-going j c).row h.history s e es (h.porting c);
     few = row-few p s e es h.few;
     only = off-only p i s e es (row-off p i s e far) h.only;
     inner = rw pipes (each-append (IsInner i j p n) (row e s).caused es inner h.inner.1);
@@ -100,26 +106,31 @@ pull-passing : (i j : StreamId) (p : PipeId) (n : ℕ) (k : StreamId) (u : Use) 
 pull-passing i j p n k u Host = record { writes = refl; chunks = refl; inner = (tt, tt); last = (refl, tt) }
 pull-passing i j p n k u (HalfOf t) = record { writes = refl; chunks = refl; inner = (tt, tt); last = (refl, tt) }
 pull-passing i j p n k u (BranchOf t half) = record { writes = refl; chunks = refl; inner = (tt, (tt, tt)); last = (refl, (refl, tt)) }
+pull-passing i j p n k u (EndOf c) = record { writes = refl; chunks = refl; inner = (tt, (tt, tt)); last = (refl, (refl, tt)) }
 
 cancel-passing : (i j : StreamId) (p : PipeId) (n : ℕ) (k : StreamId) (r : Plain) (q : PromiseId) (u : Use) (o : Owner) → Passing i j p n (CancelAlgorithm k r q) (cancel_algorithm k r u o)
 cancel-passing i j p n k r q u Host = record { writes = refl; chunks = refl; inner = (tt, tt); last = (refl, tt) }
 cancel-passing i j p n k r q u (HalfOf t) = record { writes = refl; chunks = refl; inner = (tt, tt); last = (refl, tt) }
 cancel-passing i j p n k r q u (BranchOf t half) = record { writes = refl; chunks = refl; inner = (tt, tt); last = (refl, tt) }
+cancel-passing i j p n k r q u (EndOf c) = record { writes = refl; chunks = refl; inner = (tt, tt); last = (refl, tt) }
 
 abort-passing : (i j : StreamId) (p : PipeId) (n : ℕ) (k : StreamId) (r : Plain) (q : PromiseId) (u : Use) (o : Owner) → Passing i j p n (AbortAlgorithm k r q) (abort_algorithm k r u o)
 abort-passing i j p n k r q u Host = record { writes = refl; chunks = refl; inner = (tt, tt); last = (refl, tt) }
 abort-passing i j p n k r q u (HalfOf t) = record { writes = refl; chunks = refl; inner = (tt, tt); last = (refl, tt) }
 abort-passing i j p n k r q u (BranchOf t half) = record { writes = refl; chunks = refl; inner = (tt, tt); last = (refl, tt) }
+abort-passing i j p n k r q u (EndOf c) = record { writes = refl; chunks = refl; inner = (tt, tt); last = (refl, tt) }
 
 write-passing : (i j : StreamId) (p : PipeId) (n : ℕ) (k : StreamId) (o : Owner) → Passing i j p n (WriteAlgorithm k) (write_algorithm k o)
 write-passing i j p n k Host = record { writes = rw (if_same (is_same j k)) refl; chunks = refl; inner = (tt, tt); last = (refl, tt) }
 write-passing i j p n k (HalfOf t) = record { writes = refl; chunks = refl; inner = (tt, tt); last = (refl, tt) }
 write-passing i j p n k (BranchOf t half) = record { writes = rw (if_same (is_same j k)) refl; chunks = refl; inner = (tt, tt); last = (refl, tt) }
+write-passing i j p n k (EndOf c) = record { writes = refl; chunks = refl; inner = (tt, tt); last = (refl, tt) }
 
 close-passing : (i j : StreamId) (p : PipeId) (n : ℕ) (k : StreamId) (u : Use) (o : Owner) → Passing i j p n (CloseAlgorithm k) (close_algorithm k u o)
 close-passing i j p n k u Host = record { writes = refl; chunks = refl; inner = (tt, tt); last = (refl, tt) }
 close-passing i j p n k u (HalfOf t) = record { writes = refl; chunks = refl; inner = (tt, tt); last = (refl, tt) }
 close-passing i j p n k u (BranchOf t half) = record { writes = refl; chunks = refl; inner = (tt, tt); last = (refl, tt) }
+close-passing i j p n k u (EndOf c) = record { writes = refl; chunks = refl; inner = (tt, tt); last = (refl, tt) }
 
 signal-passing : (i j : StreamId) (p : PipeId) (n : ℕ) (a : SignalId) (operation : SignalOperation) (s : Slots) → Passing i j p n (OnSignal a operation) (row (OnSignal a operation) s).caused
 signal-passing i j p n a operation s =
@@ -168,6 +179,18 @@ tee-passing i j p n t operation s u =
     not_last x (OnPipe q operation) c = absurd c
     not_last x _ c = refl
 
+-- an operation of a port
+
+port-passing : (i j : StreamId) (p : PipeId) (n : ℕ) (c : PortId) (operation : PortOperation) (s : Slots) → Passing i j p n (OnPort c operation) (row (OnPort c operation) s).caused
+port-passing i j p n c operation s =
+    let cs : List Effect = (row (OnPort c operation) s).caused in
+    record {
+      writes = silent-all (writes j) cs (port-caused (IsSilent (writes j)) c operation s (λ x at e m. port-writes j c x.stream e m));
+      chunks = silent-all (chunks p) cs (port-caused (IsSilent (chunks p)) c operation s (λ x at e m. port-chunks p c x.stream e m));
+      inner = port-caused (IsInner i j p n) c operation s (λ x at e m. port-inner i j p n c x.stream e m);
+      last = port-caused (IsNotLast p) c operation s (λ x at e m. port-last p c x.stream e m);
+    }
+
 -- the close algorithm of the destination is performed
 
 close-turned : (i j : StreamId) (p : PipeId) (s : Slots) (es : List Effect) → Stands i j p s (CloseAlgorithm j ∷ es) → Turned i j p s (CloseAlgorithm j) es
@@ -199,6 +222,7 @@ row-turned i j p s (OnPipe q operation) es h = pipe-turned i j p s q operation e
 row-turned i j p s (OnSignal a operation) es h = passing-turned i j p s (OnSignal a operation) es tt tt h refl refl (signal-passing i j p (rank (pipe_at p s).phase) a operation s)
 row-turned i j p s (OnTransform t operation) es h = passing-turned i j p s (OnTransform t operation) es tt tt h refl refl (transform-passing i j p (rank (pipe_at p s).phase) t operation s)
 row-turned i j p s (OnTee t operation) es h = passing-turned i j p s (OnTee t operation) es tt tt h refl refl (tee-passing i j p (rank (pipe_at p s).phase) t operation s h.untied)
+row-turned i j p s (OnPort t operation) es h = passing-turned i j p s (OnPort t operation) es tt tt h refl refl (port-passing i j p (rank (pipe_at p s).phase) t operation s)
 row-turned i j p s (StartAlgorithm k step Now) es h = passing-turned i j p s (StartAlgorithm k step Now) es tt tt h refl refl (record { writes = refl; chunks = refl; inner = (tt, tt); last = (refl, tt) })
 row-turned i j p s (StartAlgorithm k step Later) es h = passing-turned i j p s (StartAlgorithm k step Later) es tt tt h refl refl (record { writes = refl; chunks = refl; inner = (tt, (tt, tt)); last = (refl, (refl, tt)) })
 row-turned i j p s (PullAlgorithm k) es h = passing-turned i j p s (PullAlgorithm k) es tt tt h refl refl (pull-passing i j p (rank (pipe_at p s).phase) k _ (owner_at k s))

@@ -9,9 +9,9 @@ use Rattle.ws_value.specs.declared.value.Value.{Value}
 use Rattle.ws_steps.specs.declared.calls.HostCall.TheVariants.{Write as HostWrite}
 use Rattle.ws_steps.specs.declared.calls.StartBy.TheVariants.{Now, Later}
 use Rattle.ws_steps.specs.declared.effects.Effect.{Effect}
-use Rattle.ws_steps.specs.declared.effects.Effect.TheVariants.{Readable as OnReadable, Writable as OnWritable, Pipe as OnPipe, Signal as OnSignal, Transform as OnTransform, Tee as OnTee, StartAlgorithm, PullAlgorithm, CancelAlgorithm, WriteAlgorithm, CloseAlgorithm, AbortAlgorithm, ChunkSteps, CloseSteps, ErrorSteps, CallHost}
+use Rattle.ws_steps.specs.declared.effects.Effect.TheVariants.{Readable as OnReadable, Writable as OnWritable, Pipe as OnPipe, Signal as OnSignal, Transform as OnTransform, Tee as OnTee, Port as OnPort, StartAlgorithm, PullAlgorithm, CancelAlgorithm, WriteAlgorithm, CloseAlgorithm, AbortAlgorithm, ChunkSteps, CloseSteps, ErrorSteps, CallHost}
 use Rattle.ws_steps.specs.declared.effects.Owner.{Owner}
-use Rattle.ws_steps.specs.declared.effects.Owner.TheVariants.{Host, HalfOf, BranchOf}
+use Rattle.ws_steps.specs.declared.effects.Owner.TheVariants.{Host, HalfOf, BranchOf, EndOf}
 use Rattle.ws_steps.specs.declared.effects.Use.{Use}
 use Rattle.ws_steps.specs.declared.pipes.PipeOperation.TheVariants as piped
 use Rattle.ws_steps.specs.declared.pipes.SignalOperation.{SignalOperation}
@@ -21,7 +21,7 @@ use Rattle.ws_steps.specs.declared.readable.ReadableState.{ReadableState}
 use Rattle.ws_steps.specs.declared.transform.Halves.{Halves}
 use Rattle.ws_steps.specs.declared.transform.Kind.{Kind}
 use Rattle.ws_steps.specs.declared.transform.Taker.{Taker}
-use Rattle.ws_steps.specs.declared.transform.Taker.TheVariants.{ToHost, ToTransform}
+use Rattle.ws_steps.specs.declared.transform.Taker.TheVariants.{ToHost, ToTransform, ToPort}
 use Rattle.ws_steps.specs.declared.transform.TransformId.{TransformId}
 use Rattle.ws_steps.specs.declared.transform.TransformOperation.{TransformOperation}
 use Rattle.ws_steps.specs.declared.transform.TransformOperation.TheVariants as names
@@ -53,24 +53,37 @@ use Rattle.ws_writable_laws.proofs.Operations.{handed, same_once}
 use Rattle.ws_writable_laws.proofs.Shape.{all, leads_to, is_close, one_if, core_of, hands as drawn}
 use Rattle.ws_transform_laws.proofs.Halving.{Going, going, half-there}
 use Rattle.ws_transform_laws.proofs.Lawful.{row-has}
-use Rattle.ws_link_laws.specs.Link.{Ear, OfSink, OfTransform, silence, ear_by, ear_at, heard_call}
-use Rattle.ws_link_laws.proofs.Hosts.{Hosts, hosts-row, row-ear, sink-there, AtSink, OwnSink, OtherSink, at-sink}
-use Rattle.ws_link_laws.proofs.Telling.{is_in, tells, taken, hands}
+use Rattle.ws_link_laws.specs.Link.{Ear, OfSink, OfTransform, OfPort, is_port, silence, ear_by, ear_at, heard_call}
+use Rattle.ws_link_laws.proofs.Hosts.{Hosts, hosts-row, row-ear, sink-there, AtSink, OwnSink, OtherSink, at-sink, AtPort, OwnPort, OtherPort, at-port}
+use Rattle.ws_link_laws.proofs.Telling.{is_in, tells, taken, posted, hands}
 use Rattle.ws_steps.specs.declared.effects.Effect.TheVariants.{Byte, CloseStepsWith}
 use Rattle.ws_value.specs.declared.ids.TeeId.{TeeId}
+use Rattle.ws_value.specs.declared.ids.PortId.{PortId}
 use Rattle.ws_laws.proofs.TeeDoes.{TeeCauses}
+use Rattle.ws_laws.proofs.PortDoes.{PortCauses}
+use Rattle.ws_steps.specs.Cross as cross
+use Rattle.ws_steps.specs.declared.port.PortOperation.TheVariants as names_of
+use Rattle.ws_steps.specs.declared.port.PortOperation.TheVariants.{Close as CloseByPort}
+use Rattle.ws_transform_laws.proofs.Branches.{port-caused}
+use Rattle.ws_transform_laws.proofs.PortHalving.{PortGoing, port-going, end-there}
 
 -- to whom the destination's chunks are handed on
 abbrev pub Fits : Ear → StreamId → Taker → Type 0
 Fits (OfSink j) k ToHost = is_same j k ≡ true
 Fits (OfSink j) k (ToTransform t d) = ⊥
+Fits (OfSink j) k (ToPort c d) = ⊥
 Fits (OfTransform t r) k ToHost = ⊥
 Fits (OfTransform t r) k (ToTransform u d) = nat_eq t.0 u.0 ≡ true
+Fits (OfPort c) k ToHost = ⊥
+Fits (OfPort c) k (ToTransform u d) = ⊥
+Fits (OfPort c) k (ToPort e d) = is_port (OfPort c) e ≡ true
+Fits (OfTransform t r) k (ToPort c d) = ⊥
 
 -- and those of another stream
 abbrev pub Spares : Ear → Taker → Type 0
 Spares w ToHost = Unit {0}
 Spares w (ToTransform u d) = is_in w u ≡ false
+Spares w (ToPort c d) = is_port w c ≡ false
 
 -- a chunk is handed on to whose its stream is, and a close algorithm is that of a stream that is there
 abbrev pub Placed : StreamId → Ear → Slots → Effect → Type 0
@@ -78,9 +91,10 @@ Placed j w s (OnWritable k (HandOn taker)) = (is_same j k ≡ true → Fits w k 
 Placed j w s (CloseAlgorithm k) = has_writable k s ≡ true
 Placed j w s _ = Unit {0}
 
--- the close algorithm of the destination's transform stream
+-- the close algorithm of the destination's transform stream, or of its port
 abbrev pub flushes : Ear → Effect → Bool
 flushes w (OnTransform k (names.SinkClose u)) = is_in w k
+flushes w (OnPort k (CloseByPort u)) = is_port w k
 flushes w _ = false
 
 -- what may stand behind another effect
@@ -189,7 +203,15 @@ tee-late : (w : Ear) (t : TeeId) (source first second : StreamId) (e : Effect) �
 tee-late w t source first second (OnWritable k operation) c = absurd c
 tee-late w t source first second (OnTransform u operation) c = absurd c
 tee-late w t source first second (CallHost call u) c = absurd c
+tee-late w t source first second (OnPort d operation) c = absurd c
 tee-late w t source first second _ c = (refl, refl)
+
+port-late : (w : Ear) (c : PortId) (stream : StreamId) (e : Effect) → PortCauses c stream e → IsLate w e
+port-late w c stream (OnTransform u operation) k = absurd k
+port-late w c stream (OnPort d names_of.Unblock) k = (refl, refl)
+port-late w c stream (OnPort d operation) k = absurd k
+port-late w c stream (CallHost call u) k = absurd k
+port-late w c stream _ k = (refl, refl)
 
 signal-each : (P : Effect → Type 0) (operation : SignalOperation) → ((q : PipeId) (r : Plain) → P (OnPipe q (piped.Abort r))) → SignalCauses P operation
 signal-each P (Trigger r) f = λ q. f q r
@@ -200,26 +222,31 @@ pull-front : (w : Ear) (k : StreamId) (u : Use) (o : Owner) → Front w (pull_al
 pull-front w k u Host = tt
 pull-front w k u (HalfOf t) = tt
 pull-front w k u (BranchOf t half) = ((refl, refl), tt)
+pull-front w k u (EndOf c) = ((refl, refl), tt)
 
 cancel-front : (w : Ear) (k : StreamId) (r : Plain) (u : Use) (o : Owner) → Front w (cancel_algorithm k r u o)
 cancel-front w k r u Host = tt
 cancel-front w k r u (HalfOf t) = tt
 cancel-front w k r u (BranchOf t half) = tt
+cancel-front w k r u (EndOf c) = tt
 
 write-front : (w : Ear) (k : StreamId) (o : Owner) → Front w (write_algorithm k o)
 write-front w k Host = tt
 write-front w k (HalfOf t) = tt
 write-front w k (BranchOf t half) = tt
+write-front w k (EndOf c) = tt
 
 close-front : (w : Ear) (k : StreamId) (u : Use) (o : Owner) → Front w (close_algorithm k u o)
 close-front w k u Host = tt
 close-front w k u (HalfOf t) = tt
 close-front w k u (BranchOf t half) = tt
+close-front w k u (EndOf c) = tt
 
 abort-front : (w : Ear) (k : StreamId) (r : Plain) (u : Use) (o : Owner) → Front w (abort_algorithm k r u o)
 abort-front w k r u Host = tt
 abort-front w k r u (HalfOf t) = tt
 abort-front w k r u (BranchOf t half) = tt
+abort-front w k r u (EndOf c) = tt
 
 on_transform-front : (w : Ear) (t : TransformId) (operation : TransformOperation) (s : Slots) (o : Option transform.Slots) → Front w (on_transform_at (λ halves. transform_operation t halves operation) t s o).caused
 on_transform-front w t operation s None = tt
@@ -239,6 +266,7 @@ row-front w (OnPipe q operation) s = late-front w _ (row-causes (IsLate w) (OnPi
 row-front w (OnSignal a operation) s = late-front w _ (row-causes (IsLate w) (OnSignal a operation) s (signal-each (IsLate w) operation (λ q r. (refl, refl))))
 row-front w (OnTransform t operation) s = on_transform-front w t operation s (slice_get s.transforms t.0)
 row-front w (OnTee t operation) s = late-front w _ (row-causes (IsLate w) (OnTee t operation) s (λ source first second e c. tee-late w t source first second e c))
+row-front w (OnPort t operation) s = late-front w _ (row-causes (IsLate w) (OnPort t operation) s (port-late w t))
 row-front w (StartAlgorithm k step Now) s = tt
 row-front w (StartAlgorithm k step Later) s = ((refl, refl), tt)
 row-front w (PullAlgorithm k) s = pull-front w k _ (owner_at k s)
@@ -278,17 +306,18 @@ transform-flush w t m r e c = grind (arith, c)
 flush-causes : (w : Ear) (e : Effect) → IsNoClosing e → Causes (NoFlush w) e
 flush-causes w (OnReadable k operation) n = record { pull = refl; cancel = λ r q. refl; chunk = λ request v. refl; close = λ request. refl; error = λ request r. refl }
 flush-causes w (Byte k operation) n = record { readable = record { pull = refl; cancel = λ r q. refl; chunk = λ request v. refl; close = λ request. refl; error = λ request r. refl }; close_with = λ r b. refl }
-flush-causes w (OnWritable k operation) n = record { write = refl; close = refl; abort = λ r q. refl; hand_on = λ v. refl; take = λ v t d. refl }
+flush-causes w (OnWritable k operation) n = record { write = refl; close = refl; abort = λ r q. refl; hand_on = λ v. refl; take = λ v t d. refl; post = λ v t d. refl }
 flush-causes w (OnPipe q operation) n = λ source dest e c. pipe-flush w q source dest e c
 flush-causes w (OnSignal a operation) n = signal-each (NoFlush w) operation (λ q r. refl)
 flush-causes w (OnTransform t operation) n = λ m r e c. transform-flush w t m r e c
 flush-causes w (OnTee t operation) n = λ source first second e c. (tee-late w t source first second e c).1
+flush-causes w (OnPort t operation) n = λ stream e k. (port-late w t stream e k).1
 flush-causes w (StartAlgorithm k step start) n = (λ g u. refl, λ c u. refl)
-flush-causes w (PullAlgorithm k) n = (λ c u. refl, (λ t u. refl, (λ t. refl, λ u. refl)))
-flush-causes w (CancelAlgorithm k r q) n = (λ c u. refl, (λ t u. refl, λ t half u. refl))
-flush-causes w (WriteAlgorithm k) n = (refl, λ t u. refl)
+flush-causes w (PullAlgorithm k) n = (λ c u. refl, (λ t u. refl, (λ t. refl, (λ u. refl, λ q. refl))))
+flush-causes w (CancelAlgorithm k r q) n = (λ c u. refl, (λ t u. refl, (λ t half u. refl, λ y u. refl)))
+flush-causes w (WriteAlgorithm k) n = (refl, (λ t u. refl, λ z u. refl))
 flush-causes w (CloseAlgorithm k) n = absurd n
-flush-causes w (AbortAlgorithm k r q) n = (λ c u. refl, λ t u. refl)
+flush-causes w (AbortAlgorithm k r q) n = (λ c u. refl, (λ t u. refl, λ z u. refl))
 flush-causes w (ChunkSteps k (Promise q) v) n = tt
 flush-causes w (ChunkSteps k (PipeRequest q) v) n = refl
 flush-causes w (ChunkSteps k (TeeRequest b) v) n = refl
@@ -308,10 +337,14 @@ flush-causes w _ n = tt
 pub taken-silent : (w : Ear) (u : TransformId) (v : Value) → is_in w u ≡ false → taken w u v ≡ silence
 taken-silent w u v n = grind (arith, n)
 
+pub posted-silent : (w : Ear) (c : PortId) (v : Value) → is_port w c ≡ false → posted w c v ≡ silence
+posted-silent w c v n = rw n refl
+
 sink-silent : (j k : StreamId) (s : Slots) (v : Value) (o : Owner) → is_same j k ≡ false → heard_call (ear_by j s o) (HostWrite k v) ≡ silence
 sink-silent j k s v Host n = rw n refl
 sink-silent j k s v (HalfOf t) n = refl
 sink-silent j k s v (BranchOf t half) n = rw n refl
+sink-silent j k s v (EndOf c) n = refl
 
 module _ (j k : StreamId) (s : Slots) (n : is_same j k ≡ false) where
   handed-silent : (taker : Taker) (a : writable.Acts) (first : Option WriteRecord) → a.out.effects ≡ [] → Spares (ear_at j s) taker → tells (hands (ear_at j s)) (hand_on_first k taker a first).out.effects ≡ silence
@@ -320,6 +353,7 @@ module _ (j k : StreamId) (s : Slots) (n : is_same j k ≡ false) where
   handed-silent taker a (Some InFlight) e p = rw e refl
   handed-silent ToHost a (Some (Chunk v)) e p = rw (e, sink-silent j k s v (owner_at j s) n) refl
   handed-silent (ToTransform u d) a (Some (Chunk v)) e p = rw (e, taken-silent (ear_at j s) u v p) refl
+  handed-silent (ToPort c d) a (Some (Chunk v)) e p = rw (e, posted-silent (ear_at j s) c v p) refl
 
   operation-silent : (operation : WritableOperation) (a : writable.Acts) → a.out.effects ≡ [] → Placed j (ear_at j s) s (OnWritable k operation) → tells (hands (ear_at j s)) (writable_operation k operation a).out.effects ≡ silence
   unfolding hand_on
@@ -354,6 +388,7 @@ pub record Ahead (i j : StreamId) (s : Slots) (es : List Effect) : Type 0 where
   pub hosts : Hosts i j s
   pub history : Writes
   pub going : (t : TransformId) → Going j t history s es
+  pub porting : (c : PortId) → PortGoing j c history s es
   pub placed : Each (Placed j (ear_at j s) s) es
   pub front : Front (ear_at j s) es
   pub first : First (ear_at j s) (is_some (writable_at j s).close_in_flight) es
@@ -382,6 +417,21 @@ tee-placed j w s t source first second (OnWritable k operation) c = absurd c
 tee-placed j w s t source first second (CloseAlgorithm k) c = absurd c
 tee-placed j w s t source first second _ c = tt
 
+port_same : (c : PortId) → is_port (OfPort c) c ≡ true
+port_same c = grind arith
+
+port_placed : (j : StreamId) (w : Ear) (s : Slots) (c : PortId) (x : cross.Slots) → AtPort j w c x → (e : Effect) → PortCauses c x.stream e → Placed j w s e
+port_placed j w s c x (OwnPort is at side) (OnWritable k (HandOn (ToPort d p))) m =
+    let fits : is_port w d ≡ true = rw (is, m.1) (port_same c) in
+    let here : is_same j k ≡ true = rw (m.0, at) (is_same-refl j) in
+    (λ same. subst (λ (v : Ear). Fits v k (ToPort d p)) (sym is) (rw (m.1) (port_same c)), λ n. absurd (cc))
+port_placed j w s c x (OtherPort n far) (OnWritable k (HandOn (ToPort d p))) m =
+    (λ same. let no : is_same j k ≡ false = rw (m.0) far in absurd (cc), λ other. rw (m.1) n)
+port_placed j w s c x at (OnWritable k (HandOn ToHost)) m = absurd m
+port_placed j w s c x at (OnWritable k (HandOn (ToTransform u d))) m = absurd m
+port_placed j w s c x at (CloseAlgorithm k) m = absurd m
+port_placed j w s c x at _ m = tt
+
 own-placed : (j r : StreamId) (s : Slots) (t : TransformId) (e : Effect) → TransformCauses t j r e → Placed j (OfTransform t r) s e
 own-placed j r s t e c = let same = is_same-refl j in grind (arith, c, same)
 
@@ -394,11 +444,13 @@ write-placed j k s z Host e =
 write-placed j k s z (HalfOf t) e = (tt, tt)
 write-placed j k s z (BranchOf t half) e =
     ((λ same. let is : j ≡ k = same_id j k same in let own : owner_at j s ≡ BranchOf t half = rw is (sym e) in rw own same, λ n. tt), tt)
+write-placed j k s z (EndOf c) e = (tt, tt)
 
 close-placed : (j : StreamId) (w : Ear) (z : Slots) (k : StreamId) (u : Use) (o : Owner) → Each (Placed j w z) (close_algorithm k u o)
 close-placed j w z k u Host = (tt, tt)
 close-placed j w z k u (HalfOf t) = (tt, tt)
 close-placed j w z k u (BranchOf t half) = (tt, tt)
+close-placed j w z k u (EndOf c) = (tt, tt)
 
 module _ (i j : StreamId) (s : Slots) (h : Hosts i j s) where
   abbrev w : Ear
@@ -426,19 +478,21 @@ module _ (i j : StreamId) (s : Slots) (h : Hosts i j s) where
   row-caused (OnWritable k operation) = by (has_writable k s) refl
     where
       by : (there : Bool) → there ≡ has_writable k s → Each (Placed j w (row (OnWritable k operation) s).slots) (row (OnWritable k operation) s).caused
-      by true e = row-causes (Placed j w (row (OnWritable k operation) s).slots) (OnWritable k operation) s (record { write = tt; close = row-has k (OnWritable k operation) s ∙ sym e; abort = λ r q. tt; hand_on = λ v. tt; take = λ v t d. tt })
+      by true e = row-causes (Placed j w (row (OnWritable k operation) s).slots) (OnWritable k operation) s (record { write = tt; close = row-has k (OnWritable k operation) s ∙ sym e; abort = λ r q. tt; hand_on = λ v. tt; take = λ v t d. tt; post = λ v t d. tt })
       by false e = rw (← e) tt
   row-caused (OnPipe q operation) = row-causes (Placed j w (row (OnPipe q operation) s).slots) (OnPipe q operation) s (λ source dest e c. pipe-placed j w (row (OnPipe q operation) s).slots q source dest e c)
   row-caused (OnSignal a operation) = row-causes (Placed j w (row (OnSignal a operation) s).slots) (OnSignal a operation) s (signal-each (Placed j w (row (OnSignal a operation) s).slots) operation (λ q r. tt))
   row-caused (OnTransform t operation) = transform-placed (row (OnTransform t operation) s).slots t operation (slice_get s.transforms t.0) refl
   row-caused (OnTee t operation) =
       row-causes (Placed j w (row (OnTee t operation) s).slots) (OnTee t operation) s (λ source first second e c. tee-placed j w (row (OnTee t operation) s).slots t source first second e c)
+  row-caused (OnPort c operation) =
+      port-caused (Placed j w (row (OnPort c operation) s).slots) c operation s (λ x at e m. port_placed j w (row (OnPort c operation) s).slots c x (at-port i j s c x h at) e m)
   row-caused (WriteAlgorithm k) = write-placed j k s (row (WriteAlgorithm k) s).slots (owner_at k s) refl
   row-caused (CloseAlgorithm k) = close-placed j w (row (CloseAlgorithm k) s).slots k _ (owner_at k s)
   row-caused (StartAlgorithm k step start) = row-causes (Placed j w (row (StartAlgorithm k step start) s).slots) (StartAlgorithm k step start) s (λ g u. tt, λ c u. tt)
-  row-caused (PullAlgorithm k) = row-causes (Placed j w (row (PullAlgorithm k) s).slots) (PullAlgorithm k) s (λ c u. tt, (λ t u. tt, (λ t. tt, λ u. tt)))
-  row-caused (CancelAlgorithm k r q) = row-causes (Placed j w (row (CancelAlgorithm k r q) s).slots) (CancelAlgorithm k r q) s (λ c u. tt, (λ t u. tt, λ t half u. tt))
-  row-caused (AbortAlgorithm k r q) = row-causes (Placed j w (row (AbortAlgorithm k r q) s).slots) (AbortAlgorithm k r q) s (λ c u. tt, λ t u. tt)
+  row-caused (PullAlgorithm k) = row-causes (Placed j w (row (PullAlgorithm k) s).slots) (PullAlgorithm k) s (λ c u. tt, (λ t u. tt, (λ t. tt, (λ u. tt, λ q. tt))))
+  row-caused (CancelAlgorithm k r q) = row-causes (Placed j w (row (CancelAlgorithm k r q) s).slots) (CancelAlgorithm k r q) s (λ c u. tt, (λ t u. tt, (λ t half u. tt, λ y u. tt)))
+  row-caused (AbortAlgorithm k r q) = row-causes (Placed j w (row (AbortAlgorithm k r q) s).slots) (AbortAlgorithm k r q) s (λ c u. tt, (λ t u. tt, λ z u. tt))
   row-caused (ChunkSteps k (Promise q) v) = tt
   row-caused (ChunkSteps k (PipeRequest q) v) = (tt, tt)
   row-caused (ChunkSteps k (TeeRequest b) v) = (tt, tt)
@@ -462,6 +516,7 @@ module _ (i j : StreamId) (s : Slots) (h : Hosts i j s) where
   in-own t Host e n = absurd (cc)
   in-own t (HalfOf u) e n = let is : u ≡ t = ap (λ (m : ℕ). record { 0 = m }) (eq_numbers u.0 t.0 n) in sym e ∙ ap HalfOf is
   in-own t (BranchOf u half) e n = absurd (cc)
+  in-own t (EndOf c) e n = absurd (cc)
 
   one-half : (t : TransformId) (k : StreamId) → Own t → has_writable k s ≡ true → owner_at k s ≡ HalfOf t → k ≡ j
   one-half t k own there owner =
@@ -472,6 +527,23 @@ module _ (i j : StreamId) (s : Slots) (h : Hosts i j s) where
       let same : others.0 ≡ mine.0 = cc in
       sym others.1.1 ∙ (ap (λ (x : transform.Slots). x.writable) same ∙ mine.1.1)
 
+  -- and the port of the destination no other stream at its end
+
+  port-own : (c : PortId) (o : Owner) → o ≡ owner_at j s → is_port (ear_by j s o) c ≡ true → owner_at j s ≡ EndOf c
+  port-own c Host e n = absurd (cc)
+  port-own c (HalfOf u) e n = absurd (cc)
+  port-own c (BranchOf u half) e n = absurd (cc)
+  port-own c (EndOf d) e n = let is : d ≡ c = ap (λ (m : ℕ). record { 0 = m }) (eq_numbers d.0 c.0 n) in sym e ∙ ap EndOf is
+
+  one-end : (c : PortId) (k : StreamId) → owner_at j s ≡ EndOf c → has_writable k s ≡ true → owner_at k s ≡ EndOf c → k ≡ j
+  one-end c k own there owner =
+      let mine = end-there j c s h.ended (sink-there i j s h) own in
+      let others = end-there k c s h.ended there owner in
+      let a = mine.1.0 in
+      let b = others.1.0 in
+      let same : others.0 ≡ mine.0 = cc in
+      sym others.1.1.0 ∙ (ap (λ (x : cross.Slots). x.stream) same ∙ mine.1.1.0)
+
   close-first : (hs : Writes) (k : StreamId) (es : List Effect) (u : Use) (o : Owner) → o ≡ owner_at k s → has_writable k s ≡ true → ((t : TransformId) → Going j t hs s (CloseAlgorithm k ∷ es))
       → First w (is_some (writable_at j s).close_in_flight) (close_algorithm k u o)
   close-first hs k es u Host e there g = λ n. absurd (cc)
@@ -479,6 +551,9 @@ module _ (i j : StreamId) (s : Slots) (h : Hosts i j s) where
       let is : k ≡ j = one-half t k (in-own t (owner_at j s) refl n) there (sym e) in
       closing-flies j hs s es (subst (λ (x : StreamId). Kept j hs s (CloseAlgorithm x ∷ es)) is (g t).kept)
   close-first hs k es u (BranchOf t half) e there g = λ n. absurd (cc)
+  close-first hs k es u (EndOf c) e there g = λ n.
+      let is : k ≡ j = one-end c k (port-own c (owner_at j s) refl n) there (sym e) in
+      closing-flies j hs s es (subst (λ (x : StreamId). Kept j hs s (CloseAlgorithm x ∷ es)) is (g (record { 0 = 0 })).kept)
 
 row-first : (i j : StreamId) (s : Slots) (e : Effect) (es : List Effect) → Ahead i j s (e ∷ es) → First (ear_at j s) (is_some (writable_at j (row e s).slots).close_in_flight) (row e s).caused
 unfolding row
@@ -493,6 +568,7 @@ row-ahead i j s e es a =
       hosts = hosts-row i j e s a.hosts;
       history = writes_then a.history (effect_writes j e s);
       going = λ t. (going j t).row a.history s e es (a.going t);
+      porting = λ c. (port-going j c).row a.history s e es (a.porting c);
       placed = rw same (each-append (Placed j w (row e s).slots) (row e s).caused es (row-caused i j s a.hosts e) (placed-on j w s (row e s).slots es (λ k. row-has k e s) a.placed.1));
       front = rw same (front-next w (row e s).caused es (row-front w e s) a.front);
       first = rw same (first-next w (is_some (writable_at j (row e s).slots).close_in_flight) (row e s).caused es (row-first i j s e es a) a.front);

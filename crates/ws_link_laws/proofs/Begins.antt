@@ -27,6 +27,7 @@ use Rattle.ws_laws.proofs.Truth.{and_right}
 use Rattle.ws_pipe_laws.proofs.AtSource.{except_few, all_off}
 use Rattle.ws_pipe_laws.proofs.PassingRuns.{call-none, call-is}
 use Rattle.ws_transform_laws.proofs.Halving.{going}
+use Rattle.ws_transform_laws.proofs.PortHalving.{port-going}
 use Rattle.ws_link_laws.specs.Link.{Ear, ear_at, in_sink, in_source, unheard, behind}
 use Rattle.ws_link_laws.specs.Laws.{EachLinkBegins}
 use Rattle.ws_link_laws.specs.Sound.{all_apart, IsApart, IsFree, IsThere, IsLink, AreApart, SourceFits, FitsIn}
@@ -180,9 +181,10 @@ module _ (i j : StreamId) (prevent : Prevent) (signal : Option SignalId) (s : Sl
           closes = rw at tt;
         };
         ahead = record {
-          hosts = hosts-same i j s d.slots refl refl refl hosts;
+          hosts = hosts-same i j s d.slots refl refl refl refl hosts;
           history = g.0;
-          going = λ t. rw is_begun at ((going j t).call g.0 s (Pipe i j prevent signal) (g.1 t));
+          going = λ t. rw is_begun at ((going j t).call g.0 s (Pipe i j prevent signal) (g.1.0 t));
+          porting = λ q. rw is_begun at ((port-going j q).call g.0 s (Pipe i j prevent signal) (g.1.1 q));
           placed = (tt, (tt, (tt, begins-placed (ear_at j s) d.slots (calls.reason_of signal s) signal)));
           front = late-front (ear_at j s) d.caused late;
           first = late-first (ear_at j s) (is_some (writable_at j d.slots).close_in_flight) d.caused (each-map (IsLate (ear_at j s)) (λ e. flushes (ear_at j s) e ≡ false) (λ e l. l.1) d.caused late);

@@ -14,7 +14,7 @@ use Rattle.ws_value.specs.declared.fault.Fault.{Fault}
 use Rattle.ws_steps.specs.declared.byte.ByteOperation.TheVariants.{InitializeByobReader, Enqueue as EnqueueBytes, PullInto, Respond as RespondBytes}
 use Rattle.ws_steps.specs.declared.calls.Answer.{Answer}
 use Rattle.ws_steps.specs.declared.calls.Call.{Call}
-use Rattle.ws_steps.specs.declared.calls.Call.TheVariants.{Tee as TeeCall, MakeReadable, MakeBytes, GetByob, ReadInto, Request, Respond, MakeWritable, MakeTransform, GetReader, GetWriter, Cancel, CancelBy, Read, Write, Close, CloseBy, Abort, AbortBy, Closed, Ready, Release, Enqueue, Finish, Fail, Terminate, Desired, DesiredBy, Pipe, MakeSignal, Trigger, Settle, State, Step}
+use Rattle.ws_steps.specs.declared.calls.Call.TheVariants.{Tee as TeeCall, MakeReadable, MakeBytes, GetByob, ReadInto, Request, Respond, MakeWritable, MakeTransform, GetReader, GetWriter, Cancel, CancelBy, Read, Write, Close, CloseBy, Abort, AbortBy, Closed, Ready, Release, Enqueue, Finish, Fail, Terminate, Desired, DesiredBy, Pipe, MakeSignal, Trigger, Send, Open, Deliver, Settle, State, Step}
 use Rattle.ws_steps.specs.declared.calls.Reply.{Reply}
 use Rattle.ws_steps.specs.declared.calls.Reply.TheVariants.{Done as ReplyDone, Promise, Request as ReplyRequest, State as ReplyState, Throws, TooMany}
 use Rattle.ws_steps.specs.declared.calls.Thrown.TheVariants.{TypeError, Unsupported}
@@ -24,7 +24,7 @@ use Rattle.ws_steps.specs.declared.calls.StartBy.TheVariants.{Now, Later}
 use Rattle.ws_steps.specs.declared.effects.Effect.{Effect}
 use Rattle.ws_steps.specs.declared.effects.Effect.TheVariants.{Readable as OnReadable, Byte as OnByte, Writable as OnWritable, Pipe as OnPipe, Signal as OnSignal, Transform as OnTransform, CloseAlgorithm, ChunkSteps, Settle as SettlePromise, CallHost}
 use Rattle.ws_steps.specs.declared.effects.Owner.{Owner}
-use Rattle.ws_steps.specs.declared.effects.Owner.TheVariants.{Host, HalfOf, BranchOf}
+use Rattle.ws_steps.specs.declared.effects.Owner.TheVariants.{Host, HalfOf, BranchOf, EndOf}
 use Rattle.ws_steps.specs.declared.locks.Lock.{Lock}
 use Rattle.ws_steps.specs.declared.locks.Lock.TheVariants.{Reader as ReaderLock, ByobReader, Writer as WriterLock, ReleasedWriter, Inner}
 use Rattle.ws_steps.specs.declared.pipes.PipeOperation.TheVariants.{Abort as AbortPipe}
@@ -58,11 +58,11 @@ use Rattle.ws_laws.proofs.Halves.{Halved}
 use Rattle.ws_laws.proofs.Lists.{Each, each-append}
 use Rattle.ws_laws.proofs.Tables.{either, eq_numbers, is_same-refl, same_id, readable_there, byte_there}
 use Rattle.ws_laws.proofs.Truth.{not_false, and_left, and_right}
-use Rattle.ws_link_laws.specs.Link.{Ear, Giver, OfSource, OfByteSource, OfHalf, silence, in_sink, in_source, in_pipe, ear_at, unheard, behind, giver_by, giver_at, lets_in, enters, leaves}
+use Rattle.ws_link_laws.specs.Link.{Ear, Giver, OfSource, OfByteSource, OfHalf, OfEnd, delivered, silence, in_sink, in_source, in_pipe, ear_at, unheard, behind, giver_by, giver_at, lets_in, enters, leaves}
 use Rattle.ws_link_laws.specs.Entering.{chunk_in, bytes_in}
 use Rattle.ws_link_laws.specs.Sound.{spares, all_spare, AreApart, IsApart, IsHosts, all_untied}
 use Rattle.ws_link_laws.proofs.Telling.{is_of, if_same, tells, IsSilent, silent-all, writes, chunks, coming}
-use Rattle.ws_link_laws.proofs.Hosts.{source-owner, half-giver, one-readable}
+use Rattle.ws_link_laws.proofs.Hosts.{source-owner, half-giver, one-readable, readable-shape}
 use Rattle.ws_link_laws.proofs.Ahead.{IsLate, Placed}
 use Rattle.ws_link_laws.proofs.Unheard.{fresh-unheard}
 use Rattle.ws_link_laws.proofs.Sinks.{shut}
@@ -70,9 +70,23 @@ use Rattle.ws_link_laws.proofs.Standing.{IsInner, IsNotLast}
 use Rattle.ws_pipe_laws.proofs.PassingRuns.{appended}
 use Rattle.ws_link_laws.proofs.SourceTurns.{is_default}
 use Rattle.ws_value.specs.declared.ids.TeeId.{TeeId}
+use Rattle.ws_value.specs.declared.ids.PortId.{PortId}
 use Rattle.ws_steps.specs.Tee as tee
+use Rattle.ws_steps.specs.Cross as cross
 use Rattle.ws_steps.specs.declared.tee.Half.{Half}
 use Rattle.ws_laws.proofs.EachCall.{each_call}
+use Rattle.ws_laws.proofs.Ended.{Ended as AreEnds, PortShape, port_shape}
+use Rattle.ws_steps.specs.declared.calls.Call.TheVariants.{Send, Open, Deliver}
+use Rattle.ws_steps.specs.declared.calls.Thrown.TheVariants.{DataClone}
+use Rattle.ws_steps.specs.declared.port.PortOperation.TheVariants.{PostChunk, Close as CloseByPort, Deliver as DeliverMessage}
+use Rattle.ws_steps.specs.PortHistory.{is_same_port}
+use Rattle.ws_value.specs.declared.value.Message.{Message}
+use Rattle.ws_steps.specs.declared.effects.Effect.TheVariants.{Port as OnPort}
+use Rattle.std.proofs.Common.{map}
+use Rattle.ws_steps.specs.declared.port.Side.{Side}
+use Rattle.ws_steps.specs.Slots.{has_port}
+use Rattle.std.proofs.Common.{is_some}
+use Rattle.ws_steps.specs.declared.port.Side.TheVariants.{Readable as ReadableSide}
 
 -- effects with which a call begins that leaves the link alone
 abbrev pub IsOuter : StreamId → StreamId → Effect → Type 0
@@ -92,6 +106,8 @@ IsOuter i j (OnPipe q operation) = ⊥
 IsOuter i j (ChunkSteps k request v) = ⊥
 IsOuter i j (OnTransform a (TransformChunk v d)) = ⊥
 IsOuter i j (OnTransform a (SinkClose u)) = ⊥
+IsOuter i j (OnPort c (PostChunk v d)) = ⊥
+IsOuter i j (OnPort c (CloseByPort u)) = ⊥
 IsOuter i j (CloseAlgorithm k) = ⊥
 IsOuter i j (CallHost (HostStart k) u) = Unit {0}
 IsOuter i j (CallHost call u) = ⊥
@@ -145,6 +161,40 @@ neither a b e f g = grind (arith, e, f, g)
 no_default : (o : Option Stream) → is_byte_stream o ≡ true → is_readable_stream o ≡ false
 no_default o e = grind (arith, e)
 
+-- a stream that is there isn't new
+
+not_new : (xs : List Stream) (n : ℕ) (x : Stream) → slice_get xs n ≡ Some x → nat_eq n (length xs) ≡ false
+not_new [] n x e = cc
+not_new (y ∷ ys) zero x e = grind arith
+not_new (y ∷ ys) (suc n) x e = let ih = not_new ys n x e in grind (arith, ih)
+
+pub not-new : (k : StreamId) (xs : List Stream) → (x : Stream) × (slice_get xs k.0 ≡ Some x) → is_same k (record { 0 = length xs }) ≡ false
+not-new k xs x = not_new xs k.0 x.0 x.1
+
+stream_here : (o : Option Stream) → (o ≡ None → ⊥) → (x : Stream) × (o ≡ Some x)
+stream_here None n = absurd (n refl)
+stream_here (Some x) n = (x, refl)
+
+pub source-here : (k : StreamId) (s : Slots) → has_source k s ≡ true → (x : Stream) × (slice_get s.streams k.0 ≡ Some x)
+source-here k s h = stream_here (slice_get s.streams k.0) (λ none. let no : has_source k s ≡ false = rw none refl in cc)
+
+pub sink-here : (k : StreamId) (s : Slots) → has_writable k s ≡ true → (x : Stream) × (slice_get s.streams k.0 ≡ Some x)
+sink-here k s h = stream_here (slice_get s.streams k.0) (λ none. let no : has_writable k s ≡ false = rw none refl in cc)
+
+-- a port that is at an end is there
+
+no-port : (ps : List cross.Slots) (n : ℕ) (x : PortShape) → slice_get (map port_shape ps) n ≡ Some x → is_some (slice_get ps n) ≡ false → ⊥
+no-port [] n x e h = cc
+no-port (y ∷ ys) zero x e h = cc
+no-port (y ∷ ys) (suc n) x e h = no-port ys n x e h
+
+end-giver : (b : Bool) (o : Owner) (c : PortId) → giver_by b o ≡ OfEnd c → (b ≡ false) × (o ≡ EndOf c)
+end-giver true o c e = cc
+end-giver false Host c e = cc
+end-giver false (HalfOf u) c e = cc
+end-giver false (BranchOf u half) c e = cc
+end-giver false (EndOf d) c e = (refl, cc)
+
 -- where the source takes nothing, what is behind the host has come to an end
 
 then_shut : (x y : Told Value) → y.mark ≢ Open → (then_told x y).mark ≢ Open
@@ -170,7 +220,7 @@ pub record Begins (i j : StreamId) (p : PipeId) (s : Slots) (t : Told Value) (b 
   -- no call of the host's enqueues into a branch of a tee
   pub comes : IsHosts s (owner_at i s) → IsShortOf (then_told (behind i j p s) (tells (coming (giver_at i s) i) b.done.caused)) (then_told (behind i j p s) t)
 
-module _ (i j : StreamId) (p : PipeId) (s : Slots) (here : has_source i s ≡ true) (halved : Halved s) (locks : all_spare i j s.locks ≡ true) (apart : AreApart i j p s.pipes) where
+module _ (i j : StreamId) (p : PipeId) (s : Slots) (here : has_source i s ≡ true) (sink : has_writable j s ≡ true) (halved : Halved s) (ended : AreEnds s) (locks : all_spare i j s.locks ≡ true) (apart : AreApart i j p s.pipes) where
   abbrev P : Begun → Type 0
   P b = Begins i j p s silence b
 
@@ -407,6 +457,7 @@ module _ (i j : StreamId) (p : PipeId) (s : Slots) (here : has_source i s ≡ tr
       by_giver : (g : Giver) → g ≡ giver_at i s → is_same i k ≡ false → (b : Bool) → b ≡ is_of g a → is_of g a ≡ false
       by_giver OfSource e n b f = refl
       by_giver OfByteSource e n b f = refl
+      by_giver (OfEnd c) e n b f = refl
       by_giver (OfHalf u) e n false f = sym f
       by_giver (OfHalf u) e n true f =
           let is : u ≡ a = ap (λ (m : ℕ). record { 0 = m }) (eq_numbers u.0 a.0 (sym f)) in
@@ -421,17 +472,12 @@ module _ (i j : StreamId) (p : PipeId) (s : Slots) (here : has_source i s ≡ tr
           let self : nat_eq a.0 a.0 ≡ true = grind arith in
           rw (mine, self) n
 
-  chunk-comes : (k : StreamId) (v : Value) (o : Owner) → has_byte k s ≡ false → owner_at k s ≡ o → coming (giver_at i s) i (OnReadable k (EnqueueChunk v)) ≡ enters (giver_at i s) i (Enqueue k v)
-  chunk-comes k v o none owner = by (is_same i k) refl
+  chunk-comes : (k : StreamId) (v : Value) → has_byte k s ≡ false → owner_at k s ≡ Host → coming (giver_at i s) i (OnReadable k (EnqueueChunk v)) ≡ enters (giver_at i s) i (Enqueue k v)
+  chunk-comes k v none owner = by (is_same i k) refl
     where
-      lets : (w : Owner) → chunk_in (giver_by false w) v ≡ lets_in (giver_by false w) v
-      lets Host = refl
-      lets (HalfOf a) = refl
-      lets (BranchOf a half) = refl
-
       by : (same : Bool) → same ≡ is_same i k → (if is_same i k then chunk_in (giver_at i s) v else silence) ≡ (if is_same i k then lets_in (giver_at i s) v else silence)
       by false n = rw (← n) refl
-      by true n = let own = default-is k o none owner (same_id i k (sym n)) in rw (← n, own) (lets o)
+      by true n = let own = default-is k Host none owner (same_id i k (sym n)) in rw (← n, own) refl
 
   half-comes : (k : StreamId) (v : Value) (a : TransformId) → has_readable k s ≡ true → has_byte k s ≡ false → owner_at k s ≡ HalfOf a → coming (giver_at i s) i (OnTransform a (EnqueueByTransform v)) ≡ enters (giver_at i s) i (Enqueue k v)
   half-comes k v a there none owner = by (is_same i k) refl
@@ -450,7 +496,7 @@ module _ (i j : StreamId) (p : PipeId) (s : Slots) (here : has_source i s ≡ tr
   enqueues k v none Host there owner =
       let t : Told Value = enters (giver_at i s) i (Enqueue k v) in
       either (Begins i j p s t) (can_close_or_enqueue (readable_at k s)) _ _
-      (λ e. brings t ReplyDone (OnReadable k (EnqueueChunk v)) tt (chunk-comes k v Host none owner))
+      (λ e. brings t ReplyDone (OnReadable k (EnqueueChunk v)) tt (chunk-comes k v none owner))
       (λ e. refused t (Throws TypeError) (full k t (enqueue-elsewhere k v (giver_at i s)) (default-full k there e)))
   enqueues k v none (HalfOf a) there owner =
       let t : Told Value = enters (giver_at i s) i (Enqueue k v) in
@@ -459,6 +505,9 @@ module _ (i j : StreamId) (p : PipeId) (s : Slots) (here : has_source i s ≡ tr
       (λ e. refused t (Throws TypeError) (full k t (enqueue-elsewhere k v (giver_at i s)) (default-full k there e)))
   enqueues k v none (BranchOf a half) there owner =
       unsupported (enters (giver_at i s) i (Enqueue k v)) (λ own. enqueue-elsewhere k v (giver_at i s) (branch-elsewhere k a half own owner))
+  enqueues k v none (EndOf c) there owner =
+      refused (enters (giver_at i s) i (Enqueue k v)) (Throws Unsupported)
+      (inl (own-or k (λ g. enters g i (Enqueue k v)) silence (OfEnd c) (default-is k (EndOf c) none owner) (enqueue-elsewhere k v (giver_at i s)) (if_same (is_same i k))))
 
   -- bytes are enqueued into a byte stream
 
@@ -497,11 +546,13 @@ module _ (i j : StreamId) (p : PipeId) (s : Slots) (here : has_source i s ≡ tr
   finish-elsewhere k OfSource d = rw d refl
   finish-elsewhere k OfByteSource d = rw d refl
   finish-elsewhere k (OfHalf a) d = refl
+  finish-elsewhere k (OfEnd c) d = refl
 
   terminate-elsewhere : (k : StreamId) (g : Giver) → is_same i k ≡ false → enters g i (Terminate k) ≡ silence
   terminate-elsewhere k OfSource d = refl
   terminate-elsewhere k OfByteSource d = refl
   terminate-elsewhere k (OfHalf a) d = rw d refl
+  terminate-elsewhere k (OfEnd c) d = refl
 
   end-comes : (k : StreamId) (g : Giver) → (i ≡ k → giver_at i s ≡ g) → enters g i (Finish k) ≡ (if is_same i k then told [] Ended else silence) → enters (giver_at i s) i (Finish k) ≡ coming (giver_at i s) i (OnReadable k CloseReadable)
   end-comes k g own e = own-or k (λ o. enters o i (Finish k)) (if is_same i k then told [] Ended else silence) g own (λ d. finish-elsewhere k (giver_at i s) d ∙ rw d refl) e
@@ -514,6 +565,8 @@ module _ (i j : StreamId) (p : PipeId) (s : Slots) (here : has_source i s ≡ tr
   finishes k none (HalfOf a) there owner =
       refused (enters (giver_at i s) i (Finish k)) (Throws Unsupported) (inl (own-or k (λ g. enters g i (Finish k)) silence (OfHalf a) (default-is k (HalfOf a) none owner) (finish-elsewhere k (giver_at i s)) refl))
   finishes k none (BranchOf a half) there owner = unsupported (enters (giver_at i s) i (Finish k)) (λ own. finish-elsewhere k (giver_at i s) (branch-elsewhere k a half own owner))
+  finishes k none (EndOf c) there owner =
+      refused (enters (giver_at i s) i (Finish k)) (Throws Unsupported) (inl (own-or k (λ g. enters g i (Finish k)) silence (OfEnd c) (default-is k (EndOf c) none owner) (finish-elsewhere k (giver_at i s)) refl))
 
   finishes_bytes : (k : StreamId) → has_byte k s ≡ true → Begins i j p s (enters (giver_at i s) i (Finish k)) (calls.finish_bytes k s)
   finishes_bytes k there =
@@ -530,6 +583,8 @@ module _ (i j : StreamId) (p : PipeId) (s : Slots) (here : has_source i s ≡ tr
       own-or k (λ g. enters g i (Terminate k)) (if is_same i k then told [] Ended else silence) (OfHalf a) (default-is k (HalfOf a) none owner) (λ d. terminate-elsewhere k (giver_at i s) d ∙ rw d refl) refl in
       brings (enters (giver_at i s) i (Terminate k)) ReplyDone (OnTransform a TerminateTransform) tt (rw (half-is k a there none owner) (sym same))
   terminates k none (BranchOf a half) there owner = unsupported (enters (giver_at i s) i (Terminate k)) (λ own. terminate-elsewhere k (giver_at i s) (branch-elsewhere k a half own owner))
+  terminates k none (EndOf c) there owner =
+      refused (enters (giver_at i s) i (Terminate k)) (Throws Unsupported) (inl (own-or k (λ g. enters g i (Terminate k)) silence (OfEnd c) (default-is k (EndOf c) none owner) (terminate-elsewhere k (giver_at i s)) refl))
 
   -- a byte stream isn't terminated
   terminate_call : (k : StreamId) → Begins i j p s (enters (giver_at i s) i (Terminate k)) (calls.for_readable k (calls.terminate k) s)
@@ -587,6 +642,7 @@ module _ (i j : StreamId) (p : PipeId) (s : Slots) (here : has_source i s ≡ tr
   desired_by k Host = unchanged (calls.desired_by k s Host).reply
   desired_by k (HalfOf a) = unchanged (calls.desired_by k s (HalfOf a)).reply
   desired_by k (BranchOf a half) = unchanged (Throws Unsupported)
+  desired_by k (EndOf c) = unchanged (Throws Unsupported)
 
   -- a tee of another stream
   tee_of : (k : StreamId) → not (is_same i k) ≡ true → P (calls.tee_of k s)
@@ -620,11 +676,72 @@ module _ (i j : StreamId) (p : PipeId) (s : Slots) (here : has_source i s ≡ tr
   fails_readable reason k Host = does (OnReadable k (ErrorReadable reason) ∷ []) (tt, tt) (if_same (is_same i k), tt)
   fails_readable reason k (HalfOf a) = does (OnTransform a (ErrorTransform reason) ∷ []) (tt, tt) (if_same (is_of (giver_at i s) a), tt)
   fails_readable reason k (BranchOf a half) = unchanged (Throws Unsupported)
+  fails_readable reason k (EndOf c) = unchanged (Throws Unsupported)
 
   fails_writable : (reason : Plain) (k : StreamId) (o : Owner) → P (calls.fail_writable_by reason k s o)
   fails_writable reason k Host = does (OnWritable k (ErrorIfNeeded reason) ∷ []) (tt, tt) (refl, tt)
   fails_writable reason k (HalfOf a) = unchanged (Throws Unsupported)
   fails_writable reason k (BranchOf a half) = unchanged (Throws Unsupported)
+  fails_writable reason k (EndOf c) = unchanged (Throws Unsupported)
+
+  -- calls on ports
+
+  opens : (side : Side) → P (calls.open_end side (record { 0 = length s.streams }) s)
+  opens ReadableSide = quietly (calls.open_end ReadableSide (record { 0 = length s.streams }) s) locks apart (λ w. refl) (tt, tt) (refl, tt)
+  opens WritableSide = quietly (calls.open_end WritableSide (record { 0 = length s.streams }) s) locks apart (λ w. fresh-unheard w s.promises) (tt, tt) (refl, tt)
+
+  abbrev new : StreamId
+  new = record { 0 = length s.streams }
+
+  sends_readable : (k : StreamId) → is_same i k ≡ false → P (calls.send_readable k new s)
+  sends_readable k a =
+      let b : is_same j new ≡ false = not-new j s.streams (sink-here j s sink) in
+      let t : Table = fresh s.promises in
+      let me : PipeId = record { 0 = length s.pipes } in
+      quietly (calls.send_readable k new s) (spare-append i j s.locks (Inner ∷ Inner ∷ []) locks refl) (apart-append _ (a, b))
+      (λ w. fresh-unheard w (fresh (fresh (fresh t))) ∙ (fresh-unheard w (fresh (fresh t)) ∙ (fresh-unheard w (fresh t) ∙ (fresh-unheard w t ∙ fresh-unheard w s.promises))))
+      (tt, (a, (b, (tt, begins-outer me (next_id t) (next_id (fresh (fresh t))) None None))))
+      (refl, (if_same (is_same i k), (refl, (if_same (is_same i k), begins-coming me (next_id t) (next_id (fresh (fresh t))) None None))))
+
+  sends_writable : (k : StreamId) → is_same j k ≡ false → P (calls.send_writable k new s)
+  sends_writable k b =
+      let a : is_same i new ≡ false = not-new i s.streams (source-here i s here) in
+      let t : Table = s.promises in
+      let me : PipeId = record { 0 = length s.pipes } in
+      quietly (calls.send_writable k new s) (spare-append i j s.locks (Inner ∷ Inner ∷ []) locks refl) (apart-append _ (a, b))
+      (λ w. fresh-unheard w (fresh (fresh (fresh t))) ∙ (fresh-unheard w (fresh (fresh t)) ∙ (fresh-unheard w (fresh t) ∙ fresh-unheard w t)))
+      (tt, (a, (b, (tt, begins-outer me (next_id t) (next_id (fresh (fresh t))) None None))))
+      (refl, (if_same (is_same i new), (refl, (if_same (is_same i new), begins-coming me (next_id t) (next_id (fresh (fresh t))) None None))))
+
+  sends : (k : StreamId) → is_same i k ≡ false → is_same j k ≡ false → P (calls.send k s)
+  sends k a b =
+      either P (has_source k s) _ _
+      (λ e. unlocked_readable k calls.throws_data_clone (λ source. calls.make_stream (calls.send_readable source)) (unchanged (Throws DataClone)) (either P (nat_lt (length s.streams) most_streams) _ _ (λ f. sends_readable k a) (λ f. unchanged TooMany)))
+      (λ e. unlocked_writable k calls.throws_data_clone (λ dest. calls.make_stream (calls.send_writable dest)) (unchanged (Throws DataClone)) (either P (nat_lt (length s.streams) most_streams) _ _ (λ f. sends_writable k b) (λ f. unchanged TooMany)))
+
+  deliver-comes : (c : PortId) (m : Message) (g : Giver) → coming g i (OnPort c (DeliverMessage m)) ≡ enters g i (Deliver c m)
+  deliver-comes c m OfSource = refl
+  deliver-comes c m OfByteSource = refl
+  deliver-comes c m (OfHalf a) = refl
+  deliver-comes c m (OfEnd d) = refl
+
+  -- the port of the source is there
+  deliver-nowhere : (c : PortId) (m : Message) → has_port c s ≡ false → enters (giver_at i s) i (Deliver c m) ≡ silence
+  deliver-nowhere c m none = by (giver_at i s) refl
+    where
+      by_same : (d : PortId) → giver_at i s ≡ OfEnd d → (b : Bool) → b ≡ is_same_port d c → (if b then delivered m else silence) ≡ silence
+      by_same d f false n = refl
+      by_same d f true n =
+          let is : d ≡ c = ap (λ (x : ℕ). record { 0 = x }) (eq_numbers d.0 c.0 (sym n)) in
+          let own = end-giver (has_byte i s) (owner_at i s) d f in
+          let at = ended.end i d ReadableSide (readable-shape i s (is_default (slice_get s.streams i.0) here own.0) ∙ rw own.1 refl) in
+          absurd (no-port s.ports c.0 _ (rw is at at) none)
+
+      by : (g : Giver) → giver_at i s ≡ g → enters g i (Deliver c m) ≡ silence
+      by OfSource f = refl
+      by OfByteSource f = refl
+      by (OfHalf a) f = refl
+      by (OfEnd d) f = by_same d f (is_same_port d c) refl
 
   -- each call
   pub call-begins : (c : Call) → leaves i j c ≡ true → Begins i j p s (enters (giver_at i s) i c) (begin c s)
@@ -672,6 +789,14 @@ module _ (i j : StreamId) (p : PipeId) (s : Slots) (here : has_source i s ≡ tr
       (for_writable dest (calls.for_signal_where signal (calls.pipe_unlocked source dest prevent signal)) (pipe_where source dest prevent signal a b))
   call-begins MakeSignal l = quietly (calls.make_signal s) locks apart (λ w. refl) tt tt
   call-begins (Trigger a reason) l = either P (has_signal a s) _ _ (λ e. does (OnSignal a (TriggerSignal reason) ∷ []) (tt, tt) (refl, tt)) (λ e. unchanged (Throws Unsupported))
+  call-begins (Send k) l =
+      let a = not_false (is_same i k) (and_left (not (is_same i k)) (not (is_same j k)) l) in
+      let b = not_false (is_same j k) (and_right (not (is_same i k)) (not (is_same j k)) l) in
+      sends k a b
+  call-begins (Open side) l = either P (nat_lt (length s.streams) most_streams) _ _ (λ e. opens side) (λ e. unchanged TooMany)
+  call-begins (Deliver c m) l =
+      let t : Told Value = enters (giver_at i s) i (Deliver c m) in
+      either (Begins i j p s t) (has_port c s) _ _ (λ e. brings t ReplyDone (OnPort c (DeliverMessage m)) tt (deliver-comes c m (giver_at i s))) (λ e. refused t (Throws Unsupported) (inl (deliver-nowhere c m e)))
   call-begins (Settle h answer) l = settle_host h answer (host_at h s)
   call-begins (State k) l =
       either P (has_source k s) _ _ (λ e. unchanged (ReplyState (readable_looks.state_of (source_at k s))))
@@ -686,6 +811,10 @@ untied-append i (x ∷ xs) y u n =
     let a = and_left (not (is_same i x.source)) (all_untied i xs) u in
     let b = untied-append i xs y (and_right (not (is_same i x.source)) (all_untied i xs) u) n in
     rw (a, b) refl
+
+port-tees : (s : Slots) (side : Side) → (calls.open_end side (record { 0 = length s.streams }) s).done.slots.tees ≡ s.tees
+port-tees s ReadableSide = refl
+port-tees s WritableSide = refl
 
 pub call-untied : (i j : StreamId) (c : Call) (s : Slots) → leaves i j c ≡ true → all_untied i s.tees ≡ true → all_untied i (begin c s).done.slots.tees ≡ true
 call-untied i j c s l u = each_call (λ (b : Begun). all_untied i b.done.slots.tees ≡ true) c s (record {
@@ -721,6 +850,10 @@ call-untied i j c s l u = each_call (λ (b : Begun). all_untied i b.done.slots.t
   terminate = λ t. u;
   pipe = λ source dest prevent signal e f m n. u;
   make_signal = u;
+  open_end = λ side. rw (port-tees s side) u;
+  send_readable = λ k there free. u;
+  send_writable = λ k there free. u;
+  deliver = λ p m e is. u;
   trigger = λ a reason. u;
   settle = λ h answer q e. u;
 })

@@ -12,9 +12,9 @@ use Rattle.ws_steps.specs.declared.calls.Call.TheVariants.{Enqueue as EnqueueCal
 use Rattle.ws_steps.specs.declared.calls.Reply.TheVariants.{Done as ReplyDone, Throws}
 use Rattle.ws_steps.specs.declared.calls.Thrown.TheVariants.{TypeError}
 use Rattle.ws_steps.specs.declared.effects.Effect.{Effect}
-use Rattle.ws_steps.specs.declared.effects.Effect.TheVariants.{Readable as OnReadable, Writable as OnWritable, Pipe as OnPipe, Signal as OnSignal, Transform as OnTransform, Tee as OnTee, StartAlgorithm, PullAlgorithm, CancelAlgorithm, WriteAlgorithm, CloseAlgorithm, AbortAlgorithm, ChunkSteps, CloseSteps, ErrorSteps}
+use Rattle.ws_steps.specs.declared.effects.Effect.TheVariants.{Readable as OnReadable, Writable as OnWritable, Pipe as OnPipe, Signal as OnSignal, Transform as OnTransform, Tee as OnTee, Port as OnPort, StartAlgorithm, PullAlgorithm, CancelAlgorithm, WriteAlgorithm, CloseAlgorithm, AbortAlgorithm, ChunkSteps, CloseSteps, ErrorSteps}
 use Rattle.ws_steps.specs.declared.effects.Owner.{Owner}
-use Rattle.ws_steps.specs.declared.effects.Owner.TheVariants.{Host, HalfOf, BranchOf}
+use Rattle.ws_steps.specs.declared.effects.Owner.TheVariants.{Host, HalfOf, BranchOf, EndOf}
 use Rattle.ws_steps.specs.declared.pipes.PipeOperation.TheVariants as piped
 use Rattle.ws_steps.specs.declared.pipes.SignalOperation.{SignalOperation}
 use Rattle.ws_steps.specs.declared.pipes.SignalOperation.TheVariants.{Add, Forget, Trigger}
@@ -59,10 +59,20 @@ use Rattle.ws_link_laws.proofs.TransformTurns.{Lets, AsAsked, IsLost, lets-at, d
 use Rattle.ws_link_laws.proofs.SourceTurns.{is_default}
 use Rattle.ws_steps.specs.declared.effects.Effect.TheVariants.{Byte, CloseStepsWith}
 use Rattle.ws_value.specs.declared.ids.TeeId.{TeeId}
+use Rattle.ws_value.specs.declared.ids.PortId.{PortId}
 use Rattle.ws_steps.specs.declared.tee.TeeOperation.{TeeOperation}
+use Rattle.ws_steps.specs.declared.port.PortOperation.{PortOperation}
 use Rattle.ws_transform_laws.proofs.Branches.{tee-caused}
 use Rattle.ws_link_laws.proofs.Tees.{tee-coming}
 use Rattle.ws_link_laws.specs.Sound.{IsHosts}
+use Rattle.ws_steps.specs.Cross as cross
+use Rattle.ws_steps.specs.declared.port.PortOperation.TheVariants.{Deliver}
+use Rattle.ws_steps.specs.Operations.{port_operation}
+use Rattle.ws_steps.specs.Slots.{found, clones_at, on_port_at}
+use Rattle.ws_laws.proofs.TeeDoes.{TeeCauses}
+use Rattle.ws_laws.proofs.PortDoes.{PortCauses}
+use Rattle.ws_laws.proofs.TransformDoes.{TransformCauses}
+use Rattle.ws_link_laws.proofs.PortTurns.{IsDelivery, quiet-coming}
 
 -- only the first effect lets something in
 abbrev Lone : Giver → StreamId → List Effect → Type 0
@@ -83,6 +93,7 @@ lone-silent o i (c ∷ cs) l = l.1
 abbrev IsNoTransform : Effect → Type 0
 IsNoTransform (OnTransform t operation) = ⊥
 IsNoTransform (OnTee t operation) = ⊥
+IsNoTransform (OnPort t operation) = ⊥
 IsNoTransform _ = Unit {0}
 
 pipe-coming : (o : Giver) (i : StreamId) (q : PipeId) (source dest : StreamId) (e : Effect) → PipeCauses q source dest e → IsSilent (coming o i) e
@@ -96,17 +107,18 @@ signal-each P (Forget q) f = tt
 coming-causes : (o : Giver) (i : StreamId) (e : Effect) → IsNoTransform e → Causes (IsSilent (coming o i)) e
 coming-causes o i (OnReadable k operation) n = record { pull = refl; cancel = λ r q. refl; chunk = λ request v. refl; close = λ request. refl; error = λ request r. refl }
 coming-causes o i (Byte k operation) n = record { readable = record { pull = refl; cancel = λ r q. refl; chunk = λ request v. refl; close = λ request. refl; error = λ request r. refl }; close_with = λ r b. refl }
-coming-causes o i (OnWritable k operation) n = record { write = refl; close = refl; abort = λ r q. refl; hand_on = λ v. refl; take = λ v t d. if_same (is_of o t) }
+coming-causes o i (OnWritable k operation) n = record { write = refl; close = refl; abort = λ r q. refl; hand_on = λ v. refl; take = λ v t d. if_same (is_of o t); post = λ v c d. refl }
 coming-causes o i (OnPipe q operation) n = λ source dest e c. pipe-coming o i q source dest e c
 coming-causes o i (OnSignal a operation) n = signal-each (IsSilent (coming o i)) operation (λ q r. refl)
 coming-causes o i (OnTransform t operation) n = absurd n
 coming-causes o i (OnTee t operation) n = absurd n
+coming-causes o i (OnPort t operation) n = absurd n
 coming-causes o i (StartAlgorithm k step start) n = (λ g u. refl, λ c u. refl)
-coming-causes o i (PullAlgorithm k) n = (λ c u. refl, (λ t u. if_same (is_of o t), (λ t. refl, λ u. refl)))
-coming-causes o i (CancelAlgorithm k r q) n = (λ c u. refl, (λ t u. if_same (is_of o t), λ t half u. refl))
-coming-causes o i (WriteAlgorithm k) n = (refl, λ t u. if_same (is_of o t))
-coming-causes o i (CloseAlgorithm k) n = (λ c u. refl, λ t u. if_same (is_of o t))
-coming-causes o i (AbortAlgorithm k r q) n = (λ c u. refl, λ t u. if_same (is_of o t))
+coming-causes o i (PullAlgorithm k) n = (λ c u. refl, (λ t u. if_same (is_of o t), (λ t. refl, (λ u. refl, λ q. refl))))
+coming-causes o i (CancelAlgorithm k r q) n = (λ c u. refl, (λ t u. if_same (is_of o t), (λ t half u. refl, λ q u. refl)))
+coming-causes o i (WriteAlgorithm k) n = (refl, (λ t u. if_same (is_of o t), λ q u. refl))
+coming-causes o i (CloseAlgorithm k) n = (λ c u. refl, (λ t u. if_same (is_of o t), λ q u. refl))
+coming-causes o i (AbortAlgorithm k r q) n = (λ c u. refl, (λ t u. if_same (is_of o t), λ q u. refl))
 coming-causes o i (ChunkSteps k (Promise q) v) n = tt
 coming-causes o i (ChunkSteps k (PipeRequest q) v) n = refl
 coming-causes o i (ChunkSteps k (TeeRequest b) v) n = refl
@@ -199,14 +211,89 @@ tee-brought i s t operation h =
     let none : Each (IsSilent (coming (giver_at i s) i)) cs = tee-caused (IsSilent (coming (giver_at i s) i)) t operation s (λ x at e c. tee-coming i s t x h at e c) in
     record { brings = Passes (rw (silent-all (coming (giver_at i s) i) cs none) refl); lone = lone-silent (giver_at i s) i cs none }
 
-row-brought : (i : StreamId) (s : Slots) (e : Effect) → Source i s → Brought i s e
+-- no message is delivered but by a call
+
+abbrev IsUndelivered : Effect → Type 0
+IsUndelivered (OnPort c (Deliver m)) = ⊥
+IsUndelivered _ = Unit {0}
+
+tee-undelivered : (t : TeeId) (source b1 b2 : StreamId) (e : Effect) → TeeCauses t source b1 b2 e → IsUndelivered e
+tee-undelivered t source b1 b2 e c = grind (arith, c)
+
+port-undelivered : (q : PortId) (stream : StreamId) (e : Effect) → PortCauses q stream e → IsUndelivered e
+port-undelivered q stream e c = grind (arith, c)
+
+transform-undelivered : (t : TransformId) (w r : StreamId) (e : Effect) → TransformCauses t w r e → IsUndelivered e
+transform-undelivered t w r e c = grind (arith, c)
+
+pipe-undelivered : (q : PipeId) (source dest : StreamId) (e : Effect) → PipeCauses q source dest e → IsUndelivered e
+pipe-undelivered q source dest e c = grind (arith, c)
+
+undelivered-causes : (e : Effect) → Causes IsUndelivered e
+undelivered-causes (OnReadable k operation) = record { pull = tt; cancel = λ r q. tt; chunk = λ request v. tt; close = λ request. tt; error = λ request r. tt }
+undelivered-causes (Byte k operation) = record { readable = record { pull = tt; cancel = λ r q. tt; chunk = λ request v. tt; close = λ request. tt; error = λ request r. tt }; close_with = λ r b. tt }
+undelivered-causes (OnWritable k operation) = record { write = tt; close = tt; abort = λ r q. tt; hand_on = λ v. tt; take = λ v t d. tt; post = λ v t d. tt }
+undelivered-causes (OnPipe q operation) = λ source dest e c. pipe-undelivered q source dest e c
+undelivered-causes (OnSignal a operation) = signal-each IsUndelivered operation (λ q r. tt)
+undelivered-causes (StartAlgorithm k step start) = (λ g u. tt, λ c u. tt)
+undelivered-causes (OnTee t operation) = λ source b1 b2 e c. tee-undelivered t source b1 b2 e c
+undelivered-causes (OnPort t operation) = λ stream e c. port-undelivered t stream e c
+undelivered-causes (OnTransform t operation) = λ w r e c. transform-undelivered t w r e c
+undelivered-causes (PullAlgorithm k) = (λ c u. tt, (λ t u. tt, (λ t. tt, (λ u. tt, λ q. tt))))
+undelivered-causes (CancelAlgorithm k r q) = (λ c u. tt, (λ t u. tt, (λ t half u. tt, λ y u. tt)))
+undelivered-causes (WriteAlgorithm k) = (tt, (λ t u. tt, λ z u. tt))
+undelivered-causes (CloseAlgorithm k) = (λ c u. tt, (λ t u. tt, λ z u. tt))
+undelivered-causes (AbortAlgorithm k r q) = (λ c u. tt, (λ t u. tt, λ z u. tt))
+undelivered-causes (ChunkSteps k (Promise q) v) = tt
+undelivered-causes (ChunkSteps k (PipeRequest q) v) = tt
+undelivered-causes (ChunkSteps k (TeeRequest b) v) = tt
+undelivered-causes (CloseSteps k (Promise q)) = tt
+undelivered-causes (CloseStepsWith k (Promise q) b) = tt
+undelivered-causes (CloseSteps k (PipeRequest q)) = tt
+undelivered-causes (CloseSteps k (TeeRequest b)) = tt
+undelivered-causes (CloseStepsWith k (PipeRequest q) b) = tt
+undelivered-causes (CloseStepsWith k (TeeRequest tee_id) b) = tt
+undelivered-causes (ErrorSteps k (Promise q) r) = tt
+undelivered-causes (ErrorSteps k (PipeRequest q) r) = tt
+undelivered-causes (ErrorSteps k (TeeRequest b) r) = tt
+undelivered-causes _ = tt
+
+row-undelivered : (e : Effect) (s : Slots) (es : List Effect) → Each IsUndelivered (e ∷ es) → Each IsUndelivered ((row e s).caused ++ es)
+row-undelivered e s es u = each-append IsUndelivered (row e s).caused es (row-causes IsUndelivered e s (undelivered-causes e)) u.1
+
+job-undelivered : (job : Job) → Each IsUndelivered (job_effects job)
+job-undelivered job = grind arith
+
+-- another operation of a port than the delivery of a message brings nothing
+
+other-operation : (c : PortId) (operation : PortOperation) → IsUndelivered (OnPort c operation) → IsDelivery operation → ⊥
+other-operation c operation u d = grind (arith, u, d)
+
+port-none : (g : Giver) (i : StreamId) (c : PortId) (operation : PortOperation) → (IsDelivery operation → ⊥) → coming g i (OnPort c operation) ≡ silence
+port-none g i c operation n = grind (arith, n)
+
+port-quiet : (g : Giver) (i : StreamId) (c : PortId) (operation : PortOperation) (s : Slots) → (IsDelivery operation → ⊥) → (o : Option cross.Slots) → Each (IsSilent (coming g i)) (on_port_at (λ clones. port_operation c clones operation) c s o).caused
+port-quiet g i c operation s n None = tt
+port-quiet g i c operation s n (Some x) = quiet-coming g i c (clones_at x s) operation (record { slots = x; out = found s }) n refl
+
+port-brought : (i : StreamId) (s : Slots) (t : PortId) (operation : PortOperation) → IsUndelivered (OnPort t operation) → Brought i s (OnPort t operation)
 unfolding row
-row-brought i s (OnTransform t operation) h = record {
+port-brought i s t operation u =
+    let g : Giver = giver_at i s in
+    let n = other-operation t operation u in
+    let cs : List Effect = (row (OnPort t operation) s).caused in
+    let none : Each (IsSilent (coming g i)) cs = port-quiet g i t operation s n (slice_get s.ports t.0) in
+    record { brings = Passes (silent-all (coming g i) cs none ∙ sym (port-none g i t operation n)); lone = lone-silent g i cs none }
+
+row-brought : (i : StreamId) (s : Slots) (e : Effect) → IsUndelivered e → Source i s → Brought i s e
+unfolding row
+row-brought i s (OnTransform t operation) u h = record {
   brings = lets-brings i s t operation (lets-at i s t operation h (slice_get s.transforms t.0) refl);
   lone = transform-lone i s t operation (slice_get s.transforms t.0);
 }
-row-brought i s (OnTee t operation) h = tee-brought i s t operation h
-row-brought i s e h = plain-brought i s e tt
+row-brought i s (OnTee t operation) u h = tee-brought i s t operation h
+row-brought i s (OnPort t operation) u h = port-brought i s t operation u
+row-brought i s e u h = plain-brought i s e tt
 
 -- all of it, or all but the end
 
@@ -223,6 +310,7 @@ dropped t h (inr e) = inr (e ∙ then_assoc h (told [] Closed) (told [] Closed))
 module _ (i : StreamId) (t : Told Value) where
   record Comes (h : Told Value) (s : Slots) (es : List Effect) : Type 0 where
     source : Source i s
+    undelivered : Each IsUndelivered es
     lone : Lone (giver_at i s) i es
     sums : Sums t (then_told h (tells (coming (giver_at i s) i) es))
 
@@ -237,9 +325,10 @@ module _ (i : StreamId) (t : Told Value) where
 
   row-comes : (h : Told Value) (s : Slots) (e : Effect) (es : List Effect) → Comes h s (e ∷ es) → Comes (then_told h (effect_lets i e s)) (row e s).slots ((row e s).caused ++ es)
   row-comes h s e es k =
-      let b = row-brought i s e k.source in
+      let b = row-brought i s e k.undelivered.0 k.source in
       record {
         source = source-row i e s k.source;
+        undelivered = row-undelivered e s es k.undelivered;
         lone = rw (row-giver i e s) (lone-next (giver_at i s) i (row e s).caused es b.lone k.lone);
         sums = rw (row-giver i e s) (summed h s e es b.brings (silent-all (coming (giver_at i s) i) es k.lone) k.sums);
       }
@@ -265,8 +354,8 @@ none-or : (t x : Told Value) → (t ≡ silence) ⊎ (t ≡ told [] Closed) → 
 none-or t x w k = grind (arith, append-nil, w, k)
 
 job-comes : (i : StreamId) (s : Slots) (job : Option Job) → Source i s → Comes i (next_enters (giver_at i s) job) silence (job_begun s job).slots (job_begun s job).caused
-job-comes i s None h = record { source = h; lone = tt; sums = inl refl }
-job-comes i s (Some job) h = record { source = source-same i s _ refl refl refl h; lone = job-lone (giver_at i s) i job; sums = inl (job-coming (giver_at i s) i job) }
+job-comes i s None h = record { source = h; undelivered = tt; lone = tt; sums = inl refl }
+job-comes i s (Some job) h = record { source = source-same i s _ refl refl refl refl h; undelivered = job-undelivered job; lone = job-lone (giver_at i s) i job; sums = inl (job-coming (giver_at i s) i job) }
 
 pub each_job_lets_in : EachJobLetsIn
 unfolding begin_job
@@ -288,18 +377,19 @@ default-chunk : (o : Owner) (v : Value) → chunk_in (giver_by false o) v ≡ to
 default-chunk Host v = refl
 default-chunk (HalfOf t) v = refl
 default-chunk (BranchOf t half) v = refl
+default-chunk (EndOf c) v = refl
 
 module _ (i : StreamId) (v : Value) (s : Slots) (there : has_source i s ≡ true) (h : Source i s) where
   abbrev c : Call
   c = EnqueueCall i v
 
-  abbrev Ended : Type 0
-  Ended = (lets_in (giver_at i s) v ≡ silence) ⊎ ((in_source (source_at i s)).mark ≢ Open)
+  abbrev Stopped : Type 0
+  Stopped = (lets_in (giver_at i s) v ≡ silence) ⊎ ((in_source (source_at i s)).mark ≢ Open)
 
   -- it asks the stream, or its transform stream, or it throws
   pub data Asks : Type 0 where
-    Does : (e : Effect) → begin c s ≡ calls.does (e ∷ []) s → coming (giver_at i s) i e ≡ told (v ∷ []) Open → Asks
-    Refuses : begin c s ≡ calls.throws_type_error s → Ended → Asks
+    Does : (e : Effect) → IsUndelivered e → begin c s ≡ calls.does (e ∷ []) s → coming (giver_at i s) i e ≡ told (v ∷ []) Open → Asks
+    Refuses : begin c s ≡ calls.throws_type_error s → Stopped → Asks
 
   module _ (none : has_byte i s ≡ false) where
     default : has_readable i s ≡ true
@@ -312,24 +402,25 @@ module _ (i : StreamId) (v : Value) (s : Slots) (there : has_source i s ≡ true
     gives : giver_at i s ≡ giver_by false (owner_at i s)
     gives = rw none refl
 
-    full : can_close_or_enqueue (readable_at i s) ≡ false → Ended
+    full : can_close_or_enqueue (readable_at i s) ≡ false → Stopped
     full e = let same : source_at i s ≡ readable_at i s = default-source (slice_get s.streams i.0) none in inr (rw same (source_shut (readable_at i s) e))
 
     asks-host : (can : Bool) → can ≡ can_close_or_enqueue (readable_at i s) → Host ≡ (readable_at i s).owner → Asks
-    asks-host true e o = let d = default-chunk (owner_at i s) v in Does (OnReadable i (EnqueueChunk v)) (begins-so ∙ rw (← o, ← e) refl) (rw (is_same-refl i, gives) d)
+    asks-host true e o = let d = default-chunk (owner_at i s) v in Does (OnReadable i (EnqueueChunk v)) tt (begins-so ∙ rw (← o, ← e) refl) (rw (is_same-refl i, gives) d)
     asks-host false e o = Refuses (begins-so ∙ rw (← o, ← e) refl) (full (sym e))
 
     asks-half : (t : TransformId) (can : Bool) → can ≡ can_close_or_enqueue (readable_at i s) → HalfOf t ≡ (readable_at i s).owner → Asks
     asks-half t true e o =
         let own : owner_at i s ≡ HalfOf t = source-owner i s default ∙ sym o in
         let self : nat_eq t.0 t.0 ≡ true = grind arith in
-        Does (OnTransform t (names.Enqueue v)) (begins-so ∙ rw (← o, ← e) refl) (rw (gives, own, self) refl)
+        Does (OnTransform t (names.Enqueue v)) tt (begins-so ∙ rw (← o, ← e) refl) (rw (gives, own, self) refl)
     asks-half t false e o = Refuses (begins-so ∙ rw (← o, ← e) refl) (full (sym e))
 
     asks-default : (o : Owner) → o ≡ (readable_at i s).owner → Asks
     asks-default Host e = asks-host (can_close_or_enqueue (readable_at i s)) refl e
     asks-default (HalfOf t) e = asks-half t (can_close_or_enqueue (readable_at i s)) refl e
     asks-default (BranchOf t half) e = absurd (subst (λ (o : Owner). IsHosts s o) (source-owner i s default ∙ sym e) h.kind)
+    asks-default (EndOf c) e = absurd (subst (λ (o : Owner). IsHosts s o) (source-owner i s default ∙ sym e) h.kind)
 
   module _ (here : has_byte i s ≡ true) where
     begins-bytes : begin c s ≡ calls.enqueue_bytes i s v
@@ -343,7 +434,7 @@ module _ (i : StreamId) (v : Value) (s : Slots) (there : has_source i s ≡ true
     bytes-full e = rw (ap as_source (byte_there (slice_get s.streams i.0) here)) (source_shut (byte.shown (byte_at i s)) e)
 
     asks-some : (n : ℕ) (ns : List ℕ) → Bytes (n ∷ ns) ≡ v → (can : Bool) → can ≡ byte.can_take (byte_at i s) → Asks
-    asks-some n ns is true e = Does (Byte i (EnqueueBytes (n ∷ ns))) (begins-bytes ∙ rw (← is, ← e) refl) (rw (is_same-refl i, bytes-give, ← is) refl)
+    asks-some n ns is true e = Does (Byte i (EnqueueBytes (n ∷ ns))) tt (begins-bytes ∙ rw (← is, ← e) refl) (rw (is_same-refl i, bytes-give, ← is) refl)
     asks-some n ns is false e = Refuses (begins-bytes ∙ rw (← is, ← e) refl) (inr (bytes-full (sym e)))
 
     asks-bytes : (w : Value) → w ≡ v → Asks
@@ -360,13 +451,13 @@ module _ (i : StreamId) (v : Value) (s : Slots) (there : has_source i s ≡ true
   lets-so b t is e k = subst (λ (x : Begun). along silence then_told (effect_lets i) (moments x.done) ≡ t) (sym is) (sums-open t (along silence then_told (effect_lets i) (moments b.done)) e (performed-sums i t b.done k))
 
   lets-by : Asks → EnqueueLetsIn i v s
-  lets-by (Does e is brings) = record {
-    done = λ r. lets-so (calls.does (e ∷ []) s) (told (v ∷ []) Open) is refl (record { source = h; lone = tt; sums = inl (then_empty (coming (giver_at i s) i e) ∙ brings) });
+  lets-by (Does e un is brings) = record {
+    done = λ r. lets-so (calls.does (e ∷ []) s) (told (v ∷ []) Open) is refl (record { source = h; undelivered = (un, tt); lone = tt; sums = inl (then_empty (coming (giver_at i s) i e) ∙ brings) });
     throws = λ n. absurd (n (ap (λ (b : Begun). b.reply) is));
   }
   lets-by (Refuses is ended) = record {
     done = λ r. let no : Throws TypeError ≡ ReplyDone = sym (ap (λ (b : Begun). b.reply) is) ∙ r in cc;
-    throws = λ n. (lets-so (calls.throws_type_error s) silence is refl (record { source = h; lone = tt; sums = inl refl }), ended);
+    throws = λ n. (lets-so (calls.throws_type_error s) silence is refl (record { source = h; undelivered = tt; lone = tt; sums = inl refl }), ended);
   }
 
 pub each_enqueue_lets_in : EachEnqueueLetsIn

@@ -8,7 +8,7 @@ use Rattle.ws_steps.specs.declared.calls.Reply.TheVariants.{Promise as ReplyProm
 use Rattle.ws_steps.specs.declared.byte.ByteOperation.{ByteOperation}
 use Rattle.ws_steps.specs.declared.byte.ByteOperation.TheVariants.{InitializeByobReader}
 use Rattle.ws_steps.specs.declared.effects.Effect.{Effect}
-use Rattle.ws_steps.specs.declared.effects.Effect.TheVariants.{Readable as OnReadable, Writable as OnWritable, Pipe as OnPipe, Signal as OnSignal, Transform as OnTransform, Tee as OnTee, StartAlgorithm, PullAlgorithm, CancelAlgorithm, WriteAlgorithm, CloseAlgorithm, AbortAlgorithm, ChunkSteps, CloseSteps, ErrorSteps}
+use Rattle.ws_steps.specs.declared.effects.Effect.TheVariants.{Readable as OnReadable, Writable as OnWritable, Pipe as OnPipe, Signal as OnSignal, Transform as OnTransform, Tee as OnTee, Port as OnPort, StartAlgorithm, PullAlgorithm, CancelAlgorithm, WriteAlgorithm, CloseAlgorithm, AbortAlgorithm, ChunkSteps, CloseSteps, ErrorSteps}
 use Rattle.ws_steps.specs.declared.locks.Lock.{Lock}
 use Rattle.ws_steps.specs.declared.pipes.PipeOperation.{PipeOperation}
 use Rattle.ws_steps.specs.declared.pipes.SignalOperation.{SignalOperation}
@@ -19,7 +19,11 @@ use Rattle.ws_steps.specs.declared.readable.ReadableOperation.{ReadableOperation
 use Rattle.ws_steps.specs.declared.readable.ReadableOperation.TheVariants as reads
 use Rattle.ws_steps.specs.declared.writable.WritableOperation.{WritableOperation}
 use Rattle.ws_steps.specs.declared.writable.WritableOperation.TheVariants as writes
-use Rattle.ws_steps.specs.Calls.{Begun, begin, add_stream}
+use Rattle.ws_steps.specs.Calls.{Begun, begin, add_stream, open_end}
+use Rattle.ws_steps.specs.declared.port.Side.{Side}
+use Rattle.ws_steps.specs.declared.port.Side.TheVariants.{Readable as ReadableSide, Writable as WritableSide}
+use Rattle.ws_laws.proofs.Ended.{port_shape, ended-stays}
+use Rattle.ws_transform_laws.proofs.Branches.{port-caused}
 use Rattle.ws_steps.specs.declared.transform.TransformId.{TransformId}
 use Rattle.ws_steps.specs.Histories.{is_same}
 use Rattle.ws_steps.specs.Jobs.{job_effects, job_begun, begin_job}
@@ -63,9 +67,12 @@ use Rattle.ws_link_laws.proofs.Hosts.{row-sources, row-sinks}
 use Rattle.ws_link_laws.specs.Sound.{IsBare}
 use Rattle.ws_steps.specs.Slots.{has_byte, byte_at, has_source, source_at, is_byte_stream, as_byte, as_source}
 use Rattle.ws_value.specs.declared.ids.TeeId.{TeeId}
+use Rattle.ws_value.specs.declared.ids.PortId.{PortId}
 use Rattle.ws_steps.specs.declared.tee.TeeOperation.{TeeOperation}
+use Rattle.ws_steps.specs.declared.port.PortOperation.{PortOperation}
 use Rattle.ws_steps.specs.Tee as tee
 use Rattle.ws_laws.proofs.TeeDoes.{TeeCauses}
+use Rattle.ws_laws.proofs.PortDoes.{PortCauses}
 use Rattle.ws_transform_laws.proofs.Branches.{tee-caused}
 use Rattle.ws_link_laws.proofs.Tees.{untied-at}
 
@@ -98,22 +105,24 @@ transform-far i j t w r e c = grind (arith, c)
 abbrev pub IsOther : Effect → Type 0
 IsOther (OnPipe q operation) = ⊥
 IsOther (OnTee t operation) = ⊥
+IsOther (OnPort t operation) = ⊥
 IsOther _ = Unit {0}
 
 far-causes : (i j : StreamId) (e : Effect) → IsOther e → Causes (IsFar i j) e
 far-causes i j (OnReadable k operation) n = record { pull = tt; cancel = λ r q. tt; chunk = λ request v. tt; close = λ request. tt; error = λ request r. tt }
 far-causes i j (Byte k operation) n = record { readable = record { pull = tt; cancel = λ r q. tt; chunk = λ request v. tt; close = λ request. tt; error = λ request r. tt }; close_with = λ r b. tt }
-far-causes i j (OnWritable k operation) n = record { write = tt; close = tt; abort = λ r q. tt; hand_on = λ v. tt; take = λ v t d. tt }
+far-causes i j (OnWritable k operation) n = record { write = tt; close = tt; abort = λ r q. tt; hand_on = λ v. tt; take = λ v t d. tt; post = λ v t d. tt }
 far-causes i j (OnPipe q operation) n = absurd n
 far-causes i j (OnSignal a operation) n = signal-far i j operation
 far-causes i j (StartAlgorithm k step start) n = (λ g u. tt, λ c u. tt)
 far-causes i j (OnTee t operation) n = absurd n
+far-causes i j (OnPort t operation) n = absurd n
 far-causes i j (OnTransform t operation) n = λ w r e c. transform-far i j t w r e c
-far-causes i j (PullAlgorithm k) n = (λ c u. tt, (λ t u. tt, (λ t. tt, λ u. tt)))
-far-causes i j (CancelAlgorithm k r q) n = (λ c u. tt, (λ t u. tt, λ t half u. tt))
-far-causes i j (WriteAlgorithm k) n = (tt, λ t u. tt)
-far-causes i j (CloseAlgorithm k) n = (λ c u. tt, λ t u. tt)
-far-causes i j (AbortAlgorithm k r q) n = (λ c u. tt, λ t u. tt)
+far-causes i j (PullAlgorithm k) n = (λ c u. tt, (λ t u. tt, (λ t. tt, (λ u. tt, λ q. tt))))
+far-causes i j (CancelAlgorithm k r q) n = (λ c u. tt, (λ t u. tt, (λ t half u. tt, λ y u. tt)))
+far-causes i j (WriteAlgorithm k) n = (tt, (λ t u. tt, λ z u. tt))
+far-causes i j (CloseAlgorithm k) n = (λ c u. tt, (λ t u. tt, λ z u. tt))
+far-causes i j (AbortAlgorithm k r q) n = (λ c u. tt, (λ t u. tt, λ z u. tt))
 far-causes i j (ChunkSteps k (Promise q) v) n = tt
 far-causes i j (ChunkSteps k (PipeRequest q) v) n = tt
 far-causes i j (ChunkSteps k (TeeRequest b) v) n = tt
@@ -203,8 +212,14 @@ tee-far i j s t x u at (Byte k operation) c = absurd c
 tee-far i j s t x u at (OnWritable k operation) c = absurd c
 tee-far i j s t x u at _ c = tt
 
+port-far : (i j : StreamId) (c : PortId) (stream : StreamId) (e : Effect) → PortCauses c stream e → IsFar i j e
+port-far i j c stream e m = grind (arith, m)
+
 pub tees-far : (i j : StreamId) (s : Slots) (t : TeeId) (operation : TeeOperation) → all_untied i s.tees ≡ true → Each (IsFar i j) (row (OnTee t operation) s).caused
 tees-far i j s t operation u = tee-caused (IsFar i j) t operation s (λ x at e c. tee-far i j s t x u at e c)
+
+pub ports-far : (i j : StreamId) (s : Slots) (c : PortId) (operation : PortOperation) → Each (IsFar i j) (row (OnPort c operation) s).caused
+ports-far i j s c operation = port-caused (IsFar i j) c operation s (λ x at e m. port-far i j c x.stream e m)
 
 pub row-far : (i j : StreamId) (e : Effect) (s : Slots) (es : List Effect) → IsOther e → Each (IsFar i j) (e ∷ es) → Each (IsFar i j) ((row e s).caused ++ es)
 row-far i j e s es n f = each-append (IsFar i j) (row e s).caused es (row-causes (IsFar i j) e s (far-causes i j e n)) f.1
@@ -344,7 +359,7 @@ pipe-unused i j locks q operation s es u = by (slice_get s.pipes q.0) refl
           sink = u.sink;
           from = u.from;
           into = u.into;
-          hosts = hosts-same i j s _ refl refl refl u.hosts;
+          hosts = hosts-same i j s _ refl refl refl refl u.hosts;
           apart = apart-set i j s.pipes q.0 x b.slots e c.0 c.1.0 u.apart;
           same = u.same;
           far = each-append (IsFar i j) b.out.effects es (each-map (PipeCauses q x.source x.dest) (IsFar i j) (λ v k. pipe-far i j q x.source x.dest v a.0 a.1 k) b.out.effects c.1.1) u.far.1;
@@ -370,6 +385,8 @@ row-unused i j locks (OnWritable k operation) s es u = writable-unused i j locks
 row-unused i j locks (OnPipe q operation) s es u = pipe-unused i j locks q operation s es u
 row-unused i j locks (OnTee t operation) s es u =
     apart-unused i j locks (OnTee t operation) s es tt tt (each-append (IsFar i j) (row (OnTee t operation) s).caused es (tees-far i j s t operation u.hosts.untied) u.far.1) u
+row-unused i j locks (OnPort t operation) s es u =
+    apart-unused i j locks (OnPort t operation) s es tt tt (each-append (IsFar i j) (row (OnPort t operation) s).caused es (ports-far i j s t operation) u.far.1) u
 row-unused i j locks e s es u = apart-unused i j locks e s es tt tt (row-far i j e s es tt u.far) u
 
 pub performed-unused : (i j : StreamId) (locks : List Lock) (d : Done) → Unused i j locks d.slots d.caused → Unused i j locks (performed d) []
@@ -390,8 +407,8 @@ free-unused i j s f = record {
   far = tt;
 }
 
-unused-free : (i j : StreamId) (locks : List Lock) (s z : Slots) → sound.IsReached z → z.streams ≡ s.streams → z.transforms ≡ s.transforms → z.tees ≡ s.tees → z.pipes ≡ s.pipes → z.locks ≡ s.locks → all_spare i j locks ≡ true → Unused i j locks s [] → IsFree i j z
-unused-free i j locks s z r e d t f g a u = let h = hosts-same i j s z (ap (map stream_shape) e) (ap (map transform_shape) d) (ap (map tee_shape) t) u.hosts in record {
+unused-free : (i j : StreamId) (locks : List Lock) (s z : Slots) → sound.IsReached z → z.streams ≡ s.streams → z.transforms ≡ s.transforms → z.tees ≡ s.tees → z.ports ≡ s.ports → z.pipes ≡ s.pipes → z.locks ≡ s.locks → all_spare i j locks ≡ true → Unused i j locks s [] → IsFree i j z
+unused-free i j locks s z r e d t y f g a u = let h = hosts-same i j s z (ap (map stream_shape) e) (ap (map transform_shape) d) (ap (map tee_shape) t) (ap (map port_shape) y) u.hosts in record {
   reached = r;
   source = rw e u.source;
   bare = rw e u.bare;
@@ -411,13 +428,13 @@ unused-free i j locks s z r e d t f g a u = let h = hosts-same i j s z (ap (map 
 
 begun-unused : (i j : StreamId) (s : Slots) (o : Option Job) → IsFree i j s → Unused i j s.locks (job_begun s o).slots (job_begun s o).caused
 begun-unused i j s None f = free-unused i j s f
-begun-unused i j s (Some job) f = let u = free-unused i j s f in record { source = u.source; bare = u.bare; sink = u.sink; from = u.from; into = u.into; hosts = hosts-same i j s _ refl refl refl u.hosts; apart = u.apart; same = refl; far = job-far i j job }
+begun-unused i j s (Some job) f = let u = free-unused i j s f in record { source = u.source; bare = u.bare; sink = u.sink; from = u.from; into = u.into; hosts = hosts-same i j s _ refl refl refl refl u.hosts; apart = u.apart; same = refl; far = job-far i j job }
 
 pub free-worked : (i j : StreamId) (s : Slots) → IsFree i j s → IsFree i j (after_job s)
 unfolding begin_job
 free-worked i j s f =
     let z : Slots = performed (job_begun s (next_job s.promises)) in
-    unused-free i j s.locks z (after_job s) (reached-step s Worked f.reached) refl refl refl refl refl f.locks (performed-unused i j s.locks (job_begun s (next_job s.promises)) (begun-unused i j s (next_job s.promises) f))
+    unused-free i j s.locks z (after_job s) (reached-step s Worked f.reached) refl refl refl refl refl refl f.locks (performed-unused i j s.locks (job_begun s (next_job s.promises)) (begun-unused i j s (next_job s.promises) f))
 
 -- calls
 
@@ -458,10 +475,18 @@ few-pipes c s =
       fail_writable = λ i reason. l;
       pipe = λ source dest prevent signal e f l m. more s.pipes (pipe.set_up source dest prevent signal _);
       make_signal = l;
+      open_end = λ side. opens side;
+      send_readable = λ i there free. more s.pipes _;
+      send_writable = λ i there free. more s.pipes _;
+      deliver = λ p m e is. l;
       trigger = λ a reason. l;
       settle = λ h answer q e. l;
     })
   where
+    opens : (side : Side) → length (open_end side (record { 0 = length s.streams }) s).done.slots.pipes ≤ suc (length s.pipes)
+    opens ReadableSide = omega arith
+    opens WritableSide = omega arith
+
     more : (xs : List pipe.Slots) (y : pipe.Slots) → length (xs ++ y ∷ []) ≤ suc (length xs)
     more [] y = omega arith
     more (x ∷ xs) y = let h = more xs y in omega (arith, h)
@@ -494,6 +519,7 @@ call-kept i j c s f = begin-makes (Kept i j s) (record {
   signal = λ z k. record { source = k.source; sink = k.sink };
   transform = λ z kind w r change k. record { source = k.source; sink = k.sink };
   tee = λ z source first second cancel k. record { source = k.source; sink = k.sink };
+  port = λ z side stream backpressure k. record { source = k.source; sink = k.sink };
   bytes = λ z mark auto k. stream-kept i j s z (ByteStream (byte.set_up mark auto)) k;
   byob_requests = λ z hs k. record { source = k.source; sink = k.sink };
   readable = λ z owner mark size k. stream-kept i j s z (ReadableStream (readable.set_up owner mark size)) k;
@@ -508,8 +534,8 @@ unused-called i j locks s c r a u = by (begin c s).reply refl
     z = performed (begin c s).done
 
     by : (reply : Reply) → reply ≡ (begin c s).reply → IsFree i j (after_call c s)
-    by (ReplyPromise q) e = unused-free i j locks z (after_call c s) (reached-step s (Called c) r) (rw (← e) refl) (rw (← e) refl) (rw (← e) refl) (rw (← e) refl) (rw (← e) refl) a (performed-unused i j locks (begin c s).done u)
-    by _ e = unused-free i j locks z (after_call c s) (reached-step s (Called c) r) (rw (← e) refl) (rw (← e) refl) (rw (← e) refl) (rw (← e) refl) (rw (← e) refl) a (performed-unused i j locks (begin c s).done u)
+    by (ReplyPromise q) e = unused-free i j locks z (after_call c s) (reached-step s (Called c) r) (rw (← e) refl) (rw (← e) refl) (rw (← e) refl) (rw (← e) refl) (rw (← e) refl) (rw (← e) refl) a (performed-unused i j locks (begin c s).done u)
+    by _ e = unused-free i j locks z (after_call c s) (reached-step s (Called c) r) (rw (← e) refl) (rw (← e) refl) (rw (← e) refl) (rw (← e) refl) (rw (← e) refl) (rw (← e) refl) a (performed-unused i j locks (begin c s).done u)
 
 module _ (i j : StreamId) (s : Slots) (c : Call) (f : IsFree i j s) (leave : leaves i j c ≡ true) where
   abbrev d : Done
@@ -523,7 +549,7 @@ module _ (i j : StreamId) (s : Slots) (c : Call) (f : IsFree i j s) (leave : lea
   hosts = reached-hosts i j s f.reached f.source f.sink f.source_owner f.sink_owner f.untied
 
   begins : Begins i j none s (enters (giver_at i s) i c) (begin c s)
-  begins = call-begins i j none s f.source hosts.halved f.locks (λ n x e m. apart_at i j s.pipes n x f.apart e) c leave
+  begins = call-begins i j none s f.source f.sink hosts.halved hosts.ended f.locks (λ n x e m. apart_at i j s.pipes n x f.apart e) c leave
 
   kept : Kept i j s d.slots
   kept = call-kept i j c s f
@@ -541,7 +567,7 @@ module _ (i j : StreamId) (s : Slots) (c : Call) (f : IsFree i j s) (leave : lea
     sink = ap is_writable_stream kept.sink;
     from = rw at (record { unread = f.unread; requests = f.requests });
     into = rw (ap as_writable kept.sink) (record { unwritten = f.unwritten; queue = f.queue; request = f.close_request; flight = f.close_in_flight });
-    hosts = hosts-grown i j s d.slots (rw at f.source) kept.sink (ap owner_of at) (ap owner_of kept.sink ∙ sym (sink-owner j s f.sink)) (call-among c s) (call-untied i j c s leave f.untied) (halved-stays.call s c hosts.halved) hosts;
+    hosts = hosts-grown i j s d.slots (rw at f.source) kept.sink (ap owner_of at) (ap owner_of kept.sink ∙ sym (sink-owner j s f.sink)) (call-among c s) (call-untied i j c s leave f.untied) (halved-stays.call s c hosts.halved) (ended-stays.call s c hosts.ended) hosts;
     apart = apart;
     same = refl;
     far = each-map (IsOuter i j) (IsFar i j) (outer-far i j) d.caused begins.outer;
@@ -554,8 +580,8 @@ module _ (i j : StreamId) (s : Slots) (c : Call) (f : IsFree i j s) (leave : lea
 pub free-called : (i j : StreamId) (s : Slots) (c : Call) → IsFree i j s → leaves i j c ≡ true → IsFree i j (after_call c s)
 free-called i j s c f leave = called i j s c f leave
 
-quiet-free : (i j : StreamId) (s z : Slots) → sound.IsReached z → z.streams ≡ s.streams → z.transforms ≡ s.transforms → z.tees ≡ s.tees → z.pipes ≡ s.pipes → z.locks ≡ s.locks → IsFree i j s → IsFree i j z
-quiet-free i j s z r e d t f g k = unused-free i j s.locks s z r e d t f g k.locks (free-unused i j s k)
+quiet-free : (i j : StreamId) (s z : Slots) → sound.IsReached z → z.streams ≡ s.streams → z.transforms ≡ s.transforms → z.tees ≡ s.tees → z.ports ≡ s.ports → z.pipes ≡ s.pipes → z.locks ≡ s.locks → IsFree i j s → IsFree i j z
+quiet-free i j s z r e d t y f g k = unused-free i j s.locks s z r e d t y f g k.locks (free-unused i j s k)
 
 -- and so does a run
 pub free-run : (i j : StreamId) (entries : List Entry) (s : Slots) → IsFree i j s → all_leave i j entries ≡ true → IsFree i j (run entries s)
@@ -565,7 +591,7 @@ free-run i j (x ∷ xs) s f e = free-run i j xs (step s x) (one x (and_left (ent
     one : (x : Entry) → entry_leaves i j x ≡ true → IsFree i j (step s x)
     one (Called c) l = free-called i j s c f l
     one Worked l = free-worked i j s f
-    one Heard l = quiet-free i j s (step s Heard) (reached-step s Heard f.reached) refl refl refl refl refl f
+    one Heard l = quiet-free i j s (step s Heard) (reached-step s Heard f.reached) refl refl refl refl refl refl f
 
 pub each_free_pair_stays : EachFreePairStays
 each_free_pair_stays i j s entries f e = free-run i j entries s f e

@@ -4,21 +4,27 @@ use Rattle.ws_value.specs.declared.ids.StreamId.{StreamId}
 use Rattle.ws_steps.specs.declared.calls.HostCall.{HostCall}
 use Rattle.ws_steps.specs.declared.effects.Effect.{Effect}
 use Rattle.ws_steps.specs.declared.effects.Owner.{Owner}
-use Rattle.ws_steps.specs.declared.effects.Owner.TheVariants.{Host, HalfOf, BranchOf}
+use Rattle.ws_steps.specs.declared.effects.Owner.TheVariants.{Host, HalfOf, BranchOf, EndOf}
 use Rattle.ws_steps.specs.declared.transform.Kind.TheVariants.{Host as HostKind}
 use Rattle.ws_steps.specs.declared.transform.TransformId.{TransformId}
 use Rattle.ws_steps.specs.Histories.{is_same}
 use Rattle.ws_steps.specs.Slots.{Slots, Stream, ReadableStream, ByteStream, WritableStream, empty, is_readable_stream, is_byte_stream, is_writable_stream, no_transform, as_transform, has_readable, has_source, has_byte, has_writable, owner_of, owner_at, readable_at, writable_at, transform_at}
 use Rattle.ws_steps.specs.Transform as transform
 use Rattle.ws_steps.specs.Turns.{row}
+use Rattle.ws_laws.proofs.Ended.{Ended, PortShape, end_shape, port_shape, port_shapes, row-port_shapes, run-ended}
 use Rattle.ws_laws.proofs.Halves.{Among, Halved, halved-empty, run-halved}
 use Rattle.ws_laws.proofs.Shapes.{StreamShape, ReadableOf, BytesOf, WritableOf, TransformShape, stream_shape, transform_shape, stream_shapes, transform_shapes, map-there, owner-told, row-owner, row-stream_shapes, row-transform_shapes, TeeShape, tee_shape, tee_shapes, row-tee_shapes}
 use Rattle.ws_laws.proofs.Tables.{eq_numbers, unequal_numbers, same_id, readable_there, writable_there}
 use Rattle.ws_laws.proofs.TransformDoes.{IsCallOf}
-use Rattle.ws_link_laws.specs.Link.{Ear, OfSink, OfTransform, Giver, OfSource, OfByteSource, OfHalf, silence, ear_by, ear_at, heard_call, giver_by, giver_at}
+use Rattle.ws_link_laws.specs.Link.{Ear, OfSink, OfTransform, OfPort, is_port, is_end, Giver, OfSource, OfByteSource, OfHalf, OfEnd, silence, ear_by, ear_at, heard_call, giver_by, giver_at}
 use Rattle.ws_link_laws.specs.Sound.{IsReached, IsHosts, all_untied}
 use Rattle.ws_link_laws.proofs.Telling.{is_of, is_in}
 use Rattle.ws_steps.specs.Tee as tee
+use Rattle.ws_steps.specs.Cross as cross
+use Rattle.ws_value.specs.declared.ids.PortId.{PortId}
+use Rattle.ws_steps.specs.declared.port.Side.TheVariants.{Readable as ReadableSide}
+use Rattle.ws_steps.specs.declared.port.Side.TheVariants.{Writable as WritableSide}
+use Rattle.ws_steps.specs.declared.port.Side.{Side}
 
 -- by their shapes
 
@@ -100,26 +106,31 @@ half-giver true o t e = cc
 half-giver false Host t e = cc
 half-giver false (HalfOf u) t e = (refl, cc)
 half-giver false (BranchOf u half) t e = cc
+half-giver false (EndOf c) t e = cc
 
 abbrev SameShape : Slots → Slots → Owner → Type 0
 SameShape s z Host = Unit {0}
 SameShape s z (HalfOf t) = transform_shape (transform_at t z) ≡ transform_shape (transform_at t s)
 SameShape s z (BranchOf t half) = Unit {0}
+SameShape s z (EndOf c) = Unit {0}
 
 same-shapes : (s z : Slots) (o : Owner) → transform_shapes z ≡ transform_shapes s → SameShape s z o
 same-shapes s z Host e = tt
 same-shapes s z (HalfOf t) e = shape-same t s z e
 same-shapes s z (BranchOf t half) e = tt
+same-shapes s z (EndOf c) e = tt
 
 ear-shaped : (j : StreamId) (s z : Slots) (o : Owner) → SameShape s z o → ear_by j z o ≡ ear_by j s o
 ear-shaped j s z Host e = refl
 ear-shaped j s z (HalfOf t) e = ap (λ (x : TransformShape). OfTransform t x.readable) e
 ear-shaped j s z (BranchOf t half) e = refl
+ear-shaped j s z (EndOf c) e = refl
 
 pub hosts-shaped : (s z : Slots) (o : Owner) → SameShape s z o → IsHosts s o → IsHosts z o
 hosts-shaped s z Host e h = tt
 hosts-shaped s z (HalfOf t) e h = ap (λ (x : TransformShape). x.kind) e ∙ h
 hosts-shaped s z (BranchOf t half) e h = absurd h
+hosts-shaped s z (EndOf c) e h = h
 
 pub ear-same : (j : StreamId) (s z : Slots) → SameShape s z (owner_at j s) → owner_at j z ≡ owner_at j s → ear_at j z ≡ ear_at j s
 ear-same j s z e f = ap (λ (o : Owner). ear_by j z o) f ∙ ear-shaped j s z (owner_at j s) e
@@ -140,6 +151,7 @@ pub grown-shape : (s z : Slots) (o : Owner) → Among (transform_shapes s) (tran
 grown-shape s z Host a h = tt
 grown-shape s z (HalfOf t) a h = there-still t s z (slice_get s.transforms t.0) refl a h
 grown-shape s z (BranchOf t half) a h = tt
+grown-shape s z (EndOf c) a h = tt
 
 abbrev map_shape : Option Stream → Option StreamShape
 map_shape None = None
@@ -149,6 +161,7 @@ abbrev pub giver_shape : Giver → StreamShape
 giver_shape OfSource = ReadableOf Host
 giver_shape OfByteSource = BytesOf
 giver_shape (OfHalf t) = ReadableOf (HalfOf t)
+giver_shape (OfEnd c) = ReadableOf (EndOf c)
 
 -- no tee has the source, which is told by the shapes of the tees
 
@@ -170,6 +183,7 @@ pub record Hosts (i j : StreamId) (s : Slots) : Type 0 where
   pub source_kind : IsHosts s (owner_at i s)
   pub sink_kind : IsHosts s (owner_at j s)
   pub halved : Halved s
+  pub ended : Ended s
   pub untied : all_untied i s.tees ≡ true
 
 -- the one of them from which chunks come
@@ -177,9 +191,10 @@ pub record Source (i : StreamId) (s : Slots) : Type 0 where
   pub shape : slice_get (stream_shapes s) i.0 ≡ Some (giver_shape (giver_at i s))
   pub kind : IsHosts s (owner_at i s)
   pub halved : Halved s
+  pub ended : Ended s
 
 pub hosts-source : (i j : StreamId) (s : Slots) → Hosts i j s → Source i s
-hosts-source i j s h = record { shape = h.source; kind = h.source_kind; halved = h.halved }
+hosts-source i j s h = record { shape = h.source; kind = h.source_kind; halved = h.halved; ended = h.ended }
 
 -- from their records, and back
 
@@ -192,6 +207,7 @@ shape-owned : (s : Slots) (o : Owner) → IsHosts s o → ReadableOf o ≡ giver
 shape-owned s Host h = refl
 shape-owned s (HalfOf t) h = refl
 shape-owned s (BranchOf t half) h = absurd h
+shape-owned s (EndOf c) h = refl
 
 source_shape : (s : Slots) (o : Option Stream) → is_readable_stream o || is_byte_stream o ≡ true → IsHosts s (owner_of o) → map_shape o ≡ Some (giver_shape (giver_by (is_byte_stream o) (owner_of o)))
 source_shape s None e h = cc
@@ -227,6 +243,9 @@ sink-owner j s there = ap owner_of (writable_there (slice_get s.streams j.0) the
 pub reached-halved : (s : Slots) → IsReached s → Halved s
 reached-halved s (xs, e) = rw e (run-halved xs empty halved-empty)
 
+pub reached-ended : (s : Slots) → IsReached s → Ended s
+reached-ended s (xs, e) = rw e (run-ended xs)
+
 pub reached-hosts : (i j : StreamId) (s : Slots) → IsReached s → has_source i s ≡ true → has_writable j s ≡ true → IsHosts s (owner_at i s) → IsHosts s (owner_at j s) → all_untied i s.tees ≡ true → Hosts i j s
 reached-hosts i j s r a b o p u = record {
   source = source-shape i s a o;
@@ -234,6 +253,7 @@ reached-hosts i j s r a b o p u = record {
   source_kind = o;
   sink_kind = p;
   halved = reached-halved s r;
+  ended = reached-ended s r;
   untied = u;
 }
 
@@ -249,21 +269,21 @@ pub sink-there : (i j : StreamId) (s : Slots) → Hosts i j s → has_writable j
 sink-there i j s h = write_by (slice_get s.streams j.0) (owner_at j s) (sym (shape-there s.streams j.0) ∙ h.sink)
 
 pub reached-source : (i : StreamId) (s : Slots) → IsReached s → has_source i s ≡ true → IsHosts s (owner_at i s) → Source i s
-reached-source i s r a o = record { shape = source-shape i s a o; kind = o; halved = reached-halved s r }
+reached-source i s r a o = record { shape = source-shape i s a o; kind = o; halved = reached-halved s r; ended = reached-ended s r }
 
 -- each effect leaves them so
 
-pub source-same : (i : StreamId) (s z : Slots) → stream_shapes z ≡ stream_shapes s → transform_shapes z ≡ transform_shapes s → tee_shapes z ≡ tee_shapes s → Source i s → Source i z
-source-same i s z e f t h =
+pub source-same : (i : StreamId) (s z : Slots) → stream_shapes z ≡ stream_shapes s → transform_shapes z ≡ transform_shapes s → tee_shapes z ≡ tee_shapes s → port_shapes z ≡ port_shapes s → Source i s → Source i z
+source-same i s z e f t p h =
     let a = owner-same i s z e in
     let g = giver-same i s z e in
-    record { shape = rw (e, g) h.shape; kind = rw a (hosts-shaped s z (owner_at i s) (same-shapes s z (owner_at i s) f) h.kind); halved = rw (e, f, t) h.halved }
+    record { shape = rw (e, g) h.shape; kind = rw a (hosts-shaped s z (owner_at i s) (same-shapes s z (owner_at i s) f) h.kind); halved = rw (e, f, t) h.halved; ended = rw (e, p) h.ended }
 
 pub source-row : (i : StreamId) (e : Effect) (s : Slots) → Source i s → Source i (row e s).slots
-source-row i e s h = source-same i s (row e s).slots (row-stream_shapes e s) (row-transform_shapes e s) (row-tee_shapes e s) h
+source-row i e s h = source-same i s (row e s).slots (row-stream_shapes e s) (row-transform_shapes e s) (row-tee_shapes e s) (row-port_shapes e s) h
 
-pub hosts-same : (i j : StreamId) (s z : Slots) → stream_shapes z ≡ stream_shapes s → transform_shapes z ≡ transform_shapes s → tee_shapes z ≡ tee_shapes s → Hosts i j s → Hosts i j z
-hosts-same i j s z e f t h =
+pub hosts-same : (i j : StreamId) (s z : Slots) → stream_shapes z ≡ stream_shapes s → transform_shapes z ≡ transform_shapes s → tee_shapes z ≡ tee_shapes s → port_shapes z ≡ port_shapes s → Hosts i j s → Hosts i j z
+hosts-same i j s z e f t p h =
     let a = owner-same i s z e in
     let b = owner-same j s z e in
     let g = giver-same i s z e in
@@ -273,22 +293,24 @@ hosts-same i j s z e f t h =
       source_kind = rw a (hosts-shaped s z (owner_at i s) (same-shapes s z (owner_at i s) f) h.source_kind);
       sink_kind = rw b (hosts-shaped s z (owner_at j s) (same-shapes s z (owner_at j s) f) h.sink_kind);
       halved = rw (e, f, t) h.halved;
+      ended = rw (e, p) h.ended;
       untied = untied-same i s z t ∙ h.untied;
     }
 
 pub hosts-row : (i j : StreamId) (e : Effect) (s : Slots) → Hosts i j s → Hosts i j (row e s).slots
-hosts-row i j e s h = hosts-same i j s (row e s).slots (row-stream_shapes e s) (row-transform_shapes e s) (row-tee_shapes e s) h
+hosts-row i j e s h = hosts-same i j s (row e s).slots (row-stream_shapes e s) (row-transform_shapes e s) (row-tee_shapes e s) (row-port_shapes e s) h
 
 -- and what is made beside them
 
 pub hosts-grown : (i j : StreamId) (s z : Slots) → has_source i z ≡ true → slice_get z.streams j.0 ≡ Some (WritableStream (writable_at j s)) → owner_at i z ≡ owner_at i s → owner_at j z ≡ owner_at j s
-    → Among (transform_shapes s) (transform_shapes z) → all_untied i z.tees ≡ true → Halved z → Hosts i j s → Hosts i j z
-hosts-grown i j s z e f a b m u halved h = record {
+    → Among (transform_shapes s) (transform_shapes z) → all_untied i z.tees ≡ true → Halved z → Ended z → Hosts i j s → Hosts i j z
+hosts-grown i j s z e f a b m u halved ended h = record {
   source = source-shape i z e (rw a (hosts-shaped s z (owner_at i s) (grown-shape s z (owner_at i s) m h.source_kind) h.source_kind));
   sink = sink-shape j s z f;
   source_kind = rw a (hosts-shaped s z (owner_at i s) (grown-shape s z (owner_at i s) m h.source_kind) h.source_kind);
   sink_kind = rw b (hosts-shaped s z (owner_at j s) (grown-shape s z (owner_at j s) m h.sink_kind) h.sink_kind);
   halved = halved;
+  ended = ended;
   untied = u;
 }
 
@@ -338,6 +360,7 @@ at-source i s k x h e = by (giver_at i s) refl h.shape
     by : (g : Giver) → g ≡ giver_at i s → slice_get (stream_shapes s) i.0 ≡ Some (giver_shape g) → AtSource i g k x
     by OfSource f shape = OtherSource refl (unlike i x.readable (ReadableOf Host) (ReadableOf (HalfOf k)) (stream_shapes s) shape half (λ f. cc))
     by OfByteSource f shape = OtherSource refl (unlike i x.readable BytesOf (ReadableOf (HalfOf k)) (stream_shapes s) shape half (λ f. cc))
+    by (OfEnd c) f shape = OtherSource refl (unlike i x.readable (ReadableOf (EndOf c)) (ReadableOf (HalfOf k)) (stream_shapes s) shape half (λ f. cc))
     by (OfHalf t) f shape =
         let own : owner_at i s ≡ HalfOf t = (half-giver (has_byte i s) (owner_at i s) t (sym f)).1 in
         by_number t shape (rw own at h.kind) (nat_eq t.0 k.0) refl
@@ -352,6 +375,9 @@ unheard-by-sink j r call c = grind (arith, c)
 
 unheard-by-other : (t : TransformId) (m r : StreamId) (call : HostCall) → is_same m r ≡ false → IsCallOf r call → heard_call (OfTransform t m) call ≡ silence
 unheard-by-other t m r call n c = grind (arith, n, c)
+
+unheard-by-port : (c : PortId) (r : StreamId) (call : HostCall) → IsCallOf r call → heard_call (OfPort c) call ≡ silence
+unheard-by-port c r call d = grind (arith, d)
 
 pub at-sink : (i j : StreamId) (s : Slots) (k : TransformId) (x : transform.Slots) → Hosts i j s → slice_get s.transforms k.0 ≡ Some x → AtSink j (ear_at j s) k x
 at-sink i j s k x h e = by (owner_at j s) refl h.sink h.sink_kind
@@ -386,6 +412,7 @@ at-sink i j s k x h e = by (owner_at j s) refl h.sink h.sink_kind
     by Host f shape kind = OtherSink refl (unlike j x.writable (WritableOf Host) (WritableOf (HalfOf k)) (stream_shapes s) shape halves.1 (λ f. cc)) (λ call c. unheard-by-sink j x.readable call c)
     by (HalfOf t) f shape kind = by_number t shape kind (nat_eq t.0 k.0) refl
     by (BranchOf t half) f shape kind = absurd kind
+    by (EndOf c) f shape kind = OtherSink refl (unlike j x.writable (WritableOf (EndOf c)) (WritableOf (HalfOf k)) (stream_shapes s) shape halves.1 (λ f. cc)) (λ call d. unheard-by-port c x.readable call d)
 
 -- a transform stream that isn't there is neither's
 
@@ -402,11 +429,13 @@ none-of s k false (HalfOf t) e h = by (nat_eq t.0 k.0) refl
         let kind : no_transform.kind ≡ HostKind = rw none at h in
         cc
 none-of s k false (BranchOf t half) e h = refl
+none-of s k false (EndOf c) e h = refl
 
 in-of : (j : StreamId) (s : Slots) (k : TransformId) (o : Owner) → is_in (ear_by j s o) k ≡ is_of (giver_by false o) k
 in-of j s k Host = refl
 in-of j s k (HalfOf t) = refl
 in-of j s k (BranchOf t half) = refl
+in-of j s k (EndOf c) = refl
 
 pub no-source : (i : StreamId) (s : Slots) (k : TransformId) → Source i s → slice_get s.transforms k.0 ≡ None → is_of (giver_at i s) k ≡ false
 no-source i s k h e = none-of s k (has_byte i s) (owner_at i s) e h.kind
@@ -423,3 +452,111 @@ one-readable i k t s halved a b o p =
     let f = y.1.0 in
     let same : x.0 ≡ y.0 = cc in
     sym x.1.1 ∙ (ap (λ (z : TransformShape). z.readable) same ∙ y.1.1)
+
+-- what port c is to a source, and to a destination: it is at its end, or not
+
+pub data AtGiver (i : StreamId) (g : Giver) (c : PortId) (x : cross.Slots) : Type 0 where
+  OwnGiver : g ≡ OfEnd c → x.stream ≡ i → x.side ≡ ReadableSide → AtGiver i g c x
+  OtherGiver : is_end g c ≡ false → is_same i x.stream ≡ false → AtGiver i g c x
+
+pub data AtPort (j : StreamId) (w : Ear) (c : PortId) (x : cross.Slots) : Type 0 where
+  OwnPort : w ≡ OfPort c → x.stream ≡ j → x.side ≡ WritableSide → AtPort j w c x
+  OtherPort : is_port w c ≡ false → is_same j x.stream ≡ false → AtPort j w c x
+
+port_number : (c d : PortId) → nat_eq c.0 d.0 ≡ true → c ≡ d
+port_number c d e = ap (λ (n : ℕ). record { 0 = n }) (eq_numbers c.0 d.0 e)
+
+unequal_ports : (c d : PortId) → nat_eq c.0 d.0 ≡ false → c ≡ d → ⊥
+unequal_ports c d e is = unequal_numbers c.0 d.0 e (ap (λ (x : PortId). x.0) is)
+
+end-at : (s : Slots) (c : PortId) (x : cross.Slots) → Ended s → slice_get s.ports c.0 ≡ Some x → slice_get (stream_shapes s) x.stream.0 ≡ Some (end_shape c x.side)
+end-at s c x ended e = ended.ends c (port_shape x) (map-there port_shape s.ports c.0 x e)
+
+-- the port of a stream at an end is this
+end-port : (s : Slots) (k : StreamId) (c : PortId) (side : Side) (x : cross.Slots) → Ended s → slice_get (stream_shapes s) k.0 ≡ Some (end_shape c side) → slice_get s.ports c.0 ≡ Some x → (x.stream ≡ k) × (x.side ≡ side)
+end-port s k c side x ended shape e =
+    let h = ended.end k c side shape in
+    let both : ◌≡◌ {A = Option PortShape} (Some (port_shape x)) (Some (record { side = side; stream = k })) = sym (map-there port_shape s.ports c.0 x e) ∙ h in
+    let same : port_shape x ≡ record { side = side; stream = k } = cc in
+    (ap (λ (y : PortShape). y.stream) same, ap (λ (y : PortShape). y.side) same)
+
+unlike-end : (c : PortId) (side : Side) (y : StreamShape) → (y ≡ ReadableOf (EndOf c) → ⊥) → (y ≡ WritableOf (EndOf c) → ⊥) → y ≡ end_shape c side → ⊥
+unlike-end c ReadableSide y n m e = n e
+unlike-end c WritableSide y n m e = m e
+
+pub at-giver : (i : StreamId) (s : Slots) (c : PortId) (x : cross.Slots) → Source i s → slice_get s.ports c.0 ≡ Some x → AtGiver i (giver_at i s) c x
+at-giver i s c x h e = by (giver_at i s) h.shape
+  where
+    at : slice_get (stream_shapes s) x.stream.0 ≡ Some (end_shape c x.side)
+    at = end-at s c x h.ended e
+
+    other : (y : StreamShape) → slice_get (stream_shapes s) i.0 ≡ Some y → (y ≡ ReadableOf (EndOf c) → ⊥) → (y ≡ WritableOf (EndOf c) → ⊥) → is_same i x.stream ≡ false
+    other y shape n m = unlike i x.stream y (end_shape c x.side) (stream_shapes s) shape at (unlike-end c x.side y n m)
+
+    by_number : (d : PortId) → slice_get (stream_shapes s) i.0 ≡ Some (ReadableOf (EndOf d)) → (b : Bool) → b ≡ nat_eq d.0 c.0 → AtGiver i (OfEnd d) c x
+    by_number d shape true n =
+        let is : d ≡ c = port_number d c (sym n) in
+        let k = end-port s i c ReadableSide x h.ended (rw is at shape) e in
+        OwnGiver (ap OfEnd is) k.0 k.1
+    by_number d shape false n = OtherGiver (sym n) (other (ReadableOf (EndOf d)) shape (λ f. let is : d ≡ c = cc in unequal_ports d c (sym n) is) (λ f. cc))
+
+    by : (g : Giver) → slice_get (stream_shapes s) i.0 ≡ Some (giver_shape g) → AtGiver i g c x
+    by OfSource shape = OtherGiver refl (other (ReadableOf Host) shape (λ f. cc) (λ f. cc))
+    by OfByteSource shape = OtherGiver refl (other BytesOf shape (λ f. cc) (λ f. cc))
+    by (OfHalf t) shape = OtherGiver refl (other (ReadableOf (HalfOf t)) shape (λ f. cc) (λ f. cc))
+    by (OfEnd d) shape = by_number d shape (nat_eq d.0 c.0) refl
+
+pub at-port : (i j : StreamId) (s : Slots) (c : PortId) (x : cross.Slots) → Hosts i j s → slice_get s.ports c.0 ≡ Some x → AtPort j (ear_at j s) c x
+at-port i j s c x h e = by (owner_at j s) h.sink
+  where
+    at : slice_get (stream_shapes s) x.stream.0 ≡ Some (end_shape c x.side)
+    at = end-at s c x h.ended e
+
+    other : (y : StreamShape) → slice_get (stream_shapes s) j.0 ≡ Some y → (y ≡ ReadableOf (EndOf c) → ⊥) → (y ≡ WritableOf (EndOf c) → ⊥) → is_same j x.stream ≡ false
+    other y shape n m = unlike j x.stream y (end_shape c x.side) (stream_shapes s) shape at (unlike-end c x.side y n m)
+
+    by_number : (d : PortId) → slice_get (stream_shapes s) j.0 ≡ Some (WritableOf (EndOf d)) → (b : Bool) → b ≡ nat_eq d.0 c.0 → AtPort j (OfPort d) c x
+    by_number d shape true n =
+        let is : d ≡ c = port_number d c (sym n) in
+        let k = end-port s j c WritableSide x h.ended (rw is at shape) e in
+        OwnPort (ap OfPort is) k.0 k.1
+    by_number d shape false n = OtherPort (sym n) (other (WritableOf (EndOf d)) shape (λ f. cc) (λ f. let is : d ≡ c = cc in unequal_ports d c (sym n) is))
+
+    by : (o : Owner) → slice_get (stream_shapes s) j.0 ≡ Some (WritableOf o) → AtPort j (ear_by j s o) c x
+    by Host shape = OtherPort refl (other (WritableOf Host) shape (λ f. cc) (λ f. cc))
+    by (HalfOf t) shape = OtherPort refl (other (WritableOf (HalfOf t)) shape (λ f. cc) (λ f. cc))
+    by (BranchOf t half) shape = OtherPort refl (other (WritableOf (BranchOf t half)) shape (λ f. cc) (λ f. cc))
+    by (EndOf d) shape = by_number d shape (nat_eq d.0 c.0) refl
+
+-- a port that isn't there is at neither
+
+none-shape : (ps : List cross.Slots) (n : ℕ) (x : PortShape) → slice_get ps n ≡ None → slice_get (map port_shape ps) n ≡ Some x → ⊥
+none-shape [] n x e h = cc
+none-shape (y ∷ ys) zero x e h = cc
+none-shape (y ∷ ys) (suc n) x e h = none-shape ys n x e h
+
+pub port-nowhere : (i j : StreamId) (s : Slots) (c : PortId) → Hosts i j s → slice_get s.ports c.0 ≡ None → is_port (ear_at j s) c ≡ false
+port-nowhere i j s c h none = by (owner_at j s) h.sink
+  where
+    by_number : (d : PortId) → slice_get (stream_shapes s) j.0 ≡ Some (WritableOf (EndOf d)) → (b : Bool) → b ≡ nat_eq d.0 c.0 → nat_eq d.0 c.0 ≡ false
+    by_number d shape false n = sym n
+    by_number d shape true n = let is : d ≡ c = port_number d c (sym n) in absurd (none-shape s.ports c.0 _ none (h.ended.end j c WritableSide (rw is at shape)))
+
+    by : (o : Owner) → slice_get (stream_shapes s) j.0 ≡ Some (WritableOf o) → is_port (ear_by j s o) c ≡ false
+    by Host shape = refl
+    by (HalfOf t) shape = refl
+    by (BranchOf t half) shape = refl
+    by (EndOf d) shape = by_number d shape (nat_eq d.0 c.0) refl
+
+pub end-nowhere : (i : StreamId) (s : Slots) (c : PortId) → Source i s → slice_get s.ports c.0 ≡ None → is_end (giver_at i s) c ≡ false
+end-nowhere i s c h none = by (giver_at i s) h.shape
+  where
+    by_number : (d : PortId) → slice_get (stream_shapes s) i.0 ≡ Some (ReadableOf (EndOf d)) → (b : Bool) → b ≡ nat_eq d.0 c.0 → nat_eq d.0 c.0 ≡ false
+    by_number d shape false n = sym n
+    by_number d shape true n = let is : d ≡ c = port_number d c (sym n) in absurd (none-shape s.ports c.0 _ none (h.ended.end i c ReadableSide (rw is at shape)))
+
+    by : (g : Giver) → slice_get (stream_shapes s) i.0 ≡ Some (giver_shape g) → is_end g c ≡ false
+    by OfSource shape = refl
+    by OfByteSource shape = refl
+    by (OfHalf t) shape = refl
+    by (OfEnd d) shape = by_number d shape (nat_eq d.0 c.0) refl

@@ -1,6 +1,8 @@
+pub mod Posts
 pub mod Telling
 pub mod Hosts
 pub mod Tees
+pub mod PortShut
 pub mod Ahead
 pub mod Sinks
 pub mod Sources
@@ -13,6 +15,7 @@ pub mod SourceTurns
 pub mod SinkTurns
 pub mod PipeTurns
 pub mod TransformTurns
+pub mod PortTurns
 pub mod Turns
 pub mod Calls
 pub mod Steps

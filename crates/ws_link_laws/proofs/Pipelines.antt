@@ -36,7 +36,8 @@ use Rattle.ws_laws.proofs.Tables.{writable_there, place_last}
 use Rattle.ws_room_laws.proofs.Turns.{performed-kept}
 use Rattle.ws_link_laws.specs.Sound.{IsReached, IsHosts, IsBare, IsFree}
 use Rattle.ws_link_laws.proofs.Free.{IsFar, FreeSink, Unused, performed-unused, unused-called}
-use Rattle.ws_link_laws.proofs.Hosts.{Hosts, source-shape, sink-shape, hosts-shaped, grown-shape, reached-halved}
+use Rattle.ws_link_laws.proofs.Hosts.{Hosts, source-shape, sink-shape, hosts-shaped, grown-shape, reached-halved, reached-ended}
+use Rattle.ws_laws.proofs.Ended.{Ended, ended-stays}
 use Rattle.ws_link_laws.proofs.Steps.{place-append, stream_at, source_there}
 use Rattle.ws_link_laws.proofs.SourceTurns.{default-bare}
 use Rattle.ws_link_laws.proofs.Worked.{s0}
@@ -126,7 +127,7 @@ length-last (x ∷ xs) y = let h = length-last xs y in omega (arith, h)
 
 -- where stream i, of which the end is as it was, and stream j, which is new, stand in z
 module _ (i j : StreamId) (s z : Slots) (o : Opened i s) (w : writable.Slots) (at : slice_get z.streams i.0 ≡ Some (stream_at i s)) (new : slice_get z.streams j.0 ≡ Some (WritableStream w))
-    (among : Among (transform_shapes s) (transform_shapes z)) (halved : Halved z) where
+    (among : Among (transform_shapes s) (transform_shapes z)) (halved : Halved z) (ended : Ended z) where
   same : slice_get z.streams i.0 ≡ slice_get s.streams i.0
   same = at ∙ sym (source_there (slice_get s.streams i.0) o.there)
 
@@ -143,6 +144,7 @@ module _ (i j : StreamId) (s z : Slots) (o : Opened i s) (w : writable.Slots) (a
     source_kind = old-kind;
     sink_kind = kind;
     halved = halved;
+    ended = ended;
     untied = rw tees refl;
   }
 
@@ -179,10 +181,11 @@ module _ (i : StreamId) (s : Slots) (o : Opened i s) (n : ℕ) (y : SizeBy) (a :
       let w : writable.Slots = writable.set_up Host n y in
       let among : Among (transform_shapes s) (transform_shapes b.done.slots) = rw is at (call-among c s) in
       let halved : Halved b.done.slots = rw is at (halved-stays.call s c (reached-halved s o.reached)) in
+      let ended : Ended b.done.slots = rw is at (ended-stays.call s c (reached-ended s o.reached)) in
       let at : slice_get b.done.slots.streams i.0 ≡ Some (stream_at i s) = place-append s.streams (WritableStream w) (stream_at i s) i.0 (source_there (slice_get s.streams i.0) o.there) in
       let new : slice_get b.done.slots.streams j.0 ≡ Some (WritableStream w) = place_last s.streams (WritableStream w) in
       made-free i j s c b is o.reached
-      (old-unused i j s b.done.slots o w at new among halved b.done.caused (rw (ap owner_of new) tt) (record { unwritten = refl; queue = refl; request = refl; flight = refl }) o.locks o.pipes o.tees (tt, tt))
+      (old-unused i j s b.done.slots o w at new among halved ended b.done.caused (rw (ap owner_of new) tt) (record { unwritten = refl; queue = refl; request = refl; flight = refl }) o.locks o.pipes o.tees (tt, tt))
 
 pub opened-sink : (i : StreamId) (s : Slots) (n : ℕ) (y : SizeBy) (a : StartBy) → Opened i s → nat_lt (length s.streams) most_streams ≡ true → IsFree i (record { 0 = length s.streams }) (after_call (MakeWritable n y a) s)
 opened-sink i s n y a o room = opened_sink i s o n y a room
@@ -234,6 +237,9 @@ module _ (i : StreamId) (s : Slots) (o : Opened i s) (m n : ℕ) (a : StartBy) (
   halved : Halved z
   halved = rw is_two at (halved-stays.call s ct (reached-halved s o.reached))
 
+  ended : Ended z
+  ended = rw is_two at (ended-stays.call s ct (reached-ended s o.reached))
+
   own-kind : IsHosts z (HalfOf me)
   own-kind = let there = get-last s.transforms [] (transform.set_up HostKind jw jr (next_id s.promises)) in rw there refl
 
@@ -245,7 +251,7 @@ module _ (i : StreamId) (s : Slots) (o : Opened i s) (m n : ℕ) (a : StartBy) (
       starts Later q = tt
 
   taking-unused : Unused i jw [] z bt.done.caused
-  taking-unused = old-unused i jw s z o wt at-old at-taking among halved bt.done.caused (rw (ap owner_of at-taking) own-kind) (record { unwritten = refl; queue = refl; request = refl; flight = refl }) o.locks o.pipes o.tees (far i)
+  taking-unused = old-unused i jw s z o wt at-old at-taking among halved ended bt.done.caused (rw (ap owner_of at-taking) own-kind) (record { unwritten = refl; queue = refl; request = refl; flight = refl }) o.locks o.pipes o.tees (far i)
 
   giving-unused : Unused jr jw [] z bt.done.caused
   giving-unused = record {
@@ -260,6 +266,7 @@ module _ (i : StreamId) (s : Slots) (o : Opened i s) (m n : ℕ) (a : StartBy) (
       source_kind = rw (ap owner_of at-giving) own-kind;
       sink_kind = rw (ap owner_of at-taking) own-kind;
       halved = halved;
+      ended = ended;
       untied = rw o.tees refl;
     };
     apart = rw o.pipes refl;

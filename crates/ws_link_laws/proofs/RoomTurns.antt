@@ -6,7 +6,7 @@ use Rattle.ws_value.specs.declared.ids.StreamId.{StreamId}
 use Rattle.ws_value.specs.declared.value.Plain.{Plain}
 use Rattle.ws_value.specs.declared.value.Value.{Value}
 use Rattle.ws_steps.specs.declared.effects.Effect.{Effect}
-use Rattle.ws_steps.specs.declared.effects.Effect.TheVariants.{Readable as OnReadable, Writable as OnWritable, Pipe as OnPipe, Signal as OnSignal, Transform as OnTransform, Tee as OnTee, StartAlgorithm, PullAlgorithm, CancelAlgorithm, WriteAlgorithm, CloseAlgorithm, AbortAlgorithm, ChunkSteps, CloseSteps, ErrorSteps}
+use Rattle.ws_steps.specs.declared.effects.Effect.TheVariants.{Readable as OnReadable, Writable as OnWritable, Pipe as OnPipe, Signal as OnSignal, Transform as OnTransform, Tee as OnTee, Port as OnPort, StartAlgorithm, PullAlgorithm, CancelAlgorithm, WriteAlgorithm, CloseAlgorithm, AbortAlgorithm, ChunkSteps, CloseSteps, ErrorSteps}
 use Rattle.ws_steps.specs.declared.pipes.Action.{Action}
 use Rattle.ws_steps.specs.declared.pipes.Action.TheVariants.{BySignal}
 use Rattle.ws_steps.specs.declared.pipes.Ends.{Ends}
@@ -54,7 +54,9 @@ use Rattle.ws_link_laws.proofs.Standing.{IsStill, Sound}
 use Rattle.ws_link_laws.proofs.Telling.{tells, writes}
 use Rattle.ws_steps.specs.declared.effects.Effect.TheVariants.{Byte, CloseStepsWith}
 use Rattle.ws_value.specs.declared.ids.TeeId.{TeeId}
+use Rattle.ws_value.specs.declared.ids.PortId.{PortId}
 use Rattle.ws_laws.proofs.TeeDoes.{TeeCauses}
+use Rattle.ws_laws.proofs.PortDoes.{PortCauses}
 
 -- the chunks that are on their way to the destination
 abbrev pub more_on : StreamId → Effect → ℕ
@@ -207,20 +209,24 @@ tee-more j t source first second (OnWritable k operation) c = absurd c
 tee-more j t source first second (OnPipe q operation) c = absurd c
 tee-more j t source first second _ c = refl
 
+port-more : (j : StreamId) (t : PortId) (stream : StreamId) (e : Effect) → PortCauses t stream e → IsNoMore j e
+port-more j t stream e c = grind (arith, c)
+
 more-causes : (j : StreamId) (e : Effect) → IsNoPipe e → Causes (IsNoMore j) e
 more-causes j (OnReadable k operation) n = record { pull = refl; cancel = λ r q. refl; chunk = λ request v. refl; close = λ request. refl; error = λ request r. refl }
 more-causes j (Byte k operation) n = record { readable = record { pull = refl; cancel = λ r q. refl; chunk = λ request v. refl; close = λ request. refl; error = λ request r. refl }; close_with = λ r b. refl }
-more-causes j (OnWritable k operation) n = record { write = refl; close = refl; abort = λ r q. refl; hand_on = λ v. refl; take = λ v t d. refl }
+more-causes j (OnWritable k operation) n = record { write = refl; close = refl; abort = λ r q. refl; hand_on = λ v. refl; take = λ v t d. refl; post = λ v t d. refl }
 more-causes j (OnPipe q operation) n = absurd n
 more-causes j (OnSignal a operation) n = signal-more j operation
 more-causes j (StartAlgorithm k step start) n = (λ g u. refl, λ c u. refl)
 more-causes j (OnTransform t operation) n = λ w r e c. transform-more j t w r e c
 more-causes j (OnTee t operation) n = λ source first second e c. tee-more j t source first second e c
-more-causes j (PullAlgorithm k) n = (λ c u. refl, (λ t u. refl, (λ t. refl, λ u. refl)))
-more-causes j (CancelAlgorithm k r q) n = (λ c u. refl, (λ t u. refl, λ t half u. refl))
-more-causes j (WriteAlgorithm k) n = (refl, λ t u. refl)
-more-causes j (CloseAlgorithm k) n = (λ c u. refl, λ t u. refl)
-more-causes j (AbortAlgorithm k r q) n = (λ c u. refl, λ t u. refl)
+more-causes j (OnPort t operation) n = λ stream e c. port-more j t stream e c
+more-causes j (PullAlgorithm k) n = (λ c u. refl, (λ t u. refl, (λ t. refl, (λ u. refl, λ q. refl))))
+more-causes j (CancelAlgorithm k r q) n = (λ c u. refl, (λ t u. refl, (λ t half u. refl, λ y u. refl)))
+more-causes j (WriteAlgorithm k) n = (refl, (λ t u. refl, λ z u. refl))
+more-causes j (CloseAlgorithm k) n = (λ c u. refl, (λ t u. refl, λ z u. refl))
+more-causes j (AbortAlgorithm k r q) n = (λ c u. refl, (λ t u. refl, λ z u. refl))
 more-causes j (ChunkSteps k (Promise q) v) n = tt
 more-causes j (ChunkSteps k (PipeRequest q) v) n = refl
 more-causes j (ChunkSteps k (TeeRequest b) v) n = refl

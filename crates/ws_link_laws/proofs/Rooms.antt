@@ -7,7 +7,7 @@ use Rattle.ws_value.specs.declared.value.Plain.{Plain}
 use Rattle.ws_value.specs.declared.value.Plain.TheVariants.{Undefined}
 use Rattle.ws_value.specs.declared.value.Value.{Value}
 use Rattle.ws_steps.specs.declared.effects.Owner.{Owner}
-use Rattle.ws_steps.specs.declared.effects.Owner.TheVariants.{Host, HalfOf, BranchOf}
+use Rattle.ws_steps.specs.declared.effects.Owner.TheVariants.{Host, HalfOf, BranchOf, EndOf}
 use Rattle.ws_steps.specs.declared.queue.Queued.{Queued}
 use Rattle.ws_steps.specs.declared.readable.SizeBy.{SizeBy}
 use Rattle.ws_steps.specs.declared.readable.SizeBy.TheVariants.{Count}
@@ -123,6 +123,7 @@ module _ (me : StreamId) (b : ℕ) (x : Slots) where
   signalled_is r t Host = (_, refl)
   signalled_is r t (HalfOf half) = (_, refl)
   signalled_is r t (BranchOf u half) = (_, refl)
+  signalled_is r t (EndOf c) = (_, refl)
 
   abort_room : (r : Plain) (p : PromiseId) (t : Table) → Sized x.queue → total_of x.queue ≤ b → Keeps (stream_abort me r p (starting x t))
   unfolding stream_abort

@@ -8,7 +8,7 @@ use Rattle.ws_value.specs.declared.value.Value.{Value}
 use Rattle.ws_steps.specs.declared.effects.Effect.{Effect}
 use Rattle.ws_steps.specs.declared.effects.Effect.TheVariants.{Writable as OnWritable}
 use Rattle.ws_steps.specs.declared.effects.Owner.{Owner}
-use Rattle.ws_steps.specs.declared.effects.Owner.TheVariants.{Host, HalfOf, BranchOf}
+use Rattle.ws_steps.specs.declared.effects.Owner.TheVariants.{Host, HalfOf, BranchOf, EndOf}
 use Rattle.ws_steps.specs.declared.transform.TransformId.{TransformId}
 use Rattle.ws_steps.specs.declared.writable.WritableOperation.{WritableOperation}
 use Rattle.ws_steps.specs.declared.writable.WritableOperation.TheVariants.{Close, HandOn, StartSettled, WriteSettled, CloseSettled, AbortSettled}
@@ -45,6 +45,10 @@ use Rattle.ws_link_laws.proofs.Moves.{line, sink-passes}
 use Rattle.ws_link_laws.proofs.SourceTurns.{Turned}
 use Rattle.ws_link_laws.proofs.Standing.{IsInner, IsNotLast, at_end-append, State, Sound, split}
 use Rattle.ws_transform_laws.proofs.Sunk.{IsNoBranch}
+use Rattle.ws_transform_laws.proofs.PortHalving.{PortGoing}
+use Rattle.ws_transform_laws.proofs.PortLawful as port
+use Rattle.ws_transform_laws.proofs.PortLawful.{known-end, end-owner}
+use Rattle.ws_value.specs.declared.ids.PortId.{PortId}
 
 -- what an operation of the destination may rely on
 
@@ -62,22 +66,24 @@ no_branch : (s : Slots) (o : Owner) → IsHosts s o → IsNoBranch o
 no_branch s Host h = tt
 no_branch s (HalfOf t) h = tt
 no_branch s (BranchOf t half) h = absurd h
+no_branch s (EndOf c) h = tt
 
 -- the chunk of a write that is fulfilled was handed on
-pub led-by : (j : StreamId) (h : Writes) (s : Slots) (es : List Effect) (v : Plain) → has_writable j s ≡ true → ((t : TransformId) → Going j t h s (OnWritable j (WriteSettled (Ok v)) ∷ es)) → (o : Owner) → IsNoBranch o → owner_at j s ≡ o
+pub led-by : (j : StreamId) (h : Writes) (s : Slots) (es : List Effect) (v : Plain) → has_writable j s ≡ true → ((t : TransformId) → Going j t h s (OnWritable j (WriteSettled (Ok v)) ∷ es)) → ((c : PortId) → PortGoing j c h s (OnWritable j (WriteSettled (Ok v)) ∷ es)) → (o : Owner) → IsNoBranch o → owner_at j s ≡ o
     → writable.has_ended (writable_at j s).state ≡ false → leads (writable_at j s).queue ≡ true
-led-by j h s es v there g Host none own e =
+led-by j h s es v there g p Host none own e =
     let f = found j (WriteSettled (Ok v)) h es s (λ u. u) (g (record { 0 = 0 })).kept in
     let one = same_once j in
     let w = f.owed.writes in
     let hosted : (writable_at j s).owner ≡ Host = sym (sink-owner j s there) ∙ own in
     let flying = f.shape.flying (rw hosted refl) in
     grind (arith, one, w, flying, e)
-led-by j h s es v there g (HalfOf t) none own e = settled-led j t h s es v own (g t) (known-half j t h s _ (half-owner j t s there own) (g t).kept) e
-led-by j h s es v there g (BranchOf t half) none own e = absurd none
+led-by j h s es v there g p (HalfOf t) none own e = settled-led j t h s es v own (g t) (known-half j t h s _ (half-owner j t s there own) (g t).kept) e
+led-by j h s es v there g p (BranchOf t half) none own e = absurd none
+led-by j h s es v there g p (EndOf c) none own e = port.settled-led j c h s es v own (p c) (known-end j c h s _ (end-owner j c s there own) (g (record { 0 = 0 })).kept) e
 
 needs : (i j : StreamId) (operation : WritableOperation) (s : Slots) (es : List Effect) (p : PipeId) (n : ℕ) → IsInner i j p n (OnWritable j operation) → Ahead i j s (OnWritable j operation ∷ es) → Needs (ear_at j s) j operation (writable_at j s)
-needs i j (WriteSettled (Ok v)) s es p n a k = flies (writable_at j s).state (writable_at j s) refl (led-by j k.history s es v (sink-there i j s k.hosts) k.going (owner_at j s) (no_branch s (owner_at j s) k.hosts.sink_kind) refl)
+needs i j (WriteSettled (Ok v)) s es p n a k = flies (writable_at j s).state (writable_at j s) refl (led-by j k.history s es v (sink-there i j s k.hosts) k.going k.porting (owner_at j s) (no_branch s (owner_at j s) k.hosts.sink_kind) refl)
 needs i j (WriteSettled (Err r)) s es p n a k = none_is (writable_at j s).close_in_flight (write_settled-expects j k.history es s (Err r) (ahead-kept i j s _ k)).1
 needs i j (CloseSettled o) s es p n a k = close_settled-expects j k.history es s o (ahead-kept i j s _ k)
 needs i j (StartSettled o) s es p n a k =
@@ -113,19 +119,19 @@ module _ (i j : StreamId) (p : PipeId) (s : Slots) (k : StreamId) (operation : W
   -- what it causes is no write, no chunk for the pipe, and nothing that comes
 
   quiet-writes : tells (writes j) cs ≡ silence
-  quiet-writes = silent-all (writes j) cs (row-causes (IsSilent (writes j)) e s (record { write = refl; close = refl; abort = λ r q. refl; hand_on = λ v. refl; take = λ v t d. refl }))
+  quiet-writes = silent-all (writes j) cs (row-causes (IsSilent (writes j)) e s (record { write = refl; close = refl; abort = λ r q. refl; hand_on = λ v. refl; take = λ v t d. refl; post = λ v t d. refl }))
 
   quiet-chunks : tells (chunks p) cs ≡ silence
-  quiet-chunks = silent-all (chunks p) cs (row-causes (IsSilent (chunks p)) e s (record { write = refl; close = refl; abort = λ r q. refl; hand_on = λ v. refl; take = λ v t d. refl }))
+  quiet-chunks = silent-all (chunks p) cs (row-causes (IsSilent (chunks p)) e s (record { write = refl; close = refl; abort = λ r q. refl; hand_on = λ v. refl; take = λ v t d. refl; post = λ v t d. refl }))
 
   quiet-coming : tells (coming (giver_at i s) i) cs ≡ silence
-  quiet-coming = silent-all (coming (giver_at i s) i) cs (row-causes (IsSilent (coming (giver_at i s) i)) e s (record { write = refl; close = refl; abort = λ r q. refl; hand_on = λ v. refl; take = λ v t d. if_same (is_of (giver_at i s) t) }))
+  quiet-coming = silent-all (coming (giver_at i s) i) cs (row-causes (IsSilent (coming (giver_at i s) i)) e s (record { write = refl; close = refl; abort = λ r q. refl; hand_on = λ v. refl; take = λ v t d. if_same (is_of (giver_at i s) t); post = λ v c d. refl }))
 
   inner-caused : (n : ℕ) → Each (IsInner i j p n) cs
-  inner-caused n = row-causes (IsInner i j p n) e s (record { write = tt; close = tt; abort = λ r q. tt; hand_on = λ v. tt; take = λ v t d. tt })
+  inner-caused n = row-causes (IsInner i j p n) e s (record { write = tt; close = tt; abort = λ r q. tt; hand_on = λ v. tt; take = λ v t d. tt; post = λ v t d. tt })
 
   last-caused : Each (IsNotLast p) cs
-  last-caused = row-causes (IsNotLast p) e s (record { write = refl; close = refl; abort = λ r q. refl; hand_on = λ v. refl; take = λ v t d. refl })
+  last-caused = row-causes (IsNotLast p) e s (record { write = refl; close = refl; abort = λ r q. refl; hand_on = λ v. refl; take = λ v t d. refl; post = λ v t d. refl })
 
   pipes : z.pipes ≡ s.pipes
   pipes = row-pipes e s tt

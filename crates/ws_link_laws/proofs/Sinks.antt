@@ -6,10 +6,10 @@ use Rattle.ws_value.specs.declared.value.Plain.{Plain}
 use Rattle.ws_value.specs.declared.value.Plain.TheVariants.{Undefined}
 use Rattle.ws_value.specs.declared.value.Value.{Value}
 use Rattle.ws_steps.specs.declared.effects.Owner.{Owner}
-use Rattle.ws_steps.specs.declared.effects.Owner.TheVariants.{Host, HalfOf, BranchOf}
+use Rattle.ws_steps.specs.declared.effects.Owner.TheVariants.{Host, HalfOf, BranchOf, EndOf}
 use Rattle.ws_steps.specs.declared.queue.Queued.{Queued}
 use Rattle.ws_steps.specs.declared.transform.Taker.{Taker}
-use Rattle.ws_steps.specs.declared.transform.Taker.TheVariants.{ToHost, ToTransform}
+use Rattle.ws_steps.specs.declared.transform.Taker.TheVariants.{ToHost, ToTransform, ToPort}
 use Rattle.ws_steps.specs.declared.writable.WritableOperation.{WritableOperation}
 use Rattle.ws_steps.specs.declared.writable.WritableOperation.TheVariants.{SetUpWriter, ReleaseWriter, Write, Close, ClosePropagating, Abort, AbortIfWritable, ErrorIfNeeded, HandOn, StartSettled, WriteSettled, CloseSettled, AbortSettled}
 use Rattle.ws_steps.specs.declared.writable.WritableState.{WritableState}
@@ -27,7 +27,7 @@ use Rattle.ws_flow.proofs.Told.{then_empty, short_refl, short_trans}
 use Rattle.ws_laws.proofs.Tables.{either}
 use Rattle.ws_laws.proofs.Truth.{and_left}
 use Rattle.ws_writable_laws.proofs.Shape.{leads, is_flying}
-use Rattle.ws_link_laws.specs.Link.{Ear, OfSink, OfTransform, silence, before_todo, todo_of, in_sink}
+use Rattle.ws_link_laws.specs.Link.{Ear, OfSink, OfTransform, OfPort, silence, before_todo, todo_of, in_sink}
 use Rattle.ws_link_laws.specs.Sound.{Plainly, Shaped, SinkAlive, FitsIn, SinkFits}
 use Rattle.ws_link_laws.specs.Sound as sound
 use Rattle.ws_link_laws.proofs.Ahead.{Fits}
@@ -80,8 +80,13 @@ shut x y z n h = grind arith
 taken_told : (ear : Ear) (me : StreamId) (taker : Taker) (v : Value) → Fits ear me taker → hands ear (taken_by me v taker) ≡ told (v ∷ []) Open
 taken_told (OfSink j) me ToHost v g = rw g refl
 taken_told (OfSink j) me (ToTransform t d) v g = absurd g
+taken_told (OfSink j) me (ToPort c d) v g = absurd g
 taken_told (OfTransform t r) me ToHost v g = absurd g
 taken_told (OfTransform t r) me (ToTransform u d) v g = rw g refl
+taken_told (OfTransform t r) me (ToPort c d) v g = absurd g
+taken_told (OfPort c) me ToHost v g = absurd g
+taken_told (OfPort c) me (ToTransform u d) v g = absurd g
+taken_told (OfPort c) me (ToPort e d) v g = rw g refl
 
 module _ (ear : Ear) where
   -- what an operation needs that settles something or hands a chunk on
@@ -337,6 +342,7 @@ module _ (ear : Ear) where
   signalled_is me r x t Host = (_, refl)
   signalled_is me r x t (HalfOf half) = (_, refl)
   signalled_is me r x t (BranchOf u half) = (_, refl)
+  signalled_is me r x t (EndOf c) = (_, refl)
 
   aborted_keeps : (me : StreamId) (r : Plain) (p : PromiseId) (op : WritableOperation) (x : Slots) (t : Table) → SinkFits x → written op ≡ silence → SinkKept op x (stream_abort me r p (starting x t))
   unfolding stream_abort

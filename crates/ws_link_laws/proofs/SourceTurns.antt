@@ -8,7 +8,7 @@ use Rattle.ws_steps.specs.declared.byte.ByteOperation.TheVariants.{InitializeByo
 use Rattle.ws_steps.specs.declared.effects.Effect.{Effect}
 use Rattle.ws_steps.specs.declared.effects.Effect.TheVariants.{Readable as OnReadable, Byte as OnByte, Pipe as OnPipe, ChunkSteps}
 use Rattle.ws_steps.specs.declared.effects.Owner.{Owner}
-use Rattle.ws_steps.specs.declared.effects.Owner.TheVariants.{Host, HalfOf, BranchOf}
+use Rattle.ws_steps.specs.declared.effects.Owner.TheVariants.{Host, HalfOf, BranchOf, EndOf}
 use Rattle.ws_steps.specs.declared.readable.ReadableOperation.{ReadableOperation}
 use Rattle.ws_steps.specs.declared.readable.ReadableOperation.TheVariants.{Read, Cancel, CancelIfReadable, Enqueue}
 use Rattle.ws_steps.specs.declared.readable.ReadableState.TheVariants.{Closed as ReadableClosed}
@@ -252,6 +252,7 @@ default-entered Host operation = refl
 default-entered (HalfOf t) (Enqueue v) = refl
 default-entered (HalfOf t) operation = grind arith
 default-entered (BranchOf t half) operation = refl
+default-entered (EndOf c) operation = refl
 
 pub is_default : (o : Option Stream) → is_readable_stream o || is_byte_stream o ≡ true → is_byte_stream o ≡ false → is_readable_stream o ≡ true
 is_default o a b = grind (arith, a, b)
@@ -314,6 +315,7 @@ own-none i j p s operation es none h =
     none-entered Host operation = grind arith
     none-entered (HalfOf t) operation = grind arith
     none-entered (BranchOf t half) operation = grind arith
+    none-entered (EndOf c) operation = grind arith
 
 own-bytes : (i j : StreamId) (p : PipeId) (s : Slots) (operation : ByteOperation) (es : List Effect) → has_byte i s ≡ true → Sound i j p s (OnByte i operation ∷ es) → Turned i j p s (OnByte i operation) es
 unfolding row

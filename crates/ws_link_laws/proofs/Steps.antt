@@ -27,6 +27,7 @@ use Rattle.ws_steps.specs.WritableHistory.{Writes, no_writes, writes_then, effec
 use Rattle.ws_flow.specs.Told.{Open, Lost, Told, told, then_told, IsShortOf}
 use Rattle.ws_flow.proofs.Told.{then_assoc, then_empty, short_refl, short_trans, short_same}
 use Rattle.ws_laws.proofs.Begin.{begin-makes}
+use Rattle.ws_laws.proofs.Ended.{ended-stays, port_shape}
 use Rattle.ws_laws.proofs.Halves.{call-among, halved-stays}
 use Rattle.ws_laws.proofs.Lists.{Each, each-map}
 use Rattle.ws_laws.proofs.Rows.{row-locks}
@@ -40,6 +41,8 @@ use Rattle.ws_pipe_laws.proofs.AtSource.{except, except-append, all_off}
 use Rattle.ws_pipe_laws.proofs.PassingRuns.{Few, Is, call-none, job-none, call-is, each_is}
 use Rattle.ws_writable_laws.proofs.Runs.{is_history}
 use Rattle.ws_transform_laws.proofs.Halving.{Going, going, going-rests, none-going}
+use Rattle.ws_transform_laws.proofs.PortHalving.{PortGoing, port-going, port-going-rests, none-port-going}
+use Rattle.ws_value.specs.declared.ids.PortId.{PortId}
 use Rattle.ws_link_laws.specs.Link.{silence, in_sink, in_source, held_items, piped_by, in_pipe, lies, Ear, ear_at, heard_of, unheard, behind, enters, job_enters, next_enters, leaves}
 use Rattle.ws_link_laws.specs.Sound.{IsReached, all_spare, elsewhere, AreApart, IsLink}
 use Rattle.ws_link_laws.proofs.Ahead.{Ahead, IsLate, Placed, flushes, late-silent, late-front, late-first}
@@ -71,12 +74,18 @@ elsewhere-is p (suc n) (x ∷ xs) = let h = elsewhere-is p n xs in omega (arith,
 
 -- between steps, a link is what holds at each moment, with nothing on the agenda
 
-pub reached-going : (s : Slots) (j : StreamId) → IsReached s → (h : Writes) × ((t : TransformId) → Going j t h s [])
-reached-going s j (xs, e) = (run_writes j xs empty, λ t. rw e (walker.run-holds no_writes writes_then is_history (effect_writes j) (Going j t) (going j t) (going-rests j t) xs empty (none-going j t)))
+pub reached-going : (s : Slots) (j : StreamId) → IsReached s → (h : Writes) × (((t : TransformId) → Going j t h s []) × ((c : PortId) → PortGoing j c h s []))
+reached-going s j (xs, e) = (
+  run_writes j xs empty,
+  (
+    λ t. rw e (walker.run-holds no_writes writes_then is_history (effect_writes j) (Going j t) (going j t) (going-rests j t) xs empty (none-going j t)),
+    λ c. rw e (walker.run-holds no_writes writes_then is_history (effect_writes j) (PortGoing j c) (port-going j c) (port-going-rests j c) xs empty (none-port-going j c)),
+  ),
+)
 
 -- no effect stands there
 pub rested : (i j : StreamId) (s : Slots) → IsReached s → Hosts i j s → Ahead i j s []
-rested i j s r h = let g = reached-going s j r in record { hosts = h; history = g.0; going = g.1; placed = tt; front = tt; first = tt }
+rested i j s r h = let g = reached-going s j r in record { hosts = h; history = g.0; going = g.1.0; porting = g.1.1; placed = tt; front = tt; first = tt }
 
 pub reached-few : (s : Slots) (p : PipeId) → IsReached s → Few p s []
 reached-few s p (xs, e) = rw e ((each_is xs p).0)
@@ -145,10 +154,10 @@ performed-from i j p t locks d h =
 -- it grows older, and a promise is watched
 
 older-ahead : (i j : StreamId) (s : Slots) → Ahead i j s [] → Ahead i j (older s) []
-older-ahead i j s a = record { hosts = hosts-same i j s (older s) refl refl refl a.hosts; history = a.history; going = λ t. (going j t).older a.history s (a.going t); placed = tt; front = tt; first = tt }
+older-ahead i j s a = record { hosts = hosts-same i j s (older s) refl refl refl refl a.hosts; history = a.history; going = λ t. (going j t).older a.history s (a.going t); porting = λ c. (port-going j c).older a.history s (a.porting c); placed = tt; front = tt; first = tt }
 
 watched-ahead : (i j : StreamId) (s : Slots) (q : PromiseId) → Ahead i j s [] → Ahead i j (with_promises (watch q s.promises) s) []
-watched-ahead i j s q a = record { hosts = hosts-same i j s (with_promises (watch q s.promises) s) refl refl refl a.hosts; history = a.history; going = λ t. (going j t).answered a.history s q (a.going t); placed = tt; front = tt; first = tt }
+watched-ahead i j s q a = record { hosts = hosts-same i j s (with_promises (watch q s.promises) s) refl refl refl refl a.hosts; history = a.history; going = λ t. (going j t).answered a.history s q (a.going t); porting = λ c. (port-going j c).answered a.history s q (a.porting c); placed = tt; front = tt; first = tt }
 
 pub older-from : (i j : StreamId) (p : PipeId) (t : Told Value) (locks : List Lock) (s : Slots) → From i j p t locks s [] → From i j p t locks (older s) []
 older-from i j p t locks s h = record {
@@ -227,9 +236,10 @@ begun-ahead i j s job e a =
     let z : Slots = with_promises (after_next_job s.promises) s in
     let late = job-late (ear_at j s) job in
     record {
-      hosts = hosts-same i j s z refl refl refl a.hosts;
+      hosts = hosts-same i j s z refl refl refl refl a.hosts;
       history = a.history;
       going = λ t. (going j t).job a.history s job e (a.going t);
+      porting = λ c. (port-going j c).job a.history s job e (a.porting c);
       placed = job-placed j (ear_at j s) z job;
       front = late-front (ear_at j s) (job_effects job) late;
       first = late-first (ear_at j s) (is_some (writable_at j z).close_in_flight) (job_effects job) (each-map (IsLate (ear_at j s)) (λ e. flushes (ear_at j s) e ≡ false) (λ e l. l.1) (job_effects job) late);
@@ -316,6 +326,7 @@ call-grown i j p c s z g = begin-makes (Grown i j p s) (record {
   signal = λ z g. record { source = g.source; sink = g.sink; there = g.there; only = g.only };
   transform = λ z kind w r change g. record { source = g.source; sink = g.sink; there = g.there; only = g.only };
   tee = λ z source first second cancel g. record { source = g.source; sink = g.sink; there = g.there; only = g.only };
+  port = λ z side stream backpressure g. record { source = g.source; sink = g.sink; there = g.there; only = g.only };
   bytes = λ z mark auto g. stream-grown i j p s z (ByteStream (byte.set_up mark auto)) refl g;
   byob_requests = λ z hs g. record { source = g.source; sink = g.sink; there = g.there; only = g.only };
   readable = λ z owner mark size g. stream-grown i j p s z (ReadableStream (readable.set_up owner mark size)) refl g;
@@ -365,7 +376,7 @@ module _ (i j : StreamId) (p : PipeId) (s : Slots) (c : Call) (l : IsLink i j p 
   before = link-sound i j p s l
 
   pub begins : Begins i j p s (enters (giver_at i s) i c) (begin c s)
-  begins = call-begins i j p s l.source before.ahead.hosts.halved l.locks l.apart c leave
+  begins = call-begins i j p s l.source l.sink before.ahead.hosts.halved before.ahead.hosts.ended l.locks l.apart c leave
 
   pub grown : Grown i j p s d.slots
   grown = call-grown i j p c s s (link-grown i j p s before)
@@ -400,9 +411,10 @@ module _ (i j : StreamId) (p : PipeId) (s : Slots) (c : Call) (l : IsLink i j p 
 
   pub begun-ahead_of : Ahead i j d.slots d.caused
   begun-ahead_of = record {
-    hosts = hosts-grown i j s d.slots (rw at-source l.source) grown.sink same-source same-sink (call-among c s) (call-untied i j c s leave l.untied) (halved-stays.call s c before.ahead.hosts.halved) before.ahead.hosts;
+    hosts = hosts-grown i j s d.slots (rw at-source l.source) grown.sink same-source same-sink (call-among c s) (call-untied i j c s leave l.untied) (halved-stays.call s c before.ahead.hosts.halved) (ended-stays.call s c before.ahead.hosts.ended) before.ahead.hosts;
     history = before.ahead.history;
     going = λ t. (going j t).call before.ahead.history s c (before.ahead.going t);
+    porting = λ q. (port-going j q).call before.ahead.history s c (before.ahead.porting q);
     placed = rw same-ear (each-map (IsOuter i j) (Placed j (ear_at j s) d.slots) (outer-placed (ear_at j s) d.slots i j) d.caused begins.outer);
     front = rw same-ear (late-front (ear_at j s) d.caused begun-late);
     first = rw same-ear (late-first (ear_at j s) (is_some (writable_at j d.slots).close_in_flight) d.caused (each-map (IsLate (ear_at j s)) (λ e. flushes (ear_at j s) e ≡ false) (λ e l. l.1) d.caused begun-late));
@@ -449,8 +461,8 @@ link-called i j p s c l leave = called i j p s c l leave
 
 -- what the host does between steps
 
-quiet-link : (i j : StreamId) (p : PipeId) (s z : Slots) → IsReached z → z.streams ≡ s.streams → z.transforms ≡ s.transforms → z.tees ≡ s.tees → z.pipes ≡ s.pipes → z.locks ≡ s.locks → IsLink i j p s → IsLink i j p z
-quiet-link i j p s z r e d t f g l = let h = hosts-same i j s z (ap (map stream_shape) e) (ap (map transform_shape) d) (ap (map tee_shape) t) (reached-hosts i j s l.reached l.source l.sink l.source_owner l.sink_owner l.untied) in record {
+quiet-link : (i j : StreamId) (p : PipeId) (s z : Slots) → IsReached z → z.streams ≡ s.streams → z.transforms ≡ s.transforms → z.tees ≡ s.tees → z.ports ≡ s.ports → z.pipes ≡ s.pipes → z.locks ≡ s.locks → IsLink i j p s → IsLink i j p z
+quiet-link i j p s z r e d t o f g l = let h = hosts-same i j s z (ap (map stream_shape) e) (ap (map transform_shape) d) (ap (map tee_shape) t) (ap (map port_shape) o) (reached-hosts i j s l.reached l.source l.sink l.source_owner l.sink_owner l.untied) in record {
   reached = r;
   source = rw e l.source;
   bare = rw e l.bare;
@@ -476,13 +488,13 @@ heard_first w (x ∷ xs) e f = let is : x ≡ e = cc in rw is refl
 -- the taking of an event keeps it, and hands on what the event says
 pub link-heard : (i j : StreamId) (p : PipeId) (s : Slots) (e : Event) → first_event s.promises.events ≡ Some e → IsLink i j p s → IsLink i j p (after_event s) × IsShortOf (then_told (heard_of (ear_at j s) e) (behind i j p (after_event s))) (behind i j p s)
 link-heard i j p s e f l = (
-  quiet-link i j p s (after_event s) (reached-step s Heard l.reached) refl refl refl refl refl l,
+  quiet-link i j p s (after_event s) (reached-step s Heard l.reached) refl refl refl refl refl refl l,
   rw (heard_first (ear_at j s) s.promises.events e f) (short_same _ _ _ (sym (then_assoc (heard_of (ear_at j s) e) (unheard (ear_at j s) (later_events s.promises.events)) (lies i j p s))) (short_refl _)),
 )
 
 -- where no event is left, the taking changes nothing
 pub link-unheard : (i j : StreamId) (p : PipeId) (s : Slots) → first_event s.promises.events ≡ None → IsLink i j p s → IsLink i j p (after_event s) × (behind i j p (after_event s) ≡ behind i j p s)
-link-unheard i j p s f l = (quiet-link i j p s (after_event s) (reached-step s Heard l.reached) refl refl refl refl refl l, by s.promises.events f)
+link-unheard i j p s f l = (quiet-link i j p s (after_event s) (reached-step s Heard l.reached) refl refl refl refl refl refl l, by s.promises.events f)
   where
     by : (events : List Event) → first_event events ≡ None → then_told (unheard (ear_at j s) (later_events events)) (lies i j p s) ≡ then_told (unheard (ear_at j s) events) (lies i j p s)
     by [] e = refl

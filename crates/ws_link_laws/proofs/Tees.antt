@@ -14,15 +14,17 @@ use Rattle.ws_laws.proofs.Shapes.{ReadableOf, stream_shapes}
 use Rattle.ws_laws.proofs.TeeDoes.{IsBranch, TeeCauses}
 use Rattle.ws_laws.proofs.Truth.{not_false, and_left, and_right}
 use Rattle.ws_transform_laws.proofs.Branches.{branch-shape}
-use Rattle.ws_link_laws.specs.Link.{Giver, OfSource, OfByteSource, OfHalf, giver_at}
+use Rattle.ws_link_laws.specs.Link.{Giver, OfSource, OfByteSource, OfHalf, OfEnd, giver_at}
 use Rattle.ws_link_laws.specs.Sound.{all_untied}
 use Rattle.ws_link_laws.proofs.Hosts.{Source, giver_shape, unlike}
 use Rattle.ws_link_laws.proofs.Telling.{if_same, IsSilent, coming}
+use Rattle.ws_steps.specs.declared.effects.Effect.TheVariants.{Port as OnPort}
 
 no_branch : (g : Giver) (u : TeeId) (half : Half) → giver_shape g ≡ ReadableOf (BranchOf u half) → ⊥
 no_branch OfSource u half e = cc
 no_branch OfByteSource u half e = cc
 no_branch (OfHalf t) u half e = cc
+no_branch (OfEnd c) u half e = cc
 
 pub at-branch : (i : StreamId) (s : Slots) (u : TeeId) (x : tee.Slots) (k : StreamId) → Source i s → slice_get s.tees u.0 ≡ Some x → IsBranch x.branch1 x.branch2 k → is_same i k ≡ false
 at-branch i s u x k h at is =
@@ -46,4 +48,5 @@ tee-coming i s u x h at (OnReadable k (Error r)) c = if_same (is_same i k)
 tee-coming i s u x h at (OnReadable k operation) c = absurd c
 tee-coming i s u x h at (OnByte k operation) c = absurd c
 tee-coming i s u x h at (OnTransform t operation) c = absurd c
+tee-coming i s u x h at (OnPort d operation) c = absurd c
 tee-coming i s u x h at _ c = refl

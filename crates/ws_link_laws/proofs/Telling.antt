@@ -1,11 +1,13 @@
 -- What effects on the agenda tell of a link, one after another.
 use Rattle.std.proofs.Common.{◌≡◌, Bool, true, false, if◌then◌else◌, nat_eq, List, [], ◌∷◌, ◌++◌, Ok, refl, sym}
 use Rattle.ws_value.specs.declared.ids.PipeId.{PipeId}
+use Rattle.ws_value.specs.declared.ids.PortId.{PortId}
 use Rattle.ws_value.specs.declared.ids.StreamId.{StreamId}
 use Rattle.ws_value.specs.declared.value.Value.{Value}
 use Rattle.ws_steps.specs.declared.effects.Effect.{Effect}
-use Rattle.ws_steps.specs.declared.effects.Effect.TheVariants.{Readable as OnReadable, Byte as OnByte, Writable as OnWritable, Pipe as OnPipe, Transform as OnTransform, ChunkSteps, CallHost}
+use Rattle.ws_steps.specs.declared.effects.Effect.TheVariants.{Readable as OnReadable, Byte as OnByte, Writable as OnWritable, Pipe as OnPipe, Transform as OnTransform, Port as OnPort, ChunkSteps, CallHost}
 use Rattle.ws_steps.specs.declared.pipes.PipeOperation.TheVariants.{KeepChunk}
+use Rattle.ws_steps.specs.declared.port.PortOperation.TheVariants.{PostChunk, Deliver as DeliverMessage}
 use Rattle.ws_steps.specs.declared.readable.ReadRequest.{ReadRequest}
 use Rattle.ws_steps.specs.declared.readable.ReadRequest.TheVariants.{Promise, Pipe as PipeRequest, Tee as TeeRequest}
 use Rattle.ws_steps.specs.declared.transform.TransformId.{TransformId}
@@ -19,7 +21,7 @@ use Rattle.ws_flow.specs.Told.{Open, Closed, Lost, Told, told, then_told, IsShor
 use Rattle.ws_flow.proofs.Told.{then_assoc, then_empty}
 use Rattle.ws_laws.proofs.Lists.{Each}
 use Rattle.ws_link_laws.specs.Entering.{entered, bytes_entered}
-use Rattle.ws_link_laws.specs.Link.{Ear, OfSink, OfTransform, Giver, OfSource, OfByteSource, OfHalf, giver_at, silence, in_sink, in_source, in_pipe, ear_at, heard_call, unheard, behind}
+use Rattle.ws_link_laws.specs.Link.{Ear, OfSink, OfTransform, OfPort, Giver, OfSource, OfByteSource, OfHalf, OfEnd, is_port, is_end, delivered, giver_at, silence, in_sink, in_source, in_pipe, ear_at, heard_call, unheard, behind}
 
 pub if_same : (b : Bool) → (if b then silence else silence) ≡ silence
 if_same true = refl
@@ -49,15 +51,21 @@ lost_short x y e f = rw (f, e) (y.items, refl)
 abbrev pub is_in : Ear → TransformId → Bool
 is_in (OfSink j) k = false
 is_in (OfTransform t r) k = nat_eq t.0 k.0
+is_in (OfPort c) k = false
 
 -- a chunk that it takes is about to be told to the host
 abbrev pub taken : Ear → TransformId → Value → Told Value
 taken w k v = if is_in w k then told (v ∷ []) Open else silence
 
+-- and one that its port posts
+abbrev pub posted : Ear → PortId → Value → Told Value
+posted w d v = if is_port w d then told (v ∷ []) Open else silence
+
 -- and what is called of the host is about to be heard
 abbrev pub hands : Ear → Effect → Told Value
 hands w (CallHost call u) = heard_call w call
 hands w (OnTransform k (TransformChunk v d)) = taken w k v
+hands w (OnPort k (PostChunk v d)) = posted w k v
 hands w _ = silence
 
 -- what an operation writes to its stream
@@ -88,6 +96,7 @@ abbrev pub is_of : Giver → TransformId → Bool
 is_of OfSource k = false
 is_of OfByteSource k = false
 is_of (OfHalf t) k = nat_eq t.0 k.0
+is_of (OfEnd c) k = false
 
 -- what an operation of a transform stream lets into its readable half
 abbrev pub entered_by : TransformOperation → Told Value
@@ -101,6 +110,7 @@ abbrev pub coming : Giver → StreamId → Effect → Told Value
 coming g i (OnReadable k operation) = if is_same i k then entered g operation else silence
 coming g i (OnByte k operation) = if is_same i k then bytes_entered g operation else silence
 coming g i (OnTransform k operation) = if is_of g k then entered_by operation else silence
+coming g i (OnPort k (DeliverMessage m)) = if is_end g k then delivered m else silence
 coming g i _ = silence
 
 -- what is behind the host, with these effects on the agenda

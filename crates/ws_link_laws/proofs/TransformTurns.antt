@@ -36,12 +36,12 @@ use Rattle.ws_laws.proofs.Lists.{Each, each-map}
 use Rattle.ws_laws.proofs.Tables.{is_same-refl}
 use Rattle.ws_laws.proofs.TransformDoes.{IsCallOf, TransformCauses, transform-causes}
 use Rattle.ws_link_laws.specs.Entering.{chunk_in}
-use Rattle.ws_link_laws.specs.Link.{Ear, OfSink, OfTransform, silence, in_source, ear_at, heard_call}
+use Rattle.ws_link_laws.specs.Link.{Ear, OfSink, OfTransform, OfPort, silence, in_source, ear_at, heard_call}
 use Rattle.ws_link_laws.proofs.Ahead.{flushes, taken-silent}
 use Rattle.ws_link_laws.proofs.Hosts.{Hosts, Source, AtSource, OwnSource, OtherSource, hosts-source, at-source, no-source, AtSink, OwnSink, OtherSink, at-sink, no-sink}
 use Rattle.ws_link_laws.proofs.Telling.{is_of, is_in, if_same, tells, IsSilent, silent-all, taken, hands, writes, chunks, coming}
 use Rattle.ws_link_laws.proofs.Standing.{IsInner, IsNotLast}
-use Rattle.ws_link_laws.specs.Link.{giver_at, Giver, OfSource, OfByteSource, OfHalf, giver_by}
+use Rattle.ws_link_laws.specs.Link.{giver_at, Giver, OfSource, OfByteSource, OfHalf, OfEnd, giver_by}
 
 -- it writes nothing, and brings no chunk to a pipe
 
@@ -77,6 +77,7 @@ lets-short o i r e cs M (IsLost lost none end) = rw lost (short_refl (told [] Lo
 cancel-unheard : (w : Ear) (i : StreamId) (r : Plain) → heard_call w (HostCancelTransform i r) ≡ silence
 cancel-unheard (OfSink j) i r = refl
 cancel-unheard (OfTransform t m) i r = refl
+cancel-unheard (OfPort c) i r = refl
 
 same_number : (t : TransformId) → nat_eq t.0 t.0 ≡ true
 same_number t = grind arith
@@ -167,6 +168,7 @@ half-chunk : (g : Giver) (t : TransformId) (v : Value) → is_of g t ≡ true �
 half-chunk OfSource t v e = cc
 half-chunk OfByteSource t v e = cc
 half-chunk (OfHalf k) t v e = refl
+half-chunk (OfEnd c) t v e = cc
 
 module _ (i : StreamId) (o : Giver) (me : TransformId) (halves : Halves) (x : transform.Slots) (t : Table) (r : readable.Slots) (n : is_of o me ≡ true) (is : x.readable ≡ i) (kind : x.kind ≡ HostKind) (state : halves.readable_state ≡ r.state) where
   abbrev b : Acts

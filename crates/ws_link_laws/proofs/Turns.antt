@@ -9,9 +9,9 @@ use Rattle.ws_value.specs.declared.value.Value.{Value}
 use Rattle.ws_steps.specs.declared.calls.HostCall.{HostCall}
 use Rattle.ws_steps.specs.declared.calls.StartBy.TheVariants.{Now, Later}
 use Rattle.ws_steps.specs.declared.effects.Effect.{Effect}
-use Rattle.ws_steps.specs.declared.effects.Effect.TheVariants.{Readable as OnReadable, Byte as OnByte, Writable as OnWritable, Pipe as OnPipe, Signal as OnSignal, Transform as OnTransform, Tee as OnTee, StartAlgorithm, PullAlgorithm, CancelAlgorithm, WriteAlgorithm, CloseAlgorithm, AbortAlgorithm, ChunkSteps, CloseSteps, ErrorSteps, Give, Settle, Queue, CallHost}
+use Rattle.ws_steps.specs.declared.effects.Effect.TheVariants.{Readable as OnReadable, Byte as OnByte, Writable as OnWritable, Pipe as OnPipe, Signal as OnSignal, Transform as OnTransform, Tee as OnTee, Port as OnPort, StartAlgorithm, PullAlgorithm, CancelAlgorithm, WriteAlgorithm, CloseAlgorithm, AbortAlgorithm, ChunkSteps, CloseSteps, ErrorSteps, Give, Settle, Queue, CallHost}
 use Rattle.ws_steps.specs.declared.effects.Owner.{Owner}
-use Rattle.ws_steps.specs.declared.effects.Owner.TheVariants.{Host, HalfOf, BranchOf}
+use Rattle.ws_steps.specs.declared.effects.Owner.TheVariants.{Host, HalfOf, BranchOf, EndOf}
 use Rattle.ws_steps.specs.declared.effects.Use.{Use}
 use Rattle.ws_steps.specs.declared.effects.Use.TheVariants.{React}
 use Rattle.ws_steps.specs.declared.pipes.PipeOperation.TheVariants.{Abort as AbortPipe}
@@ -44,16 +44,21 @@ use Rattle.ws_link_laws.proofs.Standing.{IsInner, IsNotLast, at_end-append, stat
 use Rattle.ws_link_laws.proofs.SourceTurns.{Turned, readable-turned, byte-turned}
 use Rattle.ws_link_laws.proofs.SinkTurns.{writable-turned}
 use Rattle.ws_link_laws.proofs.PipeTurns.{pipe-turned}
+use Rattle.ws_link_laws.proofs.PortTurns.{Posts, SameEvents, TheChunk, TheClose, port-outside}
 use Rattle.ws_link_laws.proofs.TransformTurns.{Says, AsBefore, Flushes, lets-short, transform-outside}
 use Rattle.ws_steps.specs.declared.effects.Effect.TheVariants.{CloseStepsWith}
 use Rattle.ws_link_laws.specs.Link.{giver_at, Giver}
 use Rattle.ws_value.specs.declared.ids.TeeId.{TeeId}
+use Rattle.ws_value.specs.declared.ids.PortId.{PortId}
 use Rattle.ws_steps.specs.declared.tee.TeeOperation.{TeeOperation}
+use Rattle.ws_steps.specs.declared.port.PortOperation.{PortOperation}
 use Rattle.ws_steps.specs.Tee as tee
 use Rattle.ws_laws.proofs.TeeDoes.{TeeCauses}
 use Rattle.ws_transform_laws.proofs.Branches.{tee-caused}
 use Rattle.ws_link_laws.proofs.Tees.{tee-coming, untied-at}
 use Rattle.ws_steps.specs.declared.readable.ReadableOperation.TheVariants.{Read, Cancel as CancelStream, CancelIfReadable}
+use Rattle.ws_flow.specs.Told.{Open}
+use Rattle.ws_link_laws.proofs.PortTurns.{entangled, port-short}
 
 -- an effect that is no operation and passes on what it brings
 record Passing (w : Ear) (o : Giver) (i j : StreamId) (p : PipeId) (n : ℕ) (e : Effect) (cs : List Effect) : Type 0 where
@@ -100,26 +105,31 @@ pull-passing : (w : Ear) (v : Giver) (i j : StreamId) (p : PipeId) (n : ℕ) (k 
 pull-passing w v i j p n k u Host = record { hands = refl; writes = refl; chunks = refl; coming = refl; inner = (tt, tt); last = (refl, tt) }
 pull-passing w v i j p n k u (HalfOf t) = record { hands = refl; writes = refl; chunks = refl; coming = quiet-if (is_of v t); inner = (tt, tt); last = (refl, tt) }
 pull-passing w v i j p n k u (BranchOf t half) = record { hands = refl; writes = refl; chunks = refl; coming = refl; inner = (tt, (tt, tt)); last = (refl, (refl, tt)) }
+pull-passing w v i j p n k u (EndOf c) = record { hands = refl; writes = refl; chunks = refl; coming = refl; inner = (tt, (tt, tt)); last = (refl, (refl, tt)) }
 
 cancel-passing : (w : Ear) (v : Giver) (i j : StreamId) (p : PipeId) (n : ℕ) (k : StreamId) (r : Plain) (q : PromiseId) (u : Use) (o : Owner) → Passing w v i j p n (CancelAlgorithm k r q) (cancel_algorithm k r u o)
 cancel-passing w v i j p n k r q u Host = record { hands = refl; writes = refl; chunks = refl; coming = refl; inner = (tt, tt); last = (refl, tt) }
 cancel-passing w v i j p n k r q u (HalfOf t) = record { hands = refl; writes = refl; chunks = refl; coming = quiet-if (is_of v t); inner = (tt, tt); last = (refl, tt) }
 cancel-passing w v i j p n k r q u (BranchOf t half) = record { hands = refl; writes = refl; chunks = refl; coming = refl; inner = (tt, tt); last = (refl, tt) }
+cancel-passing w v i j p n k r q u (EndOf c) = record { hands = refl; writes = refl; chunks = refl; coming = refl; inner = (tt, tt); last = (refl, tt) }
 
 abort-passing : (w : Ear) (v : Giver) (i j : StreamId) (p : PipeId) (n : ℕ) (k : StreamId) (r : Plain) (q : PromiseId) (u : Use) (o : Owner) → Passing w v i j p n (AbortAlgorithm k r q) (abort_algorithm k r u o)
 abort-passing w v i j p n k r q u Host = record { hands = refl; writes = refl; chunks = refl; coming = refl; inner = (tt, tt); last = (refl, tt) }
 abort-passing w v i j p n k r q u (HalfOf t) = record { hands = refl; writes = refl; chunks = refl; coming = quiet-if (is_of v t); inner = (tt, tt); last = (refl, tt) }
 abort-passing w v i j p n k r q u (BranchOf t half) = record { hands = refl; writes = refl; chunks = refl; coming = refl; inner = (tt, tt); last = (refl, tt) }
+abort-passing w v i j p n k r q u (EndOf c) = record { hands = refl; writes = refl; chunks = refl; coming = refl; inner = (tt, tt); last = (refl, tt) }
 
 write-passing : (w : Ear) (v : Giver) (i j : StreamId) (p : PipeId) (n : ℕ) (k : StreamId) (o : Owner) → Passing w v i j p n (WriteAlgorithm k) (write_algorithm k o)
 write-passing w v i j p n k Host = record { hands = refl; writes = rw (if_same (is_same j k)) refl; chunks = refl; coming = refl; inner = (tt, tt); last = (refl, tt) }
 write-passing w v i j p n k (HalfOf t) = record { hands = refl; writes = refl; chunks = refl; coming = quiet-if (is_of v t); inner = (tt, tt); last = (refl, tt) }
 write-passing w v i j p n k (BranchOf t half) = record { hands = refl; writes = rw (if_same (is_same j k)) refl; chunks = refl; coming = refl; inner = (tt, tt); last = (refl, tt) }
+write-passing w v i j p n k (EndOf c) = record { hands = refl; writes = refl; chunks = refl; coming = refl; inner = (tt, tt); last = (refl, tt) }
 
 close-elsewhere : (w : Ear) (v : Giver) (i j : StreamId) (p : PipeId) (n : ℕ) (k : StreamId) (o : Owner) → is_same j k ≡ false → is_sink w k ≡ false → Passing w v i j p n (CloseAlgorithm k) (close_algorithm k (React (WritableClose k) None) o)
 close-elsewhere w v i j p n k Host d x = record { hands = rw x refl; writes = refl; chunks = refl; coming = refl; inner = (tt, tt); last = (refl, tt) }
 close-elsewhere w v i j p n k (HalfOf t) d x = record { hands = refl; writes = refl; chunks = refl; coming = quiet-if (is_of v t); inner = (tt, tt); last = (refl, tt) }
 close-elsewhere w v i j p n k (BranchOf t half) d x = record { hands = rw x refl; writes = refl; chunks = refl; coming = refl; inner = (tt, tt); last = (refl, tt) }
+close-elsewhere w v i j p n k (EndOf c) d x = record { hands = refl; writes = refl; chunks = refl; coming = refl; inner = (tt, tt); last = (refl, tt) }
 
 pub and_false : (b : Bool) → b && false ≡ false
 and_false true = refl
@@ -205,6 +215,7 @@ tee-passing i j p s t operation h =
     no_hands : (x : tee.Slots) (e : Effect) → TeeCauses t x.source x.branch1 x.branch2 e → IsSilent (hands (ear_at j s)) e
     no_hands x (CallHost call u) c = absurd c
     no_hands x (OnTransform u operation) c = absurd c
+    no_hands x (OnPort d operation) c = absurd c
     no_hands x _ c = refl
 
     no_writes : (x : tee.Slots) (e : Effect) → TeeCauses t x.source x.branch1 x.branch2 e → IsSilent (writes j) e
@@ -219,6 +230,46 @@ tee-passing i j p s t operation h =
     not_last : (x : tee.Slots) (e : Effect) → TeeCauses t x.source x.branch1 x.branch2 e → IsNotLast p e
     not_last x (OnPipe q operation) c = absurd c
     not_last x _ c = refl
+
+-- an operation of a port
+
+posts-by : (i j : StreamId) (s z : Slots) (e : Effect) (es : List Effect) (W P : Told Value) → SinkFits (writable_at j s) → Ahead i j s (e ∷ es) → Posts (ear_at j s) e s z
+    → IsShortOf (line (unheard (ear_at j s) z.promises.events) (tells (hands (ear_at j s)) es) (in_sink (writable_at j s)) W P)
+    (line (unheard (ear_at j s) s.promises.events) (then_told (hands (ear_at j s) e) (tells (hands (ear_at j s)) es)) (in_sink (writable_at j s)) W P)
+posts-by i j s z e es W P fits a (SameEvents same none) = rw (same, none) (short_refl _)
+posts-by i j s z e es W P fits a (TheChunk v heard stood) = rw (heard, stood) (heard-passes (unheard (ear_at j s) s.promises.events) (told (v ∷ []) Open) (tells (hands (ear_at j s)) es) (then_told (in_sink (writable_at j s)) (then_told W P)))
+posts-by i j s z e es W P fits a (TheClose flush heard none) =
+    let U : Told Value = unheard (ear_at j s) s.promises.events in
+    let H : Told Value = tells (hands (ear_at j s)) es in
+    let K : Told Value = in_sink (writable_at j s) in
+    rw (heard, none)
+    (short_trans _ (line U (then_told (told [] Closed) H) K W P) (line U H K W P)
+    (heard-passes U (told [] Closed) H (then_told K (then_told W P)))
+    (close-passes U H K W P (ahead-silent i j s e es a) (ended_lies (ear_at j s) (writable_at j s) fits (a.first flush))))
+
+port-turned : (i j : StreamId) (p : PipeId) (s : Slots) (c : PortId) (operation : PortOperation) (es : List Effect) → Sound i j p s (OnPort c operation ∷ es) → Turned i j p s (OnPort c operation) es
+port-turned i j p s c operation es h =
+    let e : Effect = OnPort c operation in
+    let z : Slots = (row e s).slots in
+    let cs : List Effect = (row e s).caused in
+    let o = port-outside i j s h.ahead.hosts c operation (entangled i j s e es h.ahead) p (rank (pipe_at p s).phase) in
+    let W : Told Value = tells (writes j) es in
+    let K : Told Value = in_sink (writable_at j s) in
+    let C : Told Value = tells (chunks p) es in
+    let S : Told Value = in_source (source_at i s) in
+    let M : Told Value = tells (coming (giver_at i s) i) es in
+    let U : Told Value = unheard (ear_at j s) s.promises.events in
+    let now : Told Value = in_pipe (pipe_at p s) (then_told C (then_told S (then_told (tells (coming (giver_at i s) i) cs) M))) in
+    let before : Told Value = in_pipe (pipe_at p s) (then_told C (then_told S (then_told (coming (giver_at i s) i e) M))) in
+    let H : Told Value = then_told (hands (ear_at j s) e) (tells (hands (ear_at j s)) es) in
+    let lets = port-short (giver_at i s) i (source_at i s) e cs M o.lets in
+    record {
+      sound = sound-by i j p s e es tt tt h o.inner o.last;
+      short = rw (split i j p z cs es, row-ear j e s, row-giver i e s, o.hands, o.writes, o.chunks, streams i j p s e es tt tt h, pipes i j p s e es tt tt h)
+          (short_trans _ (line U H K W now) (line U H K W before)
+          (posts-by i j s z e es W now h.state.sink_fits h.ahead o.posts)
+          (line-short U H K W now before (in_pipe-short (pipe_at p s) _ _ (short_left C _ _ lets))));
+    }
 
 -- a call of the host is heard of
 call-turned : (i j : StreamId) (p : PipeId) (s : Slots) (call : HostCall) (u : Use) (es : List Effect) → Sound i j p s (CallHost call u ∷ es) → Turned i j p s (CallHost call u) es
@@ -239,6 +290,7 @@ close-quiet : (v : Giver) (i j : StreamId) (p : PipeId) (u : Use) (o : Owner) �
 close-quiet v i j p u Host = (refl, (refl, refl))
 close-quiet v i j p u (HalfOf t) = (refl, (refl, quiet-if (is_of v t)))
 close-quiet v i j p u (BranchOf t half) = (refl, (refl, refl))
+close-quiet v i j p u (EndOf c) = (refl, (refl, refl))
 
 close-told : (j : StreamId) (s : Slots) (u : Use) → Host ≡ owner_at j s → tells (hands (ear_at j s)) (close_algorithm j u (owner_at j s)) ≡ told [] Closed
 close-told j s u e =
@@ -264,6 +316,10 @@ close-passing : (i j : StreamId) (p : PipeId) (s : Slots) (t : TransformId) → 
 unfolding row
 close-passing i j p s t e = rw (← e) (record { hands = refl; writes = refl; chunks = refl; coming = quiet-if (is_of (giver_at i s) t); inner = (tt, tt); last = (refl, tt) })
 
+end-passing : (i j : StreamId) (p : PipeId) (s : Slots) (c : PortId) → EndOf c ≡ owner_at j s → Passing (ear_at j s) (giver_at i s) i j p (rank (pipe_at p s).phase) (CloseAlgorithm j) (row (CloseAlgorithm j) s).caused
+unfolding row
+end-passing i j p s c e = rw (← e) (record { hands = refl; writes = refl; chunks = refl; coming = refl; inner = (tt, tt); last = (refl, tt) })
+
 close-turned : (i j : StreamId) (p : PipeId) (s : Slots) (es : List Effect) (o : Owner) → o ≡ owner_at j s → Sound i j p s (CloseAlgorithm j ∷ es) → Turned i j p s (CloseAlgorithm j) es
 close-turned i j p s es Host e h =
     let c : Effect = CloseAlgorithm j in
@@ -277,12 +333,14 @@ close-turned i j p s es Host e h =
     }
 close-turned i j p s es (HalfOf t) e h = passing-turned i j p s (CloseAlgorithm j) es tt tt h tt (close-passing i j p s t e)
 close-turned i j p s es (BranchOf t half) e h = absurd (subst (λ (o : Owner). IsHosts s o) (sym e) h.ahead.hosts.sink_kind)
+close-turned i j p s es (EndOf c) e h = passing-turned i j p s (CloseAlgorithm j) es tt tt h tt (end-passing i j p s c e)
 
 -- that of another stream
 other-sink : (j k : StreamId) (s : Slots) (o : Owner) → is_same j k ≡ false → is_sink (ear_by j s o) k ≡ false
 other-sink j k s Host n = n
 other-sink j k s (HalfOf t) n = refl
 other-sink j k s (BranchOf t half) n = n
+other-sink j k s (EndOf c) n = refl
 
 closes-turned : (i j : StreamId) (p : PipeId) (s : Slots) (k : StreamId) (es : List Effect) → Sound i j p s (CloseAlgorithm k ∷ es) → Turned i j p s (CloseAlgorithm k) es
 unfolding row
@@ -302,6 +360,7 @@ row-turned i j p s (OnPipe q operation) es h = pipe-turned i j p s q operation e
 row-turned i j p s (OnSignal a operation) es h = passing-turned i j p s (OnSignal a operation) es tt tt h tt (signal-passing (ear_at j s) (giver_at i s) i j p (rank (pipe_at p s).phase) a operation s)
 row-turned i j p s (OnTransform t operation) es h = transform-turned i j p s t operation es h
 row-turned i j p s (OnTee t operation) es h = passing-turned i j p s (OnTee t operation) es tt tt h tt (tee-passing i j p s t operation h.ahead.hosts)
+row-turned i j p s (OnPort c operation) es h = port-turned i j p s c operation es h
 row-turned i j p s (StartAlgorithm k step Now) es h = passing-turned i j p s (StartAlgorithm k step Now) es tt tt h tt (record { hands = refl; writes = refl; chunks = refl; coming = refl; inner = (tt, tt); last = (refl, tt) })
 row-turned i j p s (StartAlgorithm k step Later) es h =
     passing-turned i j p s (StartAlgorithm k step Later) es tt tt h tt (record { hands = refl; writes = refl; chunks = refl; coming = refl; inner = (tt, (tt, tt)); last = (refl, (refl, tt)) })

@@ -14,7 +14,7 @@ use Rattle.ws_steps.specs.declared.calls.Event.TheVariants.{Host as HostCalled, 
 use Rattle.ws_steps.specs.declared.calls.HostCall.{HostCall}
 use Rattle.ws_steps.specs.declared.calls.StartBy.TheVariants.{Now, Later}
 use Rattle.ws_steps.specs.declared.effects.Effect.{Effect}
-use Rattle.ws_steps.specs.declared.effects.Effect.TheVariants.{Readable, Byte, Writable, Pipe, Signal, Transform, Tee, StartAlgorithm, ChunkSteps, CloseSteps, CloseStepsWith, ErrorSteps, Give, Settle, Queue, CallHost}
+use Rattle.ws_steps.specs.declared.effects.Effect.TheVariants.{Readable, Byte, Writable, Pipe, Signal, Transform, Tee, Port, StartAlgorithm, ChunkSteps, CloseSteps, CloseStepsWith, ErrorSteps, Give, Settle, Queue, CallHost}
 use Rattle.ws_steps.specs.declared.effects.Gift.{Gift}
 use Rattle.ws_steps.specs.declared.effects.Gift.TheVariants.{This, Fresh}
 use Rattle.ws_steps.specs.declared.effects.Use.{Use}
@@ -29,10 +29,10 @@ use Rattle.ws_steps.specs.declared.readable.ReadRequest.TheVariants.{Promise, Pi
 use Rattle.ws_steps.specs.declared.transform.TransformId.{TransformId}
 use Rattle.ws_steps.specs.declared.transform.TransformOperation.{TransformOperation}
 use Rattle.ws_steps.specs.Effects.{Out}
-use Rattle.ws_steps.specs.Operations.{writable_operation, pipe_operation, signal_operation, transform_operation, tee_operation}
+use Rattle.ws_steps.specs.Operations.{writable_operation, pipe_operation, signal_operation, transform_operation, tee_operation, port_operation}
 use Rattle.ws_steps.specs.Pipes as pipe
 use Rattle.ws_steps.specs.Promises.{Table, fresh, settle, answer, react, follow, unfollow, queue_micro, tell, next_id, fresh_settled, use_this, use_gift, watch, taken, after_first, after_next_job}
-use Rattle.ws_steps.specs.Slots.{Slots, Done, nothing, has_writable, found, ends_at, halves_at, put_writable, on_pipe_at, on_signal_at, on_transform_at, on_tee_at}
+use Rattle.ws_steps.specs.Slots.{Slots, Done, nothing, has_writable, found, ends_at, halves_at, put_writable, on_pipe_at, on_signal_at, on_transform_at, on_tee_at, on_port_at, clones_at}
 use Rattle.ws_steps.specs.Transform as transform
 use Rattle.ws_steps.specs.Turns.{row, call_host}
 use Rattle.ws_flow.specs.Told.{then_told}
@@ -43,11 +43,17 @@ use Rattle.ws_laws.proofs.Rows.{byte-out, source-out}
 use Rattle.ws_laws.proofs.Tables.{either, writable_acts}
 use Rattle.ws_laws.proofs.TransformDoes.{transform-does}
 use Rattle.ws_laws.proofs.WritableDoes.{writable-does}
-use Rattle.ws_link_laws.specs.Link.{Ear, silence, heard_of, heard_call, unheard}
+use Rattle.ws_link_laws.specs.Link.{Ear, is_port, silence, heard_of, heard_call, unheard}
 use Rattle.ws_value.specs.declared.ids.TeeId.{TeeId}
+use Rattle.ws_value.specs.declared.ids.PortId.{PortId}
 use Rattle.ws_steps.specs.declared.tee.TeeOperation.{TeeOperation}
+use Rattle.ws_steps.specs.declared.port.PortOperation.{PortOperation}
 use Rattle.ws_steps.specs.Tee as tee
+use Rattle.ws_steps.specs.Cross as cross
 use Rattle.ws_laws.proofs.TeeDoes.{tee-does}
+use Rattle.ws_link_laws.proofs.Posts.{Allowed, this-does}
+use Rattle.std.proofs.Common.{false}
+use Rattle.ws_steps.specs.declared.calls.Event.TheVariants.{Post}
 
 module _ (w : Ear) where
   pub unheard-append : (xs ys : List Event) → unheard w (xs ++ ys) ≡ then_told (unheard w xs) (unheard w ys)
@@ -128,6 +134,7 @@ module _ (w : Ear) where
 
   abbrev pub IsQuiet : Effect → Type 0
   IsQuiet (CallHost call u) = ⊥
+  IsQuiet (Port c operation) = is_port w c ≡ false
   IsQuiet _ = Unit {0}
 
   pipe-unheard : (p : PipeId) (operation : PipeOperation) (s : Slots) (o : Option pipe.Slots) → Alike s.promises (on_pipe_at (λ ends. pipe_operation p ends operation) p s o).slots.promises
@@ -160,6 +167,24 @@ module _ (w : Ear) where
         micro = λ u m h. micro-unheard m u ∙ h;
       }) t operation (record { slots = x; out = found s }) refl
 
+  -- posts of another port, and posts that tell nothing
+
+  every : (c : PortId) (operation : PortOperation) → is_port w c ≡ false → Allowed (λ m. heard_of w (Post c m) ≡ silence) operation
+  every c operation n = grind (arith, n)
+
+  pub posts-unheard : (c : PortId) (operation : PortOperation) (s : Slots) (o : Option cross.Slots) → Allowed (λ m. heard_of w (Post c m) ≡ silence) operation
+      → Alike s.promises (on_port_at (λ clones. port_operation c clones operation) c s o).slots.promises
+  posts-unheard c operation s None k = refl
+  posts-unheard c operation s (Some x) k =
+      this-does (λ z. Alike s.promises z) (λ m. heard_of w (Post c m) ≡ silence) c (record {
+        fresh = λ u h. fresh-unheard u ∙ h;
+        settle = λ u q o h. settle-unheard q o u ∙ h;
+        post = λ u m l h. unheard-quiet u.events (Post c m) l ∙ h;
+      }) (clones_at x s) operation (record { slots = x; out = found s }) k refl
+
+  port-unheard : (c : PortId) (operation : PortOperation) (s : Slots) (o : Option cross.Slots) → is_port w c ≡ false → Alike s.promises (on_port_at (λ clones. port_operation c clones operation) c s o).slots.promises
+  port-unheard c operation s o n = posts-unheard c operation s o (every c operation n)
+
   signalled-quiet : (xs : List Event) (i : StreamId) (r : Plain) → unheard w (xs ++ Signalled i r ∷ []) ≡ unheard w xs
   signalled-quiet xs i r = unheard-quiet xs (Signalled i r) refl
 
@@ -188,11 +213,13 @@ module _ (w : Ear) where
         abort = λ x r p h. h;
         hand_on = λ x v h. h;
         take = λ x v t d h. h;
+        post = λ x v t d h. h;
       }) operation (writable_acts i s) refl) (λ e. refl)
   row-unheard (Pipe p operation) s n = pipe-unheard p operation s (slice_get s.pipes p.0)
   row-unheard (Signal a operation) s n = signal-unheard a operation s (slice_get s.signals a.0)
   row-unheard (Transform t operation) s n = transform-unheard t operation s (slice_get s.transforms t.0)
   row-unheard (Tee t operation) s n = tee-unheard t operation s (slice_get s.tees t.0)
+  row-unheard (Port t operation) s n = port-unheard t operation s (slice_get s.ports t.0) n
   row-unheard (StartAlgorithm i step Now) s n = refl
   row-unheard (StartAlgorithm i step Later) s n = fresh-unheard s.promises
   row-unheard (ChunkSteps i (Promise p) v) s n = answer-unheard p (Given v) s.promises

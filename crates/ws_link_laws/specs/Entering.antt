@@ -16,7 +16,7 @@ use Rattle.ws_steps.specs.Promises.{next_job}
 use Rattle.ws_steps.specs.Run.{Entry, Called, Worked, reply_to, run}
 use Rattle.ws_steps.specs.Slots.{Slots, empty, owner_at, has_source, source_at}
 use Rattle.ws_flow.specs.Told.{Open, Closed, Told, told, then_told}
-use Rattle.ws_link_laws.specs.Link.{Giver, OfSource, OfByteSource, OfHalf, silence, in_source, giver_at, lets_in, next_enters}
+use Rattle.ws_link_laws.specs.Link.{Giver, OfSource, OfByteSource, OfHalf, OfEnd, silence, in_source, giver_at, lets_in, next_enters}
 use Rattle.ws_link_laws.specs.Sound.{IsHosts}
 
 -- what an operation lets into its stream; a byte controller has an operation of its own by which it enqueues
@@ -25,6 +25,7 @@ abbrev pub chunk_in : Giver → Value → Told Value
 chunk_in OfSource v = told (v ∷ []) Open
 chunk_in OfByteSource v = silence
 chunk_in (OfHalf t) v = told (v ∷ []) Open
+chunk_in (OfEnd c) v = told (v ∷ []) Open
 
 abbrev pub entered : Giver → ReadableOperation → Told Value
 entered g (Enqueue v) = chunk_in g v
@@ -35,6 +36,7 @@ abbrev pub bytes_in : Giver → List ℕ → Told Value
 bytes_in OfSource b = silence
 bytes_in OfByteSource b = lets_in OfByteSource (Bytes b)
 bytes_in (OfHalf t) b = silence
+bytes_in (OfEnd c) b = silence
 
 abbrev pub bytes_entered : Giver → ByteOperation → Told Value
 bytes_entered g (EnqueueBytes b) = bytes_in g b

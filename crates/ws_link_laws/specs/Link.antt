@@ -2,17 +2,20 @@
 -- own, or a half of a transform stream whose algorithms are the host's. The source may have a controller of either kind.
 use Rattle.std.specs.Prelude.{Bool, true, false, not, ◌&&◌, is_some, nat_eq, if◌then◌else◌, List, [], ◌∷◌, Option, Some, None, Ok}
 use Rattle.ws_value.specs.declared.ids.PipeId.{PipeId}
+use Rattle.ws_value.specs.declared.ids.PortId.{PortId}
 use Rattle.ws_value.specs.declared.ids.StreamId.{StreamId}
+use Rattle.ws_value.specs.declared.value.Message.{Message}
+use Rattle.ws_value.specs.declared.value.Message.TheVariants.{Pull, Chunk as ChunkMessage, Close as CloseMessage, Error as ErrorMessage}
 use Rattle.ws_value.specs.declared.value.Value.{Value}
 use Rattle.ws_value.specs.declared.value.Value.TheVariants.{Plain as PlainValue, Bytes}
 use Rattle.ws_steps.specs.declared.calls.Call.{Call}
-use Rattle.ws_steps.specs.declared.calls.Call.TheVariants.{GetReader, GetByob, GetWriter, Tee, Cancel, Close, Abort, Enqueue, Finish, Fail, Terminate, Pipe}
+use Rattle.ws_steps.specs.declared.calls.Call.TheVariants.{GetReader, GetByob, GetWriter, Tee, Cancel, Close, Abort, Enqueue, Finish, Fail, Terminate, Pipe, Send, Deliver}
 use Rattle.ws_steps.specs.declared.calls.Event.{Event}
-use Rattle.ws_steps.specs.declared.calls.Event.TheVariants.{Host as HostCalled}
+use Rattle.ws_steps.specs.declared.calls.Event.TheVariants.{Host as HostCalled, Post}
 use Rattle.ws_steps.specs.declared.calls.HostCall.{HostCall}
 use Rattle.ws_steps.specs.declared.calls.HostCall.TheVariants.{Write as HostWrite, Close as HostClose, Transform as HostTransform, Flush as HostFlush}
 use Rattle.ws_steps.specs.declared.effects.Owner.{Owner}
-use Rattle.ws_steps.specs.declared.effects.Owner.TheVariants.{Host, HalfOf, BranchOf}
+use Rattle.ws_steps.specs.declared.effects.Owner.TheVariants.{Host, HalfOf, BranchOf, EndOf}
 use Rattle.ws_steps.specs.declared.pipes.Phase.{Phase}
 use Rattle.ws_steps.specs.declared.pipes.Phase.TheVariants.{Flowing, Waiting, Acting, Over}
 use Rattle.ws_steps.specs.declared.promises.Job.{Job}
@@ -28,6 +31,7 @@ use Rattle.ws_steps.specs.declared.writable.WriteRecord.{WriteRecord}
 use Rattle.ws_steps.specs.declared.writable.WriteRecord.TheVariants.{Chunk, InFlight, CloseMark}
 use Rattle.ws_steps.specs.Histories.{is_same}
 use Rattle.ws_steps.specs.Pipes as pipe
+use Rattle.ws_steps.specs.PortHistory.{is_same_port}
 use Rattle.ws_steps.specs.Readable as readable
 use Rattle.ws_steps.specs.Writable as writable
 use Rattle.ws_steps.specs.Slots.{Slots, has_byte, owner_at, source_at, writable_at, transform_at, pipe_at}
@@ -103,16 +107,18 @@ lies i j p s = then_told (in_sink (writable_at j s)) (in_pipe (pipe_at p s) (in_
 
 -- what the host hears
 
--- by what the host hears of a destination: by the write and the close algorithm of this sink, or by the transform and the flush algorithm of
--- this transform stream, which name its readable half
+-- by what the host hears of a destination: by the write and the close algorithm of this sink, by the transform and the flush algorithm of this
+-- transform stream, which name its readable half, or by the chunks and the close that this port posts
 pub data Ear : Type 0 where
   OfSink : StreamId → Ear
   OfTransform : TransformId → StreamId → Ear
+  OfPort : PortId → Ear
 
 abbrev pub ear_by : StreamId → Slots → Owner → Ear
 ear_by j s Host = OfSink j
 ear_by j s (HalfOf t) = OfTransform t (transform_at t s).readable
 ear_by j s (BranchOf t half) = OfSink j
+ear_by j s (EndOf c) = OfPort c
 
 -- of stream j
 abbrev pub ear_at : StreamId → Slots → Ear
@@ -121,10 +127,17 @@ ear_at j s = ear_by j s (owner_at j s)
 abbrev pub is_sink : Ear → StreamId → Bool
 is_sink (OfSink j) k = is_same j k
 is_sink (OfTransform t r) k = false
+is_sink (OfPort c) k = false
 
 abbrev pub is_half : Ear → StreamId → Bool
 is_half (OfSink j) k = false
 is_half (OfTransform t r) k = is_same r k
+is_half (OfPort c) k = false
+
+abbrev pub is_port : Ear → PortId → Bool
+is_port (OfSink j) d = false
+is_port (OfTransform t r) d = false
+is_port (OfPort c) d = is_same_port c d
 
 abbrev pub heard_call : Ear → HostCall → Told Value
 heard_call w (HostWrite k v) = if is_sink w k then told (v ∷ []) Open else silence
@@ -133,9 +146,16 @@ heard_call w (HostTransform k v) = if is_half w k then told (v ∷ []) Open else
 heard_call w (HostFlush k) = if is_half w k then told [] Closed else silence
 heard_call w _ = silence
 
--- what an event tells of a destination: a chunk that is written or transformed, or the close or the flush
+abbrev pub heard_post : Message → Told Value
+heard_post Pull = silence
+heard_post (ChunkMessage v) = told (v ∷ []) Open
+heard_post CloseMessage = told [] Closed
+heard_post (ErrorMessage r) = silence
+
+-- what an event tells of a destination: a chunk that is written, transformed or posted, or the close or the flush
 abbrev pub heard_of : Ear → Event → Told Value
 heard_of w (HostCalled id call) = heard_call w call
+heard_of w (Post d m) = if is_port w d then heard_post m else silence
 heard_of w _ = silence
 
 -- what the events tell that the host hasn't taken
@@ -149,38 +169,55 @@ behind i j p s = then_told (unheard (ear_at j s) s.promises.events) (lies i j p 
 
 -- calls
 
--- by what chunks come to a source: by a source of the host's own, with a default controller or with a byte controller, or by this transform
--- stream
+-- by what chunks come to a source: by a source of the host's own, with a default controller or with a byte controller, by this transform
+-- stream, or by this port
 pub data Giver : Type 0 where
   OfSource : Giver
   OfByteSource : Giver
   OfHalf : TransformId → Giver
+  OfEnd : PortId → Giver
 
 abbrev pub giver_by : Bool → Owner → Giver
 giver_by true o = OfByteSource
 giver_by false Host = OfSource
 giver_by false (HalfOf t) = OfHalf t
 giver_by false (BranchOf t half) = OfSource
+giver_by false (EndOf c) = OfEnd c
 
 -- to stream i
 abbrev pub giver_at : StreamId → Slots → Giver
 giver_at i s = giver_by (has_byte i s) (owner_at i s)
 
--- a chunk that is enqueued is let in; but a byte controller lets in bytes alone, and some
+-- a chunk that is enqueued is let in; but a byte controller lets in bytes alone, and some, and no host enqueues at the end of a port
 abbrev pub lets_in : Giver → Value → Told Value
 lets_in OfSource v = told (v ∷ []) Open
 lets_in OfByteSource (PlainValue v) = silence
 lets_in OfByteSource (Bytes []) = silence
 lets_in OfByteSource (Bytes (n ∷ ns)) = told (Bytes (n ∷ ns) ∷ []) Open
 lets_in (OfHalf t) v = told (v ∷ []) Open
+lets_in (OfEnd c) v = silence
 
--- what a call brings to stream i: a chunk that is enqueued, or the end. The host finishes a stream of its own, and terminates a transform
--- stream
+abbrev pub is_end : Giver → PortId → Bool
+is_end OfSource d = false
+is_end OfByteSource d = false
+is_end (OfHalf t) d = false
+is_end (OfEnd c) d = is_same_port c d
+
+-- what a message that is delivered brings to a source: a chunk, or the end
+abbrev pub delivered : Message → Told Value
+delivered Pull = silence
+delivered (ChunkMessage v) = told (v ∷ []) Open
+delivered CloseMessage = told [] Closed
+delivered (ErrorMessage r) = silence
+
+-- what a call brings to stream i: a chunk that is enqueued or delivered, or the end. The host finishes a stream of its own, terminates a
+-- transform stream, and delivers a close. What is delivered to a port that isn't entangled comes behind the end of its stream
 abbrev pub enters : Giver → StreamId → Call → Told Value
 enters g i (Enqueue k v) = if is_same i k then lets_in g v else silence
 enters OfSource i (Finish k) = if is_same i k then told [] Closed else silence
 enters OfByteSource i (Finish k) = if is_same i k then told [] Closed else silence
 enters (OfHalf t) i (Terminate k) = if is_same i k then told [] Closed else silence
+enters (OfEnd c) i (Deliver d m) = if is_same_port c d then delivered m else silence
 enters g i _ = silence
 
 -- what a job brings to a stream: the end, where it is the reaction to the flush algorithm of its transform stream, which went well
@@ -192,14 +229,15 @@ abbrev pub job_enters : Giver → Job → Told Value
 job_enters OfSource job = silence
 job_enters OfByteSource job = silence
 job_enters (OfHalf t) job = half_enters t job
+job_enters (OfEnd c) job = silence
 
 abbrev pub next_enters : Giver → Option Job → Told Value
 next_enters g None = silence
 next_enters g (Some job) = job_enters g job
 
--- whether a call leaves the link alone: all do but those by number that lock, cancel, close, abort or fail one of its ends, or pipe from
--- or to one of them. What the host does to the source is its own: it enqueues, finishes or terminates, and fails; and so is what it does to the
--- other half where an end is a half of a transform stream
+-- whether a call leaves the link alone: all do but those by number that lock, cancel, close, abort, fail or send one of its ends, or pipe from
+-- or to one of them. What the host does to the source is its own: it enqueues, finishes or terminates, and fails; so is what it does to the
+-- other half where an end is a half of a transform stream, and so is each message that it delivers where an end is the end of a port
 abbrev pub leaves : StreamId → StreamId → Call → Bool
 leaves i j (GetReader k) = not (is_same i k)
 leaves i j (GetByob k) = not (is_same i k)
@@ -210,4 +248,5 @@ leaves i j (Close k) = not (is_same j k)
 leaves i j (Abort k reason) = not (is_same j k)
 leaves i j (Fail k reason) = not (is_same j k)
 leaves i j (Pipe source dest prevent signal) = not (is_same i source) && not (is_same j dest)
+leaves i j (Send k) = not (is_same i k) && not (is_same j k)
 leaves i j _ = true

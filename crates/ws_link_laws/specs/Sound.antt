@@ -6,7 +6,7 @@ use Rattle.ws_value.specs.declared.ids.SignalId.{SignalId}
 use Rattle.ws_value.specs.declared.ids.StreamId.{StreamId}
 use Rattle.ws_value.specs.declared.value.Value.{Value}
 use Rattle.ws_steps.specs.declared.effects.Owner.{Owner}
-use Rattle.ws_steps.specs.declared.effects.Owner.TheVariants.{Host, HalfOf, BranchOf}
+use Rattle.ws_steps.specs.declared.effects.Owner.TheVariants.{Host, HalfOf, BranchOf, EndOf}
 use Rattle.ws_steps.specs.declared.locks.Lock.{Lock}
 use Rattle.ws_steps.specs.declared.locks.Lock.TheVariants.{Reader, ByobReader, Writer, ReleasedWriter, Inner}
 use Rattle.ws_steps.specs.declared.pipes.Action.{Action}
@@ -42,6 +42,7 @@ abbrev pub IsHosts : Slots → Owner → Type 0
 IsHosts s Host = Unit {0}
 IsHosts s (HalfOf t) = (transform_at t s).kind ≡ HostKind
 IsHosts s (BranchOf t half) = ⊥
+IsHosts s (EndOf c) = ⊥
 
 -- no reader of the host has stream i, and no writer of the host stream j
 
