@@ -9,6 +9,7 @@ pub mod Begins
 pub mod Nodes
 pub mod Outcomes
 pub mod Flushed
+pub mod Portless
 pub mod Teeless
 pub mod Runs
 mod Worked

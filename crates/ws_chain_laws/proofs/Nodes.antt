@@ -3,13 +3,16 @@ use Rattle.std.proofs.Common.{◌≡◌, ℕ, zero, suc, ◌+◌, ◌*◌, ◌�
 use Rattle.ws_value.specs.declared.ids.StreamId.{StreamId}
 use Rattle.ws_value.specs.declared.value.Value.{Value}
 use Rattle.ws_steps.specs.declared.calls.Call.TheVariants.{Enqueue, Finish, Fail, Terminate, Trigger, Settle}
+use Rattle.ws_steps.specs.declared.calls.Event.TheVariants.{Post}
+use Rattle.ws_value.specs.declared.ids.PortId.{PortId}
+use Rattle.ws_value.specs.declared.value.Message.{Message}
 use Rattle.ws_steps.specs.declared.calls.HostCall.{HostCall}
 use Rattle.ws_steps.specs.declared.calls.HostCall.TheVariants.{Write, Close, Transform, Flush}
 use Rattle.ws_steps.specs.Histories.{is_same}
 use Rattle.ws_laws.proofs.Tables.{eq_numbers}
 use Rattle.ws_flow.specs.Told.{Open, Closed, Told, told}
 use Rattle.ws_link_laws.specs.Link.{OfSink, OfTransform, silence, heard_call, lets_in}
-use Rattle.ws_chain_laws.specs.Chain.{Origin, FromChunks, FromBytes, giver, source_of, dest_of, transform_of, ear_of, call_enters}
+use Rattle.ws_chain_laws.specs.Chain.{Origin, FromChunks, FromBytes, giver, source_of, dest_of, transform_of, ear_of, call_enters, heard_at}
 use Rattle.ws_chain_laws.specs.Nodes.{only_at, EachNodesCallLeaves, EachNodesCallBrings, EachEventIsHeardAtOneLink}
 use Rattle.ws_chain_laws.proofs.Numbers.{unlike, same_where}
 
@@ -99,6 +102,9 @@ module _ (n k : ℕ) (l : k ≤ n) where
   same-half : (m : ℕ) → is_same (source_of (suc k)) (source_of (suc m)) ≡ nat_eq k m
   same-half m = same_where (2 * suc k) (2 * suc m) k m (λ e. ap (λ (x : ℕ). 2 * suc x) e) (λ e. omega (arith, e))
 
+no-post : (n k : ℕ) (c : PortId) (m : Message) → heard_at n k (Post c m) ≡ silence
+no-post n k c m = grind arith
+
 pub each_event_is_heard_at_one_link : EachEventIsHeardAtOneLink
 each_event_is_heard_at_one_link n k l = record {
   write = λ id v. at-sink n k l (Write (dest_of n) v) (told (v ∷ []) Open) (choose (told (v ∷ []) Open) _ _ (same-dest n k l)) refl;
@@ -112,4 +118,5 @@ each_event_is_heard_at_one_link n k l = record {
   cancel_transform = λ id i reason. refl;
   settled = λ p. refl;
   signal = λ i reason. refl;
+  post = λ c m. no-post n k c m;
 }

@@ -18,7 +18,7 @@ use Rattle.ws_host_laws.specs.HostLaws.{MakesAPipe, next_pipe}
 use Rattle.ws_host_laws.proofs.Ended.{each_fulfilled_pipe_closed_its_destination}
 use Rattle.ws_link_laws.proofs.Owners.{sink-stays}
 use Rattle.ws_reason_laws.specs.Origins.{through, origins, AreUnlocked}
-use Rattle.ws_reason_laws.specs.Reasons.{failure_of, failures, NeedsTee}
+use Rattle.ws_reason_laws.specs.Reasons.{failure_of, failures, NeedsTee, NeedsPort}
 use Rattle.ws_reason_laws.proofs.Brought.{through-append}
 use Rattle.ws_reason_laws.proofs.Given.{reason-has-an-origin}
 use Rattle.ws_reason_laws.proofs.Quiet.{open-none, origin-failed}
@@ -133,11 +133,11 @@ module _ (origin : Origin) (n : ℕ) (signalled : Bool) (xs : List Entry) (few :
   unlocked : AreUnlocked (source_of n) (dest_of n) s
   unlocked = let f = ready.free n (omega arith) (omega arith) in record { source = f.source; dest = f.sink; source_unlocked = rw f.unread refl; dest_unlocked = rw f.unwritten refl }
 
-  when-rejected : (r : Plain) → through xs z ≡ [] → NeedsTee r entries → outcome_at (run entries empty).promises q ≡ Some (Rejected r) → Contains (failures xs) r
-  when-rejected r e t o =
+  when-rejected : (r : Plain) → through xs z ≡ [] → NeedsTee r entries → NeedsPort r entries → outcome_at (run entries empty).promises q ≡ Some (Rejected r) → Contains (failures xs) r
+  when-rejected r e t p o =
       let b = each_chain_begins origin n signalled few in
       let a : Contains (origins entries) r = reason-has-an-origin (opening origin n signalled) xs (source_of n) (dest_of n) nothing_prevented signal q r unlocked b.last (λ t. record { closing = b.not_closing; closed = rw b.writable refl }) t o in
-      subst (λ (rs : List Plain). Contains rs r) (past-fails origin n signalled xs) (origin-failed entries r (past-none e) a)
+      subst (λ (rs : List Plain). Contains rs r) (past-fails origin n signalled xs) (origin-failed entries r (past-none e) p a)
 
   same-promise : (k : ℕ) → k ≤ n → promise_of k (run entries empty) ≡ promise_of k z
   same-promise k l = ap (promise_of k) slots-are ∙ promise-stays k z xs (pipe_at (link_of k) z) ((each_chain_begins origin n signalled few).chain.links k l).there

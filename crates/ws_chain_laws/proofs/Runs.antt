@@ -24,6 +24,7 @@ use Rattle.ws_chain_laws.proofs.Keeps.{each_call_keeps_chain, each_job_keeps_cha
 use Rattle.ws_chain_laws.proofs.Nodes.{each_nodes_call_leaves}
 use Rattle.ws_chain_laws.proofs.Outcomes.{each_chain_ends}
 use Rattle.ws_chain_laws.proofs.Teeless.{past-teeless}
+use Rattle.ws_chain_laws.proofs.Portless.{past-portless}
 
 -- a node's call leaves each link alone, and brings nothing through a transform stream
 
@@ -117,6 +118,6 @@ each_node_goes origin n signalled xs few a =
     record {
       chain = g.chain;
       short = λ k l. subst (λ (t : Told Value). IsShortOf (then_told (heard_from n k xs z) (behind_at k (run xs z))) (then_told t (brought_to origin k xs z))) (b.none k l) (g.short k l);
-      rejected = λ r o. e.rejected r (run-none origin n xs z b.chain (chained-first origin n signalled few) a) (λ pair. past-teeless origin n signalled xs a) o;
+      rejected = λ r o. e.rejected r (run-none origin n xs z b.chain (chained-first origin n signalled few) a) (λ pair. past-teeless origin n signalled xs a) (λ clone. past-portless origin n signalled xs a) o;
       fulfilled = e.fulfilled;
     }

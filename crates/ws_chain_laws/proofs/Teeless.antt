@@ -1,11 +1,13 @@
 -- A run without a call that tees a stream has no tee, and so has none that opens a chain, nor one of a node.
-use Rattle.std.proofs.Common.{◌≡◌, ℕ, zero, suc, Bool, true, false, List, [], ◌∷◌, ◌++◌, Option, Some, None, subst, ◌∙◌, refl}
+use Rattle.std.proofs.Common.{◌≡◌, ℕ, zero, suc, Bool, true, false, List, [], ◌∷◌, ◌++◌, length, Option, Some, None, subst, ◌∙◌, refl}
 use Rattle.ws_steps.specs.declared.calls.Call.{Call}
 use Rattle.ws_steps.specs.declared.calls.Call.TheVariants.{Tee, Settle, Enqueue, Finish, Fail, Trigger}
 use Rattle.ws_steps.specs.declared.calls.Reply.{Reply}
 use Rattle.ws_steps.specs.declared.calls.Reply.TheVariants.{Promise}
 use Rattle.ws_steps.specs.declared.promises.Job.{Job}
-use Rattle.ws_steps.specs.Calls.{Begun, begin, named}
+use Rattle.ws_steps.specs.Calls.{Begun, begin, named, open_end}
+use Rattle.ws_steps.specs.declared.port.Side.{Side}
+use Rattle.ws_steps.specs.declared.port.Side.TheVariants.{Readable as ReadableSide, Writable as WritableSide}
 use Rattle.ws_steps.specs.Jobs.{job_begun, begin_job}
 use Rattle.ws_steps.specs.Promises.{next_job}
 use Rattle.ws_steps.specs.Run.{Entry, Called, Worked, Heard, run, step}
@@ -64,7 +66,15 @@ call-teeless c s n h = each_call (λ (b : Begun). b.done.slots.tees ≡ []) c s 
   make_signal = h;
   trigger = λ a reason. h;
   settle = λ a answer p e. h;
+  open_end = λ side. opened side h;
+  send_readable = λ i there free. h;
+  send_writable = λ i there free. h;
+  deliver = λ p m e is. h;
 })
+  where
+    opened : (side : Side) → s.tees ≡ [] → (open_end side (record { 0 = length s.streams }) s).done.slots.tees ≡ []
+    opened ReadableSide k = k
+    opened WritableSide k = k
 
 named-tees : (reply : Reply) (s : Slots) → (named reply s).tees ≡ s.tees
 named-tees (Promise p) s = refl

@@ -2,14 +2,16 @@
 -- finishes or fails the source, terminates or fails transform streams, and triggers signals. And what it hears of the chain.
 use Rattle.std.specs.Prelude.{ℕ, suc, ◌≤◌, ◌≡◌, nat_eq, if◌then◌else◌, [], ◌∷◌}
 use Rattle.ws_value.specs.declared.ids.HostId.{HostId}
+use Rattle.ws_value.specs.declared.ids.PortId.{PortId}
 use Rattle.ws_value.specs.declared.ids.PromiseId.{PromiseId}
 use Rattle.ws_value.specs.declared.ids.SignalId.{SignalId}
 use Rattle.ws_value.specs.declared.ids.StreamId.{StreamId}
+use Rattle.ws_value.specs.declared.value.Message.{Message}
 use Rattle.ws_value.specs.declared.value.Plain.{Plain}
 use Rattle.ws_value.specs.declared.value.Value.{Value}
 use Rattle.ws_steps.specs.declared.calls.Answer.{Answer}
 use Rattle.ws_steps.specs.declared.calls.Call.TheVariants.{Enqueue, Finish, Fail, Terminate, Trigger, Settle}
-use Rattle.ws_steps.specs.declared.calls.Event.TheVariants.{Host as HostCalled, Settled, Signal as Signalled}
+use Rattle.ws_steps.specs.declared.calls.Event.TheVariants.{Host as HostCalled, Settled, Signal as Signalled, Post}
 use Rattle.ws_steps.specs.declared.calls.HostCall.TheVariants.{Start, Pull, Cancel, Write, Close, Abort, Transform, Flush, CancelTransform}
 use Rattle.ws_flow.specs.Told.{Open, Closed, Told, told}
 use Rattle.ws_link_laws.specs.Link.{silence, lets_in}
@@ -58,6 +60,7 @@ pub record Hears (n k : ℕ) : Type 0 where
   pub cancel_transform : (id : HostId) (i : StreamId) (reason : Plain) → heard_at n k (HostCalled id (CancelTransform i reason)) ≡ silence
   pub settled : (p : PromiseId) → heard_at n k (Settled p) ≡ silence
   pub signal : (i : StreamId) (reason : Plain) → heard_at n k (Signalled i reason) ≡ silence
+  pub post : (c : PortId) (m : Message) → heard_at n k (Post c m) ≡ silence
 
 abbrev pub EachEventIsHeardAtOneLink : Type 0
 EachEventIsHeardAtOneLink = (n k : ℕ) → k ≤ n → Hears n k

@@ -12,7 +12,7 @@ use Rattle.ws_flow.specs.Told.{Closed, told}
 use Rattle.ws_host_laws.specs.HostCalls.{WasSettledWell}
 use Rattle.ws_link_laws.specs.Link.{silence}
 use Rattle.ws_reason_laws.specs.Origins.{through}
-use Rattle.ws_reason_laws.specs.Reasons.{NeedsTee, failures}
+use Rattle.ws_reason_laws.specs.Reasons.{NeedsTee, NeedsPort, failures}
 use Rattle.ws_chain_laws.specs.Chain.{Origin, source_of, dest_of, IsChain}
 use Rattle.ws_chain_laws.specs.Laws.{next_enters}
 use Rattle.ws_chain_laws.specs.Opening.{piping, signal_of, opening, chained, promise_of}
@@ -32,12 +32,12 @@ pub record IsClosedWell (n : ℕ) (entries : List Entry) : Type 0 where
 
 -- After the opening of a chain and these calls, jobs and events: the promises of its pipes stay theirs, and are watched. Where nothing came through a
 -- transform stream, that of the last pipe is rejected only with a reason that a call gave by which something fails; but with a pair of reasons also
--- where there is a tee. Where it is fulfilled, the sink closed well
+-- where there is a tee, and with a DataCloneError where there is a port. Where it is fulfilled, the sink closed well
 pub record ChainEnds (origin : Origin) (n : ℕ) (signalled : Bool) (xs : List Entry) : Type 0 where
   pub slots : run (past_of origin n signalled xs) empty ≡ run xs (chained origin n signalled)
   pub pipes : (k : ℕ) → k ≤ n → promise_of k (run (past_of origin n signalled xs) empty) ≡ promise_of k (chained origin n signalled)
   pub watched : (k : ℕ) → k ≤ n → is_some (rank_at (run (past_of origin n signalled xs) empty).promises (promise_of k (chained origin n signalled))) ≡ true
-  pub rejected : (r : Plain) → through xs (chained origin n signalled) ≡ [] → NeedsTee r (past_of origin n signalled xs)
+  pub rejected : (r : Plain) → through xs (chained origin n signalled) ≡ [] → NeedsTee r (past_of origin n signalled xs) → NeedsPort r (past_of origin n signalled xs)
       → outcome_at (run (past_of origin n signalled xs) empty).promises (last_promise origin n signalled) ≡ Some (Rejected r) → Contains (failures xs) r
   pub fulfilled : (v : Plain) → outcome_at (run (past_of origin n signalled xs) empty).promises (last_promise origin n signalled) ≡ Some (Fulfilled v)
       → IsClosedWell n (past_of origin n signalled xs)

@@ -47,7 +47,7 @@ pub fn each_event_is_heard_at_one_link()
     ensures { EachEventIsHeardAtOneLink }
 {}
 
-/// After the opening of a chain and any run: the promises of its pipes are watched. Where nothing came through a transform stream, that of the last pipe is rejected only with a reason that a call gave by which something fails, but with a pair of reasons also where there is a tee. Where it is fulfilled, the sink is closed, and the host settled its close well.
+/// After the opening of a chain and any run: the promises of its pipes are watched. Where nothing came through a transform stream, that of the last pipe is rejected only with a reason that a call gave by which something fails, but with a pair of reasons also where there is a tee, and with a DataCloneError where there is a port. Where it is fulfilled, the sink is closed, and the host settled its close well.
 pub fn each_chain_ends()
     ensures { EachChainEnds }
 {}

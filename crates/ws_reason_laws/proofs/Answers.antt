@@ -4,9 +4,9 @@ use Rattle.ws_value.specs.declared.ids.LockId.{LockId}
 use Rattle.ws_value.specs.declared.ids.StreamId.{StreamId}
 use Rattle.ws_value.specs.declared.value.Plain.{Plain}
 use Rattle.ws_steps.specs.declared.calls.Call.{Call}
-use Rattle.ws_steps.specs.declared.calls.Call.TheVariants.{MakeReadable, MakeBytes, MakeWritable, MakeTransform, Tee, GetReader, GetByob, GetWriter, Cancel, CancelBy, Read, ReadInto, Write, Close, CloseBy, Abort, AbortBy, Closed, Ready, Release, Enqueue, Finish, Fail, Terminate, Request, Respond, Desired, DesiredBy, Pipe, MakeSignal, Trigger, Settle, State, Step}
+use Rattle.ws_steps.specs.declared.calls.Call.TheVariants.{MakeReadable, MakeBytes, MakeWritable, MakeTransform, Tee, GetReader, GetByob, GetWriter, Cancel, CancelBy, Read, ReadInto, Write, Close, CloseBy, Abort, AbortBy, Closed, Ready, Release, Enqueue, Finish, Fail, Terminate, Request, Respond, Desired, DesiredBy, Pipe, MakeSignal, Trigger, Send, Open, Deliver, Settle, State, Step}
 use Rattle.ws_steps.specs.declared.effects.Owner.{Owner}
-use Rattle.ws_steps.specs.declared.effects.Owner.TheVariants.{Host, HalfOf, BranchOf}
+use Rattle.ws_steps.specs.declared.effects.Owner.TheVariants.{Host, HalfOf, BranchOf, EndOf}
 use Rattle.ws_steps.specs.declared.locks.Lock.{Lock}
 use Rattle.ws_steps.specs.declared.locks.Lock.TheVariants.{ByobReader, Reader, Writer as WriterLock, ReleasedWriter, Inner}
 use Rattle.ws_steps.specs.declared.transform.Kind.{Kind}
@@ -77,6 +77,7 @@ module _ (bad : Badness) (s : Slots) (halved : Halved bad.half s) where
   terminated-good Host h = refl
   terminated-good (HalfOf t) h = omega (arith, h)
   terminated-good (BranchOf t half) h = refl
+  terminated-good (EndOf c) h = refl
 
 -- what a call makes of transform streams
 pub begun-kinds : (bad : Badness) (c : Call) (s : Slots) → bad_call bad c s ≡ 0 → of_kinds bad.of s.transforms ≡ 0 → of_kinds bad.of (begin c s).done.slots.transforms ≡ 0
@@ -129,6 +130,9 @@ begun-good bad (DesiredBy l) s k h = grind arith
 begun-good bad (Pipe source dest prevent signal) s l h = grind arith
 begun-good bad MakeSignal s l h = grind arith
 begun-good bad (Trigger a reason) s l h = grind (arith, h)
+begun-good bad (Send k) s l h = grind (arith, h)
+begun-good bad (Open side) s l h = grind (arith, h)
+begun-good bad (Deliver q m) s l h = grind (arith, h)
 begun-good bad (Settle h answer) s l g = grind (arith, g)
 begun-good bad (State i) s l h = grind arith
 begun-good bad Step s l h = grind arith

@@ -1,10 +1,12 @@
 -- What calls begin with keeps that nothing bad stands anywhere, where the reasons that they give aren't bad.
-use Rattle.std.proofs.Common.{◌≡◌, ℕ, suc, ◌+◌, ◌*◌, ◌≤◌, ◌<◌, Bool, true, false, nat_eq, nat_lt, ◌&&◌, if◌then◌else◌, List, [], ◌∷◌, ◌++◌, length, Option, Some, None, Result, Ok, Err, slice_get, refl, ap, subst, ◌∙◌, arith}
+use Rattle.std.proofs.Common.{◌≡◌, ℕ, suc, ◌+◌, ◌*◌, ◌≤◌, ◌<◌, Bool, true, false, nat_eq, nat_lt, ◌&&◌, if◌then◌else◌, List, [], ◌∷◌, ◌++◌, length, map, Option, Some, None, Result, Ok, Err, slice_get, refl, ap, subst, ◌∙◌, arith}
 use Rattle.ws_value.specs.declared.ids.PipeId.{PipeId}
 use Rattle.ws_value.specs.declared.ids.PromiseId.{PromiseId}
 use Rattle.ws_value.specs.declared.ids.SignalId.{SignalId}
 use Rattle.ws_value.specs.declared.ids.StreamId.{StreamId}
 use Rattle.ws_value.specs.declared.ids.TeeId.{TeeId}
+use Rattle.ws_value.specs.declared.value.Message.{Message}
+use Rattle.ws_value.specs.declared.value.Message.TheVariants.{Pull as PullMessage, Chunk as ChunkMessage, Close as CloseMessage, Error as ErrorMessage}
 use Rattle.ws_value.specs.declared.value.Plain.{Plain}
 use Rattle.ws_value.specs.declared.value.Plain.TheVariants.{Pair}
 use Rattle.ws_steps.specs.declared.calls.Call.{Call}
@@ -12,8 +14,11 @@ use Rattle.ws_steps.specs.declared.calls.Reply.{Reply}
 use Rattle.ws_steps.specs.declared.calls.Reply.TheVariants as reply
 use Rattle.ws_steps.specs.declared.effects.Effect.{Effect}
 use Rattle.ws_steps.specs.declared.calls.StartBy.{StartBy}
-use Rattle.ws_steps.specs.declared.effects.Effect.TheVariants.{Readable, Writable, Signal, Transform, Settle}
+use Rattle.ws_steps.specs.declared.effects.Effect.TheVariants.{Readable, Writable, Signal, Transform, Port, Settle}
 use Rattle.ws_steps.specs.declared.effects.Owner.TheVariants.{Host, HalfOf, BranchOf}
+use Rattle.ws_steps.specs.declared.port.PortOperation.TheVariants.{Deliver}
+use Rattle.ws_steps.specs.declared.port.Side.{Side}
+use Rattle.ws_steps.specs.declared.port.Side.TheVariants.{Readable as ReadableSide, Writable as WritableSide}
 use Rattle.ws_steps.specs.declared.locks.Lock.{Lock}
 use Rattle.ws_steps.specs.declared.pipes.Prevent.{Prevent}
 use Rattle.ws_steps.specs.declared.pipes.SignalOperation.TheVariants.{Trigger}
@@ -34,16 +39,18 @@ use Rattle.ws_steps.specs.Readable as readable
 use Rattle.ws_steps.specs.Readable.{is_readable}
 use Rattle.ws_steps.specs.Slots.{Slots, Stream, ReadableStream, WritableStream, with_promises, as_signal, is_teed}
 use Rattle.ws_steps.specs.Tee as tee
+use Rattle.ws_steps.specs.Cross as cross
 use Rattle.ws_steps.specs.Transform as transform
 use Rattle.ws_steps.specs.Writable as writable
 use Rattle.ws_laws.proofs.EachCall.{each_call}
+use Rattle.ws_laws.proofs.Ended.{port_shape}
 use Rattle.ws_laws.proofs.Shapes.{tee_shape}
 use Rattle.ws_reason_laws.proofs.InTable.{fresh-keeps, fresh-count}
 use Rattle.ws_reason_laws.proofs.Known.{Badness, class, teed_at, teed-at, Known, known-new, known-turn, known-next, known-same}
 use Rattle.ws_reason_laws.proofs.Readables.{effects-append}
 use Rattle.ws_reason_laws.proofs.Rows.{in_signal, signal-there}
-use Rattle.ws_reason_laws.proofs.Teed.{teed-more, teed-last, Paired, tee_last}
-use Rattle.ws_reason_laws.proofs.Weights.{in_reader, in_tee, in_tees, Class, of_reason, soft, settles, in_effects, in_stream, in_streams, in_pipe, in_pipes, in_signals, of_kind, in_transform, in_transforms, in_slots, in_table, loud, AllGood, count}
+use Rattle.ws_reason_laws.proofs.Teed.{teed-more, teed-last, Paired, Ported, Fair, tee_last}
+use Rattle.ws_reason_laws.proofs.Weights.{in_reader, in_tee, in_tees, in_port, in_ports, of_message, Class, of_reason, soft, settles, in_effects, in_stream, in_streams, in_pipe, in_pipes, in_signals, of_kind, in_transform, in_transforms, in_slots, in_table, loud, AllGood, count}
 use Rattle.ws_steps.specs.Slots.{ByteStream}
 use Rattle.ws_steps.specs.Bytes as byte
 use Rattle.ws_steps.specs.Slots.{source_at}
@@ -56,6 +63,11 @@ use Rattle.ws_steps.specs.declared.byte.ByteOperation.TheVariants.{PullInto}
 abbrev pub bad_cancel : Badness → StreamId → Plain → ℕ
 bad_cancel bad i r = if bad.half i.0 then bad.of r else 0
 
+-- that of an error that comes over a port
+abbrev pub bad_message : Badness → Message → ℕ
+bad_message bad (ErrorMessage r) = bad.of r
+bad_message bad _ = 0
+
 abbrev pub bad_first : Badness → Effect → ℕ
 bad_first bad (Readable i (Error r)) = bad.of r
 bad_first bad (Readable i (Cancel r p)) = bad_cancel bad i r
@@ -64,6 +76,7 @@ bad_first bad (Writable i (ErrorIfNeeded r)) = bad.of r
 bad_first bad (Signal a (Trigger r)) = bad.of r
 bad_first bad (Transform t (ErrorTransform r)) = bad.of r
 bad_first bad (Transform t Terminate) = bad.of type_error
+bad_first bad (Port c (Deliver m)) = bad_message bad m
 bad_first bad _ = 0
 
 abbrev pub bad_all : Badness → List Effect → ℕ
@@ -124,13 +137,17 @@ transforms-append : (k : Class) (xs : List transform.Slots) (y : transform.Slots
 transforms-append k [] y = omega arith
 transforms-append k (x ∷ xs) y = let h = transforms-append k xs y in omega (arith, h)
 
+ports-append : (k : Class) (xs : List cross.Slots) (y : cross.Slots) → in_ports k (xs ++ y ∷ []) ≡ in_ports k xs + in_port k y
+ports-append k [] y = omega arith
+ports-append k (x ∷ xs) y = let h = ports-append k xs y in omega (arith, h)
+
 signals-append : (k : Class) (xs : List pipe.Signal) → in_signals k (xs ++ pipe.new_signal ∷ []) ≡ in_signals k xs
 signals-append k [] = refl
 signals-append k (x ∷ xs) = let h = signals-append k xs in omega (arith, h)
 
 module _ (bad : Badness) (me : PipeId) (own : Option ℕ) (s : Slots) (known : Known bad me own s []) where
   abbrev Begins : Begun → Type 0
-  Begins b = bad_begun bad b ≡ 0 → of_kinds bad.of b.done.slots.transforms ≡ 0 → Paired bad.of b.done.slots → Known bad me own b.done.slots b.done.caused
+  Begins b = bad_begun bad b ≡ 0 → of_kinds bad.of b.done.slots.transforms ≡ 0 → Fair bad.of b.done.slots → Known bad me own b.done.slots b.done.caused
 
   -- a soft one and a loud one
   soft_one : (f tees : ℕ → Bool) (n : ℕ) → f n ≡ false → soft (class bad me f tees) n ≡ 0
@@ -346,12 +363,62 @@ module _ (bad : Badness) (me : PipeId) (own : Option ℕ) (s : Slots) (known : K
       read_by true n reads = refl
       read_by false n reads = let m = teed-last source s.tees (tee.set_up source i j (record { 0 = count (fresh s.promises) })) refl in let l = reads refl in cc
 
-  pub call-known : (c : Call) → Begins (begin c s)
-  call-known c =
+  -- a port: its backpressure promise hands on
+
+  started : (z : Slots) (es : List Effect) (j : StreamId) (side : Side) → Known bad me own z es → Known bad me own z (calls.start_end j side ∷ es)
+  started z es j side k = record { hands = k.hands; mine = k.mine; good = λ f g same reads. with_start (class bad me f g) side (k.good f g same reads) }
+    where
+      with_start : (k : Class) (side : Side) → AllGood k z es → AllGood k z (calls.start_end j side ∷ es)
+      with_start k ReadableSide h = omega (arith, h)
+      with_start k WritableSide h = omega (arith, h)
+
+  port-known : (j : StreamId) (side : Side) → bad.of cross.data_clone ≡ 0 → Known bad me own (calls.add_port j s side) []
+  port-known j ReadableSide fair =
+      plain-known (calls.add_port j s ReadableSide) [] refl refl
+      (λ f tees g.
+      let k : Class = class bad me f tees in
+      let a = streams-append k 0 s.streams (calls.end_of (record { 0 = length s.ports }) ReadableSide) (length s.streams) (omega arith) (omega (arith, g)) refl in
+      let b = ports-append k s.ports (cross.set_up ReadableSide j None) in
+      omega (arith, g, a, b, fair))
+  port-known j WritableSide fair =
+      let t : Table = s.promises in
+      let c = fresh-count t in
+      known-next bad me own s (calls.add_port j s WritableSide) [] [] (λ i. true) known refl (omega (arith, c))
+      (λ f tees news g.
+      let k : Class = class bad me f tees in
+      let l = loud_one f tees (count t) (news (count t) (omega arith) (omega (arith, c))) in
+      let a = streams-append k 0 s.streams (calls.end_of (record { 0 = length s.ports }) WritableSide) (length s.streams) (omega arith) (omega (arith, g)) refl in
+      let b = ports-append k s.ports (cross.set_up WritableSide j (Some (record { 0 = count t }))) in
+      let p = fresh-keeps k t (omega (arith, g)) in
+      omega (arith, g, a, b, l, p, fair))
+
+  -- where a port is there last, its DataCloneError isn't bad
+  last-fair : (z : Slots) (y : cross.Slots) → z.ports ≡ s.ports ++ y ∷ [] → Ported bad.of z → bad.of cross.data_clone ≡ 0
+  last-fair z y e h = h (record { 0 = length s.ports }) (port_shape y) (rw e (port_last s.ports y))
+    where
+      port_last : (xs : List cross.Slots) (x : cross.Slots) → slice_get (map port_shape (xs ++ x ∷ [])) (length xs) ≡ Some (port_shape x)
+      port_last [] x = refl
+      port_last (y ∷ xs) x = port_last xs x
+
+  side-fair : (j : StreamId) (side : Side) → Ported bad.of (calls.add_port j s side) → bad.of cross.data_clone ≡ 0
+  side-fair j ReadableSide h = last-fair (calls.add_port j s ReadableSide) (cross.set_up ReadableSide j None) refl h
+  side-fair j WritableSide h = last-fair (calls.add_port j s WritableSide) (cross.set_up WritableSide j (Some (record { 0 = count s.promises }))) refl h
+
+  message-good : (f tees : ℕ → Bool) (m : Message) → bad_message bad m ≡ 0 → of_message (class bad me f tees) m ≡ 0
+  message-good f tees PullMessage h = refl
+  message-good f tees (ChunkMessage v) h = refl
+  message-good f tees CloseMessage h = refl
+  message-good f tees (ErrorMessage r) h = h
+
+  -- where what makes a pipe behind a port is known
+  known-with : ((j : StreamId) (side : Side) (source dest : StreamId) → Ported bad.of (calls.add_port j s side)
+      → Known bad me own (calls.pipe_to source dest calls.no_prevent None (calls.add_port j s side)).done.slots (calls.pipe_to source dest calls.no_prevent None (calls.add_port j s side)).done.caused)
+      → (c : Call) → Begins (begin c s)
+  known-with piped_behind c =
       each_call Begins c s (record {
         unchanged = λ reply b n pairs. known;
         rejected = λ b n pairs. promising-known (λ p. Settle p (Err type_error) ∷ []) false (λ f tees p e. let z = settles_one f tees p.0 type_error e in omega (arith, z));
-        make_tee = λ i e there free untied b n pairs. tee-known i _ _ pairs;
+        make_tee = λ i e there free untied b n pairs. tee-known i _ _ pairs.0;
         make_readable = λ mark size start b n pairs. plain-known _ _ refl refl (λ f tees g. let a = streams-append (class bad me f tees) 0 s.streams (ReadableStream (readable.set_up Host mark size)) (length s.streams) (omega arith) (omega (arith, g)) refl in omega (arith, g, a));
         make_writable = λ mark size start b n pairs. plain-known _ _ refl refl (λ f tees g. let a = streams-append (class bad me f tees) 0 s.streams (WritableStream (writable.set_up Host mark size)) (length s.streams) (omega arith) (omega (arith, g)) refl in omega (arith, g, a));
         get_byob = λ i is e b n pairs.
@@ -400,6 +467,15 @@ module _ (bad : Badness) (me : PipeId) (own : Option ℕ) (s : Slots) (known : K
         fail_writable = λ i reason b n pairs. plain-known s _ refl refl (λ f tees g. omega (arith, g, b));
         pipe = λ source dest prevent signal e f l m b n pairs. pipe-known source dest prevent signal;
         make_signal = λ b n pairs. plain-known _ _ refl refl (λ f tees g. let a = signals-append (class bad me f tees) s.signals in omega (arith, g, a));
+        open_end = λ side b n pairs. let j : StreamId = record { 0 = length s.streams } in started (calls.add_port j s side) [] j side (port-known j side (side-fair j side pairs.1));
+        send_readable = λ i there free b n pairs. let j : StreamId = record { 0 = length s.streams } in started _ _ j WritableSide (piped_behind j WritableSide i j pairs.1);
+        send_writable = λ i there free b n pairs. let j : StreamId = record { 0 = length s.streams } in started _ _ j ReadableSide (piped_behind j ReadableSide j i pairs.1);
+        deliver = λ p m e is b n pairs. plain-known s _ refl refl (λ f tees g. let d = message-good f tees m (omega (arith, b)) in omega (arith, g, d));
         trigger = λ a reason b n pairs. plain-known s _ refl refl (λ f tees g. omega (arith, g, b));
         settle = λ h answer p e b n pairs. plain-known _ _ refl refl (λ f tees g. grind (arith, g, b));
       })
+
+pub call-known : (bad : Badness) (me : PipeId) (own : Option ℕ) (s : Slots) (known : Known bad me own s []) (c : Call) → Begins bad me own s known (begin c s)
+call-known bad me own s known c =
+    known-with bad me own s known
+    (λ j side source dest fair. let z : Slots = calls.add_port j s side in pipe-known bad me own z (port-known bad me own s known j side (side-fair bad me own s known j side fair)) source dest calls.no_prevent None) c

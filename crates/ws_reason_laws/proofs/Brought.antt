@@ -5,7 +5,7 @@ use Rattle.ws_value.specs.declared.value.Plain.{Plain}
 use Rattle.ws_steps.specs.declared.calls.Call.{Call}
 use Rattle.ws_steps.specs.declared.calls.Call.TheVariants.{MakeTransform, Cancel, CancelBy, Terminate, Pipe, ReadInto, Finish}
 use Rattle.ws_steps.specs.declared.effects.Owner.{Owner}
-use Rattle.ws_steps.specs.declared.effects.Owner.TheVariants.{Host, HalfOf, BranchOf}
+use Rattle.ws_steps.specs.declared.effects.Owner.TheVariants.{Host, HalfOf, BranchOf, EndOf}
 use Rattle.ws_steps.specs.declared.locks.Lock.{Lock}
 use Rattle.ws_steps.specs.declared.locks.Lock.TheVariants.{Reader, ByobReader}
 use Rattle.ws_steps.specs.declared.transform.Kind.{Kind}
@@ -153,6 +153,7 @@ module _ (s : Slots) (halved : halves.Halved s) (none : s.transforms ≡ []) whe
           let z : ◌≡◌ {A = Option TransformShape} None (Some h.0) = rw n at h.1.0 in
           cc
       by (BranchOf t half) e = rw e refl
+      by (EndOf c) e = rw e refl
 
   half-none : (i : StreamId) (r : Plain) → to_half i r s ≡ []
   half-none i r = rw (no_half i) refl

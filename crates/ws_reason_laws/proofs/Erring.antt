@@ -3,13 +3,14 @@ use Rattle.std.proofs.Common.{◌≡◌, ℕ, zero, suc, ◌*◌, Bool, true, fa
 use Rattle.ws_value.specs.declared.ids.PipeId.{PipeId}
 use Rattle.ws_value.specs.declared.ids.StreamId.{StreamId}
 use Rattle.ws_value.specs.declared.ids.TeeId.{TeeId}
+use Rattle.ws_value.specs.declared.ids.PortId.{PortId}
 use Rattle.ws_value.specs.declared.value.Plain.{Plain}
 use Rattle.ws_value.specs.declared.value.Value.{Value}
 use Rattle.ws_steps.specs.declared.byte.ByteOperation.TheVariants.{PullInto}
 use Rattle.ws_steps.specs.declared.calls.Call.{Call}
-use Rattle.ws_steps.specs.declared.calls.Call.TheVariants.{MakeReadable, MakeBytes, MakeWritable, MakeTransform, Tee as TeeCall, GetReader, GetByob, GetWriter, Cancel, CancelBy, Read, ReadInto, Write, Close as CloseWritable, CloseBy, Abort as AbortWritable, AbortBy, Closed, Ready, Release, Enqueue, Finish, Fail, Terminate, Request, Respond, Desired, DesiredBy, Pipe as PipeCall, MakeSignal, Trigger as TriggerCall, Settle as SettleCall, State, Step}
+use Rattle.ws_steps.specs.declared.calls.Call.TheVariants.{MakeReadable, MakeBytes, MakeWritable, MakeTransform, Tee as TeeCall, GetReader, GetByob, GetWriter, Cancel, CancelBy, Read, ReadInto, Write, Close as CloseWritable, CloseBy, Abort as AbortWritable, AbortBy, Closed, Ready, Release, Enqueue, Finish, Fail, Terminate, Request, Respond, Desired, DesiredBy, Pipe as PipeCall, MakeSignal, Trigger as TriggerCall, Send, Open, Deliver, Settle as SettleCall, State, Step}
 use Rattle.ws_steps.specs.declared.effects.Effect.{Effect}
-use Rattle.ws_steps.specs.declared.effects.Effect.TheVariants.{Readable, Byte, Writable, Pipe, Signal, Transform, Tee, StartAlgorithm, PullAlgorithm, CancelAlgorithm, WriteAlgorithm, CloseAlgorithm, AbortAlgorithm, ChunkSteps, CloseSteps, CloseStepsWith, ErrorSteps}
+use Rattle.ws_steps.specs.declared.effects.Effect.TheVariants.{Readable, Byte, Writable, Pipe, Signal, Transform, Tee, Port, StartAlgorithm, PullAlgorithm, CancelAlgorithm, WriteAlgorithm, CloseAlgorithm, AbortAlgorithm, ChunkSteps, CloseSteps, CloseStepsWith, ErrorSteps}
 use Rattle.ws_steps.specs.declared.effects.Owner.{Owner}
 use Rattle.ws_steps.specs.declared.effects.Owner.TheVariants.{HalfOf, BranchOf}
 use Rattle.ws_steps.specs.declared.locks.Lock.{Lock}
@@ -22,6 +23,9 @@ use Rattle.ws_steps.specs.declared.readable.ReadRequest.TheVariants.{Promise, Pi
 use Rattle.ws_steps.specs.declared.readable.ReadableOperation.TheVariants as names
 use Rattle.ws_steps.specs.declared.tee.Half.TheVariants.{First, Second}
 use Rattle.ws_steps.specs.declared.tee.TeeOperation.{TeeOperation}
+use Rattle.ws_steps.specs.declared.port.PortOperation.{PortOperation}
+use Rattle.ws_steps.specs.declared.port.Side.{Side}
+use Rattle.ws_steps.specs.declared.port.Side.TheVariants.{Readable as ReadableSide, Writable as WritableSide}
 use Rattle.ws_steps.specs.declared.transform.TransformId.{TransformId}
 use Rattle.ws_steps.specs.declared.transform.TransformOperation.{TransformOperation}
 use Rattle.ws_steps.specs.Bytes as byte
@@ -29,15 +33,18 @@ use Rattle.ws_steps.specs.Calls as calls
 use Rattle.ws_steps.specs.Calls.{Begun, begin}
 use Rattle.ws_steps.specs.Effects.{type_error}
 use Rattle.ws_steps.specs.Jobs.{job_effects}
-use Rattle.ws_steps.specs.Operations.{transform_operation, tee_operation}
+use Rattle.ws_steps.specs.Operations.{transform_operation, tee_operation, port_operation}
 use Rattle.ws_steps.specs.Queues.{is_empty}
-use Rattle.ws_steps.specs.Slots.{Slots, found, has_byte, byte_at, is_byte_stream, halves_at, on_transform_at, on_tee_at, lock_at}
+use Rattle.ws_steps.specs.Slots.{Slots, found, has_byte, byte_at, is_byte_stream, halves_at, on_transform_at, on_tee_at, on_port_at, clones_at, lock_at}
 use Rattle.ws_steps.specs.Tee as tee
+use Rattle.ws_steps.specs.Cross as cross
 use Rattle.ws_steps.specs.Transform as transform
 use Rattle.ws_steps.specs.Turns.{row}
 use Rattle.ws_laws.proofs.Halves as halves
 use Rattle.ws_laws.proofs.Lists.{Each, each-append, each-map}
+use Rattle.ws_laws.proofs.Ended.{Ended, port_shape, port_shapes, end_shape}
 use Rattle.ws_laws.proofs.PipeDoes.{PipeCauses}
+use Rattle.ws_laws.proofs.PortDoes.{PortCauses, port-causes}
 use Rattle.ws_laws.proofs.Rows.{ChunkCauses, EndCauses, ErrorCauses, SignalCauses, row-causes}
 use Rattle.ws_laws.proofs.Shapes.{transform_shape, transform_shapes, tee_shape, tee_shapes, stream_shape, ReadableOf, map-there}
 use Rattle.ws_laws.proofs.StaysBytes.{row-byte}
@@ -151,6 +158,11 @@ tee-tame t source first second s n m (Readable i names.Close) (inr c) = rw c m
 tee-tame t source first second s n m (Byte i (PullInto room element minimum request)) c = c
 tee-tame t source first second s n m e c = grind (arith, c)
 
+port-tame : (c : PortId) (stream : StreamId) (s : Slots) → has_byte stream s ≡ false → (e : Effect) → PortCauses c stream e → IsTame s e
+port-tame c stream s n (Readable i names.Close) f = rw f n
+port-tame c stream s n (Byte i (PullInto room element minimum request)) f = f
+port-tame c stream s n e f = grind (arith, f)
+
 teed : (t : TeeId) (operation : TeeOperation) (s : Slots) → halves.Halved s → (o : Option tee.Slots) → slice_get s.tees t.0 ≡ o → Each (IsTame s) (on_tee_at (tee_operation t operation) t s o).caused
 teed t operation s h None e = tt
 teed t operation s h (Some x) e =
@@ -160,37 +172,54 @@ teed t operation s h (Some x) e =
     each-map (TeeCauses t x.source x.branch1 x.branch2) (IsTame s) (tee-tame t x.source x.branch1 x.branch2 s first second) _
     ((tee-causes t operation (record { slots = x; out = found s })).effects tt)
 
+end-default : (xs : List Stream) (n : ℕ) (c : PortId) (side : Side) → slice_get (map stream_shape xs) n ≡ Some (end_shape c side) → is_byte_stream (slice_get xs n) ≡ false
+end-default [] n c side e = refl
+end-default (ReadableStream r ∷ xs) zero c side e = refl
+end-default (ByteStream b ∷ xs) zero c ReadableSide e = cc
+end-default (ByteStream b ∷ xs) zero c WritableSide e = cc
+end-default (WritableStream w ∷ xs) zero c side e = refl
+end-default (x ∷ xs) (suc n) c side e = end-default xs n c side e
+
+ported : (c : PortId) (operation : PortOperation) (s : Slots) → Ended s → (o : Option cross.Slots) → slice_get s.ports c.0 ≡ o → Each (IsTame s) (on_port_at (λ clones. port_operation c clones operation) c s o).caused
+ported c operation s h None e = tt
+ported c operation s h (Some x) e =
+    let shape : slice_get (port_shapes s) c.0 ≡ Some (port_shape x) = map-there port_shape s.ports c.0 x e in
+    let default : has_byte x.stream s ≡ false = end-default s.streams x.stream.0 c x.side (h.ends c (port_shape x) shape) in
+    each-map (PortCauses c x.stream) (IsTame s) (port-tame c x.stream s default) _
+    (port-causes c (clones_at x s) operation (record { slots = x; out = found s }) tt).1.1
+
 mild-row : (e : Effect) (s : Slots) → Each IsMild (row e s).caused → Each (IsTame s) (row e s).caused
 mild-row e s m = each-map IsMild (IsTame s) (mild-tame s) (row e s).caused m
 
-row-tame : (e : Effect) (s : Slots) → halves.Halved s → Each (IsTame s) (row e s).caused
+row-tame : (e : Effect) (s : Slots) → halves.Halved s → Ended s → Each (IsTame s) (row e s).caused
 unfolding row
-row-tame (Transform t operation) s h = transformed t operation s h (slice_get s.transforms t.0) refl
-row-tame (Tee t operation) s h = teed t operation s h (slice_get s.tees t.0) refl
-row-tame (Readable j operation) s h = mild-row (Readable j operation) s (row-causes IsMild (Readable j operation) s (record { pull = tt; cancel = λ r p. tt; chunk = λ r v. tt; close = λ r. tt; error = λ r e. tt }))
-row-tame (Byte j operation) s h =
+row-tame (Transform t operation) s h n = transformed t operation s h (slice_get s.transforms t.0) refl
+row-tame (Tee t operation) s h n = teed t operation s h (slice_get s.tees t.0) refl
+row-tame (Port t operation) s h n = ported t operation s n (slice_get s.ports t.0) refl
+row-tame (Readable j operation) s h n = mild-row (Readable j operation) s (row-causes IsMild (Readable j operation) s (record { pull = tt; cancel = λ r p. tt; chunk = λ r v. tt; close = λ r. tt; error = λ r e. tt }))
+row-tame (Byte j operation) s h n =
     mild-row (Byte j operation) s
     (row-causes IsMild (Byte j operation) s (record { readable = record { pull = tt; cancel = λ r p. tt; chunk = λ r v. tt; close = λ r. tt; error = λ r e. tt }; close_with = λ r b. tt }))
-row-tame (Writable j operation) s h =
-    mild-row (Writable j operation) s (row-causes IsMild (Writable j operation) s (record { write = tt; close = tt; abort = λ r p. tt; hand_on = λ v. tt; take = λ v t d. tt }))
-row-tame (Pipe p operation) s h = mild-row (Pipe p operation) s (row-causes IsMild (Pipe p operation) s (pipe-mild p))
-row-tame (Signal a operation) s h = mild-row (Signal a operation) s (row-causes IsMild (Signal a operation) s (signal-mild operation))
-row-tame (StartAlgorithm j step start) s h = mild-row (StartAlgorithm j step start) s (row-causes IsMild (StartAlgorithm j step start) s (λ g u. tt, λ c u. tt))
-row-tame (PullAlgorithm j) s h = mild-row (PullAlgorithm j) s (row-causes IsMild (PullAlgorithm j) s (λ c u. tt, (λ t u. tt, (λ t. tt, λ u. tt))))
-row-tame (CancelAlgorithm j r p) s h = mild-row (CancelAlgorithm j r p) s (row-causes IsMild (CancelAlgorithm j r p) s (λ c u. tt, (λ t u. tt, λ t half u. tt)))
-row-tame (WriteAlgorithm j) s h = mild-row (WriteAlgorithm j) s (row-causes IsMild (WriteAlgorithm j) s (tt, λ t u. tt))
-row-tame (CloseAlgorithm j) s h = mild-row (CloseAlgorithm j) s (row-causes IsMild (CloseAlgorithm j) s (λ c u. tt, λ t u. tt))
-row-tame (AbortAlgorithm j r p) s h = mild-row (AbortAlgorithm j r p) s (row-causes IsMild (AbortAlgorithm j r p) s (λ c u. tt, λ t u. tt))
-row-tame (ChunkSteps j q v) s h = mild-row (ChunkSteps j q v) s (row-causes IsMild (ChunkSteps j q v) s (chunk-mild v q))
-row-tame (CloseSteps j q) s h = mild-row (CloseSteps j q) s (row-causes IsMild (CloseSteps j q) s (end-mild q))
-row-tame (CloseStepsWith j q b) s h = mild-row (CloseStepsWith j q b) s (row-causes IsMild (CloseStepsWith j q b) s (end-mild q))
-row-tame (ErrorSteps j q e) s h = mild-row (ErrorSteps j q e) s (row-causes IsMild (ErrorSteps j q e) s (error-mild q))
-row-tame e s h = mild-row e s (row-causes IsMild e s tt)
+row-tame (Writable j operation) s h n =
+    mild-row (Writable j operation) s (row-causes IsMild (Writable j operation) s (record { write = tt; close = tt; abort = λ r p. tt; hand_on = λ v. tt; take = λ v t d. tt; post = λ v t d. tt }))
+row-tame (Pipe p operation) s h n = mild-row (Pipe p operation) s (row-causes IsMild (Pipe p operation) s (pipe-mild p))
+row-tame (Signal a operation) s h n = mild-row (Signal a operation) s (row-causes IsMild (Signal a operation) s (signal-mild operation))
+row-tame (StartAlgorithm j step start) s h n = mild-row (StartAlgorithm j step start) s (row-causes IsMild (StartAlgorithm j step start) s (λ g u. tt, λ c u. tt))
+row-tame (PullAlgorithm j) s h n = mild-row (PullAlgorithm j) s (row-causes IsMild (PullAlgorithm j) s (λ c u. tt, (λ t u. tt, (λ t. tt, (λ u. tt, λ q. tt)))))
+row-tame (CancelAlgorithm j r p) s h n = mild-row (CancelAlgorithm j r p) s (row-causes IsMild (CancelAlgorithm j r p) s (λ c u. tt, (λ t u. tt, (λ t half u. tt, λ y u. tt))))
+row-tame (WriteAlgorithm j) s h n = mild-row (WriteAlgorithm j) s (row-causes IsMild (WriteAlgorithm j) s (tt, (λ t u. tt, λ z u. tt)))
+row-tame (CloseAlgorithm j) s h n = mild-row (CloseAlgorithm j) s (row-causes IsMild (CloseAlgorithm j) s (λ c u. tt, (λ t u. tt, λ z u. tt)))
+row-tame (AbortAlgorithm j r p) s h n = mild-row (AbortAlgorithm j r p) s (row-causes IsMild (AbortAlgorithm j r p) s (λ c u. tt, (λ t u. tt, λ z u. tt)))
+row-tame (ChunkSteps j q v) s h n = mild-row (ChunkSteps j q v) s (row-causes IsMild (ChunkSteps j q v) s (chunk-mild v q))
+row-tame (CloseSteps j q) s h n = mild-row (CloseSteps j q) s (row-causes IsMild (CloseSteps j q) s (end-mild q))
+row-tame (CloseStepsWith j q b) s h n = mild-row (CloseStepsWith j q b) s (row-causes IsMild (CloseStepsWith j q b) s (end-mild q))
+row-tame (ErrorSteps j q e) s h n = mild-row (ErrorSteps j q e) s (row-causes IsMild (ErrorSteps j q e) s (error-mild q))
+row-tame e s h n = mild-row e s (row-causes IsMild e s tt)
 
-pub erring-row : (bad : Plain → ℕ) (s : Slots) (e : Effect) (es : List Effect) → halves.Halved s → Erring bad s (e ∷ es) → Erring bad (row e s).slots ((row e s).caused ++ es)
-erring-row bad s e es h k =
+pub erring-row : (bad : Plain → ℕ) (s : Slots) (e : Effect) (es : List Effect) → halves.Halved s → Ended s → Erring bad s (e ∷ es) → Erring bad (row e s).slots ((row e s).caused ++ es)
+erring-row bad s e es h n k =
     tame-erring bad (row e s).slots ((row e s).caused ++ es)
-    (each-map (IsTame s) (IsTame (row e s).slots) (tame-stays s (row e s).slots (λ i. row-byte i e s)) ((row e s).caused ++ es) (each-append (IsTame s) (row e s).caused es (row-tame e s h) k.1))
+    (each-map (IsTame s) (IsTame (row e s).slots) (tame-stays s (row e s).slots (λ i. row-byte i e s)) ((row e s).caused ++ es) (each-append (IsTame s) (row e s).caused es (row-tame e s h n) k.1))
 
 -- calls
 
@@ -232,6 +261,9 @@ call-mild (DesiredBy l) s o = grind arith
 call-mild (PipeCall source dest prevent signal) s o = grind (arith, each-append)
 call-mild MakeSignal s o = grind arith
 call-mild (TriggerCall a reason) s o = grind arith
+call-mild (Send k) s o = grind arith
+call-mild (Open side) s o = grind arith
+call-mild (Deliver q m) s o = grind arith
 call-mild (SettleCall h answer) s o = grind arith
 call-mild (State i) s o = grind arith
 call-mild Step s o = grind arith

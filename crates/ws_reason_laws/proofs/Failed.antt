@@ -1,5 +1,5 @@
 -- What follows for runs in which no reason came through a transform stream.
-use Rattle.std.proofs.Common.{◌≡◌, Bool, true, false, ◌||◌, List, [], ◌∷◌, ◌++◌, Option, Some, Contains, refl, sym, subst, arith}
+use Rattle.std.proofs.Common.{◌≡◌, Bool, true, false, ◌||◌, List, [], ◌∷◌, ◌++◌, Option, Some, Contains, refl, sym, subst, ◌∙◌, arith}
 use Rattle.ws_value.specs.declared.ids.PromiseId.{PromiseId}
 use Rattle.ws_value.specs.declared.ids.SignalId.{SignalId}
 use Rattle.ws_value.specs.declared.ids.StreamId.{StreamId}
@@ -9,12 +9,14 @@ use Rattle.ws_steps.specs.declared.calls.Call.{Call}
 use Rattle.ws_steps.specs.declared.calls.Call.TheVariants.{Pipe}
 use Rattle.ws_steps.specs.declared.calls.Reply.TheVariants.{Promise}
 use Rattle.ws_steps.specs.declared.pipes.Prevent.{Prevent}
+use Rattle.ws_steps.specs.Cross as cross
+use Rattle.ws_steps.specs.Cross.{data_clone}
 use Rattle.ws_steps.specs.Effects.{type_error}
 use Rattle.ws_steps.specs.Promises.{outcome_at}
 use Rattle.ws_steps.specs.Run.{Entry, Called, Worked, Heard, run, reply_to}
 use Rattle.ws_steps.specs.Slots.{Slots, empty, source_at, writable_at}
-use Rattle.ws_reason_laws.specs.Origins.{through, origins}
-use Rattle.ws_reason_laws.specs.Reasons.{reason_of, given, failure_of, failures, cancel_of, cancels, IsFree, EachReasonWasGiven, EachReasonWasAFailure, EachStoredErrorWasAFailure, BringsNothing, NeedsTee}
+use Rattle.ws_reason_laws.specs.Origins.{through, by_ports, origins}
+use Rattle.ws_reason_laws.specs.Reasons.{reason_of, given, failure_of, failures, cancel_of, cancels, IsFree, EachReasonWasGiven, EachReasonWasAFailure, EachStoredErrorWasAFailure, BringsNothing, NeedsTee, NeedsPort}
 use Rattle.ws_reason_laws.proofs.Among.{same_reason, reason_same, is_among, among_contained, contained_among}
 use Rattle.ws_reason_laws.proofs.Brought.{among-append, through-among, none-through, through-erred, erred-among}
 use Rattle.ws_reason_laws.proofs.Given.{reason-has-an-origin}
@@ -25,22 +27,39 @@ use Rattle.ws_reason_laws.proofs.Stored.{stored-error-has-an-origin}
 given-call : (r : Plain) (c : Call) → (is_among r (failure_of c) || is_among r (cancel_of c)) ≡ is_among r (reason_of c)
 given-call r c = grind arith
 
+given-both : (a b c d e f : Bool) → (a || c) ≡ e → (b || d) ≡ f → ((a || b) || (c || d)) ≡ (e || f)
+given-both a b c d e f g h = grind (arith, g, h)
+
 given-run : (r : Plain) (xs : List Entry) → (is_among r (failures xs) || is_among r (cancels xs)) ≡ is_among r (given xs)
 given-run r [] = refl
 given-run r (Called c ∷ xs) =
-    let h = given-run r xs in
-    let a = given-call r c in
     let b = among-append r (failure_of c) (failures xs) in
     let d = among-append r (cancel_of c) (cancels xs) in
     let e = among-append r (reason_of c) (given xs) in
-    grind (arith, h, a, b, d, e)
+    rw (b, d, e) (given-both (is_among r (failure_of c)) (is_among r (failures xs)) (is_among r (cancel_of c)) (is_among r (cancels xs)) (is_among r (reason_of c)) (is_among r (given xs)) (given-call r c) (given-run r xs))
 given-run r (Worked ∷ xs) = given-run r xs
 given-run r (Heard ∷ xs) = given-run r xs
 
 module _ (entries : List Entry) (r : Plain) where
+  -- no port brought it
+  none-ported : NeedsPort r entries → is_among r (by_ports (run entries empty).ports) ≡ false
+  none-ported need = by (run entries empty).ports need (same_reason data_clone r) refl
+    where
+      by : (ps : List cross.Slots) → (r ≡ data_clone → ps ≡ []) → (b : Bool) → same_reason data_clone r ≡ b → is_among r (by_ports ps) ≡ false
+      by [] need b e = refl
+      by (x ∷ xs) need true e = let n = need (sym (reason_same data_clone r e)) in cc
+      by (x ∷ xs) need false e = rw e refl
+
   -- an origin is a failure, or came through a transform stream
-  origin-either : Contains (origins entries) r → (is_among r (failures entries) || is_among r (through entries empty)) ≡ true
-  origin-either c = subst (λ (b : Bool). b ≡ true) (among-append r (failures entries) (through entries empty)) (contained_among r (origins entries) c)
+  pub origin-either : NeedsPort r entries → Contains (origins entries) r → (is_among r (failures entries) || is_among r (through entries empty)) ≡ true
+  origin-either need c =
+      let a = among-append r (failures entries) (through entries empty ++ by_ports (run entries empty).ports) in
+      let b = among-append r (through entries empty) (by_ports (run entries empty).ports) in
+      let d = none-ported need in
+      either_of _ _ _ _ (sym a ∙ contained_among r (origins entries) c) b d
+    where
+      either_of : (a b c d : Bool) → (a || d) ≡ true → d ≡ (b || c) → c ≡ false → (a || b) ≡ true
+      either_of a b c d h e f = grind (arith, h, e, f)
 
   -- where none did
   none-brought : BringsNothing entries → is_among r (through entries empty) ≡ false
@@ -51,11 +70,11 @@ module _ (entries : List Entry) (r : Plain) where
   brought-error n e = erred-among r entries empty (rw (through-erred entries n) at e)
 
   -- it is a failure, where only one that wasn't brought in is meant
-  pub was-failure : (Contains (cancels entries) r → (run entries empty).transforms ≡ []) → (r ≡ type_error → BringsNothing entries) → Contains (origins entries) r → Contains (failures entries) r
-  was-failure but nor c = by (is_among r (through entries empty)) refl (same_reason type_error r) refl
+  pub was-failure : (Contains (cancels entries) r → (run entries empty).transforms ≡ []) → (r ≡ type_error → BringsNothing entries) → NeedsPort r entries → Contains (origins entries) r → Contains (failures entries) r
+  was-failure but nor need c = by (is_among r (through entries empty)) refl (same_reason type_error r) refl
     where
       by : (b : Bool) → is_among r (through entries empty) ≡ b → (d : Bool) → same_reason type_error r ≡ d → Contains (failures entries) r
-      by false e d f = let o = origin-either c in let h : is_among r (failures entries) ≡ true = grind (arith, o, e) in among_contained r (failures entries) h
+      by false e d f = let o = origin-either need c in let h : is_among r (failures entries) ≡ true = grind (arith, o, e) in among_contained r (failures entries) h
       by true e true f = let n = none-brought (nor (sym (reason_same type_error r f))) in cc
       by true e false f =
           let o = through-among r entries empty e in
@@ -63,14 +82,14 @@ module _ (entries : List Entry) (r : Plain) where
           let g = brought-error (but (among_contained r (cancels entries) h)) e in
           cc
 
-  pub was-given : (r ≡ type_error → BringsNothing entries) → Contains (origins entries) r → Contains (given entries) r
-  was-given but c = by (is_among r (through entries empty)) refl (same_reason type_error r) refl
+  pub was-given : (r ≡ type_error → BringsNothing entries) → NeedsPort r entries → Contains (origins entries) r → Contains (given entries) r
+  was-given but need c = by (is_among r (through entries empty)) refl (same_reason type_error r) refl
     where
       g : (is_among r (failures entries) || is_among r (cancels entries)) ≡ true → Contains (given entries) r
       g h = among_contained r (given entries) (subst (λ (b : Bool). b ≡ true) (given-run r entries) h)
 
       by : (b : Bool) → is_among r (through entries empty) ≡ b → (d : Bool) → same_reason type_error r ≡ d → Contains (given entries) r
-      by false e d f = let o = origin-either c in g (grind (arith, o, e))
+      by false e d f = let o = origin-either need c in g (grind (arith, o, e))
       by true e false f = let o = through-among r entries empty e in g (grind (arith, o, f))
       by true e true f = let n = none-brought (but (sym (reason_same type_error r f))) in cc
 
@@ -84,15 +103,15 @@ free-origin opening xs i j prevent signal q r free reply need out =
     (λ e. record { closing = free.not_closing; closed = free.not_closed }) need out
 
 pub reason-was-a-failure : EachReasonWasAFailure
-reason-was-a-failure opening xs i j prevent signal q r free reply but nor need out =
-    was-failure (opening ++ Called (Pipe i j prevent signal) ∷ xs) r but nor (free-origin opening xs i j prevent signal q r free reply need out)
+reason-was-a-failure opening xs i j prevent signal q r free reply but nor need port out =
+    was-failure (opening ++ Called (Pipe i j prevent signal) ∷ xs) r but nor port (free-origin opening xs i j prevent signal q r free reply need out)
 
 pub reason-was-given : EachReasonWasGiven
-reason-was-given opening xs i j prevent signal q r free reply but need out =
-    was-given (opening ++ Called (Pipe i j prevent signal) ∷ xs) r but (free-origin opening xs i j prevent signal q r free reply need out)
+reason-was-given opening xs i j prevent signal q r free reply but need port out =
+    was-given (opening ++ Called (Pipe i j prevent signal) ∷ xs) r but port (free-origin opening xs i j prevent signal q r free reply need out)
 
 pub stored-error-was-a-failure : EachStoredErrorWasAFailure
 stored-error-was-a-failure = record {
-  readable = λ entries i but nor need e. was-failure entries (source_at i (run entries empty)).stored_error but nor (stored-error-has-an-origin.readable entries i need e);
-  writable = λ entries i but nor need e. was-failure entries (writable_at i (run entries empty)).stored_error but nor (stored-error-has-an-origin.writable entries i need e);
+  readable = λ entries i but nor need port e. was-failure entries (source_at i (run entries empty)).stored_error but nor port (stored-error-has-an-origin.readable entries i need e);
+  writable = λ entries i but nor need port e. was-failure entries (writable_at i (run entries empty)).stored_error but nor port (stored-error-has-an-origin.writable entries i need e);
 }

@@ -18,7 +18,7 @@ use Rattle.ws_steps.specs.Jobs.{begin_job}
 use Rattle.ws_steps.specs.Calls.{begin}
 use Rattle.ws_steps.specs.Run.{Entry, Called, run, reply_to}
 use Rattle.ws_steps.specs.Slots.{empty}
-use Rattle.ws_reason_laws.specs.Reasons.{failures, IsFree, BringsNothing, NeedsTee}
+use Rattle.ws_reason_laws.specs.Reasons.{failures, IsFree, BringsNothing, NeedsTee, NeedsPort}
 use Rattle.ws_reason_laws.proofs.Failed.{reason-was-a-failure}
 
 abbrev pub s0 : StreamId
@@ -44,7 +44,8 @@ unfolding fresh settle answer react follow unfollow use_gift queue_micro after_n
 promise-answered prevent = refl
 
 -- it is rejected only with the reason of a failure after it was made, where there is no transform stream, and no call stored a TypeError in a byte stream; and
--- with a pair only where there is a tee
+-- with a pair only where there is a tee, and with a DataCloneError only where there is a port
 pub first-rejected : (prevent : Prevent) (xs : List Entry) (r : Plain) → BringsNothing (opening ++ Called (Pipe s0 s1 prevent None) ∷ xs) → NeedsTee r (opening ++ Called (Pipe s0 s1 prevent None) ∷ xs)
+    → NeedsPort r (opening ++ Called (Pipe s0 s1 prevent None) ∷ xs)
     → outcome_at (run (opening ++ Called (Pipe s0 s1 prevent None) ∷ xs) empty).promises promise ≡ Some (Rejected r) → Contains (failures xs) r
-first-rejected prevent xs r none need out = reason-was-a-failure opening xs s0 s1 prevent None promise r ends-free (promise-answered prevent) (λ c. none.transforms) (λ c. none) need out
+first-rejected prevent xs r none need port out = reason-was-a-failure opening xs s0 s1 prevent None promise r ends-free (promise-answered prevent) (λ c. none.transforms) (λ c. none) need port out

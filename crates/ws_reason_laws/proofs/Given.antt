@@ -16,6 +16,8 @@ use Rattle.ws_steps.specs.declared.calls.Reply.TheVariants.{Promise}
 use Rattle.ws_steps.specs.declared.pipes.Prevent.{Prevent}
 use Rattle.ws_steps.specs.Calls.{Begun, begin}
 use Rattle.ws_steps.specs.Calls as calls
+use Rattle.ws_steps.specs.Cross as cross
+use Rattle.ws_steps.specs.Cross.{data_clone}
 use Rattle.ws_steps.specs.Effects.{type_error}
 use Rattle.ws_steps.specs.Pipes as pipe
 use Rattle.ws_steps.specs.Promises.{Entry as PromiseEntry, Table, next_id, fresh, outcome_at, entry_at}
@@ -24,9 +26,10 @@ use Rattle.ws_steps.specs.Slots.{Slots, empty}
 use Rattle.ws_steps.specs.Tee as tee
 use Rattle.ws_laws.proofs.Shapes.{tee_shape}
 use Rattle.ws_pipe_laws.proofs.Kept.{each_pipe_stays}
-use Rattle.ws_reason_laws.specs.Origins.{through, origins, AreUnlocked, IsOpen, EachReasonHasAnOrigin}
+use Rattle.ws_reason_laws.specs.Origins.{through, by_ports, origins, AreUnlocked, IsOpen, EachReasonHasAnOrigin}
 use Rattle.ws_reason_laws.specs.Reasons.{failures, is_pair, NeedsTee}
 use Rattle.ws_laws.proofs.Halves.{halved-empty}
+use Rattle.ws_laws.proofs.Ended.{ended-empty, PortShape, port_shape}
 use Rattle.ws_reason_laws.proofs.Among.{same_reason, reason_same, reason_self, is_among, bad_unless, all-good, good_among, among_contained}
 use Rattle.ws_reason_laws.proofs.Answers.{bad_call, bad-append}
 use Rattle.ws_reason_laws.proofs.Begins.{own-known}
@@ -37,7 +40,7 @@ use Rattle.ws_reason_laws.proofs.Moments.{moment-empty}
 use Rattle.ws_reason_laws.proofs.Newly.{made-opens}
 use Rattle.ws_reason_laws.proofs.Opening.{NewOpens}
 use Rattle.ws_reason_laws.proofs.Runs.{Whole, call-whole, run_then, bad_run, first-good, run-whole}
-use Rattle.ws_reason_laws.proofs.Teed.{Paired, paired-before}
+use Rattle.ws_reason_laws.proofs.Teed.{Paired, Fair, fair-before}
 use Rattle.ws_reason_laws.proofs.Weights.{Class, in_outcome, in_entry, in_table, bad_of, minds, count}
 
 none_some : (y : pipe.Slots) → ◌≡◌ {A = Option pipe.Slots} None (Some y) → ⊥
@@ -126,7 +129,7 @@ unfolding in_table
 known-empty bad me = record { hands = λ i. true; mine = tt; good = λ f g same reads. refl }
 
 pub whole-empty : (bad : Badness) (me : PipeId) → Whole bad me None empty []
-whole-empty bad me = record { moment = moment-empty; halved = λ i y e. cc; opens = λ p x e m g. cc; known = known-empty bad me; halves = halved-empty; erring = tt }
+whole-empty bad me = record { moment = moment-empty; halved = λ i y e. cc; opens = λ p x e m g. cc; known = known-empty bad me; halves = halved-empty; ended = ended-empty; erring = tt }
 
 -- what a promise that hands on was rejected with
 
@@ -161,9 +164,9 @@ run-append bad (x ∷ xs) ys s =
 -- where no reason is bad that calls gave by which something fails, or brought through a transform stream, none is bad with which the pipe's
 -- promise is rejected
 good-rejection : (bad : Badness) (opening xs : List Entry) (i j : StreamId) (prevent : Prevent) (signal : Option SignalId) (q : PromiseId) (r : Plain) → let s : Slots = run opening empty in
-    let entries : List Entry = opening ++ Called (Pipe i j prevent signal) ∷ xs in bad_run bad entries empty ≡ 0 → Halved bad.half (run entries empty) → Paired bad.of (run entries empty)
+    let entries : List Entry = opening ++ Called (Pipe i j prevent signal) ∷ xs in bad_run bad entries empty ≡ 0 → Halved bad.half (run entries empty) → Fair bad.of (run entries empty)
     → AreUnlocked i j s → reply_to (Pipe i j prevent signal) s ≡ Promise q → (nat_eq (bad.of type_error) 0 ≡ false → IsOpen j s) → outcome_at (run entries empty).promises q ≡ Some (Rejected r) → bad.of r ≡ 0
-good-rejection bad opening xs i j prevent signal q r good halved paired free reply ready out =
+good-rejection bad opening xs i j prevent signal q r good halved fairs free reply ready out =
     let s : Slots = run opening empty in
     let c : Call = Pipe i j prevent signal in
     let me : PipeId = record { 0 = length s.pipes } in
@@ -172,9 +175,9 @@ good-rejection bad opening xs i j prevent signal q r good halved paired free rep
     let d = first-good bad (Called c) xs s in
     let rest : run (opening ++ Called c ∷ xs) empty ≡ run (Called c ∷ xs) s = run_then opening (Called c ∷ xs) empty in
     let later : Halved bad.half (run (Called c ∷ xs) s) = subst (Halved bad.half) rest halved in
-    let pairs : Paired bad.of (run (Called c ∷ xs) s) = subst (Paired bad.of) rest paired in
+    let pairs : Fair bad.of (run (Called c ∷ xs) s) = subst (Fair bad.of) rest fairs in
     let w1 : Whole bad me None s [] =
-    run-whole bad me None (Before me) (λ s x xs f. f) (before-new mind me) [] opening (pipe_past s.pipes) (omega (arith, a, good)) (halved-before bad.half (Called c ∷ xs) s later) (paired-before bad.of (Called c ∷ xs) s pairs) (whole-empty bad me) in
+    run-whole bad me None (Before me) (λ s x xs f. f) (before-new mind me) [] opening (pipe_past s.pipes) (omega (arith, a, good)) (halved-before bad.half (Called c ∷ xs) s later) (fair-before bad.of (Called c ∷ xs) s pairs) (whole-empty bad me) in
     let w2 : Whole bad me (Some q.0) (step s (Called c)) [] = pipe-whole bad opening i j prevent signal q free reply ready (omega (arith, a, d, good)) (halved-begun bad.half c xs s later) w1 in
     let pre : List Entry = opening ++ Called c ∷ [] in
     let at : run pre empty ≡ step s (Called c) = run_then opening (Called c ∷ []) empty in
@@ -219,7 +222,7 @@ abbrev pub but_origins : List Plain → List Entry → Badness
 but_origins others entries = record { of = but_pairs (run entries empty).tees (bad_unless (others ++ origins entries)); half = half_at (run entries empty) }
 
 -- where there is a tee no pair is bad
-pub paired-end : (others : List Plain) (entries : List Entry) → Paired (but_origins others entries).of (run entries empty)
+paired-end : (others : List Plain) (entries : List Entry) → Paired (but_origins others entries).of (run entries empty)
 paired-end others entries t x e = by (run entries empty).tees e
   where
     by : (xs : List tee.Slots) → slice_get (map tee_shape xs) t.0 ≡ Some x → but_pairs xs (bad_unless (others ++ origins entries)) (Pair t) ≡ 0
@@ -229,15 +232,32 @@ paired-end others entries t x e = by (run entries empty).tees e
 pub of-origins : (others : List Plain) (entries : List Entry) (r : Plain) → NeedsTee r entries → (but_origins others entries).of r ≡ 0 → is_among r (others ++ origins entries) ≡ true
 of-origins others entries r n h = good_among (others ++ origins entries) r (unpaired (run entries empty).tees (bad_unless (others ++ origins entries)) r n h)
 
-pub origins-good : (others : List Plain) (entries : List Entry) → bad_run (but_origins others entries) entries empty ≡ 0
-origins-good others entries =
+-- no origin is bad
+origins-parts : (others : List Plain) (entries : List Entry) → let bad : Plain → ℕ = (but_origins others entries).of in
+    bad_of bad (failures entries) + (bad_of bad (through entries empty) + bad_of bad (by_ports (run entries empty).ports)) ≡ 0
+origins-parts others entries =
     let bad : Plain → ℕ = but_pairs (run entries empty).tees (bad_unless (others ++ origins entries)) in
     let g = all-good (others ++ origins entries) in
     let l = pairs-all (run entries empty).tees (bad_unless (others ++ origins entries)) (others ++ origins entries) in
     let a : bad_of bad (others ++ origins entries) ≡ 0 = omega (arith, g, l) in
     let b = bad-append bad others (origins entries) in
-    let c = bad-append bad (failures entries) (through entries empty) in
-    omega (arith, a, b, c)
+    let c = bad-append bad (failures entries) (through entries empty ++ by_ports (run entries empty).ports) in
+    let d = bad-append bad (through entries empty) (by_ports (run entries empty).ports) in
+    omega (arith, a, b, c, d)
+
+pub origins-good : (others : List Plain) (entries : List Entry) → bad_run (but_origins others entries) entries empty ≡ 0
+origins-good others entries = let a = origins-parts others entries in omega (arith, a)
+
+-- where there is a port no DataCloneError is bad
+pub fair-end : (others : List Plain) (entries : List Entry) → Fair (but_origins others entries).of (run entries empty)
+fair-end others entries = (paired-end others entries, λ c x e. by (run entries empty).ports c.0 x e (let a = origins-parts others entries in omega (arith, a)))
+  where
+    bad : Plain → ℕ
+    bad = (but_origins others entries).of
+
+    by : (ps : List cross.Slots) (n : ℕ) (x : PortShape) → slice_get (map port_shape ps) n ≡ Some x → bad_of bad (by_ports ps) ≡ 0 → bad data_clone ≡ 0
+    by [] n x e h = cc
+    by (y ∷ ys) n x e h = omega (arith, h)
 
 -- where a TypeError is one of the reasons it isn't bad
 fair : (rs : List Plain) → nat_eq (bad_unless (type_error ∷ rs) type_error) 0 ≡ false → ⊥
@@ -256,11 +276,11 @@ reason-has-an-origin opening xs i j prevent signal q r free reply ready need out
         let o : IsOpen j (run opening empty) = ready (sym (reason_same type_error r e)) in
         among_contained r (origins entries)
         (of-origins [] entries r need
-        (good-rejection (but_origins [] entries) opening xs i j prevent signal q r (origins-good [] entries) (halved-end (run entries empty)) (paired-end [] entries) free reply (λ n. o) out))
+        (good-rejection (but_origins [] entries) opening xs i j prevent signal q r (origins-good [] entries) (halved-end (run entries empty)) (fair-end [] entries) free reply (λ n. o) out))
     by false e =
         let entries : List Entry = opening ++ Called (Pipe i j prevent signal) ∷ xs in
         let good =
-        good-rejection (but_origins (type_error ∷ []) entries) opening xs i j prevent signal q r (origins-good (type_error ∷ []) entries) (halved-end (run entries empty)) (paired-end (type_error ∷ []) entries) free reply
+        good-rejection (but_origins (type_error ∷ []) entries) opening xs i j prevent signal q r (origins-good (type_error ∷ []) entries) (halved-end (run entries empty)) (fair-end (type_error ∷ []) entries) free reply
         (λ n. absurd (unfair (run entries empty).tees (origins entries) n)) out in
         let among : is_among r (type_error ∷ origins entries) ≡ true = of-origins (type_error ∷ []) entries r need good in
         among_contained r (origins entries) (rw e at among)

@@ -81,6 +81,7 @@ stands-call i y c s h =
       signal = λ z h. h;
       transform = λ z kind w r change h. h;
       tee = λ z source first second cancel h. h;
+      port = λ z side stream backpressure h. h;
       bytes = λ z mark auto h. more z.streams i.0 _ y h;
       byob_requests = λ z hs h. h;
       readable = λ z o mark size h. more z.streams i.0 _ y h;

@@ -8,6 +8,7 @@ pub mod Writables
 pub mod Pipes
 pub mod Transforms
 pub mod Tees
+pub mod Ports
 pub mod Rows
 pub mod Known
 pub mod Halved

@@ -256,6 +256,7 @@ begin-rested c s r =
       signal = λ z k. k;
       transform = λ z kind i j change k. k;
       tee = λ z source first second cancel k. k;
+      port = λ z side stream backpressure k. k;
       bytes = λ z mark auto k. added-rested z _ (λ i e. cc) k;
       byob_requests = λ z hs k. k;
       readable = λ z owner mark size k. added-rested z _ (λ i e. cc) k;

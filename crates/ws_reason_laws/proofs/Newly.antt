@@ -1,24 +1,27 @@
 -- A new pipe that minds has a destination that is neither closing nor closed, and asks it for nothing.
-use Rattle.std.proofs.Common.{◌≡◌, ℕ, Bool, true, false, ◌||◌, nat_eq, if◌then◌else◌, List, [], ◌∷◌, ◌++◌, length, Option, Some, None, slice_get, ⊎_elim, refl, sym, ap, subst, ◌∙◌, arith}
+use Rattle.std.proofs.Common.{◌≡◌, ℕ, Bool, true, false, ◌||◌, nat_eq, nat_lt, map, if◌then◌else◌, List, [], ◌∷◌, ◌++◌, length, Option, Some, None, slice_get, ⊎_elim, refl, sym, ap, subst, ◌∙◌, arith}
 use Rattle.ws_value.specs.declared.ids.PipeId.{PipeId}
 use Rattle.ws_value.specs.declared.ids.PromiseId.{PromiseId}
 use Rattle.ws_value.specs.declared.ids.SignalId.{SignalId}
 use Rattle.ws_value.specs.declared.ids.StreamId.{StreamId}
 use Rattle.ws_value.specs.declared.value.Plain.{Plain}
 use Rattle.ws_steps.specs.declared.calls.Call.{Call}
-use Rattle.ws_steps.specs.declared.calls.Call.TheVariants.{Pipe}
+use Rattle.ws_steps.specs.declared.calls.Call.TheVariants.{Pipe, Send}
+use Rattle.ws_steps.specs.declared.calls.Reply.TheVariants.{TooMany}
 use Rattle.ws_steps.specs.declared.pipes.Prevent.{Prevent}
+use Rattle.ws_steps.specs.declared.port.Side.TheVariants.{Readable as ReadableSide, Writable as WritableSide}
 use Rattle.ws_steps.specs.Calls.{Begun, begin}
 use Rattle.ws_steps.specs.Calls as calls
 use Rattle.ws_steps.specs.Effects.{type_error}
 use Rattle.ws_steps.specs.Pipes as pipe
 use Rattle.ws_steps.specs.Promises.{next_id, fresh}
 use Rattle.ws_steps.specs.ReadableLooks as readable_looks
-use Rattle.ws_steps.specs.Slots.{Slots, has_source, has_writable, has_signal, readable_at, source_at, writable_at}
+use Rattle.ws_steps.specs.Slots.{Slots, Stream, most_streams, has_source, has_writable, has_signal, readable_at, source_at, writable_at}
 use Rattle.ws_steps.specs.Writable.{is_closed, is_closing}
 use Rattle.ws_steps.specs.WritableLooks as writable_looks
+use Rattle.ws_laws.proofs.Shapes.{stream_shape}
 use Rattle.ws_laws.proofs.Tables.{either, eq_numbers}
-use Rattle.ws_pipe_laws.specs.PipeMoves.{MakesPipes, MakesNone, MakesOne}
+use Rattle.ws_pipe_laws.specs.PipeMoves.{MakesPipes, MakesNone, MakesOne, SendsReadable, SendsWritable}
 use Rattle.ws_pipe_laws.proofs.Courses.{appended}
 use Rattle.ws_pipe_laws.proofs.Made.{each_pipe_begins_flowing}
 use Rattle.ws_writable_laws.proofs.Shape.{all}
@@ -117,21 +120,78 @@ module _ (bad : Badness) (me : PipeId) (s : Slots) (halved : Halved bad.half s) 
       by true e b f n = absurd (n (rw e refl))
       by false e true f n = absurd (n (rw (e, f) refl))
 
-  other-opens : (p : PipeId) (c : Call) → nat_eq p.0 me.0 ≡ false → bad_of bad.of (through_of c s) ≡ 0 → NewOpens (mind p) p c s
-  other-opens p c other h = by (each_pipe_begins_flowing c s)
+  -- a pipe behind a port, where it is another, has a new destination, or a source that is no half of a transform stream
+
+  module _ (p : PipeId) (other : nat_eq p.0 me.0 ≡ false) where
+    abbrev Sent : Begun → Type 0
+    Sent b = Halved bad.half b.done.slots → Opening (mind p) p s b
+
+    abbrev j : StreamId
+    j = record { 0 = length s.streams }
+
+    stream-last : (xs : List Stream) (x : Stream) → slice_get (xs ++ x ∷ []) (length xs) ≡ Some x
+    stream-last [] x = refl
+    stream-last (y ∷ xs) x = stream-last xs x
+
+    shape-last : (xs : List Stream) (x : Stream) → slice_get (map stream_shape (xs ++ x ∷ [])) (length xs) ≡ Some (stream_shape x)
+    shape-last [] x = refl
+    shape-last (y ∷ xs) x = shape-last xs x
+
+    new-opened : Opened j (writable_at j (calls.add_port j s WritableSide))
+    new-opened = rw (stream-last s.streams (calls.end_of (record { 0 = length s.ports }) WritableSide)) (record { closing = refl; closed = refl })
+
+    minds-none : Halved bad.half (calls.add_port j s ReadableSide) → mind p j calls.no_prevent ≡ true → ⊥
+    minds-none h m =
+        let n : bad.half j.0 ≡ false = h j _ (shape-last s.streams (calls.end_of (record { 0 = length s.ports }) ReadableSide)) in
+        grind (arith, m, n, other)
+
+    sends-readable : (i : StreamId) → Sent (calls.send_readable i j s)
+    sends-readable i h x none there m g =
+        let o = made-opens (mind p) p (calls.add_port j s WritableSide) i j calls.no_prevent None (λ m. new-opened) x none there m g in (o.0, omega (arith, o.1))
+
+    sends-writable : (i : StreamId) → Sent (calls.send_writable i j s)
+    sends-writable i h x none there m g =
+        let o = made-opens (mind p) p (calls.add_port j s ReadableSide) j i calls.no_prevent None (λ n. absurd (minds-none h n)) x none there m g in (o.0, omega (arith, o.1))
+
+    made-sent : (make : StreamId → Slots → Begun) → Sent (make j s) → Sent (calls.make_stream make s)
+    made-sent make k = either Sent (nat_lt (length s.streams) most_streams) (make j s) (calls.replies TooMany s) (λ e. k) (λ e h. same-opens (mind p) p s (calls.replies TooMany s) refl)
+
+    sends : (i : StreamId) → Sent (calls.send i s)
+    sends i =
+        either Sent (has_source i s) _ _
+        (λ there. either Sent (has_source i s) _ _
+        (λ e. either Sent (readable_looks.is_locked (source_at i s)) _ _ (λ l h. same-opens (mind p) p s (calls.throws_data_clone s) refl) (λ free. made-sent (calls.send_readable i) (sends-readable i)))
+        (λ e h. same-opens (mind p) p s (calls.unsupported s) refl))
+        (λ none. either Sent (has_writable i s) _ _
+        (λ e. either Sent (writable_looks.is_locked (writable_at i s)) _ _ (λ l h. same-opens (mind p) p s (calls.throws_data_clone s) refl) (λ free. made-sent (calls.send_writable i) (sends-writable i)))
+        (λ e h. same-opens (mind p) p s (calls.unsupported s) refl))
+
+    send-opens : (i : StreamId) → Halved bad.half (begin (Send i) s).done.slots → NewOpens (mind p) p (Send i) s
+    unfolding begin
+    send-opens i h = sends i h
+
+  other-opens : (p : PipeId) (c : Call) → nat_eq p.0 me.0 ≡ false → Halved bad.half (begin c s).done.slots → bad_of bad.of (through_of c s) ≡ 0 → NewOpens (mind p) p c s
+  other-opens p c other halves h = by (each_pipe_begins_flowing c s)
     where
+      sent : (i : StreamId) → c ≡ Send i → NewOpens (mind p) p c s
+      sent i e =
+          let k : Halved bad.half (begin (Send i) s).done.slots = subst (λ (d : Call). Halved bad.half (begin d s).done.slots) e halves in
+          subst (λ (d : Call). NewOpens (mind p) p d s) (sym e) (send-opens p other i k)
+
       by : MakesPipes c s (begin c s) → NewOpens (mind p) p c s
       by (MakesNone e) = same-opens (mind p) p s (begin c s) e
       by (MakesOne i j prevent signal y e f n) =
           let g : bad_of bad.of (through_of (Pipe i j prevent signal) s) ≡ 0 = subst (λ (d : Call). bad_of bad.of (through_of d s) ≡ 0) e h in
           subst (λ (d : Call). NewOpens (mind p) p d s) (sym e) (pipe-opens (mind p) p s i j prevent signal (minding-opened p i j prevent other g))
+      by (SendsReadable i y e there f n) = sent i e
+      by (SendsWritable i y e none there f n) = sent i e
 
   -- where it does so for the pipe that is looked at, it does for each
-  pub each-opens : (c : Call) → bad_of bad.of (through_of c s) ≡ 0 → NewOpens (mind me) me c s → (p : PipeId) → NewOpens (mind p) p c s
-  each-opens c h mine p = by (nat_eq p.0 me.0) refl
+  pub each-opens : (c : Call) → Halved bad.half (begin c s).done.slots → bad_of bad.of (through_of c s) ≡ 0 → NewOpens (mind me) me c s → (p : PipeId) → NewOpens (mind p) p c s
+  each-opens c halves h mine p = by (nat_eq p.0 me.0) refl
     where
       by : (b : Bool) → nat_eq p.0 me.0 ≡ b → NewOpens (mind p) p c s
-      by false e = other-opens p c e h
+      by false e = other-opens p c e halves h
       by true e =
           let is : me ≡ p = ap (λ (n : ℕ). record { 0 = n }) (sym (eq_numbers p.0 me.0 e)) in
           subst (λ (q : PipeId). NewOpens (mind q) q c s) is mine

@@ -241,6 +241,7 @@ module _ (me : PipeId) (y : pipe.Slots) where
         signal = λ z k. k;
         transform = λ z kind i j change k. k;
         tee = λ z source first second cancel k. k;
+        port = λ z side stream backpressure k. k;
         bytes = λ z mark auto k. added z _ k;
         byob_requests = λ z hs k. k;
         readable = λ z owner mark size k. added z _ k;
@@ -258,6 +259,7 @@ begin-there me y c s k =
       signal = λ z k. k;
       transform = λ z kind i j change k. k;
       tee = λ z source first second cancel k. k;
+      port = λ z side stream backpressure k. k;
       bytes = λ z mark auto k. k;
       byob_requests = λ z hs k. k;
       readable = λ z owner mark size k. k;

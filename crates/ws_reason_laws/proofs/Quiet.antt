@@ -1,5 +1,5 @@
 -- Calls that bring nothing, neither through a transform stream nor into a byte stream, and runs of them: there each origin is a failure.
-use Rattle.std.proofs.Common.{◌≡◌, Bool, true, false, List, [], ◌∷◌, ◌++◌, Option, Contains, refl, subst, ap, ◌∙◌, arith}
+use Rattle.std.proofs.Common.{◌≡◌, Bool, true, false, ◌||◌, List, [], ◌∷◌, ◌++◌, Option, Contains, refl, arith}
 use Rattle.ws_value.specs.declared.ids.SignalId.{SignalId}
 use Rattle.ws_value.specs.declared.ids.StreamId.{StreamId}
 use Rattle.ws_value.specs.declared.value.Plain.{Plain}
@@ -13,8 +13,10 @@ use Rattle.ws_steps.specs.Slots.{Slots, empty, byte_at, writable_at}
 use Rattle.ws_steps.specs.Descriptors.{has_part}
 use Rattle.ws_steps.specs.Writable.{is_closed, is_closing}
 use Rattle.ws_reason_laws.specs.Origins.{through_of, through, origins}
-use Rattle.ws_reason_laws.specs.Reasons.{failures, IsFree}
+use Rattle.ws_reason_laws.specs.Reasons.{failures, IsFree, NeedsPort}
+use Rattle.ws_reason_laws.proofs.Among.{is_among, among_contained}
 use Rattle.ws_reason_laws.proofs.Brought.{through-append}
+use Rattle.ws_reason_laws.proofs.Failed.{origin-either}
 
 -- a call that brings nothing whatever it finds: no cancel, no read into a room, no close, no pipe, and none that terminates a transform stream or
 -- makes an identity
@@ -62,10 +64,11 @@ entry-none s Heard n = refl
 pub through-snoc : (xs : List Entry) (x : Entry) (s : Slots) → through xs s ≡ [] → BringsNone (run xs s) x → through (xs ++ x ∷ []) s ≡ []
 through-snoc xs x s h n = let e = entry-none (run xs s) x n in rw (through-append xs (x ∷ []) s, h) e
 
--- where nothing came through each origin is a failure
-pub origin-failed : (entries : List Entry) (r : Plain) → through entries empty ≡ [] → Contains (origins entries) r → Contains (failures entries) r
-origin-failed entries r n c = subst (λ (rs : List Plain). Contains rs r) (ap (λ (rs : List Plain). failures entries ++ rs) n ∙ append_nil (failures entries)) c
+-- where nothing came through, nor from a port, each origin is a failure
+pub origin-failed : (entries : List Entry) (r : Plain) → through entries empty ≡ [] → NeedsPort r entries → Contains (origins entries) r → Contains (failures entries) r
+origin-failed entries r n need c =
+    let o = origin-either entries r need c in among_contained r (failures entries) (first (is_among r (failures entries)) (rw n at o))
   where
-    append_nil : (rs : List Plain) → rs ++ [] ≡ rs
-    append_nil [] = refl
-    append_nil (x ∷ rs) = ap (λ (ys : List Plain). x ∷ ys) (append_nil rs)
+    first : (b : Bool) → (b || false) ≡ true → b ≡ true
+    first true e = refl
+    first false e = e

@@ -14,11 +14,11 @@ use Rattle.ws_steps.specs.declared.calls.HostCall.{HostCall}
 use Rattle.ws_steps.specs.declared.calls.StartBy.{StartBy}
 use Rattle.ws_steps.specs.declared.calls.StartBy.TheVariants.{Now, Later}
 use Rattle.ws_steps.specs.declared.effects.Effect.{Effect}
-use Rattle.ws_steps.specs.declared.effects.Effect.TheVariants.{Readable, Writable, Pipe, Signal, Transform, Tee, StartAlgorithm, PullAlgorithm, CancelAlgorithm, WriteAlgorithm, CloseAlgorithm, AbortAlgorithm, ChunkSteps, CloseSteps, ErrorSteps, Give, Settle, Queue, CallHost}
+use Rattle.ws_steps.specs.declared.effects.Effect.TheVariants.{Readable, Writable, Pipe, Signal, Transform, Tee, Port, StartAlgorithm, PullAlgorithm, CancelAlgorithm, WriteAlgorithm, CloseAlgorithm, AbortAlgorithm, ChunkSteps, CloseSteps, ErrorSteps, Give, Settle, Queue, CallHost}
 use Rattle.ws_steps.specs.declared.effects.Gift.{Gift}
 use Rattle.ws_steps.specs.declared.effects.Gift.TheVariants.{This, Fresh}
 use Rattle.ws_steps.specs.declared.effects.Owner.{Owner}
-use Rattle.ws_steps.specs.declared.effects.Owner.TheVariants.{Host, HalfOf, BranchOf}
+use Rattle.ws_steps.specs.declared.effects.Owner.TheVariants.{Host, HalfOf, BranchOf, EndOf}
 use Rattle.ws_steps.specs.declared.effects.Use.{Use}
 use Rattle.ws_steps.specs.declared.effects.Use.TheVariants.{React}
 use Rattle.ws_steps.specs.declared.pipes.PipeOperation.{PipeOperation}
@@ -30,19 +30,22 @@ use Rattle.ws_steps.specs.declared.readable.ReadRequest.{ReadRequest}
 use Rattle.ws_steps.specs.declared.readable.ReadRequest.TheVariants.{Promise, Pipe as PipeRequest, Tee as TeeRequest}
 use Rattle.ws_steps.specs.declared.readable.ReadableOperation.{ReadableOperation}
 use Rattle.ws_value.specs.declared.ids.TeeId.{TeeId}
+use Rattle.ws_value.specs.declared.ids.PortId.{PortId}
 use Rattle.ws_steps.specs.declared.tee.TeeOperation.{TeeOperation}
+use Rattle.ws_steps.specs.declared.port.PortOperation.{PortOperation}
 use Rattle.ws_steps.specs.declared.transform.TransformId.{TransformId}
 use Rattle.ws_steps.specs.declared.transform.TransformOperation.{TransformOperation}
 use Rattle.ws_steps.specs.declared.writable.WritableOperation.{WritableOperation}
-use Rattle.ws_steps.specs.Operations.{readable_operation, writable_operation, pipe_operation, signal_operation, transform_operation, tee_operation}
+use Rattle.ws_steps.specs.Operations.{readable_operation, writable_operation, pipe_operation, signal_operation, transform_operation, tee_operation, port_operation}
 use Rattle.ws_steps.specs.Pipes as pipe
 use Rattle.ws_steps.specs.Pipes.{abort_all, trigger_unless}
 use Rattle.ws_steps.specs.Promises.{Table, next_id, fresh, fresh_settled, settle, tell, use_gift, queue_micro}
 use Rattle.ws_steps.specs.Readable as readable
 use Rattle.ws_steps.specs.Tee as tee
+use Rattle.ws_steps.specs.Cross as cross
 use Rattle.ws_steps.specs.Transform as transform
 use Rattle.ws_steps.specs.Writable as writable
-use Rattle.ws_steps.specs.Slots.{Slots, Stream, ReadableStream, WritableStream, Done, nothing, found, has_readable, has_writable, readable_at, writable_at, as_readable, as_source, as_writable, owner_at, put_readable, put_writable, on_readable, on_writable, on_pipe_at, on_signal_at, on_transform_at, on_tee_at, is_teed, is_readable_stream, is_byte_stream, has_source, source_at, ends_at, halves_at}
+use Rattle.ws_steps.specs.Slots.{Slots, Stream, ReadableStream, WritableStream, Done, nothing, found, has_readable, has_writable, readable_at, writable_at, as_readable, as_source, as_writable, owner_at, put_readable, put_writable, on_readable, on_writable, on_pipe_at, on_signal_at, on_transform_at, on_tee_at, on_port_at, clones_at, is_teed, is_readable_stream, is_byte_stream, has_source, source_at, ends_at, halves_at}
 use Rattle.ws_steps.specs.Turns.{row, start_algorithm, pull_algorithm, cancel_algorithm, write_algorithm, close_algorithm, abort_algorithm, chunk_steps, close_steps, error_steps, call_host}
 use Rattle.ws_laws.proofs.Rows.{Changes, row-changes}
 use Rattle.ws_laws.proofs.Tables.{either, readable_there, writable_there, readable_acts, writable_acts}
@@ -54,8 +57,9 @@ use Rattle.ws_reason_laws.proofs.Bytes.{inner, byte_readable-good, byte-good}
 use Rattle.ws_reason_laws.proofs.Erring.{errs}
 use Rattle.ws_reason_laws.proofs.Readables.{Good, lets_go, effects-append, readable-good}
 use Rattle.ws_reason_laws.proofs.Tees.{tee-good}
+use Rattle.ws_reason_laws.proofs.Ports.{port-good}
 use Rattle.ws_reason_laws.proofs.Transforms.{transform-good}
-use Rattle.ws_reason_laws.proofs.Weights.{Class, of_result, of_reason, cancelled, of_step, soft, loud, loud_one, settles, in_table, in_request, uses, of_use, gives, of_readable, of_byte, of_writable, of_pipe, of_signal, of_transform, of_tee, soft_reader, in_reader, in_effect, in_effects, is_errored, in_readable, has_error, in_writable, in_stream, in_streams, in_pipe, in_pipes, in_signals, minds, in_ends, in_transform, in_transforms, in_halves, in_tee, in_tees, in_slots, AllGood, count}
+use Rattle.ws_reason_laws.proofs.Weights.{Class, of_result, of_reason, cancelled, of_step, soft, loud, loud_one, settles, in_table, in_request, uses, of_use, gives, of_readable, of_byte, of_writable, of_pipe, of_signal, of_transform, of_tee, of_port, soft_reader, in_reader, in_effect, in_effects, is_errored, in_readable, has_error, in_writable, in_stream, in_streams, in_pipe, in_pipes, in_signals, minds, in_ends, in_transform, in_transforms, in_halves, in_tee, in_tees, in_port, in_ports, in_slots, AllGood, count}
 use Rattle.ws_reason_laws.proofs.Writables.{Expects, writable-good}
 use Rattle.ws_steps.specs.declared.effects.Effect.TheVariants.{CloseStepsWith}
 use Rattle.ws_steps.specs.Slots.{ByteStream, has_byte, byte_at, on_byte, put_byte}
@@ -150,6 +154,20 @@ tee-there k n (y ∷ xs) zero x at e f h =
     some_tee : (v w : tee.Slots) → ◌≡◌ {A = Option tee.Slots} (Some v) (Some w) → v ≡ w
     some_tee v w e = cc
 tee-there k n (y ∷ xs) (suc i) x at e f h = tee-there k (suc n) xs i x at (omega (arith, e)) f (omega (arith, h))
+
+ports-set : (k : Class) (xs : List cross.Slots) (i : ℕ) (y : cross.Slots) → in_ports k xs ≡ 0 → in_port k y ≡ 0 → in_ports k (slice_set xs i y) ≡ 0
+ports-set k [] i y h g = refl
+ports-set k (x ∷ xs) zero y h g = omega (arith, h, g)
+ports-set k (x ∷ xs) (suc i) y h g = let e = ports-set k xs i y (omega (arith, h)) g in omega (arith, h, e)
+
+abbrev in_end : Class → Option cross.Slots → ℕ
+in_end k None = 0
+in_end k (Some x) = in_port k x
+
+port-there : (k : Class) (xs : List cross.Slots) (i : ℕ) → in_ports k xs ≡ 0 → in_end k (slice_get xs i) ≡ 0
+port-there k [] i h = refl
+port-there k (x ∷ xs) zero h = omega (arith, h)
+port-there k (x ∷ xs) (suc i) h = port-there k xs i (omega (arith, h))
 
 -- what is to be known before an effect, where `me` is the pipe that is looked at
 
@@ -362,6 +380,20 @@ module _ (k : Class) (m : ℕ) where
       all_loud : (i : ℕ) → k.hands i ≡ true → loud k i ≡ 0
       all_loud i e = grind (arith, e)
 
+  port-row : (t : PortId) (operation : PortOperation) (s : Slots) (o : Option cross.Slots) → slice_get s.ports t.0 ≡ o → in_slots k s ≡ 0 → of_port k operation ≡ 0 → News s true
+      → Until (on_port_at (λ clones. port_operation t clones operation) t s o)
+  port-row t operation s None e h f l q = omega (arith, h)
+  port-row t operation s (Some x) e h f l q =
+      let there : in_port k x ≡ 0 = subst (λ (o : Option cross.Slots). in_end k o ≡ 0) e (port-there k s.ports t.0 (omega (arith, h))) in
+      let a : cross.Acts = record { slots = x; out = found s } in
+      let b : cross.Acts = port_operation t (clones_at x s) operation a in
+      let g = port-good k t m (clones_at x s) operation a f (λ i n z. all_loud i (l i n z)) (omega (arith, h, there)) q in
+      let z = ports-set k s.ports t.0 b.slots (omega (arith, h)) (omega (arith, g)) in
+      omega (arith, h, g, z)
+    where
+      all_loud : (i : ℕ) → k.hands i ≡ true → loud k i ≡ 0
+      all_loud i e = grind (arith, e)
+
   -- the promises alone change
   promises-row : (s : Slots) (t : Table) (hosts : List (Option PromiseId)) (cs : List Effect) → in_slots k s ≡ 0 → in_table k t ≡ 0 → in_effects k cs ≡ 0 → Row (record { slots = record s { promises = t; hosts = hosts }; caused = cs })
   promises-row s t hosts cs h g f = omega (arith, h, g, f)
@@ -412,26 +444,31 @@ module _ (k : Class) (m : ℕ) where
   pulls i u Host z = omega (arith, z)
   pulls i u (HalfOf t) z = omega (arith, z)
   pulls i u (BranchOf t half) z = omega (arith, z)
+  pulls i u (EndOf c) z = omega (arith, z)
 
   cancels : (i : StreamId) (r : Plain) (u : Use) (owner : Owner) → cancelled k i r ≡ 0 → (is_half owner ≡ true → k.half i.0 ≡ true) → of_use k u ≡ 0 → in_effects k (cancel_algorithm i r u owner) ≡ 0
   cancels i r u Host f x z = omega (arith, z)
   cancels i r u (HalfOf t) f x z = let b : k.bad r ≡ 0 = rw (x refl) at f in omega (arith, b, z)
   cancels i r u (BranchOf t half) f x z = omega (arith, z)
+  cancels i r u (EndOf c) f x z = omega (arith, z)
 
   hands : (i : StreamId) (owner : Owner) → in_effects k (write_algorithm i owner) ≡ 0
   hands i Host = refl
   hands i (HalfOf t) = refl
   hands i (BranchOf t half) = refl
+  hands i (EndOf c) = refl
 
   closes : (i : StreamId) (u : Use) (owner : Owner) → of_use k u ≡ 0 → in_effects k (close_algorithm i u owner) ≡ 0
   closes i u Host z = omega (arith, z)
   closes i u (HalfOf t) z = omega (arith, z)
   closes i u (BranchOf t half) z = omega (arith, z)
+  closes i u (EndOf c) z = omega (arith, z)
 
   aborts : (i : StreamId) (r : Plain) (u : Use) (owner : Owner) → k.bad r ≡ 0 → of_use k u ≡ 0 → in_effects k (abort_algorithm i r u owner) ≡ 0
   aborts i r u Host f z = omega (arith, z)
   aborts i r u (HalfOf t) f z = omega (arith, f, z)
   aborts i r u (BranchOf t half) f z = omega (arith, z)
+  aborts i r u (EndOf c) f z = omega (arith, f, z)
 
   chunk-row : (v : Value) (s : Slots) (request : ReadRequest) → in_slots k s ≡ 0 → Row (chunk_steps v s request)
   chunk-row v s (Promise p) h = let a = answer-keeps k p (Given v) s.promises (omega (arith, h)) refl in omega (arith, h, a)
@@ -462,6 +499,7 @@ module _ (k : Class) (m : ℕ) where
   row-good (Signal a operation) s h f x gone l q = signal-row a operation s (slice_get s.signals a.0) refl h f
   row-good (Transform t operation) s h f x gone l q = transform-row t operation s (slice_get s.transforms t.0) refl h f l q
   row-good (Tee t operation) s h f x gone l q = tee-row t operation s (slice_get s.tees t.0) refl h f l q
+  row-good (Port t operation) s h f x gone l q = port-row t operation s (slice_get s.ports t.0) refl h f l q
   row-good (StartAlgorithm i step start) s h f x gone l q = start-row i step s start h f l q
   row-good (PullAlgorithm i) s h f x gone l q = promises-row s s.promises s.hosts _ h (omega (arith, h)) (pulls i (React (ReadablePull i) None) (owner_at i s) refl)
   row-good (CancelAlgorithm i r p) s h f x gone l q = promises-row s s.promises s.hosts _ h (omega (arith, h)) (cancels i r (React ReturnUndefined (Some p)) (owner_at i s) f x refl)

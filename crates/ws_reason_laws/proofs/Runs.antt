@@ -21,6 +21,7 @@ use Rattle.ws_steps.specs.Slots.{Slots, Done, empty, writable_at, as_pipe, with_
 use Rattle.ws_steps.specs.Turns.{row, performed}
 use Rattle.ws_steps.specs.Writable.{is_closed, is_closing}
 use Rattle.ws_laws.proofs.Halves as halves
+use Rattle.ws_laws.proofs.Ended.{Ended, ended-stays}
 use Rattle.ws_laws.proofs.Walker.{performed-goes, untold}
 use Rattle.ws_lock_laws.specs.LockLaws.{all_spare}
 use Rattle.ws_lock_laws.proofs.Owning.{each_pipe_owns_its_ends}
@@ -38,7 +39,7 @@ use Rattle.ws_reason_laws.proofs.Newly.{each-opens}
 use Rattle.ws_reason_laws.proofs.Opening.{Opens, NewOpens, row-opens, call-opens, job-opens}
 use Rattle.ws_reason_laws.proofs.Pipes.{Finds}
 use Rattle.ws_reason_laws.proofs.Rows.{Fits}
-use Rattle.ws_reason_laws.proofs.Teed.{unteed, Paired, paired-begun}
+use Rattle.ws_reason_laws.proofs.Teed.{unteed, Fair, fair-begun}
 use Rattle.ws_reason_laws.proofs.Weights.{bad_of, minds}
 
 -- what holds at each moment of a run, where reasons are weighed, `me` is the pipe that is looked at, and `own` its promise once it is made
@@ -48,6 +49,7 @@ pub record Whole (bad : Badness) (me : PipeId) (own : Option ℕ) (s : Slots) (e
   pub opens : (p : PipeId) → Opens (minds bad.of bad.half me p) p s es
   pub known : Known bad me own s es
   pub halves : halves.Halved s
+  pub ended : Ended s
   pub erring : Erring bad.of s es
 
 flows_goes : (x : pipe.Slots) → pipe.is_flowing x.phase ≡ true → goes x.phase ≡ true
@@ -83,7 +85,8 @@ module _ (bad : Badness) (me : PipeId) (own : Option ℕ) where
     opens = λ p. row-opens (Mind p) p s es e w.moment (w.opens p);
     known = row-known bad me own s e es (fits s e es w) w.known;
     halves = halves.halved-stays.row s e es w.halves;
-    erring = erring-row bad.of s e es w.halves w.erring;
+    ended = ended-stays.row s e es w.ended;
+    erring = erring-row bad.of s e es w.halves w.ended w.erring;
   }
 
   performed-whole : (d : Done) → W d.slots d.caused → W (performed d) []
@@ -92,10 +95,10 @@ module _ (bad : Badness) (me : PipeId) (own : Option ℕ) where
   -- between effects
 
   older-whole : (s : Slots) → W s [] → W (older s) []
-  older-whole s w = record { moment = moment-older s w.moment; halved = w.halved; opens = w.opens; known = older-known bad me own s w.known; halves = w.halves; erring = tt }
+  older-whole s w = record { moment = moment-older s w.moment; halved = w.halved; opens = w.opens; known = older-known bad me own s w.known; halves = w.halves; ended = w.ended; erring = tt }
 
   watch-whole : (s : Slots) (p : PromiseId) → W s [] → W (with_promises (watch p s.promises) s) []
-  watch-whole s p w = record { moment = moment-watch s p w.moment; halved = w.halved; opens = w.opens; known = watch-known bad me own s p w.known; halves = w.halves; erring = tt }
+  watch-whole s p w = record { moment = moment-watch s p w.moment; halved = w.halved; opens = w.opens; known = watch-known bad me own s p w.known; halves = w.halves; ended = w.ended; erring = tt }
 
   named-whole : (reply : Reply) (s : Slots) → W s [] → W (named reply s) []
   named-whole (Promise p) s w = watch-whole s p w
@@ -118,11 +121,12 @@ module _ (bad : Badness) (me : PipeId) (own : Option ℕ) where
         opens = λ p. job-opens (Mind p) p job s (with_promises (after_next_job s.promises) s) refl refl (w.opens p);
         known = job-known bad me own s job e w.known;
         halves = w.halves;
+        ended = w.ended;
         erring = erring-job bad.of job (with_promises (after_next_job s.promises) s);
       }
 
   heard-whole : (s : Slots) → W s [] → W (after_event s) []
-  heard-whole s w = record { moment = moment-heard s w.moment; halved = w.halved; opens = w.opens; known = event-known bad me own s w.known; halves = w.halves; erring = tt }
+  heard-whole s w = record { moment = moment-heard s w.moment; halved = w.halved; opens = w.opens; known = event-known bad me own s w.known; halves = w.halves; ended = w.ended; erring = tt }
 
 -- the ends of the pipe are its own, so no call asks its destination to close
 
@@ -172,25 +176,26 @@ module _ (bad : Badness) (me : PipeId) (own : Option ℕ) where
       begun-whole bad me new c s (record {
         moment = moment-call s c w.moment;
         halved = there;
-        opens = λ p. call-opens (Mind bad me own p) p c s (w.opens p) (λ x e g. spared pre p c x e g) (each-opens bad me s w.halved c (omega (arith, h)) opens p);
+        opens = λ p. call-opens (Mind bad me own p) p c s (w.opens p) (λ x e g. spared pre p c x e g) (each-opens bad me s w.halved c there (omega (arith, h)) opens p);
         known = known;
         halves = halves.halved-stays.call s c w.halves;
+        ended = ended-stays.call s c w.ended;
         erring = erring-call bad.of s c (erred-part bad c s (omega (arith, h)));
       })
 
-  called-known : (c : Call) (s : Slots) → bad_call bad c s ≡ 0 → Paired bad.of (begin c s).done.slots → Whole bad me own s [] → Known bad me own (begin c s).done.slots (begin c s).done.caused
+  called-known : (c : Call) (s : Slots) → bad_call bad c s ≡ 0 → Fair bad.of (begin c s).done.slots → Whole bad me own s [] → Known bad me own (begin c s).done.slots (begin c s).done.caused
   called-known c s h p w = call-known bad me own s w.known c (begun-good bad c s w.halved h) (begun-kinds bad c s h (kinds-known bad me own s w.known)) p
 
   -- what is known of the pipe as a run goes on
   module _ (Phase : Slots → List Entry → Type 0) (next : (s : Slots) (x : Entry) (xs : List Entry) → Phase s (x ∷ xs) → Phase (step s x) xs)
       (new : (s : Slots) (c : Call) (xs : List Entry) → Phase s (Called c ∷ xs) → NewOpens (Mind bad me own me) me c s) where
-    step-whole : (pre : List Entry) (x : Entry) (xs : List Entry) → Phase (run pre empty) (x ∷ xs) → bad_entry bad x (run pre empty) ≡ 0 → Halved bad.half (run (x ∷ xs) (run pre empty)) → Paired bad.of (run (x ∷ xs) (run pre empty)) → Whole bad me own (run pre empty) [] → Whole bad me own (step (run pre empty) x) []
+    step-whole : (pre : List Entry) (x : Entry) (xs : List Entry) → Phase (run pre empty) (x ∷ xs) → bad_entry bad x (run pre empty) ≡ 0 → Halved bad.half (run (x ∷ xs) (run pre empty)) → Fair bad.of (run (x ∷ xs) (run pre empty)) → Whole bad me own (run pre empty) [] → Whole bad me own (step (run pre empty) x) []
     step-whole pre (Called c) xs f h there p w =
-        call-whole pre c h (halved-begun bad.half c xs (run pre empty) there) (new (run pre empty) c xs f) own (called-known c (run pre empty) h (paired-begun bad.of c xs (run pre empty) p) w) w
+        call-whole pre c h (halved-begun bad.half c xs (run pre empty) there) (new (run pre empty) c xs f) own (called-known c (run pre empty) h (fair-begun bad.of c xs (run pre empty) p) w) w
     step-whole pre Worked xs f h there p w = worked-whole bad me own (run pre empty) w
     step-whole pre Heard xs f h there p w = heard-whole bad me own (run pre empty) w
 
-    pub run-whole : (pre xs : List Entry) → Phase (run pre empty) xs → bad_run bad xs (run pre empty) ≡ 0 → Halved bad.half (run xs (run pre empty)) → Paired bad.of (run xs (run pre empty)) → Whole bad me own (run pre empty) []
+    pub run-whole : (pre xs : List Entry) → Phase (run pre empty) xs → bad_run bad xs (run pre empty) ≡ 0 → Halved bad.half (run xs (run pre empty)) → Fair bad.of (run xs (run pre empty)) → Whole bad me own (run pre empty) []
         → Whole bad me own (run xs (run pre empty)) []
     run-whole pre [] f h there p w = w
     run-whole pre (x ∷ xs) f h there p w =
@@ -201,4 +206,4 @@ module _ (bad : Badness) (me : PipeId) (own : Option ℕ) where
         let phase : Phase (step s x) xs = next s x xs f in
         let rest : bad_run bad xs (step s x) ≡ 0 = omega (arith, g, h) in
         subst (λ (z : Slots). Whole bad me own (run xs z) []) same
-        (run-whole (pre ++ x ∷ []) xs (subst (λ (z : Slots). Phase z xs) (sym same) phase) (subst (λ (z : Slots). bad_run bad xs z ≡ 0) (sym same) rest) (subst (λ (z : Slots). Halved bad.half (run xs z)) (sym same) there) (subst (λ (z : Slots). Paired bad.of (run xs z)) (sym same) p) (subst (λ (z : Slots). Whole bad me own z []) (sym same) after))
+        (run-whole (pre ++ x ∷ []) xs (subst (λ (z : Slots). Phase z xs) (sym same) phase) (subst (λ (z : Slots). bad_run bad xs z ≡ 0) (sym same) rest) (subst (λ (z : Slots). Halved bad.half (run xs z)) (sym same) there) (subst (λ (z : Slots). Fair bad.of (run xs z)) (sym same) p) (subst (λ (z : Slots). Whole bad me own z []) (sym same) after))

@@ -12,7 +12,7 @@ use Rattle.ws_steps.specs.Writable.{is_erroring, is_errored}
 use Rattle.ws_reason_laws.specs.Origins.{origins, EachStoredErrorHasAnOrigin}
 use Rattle.ws_reason_laws.specs.Reasons.{NeedsTee}
 use Rattle.ws_reason_laws.proofs.Among.{among_contained}
-use Rattle.ws_reason_laws.proofs.Given.{Before, before-new, pipe_past, whole-empty, but_origins, origins-good, paired-end, of-origins}
+use Rattle.ws_reason_laws.proofs.Given.{Before, before-new, pipe_past, whole-empty, but_origins, origins-good, fair-end, of-origins}
 use Rattle.ws_reason_laws.proofs.Halved.{halved-end}
 use Rattle.ws_reason_laws.proofs.Known.{Badness, class, teed_at, teed-at}
 use Rattle.ws_reason_laws.proofs.Rows.{stream-there, source-good, dest-good}
@@ -39,7 +39,7 @@ module _ (entries : List Entry) (i : StreamId) where
   streams-good : (f : ℕ → Bool) × (in_streams (class bad me f (teed_at s)) 0 s.streams ≡ 0)
   streams-good =
       let w : Whole bad me None s [] =
-      run-whole bad me None (Before me) (λ s x xs f. f) (before-new (minds bad.of bad.half me me) me) [] entries (pipe_past s.pipes) (origins-good [] entries) (halved-end s) (paired-end [] entries) (whole-empty bad me) in
+      run-whole bad me None (Before me) (λ s x xs f. f) (before-new (minds bad.of bad.half me me) me) [] entries (pipe_past s.pipes) (origins-good [] entries) (halved-end s) (fair-end [] entries) (whole-empty bad me) in
       let g = w.known.good w.known.hands (teed_at s) (λ i h. refl) (teed-at s) in
       (w.known.hands, omega (arith, g))
 

@@ -1,8 +1,9 @@
 -- Which streams tees read: that stays as effects are performed, a stream that one reads is let go of by none, and a run's end tells of the tees
--- that were there before.
+-- and the ports that were there before.
 use Rattle.std.proofs.Common.{◌≡◌, ℕ, ◌≤◌, Bool, true, false, ◌||◌, nat_eq, List, [], ◌∷◌, ◌++◌, length, map, Some, slice_get, refl, sym, ap, ◌∙◌, arith}
 use Rattle.ws_value.specs.declared.ids.StreamId.{StreamId}
 use Rattle.ws_value.specs.declared.ids.TeeId.{TeeId}
+use Rattle.ws_value.specs.declared.ids.PortId.{PortId}
 use Rattle.ws_value.specs.declared.value.Plain.{Plain}
 use Rattle.ws_value.specs.declared.value.Plain.TheVariants.{Pair}
 use Rattle.ws_steps.specs.declared.calls.Call.{Call}
@@ -13,11 +14,14 @@ use Rattle.ws_steps.specs.declared.readable.ReadableOperation.TheVariants.{Relea
 use Rattle.ws_steps.specs.Calls.{begin}
 use Rattle.ws_steps.specs.Run.{Entry, Called, step, run}
 use Rattle.ws_steps.specs.Slots.{Slots, reads_any, is_teed}
+use Rattle.ws_steps.specs.Cross.{data_clone}
 use Rattle.ws_steps.specs.Tee as tee
 use Rattle.ws_steps.specs.Turns.{row}
+use Rattle.ws_laws.proofs.Ended.{PortShape, port_shapes}
 use Rattle.ws_laws.proofs.Halves.{step-tee_shapes, run-among_tees}
 use Rattle.ws_laws.proofs.Shapes.{TeeShape, tee_shape, tee_shapes, row-tee_shapes}
 use Rattle.ws_laws.proofs.Tables.{is_same-refl}
+use Rattle.ws_readable_laws.proofs.Ports.{run-among_ports, called-port_shapes}
 use Rattle.ws_pipe_laws.specs.PipeReads.{one_if}
 use Rattle.ws_lock_laws.specs.Locks.{Reading, in_tees}
 use Rattle.ws_lock_laws.proofs.Agenda.{goes}
@@ -88,12 +92,34 @@ Paired bad s = (t : TeeId) (x : TeeShape) → slice_get (tee_shapes s) t.0 ≡ S
 
 -- that is so before a step, and as it begins
 
-pub paired-before : (bad : Plain → ℕ) (xs : List Entry) (s : Slots) → Paired bad (run xs s) → Paired bad s
+paired-before : (bad : Plain → ℕ) (xs : List Entry) (s : Slots) → Paired bad (run xs s) → Paired bad s
 paired-before bad xs s h t x e = h t x (run-among_tees xs s t x e)
 
-pub paired-begun : (bad : Plain → ℕ) (c : Call) (xs : List Entry) (s : Slots) → Paired bad (run (Called c ∷ xs) s) → Paired bad (begin c s).done.slots
+paired-begun : (bad : Plain → ℕ) (c : Call) (xs : List Entry) (s : Slots) → Paired bad (run (Called c ∷ xs) s) → Paired bad (begin c s).done.slots
 paired-begun bad c xs s h t x e =
     paired-before bad xs (step s (Called c)) h t x (ap (λ (zs : List TeeShape). slice_get zs t.0) (step-tee_shapes (Called c) s) ∙ e)
+
+-- a DataCloneError isn't bad where there is a port
+
+abbrev pub Ported : (Plain → ℕ) → Slots → Type 0
+Ported bad s = (c : PortId) (x : PortShape) → slice_get (port_shapes s) c.0 ≡ Some x → bad data_clone ≡ 0
+
+ported-before : (bad : Plain → ℕ) (xs : List Entry) (s : Slots) → Ported bad (run xs s) → Ported bad s
+ported-before bad xs s h c x e = h c x (run-among_ports xs s c x e)
+
+ported-begun : (bad : Plain → ℕ) (c : Call) (xs : List Entry) (s : Slots) → Ported bad (run (Called c ∷ xs) s) → Ported bad (begin c s).done.slots
+ported-begun bad c xs s h p x e = ported-before bad xs (step s (Called c)) h p x (ap (λ (zs : List PortShape). slice_get zs p.0) (called-port_shapes c s) ∙ e)
+
+-- both
+
+abbrev pub Fair : (Plain → ℕ) → Slots → Type 0
+Fair bad s = Paired bad s × Ported bad s
+
+pub fair-before : (bad : Plain → ℕ) (xs : List Entry) (s : Slots) → Fair bad (run xs s) → Fair bad s
+fair-before bad xs s h = (paired-before bad xs s h.0, ported-before bad xs s h.1)
+
+pub fair-begun : (bad : Plain → ℕ) (c : Call) (xs : List Entry) (s : Slots) → Fair bad (run (Called c ∷ xs) s) → Fair bad (begin c s).done.slots
+fair-begun bad c xs s h = (paired-begun bad c xs s h.0, ported-begun bad c xs s h.1)
 
 pub tee_last : (xs : List tee.Slots) (x : tee.Slots) → slice_get (map tee_shape (xs ++ x ∷ [])) (length xs) ≡ Some (tee_shape x)
 tee_last [] x = refl

@@ -6,6 +6,8 @@ use Rattle.std.proofs.Common.{◌≡◌, ℕ, suc, ◌+◌, Bool, true, false, n
 use Rattle.ws_value.specs.declared.ids.PipeId.{PipeId}
 use Rattle.ws_value.specs.declared.ids.PromiseId.{PromiseId}
 use Rattle.ws_value.specs.declared.ids.StreamId.{StreamId}
+use Rattle.ws_value.specs.declared.value.Message.{Message}
+use Rattle.ws_value.specs.declared.value.Message.TheVariants.{Error as ErrorMessage}
 use Rattle.ws_value.specs.declared.value.Outcome.{Outcome}
 use Rattle.ws_value.specs.declared.value.Outcome.TheVariants.{Rejected}
 use Rattle.ws_value.specs.declared.value.Plain.{Plain}
@@ -13,7 +15,7 @@ use Rattle.ws_value.specs.declared.value.Plain.TheVariants.{Pair}
 use Rattle.ws_steps.specs.declared.byte.ByteOperation.{ByteOperation}
 use Rattle.ws_steps.specs.declared.byte.ByteOperation.TheVariants as byte_names
 use Rattle.ws_steps.specs.declared.effects.Effect.{Effect}
-use Rattle.ws_steps.specs.declared.effects.Effect.TheVariants.{Readable as OnReadable, Byte, Writable as OnWritable, Pipe as OnPipe, Signal as OnSignal, Transform as OnTransform, Tee as OnTee, StartAlgorithm, CancelAlgorithm, AbortAlgorithm, ErrorSteps, Give, Settle as SettleEffect, CallHost}
+use Rattle.ws_steps.specs.declared.effects.Effect.TheVariants.{Readable as OnReadable, Byte, Writable as OnWritable, Pipe as OnPipe, Signal as OnSignal, Transform as OnTransform, Tee as OnTee, Port as OnPort, StartAlgorithm, CancelAlgorithm, AbortAlgorithm, ErrorSteps, Give, Settle as SettleEffect, CallHost}
 use Rattle.ws_steps.specs.declared.effects.Gift.{Gift}
 use Rattle.ws_steps.specs.declared.effects.Gift.TheVariants.{This, Fresh}
 use Rattle.ws_steps.specs.declared.effects.Use.{Use}
@@ -39,6 +41,8 @@ use Rattle.ws_steps.specs.declared.readable.ReadableOperation.TheVariants.{Initi
 use Rattle.ws_steps.specs.declared.readable.ReadableState.{ReadableState}
 use Rattle.ws_steps.specs.declared.readable.ReadableState.TheVariants as state
 use Rattle.ws_steps.specs.declared.tee.TeeOperation.{TeeOperation}
+use Rattle.ws_steps.specs.declared.port.PortOperation.{PortOperation}
+use Rattle.ws_steps.specs.declared.port.PortOperation.TheVariants as port_names
 use Rattle.ws_steps.specs.declared.tee.TeeOperation.TheVariants as tee_names
 use Rattle.ws_steps.specs.declared.transform.Halves.{Halves}
 use Rattle.ws_steps.specs.declared.transform.Kind.{Kind}
@@ -57,6 +61,7 @@ use Rattle.ws_steps.specs.Promises.{Entry, Table}
 use Rattle.ws_steps.specs.Readable as readable
 use Rattle.ws_steps.specs.Slots.{Slots, Stream, ReadableStream, ByteStream, WritableStream}
 use Rattle.ws_steps.specs.Tee as tee
+use Rattle.ws_steps.specs.Cross as cross
 use Rattle.ws_steps.specs.Transform as transform
 use Rattle.ws_steps.specs.Writable as writable
 
@@ -243,6 +248,17 @@ of_tee k (tee_names.CancelBranch half r u) = of_use k u
 of_tee k (tee_names.ReaderSettled o) = of_result k o
 of_tee k _ = 0
 
+abbrev pub of_message : Class → Message → ℕ
+of_message k (ErrorMessage r) = k.bad r
+of_message k _ = 0
+
+abbrev pub of_port : Class → PortOperation → ℕ
+of_port k (port_names.Leave r u) = of_use k u
+of_port k (port_names.Write u) = of_use k u
+of_port k (port_names.Close u) = of_use k u
+of_port k (port_names.Deliver m) = of_message k m
+of_port k _ = 0
+
 abbrev pub in_effect : Class → Effect → ℕ
 in_effect k (OnReadable i operation) = of_readable k i operation
 in_effect k (Byte i operation) = of_byte k i operation
@@ -251,6 +267,7 @@ in_effect k (OnPipe p operation) = of_pipe k operation
 in_effect k (OnSignal a operation) = of_signal k operation
 in_effect k (OnTransform t operation) = of_transform k operation
 in_effect k (OnTee t operation) = of_tee k operation
+in_effect k (OnPort t operation) = of_port k operation
 in_effect k (StartAlgorithm i step start) = of_step k step
 in_effect k (CancelAlgorithm i r p) = cancelled k i r
 in_effect k (AbortAlgorithm i r p) = k.bad r
@@ -361,8 +378,17 @@ abbrev pub in_tees : Class → ℕ → List tee.Slots → ℕ
 in_tees k n [] = 0
 in_tees k n (x ∷ xs) = in_tee k n x + in_tees k (suc n) xs
 
+-- a port: a write of a chunk that can't be cloned fails with a DataCloneError, and its backpressure promise hands on
+abbrev pub in_port : Class → cross.Slots → ℕ
+in_port k x = k.bad cross.data_clone + loud_one k x.backpressure
+
+abbrev pub in_ports : Class → List cross.Slots → ℕ
+in_ports k [] = 0
+in_ports k (x ∷ xs) = in_port k x + in_ports k xs
+
 abbrev pub in_slots : Class → Slots → ℕ
-in_slots k s = in_streams k 0 s.streams + (in_pipes k 0 s.pipes + (in_signals k s.signals + (in_transforms k s.transforms + (in_tees k 0 s.tees + in_table k s.promises))))
+in_slots k s =
+    in_streams k 0 s.streams + (in_pipes k 0 s.pipes + (in_signals k s.signals + (in_transforms k s.transforms + (in_tees k 0 s.tees + (in_ports k s.ports + in_table k s.promises)))))
 
 -- nothing bad stands in the slots, nor in what is still to be performed
 abbrev pub AllGood : Class → Slots → List Effect → Type 0

@@ -9,7 +9,7 @@ use Rattle.ws_value.specs.declared.value.Value.{Value}
 use Rattle.ws_steps.specs.declared.calls.Event.TheVariants.{Signal}
 use Rattle.ws_steps.specs.declared.effects.Effect.TheVariants as effect
 use Rattle.ws_steps.specs.declared.effects.Owner.{Owner}
-use Rattle.ws_steps.specs.declared.effects.Owner.TheVariants.{Host, HalfOf, BranchOf}
+use Rattle.ws_steps.specs.declared.effects.Owner.TheVariants.{Host, HalfOf, BranchOf, EndOf}
 use Rattle.ws_steps.specs.declared.transform.Taker.{Taker}
 use Rattle.ws_steps.specs.declared.writable.PendingAbort.{PendingAbort}
 use Rattle.ws_steps.specs.declared.writable.WritableOperation.{WritableOperation}
@@ -80,6 +80,7 @@ signalled-count : (me : StreamId) (r : Plain) (a : Acts) (owner : Owner) → siz
 signalled-count me r a Host = refl
 signalled-count me r a (HalfOf t) = refl
 signalled-count me r a (BranchOf t half) = refl
+signalled-count me r a (EndOf c) = refl
 
 -- `n` promises are there before the operation and `m` after it, and where there is one more it may be rejected with anything
 module _ (k : Class) (me : StreamId) (n m : ℕ) (new : n < m → soft k n ≡ 0) where
@@ -308,6 +309,7 @@ module _ (k : Class) (me : StreamId) (n m : ℕ) (new : n < m → soft k n ≡ 0
   signalled-good r a Host h = let s = tell-keeps k (Signal me r) a.out.promises (omega (arith, h)) in omega (arith, h, s)
   signalled-good r a (HalfOf t) h = h
   signalled-good r a (BranchOf t half) h = let s = tell-keeps k (Signal me r) a.out.promises (omega (arith, h)) in omega (arith, h, s)
+  signalled-good r a (EndOf c) h = h
 
   pending-good : (r : Plain) (p : PromiseId) (a : Acts) → k.bad r ≡ 0 → loud k p.0 ≡ 0 → Good a → Good (add_pending_abort r p a)
   pending-good r p a b l h = by (is_erroring a.slots.state)

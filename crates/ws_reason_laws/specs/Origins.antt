@@ -1,4 +1,5 @@
--- Where a reason comes from in any realm: from a failure, through a transform stream, or from a call that stored a TypeError in a byte stream.
+-- Where a reason comes from in any realm: from a failure, through a transform stream, from a call that stored a TypeError in a byte stream, or, a
+-- DataCloneError, from a port.
 use Rattle.std.specs.Prelude.{◌+◌, ◌≡◌, Bool, true, false, ◌||◌, nat_lt, if◌then◌else◌, List, [], ◌∷◌, ◌++◌, length, Option, Some, Contains}
 use Rattle.ws_value.specs.declared.ids.PromiseId.{PromiseId}
 use Rattle.ws_value.specs.declared.ids.SignalId.{SignalId}
@@ -9,13 +10,14 @@ use Rattle.ws_steps.specs.declared.calls.Call.{Call}
 use Rattle.ws_steps.specs.declared.calls.Call.TheVariants.{MakeTransform, Cancel, CancelBy, ReadInto, Finish, Terminate, Pipe}
 use Rattle.ws_steps.specs.declared.calls.Reply.TheVariants.{Promise}
 use Rattle.ws_steps.specs.declared.effects.Owner.{Owner}
-use Rattle.ws_steps.specs.declared.effects.Owner.TheVariants.{Host, HalfOf, BranchOf}
+use Rattle.ws_steps.specs.declared.effects.Owner.TheVariants.{Host, HalfOf, BranchOf, EndOf}
 use Rattle.ws_steps.specs.declared.locks.Lock.{Lock}
 use Rattle.ws_steps.specs.declared.locks.Lock.TheVariants.{Reader, ByobReader}
 use Rattle.ws_steps.specs.declared.pipes.Prevent.{Prevent}
 use Rattle.ws_steps.specs.declared.readable.ReadableState.TheVariants.{Errored}
 use Rattle.ws_steps.specs.declared.transform.Kind.{Kind}
 use Rattle.ws_steps.specs.declared.transform.Kind.TheVariants.{Identity}
+use Rattle.ws_steps.specs.Cross as cross
 use Rattle.ws_steps.specs.Effects.{type_error}
 use Rattle.ws_steps.specs.Promises.{outcome_at}
 use Rattle.ws_steps.specs.ReadableLooks as readable_looks
@@ -30,6 +32,7 @@ abbrev pub is_half : Owner → Bool
 is_half Host = false
 is_half (HalfOf t) = true
 is_half (BranchOf t half) = false
+is_half (EndOf c) = false
 
 -- a reason that comes to stream i, where that is the readable half of a transform stream: it becomes the error of the writable half
 abbrev pub to_half : StreamId → Plain → Slots → List Plain
@@ -74,9 +77,14 @@ through (Called c ∷ xs) s = through_of c s ++ through xs (step s (Called c))
 through (Worked ∷ xs) s = through xs (step s Worked)
 through (Heard ∷ xs) s = through xs (step s Heard)
 
--- the failures of a run, and what its calls brought besides
+-- with a DataCloneError the writable stream at an end of a port fails, where a chunk can't be cloned
+abbrev pub by_ports : List cross.Slots → List Plain
+by_ports [] = []
+by_ports (x ∷ xs) = cross.data_clone ∷ []
+
+-- the failures of a run, what its calls brought besides, and what its ports bring
 abbrev pub origins : List Entry → List Plain
-origins entries = failures entries ++ through entries empty
+origins entries = failures entries ++ (through entries empty ++ by_ports (run entries empty).ports)
 
 -- two streams that are there and unlocked
 pub record AreUnlocked (i j : StreamId) (s : Slots) : Type 0 where

@@ -4,12 +4,14 @@ use Rattle.ws_value.specs.declared.ids.PromiseId.{PromiseId}
 use Rattle.ws_value.specs.declared.ids.SignalId.{SignalId}
 use Rattle.ws_value.specs.declared.ids.StreamId.{StreamId}
 use Rattle.ws_value.specs.declared.value.Outcome.TheVariants.{Rejected}
+use Rattle.ws_value.specs.declared.value.Message.{Message}
+use Rattle.ws_value.specs.declared.value.Message.TheVariants.{Error as ErrorMessage}
 use Rattle.ws_value.specs.declared.value.Plain.{Plain}
 use Rattle.ws_value.specs.declared.value.Plain.TheVariants.{Undefined, Number, Fault as FaultReason, Pair, Local}
 use Rattle.ws_steps.specs.declared.calls.Answer.{Answer}
 use Rattle.ws_steps.specs.declared.calls.Answer.TheVariants.{Ok as AnswerOk, Fail as AnswerFail}
 use Rattle.ws_steps.specs.declared.calls.Call.{Call}
-use Rattle.ws_steps.specs.declared.calls.Call.TheVariants.{Cancel, CancelBy, ReadInto, Abort, AbortBy, Finish, Fail, Pipe, Trigger, Settle}
+use Rattle.ws_steps.specs.declared.calls.Call.TheVariants.{Cancel, CancelBy, ReadInto, Abort, AbortBy, Finish, Fail, Pipe, Trigger, Deliver, Settle}
 use Rattle.ws_steps.specs.declared.calls.Reply.TheVariants.{Promise}
 use Rattle.ws_steps.specs.declared.byte.RoomKind.TheVariants.{ForByob}
 use Rattle.ws_steps.specs.declared.locks.Lock.{Lock}
@@ -18,6 +20,7 @@ use Rattle.ws_steps.specs.declared.pipes.Prevent.{Prevent}
 use Rattle.ws_steps.specs.declared.readable.ReadableState.TheVariants.{Errored}
 use Rattle.ws_steps.specs.Bytes as byte
 use Rattle.ws_steps.specs.Calls.{is_view}
+use Rattle.ws_steps.specs.Cross.{data_clone}
 use Rattle.ws_steps.specs.Descriptors.{Descriptor, fill_from_queue}
 use Rattle.ws_steps.specs.Effects.{type_error}
 use Rattle.ws_steps.specs.Promises.{outcome_at}
@@ -33,7 +36,13 @@ abbrev pub answered_reason : Answer → List Plain
 answered_reason AnswerOk = []
 answered_reason (AnswerFail reason) = reason ∷ []
 
--- the reason that a call gives: of a cancel, an abort, an error of a controller, the trigger of a signal, or the failure of a host's algorithm
+-- the reason of an error that comes over a port
+abbrev pub delivered_reason : Message → List Plain
+delivered_reason (ErrorMessage reason) = reason ∷ []
+delivered_reason _ = []
+
+-- the reason that a call gives: of a cancel, an abort, an error of a controller, the trigger of a signal, an error that it delivers over a port, or the
+-- failure of a host's algorithm
 abbrev pub reason_of : Call → List Plain
 reason_of (Cancel i reason) = reason ∷ []
 reason_of (CancelBy l reason) = reason ∷ []
@@ -41,6 +50,7 @@ reason_of (Abort i reason) = reason ∷ []
 reason_of (AbortBy l reason) = reason ∷ []
 reason_of (Fail i reason) = reason ∷ []
 reason_of (Trigger a reason) = reason ∷ []
+reason_of (Deliver c m) = delivered_reason m
 reason_of (Settle h answer) = answered_reason answer
 reason_of _ = []
 
@@ -58,6 +68,7 @@ failure_of (Abort i reason) = reason ∷ []
 failure_of (AbortBy l reason) = reason ∷ []
 failure_of (Fail i reason) = reason ∷ []
 failure_of (Trigger a reason) = reason ∷ []
+failure_of (Deliver c m) = delivered_reason m
 failure_of (Settle h answer) = answered_reason answer
 failure_of _ = []
 
@@ -136,6 +147,10 @@ is_pair (Local n) = false
 abbrev pub NeedsTee : Plain → List Entry → Type 0
 NeedsTee r entries = is_pair r ≡ true → (run entries empty).tees ≡ []
 
+-- the premise that a reason is no DataCloneError, or that the run has no port. The writable stream at an end of one fails with that where a chunk can't be cloned
+abbrev pub NeedsPort : Plain → List Entry → Type 0
+NeedsPort r entries = r ≡ data_clone → (run entries empty).ports ≡ []
+
 -- In every run, whatever else the host does in it: a pipe that was made between two such ends rejects its promise only with a reason that a
 -- call of the run gave; but with a TypeError also where there is a transform stream, since the writable half of one that is terminated fails with
 -- that, which no call gives, or where a call stored one in a byte stream
@@ -144,7 +159,7 @@ EachReasonWasGiven =
     (opening xs : List Entry) (i j : StreamId) (prevent : Prevent) (signal : Option SignalId) (q : PromiseId) (r : Plain)
     → let s : Slots = run opening empty in let entries : List Entry = opening ++ Called (Pipe i j prevent signal) ∷ xs in
     IsFree i j s → reply_to (Pipe i j prevent signal) s ≡ Promise q
-    → (r ≡ type_error → BringsNothing entries) → NeedsTee r entries
+    → (r ≡ type_error → BringsNothing entries) → NeedsTee r entries → NeedsPort r entries
     → outcome_at (run entries empty).promises q ≡ Some (Rejected r) → Contains (given entries) r
 
 -- and never with that of a cancel alone, nor with a TypeError that no call gave, where there is no transform stream and no call stored one in a byte
@@ -154,7 +169,7 @@ EachReasonWasAFailure =
     (opening xs : List Entry) (i j : StreamId) (prevent : Prevent) (signal : Option SignalId) (q : PromiseId) (r : Plain)
     → let s : Slots = run opening empty in let entries : List Entry = opening ++ Called (Pipe i j prevent signal) ∷ xs in
     IsFree i j s → reply_to (Pipe i j prevent signal) s ≡ Promise q
-    → (Contains (cancels entries) r → (run entries empty).transforms ≡ []) → (r ≡ type_error → BringsNothing entries) → NeedsTee r entries
+    → (Contains (cancels entries) r → (run entries empty).transforms ≡ []) → (r ≡ type_error → BringsNothing entries) → NeedsTee r entries → NeedsPort r entries
     → outcome_at (run entries empty).promises q ≡ Some (Rejected r) → Contains (failures entries) r
 
 -- in every run, the error that a stream has stored is the reason of a failure: of a readable stream that is errored, and of a writable stream that
@@ -163,9 +178,9 @@ EachReasonWasAFailure =
 pub record EachStoredErrorWasAFailure : Type 0 where
   pub readable : (entries : List Entry) (i : StreamId) → let s : Slots = run entries empty in
       (Contains (cancels entries) (source_at i s).stored_error → s.transforms ≡ []) → ((source_at i s).stored_error ≡ type_error → BringsNothing entries)
-      → NeedsTee (source_at i s).stored_error entries
+      → NeedsTee (source_at i s).stored_error entries → NeedsPort (source_at i s).stored_error entries
       → (source_at i s).state ≡ Errored → Contains (failures entries) (source_at i s).stored_error
   pub writable : (entries : List Entry) (i : StreamId) → let s : Slots = run entries empty in
       (Contains (cancels entries) (writable_at i s).stored_error → s.transforms ≡ []) → ((writable_at i s).stored_error ≡ type_error → BringsNothing entries)
-      → NeedsTee (writable_at i s).stored_error entries
+      → NeedsTee (writable_at i s).stored_error entries → NeedsPort (writable_at i s).stored_error entries
       → (is_erroring (writable_at i s).state || is_errored (writable_at i s).state) ≡ true → Contains (failures entries) (writable_at i s).stored_error
