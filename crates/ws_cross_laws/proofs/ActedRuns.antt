@@ -1,0 +1,524 @@
+-- Over every run: what the stream at a writable end of a port acted on are the chunks that the port posted, and while it is entangled no others.
+use Rattle.std.proofs.Common.{◌≡◌, ℕ, zero, suc, ◌⊎◌, inl, inr, ⊎_elim, Bool, true, false, if◌then◌else◌, List, [], ◌∷◌, ◌++◌, map, Option, Some, None, slice_get, refl, sym, ap, subst, ◌∙◌, append-nil, append_assoc, arith}
+use Rattle.ws_value.specs.declared.ids.PortId.{PortId}
+use Rattle.ws_value.specs.declared.ids.PromiseId.{PromiseId}
+use Rattle.ws_value.specs.declared.ids.StreamId.{StreamId}
+use Rattle.ws_value.specs.declared.value.Message.{Message}
+use Rattle.ws_value.specs.declared.value.Message.TheVariants.{Pull as PullMessage, Chunk as ChunkMessage}
+use Rattle.ws_value.specs.declared.value.Value.{Value}
+use Rattle.ws_steps.specs.declared.calls.Call.{Call}
+use Rattle.ws_steps.specs.declared.effects.Effect.{Effect}
+use Rattle.ws_steps.specs.declared.effects.Effect.TheVariants.{Writable, Port}
+use Rattle.ws_steps.specs.declared.effects.Owner.TheVariants.{EndOf}
+use Rattle.ws_steps.specs.declared.port.PortOperation.{PortOperation}
+use Rattle.ws_steps.specs.declared.port.PortOperation.TheVariants as ports
+use Rattle.ws_steps.specs.declared.port.Side.TheVariants.{Writable as WritableSide}
+use Rattle.ws_steps.specs.declared.transform.Taker.{Taker}
+use Rattle.ws_steps.specs.declared.transform.Taker.TheVariants.{ToHost, ToTransform, ToPort}
+use Rattle.ws_steps.specs.declared.writable.WritableOperation.{WritableOperation}
+use Rattle.ws_steps.specs.declared.writable.WritableOperation.TheVariants as writes
+use Rattle.ws_steps.specs.Calls.{begin}
+use Rattle.ws_steps.specs.Cross as cross
+use Rattle.ws_steps.specs.Histories as histories
+use Rattle.ws_steps.specs.Histories.{is_same, along, over, taken_event, run_events}
+use Rattle.ws_steps.specs.Jobs.{job_effects}
+use Rattle.ws_steps.specs.Operations.{port_operation}
+use Rattle.ws_steps.specs.PortHistory.{is_same_port, posted_in, chunks_in}
+use Rattle.ws_steps.specs.Promises.{Table, after_next_job}
+use Rattle.ws_steps.specs.Run.{Entry, Called, Worked, Heard, run, step, later_events, after_event, moments_in}
+use Rattle.ws_steps.specs.Slots.{Slots, Stream, Done, empty, writable_at, with_promises, clones_at}
+use Rattle.ws_steps.specs.Turns.{Moment, row}
+use Rattle.ws_steps.specs.WritableHistory.{no_writes, writes_then, first_chunk, effect_writes, run_writes}
+use Rattle.ws_laws.proofs.Begin.{begin-makes}
+use Rattle.ws_laws.proofs.Ended.{PortShape, port_shape, port_shapes, row-port_shapes, Ended}
+use Rattle.ws_laws.proofs.Halves.{Halved, halved-stays, halved-empty}
+use Rattle.ws_laws.proofs.Lists.{Each, each-append, each-map}
+use Rattle.ws_laws.proofs.PortDoes.{port-causes}
+use Rattle.ws_laws.proofs.Shapes.{StreamShape, WritableOf, stream_shape, stream_shapes, map-there, row-stream_shapes}
+use Rattle.ws_laws.proofs.Tables.{either, same_id, is_same-refl, eq_numbers}
+use Rattle.ws_laws.proofs.Walker as walker
+use Rattle.ws_laws.proofs.Walker.{IsHistory, Goes, Rests}
+use Rattle.ws_cross_laws.proofs.Acted.{pend, pends, pends-append, IsNone, none-pends, Behind, behind-next, none-behind, IsElsewhere, row-none, begun-none, chunks-append, IsPost, given-none, hand-row}
+use Rattle.ws_cross_laws.proofs.ActedPlaces.{Mine, IsTo, Placed, mine-shape, row-placed, begun-placed}
+use Rattle.ws_cross_laws.proofs.Ends.{heard-said}
+use Rattle.ws_cross_laws.proofs.Fitting.{Fits, IsBegun, call-begun, job-begun, fitting-empty}
+use Rattle.ws_cross_laws.proofs.Once.{NotMine, row-leaves, row-mine, no-mine, by-port}
+use Rattle.ws_cross_laws.proofs.Posting.{given, is_same_port-refl, port_acts, post-does, leave-does, close-does, chunk-does}
+use Rattle.ws_cross_laws.proofs.PostingRuns.{Past, nothing_past, then_past, past-history, untold_past, said, all_posted, Whole, posting-goes, posting-rests, PortsNow, call-ports, last-place, split-events}
+use Rattle.ws_cross_laws.proofs.Told.{posted, posted-append, call-events, next-events, watch-posted}
+
+-- what happened before: to the port, and what a stream acted on
+pub record Deeds : Type 0 where
+  pub past : Past
+  pub acted : List Value
+
+abbrev pub nothing_done : Deeds
+nothing_done = record { past = nothing_past; acted = [] }
+
+abbrev pub then_done : Deeds → Deeds → Deeds
+then_done f g = record { past = then_past f.past g.past; acted = f.acted ++ g.acted }
+
+pub done-history : IsHistory nothing_done then_done
+done-history = record {
+  left = λ h. ap (λ (p : Past). record { past = p; acted = h.acted }) (past-history.left h.past);
+  right = λ h k. record { past = past-history.right h.past k; acted = append-nil h.acted k };
+  assoc = λ f g h k. record { past = past-history.assoc f.past g.past h.past k; acted = append_assoc f.acted g.acted h.acted k };
+}
+
+-- where the port isn't entangled, it stays so
+lived : (c : PortId) (clones : Bool) (operation : PortOperation) (x : cross.Slots) (t : Table) → (port_operation c clones operation (port_acts c x t)).slots.live ≡ true → x.live ≡ true
+unfolding cross.pull cross.write cross.write_goes_on cross.unblock cross.deliver
+lived c clones ports.Pull x t e = let h = (post-does c x t PullMessage).slots in ap (λ (y : cross.Slots). y.live) (sym h) ∙ e
+lived c clones (ports.Leave r u) x t e = let h = (leave-does c x t r u).slots in let n : false ≡ true = ap (λ (y : cross.Slots). y.live) (sym h) ∙ e in cc
+lived c clones (ports.Write u) x t e = e
+lived c clones (ports.WriteGoesOn d) x t e = by x.backpressure clones e
+  where
+    by : (o : Option PromiseId) (b : Bool) → (cross.go_on c b d (port_acts c x t) o).slots.live ≡ true → x.live ≡ true
+    by None true e = e
+    by None false e = cc
+    by (Some p) b e = e
+lived c clones (ports.PostChunk v p) x t e = let h = (chunk-does c x t v p).slots in ap (λ (y : cross.Slots). y.live) (sym h) ∙ e
+lived c clones (ports.Close u) x t e = let h = (close-does c x t u).slots in let n : false ≡ true = ap (λ (y : cross.Slots). y.live) (sym h) ∙ e in cc
+lived c clones (ports.Deliver m) x t e = either (λ (b : cross.Acts). b.slots.live ≡ true → x.live ≡ true) x.live (cross.deliver_to c m (port_acts c x t) x.side) (port_acts c x t) (λ l k. l) (λ n k. k) e
+lived c clones ports.Unblock x t e = by x.backpressure e
+  where
+    by : (o : Option PromiseId) → (cross.unblock_by (port_acts c x t) o).slots.live ≡ true → x.live ≡ true
+    by None e = e
+    by (Some p) e = e
+
+-- shapes of streams stay as calls make others
+shape-call : (i : StreamId) (y : StreamShape) (call : Call) (s : Slots) → slice_get (stream_shapes s) i.0 ≡ Some y → slice_get (stream_shapes (begin call s).done.slots) i.0 ≡ Some y
+shape-call i y call s h = begin-makes (λ z. slice_get (stream_shapes z) i.0 ≡ Some y) (record {
+  promise = λ z h. h;
+  locks = λ z ls h. h;
+  hosts = λ z hs h. h;
+  pipe = λ z source dest prevent signal promise h. h;
+  signal = λ z h. h;
+  transform = λ z kind w r change h. h;
+  tee = λ z source first second cancel h. h;
+  port = λ z side stream backpressure h. h;
+  bytes = λ z mark auto h. more z.streams i.0 _ y h;
+  byob_requests = λ z hs h. h;
+  readable = λ z o mark size h. more z.streams i.0 _ y h;
+  writable = λ z o mark size h. more z.streams i.0 _ y h;
+}) call s h
+  where
+    more : (xs : List Stream) (n : ℕ) (x : Stream) (y : StreamShape) → slice_get (map stream_shape xs) n ≡ Some y → slice_get (map stream_shape (xs ++ x ∷ [])) n ≡ Some y
+    more [] n x y e = cc
+    more (z ∷ zs) zero x y e = e
+    more (z ∷ zs) (suc n) x y e = more zs n x y e
+
+module _ (c : PortId) where
+  -- what was acted on: what was posted, what was dropped, and what is to be posted
+  pub record Acts (acted chunks : List Value) (live : Bool) (es : List Effect) : Type 0 where
+    pub dropped : List Value
+    pub all : acted ≡ chunks ++ (dropped ++ pends c es)
+    pub whole : live ≡ true → dropped ≡ []
+
+  -- an effect posts nothing, and what it hands on is to be posted
+  hands-on : (a ms new : List Value) (live : Bool) (e : Effect) (es cs : List Effect) → pend c e ≡ [] → pends c es ≡ [] → new ≡ pends c cs → Acts a ms live (e ∷ es) → Acts (a ++ new) ms live (cs ++ es)
+  hands-on a ms new live e es cs none behind is k = record {
+    dropped = k.dropped;
+    all =
+        let was : a ≡ ms ++ k.dropped = k.all ∙ ap (λ vs. ms ++ vs) (rw (none, behind) (append-nil k.dropped)) in
+        let now : pends c (cs ++ es) ≡ new = pends-append c cs es ∙ (rw behind (append-nil (pends c cs)) ∙ sym is) in
+        rw (was, now) (append_assoc ms k.dropped new);
+    whole = k.whole;
+  }
+
+  -- nothing is to be posted
+  stands : (a ms : List Value) (live : Bool) (es : List Effect) → pends c es ≡ [] → Acts a ms live [] → Acts a ms live es
+  stands a ms live es none k = record { dropped = k.dropped; all = rw none k.all; whole = k.whole }
+
+  module _ (i : StreamId) where
+    abbrev pub told : Effect → Slots → Deeds
+    told e s = record { past = untold_past e s; acted = (effect_writes i e s).acted }
+
+    abbrev pub happened : Slots → Entry → Deeds
+    happened s x = record { past = said c s x; acted = [] }
+
+    -- stream i is at the writable end of the port
+    pub record IsEnd (s : Slots) (x : cross.Slots) : Type 0 where
+      pub there : slice_get s.ports c.0 ≡ Some x
+      pub side : x.side ≡ WritableSide
+      pub stream : x.stream ≡ i
+
+    pub end-mine : (s : Slots) (x : cross.Slots) → IsEnd s x → Mine c i s
+    end-mine s x k = map-there port_shape s.ports c.0 x k.there ∙ ap (λ (y : PortShape). Some y) (λ n. record { side = k.side n; stream = k.stream n })
+
+    abbrev pub Acted : Deeds → Slots → List Effect → Type 0
+    Acted h s es = (x : cross.Slots) → IsEnd s x → Acts h.acted (chunks_in (all_posted c h.past s)) x.live es
+
+    pub record Acting (h : Deeds) (s : Slots) (es : List Effect) : Type 0 where
+      pub posting : Whole c h.past s es
+      pub halved : Halved s
+      pub behind : Behind c es
+      pub unmade : slice_get (stream_shapes s) i.0 ≡ None → h.acted ≡ []
+      pub placed : Mine c i s → Each (Placed c i) es
+      pub acted : Acted h s es
+
+    -- each effect
+
+    -- only an operation of the stream by which a chunk is handed on
+    abbrev IsHandOn : Effect → Type 0
+    IsHandOn (Writable j (writes.HandOn taker)) = is_same i j ≡ true
+    IsHandOn _ = ⊥
+
+    none-acted : (e : Effect) (s : Slots) → (IsHandOn e → ⊥) → (effect_writes i e s).acted ≡ []
+    none-acted (Writable j (writes.HandOn taker)) s n = by (is_same i j) refl
+      where
+        by : (b : Bool) → b ≡ is_same i j → (effect_writes i (Writable j (writes.HandOn taker)) s).acted ≡ []
+        by true e = absurd (n (sym e))
+        by false e = rw (← e) refl
+    none-acted e s n = grind arith
+
+    -- where the stream isn't there, nothing is acted on
+    absent-acted : (e : Effect) (s : Slots) → slice_get (stream_shapes s) i.0 ≡ None → (effect_writes i e s).acted ≡ []
+    absent-acted (Writable j (writes.HandOn taker)) s none = by (is_same i j) refl
+      where
+        no_stream : (xs : List Stream) (n : ℕ) → slice_get (map stream_shape xs) n ≡ None → slice_get xs n ≡ None
+        no_stream [] n e = refl
+        no_stream (x ∷ xs) zero e = cc
+        no_stream (x ∷ xs) (suc n) e = no_stream xs n e
+
+        by : (b : Bool) → b ≡ is_same i j → (effect_writes i (Writable j (writes.HandOn taker)) s).acted ≡ []
+        by true e =
+            let is : i ≡ j = same_id i j (sym e) in
+            let absent : slice_get s.streams j.0 ≡ None = subst (λ (k : StreamId). slice_get s.streams k.0 ≡ None) is (no_stream s.streams i.0 none) in
+            rw (← e, absent) refl
+        by false e = rw (← e) refl
+    absent-acted e s none = grind arith
+
+    -- the end is the same after an effect of another port, or of none
+    other-end : (e : Effect) (s : Slots) (x : cross.Slots) → NotMine c e → IsEnd (row e s).slots x → IsEnd s x
+    other-end e s x n k = record { there = sym (row-leaves c e s n).1 ∙ k.there; side = k.side; stream = k.stream }
+
+    pend-none : (e : Effect) → NotMine c e → pend c e ≡ []
+    pend-none (Port d (ports.PostChunk v p)) n = rw n refl
+    pend-none e n = grind (arith, n)
+
+    abbrev Now : Deeds → Slots → Effect → List Effect → Type 0
+    Now h s e es = Acted (then_done h (told e s)) (row e s).slots ((row e s).caused ++ es)
+
+    -- what was posted is the same
+    same-posted : (h : Deeds) (s z : Slots) → posted c z.promises ≡ posted c s.promises → chunks_in (all_posted c (then_past h.past nothing_past) z) ≡ chunks_in (all_posted c h.past s)
+    same-posted h s z e = ap (λ (ms : List Message). chunks_in (ms ++ posted c z.promises)) (append-nil h.past.heard) ∙ ap (λ (ms : List Message). chunks_in (h.past.heard ++ ms)) e
+
+    other-acted : (h : Deeds) (s : Slots) (e : Effect) (es : List Effect) → NotMine c e → (effect_writes i e s).acted ≡ pends c (row e s).caused → pends c es ≡ [] → Acted h s (e ∷ es) → Now h s e es
+    other-acted h s e es n is behind k x end =
+        rw (same-posted h s (row e s).slots (row-leaves c e s n).0)
+        (hands-on h.acted _ (effect_writes i e s).acted x.live e es (row e s).caused (pend-none e n) behind is (k x (other-end e s x n end)))
+
+    -- an effect that hands on no chunk of the stream
+    quiet-acted : (h : Deeds) (s : Slots) (e : Effect) (es : List Effect) → NotMine c e → (IsHandOn e → ⊥) → IsElsewhere c e → pends c es ≡ [] → Acted h s (e ∷ es) → Now h s e es
+    quiet-acted h s e es n u o behind k = other-acted h s e es n (none-acted e s u ∙ sym (none-pends c (row e s).caused (row-none c e s o))) behind k
+
+    -- an operation of a writable stream
+
+    hand-acted : (h : Deeds) (s : Slots) (j : StreamId) (taker : Taker) (es : List Effect) → is_same i j ≡ true → IsTo c i taker → pends c es ≡ [] → Acted h s (Writable j (writes.HandOn taker) ∷ es) → Now h s (Writable j (writes.HandOn taker)) es
+    hand-acted h s j ToHost es same to behind k = absurd to
+    hand-acted h s j (ToTransform t d) es same to behind k = absurd to
+    hand-acted h s j (ToPort d p) es same to behind k =
+        let is : (effect_writes i (Writable j (writes.HandOn (ToPort d p))) s).acted ≡ first_chunk (writable_at j s).queue = rw same refl in
+        other-acted h s (Writable j (writes.HandOn (ToPort d p))) es tt (is ∙ (hand-row c j d p s to).0) behind k
+
+    far-elsewhere : (s : Slots) (j : StreamId) (operation : WritableOperation) (x : cross.Slots) → IsEnd s x → is_same i j ≡ false → Fits (stream_shapes s) (port_shapes s) (Writable j operation) → IsElsewhere c (Writable j operation)
+    far-elsewhere s j (writes.HandOn (ToPort d p)) x k n f = by (is_same_port c d) refl
+      where
+        by : (b : Bool) → b ≡ is_same_port c d → is_same_port c d ≡ false
+        by false e = sym e
+        by true e =
+            let is : c ≡ d = ap (λ (m : ℕ). record { 0 = m }) (eq_numbers c.0 d.0 (sym e)) in
+            let at : slice_get (port_shapes s) d.0 ≡ Some (port_shape x) = subst (λ (q : PortId). slice_get (port_shapes s) q.0 ≡ Some (port_shape x)) is (map-there port_shape s.ports c.0 x k.there) in
+            let one : x.stream ≡ j = f (port_shape x) at in
+            let two : i ≡ j = sym k.stream ∙ one in
+            let yes : is_same i j ≡ true = rw (← two) (is_same-refl i) in cc
+    far-elsewhere s j operation x k n f = grind arith
+
+    hand-here : (operation : WritableOperation) → ((taker : Taker) × (operation ≡ writes.HandOn taker)) ⊎ ((j : StreamId) → IsElsewhere c (Writable j operation) × (IsHandOn (Writable j operation) → ⊥))
+    hand-here (writes.HandOn taker) = inl (taker, refl)
+    hand-here operation = inr (λ j. (grind arith, λ u. grind (arith, u)))
+
+    writable-acted : (h : Deeds) (s : Slots) (j : StreamId) (operation : WritableOperation) (es : List Effect) → Fits (stream_shapes s) (port_shapes s) (Writable j operation) → pends c es ≡ []
+        → (Mine c i s → Placed c i (Writable j operation)) → Acted h s (Writable j operation ∷ es) → Now h s (Writable j operation) es
+    writable-acted h s j operation es f behind placed k x end = by (is_same i j) refl
+      where
+        was : IsEnd s x
+        was = other-end (Writable j operation) s x tt end
+
+        by : (same : Bool) → same ≡ is_same i j → let e = Writable j operation in Acts (then_done h (told e s)).acted (chunks_in (all_posted c (then_done h (told e s)).past (row e s).slots)) x.live ((row e s).caused ++ es)
+        by true e =
+            ⊎_elim (λ is. handed is.0 is.1)
+            (λ other. quiet-acted h s (Writable j operation) es tt (other j).1 (other j).0 behind k x end) (hand-here operation)
+          where
+            handed : (taker : Taker) → operation ≡ writes.HandOn taker → let e = Writable j operation in Acts (then_done h (told e s)).acted (chunks_in (all_posted c (then_done h (told e s)).past (row e s).slots)) x.live ((row e s).caused ++ es)
+            handed taker is =
+                let to : IsTo c i taker = (subst (λ (o : WritableOperation). Placed c i (Writable j o)) is (placed (end-mine s x was))) (sym e) in
+                subst (λ (o : WritableOperation). Now h s (Writable j o) es) (sym is) (hand-acted h s j taker es (sym e) to behind (subst (λ (o : WritableOperation). Acted h s (Writable j o ∷ es)) is k)) x end
+        by false e = quiet-acted h s (Writable j operation) es tt (λ u. not_own operation u) (far-elsewhere s j operation x was (sym e) f) behind k x end
+          where
+            not_own : (o : WritableOperation) → IsHandOn (Writable j o) → ⊥
+            not_own (writes.HandOn taker) u = cc
+            not_own o u = grind (arith, u)
+
+    -- an operation of its own port
+
+    -- the port before, and what it leaves
+    own-end : (operation : PortOperation) (s : Slots) (x y : cross.Slots) → slice_get s.ports c.0 ≡ Some x → IsEnd (row (Port c operation) s).slots y
+        → (y ≡ (port_operation c (clones_at x s) operation (port_acts c x s.promises)).slots) × IsEnd s x
+    own-end operation s x y is k =
+        let r = row-mine c operation s x is in
+        let b : cross.Acts = port_operation c (clones_at x s) operation (port_acts c x s.promises) in
+        let both : Some b.slots ≡ Some y = sym r.slot ∙ k.there in
+        let same : y ≡ b.slots = cc in
+        let d = port-causes c (clones_at x s) operation (port_acts c x s.promises) tt in
+        (same, record { there = is; side = sym d.0 ∙ (ap (λ (z : cross.Slots). z.side) (sym same) ∙ k.side); stream = sym d.1.0 ∙ (ap (λ (z : cross.Slots). z.stream) (sym same) ∙ k.stream) })
+
+    -- the chunks that were posted then
+    own-posted : (h : Deeds) (s : Slots) (operation : PortOperation) (x : cross.Slots) → slice_get s.ports c.0 ≡ Some x
+        → chunks_in (all_posted c (then_past h.past nothing_past) (row (Port c operation) s).slots) ≡ chunks_in (all_posted c h.past s) ++ chunks_in (given (clones_at x s) operation x)
+    own-posted h s operation x is =
+        let r = row-mine c operation s x is in
+        rw (append-nil h.past.heard, r.told)
+        (ap chunks_in (sym (append_assoc h.past.heard (posted c s.promises) (given (clones_at x s) operation x))) ∙ chunks-append c (all_posted c h.past s) (given (clones_at x s) operation x))
+
+    -- one that posts no chunk
+    rest-posted : (a ms : List Value) (live was : Bool) (e : Effect) (es cs : List Effect) (new : List Value) → new ≡ [] → pend c e ≡ [] → pends c es ≡ [] → pends c cs ≡ [] → (live ≡ true → was ≡ true)
+        → Acts a ms was (e ∷ es) → Acts (a ++ []) (ms ++ new) live (cs ++ es)
+    rest-posted a ms live was e es cs new none pend_e behind quiet l k =
+        let z = hands-on a ms [] was e es cs pend_e behind (sym quiet) k in
+        record { dropped = z.dropped; all = rw (none, append-nil ms) z.all; whole = λ f. z.whole (l f) }
+
+    resting-acted : (h : Deeds) (s : Slots) (operation : PortOperation) (es : List Effect) (x : cross.Slots) → slice_get s.ports c.0 ≡ Some x → (IsPost c operation → ⊥) → pend c (Port c operation) ≡ [] → pends c es ≡ []
+        → Acted h s (Port c operation ∷ es) → Now h s (Port c operation) es
+    resting-acted h s operation es x is n none behind k y end =
+        let o = own-end operation s x y is end in
+        let quiet = none-pends c (row (Port c operation) s).caused (row-none c (Port c operation) s tt) in
+        rw (own-posted h s operation x is)
+        (rest-posted h.acted _ y.live x.live (Port c operation) es (row (Port c operation) s).caused (chunks_in (given (clones_at x s) operation x)) (given-none c (clones_at x s) operation x n) none behind quiet
+        (λ f. lived c (clones_at x s) operation x s.promises (ap (λ (z : cross.Slots). z.live) (sym o.0) ∙ f)) (k x o.1))
+
+    -- a chunk is posted, or dropped
+    post-by : (a ms : List Value) (v : Value) (p : PromiseId) (es cs : List Effect) (live : Bool) → pends c es ≡ [] → pends c cs ≡ [] → Acts a ms live (Port c (ports.PostChunk v p) ∷ es)
+        → Acts (a ++ []) (ms ++ chunks_in (if live then ChunkMessage v ∷ [] else [])) live (cs ++ es)
+    post-by a ms v p es cs live behind quiet k = by live refl
+      where
+        pending : pends c (Port c (ports.PostChunk v p) ∷ es) ≡ v ∷ []
+        pending = rw (is_same_port-refl c, behind) refl
+
+        nothing_left : pends c (cs ++ es) ≡ []
+        nothing_left = pends-append c cs es ∙ rw (quiet, behind) refl
+
+        by : (l : Bool) → l ≡ live → Acts (a ++ []) (ms ++ chunks_in (if l then ChunkMessage v ∷ [] else [])) l (cs ++ es)
+        by true e = record {
+          dropped = [];
+          all = let none = k.whole (sym e) in let was = k.all in append-nil a ∙ (was ∙ (rw (none, pending, nothing_left) (sym (append-nil (ms ++ v ∷ [])))));
+          whole = λ f. refl;
+        }
+        by false e = record {
+          dropped = k.dropped ++ v ∷ [];
+          all = let was = k.all in append-nil a ∙ (was ∙ rw (pending, nothing_left, append-nil ms, append-nil (k.dropped ++ v ∷ [])) refl);
+          whole = λ f. cc;
+        }
+
+    posting-acted : (h : Deeds) (s : Slots) (v : Value) (p : PromiseId) (es : List Effect) (x : cross.Slots) → slice_get s.ports c.0 ≡ Some x → pends c es ≡ []
+        → Acted h s (Port c (ports.PostChunk v p) ∷ es) → Now h s (Port c (ports.PostChunk v p)) es
+    posting-acted h s v p es x is behind k y end =
+        let operation : PortOperation = ports.PostChunk v p in
+        let o = own-end operation s x y is end in
+        let quiet = none-pends c (row (Port c operation) s).caused (row-none c (Port c operation) s tt) in
+        let same : y.live ≡ x.live = ap (λ (z : cross.Slots). z.live) (o.0 ∙ (chunk-does c x s.promises v p).slots) in
+        rw (own-posted h s operation x is, same) (post-by h.acted _ v p es (row (Port c operation) s).caused x.live behind quiet (k x o.1))
+
+    mine-acted : (h : Deeds) (s : Slots) (operation : PortOperation) (es : List Effect) (x : cross.Slots) → slice_get s.ports c.0 ≡ Some x → pends c es ≡ [] → Acted h s (Port c operation ∷ es) → Now h s (Port c operation) es
+    mine-acted h s (ports.PostChunk v p) es x is behind k = posting-acted h s v p es x is behind k
+    mine-acted h s operation es x is behind k = resting-acted h s operation es x is (λ u. u) refl behind k
+
+    port-acted : (h : Deeds) (s : Slots) (d : PortId) (operation : PortOperation) (es : List Effect) → pends c es ≡ [] → Acted h s (Port d operation ∷ es) → Now h s (Port d operation) es
+    port-acted h s d operation es behind k =
+        by-port c (λ q. Acted h s (Port q operation ∷ es) → Now h s (Port q operation) es) d
+        (λ n l. quiet-acted h s (Port d operation) es n (λ u. u) tt behind l) (λ l. own (slice_get s.ports c.0) refl l) k
+      where
+        own : (o : Option cross.Slots) → slice_get s.ports c.0 ≡ o → Acted h s (Port c operation ∷ es) → Now h s (Port c operation) es
+        own (Some x) is l = mine-acted h s operation es x is behind l
+        own None is l = λ y end.
+            let absent : slice_get (row (Port c operation) s).slots.ports c.0 ≡ None = ap (λ (z : Done). slice_get z.slots.ports c.0) (no-mine c operation s is) ∙ is in
+            let no : None ≡ Some y = sym absent ∙ end.there in cc
+
+    row-acted : (h : Deeds) (s : Slots) (e : Effect) (es : List Effect) → Fits (stream_shapes s) (port_shapes s) e → pends c es ≡ [] → (Mine c i s → Placed c i e) → Acted h s (e ∷ es) → Now h s e es
+    row-acted h s (Port d operation) es f behind placed k = port-acted h s d operation es behind k
+    row-acted h s (Writable j operation) es f behind placed k = writable-acted h s j operation es f behind placed k
+    row-acted h s e es f behind placed k = quiet-acted h s e es tt (λ u. u) tt behind k
+
+    -- calls and jobs
+
+    none-of : (es : List Effect) → Each IsBegun es → pends c es ≡ []
+    none-of es b = none-pends c es (each-map IsBegun (IsNone c) (begun-none c) es b)
+
+    placed-of : (es : List Effect) → Each IsBegun es → Each (Placed c i) es
+    placed-of es b = each-map IsBegun (Placed c i) (begun-placed c i) es b
+
+    -- the stream of a new port wasn't there
+    new-absent : (call : Call) (s : Slots) (y : cross.Slots) → Ended s → Ended (begin call s).done.slots → slice_get s.ports c.0 ≡ None → IsEnd (begin call s).done.slots y → slice_get (stream_shapes s) i.0 ≡ None
+    new-absent call s y before after none k = by (slice_get (stream_shapes s) i.0) refl
+      where
+        no_port : (xs : List cross.Slots) (n : ℕ) (x : PortShape) → slice_get xs n ≡ None → slice_get (map port_shape xs) n ≡ Some x → ⊥
+        no_port [] n x e f = cc
+        no_port (z ∷ zs) zero x e f = cc
+        no_port (z ∷ zs) (suc n) x e f = no_port zs n x e f
+
+        by : (o : Option StreamShape) → o ≡ slice_get (stream_shapes s) i.0 → slice_get (stream_shapes s) i.0 ≡ None
+        by None e = sym e
+        by (Some w) e =
+            let later = shape-call i w call s (sym e) in
+            let is : slice_get (stream_shapes (begin call s).done.slots) i.0 ≡ Some (WritableOf (EndOf c)) = mine-shape c i (begin call s).done.slots after (end-mine (begin call s).done.slots y k) in
+            let same : Some w ≡ Some (WritableOf (EndOf c)) = sym later ∙ is in
+            let at : slice_get (stream_shapes s) i.0 ≡ Some (WritableOf (EndOf c)) = sym e ∙ same in
+            absurd (no_port s.ports c.0 _ none (before.end i c WritableSide at))
+
+    -- the port was there
+    call-there : (h : Deeds) (call : Call) (s : Slots) (y : cross.Slots) → slice_get (begin call s).done.slots.ports c.0 ≡ slice_get s.ports c.0 → IsEnd (begin call s).done.slots y → Acted h s []
+        → Acts h.acted (chunks_in (all_posted c h.past s)) y.live (begin call s).done.caused
+    call-there h call s y same k acts =
+        stands h.acted _ y.live (begin call s).done.caused (none-of (begin call s).done.caused (call-begun call s)) (acts y (record { there = sym same ∙ k.there; side = k.side; stream = k.stream }))
+
+    -- or it is new
+    call-new : (h : Deeds) (call : Call) (s : Slots) (y : cross.Slots) → Ended (begin call s).done.slots → slice_get s.ports c.0 ≡ None → IsEnd (begin call s).done.slots y → Acting h s []
+        → Acts h.acted (chunks_in (all_posted c h.past s)) y.live (begin call s).done.caused
+    call-new h call s y after none k a =
+        let acted : h.acted ≡ [] = a.unmade (new-absent call s y a.posting.0.0 after none k) in
+        let held : (h.past.taken ≡ []) × (all_posted c h.past s ≡ []) = rw none at a.posting.1 in
+        record {
+          dropped = [];
+          all = rw (acted, held.1, none-of (begin call s).done.caused (call-begun call s)) refl;
+          whole = λ f. refl;
+        }
+
+    call-posted : (h : Deeds) (call : Call) (s : Slots) → all_posted c (then_past h.past (said c s (Called call))) (begin call s).done.slots ≡ all_posted c h.past s
+    call-posted h call s = rw (append-nil h.past.heard) (ap (λ (ms : List Message). h.past.heard ++ ms) (ap (posted_in c) (call-events call s)))
+
+    call-acted : (h : Deeds) (call : Call) (s : Slots) → Ended (begin call s).done.slots → Acting h s [] → Acted (then_done h (happened s (Called call))) (begin call s).done.slots (begin call s).done.caused
+    call-acted h call s after a y k = rw (append-nil h.acted, call-posted h call s) (by (call-ports call s))
+      where
+        by : PortsNow s (begin call s).done.slots → Acts h.acted (chunks_in (all_posted c h.past s)) y.live (begin call s).done.caused
+        by (inl e) = call-there h call s y (ap (λ (xs : List cross.Slots). slice_get xs c.0) e) k a.acted
+        by (inr (x, (e, new))) =
+            ⊎_elim (λ same. call-there h call s y (ap (λ (xs : List cross.Slots). slice_get xs c.0) e ∙ same) k a.acted)
+            (λ made. call-new h call s y after made.0 k a) (last-place s.ports x c.0)
+
+    -- the same streams, ports and posts
+    still-acted : (h g : Deeds) (s z : Slots) (es : List Effect) → z.ports ≡ s.ports → g.acted ≡ h.acted → all_posted c g.past z ≡ all_posted c h.past s → pends c es ≡ [] → Acted h s [] → Acted g z es
+    still-acted h g s z es p a m none k y end =
+        rw (a, m) (stands h.acted _ y.live es none (k y (record { there = ap (λ (xs : List cross.Slots). slice_get xs c.0) (sym p) ∙ end.there; side = end.side; stream = end.stream })))
+
+    pub acting-goes : Goes then_done told happened Acting
+    acting-goes = record {
+      row = λ h s e es a. record {
+        posting = (posting-goes c).row h.past s e es a.posting;
+        halved = halved-stays.row s e es a.halved;
+        behind = row-behind h s e es a;
+        unmade = λ none. let before : slice_get (stream_shapes s) i.0 ≡ None = ap (λ (ys : List StreamShape). slice_get ys i.0) (sym (row-stream_shapes e s)) ∙ none in rw (a.unmade before, absent-acted e s before) refl;
+        placed = λ m. let k = row-mine-placed s e m in each-append (Placed c i) (row e s).caused es (row-placed c i s a.halved a.posting.0.0 k e) (a.placed k).1;
+        acted = row-acted h s e es a.posting.0.1.0 a.behind (λ m. (a.placed m).0) a.acted;
+      };
+      call = λ h s call a. let p = (posting-goes c).call h.past s call a.posting in record {
+        posting = p;
+        halved = halved-stays.call s call a.halved;
+        behind = none-behind c (begin call s).done.caused (each-map IsBegun (IsNone c) (begun-none c) (begin call s).done.caused (call-begun call s));
+        unmade = λ none. rw (append-nil h.acted) (a.unmade (call-absent call s none));
+        placed = λ m. placed-of (begin call s).done.caused (call-begun call s);
+        acted = call-acted h call s p.0.0 a;
+      };
+      job = λ h s job e a. record {
+        posting = (posting-goes c).job h.past s job e a.posting;
+        halved = a.halved;
+        behind = none-behind c (job_effects job) (each-map IsBegun (IsNone c) (begun-none c) (job_effects job) (job-begun job));
+        unmade = λ none. rw (append-nil h.acted) (a.unmade none);
+        placed = λ m. placed-of (job_effects job) (job-begun job);
+        acted = still-acted h (then_done h (happened s Worked)) s (with_promises (after_next_job s.promises) s) (job_effects job) refl (append-nil h.acted)
+            (rw (append-nil h.past.heard) (ap (λ (ms : List Message). h.past.heard ++ ms) (ap (posted_in c) (next-events s.promises)))) (none-of (job_effects job) (job-begun job)) a.acted;
+      };
+      idle = λ h s e a. rw (done-history.right h) a;
+      answered = λ h s p a. record {
+        posting = (posting-goes c).answered h.past s p a.posting;
+        halved = a.halved;
+        behind = tt;
+        unmade = a.unmade;
+        placed = λ m. tt;
+        acted = still-acted h h s _ [] refl refl (ap (λ (ms : List Message). h.past.heard ++ ms) (watch-posted c p s.promises)) refl a.acted;
+      };
+      older = λ h s a. record { posting = (posting-goes c).older h.past s a.posting; halved = a.halved; behind = tt; unmade = a.unmade; placed = λ m. tt; acted = λ y end. a.acted y (record { there = end.there; side = end.side; stream = end.stream }) };
+    }
+      where
+        row-mine-placed : (s : Slots) (e : Effect) → Mine c i (row e s).slots → Mine c i s
+        row-mine-placed s e m = ap (λ (ps : List PortShape). slice_get ps c.0) (sym (row-port_shapes e s)) ∙ m
+
+        row-behind : (h : Deeds) (s : Slots) (e : Effect) (es : List Effect) → Acting h s (e ∷ es) → Behind c ((row e s).caused ++ es)
+        row-behind h s e es a = behind-next c (row e s).caused es (caused-behind s e) a.behind
+          where
+            caused-behind : (s : Slots) (e : Effect) → Behind c (row e s).caused
+            caused-behind s (Writable j (writes.HandOn (ToPort d p))) = by (is_same_port c d) refl
+              where
+                by : (b : Bool) → b ≡ is_same_port c d → Behind c (row (Writable j (writes.HandOn (ToPort d p))) s).caused
+                by true e = (hand-row c j d p s (sym e)).1
+                by false e = none-behind c _ (row-none c (Writable j (writes.HandOn (ToPort d p))) s (sym e))
+            caused-behind s e = none-behind c (row e s).caused (row-none c e s tt)
+
+        call-absent : (call : Call) (s : Slots) → slice_get (stream_shapes (begin call s).done.slots) i.0 ≡ None → slice_get (stream_shapes s) i.0 ≡ None
+        call-absent call s none = by (slice_get (stream_shapes s) i.0) refl
+          where
+            by : (o : Option StreamShape) → o ≡ slice_get (stream_shapes s) i.0 → slice_get (stream_shapes s) i.0 ≡ None
+            by None e = sym e
+            by (Some w) e = let later = shape-call i w call s (sym e) in let no : None ≡ Some w = sym none ∙ later in cc
+
+    pub acting-rests : Rests then_done happened Acting
+    acting-rests = record {
+      heard = λ h s a. record {
+        posting = (posting-rests c).heard h.past s a.posting;
+        halved = a.halved;
+        behind = tt;
+        unmade = λ none. rw (append-nil h.acted) (a.unmade none);
+        placed = λ m. tt;
+        acted = still-acted h (then_done h (happened s Heard)) s (after_event s) [] refl (append-nil h.acted)
+            (append_assoc h.past.heard (posted_in c (taken_event s.promises.events)) (posted_in c (later_events s.promises.events)) ∙ ap (λ (ms : List Message). h.past.heard ++ ms) (split-events c s.promises.events)) refl a.acted;
+      };
+    }
+
+    acting-empty : Acting nothing_done empty []
+    acting-empty = record { posting = (fitting-empty, (refl, refl)); halved = halved-empty; behind = tt; unmade = λ n. refl; placed = λ m. tt; acted = λ y end. let no : None ≡ Some y = end.there in cc }
+
+    -- over a run
+
+    abbrev told_in : Slots → Entry → Deeds
+    told_in = walker.happens nothing_done then_done done-history told happened Acting acting-goes
+
+    along-acted : (ms : List Moment) → (along nothing_done then_done told ms).acted ≡ (along no_writes writes_then (effect_writes i) ms).acted
+    along-acted [] = refl
+    along-acted (m ∷ ms) = ap (λ (vs : List Value). (effect_writes i m.effect m.found).acted ++ vs) (along-acted ms)
+
+    along-past : (ms : List Moment) → (along nothing_done then_done told ms).past ≡ nothing_past
+    along-past [] = refl
+    along-past (m ∷ ms) = rw (along-past ms) refl
+
+    run-acts : (xs : List Entry) (s : Slots) → (over nothing_done then_done told_in xs s).acted ≡ (run_writes i xs s).acted
+    run-acts [] s = refl
+    run-acts (x ∷ xs) s = rw (run-acts xs (step s x)) (ap (λ (vs : List Value). vs ++ (run_writes i xs (step s x)).acted) (along-acted (moments_in s x)))
+
+    run-heards : (xs : List Entry) (s : Slots) → (over nothing_done then_done told_in xs s).past.heard ++ posted c (run xs s).promises ≡ posted_in c (run_events xs s)
+    run-heards [] s = refl
+    run-heards (x ∷ xs) s =
+        let rest = over nothing_done then_done told_in xs (step s x) in
+        let one : (told_in s x).past ≡ said c s x = ap (λ (p : Past). then_past (said c s x) p) (along-past (moments_in s x)) ∙ past-history.right (said c s x) in
+        let heard : (told_in s x).past.heard ≡ posted_in c (histories.taken_in_step s x) = ap (λ (p : Past). p.heard) one ∙ heard-said c s x in
+        ap (λ (ms : List Message). (ms ++ rest.past.heard) ++ posted c (run xs (step s x)).promises) heard
+        ∙ (append_assoc (posted_in c (histories.taken_in_step s x)) rest.past.heard (posted c (run xs (step s x)).promises)
+        ∙ (ap (λ (ms : List Message). posted_in c (histories.taken_in_step s x) ++ ms) (run-heards xs (step s x)) ∙ sym (posted-append c (histories.taken_in_step s x) (run_events xs (step s x)))))
+
+    -- what the stream acted on in a run, by what the port posted
+    pub run-acted : (entries : List Entry) (x : cross.Slots) → IsEnd (run entries empty) x → Acts (run_writes i entries empty).acted (chunks_in (posted_in c (run_events entries empty))) x.live []
+    run-acted entries x k =
+        let a = walker.run-goes nothing_done then_done done-history told happened Acting acting-goes acting-rests entries nothing_done empty acting-empty in
+        let acts = a.acted x k in
+        let h : Deeds = over nothing_done then_done told_in entries empty in
+        let left = done-history.left h in
+        rw (← run-acts entries empty, ← run-heards entries empty) acts
