@@ -1,27 +1,31 @@
--- What an operation of a pipe, of a transform stream or of a signal takes of the places of a realm.
+-- What an operation of a pipe, of a transform stream, of a port or of a signal takes of the places of a realm.
 use Rattle.std.proofs.Common.{◌≡◌, ◌≤◌, ◌<◌, ℕ, zero, suc, ◌+◌, ◌*◌, ◌⊎◌, inl, inr, ⊎_elim, Bool, true, false, not, ◌&&◌, if◌then◌else◌, List, [], ◌∷◌, ◌++◌, length, map, Some, None, refl, sym, ap, ◌∙◌, subst, Contains, arith}
 use Rattle.std.specs.Prelude.{slice_get, slice_set, nat_lt}
 use Rattle.std.proofs.lemmas.Bool.{false≢true}
 use Rattle.std.proofs.lemmas.List.Elements.{Contains-append_left, Contains-append_right}
 use Rattle.ws_value.specs.declared.ids.PipeId.{PipeId}
+use Rattle.ws_value.specs.declared.ids.PortId.{PortId}
 use Rattle.ws_value.specs.declared.ids.SignalId.{SignalId}
 use Rattle.ws_pipe.specs.Seen.{SeenSignal, HasMemberRoom, aborts_of}
 use Rattle.ws_steps.specs.declared.effects.Effect.{Effect}
-use Rattle.ws_steps.specs.declared.effects.Effect.TheVariants.{Pipe, Signal, Transform}
+use Rattle.ws_steps.specs.declared.effects.Effect.TheVariants.{Pipe, Signal, Transform, Port}
 use Rattle.ws_steps.specs.declared.pipes.Ends.{Ends}
 use Rattle.ws_steps.specs.declared.pipes.PipeOperation.{PipeOperation}
 use Rattle.ws_steps.specs.declared.pipes.SignalOperation.{SignalOperation}
+use Rattle.ws_steps.specs.declared.port.PortOperation.{PortOperation}
 use Rattle.ws_steps.specs.declared.transform.Halves.{Halves}
 use Rattle.ws_steps.specs.declared.transform.TransformId.{TransformId}
 use Rattle.ws_steps.specs.declared.transform.TransformOperation.{TransformOperation}
-use Rattle.ws_steps.specs.Operations.{pipe_operation, signal_operation, transform_operation}
+use Rattle.ws_steps.specs.Operations.{pipe_operation, signal_operation, transform_operation, port_operation}
+use Rattle.ws_steps.specs.Cross as cross
 use Rattle.ws_steps.specs.Pipes as pipe
-use Rattle.ws_steps.specs.Places.{prices_of, table_size, turns_alone, queued_alone, requests_alone, members_alone, pipe_price, signal_price, transform_price, own_signal}
-use Rattle.ws_steps.specs.Slots.{Slots, found, ends_at, halves_at, put_pipe, put_signal, put_transform}
+use Rattle.ws_steps.specs.Places.{prices_of, table_size, turns_alone, queued_alone, requests_alone, members_alone, pipe_price, signal_price, transform_price, port_price, own_signal}
+use Rattle.ws_steps.specs.Slots.{Slots, found, ends_at, halves_at, clones_at, put_pipe, put_signal, put_transform, put_port}
 use Rattle.ws_steps.specs.Transform as transform
 use Rattle.ws_steps.specs.Turns.{row}
 use Rattle.ws_steps.proofs.StreamLaws.{map-set}
 use Rattle.ws_room_laws.proofs.Pipes.{pipe-takes, signal-takes}
+use Rattle.ws_room_laws.proofs.Ports.{port-takes}
 use Rattle.ws_room_laws.proofs.Transforms.{transform-takes}
 use Rattle.ws_room_laws.proofs.Rows.{each-none, get-other, same-or}
 use Rattle.ws_tables.specs.View.{slots_of, signal_of}
@@ -85,6 +89,31 @@ transform-took t halves operation a quiet =
     let q = transform-takes queued_alone t halves operation a in
     let r = transform-takes requests_alone t halves operation a in
     let m = transform-takes members_alone t halves operation a in
+    record { queued = omega (arith, none.0, q); requested = omega (arith, none.1, r); members = omega (arith, none.2, m) }
+
+-- ports
+
+pub port-absent : (c : PortId) (operation : PortOperation) (x : Tables) → length (slots_of x).ports ≤ c.0 → x.caused.effects ≡ [] → Performs (Port c operation) x x
+unfolding row
+port-absent c operation x past quiet = let none = within-none (slots_of x).ports c.0 past in absent (Port c operation) x (rw none refl) quiet
+
+pub port-row : (c : PortId) (operation : PortOperation) (s : Slots) (x : cross.Slots) (a : cross.Acts) → slice_get s.ports c.0 ≡ Some x
+    → a ≡ port_operation c (clones_at x s) operation (record { slots = x; out = found s }) → row (Port c operation) s ≡ put_port c s a
+unfolding row
+port-row c operation s x a is did = rw (is, did) refl
+
+pub record PortTook (operation : PortOperation) (es : List Effect) : Type 0 where
+  pub queued : prices_of queued_alone es ≤ port_price queued_alone operation
+  pub requested : prices_of requests_alone es ≤ port_price requests_alone operation
+  pub members : prices_of members_alone es ≤ port_price members_alone operation
+
+pub port-took : (c : PortId) (clones : Bool) (operation : PortOperation) (a : cross.Acts) → a.out.effects ≡ [] → PortTook operation (port_operation c clones operation a).out.effects
+unfolding table_size
+port-took c clones operation a quiet =
+    let none : (prices_of queued_alone a.out.effects ≡ 0) × (prices_of requests_alone a.out.effects ≡ 0) × (prices_of members_alone a.out.effects ≡ 0) = rw quiet (refl, refl, refl) in
+    let q = port-takes queued_alone c clones operation a in
+    let r = port-takes requests_alone c clones operation a in
+    let m = port-takes members_alone c clones operation a in
     record { queued = omega (arith, none.0, q); requested = omega (arith, none.1, r); members = omega (arith, none.2, m) }
 
 -- signals

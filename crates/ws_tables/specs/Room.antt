@@ -253,6 +253,7 @@ pub record IsPrepared (t : Tables) : Type 0 where
   pub streams : vec_len t.streams + 2 ≤ vec_capacity t.streams
   pub transforms : vec_len t.transforms < vec_capacity t.transforms
   pub tees : vec_len t.tees < vec_capacity t.tees
+  pub ports : vec_len t.ports < vec_capacity t.ports
   pub copies : EachHasCopies 1 t.tees.items
   pub pipes : vec_len t.pipes < vec_capacity t.pipes
   pub signals : vec_len t.signals < vec_capacity t.signals

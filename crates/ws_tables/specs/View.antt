@@ -26,6 +26,7 @@ slots_of t =
       streams = map stream_of t.streams.items;
       transforms = t.transforms.items;
       tees = map tee_of t.tees.items;
+      ports = t.ports.items;
       pipes = t.pipes.items;
       signals = map signal_of t.signals.items;
       locks = t.locks.items;

@@ -5,8 +5,8 @@ ghost use Rattle.ws_tables.specs.Room.{HasRoomFor, IsKept, KeepsRecords, Perform
 
 use crate::tables::Tables;
 use ws_steps::{
-    Effect, Event, Gift, HostCall, Owner, PipeOperation, ReadRequest, StartBy, Step, Taker,
-    TeeOperation, TransformOperation, Use, WritableOperation,
+    Effect, Event, Gift, HostCall, Owner, PipeOperation, PortOperation, ReadRequest, StartBy, Step,
+    Taker, TeeOperation, TransformOperation, Use, WritableOperation,
 };
 use ws_value::{Chunk, HostId, Plain, PromiseId, StreamId, Value};
 
@@ -52,6 +52,11 @@ impl Tables {
                 self.caused
                     .push(Effect::Give(Gift::Fresh(Ok(Plain::Undefined)), u));
             }
+            Owner::EndOf(c) => {
+                self.caused.push(Effect::Port(c, PortOperation::Pull));
+                self.caused
+                    .push(Effect::Give(Gift::Fresh(Ok(Plain::Undefined)), u));
+            }
         }
     }
 
@@ -75,10 +80,13 @@ impl Tables {
                 let operation = TeeOperation::CancelBranch(half, reason, u);
                 self.caused.push(Effect::Tee(t, operation));
             }
+            Owner::EndOf(c) => self
+                .caused
+                .push(Effect::Port(c, PortOperation::Leave(reason, u))),
         }
     }
 
-    /// The write algorithm gets the chunk once the stream hands it on: to the host at once, and to a transform stream once it has no backpressure.
+    /// The write algorithm gets the chunk once the stream hands it on: to the host at once, and to a transform stream or a port once it has no backpressure.
     #[tactic(auto, unfolding(ws_steps::specs::Turns::row))]
     fn write_algorithm(&mut self, i: StreamId)
         requires quiet { self.old.caused.effects ≡ [] }
@@ -95,6 +103,10 @@ impl Tables {
                 let u = Use::React(Step::WritableWrite(i), None);
                 self.caused
                     .push(Effect::Transform(t, TransformOperation::SinkWrite(u)));
+            }
+            Owner::EndOf(c) => {
+                let u = Use::React(Step::WritableWrite(i), None);
+                self.caused.push(Effect::Port(c, PortOperation::Write(u)));
             }
         }
     }
@@ -114,6 +126,7 @@ impl Tables {
             Owner::HalfOf(t) => self
                 .caused
                 .push(Effect::Transform(t, TransformOperation::SinkClose(u))),
+            Owner::EndOf(c) => self.caused.push(Effect::Port(c, PortOperation::Close(u))),
         }
     }
 
@@ -133,6 +146,9 @@ impl Tables {
                 let operation = TransformOperation::SinkAbort(reason, u);
                 self.caused.push(Effect::Transform(t, operation));
             }
+            Owner::EndOf(c) => self
+                .caused
+                .push(Effect::Port(c, PortOperation::Leave(reason, u))),
         }
     }
 
@@ -235,6 +251,7 @@ impl Tables {
             Effect::Signal(a, operation) => self.perform_signal(a, operation),
             Effect::Transform(t, operation) => self.perform_transform(t, operation),
             Effect::Tee(t, operation) => self.perform_tee(t, operation),
+            Effect::Port(c, operation) => self.perform_port(c, operation),
             Effect::StartAlgorithm(i, step, start) => self.start_algorithm(i, step, start),
             Effect::PullAlgorithm(i) => self.pull_algorithm(i),
             Effect::CancelAlgorithm(i, reason, promise) => {

@@ -4,6 +4,7 @@ ghost use Rattle.ws_tables.specs.Room.{NotesFull, NotesGrowth};
 
 mod byte;
 mod pipe;
+mod port;
 mod readable;
 mod signal;
 mod source;

@@ -155,6 +155,7 @@ impl Tables {
         self.streams.reserve(2)?;
         self.transforms.reserve(1)?;
         self.tees.reserve(1)?;
+        self.ports.reserve(1)?;
         self.pipes.reserve(1)?;
         self.signals.reserve(1)?;
         let grown = self.places(0, 0, 1, GROWN)?;

@@ -4,6 +4,7 @@ ghost use Rattle.ws_steps.specs.Slots.{empty};
 
 use std::alloc::Global;
 use ws_byte::ByteStream;
+use ws_cross::Port;
 use ws_pipe::{Pipe, Signal};
 use ws_promise::{Agenda, Promises};
 use ws_readable::Readable;
@@ -28,6 +29,7 @@ pub struct Tables {
     pub streams: Vec<Stream>,
     pub transforms: Vec<Transform>,
     pub tees: Vec<Tee>,
+    pub ports: Vec<Port>,
     pub pipes: Vec<Pipe>,
     pub signals: Vec<Signal>,
     pub locks: Vec<Lock>,
@@ -68,6 +70,7 @@ impl Tables {
             streams: Vec::new(alloc),
             transforms: Vec::new(alloc),
             tees: Vec::new(alloc),
+            ports: Vec::new(alloc),
             pipes: Vec::new(alloc),
             signals: Vec::new(alloc),
             locks: Vec::new(alloc),

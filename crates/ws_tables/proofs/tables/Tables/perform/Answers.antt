@@ -1,4 +1,4 @@
-use Rattle.ws_steps.specs.declared.effects.Effect.TheVariants.{Transform, StartAlgorithm, ChunkSteps, CloseSteps, CloseStepsWith, ErrorSteps, CallHost}
+use Rattle.ws_steps.specs.declared.effects.Effect.TheVariants.{Transform, Port, StartAlgorithm, ChunkSteps, CloseSteps, CloseStepsWith, ErrorSteps, CallHost}
 use Rattle.ws_tables.specs.View.{slots_of}
 use Rattle.ws_tables.proofs.Counts.{gift-more, settle-more, micro-more}
 use Rattle.ws_tables.proofs.Places.{kept_by, kept_promises}
@@ -13,6 +13,11 @@ pub returns-in-Transform-clause-kept : goal.returns-in-Transform-clause-kept
 returns-in-Transform-clause-kept c =
     let e = c.perform_transform.ensures in
     kept_by (Transform c.in-Transform.t c.in-Transform.operation) c.args.self.now c.perform_transform.new.self e.performs e.records c.requires.kept
+
+pub returns-in-Port-clause-kept : goal.returns-in-Port-clause-kept
+returns-in-Port-clause-kept c =
+    let e = c.perform_port.ensures in
+    kept_by (Port c.in-Port.c c.in-Port.operation) c.args.self.now c.perform_port.new.self e.performs e.records c.requires.kept
 
 pub returns-in-ChunkSteps-clause-kept : goal.returns-in-ChunkSteps-clause-kept
 returns-in-ChunkSteps-clause-kept c =

@@ -21,18 +21,19 @@ returns-clause-ok c =
       hosts = let h = c.in_ok-reserve-2.ensures.ok in let n = c.in_ok-hosts.ensures in omega (arith, h, n, many);
       caused = let h = c.in_ok-prepare_agenda.ensures.caused in omega (arith, h, waits, aborts, tees, many);
       others = let h = c.in_ok-prepare_agenda.ensures.others in omega (arith, h, waits, aborts, tees, many);
-      grown = let h = c.in_ok-reserve-10.ensures.ok in let n = c.in_ok-grown.ensures in omega (arith, h, n, many);
+      grown = let h = c.in_ok-reserve-11.ensures.ok in let n = c.in_ok-grown.ensures in omega (arith, h, n, many);
       places =
           rw (c.in_ok-reserve-5.ensures.items ∙ (ap (λ (t : Tables). t.streams.items) agenda ∙ (ap (λ (t : Tables). t.streams.items) copies.tables ∙ ap (λ (t : Tables). t.streams.items) signals)))
           c.in_ok-prepare_streams.ensures.ok;
-      full = let h = c.in_ok-reserve-11.ensures.ok in omega (arith, h);
-      members = rw (c.in_ok-reserve-9.ensures.items ∙ (ap (λ (t : Tables). t.signals.items) agenda ∙ ap (λ (t : Tables). t.signals.items) copies.tables)) c.in_ok-prepare_signals.ensures.ok;
+      full = let h = c.in_ok-reserve-12.ensures.ok in omega (arith, h);
+      members = rw (c.in_ok-reserve-10.ensures.items ∙ (ap (λ (t : Tables). t.signals.items) agenda ∙ ap (λ (t : Tables). t.signals.items) copies.tables)) c.in_ok-prepare_signals.ensures.ok;
       byob_requests = let h = c.in_ok-reserve-3.ensures.ok in omega (arith, h);
       locks = let h = c.in_ok-reserve-4.ensures.ok in omega (arith, h);
       streams = let h = c.in_ok-reserve-5.ensures.ok in omega (arith, h);
       transforms = let h = c.in_ok-reserve-6.ensures.ok in omega (arith, h);
       tees = let h = c.in_ok-reserve-7.ensures.ok in omega (arith, h);
+      ports = let h = c.in_ok-reserve-8.ensures.ok in omega (arith, h);
       copies = rw (c.in_ok-reserve-7.ensures.items ∙ ap (λ (t : Tables). t.tees.items) agenda) c.in_ok-copy_chunks.ensures.ok;
-      pipes = let h = c.in_ok-reserve-8.ensures.ok in omega (arith, h);
-      signals = let h = c.in_ok-reserve-9.ensures.ok in omega (arith, h);
+      pipes = let h = c.in_ok-reserve-9.ensures.ok in omega (arith, h);
+      signals = let h = c.in_ok-reserve-10.ensures.ok in omega (arith, h);
     }
