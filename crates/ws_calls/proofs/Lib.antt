@@ -1,3 +1,4 @@
 pub mod Beginning
 pub mod Idle
 pub mod Looking
+pub mod Made

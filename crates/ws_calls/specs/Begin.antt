@@ -4,15 +4,16 @@ use Rattle.ws_value.specs.declared.ids.PromiseId.{PromiseId}
 use Rattle.ws_pipe.specs.Seen.{SeenSignal}
 use Rattle.ws_promise.specs.Seen.{HasPromiseRoom}
 use Rattle.ws_steps.specs.declared.calls.Reply.{Reply}
-use Rattle.ws_steps.specs.declared.calls.Reply.TheVariants.{Done as ReplyDone, Made, MadeTwo, Lock as ReplyLock, Promise, Signal as ReplySignal, Request as ReplyRequest, Size, State as ReplyState, Throws, TooMany}
+use Rattle.ws_steps.specs.declared.calls.Reply.TheVariants.{Done as ReplyDone, Made, MadeTwo, Lock as ReplyLock, Promise, Signal as ReplySignal, Port as ReplyPort, MadePort, Request as ReplyRequest, Size, State as ReplyState, Throws, TooMany}
 use Rattle.ws_steps.specs.declared.byte.ReaderKind.{ReaderKind}
 use Rattle.ws_steps.specs.declared.byte.ReaderKind.TheVariants.{Default, Byob}
 use Rattle.ws_steps.specs.declared.locks.Lock.{Lock}
 use Rattle.ws_steps.specs.declared.locks.Lock.TheVariants.{Reader, ByobReader}
+use Rattle.ws_steps.specs.declared.port.Side.{Side}
 use Rattle.ws_steps.specs.Pipes.{new_signal}
 use Rattle.ws_steps.specs.Places.{prices_of, queued_alone, requests_alone, members_alone, descriptors_alone, copies_alone}
 use Rattle.ws_steps.specs.Slots.{Done}
-use Rattle.ws_steps.specs.Calls.{Begun, with_renewed, reject_renewed}
+use Rattle.ws_steps.specs.Calls.{Begun, with_renewed, reject_renewed, add_port, start_end}
 use Rattle.ws_tables.specs.View.{slots_of}
 use Rattle.ws_tables.specs.Room.{places_of, queued_in, requested_in, described_in, HasRoomForAll, IsKept, KeepsRecords}
 use Rattle.ws_tables.specs.declared.tables.Stream.{Stream}
@@ -29,11 +30,11 @@ pub record Begins (d : Done) (t t' : Tables) : Type 0 where
 -- a call can begin: nothing is caused yet, and there are places for the promises, the locks and the effects that it makes
 pub record CanBegin (t : Tables) : Type 0 where
   pub quiet : t.caused.effects ≡ []
-  pub promises : HasPromiseRoom 4 t.promises
-  pub effects : 7 ≤ t.caused.capacity
+  pub promises : HasPromiseRoom 5 t.promises
+  pub effects : 8 ≤ t.caused.capacity
   pub locks : vec_len t.locks + 2 ≤ vec_capacity t.locks
 
--- there are places for two streams, one transform stream, one tee, one pipe, one signal and one BYOB request more; of transform streams and tees
+-- there are places for two streams, one transform stream, one tee, one port, one pipe, one signal and one BYOB request more; of transform streams and tees
 -- there are no more than of streams, so there are numbers for them
 pub record CanMake (t : Tables) : Type 0 where
   pub streams : vec_len t.streams + 2 ≤ vec_capacity t.streams
@@ -42,6 +43,7 @@ pub record CanMake (t : Tables) : Type 0 where
   pub few : vec_len t.transforms ≤ vec_len t.streams
   pub tees : vec_len t.tees < vec_capacity t.tees
   pub few_tees : vec_len t.tees ≤ vec_len t.streams
+  pub ports : vec_len t.ports < vec_capacity t.ports
   pub pipes : vec_len t.pipes < vec_capacity t.pipes
   pub signals : vec_len t.signals < vec_capacity t.signals
   pub byob_requests : vec_len t.byob_requests < vec_capacity t.byob_requests
@@ -113,6 +115,8 @@ abbrev pub RecordsAfter : Reply → Tables → Tables → Type 0
 RecordsAfter (Made i) t t' = MakesOne t t'
 RecordsAfter (MadeTwo i j) t t' = MakesTwo t t'
 RecordsAfter (ReplySignal a) t t' = MakesSignal t t'
+RecordsAfter (ReplyPort c) t t' = MakesOne t t'
+RecordsAfter (MadePort i c) t t' = MakesOne t t'
 RecordsAfter ReplyDone t t' = MakesNone t t'
 RecordsAfter (ReplyLock l) t t' = MakesNone t t'
 RecordsAfter (Promise p) t t' = MakesNone t t'
@@ -132,6 +136,37 @@ pub record Answers (b : Begun) (answered : Reply) (t t' : Tables) : Type 0 where
   pub waiting : t'.waiting ≡ t.waiting
   pub aborts : t'.aborts ≡ t.aborts
   pub records : RecordsAfter answered t t'
+
+-- a pipe can begin behind what is caused: there are places for what it makes
+pub record CanPipe (t : Tables) : Type 0 where
+  pub promises : HasPromiseRoom 4 t.promises
+  pub effects : 7 + length t.caused.effects ≤ t.caused.capacity
+  pub locks : vec_len t.locks + 2 ≤ vec_capacity t.locks
+  pub pipes : vec_len t.pipes < vec_capacity t.pipes
+
+-- a pipe begins so, behind what is caused
+pub record Pipes (b : Begun) (answered : Reply) (t t' : Tables) : Type 0 where
+  pub reply : answered ≡ b.reply
+  pub slots : slots_of t' ≡ b.done.slots
+  pub caused : t'.caused.effects ≡ t.caused.effects ++ b.done.caused
+  pub others : t'.others ≡ t.others
+  pub places : places_of t' ≡ places_of t
+  pub waiting : t'.waiting ≡ t.waiting
+  pub aborts : t'.aborts ≡ t.aborts
+  pub records : MakesNone t t'
+
+-- a port is added, with a stream at its end which starts, and no pipe
+pub record AddsEnd (side : Side) (t t' : Tables) : Type 0 where
+  pub slots : slots_of t' ≡ add_port (record { 0 = length t.streams.items }) (slots_of t) side
+  pub caused : t'.caused.effects ≡ start_end (record { 0 = length t.streams.items }) side ∷ []
+  pub others : t'.others ≡ t.others
+  pub places : places_of t' ≡ places_of t
+  pub waiting : t'.waiting ≡ t.waiting
+  pub aborts : t'.aborts ≡ t.aborts
+  pub promises : length t'.promises.table.entries ≤ length t.promises.table.entries + 1
+  pub locks : t'.locks ≡ t.locks
+  pub pipes : t'.pipes ≡ t.pipes
+  pub records : MakesOne t t'
 
 -- a call or a job has begun, and there are places for its effects and all that comes of them
 pub record IsBegun (t : Tables) : Type 0 where

@@ -9,7 +9,7 @@ ghost use Rattle.ws_tables.specs.View.{slots_of};
 ghost use Rattle.ws_calls.specs.Begin.{Answers, CanBegin, CanMake, IsSameBeside};
 
 use crate::jobs::begin_job;
-use crate::{byob, controllers, locks, pipes, readers, streams, tees, transforms, writers};
+use crate::{byob, controllers, locks, pipes, ports, readers, streams, tees, transforms, writers};
 use ws_steps::{Call, Reply};
 use ws_tables::Tables;
 
@@ -74,6 +74,9 @@ fn begin(tables: &mut Tables, call: Call) -> Reply
         } => pipes::pipe(tables, source, dest, prevent, signal),
         Call::MakeSignal => pipes::make_signal(tables),
         Call::Trigger(a, reason) => pipes::trigger(tables, a, reason),
+        Call::Send(i) => ports::send(tables, i),
+        Call::Open(side) => ports::open(tables, side),
+        Call::Deliver(c, message) => ports::deliver(tables, c, message),
         Call::Settle(h, answer) => controllers::settle(tables, h, answer),
         Call::State(i) => controllers::state(tables, i),
         Call::Step => step(tables),
@@ -93,6 +96,8 @@ fn name(tables: &mut Tables, reply: Reply)
         Reply::MadeTwo(_, _) => {}
         Reply::Lock(_) => {}
         Reply::Signal(_) => {}
+        Reply::Port(_) => {}
+        Reply::MadePort(_, _) => {}
         Reply::Request(_) => {}
         Reply::Size(_) => {}
         Reply::State(_) => {}

@@ -63,7 +63,7 @@ pub(crate) fn enqueue(tables: &mut Tables, i: StreamId, chunk: Value) -> Reply
             .caused
             .push(Effect::Transform(t, TransformOperation::Enqueue(chunk))),
         Owner::Host | Owner::HalfOf(_) => return TYPE_ERROR,
-        Owner::BranchOf(_, _) => return UNSUPPORTED,
+        Owner::BranchOf(_, _) | Owner::EndOf(_) => return UNSUPPORTED,
     }
     Reply::Done
 }
@@ -97,7 +97,7 @@ pub(crate) fn finish(tables: &mut Tables, i: StreamId) -> Reply
     }
     match tables.readable(i).owner() {
         Owner::Host => {}
-        Owner::HalfOf(_) | Owner::BranchOf(_, _) => return UNSUPPORTED,
+        Owner::HalfOf(_) | Owner::BranchOf(_, _) | Owner::EndOf(_) => return UNSUPPORTED,
     }
     if !tables.readable(i).can_close_or_enqueue() {
         return TYPE_ERROR;
@@ -121,7 +121,7 @@ pub(crate) fn fail(tables: &mut Tables, i: StreamId, reason: Plain) -> Reply
             Owner::HalfOf(t) => tables
                 .caused
                 .push(Effect::Transform(t, TransformOperation::Error(reason))),
-            Owner::BranchOf(_, _) => return UNSUPPORTED,
+            Owner::BranchOf(_, _) | Owner::EndOf(_) => return UNSUPPORTED,
         }
         return Reply::Done;
     }
@@ -136,7 +136,7 @@ pub(crate) fn fail(tables: &mut Tables, i: StreamId, reason: Plain) -> Reply
     }
     match tables.writable(i).owner() {
         Owner::Host => {}
-        Owner::HalfOf(_) | Owner::BranchOf(_, _) => return UNSUPPORTED,
+        Owner::HalfOf(_) | Owner::BranchOf(_, _) | Owner::EndOf(_) => return UNSUPPORTED,
     }
     tables.caused.push(Effect::Writable(i, WritableOperation::ErrorIfNeeded(reason)));
     Reply::Done
@@ -152,7 +152,7 @@ pub(crate) fn desired(tables: &mut Tables, i: StreamId) -> Reply
     }
     match tables.owner(i) {
         Owner::Host | Owner::HalfOf(_) => {}
-        Owner::BranchOf(_, _) => return UNSUPPORTED,
+        Owner::BranchOf(_, _) | Owner::EndOf(_) => return UNSUPPORTED,
     }
     let size = tables.source_desired_size(i);
     Reply::Size(size)

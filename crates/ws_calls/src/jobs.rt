@@ -7,8 +7,8 @@ ghost use Rattle.ws_tables.specs.View.{slots_of};
 ghost use Rattle.ws_calls.specs.Begin.{Begins};
 
 use ws_steps::{
-    Effect, Job, Micro, PipeOperation, ReadableOperation, Step, TeeOperation, TransformOperation,
-    WritableOperation,
+    Effect, Job, Micro, PipeOperation, PortOperation, ReadableOperation, Step, TeeOperation,
+    TransformOperation, WritableOperation,
 };
 use ws_tables::Tables;
 use ws_value::{Plain, PromiseId};
@@ -39,6 +39,7 @@ fn returned(step: Step, outcome: Result<Plain, Plain>) -> Result<Plain, Plain>
         Step::TransformAborted(_, _, _) => Ok(Plain::Undefined),
         Step::TransformCancelled(_, _, _) => Ok(Plain::Undefined),
         Step::TeeEnds(_) => Ok(Plain::Undefined),
+        Step::PortUnblocked(_, _) => Ok(Plain::Undefined),
     }
 }
 
@@ -118,6 +119,13 @@ fn cause_steps(tables: &mut Tables, step: Step, outcome: Result<Plain, Plain>)
             let operation = TeeOperation::ReaderSettled(outcome);
             tables.caused.push(Effect::Tee(t, operation));
         }
+        Step::PortUnblocked(c, promise) => match outcome {
+            Ok(_) => {
+                let operation = PortOperation::WriteGoesOn(promise);
+                tables.caused.push(Effect::Port(c, operation));
+            }
+            Err(reason) => tables.caused.push(Effect::Settle(promise, Err(reason))),
+        },
     }
 }
 

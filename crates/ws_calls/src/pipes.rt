@@ -2,7 +2,7 @@
 ghost use Rattle.std.specs.Prelude.{◌≡◌, ◌+◌, ◌≤◌, ◌++◌, length, true};
 ghost use Rattle.ws_steps.specs.Calls as calls;
 ghost use Rattle.ws_steps.specs.Slots.{has_source, has_writable};
-ghost use Rattle.ws_calls.specs.Begin.{Answers, CanBegin, CanMake};
+ghost use Rattle.ws_calls.specs.Begin.{Answers, CanBegin, CanMake, CanPipe, Pipes};
 ghost use Rattle.ws_steps.specs.declared.calls.Call.TheVariants as call;
 ghost use Rattle.ws_tables.specs.View.{slots_of};
 
@@ -65,16 +65,15 @@ fn begin_pipe(
 
 /// ReadableStreamPipeTo: a reader and a writer of the pipe's own take the two streams.
 #[tactic(auto, using(ws_tables::proofs::Places::fresh_length))]
-fn pipe_to(
+pub(crate) fn pipe_to(
     tables: &mut Tables,
     source: StreamId,
     dest: StreamId,
     prevent: Prevent,
     signal: Option<SignalId>,
 ) -> Reply
-    requires ready { CanBegin tables.old }
-    requires room { CanMake tables.old }
-    ensures { Answers (calls.pipe_to source dest prevent signal (slots_of tables.old)) result tables.old tables.new }
+    requires { CanPipe tables.old }
+    ensures { Pipes (calls.pipe_to source dest prevent signal (slots_of tables.old)) result tables.old tables.new }
 {
     let me = PipeId(tables.pipes.len() as u128);
     let reason = reason_of(tables, signal);

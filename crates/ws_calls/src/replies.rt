@@ -12,6 +12,8 @@ pub(crate) const UNSUPPORTED: Reply = Reply::Throws(Thrown::Unsupported);
 
 pub(crate) const TYPE_ERROR: Reply = Reply::Throws(Thrown::TypeError);
 
+pub(crate) const DATA_CLONE: Reply = Reply::Throws(Thrown::DataClone);
+
 /// What a call throws that an operation of a byte controller lets throw.
 pub(crate) fn thrown_by(fault: Fault) -> Reply
     ensures { result ≡ calls.thrown_by fault }

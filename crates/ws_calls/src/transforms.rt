@@ -104,7 +104,7 @@ pub(crate) fn terminate(tables: &mut Tables, i: StreamId) -> Reply
         return UNSUPPORTED;
     }
     match tables.readable(i).owner() {
-        Owner::Host | Owner::BranchOf(_, _) => UNSUPPORTED,
+        Owner::Host | Owner::BranchOf(_, _) | Owner::EndOf(_) => UNSUPPORTED,
         Owner::HalfOf(t) => {
             tables
                 .caused

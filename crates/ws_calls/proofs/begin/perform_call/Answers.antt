@@ -18,6 +18,7 @@ begin-reply-requires-clause-room c =
       grown = let h = ready.grown in omega (arith, h);
       tees = ready.tees;
       few_tees = let g = few.1 in omega (arith, g, many, tees, t.tees.ok.0, t.streams.ok.0);
+      ports = ready.ports;
       transforms = ready.transforms;
       few = let f = few.0 in omega (arith, f, many, t.transforms.ok.0, t.streams.ok.0);
       pipes = ready.pipes;
