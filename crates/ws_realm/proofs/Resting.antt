@@ -53,6 +53,7 @@ ready-still t u less ready = record {
   streams = ready.streams;
   transforms = ready.transforms;
   tees = ready.tees;
+  ports = ready.ports;
   copies = ready.copies;
   pipes = ready.pipes;
   signals = ready.signals;

@@ -1,11 +1,12 @@
-//! A realm: readable, writable and transform streams, their readers and writers, tees, pipes and the signals that abort them, promises and one job queue, and the calls on them.
+//! A realm: readable, writable and transform streams, their readers and writers, tees, pipes and the signals that abort them, message ports with the streams at this end of them, promises and one job queue, and the calls on them.
 //!
-//! It is thin: `ws_tables` has the tables and the performing of effects, `ws_calls` what calls and jobs begin with. Here all memory is taken first, and a realm that performed 2^62 calls and jobs performs no more. `laws` has what holds over every run, `bytes` what holds of byte streams, `tees` what holds of tees, `wants` what holds where a host enqueues only while its transformer is at work, `chains` what holds of a chain of pipes, and `ways` what holds of pipes into and out of identity transform streams, and through these.
+//! It is thin: `ws_tables` has the tables and the performing of effects, `ws_calls` what calls and jobs begin with. Here all memory is taken first, and a realm that performed 2^62 calls and jobs performs no more. `laws` has what holds over every run, `bytes` what holds of byte streams, `tees` what holds of tees, `ports` what holds of message ports, `wants` what holds where a host enqueues only while its transformer is at work, `chains` what holds of a chain of pipes, and `ways` what holds of pipes into and out of identity transform streams, and through these.
 #![tactic(auto)]
 
 pub mod bytes;
 pub mod chains;
 pub mod laws;
+pub mod ports;
 mod realm;
 pub mod tees;
 pub mod wants;
@@ -13,10 +14,10 @@ pub mod ways;
 
 pub use realm::{NoRoom, Realm, Why};
 pub use ws_steps::{
-    Answer, Call, Event, Flags, HostCall, Kind, Prevent, Reply, SizeBy, StartBy, StateIs, Thrown,
-    Word,
+    Answer, Call, Event, Flags, HostCall, Kind, Prevent, Reply, Side, SizeBy, StartBy, StateIs,
+    Thrown, Word,
 };
 pub use ws_value::{
-    Chunk, Fault, HostId, LockId, NoMemory, Outcome, PipeId, Plain, PromiseId, RequestId, Room,
-    SignalId, StreamId, TeeId, Value,
+    Chunk, Fault, HostId, LockId, Message, NoMemory, Outcome, PipeId, Plain, PortId, PromiseId,
+    RequestId, Room, SignalId, StreamId, TeeId, Value,
 };

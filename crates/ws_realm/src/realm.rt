@@ -6,7 +6,7 @@ ghost use Rattle.ws_steps.specs.declared.calls.Thrown.{Thrown};
 ghost use Rattle.ws_steps.specs.Laws.{errs};
 ghost use Rattle.ws_steps.specs.Queues.{is_empty};
 ghost use Rattle.ws_steps.specs.Run as run;
-ghost use Rattle.ws_steps.specs.Slots.{empty, pair_at};
+ghost use Rattle.ws_steps.specs.Slots.{empty, is_live, pair_at};
 ghost use Rattle.ws_realm.specs.Seen.{StopsWithin, outcome_named, oldest};
 ghost use Rattle.ws_realm.specs.declared.realm.Why.TheVariants as why;
 
@@ -15,7 +15,7 @@ use std::marker::Model;
 use ws_calls::{perform_call, perform_job};
 use ws_steps::{Call, Event, Reply};
 use ws_tables::Tables;
-use ws_value::{NoMemory, Outcome, Plain, PromiseId, TeeId};
+use ws_value::{NoMemory, Outcome, Plain, PortId, PromiseId, TeeId};
 
 /// The most calls and jobs of a realm.
 const OLDEST: u64 = 1 << 62;
@@ -193,6 +193,13 @@ impl Realm {
         ensures { result ≡ pair_at t self.now.slots }
     {
         self.tables.pair(t)
+    }
+
+    /// Whether there is a port `c` and it is entangled: what its stream tells is posted, and what is delivered to it reaches the stream.
+    pub fn live(&self, c: PortId) -> bool
+        ensures { result ≡ is_live c self.now.slots }
+    {
+        self.tables.is_live(c)
     }
 
     /// Takes out what the host hears of next.
