@@ -2,9 +2,11 @@
 use Rattle.std.proofs.Common.{◌≡◌, ℕ, ◌^◌, true, false, List, [], ◌∷◌, Some, None, Ok, Err, refl}
 use Rattle.std.specs.Prelude.{codes, replicate}
 use Rattle.ws_steps.specs.declared.calls.Call.{Call}
-use Rattle.ws_steps.specs.declared.calls.Call.TheVariants.{MakeReadable, MakeBytes, MakeWritable, MakeTransform, GetReader, GetByob, GetWriter, Tee, Write, Close, CloseBy, Abort, AbortBy, Ready, Cancel, CancelBy, Read, ReadInto, Closed, Release, Enqueue, Finish, Fail, Terminate, Request, Respond, Desired, DesiredBy, Pipe, MakeSignal, Trigger, Settle, State, Step}
+use Rattle.ws_steps.specs.declared.calls.Call.TheVariants.{MakeReadable, MakeBytes, MakeWritable, MakeTransform, GetReader, GetByob, GetWriter, Tee, Write, Close, CloseBy, Abort, AbortBy, Ready, Cancel, CancelBy, Read, ReadInto, Closed, Release, Enqueue, Finish, Fail, Terminate, Request, Respond, Desired, DesiredBy, Pipe, MakeSignal, Trigger, Send, Open, Deliver, Settle, State, Step}
 use Rattle.ws_steps.specs.declared.calls.StartBy.TheVariants.{Now, Later}
 use Rattle.ws_steps.specs.declared.calls.Answer.TheVariants.{Ok as AnswerOk, Fail as AnswerFail}
+use Rattle.ws_steps.specs.declared.port.Side.TheVariants.{Readable, Writable}
+use Rattle.ws_value.specs.declared.value.Message.TheVariants.{Pull as PullMessage, Chunk as ChunkMessage, Close as CloseMessage, Error as ErrorMessage}
 use Rattle.ws_steps.specs.declared.readable.SizeBy.TheVariants.{Count, ByteLength}
 use Rattle.ws_steps.specs.declared.transform.Kind.TheVariants.{Identity, Host}
 use Rattle.ws_value.specs.declared.fault.Fault.TheVariants.{User}
@@ -168,6 +170,31 @@ spelled_pipe_two_options = refl
 spelled_pipe_every_option : AloneIs (codes "pipe s0 s1 prevent-cancel signal=a340282366920938463463374607431768211455 prevent-abort prevent-close") (Pipe (record { 0 = 0 }) (record { 0 = 1 }) (record { close = true; abort = true; cancel = true }) (Some (record { 0 = 340282366920938463463374607431768211455 })))
 spelled_pipe_every_option = refl
 
+spelled_send : AloneIs (codes "send s4294967295") (Send (record { 0 = 4294967295 }))
+spelled_send = refl
+
+spelled_open : AloneIs (codes "open readable") (Open Readable)
+spelled_open = refl
+
+spelled_open_writable : AloneIs (codes "open writable") (Open Writable)
+spelled_open_writable = refl
+
+spelled_deliver : AloneIs (codes "deliver c340282366920938463463374607431768211455 pull") (Deliver (record { 0 = 340282366920938463463374607431768211455 }) PullMessage)
+spelled_deliver = refl
+
+spelled_deliver_close : AloneIs (codes "deliver c0 close") (Deliver (record { 0 = 0 }) CloseMessage)
+spelled_deliver_close = refl
+
+spelled_deliver_chunk : AloneIs (codes "deliver c0 chunk n5") (Deliver (record { 0 = 0 }) (ChunkMessage (PlainValue (Number 5))))
+spelled_deliver_chunk = refl
+
+spelled_deliver_bytes : AloneIs (codes "deliver c1 chunk x6162") (Deliver (record { 0 = 1 }) (ChunkMessage (Bytes (97 ∷ 98 ∷ []))))
+unfolding decode_pairs
+spelled_deliver_bytes = refl
+
+spelled_deliver_error : AloneIs (codes "deliver c0 error e7") (Deliver (record { 0 = 0 }) (ErrorMessage (Fault (User 7))))
+spelled_deliver_error = refl
+
 spelled_signal : AloneIs (codes "signal") MakeSignal
 spelled_signal = refl
 
@@ -229,6 +256,22 @@ refused_another_option = refl
 
 refused_option_without_a_signal : lines (codes "pipe s0 s1 signal=s0") ≡ Err 1
 refused_option_without_a_signal = refl
+
+refused_large_port : lines (codes "deliver c340282366920938463463374607431768211456 pull") ≡ Err 1
+refused_large_port = refl
+
+refused_pull_with_a_value : lines (codes "deliver c0 pull n1") ≡ Err 1
+refused_pull_with_a_value = refl
+
+refused_chunk_without_one : lines (codes "deliver c0 chunk") ≡ Err 1
+refused_chunk_without_one = refl
+
+-- a message's error is a reason, which bytes aren't
+refused_error_of_bytes : lines (codes "deliver c0 error x61") ≡ Err 1
+refused_error_of_bytes = refl
+
+refused_open_without_a_side : lines (codes "open s0") ≡ Err 1
+refused_open_without_a_side = refl
 
 refused_large_signal : lines (codes "trigger a340282366920938463463374607431768211456 e1") ≡ Err 1
 refused_large_signal = refl

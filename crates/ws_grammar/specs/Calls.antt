@@ -5,18 +5,21 @@ use Rattle.std.specs.Str.{bytes_eq}
 use Rattle.ws_value.specs.declared.ids.LockId.{LockId}
 use Rattle.ws_value.specs.declared.ids.StreamId.{StreamId}
 use Rattle.ws_steps.specs.declared.calls.Call.{Call}
-use Rattle.ws_steps.specs.declared.calls.Call.TheVariants.{MakeReadable, MakeBytes, MakeWritable, MakeTransform, GetReader, GetByob, GetWriter, Tee, Cancel, CancelBy, Read, ReadInto, Write, Close, CloseBy, Abort, AbortBy, Closed, Ready, Release, Enqueue, Finish, Fail, Terminate, Request, Respond, Desired, DesiredBy, Pipe, MakeSignal, Trigger, Settle, State, Step}
+use Rattle.ws_steps.specs.declared.calls.Call.TheVariants.{MakeReadable, MakeBytes, MakeWritable, MakeTransform, GetReader, GetByob, GetWriter, Tee, Cancel, CancelBy, Read, ReadInto, Write, Close, CloseBy, Abort, AbortBy, Closed, Ready, Release, Enqueue, Finish, Fail, Terminate, Request, Respond, Desired, DesiredBy, Pipe, MakeSignal, Trigger, Send, Open, Deliver, Settle, State, Step}
 use Rattle.ws_steps.specs.declared.calls.StartBy.{StartBy}
 use Rattle.ws_steps.specs.declared.calls.StartBy.TheVariants.{Now, Later}
 use Rattle.ws_steps.specs.declared.calls.Answer.TheVariants.{Ok as AnswerOk, Fail as AnswerFail}
+use Rattle.ws_steps.specs.declared.port.Side.{Side}
+use Rattle.ws_steps.specs.declared.port.Side.TheVariants.{Readable, Writable}
 use Rattle.ws_steps.specs.declared.readable.SizeBy.{SizeBy}
 use Rattle.ws_steps.specs.declared.readable.SizeBy.TheVariants.{Count, ByteLength}
 use Rattle.ws_steps.specs.declared.transform.Kind.{Kind}
 use Rattle.ws_steps.specs.declared.transform.Kind.TheVariants.{Identity, Host}
 use Rattle.ws_grammar.specs.Numbers.{number_below}
 use Rattle.ws_grammar.specs.declared.options.PipeOptions.{PipeOptions}
+use Rattle.ws_grammar.specs.Messages.{message_alone, message_with}
 use Rattle.ws_grammar.specs.Options.{options_of}
-use Rattle.ws_grammar.specs.Values.{stream_named, lock_named, host_named, request_named, signal_named, reason_of, bytes_of, value_of}
+use Rattle.ws_grammar.specs.Values.{stream_named, lock_named, host_named, request_named, signal_named, port_named, reason_of, bytes_of, value_of}
 
 -- what is made of two things, where both are there
 abbrev pub both : {A B C : Type 0} → (A → B → C) → Option A → Option B → Option C
@@ -53,6 +56,13 @@ abbrev pub kind_named : List ℕ → Option Kind
 kind_named word =
     if bytes_eq word (codes "identity") then Some Identity
     else if bytes_eq word (codes "host") then Some Host
+    else None
+
+-- the stream at an end of a port: `readable` or `writable`
+abbrev pub side_named : List ℕ → Option Side
+side_named word =
+    if bytes_eq word (codes "readable") then Some Readable
+    else if bytes_eq word (codes "writable") then Some Writable
     else None
 
 -- `readable HWM SIZE START`
@@ -154,6 +164,14 @@ pipe_call source dest options =
 abbrev pub trigger_call : List ℕ → List ℕ → Option Call
 trigger_call signal reason = both Trigger (signal_named signal) (reason_of reason)
 
+-- `deliver C pull`, `deliver C close`
+abbrev pub deliver_call : List ℕ → List ℕ → Option Call
+deliver_call port message = both Deliver (port_named port) (message_alone message)
+
+-- `deliver C chunk V`, `deliver C error R`
+abbrev pub deliver_with_call : List ℕ → List ℕ → List ℕ → Option Call
+deliver_with_call port message carried = both Deliver (port_named port) (message_with message carried)
+
 -- a word alone: `signal`, `step`
 abbrev pub call_alone : List ℕ → Option Call
 call_alone word =
@@ -162,7 +180,7 @@ call_alone word =
     else None
 
 -- a word and one more: `reader S`, `tee S`, `byob S`, `writer S`, `read L`, `closed L`, `ready L`, `release L`,
--- `close S` or `L`, `finish S`, `terminate S`, `request S`, `desired S` or `L`, `state S`
+-- `close S` or `L`, `finish S`, `terminate S`, `request S`, `desired S` or `L`, `send S`, `open SIDE`, `state S`
 abbrev pub call_on_one : List ℕ → List ℕ → Option Call
 call_on_one word first =
     if bytes_eq word (codes "reader") then option_map GetReader (stream_named first)
@@ -178,10 +196,13 @@ call_on_one word first =
     else if bytes_eq word (codes "terminate") then option_map Terminate (stream_named first)
     else if bytes_eq word (codes "request") then option_map Request (stream_named first)
     else if bytes_eq word (codes "desired") then desired_call first
+    else if bytes_eq word (codes "send") then option_map Send (stream_named first)
+    else if bytes_eq word (codes "open") then option_map Open (side_named first)
     else if bytes_eq word (codes "state") then option_map State (stream_named first)
     else None
 
--- a word and two more: `cancel`, `abort`, `write`, `enqueue`, `respond`, `fail`, `pipe`, `trigger`, `settle H ok`
+-- a word and two more: `cancel`, `abort`, `write`, `enqueue`, `respond`, `fail`, `pipe`, `trigger`, `deliver` of a message
+-- of one word, `settle H ok`
 abbrev pub call_on_two : List ℕ → List ℕ → List ℕ → Option Call
 call_on_two word first second =
     if bytes_eq word (codes "cancel") then cancel_call first second
@@ -192,16 +213,19 @@ call_on_two word first second =
     else if bytes_eq word (codes "fail") then fail_call first second
     else if bytes_eq word (codes "pipe") then pipe_call first second []
     else if bytes_eq word (codes "trigger") then trigger_call first second
+    else if bytes_eq word (codes "deliver") then deliver_call first second
     else if bytes_eq word (codes "settle") then settle_ok_call first second
     else None
 
--- a word and three more: `readable`, `bytes`, `writable`, `readinto`, `settle H fail R`, `pipe` with one option
+-- a word and three more: `readable`, `bytes`, `writable`, `readinto`, `deliver` of a message that carries something,
+-- `settle H fail R`, `pipe` with one option
 abbrev pub call_on_three : List ℕ → List ℕ → List ℕ → List ℕ → Option Call
 call_on_three word first second third =
     if bytes_eq word (codes "readable") then readable_call first second third
     else if bytes_eq word (codes "bytes") then bytes_call first second third
     else if bytes_eq word (codes "writable") then writable_call first second third
     else if bytes_eq word (codes "readinto") then readinto_call first second third
+    else if bytes_eq word (codes "deliver") then deliver_with_call first second third
     else if bytes_eq word (codes "settle") then settle_fail_call first second third
     else if bytes_eq word (codes "pipe") then pipe_call first second (third ∷ [])
     else None

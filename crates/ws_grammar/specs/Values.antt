@@ -6,6 +6,7 @@ use Rattle.hex.specs.declared.error.FromHexError.{FromHexError}
 use Rattle.ws_value.specs.declared.ids.StreamId.{StreamId}
 use Rattle.ws_value.specs.declared.ids.LockId.{LockId}
 use Rattle.ws_value.specs.declared.ids.HostId.{HostId}
+use Rattle.ws_value.specs.declared.ids.PortId.{PortId}
 use Rattle.ws_value.specs.declared.ids.RequestId.{RequestId}
 use Rattle.ws_value.specs.declared.ids.SignalId.{SignalId}
 use Rattle.ws_value.specs.declared.fault.Fault.TheVariants.{User}
@@ -39,6 +40,10 @@ request_named word = option_map (λ number. record { 0 = number }) (number_after
 -- `a` (97) with a number below 2^128
 abbrev pub signal_named : List ℕ → Option SignalId
 signal_named word = option_map (λ number. record { 0 = number }) (number_after 97 (2 ^ 128) word)
+
+-- `c` (99) with a number below 2^128
+abbrev pub port_named : List ℕ → Option PortId
+port_named word = option_map (λ number. record { 0 = number }) (number_after 99 (2 ^ 128) word)
 
 -- a reason by its letter: `n` (110) with a number below 2^64, `e` (101) or `k` (107) with one below 2^32
 abbrev pub lettered_reason : ℕ → List ℕ → Option Plain

@@ -1,17 +1,18 @@
 //! The call that a line's words spell.
 ghost use Rattle.std.specs.Prelude.{◌≡◌, ◌+◌, IfOk, map};
 ghost use Rattle.ws_grammar.specs.Numbers.{number_below};
-ghost use Rattle.ws_grammar.specs.Calls.{size_named, start_named, kind_named, readable_call, longest_auto, longest_room, bytes_call, writable_call, transform_call, desired_call, cancel_call, close_call, abort_call, write_call, readinto_call, respond_call, enqueue_call, fail_call, settle_ok_call, settle_fail_call, pipe_call, trigger_call};
+ghost use Rattle.ws_grammar.specs.Calls.{size_named, start_named, kind_named, side_named, readable_call, longest_auto, longest_room, bytes_call, writable_call, transform_call, desired_call, cancel_call, close_call, abort_call, write_call, readinto_call, respond_call, enqueue_call, fail_call, settle_ok_call, settle_fail_call, pipe_call, trigger_call, deliver_call, deliver_with_call};
 ghost use Rattle.ws_grammar.specs.Calls.{call_alone, call_on_one, call_on_two, call_on_three, call_on_four, call_on_more, call_of};
 
+use crate::messages::{message_alone, message_with};
 use crate::numbers::{number_u8, number_u64};
 use crate::options::{PipeOptions, options_of};
 use crate::values::{
-    bytes_of, host_named, lock_named, reason_of, request_named, signal_named, stream_named,
-    value_of,
+    bytes_of, host_named, lock_named, port_named, reason_of, request_named, signal_named,
+    stream_named, value_of,
 };
 use std::alloc::Global;
-use ws_steps::{Answer, Call, Kind, SizeBy, StartBy};
+use ws_steps::{Answer, Call, Kind, Side, SizeBy, StartBy};
 use ws_value::{NoMemory, Room};
 
 /// The longest room that a byte stream's controller makes of itself.
@@ -54,6 +55,19 @@ fn kind_named(word: &[u8]) -> Option<Kind>
         Some(Kind::Identity)
     } else if word == b"host".as_slice() {
         Some(Kind::Host)
+    } else {
+        None
+    }
+}
+
+/// The stream at an end of a port.
+fn side_named(word: &[u8]) -> Option<Side>
+    ensures { result ≡ side_named word.now }
+{
+    if word == b"readable".as_slice() {
+        Some(Side::Readable)
+    } else if word == b"writable".as_slice() {
+        Some(Side::Writable)
     } else {
         None
     }
@@ -276,6 +290,30 @@ fn trigger_call(signal: &[u8], reason: &[u8]) -> Option<Call>
     Some(Call::Trigger(signal_named(signal)?, reason_of(reason)?))
 }
 
+/// The coming of a message of one word.
+fn deliver_call(port: &[u8], message: &[u8]) -> Option<Call>
+    ensures { result ≡ deliver_call port.now message.now }
+{
+    let port = port_named(port)?;
+    message_alone(message).map(|message| Call::Deliver(port, message))
+}
+
+/// The coming of a message that carries something.
+fn deliver_with_call(
+    alloc: Global,
+    port: &[u8],
+    message: &[u8],
+    carried: &[u8],
+) -> Result<Option<Call>, NoMemory>
+    ensures { IfOk result (λ call. call ≡ deliver_with_call port.now message.now carried.now) }
+{
+    let Some(port) = port_named(port) else {
+        return Ok(None);
+    };
+    let message = message_with(alloc, message, carried)?;
+    Ok(message.map(|message| Call::Deliver(port, message)))
+}
+
 /// The call of a word alone.
 fn call_alone(word: &[u8]) -> Option<Call>
     ensures { result ≡ call_alone word.now }
@@ -319,6 +357,10 @@ fn call_on_one(word: &[u8], first: &[u8]) -> Option<Call>
         stream_named(first).map(Call::Request)
     } else if word == b"desired".as_slice() {
         desired_call(first)
+    } else if word == b"send".as_slice() {
+        stream_named(first).map(Call::Send)
+    } else if word == b"open".as_slice() {
+        side_named(first).map(Call::Open)
     } else if word == b"state".as_slice() {
         stream_named(first).map(Call::State)
     } else {
@@ -351,6 +393,8 @@ fn call_on_two(
         Ok(pipe_call(first, second, &[]))
     } else if word == b"trigger".as_slice() {
         Ok(trigger_call(first, second))
+    } else if word == b"deliver".as_slice() {
+        Ok(deliver_call(first, second))
     } else if word == b"settle".as_slice() {
         Ok(settle_ok_call(first, second))
     } else {
@@ -376,6 +420,8 @@ fn call_on_three(
         Ok(writable_call(first, second, third))
     } else if word == b"readinto".as_slice() {
         readinto_call(alloc, first, second, third)
+    } else if word == b"deliver".as_slice() {
+        deliver_with_call(alloc, first, second, third)
     } else if word == b"settle".as_slice() {
         Ok(settle_fail_call(first, second, third))
     } else if word == b"pipe".as_slice() {

@@ -3,6 +3,7 @@
 
 mod calls;
 mod line;
+mod messages;
 mod numbers;
 mod options;
 mod refused;

@@ -1,12 +1,12 @@
 //! Names of objects, reasons and values.
 ghost use Rattle.std.specs.Prelude.{◌≡◌, IfOk};
-ghost use Rattle.ws_grammar.specs.Values.{stream_named, lock_named, host_named, request_named, signal_named, lettered_reason, reason_of, hex_bytes, bytes_of, value_of};
+ghost use Rattle.ws_grammar.specs.Values.{stream_named, lock_named, host_named, request_named, signal_named, port_named, lettered_reason, reason_of, hex_bytes, bytes_of, value_of};
 
 use crate::numbers::{number_u32, number_u64, number_u128};
 use hex::FromHexError;
 use std::alloc::Global;
 use ws_value::{
-    Chunk, Fault, HostId, LockId, NoMemory, Plain, RequestId, SignalId, StreamId, Value,
+    Chunk, Fault, HostId, LockId, NoMemory, Plain, PortId, RequestId, SignalId, StreamId, Value,
 };
 
 /// The stream that a word names.
@@ -55,6 +55,16 @@ pub fn signal_named(word: &[u8]) -> Option<SignalId>
 {
     match word {
         [b'a', digits @ ..] => number_u128(digits).map(SignalId),
+        _ => None,
+    }
+}
+
+/// The port that a word names.
+pub fn port_named(word: &[u8]) -> Option<PortId>
+    ensures { result ≡ port_named word.now }
+{
+    match word {
+        [b'c', digits @ ..] => number_u128(digits).map(PortId),
         _ => None,
     }
 }

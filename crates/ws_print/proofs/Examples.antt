@@ -5,15 +5,17 @@ use Rattle.std.specs.Fmt.{digits}
 use Rattle.hex.specs.Hex.{encode_with}
 use Rattle.ws_steps.specs.declared.calls.Flags.{Flags}
 use Rattle.ws_steps.specs.declared.calls.HostCall.TheVariants.{Start, Pull, Cancel, Write, Close, Abort, Transform, Flush, CancelTransform}
-use Rattle.ws_steps.specs.declared.calls.Reply.TheVariants.{Done, Made, MadeTwo, Lock, Promise, Signal, Request, Size, State, Throws, TooMany}
+use Rattle.ws_steps.specs.declared.calls.Reply.TheVariants.{Done, Made, MadeTwo, Lock, Promise, Signal, Request, Size, Port, MadePort, State, Throws, TooMany}
 use Rattle.ws_steps.specs.declared.calls.Thrown.TheVariants.{RangeError}
 use Rattle.ws_steps.specs.declared.calls.Word.TheVariants.{Readable, Erroring}
 use Rattle.ws_value.specs.declared.fault.Fault.TheVariants.{TypeError, User, Stage}
+use Rattle.ws_value.specs.declared.fault.Fault.TheVariants.{DataClone}
+use Rattle.ws_value.specs.declared.value.Message.TheVariants.{Pull as PullMessage, Chunk as ChunkMessage, Close as CloseMessage, Error as ErrorMessage}
 use Rattle.ws_value.specs.declared.value.Outcome.TheVariants.{Fulfilled, Given, Finished, Rejected}
 use Rattle.ws_value.specs.declared.value.Plain.TheVariants.{Undefined, Number, Fault, Pair, Local}
 use Rattle.ws_value.specs.declared.value.Value.TheVariants.{Plain, Bytes}
 use Rattle.ws_print.specs.Replies.{letter_where, letters_of}
-use Rattle.ws_print.specs.Events.{reply_line, host_text, settled_text, signal_text, again_text}
+use Rattle.ws_print.specs.Events.{reply_line, host_text, settled_text, signal_text, post_text, again_text}
 
 abbrev no_flags : Flags
 no_flags = record { s = false; p = false; g = false; c = false; d = false; l = false; b = false; w = false; f = false; q = false; a = false }
@@ -70,6 +72,14 @@ negative_size = refl
 no_size : reply_line 6 None (Size None) ≡ codes "6 size null\n"
 unfolding digits
 no_size = refl
+
+port : reply_line 2 None (Port (record { 0 = 340282366920938463463374607431768211455 })) ≡ codes "2 port c340282366920938463463374607431768211455\n"
+unfolding digits
+port = refl
+
+made_port : reply_line 1 None (MadePort (record { 0 = 3 }) (record { 0 = 0 })) ≡ codes "1 made s3 port c0\n"
+unfolding digits
+made_port = refl
 
 throws : reply_line 10 None (Throws RangeError) ≡ codes "10 throws RangeError\n"
 unfolding digits
@@ -203,3 +213,23 @@ host_cancel_transform = refl
 signal : signal_text None (record { 0 = 0 }) (Fault (User 7)) ≡ codes "  signal s0 e7\n"
 unfolding digits
 signal = refl
+
+posted_pull : post_text (record { 0 = 0 }) PullMessage ≡ codes "  post c0 pull\n"
+unfolding digits
+posted_pull = refl
+
+posted_chunk : post_text (record { 0 = 0 }) (ChunkMessage (Plain (Number 1))) ≡ codes "  post c0 chunk n1\n"
+unfolding digits
+posted_chunk = refl
+
+posted_bytes : post_text (record { 0 = 12 }) (ChunkMessage (Bytes (97 ∷ 255 ∷ []))) ≡ codes "  post c12 chunk x61ff\n"
+unfolding digits encode_with
+posted_bytes = refl
+
+posted_close : post_text (record { 0 = 0 }) CloseMessage ≡ codes "  post c0 close\n"
+unfolding digits
+posted_close = refl
+
+posted_error : post_text (record { 0 = 0 }) (ErrorMessage (Fault DataClone)) ≡ codes "  post c0 error DataClone\n"
+unfolding digits
+posted_error = refl

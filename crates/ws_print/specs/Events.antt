@@ -1,8 +1,11 @@
 -- The lines of a task: its reply, its events, and whether a job is still queued. Each ends with a line feed.
 use Rattle.std.specs.Prelude.{ℕ, Bool, true, false, List, [], ◌++◌, Option, Some, None, codes, decimal}
 use Rattle.ws_value.specs.declared.ids.HostId.{HostId}
+use Rattle.ws_value.specs.declared.ids.PortId.{PortId}
 use Rattle.ws_value.specs.declared.ids.StreamId.{StreamId}
 use Rattle.ws_value.specs.declared.ids.TeeId.{TeeId}
+use Rattle.ws_value.specs.declared.value.Message.{Message}
+use Rattle.ws_value.specs.declared.value.Message.TheVariants.{Pull as PullMessage, Chunk as ChunkMessage, Close as CloseMessage, Error as ErrorMessage}
 use Rattle.ws_value.specs.declared.value.Outcome.{Outcome}
 use Rattle.ws_value.specs.declared.value.Plain.{Plain}
 use Rattle.ws_value.specs.declared.value.Outcome.TheVariants.{Pending, Fulfilled, Given, Finished, Rejected}
@@ -56,6 +59,17 @@ settled_text pair rank outcome = codes "  " ++ promise_name rank ++ codes " " ++
 -- the event of a writable stream's first abort, with its reason
 abbrev pub signal_text : Option (Plain × Plain) → StreamId → Plain → List ℕ
 signal_text pair stream reason = numbered (codes "  signal s") stream.0 ++ codes " " ++ plain_text pair reason ++ codes "\n"
+
+-- a message, as a script writes it. A pair can't be cloned, so no message that is posted has one
+abbrev pub message_text : Message → List ℕ
+message_text PullMessage = codes "pull"
+message_text (ChunkMessage value) = codes "chunk " ++ value_text None value
+message_text CloseMessage = codes "close"
+message_text (ErrorMessage reason) = codes "error " ++ plain_text None reason
+
+-- the event of a message that was posted
+abbrev pub post_text : PortId → Message → List ℕ
+post_text port message = numbered (codes "  post c") port.0 ++ codes " " ++ message_text message ++ codes "\n"
 
 -- the line that says that a job is still queued, where one is
 abbrev pub again_text : Bool → List ℕ

@@ -3,7 +3,7 @@ use Rattle.std.specs.Prelude.{ℕ, ℤ, Bool, if◌then◌else◌, List, [], ◌
 use Rattle.std.specs.Fmt.{signed_decimal}
 use Rattle.ws_steps.specs.declared.calls.Flags.{Flags}
 use Rattle.ws_steps.specs.declared.calls.Reply.{Reply}
-use Rattle.ws_steps.specs.declared.calls.Reply.TheVariants.{Done, Made, MadeTwo, Lock, Promise, Signal, Request, Size, State, Throws, TooMany}
+use Rattle.ws_steps.specs.declared.calls.Reply.TheVariants.{Done, Made, MadeTwo, Lock, Promise, Signal, Request, Size, Port, MadePort, State, Throws, TooMany}
 use Rattle.ws_steps.specs.declared.calls.StateIs.{StateIs}
 use Rattle.ws_steps.specs.declared.calls.Thrown.{Thrown}
 use Rattle.ws_steps.specs.declared.calls.Thrown.TheVariants.{TypeError, RangeError, DataClone, Unsupported}
@@ -85,6 +85,8 @@ reply_text rank (Promise promise) = codes "promise " ++ promise_name rank
 reply_text rank (Signal signal) = numbered (codes "signal a") signal.0
 reply_text rank (Request request) = codes "request " ++ request_text request
 reply_text rank (Size size) = codes "size " ++ size_text size
+reply_text rank (Port port) = numbered (codes "port c") port.0
+reply_text rank (MadePort stream port) = numbered (codes "made s") stream.0 ++ numbered (codes " port c") port.0
 reply_text rank (State shown) = codes "state " ++ state_text shown
 reply_text rank (Throws thrown) = codes "throws " ++ thrown_name thrown
 reply_text rank TooMany = codes "too many"

@@ -2,13 +2,13 @@
 ghost use Rattle.std.specs.Prelude.{◌≡◌, ◌++◌, OnOk, codes};
 ghost use Rattle.std.specs.Option.{option_copied};
 ghost use Rattle.ws_print.specs.Values.{numbered, plain_text, value_text};
-ghost use Rattle.ws_print.specs.Events.{reply_line, host_call_text, host_text, outcome_text, outcome_if_known, settled_text, signal_text, again_text, tee_in_call, tee_in_outcome};
+ghost use Rattle.ws_print.specs.Events.{reply_line, host_call_text, host_text, outcome_text, outcome_if_known, settled_text, signal_text, message_text, post_text, again_text, tee_in_call, tee_in_outcome};
 
 use crate::append::{append, append_number, append_numbered};
 use crate::replies::{print_promise, print_reply_text};
 use crate::values::{print_plain, print_value, tee_in, tee_in_value};
 use ws_steps::{HostCall, Reply};
-use ws_value::{HostId, NoMemory, Outcome, Plain, StreamId, TeeId, Value};
+use ws_value::{HostId, Message, NoMemory, Outcome, Plain, PortId, StreamId, TeeId, Value};
 
 /// Appends the line of a reply: the number of the script's line, from 1, a blank, the reply. The rank is that of the promise that the reply names, from 0, and is read for no other reply.
 pub fn print_reply(
@@ -182,6 +182,34 @@ pub fn print_signal(
     ensures appended { OnOk result (out.new.items ≡ out.old.items ++ signal_text pair stream reason) }
 {
     print_for_reason(out, b"  signal s", stream, reason, pair)?;
+    append(out, b"\n")
+}
+
+/// Appends a message.
+fn print_message(out: &mut Vec<u8>, message: &Message) -> Result<(), NoMemory>
+    ensures appended { OnOk result (out.new.items ≡ out.old.items ++ message_text message.now) }
+{
+    match message {
+        Message::Pull => append(out, b"pull"),
+        Message::Chunk(value) => {
+            append(out, b"chunk ")?;
+            print_value(out, value, None)
+        }
+        Message::Close => append(out, b"close"),
+        Message::Error(reason) => {
+            append(out, b"error ")?;
+            print_plain(out, *reason, None)
+        }
+    }
+}
+
+/// Appends the line of a message that was posted.
+pub fn print_post(out: &mut Vec<u8>, port: PortId, message: &Message) -> Result<(), NoMemory>
+    ensures appended { OnOk result (out.new.items ≡ out.old.items ++ post_text port message.now) }
+{
+    append_numbered(out, b"  post c", port.0)?;
+    append(out, b" ")?;
+    print_message(out, message)?;
     append(out, b"\n")
 }
 

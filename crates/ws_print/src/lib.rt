@@ -7,6 +7,7 @@ mod replies;
 mod values;
 
 pub use events::{
-    print_again, print_host, print_reply, print_settled, print_signal, tee_in_call, tee_in_outcome,
+    print_again, print_host, print_post, print_reply, print_settled, print_signal, tee_in_call,
+    tee_in_outcome,
 };
 pub use values::tee_in;

@@ -139,6 +139,11 @@ pub fn print_reply_text(out: &mut Vec<u8>, reply: &Reply, rank: Option<u64>) -> 
             append(out, b"size ")?;
             print_size(out, *size)
         }
+        Reply::Port(port) => append_numbered(out, b"port c", port.0),
+        Reply::MadePort(stream, port) => {
+            append_numbered(out, b"made s", stream.0)?;
+            append_numbered(out, b" port c", port.0)
+        }
         Reply::State(shown) => {
             append(out, b"state ")?;
             print_state(out, shown)

@@ -4,7 +4,7 @@ use Rattle.std.specs.Prelude.{Option, Some, None}
 use Rattle.ws_value.specs.declared.ids.TeeId.{TeeId}
 use Rattle.ws_value.specs.declared.value.Plain.{Plain}
 use Rattle.ws_steps.specs.declared.calls.Event.{Event}
-use Rattle.ws_steps.specs.declared.calls.Event.TheVariants.{Host, Settled, Signal}
+use Rattle.ws_steps.specs.declared.calls.Event.TheVariants.{Host, Settled, Signal, Post}
 use Rattle.ws_steps.specs.Promises.{rank_at}
 use Rattle.ws_steps.specs.Run.{heard}
 use Rattle.ws_steps.specs.Slots.{Slots, with_promises}
@@ -34,6 +34,7 @@ same_event s waiting (Settled p) =
     (same_pair s waiting (tee_in_outcome (outcome_named p s)))
 same_event s waiting (Signal stream reason) =
     ap (λ (pair : Option (Plain × Plain)). signal_text pair stream reason) (same_pair s waiting (tee_in reason))
+same_event s waiting (Post port message) = refl
 
 same_events : (s : Slots) (waiting events : List Event) → events_text (left waiting s) events ≡ events_text s events
 same_events s waiting [] = refl

@@ -3,7 +3,7 @@ use Rattle.std.specs.Prelude.{ℕ, not, List, [], ◌∷◌, ◌++◌, Option, S
 use Rattle.ws_value.specs.declared.ids.TeeId.{TeeId}
 use Rattle.ws_value.specs.declared.value.Plain.{Plain}
 use Rattle.ws_steps.specs.declared.calls.Event.{Event}
-use Rattle.ws_steps.specs.declared.calls.Event.TheVariants.{Host, Settled, Signal}
+use Rattle.ws_steps.specs.declared.calls.Event.TheVariants.{Host, Settled, Signal, Post}
 use Rattle.ws_steps.specs.declared.calls.Reply.{Reply}
 use Rattle.ws_steps.specs.declared.calls.Reply.TheVariants.{Promise}
 use Rattle.ws_steps.specs.Promises.{rank_at}
@@ -12,7 +12,7 @@ use Rattle.ws_steps.specs.Slots.{Slots, empty, pair_at}
 use Rattle.ws_realm.specs.Seen.{outcome_named}
 use Rattle.ws_grammar.specs.declared.line.Line.{Line}
 use Rattle.ws_print.specs.Values.{tee_in}
-use Rattle.ws_print.specs.Events.{reply_line, host_text, settled_text, signal_text, again_text, tee_in_call, tee_in_outcome}
+use Rattle.ws_print.specs.Events.{reply_line, host_text, settled_text, signal_text, post_text, again_text, tee_in_call, tee_in_outcome}
 
 -- the name's number of the promise that a reply names
 abbrev pub rank_named : Reply → Slots → Option ℕ
@@ -24,12 +24,13 @@ abbrev pub pair_named : Slots → Option TeeId → Option (Plain × Plain)
 pair_named s None = None
 pair_named s (Some t) = pair_at t s
 
--- the line of an event. A promise that settled is printed with its outcome, and a pair with its reasons: these don't change any more
+-- the line of an event. A promise that settled is printed with its outcome, and a pair with its reasons: these don't change any more. No message has a pair
 abbrev pub event_text : Slots → Event → List ℕ
 event_text s (Host id call) = host_text (pair_named s (tee_in_call call)) id call
 event_text s (Settled p) =
     settled_text (pair_named s (tee_in_outcome (outcome_named p s))) (rank_at s.promises p) (outcome_named p s)
 event_text s (Signal stream reason) = signal_text (pair_named s (tee_in reason)) stream reason
+event_text s (Post port message) = post_text port message
 
 abbrev pub events_text : Slots → List Event → List ℕ
 events_text s [] = []

@@ -6,8 +6,8 @@ ghost use Rattle.ws_script.specs.Heard.{IsPartlyHeard};
 
 use std::alloc::Global;
 use ws_print::{
-    print_again, print_host, print_reply, print_settled, print_signal, tee_in, tee_in_call,
-    tee_in_outcome,
+    print_again, print_host, print_post, print_reply, print_settled, print_signal, tee_in,
+    tee_in_call, tee_in_outcome,
 };
 use ws_realm::Realm;
 use ws_steps::{Event, Reply};
@@ -27,6 +27,8 @@ fn rank_named(reply: &Reply, realm: &Realm) -> Option<u64>
         Reply::MadeTwo(_, _) => None,
         Reply::Lock(_) => None,
         Reply::Signal(_) => None,
+        Reply::Port(_) => None,
+        Reply::MadePort(_, _) => None,
         Reply::Request(_) => None,
         Reply::Size(_) => None,
         Reply::State(_) => None,
@@ -60,6 +62,7 @@ fn append_event(text: &mut Vec<u8>, realm: &Realm, event: Event) -> Result<(), N
             let pair = pair_named(realm, tee_in(reason));
             print_signal(text, stream, reason, pair)
         }
+        Event::Post { port, message } => print_post(text, port, &message),
     }
 }
 
