@@ -9,7 +9,7 @@ use Rattle.ws_io.specs.Feed.{Feed}
 use Rattle.ws_io.specs.declared.outside.Failed.{Failed}
 use Rattle.ws_steps.specs.declared.calls.Call.{Call}
 use Rattle.ws_steps.specs.declared.calls.Event.{Event}
-use Rattle.ws_steps.specs.declared.calls.Event.TheVariants.{Host, Settled, Signal}
+use Rattle.ws_steps.specs.declared.calls.Event.TheVariants.{Host, Settled, Signal, Post}
 use Rattle.ws_steps.specs.declared.calls.HostCall.{HostCall}
 use Rattle.ws_steps.specs.declared.calls.HostCall.TheVariants.{Pull, Write, Close, Start, Cancel, Abort, Transform, Flush, CancelTransform}
 use Rattle.ws_steps.specs.Histories.{is_same}
@@ -140,6 +140,7 @@ hears-follow : (e : Event) (a b : Node) (old new : Shown) (p q : List ℕ → Ty
 hears-follow (Host id call) a b old new p q h = answers-follow id a b old new p q call h
 hears-follow (Settled r) a b old new p q h = follows-same a b (ap (λ (n : Node). n.realm.slots) h.0)
 hears-follow (Signal i r) a b old new p q h = follows-same a b (ap (λ (n : Node). n.realm.slots) h.0)
+hears-follow (Post c m) a b old new p q h = follows-same a b (ap (λ (n : Node). n.realm.slots) h.0)
 
 takes_bytes-follow : (piece : List ℕ) (a b : Node) (t : Bool) → takes_bytes piece a b t → Follows a b
 takes_bytes-follow piece a b true h = let f = asks-follow _ _ b h in record { entries = f.entries; slots = f.slots }

@@ -25,7 +25,7 @@ use Rattle.ws_laws.proofs.Tables.{eq_numbers, is_same-refl}
 use Rattle.ws_stages.specs.Cuts.{HasLength}
 use Rattle.ws_stages.specs.State.{State, IsLive, kept_in}
 use Rattle.ws_steps.specs.declared.calls.Event.{Event}
-use Rattle.ws_steps.specs.declared.calls.Event.TheVariants.{Host, Settled, Signal}
+use Rattle.ws_steps.specs.declared.calls.Event.TheVariants.{Host, Settled, Signal, Post}
 use Rattle.ws_steps.specs.declared.calls.HostCall.{HostCall}
 use Rattle.ws_steps.specs.declared.calls.HostCall.TheVariants.{Start, Pull, Cancel, Write, Close, Abort, Transform, Flush, CancelTransform}
 use Rattle.ws_steps.specs.Histories.{is_same}
@@ -241,6 +241,7 @@ module _ (rf : ℕ) (feed : Option Feed) (p q : List ℕ → Type 0) (plan : Pla
   heard-of (Host id call) event h = answered id call event h
   heard-of (Settled d) event h = told-only (record { 0 = 0 }) (Settled d) event (λ k less. refl) h.0 h.1
   heard-of (Signal i r) event h = told-only (record { 0 = 0 }) (Signal i r) event (λ k less. refl) h.0 h.1
+  heard-of (Post c m) event h = told-only (record { 0 = 0 }) (Post c m) event (λ k less. (each_event_is_heard_at_one_link (count_of plan) k less).post c m) h.0 h.1
 
 pub hears : (rf : ℕ) (feed : Option Feed) (p q : List ℕ → Type 0) (plan : Plan) (xs : List Entry) (a : Node) (realm : SeenRealm) (e : Event) (b : Node) (old new : Shown)
     → Since plan xs a → a.stopped ≡ None → first_event a.realm.slots.promises.events ≡ Some e → realm.slots ≡ after_event a.realm.slots

@@ -6,7 +6,7 @@ use Rattle.ws_flow.specs.Told.{Open as MayCome, Told}
 use Rattle.ws_steps.specs.declared.calls.Call.TheVariants.{Enqueue}
 use Rattle.ws_steps.specs.declared.calls.Reply.TheVariants.{Done}
 use Rattle.ws_steps.specs.declared.effects.Owner.{Owner}
-use Rattle.ws_steps.specs.declared.effects.Owner.TheVariants.{Host, HalfOf, BranchOf}
+use Rattle.ws_steps.specs.declared.effects.Owner.TheVariants.{Host, HalfOf, BranchOf, EndOf}
 use Rattle.ws_steps.specs.declared.transform.TransformId.{TransformId}
 use Rattle.ws_steps.specs.declared.pipes.Phase.{Phase}
 use Rattle.ws_steps.specs.declared.pipes.Phase.TheVariants.{Flowing, Waiting, Acting, Over}
@@ -31,11 +31,13 @@ abbrev IsNoBranch : Owner → Type 0
 IsNoBranch Host = Unit {0}
 IsNoBranch (HalfOf t) = Unit {0}
 IsNoBranch (BranchOf t half) = ⊥
+IsNoBranch (EndOf c) = ⊥
 
 done-where : (i : StreamId) (v : Value) (s : Slots) (o : Owner) → IsNoBranch o → can_close_or_enqueue (readable_at i s) ≡ true → (enqueue_by v i s o).reply ≡ Done
 done-where i v s Host n e = rw e refl
 done-where i v s (HalfOf t) n e = rw e refl
 done-where i v s (BranchOf t half) n e = absurd n
+done-where i v s (EndOf c) n e = absurd n
 
 default-shut : (i : StreamId) (v : Value) (s : Slots) → has_byte i s ≡ false → has_readable i s ≡ true → IsNoBranch (readable_at i s).owner → reply_to (Enqueue i v) s ≢ Done → (in_source (readable_at i s)).mark ≢ MayCome
 default-shut i v s none there own refused = by (can_close_or_enqueue (readable_at i s)) refl
@@ -57,6 +59,7 @@ half-owned true o t e = cc
 half-owned false Host t e = cc
 half-owned false (HalfOf u) t e = tt
 half-owned false (BranchOf u half) t e = cc
+half-owned false (EndOf c) t e = cc
 
 owner-is : (o : Option Stream) → is_readable_stream o ≡ true → owner_of o ≡ (as_readable o).owner
 owner-is o e = grind (arith, e)

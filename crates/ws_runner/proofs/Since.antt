@@ -23,7 +23,7 @@ use Rattle.ws_stages.specs.State.{State}
 use Rattle.ws_steps.specs.declared.calls.Call.{Call}
 use Rattle.ws_steps.specs.declared.calls.Call.TheVariants.{Enqueue, Finish, Fail, Trigger, Settle}
 use Rattle.ws_steps.specs.declared.calls.Event.{Event}
-use Rattle.ws_steps.specs.declared.calls.Event.TheVariants.{Host, Settled, Signal}
+use Rattle.ws_steps.specs.declared.calls.Event.TheVariants.{Host, Settled, Signal, Post}
 use Rattle.ws_steps.specs.declared.calls.HostCall.{HostCall}
 use Rattle.ws_steps.specs.declared.calls.HostCall.TheVariants.{Close, Flush}
 use Rattle.ws_steps.specs.Promises.{next_job}
@@ -389,6 +389,7 @@ call-longer : (entries more : List Entry) (e : Event) → IsItsCall (called entr
 call-longer entries more (Host id call) h = called-longer entries more id call h
 call-longer entries more (Settled p) h = tt
 call-longer entries more (Signal i r) h = tt
+call-longer entries more (Post c m) h = tt
 
 first-event : (calls : List HostCall) (es : List Event) (e : Event) → first_event es ≡ Some e → AllEvents (IsItsCall calls) es → IsItsCall calls e
 first-event calls [] e f a = absurd (cc)

@@ -18,7 +18,7 @@ use Rattle.ws_steps.specs.declared.calls.Answer.TheVariants.{Ok as AnswerOk, Fai
 use Rattle.ws_steps.specs.declared.calls.Call.{Call}
 use Rattle.ws_steps.specs.declared.calls.Call.TheVariants.{Enqueue, Finish, Fail, Settle, Trigger}
 use Rattle.ws_steps.specs.declared.calls.Event.{Event}
-use Rattle.ws_steps.specs.declared.calls.Event.TheVariants.{Host, Settled, Signal}
+use Rattle.ws_steps.specs.declared.calls.Event.TheVariants.{Host, Settled, Signal, Post}
 use Rattle.ws_steps.specs.declared.calls.HostCall.{HostCall}
 use Rattle.ws_steps.specs.declared.calls.HostCall.TheVariants.{Pull as HostPull, Write as HostWrite, Close as HostClose, Transform as HostTransform, Flush as HostFlush}
 use Rattle.ws_steps.specs.declared.calls.Reply.TheVariants.{Done}
@@ -311,6 +311,7 @@ abbrev pub Hears : Event → Node → Node → Shown → Shown → (List ℕ →
 Hears (Host id call) a b old new got got' = Answers id call a b old new got got'
 Hears (Settled p) a b old new got got' = (b ≡ a) × Untouched old new got got'
 Hears (Signal i reason) a b old new got got' = (b ≡ a) × Untouched old new got got'
+Hears (Post c m) a b old new got got' = (b ≡ a) × Untouched old new got got'
 
 -- why the input isn't read: the realm has stopped, or what was read before wasn't had, or the input isn't open, or no pull waits
 pub data NeedsNoRead (a : Node) : Type 0 where

@@ -123,7 +123,7 @@ impl Node {
         match event {
             Event::Host { id, call } => self.answer(id, call, output),
             Event::Settled(_) => {}
-            Event::Signal { .. } => {}
+            Event::Signal { .. } | Event::Post { .. } => {}
         }
     }
 
