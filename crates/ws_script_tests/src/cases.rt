@@ -2,6 +2,8 @@
 use crate::byte_ends::BYTE_ENDS;
 use crate::bytes::BYTES;
 use crate::pipes::PIPED;
+use crate::port_ends::PORT_ENDS;
+use crate::ports::PORTED;
 use crate::refused::REFUSED;
 use crate::scripts::WORKED;
 use crate::tee_cancels::TEE_CANCELS;
@@ -99,6 +101,8 @@ fn worked_scripts(rt: HostRuntime) -> Result<(), Fail> {
         .chain(&TEE_READS)
         .chain(&TEE_CANCELS)
         .chain(&TEE_ENDS)
+        .chain(&PORTED)
+        .chain(&PORT_ENDS)
     {
         let case = Case {
             text: text.as_bytes(),

@@ -14,6 +14,10 @@ mod memory;
 #[cfg(test)]
 mod pipes;
 #[cfg(test)]
+mod port_ends;
+#[cfg(test)]
+mod ports;
+#[cfg(test)]
 mod refused;
 #[cfg(test)]
 mod scripts;

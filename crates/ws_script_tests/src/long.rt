@@ -155,6 +155,18 @@ fn long_scripts(rt: HostRuntime) -> Result<(), Fail> {
         ends: b"\n1022 made s1021\n1023 made s1022 s1023\n  host h0 pull s0\n1024 throws TypeError\n1025 too many\n",
         length: 0,
     };
+    let no_room_for_a_port = Long {
+        input: Repeated {
+            text: b"readable 0 count now\n",
+            times: 1023,
+            last: b"open writable\nreader s0\nsend s0\nsend s1\nsend s1023\nopen readable\nsend s1024\n",
+        },
+        failed_writes: &[],
+        status: Status::Done,
+        begins: b"1 made s0\n2 made s1\n",
+        ends: b"\n1024 made s1023 port c0\n1025 lock l0\n1026 throws DataClone\n1027 too many\n1028 too many\n1029 too many\n1030 throws Unsupported\n",
+        length: 0,
+    };
     let written_in_parts = Long {
         input: Repeated {
             text: b"step\n",
@@ -173,6 +185,7 @@ fn long_scripts(rt: HostRuntime) -> Result<(), Fail> {
         room_for_both_halves,
         no_room_for_both_branches,
         room_for_both_branches,
+        no_room_for_a_port,
         written_in_parts,
     ] {
         assert!(rt; holds(&rt, rt.alloc(), &case)?);

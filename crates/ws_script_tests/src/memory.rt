@@ -1,6 +1,7 @@
 //! Scripts in which an allocation is refused: `rt try --test --fail-alloc N` refuses the Nth.
 use crate::cases::perform;
 use crate::pipes::PIPED;
+use crate::ports::PORTED;
 use crate::scripts::WORKED;
 use crate::tee_reads::TEE_READS;
 use crate::transforms::TRANSFORMED;
@@ -34,6 +35,7 @@ fn a_refused_allocation(rt: HostRuntime) -> Result<(), Fail> {
         .chain(&PIPED)
         .chain(&TRANSFORMED)
         .chain(&TEE_READS)
+        .chain(&PORTED)
     {
         match prints(&rt, rt.alloc(), text, printed) {
             Ok(holds) => assert!(rt; holds, "{text}"),

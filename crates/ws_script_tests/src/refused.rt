@@ -1,7 +1,7 @@
 //! Scripts that are refused.
 
 /// A script, and its first line outside the grammar.
-pub const REFUSED: [(&str, u32); 74] = [
+pub const REFUSED: [(&str, u32); 96] = [
     ("readable 0 count now\nnothing s0\n", 2),
     ("# one\n\nread l01", 3),
     ("nothing s0", 1),
@@ -79,4 +79,26 @@ pub const REFUSED: [(&str, u32); 74] = [
     ("tee s0 s1", 1),
     ("tee s01", 1),
     ("tee s4294967296", 1),
+    ("send", 1),
+    ("send s0 s1", 1),
+    ("send l0", 1),
+    ("send s01", 1),
+    ("send c0", 1),
+    ("open", 1),
+    ("open s0", 1),
+    ("open Readable", 1),
+    ("open readable now", 1),
+    ("deliver c0", 1),
+    ("deliver pull", 1),
+    ("deliver s0 pull", 1),
+    ("deliver c01 pull", 1),
+    ("deliver c340282366920938463463374607431768211456 pull", 1),
+    ("deliver c0 Pull", 1),
+    ("deliver c0 pull n1", 1),
+    ("deliver c0 chunk", 1),
+    ("deliver c0 chunk n1 n2", 1),
+    ("deliver c0 chunk e4294967296", 1),
+    ("deliver c0 close e1", 1),
+    ("deliver c0 error", 1),
+    ("deliver c0 error x61", 1),
 ];
