@@ -10,6 +10,7 @@ from dataclasses import dataclass
 from typing import Callable
 
 import looks
+from cross import CrossRealmEnd, CrossRealmReadable, CrossRealmWritable, Message, Port
 from pipe import Pipe, Prevent
 from promises import Promise, Thrown, promise_rejected_with
 from readable import ReadableStream
@@ -19,8 +20,8 @@ from readable_byte_records import View
 from readable_controller import ReadableStreamDefaultController, UnderlyingSource
 from readable_reader import PromiseReadRequest, ReadableStreamDefaultReader
 from realm import Lock, Realm, Throw
-from replies import (Done, Locked, Look, Made, MadeTwo, Named, Reply, Requested, SignalMade, Size,
-                     Throws, TooMany)
+from replies import (Done, EndMade, Locked, Look, Made, MadeTwo, Named, PortMade, Reply, Requested,
+                     SignalMade, Size, Throws, TooMany)
 from signals import AbortSignal
 from tee import Tee
 from transform import (Transformer, TransformStreamDefaultController, new_transform_stream)
@@ -139,7 +140,7 @@ def tee(realm: Realm, stream: int) -> Reply:
     made = Tee(readable)
     realm.locks.append(None)
     realm.streams += made.branches
-    realm.branches |= {first, second}
+    realm.uncontrolled |= {first, second}
     return MadeTwo(first, second)
 
 
@@ -405,6 +406,51 @@ def make_signal(realm: Realm) -> Reply:
 def trigger(realm: Realm, signal: int, reason: Value) -> Reply:
     """abortController.abort(reason)"""
     realm.signal(signal).signal_abort(reason)
+    return Done()
+
+
+# Ports
+
+def new_end(realm: Realm, is_readable: bool) -> CrossRealmEnd | None:
+    """A stream at the end of a new port, or none where the realm has too many"""
+    number = len(realm.streams)
+    if number >= MOST_STREAMS:
+        return None
+    port = len(realm.ends)
+    kind = CrossRealmReadable if is_readable else CrossRealmWritable
+    end = kind(realm.jobs, Port(lambda message: realm.tell_posted(port, message)))
+    realm.ends.append(end)
+    realm.streams.append(end.stream)
+    realm.uncontrolled.add(number)
+    return end
+
+
+def send(realm: Realm, stream: int) -> Reply:
+    """The transfer steps of a stream: its chunks leave by a new port, or come by one"""
+    sent = realm.stream(stream)
+    if sent.is_locked():
+        raise Throw("DataClone")
+    end = new_end(realm, isinstance(sent, WritableStream))
+    if end is None:
+        return TooMany()
+    source, dest = (sent, end.stream) if isinstance(sent, ReadableStream) else (end.stream, sent)
+    made = Pipe(source, dest, Prevent(), None)
+    realm.locks += [None, None]
+    made.begin()
+    return PortMade(len(realm.ends) - 1)
+
+
+def open_end(realm: Realm, is_readable: bool) -> Reply:
+    """The transfer-receiving steps of a stream: one at the end of a new port"""
+    number = len(realm.streams)
+    if new_end(realm, is_readable) is None:
+        return TooMany()
+    return EndMade(number, len(realm.ends) - 1)
+
+
+def deliver(realm: Realm, port: int, message: Message) -> Reply:
+    """A message of the other end comes"""
+    realm.end(port).take(message)
     return Done()
 
 

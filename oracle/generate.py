@@ -33,7 +33,7 @@ COMMONNESS: dict[str, float] = {
     "writer": 1.2, "write": 9.0, "close stream": 1.0, "close writer": 2.0,
     "abort stream": 1.2, "abort writer": 2.2,
     "fail": 1.0, "terminate": 0.7, "release": 1.8, "closed": 2.5, "ready": 3.0, "desired stream": 1.0,
-    "desired writer": 1.2, "pipe": 2.0, "signal": 0.8, "trigger": 1.0, "settle ok": 9.0, "settle fail": 2.0, "state": 3.0, "step": 2.0,
+    "desired writer": 1.2, "send": 0.6, "deliver": 9.0, "pipe": 2.0, "signal": 0.8, "trigger": 1.0, "settle ok": 9.0, "settle fail": 2.0, "state": 3.0, "step": 2.0,
 }
 
 # What ends streams early. Some authors rarely do it.
@@ -50,11 +50,15 @@ AUTO_LENGTHS = ("0", "0", "0", "1", "2", "3", "4", "4096")
 ELEMENT_SIZES = ((1,), (1,), (2,), (1, 2), (2, 4), (4,), (1, 2, 4, 8))
 ODD_BUFFERS = ("0 1", "0 8", "0 3", "4 0", "4 3", "8 16", "6 4", "5 2", "255 255", "12 8",
                "65536 8", "65536 1", "65535 1")
+# What the other end of a port sends to a readable and to a writable end. Some is for neither.
+MESSAGES = (("chunk",) * 6 + ("close", "error"), ("pull",) * 6 + ("error",))
 PREVENTS = ("prevent-close", "prevent-abort", "prevent-cancel")
 ALL_KINDS = ((("readable",), ("writable",), ("transform",)) + (("readable", "writable"),) * 3
              + (("transform", "transform"),) * 2 + (("readable", "writable", "transform"),) * 2
              + (("bytes",),) * 5 + (("bytes", "writable"),) * 2
-             + (("bytes", "readable", "writable", "transform"),))
+             + (("bytes", "readable", "writable", "transform"),)
+             + (("open readable",), ("open writable",)) * 2
+             + (("open readable", "open writable", "readable", "writable", "transform"),) * 3)
 
 
 def is_alive(stream: Stream | None) -> bool:
@@ -118,6 +122,8 @@ class Author:
             "ready": lambda: self._of_lock("ready", WritableStreamDefaultWriter),
             "desired stream": lambda: self._of_stream("desired", ReadableStream),
             "desired writer": lambda: self._of_lock("desired", WritableStreamDefaultWriter),
+            "send": lambda: self._of_stream("send", object),
+            "deliver": self._deliver,
             "pipe": self._pipe,
             "signal": lambda: "signal",
             "trigger": self._trigger,
@@ -197,6 +203,8 @@ class Author:
         kind = self._random.choice(self._kinds)
         if kind == "transform":
             return self._new_transform()
+        if kind.startswith("open"):
+            return kind
         if kind == "bytes":
             second = self._random.choice(AUTO_LENGTHS)
         else:
@@ -227,7 +235,7 @@ class Author:
         and unless it makes a lock, mostly on one that is alive."""
         streams = self._realm.streams
         numbers = [number for number, stream in enumerate(streams) if isinstance(stream, kind)]
-        if word in ("reader", "writer", "cancel", "close", "abort"):
+        if word in ("reader", "writer", "cancel", "close", "abort", "send"):
             numbers = self._narrowed(numbers, lambda number: not streams[number].is_locked())
         if word not in ("reader", "writer"):
             numbers = self._narrowed(numbers, lambda number: is_alive(streams[number]))
@@ -385,6 +393,25 @@ class Author:
         if self._random.random() < 0.8:
             numbers = self._narrowed(numbers, lambda number: is_alive(streams[number]))
         return self._name("s", numbers)
+
+    def _deliver(self) -> str | None:
+        """A message, mostly to an end that is entangled, and mostly one that is for its side."""
+        ends = self._realm.ends
+        numbers = self._narrowed(list(range(len(ends))),
+                                 lambda number: ends[number].port.is_entangled)
+        name = self._name("c", numbers[-3:])
+        if name is None:
+            return None
+        number = int(name[1:])
+        is_writable = number < len(ends) and isinstance(ends[number].stream, WritableStream)
+        if self._random.random() < max(self._careless, 0.03):
+            is_writable = not is_writable
+        message = self._random.choice(MESSAGES[is_writable])
+        if message == "chunk":
+            return f"deliver {name} chunk {self._random.choice(CHUNKS)}"
+        if message == "error":
+            return f"deliver {name} error {self._random.choice(REASONS)}"
+        return f"deliver {name} {message}"
 
     def _trigger(self) -> str | None:
         """Triggers a signal, mostly one that wasn't triggered before."""

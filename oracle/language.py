@@ -12,6 +12,7 @@ from typing import Any, Callable
 
 import calls
 from calls import Call, PipeOptions
+from cross import Message
 from pipe import Prevent
 from values import (UNDEFINED, Bytes, HostError, HostValue, Number, Value, byte_length_size,
                     count_size)
@@ -82,6 +83,10 @@ def signal(word: bytes) -> int:
     return number_after(b"a", word, 2**128)
 
 
+def port(word: bytes) -> int:
+    return number_after(b"c", word, 2**128)
+
+
 def byob_request(word: bytes) -> int:
     return number_after(b"q", word, 2**128)
 
@@ -146,6 +151,14 @@ def value(word: bytes) -> Value:
     return Bytes(content(word)) if word.startswith(b"x") else reason(word)
 
 
+def side_is_readable(word: bytes) -> bool:
+    if word == b"readable":
+        return True
+    if word == b"writable":
+        return False
+    raise Mismatch
+
+
 def ok(word: bytes) -> None:
     if word != b"ok":
         raise Mismatch
@@ -185,6 +198,18 @@ def pipe_options(words: list[bytes]) -> PipeOptions:
     return PipeOptions(prevent, signals[0] if signals else None)
 
 
+def message(words: list[bytes]) -> Message:
+    """A message, with its value where it has one."""
+    match words:
+        case [b"pull" | b"close" as kind]:
+            return Message(kind.decode("ascii"))
+        case [b"chunk", word]:
+            return Message("chunk", value(word))
+        case [b"error", word]:
+            return Message("error", reason(word))
+    raise Mismatch
+
+
 # For each first word the forms of the words behind it, and what each form calls. What a word
 # is read as is an argument of the call, but for those that are read as nothing.
 FORMS: dict[bytes, tuple[Form, ...]] = {
@@ -216,6 +241,9 @@ FORMS: dict[bytes, tuple[Form, ...]] = {
     b"pipe": (((stream, stream, Rest(pipe_options)), calls.pipe),),
     b"signal": (((), calls.make_signal),),
     b"trigger": (((signal, reason), calls.trigger),),
+    b"send": (((stream,), calls.send),),
+    b"open": (((side_is_readable,), calls.open_end),),
+    b"deliver": (((port, Rest(message)), calls.deliver),),
     b"settle": (((host_call, ok), calls.settle_ok),
                 ((host_call, fail, reason), calls.settle_fail)),
     b"state": (((stream,), calls.look),),

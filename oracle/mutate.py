@@ -10,7 +10,7 @@ from random import Random
 from language import LONGEST_SCRIPT
 
 BYTES = (b" ", b"\t", b"\r", b"\n", b"#", b"@", b"\0", b"\x0b", b"\x0c", b"\xa0", b"\xff",
-         b"-", b"+", b"_", b".", b"0", b"1", b"9", b"s", b"l", b"h", b"a", b"q", b"n", b"e", b"k",
+         b"-", b"+", b"_", b".", b"0", b"1", b"9", b"s", b"l", b"h", b"a", b"q", b"c", b"n", b"e", b"k",
          b"x", b"S", b"X", b"A", b"f", b"g")
 
 WORDS = (
@@ -30,6 +30,8 @@ WORDS = (
     b"prevent-Close", b"preventclose", b"prevent-cancel=",
     b"q0", b"q", b"q00", b"Q0", b"q340282366920938463463374607431768211455",
     b"q340282366920938463463374607431768211456",
+    b"c0", b"c", b"c00", b"C0", b"c340282366920938463463374607431768211455",
+    b"c340282366920938463463374607431768211456", b"pull", b"Pull", b"chunk", b"error", b"messages",
     b"4096", b"4097", b"65536", b"65537", b"255", b"256",
     b"undefined", b"Undefined", b"n", b"n18446744073709551615", b"n18446744073709551616",
     b"e4294967295", b"e4294967296", b"k4294967295", b"k4294967296", b"e01", b"k",
@@ -39,7 +41,7 @@ WORDS = (
     b"readable", b"writable", b"reader", b"writer", b"read", b"write", b"cancel", b"close",
     b"abort", b"closed", b"ready", b"release", b"enqueue", b"finish", b"fail", b"desired", b"transform", b"terminate",
     b"identity", b"Identity", b"host", b"Host", b"hosts",
-    b"pipe", b"signal", b"trigger", b"settle", b"state", b"step", b"STEP", b"count", b"bytes", b"now", b"later", b"ok",
+    b"send", b"open", b"deliver", b"Open", b"pipe", b"signal", b"trigger", b"settle", b"state", b"step", b"STEP", b"count", b"bytes", b"now", b"later", b"ok",
     b"#", b"#step", "٣".encode(), "step\u00a0".encode(),
 )
 
@@ -67,6 +69,11 @@ LINES = (
     b"respond q0 x00FF", b"respond q0 x0", b"respond q0 n1", b"respond q0 undefined", b"respond q0",
     b"respond s0 x00", b"respond q0 x00 x00", b"respond q0 1",
     b"write s0 n1", b"read s0", b"tee s0",
+    b"send s0", b"send l0", b"send", b"send s0 s0", b"open readable", b"open writable", b"open bytes",
+    b"open", b"open readable now", b"deliver c0 pull", b"deliver c0 close", b"deliver c0 chunk x00",
+    b"deliver c0 chunk k1", b"deliver c0 chunk", b"deliver c0 error e1", b"deliver c0 error x00",
+    b"deliver c0 error", b"deliver c0 pull n1", b"deliver c0 close e1", b"deliver s0 pull",
+    b"deliver c0 open", b"deliver c0", b"deliver",
 )
 
 

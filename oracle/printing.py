@@ -1,9 +1,10 @@
 """How replies and events are printed."""
 
+from cross import Message
 from promises import PromiseState
 from readable_reader import ReadResult
-from replies import (Done, Event, HostCalled, Locked, Look, Made, MadeTwo, Named, Reply, Requested,
-                     Settled, Signalled, SignalMade, Size, Throws, TooMany)
+from replies import (Done, EndMade, Event, HostCalled, Locked, Look, Made, MadeTwo, Named, PortMade,
+                     Posted, Reply, Requested, Settled, Signalled, SignalMade, Size, Throws, TooMany)
 from values import Bytes, Fault, HostError, HostValue, Number, Pair, Undefined, Value
 
 
@@ -45,6 +46,10 @@ def text_of_reply(reply: Reply) -> str:
             return f"lock l{lock}"
         case SignalMade(signal):
             return f"signal a{signal}"
+        case PortMade(port):
+            return f"port c{port}"
+        case EndMade(stream, port):
+            return f"made s{stream} port c{port}"
         case Requested(None):
             return "request none"
         case Requested((request, length)):
@@ -72,9 +77,18 @@ def text_of_event(event: Event) -> str:
             return f"host h{host_call} {algorithm} s{stream} {text_of_value(value)}"
         case Signalled(stream, reason):
             return f"signal s{stream} {text_of_value(reason)}"
+        case Posted(port, message):
+            return f"post c{port} {text_of_message(message)}"
         case Settled(name, promise):
             return f"p{name} {text_of_outcome(promise.state, promise.result)}"
     raise AssertionError(f"{event!r} isn't an event")
+
+
+def text_of_message(message: Message) -> str:
+    """A message as a script writes it."""
+    if message.value is None:
+        return message.type
+    return f"{message.type} {text_of_value(message.value)}"
 
 
 def text_of_outcome(state: PromiseState, result: Value | ReadResult) -> str:

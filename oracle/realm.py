@@ -1,5 +1,5 @@
-"""One realm: its streams, readers, writers, signals and BYOB requests by number, and what its
-host hears.
+"""One realm: its streams, readers, writers, signals, ports and BYOB requests by number, and what
+its host hears.
 
 Algorithms of sources, sinks and transformers belong to the host: a call of one is an event, and gives a
 promise that the host settles by a later call. A promise has a name once a reply told it, and
@@ -10,13 +10,14 @@ from __future__ import annotations
 
 from typing import Callable
 
+from cross import CrossRealmEnd, Message
 from promises import JobQueue, Promise
 from readable import ReadableStream
 from readable_byob_reader import ReadableStreamBYOBReader
 from readable_byte_controller import ReadableByteStreamController, ReadableStreamBYOBRequest
 from readable_controller import ReadableStreamDefaultController
 from readable_reader import ReadableStreamDefaultReader
-from replies import Event, HostCalled, Settled, Signalled
+from replies import Event, HostCalled, Posted, Settled, Signalled
 from signals import AbortSignal
 from transform import TransformStreamDefaultController
 from values import UNDEFINED, Value
@@ -44,8 +45,9 @@ class Realm:
         self.streams: list[Stream] = []
         # By the numbers of both halves of each transform stream.
         self.transform_controllers: dict[int, TransformStreamDefaultController] = {}
-        # The branches of tees, of whose controllers the host has none.
-        self.branches: set[int] = set()
+        # The branches of tees and the ends of ports, of whose controllers the host has none.
+        self.uncontrolled: set[int] = set()
+        self.ends: list[CrossRealmEnd] = []
         # A reader or a writer of a pipe's own, or a tee's reader, has a number, and no call may name it.
         self.locks: list[Lock | None] = []
         self.signals: list[AbortSignal] = []
@@ -77,7 +79,7 @@ class Realm:
         """The controller that the host has of a stream. Of a transform stream it has one, by its
         readable half, and none of the two halves' own."""
         stream = self.stream(number)
-        if number in self.branches:
+        if number in self.uncontrolled:
             raise Throw("Unsupported")
         if number not in self.transform_controllers:
             return stream.controller
@@ -120,6 +122,12 @@ class Realm:
             raise Throw("Unsupported")
         return self.signals[number]
 
+    def end(self, number: int) -> CrossRealmEnd:
+        """The stream at the end of a port."""
+        if number >= len(self.ends):
+            raise Throw("Unsupported")
+        return self.ends[number]
+
     def byob_request(self, number: int) -> ReadableStreamBYOBRequest:
         if number >= len(self.byob_requests):
             raise Throw("Unsupported")
@@ -159,6 +167,10 @@ class Realm:
     def tell_signalled(self, stream: int, reason: Value) -> None:
         """The signal of a writable stream's controller was aborted."""
         self._events.append(Signalled(stream, reason))
+
+    def tell_posted(self, port: int, message: Message) -> None:
+        """A message was posted to a port's other end."""
+        self._events.append(Posted(port, message))
 
     def name_of(self, promise: Promise) -> int:
         """The name of a promise, which gets one where it has none. Where it has settled

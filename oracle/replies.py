@@ -4,6 +4,7 @@ from __future__ import annotations
 
 from dataclasses import dataclass
 
+from cross import Message
 from promises import Promise
 from values import Value
 
@@ -41,6 +42,21 @@ class SignalMade:
     """A signal was made."""
 
     signal: int
+
+
+@dataclass
+class PortMade:
+    """A port was made, for a stream that is sent."""
+
+    port: int
+
+
+@dataclass
+class EndMade:
+    """A stream at the end of a new port was made."""
+
+    stream: int
+    port: int
 
 
 @dataclass
@@ -87,8 +103,8 @@ class Look:
     requests: int
 
 
-Reply = (Done | Made | MadeTwo | Locked | SignalMade | Requested | Named | Size | Throws | TooMany
-         | Look)
+Reply = (Done | Made | MadeTwo | Locked | SignalMade | PortMade | EndMade | Requested | Named | Size
+         | Throws | TooMany | Look)
 
 
 @dataclass
@@ -110,6 +126,14 @@ class Signalled:
 
 
 @dataclass
+class Posted:
+    """A message was posted by a port."""
+
+    port: int
+    message: Message
+
+
+@dataclass
 class Settled:
     """A promise that has a name settled."""
 
@@ -117,4 +141,4 @@ class Settled:
     promise: Promise
 
 
-Event = HostCalled | Signalled | Settled
+Event = HostCalled | Signalled | Posted | Settled

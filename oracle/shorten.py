@@ -14,7 +14,7 @@ from language import Refused, tasks_in
 from realm import Realm
 from script import perform_task
 
-NAME = re.compile(rb"(?<!\S)(signal=)?([slhaq])([0-9]+)(?!\S)")
+NAME = re.compile(rb"(?<!\S)(signal=)?([slhaqc])([0-9]+)(?!\S)")
 
 Lines = list[bytes]
 # For each letter that begins names: how many there were before a line, and after it.
@@ -91,7 +91,7 @@ def numbers_by_line(script: bytes) -> list[tuple[int, Numbers]]:
 def counts_of(realm: Realm) -> dict[bytes, int]:
     """How many objects have a name, by its letter."""
     return {b"s": len(realm.streams), b"l": len(realm.locks), b"h": len(realm.host_promises),
-            b"a": len(realm.signals), b"q": len(realm.byob_requests)}
+            b"a": len(realm.signals), b"q": len(realm.byob_requests), b"c": len(realm.ends)}
 
 
 def lowered(line: bytes, numbers: Numbers) -> bytes:

@@ -62,6 +62,12 @@ Value = Undefined | Number | HostError | HostValue | Bytes | Fault | Pair
 UNDEFINED = Undefined()
 TYPE_ERROR = Fault("TypeError")
 RANGE_ERROR = Fault("RangeError")
+DATA_CLONE_ERROR = Fault("DataClone")
+
+
+def is_cloneable(value: Value) -> bool:
+    """Whether StructuredSerialize doesn't throw."""
+    return not isinstance(value, (HostValue, Pair))
 
 
 def count_size(_chunk: Value) -> int:
