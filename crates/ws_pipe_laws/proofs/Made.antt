@@ -74,7 +74,7 @@ module _ (i : StreamId) (s : Slots) where
         dest = refl;
         prevent = refl;
         signal = refl;
-        promise = refl;
+        port = refl;
         phase = refl;
         reading = refl;
         held = refl;
@@ -89,7 +89,7 @@ module _ (i : StreamId) (s : Slots) where
         dest = refl;
         prevent = refl;
         signal = refl;
-        promise = refl;
+        port = refl;
         phase = refl;
         reading = refl;
         held = refl;

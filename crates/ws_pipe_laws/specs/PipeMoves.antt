@@ -9,7 +9,7 @@ use Rattle.ws_value.specs.declared.value.Plain.TheVariants.{Undefined}
 use Rattle.ws_steps.specs.declared.calls.Call.{Call}
 use Rattle.ws_steps.specs.declared.calls.Call.TheVariants.{Pipe as PipeCall, Send as SendCall}
 use Rattle.ws_steps.specs.declared.calls.Reply.{Reply}
-use Rattle.ws_steps.specs.declared.calls.Reply.TheVariants.{Promise as PromiseReply}
+use Rattle.ws_steps.specs.declared.calls.Reply.TheVariants.{Promise as PromiseReply, Port as PortReply}
 use Rattle.ws_steps.specs.declared.effects.Effect.{Effect}
 use Rattle.ws_steps.specs.declared.effects.Effect.TheVariants.{Readable as OnReadable, Writable as OnWritable, Pipe as OnPipe, Signal as OnSignal, Give, Settle, Queue}
 use Rattle.ws_steps.specs.declared.effects.Gift.TheVariants.{This}
@@ -221,20 +221,33 @@ pub record IsNewPipe (from to : StreamId) (not_to : Prevent) (by : Option Signal
   pub unsettled : y.unsettled ≡ 0
   pub waits : y.waits ≡ false
 
+-- one that flows too, into or from a new port: nothing is prevented, no signal aborts it, and the reply is the port, so that it names no promise
+pub record IsSentPipe (from to : StreamId) (s : realm.Slots) (reply : Reply) (y : Slots) : Type 0 where
+  pub source : y.source ≡ from
+  pub dest : y.dest ≡ to
+  pub prevent : y.prevent ≡ no_prevent
+  pub signal : y.signal ≡ None
+  pub port : reply ≡ PortReply (record { 0 = length s.ports })
+  pub phase : y.phase ≡ Flowing
+  pub reading : y.reading ≡ false
+  pub held : y.held ≡ None
+  pub unsettled : y.unsettled ≡ 0
+  pub waits : y.waits ≡ false
+
 -- the stream at the end of a new port
 abbrev pub new_end : realm.Slots → StreamId
 new_end s = record { 0 = length s.streams }
 
 -- what call c, which begins so, adds to the pipes: none; or, where it is a pipeTo, a new one between its streams, after the others; or, where it
--- sends a stream, one between that and the stream at the end of the new port, whose promise no reply names
+-- sends a stream, one between that and the stream at the end of the new port
 pub data MakesPipes (c : Call) (s : realm.Slots) (b : Begun) : Type 0 where
   MakesNone : b.done.slots.pipes ≡ s.pipes → MakesPipes c s b
   MakesOne : (from to : StreamId) (not_to : Prevent) (by : Option SignalId) (y : Slots) → c ≡ PipeCall from to not_to by
       → b.done.slots.pipes ≡ s.pipes ++ y ∷ [] → IsNewPipe from to not_to by b.reply y → MakesPipes c s b
   SendsReadable : (i : StreamId) (y : Slots) → c ≡ SendCall i → realm.has_source i s ≡ true → b.done.slots.pipes ≡ s.pipes ++ y ∷ []
-      → IsNewPipe i (new_end s) no_prevent None (PromiseReply y.promise) y → MakesPipes c s b
+      → IsSentPipe i (new_end s) s b.reply y → MakesPipes c s b
   SendsWritable : (i : StreamId) (y : Slots) → c ≡ SendCall i → realm.has_source i s ≡ false → realm.has_writable i s ≡ true → b.done.slots.pipes ≡ s.pipes ++ y ∷ []
-      → IsNewPipe (new_end s) i no_prevent None (PromiseReply y.promise) y → MakesPipes c s b
+      → IsSentPipe (new_end s) i s b.reply y → MakesPipes c s b
 
 -- Only a pipeTo and the sending of a stream make a pipe, and one that flows, whatever they find
 abbrev pub EachPipeBeginsFlowing : Type 0
