@@ -45,3 +45,8 @@ pub mod Asked
 pub mod Asking
 pub mod PortAsked
 pub mod PortMoves
+pub mod PortCounts
+pub mod PortFacts
+pub mod PortActs
+pub mod PortWrites
+pub mod PortLive

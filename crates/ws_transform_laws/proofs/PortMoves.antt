@@ -1,28 +1,27 @@
 -- How a writable stream comes to need its first chunk handed on: an operation performs the write algorithm only where it didn't need that, and
 -- what has ended stays so.
-use Rattle.std.proofs.Common.{◌≡◌, ◌⊎◌, inl, inr, Bool, true, false, not, ◌&&◌, ◌||◌, is_some, is_none, if◌then◌else◌, List, [], ◌∷◌, ◌++◌, Option, Some, None, Result, Ok, Err, refl, sym, subst, ap, ◌∙◌, arith}
+use Rattle.std.proofs.Common.{◌≡◌, Bool, true, false, not, ◌&&◌, ◌||◌, is_some, is_none, if◌then◌else◌, List, [], ◌∷◌, ◌++◌, Option, Some, None, Ok, Err, refl, sym, ap, ◌∙◌, arith}
 use Rattle.ws_steps.specs.Writable.{first_request}
 use Rattle.ws_value.specs.declared.ids.{PromiseId.{PromiseId}, StreamId.{StreamId}}
 use Rattle.ws_value.specs.declared.value.{Plain.{Plain}, Plain.TheVariants.{Undefined}, Value.{Value}}
-use Rattle.ws_steps.specs.declared.{effects.Effect.{Effect}, effects.Effect.TheVariants.{WriteAlgorithm}, effects.Owner.{Owner}, effects.Owner.TheVariants.{Host, HalfOf, BranchOf, EndOf}, queue.Queued.{Queued}, transform.Taker.{Taker}}
-use Rattle.ws_steps.specs.declared.writable.{PendingAbort.{PendingAbort}, WritableState.{WritableState}, WritableState.TheVariants.{Writable, Erroring, Closed}, WriteRecord.{WriteRecord}, WriteRecord.TheVariants.{Chunk, InFlight, CloseMark}, Writer.{Writer}}
+use Rattle.ws_steps.specs.declared.{effects.Effect.{Effect}, effects.Effect.TheVariants.{WriteAlgorithm}, queue.Queued.{Queued}, transform.Taker.{Taker}}
+use Rattle.ws_steps.specs.declared.writable.{PendingAbort.{PendingAbort}, WritableState.{WritableState}, WritableState.TheVariants.{Writable, Erroring}, WriteRecord.{WriteRecord}, WriteRecord.TheVariants.{Chunk, InFlight, CloseMark}, Writer.{Writer}}
 use Rattle.ws_steps.specs.declared.writable.WritableOperation.{WritableOperation}
 use Rattle.ws_steps.specs.declared.writable.WritableOperation.TheVariants.{SetUpWriter, ReleaseWriter, Write, Close, ClosePropagating, Abort, AbortIfWritable, ErrorIfNeeded, HandOn, StartSettled, WriteSettled, CloseSettled, AbortSettled}
 use Rattle.ws_steps.specs.Effects.{type_error}
 use Rattle.ws_steps.specs.Operations.{writable_operation}
 use Rattle.ws_steps.specs.Promises.{settle}
 use Rattle.ws_steps.specs.Queues.{first_value, enqueued, size_of}
-use Rattle.ws_steps.specs.Writable.{Slots, Acts, with_promises, is_writable, is_erroring, is_errored, is_closed, is_in_flight, reject_close_and_closed, finish_abort, fail_writes, finish_erroring, reject_ready, start_erroring, deal_with_rejection, controller_error_if_needed, process_write, process_close, process_first, advance_queue, hand_on_first, hand_on, has_ended, update_backpressure, refresh_backpressure, write_ended, without_first, write_settled, close_ended, abort_ended, finish_in_flight_close, finish_in_flight_close_with_error, close_settled, start_settled, abort_settled, is_closing, enqueue_chunk, controller_write, add_write_request, write_refusal, write_by, writer_write, controller_close, add_close_request, fulfil_ready, stream_close, close_with_error_propagation, add_pending_abort, begin_abort, signalled, stream_abort, abort_if_writable, set_up_writer, release_by, writer_release}
+use Rattle.ws_steps.specs.Writable.{Slots, Acts, with_promises, is_writable, is_erroring, is_errored, is_closed, is_in_flight, reject_close_and_closed, finish_abort, fail_writes, finish_erroring, reject_ready, start_erroring, deal_with_rejection, controller_error_if_needed, process_write, process_close, process_first, advance_queue, hand_on_first, hand_on, has_ended, update_backpressure, refresh_backpressure, write_ended, without_first, write_settled, close_ended, abort_ended, finish_in_flight_close_with_error, close_settled, start_settled, abort_settled, is_closing, enqueue_chunk, controller_write, add_write_request, write_refusal, write_by, writer_write, controller_close, add_close_request, fulfil_ready, stream_close, close_with_error_propagation, add_pending_abort, begin_abort, signalled, stream_abort, abort_if_writable, set_up_writer, writer_release}
 use Rattle.ws_laws.proofs.Tables.{either}
-use Rattle.ws_laws.proofs.Truth.{and_left, and_right}
+use Rattle.ws_laws.proofs.Truth.{and_right}
 use Rattle.ws_laws.proofs.WritableDoes.{IsHandOn}
 use Rattle.ws_writable_laws.proofs.Shape.{leads}
-use Rattle.std.proofs.Common.{ℕ, ◌+◌, ◌≤◌, suc, zero, length, if◌then◌else◌}
-use Rattle.ws_steps.specs.Queues.{is_empty}
+use Rattle.std.proofs.Common.{ℕ, ◌+◌, length, if◌then◌else◌}
 use Rattle.ws_steps.specs.Queues.{rest_of}
 use Rattle.ws_transform_laws.proofs.Stages.{IsWriteSettled}
-use Rattle.ws_writable_laws.proofs.Shape.{all, all-append, writes_in, one_if, is_mark}
-use Rattle.ws_transform_laws.proofs.Need.{needs, Core, core, Same, reject_ready-same, writable_is, no_flight, refresh-same, fulfil_ready-same, not_ended_writable, signalled-same, release-same, close_ended-same, abort_ended-same, unrequested-same, closed_now}
+use Rattle.ws_writable_laws.proofs.Shape.{all, writes_in, is_mark}
+use Rattle.ws_transform_laws.proofs.Need.{needs, Core, Same, reject_ready-same, writable_is, no_flight, refresh-same, fulfil_ready-same, not_ended_writable, signalled-same, release-same, close_ended-same, abort_ended-same, unrequested-same, closed_now}
 
 -- the write algorithm
 abbrev pub starts_write : Effect → ℕ
