@@ -77,7 +77,7 @@ through (Called c ∷ xs) s = through_of c s ++ through xs (step s (Called c))
 through (Worked ∷ xs) s = through xs (step s Worked)
 through (Heard ∷ xs) s = through xs (step s Heard)
 
--- with a DataCloneError the writable stream at an end of a port fails, where a chunk can't be cloned
+-- a DataCloneError comes of the end of a port: of a write of a chunk that can't be cloned, and of a cancel or an abort whose reason can't be
 abbrev pub by_ports : List cross.Slots → List Plain
 by_ports [] = []
 by_ports (x ∷ xs) = cross.data_clone ∷ []

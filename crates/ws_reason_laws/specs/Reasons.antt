@@ -147,7 +147,8 @@ is_pair (Local n) = false
 abbrev pub NeedsTee : Plain → List Entry → Type 0
 NeedsTee r entries = is_pair r ≡ true → (run entries empty).tees ≡ []
 
--- the premise that a reason is no DataCloneError, or that the run has no port. The writable stream at an end of one fails with that where a chunk can't be cloned
+-- the premise that a reason is no DataCloneError, or that the run has no port. With that the stream at an end of one fails what it
+-- is asked for: a write of a chunk that can't be cloned, and a cancel or an abort whose reason can't be
 abbrev pub NeedsPort : Plain → List Entry → Type 0
 NeedsPort r entries = r ≡ data_clone → (run entries empty).ports ≡ []
 
