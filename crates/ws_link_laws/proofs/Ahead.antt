@@ -66,6 +66,8 @@ use Rattle.ws_steps.specs.declared.port.PortOperation.TheVariants as names_of
 use Rattle.ws_steps.specs.declared.port.PortOperation.TheVariants.{Close as CloseByPort}
 use Rattle.ws_transform_laws.proofs.Branches.{port-caused}
 use Rattle.ws_transform_laws.proofs.PortHalving.{PortGoing, port-going, end-there}
+use Rattle.ws_link_laws.proofs.PortShut.{Shuts, shuts-stays}
+use Rattle.ws_transform_laws.proofs.PortLive.{PortLiving, port-living}
 
 -- to whom the destination's chunks are handed on
 abbrev pub Fits : Ear → StreamId → Taker → Type 0
@@ -389,6 +391,8 @@ pub record Ahead (i j : StreamId) (s : Slots) (es : List Effect) : Type 0 where
   pub history : Writes
   pub going : (t : TransformId) → Going j t history s es
   pub porting : (c : PortId) → PortGoing j c history s es
+  pub living : (c : PortId) → PortLiving j c history s es
+  pub shutting : (c : PortId) → Shuts i c s es
   pub placed : Each (Placed j (ear_at j s) s) es
   pub front : Front (ear_at j s) es
   pub first : First (ear_at j s) (is_some (writable_at j s).close_in_flight) es
@@ -569,6 +573,8 @@ row-ahead i j s e es a =
       history = writes_then a.history (effect_writes j e s);
       going = λ t. (going j t).row a.history s e es (a.going t);
       porting = λ c. (port-going j c).row a.history s e es (a.porting c);
+      living = λ c. (port-living j c).row a.history s e es (a.living c);
+      shutting = λ c. (shuts-stays i c).row s e es (a.shutting c);
       placed = rw same (each-append (Placed j w (row e s).slots) (row e s).caused es (row-caused i j s a.hosts e) (placed-on j w s (row e s).slots es (λ k. row-has k e s) a.placed.1));
       front = rw same (front-next w (row e s).caused es (row-front w e s) a.front);
       first = rw same (first-next w (is_some (writable_at j (row e s).slots).close_in_flight) (row e s).caused es (row-first i j s e es a) a.front);

@@ -28,6 +28,8 @@ use Rattle.ws_pipe_laws.proofs.AtSource.{except_few, all_off}
 use Rattle.ws_pipe_laws.proofs.PassingRuns.{call-none, call-is}
 use Rattle.ws_transform_laws.proofs.Halving.{going}
 use Rattle.ws_transform_laws.proofs.PortHalving.{port-going}
+use Rattle.ws_link_laws.proofs.PortShut.{shuts-stays}
+use Rattle.ws_transform_laws.proofs.PortLive.{port-living}
 use Rattle.ws_link_laws.specs.Link.{Ear, ear_at, in_sink, in_source, unheard, behind}
 use Rattle.ws_link_laws.specs.Laws.{EachLinkBegins}
 use Rattle.ws_link_laws.specs.Sound.{all_apart, IsApart, IsFree, IsThere, IsLink, AreApart, SourceFits, FitsIn}
@@ -38,7 +40,7 @@ use Rattle.ws_link_laws.proofs.Unheard.{fresh-unheard}
 use Rattle.ws_link_laws.proofs.Pipes.{rank}
 use Rattle.ws_link_laws.proofs.Standing.{IsInner, IsNotLast, Sound}
 use Rattle.ws_link_laws.proofs.Calls.{spare-append}
-use Rattle.ws_link_laws.proofs.Steps.{From, performed-from, older-from, named-from, from-link, reached-step, reached-going, reached-few, reached-is, append_ends}
+use Rattle.ws_link_laws.proofs.Steps.{From, performed-from, older-from, named-from, from-link, reached-step, reached-going, reached-living, reached-shuts, reached-few, reached-is, append_ends}
 use Rattle.ws_link_laws.specs.Link.{giver_at}
 use Rattle.ws_steps.specs.Slots.{source_at}
 
@@ -185,6 +187,8 @@ module _ (i j : StreamId) (prevent : Prevent) (signal : Option SignalId) (s : Sl
           history = g.0;
           going = λ t. rw is_begun at ((going j t).call g.0 s (Pipe i j prevent signal) (g.1.0 t));
           porting = λ q. rw is_begun at ((port-going j q).call g.0 s (Pipe i j prevent signal) (g.1.1 q));
+          living = λ q. rw is_begun at ((port-living j q).call g.0 s (Pipe i j prevent signal) (reached-living s j q free.reached));
+          shutting = λ q. rw is_begun at ((shuts-stays i q).call s (Pipe i j prevent signal) (reached-shuts i q s free.reached));
           placed = (tt, (tt, (tt, begins-placed (ear_at j s) d.slots (calls.reason_of signal s) signal)));
           front = late-front (ear_at j s) d.caused late;
           first = late-first (ear_at j s) (is_some (writable_at j d.slots).close_in_flight) d.caused (each-map (IsLate (ear_at j s)) (λ e. flushes (ear_at j s) e ≡ false) (λ e l. l.1) d.caused late);

@@ -10,7 +10,7 @@ use Rattle.ws_steps.specs.declared.byte.ByteOperation.TheVariants.{Enqueue as En
 use Rattle.ws_steps.specs.declared.calls.Call.{Call}
 use Rattle.ws_steps.specs.declared.calls.Call.TheVariants.{Enqueue as EnqueueCall}
 use Rattle.ws_steps.specs.declared.calls.Reply.TheVariants.{Done as ReplyDone, Throws}
-use Rattle.ws_steps.specs.declared.calls.Thrown.TheVariants.{TypeError}
+use Rattle.ws_steps.specs.declared.calls.Thrown.TheVariants.{TypeError, Unsupported}
 use Rattle.ws_steps.specs.declared.effects.Effect.{Effect}
 use Rattle.ws_steps.specs.declared.effects.Effect.TheVariants.{Readable as OnReadable, Writable as OnWritable, Pipe as OnPipe, Signal as OnSignal, Transform as OnTransform, Tee as OnTee, Port as OnPort, StartAlgorithm, PullAlgorithm, CancelAlgorithm, WriteAlgorithm, CloseAlgorithm, AbortAlgorithm, ChunkSteps, CloseSteps, ErrorSteps}
 use Rattle.ws_steps.specs.declared.effects.Owner.{Owner}
@@ -390,6 +390,7 @@ module _ (i : StreamId) (v : Value) (s : Slots) (there : has_source i s ≡ true
   pub data Asks : Type 0 where
     Does : (e : Effect) → IsUndelivered e → begin c s ≡ calls.does (e ∷ []) s → coming (giver_at i s) i e ≡ told (v ∷ []) Open → Asks
     Refuses : begin c s ≡ calls.throws_type_error s → Stopped → Asks
+    Lacks : begin c s ≡ calls.unsupported s → lets_in (giver_at i s) v ≡ silence → Asks
 
   module _ (none : has_byte i s ≡ false) where
     default : has_readable i s ≡ true
@@ -420,7 +421,9 @@ module _ (i : StreamId) (v : Value) (s : Slots) (there : has_source i s ≡ true
     asks-default Host e = asks-host (can_close_or_enqueue (readable_at i s)) refl e
     asks-default (HalfOf t) e = asks-half t (can_close_or_enqueue (readable_at i s)) refl e
     asks-default (BranchOf t half) e = absurd (subst (λ (o : Owner). IsHosts s o) (source-owner i s default ∙ sym e) h.kind)
-    asks-default (EndOf c) e = absurd (subst (λ (o : Owner). IsHosts s o) (source-owner i s default ∙ sym e) h.kind)
+    asks-default (EndOf d) e =
+        let own : owner_at i s ≡ EndOf d = source-owner i s default ∙ sym e in
+        Lacks (begins-so ∙ rw (← e) refl) (rw (gives, own) refl)
 
   module _ (here : has_byte i s ≡ true) where
     begins-bytes : begin c s ≡ calls.enqueue_bytes i s v
@@ -454,6 +457,10 @@ module _ (i : StreamId) (v : Value) (s : Slots) (there : has_source i s ≡ true
   lets-by (Does e un is brings) = record {
     done = λ r. lets-so (calls.does (e ∷ []) s) (told (v ∷ []) Open) is refl (record { source = h; undelivered = (un, tt); lone = tt; sums = inl (then_empty (coming (giver_at i s) i e) ∙ brings) });
     throws = λ n. absurd (n (ap (λ (b : Begun). b.reply) is));
+  }
+  lets-by (Lacks is none) = record {
+    done = λ r. let no : Throws Unsupported ≡ ReplyDone = sym (ap (λ (b : Begun). b.reply) is) ∙ r in cc;
+    throws = λ n. (lets-so (calls.unsupported s) silence is refl (record { source = h; undelivered = tt; lone = tt; sums = inl refl }), inl none);
   }
   lets-by (Refuses is ended) = record {
     done = λ r. let no : Throws TypeError ≡ ReplyDone = sym (ap (λ (b : Begun). b.reply) is) ∙ r in cc;

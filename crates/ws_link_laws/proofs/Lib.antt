@@ -31,3 +31,4 @@ pub mod OwnLinks
 pub mod Entering
 pub mod Pipelines
 mod WorkedHalves
+mod WorkedPorts

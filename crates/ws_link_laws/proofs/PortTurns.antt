@@ -4,7 +4,10 @@ use Rattle.ws_steps.specs.declared.effects.Owner.{Owner}
 use Rattle.ws_steps.specs.declared.effects.Owner.TheVariants.{Host, HalfOf, BranchOf, EndOf}
 use Rattle.ws_steps.specs.Slots.{owner_at, has_byte}
 use Rattle.ws_link_laws.specs.Link.{ear_by, giver_by}
-use Rattle.ws_link_laws.specs.Sound.{IsHosts}
+use Rattle.ws_link_laws.proofs.PortShut.{shut-at}
+use Rattle.ws_transform_laws.proofs.PortLive.{PortLiving, lives-at}
+use Rattle.ws_link_laws.proofs.TransformTurns.{default-source}
+use Rattle.ws_steps.specs.Slots.{readable_at}
 use Rattle.ws_link_laws.proofs.Ahead.{Ahead}
 use Rattle.std.proofs.Common.{◌≡◌, ◌≢◌, ℕ, Bool, true, false, List, [], ◌∷◌, Option, Some, None, slice_get, refl, sym, ap, subst, ◌∙◌, arith}
 use Rattle.ws_value.specs.declared.ids.PipeId.{PipeId}
@@ -37,7 +40,7 @@ use Rattle.ws_laws.proofs.Tables.{either, is_same-refl}
 use Rattle.ws_transform_laws.proofs.Branches.{port-caused}
 use Rattle.ws_link_laws.specs.Link.{Ear, OfPort, Giver, OfEnd, is_port, is_end, silence, in_source, ear_at, giver_at, heard_of, unheard, delivered}
 use Rattle.ws_link_laws.proofs.Ahead.{flushes, posted-silent}
-use Rattle.ws_link_laws.proofs.Hosts.{Hosts, hosts-source, port-nowhere, end-nowhere, AtGiver, OwnGiver, OtherGiver, at-giver, AtPort, OwnPort, OtherPort, at-port}
+use Rattle.ws_link_laws.proofs.Hosts.{Hosts, sink-there, hosts-source, port-nowhere, end-nowhere, AtGiver, OwnGiver, OtherGiver, at-giver, AtPort, OwnPort, OtherPort, at-port}
 use Rattle.ws_link_laws.proofs.Standing.{IsInner, IsNotLast}
 use Rattle.ws_link_laws.proofs.Telling.{if_same, tells, IsSilent, silent-all, hands, writes, chunks, coming}
 use Rattle.ws_link_laws.proofs.Unheard.{unheard-last, posts-unheard, row-unheard}
@@ -200,7 +203,7 @@ module _ (g : Giver) (i : StreamId) (r : readable.Slots) (c : PortId) (s : Slots
 -- a chunk that is handed on finds the port of the destination entangled, and the source takes nothing once its port isn't
 pub record Entangled (i j : StreamId) (s : Slots) (e : Effect) : Type 0 where
   pub lives : (c : PortId) (x : cross.Slots) (v : Value) (d : PromiseId) → e ≡ OnPort c (names.PostChunk v d) → ear_at j s ≡ OfPort c → slice_get s.ports c.0 ≡ Some x → x.live ≡ true
-  pub shuts : (c : PortId) (x : cross.Slots) → giver_at i s ≡ OfEnd c → slice_get s.ports c.0 ≡ Some x → x.live ≡ false → can_close_or_enqueue (source_at i s) ≡ false
+  pub shuts : (c : PortId) (x : cross.Slots) → giver_at i s ≡ OfEnd c → slice_get s.ports c.0 ≡ Some x → x.side ≡ ReadableSide → x.stream ≡ i → x.live ≡ false → can_close_or_enqueue (source_at i s) ≡ false
 
 module _ (i j : StreamId) (s : Slots) (h : Hosts i j s) (c : PortId) (operation : PortOperation) (k : Entangled i j s (OnPort c operation)) where
   abbrev e : Effect
@@ -226,7 +229,7 @@ module _ (i j : StreamId) (s : Slots) (h : Hosts i j s) (c : PortId) (operation 
       cs = (port_operation c (clones_at x s) operation (record { slots = x; out = found s })).out.effects
 
       by : AtGiver i (giver_at i s) c x → Lets (giver_at i s) i (source_at i s) e cs
-      by (OwnGiver is at side) = own-lets (giver_at i s) i (source_at i s) c s x is at side (k.shuts c x is there) operation
+      by (OwnGiver is at side) = own-lets (giver_at i s) i (source_at i s) c s x is at side (k.shuts c x is there side at) operation
       by (OtherGiver n far) =
           AsAsked (silent-all (coming (giver_at i s) i) cs (each-map (PortCauses c x.stream) (IsSilent (coming (giver_at i s) i)) (λ u m. port-coming (giver_at i s) i c x.stream u far m) cs (port-causes c (clones_at x s) operation (record { slots = x; out = found s }) tt).1.1)
           ∙ sym (other-comes (giver_at i s) i c operation n))
@@ -249,15 +252,14 @@ ear-owner j s (HalfOf t) c e = cc
 ear-owner j s (BranchOf t half) c e = cc
 ear-owner j s (EndOf d) c e = cc
 
-giver-owner : (b : Bool) (o : Owner) (c : PortId) → giver_by b o ≡ OfEnd c → o ≡ EndOf c
-giver-owner true o c e = cc
-giver-owner false Host c e = cc
-giver-owner false (HalfOf t) c e = cc
-giver-owner false (BranchOf t half) c e = cc
-giver-owner false (EndOf d) c e = cc
+giver-default : (b : Bool) (o : Owner) (c : PortId) → giver_by b o ≡ OfEnd c → b ≡ false
+giver-default true o c e = cc
+giver-default false o c e = refl
 
-pub entangled : (i j : StreamId) (s : Slots) (e : Effect) (es : List Effect) → Ahead i j s (e ∷ es) → Entangled i j s e
-entangled i j s e es a = record {
-  lives = λ c x v d is w there. absurd (subst (λ (o : Owner). IsHosts s o) (ear-owner j s (owner_at j s) c w) a.hosts.sink_kind);
-  shuts = λ c x g there dead. absurd (subst (λ (o : Owner). IsHosts s o) (giver-owner (has_byte i s) (owner_at i s) c g) a.hosts.source_kind);
+pub entangled : (i j : StreamId) (s : Slots) (d : PortId) (operation : PortOperation) (es : List Effect) → Ahead i j s (OnPort d operation ∷ es) → Entangled i j s (OnPort d operation)
+entangled i j s d operation es a = record {
+  lives = λ c x v p is w there. lives-at j c a.history s v p es x (subst (λ (e : Effect). PortLiving j c a.history s (e ∷ es)) is (a.living c)) (ear-owner j s (owner_at j s) c w) (sink-there i j s a.hosts) there;
+  shuts = λ c x g there side stream dead.
+      let same : source_at i s ≡ readable_at i s = default-source (slice_get s.streams i.0) (giver-default (has_byte i s) (owner_at i s) c g) in
+      ap can_close_or_enqueue same ∙ shut-at i c s d operation es (a.shutting c) x there side stream dead;
 }

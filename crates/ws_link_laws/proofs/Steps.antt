@@ -41,6 +41,8 @@ use Rattle.ws_pipe_laws.proofs.AtSource.{except, except-append, all_off}
 use Rattle.ws_pipe_laws.proofs.PassingRuns.{Few, Is, call-none, job-none, call-is, each_is}
 use Rattle.ws_writable_laws.proofs.Runs.{is_history}
 use Rattle.ws_transform_laws.proofs.Halving.{Going, going, going-rests, none-going}
+use Rattle.ws_link_laws.proofs.PortShut.{Shuts, shuts-stays, run-shuts}
+use Rattle.ws_transform_laws.proofs.PortLive.{PortLiving, port-living, port-living-rests, none-port-living}
 use Rattle.ws_transform_laws.proofs.PortHalving.{PortGoing, port-going, port-going-rests, none-port-going}
 use Rattle.ws_value.specs.declared.ids.PortId.{PortId}
 use Rattle.ws_link_laws.specs.Link.{silence, in_sink, in_source, held_items, piped_by, in_pipe, lies, Ear, ear_at, heard_of, unheard, behind, enters, job_enters, next_enters, leaves}
@@ -57,6 +59,7 @@ use Rattle.ws_steps.specs.Slots.{ByteStream}
 use Rattle.ws_steps.specs.Bytes as byte
 use Rattle.ws_link_laws.specs.Link.{Giver, giver_at}
 use Rattle.ws_steps.specs.Slots.{no_readable, has_source, source_at, is_byte_stream}
+use Rattle.std.proofs.Common.{subst}
 
 -- where the realm came from
 
@@ -83,9 +86,17 @@ reached-going s j (xs, e) = (
   ),
 )
 
+pub reached-living : (s : Slots) (j : StreamId) (c : PortId) → (r : IsReached s) → PortLiving j c (reached-going s j r).0 s []
+unfolding reached-going
+reached-living s j c (xs, e) =
+    subst (λ (z : Slots). PortLiving j c (run_writes j xs empty) z []) (sym e) (walker.run-holds no_writes writes_then is_history (effect_writes j) (PortLiving j c) (port-living j c) (port-living-rests j c) xs empty (none-port-living j c))
+
+pub reached-shuts : (i : StreamId) (c : PortId) (s : Slots) → IsReached s → Shuts i c s []
+reached-shuts i c s (xs, e) = rw e (run-shuts i c xs)
+
 -- no effect stands there
 pub rested : (i j : StreamId) (s : Slots) → IsReached s → Hosts i j s → Ahead i j s []
-rested i j s r h = let g = reached-going s j r in record { hosts = h; history = g.0; going = g.1.0; porting = g.1.1; placed = tt; front = tt; first = tt }
+rested i j s r h = let g = reached-going s j r in record { hosts = h; history = g.0; going = g.1.0; porting = g.1.1; living = λ c. reached-living s j c r; shutting = λ c. reached-shuts i c s r; placed = tt; front = tt; first = tt }
 
 pub reached-few : (s : Slots) (p : PipeId) → IsReached s → Few p s []
 reached-few s p (xs, e) = rw e ((each_is xs p).0)
@@ -154,10 +165,10 @@ performed-from i j p t locks d h =
 -- it grows older, and a promise is watched
 
 older-ahead : (i j : StreamId) (s : Slots) → Ahead i j s [] → Ahead i j (older s) []
-older-ahead i j s a = record { hosts = hosts-same i j s (older s) refl refl refl refl a.hosts; history = a.history; going = λ t. (going j t).older a.history s (a.going t); porting = λ c. (port-going j c).older a.history s (a.porting c); placed = tt; front = tt; first = tt }
+older-ahead i j s a = record { hosts = hosts-same i j s (older s) refl refl refl refl a.hosts; history = a.history; going = λ t. (going j t).older a.history s (a.going t); porting = λ c. (port-going j c).older a.history s (a.porting c); living = λ c. (port-living j c).older a.history s (a.living c); shutting = λ c. (shuts-stays i c).older s (a.shutting c); placed = tt; front = tt; first = tt }
 
 watched-ahead : (i j : StreamId) (s : Slots) (q : PromiseId) → Ahead i j s [] → Ahead i j (with_promises (watch q s.promises) s) []
-watched-ahead i j s q a = record { hosts = hosts-same i j s (with_promises (watch q s.promises) s) refl refl refl refl a.hosts; history = a.history; going = λ t. (going j t).answered a.history s q (a.going t); porting = λ c. (port-going j c).answered a.history s q (a.porting c); placed = tt; front = tt; first = tt }
+watched-ahead i j s q a = record { hosts = hosts-same i j s (with_promises (watch q s.promises) s) refl refl refl refl a.hosts; history = a.history; going = λ t. (going j t).answered a.history s q (a.going t); porting = λ c. (port-going j c).answered a.history s q (a.porting c); living = λ c. (port-living j c).answered a.history s q (a.living c); shutting = λ c. (shuts-stays i c).answered s q (a.shutting c); placed = tt; front = tt; first = tt }
 
 pub older-from : (i j : StreamId) (p : PipeId) (t : Told Value) (locks : List Lock) (s : Slots) → From i j p t locks s [] → From i j p t locks (older s) []
 older-from i j p t locks s h = record {
@@ -240,6 +251,8 @@ begun-ahead i j s job e a =
       history = a.history;
       going = λ t. (going j t).job a.history s job e (a.going t);
       porting = λ c. (port-going j c).job a.history s job e (a.porting c);
+      living = λ c. (port-living j c).job a.history s job e (a.living c);
+      shutting = λ c. (shuts-stays i c).job s job e (a.shutting c);
       placed = job-placed j (ear_at j s) z job;
       front = late-front (ear_at j s) (job_effects job) late;
       first = late-first (ear_at j s) (is_some (writable_at j z).close_in_flight) (job_effects job) (each-map (IsLate (ear_at j s)) (λ e. flushes (ear_at j s) e ≡ false) (λ e l. l.1) (job_effects job) late);
@@ -415,6 +428,8 @@ module _ (i j : StreamId) (p : PipeId) (s : Slots) (c : Call) (l : IsLink i j p 
     history = before.ahead.history;
     going = λ t. (going j t).call before.ahead.history s c (before.ahead.going t);
     porting = λ q. (port-going j q).call before.ahead.history s c (before.ahead.porting q);
+    living = λ q. (port-living j q).call before.ahead.history s c (before.ahead.living q);
+    shutting = λ q. (shuts-stays i q).call s c (before.ahead.shutting q);
     placed = rw same-ear (each-map (IsOuter i j) (Placed j (ear_at j s) d.slots) (outer-placed (ear_at j s) d.slots i j) d.caused begins.outer);
     front = rw same-ear (late-front (ear_at j s) d.caused begun-late);
     first = rw same-ear (late-first (ear_at j s) (is_some (writable_at j d.slots).close_in_flight) d.caused (each-map (IsLate (ear_at j s)) (λ e. flushes (ear_at j s) e ≡ false) (λ e l. l.1) d.caused begun-late));

@@ -37,12 +37,12 @@ use Rattle.ws_link_laws.specs.Link.{todo_of}
 abbrev pub IsReached : Slots → Type 0
 IsReached s = (entries : List Entry) × (s ≡ run entries empty)
 
--- it performs algorithms of the host: its own, or those of a transform stream. A branch of a tee doesn't
+-- it performs algorithms of the host, its own or those of a transform stream, or those of a port. A branch of a tee doesn't
 abbrev pub IsHosts : Slots → Owner → Type 0
 IsHosts s Host = Unit {0}
 IsHosts s (HalfOf t) = (transform_at t s).kind ≡ HostKind
 IsHosts s (BranchOf t half) = ⊥
-IsHosts s (EndOf c) = ⊥
+IsHosts s (EndOf c) = Unit {0}
 
 -- no reader of the host has stream i, and no writer of the host stream j
 
@@ -152,8 +152,8 @@ abbrev pub all_untied : StreamId → List tee.Slots → Bool
 all_untied i [] = true
 all_untied i (x ∷ xs) = not (is_same i x.source) && all_untied i xs
 
--- The link of pipe p from stream i to stream j, between steps: each is the host's own or a half of a transform stream of the host's kind, the
--- source is bare where it is a byte stream, the pipe goes from the one to the other, nobody else has them, and what is in them is as a pipe, its
+-- The link of pipe p from stream i to stream j, between steps: each is the host's own, a half of a transform stream of the host's kind, or the end
+-- of a port, the source is bare where it is a byte stream, the pipe goes from the one to the other, nobody else has them, and what is in them is as a pipe, its
 -- source and its destination keep it
 pub record IsLink (i j : StreamId) (p : PipeId) (s : Slots) : Type 0 where
   pub reached : IsReached s
@@ -178,7 +178,7 @@ abbrev pub all_apart : StreamId → StreamId → List pipe.Slots → Bool
 all_apart i j [] = true
 all_apart i j (x ∷ xs) = (not (is_same i x.source) && not (is_same j x.dest)) && all_apart i j xs
 
--- Streams i and j may be linked: each is the host's own or a half of a transform stream of the host's kind, i is bare where it is a byte stream,
+-- Streams i and j may be linked: each is the host's own, a half of a transform stream of the host's kind, or the end of a port, i is bare where it is a byte stream,
 -- nobody has them, no pipe ever had, and nothing was written to j. What was enqueued at i stays
 pub record IsFree (i j : StreamId) (s : Slots) : Type 0 where
   pub reached : IsReached s
