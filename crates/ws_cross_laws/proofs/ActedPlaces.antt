@@ -1,5 +1,5 @@
 -- The stream at a writable end of a port hands its chunks on to that port alone.
-use Rattle.std.proofs.Common.{◌≡◌, true, Option, Some, None, slice_get, refl, sym, subst, ◌∙◌, arith}
+use Rattle.std.proofs.Common.{◌≡◌, true, Option, Some, None, slice_get, refl, sym, subst, ◌∙◌, arith, ℕ, zero, suc, map, List, [], ◌∷◌}
 use Rattle.ws_value.specs.declared.ids.PortId.{PortId}
 use Rattle.ws_value.specs.declared.ids.StreamId.{StreamId}
 use Rattle.ws_value.specs.declared.value.Value.{Value}
@@ -23,7 +23,7 @@ use Rattle.ws_steps.specs.Cross as cross
 use Rattle.ws_steps.specs.Histories.{is_same}
 use Rattle.ws_steps.specs.Operations.{port_operation, transform_operation}
 use Rattle.ws_steps.specs.PortHistory.{is_same_port}
-use Rattle.ws_steps.specs.Slots.{Slots, found, owner_at, on_port_at, on_transform_at, halves_at, clones_at}
+use Rattle.ws_steps.specs.Slots.{Slots, found, owner_at, on_port_at, on_transform_at, halves_at, clones_at, Stream, ReadableStream, ByteStream, WritableStream, is_writable_stream, has_writable}
 use Rattle.ws_steps.specs.Transform as transform
 use Rattle.ws_steps.specs.Turns.{row, write_algorithm}
 use Rattle.ws_laws.proofs.Ended.{port_shape, port_shapes, end_shape, Ended}
@@ -32,12 +32,19 @@ use Rattle.ws_laws.proofs.Lists.{Each, each-map}
 use Rattle.ws_laws.proofs.PipeDoes.{PipeCauses}
 use Rattle.ws_laws.proofs.PortDoes.{PortCauses, port-causes}
 use Rattle.ws_laws.proofs.Rows.{ReadableCauses, ChunkCauses, EndCauses, ErrorCauses, SignalCauses, row-causes}
-use Rattle.ws_laws.proofs.Shapes.{WritableOf, transform_shape, stream_shapes, map-there, owner-told}
+use Rattle.ws_laws.proofs.Shapes.{WritableOf, transform_shape, stream_shapes, map-there, owner-told, stream_shape}
 use Rattle.ws_laws.proofs.Tables.{same_id}
 use Rattle.ws_laws.proofs.TeeDoes.{TeeCauses}
 use Rattle.ws_laws.proofs.TransformDoes.{TransformCauses, transform-causes}
 use Rattle.ws_cross_laws.proofs.Fitting.{IsBegun}
 use Rattle.ws_cross_laws.proofs.Posting.{is_same_port-refl}
+
+is-writable : (xs : List Stream) (n : ℕ) (o : Owner) → slice_get (map stream_shape xs) n ≡ Some (WritableOf o) → is_writable_stream (slice_get xs n) ≡ true
+is-writable [] n o e = cc
+is-writable (ReadableStream r ∷ xs) zero o e = cc
+is-writable (ByteStream b ∷ xs) zero o e = cc
+is-writable (WritableStream w ∷ xs) zero o e = refl
+is-writable (x ∷ xs) (suc n) o e = is-writable xs n o e
 
 -- stream i is at a writable end of port c
 module _ (c : PortId) (i : StreamId) where
@@ -58,6 +65,9 @@ module _ (c : PortId) (i : StreamId) where
 
   pub mine-owner : (s : Slots) → Ended s → Mine s → owner_at i s ≡ EndOf c
   mine-owner s ended m = let a = owner-told s.streams i.0 in let b = mine-shape s ended m in rw (a, b) refl
+
+  pub mine-writable : (s : Slots) → Ended s → Mine s → has_writable i s ≡ true
+  mine-writable s ended m = is-writable s.streams i.0 (EndOf c) (mine-shape s ended m)
 
   module _ (s : Slots) (halved : Halved s) (ended : Ended s) (mine : Mine s) where
     readable-placed : (j : StreamId) → ReadableCauses Placed j

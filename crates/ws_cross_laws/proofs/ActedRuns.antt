@@ -1,10 +1,10 @@
--- Over every run: what the stream at a writable end of a port acted on are the chunks that the port posted, and while it is entangled no others.
+-- Over every run: what the stream at a writable end of a port acted on are the chunks that the port posted.
 use Rattle.std.proofs.Common.{◌≡◌, ℕ, zero, suc, ◌⊎◌, inl, inr, ⊎_elim, Bool, true, false, if◌then◌else◌, List, [], ◌∷◌, ◌++◌, map, Option, Some, None, slice_get, refl, sym, ap, subst, ◌∙◌, append-nil, append_assoc, arith}
 use Rattle.ws_value.specs.declared.ids.PortId.{PortId}
 use Rattle.ws_value.specs.declared.ids.PromiseId.{PromiseId}
 use Rattle.ws_value.specs.declared.ids.StreamId.{StreamId}
 use Rattle.ws_value.specs.declared.value.Message.{Message}
-use Rattle.ws_value.specs.declared.value.Message.TheVariants.{Pull as PullMessage, Chunk as ChunkMessage}
+use Rattle.ws_value.specs.declared.value.Message.TheVariants.{Chunk as ChunkMessage}
 use Rattle.ws_value.specs.declared.value.Value.{Value}
 use Rattle.ws_steps.specs.declared.calls.Call.{Call}
 use Rattle.ws_steps.specs.declared.effects.Effect.{Effect}
@@ -24,67 +24,47 @@ use Rattle.ws_steps.specs.Histories.{is_same, along, over, taken_event, run_even
 use Rattle.ws_steps.specs.Jobs.{job_effects}
 use Rattle.ws_steps.specs.Operations.{port_operation}
 use Rattle.ws_steps.specs.PortHistory.{is_same_port, posted_in, chunks_in}
-use Rattle.ws_steps.specs.Promises.{Table, after_next_job}
+use Rattle.ws_steps.specs.Promises.{after_next_job}
 use Rattle.ws_steps.specs.Run.{Entry, Called, Worked, Heard, run, step, later_events, after_event, moments_in}
-use Rattle.ws_steps.specs.Slots.{Slots, Stream, Done, empty, writable_at, with_promises, clones_at}
+use Rattle.ws_steps.specs.Slots.{Slots, Stream, Done, empty, owner_at, has_writable, writable_at, with_promises, clones_at}
 use Rattle.ws_steps.specs.Turns.{Moment, row}
-use Rattle.ws_steps.specs.WritableHistory.{no_writes, writes_then, first_chunk, effect_writes, run_writes}
+use Rattle.ws_steps.specs.WritableHistory.{Writes, no_writes, writes_then, first_chunk, effect_writes, run_writes}
 use Rattle.ws_laws.proofs.Begin.{begin-makes}
 use Rattle.ws_laws.proofs.Ended.{PortShape, port_shape, port_shapes, row-port_shapes, Ended}
 use Rattle.ws_laws.proofs.Halves.{Halved, halved-stays, halved-empty}
 use Rattle.ws_laws.proofs.Lists.{Each, each-append, each-map}
 use Rattle.ws_laws.proofs.PortDoes.{port-causes}
 use Rattle.ws_laws.proofs.Shapes.{StreamShape, WritableOf, stream_shape, stream_shapes, map-there, row-stream_shapes}
-use Rattle.ws_laws.proofs.Tables.{either, same_id, is_same-refl, eq_numbers}
+use Rattle.ws_laws.proofs.Tables.{same_id, is_same-refl, eq_numbers}
 use Rattle.ws_laws.proofs.Walker as walker
-use Rattle.ws_laws.proofs.Walker.{IsHistory, Goes, Rests}
+use Rattle.ws_laws.proofs.Walker.{IsHistory, Goes, Rests, GoesUntold, RestsUntold}
+use Rattle.ws_writable_laws.proofs.Runs.{is_history}
 use Rattle.ws_cross_laws.proofs.Acted.{pend, pends, pends-append, IsNone, none-pends, Behind, behind-next, none-behind, IsElsewhere, row-none, begun-none, chunks-append, IsPost, given-none, hand-row}
-use Rattle.ws_cross_laws.proofs.ActedPlaces.{Mine, IsTo, Placed, mine-shape, row-placed, begun-placed}
+use Rattle.ws_cross_laws.proofs.ActedPlaces.{Mine, IsTo, Placed, mine-shape, mine-owner, mine-writable, row-placed, begun-placed}
 use Rattle.ws_cross_laws.proofs.Ends.{heard-said}
 use Rattle.ws_cross_laws.proofs.Fitting.{Fits, IsBegun, call-begun, job-begun, fitting-empty}
 use Rattle.ws_cross_laws.proofs.Once.{NotMine, row-leaves, row-mine, no-mine, by-port}
-use Rattle.ws_cross_laws.proofs.Posting.{given, is_same_port-refl, port_acts, post-does, leave-does, close-does, chunk-does}
+use Rattle.ws_cross_laws.proofs.Posting.{given, is_same_port-refl, port_acts}
 use Rattle.ws_cross_laws.proofs.PostingRuns.{Past, nothing_past, then_past, past-history, untold_past, said, all_posted, Whole, posting-goes, posting-rests, PortsNow, call-ports, last-place, split-events}
 use Rattle.ws_cross_laws.proofs.Told.{posted, posted-append, call-events, next-events, watch-posted}
 
--- what happened before: to the port, and what a stream acted on
+-- what happened before: to the port, and what went through a stream
 pub record Deeds : Type 0 where
   pub past : Past
-  pub acted : List Value
+  pub writes : Writes
 
 abbrev pub nothing_done : Deeds
-nothing_done = record { past = nothing_past; acted = [] }
+nothing_done = record { past = nothing_past; writes = no_writes }
 
 abbrev pub then_done : Deeds → Deeds → Deeds
-then_done f g = record { past = then_past f.past g.past; acted = f.acted ++ g.acted }
+then_done f g = record { past = then_past f.past g.past; writes = writes_then f.writes g.writes }
 
 pub done-history : IsHistory nothing_done then_done
 done-history = record {
-  left = λ h. ap (λ (p : Past). record { past = p; acted = h.acted }) (past-history.left h.past);
-  right = λ h k. record { past = past-history.right h.past k; acted = append-nil h.acted k };
-  assoc = λ f g h k. record { past = past-history.assoc f.past g.past h.past k; acted = append_assoc f.acted g.acted h.acted k };
+  left = λ h k. record { past = past-history.left h.past k; writes = is_history.left h.writes k };
+  right = λ h k. record { past = past-history.right h.past k; writes = is_history.right h.writes k };
+  assoc = λ f g h k. record { past = past-history.assoc f.past g.past h.past k; writes = is_history.assoc f.writes g.writes h.writes k };
 }
-
--- where the port isn't entangled, it stays so
-lived : (c : PortId) (clones : Bool) (operation : PortOperation) (x : cross.Slots) (t : Table) → (port_operation c clones operation (port_acts c x t)).slots.live ≡ true → x.live ≡ true
-unfolding cross.pull cross.write cross.write_goes_on cross.unblock cross.deliver
-lived c clones ports.Pull x t e = let h = (post-does c x t PullMessage).slots in ap (λ (y : cross.Slots). y.live) (sym h) ∙ e
-lived c clones (ports.Leave r u) x t e = let h = (leave-does c x t r u).slots in let n : false ≡ true = ap (λ (y : cross.Slots). y.live) (sym h) ∙ e in cc
-lived c clones (ports.Write u) x t e = e
-lived c clones (ports.WriteGoesOn d) x t e = by x.backpressure clones e
-  where
-    by : (o : Option PromiseId) (b : Bool) → (cross.go_on c b d (port_acts c x t) o).slots.live ≡ true → x.live ≡ true
-    by None true e = e
-    by None false e = cc
-    by (Some p) b e = e
-lived c clones (ports.PostChunk v p) x t e = let h = (chunk-does c x t v p).slots in ap (λ (y : cross.Slots). y.live) (sym h) ∙ e
-lived c clones (ports.Close u) x t e = let h = (close-does c x t u).slots in let n : false ≡ true = ap (λ (y : cross.Slots). y.live) (sym h) ∙ e in cc
-lived c clones (ports.Deliver m) x t e = either (λ (b : cross.Acts). b.slots.live ≡ true → x.live ≡ true) x.live (cross.deliver_to c m (port_acts c x t) x.side) (port_acts c x t) (λ l k. l) (λ n k. k) e
-lived c clones ports.Unblock x t e = by x.backpressure e
-  where
-    by : (o : Option PromiseId) → (cross.unblock_by (port_acts c x t) o).slots.live ≡ true → x.live ≡ true
-    by None e = e
-    by (Some p) e = e
 
 -- shapes of streams stay as calls make others
 shape-call : (i : StreamId) (y : StreamShape) (call : Call) (s : Slots) → slice_get (stream_shapes s) i.0 ≡ Some y → slice_get (stream_shapes (begin call s).done.slots) i.0 ≡ Some y
@@ -109,33 +89,27 @@ shape-call i y call s h = begin-makes (λ z. slice_get (stream_shapes z) i.0 ≡
     more (z ∷ zs) (suc n) x y e = more zs n x y e
 
 module _ (c : PortId) where
-  -- what was acted on: what was posted, what was dropped, and what is to be posted
-  pub record Acts (acted chunks : List Value) (live : Bool) (es : List Effect) : Type 0 where
-    pub dropped : List Value
-    pub all : acted ≡ chunks ++ (dropped ++ pends c es)
-    pub whole : live ≡ true → dropped ≡ []
+  -- what was acted on: what was posted, and what is to be posted
+  abbrev pub Acts : List Value → List Value → List Effect → Type 0
+  Acts acted chunks es = acted ≡ chunks ++ pends c es
 
   -- an effect posts nothing, and what it hands on is to be posted
-  hands-on : (a ms new : List Value) (live : Bool) (e : Effect) (es cs : List Effect) → pend c e ≡ [] → pends c es ≡ [] → new ≡ pends c cs → Acts a ms live (e ∷ es) → Acts (a ++ new) ms live (cs ++ es)
-  hands-on a ms new live e es cs none behind is k = record {
-    dropped = k.dropped;
-    all =
-        let was : a ≡ ms ++ k.dropped = k.all ∙ ap (λ vs. ms ++ vs) (rw (none, behind) (append-nil k.dropped)) in
-        let now : pends c (cs ++ es) ≡ new = pends-append c cs es ∙ (rw behind (append-nil (pends c cs)) ∙ sym is) in
-        rw (was, now) (append_assoc ms k.dropped new);
-    whole = k.whole;
-  }
+  hands-on : (a ms new : List Value) (e : Effect) (es cs : List Effect) → pend c e ≡ [] → pends c es ≡ [] → new ≡ pends c cs → Acts a ms (e ∷ es) → Acts (a ++ new) ms (cs ++ es)
+  hands-on a ms new e es cs none behind is k =
+      let was : a ≡ ms = k ∙ rw (none, behind) (append-nil ms) in
+      let now : pends c (cs ++ es) ≡ new = pends-append c cs es ∙ (rw behind (append-nil (pends c cs)) ∙ sym is) in
+      rw (was, now) refl
 
   -- nothing is to be posted
-  stands : (a ms : List Value) (live : Bool) (es : List Effect) → pends c es ≡ [] → Acts a ms live [] → Acts a ms live es
-  stands a ms live es none k = record { dropped = k.dropped; all = rw none k.all; whole = k.whole }
+  stands : (a ms : List Value) (es : List Effect) → pends c es ≡ [] → Acts a ms [] → Acts a ms es
+  stands a ms es none k = rw none k
 
   module _ (i : StreamId) where
     abbrev pub told : Effect → Slots → Deeds
-    told e s = record { past = untold_past e s; acted = (effect_writes i e s).acted }
+    told e s = record { past = untold_past e s; writes = effect_writes i e s }
 
     abbrev pub happened : Slots → Entry → Deeds
-    happened s x = record { past = said c s x; acted = [] }
+    happened s x = record { past = said c s x; writes = no_writes }
 
     -- stream i is at the writable end of the port
     pub record IsEnd (s : Slots) (x : cross.Slots) : Type 0 where
@@ -147,15 +121,7 @@ module _ (c : PortId) where
     end-mine s x k = map-there port_shape s.ports c.0 x k.there ∙ ap (λ (y : PortShape). Some y) (λ n. record { side = k.side n; stream = k.stream n })
 
     abbrev pub Acted : Deeds → Slots → List Effect → Type 0
-    Acted h s es = (x : cross.Slots) → IsEnd s x → Acts h.acted (chunks_in (all_posted c h.past s)) x.live es
-
-    pub record Acting (h : Deeds) (s : Slots) (es : List Effect) : Type 0 where
-      pub posting : Whole c h.past s es
-      pub halved : Halved s
-      pub behind : Behind c es
-      pub unmade : slice_get (stream_shapes s) i.0 ≡ None → h.acted ≡ []
-      pub placed : Mine c i s → Each (Placed c i) es
-      pub acted : Acted h s es
+    Acted h s es = (x : cross.Slots) → IsEnd s x → Acts h.writes.acted (chunks_in (all_posted c h.past s)) es
 
     -- each effect
 
@@ -207,7 +173,7 @@ module _ (c : PortId) where
     other-acted : (h : Deeds) (s : Slots) (e : Effect) (es : List Effect) → NotMine c e → (effect_writes i e s).acted ≡ pends c (row e s).caused → pends c es ≡ [] → Acted h s (e ∷ es) → Now h s e es
     other-acted h s e es n is behind k x end =
         rw (same-posted h s (row e s).slots (row-leaves c e s n).0)
-        (hands-on h.acted _ (effect_writes i e s).acted x.live e es (row e s).caused (pend-none e n) behind is (k x (other-end e s x n end)))
+        (hands-on h.writes.acted _ (effect_writes i e s).acted e es (row e s).caused (pend-none e n) behind is (k x (other-end e s x n end)))
 
     -- an effect that hands on no chunk of the stream
     quiet-acted : (h : Deeds) (s : Slots) (e : Effect) (es : List Effect) → NotMine c e → (IsHandOn e → ⊥) → IsElsewhere c e → pends c es ≡ [] → Acted h s (e ∷ es) → Now h s e es
@@ -246,12 +212,12 @@ module _ (c : PortId) where
         was : IsEnd s x
         was = other-end (Writable j operation) s x tt end
 
-        by : (same : Bool) → same ≡ is_same i j → let e = Writable j operation in Acts (then_done h (told e s)).acted (chunks_in (all_posted c (then_done h (told e s)).past (row e s).slots)) x.live ((row e s).caused ++ es)
+        by : (same : Bool) → same ≡ is_same i j → let e = Writable j operation in Acts (then_done h (told e s)).writes.acted (chunks_in (all_posted c (then_done h (told e s)).past (row e s).slots)) ((row e s).caused ++ es)
         by true e =
             ⊎_elim (λ is. handed is.0 is.1)
             (λ other. quiet-acted h s (Writable j operation) es tt (other j).1 (other j).0 behind k x end) (hand-here operation)
           where
-            handed : (taker : Taker) → operation ≡ writes.HandOn taker → let e = Writable j operation in Acts (then_done h (told e s)).acted (chunks_in (all_posted c (then_done h (told e s)).past (row e s).slots)) x.live ((row e s).caused ++ es)
+            handed : (taker : Taker) → operation ≡ writes.HandOn taker → let e = Writable j operation in Acts (then_done h (told e s)).writes.acted (chunks_in (all_posted c (then_done h (told e s)).past (row e s).slots)) ((row e s).caused ++ es)
             handed taker is =
                 let to : IsTo c i taker = (subst (λ (o : WritableOperation). Placed c i (Writable j o)) is (placed (end-mine s x was))) (sym e) in
                 subst (λ (o : WritableOperation). Now h s (Writable j o) es) (sym is) (hand-acted h s j taker es (sym e) to behind (subst (λ (o : WritableOperation). Acted h s (Writable j o ∷ es)) is k)) x end
@@ -283,11 +249,8 @@ module _ (c : PortId) where
         (ap chunks_in (sym (append_assoc h.past.heard (posted c s.promises) (given (clones_at x s) operation x))) ∙ chunks-append c (all_posted c h.past s) (given (clones_at x s) operation x))
 
     -- one that posts no chunk
-    rest-posted : (a ms : List Value) (live was : Bool) (e : Effect) (es cs : List Effect) (new : List Value) → new ≡ [] → pend c e ≡ [] → pends c es ≡ [] → pends c cs ≡ [] → (live ≡ true → was ≡ true)
-        → Acts a ms was (e ∷ es) → Acts (a ++ []) (ms ++ new) live (cs ++ es)
-    rest-posted a ms live was e es cs new none pend_e behind quiet l k =
-        let z = hands-on a ms [] was e es cs pend_e behind (sym quiet) k in
-        record { dropped = z.dropped; all = rw (none, append-nil ms) z.all; whole = λ f. z.whole (l f) }
+    rest-posted : (a ms : List Value) (e : Effect) (es cs : List Effect) (new : List Value) → new ≡ [] → pend c e ≡ [] → pends c es ≡ [] → pends c cs ≡ [] → Acts a ms (e ∷ es) → Acts (a ++ []) (ms ++ new) (cs ++ es)
+    rest-posted a ms e es cs new none pend_e behind quiet k = rw (none, append-nil ms) (hands-on a ms [] e es cs pend_e behind (sym quiet) k)
 
     resting-acted : (h : Deeds) (s : Slots) (operation : PortOperation) (es : List Effect) (x : cross.Slots) → slice_get s.ports c.0 ≡ Some x → (IsPost c operation → ⊥) → pend c (Port c operation) ≡ [] → pends c es ≡ []
         → Acted h s (Port c operation ∷ es) → Now h s (Port c operation) es
@@ -295,13 +258,12 @@ module _ (c : PortId) where
         let o = own-end operation s x y is end in
         let quiet = none-pends c (row (Port c operation) s).caused (row-none c (Port c operation) s tt) in
         rw (own-posted h s operation x is)
-        (rest-posted h.acted _ y.live x.live (Port c operation) es (row (Port c operation) s).caused (chunks_in (given (clones_at x s) operation x)) (given-none c (clones_at x s) operation x n) none behind quiet
-        (λ f. lived c (clones_at x s) operation x s.promises (ap (λ (z : cross.Slots). z.live) (sym o.0) ∙ f)) (k x o.1))
+        (rest-posted h.writes.acted _ (Port c operation) es (row (Port c operation) s).caused (chunks_in (given (clones_at x s) operation x)) (given-none c (clones_at x s) operation x n) none behind quiet (k x o.1))
 
-    -- a chunk is posted, or dropped
-    post-by : (a ms : List Value) (v : Value) (p : PromiseId) (es cs : List Effect) (live : Bool) → pends c es ≡ [] → pends c cs ≡ [] → Acts a ms live (Port c (ports.PostChunk v p) ∷ es)
-        → Acts (a ++ []) (ms ++ chunks_in (if live then ChunkMessage v ∷ [] else [])) live (cs ++ es)
-    post-by a ms v p es cs live behind quiet k = by live refl
+    -- a chunk is posted
+    post-by : (a ms : List Value) (v : Value) (p : PromiseId) (es cs : List Effect) (live : Bool) → live ≡ true → pends c es ≡ [] → pends c cs ≡ [] → Acts a ms (Port c (ports.PostChunk v p) ∷ es)
+        → Acts (a ++ []) (ms ++ chunks_in (if live then ChunkMessage v ∷ [] else [])) (cs ++ es)
+    post-by a ms v p es cs live is behind quiet k = rw is (append-nil a ∙ (k ∙ rw (pending, nothing_left) (sym (append-nil (ms ++ v ∷ [])))))
       where
         pending : pends c (Port c (ports.PostChunk v p) ∷ es) ≡ v ∷ []
         pending = rw (is_same_port-refl c, behind) refl
@@ -309,46 +271,38 @@ module _ (c : PortId) where
         nothing_left : pends c (cs ++ es) ≡ []
         nothing_left = pends-append c cs es ∙ rw (quiet, behind) refl
 
-        by : (l : Bool) → l ≡ live → Acts (a ++ []) (ms ++ chunks_in (if l then ChunkMessage v ∷ [] else [])) l (cs ++ es)
-        by true e = record {
-          dropped = [];
-          all = let none = k.whole (sym e) in let was = k.all in append-nil a ∙ (was ∙ (rw (none, pending, nothing_left) (sym (append-nil (ms ++ v ∷ [])))));
-          whole = λ f. refl;
-        }
-        by false e = record {
-          dropped = k.dropped ++ v ∷ [];
-          all = let was = k.all in append-nil a ∙ (was ∙ rw (pending, nothing_left, append-nil ms, append-nil (k.dropped ++ v ∷ [])) refl);
-          whole = λ f. cc;
-        }
+    -- a chunk that is to be posted finds the port entangled
+    abbrev Lives : Slots → Effect → Type 0
+    Lives s e = (v : Value) (p : PromiseId) (x : cross.Slots) → e ≡ Port c (ports.PostChunk v p) → IsEnd s x → x.live ≡ true
 
-    posting-acted : (h : Deeds) (s : Slots) (v : Value) (p : PromiseId) (es : List Effect) (x : cross.Slots) → slice_get s.ports c.0 ≡ Some x → pends c es ≡ []
+    posting-acted : (h : Deeds) (s : Slots) (v : Value) (p : PromiseId) (es : List Effect) (x : cross.Slots) → slice_get s.ports c.0 ≡ Some x → Lives s (Port c (ports.PostChunk v p)) → pends c es ≡ []
         → Acted h s (Port c (ports.PostChunk v p) ∷ es) → Now h s (Port c (ports.PostChunk v p)) es
-    posting-acted h s v p es x is behind k y end =
+    posting-acted h s v p es x is lives behind k y end =
         let operation : PortOperation = ports.PostChunk v p in
         let o = own-end operation s x y is end in
         let quiet = none-pends c (row (Port c operation) s).caused (row-none c (Port c operation) s tt) in
-        let same : y.live ≡ x.live = ap (λ (z : cross.Slots). z.live) (o.0 ∙ (chunk-does c x s.promises v p).slots) in
-        rw (own-posted h s operation x is, same) (post-by h.acted _ v p es (row (Port c operation) s).caused x.live behind quiet (k x o.1))
+        rw (own-posted h s operation x is) (post-by h.writes.acted _ v p es (row (Port c operation) s).caused x.live (lives v p x refl o.1) behind quiet (k x o.1))
 
-    mine-acted : (h : Deeds) (s : Slots) (operation : PortOperation) (es : List Effect) (x : cross.Slots) → slice_get s.ports c.0 ≡ Some x → pends c es ≡ [] → Acted h s (Port c operation ∷ es) → Now h s (Port c operation) es
-    mine-acted h s (ports.PostChunk v p) es x is behind k = posting-acted h s v p es x is behind k
-    mine-acted h s operation es x is behind k = resting-acted h s operation es x is (λ u. u) refl behind k
+    mine-acted : (h : Deeds) (s : Slots) (operation : PortOperation) (es : List Effect) (x : cross.Slots) → slice_get s.ports c.0 ≡ Some x → Lives s (Port c operation) → pends c es ≡ []
+        → Acted h s (Port c operation ∷ es) → Now h s (Port c operation) es
+    mine-acted h s (ports.PostChunk v p) es x is lives behind k = posting-acted h s v p es x is lives behind k
+    mine-acted h s operation es x is lives behind k = resting-acted h s operation es x is (λ u. u) refl behind k
 
-    port-acted : (h : Deeds) (s : Slots) (d : PortId) (operation : PortOperation) (es : List Effect) → pends c es ≡ [] → Acted h s (Port d operation ∷ es) → Now h s (Port d operation) es
-    port-acted h s d operation es behind k =
-        by-port c (λ q. Acted h s (Port q operation ∷ es) → Now h s (Port q operation) es) d
-        (λ n l. quiet-acted h s (Port d operation) es n (λ u. u) tt behind l) (λ l. own (slice_get s.ports c.0) refl l) k
+    port-acted : (h : Deeds) (s : Slots) (d : PortId) (operation : PortOperation) (es : List Effect) → Lives s (Port d operation) → pends c es ≡ [] → Acted h s (Port d operation ∷ es) → Now h s (Port d operation) es
+    port-acted h s d operation es lives behind k =
+        by-port c (λ q. Lives s (Port q operation) → Acted h s (Port q operation ∷ es) → Now h s (Port q operation) es) d
+        (λ n f l. quiet-acted h s (Port d operation) es n (λ u. u) tt behind l) (λ f l. own (slice_get s.ports c.0) refl f l) lives k
       where
-        own : (o : Option cross.Slots) → slice_get s.ports c.0 ≡ o → Acted h s (Port c operation ∷ es) → Now h s (Port c operation) es
-        own (Some x) is l = mine-acted h s operation es x is behind l
-        own None is l = λ y end.
+        own : (o : Option cross.Slots) → slice_get s.ports c.0 ≡ o → Lives s (Port c operation) → Acted h s (Port c operation ∷ es) → Now h s (Port c operation) es
+        own (Some x) is f l = mine-acted h s operation es x is f behind l
+        own None is f l = λ y end.
             let absent : slice_get (row (Port c operation) s).slots.ports c.0 ≡ None = ap (λ (z : Done). slice_get z.slots.ports c.0) (no-mine c operation s is) ∙ is in
             let no : None ≡ Some y = sym absent ∙ end.there in cc
 
-    row-acted : (h : Deeds) (s : Slots) (e : Effect) (es : List Effect) → Fits (stream_shapes s) (port_shapes s) e → pends c es ≡ [] → (Mine c i s → Placed c i e) → Acted h s (e ∷ es) → Now h s e es
-    row-acted h s (Port d operation) es f behind placed k = port-acted h s d operation es behind k
-    row-acted h s (Writable j operation) es f behind placed k = writable-acted h s j operation es f behind placed k
-    row-acted h s e es f behind placed k = quiet-acted h s e es tt (λ u. u) tt behind k
+    row-acted : (h : Deeds) (s : Slots) (e : Effect) (es : List Effect) → Fits (stream_shapes s) (port_shapes s) e → Lives s e → pends c es ≡ [] → (Mine c i s → Placed c i e) → Acted h s (e ∷ es) → Now h s e es
+    row-acted h s (Port d operation) es f lives behind placed k = port-acted h s d operation es lives behind k
+    row-acted h s (Writable j operation) es f lives behind placed k = writable-acted h s j operation es f behind placed k
+    row-acted h s e es f lives behind placed k = quiet-acted h s e es tt (λ u. u) tt behind k
 
     -- calls and jobs
 
@@ -378,147 +332,160 @@ module _ (c : PortId) where
 
     -- the port was there
     call-there : (h : Deeds) (call : Call) (s : Slots) (y : cross.Slots) → slice_get (begin call s).done.slots.ports c.0 ≡ slice_get s.ports c.0 → IsEnd (begin call s).done.slots y → Acted h s []
-        → Acts h.acted (chunks_in (all_posted c h.past s)) y.live (begin call s).done.caused
+        → Acts h.writes.acted (chunks_in (all_posted c h.past s)) (begin call s).done.caused
     call-there h call s y same k acts =
-        stands h.acted _ y.live (begin call s).done.caused (none-of (begin call s).done.caused (call-begun call s)) (acts y (record { there = sym same ∙ k.there; side = k.side; stream = k.stream }))
+        stands h.writes.acted _ (begin call s).done.caused (none-of (begin call s).done.caused (call-begun call s)) (acts y (record { there = sym same ∙ k.there; side = k.side; stream = k.stream }))
 
-    -- or it is new
-    call-new : (h : Deeds) (call : Call) (s : Slots) (y : cross.Slots) → Ended (begin call s).done.slots → slice_get s.ports c.0 ≡ None → IsEnd (begin call s).done.slots y → Acting h s []
-        → Acts h.acted (chunks_in (all_posted c h.past s)) y.live (begin call s).done.caused
-    call-new h call s y after none k a =
-        let acted : h.acted ≡ [] = a.unmade (new-absent call s y a.posting.0.0 after none k) in
-        let held : (h.past.taken ≡ []) × (all_posted c h.past s ≡ []) = rw none at a.posting.1 in
-        record {
-          dropped = [];
-          all = rw (acted, held.1, none-of (begin call s).done.caused (call-begun call s)) refl;
-          whole = λ f. refl;
-        }
+    -- where it is known that a chunk which is handed on finds the port entangled
+    module _ (Living : Writes → Slots → List Effect → Type 0) (goes : GoesUntold writes_then (effect_writes i) Living) (rests : RestsUntold Living) (none_living : Living no_writes empty [])
+        (lives : (h : Writes) (s : Slots) (v : Value) (p : PromiseId) (es : List Effect) (x : cross.Slots) → Living h s (Port c (ports.PostChunk v p) ∷ es) → owner_at i s ≡ EndOf c → has_writable i s ≡ true → slice_get s.ports c.0 ≡ Some x → x.live ≡ true) where
+      pub record Acting (h : Deeds) (s : Slots) (es : List Effect) : Type 0 where
+        pub living : Living h.writes s es
+        pub posting : Whole c h.past s es
+        pub halved : Halved s
+        pub behind : Behind c es
+        pub unmade : slice_get (stream_shapes s) i.0 ≡ None → h.writes.acted ≡ []
+        pub placed : Mine c i s → Each (Placed c i) es
+        pub acted : Acted h s es
 
-    call-posted : (h : Deeds) (call : Call) (s : Slots) → all_posted c (then_past h.past (said c s (Called call))) (begin call s).done.slots ≡ all_posted c h.past s
-    call-posted h call s = rw (append-nil h.past.heard) (ap (λ (ms : List Message). h.past.heard ++ ms) (ap (posted_in c) (call-events call s)))
+      -- or it is new
+      call-new : (h : Deeds) (call : Call) (s : Slots) (y : cross.Slots) → Ended (begin call s).done.slots → slice_get s.ports c.0 ≡ None → IsEnd (begin call s).done.slots y → Acting h s []
+          → Acts h.writes.acted (chunks_in (all_posted c h.past s)) (begin call s).done.caused
+      call-new h call s y after none k a =
+          let acted : h.writes.acted ≡ [] = a.unmade (new-absent call s y a.posting.0.0 after none k) in
+          let held : (h.past.taken ≡ []) × (all_posted c h.past s ≡ []) = rw none at a.posting.1 in
+          rw (acted, held.1, none-of (begin call s).done.caused (call-begun call s)) refl
 
-    call-acted : (h : Deeds) (call : Call) (s : Slots) → Ended (begin call s).done.slots → Acting h s [] → Acted (then_done h (happened s (Called call))) (begin call s).done.slots (begin call s).done.caused
-    call-acted h call s after a y k = rw (append-nil h.acted, call-posted h call s) (by (call-ports call s))
-      where
-        by : PortsNow s (begin call s).done.slots → Acts h.acted (chunks_in (all_posted c h.past s)) y.live (begin call s).done.caused
-        by (inl e) = call-there h call s y (ap (λ (xs : List cross.Slots). slice_get xs c.0) e) k a.acted
-        by (inr (x, (e, new))) =
-            ⊎_elim (λ same. call-there h call s y (ap (λ (xs : List cross.Slots). slice_get xs c.0) e ∙ same) k a.acted)
-            (λ made. call-new h call s y after made.0 k a) (last-place s.ports x c.0)
+      call-posted : (h : Deeds) (call : Call) (s : Slots) → all_posted c (then_past h.past (said c s (Called call))) (begin call s).done.slots ≡ all_posted c h.past s
+      call-posted h call s = rw (append-nil h.past.heard) (ap (λ (ms : List Message). h.past.heard ++ ms) (ap (posted_in c) (call-events call s)))
 
-    -- the same streams, ports and posts
-    still-acted : (h g : Deeds) (s z : Slots) (es : List Effect) → z.ports ≡ s.ports → g.acted ≡ h.acted → all_posted c g.past z ≡ all_posted c h.past s → pends c es ≡ [] → Acted h s [] → Acted g z es
-    still-acted h g s z es p a m none k y end =
-        rw (a, m) (stands h.acted _ y.live es none (k y (record { there = ap (λ (xs : List cross.Slots). slice_get xs c.0) (sym p) ∙ end.there; side = end.side; stream = end.stream })))
+      call-acted : (h : Deeds) (call : Call) (s : Slots) → Ended (begin call s).done.slots → Acting h s [] → Acted (then_done h (happened s (Called call))) (begin call s).done.slots (begin call s).done.caused
+      call-acted h call s after a y k = rw (append-nil h.writes.acted, call-posted h call s) (by (call-ports call s))
+        where
+          by : PortsNow s (begin call s).done.slots → Acts h.writes.acted (chunks_in (all_posted c h.past s)) (begin call s).done.caused
+          by (inl e) = call-there h call s y (ap (λ (xs : List cross.Slots). slice_get xs c.0) e) k a.acted
+          by (inr (x, (e, new))) =
+              ⊎_elim (λ same. call-there h call s y (ap (λ (xs : List cross.Slots). slice_get xs c.0) e ∙ same) k a.acted)
+              (λ made. call-new h call s y after made.0 k a) (last-place s.ports x c.0)
 
-    pub acting-goes : Goes then_done told happened Acting
-    acting-goes = record {
-      row = λ h s e es a. record {
-        posting = (posting-goes c).row h.past s e es a.posting;
-        halved = halved-stays.row s e es a.halved;
-        behind = row-behind h s e es a;
-        unmade = λ none. let before : slice_get (stream_shapes s) i.0 ≡ None = ap (λ (ys : List StreamShape). slice_get ys i.0) (sym (row-stream_shapes e s)) ∙ none in rw (a.unmade before, absent-acted e s before) refl;
-        placed = λ m. let k = row-mine-placed s e m in each-append (Placed c i) (row e s).caused es (row-placed c i s a.halved a.posting.0.0 k e) (a.placed k).1;
-        acted = row-acted h s e es a.posting.0.1.0 a.behind (λ m. (a.placed m).0) a.acted;
-      };
-      call = λ h s call a. let p = (posting-goes c).call h.past s call a.posting in record {
-        posting = p;
-        halved = halved-stays.call s call a.halved;
-        behind = none-behind c (begin call s).done.caused (each-map IsBegun (IsNone c) (begun-none c) (begin call s).done.caused (call-begun call s));
-        unmade = λ none. rw (append-nil h.acted) (a.unmade (call-absent call s none));
-        placed = λ m. placed-of (begin call s).done.caused (call-begun call s);
-        acted = call-acted h call s p.0.0 a;
-      };
-      job = λ h s job e a. record {
-        posting = (posting-goes c).job h.past s job e a.posting;
-        halved = a.halved;
-        behind = none-behind c (job_effects job) (each-map IsBegun (IsNone c) (begun-none c) (job_effects job) (job-begun job));
-        unmade = λ none. rw (append-nil h.acted) (a.unmade none);
-        placed = λ m. placed-of (job_effects job) (job-begun job);
-        acted = still-acted h (then_done h (happened s Worked)) s (with_promises (after_next_job s.promises) s) (job_effects job) refl (append-nil h.acted)
-            (rw (append-nil h.past.heard) (ap (λ (ms : List Message). h.past.heard ++ ms) (ap (posted_in c) (next-events s.promises)))) (none-of (job_effects job) (job-begun job)) a.acted;
-      };
-      idle = λ h s e a. rw (done-history.right h) a;
-      answered = λ h s p a. record {
-        posting = (posting-goes c).answered h.past s p a.posting;
-        halved = a.halved;
-        behind = tt;
-        unmade = a.unmade;
-        placed = λ m. tt;
-        acted = still-acted h h s _ [] refl refl (ap (λ (ms : List Message). h.past.heard ++ ms) (watch-posted c p s.promises)) refl a.acted;
-      };
-      older = λ h s a. record { posting = (posting-goes c).older h.past s a.posting; halved = a.halved; behind = tt; unmade = a.unmade; placed = λ m. tt; acted = λ y end. a.acted y (record { there = end.there; side = end.side; stream = end.stream }) };
-    }
-      where
-        row-mine-placed : (s : Slots) (e : Effect) → Mine c i (row e s).slots → Mine c i s
-        row-mine-placed s e m = ap (λ (ps : List PortShape). slice_get ps c.0) (sym (row-port_shapes e s)) ∙ m
+      -- the same streams, ports and posts
+      still-acted : (h g : Deeds) (s z : Slots) (es : List Effect) → z.ports ≡ s.ports → g.writes.acted ≡ h.writes.acted → all_posted c g.past z ≡ all_posted c h.past s → pends c es ≡ [] → Acted h s [] → Acted g z es
+      still-acted h g s z es p a m none k y end =
+          rw (a, m) (stands h.writes.acted _ es none (k y (record { there = ap (λ (xs : List cross.Slots). slice_get xs c.0) (sym p) ∙ end.there; side = end.side; stream = end.stream })))
 
-        row-behind : (h : Deeds) (s : Slots) (e : Effect) (es : List Effect) → Acting h s (e ∷ es) → Behind c ((row e s).caused ++ es)
-        row-behind h s e es a = behind-next c (row e s).caused es (caused-behind s e) a.behind
-          where
-            caused-behind : (s : Slots) (e : Effect) → Behind c (row e s).caused
-            caused-behind s (Writable j (writes.HandOn (ToPort d p))) = by (is_same_port c d) refl
-              where
-                by : (b : Bool) → b ≡ is_same_port c d → Behind c (row (Writable j (writes.HandOn (ToPort d p))) s).caused
-                by true e = (hand-row c j d p s (sym e)).1
-                by false e = none-behind c _ (row-none c (Writable j (writes.HandOn (ToPort d p))) s (sym e))
-            caused-behind s e = none-behind c (row e s).caused (row-none c e s tt)
+      pub acting-goes : Goes then_done told happened Acting
+      acting-goes = record {
+        row = λ h s e es a. record {
+          living = goes.row h.writes s e es a.living;
+          posting = (posting-goes c).row h.past s e es a.posting;
+          halved = halved-stays.row s e es a.halved;
+          behind = row-behind h s e es a;
+          unmade = λ none. let before : slice_get (stream_shapes s) i.0 ≡ None = ap (λ (ys : List StreamShape). slice_get ys i.0) (sym (row-stream_shapes e s)) ∙ none in rw (a.unmade before, absent-acted e s before) refl;
+          placed = λ m. let k = row-mine-placed s e m in each-append (Placed c i) (row e s).caused es (row-placed c i s a.halved a.posting.0.0 k e) (a.placed k).1;
+          acted = row-acted h s e es a.posting.0.1.0 (λ v p x is end. lives h.writes s v p es x (subst (λ (f : Effect). Living h.writes s (f ∷ es)) is a.living) (mine-owner c i s a.posting.0.0 (end-mine s x end)) (mine-writable c i s a.posting.0.0 (end-mine s x end)) end.there) a.behind (λ m. (a.placed m).0) a.acted;
+        };
+        call = λ h s call a. let p = (posting-goes c).call h.past s call a.posting in record {
+          living = rw (is_history.right h.writes) (goes.call h.writes s call a.living);
+          posting = p;
+          halved = halved-stays.call s call a.halved;
+          behind = none-behind c (begin call s).done.caused (each-map IsBegun (IsNone c) (begun-none c) (begin call s).done.caused (call-begun call s));
+          unmade = λ none. rw (append-nil h.writes.acted) (a.unmade (call-absent call s none));
+          placed = λ m. placed-of (begin call s).done.caused (call-begun call s);
+          acted = call-acted h call s p.0.0 a;
+        };
+        job = λ h s job e a. record {
+          living = rw (is_history.right h.writes) (goes.job h.writes s job e a.living);
+          posting = (posting-goes c).job h.past s job e a.posting;
+          halved = a.halved;
+          behind = none-behind c (job_effects job) (each-map IsBegun (IsNone c) (begun-none c) (job_effects job) (job-begun job));
+          unmade = λ none. rw (append-nil h.writes.acted) (a.unmade none);
+          placed = λ m. placed-of (job_effects job) (job-begun job);
+          acted = still-acted h (then_done h (happened s Worked)) s (with_promises (after_next_job s.promises) s) (job_effects job) refl (append-nil h.writes.acted)
+              (rw (append-nil h.past.heard) (ap (λ (ms : List Message). h.past.heard ++ ms) (ap (posted_in c) (next-events s.promises)))) (none-of (job_effects job) (job-begun job)) a.acted;
+        };
+        idle = λ h s e a. rw (done-history.right h) a;
+        answered = λ h s p a. record {
+          living = goes.answered h.writes s p a.living;
+          posting = (posting-goes c).answered h.past s p a.posting;
+          halved = a.halved;
+          behind = tt;
+          unmade = a.unmade;
+          placed = λ m. tt;
+          acted = still-acted h h s _ [] refl refl (ap (λ (ms : List Message). h.past.heard ++ ms) (watch-posted c p s.promises)) refl a.acted;
+        };
+        older = λ h s a. record { living = goes.older h.writes s a.living; posting = (posting-goes c).older h.past s a.posting; halved = a.halved; behind = tt; unmade = a.unmade; placed = λ m. tt; acted = λ y end. a.acted y (record { there = end.there; side = end.side; stream = end.stream }) };
+      }
+        where
+          row-mine-placed : (s : Slots) (e : Effect) → Mine c i (row e s).slots → Mine c i s
+          row-mine-placed s e m = ap (λ (ps : List PortShape). slice_get ps c.0) (sym (row-port_shapes e s)) ∙ m
 
-        call-absent : (call : Call) (s : Slots) → slice_get (stream_shapes (begin call s).done.slots) i.0 ≡ None → slice_get (stream_shapes s) i.0 ≡ None
-        call-absent call s none = by (slice_get (stream_shapes s) i.0) refl
-          where
-            by : (o : Option StreamShape) → o ≡ slice_get (stream_shapes s) i.0 → slice_get (stream_shapes s) i.0 ≡ None
-            by None e = sym e
-            by (Some w) e = let later = shape-call i w call s (sym e) in let no : None ≡ Some w = sym none ∙ later in cc
+          row-behind : (h : Deeds) (s : Slots) (e : Effect) (es : List Effect) → Acting h s (e ∷ es) → Behind c ((row e s).caused ++ es)
+          row-behind h s e es a = behind-next c (row e s).caused es (caused-behind s e) a.behind
+            where
+              caused-behind : (s : Slots) (e : Effect) → Behind c (row e s).caused
+              caused-behind s (Writable j (writes.HandOn (ToPort d p))) = by (is_same_port c d) refl
+                where
+                  by : (b : Bool) → b ≡ is_same_port c d → Behind c (row (Writable j (writes.HandOn (ToPort d p))) s).caused
+                  by true e = (hand-row c j d p s (sym e)).1
+                  by false e = none-behind c _ (row-none c (Writable j (writes.HandOn (ToPort d p))) s (sym e))
+              caused-behind s e = none-behind c (row e s).caused (row-none c e s tt)
 
-    pub acting-rests : Rests then_done happened Acting
-    acting-rests = record {
-      heard = λ h s a. record {
-        posting = (posting-rests c).heard h.past s a.posting;
-        halved = a.halved;
-        behind = tt;
-        unmade = λ none. rw (append-nil h.acted) (a.unmade none);
-        placed = λ m. tt;
-        acted = still-acted h (then_done h (happened s Heard)) s (after_event s) [] refl (append-nil h.acted)
-            (append_assoc h.past.heard (posted_in c (taken_event s.promises.events)) (posted_in c (later_events s.promises.events)) ∙ ap (λ (ms : List Message). h.past.heard ++ ms) (split-events c s.promises.events)) refl a.acted;
-      };
-    }
+          call-absent : (call : Call) (s : Slots) → slice_get (stream_shapes (begin call s).done.slots) i.0 ≡ None → slice_get (stream_shapes s) i.0 ≡ None
+          call-absent call s none = by (slice_get (stream_shapes s) i.0) refl
+            where
+              by : (o : Option StreamShape) → o ≡ slice_get (stream_shapes s) i.0 → slice_get (stream_shapes s) i.0 ≡ None
+              by None e = sym e
+              by (Some w) e = let later = shape-call i w call s (sym e) in let no : None ≡ Some w = sym none ∙ later in cc
 
-    acting-empty : Acting nothing_done empty []
-    acting-empty = record { posting = (fitting-empty, (refl, refl)); halved = halved-empty; behind = tt; unmade = λ n. refl; placed = λ m. tt; acted = λ y end. let no : None ≡ Some y = end.there in cc }
+      pub acting-rests : Rests then_done happened Acting
+      acting-rests = record {
+        heard = λ h s a. record {
+          living = rw (is_history.right h.writes) (rests.heard h.writes s a.living);
+          posting = (posting-rests c).heard h.past s a.posting;
+          halved = a.halved;
+          behind = tt;
+          unmade = λ none. rw (append-nil h.writes.acted) (a.unmade none);
+          placed = λ m. tt;
+          acted = still-acted h (then_done h (happened s Heard)) s (after_event s) [] refl (append-nil h.writes.acted)
+              (append_assoc h.past.heard (posted_in c (taken_event s.promises.events)) (posted_in c (later_events s.promises.events)) ∙ ap (λ (ms : List Message). h.past.heard ++ ms) (split-events c s.promises.events)) refl a.acted;
+        };
+      }
 
-    -- over a run
+      acting-empty : Acting nothing_done empty []
+      acting-empty = record { living = none_living; posting = (fitting-empty, (refl, refl)); halved = halved-empty; behind = tt; unmade = λ n. refl; placed = λ m. tt; acted = λ y end. let no : None ≡ Some y = end.there in cc }
 
-    abbrev told_in : Slots → Entry → Deeds
-    told_in = walker.happens nothing_done then_done done-history told happened Acting acting-goes
+      -- over a run
 
-    along-acted : (ms : List Moment) → (along nothing_done then_done told ms).acted ≡ (along no_writes writes_then (effect_writes i) ms).acted
-    along-acted [] = refl
-    along-acted (m ∷ ms) = ap (λ (vs : List Value). (effect_writes i m.effect m.found).acted ++ vs) (along-acted ms)
+      abbrev told_in : Slots → Entry → Deeds
+      told_in = walker.happens nothing_done then_done done-history told happened Acting acting-goes
 
-    along-past : (ms : List Moment) → (along nothing_done then_done told ms).past ≡ nothing_past
-    along-past [] = refl
-    along-past (m ∷ ms) = rw (along-past ms) refl
+      along-writes : (ms : List Moment) → (along nothing_done then_done told ms).writes ≡ along no_writes writes_then (effect_writes i) ms
+      along-writes [] = refl
+      along-writes (m ∷ ms) = ap (λ (w : Writes). writes_then (effect_writes i m.effect m.found) w) (along-writes ms)
 
-    run-acts : (xs : List Entry) (s : Slots) → (over nothing_done then_done told_in xs s).acted ≡ (run_writes i xs s).acted
-    run-acts [] s = refl
-    run-acts (x ∷ xs) s = rw (run-acts xs (step s x)) (ap (λ (vs : List Value). vs ++ (run_writes i xs (step s x)).acted) (along-acted (moments_in s x)))
+      along-past : (ms : List Moment) → (along nothing_done then_done told ms).past ≡ nothing_past
+      along-past [] = refl
+      along-past (m ∷ ms) = rw (along-past ms) refl
 
-    run-heards : (xs : List Entry) (s : Slots) → (over nothing_done then_done told_in xs s).past.heard ++ posted c (run xs s).promises ≡ posted_in c (run_events xs s)
-    run-heards [] s = refl
-    run-heards (x ∷ xs) s =
-        let rest = over nothing_done then_done told_in xs (step s x) in
-        let one : (told_in s x).past ≡ said c s x = ap (λ (p : Past). then_past (said c s x) p) (along-past (moments_in s x)) ∙ past-history.right (said c s x) in
-        let heard : (told_in s x).past.heard ≡ posted_in c (histories.taken_in_step s x) = ap (λ (p : Past). p.heard) one ∙ heard-said c s x in
-        ap (λ (ms : List Message). (ms ++ rest.past.heard) ++ posted c (run xs (step s x)).promises) heard
-        ∙ (append_assoc (posted_in c (histories.taken_in_step s x)) rest.past.heard (posted c (run xs (step s x)).promises)
-        ∙ (ap (λ (ms : List Message). posted_in c (histories.taken_in_step s x) ++ ms) (run-heards xs (step s x)) ∙ sym (posted-append c (histories.taken_in_step s x) (run_events xs (step s x)))))
+      run-acts : (xs : List Entry) (s : Slots) → (over nothing_done then_done told_in xs s).writes ≡ run_writes i xs s
+      run-acts [] s = refl
+      run-acts (x ∷ xs) s =
+          let one : (told_in s x).writes ≡ along no_writes writes_then (effect_writes i) (moments_in s x) = is_history.left _ ∙ along-writes (moments_in s x) in
+          ap (λ (w : Writes). writes_then w (over nothing_done then_done told_in xs (step s x)).writes) one ∙ ap (λ (w : Writes). writes_then (along no_writes writes_then (effect_writes i) (moments_in s x)) w) (run-acts xs (step s x))
 
-    -- what the stream acted on in a run, by what the port posted
-    pub run-acted : (entries : List Entry) (x : cross.Slots) → IsEnd (run entries empty) x → Acts (run_writes i entries empty).acted (chunks_in (posted_in c (run_events entries empty))) x.live []
-    run-acted entries x k =
-        let a = walker.run-goes nothing_done then_done done-history told happened Acting acting-goes acting-rests entries nothing_done empty acting-empty in
-        let acts = a.acted x k in
-        let h : Deeds = over nothing_done then_done told_in entries empty in
-        let left = done-history.left h in
-        rw (← run-acts entries empty, ← run-heards entries empty) acts
+      run-heards : (xs : List Entry) (s : Slots) → (over nothing_done then_done told_in xs s).past.heard ++ posted c (run xs s).promises ≡ posted_in c (run_events xs s)
+      run-heards [] s = refl
+      run-heards (x ∷ xs) s =
+          let rest = over nothing_done then_done told_in xs (step s x) in
+          let one : (told_in s x).past ≡ said c s x = ap (λ (p : Past). then_past (said c s x) p) (along-past (moments_in s x)) ∙ past-history.right (said c s x) in
+          let heard : (told_in s x).past.heard ≡ posted_in c (histories.taken_in_step s x) = ap (λ (p : Past). p.heard) one ∙ heard-said c s x in
+          ap (λ (ms : List Message). (ms ++ rest.past.heard) ++ posted c (run xs (step s x)).promises) heard
+          ∙ (append_assoc (posted_in c (histories.taken_in_step s x)) rest.past.heard (posted c (run xs (step s x)).promises)
+          ∙ (ap (λ (ms : List Message). posted_in c (histories.taken_in_step s x) ++ ms) (run-heards xs (step s x)) ∙ sym (posted-append c (histories.taken_in_step s x) (run_events xs (step s x)))))
+
+      -- what the stream acted on in a run is what the port posted
+      pub run-acted : (entries : List Entry) (x : cross.Slots) → IsEnd (run entries empty) x → (run_writes i entries empty).acted ≡ chunks_in (posted_in c (run_events entries empty))
+      run-acted entries x k =
+          let a : Acting (then_done nothing_done (over nothing_done then_done told_in entries empty)) (run entries empty) [] = walker.run-goes nothing_done then_done done-history told happened Acting acting-goes acting-rests entries nothing_done empty acting-empty in
+          let acts = a.acted x k in
+          ap (λ (w : Writes). w.acted) (sym (run-acts entries empty)) ∙ (acts ∙ (append-nil _ ∙ ap chunks_in (run-heards entries empty)))

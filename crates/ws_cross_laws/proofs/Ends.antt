@@ -41,7 +41,7 @@ module _ (c : PortId) where
   run-taken [] s = refl
   run-taken (x ∷ xs) s = rw (ap (λ (p : Past). p.taken) (happened-said s x), taken-said s x, run-taken xs (step s x)) refl
 
-  run-heard : (xs : List Entry) (s : Slots) → (over nothing_past then_past happened xs s).heard ++ posted c (run xs s).promises ≡ posted_in c (run_events xs s)
+  pub run-heard : (xs : List Entry) (s : Slots) → (over nothing_past then_past happened xs s).heard ++ posted c (run xs s).promises ≡ posted_in c (run_events xs s)
   run-heard [] s = refl
   run-heard (x ∷ xs) s =
       let rest = over nothing_past then_past happened xs (step s x) in

@@ -1,6 +1,7 @@
 pub mod Told
 pub mod Fitting
 pub mod Posting
+pub mod Apart
 pub mod PostingRuns
 pub mod Ends
 pub mod Reading
@@ -20,3 +21,6 @@ pub mod Acted
 pub mod ActedPlaces
 pub mod ActedRuns
 pub mod WritableEnds
+pub mod Sending
+pub mod Cancels
+pub mod Parted

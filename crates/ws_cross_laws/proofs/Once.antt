@@ -33,7 +33,7 @@ use Rattle.ws_laws.proofs.Lists.{Each, each-append}
 use Rattle.ws_laws.proofs.Rows.{row-ports}
 use Rattle.ws_laws.proofs.Tables.{either, eq_numbers}
 use Rattle.ws_cross_laws.proofs.Posting.{total, total-append, given, given_first, given-more, is_same_port-refl, port_acts, Does, leave-does, close-does, chunk-does}
-use Rattle.ws_cross_laws.proofs.PostingRuns.{place-same, place-other, port-elsewhere}
+use Rattle.ws_cross_laws.proofs.Apart.{place-same, place-other, port-elsewhere}
 use Rattle.ws_cross_laws.proofs.Told.{posted, row-posted}
 
 -- what an effect does to a port

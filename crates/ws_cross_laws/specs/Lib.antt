@@ -1,2 +1,4 @@
 pub mod Posts
 pub mod WritableEnds
+pub mod Sending
+pub mod Parted
