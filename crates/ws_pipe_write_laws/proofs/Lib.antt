@@ -1,4 +1,6 @@
 pub mod Paying
+pub mod Counts
+pub mod Begins
 pub mod Owed
 pub mod Queued
 pub mod Orderly

@@ -22,7 +22,8 @@ use Rattle.ws_promise_laws.proofs.Acting.{EachWaits, Waits, waits-stays, waits-h
 use Rattle.ws_promise_laws.proofs.PipeActs.{acts_now, is_acting}
 use Rattle.ws_promise_laws.proofs.Tokens.{one_if}
 use Rattle.ws_pipe_laws.proofs.Moves.{each_pipe_moves}
-use Rattle.ws_pipe_write_laws.proofs.Owed.{EachOwes, Owes, unsettled_of, owes-stays, owes-heard, none-owes, row-owes, same_weight}
+use Rattle.ws_pipe_write_laws.proofs.Counts.{same_weight}
+use Rattle.ws_pipe_write_laws.proofs.Owed.{EachOwes, Owes, unsettled_of, owes-stays, owes-heard, none-owes, row-owes}
 
 abbrev pub moment : Effect → Slots → Moment
 moment e s = record { effect = e; found = s }

@@ -1,36 +1,32 @@
 -- The reactions to a pipe's writes, with the jobs and the operations that they lead to, are at most its writes that haven't settled.
 use Rattle.ws_steps.specs.declared.port.PortOperation.TheVariants.{PostChunk}
-use Rattle.std.proofs.Common.{◌≡◌, ℕ, zero, suc, ◌+◌, ◌≤◌, Bool, true, false, nat_eq, List, [], ◌∷◌, ◌++◌, length, Option, Some, None, Result, Ok, Err, slice_get, slice_set, refl, sym, ap, subst, if◌then◌else◌, arith}
+use Rattle.std.proofs.Common.{◌≡◌, ℕ, zero, suc, ◌+◌, ◌≤◌, Bool, true, false, nat_eq, List, [], ◌∷◌, ◌++◌, Option, Some, None, Result, Err, slice_get, slice_set, refl, sym, ap, subst, arith}
 use Rattle.ws_value.specs.declared.ids.{PipeId.{PipeId}, PromiseId.{PromiseId}, SignalId.{SignalId}, StreamId.{StreamId}}
 use Rattle.ws_value.specs.declared.value.{Outcome.TheVariants.{Given, Finished}, Plain.{Plain}, Plain.TheVariants.{Undefined}, Value.{Value}, Value.TheVariants.{Plain as PlainValue, Bytes}}
 use Rattle.ws_steps.specs.declared.{calls.Call.{Call}, calls.HostCall.{HostCall}, calls.Event.TheVariants.{Signal as SignalEvent}, calls.StartBy.{StartBy}, calls.StartBy.TheVariants.{Now, Later}}
 use Rattle.ws_steps.specs.declared.effects.Effect.{Effect}
 use Rattle.ws_steps.specs.declared.effects.Effect.TheVariants.{Readable as OnReadable, Writable as OnWritable, Pipe as OnPipe, Signal as OnSignal, Transform as OnTransform, Tee as OnTee, Port as OnPort, StartAlgorithm, PullAlgorithm, CancelAlgorithm, WriteAlgorithm, CloseAlgorithm, AbortAlgorithm, ChunkSteps, CloseSteps, ErrorSteps, Give, Settle, Queue, CallHost}
 use Rattle.ws_steps.specs.declared.effects.{Owner.{Owner}, Owner.TheVariants.{Host, HalfOf, BranchOf, EndOf}, Use.{Use}, Use.TheVariants.{React}}
-use Rattle.ws_steps.specs.declared.pipes.{Phase.{Phase}, Phase.TheVariants.{Flowing, Waiting, Acting, Over}}
 use Rattle.ws_steps.specs.declared.pipes.{PipeOperation.{PipeOperation}, SignalOperation.{SignalOperation}}
-use Rattle.ws_steps.specs.declared.promises.{Job.{Job}, Job.TheVariants.{Reaction as ReactionJob, Follow, Settle as SettleJob, Micro as MicroJob}, Micro.TheVariants.{PipeLook, PipeWrite, PipeNoParts, TeeHand}}
-use Rattle.ws_steps.specs.declared.promises.{Step.{Step}, Step.TheVariants.{ReadableStart, ReadablePull, ReturnUndefined, WritableStart, WritableWrite, WritableClose, WritableAbort, PipeEnds, PipeReady, PipeWrote, PipeActed, PipePart, TransformChanged, PortUnblocked, Transformed, TransformFlushed, TransformAborted, TransformCancelled, TeeEnds}}
+use Rattle.ws_steps.specs.declared.promises.{Job.{Job}}
+use Rattle.ws_steps.specs.declared.promises.{Step.{Step}, Step.TheVariants.{ReadablePull, ReturnUndefined, WritableClose, WritableAbort}}
 use Rattle.ws_steps.specs.declared.readable.{ReadRequest.{ReadRequest}, ReadRequest.TheVariants.{Promise, Pipe as PipeRequest, Tee as TeeRequest}, ReadableOperation.{ReadableOperation}}
 use Rattle.ws_steps.specs.declared.transform.{TransformId.{TransformId}, TransformOperation.{TransformOperation}, TransformOperation.TheVariants.{TransformChunk}, Halves.{Halves}}
-use Rattle.ws_steps.specs.declared.writable.{WritableOperation.{WritableOperation}, WritableOperation.TheVariants.{ReleaseWriter}}
-use Rattle.ws_steps.specs.Calls as calls
-use Rattle.ws_steps.specs.Calls.{Begun, begin}
+use Rattle.ws_steps.specs.declared.writable.{WritableOperation.{WritableOperation}}
+use Rattle.ws_steps.specs.Calls.{begin}
 use Rattle.ws_steps.specs.Effects.{Out, cause, settling}
-use Rattle.ws_steps.specs.Jobs.{job_effects, steps, resolved, returned}
+use Rattle.ws_steps.specs.Jobs.{job_effects}
 use Rattle.ws_steps.specs.Operations.{writable_operation, pipe_operation, signal_operation, transform_operation}
 use Rattle.ws_steps.specs.Pipes as pipe
-use Rattle.ws_steps.specs.Pipes.{Acts, causing, with_slots, reacts, forgetting, finalize, ending, act_with, abort_dest, abort_part, cancel_part, parts_of, reacts_to_all, waiting_for, wait_for_all, act_by_signal, act_by, act, proceed, is_flowing, shut_down, shutdown, unless, wait_for_ready, read_or_wait, look_by, look, look_ready, go_on_in, go_on, keep_chunk, read_ended, write, write_in, write_held, write_chunk, write_ended, action_settled, settle_whole, part_settled, no_parts, abort, abort_all}
-use Rattle.ws_steps.specs.Promises.{Table, next_id, fresh, next_job, after_next_job, is_pending_at, watch}
+use Rattle.ws_steps.specs.Pipes.{Acts, keep_chunk, write, abort, abort_all}
+use Rattle.ws_steps.specs.Promises.{Table, next_job, after_next_job, watch}
 use Rattle.ws_steps.specs.Run.{after_event}
-use Rattle.ws_steps.specs.Readable as readable
 use Rattle.ws_steps.specs.Slots.{Slots, Done, nothing, causes, found, ends_at, empty, with_promises, has_writable, owner_at, on_writable, put_writable, on_pipe_at, on_signal_at, on_transform_at, halves_at}
 use Rattle.ws_steps.specs.Transform as transform
 use Rattle.ws_steps.specs.Turns.{row, call_host, start_algorithm, pull_algorithm, cancel_algorithm, write_algorithm, close_algorithm, abort_algorithm, chunk_steps, close_steps, error_steps}
 use Rattle.ws_steps.specs.Writable.{write_to_host}
 use Rattle.ws_steps.proofs.PromiseLaws.{slice_get-set_other}
 use Rattle.ws_laws.proofs.Begin.{begin-makes}
-use Rattle.ws_laws.proofs.EachCall.{each_call}
 use Rattle.ws_laws.proofs.PipeDoes.{OfPipe, pipe-does}
 use Rattle.ws_laws.proofs.Tables.{either, eq_numbers, unequal_numbers, writable_acts}
 use Rattle.ws_laws.proofs.TransformDoes.{transform-does}
@@ -48,26 +44,17 @@ use Rattle.ws_steps.specs.declared.port.PortOperation.{PortOperation}
 use Rattle.ws_steps.specs.Operations.{port_operation}
 use Rattle.ws_steps.specs.Slots.{on_port_at, clones_at}
 use Rattle.ws_laws.proofs.PortDoes.{port-does}
-use Rattle.ws_steps.specs.declared.port.Side.{Side}
-use Rattle.ws_steps.specs.declared.port.Side.TheVariants.{Readable as ReadableSide, Writable as WritableSide}
 use Rattle.ws_laws.proofs.Lists.{each-map}
 use Rattle.ws_laws.proofs.PipeDoes.{pipe-causes}
-use Rattle.ws_pipe_laws.specs.PipeHistory.{is_acting}
 use Rattle.ws_pipe_laws.specs.PipeMoves.{starting}
-use Rattle.ws_pipe_laws.specs.PipeReads.{one_if}
-use Rattle.ws_pipe_laws.specs.PipeWrites.{in_reactions, in_entry, in_entries, in_jobs, outstanding, of_write, of_action, EachPipeIsOwed}
-use Rattle.ws_steps.specs.Promises as promises
+use Rattle.ws_pipe_laws.specs.PipeWrites.{outstanding, of_write, of_action, EachPipeIsOwed}
 use Rattle.ws_steps.specs.Run.{Entry, run}
 use Rattle.ws_steps.specs.Slots.{as_pipe}
-use Rattle.ws_steps.specs.declared.promises.{Reaction.{Reaction}, Reaction.TheVariants.{Perform, Adopt}}
 use Rattle.ws_laws.proofs.Walker.{run-stays}
-use Rattle.ws_laws.proofs.Weights.{of_reactions, of_entry, of_entries, of_jobs}
 use Rattle.ws_promise_laws.proofs.Acting.{EachWaits, waits-stays, waits-heard, none-waits}
 use Rattle.ws_promise_laws.proofs.PipeActs as acts
-use Rattle.ws_promise_laws.proofs.Tokens as tokens
 use Rattle.ws_pipe_laws.proofs.Reading.{no_answer}
 use Rattle.ws_pipe_write_laws.proofs.Paying.{is_ended, pays, Covered, operation-covered, PaysNone, none-paid, other-paid}
-use Rattle.ws_steps.specs.Slots.{source_at}
 use Rattle.ws_steps.specs.declared.effects.Effect.TheVariants.{CloseStepsWith}
 use Rattle.ws_steps.specs.Slots.{on_byte}
 use Rattle.ws_steps.specs.Turns.{on_source}
@@ -84,6 +71,8 @@ use Rattle.ws_steps.specs.Operations.{tee_operation}
 use Rattle.ws_steps.specs.Slots.{on_tee_at}
 use Rattle.ws_laws.proofs.TeeDoes.{OfTee, tee-does}
 use Rattle.ws_writable_laws.proofs.Shape.{of_tee}
+use Rattle.ws_pipe_write_laws.proofs.Counts.{same_weight, same_action, acting_place}
+use Rattle.ws_pipe_write_laws.proofs.Begins.{call-none, in_job}
 
 -- the writes of the pipe in a place that haven't settled
 abbrev pub unsettled_of : Option pipe.Slots → ℕ
@@ -358,122 +347,14 @@ module _ (p : PipeId) where
     writable = λ z owner mark size k. k;
   }) c s (omega arith, omega arith)
 
-  renewed-none : (t : Table) (kept : Bool) (es : List Effect) → all (pays p) es ≡ 0 → all (pays p) (calls.reject_renewed t kept ++ es) ≡ 0
-  renewed-none t true es n = n
-  renewed-none t false es n = omega (arith, n)
-
-  begins-none : (me : PipeId) (a b : PromiseId) (signal : Option SignalId) (reason : Option Plain) → all (pays p) (calls.pipe_begins me a b signal reason) ≡ 0
-  begins-none me a b signal (Some r) = let n = no_answer (nat_eq p.0 me.0) in omega (arith, n)
-  begins-none me a b None None = refl
-  begins-none me a b (Some g) None = refl
-
-  start-none : (q : PromiseId) (j : StreamId) (start : StartBy) → all (pays p) (calls.start_transform q j start ∷ []) ≡ 0
-  start-none q j Now = refl
-  start-none q j Later = refl
-
-  end-none : (side : Side) (j : StreamId) → all (pays p) (calls.start_end j side ∷ []) ≡ 0
-  end-none ReadableSide j = refl
-  end-none WritableSide j = refl
-
-  call-none : (c : Call) (s : Slots) → all (pays p) (begin c s).done.caused ≡ 0
-  call-none c s = each_call (λ (b : Begun). all (pays p) b.done.caused ≡ 0) c s (record {
-    unchanged = λ reply. refl;
-    rejected = refl;
-    make_readable = λ mark size start. refl;
-    make_writable = λ mark size start. refl;
-    get_byob = λ i is e. refl;
-    release_byob = λ l closed i e. renewed-none s.promises (readable.is_readable (source_at i s).state) _ refl;
-    read_into = λ l i closed room element least e f. refl;
-    enqueue_bytes = λ i b e is some can. refl;
-    finish_bytes = λ i e is can. refl;
-    make_request = λ i reply is. refl;
-    respond = λ r i b e is can. refl;
-    make_bytes = λ mark auto start. refl;
-    get_reader = λ i e. refl;
-    get_writer = λ i e. refl;
-    release_reader = λ l closed i e. renewed-none s.promises (readable.is_readable (source_at i s).state) _ refl;
-    release_writer = λ l i w e f.
-        let ready : Bool = is_pending_at w.ready s.promises in
-        let t : Table = calls.with_renewed s.promises ready in
-        renewed-none s.promises ready _ (renewed-none t (is_pending_at w.closed t) (OnWritable i ReleaseWriter ∷ []) refl);
-    cancel = λ reason i. refl;
-    read = λ l i closed e f. refl;
-    write = λ l v i e. refl;
-    close = λ i. refl;
-    abort = λ reason i e. refl;
-    make_tee = λ i e is free untied. refl;
-    make_transform = λ kind m n start. let z = start-none (next_id (fresh s.promises)) (record { 0 = length s.streams + 1 }) start in omega (arith, z);
-    enqueue = λ i v e o can. refl;
-    enqueue_half = λ i t v e o can. refl;
-    fail_half = λ t reason. refl;
-    terminate = λ t. refl;
-    finish = λ i. refl;
-    fail_readable = λ i reason. refl;
-    fail_writable = λ i reason. refl;
-    pipe = λ source dest prevent signal e f l m.
-        let n = begins-none (record { 0 = length s.pipes }) (next_id s.promises) (next_id (fresh (fresh s.promises))) signal (calls.reason_of signal s) in
-        omega (arith, n);
-    make_signal = refl;
-    open_end = λ side. end-none side _;
-    send_readable = λ source there free.
-        let n = begins-none (record { 0 = length s.pipes }) (next_id (fresh s.promises)) (next_id (fresh (fresh (fresh s.promises)))) None None in omega (arith, n);
-    send_writable = λ dest there free.
-        let n = begins-none (record { 0 = length s.pipes }) (next_id s.promises) (next_id (fresh (fresh s.promises))) None None in omega (arith, n);
-    deliver = λ c m asked has. refl;
-    trigger = λ a reason. refl;
-    settle = λ h answer q e. refl;
-  })
-
   pub call-owes : (s : Slots) (c : Call) → Owes p s [] → Owes p (begin c s).done.slots (begin c s).done.caused
-  call-owes s c w = let r = begin-roomy c s in let a = r.0 in let b = r.1 in let n = call-none c s in omega (arith, a, b, n, w)
+  call-owes s c w = let r = begin-roomy c s in let a = r.0 in let b = r.1 in let n = call-none p c s in omega (arith, a, b, n, w)
 
   -- jobs
 
-  if_one : (b : Bool) → (if b then 1 else 0) ≡ one_if b
-  if_one true = refl
-  if_one false = refl
-
-  in_steps : (step : Step) (o : Result Plain Plain) → all (pays p) (steps step o) ≡ of_write p step
-  in_steps (ReadableStart i) o = refl
-  in_steps (ReadablePull i) o = refl
-  in_steps ReturnUndefined o = refl
-  in_steps (WritableStart i) o = refl
-  in_steps (WritableWrite i) o = refl
-  in_steps (WritableClose i) o = refl
-  in_steps (WritableAbort i q) o = refl
-  in_steps (PipeEnds q) o = let n = no_answer (nat_eq p.0 q.0) in omega (arith, n)
-  in_steps (PipeReady q) o = let n = no_answer (nat_eq p.0 q.0) in omega (arith, n)
-  in_steps (PipeWrote q) o = let n = if_one (nat_eq p.0 q.0) in omega (arith, n)
-  in_steps (PipeActed q) o = let n = no_answer (nat_eq p.0 q.0) in omega (arith, n)
-  in_steps (PipePart q) o = let n = no_answer (nat_eq p.0 q.0) in omega (arith, n)
-  in_steps (TransformChanged t d) (Ok v) = refl
-  in_steps (PortUnblocked c d) (Ok v) = refl
-  in_steps (TransformChanged t d) (Err r) = refl
-  in_steps (PortUnblocked c d) (Err r) = refl
-  in_steps (Transformed t) (Ok v) = refl
-  in_steps (Transformed t) (Err r) = refl
-  in_steps (TransformFlushed t q) o = refl
-  in_steps (TransformAborted t q r) o = refl
-  in_steps (TransformCancelled t q r) o = refl
-  in_steps (TeeEnds t) o = refl
-
-  in_resolved : (derived : Option PromiseId) (o : Result Plain Plain) → all (pays p) (resolved derived o) ≡ 0
-  in_resolved None o = refl
-  in_resolved (Some q) o = refl
-
-  in_job : (job : Job) → all (pays p) (job_effects job) ≤ taken_off (of_reaction (of_write p)) job
-  in_job (ReactionJob step o derived) =
-      let a = all-append (pays p) (steps step o) (resolved derived (returned step o)) in let b = in_steps step o in let c = in_resolved derived (returned step o) in omega (arith, a, b, c)
-  in_job (Follow q r) = omega arith
-  in_job (SettleJob q o) = omega arith
-  in_job (MicroJob (PipeLook q)) = let n = no_answer (nat_eq p.0 q.0) in omega (arith, n)
-  in_job (MicroJob (PipeWrite q)) = let n = no_answer (nat_eq p.0 q.0) in omega (arith, n)
-  in_job (MicroJob (PipeNoParts q)) = let n = no_answer (nat_eq p.0 q.0) in omega (arith, n)
-  in_job (MicroJob (TeeHand t)) = omega arith
-
   pub job-owes : (s : Slots) (job : Job) → next_job s.promises ≡ Some job → Owes p s [] → Owes p (with_promises (after_next_job s.promises) s) (job_effects job)
   job-owes s job e w =
-      let n = in_job job in
+      let n = in_job p job in
       let m : under_way (after_next_job s.promises) + taken_off (of_reaction (of_write p)) job ≤ under_way s.promises = rw e at (weigh-next (of_reaction (of_write p)) s.promises) in
       omega (arith, n, m, w)
 
@@ -503,67 +384,6 @@ owes-stays = record {
 pub owes-heard : (s : Slots) → EachOwes s [] → EachOwes (after_event s) []
 unfolding weigh
 owes-heard s k p = k p
-
--- the count of the specification is the same
-
-same_reactions : (f : Step → ℕ) (rs : List Reaction) → in_reactions f rs ≡ of_reactions (of_reaction f) rs
-same_reactions f [] = refl
-same_reactions f (Perform step derived ∷ rs) = let n = same_reactions f rs in omega (arith, n)
-same_reactions f (Adopt q ∷ rs) = let n = same_reactions f rs in omega (arith, n)
-
-same_entry : (f : Step → ℕ) (e : Option promises.Entry) → in_entry f e ≡ of_entry (of_reaction f) e
-same_entry f None = refl
-same_entry f (Some e) = same_reactions f e.reactions
-
-same_entries : (f : Step → ℕ) (es : List (Option promises.Entry)) → in_entries f es ≡ of_entries (of_reaction f) es
-same_entries f [] = refl
-same_entries f (e ∷ es) = let n = same_entries f es in let m = same_entry f e in omega (arith, n, m)
-
-same_jobs : (f : Step → ℕ) (js : List Job) → in_jobs f js ≡ of_jobs (of_reaction f) js
-same_jobs f [] = refl
-same_jobs f (ReactionJob step o derived ∷ js) = let n = same_jobs f js in omega (arith, n)
-same_jobs f (Follow q r ∷ js) = let n = same_jobs f js in omega (arith, n)
-same_jobs f (SettleJob q o ∷ js) = let n = same_jobs f js in omega (arith, n)
-same_jobs f (MicroJob m ∷ js) = let n = same_jobs f js in omega (arith, n)
-
-pub same_weight : (f : Step → ℕ) (t : Table) → outstanding f t ≡ weight f t
-unfolding weigh
-same_weight f t = let n = same_entries f t.entries in let m = same_jobs f t.jobs in omega (arith, n, m)
-
-same_if : (b : Bool) → tokens.one_if b ≡ one_if b
-same_if true = refl
-same_if false = refl
-
-same_action : (p : PipeId) (step : Step) → of_action p step ≡ acts.ends_action p step
-same_action p (PipeActed q) = sym (same_if (nat_eq p.0 q.0))
-same_action p (ReadableStart i) = refl
-same_action p (ReadablePull i) = refl
-same_action p ReturnUndefined = refl
-same_action p (WritableStart i) = refl
-same_action p (WritableWrite i) = refl
-same_action p (WritableClose i) = refl
-same_action p (WritableAbort i q) = refl
-same_action p (PipeEnds q) = refl
-same_action p (PipeReady q) = refl
-same_action p (PipeWrote q) = refl
-same_action p (PipePart q) = refl
-same_action p (TransformChanged t d) = refl
-same_action p (PortUnblocked c d) = refl
-same_action p (Transformed t) = refl
-same_action p (TransformFlushed t q) = refl
-same_action p (TransformAborted t q r) = refl
-same_action p (TransformCancelled t q r) = refl
-same_action p (TeeEnds t) = refl
-
-acting_as : (phase : Phase) → tokens.one_if (acts.is_acting phase) ≡ one_if (is_acting phase)
-acting_as Flowing = refl
-acting_as Waiting = refl
-acting_as Acting = refl
-acting_as Over = refl
-
-acting_place : (n : ℕ) (o : Option pipe.Slots) → n ≤ tokens.one_if (acts.acts_now o) → n ≤ one_if (is_acting (as_pipe o).phase)
-acting_place n None w = w
-acting_place n (Some x) w = let e = acting_as x.phase in omega (arith, e, w)
 
 unsettled_place : (n : ℕ) (o : Option pipe.Slots) → n ≤ unsettled_of o → n ≤ (as_pipe o).unsettled
 unsettled_place n None w = w

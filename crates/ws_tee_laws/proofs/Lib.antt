@@ -10,6 +10,7 @@ pub mod Entering
 pub mod Tied
 pub mod Fronts
 pub mod Hands
+pub mod HandedOn
 pub mod Runs
 pub mod Parts
 pub mod Promised

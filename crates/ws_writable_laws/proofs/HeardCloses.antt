@@ -11,7 +11,8 @@ use Rattle.ws_steps.specs.WritableHistory.{run_writes, heard_closes}
 use Rattle.ws_steps.specs.Laws.{ClosesWereHeard}
 use Rattle.ws_laws.proofs.Halves.{halved-empty}
 use Rattle.ws_laws.proofs.Ended.{ended-empty}
-use Rattle.ws_writable_laws.proofs.Heard.{Ear, of_events, run-heard}
+use Rattle.ws_writable_laws.proofs.Hears.{Ear, of_events}
+use Rattle.ws_writable_laws.proofs.Heard.{run-heard}
 
 -- a mark for each close
 abbrev marks : ℕ → List Value

@@ -3,9 +3,11 @@ pub mod Operations
 pub mod Transforms
 pub mod Ports
 pub mod Handed
+pub mod Leaves
 pub mod Agenda
 pub mod Runs
 pub mod Expects
 pub mod EachStep
+pub mod Hears
 pub mod Heard
 pub mod HeardCloses

@@ -39,7 +39,8 @@ use Rattle.ws_laws.proofs.Walker.{IsHistory, GoesUntold, RestsUntold}
 use Rattle.ws_laws.proofs.Weights.{weigh, taken_off, weigh-fresh, weigh-next, weigh-watch}
 use Rattle.ws_writable_laws.proofs.Shape.{one_if, Core, core_of, is_host, Shape, Told, is_start, is_write, is_close, is_abort, leads_to, hands, closes, all, mass, of_reaction, weight}
 use Rattle.ws_writable_laws.proofs.Operations.{Due, handed, Fine, with_effects, so_far, so_far-nothing, writes-nothing}
-use Rattle.ws_writable_laws.proofs.Agenda.{none_behind, among, Unmade, Kept, kept-lighter, massless, Lightens, lightly, same_weight, lightens-fresh, row-kept}
+use Rattle.ws_writable_laws.proofs.Leaves.{none_behind, massless}
+use Rattle.ws_writable_laws.proofs.Agenda.{among, Unmade, Kept, kept-lighter, Lightens, lightly, same_weight, lightens-fresh, row-kept}
 use Rattle.ws_steps.specs.Slots.{ByteStream, source_at}
 use Rattle.ws_steps.specs.Bytes as byte
 
