@@ -27,7 +27,8 @@ use Rattle.ws_writable_laws.proofs.Shape.{all}
 use Rattle.ws_pipe_laws.specs.PipeReads.{one_if}
 use Rattle.ws_lock_laws.specs.Locks.{Reading, has_lock, is_locked}
 use Rattle.ws_lock_laws.proofs.Agenda.{IsNoTake, calm_takes}
-use Rattle.ws_lock_laws.proofs.Begins.{no_takes, renewed-calm, begins-calm, start-calm, free_reader}
+use Rattle.ws_lock_laws.proofs.CallEffects.{no_takes, renewed-calm, begins-calm, start-calm}
+use Rattle.ws_lock_laws.proofs.Begins.{free_reader}
 use Rattle.ws_lock_laws.proofs.Holding.{pipes-append}
 use Rattle.ws_lock_laws.proofs.ReaderKinds.{has_default, has_byob, count_locks, count-append, count-set, defaults, byobs, takes_default, takes_byob, default_none-all, byob_none-all, byte_look, KindHeld, OfKind, fewer}
 use Rattle.ws_value.specs.declared.ids.TeeId.{TeeId}
@@ -36,7 +37,8 @@ use Rattle.ws_steps.specs.declared.effects.Owner.TheVariants.{BranchOf, EndOf}
 use Rattle.ws_steps.specs.Tee as tee
 use Rattle.ws_steps.specs.Slots.{has_readable}
 use Rattle.ws_lock_laws.proofs.Holding.{tees-append}
-use Rattle.ws_lock_laws.proofs.Begins.{before_one, end-calm, source-stays}
+use Rattle.ws_lock_laws.proofs.CallEffects.{end-calm}
+use Rattle.ws_lock_laws.proofs.Begins.{before_one, source-stays}
 
 -- a stream that isn't locked may be had by any
 free-held : (o : Option Stream) (m n x y : ℕ) → has_lock Reading o ≡ false → KindHeld (byte_look o) m n → KindHeld (byte_look o) x y

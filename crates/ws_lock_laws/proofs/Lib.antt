@@ -6,6 +6,7 @@ pub mod Agenda
 pub mod Piping
 pub mod Rows
 pub mod ReaderKinds
+pub mod CallEffects
 pub mod Begins
 pub mod KindBegins
 pub mod Runs

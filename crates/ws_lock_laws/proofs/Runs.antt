@@ -12,7 +12,8 @@ use Rattle.ws_promise_laws.proofs.Acting.{EachWaits, waits-stays, waits-heard, n
 use Rattle.ws_lock_laws.specs.Locks.{Side}
 use Rattle.ws_lock_laws.specs.LockLaws.{EachLockHasOneHolder}
 use Rattle.ws_lock_laws.proofs.Agenda.{IsNoTake, IsCalm, calm_takes, TakesFirst, takes_first}
-use Rattle.ws_lock_laws.proofs.Begins.{job-calm, call-first, call-balanced, job-balanced, told_all, row-told, call-told}
+use Rattle.ws_lock_laws.proofs.CallEffects.{job-calm, call-first, told_all, row-told, call-told}
+use Rattle.ws_lock_laws.proofs.Begins.{call-balanced, job-balanced}
 use Rattle.ws_lock_laws.proofs.Rows.{Balanced, IsToldBytes, first-row, row-balanced}
 
 -- at each moment of a run

@@ -45,7 +45,8 @@ use Rattle.ws_lock_laws.specs.Locks.{Reading, holds, is_locked}
 use Rattle.ws_lock_laws.specs.LockLaws.{EachSourceIsReadByItsPipe, EachReadingHasOneRead}
 use Rattle.ws_lock_laws.proofs.Agenda.{goes}
 use Rattle.ws_lock_laws.proofs.Asking.{requests_at, any, other, Queued, ReadsFirst, Asks, none-first, none-asks, EachQueued, row-queued, pipe-asks, other-silent, tee-asks, asks-meant, holds_before}
-use Rattle.ws_lock_laws.proofs.Begins.{free_reader, job-calm, no_takes}
+use Rattle.ws_lock_laws.proofs.CallEffects.{job-calm, no_takes}
+use Rattle.ws_lock_laws.proofs.Begins.{free_reader}
 use Rattle.ws_lock_laws.proofs.IntoAsks.{reader-asks, into-asks}
 use Rattle.ws_lock_laws.proofs.KindBegins.{call-kind}
 use Rattle.ws_lock_laws.proofs.PipeReads.{IsNoRead}
