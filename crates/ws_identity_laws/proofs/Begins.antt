@@ -26,7 +26,7 @@ use Rattle.ws_transform_laws.proofs.PortHalving.{port-going}
 use Rattle.ws_link_laws.specs.Link.{in_sink, in_source, lies}
 use Rattle.ws_link_laws.specs.Sound.{IsReached, IsThere, AreApart}
 use Rattle.ws_link_laws.proofs.Begins.{apart_at, free-source, free-sink, place_last, place_before, place_past}
-use Rattle.ws_link_laws.proofs.Calls.{spare-append}
+use Rattle.ws_link_laws.proofs.Outer.{spare-append}
 use Rattle.ws_link_laws.proofs.Pipes.{rank}
 use Rattle.ws_link_laws.proofs.Standing.{IsInner, IsNotLast}
 use Rattle.ws_link_laws.proofs.Steps.{reached-step, reached-going, reached-few, reached-is, append_ends}

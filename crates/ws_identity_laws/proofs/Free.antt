@@ -39,8 +39,11 @@ use Rattle.ws_link_laws.specs.Link.{giver_at, enters, leaves}
 use Rattle.ws_link_laws.specs.Sound.{IsBare, all_spare, all_apart, all_untied}
 use Rattle.ws_link_laws.specs.Sound as sound
 use Rattle.ws_link_laws.proofs.Begins.{apart_at}
-use Rattle.ws_link_laws.proofs.Calls.{IsOuter, Begins, call-begins, call-untied}
-use Rattle.ws_link_laws.proofs.Free.{IsFar, outer-far, job-far, pipe-far, FreeSource, FreeSink, FreeBytes, source-free, bare-free, bytes-free, sink-free, apart-set, row-far, few-pipes, place_below, all_of, tees-far, ports-far}
+use Rattle.ws_link_laws.proofs.Outer.{IsOuter, Begins}
+use Rattle.ws_link_laws.proofs.Calls.{call-begins, call-untied}
+use Rattle.ws_link_laws.proofs.Far.{IsFar, outer-far, job-far, pipe-far, row-far, tees-far, ports-far}
+use Rattle.ws_link_laws.proofs.Unused.{FreeSource, FreeSink, FreeBytes, source-free, bare-free, bytes-free, sink-free, apart-set}
+use Rattle.ws_link_laws.proofs.Free.{few-pipes, place_below, all_of}
 use Rattle.ws_link_laws.proofs.Hosts.{reached-halved, reached-ended, row-sources, row-sinks, untied-same}
 use Rattle.ws_link_laws.proofs.SourceTurns.{default-bare, is_default}
 use Rattle.ws_link_laws.proofs.SinkTurns.{writable-there}

@@ -35,7 +35,7 @@ use Rattle.ws_transform_laws.proofs.Halving.{going}
 use Rattle.ws_transform_laws.proofs.PortHalving.{port-going}
 use Rattle.ws_link_laws.specs.Link.{Ear, OfSink, OfTransform, OfPort, is_port, silence, in_sink, in_source, in_pipe}
 use Rattle.ws_link_laws.specs.Sound.{SinkFits}
-use Rattle.ws_link_laws.proofs.Ahead.{others-late, late-silent}
+use Rattle.ws_link_laws.proofs.Late.{others-late, late-silent}
 use Rattle.ws_link_laws.proofs.Moves.{sink-passes}
 use Rattle.ws_link_laws.proofs.Pipes.{rank}
 use Rattle.ws_link_laws.proofs.Sinks.{Needs, SinkKept, sink_keeps}

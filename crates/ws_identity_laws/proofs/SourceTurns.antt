@@ -30,7 +30,7 @@ use Rattle.ws_link_laws.specs.Entering.{entered, bytes_entered}
 use Rattle.ws_link_laws.specs.Link.{OfSource, OfByteSource, silence, in_sink, in_source, in_pipe, giver_by, giver_at}
 use Rattle.ws_link_laws.specs.Sound.{SourceFits, IsBare}
 use Rattle.ws_link_laws.proofs.ByteSources.{bare_keeps, bytes_keep}
-use Rattle.ws_link_laws.proofs.Calls.{source_shut}
+use Rattle.ws_link_laws.proofs.CallEnters.{source_shut}
 use Rattle.ws_link_laws.proofs.Hosts.{row-sinks, row-sources, untied-same}
 use Rattle.ws_link_laws.proofs.Moves.{passes, in_pipe-short, late_pipe}
 use Rattle.ws_link_laws.proofs.Pipes.{rank, closes_map}

@@ -30,7 +30,8 @@ use Rattle.ws_transform_laws.proofs.PortHalving.{port-going}
 use Rattle.ws_transform_laws.proofs.Told.{along-map}
 use Rattle.ws_link_laws.specs.Link.{silence, lies, leaves, giver_at, enters}
 use Rattle.ws_link_laws.specs.Sound.{IsReached, all_spare}
-use Rattle.ws_link_laws.proofs.Calls.{IsOuter, outer-inner, outer-last, outer-writes, outer-chunks, Begins, call-begins, call-untied}
+use Rattle.ws_link_laws.proofs.Outer.{IsOuter, outer-inner, outer-last, outer-writes, outer-chunks, Begins}
+use Rattle.ws_link_laws.proofs.Calls.{call-begins, call-untied}
 use Rattle.ws_link_laws.proofs.Hosts.{reached-halved, reached-ended, sink-owner}
 use Rattle.ws_link_laws.proofs.Pipes.{rank}
 use Rattle.ws_link_laws.proofs.Standing.{IsInner, IsNotLast, state-same}

@@ -33,13 +33,13 @@ use Rattle.ws_transform_laws.proofs.PortLive.{port-living}
 use Rattle.ws_link_laws.specs.Link.{Ear, ear_at, in_sink, in_source, unheard, behind}
 use Rattle.ws_link_laws.specs.Laws.{EachLinkBegins}
 use Rattle.ws_link_laws.specs.Sound.{all_apart, IsApart, IsFree, IsThere, IsLink, AreApart, SourceFits, FitsIn}
-use Rattle.ws_link_laws.proofs.Ahead.{IsLate, Placed, flushes, late-silent, late-front, late-first}
+use Rattle.ws_link_laws.proofs.Late.{IsLate, Placed, flushes, late-silent, late-front, late-first}
 use Rattle.ws_link_laws.proofs.Hosts.{reached-hosts, hosts-same}
 use Rattle.ws_link_laws.proofs.Telling.{if_same, IsSilent, silent-all, writes, chunks, coming, behind_on}
 use Rattle.ws_link_laws.proofs.Unheard.{fresh-unheard}
 use Rattle.ws_link_laws.proofs.Pipes.{rank}
 use Rattle.ws_link_laws.proofs.Standing.{IsInner, IsNotLast, Sound}
-use Rattle.ws_link_laws.proofs.Calls.{spare-append}
+use Rattle.ws_link_laws.proofs.Outer.{spare-append}
 use Rattle.ws_link_laws.proofs.Steps.{From, performed-from, older-from, named-from, from-link, reached-step, reached-going, reached-living, reached-shuts, reached-few, reached-is, append_ends}
 use Rattle.ws_link_laws.specs.Link.{giver_at}
 use Rattle.ws_steps.specs.Slots.{source_at}

@@ -1,5 +1,5 @@
 -- What calls begin with that leave a link alone.
-use Rattle.std.proofs.Common.{◌≡◌, ◌≢◌, ◌⊎◌, inl, inr, ℕ, zero, suc, ◌+◌, Bool, true, false, not, ◌&&◌, ◌||◌, ◌*◌, nat_eq, nat_lt, if◌then◌else◌, List, [], ◌∷◌, ◌++◌, length, Option, Some, None, Err, slice_get, slice_set, refl, sym, ap, ◌∙◌, arith, subst}
+use Rattle.std.proofs.Common.{◌≡◌, ◌⊎◌, inl, inr, ℕ, ◌+◌, Bool, true, false, not, ◌&&◌, ◌*◌, nat_eq, nat_lt, if◌then◌else◌, List, [], ◌∷◌, ◌++◌, length, Option, Some, None, Err, slice_get, refl, sym, ◌∙◌, subst}
 use Rattle.ws_value.specs.declared.ids.HostId.{HostId}
 use Rattle.ws_value.specs.declared.ids.LockId.{LockId}
 use Rattle.ws_value.specs.declared.ids.PipeId.{PipeId}
@@ -9,37 +9,32 @@ use Rattle.ws_value.specs.declared.ids.SignalId.{SignalId}
 use Rattle.ws_value.specs.declared.ids.StreamId.{StreamId}
 use Rattle.ws_value.specs.declared.value.Plain.{Plain}
 use Rattle.ws_value.specs.declared.value.Value.{Value}
-use Rattle.ws_value.specs.declared.value.Value.TheVariants.{Plain as PlainValue, Bytes}
 use Rattle.ws_value.specs.declared.fault.Fault.{Fault}
-use Rattle.ws_steps.specs.declared.byte.ByteOperation.TheVariants.{InitializeByobReader, Enqueue as EnqueueBytes, PullInto, Respond as RespondBytes}
+use Rattle.ws_steps.specs.declared.byte.ByteOperation.TheVariants.{PullInto, Respond as RespondBytes}
 use Rattle.ws_steps.specs.declared.calls.Answer.{Answer}
 use Rattle.ws_steps.specs.declared.calls.Call.{Call}
 use Rattle.ws_steps.specs.declared.calls.Call.TheVariants.{Tee as TeeCall, MakeReadable, MakeBytes, GetByob, ReadInto, Request, Respond, MakeWritable, MakeTransform, GetReader, GetWriter, Cancel, CancelBy, Read, Write, Close, CloseBy, Abort, AbortBy, Closed, Ready, Release, Enqueue, Finish, Fail, Terminate, Desired, DesiredBy, Pipe, MakeSignal, Trigger, Send, Open, Deliver, Settle, State, Step}
 use Rattle.ws_steps.specs.declared.calls.Reply.{Reply}
 use Rattle.ws_steps.specs.declared.calls.Reply.TheVariants.{Done as ReplyDone, Promise, Request as ReplyRequest, State as ReplyState, Throws, TooMany}
 use Rattle.ws_steps.specs.declared.calls.Thrown.TheVariants.{TypeError, Unsupported}
-use Rattle.ws_steps.specs.declared.calls.HostCall.TheVariants.{Start as HostStart}
 use Rattle.ws_steps.specs.declared.calls.StartBy.{StartBy}
 use Rattle.ws_steps.specs.declared.calls.StartBy.TheVariants.{Now, Later}
 use Rattle.ws_steps.specs.declared.effects.Effect.{Effect}
-use Rattle.ws_steps.specs.declared.effects.Effect.TheVariants.{Readable as OnReadable, Byte as OnByte, Writable as OnWritable, Pipe as OnPipe, Signal as OnSignal, Transform as OnTransform, CloseAlgorithm, ChunkSteps, Settle as SettlePromise, CallHost}
+use Rattle.ws_steps.specs.declared.effects.Effect.TheVariants.{Readable as OnReadable, Byte as OnByte, Writable as OnWritable, Signal as OnSignal, Transform as OnTransform, Settle as SettlePromise}
 use Rattle.ws_steps.specs.declared.effects.Owner.{Owner}
 use Rattle.ws_steps.specs.declared.effects.Owner.TheVariants.{Host, HalfOf, BranchOf, EndOf}
 use Rattle.ws_steps.specs.declared.locks.Lock.{Lock}
 use Rattle.ws_steps.specs.declared.locks.Lock.TheVariants.{Reader as ReaderLock, ByobReader, Writer as WriterLock, ReleasedWriter, Inner}
-use Rattle.ws_steps.specs.declared.pipes.PipeOperation.TheVariants.{Abort as AbortPipe}
 use Rattle.ws_steps.specs.declared.pipes.Prevent.{Prevent}
 use Rattle.ws_steps.specs.declared.pipes.SignalOperation.TheVariants.{Trigger as TriggerSignal}
 use Rattle.ws_steps.specs.declared.readable.ReadRequest.TheVariants.{Promise as PromiseRequest}
-use Rattle.ws_steps.specs.declared.readable.ReadableOperation.TheVariants.{InitializeReader, Read as ReadChunk, Cancel as CancelStream, CancelIfReadable, Enqueue as EnqueueChunk, Close as CloseReadable, Error as ErrorReadable}
+use Rattle.ws_steps.specs.declared.readable.ReadableOperation.TheVariants.{Read as ReadChunk, Cancel as CancelStream, Error as ErrorReadable}
 use Rattle.ws_steps.specs.declared.transform.Kind.{Kind}
-use Rattle.ws_steps.specs.declared.transform.TransformId.{TransformId}
-use Rattle.ws_steps.specs.declared.transform.TransformOperation.TheVariants.{TransformChunk, SinkClose, Enqueue as EnqueueByTransform, Error as ErrorTransform, Terminate as TerminateTransform}
-use Rattle.ws_steps.specs.declared.writable.WritableOperation.TheVariants.{SetUpWriter, Write as WriteChunk, Close as CloseStream, ClosePropagating, Abort as AbortStream, ErrorIfNeeded, HandOn}
+use Rattle.ws_steps.specs.declared.transform.TransformOperation.TheVariants.{Error as ErrorTransform}
+use Rattle.ws_steps.specs.declared.writable.WritableOperation.TheVariants.{Write as WriteChunk, Close as CloseStream, Abort as AbortStream, ErrorIfNeeded}
 use Rattle.ws_steps.specs.declared.writable.Writer.{Writer}
 use Rattle.ws_steps.specs.Calls as calls
 use Rattle.ws_steps.specs.Calls.{Begun, begin}
-use Rattle.ws_steps.specs.Bytes as byte
 use Rattle.ws_steps.specs.Descriptors.{Descriptor, respond_throws}
 use Rattle.ws_steps.specs.Effects.{type_error}
 use Rattle.ws_steps.specs.Histories.{is_same}
@@ -47,178 +42,33 @@ use Rattle.ws_steps.specs.Pipes as pipe
 use Rattle.ws_steps.specs.Promises.{Table, next_id, fresh, is_pending_at}
 use Rattle.ws_steps.specs.Queues.{is_empty}
 use Rattle.ws_steps.specs.Readable as readable
-use Rattle.ws_steps.specs.Readable.{can_close_or_enqueue}
 use Rattle.ws_steps.specs.ReadableLooks as readable_looks
 use Rattle.ws_steps.specs.WritableLooks as writable_looks
-use Rattle.ws_steps.specs.Slots.{Slots, Stream, is_readable_stream, is_byte_stream, most_streams, causes, has_readable, has_byte, has_source, has_writable, has_signal, owner_at, readable_at, byte_at, source_at, as_source, stream_of_request, writable_at, pipe_at, lock_at, host_at, is_teed}
+use Rattle.ws_steps.specs.Slots.{Slots, most_streams, has_readable, has_byte, has_source, has_writable, has_signal, owner_at, readable_at, byte_at, source_at, stream_of_request, writable_at, lock_at, host_at, is_teed}
 use Rattle.ws_steps.specs.Writable as writable
-use Rattle.ws_flow.specs.Told.{Open, Closed as Ended, Told, told, then_told, IsShortOf}
-use Rattle.ws_flow.proofs.Told.{then_empty, short_refl}
+use Rattle.ws_flow.specs.Told.{Open, Told}
+use Rattle.ws_flow.proofs.Told.{short_refl}
 use Rattle.ws_laws.proofs.Halves.{Halved}
 use Rattle.ws_laws.proofs.Lists.{Each, each-append}
-use Rattle.ws_laws.proofs.Tables.{either, eq_numbers, is_same-refl, same_id, readable_there, byte_there}
+use Rattle.ws_laws.proofs.Tables.{either}
 use Rattle.ws_laws.proofs.Truth.{not_false, and_left, and_right}
-use Rattle.ws_link_laws.specs.Link.{Ear, Giver, OfSource, OfByteSource, OfHalf, OfEnd, delivered, silence, in_sink, in_source, in_pipe, ear_at, unheard, behind, giver_by, giver_at, lets_in, enters, leaves}
-use Rattle.ws_link_laws.specs.Entering.{chunk_in, bytes_in}
-use Rattle.ws_link_laws.specs.Sound.{spares, all_spare, AreApart, IsApart, IsHosts, all_untied}
-use Rattle.ws_link_laws.proofs.Telling.{is_of, if_same, tells, IsSilent, silent-all, writes, chunks, coming}
-use Rattle.ws_link_laws.proofs.Hosts.{source-owner, half-giver, one-readable, readable-shape}
-use Rattle.ws_link_laws.proofs.Ahead.{IsLate, Placed}
+use Rattle.ws_link_laws.specs.Link.{Ear, silence, unheard, giver_at, enters, leaves}
+use Rattle.ws_link_laws.specs.Sound.{spares, all_spare, AreApart, IsApart, all_untied}
+use Rattle.ws_link_laws.proofs.Telling.{is_of, if_same, IsSilent, silent-all, coming}
 use Rattle.ws_link_laws.proofs.Unheard.{fresh-unheard}
-use Rattle.ws_link_laws.proofs.Sinks.{shut}
-use Rattle.ws_link_laws.proofs.Standing.{IsInner, IsNotLast}
 use Rattle.ws_pipe_laws.proofs.PassingRuns.{appended}
-use Rattle.ws_link_laws.proofs.SourceTurns.{is_default}
-use Rattle.ws_value.specs.declared.ids.TeeId.{TeeId}
-use Rattle.ws_value.specs.declared.ids.PortId.{PortId}
 use Rattle.ws_steps.specs.Tee as tee
-use Rattle.ws_steps.specs.Cross as cross
-use Rattle.ws_steps.specs.declared.tee.Half.{Half}
 use Rattle.ws_laws.proofs.EachCall.{each_call}
-use Rattle.ws_laws.proofs.Ended.{Ended as AreEnds, PortShape, port_shape}
+use Rattle.ws_laws.proofs.Ended.{Ended as AreEnds}
 use Rattle.ws_steps.specs.declared.calls.Call.TheVariants.{Send, Open, Deliver}
 use Rattle.ws_steps.specs.declared.calls.Thrown.TheVariants.{DataClone}
-use Rattle.ws_steps.specs.declared.port.PortOperation.TheVariants.{PostChunk, Close as CloseByPort, Deliver as DeliverMessage}
-use Rattle.ws_steps.specs.PortHistory.{is_same_port}
-use Rattle.ws_value.specs.declared.value.Message.{Message}
+use Rattle.ws_steps.specs.declared.port.PortOperation.TheVariants.{Deliver as DeliverMessage}
 use Rattle.ws_steps.specs.declared.effects.Effect.TheVariants.{Port as OnPort}
-use Rattle.std.proofs.Common.{map}
 use Rattle.ws_steps.specs.declared.port.Side.{Side}
 use Rattle.ws_steps.specs.Slots.{has_port}
-use Rattle.std.proofs.Common.{is_some}
 use Rattle.ws_steps.specs.declared.port.Side.TheVariants.{Readable as ReadableSide}
-
--- effects with which a call begins that leaves the link alone
-abbrev pub IsOuter : StreamId → StreamId → Effect → Type 0
-IsOuter i j (OnReadable k (InitializeReader closed)) = is_same i k ≡ false
-IsOuter i j (OnReadable k (ReadChunk request)) = is_same i k ≡ false
-IsOuter i j (OnReadable k (CancelStream r q)) = is_same i k ≡ false
-IsOuter i j (OnReadable k (CancelIfReadable r q)) = is_same i k ≡ false
-IsOuter i j (OnByte k (InitializeByobReader closed)) = is_same i k ≡ false
-IsOuter i j (OnByte k (EnqueueBytes b)) = is_empty b ≡ false
-IsOuter i j (OnWritable k (SetUpWriter w)) = is_same j k ≡ false
-IsOuter i j (OnWritable k (WriteChunk v q)) = is_same j k ≡ false
-IsOuter i j (OnWritable k (CloseStream q)) = is_same j k ≡ false
-IsOuter i j (OnWritable k (ClosePropagating q)) = is_same j k ≡ false
-IsOuter i j (OnWritable k (HandOn taker)) = ⊥
-IsOuter i j (OnPipe q (AbortPipe r)) = Unit {0}
-IsOuter i j (OnPipe q operation) = ⊥
-IsOuter i j (ChunkSteps k request v) = ⊥
-IsOuter i j (OnTransform a (TransformChunk v d)) = ⊥
-IsOuter i j (OnTransform a (SinkClose u)) = ⊥
-IsOuter i j (OnPort c (PostChunk v d)) = ⊥
-IsOuter i j (OnPort c (CloseByPort u)) = ⊥
-IsOuter i j (CloseAlgorithm k) = ⊥
-IsOuter i j (CallHost (HostStart k) u) = Unit {0}
-IsOuter i j (CallHost call u) = ⊥
-IsOuter i j _ = Unit {0}
-
-pub outer-inner : (i j : StreamId) (p : PipeId) (n : ℕ) (e : Effect) → IsOuter i j e → IsInner i j p n e
-outer-inner i j p n e o = grind (arith, o)
-
-pub outer-last : (p : PipeId) (i j : StreamId) (e : Effect) → IsOuter i j e → IsNotLast p e
-outer-last p i j e o = grind (arith, o)
-
-pub outer-late : (w : Ear) (i j : StreamId) (e : Effect) → IsOuter i j e → IsLate w e
-outer-late w i j e o = grind (arith, o)
-
-pub outer-placed : (w : Ear) (s : Slots) (i j : StreamId) (e : Effect) → IsOuter i j e → Placed j w s e
-outer-placed w s i j e o = grind (arith, o)
-
-pub outer-writes : (i j : StreamId) (e : Effect) → IsOuter i j e → IsSilent (writes j) e
-outer-writes i j e o = grind (arith, o, if_same)
-
-pub outer-chunks : (p : PipeId) (i j : StreamId) (e : Effect) → IsOuter i j e → IsSilent (chunks p) e
-outer-chunks p i j e o = grind (arith, o)
-
--- locks
-
-pub spare-at : (i j : StreamId) (n : ℕ) (ls : List Lock) (l : Lock) → all_spare i j ls ≡ true → slice_get ls n ≡ Some l → spares i j l ≡ true
-spare-at i j n [] l a e = cc
-spare-at i j zero (k ∷ ls) l a e = let s = and_left (spares i j k) (all_spare i j ls) a in let is : k ≡ l = cc in rw is at s
-spare-at i j (suc n) (k ∷ ls) l a e = spare-at i j n ls l (and_right (spares i j k) (all_spare i j ls) a) e
-
-spare-set : (i j : StreamId) (n : ℕ) (ls : List Lock) (l : Lock) → all_spare i j ls ≡ true → spares i j l ≡ true → all_spare i j (slice_set ls n l) ≡ true
-spare-set i j n [] l a s = a
-spare-set i j zero (k ∷ ls) l a s = let b = and_right (spares i j k) (all_spare i j ls) a in rw (s, b) refl
-spare-set i j (suc n) (k ∷ ls) l a s =
-    let b = and_left (spares i j k) (all_spare i j ls) a in
-    let c = spare-set i j n ls l (and_right (spares i j k) (all_spare i j ls) a) s in
-    rw (b, c) refl
-
-pub spare-append : (i j : StreamId) (ls ms : List Lock) → all_spare i j ls ≡ true → all_spare i j ms ≡ true → all_spare i j (ls ++ ms) ≡ true
-spare-append i j [] ms a b = b
-spare-append i j (k ∷ ls) ms a b =
-    let c = and_left (spares i j k) (all_spare i j ls) a in
-    let d = spare-append i j ls ms (and_right (spares i j k) (all_spare i j ls) a) b in
-    rw (c, d) refl
-
--- a stream isn't of both kinds, and one that is there is of one
-
-neither : (a b : Bool) → a ≡ false → b ≡ false → a || b ≡ true → ⊥
-neither a b e f g = grind (arith, e, f, g)
-
-no_default : (o : Option Stream) → is_byte_stream o ≡ true → is_readable_stream o ≡ false
-no_default o e = grind (arith, e)
-
--- a stream that is there isn't new
-
-not_new : (xs : List Stream) (n : ℕ) (x : Stream) → slice_get xs n ≡ Some x → nat_eq n (length xs) ≡ false
-not_new [] n x e = cc
-not_new (y ∷ ys) zero x e = grind arith
-not_new (y ∷ ys) (suc n) x e = let ih = not_new ys n x e in grind (arith, ih)
-
-pub not-new : (k : StreamId) (xs : List Stream) → (x : Stream) × (slice_get xs k.0 ≡ Some x) → is_same k (record { 0 = length xs }) ≡ false
-not-new k xs x = not_new xs k.0 x.0 x.1
-
-stream_here : (o : Option Stream) → (o ≡ None → ⊥) → (x : Stream) × (o ≡ Some x)
-stream_here None n = absurd (n refl)
-stream_here (Some x) n = (x, refl)
-
-pub source-here : (k : StreamId) (s : Slots) → has_source k s ≡ true → (x : Stream) × (slice_get s.streams k.0 ≡ Some x)
-source-here k s h = stream_here (slice_get s.streams k.0) (λ none. let no : has_source k s ≡ false = rw none refl in cc)
-
-pub sink-here : (k : StreamId) (s : Slots) → has_writable k s ≡ true → (x : Stream) × (slice_get s.streams k.0 ≡ Some x)
-sink-here k s h = stream_here (slice_get s.streams k.0) (λ none. let no : has_writable k s ≡ false = rw none refl in cc)
-
--- a port that is at an end is there
-
-no-port : (ps : List cross.Slots) (n : ℕ) (x : PortShape) → slice_get (map port_shape ps) n ≡ Some x → is_some (slice_get ps n) ≡ false → ⊥
-no-port [] n x e h = cc
-no-port (y ∷ ys) zero x e h = cc
-no-port (y ∷ ys) (suc n) x e h = no-port ys n x e h
-
-end-giver : (b : Bool) (o : Owner) (c : PortId) → giver_by b o ≡ OfEnd c → (b ≡ false) × (o ≡ EndOf c)
-end-giver true o c e = cc
-end-giver false Host c e = cc
-end-giver false (HalfOf u) c e = cc
-end-giver false (BranchOf u half) c e = cc
-end-giver false (EndOf d) c e = (refl, cc)
-
--- where the source takes nothing, what is behind the host has come to an end
-
-then_shut : (x y : Told Value) → y.mark ≢ Open → (then_told x y).mark ≢ Open
-then_shut x y n = grind (arith, n)
-
-pub source_shut : (r : readable.Slots) → can_close_or_enqueue r ≡ false → (in_source r).mark ≢ Open
-source_shut r e = grind (arith, e)
-
-pipe_shut : (x : pipe.Slots) (y : Told Value) → y.mark ≢ Open → (in_pipe x y).mark ≢ Open
-pipe_shut x y n = grind (arith, n)
-
-behind-shut : (i j : StreamId) (p : PipeId) (s : Slots) → can_close_or_enqueue (source_at i s) ≡ false → (behind i j p s).mark ≢ Open
-behind-shut i j p s e =
-    then_shut (unheard (ear_at j s) s.promises.events) _ (then_shut (in_sink (writable_at j s)) _ (pipe_shut (pipe_at p s) (in_source (source_at i s)) (source_shut (source_at i s) e)))
-
--- what a call begins with, that enters t
-
-pub record Begins (i j : StreamId) (p : PipeId) (s : Slots) (t : Told Value) (b : Begun) : Type 0 where
-  pub locks : all_spare i j b.done.slots.locks ≡ true
-  pub apart : AreApart i j p b.done.slots.pipes
-  pub heard : (w : Ear) → unheard w b.done.slots.promises.events ≡ unheard w s.promises.events
-  pub outer : Each (IsOuter i j) b.done.caused
-  -- no call of the host's enqueues into a branch of a tee
-  pub comes : IsHosts s (owner_at i s) → IsShortOf (then_told (behind i j p s) (tells (coming (giver_at i s) i) b.done.caused)) (then_told (behind i j p s) t)
+use Rattle.ws_link_laws.proofs.Outer.{IsOuter, spare-at, spare-set, spare-append, not-new, source-here, sink-here, Begins}
+use Rattle.ws_link_laws.proofs.CallEnters.{refused, brings, terminate_call, enqueue_call, finish_call, deliver-comes, deliver-nowhere}
 
 module _ (i j : StreamId) (p : PipeId) (s : Slots) (here : has_source i s ≡ true) (sink : has_writable j s ≡ true) (halved : Halved s) (ended : AreEnds s) (locks : all_spare i j s.locks ≡ true) (apart : AreApart i j p s.pipes) where
   abbrev P : Begun → Type 0
@@ -390,222 +240,6 @@ module _ (i j : StreamId) (p : PipeId) (s : Slots) (here : has_source i s ≡ tr
       by None = free
       by (Some g) = either P (has_signal g s) (calls.pipe_unlocked source dest prevent signal s) (calls.unsupported s) (λ e. free) (λ e. unchanged (Throws Unsupported))
 
-  -- what enters
-
-  refused : (t : Told Value) (reply : Reply) → (t ≡ silence) ⊎ ((behind i j p s).mark ≢ Open) → Begins i j p s t (calls.replies reply s)
-  refused t reply (inl e) = rw e (unchanged reply)
-  refused t reply (inr n) =
-      record { locks = locks; apart = apart; heard = λ w. refl; outer = tt; comes = λ own. rw (then_empty (behind i j p s)) (shut (behind i j p s) (behind i j p s) t n (short_refl (behind i j p s))) }
-
-  unsupported : (t : Told Value) → (IsHosts s (owner_at i s) → t ≡ silence) → Begins i j p s t (calls.unsupported s)
-  unsupported t none =
-      record { locks = locks; apart = apart; heard = λ w. refl; outer = tt; comes = λ own. rw (none own, then_empty (behind i j p s)) (short_refl (behind i j p s)) }
-
-  branch-elsewhere : (k : StreamId) (a : TeeId) (half : Half) → IsHosts s (owner_at i s) → owner_at k s ≡ BranchOf a half → is_same i k ≡ false
-  branch-elsewhere k a half own owner = by (is_same i k) refl
-    where
-      by : (same : Bool) → same ≡ is_same i k → is_same i k ≡ false
-      by false n = sym n
-      by true n = absurd (subst (λ (o : Owner). IsHosts s o) (ap (λ (x : StreamId). owner_at x s) (same_id i k (sym n)) ∙ owner) own)
-
-  -- at another stream nothing enters; and at the source something does, or it has come to an end
-  enters-or : (k : StreamId) (t : Told Value) → (is_same i k ≡ false → t ≡ silence) → (i ≡ k → (t ≡ silence) ⊎ ((behind i j p s).mark ≢ Open)) → (t ≡ silence) ⊎ ((behind i j p s).mark ≢ Open)
-  enters-or k t elsewhere f = by (is_same i k) refl
-    where
-      by : (same : Bool) → same ≡ is_same i k → (t ≡ silence) ⊎ ((behind i j p s).mark ≢ Open)
-      by false n = inl (elsewhere (sym n))
-      by true n = f (same_id i k (sym n))
-
-  -- where nothing can enter stream k
-  full : (k : StreamId) (t : Told Value) → (is_same i k ≡ false → t ≡ silence) → can_close_or_enqueue (source_at k s) ≡ false → (t ≡ silence) ⊎ ((behind i j p s).mark ≢ Open)
-  full k t elsewhere e = enters-or k t elsewhere (λ is. inr (behind-shut i j p s (rw is e)))
-
-  brings : (t : Told Value) (reply : Reply) (e : Effect) → IsOuter i j e → coming (giver_at i s) i e ≡ t → Begins i j p s t (calls.begun reply (causes (e ∷ []) s))
-  brings t reply e o c = record { locks = locks; apart = apart; heard = λ w. refl; outer = (o, tt); comes = λ own. rw (then_empty (coming (giver_at i s) i e), c) (short_refl (then_told (behind i j p s) t)) }
-
-  -- what enters is told by what the source is, where that is stream k
-
-  own-or : (k : StreamId) (t : Giver → Told Value) (u : Told Value) (g : Giver) → (i ≡ k → giver_at i s ≡ g) → (is_same i k ≡ false → t (giver_at i s) ≡ u) → t g ≡ u → t (giver_at i s) ≡ u
-  own-or k t u g own elsewhere h = by (is_same i k) refl
-    where
-      by : (same : Bool) → same ≡ is_same i k → t (giver_at i s) ≡ u
-      by false n = elsewhere (sym n)
-      by true n = rw (own (same_id i k (sym n))) h
-
-  default-is : (k : StreamId) (o : Owner) → has_byte k s ≡ false → owner_at k s ≡ o → i ≡ k → giver_at i s ≡ giver_by false o
-  default-is k o none owner is = rw (is, none, owner) refl
-
-  bytes-is : (k : StreamId) → has_byte k s ≡ true → i ≡ k → giver_at i s ≡ OfByteSource
-  bytes-is k there is = rw (is, there) refl
-
-  -- a stream with a default controller, by whose it is
-
-  default-full : (k : StreamId) → has_readable k s ≡ true → can_close_or_enqueue (readable_at k s) ≡ false → can_close_or_enqueue (source_at k s) ≡ false
-  default-full k there e = rw (ap as_source (readable_there (slice_get s.streams k.0) there)) e
-
-  for_owner : (k : StreamId) (t : Told Value) (operation : Slots → Owner → Begun) → has_byte k s ≡ false → (is_same i k ≡ false → t ≡ silence) → ((o : Owner) → has_readable k s ≡ true → owner_at k s ≡ o → Begins i j p s t (operation s o))
-      → Begins i j p s t (calls.for_readable k (λ z. operation z (readable_at k z).owner) s)
-  for_owner k t operation none elsewhere f =
-      either (Begins i j p s t) (has_readable k s) (operation s (readable_at k s).owner) (calls.unsupported s)
-      (λ there. f (readable_at k s).owner there (source-owner k s there))
-      (λ absent. refused t (Throws Unsupported) (enters-or k t elsewhere (λ is. let there : has_source k s ≡ true = rw is at here in absurd (neither (has_readable k s) (has_byte k s) absent none there))))
-
-  -- the readable half of a transform stream is one
-  half-is : (k : StreamId) (a : TransformId) → has_readable k s ≡ true → has_byte k s ≡ false → owner_at k s ≡ HalfOf a → is_of (giver_at i s) a ≡ is_same i k
-  half-is k a there none owner = by (is_same i k) refl
-    where
-      by_giver : (g : Giver) → g ≡ giver_at i s → is_same i k ≡ false → (b : Bool) → b ≡ is_of g a → is_of g a ≡ false
-      by_giver OfSource e n b f = refl
-      by_giver OfByteSource e n b f = refl
-      by_giver (OfEnd c) e n b f = refl
-      by_giver (OfHalf u) e n false f = sym f
-      by_giver (OfHalf u) e n true f =
-          let is : u ≡ a = ap (λ (m : ℕ). record { 0 = m }) (eq_numbers u.0 a.0 (sym f)) in
-          let own = half-giver (has_byte i s) (owner_at i s) u (sym e) in
-          let one : i ≡ k = one-readable i k a s halved (is_default (slice_get s.streams i.0) here own.0) there (own.1 ∙ ap HalfOf is) owner in
-          let same : is_same i k ≡ true = rw one (is_same-refl k) in cc
-
-      by : (same : Bool) → same ≡ is_same i k → is_of (giver_at i s) a ≡ is_same i k
-      by false n = by_giver (giver_at i s) refl (sym n) (is_of (giver_at i s) a) refl ∙ n
-      by true n =
-          let mine : giver_at i s ≡ OfHalf a = default-is k (HalfOf a) none owner (same_id i k (sym n)) in
-          let self : nat_eq a.0 a.0 ≡ true = grind arith in
-          rw (mine, self) n
-
-  chunk-comes : (k : StreamId) (v : Value) → has_byte k s ≡ false → owner_at k s ≡ Host → coming (giver_at i s) i (OnReadable k (EnqueueChunk v)) ≡ enters (giver_at i s) i (Enqueue k v)
-  chunk-comes k v none owner = by (is_same i k) refl
-    where
-      by : (same : Bool) → same ≡ is_same i k → (if is_same i k then chunk_in (giver_at i s) v else silence) ≡ (if is_same i k then lets_in (giver_at i s) v else silence)
-      by false n = rw (← n) refl
-      by true n = let own = default-is k Host none owner (same_id i k (sym n)) in rw (← n, own) refl
-
-  half-comes : (k : StreamId) (v : Value) (a : TransformId) → has_readable k s ≡ true → has_byte k s ≡ false → owner_at k s ≡ HalfOf a → coming (giver_at i s) i (OnTransform a (EnqueueByTransform v)) ≡ enters (giver_at i s) i (Enqueue k v)
-  half-comes k v a there none owner = by (is_same i k) refl
-    where
-      by : (same : Bool) → same ≡ is_same i k → (if is_of (giver_at i s) a then told (v ∷ []) Open else silence) ≡ (if is_same i k then lets_in (giver_at i s) v else silence)
-      by false n = let h = half-is k a there none owner in rw (h, ← n) refl
-      by true n =
-          let h = half-is k a there none owner in
-          let own = default-is k (HalfOf a) none owner (same_id i k (sym n)) in
-          rw (h, ← n, own) refl
-
-  enqueue-elsewhere : (k : StreamId) (v : Value) (g : Giver) → is_same i k ≡ false → enters g i (Enqueue k v) ≡ silence
-  enqueue-elsewhere k v g d = rw d refl
-
-  enqueues : (k : StreamId) (v : Value) → has_byte k s ≡ false → (o : Owner) → has_readable k s ≡ true → owner_at k s ≡ o → Begins i j p s (enters (giver_at i s) i (Enqueue k v)) (calls.enqueue_by v k s o)
-  enqueues k v none Host there owner =
-      let t : Told Value = enters (giver_at i s) i (Enqueue k v) in
-      either (Begins i j p s t) (can_close_or_enqueue (readable_at k s)) _ _
-      (λ e. brings t ReplyDone (OnReadable k (EnqueueChunk v)) tt (chunk-comes k v none owner))
-      (λ e. refused t (Throws TypeError) (full k t (enqueue-elsewhere k v (giver_at i s)) (default-full k there e)))
-  enqueues k v none (HalfOf a) there owner =
-      let t : Told Value = enters (giver_at i s) i (Enqueue k v) in
-      either (Begins i j p s t) (can_close_or_enqueue (readable_at k s)) _ _
-      (λ e. brings t ReplyDone (OnTransform a (EnqueueByTransform v)) tt (half-comes k v a there none owner))
-      (λ e. refused t (Throws TypeError) (full k t (enqueue-elsewhere k v (giver_at i s)) (default-full k there e)))
-  enqueues k v none (BranchOf a half) there owner =
-      unsupported (enters (giver_at i s) i (Enqueue k v)) (λ own. enqueue-elsewhere k v (giver_at i s) (branch-elsewhere k a half own owner))
-  enqueues k v none (EndOf c) there owner =
-      refused (enters (giver_at i s) i (Enqueue k v)) (Throws Unsupported)
-      (inl (own-or k (λ g. enters g i (Enqueue k v)) silence (OfEnd c) (default-is k (EndOf c) none owner) (enqueue-elsewhere k v (giver_at i s)) (if_same (is_same i k))))
-
-  -- bytes are enqueued into a byte stream
-
-  none-enters : (k : StreamId) (v : Value) → has_byte k s ≡ true → lets_in OfByteSource v ≡ silence → enters (giver_at i s) i (Enqueue k v) ≡ silence
-  none-enters k v there none = own-or k (λ g. enters g i (Enqueue k v)) silence OfByteSource (bytes-is k there) (enqueue-elsewhere k v (giver_at i s)) (rw (none, if_same (is_same i k)) refl)
-
-  bytes-come : (k : StreamId) (b : List ℕ) → has_byte k s ≡ true → coming (giver_at i s) i (OnByte k (EnqueueBytes b)) ≡ enters (giver_at i s) i (Enqueue k (Bytes b))
-  bytes-come k b there = by (is_same i k) refl
-    where
-      by : (same : Bool) → same ≡ is_same i k → (if is_same i k then bytes_in (giver_at i s) b else silence) ≡ (if is_same i k then lets_in (giver_at i s) (Bytes b) else silence)
-      by false n = rw (← n) refl
-      by true n = let own = bytes-is k there (same_id i k (sym n)) in rw (← n, own) refl
-
-  bytes-full : (k : StreamId) → has_byte k s ≡ true → byte.can_take (byte_at k s) ≡ false → can_close_or_enqueue (source_at k s) ≡ false
-  bytes-full k there e = rw (ap as_source (byte_there (slice_get s.streams k.0) there)) e
-
-  bytes-refused : (k : StreamId) (b : List ℕ) → has_byte k s ≡ true → not (is_empty b) && byte.can_take (byte_at k s) ≡ false → (enters (giver_at i s) i (Enqueue k (Bytes b)) ≡ silence) ⊎ ((behind i j p s).mark ≢ Open)
-  bytes-refused k [] there e = inl (none-enters k (Bytes []) there refl)
-  bytes-refused k (n ∷ ns) there e = full k (enters (giver_at i s) i (Enqueue k (Bytes (n ∷ ns)))) (enqueue-elsewhere k (Bytes (n ∷ ns)) (giver_at i s)) (bytes-full k there e)
-
-  enqueues_bytes : (k : StreamId) (v : Value) → has_byte k s ≡ true → Begins i j p s (enters (giver_at i s) i (Enqueue k v)) (calls.enqueue_bytes k s v)
-  enqueues_bytes k (PlainValue v) there = refused (enters (giver_at i s) i (Enqueue k (PlainValue v))) (Throws TypeError) (inl (none-enters k (PlainValue v) there refl))
-  enqueues_bytes k (Bytes b) there =
-      let t : Told Value = enters (giver_at i s) i (Enqueue k (Bytes b)) in
-      either (Begins i j p s t) (not (is_empty b) && byte.can_take (byte_at k s)) _ _
-      (λ e. brings t ReplyDone (OnByte k (EnqueueBytes b)) (some (is_empty b) (byte.can_take (byte_at k s)) e) (bytes-come k b there))
-      (λ e. refused t (Throws TypeError) (bytes-refused k b there e))
-    where
-      some : (x y : Bool) → not x && y ≡ true → x ≡ false
-      some true y e = cc
-      some false y e = refl
-
-  -- the host finishes a source of its own, and terminates a transform stream
-
-  finish-elsewhere : (k : StreamId) (g : Giver) → is_same i k ≡ false → enters g i (Finish k) ≡ silence
-  finish-elsewhere k OfSource d = rw d refl
-  finish-elsewhere k OfByteSource d = rw d refl
-  finish-elsewhere k (OfHalf a) d = refl
-  finish-elsewhere k (OfEnd c) d = refl
-
-  terminate-elsewhere : (k : StreamId) (g : Giver) → is_same i k ≡ false → enters g i (Terminate k) ≡ silence
-  terminate-elsewhere k OfSource d = refl
-  terminate-elsewhere k OfByteSource d = refl
-  terminate-elsewhere k (OfHalf a) d = rw d refl
-  terminate-elsewhere k (OfEnd c) d = refl
-
-  end-comes : (k : StreamId) (g : Giver) → (i ≡ k → giver_at i s ≡ g) → enters g i (Finish k) ≡ (if is_same i k then told [] Ended else silence) → enters (giver_at i s) i (Finish k) ≡ coming (giver_at i s) i (OnReadable k CloseReadable)
-  end-comes k g own e = own-or k (λ o. enters o i (Finish k)) (if is_same i k then told [] Ended else silence) g own (λ d. finish-elsewhere k (giver_at i s) d ∙ rw d refl) e
-
-  finishes : (k : StreamId) → has_byte k s ≡ false → (o : Owner) → has_readable k s ≡ true → owner_at k s ≡ o → Begins i j p s (enters (giver_at i s) i (Finish k)) (calls.finish_by k s o)
-  finishes k none Host there owner =
-      let t : Told Value = enters (giver_at i s) i (Finish k) in
-      either (Begins i j p s t) (can_close_or_enqueue (readable_at k s)) _ _ (λ e. brings t ReplyDone (OnReadable k CloseReadable) tt (sym (end-comes k OfSource (default-is k Host none owner) refl)))
-      (λ e. refused t (Throws TypeError) (full k t (finish-elsewhere k (giver_at i s)) (default-full k there e)))
-  finishes k none (HalfOf a) there owner =
-      refused (enters (giver_at i s) i (Finish k)) (Throws Unsupported) (inl (own-or k (λ g. enters g i (Finish k)) silence (OfHalf a) (default-is k (HalfOf a) none owner) (finish-elsewhere k (giver_at i s)) refl))
-  finishes k none (BranchOf a half) there owner = unsupported (enters (giver_at i s) i (Finish k)) (λ own. finish-elsewhere k (giver_at i s) (branch-elsewhere k a half own owner))
-  finishes k none (EndOf c) there owner =
-      refused (enters (giver_at i s) i (Finish k)) (Throws Unsupported) (inl (own-or k (λ g. enters g i (Finish k)) silence (OfEnd c) (default-is k (EndOf c) none owner) (finish-elsewhere k (giver_at i s)) refl))
-
-  finishes_bytes : (k : StreamId) → has_byte k s ≡ true → Begins i j p s (enters (giver_at i s) i (Finish k)) (calls.finish_bytes k s)
-  finishes_bytes k there =
-      let t : Told Value = enters (giver_at i s) i (Finish k) in
-      either (Begins i j p s t) (byte.can_take (byte_at k s)) _ _
-      (λ e. brings t (calls.close_reply (byte_at k s)) (OnReadable k CloseReadable) tt (sym (end-comes k OfByteSource (bytes-is k there) refl)))
-      (λ e. refused t (Throws TypeError) (full k t (finish-elsewhere k (giver_at i s)) (bytes-full k there e)))
-
-  terminates : (k : StreamId) → has_byte k s ≡ false → (o : Owner) → has_readable k s ≡ true → owner_at k s ≡ o → Begins i j p s (enters (giver_at i s) i (Terminate k)) (calls.terminate_by s o)
-  terminates k none Host there owner =
-      refused (enters (giver_at i s) i (Terminate k)) (Throws Unsupported) (inl (own-or k (λ g. enters g i (Terminate k)) silence OfSource (default-is k Host none owner) (terminate-elsewhere k (giver_at i s)) refl))
-  terminates k none (HalfOf a) there owner =
-      let same : enters (giver_at i s) i (Terminate k) ≡ (if is_same i k then told [] Ended else silence) =
-      own-or k (λ g. enters g i (Terminate k)) (if is_same i k then told [] Ended else silence) (OfHalf a) (default-is k (HalfOf a) none owner) (λ d. terminate-elsewhere k (giver_at i s) d ∙ rw d refl) refl in
-      brings (enters (giver_at i s) i (Terminate k)) ReplyDone (OnTransform a TerminateTransform) tt (rw (half-is k a there none owner) (sym same))
-  terminates k none (BranchOf a half) there owner = unsupported (enters (giver_at i s) i (Terminate k)) (λ own. terminate-elsewhere k (giver_at i s) (branch-elsewhere k a half own owner))
-  terminates k none (EndOf c) there owner =
-      refused (enters (giver_at i s) i (Terminate k)) (Throws Unsupported) (inl (own-or k (λ g. enters g i (Terminate k)) silence (OfEnd c) (default-is k (EndOf c) none owner) (terminate-elsewhere k (giver_at i s)) refl))
-
-  -- a byte stream isn't terminated
-  terminate_call : (k : StreamId) → Begins i j p s (enters (giver_at i s) i (Terminate k)) (calls.for_readable k (calls.terminate k) s)
-  terminate_call k = by (has_byte k s) refl
-    where
-      by : (b : Bool) → b ≡ has_byte k s → Begins i j p s (enters (giver_at i s) i (Terminate k)) (calls.for_readable k (calls.terminate k) s)
-      by false e = for_owner k (enters (giver_at i s) i (Terminate k)) calls.terminate_by (sym e) (terminate-elsewhere k (giver_at i s)) (terminates k (sym e))
-      by true e =
-          rw (no_default (slice_get s.streams k.0) (sym e))
-          (refused (enters (giver_at i s) i (Terminate k)) (Throws Unsupported) (inl (own-or k (λ g. enters g i (Terminate k)) silence OfByteSource (bytes-is k (sym e)) (terminate-elsewhere k (giver_at i s)) refl)))
-
-  enqueue_call : (k : StreamId) (v : Value) → Begins i j p s (enters (giver_at i s) i (Enqueue k v)) (calls.enqueue_call k v s)
-  enqueue_call k v =
-      either (Begins i j p s (enters (giver_at i s) i (Enqueue k v))) (has_byte k s) (calls.enqueue_bytes k s v) _ (enqueues_bytes k v)
-      (λ none. for_owner k (enters (giver_at i s) i (Enqueue k v)) (calls.enqueue_by v k) none (enqueue-elsewhere k v (giver_at i s)) (enqueues k v none))
-
-  finish_call : (k : StreamId) → Begins i j p s (enters (giver_at i s) i (Finish k)) (calls.finish_call k s)
-  finish_call k =
-      either (Begins i j p s (enters (giver_at i s) i (Finish k))) (has_byte k s) (calls.finish_bytes k s) _ (finishes_bytes k)
-      (λ none. for_owner k (enters (giver_at i s) i (Finish k)) (calls.finish_by k) none (finish-elsewhere k (giver_at i s)) (finishes k none))
-
   -- BYOB requests
 
   request_by : (k : StreamId) (request : Option RequestId) (ds : List Descriptor) → P (calls.request_by k s request ds)
@@ -719,30 +353,6 @@ module _ (i j : StreamId) (p : PipeId) (s : Slots) (here : has_source i s ≡ tr
       (λ e. unlocked_readable k calls.throws_data_clone (λ source. calls.make_stream (calls.send_readable source)) (unchanged (Throws DataClone)) (either P (nat_lt (length s.streams) most_streams) _ _ (λ f. sends_readable k a) (λ f. unchanged TooMany)))
       (λ e. unlocked_writable k calls.throws_data_clone (λ dest. calls.make_stream (calls.send_writable dest)) (unchanged (Throws DataClone)) (either P (nat_lt (length s.streams) most_streams) _ _ (λ f. sends_writable k b) (λ f. unchanged TooMany)))
 
-  deliver-comes : (c : PortId) (m : Message) (g : Giver) → coming g i (OnPort c (DeliverMessage m)) ≡ enters g i (Deliver c m)
-  deliver-comes c m OfSource = refl
-  deliver-comes c m OfByteSource = refl
-  deliver-comes c m (OfHalf a) = refl
-  deliver-comes c m (OfEnd d) = refl
-
-  -- the port of the source is there
-  deliver-nowhere : (c : PortId) (m : Message) → has_port c s ≡ false → enters (giver_at i s) i (Deliver c m) ≡ silence
-  deliver-nowhere c m none = by (giver_at i s) refl
-    where
-      by_same : (d : PortId) → giver_at i s ≡ OfEnd d → (b : Bool) → b ≡ is_same_port d c → (if b then delivered m else silence) ≡ silence
-      by_same d f false n = refl
-      by_same d f true n =
-          let is : d ≡ c = ap (λ (x : ℕ). record { 0 = x }) (eq_numbers d.0 c.0 (sym n)) in
-          let own = end-giver (has_byte i s) (owner_at i s) d f in
-          let at = ended.end i d ReadableSide (readable-shape i s (is_default (slice_get s.streams i.0) here own.0) ∙ rw own.1 refl) in
-          absurd (no-port s.ports c.0 _ (rw is at at) none)
-
-      by : (g : Giver) → giver_at i s ≡ g → enters g i (Deliver c m) ≡ silence
-      by OfSource f = refl
-      by OfByteSource f = refl
-      by (OfHalf a) f = refl
-      by (OfEnd d) f = by_same d f (is_same_port d c) refl
-
   -- each call
   pub call-begins : (c : Call) → leaves i j c ≡ true → Begins i j p s (enters (giver_at i s) i c) (begin c s)
   unfolding begin
@@ -771,13 +381,13 @@ module _ (i j : StreamId) (p : PipeId) (s : Slots) (here : has_source i s ≡ tr
   call-begins (Closed n) l = closed_by (lock_at n s)
   call-begins (Ready n) l = ready_by (lock_at n s)
   call-begins (Release n) l = release n (lock_at n s)
-  call-begins (Enqueue k v) l = enqueue_call k v
-  call-begins (Finish k) l = finish_call k
+  call-begins (Enqueue k v) l = enqueue_call i j p s here sink halved ended locks apart k v
+  call-begins (Finish k) l = finish_call i j p s here sink halved ended locks apart k
   call-begins (Fail k reason) l =
       either P (has_readable k s) _ _ (λ e. fails_readable reason k (readable_at k s).owner)
       (λ e. either P (has_byte k s) _ _ (λ f. does (OnReadable k (ErrorReadable reason) ∷ []) (tt, tt) (if_same (is_same i k), tt))
       (λ f. for_writable k (λ s. calls.fail_writable_by reason k s (writable_at k s).owner) (fails_writable reason k (writable_at k s).owner)))
-  call-begins (Terminate k) l = terminate_call k
+  call-begins (Terminate k) l = terminate_call i j p s here sink halved ended locks apart k
   call-begins (Request k) l = either P (has_byte k s) _ _ (λ e. request_by k (byte_at k s).request (byte_at k s).descriptors) (λ e. unchanged (Throws Unsupported))
   call-begins (Respond q b) l = respond_to q b (stream_of_request q s)
   call-begins (Desired k) l = for_source k (calls.desired k) (desired_by k (owner_at k s))
@@ -796,7 +406,9 @@ module _ (i j : StreamId) (p : PipeId) (s : Slots) (here : has_source i s ≡ tr
   call-begins (Open side) l = either P (nat_lt (length s.streams) most_streams) _ _ (λ e. opens side) (λ e. unchanged TooMany)
   call-begins (Deliver c m) l =
       let t : Told Value = enters (giver_at i s) i (Deliver c m) in
-      either (Begins i j p s t) (has_port c s) _ _ (λ e. brings t ReplyDone (OnPort c (DeliverMessage m)) tt (deliver-comes c m (giver_at i s))) (λ e. refused t (Throws Unsupported) (inl (deliver-nowhere c m e)))
+      either (Begins i j p s t) (has_port c s) _ _
+      (λ e. brings i j p s here sink halved ended locks apart t ReplyDone (OnPort c (DeliverMessage m)) tt (deliver-comes i j p s here sink halved ended locks apart c m (giver_at i s)))
+      (λ e. refused i j p s here sink halved ended locks apart t (Throws Unsupported) (inl (deliver-nowhere i j p s here sink halved ended locks apart c m e)))
   call-begins (Settle h answer) l = settle_host h answer (host_at h s)
   call-begins (State k) l =
       either P (has_source k s) _ _ (λ e. unchanged (ReplyState (readable_looks.state_of (source_at k s))))

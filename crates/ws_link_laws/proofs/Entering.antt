@@ -51,7 +51,7 @@ use Rattle.ws_laws.proofs.Walker as walker
 use Rattle.ws_laws.proofs.Walker.{IsHistory}
 use Rattle.ws_link_laws.specs.Entering.{chunk_in, effect_lets, step_lets, EachJobLetsIn, EnqueueLetsIn, EachEnqueueLetsIn}
 use Rattle.ws_link_laws.specs.Link.{in_source, Giver, OfByteSource, silence, giver_by, giver_at, lets_in, next_enters}
-use Rattle.ws_link_laws.proofs.Calls.{source_shut}
+use Rattle.ws_link_laws.proofs.CallEnters.{source_shut}
 use Rattle.ws_link_laws.proofs.Hosts.{Source, row-giver, reached-source, source-row, source-same, source-owner}
 use Rattle.ws_link_laws.proofs.Steps.{job-coming}
 use Rattle.ws_link_laws.proofs.Telling.{if_same, tells, tells-append, IsSilent, silent-all, is_of, coming}

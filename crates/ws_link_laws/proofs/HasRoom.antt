@@ -39,7 +39,7 @@ use Rattle.ws_link_laws.proofs.Rooms.{total-cons}
 use Rattle.ws_link_laws.proofs.RoomTurns.{Room, more_on, no_more-all, row-room}
 use Rattle.ws_link_laws.proofs.Standing.{Sound}
 use Rattle.ws_link_laws.proofs.Turns.{row-turned}
-use Rattle.ws_link_laws.proofs.Calls.{IsOuter}
+use Rattle.ws_link_laws.proofs.Outer.{IsOuter}
 use Rattle.ws_link_laws.proofs.Steps as steps
 use Rattle.ws_link_laws.proofs.Steps.{the_stream, stream_at, source_there, link-called, link-worked, link-sound}
 use Rattle.ws_link_laws.proofs.Keeps.{entry-keeps}

@@ -1,8 +1,10 @@
 pub mod Posts
 pub mod Telling
 pub mod Hosts
+pub mod AtEnds
 pub mod Tees
 pub mod PortShut
+pub mod Late
 pub mod Ahead
 pub mod Sinks
 pub mod Sources
@@ -17,6 +19,8 @@ pub mod PipeTurns
 pub mod TransformTurns
 pub mod PortTurns
 pub mod Turns
+pub mod Outer
+pub mod CallEnters
 pub mod Calls
 pub mod Steps
 pub mod Keeps
@@ -25,6 +29,8 @@ mod Rooms
 mod RoomTurns
 pub mod HasRoom
 pub mod Worked
+pub mod Far
+pub mod Unused
 pub mod Free
 pub mod Owners
 pub mod OwnLinks

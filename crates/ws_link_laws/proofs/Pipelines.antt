@@ -35,7 +35,9 @@ use Rattle.ws_laws.proofs.Shapes.{transform_shapes}
 use Rattle.ws_laws.proofs.Tables.{writable_there, place_last}
 use Rattle.ws_room_laws.proofs.Turns.{performed-kept}
 use Rattle.ws_link_laws.specs.Sound.{IsReached, IsHosts, IsBare, IsFree}
-use Rattle.ws_link_laws.proofs.Free.{IsFar, FreeSink, Unused, performed-unused, unused-called}
+use Rattle.ws_link_laws.proofs.Far.{IsFar}
+use Rattle.ws_link_laws.proofs.Unused.{FreeSink, Unused, performed-unused}
+use Rattle.ws_link_laws.proofs.Free.{unused-called}
 use Rattle.ws_link_laws.proofs.Hosts.{Hosts, source-shape, sink-shape, hosts-shaped, grown-shape, reached-halved, reached-ended}
 use Rattle.ws_laws.proofs.Ended.{Ended, ended-stays}
 use Rattle.ws_link_laws.proofs.Steps.{place-append, stream_at, source_there}

@@ -39,8 +39,10 @@ use Rattle.ws_laws.proofs.PortDoes.{PortCauses, port-causes}
 use Rattle.ws_laws.proofs.Tables.{either, is_same-refl}
 use Rattle.ws_transform_laws.proofs.Branches.{port-caused}
 use Rattle.ws_link_laws.specs.Link.{Ear, OfPort, Giver, OfEnd, is_port, is_end, silence, in_source, ear_at, giver_at, heard_of, unheard, delivered}
-use Rattle.ws_link_laws.proofs.Ahead.{flushes, posted-silent}
-use Rattle.ws_link_laws.proofs.Hosts.{Hosts, sink-there, hosts-source, port-nowhere, end-nowhere, AtGiver, OwnGiver, OtherGiver, at-giver, AtPort, OwnPort, OtherPort, at-port}
+use Rattle.ws_link_laws.proofs.Late.{flushes}
+use Rattle.ws_link_laws.proofs.Ahead.{posted-silent}
+use Rattle.ws_link_laws.proofs.Hosts.{Hosts, sink-there, hosts-source}
+use Rattle.ws_link_laws.proofs.AtEnds.{port-nowhere, end-nowhere, AtGiver, OwnGiver, OtherGiver, at-giver, AtPort, OwnPort, OtherPort, at-port}
 use Rattle.ws_link_laws.proofs.Standing.{IsInner, IsNotLast}
 use Rattle.ws_link_laws.proofs.Telling.{if_same, tells, IsSilent, silent-all, hands, writes, chunks, coming}
 use Rattle.ws_link_laws.proofs.Unheard.{unheard-last, posts-unheard, row-unheard}

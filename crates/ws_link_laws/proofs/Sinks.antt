@@ -30,7 +30,7 @@ use Rattle.ws_writable_laws.proofs.Shape.{leads, is_flying}
 use Rattle.ws_link_laws.specs.Link.{Ear, OfSink, OfTransform, OfPort, silence, before_todo, todo_of, in_sink}
 use Rattle.ws_link_laws.specs.Sound.{Plainly, Shaped, SinkAlive, FitsIn, SinkFits}
 use Rattle.ws_link_laws.specs.Sound as sound
-use Rattle.ws_link_laws.proofs.Ahead.{Fits}
+use Rattle.ws_link_laws.proofs.Late.{Fits}
 use Rattle.ws_link_laws.proofs.Telling.{tells, tells-append, hands, written}
 
 -- an operation begins

@@ -47,14 +47,16 @@ use Rattle.ws_transform_laws.proofs.PortHalving.{PortGoing, port-going, port-goi
 use Rattle.ws_value.specs.declared.ids.PortId.{PortId}
 use Rattle.ws_link_laws.specs.Link.{silence, in_sink, in_source, held_items, piped_by, in_pipe, lies, Ear, ear_at, heard_of, unheard, behind, enters, job_enters, next_enters, leaves}
 use Rattle.ws_link_laws.specs.Sound.{IsReached, all_spare, elsewhere, AreApart, IsLink}
-use Rattle.ws_link_laws.proofs.Ahead.{Ahead, IsLate, Placed, flushes, late-silent, late-front, late-first}
+use Rattle.ws_link_laws.proofs.Ahead.{Ahead}
+use Rattle.ws_link_laws.proofs.Late.{IsLate, Placed, flushes, late-silent, late-front, late-first}
 use Rattle.ws_link_laws.proofs.Hosts.{Hosts, sink-owner, reached-hosts, hosts-same, hosts-grown, ear-same, grown-shape}
 use Rattle.ws_link_laws.proofs.Telling.{if_same, tells, IsSilent, silent-all, writes, chunks, coming, behind_on, behind_on-nothing}
 use Rattle.ws_link_laws.proofs.Unheard.{next-unheard, watch-unheard}
 use Rattle.ws_link_laws.proofs.Pipes.{rank}
 use Rattle.ws_link_laws.proofs.Standing.{IsInner, IsNotLast, IsStill, AtEnd, State, state-same, Sound}
 use Rattle.ws_link_laws.proofs.Turns.{row-turned}
-use Rattle.ws_link_laws.proofs.Calls.{IsOuter, outer-inner, outer-last, outer-late, outer-placed, outer-writes, outer-chunks, Begins, call-begins, call-untied}
+use Rattle.ws_link_laws.proofs.Outer.{IsOuter, outer-inner, outer-last, outer-late, outer-placed, outer-writes, outer-chunks, Begins}
+use Rattle.ws_link_laws.proofs.Calls.{call-begins, call-untied}
 use Rattle.ws_steps.specs.Slots.{ByteStream}
 use Rattle.ws_steps.specs.Bytes as byte
 use Rattle.ws_link_laws.specs.Link.{Giver, giver_at}

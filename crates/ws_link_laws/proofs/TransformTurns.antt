@@ -37,8 +37,10 @@ use Rattle.ws_laws.proofs.Tables.{is_same-refl}
 use Rattle.ws_laws.proofs.TransformDoes.{IsCallOf, TransformCauses, transform-causes}
 use Rattle.ws_link_laws.specs.Entering.{chunk_in}
 use Rattle.ws_link_laws.specs.Link.{Ear, OfSink, OfTransform, OfPort, silence, in_source, ear_at, heard_call}
-use Rattle.ws_link_laws.proofs.Ahead.{flushes, taken-silent}
-use Rattle.ws_link_laws.proofs.Hosts.{Hosts, Source, AtSource, OwnSource, OtherSource, hosts-source, at-source, no-source, AtSink, OwnSink, OtherSink, at-sink, no-sink}
+use Rattle.ws_link_laws.proofs.Late.{flushes}
+use Rattle.ws_link_laws.proofs.Ahead.{taken-silent}
+use Rattle.ws_link_laws.proofs.Hosts.{Hosts, Source, hosts-source}
+use Rattle.ws_link_laws.proofs.AtEnds.{AtSource, OwnSource, OtherSource, at-source, no-source, AtSink, OwnSink, OtherSink, at-sink, no-sink}
 use Rattle.ws_link_laws.proofs.Telling.{is_of, is_in, if_same, tells, IsSilent, silent-all, taken, hands, writes, chunks, coming}
 use Rattle.ws_link_laws.proofs.Standing.{IsInner, IsNotLast}
 use Rattle.ws_link_laws.specs.Link.{giver_at, Giver, OfSource, OfByteSource, OfHalf, OfEnd, giver_by}
