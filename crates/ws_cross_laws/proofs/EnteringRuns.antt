@@ -83,18 +83,18 @@ past-history = record {
 
 -- a new port, where a call makes one
 
-abbrev NewPort : Slots → cross.Slots → Slots → Type 0
+abbrev pub NewPort : Slots → cross.Slots → Slots → Type 0
 NewPort s x z = (x.live ≡ true) × (x.side ≡ ReadableSide → (x.stream.0 ≡ length s.streams)
     × (slice_get z.streams x.stream.0 ≡ Some (end_of (record { 0 = length s.ports }) ReadableSide)))
 
-abbrev PortsNow : Slots → Slots → Type 0
+abbrev pub PortsNow : Slots → Slots → Type 0
 PortsNow s z = (z.ports ≡ s.ports) ⊎ ((x : cross.Slots) × ((z.ports ≡ s.ports ++ x ∷ []) × NewPort s x z))
 
 port-added : (side : Side) (s : Slots) → PortsNow s (add_port (record { 0 = length s.streams }) s side)
 port-added ReadableSide s = inr (_, (refl, (refl, λ e. (refl, get-last s.streams [] (end_of (record { 0 = length s.ports }) ReadableSide)))))
 port-added WritableSide s = inr (_, (refl, (refl, λ e. cc)))
 
-call-ports : (call : Call) (s : Slots) → PortsNow s (begin call s).done.slots
+pub call-ports : (call : Call) (s : Slots) → PortsNow s (begin call s).done.slots
 call-ports call s = each_call (λ (b : Begun). PortsNow s b.done.slots) call s (record {
   unchanged = λ reply. inl refl;
   rejected = inl refl;
@@ -142,12 +142,12 @@ last-place [] y (suc n) = inl refl
 last-place (x ∷ xs) y zero = inl refl
 last-place (x ∷ xs) y (suc n) = last-place xs y n
 
-past-end : (xs : List Stream) → slice_get xs (length xs) ≡ None
+pub past-end : (xs : List Stream) → slice_get xs (length xs) ≡ None
 past-end [] = refl
 past-end (x ∷ xs) = past-end xs
 
 -- a stream that is there stays as it is where a call begins
-stream-stays : (call : Call) (s : Slots) (i : StreamId) (st : Stream) → slice_get s.streams i.0 ≡ Some st → slice_get (begin call s).done.slots.streams i.0 ≡ Some st
+pub stream-stays : (call : Call) (s : Slots) (i : StreamId) (st : Stream) → slice_get s.streams i.0 ≡ Some st → slice_get (begin call s).done.slots.streams i.0 ≡ Some st
 stream-stays call s i st at = begin-makes (λ z. slice_get z.streams i.0 ≡ Some st) (record {
   promise = λ z k. k;
   locks = λ z ls k. k;
@@ -170,15 +170,15 @@ shape-none f [] n e = refl
 shape-none f (x ∷ xs) zero e = cc
 shape-none f (x ∷ xs) (suc n) e = shape-none f xs n e
 
-none-shape : {X Y : Type 0} (f : X → Y) (xs : List X) (n : ℕ) → slice_get xs n ≡ None → slice_get (map f xs) n ≡ None
+pub none-shape : {X Y : Type 0} (f : X → Y) (xs : List X) (n : ℕ) → slice_get xs n ≡ None → slice_get (map f xs) n ≡ None
 none-shape f [] n e = refl
 none-shape f (x ∷ xs) zero e = cc
 none-shape f (x ∷ xs) (suc n) e = none-shape f xs n e
 
-same-shape : (x y : PortShape) → Some x ≡ Some y → (x.side ≡ y.side) × (x.stream ≡ y.stream)
+pub same-shape : (x y : PortShape) → Some x ≡ Some y → (x.side ≡ y.side) × (x.stream ≡ y.stream)
 same-shape x y e = (cc, cc)
 
-same-port : (x y : cross.Slots) → Some x ≡ Some y → x ≡ y
+pub same-port : (x y : cross.Slots) → Some x ≡ Some y → x ≡ y
 same-port x y e = cc
 
 none-entered : (b : Bool) (f : Flow) → f.entered ≡ [] → (if b then f else no_flow).entered ≡ []
@@ -200,7 +200,7 @@ module _ (c : PortId) (i : StreamId) where
     pub held : (x : cross.Slots) → slice_get s.ports c.0 ≡ Some x → x.side ≡ ReadableSide → x.stream ≡ i → Enters c i h.taken h.entered x (readable_at i s) es
 
   -- the stream of the port
-  here-of : (s : Slots) → Ended s → (x : cross.Slots) → slice_get s.ports c.0 ≡ Some x → x.side ≡ ReadableSide → x.stream ≡ i → slice_get (stream_shapes s) i.0 ≡ Some (ReadableOf (EndOf c))
+  pub here-of : (s : Slots) → Ended s → (x : cross.Slots) → slice_get s.ports c.0 ≡ Some x → x.side ≡ ReadableSide → x.stream ≡ i → slice_get (stream_shapes s) i.0 ≡ Some (ReadableOf (EndOf c))
   here-of s ended x is side stream =
       subst (λ (k : StreamId). slice_get (stream_shapes s) k.0 ≡ Some (ReadableOf (EndOf c))) stream
       (ended.ends c (port_shape x) (map-there port_shape s.ports c.0 x is) ∙ ap (λ (k : Side). Some (end_shape c k)) side)
@@ -277,7 +277,7 @@ module _ (c : PortId) (i : StreamId) where
   standing taken entered x r es n k =
       untouched c i taken entered x r es (sym (append-nil entered) ∙ k.enters) n (λ l. inl (settled taken entered x r k l))
 
-  there-by : (xs : List Stream) (n : ℕ) → slice_get (map stream_shape xs) n ≡ Some (ReadableOf (EndOf c)) → (r : readable.Slots) × ((slice_get xs n ≡ Some (ReadableStream r)) × (r.owner ≡ EndOf c))
+  pub there-by : (xs : List Stream) (n : ℕ) → slice_get (map stream_shape xs) n ≡ Some (ReadableOf (EndOf c)) → (r : readable.Slots) × ((slice_get xs n ≡ Some (ReadableStream r)) × (r.owner ≡ EndOf c))
   there-by [] n e = cc
   there-by (ReadableStream r ∷ xs) zero e = (r, (refl, cc))
   there-by (ByteStream b ∷ xs) zero e = cc
@@ -285,7 +285,7 @@ module _ (c : PortId) (i : StreamId) where
   there-by (x ∷ xs) (suc n) e = there-by xs n e
 
   -- the stream of the port isn't the host's
-  end-not_hosts : (s : Slots) → slice_get (stream_shapes s) i.0 ≡ Some (ReadableOf (EndOf c)) → NotHosts c i s
+  pub end-not_hosts : (s : Slots) → slice_get (stream_shapes s) i.0 ≡ Some (ReadableOf (EndOf c)) → NotHosts c i s
   end-not_hosts s here =
       let t = there-by s.streams i.0 here in
       record {
@@ -296,7 +296,7 @@ module _ (c : PortId) (i : StreamId) where
       }
 
   -- nor is one that isn't there
-  absent-not_hosts : (s : Slots) → slice_get s.streams i.0 ≡ None → NotHosts c i s
+  pub absent-not_hosts : (s : Slots) → slice_get s.streams i.0 ≡ None → NotHosts c i s
   absent-not_hosts s n = record {
     readable = λ there e. let kind : has_readable i s ≡ false = ap is_readable_stream n in false_true (has_readable i s) there kind;
     bytes = λ e. let kind : has_byte i s ≡ false = ap is_byte_stream n in false_true (has_byte i s) e kind;

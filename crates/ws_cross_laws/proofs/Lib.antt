@@ -24,3 +24,5 @@ pub mod WritableEnds
 pub mod Sending
 pub mod Cancels
 pub mod Parted
+pub mod Closing
+pub mod Shutting

@@ -1,6 +1,7 @@
 //! Laws of ports, in every list of calls, jobs and takings of events, performed one after another from the empty realm: what a port posts, when it is entangled, and what its end takes and hands on.
 #![tactic(auto)]
 
+ghost use Rattle.ws_cross_laws.specs.Ended.{EachReadableEndClosesByMessage, EachWritableEndPostsCloseLast};
 ghost use Rattle.ws_cross_laws.specs.Parted.{NonePostsAnErrorWhileReadable};
 ghost use Rattle.ws_cross_laws.specs.Sending.{EachPostCanBeSent};
 ghost use Rattle.ws_cross_laws.specs.WritableEnds.{EachWritableEndStep};
@@ -34,4 +35,14 @@ pub fn each_post_can_be_sent()
 /// In every run, a port with a readable end has posted no error while its stream is readable: it posts one as the stream is cancelled, and then the stream isn't.
 pub fn none_posts_an_error_while_readable()
     ensures { NonePostsAnErrorWhileReadable }
+{}
+
+/// In every run, a port with a writable end posts a close only where the close algorithm of its stream was performed, and then the chunks that it posted are all that was written to the stream, in order.
+pub fn each_writable_end_posts_close_last()
+    ensures { EachWritableEndPostsCloseLast }
+{}
+
+/// In every run, the stream at a readable end of a port has a close requested, or is closed without a cancel, only where a close was delivered while the port was entangled.
+pub fn each_readable_end_closes_by_message()
+    ensures { EachReadableEndClosesByMessage }
 {}
