@@ -8,7 +8,7 @@ from __future__ import annotations
 
 import re
 from dataclasses import dataclass
-from typing import Any, Callable
+from typing import Any, Callable, Mapping, TypeVar
 
 import calls
 from calls import Call, PipeOptions
@@ -22,6 +22,8 @@ MOST_JOBS = 100_000
 LONGEST_AUTO = 4096
 LONGEST_VIEW = 65_536
 LARGEST_ELEMENT = 255
+
+Choice = TypeVar("Choice")
 
 NUMBER = re.compile(rb"0|[1-9][0-9]*")
 HEXADECIMAL = re.compile(rb"(?:[0-9a-fA-F]{2})*")
@@ -107,28 +109,23 @@ def element_size(word: bytes) -> int:
     return number_in(word, LARGEST_ELEMENT + 1)
 
 
+def chosen(word: bytes, choices: Mapping[bytes, Choice]) -> Choice:
+    """What one of these words stands for."""
+    if word not in choices:
+        raise Mismatch
+    return choices[word]
+
+
 def size(word: bytes) -> Callable[[Value], int]:
-    if word == b"count":
-        return count_size
-    if word == b"bytes":
-        return byte_length_size
-    raise Mismatch
+    return chosen(word, {b"count": count_size, b"bytes": byte_length_size})
 
 
 def kind_is_host(word: bytes) -> bool:
-    if word == b"identity":
-        return False
-    if word == b"host":
-        return True
-    raise Mismatch
+    return chosen(word, {b"identity": False, b"host": True})
 
 
 def start_is_later(word: bytes) -> bool:
-    if word == b"now":
-        return False
-    if word == b"later":
-        return True
-    raise Mismatch
+    return chosen(word, {b"now": False, b"later": True})
 
 
 def reason(word: bytes) -> Value:
@@ -152,11 +149,7 @@ def value(word: bytes) -> Value:
 
 
 def side_is_readable(word: bytes) -> bool:
-    if word == b"readable":
-        return True
-    if word == b"writable":
-        return False
-    raise Mismatch
+    return chosen(word, {b"readable": True, b"writable": False})
 
 
 def ok(word: bytes) -> None:
