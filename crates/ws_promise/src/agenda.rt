@@ -3,8 +3,9 @@ ghost use Rattle.ws_promise.specs.Seen.{HasEffectRoom};
 
 use std::alloc::Global;
 use std::marker::Model;
+use std::mem::replace;
 use ws_steps::Effect;
-use ws_value::NoMemory;
+use ws_value::{NoMemory, Plain, Value};
 
 /// The effects that the effect under way has caused so far, in order. It is seen with the number of its places.
 #[derive(Drop)]
@@ -47,6 +48,13 @@ impl Agenda {
         Ok(())
     }
 
+    /// For how many effects there are places.
+    pub fn capacity(&self) -> usize
+        ensures { result ≡ self.now.capacity }
+    {
+        self.effects.capacity()
+    }
+
     /// How many effects there are.
     pub fn len(&self) -> usize
         ensures { result ≡ length self.now.effects }
@@ -71,4 +79,12 @@ impl Agenda {
     {
         self.effects.pop()
     }
+}
+
+/// Takes out the value that an effect carries, and leaves undefined.
+#[inline]
+pub fn taken(value: &mut Value) -> Value
+    ensures { result ≡ value.old }
+{
+    replace(value, Value::Plain(Plain::Undefined))
 }

@@ -42,8 +42,8 @@ fn perform(rt: &impl Abort, promises: &mut Promises, line: Line) -> Result<(), N
     match line {
         Line::Fresh(p) => assert_eq!(rt; promises.fresh(), PromiseId(p)),
         Line::React(p) => promises.react(PromiseId(p), STEP, None),
-        Line::Use(p, q) => promises.use_gift(Gift::This(PromiseId(p)), Use::Resolve(PromiseId(q))),
-        Line::Resolve(p) => promises.use_gift(Gift::Fresh(Ok(VALUE)), Use::Resolve(PromiseId(p))),
+        Line::Use(p, q) => promises.use_gift(&Gift::This(PromiseId(p)), &Use::Resolve(PromiseId(q))),
+        Line::Resolve(p) => promises.use_gift(&Gift::Fresh(Ok(VALUE)), &Use::Resolve(PromiseId(p))),
         Line::Settle(p) => promises.settle(PromiseId(p), Ok(VALUE)),
         Line::Give(p) => promises.give(PromiseId(p), Value::Plain(VALUE)),
         Line::Release(p) => promises.release(PromiseId(p)),

@@ -163,7 +163,7 @@ impl Tables {
         let id = HostId(self.hosts.len() as u128);
         let promise = self.promises.fresh();
         self.promises.tell(Event::Host { id, call });
-        self.promises.use_this(promise, u);
+        self.promises.use_this(promise, &u);
         self.hosts.push_reserved(Some(promise));
     }
 
@@ -266,7 +266,7 @@ impl Tables {
                 self.close_steps_with(i, request, chunk)
             }
             Effect::ErrorSteps(i, request, e) => self.error_steps(i, request, e),
-            Effect::Give(gift, u) => self.promises.use_gift(gift, u),
+            Effect::Give(gift, u) => self.promises.use_gift(&gift, &u),
             Effect::Settle(promise, outcome) => self.promises.settle(promise, outcome),
             Effect::Queue(micro) => self.promises.micro(micro),
             Effect::CallHost(call, u) => self.call_host(call, u),

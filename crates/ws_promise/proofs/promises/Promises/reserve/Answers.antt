@@ -4,8 +4,8 @@ use Rattle.ws_promise.proofs.EntryLemmas.{length-entries_from}
 use Rattle.ws_promise.proofs.RoomLemmas.{jobs_left, events_left}
 use Rattle.ws_promise.proofs.promises.Promises.reserve.Goals as goal
 
-pub returns-then-n-free-clause-ok : goal.returns-then-n-free-clause-ok
-returns-then-n-free-clause-ok c = (c.free.ensures c.args.n).0 (omega arith)
+pub returns-then-has_room-clause-ok : goal.returns-then-has_room-clause-ok
+returns-then-has_room-clause-ok c = (c.has_room.ensures.0 c.if-has_room.true).0
 
 pub returns-clause-ok : goal.returns-clause-ok
 returns-clause-ok c =
@@ -19,16 +19,26 @@ returns-clause-ok c =
     }
 
 pub returns-in_err-reserve-clause-ready : goal.returns-in_err-reserve-clause-ready
-returns-in_err-reserve-clause-ready c = λ h. absurd (omega (arith, (c.free.ensures c.args.n).1 h))
+returns-in_err-reserve-clause-ready c = λ h.
+    let room = c.has_room.ensures.1 (h, omega (arith, h.jobs)) in
+    cc
 
 pub returns-in_err-reserve-2-clause-ready : goal.returns-in_err-reserve-2-clause-ready
-returns-in_err-reserve-2-clause-ready c = λ h. absurd (omega (arith, (c.free.ensures c.args.n).1 h))
+returns-in_err-reserve-2-clause-ready c = λ h.
+    let room = c.has_room.ensures.1 (h, omega (arith, h.jobs)) in
+    cc
 
 pub returns-in_err-reserve-3-clause-ready : goal.returns-in_err-reserve-3-clause-ready
-returns-in_err-reserve-3-clause-ready c = λ h. absurd (omega (arith, (c.free.ensures c.args.n).1 h))
+returns-in_err-reserve-3-clause-ready c = λ h.
+    let room = c.has_room.ensures.1 (h, omega (arith, h.jobs)) in
+    cc
 
 pub returns-in_err-reserve-4-clause-ready : goal.returns-in_err-reserve-4-clause-ready
-returns-in_err-reserve-4-clause-ready c = λ h. absurd (omega (arith, (c.free.ensures c.args.n).1 h))
+returns-in_err-reserve-4-clause-ready c = λ h.
+    let room = c.has_room.ensures.1 (h, omega (arith, h.jobs)) in
+    cc
 
 pub returns-clause-ready : goal.returns-clause-ready
-returns-clause-ready c = λ h. absurd (omega (arith, (c.free.ensures c.args.n).1 h))
+returns-clause-ready c = λ h.
+    let room = c.has_room.ensures.1 (h, omega (arith, h.jobs)) in
+    cc
