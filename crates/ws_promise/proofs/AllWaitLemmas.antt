@@ -9,12 +9,12 @@ use Rattle.ws_steps.specs.Places as places
 use Rattle.ws_steps.specs.Places.{reactions_of, reactions_in}
 use Rattle.ws_steps.specs.Promises.{Entry, is_pending}
 use Rattle.ws_promise.specs.Counts.{unnoted_in}
-use Rattle.ws_promise.specs.View.{AllWait, entries_from, entry_for, entry_with, waiting_of, waiting_in, waiting_on, waiting_elsewhere}
+use Rattle.ws_promise.specs.View.{AllWait, WaitAlike, entries_from, entry_for, entry_with, waiting_of, waiting_in, waiting_on, waiting_elsewhere}
 use Rattle.ws_promise.specs.declared.slots.Slot.{Slot}
 use Rattle.ws_promise.specs.declared.waiting.Waiting.{Waiting}
 use Rattle.ws_promise.proofs.CountLemmas.{sum_by-slice_set, unnoted_in-cons}
-use Rattle.ws_promise.proofs.CountedLemmas.{Counted-push, Counted-settle, Counted-react, Counted-set, Counted-empty}
-use Rattle.ws_promise.proofs.EntryLemmas.{entries_from-push, entries_from-set, entries_from-settle, entries_from-react, entries_from-elsewhere, entries_from-waits, slice_get-entries_from}
+use Rattle.ws_promise.proofs.CountedLemmas.{Counted-push, Counted-settle, Counted-react, Counted-set, Counted-empty, Counted-alike}
+use Rattle.ws_promise.proofs.EntryLemmas.{entries_from-alike, entries_from-push, entries_from-set, entries_from-settle, entries_from-react, entries_from-elsewhere, entries_from-waits, slice_get-entries_from}
 use Rattle.ws_promise.proofs.WaitingLemmas.{waiting_on-elsewhere_other, waiting_on-nobody, length-waiting_both}
 
 at_most : (b : Bool) (n : ℕ) → (if b then n else 0) ≤ n
@@ -119,6 +119,12 @@ pub AllWait-release : (ss : List (Option Slot)) (ws : List Waiting) (i : ℕ) (s
 AllWait-release ss ws i s g o h = record {
   pending = set-pending ss ws i (Some s) None g (rw o refl) h;
   counted = Counted-empty ss ws i (slice_get_within ss i (Some s) g) h.counted;
+}
+
+pub AllWait-alike : (ss : List (Option Slot)) (ws vs : List Waiting) → WaitAlike ws vs → AllWait ss vs → AllWait ss ws
+AllWait-alike ss ws vs a h = record {
+  pending = rw (a.count, entries_from-alike 0 ss ws vs a) h.pending;
+  counted = Counted-alike ss ws vs a h.counted;
 }
 
 -- the watched promises that are pending, counted by the places

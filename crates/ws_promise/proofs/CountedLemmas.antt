@@ -5,7 +5,7 @@ use Rattle.std.proofs.lemmas.Bool.Decides.{eqb_tells}
 use Rattle.std.proofs.lemmas.Option.{slice_get_within}
 use Rattle.std.proofs.Math.ListN.{length-append}
 use Rattle.ws_steps.proofs.PromiseLaws.{slice_get-set_same, slice_get-set_other}
-use Rattle.ws_promise.specs.View.{Counted, waiting_on, waiting_elsewhere}
+use Rattle.ws_promise.specs.View.{Counted, WaitAlike, waiting_on, waiting_elsewhere}
 use Rattle.ws_promise.specs.declared.slots.Slot.{Slot}
 use Rattle.ws_promise.specs.declared.waiting.Waiting.{Waiting}
 use Rattle.ws_promise.proofs.WaitingLemmas.{waiting_on-elsewhere_same, waiting_on-elsewhere_other, waiting_on-push_same, waiting_on-push_other}
@@ -67,3 +67,6 @@ slice_get-push {A} (z ∷ xs) x y (suc k) g = ⊎_elim (λ t. inl t) (λ t. inr 
 pub Counted-push : (ss : List (Option Slot)) (ws : List Waiting) (t : Slot) → waiting_on (length ss) ws ≡ [] → t.waits ≡ 0 → Counted ss ws → Counted (ss ++ Some t ∷ []) ws
 Counted-push ss ws t n z h k s g =
     ⊎_elim (λ e. h k s e) (λ e. let is : t ≡ s = cc in rw (e.0, n, ← is, z) refl) (slice_get-push ss (Some t) (Some s) k g)
+
+pub Counted-alike : (ss : List (Option Slot)) (ws vs : List Waiting) → WaitAlike ws vs → Counted ss vs → Counted ss ws
+Counted-alike ss ws vs a h k s g = rw (a.each k) (h k s g)

@@ -2,7 +2,7 @@ use Rattle.std.proofs.Common.{◌≤◌, ◌+◌, length, min, arith, deque_capa
 use Rattle.ws_steps.specs.Places.{reactions_in}
 use Rattle.ws_promise.specs.View.{entries_from}
 use Rattle.ws_promise.proofs.RoomLemmas.{jobs_fit}
-use Rattle.ws_promise.proofs.promises.Promises.react.Goals as goal
+use Rattle.ws_promise.proofs.promises.Promises.register.Goals as goal
 
 pub register-requires-clause-waiting_room : goal.register-requires-clause-waiting_room
 register-requires-clause-waiting_room c =
