@@ -1,11 +1,13 @@
 //! What a job begins with.
-ghost use Rattle.std.specs.Prelude.{◌≡◌, ◌≤◌, [], Ok, Result, not};
+ghost use Rattle.std.specs.Prelude.{◌≡◌, ◌≤◌, ◌+◌, ◌++◌, [], Ok, Result, false, not, length};
+ghost use Rattle.ws_promise.specs.Seen.{HasEffectRoom};
 ghost use Rattle.ws_steps.specs.Jobs as jobs;
 ghost use Rattle.ws_steps.specs.Run.{is_idle};
-ghost use Rattle.ws_steps.specs.Slots.{causes};
 ghost use Rattle.ws_tables.specs.View.{slots_of};
 ghost use Rattle.ws_calls.specs.Begin.{Begins};
+ghost use Rattle.ws_calls.specs.Reactions.{is_common};
 
+use ws_promise::Agenda;
 use ws_steps::{
     Effect, Job, Micro, PipeOperation, PortOperation, ReadableOperation, Step, TeeOperation,
     TransformOperation, WritableOperation,
@@ -14,13 +16,13 @@ use ws_tables::Tables;
 use ws_value::{Plain, PromiseId};
 
 /// What the steps of a reaction return or throw; where there are none for the outcome, it goes on.
-fn returned(step: Step, outcome: Result<Plain, Plain>) -> Result<Plain, Plain>
-    ensures { result ≡ jobs.returned step outcome }
+fn returned(step: &Step, outcome: &Result<Plain, Plain>) -> Result<Plain, Plain>
+    ensures { result ≡ jobs.returned step.now outcome.now }
 {
     match step {
         Step::ReturnUndefined => match outcome {
             Ok(_) => Ok(Plain::Undefined),
-            Err(reason) => Err(reason),
+            Err(reason) => Err(*reason),
         },
         Step::ReadableStart(_) => Ok(Plain::Undefined),
         Step::ReadablePull(_) => Ok(Plain::Undefined),
@@ -34,7 +36,7 @@ fn returned(step: Step, outcome: Result<Plain, Plain>) -> Result<Plain, Plain>
         Step::PipeActed(_) => Ok(Plain::Undefined),
         Step::PipePart(_) => Ok(Plain::Undefined),
         Step::TransformChanged(_, _) => Ok(Plain::Undefined),
-        Step::Transformed(_) => outcome,
+        Step::Transformed(_) => *outcome,
         Step::TransformFlushed(_, _) => Ok(Plain::Undefined),
         Step::TransformAborted(_, _, _) => Ok(Plain::Undefined),
         Step::TransformCancelled(_, _, _) => Ok(Plain::Undefined),
@@ -43,113 +45,149 @@ fn returned(step: Step, outcome: Result<Plain, Plain>) -> Result<Plain, Plain>
     }
 }
 
-/// Causes the steps of a reaction.
-fn cause_steps(tables: &mut Tables, step: Step, outcome: Result<Plain, Plain>)
-    requires quiet { tables.old.caused.effects ≡ [] }
-    requires room { 2 ≤ tables.old.caused.capacity }
-    ensures { Begins (causes (jobs.steps step outcome) (slots_of tables.old)) tables.old tables.new }
+/// Causes the steps of a reaction that no chunk meets on its way through a pipe.
+#[cold]
+#[inline(never)]
+fn cause_uncommon_steps(caused: &mut Agenda, step: &Step, outcome: &Result<Plain, Plain>)
+    requires room { HasEffectRoom 1 caused.old }
+    requires uncommon { is_common step.now outcome.now ≡ false }
+    ensures effects { caused.new.effects ≡ caused.old.effects ++ jobs.steps step.now outcome.now }
+    ensures few { length caused.new.effects ≤ length caused.old.effects + 1 }
+    ensures capacity { caused.new.capacity ≡ caused.old.capacity }
 {
     match step {
         Step::ReadableStart(i) => {
-            let operation = ReadableOperation::StartSettled(outcome);
-            tables.caused.push(Effect::Readable(i, operation));
+            let operation = ReadableOperation::StartSettled(*outcome);
+            caused.push(Effect::Readable(*i, operation));
         }
-        Step::ReadablePull(i) => {
-            let operation = ReadableOperation::PullSettled(outcome);
-            tables.caused.push(Effect::Readable(i, operation));
-        }
+        Step::ReadablePull(_) => unreachable!(),
         Step::ReturnUndefined => {}
         Step::WritableStart(i) => {
-            let operation = WritableOperation::StartSettled(outcome);
-            tables.caused.push(Effect::Writable(i, operation));
+            let operation = WritableOperation::StartSettled(*outcome);
+            caused.push(Effect::Writable(*i, operation));
         }
-        Step::WritableWrite(i) => {
-            let operation = WritableOperation::WriteSettled(outcome);
-            tables.caused.push(Effect::Writable(i, operation));
-        }
+        Step::WritableWrite(_) => unreachable!(),
         Step::WritableClose(i) => {
-            let operation = WritableOperation::CloseSettled(outcome);
-            tables.caused.push(Effect::Writable(i, operation));
+            let operation = WritableOperation::CloseSettled(*outcome);
+            caused.push(Effect::Writable(*i, operation));
         }
         Step::WritableAbort(i, promise) => {
-            let operation = WritableOperation::AbortSettled(promise, outcome);
-            tables.caused.push(Effect::Writable(i, operation));
+            let operation = WritableOperation::AbortSettled(*promise, *outcome);
+            caused.push(Effect::Writable(*i, operation));
         }
-        Step::PipeEnds(p) => tables.caused.push(Effect::Pipe(p, PipeOperation::Look)),
-        Step::PipeReady(p) => tables
-            .caused
-            .push(Effect::Pipe(p, PipeOperation::LookReady)),
-        Step::PipeWrote(p) => tables
-            .caused
-            .push(Effect::Pipe(p, PipeOperation::WriteEnded)),
+        Step::PipeEnds(p) => caused.push(Effect::Pipe(*p, PipeOperation::Look)),
+        Step::PipeReady(_) => unreachable!(),
+        Step::PipeWrote(_) => unreachable!(),
         Step::PipeActed(p) => {
-            let operation = PipeOperation::ActionSettled(outcome);
-            tables.caused.push(Effect::Pipe(p, operation));
+            let operation = PipeOperation::ActionSettled(*outcome);
+            caused.push(Effect::Pipe(*p, operation));
         }
         Step::PipePart(p) => {
-            let operation = PipeOperation::PartSettled(outcome);
-            tables.caused.push(Effect::Pipe(p, operation));
+            let operation = PipeOperation::PartSettled(*outcome);
+            caused.push(Effect::Pipe(*p, operation));
         }
-        Step::TransformChanged(t, promise) => match outcome {
-            Ok(_) => {
-                let operation = TransformOperation::WriteGoesOn(promise);
-                tables.caused.push(Effect::Transform(t, operation));
-            }
-            Err(reason) => tables.caused.push(Effect::Settle(promise, Err(reason))),
+        Step::TransformChanged(_, promise) => match outcome {
+            Ok(_) => unreachable!(),
+            Err(reason) => caused.push(Effect::Settle(*promise, Err(*reason))),
         },
-        Step::Transformed(t) => {
-            if let Err(reason) = outcome {
-                let operation = TransformOperation::Error(reason);
-                tables.caused.push(Effect::Transform(t, operation));
+        Step::Transformed(t) => match outcome {
+            Ok(_) => unreachable!(),
+            Err(reason) => {
+                let operation = TransformOperation::Error(*reason);
+                caused.push(Effect::Transform(*t, operation));
             }
-        }
+        },
         Step::TransformFlushed(t, promise) => {
-            let operation = TransformOperation::FlushSettled(promise, outcome);
-            tables.caused.push(Effect::Transform(t, operation));
+            let operation = TransformOperation::FlushSettled(*promise, *outcome);
+            caused.push(Effect::Transform(*t, operation));
         }
         Step::TransformAborted(t, promise, reason) => {
-            let operation = TransformOperation::AbortSettled(promise, reason, outcome);
-            tables.caused.push(Effect::Transform(t, operation));
+            let operation = TransformOperation::AbortSettled(*promise, *reason, *outcome);
+            caused.push(Effect::Transform(*t, operation));
         }
         Step::TransformCancelled(t, promise, reason) => {
-            let operation = TransformOperation::CancelSettled(promise, reason, outcome);
-            tables.caused.push(Effect::Transform(t, operation));
+            let operation = TransformOperation::CancelSettled(*promise, *reason, *outcome);
+            caused.push(Effect::Transform(*t, operation));
         }
         Step::TeeEnds(t) => {
-            let operation = TeeOperation::ReaderSettled(outcome);
-            tables.caused.push(Effect::Tee(t, operation));
+            let operation = TeeOperation::ReaderSettled(*outcome);
+            caused.push(Effect::Tee(*t, operation));
         }
         Step::PortUnblocked(c, promise) => match outcome {
             Ok(_) => {
-                let operation = PortOperation::WriteGoesOn(promise);
-                tables.caused.push(Effect::Port(c, operation));
+                let operation = PortOperation::WriteGoesOn(*promise);
+                caused.push(Effect::Port(*c, operation));
             }
-            Err(reason) => tables.caused.push(Effect::Settle(promise, Err(reason))),
+            Err(reason) => caused.push(Effect::Settle(*promise, Err(*reason))),
         },
+    }
+}
+
+/// Causes the steps of a reaction. Those that no chunk meets on its way through a pipe stand apart, since each local
+/// of a function costs at its entry.
+fn cause_steps(caused: &mut Agenda, step: &Step, outcome: &Result<Plain, Plain>)
+    requires room { HasEffectRoom 1 caused.old }
+    ensures effects { caused.new.effects ≡ caused.old.effects ++ jobs.steps step.now outcome.now }
+    ensures few { length caused.new.effects ≤ length caused.old.effects + 1 }
+    ensures capacity { caused.new.capacity ≡ caused.old.capacity }
+{
+    match step {
+        Step::ReadablePull(i) => {
+            let operation = ReadableOperation::PullSettled(*outcome);
+            caused.push(Effect::Readable(*i, operation));
+        }
+        Step::WritableWrite(i) => {
+            let operation = WritableOperation::WriteSettled(*outcome);
+            caused.push(Effect::Writable(*i, operation));
+        }
+        Step::PipeReady(p) => caused.push(Effect::Pipe(*p, PipeOperation::LookReady)),
+        Step::PipeWrote(p) => caused.push(Effect::Pipe(*p, PipeOperation::WriteEnded)),
+        Step::TransformChanged(t, promise) => match outcome {
+            Ok(_) => {
+                let operation = TransformOperation::WriteGoesOn(*promise);
+                caused.push(Effect::Transform(*t, operation));
+            }
+            Err(_) => cause_uncommon_steps(caused, step, outcome),
+        },
+        Step::Transformed(_) => match outcome {
+            Ok(_) => {}
+            Err(_) => cause_uncommon_steps(caused, step, outcome),
+        },
+        Step::ReadableStart(_)
+        | Step::ReturnUndefined
+        | Step::WritableStart(_)
+        | Step::WritableClose(_)
+        | Step::WritableAbort(_, _)
+        | Step::PipeEnds(_)
+        | Step::PipeActed(_)
+        | Step::PipePart(_)
+        | Step::TransformFlushed(_, _)
+        | Step::TransformAborted(_, _, _)
+        | Step::TransformCancelled(_, _, _)
+        | Step::TeeEnds(_)
+        | Step::PortUnblocked(_, _) => cause_uncommon_steps(caused, step, outcome),
     }
 }
 
 /// Causes the effects of a microtask.
-fn cause_micro(tables: &mut Tables, micro: Micro)
-    requires quiet { tables.old.caused.effects ≡ [] }
-    requires room { 2 ≤ tables.old.caused.capacity }
-    ensures { Begins (causes (jobs.micro_steps micro) (slots_of tables.old)) tables.old tables.new }
+fn cause_micro(caused: &mut Agenda, micro: &Micro)
+    requires { HasEffectRoom 1 caused.old }
+    ensures effects { caused.new.effects ≡ caused.old.effects ++ jobs.micro_steps micro.now }
+    ensures capacity { caused.new.capacity ≡ caused.old.capacity }
 {
     match micro {
-        Micro::PipeLook(p) => tables.caused.push(Effect::Pipe(p, PipeOperation::Look)),
-        Micro::PipeWrite(p) => tables
-            .caused
-            .push(Effect::Pipe(p, PipeOperation::WriteChunk)),
-        Micro::PipeNoParts(p) => tables.caused.push(Effect::Pipe(p, PipeOperation::NoParts)),
-        Micro::TeeHand(t) => tables.caused.push(Effect::Tee(t, TeeOperation::HandChunk)),
+        Micro::PipeLook(p) => caused.push(Effect::Pipe(*p, PipeOperation::Look)),
+        Micro::PipeWrite(p) => caused.push(Effect::Pipe(*p, PipeOperation::WriteChunk)),
+        Micro::PipeNoParts(p) => caused.push(Effect::Pipe(*p, PipeOperation::NoParts)),
+        Micro::TeeHand(t) => caused.push(Effect::Tee(*t, TeeOperation::HandChunk)),
     }
 }
 
 /// Causes the effects of a job.
-fn cause_job(tables: &mut Tables, job: Job)
-    requires quiet { tables.old.caused.effects ≡ [] }
-    requires room { 2 ≤ tables.old.caused.capacity }
-    ensures { Begins (causes (jobs.job_effects job) (slots_of tables.old)) tables.old tables.new }
+fn cause_job(caused: &mut Agenda, job: &Job)
+    requires { HasEffectRoom 2 caused.old }
+    ensures effects { caused.new.effects ≡ caused.old.effects ++ jobs.job_effects job.now }
+    ensures capacity { caused.new.capacity ≡ caused.old.capacity }
 {
     match job {
         Job::Reaction {
@@ -157,16 +195,14 @@ fn cause_job(tables: &mut Tables, job: Job)
             outcome,
             derived,
         } => {
-            cause_steps(tables, step, outcome);
+            cause_steps(caused, step, outcome);
             if let Some(promise) = derived {
-                tables
-                    .caused
-                    .push(Effect::Settle(promise, returned(step, outcome)));
+                caused.push(Effect::Settle(*promise, returned(step, outcome)));
             }
         }
         Job::Follow { p: _, q: _ } => {}
-        Job::Settle { p, outcome } => tables.caused.push(Effect::Settle(p, outcome)),
-        Job::Micro(micro) => cause_micro(tables, micro),
+        Job::Settle { p, outcome } => caused.push(Effect::Settle(*p, *outcome)),
+        Job::Micro(micro) => cause_micro(caused, micro),
     }
 }
 
@@ -178,11 +214,10 @@ pub(crate) fn begin_job(tables: &mut Tables) -> bool
     ensures worked { result ≡ not (is_idle (slots_of tables.old)) }
     ensures begins { Begins (jobs.begin_job (slots_of tables.old)) tables.old tables.new }
 {
-    match tables.promises.next_job() {
-        Some(job) => {
-            cause_job(tables, job);
-            true
-        }
-        None => false,
+    match tables.promises.first_job() {
+        Some(job) => cause_job(&mut tables.caused, job),
+        None => return false,
     }
+    tables.promises.drop_first_job();
+    true
 }
