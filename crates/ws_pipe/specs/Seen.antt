@@ -1,5 +1,5 @@
 -- What is seen of the records of a pipe and of an abort signal.
-use Rattle.std.specs.Prelude.{ℕ, ◌+◌, ◌≤◌, Bool, false, ◌||◌, if◌then◌else◌, nat_lt, List, [], ◌∷◌, Option, Some, None, length}
+use Rattle.std.specs.Prelude.{ℕ, ◌+◌, ◌≤◌, Bool, true, false, ◌||◌, if◌then◌else◌, nat_lt, List, [], ◌∷◌, Option, Some, None, length}
 use Rattle.ws_value.specs.declared.ids.PipeId.{PipeId}
 use Rattle.ws_value.specs.declared.ids.PromiseId.{PromiseId}
 use Rattle.ws_value.specs.declared.value.Plain.{Plain}
@@ -9,6 +9,7 @@ use Rattle.ws_steps.specs.declared.effects.Effect.TheVariants.{Readable as OnRea
 use Rattle.ws_steps.specs.declared.pipes.Action.TheVariants.{AbortDest, CancelSource, CloseDest}
 use Rattle.ws_steps.specs.declared.pipes.Ends.{Ends}
 use Rattle.ws_steps.specs.declared.pipes.PipeOperation.{PipeOperation}
+use Rattle.ws_steps.specs.declared.pipes.PipeOperation.TheVariants.{Look, LookReady, KeepChunk, WriteChunk, GoOn, WriteEnded}
 use Rattle.ws_steps.specs.declared.readable.ReadableOperation.TheVariants.{Cancel}
 use Rattle.ws_steps.specs.declared.writable.WritableOperation.TheVariants.{ClosePropagating}
 use Rattle.ws_steps.specs.Effects.{type_error}
@@ -24,6 +25,16 @@ acts_of s p fx = record { slots = s; out = out_of p fx }
 pub record HasRoomFor (operation : PipeOperation) (p : Seen) : Type 0 where
   pub promises : HasPromiseRoom (own_pipe promises_alone operation) p
   pub jobs : HasJobRoom (own_pipe jobs_alone operation) p
+
+-- whether the way of a chunk through a pipe meets the operation
+abbrev pub is_common : PipeOperation → Bool
+is_common Look = true
+is_common LookReady = true
+is_common (KeepChunk v) = true
+is_common WriteChunk = true
+is_common GoOn = true
+is_common WriteEnded = true
+is_common _ = false
 
 -- the actions that are one operation of an end
 

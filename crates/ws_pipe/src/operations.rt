@@ -1,11 +1,11 @@
 //! The operations of a pipe by their names.
-ghost use Rattle.std.specs.Prelude.{◌≡◌, ◌≤◌, length};
-ghost use Rattle.ws_pipe.specs.Seen.{HasRoomFor, acts_of};
+ghost use Rattle.std.specs.Prelude.{◌≡◌, ◌≤◌, false, length};
+ghost use Rattle.ws_pipe.specs.Seen.{HasRoomFor, acts_of, is_common};
 ghost use Rattle.ws_promise.specs.Seen.{HasEffectRoom};
 ghost use Rattle.ws_steps.specs.Operations.{pipe_operation};
 
 use crate::Pipe;
-use ws_promise::{Agenda, Promises};
+use ws_promise::{Agenda, Promises, taken};
 use ws_steps::{Ends, PipeOperation};
 use ws_value::PipeId;
 
@@ -17,13 +17,13 @@ impl Pipe {
         ends: &Ends,
         p: &mut Promises,
         fx: &mut Agenda,
-        operation: PipeOperation,
+        operation: &mut PipeOperation,
     )
-        requires room { HasRoomFor operation p.old }
+        requires room { HasRoomFor operation.old p.old }
         requires counted { self.old.unsettled ≤ length p.old.table.entries }
         requires effect_room { HasEffectRoom 5 fx.old }
         ensures row { acts_of self.new p.new fx.new
-            ≡ pipe_operation me ends.now operation (acts_of self.old p.old fx.old) }
+            ≡ pipe_operation me ends.now operation.old (acts_of self.old p.old fx.old) }
         ensures counted { self.new.unsettled ≤ length p.new.table.entries }
         ensures promise_room { p.new.room ≡ p.old.room }
         ensures effect_room { fx.new.capacity ≡ fx.old.capacity }
@@ -31,15 +31,47 @@ impl Pipe {
         match operation {
             PipeOperation::Look => self.look(me, ends, p, fx),
             PipeOperation::LookReady => self.look_ready(me, ends, p, fx),
-            PipeOperation::KeepChunk(chunk) => self.keep_chunk(me, p, chunk),
-            PipeOperation::ReadEnded => self.read_ended(me, p),
+            PipeOperation::KeepChunk(chunk) => self.keep_chunk(me, p, taken(chunk)),
             PipeOperation::WriteChunk => self.write_chunk(me, p, fx),
             PipeOperation::GoOn => self.go_on(me, ends, p, fx),
             PipeOperation::WriteEnded => self.write_ended(me, ends, p, fx),
-            PipeOperation::Abort(reason) => self.abort(me, ends, p, fx, reason),
-            PipeOperation::ActionSettled(outcome) => self.action_settled(me, fx, outcome),
-            PipeOperation::PartSettled(outcome) => self.part_settled(p, outcome),
+            _ => self.perform_uncommon(me, ends, p, fx, operation),
+        }
+    }
+
+    /// The same for what the way of a chunk doesn't meet, apart, so that `perform` has no locals for it.
+    #[cold]
+    #[inline(never)]
+    fn perform_uncommon(
+        &mut self,
+        me: PipeId,
+        ends: &Ends,
+        p: &mut Promises,
+        fx: &mut Agenda,
+        operation: &mut PipeOperation,
+    )
+        requires uncommon { is_common operation.old ≡ false }
+        requires room { HasRoomFor operation.old p.old }
+        requires counted { self.old.unsettled ≤ length p.old.table.entries }
+        requires effect_room { HasEffectRoom 5 fx.old }
+        ensures row { acts_of self.new p.new fx.new
+            ≡ pipe_operation me ends.now operation.old (acts_of self.old p.old fx.old) }
+        ensures counted { self.new.unsettled ≤ length p.new.table.entries }
+        ensures promise_room { p.new.room ≡ p.old.room }
+        ensures effect_room { fx.new.capacity ≡ fx.old.capacity }
+    {
+        match operation {
+            PipeOperation::ReadEnded => self.read_ended(me, p),
+            PipeOperation::Abort(reason) => self.abort(me, ends, p, fx, *reason),
+            PipeOperation::ActionSettled(outcome) => self.action_settled(me, fx, *outcome),
+            PipeOperation::PartSettled(outcome) => self.part_settled(p, *outcome),
             PipeOperation::NoParts => self.no_parts(p),
+            PipeOperation::Look
+            | PipeOperation::LookReady
+            | PipeOperation::KeepChunk(_)
+            | PipeOperation::WriteChunk
+            | PipeOperation::GoOn
+            | PipeOperation::WriteEnded => unreachable!(),
         }
     }
 }
