@@ -1,5 +1,5 @@
 -- What is seen of the record of a transform stream.
-use Rattle.std.specs.Prelude.{List, [], ◌∷◌, ◌++◌, Result}
+use Rattle.std.specs.Prelude.{Bool, true, false, List, [], ◌∷◌, ◌++◌, Result}
 use Rattle.ws_value.specs.declared.ids.PromiseId.{PromiseId}
 use Rattle.ws_value.specs.declared.ids.StreamId.{StreamId}
 use Rattle.ws_value.specs.declared.value.Plain.{Plain}
@@ -9,7 +9,7 @@ use Rattle.ws_steps.specs.declared.effects.Effect.TheVariants.{Readable as OnRea
 use Rattle.ws_steps.specs.declared.readable.ReadableOperation.TheVariants.{Error as ErrorReadable}
 use Rattle.ws_steps.specs.declared.transform.TransformId.{TransformId}
 use Rattle.ws_steps.specs.declared.transform.TransformOperation.{TransformOperation}
-use Rattle.ws_steps.specs.declared.transform.TransformOperation.TheVariants.{Unblock}
+use Rattle.ws_steps.specs.declared.transform.TransformOperation.TheVariants.{SinkWrite, WriteGoesOn, TransformChunk, Enqueue, Enqueued, Unblock, SourcePull}
 use Rattle.ws_steps.specs.declared.writable.WritableOperation.TheVariants.{ErrorIfNeeded}
 use Rattle.ws_steps.specs.Transform.{Slots, Acts}
 use Rattle.ws_steps.specs.Places.{own_transform, promises_alone}
@@ -21,6 +21,17 @@ acts_of s p fx = record { slots = s; out = out_of p fx }
 -- there are places for what an operation of a transform stream takes by itself
 pub record HasRoomFor (operation : TransformOperation) (p : Seen) : Type 0 where
   pub promises : HasPromiseRoom (own_transform promises_alone operation) p
+
+-- whether the way of a chunk through a transform stream meets the operation
+abbrev pub is_common : TransformOperation → Bool
+is_common (SinkWrite u) = true
+is_common (WriteGoesOn d) = true
+is_common (TransformChunk v d) = true
+is_common (Enqueue v) = true
+is_common Enqueued = true
+is_common Unblock = true
+is_common (SourcePull u) = true
+is_common _ = false
 
 -- the readable half errs, and then the finish promise is settled
 abbrev pub error_readable_and_settle : StreamId → PromiseId → Plain → Result Plain Plain → List Effect
