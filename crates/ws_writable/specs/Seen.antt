@@ -3,6 +3,7 @@ use Rattle.std.specs.Prelude.{ℕ, ◌+◌, ◌-◌, ◌≤◌, Bool, true, fals
 use Rattle.ws_promise.specs.Seen.{Seen, SeenAgenda, out_of, HasPromiseRoom, HasEventRoom}
 use Rattle.ws_queue.specs.Seen.{Lists}
 use Rattle.ws_steps.specs.declared.writable.WritableOperation.{WritableOperation}
+use Rattle.ws_steps.specs.declared.writable.WritableOperation.TheVariants.{Write, HandOn, WriteSettled}
 use Rattle.ws_steps.specs.declared.writable.WriteRecord.{WriteRecord}
 use Rattle.ws_steps.specs.declared.writable.WriteRecord.TheVariants.{Chunk, InFlight, CloseMark}
 use Rattle.ws_steps.specs.Places.{own_writable, promises_alone, events_alone, queued_alone, requests_alone}
@@ -34,6 +35,13 @@ pub record HasRoomFor (operation : WritableOperation) (w : SeenWritable) (p : Se
   pub events : HasEventRoom (own_writable events_alone operation) p
   pub queue : HasQueueRoom (own_writable queued_alone operation) w
   pub requests : HasRequestRoom (own_writable requests_alone operation) w
+
+-- whether the way of a chunk through a pipe meets the operation
+abbrev pub is_common : WritableOperation → Bool
+is_common (Write v p) = true
+is_common (HandOn taker) = true
+is_common (WriteSettled outcome) = true
+is_common _ = false
 
 -- whether a chunk stands there
 abbrev pub is_chunk : Option WriteRecord → Bool
