@@ -42,14 +42,20 @@ fn perform(rt: &impl Abort, promises: &mut Promises, line: Line) -> Result<(), N
     match line {
         Line::Fresh(p) => assert_eq!(rt; promises.fresh(), PromiseId(p)),
         Line::React(p) => promises.react(PromiseId(p), STEP, None),
-        Line::Use(p, q) => promises.use_gift(&Gift::This(PromiseId(p)), &Use::Resolve(PromiseId(q))),
+        Line::Use(p, q) => promises.use_gift(
+            &Gift::This(PromiseId(p)),
+            &Use::Resolve(PromiseId(q)),
+        ),
         Line::Resolve(p) => promises.use_gift(&Gift::Fresh(Ok(VALUE)), &Use::Resolve(PromiseId(p))),
         Line::Settle(p) => promises.settle(PromiseId(p), Ok(VALUE)),
         Line::Give(p) => promises.give(PromiseId(p), Value::Plain(VALUE)),
         Line::Release(p) => promises.release(PromiseId(p)),
         Line::Watch(p) => promises.watch(PromiseId(p)),
         Line::Micro => promises.micro(Micro::PipeLook(PipeId(0))),
-        Line::Takes(job) => assert_eq!(rt; promises.next_job(), job),
+        Line::Takes(job) => {
+            assert_eq!(rt; promises.first_job().copied(), job);
+            promises.drop_first_job();
+        }
         Line::Tells(p) => assert_eq!(rt; told(promises.next_event()), p),
         Line::Pending(p, wanted) => assert_eq!(rt; promises.is_pending(PromiseId(p)), wanted),
         Line::Live(p, wanted) => assert_eq!(rt; promises.is_live(PromiseId(p)), wanted),
