@@ -1,13 +1,14 @@
 -- Places are made in the lists of streams and signals.
-use Rattle.std.proofs.Common.{◌≡◌, ℕ, zero, suc, inl, inr, ⊎_elim, List, [], ◌∷◌, ◌++◌, length, Some, refl, sym, ap, subst, ◌∙◌, Contains, arith}
-use Rattle.std.specs.Prelude.{slice_get, slice_set, Result, Ok, Err, OnOk}
+use Rattle.std.proofs.Common.{◌≡◌, ◌≤◌, ◌+◌, ◌*◌, ℕ, zero, suc, inl, inr, ⊎_elim, List, [], ◌∷◌, ◌++◌, length, Some, refl, sym, ap, subst, ◌∙◌, Contains, arith}
+use Rattle.std.specs.Prelude.{slice_get, slice_set, Result, Ok, Err, OnOk, vec_len}
 use Rattle.std.proofs.lemmas.List.Elements.{Contains-append_cases}
 use Rattle.ws_value.specs.declared.ids.SignalId.{SignalId}
 use Rattle.ws_value.specs.declared.ids.StreamId.{StreamId}
 use Rattle.ws_room_laws.proofs.Rows.{get-other, same-or}
 use Rattle.ws_pipe.specs.Seen.{SeenSignal, HasMemberRoom}
-use Rattle.ws_tables.specs.Room.{HasPlaces, EachHasPlaces, AllCovered, PlacesStay, EachHasMembers, AllHaveMembers, IsRoomier, MembersGrow}
-use Rattle.ws_promise.specs.Seen.{Seen, Grows, HasRoom, jobs_in, events_in}
+use Rattle.ws_tables.specs.Room.{HasPlaces, EachHasPlaces, AllCovered, PlacesStay, EachHasMembers, AllHaveMembers, IsRoomier, MembersGrow, base_places, places_for, IsMade, HasTurns, HasRecords, IsPrepared}
+use Rattle.ws_tables.specs.declared.tables.Tables.{Tables}
+use Rattle.ws_promise.specs.Seen.{Seen, Grows, HasRoom, HasJobRoom, jobs_in, events_in}
 use Rattle.ws_steps.specs.Promises.{Table}
 use Rattle.ws_tables.specs.declared.tables.Stream.{Stream}
 use Rattle.ws_tables.proofs.Streams.{put-is}
@@ -87,3 +88,35 @@ made-at r xs i y h = on_ok r (HasPlaces y) _ (λ has x is. subst HasPlaces (put-
 -- so has the signal
 pub members-made : {T E : Type 0} (r : Result T E) (xs : List SeenSignal) (a : SignalId) (y : SeenSignal) → OnOk r (HasMemberRoom 1 y) → OnOk r ((x : SeenSignal) → slice_get (slice_set xs a.0 y) a.0 ≡ Some x → HasMemberRoom 1 x)
 members-made r xs a y h = on_ok r (HasMemberRoom 1 y) _ (λ has x is. subst (HasMemberRoom 1) (put-is xs a.0 y x is) has) h
+
+fewer-room : (m n : ℕ) (p : Seen) → m ≤ n → HasRoom n p → HasRoom m p
+fewer-room m n p less room =
+    let a = room.promises in let b = room.jobs in let d = room.events in
+    record { promises = omega (arith, less, a); jobs = omega (arith, less, b); events = omega (arith, less, d) }
+
+-- so many places each are enough for whatever is called next
+pub prepared : (t : Tables) (base jobs turns : ℕ) → base ≡ base_places t → jobs ≡ base + t.waiting → turns ≡ jobs + t.waiting
+    → IsMade t → HasTurns turns t → HasRoom base t.promises → HasJobRoom jobs t.promises → HasRecords base t → IsPrepared t
+prepared t base jobs turns is-base is-jobs is-turns made has-turns room job-room records =
+    let caused = has-turns.caused in let others = has-turns.others in
+    let hosts = records.hosts in let grown = records.grown in
+    record {
+      promises = fewer-room (places_for 0 8 3 14 t) base t.promises (omega (arith, is-base)) room;
+      jobs = omega (arith, is-base, is-jobs, job-room);
+      hosts = omega (arith, is-base, hosts);
+      caused = omega (arith, is-base, is-jobs, is-turns, caused);
+      others = omega (arith, is-base, is-jobs, is-turns, others);
+      grown = omega (arith, is-base, grown);
+      places = made.places;
+      full = records.full;
+      members = made.members;
+      locks = records.locks;
+      byob_requests = records.byob_requests;
+      streams = records.streams;
+      transforms = records.transforms;
+      tees = records.tees;
+      ports = records.ports;
+      copies = made.copies;
+      pipes = records.pipes;
+      signals = records.signals;
+    }

@@ -244,6 +244,7 @@ pub record IsPrepared (t : Tables) : Type 0 where
   pub hosts : places_for 0 2 2 3 t + vec_len t.hosts ≤ vec_capacity t.hosts
   pub caused : places_for 2 14 15 34 t ≤ t.caused.capacity
   pub others : places_for 2 14 15 34 t ≤ vec_capacity t.others
+  -- beside the source of each tee, a call or job adds four entries to queues and two requests at most, or makes two streams
   pub grown : vec_len t.grown + places_for 0 0 1 6 t ≤ vec_capacity t.grown
   pub places : EachHasPlaces t.streams.items
   pub full : vec_len t.full < vec_capacity t.full
@@ -255,6 +256,35 @@ pub record IsPrepared (t : Tables) : Type 0 where
   pub tees : vec_len t.tees < vec_capacity t.tees
   pub ports : vec_len t.ports < vec_capacity t.ports
   pub copies : EachHasCopies 1 t.tees.items
+  pub pipes : vec_len t.pipes < vec_capacity t.pipes
+  pub signals : vec_len t.signals < vec_capacity t.signals
+
+-- so many places serve any list, beside those of read requests that wait
+abbrev pub base_places : Tables → ℕ
+base_places t = (t.aborts + vec_len t.tees) * 15 + 34
+
+-- no stream and no signal waits for places, and no tee for copies
+pub record IsMade (t : Tables) : Type 0 where
+  pub places : EachHasPlaces t.streams.items
+  pub members : EachHasMembers 1 t.signals.items
+  pub copies : EachHasCopies 1 t.tees.items
+
+-- there are places for n effects
+pub record HasTurns (n : ℕ) (t : Tables) : Type 0 where
+  pub caused : n ≤ t.caused.capacity
+  pub others : n ≤ vec_capacity t.others
+
+-- there are places for n answers of hosts, to note n streams, and for the other records that a call or job can make
+pub record HasRecords (n : ℕ) (t : Tables) : Type 0 where
+  pub hosts : n + vec_len t.hosts ≤ vec_capacity t.hosts
+  pub grown : vec_len t.grown + n ≤ vec_capacity t.grown
+  pub full : vec_len t.full < vec_capacity t.full
+  pub locks : vec_len t.locks + 2 ≤ vec_capacity t.locks
+  pub byob_requests : vec_len t.byob_requests < vec_capacity t.byob_requests
+  pub streams : vec_len t.streams + 2 ≤ vec_capacity t.streams
+  pub transforms : vec_len t.transforms < vec_capacity t.transforms
+  pub tees : vec_len t.tees < vec_capacity t.tees
+  pub ports : vec_len t.ports < vec_capacity t.ports
   pub pipes : vec_len t.pipes < vec_capacity t.pipes
   pub signals : vec_len t.signals < vec_capacity t.signals
 

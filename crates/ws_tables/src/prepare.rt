@@ -1,33 +1,89 @@
 //! The taking of memory before a call or a job.
-ghost use Rattle.std.specs.Prelude.{◌≡◌, ◌≤◌, IfOk, OnOk, vec_len, vec_capacity};
-ghost use Rattle.ws_tables.specs.Room.{EachHasCopies, EachHasMembers, EachHasPlaces, HasMembersAt, HasPlacesAt, HaveMembers, IsCopied, IsCovered, IsPrepared, IsResting, MembersGrow, PlacesStay, StaysBesideAgenda, StaysBesideSignals, StaysBesideStreams, StaysBesideTees, places_for};
+ghost use Rattle.std.specs.Prelude.{◌≡◌, true, IfSome, OnOk, vec_len};
+ghost use Rattle.ws_tables.specs.Room.{EachHasCopies, EachHasMembers, EachHasPlaces, HasMembersAt, HasPlacesAt, HasRecords, HasTurns, HaveMembers, IsCopied, IsCovered, IsMade, IsPrepared, IsResting, MembersGrow, PlacesStay, StaysBesideAgenda, StaysBesideSignals, StaysBesideStreams, StaysBesideTees, base_places};
 
 use crate::kinds::LIST_PLACES;
 use crate::tables::{Stream, Tables};
 use ws_value::{NoMemory, SignalId, StreamId};
 
-/// The streams that one call or job can leave with too few places, beside the source of each tee: it adds four entries to queues and two requests at most, or makes two streams.
-const GROWN: usize = 6;
-
 impl Tables {
     ghost use Rattle.ws_tables.specs.View.{slots_of};
 
-    /// So many places for each read request that waits, so many for each pipe that a signal would abort, so many for each tee, and so many more.
-    fn places(
-        &self,
-        a_wait: usize,
-        an_abort: usize,
-        a_tee: usize,
-        more: usize,
-    ) -> Result<usize, NoMemory>
-        ensures { IfOk result (λ n. n ≡ places_for a_wait an_abort a_tee more self.now) }
+    /// How many places serve any list, beside those of read requests that wait: for each pipe that a signal would abort, for each tee, and for what any call or job takes by itself, as many as the list that needs the most.
+    fn base(&self) -> Option<usize>
+        ensures { IfSome result (λ n. n ≡ base_places self.now) }
     {
-        let waits = self.waiting.checked_mul(a_wait).ok_or(NoMemory)?;
-        let aborts = self.aborts.checked_mul(an_abort).ok_or(NoMemory)?;
-        let tees = self.tees.len().checked_mul(a_tee).ok_or(NoMemory)?;
-        let both = waits.checked_add(aborts).ok_or(NoMemory)?;
-        let all = both.checked_add(tees).ok_or(NoMemory)?;
-        all.checked_add(more).ok_or(NoMemory)
+        let both = self.aborts.checked_add(self.tees.len())?;
+        both.checked_mul(15)?.checked_add(34)
+    }
+
+    /// Whether no stream and no signal waits for places, and no tee for copies.
+    #[inline]
+    fn is_made(&self) -> bool
+        requires covered { IsCovered self.now }
+        requires members { HaveMembers self.now }
+        requires copied { IsCopied self.now }
+        ensures { result ≡ true → IsMade self.now }
+    {
+        if !self.grown.is_empty() {
+            return false;
+        }
+        if !self.full.is_empty() {
+            return false;
+        }
+        !self.uncopied
+    }
+
+    /// Whether there are places for `turns` effects.
+    #[inline]
+    fn has_turns(&self, turns: usize) -> bool
+        ensures { result ≡ true → HasTurns turns self.now }
+    {
+        turns <= self.caused.capacity() && turns <= self.others.capacity()
+    }
+
+    /// Whether there are places for `n` hosts' answers, to note `n` streams that grew, and for the other records that a call or job can make.
+    #[inline]
+    fn has_records(&self, n: usize) -> bool
+        ensures { result ≡ true → HasRecords n self.now }
+    {
+        n <= self.hosts.capacity() - self.hosts.len()
+            && n <= self.grown.capacity() - self.grown.len()
+            && self.full.len() < self.full.capacity()
+            && 2 <= self.locks.capacity() - self.locks.len()
+            && 2 <= self.streams.capacity() - self.streams.len()
+            && self.byob_requests.len() < self.byob_requests.capacity()
+            && self.transforms.len() < self.transforms.capacity()
+            && self.tees.len() < self.tees.capacity()
+            && self.ports.len() < self.ports.capacity()
+            && self.pipes.len() < self.pipes.capacity()
+            && self.signals.len() < self.signals.capacity()
+    }
+
+    /// Whether there is all memory that the next call or job can need.
+    fn has_all(&self) -> bool
+        requires resting { IsResting self.now }
+        ensures { result ≡ true → IsPrepared self.now }
+    {
+        let Some(base) = self.base() else {
+            return false;
+        };
+        let Some(jobs) = base.checked_add(self.waiting) else {
+            return false;
+        };
+        let Some(turns) = jobs.checked_add(self.waiting) else {
+            return false;
+        };
+        if !self.is_made() {
+            return false;
+        }
+        if !self.has_turns(turns) {
+            return false;
+        }
+        if !self.promises.has_room(base, jobs) {
+            return false;
+        }
+        self.has_records(base)
     }
 
     /// Makes places in each list of the stream of this number, where there is one, and a room for a byte stream that allocates rooms.
@@ -118,18 +174,54 @@ impl Tables {
         Ok(())
     }
 
-    /// Makes places on the agenda.
-    fn prepare_agenda(&mut self) -> Result<(), NoMemory>
+    /// Makes places on the agenda for `turns` effects.
+    fn prepare_agenda(&mut self, turns: usize) -> Result<(), NoMemory>
         requires resting { IsResting self.old }
-        ensures caused { OnOk result (places_for 2 14 15 34 self.old ≤ self.new.caused.capacity) }
-        ensures others { OnOk result (places_for 2 14 15 34 self.old ≤ vec_capacity self.new.others) }
+        ensures ok { OnOk result (HasTurns turns self.new) }
         ensures slots { slots_of self.new ≡ slots_of self.old }
         ensures resting { IsResting self.new }
         ensures rest { StaysBesideAgenda self.old self.new }
     {
-        let places = self.places(2, 14, 15, 34)?;
-        self.caused.reserve(places)?;
-        self.others.reserve(places)?;
+        self.caused.reserve(turns)?;
+        self.others.reserve(turns)?;
+        Ok(())
+    }
+
+    /// Takes the memory that isn't there yet.
+    #[cold]
+    #[inline(never)]
+    fn take_all(&mut self) -> Result<(), NoMemory>
+        requires resting { IsResting self.old }
+        ensures ok { OnOk result (IsPrepared self.new) }
+        ensures slots { slots_of self.new ≡ slots_of self.old }
+        ensures resting { IsResting self.new }
+    {
+        self.prepare_streams()?;
+        self.prepare_signals()?;
+        self.copy_chunks()?;
+        let Some(base) = self.base() else {
+            return Err(NoMemory);
+        };
+        let Some(jobs) = base.checked_add(self.waiting) else {
+            return Err(NoMemory);
+        };
+        let Some(turns) = jobs.checked_add(self.waiting) else {
+            return Err(NoMemory);
+        };
+        self.prepare_agenda(turns)?;
+        self.promises.reserve(base)?;
+        self.promises.reserve_jobs(jobs)?;
+        self.hosts.reserve(base)?;
+        self.byob_requests.reserve(1)?;
+        self.locks.reserve(2)?;
+        self.streams.reserve(2)?;
+        self.transforms.reserve(1)?;
+        self.tees.reserve(1)?;
+        self.ports.reserve(1)?;
+        self.pipes.reserve(1)?;
+        self.signals.reserve(1)?;
+        self.grown.reserve(base)?;
+        self.full.reserve(1)?;
         Ok(())
     }
 
@@ -140,27 +232,9 @@ impl Tables {
         ensures slots { slots_of self.new ≡ slots_of self.old }
         ensures resting { IsResting self.new }
     {
-        self.prepare_streams()?;
-        self.prepare_signals()?;
-        self.copy_chunks()?;
-        self.prepare_agenda()?;
-        let promises = self.places(0, 8, 3, 14)?;
-        self.promises.reserve(promises)?;
-        let jobs = self.places(1, 7, 5, 11)?;
-        self.promises.reserve_jobs(jobs)?;
-        let hosts = self.places(0, 2, 2, 3)?;
-        self.hosts.reserve(hosts)?;
-        self.byob_requests.reserve(1)?;
-        self.locks.reserve(2)?;
-        self.streams.reserve(2)?;
-        self.transforms.reserve(1)?;
-        self.tees.reserve(1)?;
-        self.ports.reserve(1)?;
-        self.pipes.reserve(1)?;
-        self.signals.reserve(1)?;
-        let grown = self.places(0, 0, 1, GROWN)?;
-        self.grown.reserve(grown)?;
-        self.full.reserve(1)?;
-        Ok(())
+        if self.has_all() {
+            return Ok(());
+        }
+        self.take_all()
     }
 }

@@ -1,9 +1,8 @@
-use Rattle.std.proofs.Common.{◌≡◌, ◌∙◌, ◌+◌, ◌*◌, length, ap, sym, subst, arith}
+use Rattle.std.proofs.Common.{◌≡◌, ◌∙◌, length, ap, arith}
 use Rattle.std.specs.Prelude.{vec_len}
-use Rattle.ws_promise.specs.Seen.{HasRoom}
 use Rattle.ws_tables.specs.declared.tables.Tables.{Tables}
-use Rattle.ws_tables.proofs.Preparing.{grown-room}
-use Rattle.ws_tables.proofs.tables.Tables.prepare.Goals as goal
+use Rattle.ws_tables.proofs.Preparing.{grown-room, prepared}
+use Rattle.ws_tables.proofs.tables.Tables.take_all.Goals as goal
 
 pub returns-clause-ok : goal.returns-clause-ok
 returns-clause-ok c =
@@ -15,25 +14,31 @@ returns-clause-ok c =
     let many : vec_len c.reserve-7.new.self ≡ vec_len c.prepare_agenda.new.self.tees = omega (arith, items, c.reserve-7.new.self.ok.0, c.prepare_agenda.new.self.tees.ok.0) in
     let waits = ap (λ (t : Tables). t.waiting) agenda in
     let aborts = ap (λ (t : Tables). t.aborts) agenda in
-    record {
-      promises = grown-room _ c.reserve.new.self c.reserve_jobs.new.self c.in_ok-reserve_jobs.ensures.table c.in_ok-reserve_jobs.ensures.grows (subst (λ n. HasRoom n c.reserve.new.self) (c.in_ok-promises.ensures ∙ ap (λ n. c.prepare_agenda.new.self.waiting * 0 + c.prepare_agenda.new.self.aborts * 8 + n * 3 + 14) (sym many)) c.in_ok-reserve.ensures.ok);
-      jobs = let h = c.in_ok-reserve_jobs.ensures.ok in let n = c.in_ok-jobs.ensures in omega (arith, h, n, many);
-      hosts = let h = c.in_ok-reserve-2.ensures.ok in let n = c.in_ok-hosts.ensures in omega (arith, h, n, many);
-      caused = let h = c.in_ok-prepare_agenda.ensures.caused in omega (arith, h, waits, aborts, tees, many);
-      others = let h = c.in_ok-prepare_agenda.ensures.others in omega (arith, h, waits, aborts, tees, many);
-      grown = let h = c.in_ok-reserve-11.ensures.ok in let n = c.in_ok-grown.ensures in omega (arith, h, n, many);
+    let base = c.in-Some.ensures in
+    let jobs = c.in-Some-checked_add.ensures in
+    let turns = c.in-Some-checked_add-2.ensures in
+    let queue = c.in_ok-reserve_jobs.ensures in
+    prepared _ c.in-Some.base c.in-Some-checked_add.jobs c.in-Some-checked_add-2.turns (omega (arith, base, aborts, tees, many)) (omega (arith, jobs, waits)) (omega (arith, turns, waits))
+    (record {
       places =
           rw (c.in_ok-reserve-5.ensures.items ∙ (ap (λ (t : Tables). t.streams.items) agenda ∙ (ap (λ (t : Tables). t.streams.items) copies.tables ∙ ap (λ (t : Tables). t.streams.items) signals)))
           c.in_ok-prepare_streams.ensures.ok;
-      full = let h = c.in_ok-reserve-12.ensures.ok in omega (arith, h);
       members = rw (c.in_ok-reserve-10.ensures.items ∙ (ap (λ (t : Tables). t.signals.items) agenda ∙ ap (λ (t : Tables). t.signals.items) copies.tables)) c.in_ok-prepare_signals.ensures.ok;
-      byob_requests = let h = c.in_ok-reserve-3.ensures.ok in omega (arith, h);
+      copies = rw (c.in_ok-reserve-7.ensures.items ∙ ap (λ (t : Tables). t.tees.items) agenda) c.in_ok-copy_chunks.ensures.ok;
+    })
+    (record { caused = c.in_ok-prepare_agenda.ensures.ok.caused; others = c.in_ok-prepare_agenda.ensures.ok.others })
+    (grown-room _ c.reserve.new.self c.reserve_jobs.new.self queue.table queue.grows c.in_ok-reserve.ensures.ok)
+    queue.ok
+    (record {
+      hosts = let h = c.in_ok-reserve-2.ensures.ok in omega (arith, h);
+      grown = let h = c.in_ok-reserve-11.ensures.ok in omega (arith, h);
+      full = let h = c.in_ok-reserve-12.ensures.ok in omega (arith, h);
       locks = let h = c.in_ok-reserve-4.ensures.ok in omega (arith, h);
+      byob_requests = let h = c.in_ok-reserve-3.ensures.ok in omega (arith, h);
       streams = let h = c.in_ok-reserve-5.ensures.ok in omega (arith, h);
       transforms = let h = c.in_ok-reserve-6.ensures.ok in omega (arith, h);
       tees = let h = c.in_ok-reserve-7.ensures.ok in omega (arith, h);
       ports = let h = c.in_ok-reserve-8.ensures.ok in omega (arith, h);
-      copies = rw (c.in_ok-reserve-7.ensures.items ∙ ap (λ (t : Tables). t.tees.items) agenda) c.in_ok-copy_chunks.ensures.ok;
       pipes = let h = c.in_ok-reserve-9.ensures.ok in omega (arith, h);
       signals = let h = c.in_ok-reserve-10.ensures.ok in omega (arith, h);
-    }
+    })
