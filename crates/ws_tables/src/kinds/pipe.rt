@@ -41,11 +41,11 @@ impl Tables {
     }
 
     /// Performs an operation of the pipe of this number, where there is one.
-    pub(crate) fn perform_pipe(&mut self, p: PipeId, operation: PipeOperation)
+    pub(crate) fn perform_pipe(&mut self, p: PipeId, operation: &mut PipeOperation)
         requires quiet { self.old.caused.effects ≡ [] }
-        requires room { HasRoomFor (effect.Pipe p operation) self.old }
+        requires room { HasRoomFor (effect.Pipe p operation.old) self.old }
         requires kept { IsKept self.old }
-        ensures performs { Performs (effect.Pipe p operation) self.old self.new }
+        ensures performs { Performs (effect.Pipe p operation.old) self.old self.new }
         ensures kept { IsKept self.new }
     {
         if self.pipes.len() as u128 <= p.0 {

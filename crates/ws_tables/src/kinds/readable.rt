@@ -6,6 +6,7 @@ ghost use Rattle.ws_tables.specs.Room.{HasRoomFor, IsKept, Performs};
 
 use super::LIST_PLACES;
 use crate::tables::{Stream, Tables};
+use std::mem::replace;
 use ws_readable::Readable;
 use ws_steps::ReadableOperation;
 use ws_value::StreamId;
@@ -32,14 +33,15 @@ impl Tables {
     }
 
     /// Performs an operation of the readable stream of this number, where there is one, whichever its controller is.
-    pub(crate) fn perform_readable(&mut self, i: StreamId, operation: ReadableOperation)
+    pub(crate) fn perform_readable(&mut self, i: StreamId, operation: &mut ReadableOperation)
         requires quiet { self.old.caused.effects ≡ [] }
-        requires room { HasRoomFor (effect.Readable i operation) self.old }
+        requires room { HasRoomFor (effect.Readable i operation.old) self.old }
         requires kept { IsKept self.old }
-        ensures performs { Performs (effect.Readable i operation) self.old self.new }
+        ensures performs { Performs (effect.Readable i operation.old) self.old self.new }
         ensures kept { IsKept self.new }
     {
         if !self.has_readable(i) {
+            let operation = replace(operation, ReadableOperation::Close);
             return self.perform_byte_readable(i, operation);
         }
         match &mut self.streams[i.0 as usize] {

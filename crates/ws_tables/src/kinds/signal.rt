@@ -29,11 +29,12 @@ impl Tables {
     }
 
     /// Performs an operation of the signal of this number, where there is one.
-    pub(crate) fn perform_signal(&mut self, a: SignalId, operation: SignalOperation)
+    #[inline(never)]
+    pub(crate) fn perform_signal(&mut self, a: SignalId, operation: &SignalOperation)
         requires quiet { self.old.caused.effects ≡ [] }
-        requires room { HasRoomFor (effect.Signal a operation) self.old }
+        requires room { HasRoomFor (effect.Signal a operation.now) self.old }
         requires kept { IsKept self.old }
-        ensures performs { Performs (effect.Signal a operation) self.old self.new }
+        ensures performs { Performs (effect.Signal a operation.now) self.old self.new }
         ensures kept { IsKept self.new }
     {
         if self.signals.len() as u128 <= a.0 {
@@ -42,7 +43,7 @@ impl Tables {
         let signal = &mut self.signals[a.0 as usize];
         let had_room = signal.has_room();
         let aborted = signal.aborts();
-        signal.perform(&mut self.caused, operation);
+        signal.perform(&mut self.caused, *operation);
         self.aborts = self.aborts - aborted + signal.aborts();
         let has_room = signal.has_room();
         self.note_full(a, had_room, has_room);

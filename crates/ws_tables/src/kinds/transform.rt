@@ -53,10 +53,10 @@ impl Tables {
     }
 
     /// Performs an operation of the transform stream of this number, where there is one.
-    pub(crate) fn perform_transform(&mut self, t: TransformId, operation: TransformOperation)
+    pub(crate) fn perform_transform(&mut self, t: TransformId, operation: &mut TransformOperation)
         requires quiet { self.old.caused.effects ≡ [] }
-        requires room { HasRoomFor (effect.Transform t operation) self.old }
-        ensures performs { Performs (effect.Transform t operation) self.old self.new }
+        requires room { HasRoomFor (effect.Transform t operation.old) self.old }
+        ensures performs { Performs (effect.Transform t operation.old) self.old self.new }
         ensures records { KeepsRecords self.old self.new }
     {
         if self.transforms.len() <= t.0 as usize {

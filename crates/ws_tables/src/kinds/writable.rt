@@ -42,11 +42,11 @@ impl Tables {
     }
 
     /// Performs an operation of the writable stream of this number, where there is one.
-    pub(crate) fn perform_writable(&mut self, i: StreamId, operation: WritableOperation)
+    pub(crate) fn perform_writable(&mut self, i: StreamId, operation: &mut WritableOperation)
         requires quiet { self.old.caused.effects ≡ [] }
-        requires room { HasRoomFor (effect.Writable i operation) self.old }
+        requires room { HasRoomFor (effect.Writable i operation.old) self.old }
         requires kept { IsKept self.old }
-        ensures performs { Performs (effect.Writable i operation) self.old self.new }
+        ensures performs { Performs (effect.Writable i operation.old) self.old self.new }
         ensures kept { IsKept self.new }
     {
         if !self.has_writable(i) {

@@ -16,8 +16,8 @@ returns-in-Transform-clause-kept c =
 
 pub returns-in-Port-clause-kept : goal.returns-in-Port-clause-kept
 returns-in-Port-clause-kept c =
-    let e = c.perform_port.ensures in
-    kept_by (Port c.in-Port.c c.in-Port.operation) c.args.self.now c.perform_port.new.self e.performs e.records c.requires.kept
+    let e = c.take_port.ensures in
+    kept_by (Port c.in-Port.c c.in-Port.operation) c.args.self.now c.take_port.new.self e.performs e.records c.requires.kept
 
 pub returns-in-ChunkSteps-clause-kept : goal.returns-in-ChunkSteps-clause-kept
 returns-in-ChunkSteps-clause-kept c =

@@ -15,7 +15,7 @@ use Rattle.ws_tables.proofs.Streams.{stands-at}
 use Rattle.ws_tables.proofs.tables.Tables.perform_pipe.Goals as goal
 
 pub returns-then-len-p-clause-performs : goal.returns-then-len-p-clause-performs
-returns-then-len-p-clause-performs c = pipe-absent c.args.p c.args.operation c.args.self.now (omega (arith, c.args.self.now.pipes.ok.0)) c.requires.quiet
+returns-then-len-p-clause-performs c = pipe-absent c.args.p c.args.operation.now c.args.self.now (omega (arith, c.args.self.now.pipes.ok.0)) c.requires.quiet
 
 pub perform-requires-clause-counted : goal.perform-requires-clause-counted
 perform-requires-clause-counted c =
@@ -37,19 +37,19 @@ ends-are c =
     ∙ ap (λ (x : pipe.Slots). ends_at x s) same))
 
 -- what the operation leaves and causes
-left : (c : goal.After-self-1) → row (Pipe c.args.p c.args.operation) (slots_of c.args.self.now) ≡ put_pipe c.args.p (slots_of c.args.self.now) (acts_of c.perform.new.self c.perform.new.p c.perform.new.fx)
+left : (c : goal.After-self-1) → row (Pipe c.args.p c.args.operation.now) (slots_of c.args.self.now) ≡ put_pipe c.args.p (slots_of c.args.self.now) (acts_of c.perform.new.self c.perform.new.p c.perform.new.fx)
 left c =
     let s : Slots = slots_of c.args.self.now in
     let x : pipe.Slots = c.index_mut.result.now in
-    pipe-row c.args.p c.args.operation s x (acts_of c.perform.new.self c.perform.new.p c.perform.new.fx) (at c)
+    pipe-row c.args.p c.args.operation.now s x (acts_of c.perform.new.self c.perform.new.p c.perform.new.fx) (at c)
     (c.perform.ensures.row
-    ∙ (ap (λ (es : List Effect). pipe_operation c.args.p c.ends-ends.result c.args.operation (record { slots = x; out = record { promises = s.promises; effects = es } })) c.requires.quiet
-    ∙ ap (λ (ends : Ends). pipe_operation c.args.p ends c.args.operation (record { slots = x; out = found s })) (ends-are c)))
+    ∙ (ap (λ (es : List Effect). pipe_operation c.args.p c.ends-ends.result c.args.operation.now (record { slots = x; out = record { promises = s.promises; effects = es } })) c.requires.quiet
+    ∙ ap (λ (ends : Ends). pipe_operation c.args.p ends c.args.operation.now (record { slots = x; out = found s })) (ends-are c)))
 
-took : (c : goal.After-self-1) → PipeTook c.args.operation c.perform.new.fx.effects
+took : (c : goal.After-self-1) → PipeTook c.args.operation.now c.perform.new.fx.effects
 took c =
-    subst (λ (a : pipe.Acts). PipeTook c.args.operation a.out.effects) (sym c.perform.ensures.row)
-    (pipe-took c.args.p c.ends-ends.result c.args.operation (acts_of c.index_mut.result.now c.args.self.now.promises c.args.self.now.caused) c.requires.quiet)
+    subst (λ (a : pipe.Acts). PipeTook c.args.operation.now a.out.effects) (sym c.perform.ensures.row)
+    (pipe-took c.args.p c.ends-ends.result c.args.operation.now (acts_of c.index_mut.result.now c.args.self.now.promises c.args.self.now.caused) c.requires.quiet)
 
 pub returns-clause-performs : goal.returns-clause-performs
 returns-clause-performs c =
@@ -70,7 +70,7 @@ pub returns-clause-kept : goal.returns-clause-kept
 returns-clause-kept c =
     let old = c.args.self.now in
     let was = c.requires.kept in
-    let more = subst (λ (d : Done). length old.promises.table.entries ≤ length d.slots.promises.entries) (left c) (entries-more (Pipe c.args.p c.args.operation) (slots_of old)) in
+    let more = subst (λ (d : Done). length old.promises.table.entries ≤ length d.slots.promises.entries) (left c) (entries-more (Pipe c.args.p c.args.operation.now) (slots_of old)) in
     record {
       waiting = was.waiting;
       covered = was.covered;

@@ -23,7 +23,7 @@ index_mut-requires c =
     let there = readable-within stream_of c.args.self.now.streams.items c.args.i.0 (sym c.has_readable.ensures ∙ c.if-not-has_readable.false) in
     omega arith
 
-at : (c : goal.After-perform-arg-in-Readable-2-1) → slice_get c.args.self.now.streams.items c.args.i.0 ≡ Some (Readable c.in-Readable.stream)
+at : (c : goal.After-perform-arg-in-Readable-3-1) → slice_get c.args.self.now.streams.items c.args.i.0 ≡ Some (Readable c.in-Readable.stream)
 at c =
     let there = readable-within stream_of c.args.self.now.streams.items c.args.i.0 (sym c.has_readable.ensures ∙ c.if-not-has_readable.false) in
     stands-at c.args.self.now.streams.items c.args.i.0 c.index_mut.result.now c.index_mut.result.now there c.index_mut.ensures.value
@@ -32,7 +32,7 @@ at c =
 pub perform-requires-clause-room : goal.perform-requires-clause-room
 perform-requires-clause-room c =
     let lists = c.requires.room.lists c.args.i.0 (Readable c.in-Readable.stream) (at c) in
-    let here = readable-here c.args.i c.args.operation in let r = lists.requests in
+    let here = readable-here c.args.i c.args.operation.now in let r = lists.requests in
     record { queue = lists.queue; requests = omega (arith, here, r) }
 
 pub perform-requires-clause-effect_room : goal.perform-requires-clause-effect_room
@@ -46,10 +46,10 @@ overflow_sub-self c =
     let kept = waits-among c.args.self.now.streams.items c.args.i.0 (Readable c.in-Readable.stream) (at c.before) in
     omega (arith, kept, c.requires.kept.waiting)
 
-took : (c : goal.After-perform) → ReadableTook c.args.i c.args.operation (acts_of c.in-Readable.stream c.args.self.now.promises c.args.self.now.caused) (acts_of c.perform.new.self c.perform.new.p c.perform.new.fx)
+took : (c : goal.After-perform) → ReadableTook c.args.i c.args.operation.now (acts_of c.in-Readable.stream c.args.self.now.promises c.args.self.now.caused) (acts_of c.perform.new.self c.perform.new.p c.perform.new.fx)
 took c =
-    subst (ReadableTook c.args.i c.args.operation (acts_of c.in-Readable.stream c.args.self.now.promises c.args.self.now.caused)) (sym c.perform.ensures.row)
-    (readable-took c.args.i c.args.operation (acts_of c.in-Readable.stream c.args.self.now.promises c.args.self.now.caused) c.requires.quiet)
+    subst (ReadableTook c.args.i c.args.operation.now (acts_of c.in-Readable.stream c.args.self.now.promises c.args.self.now.caused)) (sym c.perform.ensures.row)
+    (readable-took c.args.i c.args.operation.now (acts_of c.in-Readable.stream c.args.self.now.promises c.args.self.now.caused) c.requires.quiet)
 
 pub overflow_add-self : goal.overflow_add-self
 overflow_add-self c =
@@ -59,12 +59,12 @@ overflow_add-self c =
     omega (arith, kept, turns, small, c.requires.kept.waiting, c.requires.room.others)
 
 paid_for : (c : goal.After-note_growth-arg-1) → c.has_room-had_room.result ≡ true → c.has_room-has_room.result ≡ false
-    → prices_of queued_alone c.perform.new.fx.effects + prices_of requests_alone c.perform.new.fx.effects < readable_price queued_alone c.args.i c.args.operation + readable_price requests_alone c.args.i c.args.operation
+    → prices_of queued_alone c.perform.new.fx.effects + prices_of requests_alone c.perform.new.fx.effects < readable_price queued_alone c.args.i c.args.operation.now + readable_price requests_alone c.args.i c.args.operation.now
 paid_for c had has =
     let t = took c.before.before.before.before in
     let room = c.perform.ensures.room in
     paid (length c.in-Readable.stream.slots.queue) (length c.perform.new.self.slots.queue) (length c.in-Readable.stream.slots.requests) (length c.perform.new.self.slots.requests)
-    (readable_price queued_alone c.args.i c.args.operation) (readable_price requests_alone c.args.i c.args.operation) (prices_of queued_alone c.perform.new.fx.effects) (prices_of requests_alone c.perform.new.fx.effects)
+    (readable_price queued_alone c.args.i c.args.operation.now) (readable_price requests_alone c.args.i c.args.operation.now) (prices_of queued_alone c.perform.new.fx.effects) (prices_of requests_alone c.perform.new.fx.effects)
     c.in-Readable.stream.room.queue c.in-Readable.stream.room.requests t.queued t.requested (sym c.has_room-had_room.ensures ∙ had)
     (ap (λ (l : Lists). nat_le 4 (l.queue - length c.perform.new.self.slots.queue) && nat_le 4 (l.requests - length c.perform.new.self.slots.requests)) (sym room) ∙ (sym c.has_room-has_room.ensures ∙ has))
 
@@ -74,7 +74,7 @@ note_growth-requires c = record {
 }
 
 -- what the operation leaves and causes
-left : (c : goal.After-note_growth) → row (ReadableEffect c.args.i c.args.operation) (slots_of c.args.self.now)
+left : (c : goal.After-note_growth) → row (ReadableEffect c.args.i c.args.operation.now) (slots_of c.args.self.now)
     ≡ record {
       slots = record (slots_of c.args.self.now) { streams = map stream_of (slice_set c.args.self.now.streams.items c.args.i.0 (Readable c.perform.new.self)); promises = c.perform.new.p.table };
       caused = c.perform.new.fx.effects;
@@ -82,10 +82,10 @@ left : (c : goal.After-note_growth) → row (ReadableEffect c.args.i c.args.oper
 left c =
     let old = c.args.self.now in
     let there = readable-within stream_of old.streams.items c.args.i.0 (sym c.has_readable.ensures ∙ c.if-not-has_readable.false) in
-    readable-row c.args.i c.args.operation (slots_of old) (sym c.has_readable.ensures ∙ c.if-not-has_readable.false)
-    ∙ on_readable-at stream_of (readable_operation c.args.i c.args.operation) c.args.i (slots_of old) old.streams.items c.index_mut.result.now (Readable c.perform.new.self) c.in-Readable.stream.slots
+    readable-row c.args.i c.args.operation.now (slots_of old) (sym c.has_readable.ensures ∙ c.if-not-has_readable.false)
+    ∙ on_readable-at stream_of (readable_operation c.args.i c.args.operation.now) c.args.i (slots_of old) old.streams.items c.index_mut.result.now (Readable c.perform.new.self) c.in-Readable.stream.slots
     (acts_of c.perform.new.self c.perform.new.p c.perform.new.fx) refl there c.index_mut.ensures.value (ap stream_of c.in-Readable.is)
-    (c.perform.ensures.row ∙ ap (λ (es : List Effect). readable_operation c.args.i c.args.operation (record { slots = c.in-Readable.stream.slots; out = record { promises = old.promises.table; effects = es } })) c.requires.quiet)
+    (c.perform.ensures.row ∙ ap (λ (es : List Effect). readable_operation c.args.i c.args.operation.now (record { slots = c.in-Readable.stream.slots; out = record { promises = old.promises.table; effects = es } })) c.requires.quiet)
     refl
 
 pub returns-clause-performs : goal.returns-clause-performs
@@ -102,7 +102,7 @@ returns-clause-performs c =
       lists = ap (λ (t : Tables). map room_of t.streams.items) same ∙ map-put room_of old.streams.items c.args.i.0 (Readable c.in-Readable.stream) (Readable c.perform.new.self) (at c.before.before.before.before.before.before) (ap two_lists c.perform.ensures.room);
       rooms = λ none. rw (ap (λ (t : Tables). t.streams.items) same) (rooms-put old.streams.items c.args.i.0 (Readable c.in-Readable.stream) (Readable c.perform.new.self) (at c.before.before.before.before.before.before) (λ n h. tt));
       grown =
-          let g = noted-grown (vec_len old.grown) (vec_len c.note_growth.new.self.grown) (readable_price queued_alone c.args.i c.args.operation) (readable_price requests_alone c.args.i c.args.operation)
+          let g = noted-grown (vec_len old.grown) (vec_len c.note_growth.new.self.grown) (readable_price queued_alone c.args.i c.args.operation.now) (readable_price requests_alone c.args.i c.args.operation.now)
           (prices_of queued_alone c.perform.new.fx.effects) (prices_of requests_alone c.perform.new.fx.effects) c.has_room-had_room.result c.has_room-has_room.result
           t.queued.caused t.requested.caused (paid_for c.before) (rw (c.note_growth.new.self.grown.ok.0, old.grown.ok.0, c.note_growth.ensures.grown) (noted-length old.grown.items c.args.i (c.has_room-had_room.result && not c.has_room-has_room.result))) in
           let q = ap (prices_of queued_alone) caused in
@@ -139,9 +139,9 @@ returns-clause-kept c =
       aborts = rw same c.requires.kept.aborts;
       members = rw same c.requires.kept.members;
       copied = rw same c.requires.kept.copied;
-      sourced = subst AreSourced (sym (returns-clause-performs c).slots) (row-sourced (ReadableEffect c.args.i c.args.operation) (slots_of old) c.requires.kept.sourced);
+      sourced = subst AreSourced (sym (returns-clause-performs c).slots) (row-sourced (ReadableEffect c.args.i c.args.operation.now) (slots_of old) c.requires.kept.sourced);
       counted =
           subst (λ (t : Tables). IsCounted (slots_of t)) (sym same)
-          (counted-on (length old.promises.table.entries) (length c.perform.new.p.table.entries) old.pipes.items (row-more (ReadableEffect c.args.i c.args.operation) (slots_of old) _ (left c)) c.requires.kept.counted);
-      few = subst HasFew (sym (returns-clause-performs c).slots) (row-few (ReadableEffect c.args.i c.args.operation) (slots_of old) c.requires.kept.few);
+          (counted-on (length old.promises.table.entries) (length c.perform.new.p.table.entries) old.pipes.items (row-more (ReadableEffect c.args.i c.args.operation.now) (slots_of old) _ (left c)) c.requires.kept.counted);
+      few = subst HasFew (sym (returns-clause-performs c).slots) (row-few (ReadableEffect c.args.i c.args.operation.now) (slots_of old) c.requires.kept.few);
     }

@@ -18,7 +18,7 @@ use Rattle.ws_tables.proofs.tables.Tables.perform_signal.Goals as goal
 
 pub returns-then-len-a-clause-performs : goal.returns-then-len-a-clause-performs
 returns-then-len-a-clause-performs c =
-    signal-absent c.args.a c.args.operation c.args.self.now (rw (length-map c.args.self.now.signals.items signal_of) (omega (arith, c.args.self.now.signals.ok.0))) c.requires.quiet
+    signal-absent c.args.a c.args.operation.now c.args.self.now (rw (length-map c.args.self.now.signals.items signal_of) (omega (arith, c.args.self.now.signals.ok.0))) c.requires.quiet
 
 pub perform-requires-clause-room : goal.perform-requires-clause-room
 perform-requires-clause-room c =
@@ -35,9 +35,9 @@ perform-requires-clause-effect_room c =
 at : (c : goal.After-perform) → slice_get c.args.self.now.signals.items c.args.a.0 ≡ Some c.index_mut-signal.result.now
 at c = stands-at c.args.self.now.signals.items c.args.a.0 c.index_mut-signal.result.now c.index_mut-signal.result.now (omega arith) c.index_mut-signal.ensures.value
 
-took : (c : goal.After-perform) → SignalTook c.args.operation c.index_mut-signal.result.now.signal c.perform.new.self.signal c.perform.new.fx.effects
+took : (c : goal.After-perform) → SignalTook c.args.operation.now c.index_mut-signal.result.now.signal c.perform.new.self.signal c.perform.new.fx.effects
 took c =
-    signal-did c.args.operation c.index_mut-signal.result.now c.perform.new.self c.args.self.now.caused.effects c.perform.new.fx.effects
+    signal-did c.args.operation.now c.index_mut-signal.result.now c.perform.new.self c.args.self.now.caused.effects c.perform.new.fx.effects
     c.requires.quiet c.perform.ensures.signal c.perform.ensures.effects
 
 pub overflow_sub-self : goal.overflow_sub-self
@@ -52,9 +52,9 @@ overflow_add-self c =
     let small = c.args.self.now.others.small in
     omega (arith, among, turns, small, c.requires.kept.aborts, c.requires.room.others, c.aborts-aborted.ensures, c.aborts.ensures)
 
-paid_for : (c : goal.After-note_full-arg-1) → c.has_room-had_room.result ≡ true → c.has_room-has_room.result ≡ false → prices_of members_alone c.perform.new.fx.effects < own_signal members_alone c.args.operation
+paid_for : (c : goal.After-note_full-arg-1) → c.has_room-had_room.result ≡ true → c.has_room-has_room.result ≡ false → prices_of members_alone c.perform.new.fx.effects < own_signal members_alone c.args.operation.now
 paid_for c had has =
-    paid-member (length c.index_mut-signal.result.now.signal.pipes) (length c.perform.new.self.signal.pipes) (own_signal members_alone c.args.operation) (prices_of members_alone c.perform.new.fx.effects)
+    paid-member (length c.index_mut-signal.result.now.signal.pipes) (length c.perform.new.self.signal.pipes) (own_signal members_alone c.args.operation.now) (prices_of members_alone c.perform.new.fx.effects)
     c.index_mut-signal.result.now.room (took c.before.before.before.before).members (sym c.has_room-had_room.ensures ∙ had)
     (ap (λ n. nat_lt (length c.perform.new.self.signal.pipes) n) (sym c.perform.ensures.room) ∙ (sym c.has_room-has_room.ensures ∙ has))
 
@@ -64,9 +64,9 @@ note_full-requires c = record {
 }
 
 -- what the operation leaves and causes
-left : (c : goal.After-note_full) → row (Signal c.args.a c.args.operation) (slots_of c.args.self.now) ≡ put_signal c.args.a (slots_of c.args.self.now) (signal_operation c.args.operation c.index_mut-signal.result.now.signal)
+left : (c : goal.After-note_full) → row (Signal c.args.a c.args.operation.now) (slots_of c.args.self.now) ≡ put_signal c.args.a (slots_of c.args.self.now) (signal_operation c.args.operation.now c.index_mut-signal.result.now.signal)
 left c =
-    signal-row c.args.a c.args.operation (slots_of c.args.self.now) c.index_mut-signal.result.now.signal
+    signal-row c.args.a c.args.operation.now (slots_of c.args.self.now) c.index_mut-signal.result.now.signal
     (get-map signal_of c.args.self.now.signals.items c.args.a.0 c.index_mut-signal.result.now (at c.before.before.before.before.before))
 
 pub returns-clause-performs : goal.returns-clause-performs
@@ -75,9 +75,9 @@ returns-clause-performs c =
     let y = c.perform.new.self in
     let same = c.note_full.ensures.tables in
     let t = took c.before.before.before.before.before in
-    let own = signal-own c.args.operation in
+    let own = signal-own c.args.operation.now in
     let caused : c.note_full.new.self.caused.effects ≡ c.perform.new.fx.effects = ap (λ (t : Tables). t.caused.effects) same in
-    let effects = c.perform.ensures.effects ∙ ap (λ (es : List Effect). es ++ (signal_operation c.args.operation c.index_mut-signal.result.now.signal).effects) c.requires.quiet in
+    let effects = c.perform.ensures.effects ∙ ap (λ (es : List Effect). es ++ (signal_operation c.args.operation.now c.index_mut-signal.result.now.signal).effects) c.requires.quiet in
     record {
       slots =
           ap slots_of same
@@ -98,7 +98,7 @@ returns-clause-performs c =
           omega (arith, q, r, g, tq, tr, o);
       members = ap (λ (t : Tables). map members_room t.signals.items) same ∙ map-put members_room old.signals.items c.args.a.0 c.index_mut-signal.result.now y (at c.before.before.before.before.before) c.perform.ensures.room;
       full =
-          let g = noted-full (vec_len old.full) (vec_len c.note_full.new.self.full) (own_signal members_alone c.args.operation) (prices_of members_alone c.perform.new.fx.effects)
+          let g = noted-full (vec_len old.full) (vec_len c.note_full.new.self.full) (own_signal members_alone c.args.operation.now) (prices_of members_alone c.perform.new.fx.effects)
           c.has_room-had_room.result c.has_room-has_room.result t.members.caused (paid_for c.before)
           (rw (c.note_full.new.self.full.ok.0, old.full.ok.0, c.note_full.ensures.full) (noted-length old.full.items c.args.a (c.has_room-had_room.result && not c.has_room-has_room.result))) in
           let m = ap (prices_of members_alone) caused in

@@ -14,7 +14,7 @@ use Rattle.ws_tables.proofs.Streams.{stands-at}
 use Rattle.ws_tables.proofs.tables.Tables.perform_transform.Goals as goal
 
 pub returns-then-len-t-clause-performs : goal.returns-then-len-t-clause-performs
-returns-then-len-t-clause-performs c = transform-absent c.args.t c.args.operation c.args.self.now (omega (arith, c.args.self.now.transforms.ok.0)) c.requires.quiet
+returns-then-len-t-clause-performs c = transform-absent c.args.t c.args.operation.now c.args.self.now (omega (arith, c.args.self.now.transforms.ok.0)) c.requires.quiet
 
 at : (c : goal.After-self-1) → slice_get c.args.self.now.transforms.items c.args.t.0 ≡ Some c.index_mut.result.now
 at c = stands-at c.args.self.now.transforms.items c.args.t.0 c.index_mut.result.now c.index_mut.result.now (omega arith) c.index_mut.ensures.value
@@ -31,19 +31,19 @@ halves-are c =
     ∙ ap (λ (x : transform.Slots). halves_at x s) same))
 
 -- what the operation leaves and causes
-left : (c : goal.After-self-1) → row (Transform c.args.t c.args.operation) (slots_of c.args.self.now) ≡ put_transform c.args.t (slots_of c.args.self.now) (acts_of c.perform.new.self c.perform.new.p c.perform.new.fx)
+left : (c : goal.After-self-1) → row (Transform c.args.t c.args.operation.now) (slots_of c.args.self.now) ≡ put_transform c.args.t (slots_of c.args.self.now) (acts_of c.perform.new.self c.perform.new.p c.perform.new.fx)
 left c =
     let s : Slots = slots_of c.args.self.now in
     let x : transform.Slots = c.index_mut.result.now in
-    transform-row c.args.t c.args.operation s x (acts_of c.perform.new.self c.perform.new.p c.perform.new.fx) (at c)
+    transform-row c.args.t c.args.operation.now s x (acts_of c.perform.new.self c.perform.new.p c.perform.new.fx) (at c)
     (c.perform.ensures.row
-    ∙ (ap (λ (es : List Effect). transform_operation c.args.t c.halves-halves.result c.args.operation (record { slots = x; out = record { promises = s.promises; effects = es } })) c.requires.quiet
-    ∙ ap (λ (halves : Halves). transform_operation c.args.t halves c.args.operation (record { slots = x; out = found s })) (halves-are c)))
+    ∙ (ap (λ (es : List Effect). transform_operation c.args.t c.halves-halves.result c.args.operation.now (record { slots = x; out = record { promises = s.promises; effects = es } })) c.requires.quiet
+    ∙ ap (λ (halves : Halves). transform_operation c.args.t halves c.args.operation.now (record { slots = x; out = found s })) (halves-are c)))
 
-took : (c : goal.After-self-1) → TransformTook c.args.operation c.perform.new.fx.effects
+took : (c : goal.After-self-1) → TransformTook c.args.operation.now c.perform.new.fx.effects
 took c =
-    subst (λ (a : transform.Acts). TransformTook c.args.operation a.out.effects) (sym c.perform.ensures.row)
-    (transform-took c.args.t c.halves-halves.result c.args.operation (acts_of c.index_mut.result.now c.args.self.now.promises c.args.self.now.caused) c.requires.quiet)
+    subst (λ (a : transform.Acts). TransformTook c.args.operation.now a.out.effects) (sym c.perform.ensures.row)
+    (transform-took c.args.t c.halves-halves.result c.args.operation.now (acts_of c.index_mut.result.now c.args.self.now.promises c.args.self.now.caused) c.requires.quiet)
 
 pub returns-clause-performs : goal.returns-clause-performs
 returns-clause-performs c =

@@ -20,14 +20,14 @@ use Rattle.ws_tables.proofs.tables.Tables.perform_writable.Goals as goal
 
 pub returns-then-not-has_writable-clause-performs : goal.returns-then-not-has_writable-clause-performs
 returns-then-not-has_writable-clause-performs c =
-    writable-absent c.args.i c.args.operation c.args.self.now (sym c.has_writable.ensures ∙ c.if-not-has_writable.true) c.requires.quiet
+    writable-absent c.args.i c.args.operation.now c.args.self.now (sym c.has_writable.ensures ∙ c.if-not-has_writable.true) c.requires.quiet
 
 pub index_mut-requires : goal.index_mut-requires
 index_mut-requires c =
     let there = writable-within stream_of c.args.self.now.streams.items c.args.i.0 (sym c.has_writable.ensures ∙ c.if-not-has_writable.false) in
     omega arith
 
-at : (c : goal.After-perform-arg-in-Writable-2-1) → slice_get c.args.self.now.streams.items c.args.i.0 ≡ Some (Writable c.in-Writable.stream)
+at : (c : goal.After-perform-arg-in-Writable-3-1) → slice_get c.args.self.now.streams.items c.args.i.0 ≡ Some (Writable c.in-Writable.stream)
 at c =
     let there = writable-within stream_of c.args.self.now.streams.items c.args.i.0 (sym c.has_writable.ensures ∙ c.if-not-has_writable.false) in
     stands-at c.args.self.now.streams.items c.args.i.0 c.index_mut.result.now c.index_mut.result.now there c.index_mut.ensures.value
@@ -36,7 +36,7 @@ at c =
 pub perform-requires-clause-room : goal.perform-requires-clause-room
 perform-requires-clause-room c =
     let lists = c.requires.room.lists c.args.i.0 (Writable c.in-Writable.stream) (at c) in
-    let here = writable-here c.args.i c.args.operation in let r = lists.requests in
+    let here = writable-here c.args.i c.args.operation.now in let r = lists.requests in
     record { promises = c.requires.room.promises; events = c.requires.room.events; queue = lists.queue; requests = omega (arith, here, r) }
 
 pub perform-requires-clause-effect_room : goal.perform-requires-clause-effect_room
@@ -44,18 +44,18 @@ perform-requires-clause-effect_room c =
     let quiet = ap length c.requires.quiet in
     omega (arith, quiet, c.requires.room.caused)
 
-took : (c : goal.After-note_growth-arg-1) → WritableTook c.args.operation (acts_of c.in-Writable.stream c.args.self.now.promises c.args.self.now.caused) (acts_of c.perform.new.self c.perform.new.p c.perform.new.fx)
+took : (c : goal.After-note_growth-arg-1) → WritableTook c.args.operation.now (acts_of c.in-Writable.stream c.args.self.now.promises c.args.self.now.caused) (acts_of c.perform.new.self c.perform.new.p c.perform.new.fx)
 took c =
-    subst (WritableTook c.args.operation (acts_of c.in-Writable.stream c.args.self.now.promises c.args.self.now.caused)) (sym c.perform.ensures.row)
-    (writable-took c.args.i c.args.operation (acts_of c.in-Writable.stream c.args.self.now.promises c.args.self.now.caused) c.requires.quiet)
+    subst (WritableTook c.args.operation.now (acts_of c.in-Writable.stream c.args.self.now.promises c.args.self.now.caused)) (sym c.perform.ensures.row)
+    (writable-took c.args.i c.args.operation.now (acts_of c.in-Writable.stream c.args.self.now.promises c.args.self.now.caused) c.requires.quiet)
 
 paid_for : (c : goal.After-note_growth-arg-1) → c.has_room-had_room.result ≡ true → c.has_room-has_room.result ≡ false
-    → prices_of queued_alone c.perform.new.fx.effects + prices_of requests_alone c.perform.new.fx.effects < writable_price queued_alone c.args.operation + writable_price requests_alone c.args.operation
+    → prices_of queued_alone c.perform.new.fx.effects + prices_of requests_alone c.perform.new.fx.effects < writable_price queued_alone c.args.operation.now + writable_price requests_alone c.args.operation.now
 paid_for c had has =
     let t = took c in
     let room = c.perform.ensures.room in
     paid (length c.in-Writable.stream.slots.queue) (length c.perform.new.self.slots.queue) (length c.in-Writable.stream.slots.write_requests) (length c.perform.new.self.slots.write_requests)
-    (writable_price queued_alone c.args.operation) (writable_price requests_alone c.args.operation) (prices_of queued_alone c.perform.new.fx.effects) (prices_of requests_alone c.perform.new.fx.effects)
+    (writable_price queued_alone c.args.operation.now) (writable_price requests_alone c.args.operation.now) (prices_of queued_alone c.perform.new.fx.effects) (prices_of requests_alone c.perform.new.fx.effects)
     c.in-Writable.stream.room.queue c.in-Writable.stream.room.requests t.queued t.requested (sym c.has_room-had_room.ensures ∙ had)
     (ap (λ (l : Lists). nat_le 4 (l.queue - length c.perform.new.self.slots.queue) && nat_le 4 (l.requests - length c.perform.new.self.slots.write_requests)) (sym room) ∙ (sym c.has_room-has_room.ensures ∙ has))
 
@@ -65,7 +65,7 @@ note_growth-requires c = record {
 }
 
 -- what the operation leaves and causes
-left : (c : goal.After-note_growth) → on_writable (writable_operation c.args.i c.args.operation) c.args.i (slots_of c.args.self.now)
+left : (c : goal.After-note_growth) → on_writable (writable_operation c.args.i c.args.operation.now) c.args.i (slots_of c.args.self.now)
     ≡ record {
       slots = record (slots_of c.args.self.now) { streams = map stream_of (slice_set c.args.self.now.streams.items c.args.i.0 (Writable c.perform.new.self)); promises = c.perform.new.p.table };
       caused = c.perform.new.fx.effects;
@@ -73,9 +73,9 @@ left : (c : goal.After-note_growth) → on_writable (writable_operation c.args.i
 left c =
     let old = c.args.self.now in
     let there = writable-within stream_of old.streams.items c.args.i.0 (sym c.has_writable.ensures ∙ c.if-not-has_writable.false) in
-    on_writable-at stream_of (writable_operation c.args.i c.args.operation) c.args.i (slots_of old) old.streams.items c.index_mut.result.now (Writable c.perform.new.self) c.in-Writable.stream.slots
+    on_writable-at stream_of (writable_operation c.args.i c.args.operation.now) c.args.i (slots_of old) old.streams.items c.index_mut.result.now (Writable c.perform.new.self) c.in-Writable.stream.slots
     (acts_of c.perform.new.self c.perform.new.p c.perform.new.fx) refl there c.index_mut.ensures.value (ap stream_of c.in-Writable.is)
-    (c.perform.ensures.row ∙ ap (λ (es : List Effect). writable_operation c.args.i c.args.operation (record { slots = c.in-Writable.stream.slots; out = record { promises = old.promises.table; effects = es } })) c.requires.quiet)
+    (c.perform.ensures.row ∙ ap (λ (es : List Effect). writable_operation c.args.i c.args.operation.now (record { slots = c.in-Writable.stream.slots; out = record { promises = old.promises.table; effects = es } })) c.requires.quiet)
     refl
 
 pub returns-clause-performs : goal.returns-clause-performs
@@ -93,7 +93,7 @@ returns-clause-performs c =
       lists = ap (λ (t : Tables). map room_of t.streams.items) same ∙ map-put room_of old.streams.items c.args.i.0 (Writable c.in-Writable.stream) (Writable c.perform.new.self) (at c.before.before.before.before.before) (ap two_lists c.perform.ensures.room);
       rooms = λ none. rw (ap (λ (t : Tables). t.streams.items) same) (rooms-put old.streams.items c.args.i.0 (Writable c.in-Writable.stream) (Writable c.perform.new.self) (at c.before.before.before.before.before) (λ n h. tt));
       grown =
-          let g = noted-grown (vec_len old.grown) (vec_len c.note_growth.new.self.grown) (writable_price queued_alone c.args.operation) (writable_price requests_alone c.args.operation)
+          let g = noted-grown (vec_len old.grown) (vec_len c.note_growth.new.self.grown) (writable_price queued_alone c.args.operation.now) (writable_price requests_alone c.args.operation.now)
           (prices_of queued_alone c.perform.new.fx.effects) (prices_of requests_alone c.perform.new.fx.effects) c.has_room-had_room.result c.has_room-has_room.result
           t.queued.caused t.requested.caused (paid_for c.before) (rw (c.note_growth.new.self.grown.ok.0, old.grown.ok.0, c.note_growth.ensures.grown) (noted-length old.grown.items c.args.i (c.has_room-had_room.result && not c.has_room-has_room.result))) in
           let q = ap (prices_of queued_alone) caused in
@@ -129,9 +129,9 @@ returns-clause-kept c =
       aborts = rw same c.requires.kept.aborts;
       members = rw same c.requires.kept.members;
       copied = rw same c.requires.kept.copied;
-      sourced = subst AreSourced (sym (returns-clause-performs c).slots) (row-sourced (WritableEffect c.args.i c.args.operation) (slots_of old) c.requires.kept.sourced);
+      sourced = subst AreSourced (sym (returns-clause-performs c).slots) (row-sourced (WritableEffect c.args.i c.args.operation.now) (slots_of old) c.requires.kept.sourced);
       counted =
           subst (λ (t : Tables). IsCounted (slots_of t)) (sym same)
-          (counted-on (length old.promises.table.entries) (length c.perform.new.p.table.entries) old.pipes.items (writable-more c.args.i c.args.operation (slots_of old) _ (left c)) c.requires.kept.counted);
-      few = subst HasFew (sym (returns-clause-performs c).slots) (row-few (WritableEffect c.args.i c.args.operation) (slots_of old) c.requires.kept.few);
+          (counted-on (length old.promises.table.entries) (length c.perform.new.p.table.entries) old.pipes.items (writable-more c.args.i c.args.operation.now (slots_of old) _ (left c)) c.requires.kept.counted);
+      few = subst HasFew (sym (returns-clause-performs c).slots) (row-few (WritableEffect c.args.i c.args.operation.now) (slots_of old) c.requires.kept.few);
     }
