@@ -30,8 +30,8 @@ impl Tables {
         requires kept { IsKept self.old }
         ensures { PerformsAll self.old self.new }
     {
-        while let Some(mut effect) = self.next_effect() {
-            self.perform(&mut effect);
+        while let Some(effect) = self.next_effect() {
+            self.perform(effect);
         }
     }
 }

@@ -292,9 +292,9 @@ impl Tables {
         self.perform_port(c, replace(operation, PortOperation::Unblock))
     }
 
-    /// Performs an effect, and causes what comes of it.
+    /// Performs an effect where it stands, and causes what comes of it.
     #[tactic(auto, using(crate::proofs::Places::kept_by), unfolding(ws_steps::specs::Turns::row))]
-    pub(crate) fn perform(&mut self, effect: &mut Effect)
+    fn perform_at(&mut self, effect: &mut Effect)
         requires quiet { self.old.caused.effects ≡ [] }
         requires room { HasRoomFor effect.old self.old }
         requires kept { IsKept self.old }
@@ -331,5 +331,17 @@ impl Tables {
             Effect::Queue(micro) => self.promises.micro(*micro),
             Effect::CallHost(call, u) => self.call_host(call, u),
         }
+    }
+
+    /// Performs an effect, and causes what comes of it.
+    #[inline(always)]
+    pub(crate) fn perform(&mut self, mut effect: Effect)
+        requires quiet { self.old.caused.effects ≡ [] }
+        requires room { HasRoomFor effect self.old }
+        requires kept { IsKept self.old }
+        ensures performs { Performs effect self.old self.new }
+        ensures kept { IsKept self.new }
+    {
+        self.perform_at(&mut effect);
     }
 }

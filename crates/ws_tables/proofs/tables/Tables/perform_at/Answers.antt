@@ -2,7 +2,7 @@ use Rattle.ws_steps.specs.declared.effects.Effect.TheVariants.{Transform, Port, 
 use Rattle.ws_tables.specs.View.{slots_of}
 use Rattle.ws_tables.proofs.Counts.{gift-more, settle-more, micro-more}
 use Rattle.ws_tables.proofs.Places.{kept_by, kept_promises}
-use Rattle.ws_tables.proofs.tables.Tables.perform.Goals as goal
+use Rattle.ws_tables.proofs.tables.Tables.perform_at.Goals as goal
 
 pub returns-in-StartAlgorithm-clause-kept : goal.returns-in-StartAlgorithm-clause-kept
 returns-in-StartAlgorithm-clause-kept c =
