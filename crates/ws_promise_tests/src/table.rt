@@ -52,10 +52,7 @@ fn perform(rt: &impl Abort, promises: &mut Promises, line: Line) -> Result<(), N
         Line::Release(p) => promises.release(PromiseId(p)),
         Line::Watch(p) => promises.watch(PromiseId(p)),
         Line::Micro => promises.micro(Micro::PipeLook(PipeId(0))),
-        Line::Takes(job) => {
-            assert_eq!(rt; promises.first_job().copied(), job);
-            promises.drop_first_job();
-        }
+        Line::Takes(job) => assert_eq!(rt; promises.next_job(), job),
         Line::Tells(p) => assert_eq!(rt; told(promises.next_event()), p),
         Line::Pending(p, wanted) => assert_eq!(rt; promises.is_pending(PromiseId(p)), wanted),
         Line::Live(p, wanted) => assert_eq!(rt; promises.is_live(PromiseId(p)), wanted),
