@@ -65,7 +65,7 @@ impl ByteStream {
                 self.cancel_steps(me, fx, reason, promise);
             }
             ReadableState::Closed => p.fulfil(promise, Plain::Undefined),
-            ReadableState::Errored => p.reject(promise, self.stream.stored_error()),
+            ReadableState::Errored => p.reject(promise, *self.stream.stored_error()),
         }
     }
 

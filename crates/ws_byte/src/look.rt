@@ -17,8 +17,8 @@ impl ByteStream {
     }
 
     /// The error with which the stream errored; undefined where it didn't.
-    pub fn stored_error(&self) -> Plain
-        ensures { result ≡ self.now.slots.stream.stored_error }
+    pub fn stored_error(&self) -> &Plain
+        ensures { result.now ≡ self.now.slots.stream.stored_error }
     {
         self.stream.stored_error()
     }

@@ -139,7 +139,7 @@ impl ByteStream {
     {
         self.stream.disturb();
         if self.stream.state() == ReadableState::Errored {
-            fx.push(Effect::ErrorSteps(me, request, self.stream.stored_error()));
+            fx.push(Effect::ErrorSteps(me, request, *self.stream.stored_error()));
         } else {
             self.pull_into(me, p, fx, d, request);
         }

@@ -134,7 +134,7 @@ impl ByteStream {
             ReadableState::Readable => self.pull_steps(me, p, fx, request),
             ReadableState::Closed => fx.push(Effect::CloseSteps(me, request)),
             ReadableState::Errored => {
-                fx.push(Effect::ErrorSteps(me, request, self.stream.stored_error()))
+                fx.push(Effect::ErrorSteps(me, request, *self.stream.stored_error()))
             }
         }
     }

@@ -16,10 +16,10 @@ impl Readable {
     }
 
     /// The error with which the stream errored; undefined where it didn't.
-    pub fn stored_error(&self) -> Plain
-        ensures { result ≡ self.now.slots.stored_error }
+    pub fn stored_error(&self) -> &Plain
+        ensures { result.now ≡ self.now.slots.stored_error }
     {
-        self.stored_error
+        &self.stored_error
     }
 
     /// Whose algorithms the stream performs.
