@@ -5,10 +5,10 @@ ghost use Rattle.ws_promise.specs.Seen.{HasEffectRoom, HasPromiseRoom};
 ghost use Rattle.ws_steps.specs.Pipes as rows;
 ghost use Rattle.ws_steps.specs.Promises.{next_id};
 
-use crate::Pipe;
 use crate::pipe::reacts;
+use crate::{Pipe, PipeEnds};
 use ws_promise::{Agenda, Promises};
-use ws_steps::{Effect, Ends, Micro, ReadableOperation, Step, WritableOperation};
+use ws_steps::{Effect, Micro, ReadableOperation, Step, WritableOperation};
 use ws_value::{PipeId, Plain, PromiseId};
 
 /// Has the pipe react to the promises that its action waits for. Where there is none, a microtask stands in its place.
@@ -41,7 +41,7 @@ impl Pipe {
     pub(crate) fn abort_dest(
         &self,
         me: PipeId,
-        ends: &Ends,
+        ends: &PipeEnds,
         p: &mut Promises,
         fx: &mut Agenda,
         reason: Plain,

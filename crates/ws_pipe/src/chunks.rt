@@ -4,10 +4,10 @@ ghost use Rattle.ws_pipe.specs.Seen.{acts_of, taken};
 ghost use Rattle.ws_promise.specs.Seen.{HasEffectRoom, HasJobRoom, HasPromiseRoom, Seen, SeenAgenda};
 ghost use Rattle.ws_steps.specs.Pipes as rows;
 
-use crate::Pipe;
 use crate::pipe::reacts;
+use crate::{Pipe, PipeEnds};
 use ws_promise::{Agenda, Promises};
-use ws_steps::{Effect, Ends, Micro, Phase, PipeOperation, Step, WritableOperation};
+use ws_steps::{Effect, Micro, Phase, PipeOperation, Step, WritableOperation};
 use ws_value::{PipeId, Value};
 
 impl Pipe {
@@ -112,7 +112,7 @@ impl Pipe {
 
     /// The reaction to the promise of a write.
     #[tactic(auto, unfolding(ws_steps::specs::Pipes::write_ended))]
-    pub fn write_ended(&mut self, me: PipeId, ends: &Ends, p: &mut Promises, fx: &mut Agenda)
+    pub fn write_ended(&mut self, me: PipeId, ends: &PipeEnds, p: &mut Promises, fx: &mut Agenda)
         requires promise_room { HasPromiseRoom 3 p.old }
         requires effect_room { HasEffectRoom 5 fx.old }
         ensures row { acts_of self.new p.new fx.new ≡ rows.write_ended me ends.now (acts_of self.old p.old fx.old) }

@@ -3,6 +3,7 @@
 
 mod actions;
 mod chunks;
+mod ends;
 mod finish;
 mod look;
 mod operations;
@@ -10,6 +11,7 @@ mod pipe;
 mod shutdown;
 mod signal;
 
+pub use ends::PipeEnds;
 pub use pipe::Pipe;
 pub use signal::Signal;
-pub use ws_steps::{Action, Ends, Phase, PipeOperation, Prevent, SignalOperation};
+pub use ws_steps::{Action, Phase, PipeOperation, Prevent, SignalOperation};

@@ -4,11 +4,11 @@ ghost use Rattle.ws_pipe.specs.Seen.{acts_of, close_forward, error_backward, err
 ghost use Rattle.ws_promise.specs.Seen.{HasEffectRoom, HasPromiseRoom, Seen};
 ghost use Rattle.ws_steps.specs.Pipes as rows;
 
-use crate::Pipe;
 use crate::pipe::reacts;
+use crate::{Pipe, PipeEnds};
 use ws_promise::{Agenda, Promises};
 use ws_steps::{
-    Action, Effect, Ends, Phase, ReadRequest, ReadableOperation, ReadableState, Step, WritableState,
+    Action, Effect, Phase, ReadRequest, ReadableOperation, ReadableState, Step, WritableState,
 };
 use ws_value::{Fault, PipeId, Plain};
 
@@ -22,7 +22,7 @@ fn unless(prevented: bool, action: Action) -> Option<Action>
 }
 
 impl Pipe {
-    fn wait_for_ready(&mut self, me: PipeId, ends: &Ends, fx: &mut Agenda)
+    fn wait_for_ready(&mut self, me: PipeId, ends: &PipeEnds, fx: &mut Agenda)
         requires effect_room { HasEffectRoom 1 fx.old }
         ensures row { (p : Seen) → acts_of self.new p fx.new
             ≡ rows.wait_for_ready me (acts_of self.old p fx.old) ends.now.dest_ready }
@@ -34,7 +34,7 @@ impl Pipe {
         }
     }
 
-    fn read_or_wait(&mut self, me: PipeId, ends: &Ends, fx: &mut Agenda)
+    fn read_or_wait(&mut self, me: PipeId, ends: &PipeEnds, fx: &mut Agenda)
         requires effect_room { HasEffectRoom 1 fx.old }
         ensures row { (p : Seen) → acts_of self.new p fx.new
             ≡ rows.read_or_wait me ends.now (acts_of self.old p fx.old) }
@@ -50,7 +50,7 @@ impl Pipe {
     }
 
     /// The source is readable, and the destination hasn't errored.
-    fn flow(&mut self, me: PipeId, ends: &Ends, p: &mut Promises, fx: &mut Agenda)
+    fn flow(&mut self, me: PipeId, ends: &PipeEnds, p: &mut Promises, fx: &mut Agenda)
         requires promise_room { HasPromiseRoom 3 p.old }
         requires effect_room { HasEffectRoom 5 fx.old }
         ensures row { acts_of self.new p.new fx.new ≡ flow me ends.now (acts_of self.old p.old fx.old) }
@@ -65,29 +65,29 @@ impl Pipe {
         }
     }
 
-    fn error_forward(&mut self, me: PipeId, ends: &Ends, p: &mut Promises, fx: &mut Agenda)
+    fn error_forward(&mut self, me: PipeId, ends: &PipeEnds, p: &mut Promises, fx: &mut Agenda)
         requires promise_room { HasPromiseRoom 3 p.old }
         requires effect_room { HasEffectRoom 5 fx.old }
         ensures row { acts_of self.new p.new fx.new ≡ error_forward me ends.now (acts_of self.old p.old fx.old) }
         ensures promise_room { p.new.room ≡ p.old.room }
         ensures effect_room { fx.new.capacity ≡ fx.old.capacity }
     {
-        let action = unless(self.prevent.abort, Action::AbortDest(ends.source_error));
-        self.shutdown(me, ends, p, fx, action, Some(ends.source_error));
+        let action = unless(self.prevent.abort, Action::AbortDest(*ends.source_error));
+        self.shutdown(me, ends, p, fx, action, Some(*ends.source_error));
     }
 
-    fn error_backward(&mut self, me: PipeId, ends: &Ends, p: &mut Promises, fx: &mut Agenda)
+    fn error_backward(&mut self, me: PipeId, ends: &PipeEnds, p: &mut Promises, fx: &mut Agenda)
         requires promise_room { HasPromiseRoom 3 p.old }
         requires effect_room { HasEffectRoom 5 fx.old }
         ensures row { acts_of self.new p.new fx.new ≡ error_backward me ends.now (acts_of self.old p.old fx.old) }
         ensures promise_room { p.new.room ≡ p.old.room }
         ensures effect_room { fx.new.capacity ≡ fx.old.capacity }
     {
-        let action = unless(self.prevent.cancel, Action::CancelSource(ends.dest_error));
-        self.shutdown(me, ends, p, fx, action, Some(ends.dest_error));
+        let action = unless(self.prevent.cancel, Action::CancelSource(*ends.dest_error));
+        self.shutdown(me, ends, p, fx, action, Some(*ends.dest_error));
     }
 
-    fn close_forward(&mut self, me: PipeId, ends: &Ends, p: &mut Promises, fx: &mut Agenda)
+    fn close_forward(&mut self, me: PipeId, ends: &PipeEnds, p: &mut Promises, fx: &mut Agenda)
         requires promise_room { HasPromiseRoom 3 p.old }
         requires effect_room { HasEffectRoom 5 fx.old }
         ensures row { acts_of self.new p.new fx.new ≡ close_forward me ends.now (acts_of self.old p.old fx.old) }
@@ -99,7 +99,7 @@ impl Pipe {
     }
 
     /// Errors are propagated forward, and then backward; closing is propagated forward, and then backward.
-    fn look_by(&mut self, me: PipeId, ends: &Ends, p: &mut Promises, fx: &mut Agenda)
+    fn look_by(&mut self, me: PipeId, ends: &PipeEnds, p: &mut Promises, fx: &mut Agenda)
         requires promise_room { HasPromiseRoom 3 p.old }
         requires effect_room { HasEffectRoom 5 fx.old }
         ensures row { acts_of self.new p.new fx.new
@@ -117,7 +117,7 @@ impl Pipe {
 
     /// Looks at the two ends, where the pipe is flowing.
     #[tactic(auto, unfolding(ws_steps::specs::Pipes::look))]
-    pub fn look(&mut self, me: PipeId, ends: &Ends, p: &mut Promises, fx: &mut Agenda)
+    pub fn look(&mut self, me: PipeId, ends: &PipeEnds, p: &mut Promises, fx: &mut Agenda)
         requires promise_room { HasPromiseRoom 3 p.old }
         requires effect_room { HasEffectRoom 5 fx.old }
         ensures row { acts_of self.new p.new fx.new ≡ rows.look me ends.now (acts_of self.old p.old fx.old) }
@@ -137,7 +137,7 @@ impl Pipe {
 
     /// The writer's ready promise has settled.
     #[tactic(auto, unfolding(ws_steps::specs::Pipes::look_ready))]
-    pub fn look_ready(&mut self, me: PipeId, ends: &Ends, p: &mut Promises, fx: &mut Agenda)
+    pub fn look_ready(&mut self, me: PipeId, ends: &PipeEnds, p: &mut Promises, fx: &mut Agenda)
         requires promise_room { HasPromiseRoom 3 p.old }
         requires effect_room { HasEffectRoom 5 fx.old }
         ensures row { acts_of self.new p.new fx.new ≡ rows.look_ready me ends.now (acts_of self.old p.old fx.old) }
@@ -150,7 +150,7 @@ impl Pipe {
 
     /// Looks where the pipe is flowing, and proceeds where it waits.
     #[tactic(auto, unfolding(ws_steps::specs::Pipes::go_on))]
-    pub fn go_on(&mut self, me: PipeId, ends: &Ends, p: &mut Promises, fx: &mut Agenda)
+    pub fn go_on(&mut self, me: PipeId, ends: &PipeEnds, p: &mut Promises, fx: &mut Agenda)
         requires promise_room { HasPromiseRoom 3 p.old }
         requires effect_room { HasEffectRoom 5 fx.old }
         ensures row { acts_of self.new p.new fx.new ≡ rows.go_on me ends.now (acts_of self.old p.old fx.old) }

@@ -4,9 +4,9 @@ ghost use Rattle.ws_pipe.specs.Seen.{HasRoomFor, acts_of, is_common};
 ghost use Rattle.ws_promise.specs.Seen.{HasEffectRoom};
 ghost use Rattle.ws_steps.specs.Operations.{pipe_operation};
 
-use crate::Pipe;
+use crate::{Pipe, PipeEnds};
 use ws_promise::{Agenda, Promises, taken};
-use ws_steps::{Ends, PipeOperation};
+use ws_steps::PipeOperation;
 use ws_value::PipeId;
 
 impl Pipe {
@@ -14,7 +14,7 @@ impl Pipe {
     pub fn perform(
         &mut self,
         me: PipeId,
-        ends: &Ends,
+        ends: &PipeEnds,
         p: &mut Promises,
         fx: &mut Agenda,
         operation: &mut PipeOperation,
@@ -45,7 +45,7 @@ impl Pipe {
     fn perform_uncommon(
         &mut self,
         me: PipeId,
-        ends: &Ends,
+        ends: &PipeEnds,
         p: &mut Promises,
         fx: &mut Agenda,
         operation: &mut PipeOperation,

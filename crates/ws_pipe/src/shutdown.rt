@@ -4,13 +4,13 @@ ghost use Rattle.ws_pipe.specs.Seen.{acts_of, listed};
 ghost use Rattle.ws_promise.specs.Seen.{HasEffectRoom, HasPromiseRoom, Seen, SeenAgenda};
 ghost use Rattle.ws_steps.specs.Pipes as rows;
 
-use crate::Pipe;
+use crate::{Pipe, PipeEnds};
 use ws_promise::{Agenda, Promises};
-use ws_steps::{Action, Ends, Phase, WritableState};
+use ws_steps::{Action, Phase, WritableState};
 use ws_value::{PipeId, Plain};
 
 impl Pipe {
-    fn act_by(&mut self, me: PipeId, ends: &Ends, p: &mut Promises, fx: &mut Agenda)
+    fn act_by(&mut self, me: PipeId, ends: &PipeEnds, p: &mut Promises, fx: &mut Agenda)
         requires promise_room { HasPromiseRoom 3 p.old }
         requires effect_room { HasEffectRoom 5 fx.old }
         ensures row { acts_of self.new p.new fx.new
@@ -30,7 +30,7 @@ impl Pipe {
 
     /// Performs the action of the shutdown; where there is none, the pipe is over.
     #[tactic(auto, unfolding(ws_steps::specs::Pipes::act))]
-    pub fn act(&mut self, me: PipeId, ends: &Ends, p: &mut Promises, fx: &mut Agenda)
+    pub fn act(&mut self, me: PipeId, ends: &PipeEnds, p: &mut Promises, fx: &mut Agenda)
         requires promise_room { HasPromiseRoom 3 p.old }
         requires effect_room { HasEffectRoom 5 fx.old }
         ensures row { acts_of self.new p.new fx.new ≡ rows.act me ends.now (acts_of self.old p.old fx.old) }
@@ -43,7 +43,7 @@ impl Pipe {
 
     /// Acts once no chunk is held and every write has settled.
     #[tactic(auto, unfolding(ws_steps::specs::Pipes::proceed))]
-    pub fn proceed(&mut self, me: PipeId, ends: &Ends, p: &mut Promises, fx: &mut Agenda)
+    pub fn proceed(&mut self, me: PipeId, ends: &PipeEnds, p: &mut Promises, fx: &mut Agenda)
         requires promise_room { HasPromiseRoom 3 p.old }
         requires effect_room { HasEffectRoom 5 fx.old }
         ensures row { acts_of self.new p.new fx.new ≡ rows.proceed me ends.now (acts_of self.old p.old fx.old) }
@@ -55,7 +55,7 @@ impl Pipe {
         }
     }
 
-    fn shut_down(&mut self, me: PipeId, ends: &Ends, p: &mut Promises, fx: &mut Agenda)
+    fn shut_down(&mut self, me: PipeId, ends: &PipeEnds, p: &mut Promises, fx: &mut Agenda)
         requires promise_room { HasPromiseRoom 3 p.old }
         requires effect_room { HasEffectRoom 5 fx.old }
         ensures row { acts_of self.new p.new fx.new ≡ rows.shut_down me ends.now (acts_of self.old p.old fx.old) }
@@ -82,7 +82,7 @@ impl Pipe {
     pub fn shutdown(
         &mut self,
         me: PipeId,
-        ends: &Ends,
+        ends: &PipeEnds,
         p: &mut Promises,
         fx: &mut Agenda,
         action: Option<Action>,
@@ -106,7 +106,7 @@ impl Pipe {
     pub fn abort(
         &mut self,
         me: PipeId,
-        ends: &Ends,
+        ends: &PipeEnds,
         p: &mut Promises,
         fx: &mut Agenda,
         reason: Plain,

@@ -4,9 +4,8 @@ ghost use Rattle.ws_promise.specs.Seen.{HasPromiseRoom, SeenAgenda};
 ghost use Rattle.ws_steps.specs.Transform as rows;
 ghost use Rattle.ws_transform.specs.Seen.{acts_of};
 
-use crate::Transform;
+use crate::{Transform, TransformHalves};
 use ws_promise::Promises;
-use ws_steps::Halves;
 use ws_value::Plain;
 
 impl Transform {
@@ -37,7 +36,7 @@ impl Transform {
 
     /// The end of TransformStreamDefaultControllerEnqueue, after the readable half took the chunk.
     #[tactic(auto, unfolding(ws_steps::specs::Transform::enqueued))]
-    pub fn enqueued(&mut self, halves: &Halves, p: &mut Promises)
+    pub fn enqueued(&mut self, halves: &TransformHalves, p: &mut Promises)
         requires promise_room { HasPromiseRoom 1 p.old }
         ensures row { (fx : SeenAgenda) → acts_of self.new p.new fx
             ≡ rows.enqueued halves.now (acts_of self.old p.old fx) }

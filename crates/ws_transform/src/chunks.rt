@@ -4,12 +4,12 @@ ghost use Rattle.ws_promise.specs.Seen.{HasEffectRoom, HasPromiseRoom, Seen};
 ghost use Rattle.ws_steps.specs.Transform as rows;
 ghost use Rattle.ws_transform.specs.Seen.{acts_of};
 
-use crate::Transform;
 use crate::controller::TYPE_ERROR;
+use crate::{Transform, TransformHalves};
 use ws_promise::{Agenda, Promises};
 use ws_steps::{
-    Effect, Gift, Halves, HostCall, Kind, ReadableOperation, Step, Taker, TransformId,
-    TransformOperation, Use, WritableOperation, WritableState,
+    Effect, Gift, HostCall, Kind, ReadableOperation, Step, Taker, TransformId, TransformOperation,
+    Use, WritableOperation, WritableState,
 };
 use ws_value::{Plain, PromiseId, Value};
 
@@ -25,7 +25,7 @@ impl Transform {
     fn transform_identity(
         &self,
         me: TransformId,
-        halves: &Halves,
+        halves: &TransformHalves,
         fx: &mut Agenda,
         chunk: Value,
         promise: PromiseId,
@@ -54,7 +54,7 @@ impl Transform {
     pub fn transform_chunk(
         &self,
         me: TransformId,
-        halves: &Halves,
+        halves: &TransformHalves,
         fx: &mut Agenda,
         chunk: Value,
         promise: PromiseId,
@@ -122,7 +122,7 @@ impl Transform {
     pub fn write_goes_on(
         &self,
         me: TransformId,
-        halves: &Halves,
+        halves: &TransformHalves,
         p: &mut Promises,
         fx: &mut Agenda,
         promise: PromiseId,
@@ -135,7 +135,10 @@ impl Transform {
         ensures effect_room { fx.new.capacity ≡ fx.old.capacity }
     {
         match halves.writable_state {
-            WritableState::Erroring => fx.push(Effect::Settle(promise, Err(halves.writable_error))),
+            WritableState::Erroring => fx.push(Effect::Settle(
+                promise,
+                Err(*halves.writable_error),
+            )),
             WritableState::Writable | WritableState::Errored | WritableState::Closed => {
                 self.perform_transform(me, p, fx, Use::Resolve(promise));
             }

@@ -4,20 +4,20 @@ ghost use Rattle.ws_promise.specs.Seen.{HasEffectRoom, Seen};
 ghost use Rattle.ws_steps.specs.Transform as rows;
 ghost use Rattle.ws_transform.specs.Seen.{acts_of, error_readable_and_settle, error_writable_and_settle, followed_by};
 
-use crate::Transform;
+use crate::{Transform, TransformHalves};
 use ws_promise::Agenda;
-use ws_steps::{Effect, Halves, ReadableOperation, ReadableState, TransformId, WritableState};
+use ws_steps::{Effect, ReadableOperation, ReadableState, TransformId, WritableState};
 use ws_value::{Plain, PromiseId};
 
 impl Transform {
-    fn flushed(&self, halves: &Halves, fx: &mut Agenda, finish: PromiseId)
+    fn flushed(&self, halves: &TransformHalves, fx: &mut Agenda, finish: PromiseId)
         requires effect_room { HasEffectRoom 2 fx.old }
         ensures row { (p : Seen) → acts_of self.now p fx.new
             ≡ rows.flushed_in finish halves.now (acts_of self.now p fx.old) halves.now.readable_state }
         ensures effect_room { fx.new.capacity ≡ fx.old.capacity }
     {
         match halves.readable_state {
-            ReadableState::Errored => fx.push(Effect::Settle(finish, Err(halves.readable_error))),
+            ReadableState::Errored => fx.push(Effect::Settle(finish, Err(*halves.readable_error))),
             ReadableState::Readable | ReadableState::Closed => {
                 fx.push(Effect::Readable(self.readable, ReadableOperation::Close));
                 fx.push(Effect::Settle(finish, Ok(Plain::Undefined)));
@@ -44,7 +44,7 @@ impl Transform {
     #[tactic(auto, unfolding(ws_steps::specs::Transform::flush_settled))]
     pub fn flush_settled(
         &self,
-        halves: &Halves,
+        halves: &TransformHalves,
         fx: &mut Agenda,
         finish: PromiseId,
         outcome: Result<Plain, Plain>,
@@ -60,14 +60,14 @@ impl Transform {
         }
     }
 
-    fn aborted(&self, halves: &Halves, fx: &mut Agenda, finish: PromiseId, reason: Plain)
+    fn aborted(&self, halves: &TransformHalves, fx: &mut Agenda, finish: PromiseId, reason: Plain)
         requires effect_room { HasEffectRoom 2 fx.old }
         ensures row { (p : Seen) → acts_of self.now p fx.new
             ≡ rows.aborted_in finish halves.now reason (acts_of self.now p fx.old) halves.now.readable_state }
         ensures effect_room { fx.new.capacity ≡ fx.old.capacity }
     {
         match halves.readable_state {
-            ReadableState::Errored => fx.push(Effect::Settle(finish, Err(halves.readable_error))),
+            ReadableState::Errored => fx.push(Effect::Settle(finish, Err(*halves.readable_error))),
             ReadableState::Readable | ReadableState::Closed => {
                 self.error_readable_and_settle(fx, finish, reason, Ok(Plain::Undefined));
             }
@@ -78,7 +78,7 @@ impl Transform {
     #[tactic(auto, unfolding(ws_steps::specs::Transform::abort_settled))]
     pub fn abort_settled(
         &self,
-        halves: &Halves,
+        halves: &TransformHalves,
         fx: &mut Agenda,
         finish: PromiseId,
         reason: Plain,
@@ -115,7 +115,7 @@ impl Transform {
     fn cancelled(
         &self,
         me: TransformId,
-        halves: &Halves,
+        halves: &TransformHalves,
         fx: &mut Agenda,
         finish: PromiseId,
         reason: Plain,
@@ -126,7 +126,7 @@ impl Transform {
         ensures effect_room { fx.new.capacity ≡ fx.old.capacity }
     {
         match halves.writable_state {
-            WritableState::Errored => fx.push(Effect::Settle(finish, Err(halves.writable_error))),
+            WritableState::Errored => fx.push(Effect::Settle(finish, Err(*halves.writable_error))),
             WritableState::Writable | WritableState::Erroring | WritableState::Closed => {
                 self.error_writable_and_settle(me, fx, finish, reason, Ok(Plain::Undefined));
             }
@@ -138,7 +138,7 @@ impl Transform {
     pub fn cancel_settled(
         &self,
         me: TransformId,
-        halves: &Halves,
+        halves: &TransformHalves,
         fx: &mut Agenda,
         finish: PromiseId,
         reason: Plain,

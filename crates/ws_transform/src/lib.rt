@@ -6,8 +6,10 @@ mod backpressure;
 mod chunks;
 mod controller;
 mod finish;
+mod halves;
 mod operations;
 mod transform;
 
+pub use halves::TransformHalves;
 pub use transform::Transform;
-pub use ws_steps::{Halves, Kind, Taker, TransformId, TransformOperation};
+pub use ws_steps::{Kind, Taker, TransformId, TransformOperation};

@@ -4,16 +4,16 @@ ghost use Rattle.ws_promise.specs.Seen.{HasEffectRoom};
 ghost use Rattle.ws_steps.specs.Operations.{transform_operation};
 ghost use Rattle.ws_transform.specs.Seen.{HasRoomFor, acts_of, is_common};
 
-use crate::Transform;
+use crate::{Transform, TransformHalves};
 use ws_promise::{Agenda, Promises, taken};
-use ws_steps::{Halves, TransformId, TransformOperation};
+use ws_steps::{TransformId, TransformOperation};
 
 impl Transform {
     /// Performs an operation of the transform stream, whose number is `me`, and which finds its two halves so.
     pub fn perform(
         &mut self,
         me: TransformId,
-        halves: &Halves,
+        halves: &TransformHalves,
         p: &mut Promises,
         fx: &mut Agenda,
         operation: &mut TransformOperation,
@@ -47,7 +47,7 @@ impl Transform {
     fn perform_uncommon(
         &mut self,
         me: TransformId,
-        halves: &Halves,
+        halves: &TransformHalves,
         p: &mut Promises,
         fx: &mut Agenda,
         operation: &mut TransformOperation,
