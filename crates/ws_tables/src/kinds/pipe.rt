@@ -1,45 +1,52 @@
 //! Pipes.
-ghost use Rattle.std.specs.Prelude.{◌≡◌, []};
-ghost use Rattle.ws_steps.specs.Slots.{ends_of, source_at, writable_at};
+ghost use Rattle.std.specs.Prelude.{◌≡◌, [], map, slice_get};
+ghost use Rattle.ws_steps.specs.Slots.{as_source, as_writable, ends_of};
 ghost use Rattle.ws_steps.specs.declared.effects.Effect.TheVariants as effect;
 ghost use Rattle.ws_tables.specs.Room.{HasRoomFor, IsKept, Performs};
+ghost use Rattle.ws_tables.specs.View.{stream_of};
 
 use crate::tables::{Stream, Tables};
-use ws_steps::{Ends, PipeOperation, WritableState};
+use ws_pipe::PipeEnds;
+use ws_steps::{PipeOperation, ReadableState, WritableState};
 use ws_value::{PipeId, Plain, StreamId};
 
-impl Tables {
-    ghost use Rattle.ws_tables.specs.View.{slots_of};
-
-    /// What a pipe between these streams looks at.
-    fn ends(&self, source: StreamId, dest: StreamId) -> Ends
-        ensures { result ≡ ends_of (source_at source (slots_of self.now)) (writable_at dest (slots_of self.now)) }
-    {
-        let (source_state, source_error) = self.source_end(source);
-        match self.streams.get(dest.0 as usize) {
-            Some(Stream::Writable(stream)) => Ends {
-                source_state,
-                source_error,
-                dest_state: stream.state(),
-                dest_error: stream.stored_error(),
-                dest_closing: stream.is_closing(),
-                dest_wants: stream.wants_chunk(),
-                dest_ready: stream.ready(),
-                dest_abort: stream.answered_abort(),
-            },
-            Some(Stream::Readable(_) | Stream::Bytes(_)) | None => Ends {
-                source_state,
-                source_error,
-                dest_state: WritableState::Closed,
-                dest_error: Plain::Undefined,
-                dest_closing: false,
-                dest_wants: false,
-                dest_ready: None,
-                dest_abort: None,
-            },
-        }
+/// What a pipe between these streams looks at.
+fn pipe_ends(streams: &Vec<Stream>, source: StreamId, dest: StreamId) -> PipeEnds<'_>
+    ensures { result
+        ≡ ends_of
+        (as_source (slice_get (map stream_of streams.now.items) source.0))
+        (as_writable (slice_get (map stream_of streams.now.items) dest.0)) }
+{
+    let (source_state, source_error) = match streams.get(source.0 as usize) {
+        Some(Stream::Readable(stream)) => (stream.state(), stream.stored_error()),
+        Some(Stream::Bytes(stream)) => (stream.state(), stream.stored_error()),
+        Some(Stream::Writable(_)) | None => (ReadableState::Closed, &Plain::Undefined),
+    };
+    match streams.get(dest.0 as usize) {
+        Some(Stream::Writable(stream)) => PipeEnds {
+            source_state,
+            source_error,
+            dest_state: stream.state(),
+            dest_error: stream.stored_error(),
+            dest_closing: stream.is_closing(),
+            dest_wants: stream.wants_chunk(),
+            dest_ready: stream.ready(),
+            dest_abort: stream.answered_abort(),
+        },
+        Some(Stream::Readable(_) | Stream::Bytes(_)) | None => PipeEnds {
+            source_state,
+            source_error,
+            dest_state: WritableState::Closed,
+            dest_error: &Plain::Undefined,
+            dest_closing: false,
+            dest_wants: false,
+            dest_ready: None,
+            dest_abort: None,
+        },
     }
+}
 
+impl Tables {
     /// Performs an operation of the pipe of this number, where there is one.
     pub(crate) fn perform_pipe(&mut self, p: PipeId, operation: &mut PipeOperation)
         requires quiet { self.old.caused.effects ≡ [] }
@@ -52,9 +59,7 @@ impl Tables {
             return;
         }
         let pipe = &self.pipes[p.0 as usize];
-        let source = pipe.source();
-        let dest = pipe.dest();
-        let ends = self.ends(source, dest);
+        let ends = pipe_ends(&self.streams, pipe.source(), pipe.dest());
         self.pipes[p.0 as usize].perform(p, &ends, &mut self.promises, &mut self.caused, operation);
     }
 }

@@ -6,7 +6,7 @@ ghost use Rattle.ws_steps.specs.Slots.{has_source, source_at};
 
 use crate::tables::{Stream, Tables};
 use ws_steps::{ReadableState, StateIs};
-use ws_value::{Plain, StreamId};
+use ws_value::StreamId;
 
 impl Tables {
     ghost use Rattle.ws_tables.specs.View.{slots_of};
@@ -37,20 +37,10 @@ impl Tables {
     pub fn is_source_readable(&self, i: StreamId) -> bool
         ensures { result ≡ rows.is_readable (source_at i (slots_of self.now)).state }
     {
-        self.source_end(i).0 == ReadableState::Readable
-    }
-
-    /// The state of the stream, and the stored error; where there is none of this number, those of a closed one.
-    pub(crate) fn source_end(&self, i: StreamId) -> (ReadableState, Plain)
-        ensures { result ≡ record {
-          0 = (source_at i (slots_of self.now)).state;
-          1 = (source_at i (slots_of self.now)).stored_error;
-        } }
-    {
         match self.streams.get(i.0 as usize) {
-            Some(Stream::Readable(stream)) => (stream.state(), stream.stored_error()),
-            Some(Stream::Bytes(stream)) => (stream.state(), stream.stored_error()),
-            Some(Stream::Writable(_)) | None => (ReadableState::Closed, Plain::Undefined),
+            Some(Stream::Readable(stream)) => stream.state() == ReadableState::Readable,
+            Some(Stream::Bytes(stream)) => stream.state() == ReadableState::Readable,
+            Some(Stream::Writable(_)) | None => false,
         }
     }
 

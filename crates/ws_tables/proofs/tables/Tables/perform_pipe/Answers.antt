@@ -25,15 +25,15 @@ perform-requires-clause-counted c =
 at : (c : goal.After-self-1) → slice_get c.args.self.now.pipes.items c.args.p.0 ≡ Some c.index_mut.result.now
 at c = stands-at c.args.self.now.pipes.items c.args.p.0 c.index_mut.result.now c.index_mut.result.now (omega arith) c.index_mut.ensures.value
 
-ends-are : (c : goal.After-self-1) → c.ends-ends.result ≡ ends_at c.index_mut.result.now (slots_of c.args.self.now)
+ends-are : (c : goal.After-self-1) → c.pipe_ends-ends.result ≡ ends_at c.index_mut.result.now (slots_of c.args.self.now)
 ends-are c =
     let s : Slots = slots_of c.args.self.now in
     let there = stands-at c.args.self.now.pipes.items c.args.p.0 c.index-pipe.result.now c.index-pipe.result.now (omega arith) c.index-pipe.ensures in
     let is = at c in
     let same : c.index-pipe.result.now ≡ c.index_mut.result.now = cc in
-    c.ends-ends.ensures
-    ∙ (ap (λ i. ends_of (source_at i s) (writable_at c.dest-dest.result s)) c.source-source.ensures
-    ∙ (ap (λ i. ends_of (source_at c.index-pipe.result.now.source s) (writable_at i s)) c.dest-dest.ensures
+    c.pipe_ends-ends.ensures
+    ∙ (ap (λ i. ends_of (source_at i s) (writable_at c.dest.result s)) c.source.ensures
+    ∙ (ap (λ i. ends_of (source_at c.index-pipe.result.now.source s) (writable_at i s)) c.dest.ensures
     ∙ ap (λ (x : pipe.Slots). ends_at x s) same))
 
 -- what the operation leaves and causes
@@ -43,13 +43,13 @@ left c =
     let x : pipe.Slots = c.index_mut.result.now in
     pipe-row c.args.p c.args.operation.now s x (acts_of c.perform.new.self c.perform.new.p c.perform.new.fx) (at c)
     (c.perform.ensures.row
-    ∙ (ap (λ (es : List Effect). pipe_operation c.args.p c.ends-ends.result c.args.operation.now (record { slots = x; out = record { promises = s.promises; effects = es } })) c.requires.quiet
+    ∙ (ap (λ (es : List Effect). pipe_operation c.args.p c.pipe_ends-ends.result c.args.operation.now (record { slots = x; out = record { promises = s.promises; effects = es } })) c.requires.quiet
     ∙ ap (λ (ends : Ends). pipe_operation c.args.p ends c.args.operation.now (record { slots = x; out = found s })) (ends-are c)))
 
 took : (c : goal.After-self-1) → PipeTook c.args.operation.now c.perform.new.fx.effects
 took c =
     subst (λ (a : pipe.Acts). PipeTook c.args.operation.now a.out.effects) (sym c.perform.ensures.row)
-    (pipe-took c.args.p c.ends-ends.result c.args.operation.now (acts_of c.index_mut.result.now c.args.self.now.promises c.args.self.now.caused) c.requires.quiet)
+    (pipe-took c.args.p c.pipe_ends-ends.result c.args.operation.now (acts_of c.index_mut.result.now c.args.self.now.promises c.args.self.now.caused) c.requires.quiet)
 
 pub returns-clause-performs : goal.returns-clause-performs
 returns-clause-performs c =

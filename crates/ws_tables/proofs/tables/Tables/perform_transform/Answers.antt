@@ -19,15 +19,15 @@ returns-then-len-t-clause-performs c = transform-absent c.args.t c.args.operatio
 at : (c : goal.After-self-1) → slice_get c.args.self.now.transforms.items c.args.t.0 ≡ Some c.index_mut.result.now
 at c = stands-at c.args.self.now.transforms.items c.args.t.0 c.index_mut.result.now c.index_mut.result.now (omega arith) c.index_mut.ensures.value
 
-halves-are : (c : goal.After-self-1) → c.halves-halves.result ≡ halves_at c.index_mut.result.now (slots_of c.args.self.now)
+halves-are : (c : goal.After-self-1) → c.transform_halves-halves.result ≡ halves_at c.index_mut.result.now (slots_of c.args.self.now)
 halves-are c =
     let s : Slots = slots_of c.args.self.now in
     let there = stands-at c.args.self.now.transforms.items c.args.t.0 c.index-transform.result.now c.index-transform.result.now (omega arith) c.index-transform.ensures in
     let is = at c in
     let same : c.index-transform.result.now ≡ c.index_mut.result.now = cc in
-    c.halves-halves.ensures
-    ∙ (ap (λ i. halves_of (readable_at i s) (writable_at c.writable-writable.result s)) c.readable-readable.ensures
-    ∙ (ap (λ i. halves_of (readable_at c.index-transform.result.now.readable s) (writable_at i s)) c.writable-writable.ensures
+    c.transform_halves-halves.ensures
+    ∙ (ap (λ i. halves_of (readable_at i s) (writable_at c.writable.result s)) c.readable.ensures
+    ∙ (ap (λ i. halves_of (readable_at c.index-transform.result.now.readable s) (writable_at i s)) c.writable.ensures
     ∙ ap (λ (x : transform.Slots). halves_at x s) same))
 
 -- what the operation leaves and causes
@@ -37,13 +37,13 @@ left c =
     let x : transform.Slots = c.index_mut.result.now in
     transform-row c.args.t c.args.operation.now s x (acts_of c.perform.new.self c.perform.new.p c.perform.new.fx) (at c)
     (c.perform.ensures.row
-    ∙ (ap (λ (es : List Effect). transform_operation c.args.t c.halves-halves.result c.args.operation.now (record { slots = x; out = record { promises = s.promises; effects = es } })) c.requires.quiet
+    ∙ (ap (λ (es : List Effect). transform_operation c.args.t c.transform_halves-halves.result c.args.operation.now (record { slots = x; out = record { promises = s.promises; effects = es } })) c.requires.quiet
     ∙ ap (λ (halves : Halves). transform_operation c.args.t halves c.args.operation.now (record { slots = x; out = found s })) (halves-are c)))
 
 took : (c : goal.After-self-1) → TransformTook c.args.operation.now c.perform.new.fx.effects
 took c =
     subst (λ (a : transform.Acts). TransformTook c.args.operation.now a.out.effects) (sym c.perform.ensures.row)
-    (transform-took c.args.t c.halves-halves.result c.args.operation.now (acts_of c.index_mut.result.now c.args.self.now.promises c.args.self.now.caused) c.requires.quiet)
+    (transform-took c.args.t c.transform_halves-halves.result c.args.operation.now (acts_of c.index_mut.result.now c.args.self.now.promises c.args.self.now.caused) c.requires.quiet)
 
 pub returns-clause-performs : goal.returns-clause-performs
 returns-clause-performs c =
