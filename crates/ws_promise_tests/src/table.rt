@@ -3,7 +3,7 @@ use std::process::Abort;
 use std::test::Fail;
 use ws_promise::{Agenda, Promises};
 use ws_steps::{Effect, Event, Gift, Job, Micro, Step, Use};
-use ws_value::{NoMemory, PipeId, Plain, PromiseId, StreamId, Value};
+use ws_value::{NoMemory, Outcome, PipeId, Plain, PromiseId, StreamId, Value};
 
 /// A line of a script: an operation, or what must be seen.
 #[derive(Clone, Copy, Debug)]
@@ -13,6 +13,8 @@ enum Line {
     Use(u128, u128),
     Resolve(u128),
     Settle(u128),
+    /// The promise is fulfilled with undefined.
+    End(u128),
     Give(u128),
     Release(u128),
     Watch(u128),
@@ -23,6 +25,10 @@ enum Line {
     Tells(Option<u128>),
     Pending(u128, bool),
     Live(u128, bool),
+    /// The promise was fulfilled with undefined.
+    Ended(u128),
+    /// So many became watched before the promise, where it is watched.
+    Ranks(u128, Option<u64>),
     Astray(bool),
 }
 
@@ -37,6 +43,11 @@ fn told(event: Option<Event>) -> Option<u128> {
     }
 }
 
+/// Whether `p` was fulfilled with undefined.
+fn has_ended(promises: &Promises, p: PromiseId) -> bool {
+    promises.is_live(p) && matches!(promises.outcome(p), Outcome::Fulfilled(Plain::Undefined))
+}
+
 fn perform(rt: &impl Abort, promises: &mut Promises, line: Line) -> Result<(), NoMemory> {
     promises.reserve(1)?;
     match line {
@@ -48,6 +59,7 @@ fn perform(rt: &impl Abort, promises: &mut Promises, line: Line) -> Result<(), N
         ),
         Line::Resolve(p) => promises.use_gift(&Gift::Fresh(Ok(VALUE)), &Use::Resolve(PromiseId(p))),
         Line::Settle(p) => promises.settle(PromiseId(p), Ok(VALUE)),
+        Line::End(p) => promises.settle(PromiseId(p), Ok(Plain::Undefined)),
         Line::Give(p) => promises.give(PromiseId(p), Value::Plain(VALUE)),
         Line::Release(p) => promises.release(PromiseId(p)),
         Line::Watch(p) => promises.watch(PromiseId(p)),
@@ -56,6 +68,8 @@ fn perform(rt: &impl Abort, promises: &mut Promises, line: Line) -> Result<(), N
         Line::Tells(p) => assert_eq!(rt; told(promises.next_event()), p),
         Line::Pending(p, wanted) => assert_eq!(rt; promises.is_pending(PromiseId(p)), wanted),
         Line::Live(p, wanted) => assert_eq!(rt; promises.is_live(PromiseId(p)), wanted),
+        Line::Ended(p) => assert!(rt; has_ended(promises, PromiseId(p))),
+        Line::Ranks(p, wanted) => assert_eq!(rt; promises.rank(PromiseId(p)), wanted),
         Line::Astray(wanted) => assert_eq!(rt; promises.is_astray(), wanted),
     }
     Ok(())
@@ -110,6 +124,110 @@ fn follows_and_tells(rt: HostRuntime) -> Result<(), Fail> {
     for line in script {
         perform(&rt, &mut promises, line)?;
     }
+    Ok(())
+}
+
+/// The job of a reaction to a promise that was fulfilled with undefined.
+const UNDEFINED_JOB: Job = Job::Reaction {
+    step: STEP,
+    outcome: Ok(Plain::Undefined),
+    derived: None,
+};
+
+#[test]
+fn tells_of_the_ended(rt: HostRuntime) -> Result<(), Fail> {
+    let script = [
+        Line::Fresh(0),
+        Line::Fresh(1),
+        Line::Fresh(2),
+        Line::React(2),
+        Line::End(0),
+        Line::End(2),
+        Line::Ended(0),
+        Line::Ended(2),
+        Line::Pending(0, false),
+        Line::Pending(1, true),
+        Line::Ranks(2, None),
+        Line::Takes(Some(UNDEFINED_JOB)),
+        // two take the places of promises 2 and 0, and one a new one
+        Line::Fresh(3),
+        Line::Fresh(4),
+        Line::Fresh(5),
+        Line::Pending(3, true),
+        Line::Pending(4, true),
+        Line::Pending(5, true),
+        Line::Ended(0),
+        Line::Ended(2),
+        // it ended before it is watched
+        Line::Watch(0),
+        Line::Tells(Some(0)),
+        Line::Watch(0),
+        Line::Tells(None),
+        Line::Ranks(0, Some(0)),
+        Line::Ended(0),
+        // it is watched before it ends
+        Line::Watch(1),
+        Line::Ranks(1, Some(1)),
+        Line::End(1),
+        Line::Tells(Some(1)),
+        Line::Ranks(1, Some(1)),
+        Line::Ended(1),
+        // a reaction to one that ended
+        Line::React(1),
+        Line::Takes(Some(UNDEFINED_JOB)),
+        // let go of with a place, and without one
+        Line::Give(3),
+        Line::Live(3, true),
+        Line::Release(3),
+        Line::Live(3, false),
+        Line::Release(0),
+        Line::Live(0, false),
+        Line::Ranks(0, None),
+        Line::Watch(0),
+        Line::Tells(None),
+        // pending it isn't let go of
+        Line::Release(4),
+        Line::Pending(4, true),
+        // the place of promise 3
+        Line::Fresh(6),
+        Line::Pending(6, true),
+        Line::React(6),
+        Line::React(6),
+        Line::Settle(6),
+        Line::Live(6, true),
+        Line::Astray(false),
+        Line::End(1),
+        Line::Astray(true),
+    ];
+    let mut promises = Promises::make(rt.alloc())?;
+    for line in script {
+        perform(&rt, &mut promises, line)?;
+    }
+    assert_eq!(rt; promises.queued(), 2);
+    Ok(())
+}
+
+#[test]
+fn ends_many(rt: HostRuntime) -> Result<(), Fail> {
+    let mut promises = Promises::make(rt.alloc())?;
+    promises.reserve(1)?;
+    let kept = promises.fresh();
+    for _ in 0..2000 {
+        promises.reserve(1)?;
+        let p = promises.fresh();
+        promises.reserve_jobs(1)?;
+        promises.react(p, STEP, None);
+        assert!(rt; promises.is_pending(p));
+        promises.fulfil(p, Plain::Undefined);
+        assert_eq!(rt; promises.next_job(), Some(UNDEFINED_JOB));
+        assert!(rt; has_ended(&promises, p));
+    }
+    assert_eq!(rt; promises.next_id(), PromiseId(2001));
+    for number in 1..2001u64 {
+        assert!(rt; has_ended(&promises, PromiseId(number as u128)));
+    }
+    assert!(rt; promises.is_pending(kept));
+    assert!(rt; !promises.is_astray());
     Ok(())
 }
 
