@@ -98,7 +98,7 @@ fewer-room m n p less room =
 pub prepared : (t : Tables) (base jobs turns : ℕ) → base ≡ base_places t → jobs ≡ base + t.waiting → turns ≡ jobs + t.waiting
     → IsMade t → HasTurns turns t → HasRoom base t.promises → HasJobRoom jobs t.promises → HasRecords base t → IsPrepared t
 prepared t base jobs turns is-base is-jobs is-turns made has-turns room job-room records =
-    let caused = has-turns.caused in let others = has-turns.others in
+    let caused = has-turns.caused in let others = has-turns.others in let under-way = has-turns.under_way in
     let hosts = records.hosts in let grown = records.grown in
     record {
       promises = fewer-room (places_for 0 8 3 14 t) base t.promises (omega (arith, is-base)) room;
@@ -106,6 +106,7 @@ prepared t base jobs turns is-base is-jobs is-turns made has-turns room job-room
       hosts = omega (arith, is-base, hosts);
       caused = omega (arith, is-base, is-jobs, is-turns, caused);
       others = omega (arith, is-base, is-jobs, is-turns, others);
+      under_way = omega (arith, is-base, is-jobs, is-turns, under-way);
       grown = omega (arith, is-base, grown);
       places = made.places;
       full = records.full;

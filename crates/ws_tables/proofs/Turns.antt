@@ -1,6 +1,7 @@
 -- One turn: the first effect is performed, and what it caused goes before the others.
 use Rattle.std.proofs.Common.{◌≡◌, ◌<◌, ◌≤◌, ◌+◌, ℕ, zero, suc, List, [], ◌∷◌, ◌++◌, length, reverse, refl, sym, ap, subst, ◌∙◌, length-append, arith}
-use Rattle.std.specs.Prelude.{slice_get, vec_len}
+use Rattle.std.specs.Global.{Vec}
+use Rattle.std.specs.Prelude.{slice_get, vec_len, vec_capacity}
 use Rattle.ws_value.specs.declared.ids.StreamId.{StreamId}
 use Rattle.ws_steps.specs.declared.effects.Effect.{Effect}
 use Rattle.ws_steps.specs.Places.{effect_price, prices_of, measure, turns_alone, promises_alone, jobs_alone, events_alone, hosts_alone, queued_alone, requests_alone, requests_at, members_alone, descriptors_alone, copies_alone, own}
@@ -11,7 +12,7 @@ use Rattle.ws_room_laws.proofs.Rows.{falls, measure-fall}
 use Rattle.ws_room_laws.proofs.Room.{effects-stand}
 use Rattle.ws_room_laws.proofs.Turns.{performed_next, performed_none}
 use Rattle.ws_tables.specs.View.{slots_of}
-use Rattle.ws_tables.specs.Room.{Places, Lists, HasRooms, EachHasRooms, RoomsStay, room_of, members_room, CanPutFirst, HasRoomFor, HasRoomForAll, AreCopied, IsKept, Performs, PerformsAll, TakesOut, effects_of}
+use Rattle.ws_tables.specs.Room.{Places, Lists, HasRooms, EachHasRooms, RoomsStay, room_of, members_room, CanPutFirst, HasRoomFor, HasRoomForAll, AreCopied, IsKept, Performs, PerformsAll, AreEnough, CanTurn, TakesFirst, FindsNone, KeepsLeast, TakesOut, later, effects_of}
 use Rattle.ws_tables.specs.declared.tables.Stream.{Stream as StreamRecord}
 use Rattle.ws_tables.specs.declared.tables.Stream.TheVariants.{Readable, Bytes, Writable}
 use Rattle.ws_tables.specs.declared.tables.Tables.{Tables}
@@ -37,10 +38,9 @@ copied-same [] s a same copied = tt
 copied-same (e ∷ es) s a same copied = rw same copied
 
 -- an effect was taken out: there are places for all as before
-pub taken-room : (es : List Effect) (s a : Tables) → TakesOut s a → HasRoomForAll es s → HasRoomForAll es a
-taken-room es s a out room =
+pub taken-room : (es : List Effect) (s a : Tables) → TakesOut s a → AreEnough a.caused.capacity es s → HasRoomForAll es s → HasRoomForAll es a
+taken-room es s a out turns room =
     let caps = out.places in
-    let c = ap (λ (p : Places). p.caused) caps in
     let o = ap (λ (p : Places). p.others) caps in
     let same = out.records in
     record {
@@ -48,7 +48,7 @@ taken-room es s a out room =
       jobs = rw (out.promises, same.waiting, same.aborts, same.tees) room.jobs;
       events = rw (out.promises, same.waiting, same.aborts, same.tees) room.events;
       hosts = rw (out.hosts, same.waiting, same.aborts, same.tees) room.hosts;
-      caused = rw (c, same.waiting, same.aborts, same.tees) room.caused;
+      caused = rw (same.waiting, same.aborts, same.tees) turns;
       others = rw (o, same.waiting, same.aborts, same.tees) room.others;
       lists = rw (same.streams, same.tees) room.lists;
       once = room.once;
@@ -158,6 +158,14 @@ put-fits e rest t t' room kept did others =
     let keeps = later-is turns_alone t refl kept in
     omega (arith, h, many, count, sum, cap, len, places, keeps, others)
 
+-- what is left takes fewer turns
+pub next-turns : (e : Effect) (rest : List Effect) (t t' : Tables) (n : ℕ) → AreEnough n (e ∷ rest) t → IsKept t → Performs e t t' → IsKept t' → AreEnough n (t'.caused.effects ++ rest) t'
+next-turns e rest t t' n places kept did kept' =
+    let a = (left e rest t t' did).turns in
+    let turns = later-is turns_alone t refl kept in
+    let turns' = later-is turns_alone t' refl kept' in
+    omega (arith, places, a, turns, turns')
+
 -- there are places for what is left
 pub next-room : (e : Effect) (rest : List Effect) (t t' : Tables) → HasRoomForAll (e ∷ rest) t → IsKept t → Performs e t t' → IsKept t' → HasRoomForAll (t'.caused.effects ++ rest) t'
 next-room e rest t t' room kept did kept' =
@@ -228,10 +236,13 @@ next-room e rest t t' room kept did kept' =
       copies = copies-left e rest t t' room did;
     }
 
-module _ (t s a : Tables) (e : Effect) (was : Performing t s) (first : effects_of s ≡ e ∷ reverse a.others.items) (out : TakesOut s a) where
+module _ (t s a : Tables) (e : Effect) (was : Performing t s) (first : effects_of s ≡ e ∷ reverse a.others.items) (out : TakesOut s a)
+    (turns : AreEnough a.caused.capacity (effects_of s) s) where
   -- where the first effect was taken out, there are places for it and the others
   pub found : HasRoomForAll (e ∷ reverse a.others.items) a
-  found = taken-room (e ∷ reverse a.others.items) s a out (subst (λ es. HasRoomForAll es s) first was.room)
+  found =
+      taken-room (e ∷ reverse a.others.items) s a out (subst (λ es. AreEnough a.caused.capacity es s) first turns)
+      (subst (λ es. HasRoomForAll es s) first was.room)
 
   pub found-kept : IsKept a
   found-kept = taken-kept s a out was.kept
@@ -262,6 +273,46 @@ module _ (t s a : Tables) (e : Effect) (was : Performing t s) (first : effects_o
       fits = put-fits e (reverse a.others.items) a b found found-kept did (a.others.ok.0 ∙ sym (length-reverse a.others.items));
     }
 
+-- the loop: the list for the effect under way stands beside the tables
+
+-- it is left there, and is empty
+pub record Turning (t s : Tables) (v : Vec Effect) : Type 0 where
+  pub performing : Performing t s
+  pub turns : CanTurn (effects_of s) v s
+
+-- the first effect that is left stands in the list for the effect under way
+module _ (t s a : Tables) (v w : Vec Effect) (was : Turning t s v) (took : TakesFirst s a w) (out : TakesOut s a)
+    (least : KeepsLeast s.caused.capacity (vec_capacity v) a.caused.capacity (vec_capacity w)) where
+  both : AreEnough a.caused.capacity (effects_of s) s × AreEnough (vec_capacity w) (effects_of s) s
+  both = least (prices_of turns_alone (effects_of s) + later turns_alone s + 6) was.performing.room.caused was.turns.places
+
+  module _ (e : Effect) (alone : w.items ≡ e ∷ []) where
+    pub first-is : effects_of s ≡ e ∷ reverse a.others.items
+    first-is = took.effects ∙ ap (λ es. es ++ reverse a.others.items) alone
+
+    pub turn-room : HasRoomFor e a
+    turn-room = room-for e (reverse a.others.items) a (found t s a e was.performing first-is out both.0)
+
+    module _ (b : Tables) (did : Performs e a b) where
+      pub turn-less : measure (slots_of b) (effects_of b) < measure (slots_of s) (effects_of s)
+      turn-less = turn-fewer t s a e was.performing first-is out both.0 b did
+
+      pub turn-on : (u : Vec Effect) → u.items ≡ [] → vec_capacity u ≡ vec_capacity w → IsKept b → Turning t b u
+      turn-on u empty places kept =
+          let turns = subst (λ es. AreEnough (vec_capacity w) es s) first-is both.1 in
+          let turns' : AreEnough (vec_capacity w) (e ∷ reverse a.others.items) a = rw (out.records.waiting, out.records.aborts, out.records.tees) turns in
+          record {
+            performing = turn-kept t s a e was.performing first-is out both.0 b did kept;
+            turns =
+                record {
+                  empty = empty;
+                  places =
+                      rw places
+                      (subst (λ x. AreEnough (vec_capacity w) (b.caused.effects ++ reverse x.items) b) (sym did.others)
+                      (next-turns e (reverse a.others.items) a b (vec_capacity w) turns' (found-kept t s a e was.performing first-is out both.0) did kept));
+                };
+          }
+
 -- the loop begins
 
 pub first-puts : (t : Tables) → t.others.items ≡ [] → HasRoomForAll t.caused.effects t → CanPutFirst t
@@ -273,25 +324,59 @@ first-puts t none room =
     let zero = ap length none in
     omega (arith, h, many, count, len, zero)
 
-pub begins : (t : Tables) → t.others.items ≡ [] → HasRoomForAll t.caused.effects t → IsKept t → Performing t t
-begins t none room kept =
+-- the list for the effect under way is taken out, and put back
+
+room-with : (es : List Effect) (v : Vec Effect) (t : Tables) → HasRoomForAll es t → HasRoomForAll es (record t { under_way = v })
+room-with es v t room =
+    record {
+      promises = room.promises;
+      jobs = room.jobs;
+      events = room.events;
+      hosts = room.hosts;
+      caused = room.caused;
+      others = room.others;
+      lists = room.lists;
+      once = room.once;
+      rooms = room.rooms;
+      grown = room.grown;
+      members = room.members;
+      full = room.full;
+      copies = copied-same es t (record t { under_way = v }) refl room.copies;
+    }
+
+kept-with : (v : Vec Effect) (t : Tables) → IsKept t → IsKept (record t { under_way = v })
+kept-with v t kept =
+    kept_same t (record t { under_way = v }) refl (record { streams = refl; grown = refl; waiting = refl; pipes = refl; signals = refl; full = refl; aborts = refl; tees = refl; uncopied = refl }) kept
+
+pub begins : (t : Tables) (v : Vec Effect) → t.others.items ≡ [] → CanTurn t.caused.effects t.under_way t → HasRoomForAll t.caused.effects t → IsKept t
+    → Turning t (record t { under_way = v }) t.under_way
+begins t v none turns room kept =
     let all : effects_of t ≡ t.caused.effects = ap (λ es. t.caused.effects ++ reverse es) none ∙ append-nil t.caused.effects in
     record {
-      slots = ap (λ es. performed (causes es (slots_of t))) all;
-      room = subst (λ es. HasRoomForAll es t) (sym all) room;
-      kept = kept;
-      fits = first-puts t none room;
+      performing =
+          record {
+            slots = ap (λ es. performed (causes es (slots_of t))) all;
+            room = subst (λ es. HasRoomForAll es (record t { under_way = v })) (sym all) (room-with t.caused.effects v t room);
+            kept = kept-with v t kept;
+            fits = first-puts t none room;
+          };
+      turns =
+          record {
+            empty = turns.empty;
+            places = subst (λ es. AreEnough (vec_capacity t.under_way) es t) (sym all) turns.places;
+          };
     }
 
 -- the loop ends
 
-pub ends : (t s z : Tables) → effects_of s ≡ [] → z.others.items ≡ [] → TakesOut s z → Performing t s → PerformsAll t z
-ends t s z none none' out was =
+pub ends : (t s z : Tables) (v w : Vec Effect) → FindsNone s z w → TakesOut s z → Turning t s v → PerformsAll t (record z { under_way = w })
+ends t s z v w none out turning =
+    let was = turning.performing in
     let same : slots_of z ≡ performed (causes t.caused.effects (slots_of t)) =
-    out.slots ∙ (sym (performed_none (slots_of s)) ∙ (ap (λ es. performed (causes es (slots_of s))) (sym none) ∙ was.slots)) in
+    out.slots ∙ (sym (performed_none (slots_of s)) ∙ (ap (λ es. performed (causes es (slots_of s))) (sym none.effects) ∙ was.slots)) in
     record {
       slots = same;
-      resting = record { caused = out.caused; others = none'; kept = taken-kept s z out was.kept };
+      resting = record { caused = out.caused; others = none.others; under_way = none.under_way; kept = kept-with w z (taken-kept s z out was.kept) };
       age = ap (λ (x : Slots). x.age) same ∙ performed-age (causes t.caused.effects (slots_of t));
-      events = let room = taken-room (effects_of s) s z out was.room in let h = room.events in omega (arith, h);
+      events = let h = was.room.events in rw (out.promises) (omega (arith, h));
     }

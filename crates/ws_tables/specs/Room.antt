@@ -1,5 +1,6 @@
 -- The places in memory that a realm has, and those that it may come to need.
 use Rattle.std.specs.Prelude.{ℕ, zero, suc, ◌≡◌, ◌+◌, ◌*◌, ◌≤◌, ◌<◌, ◌⊎◌, List, [], ◌∷◌, ◌++◌, length, map, reverse, Option, Some, None, Bool, false, ◌&&◌, not, if◌then◌else◌, ⊤, Contains, slice_get, vec_len, vec_capacity}
+use Rattle.std.specs.Global.{Vec}
 use Rattle.ws_value.specs.declared.ids.SignalId.{SignalId}
 use Rattle.ws_value.specs.declared.ids.StreamId.{StreamId}
 use Rattle.ws_pipe.specs.Seen.{SeenSignal, HasMemberRoom, aborts_of}
@@ -130,12 +131,13 @@ HaveOwnSources n (x ∷ xs) = (x.source.0 < n) × ((reads_any x.source xs ≡ fa
 abbrev pub AreSourced : Slots → Type 0
 AreSourced s = HaveOwnSources (length s.streams) s.tees
 
--- the places that the tables have, beside those in the lists of streams and signals
+-- the places that the tables have, beside those in the lists of streams and signals, and the list for the effect under way
 pub record Places : Type 0 where
   pub promises : Room
   pub hosts : ℕ
   pub caused : ℕ
   pub others : ℕ
+  pub under_way : Vec Effect
   pub grown : ℕ
   pub full : ℕ
 
@@ -146,6 +148,7 @@ places_of t =
       hosts = vec_capacity t.hosts;
       caused = t.caused.capacity;
       others = vec_capacity t.others;
+      under_way = t.under_way;
       grown = vec_capacity t.grown;
       full = vec_capacity t.full;
     }
@@ -244,6 +247,7 @@ pub record IsPrepared (t : Tables) : Type 0 where
   pub hosts : places_for 0 2 2 3 t + vec_len t.hosts ≤ vec_capacity t.hosts
   pub caused : places_for 2 14 15 34 t ≤ t.caused.capacity
   pub others : places_for 2 14 15 34 t ≤ vec_capacity t.others
+  pub under_way : places_for 2 14 15 34 t ≤ vec_capacity t.under_way
   -- beside the source of each tee, a call or job adds four entries to queues and two requests at most, or makes two streams
   pub grown : vec_len t.grown + places_for 0 0 1 6 t ≤ vec_capacity t.grown
   pub places : EachHasPlaces t.streams.items
@@ -273,6 +277,7 @@ pub record IsMade (t : Tables) : Type 0 where
 pub record HasTurns (n : ℕ) (t : Tables) : Type 0 where
   pub caused : n ≤ t.caused.capacity
   pub others : n ≤ vec_capacity t.others
+  pub under_way : n ≤ vec_capacity t.under_way
 
 -- there are places for n answers of hosts, to note n streams, and for the other records that a call or job can make
 pub record HasRecords (n : ℕ) (t : Tables) : Type 0 where
@@ -292,6 +297,7 @@ pub record HasRecords (n : ℕ) (t : Tables) : Type 0 where
 pub record IsResting (t : Tables) : Type 0 where
   pub caused : t.caused.effects ≡ []
   pub others : t.others.items ≡ []
+  pub under_way : t.under_way.items ≡ []
   pub kept : IsKept t
 
 -- nothing changed that concerns the lists of streams and signals, and no pipe and no tee
@@ -340,13 +346,37 @@ CanPutFirst t = vec_len t.others + length t.caused.effects ≤ vec_capacity t.ot
 abbrev pub effects_of : Tables → List Effect
 effects_of t = t.caused.effects ++ reverse t.others.items
 
+-- so many places are enough for these effects and all that comes of them
+abbrev pub AreEnough : ℕ → List Effect → Tables → Type 0
+AreEnough n es t = prices_of turns_alone es + later turns_alone t + 6 ≤ n
+
+-- the list for the effect under way is empty, and has places enough
+pub record CanTurn (es : List Effect) (v : Vec Effect) (t : Tables) : Type 0 where
+  pub empty : v.items ≡ []
+  pub places : AreEnough (vec_capacity v) es t
+
+-- the first of what is to be performed stands alone in the list for the effect under way
+pub record TakesFirst (t t' : Tables) (v : Vec Effect) : Type 0 where
+  pub alone : length v.items ≡ 1
+  pub effects : effects_of t ≡ v.items ++ reverse t'.others.items
+
+-- nothing was left to be performed
+pub record FindsNone (t t' : Tables) (v : Vec Effect) : Type 0 where
+  pub effects : effects_of t ≡ []
+  pub others : t'.others.items ≡ []
+  pub under_way : v.items ≡ []
+
+-- two lists have as many places as both had before, in either order
+abbrev pub KeepsLeast : ℕ → ℕ → ℕ → ℕ → Type 0
+KeepsLeast a b a' b' = (n : ℕ) → n ≤ a → n ≤ b → (n ≤ a') × (n ≤ b')
+
 -- none is left of what was caused, and nothing changes but the effects
 pub record TakesOut (t t' : Tables) : Type 0 where
   pub caused : t'.caused.effects ≡ []
   pub slots : slots_of t' ≡ slots_of t
   pub promises : t'.promises ≡ t.promises
   pub hosts : t'.hosts ≡ t.hosts
-  pub places : places_of t' ≡ places_of t
+  pub places : places_of t' ≡ record (places_of t) { caused = t'.caused.capacity }
   pub records : KeepsRecords t t'
 
 -- all that was caused is performed, with all that comes of it, in the places that there are; and there is a place for one more event
@@ -394,4 +424,4 @@ pub record StaysBesideTees (t t' : Tables) : Type 0 where
 
 -- nothing changed beside the agenda
 pub record StaysBesideAgenda (t t' : Tables) : Type 0 where
-  pub tables : t' ≡ record t { caused = t'.caused; others = t'.others }
+  pub tables : t' ≡ record t { caused = t'.caused; others = t'.others; under_way = t'.under_way }

@@ -294,7 +294,8 @@ impl Tables {
 
     /// Performs an effect where it stands, and causes what comes of it.
     #[tactic(auto, using(crate::proofs::Places::kept_by), unfolding(ws_steps::specs::Turns::row))]
-    fn perform_at(&mut self, effect: &mut Effect)
+    #[inline(never)]
+    pub(crate) fn perform_at(&mut self, effect: &mut Effect)
         requires quiet { self.old.caused.effects ≡ [] }
         requires room { HasRoomFor effect.old self.old }
         requires kept { IsKept self.old }
@@ -331,17 +332,5 @@ impl Tables {
             Effect::Queue(micro) => self.promises.micro(*micro),
             Effect::CallHost(call, u) => self.call_host(call, u),
         }
-    }
-
-    /// Performs an effect, and causes what comes of it.
-    #[inline(always)]
-    pub(crate) fn perform(&mut self, mut effect: Effect)
-        requires quiet { self.old.caused.effects ≡ [] }
-        requires room { HasRoomFor effect self.old }
-        requires kept { IsKept self.old }
-        ensures performs { Performs effect self.old self.new }
-        ensures kept { IsKept self.new }
-    {
-        self.perform_at(&mut effect);
     }
 }

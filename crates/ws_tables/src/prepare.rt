@@ -39,7 +39,9 @@ impl Tables {
     fn has_turns(&self, turns: usize) -> bool
         ensures { result ≡ true → HasTurns turns self.now }
     {
-        turns <= self.caused.capacity() && turns <= self.others.capacity()
+        turns <= self.caused.capacity()
+            && turns <= self.others.capacity()
+            && turns <= self.under_way.capacity()
     }
 
     /// Whether there are places for `n` hosts' answers, to note `n` streams that grew, and for the other records that a call or job can make.
@@ -184,6 +186,7 @@ impl Tables {
     {
         self.caused.reserve(turns)?;
         self.others.reserve(turns)?;
+        self.under_way.reserve(turns)?;
         Ok(())
     }
 

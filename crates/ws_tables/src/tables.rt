@@ -42,6 +42,8 @@ pub struct Tables {
     pub caused: Agenda,
     /// The effects that wait, the next one last.
     pub others: Vec<Effect>,
+    /// The list for the effect under way; it is empty while none is.
+    pub under_way: Vec<Effect>,
     /// How many read requests wait, in all streams.
     pub waiting: usize,
     /// The streams in whose lists places are to be made before the next call or job, or which are to get a room to allocate from.
@@ -79,6 +81,7 @@ impl Tables {
             byob_requests: Vec::new(alloc),
             caused: Agenda::make(alloc)?,
             others: Vec::new(alloc),
+            under_way: Vec::new(alloc),
             waiting: 0,
             grown: Vec::new(alloc),
             aborts: 0,

@@ -1,22 +1,39 @@
-use Rattle.ws_tables.proofs.Turns.{room-for, found, turn-fewer, turn-kept, begins, ends}
+use Rattle.std.proofs.Common.{sym, subst}
+use Rattle.ws_tables.proofs.Loops.{only-one}
+use Rattle.ws_tables.proofs.Turns.{Turning, begins, ends, turn-room, turn-less, turn-on}
 use Rattle.ws_tables.proofs.tables.Tables.perform_effects.Goals as goal
 
-pub loop-effect-init : goal.loop-effect-init
-loop-effect-init c = begins c.args.self.now c.requires.others c.requires.room c.requires.kept
+pub loop-self-init : goal.loop-self-init
+loop-self-init c =
+    subst (Turning c.args.self.now _) (sym c.replace-under_way.ensures.value)
+    (begins c.args.self.now c.replace-under_way.new.dest c.requires.others c.requires.turns c.requires.room c.requires.kept)
 
-pub perform-requires-clause-room : goal.perform-requires-clause-room
-perform-requires-clause-room c =
-    room-for c.in-Some.effect _ _ (found c.args.self.now c.loop-effect.self c.next_effect.new.self c.in-Some.effect c.loop-effect.invariant c.in-Some.ensures.effects c.in-Some.ensures.rest)
+pub perform_at-requires-clause-room : goal.perform_at-requires-clause-room
+perform_at-requires-clause-room c =
+    let did = c.next_effect.ensures in
+    let first = did.found c.loop-self-test.true in
+    let alone = only-one c.next_effect.new.under_way.items c.index_mut.result.now first.alone c.index_mut.ensures.value in
+    turn-room c.args.self.now c.loop-self.self c.next_effect.new.self c.loop-self.under_way c.next_effect.new.under_way c.loop-self.invariant first did.rest did.places
+    c.index_mut.result.now alone
 
-pub loop-effect-smaller : goal.loop-effect-smaller
-loop-effect-smaller c =
-    turn-fewer c.args.self.now c.loop-effect.self c.next_effect.new.self c.in-Some.effect c.loop-effect.invariant c.in-Some.ensures.effects c.in-Some.ensures.rest
-    c.perform.new.self c.perform.ensures.performs
+pub loop-self-smaller : goal.loop-self-smaller
+loop-self-smaller c =
+    let did = c.next_effect.ensures in
+    let first = did.found c.loop-self-test.true in
+    let alone = only-one c.next_effect.new.under_way.items c.index_mut.result.now first.alone c.index_mut.ensures.value in
+    turn-less c.args.self.now c.loop-self.self c.next_effect.new.self c.loop-self.under_way c.next_effect.new.under_way c.loop-self.invariant first did.rest did.places
+    c.index_mut.result.now alone c.perform_at.new.self c.perform_at.ensures.performs
 
-pub loop-effect-preserved : goal.loop-effect-preserved
-loop-effect-preserved c =
-    turn-kept c.args.self.now c.loop-effect.self c.next_effect.new.self c.in-Some.effect c.loop-effect.invariant c.in-Some.ensures.effects c.in-Some.ensures.rest
-    c.perform.new.self c.perform.ensures.performs c.perform.ensures.kept
+pub loop-self-preserved : goal.loop-self-preserved
+loop-self-preserved c =
+    let did = c.next_effect.ensures in
+    let first = did.found c.loop-self-test.true in
+    let alone = only-one c.next_effect.new.under_way.items c.index_mut.result.now first.alone c.index_mut.ensures.value in
+    turn-on c.args.self.now c.loop-self.self c.next_effect.new.self c.loop-self.under_way c.next_effect.new.under_way c.loop-self.invariant first did.rest did.places
+    c.index_mut.result.now alone c.perform_at.new.self c.perform_at.ensures.performs
+    c.drop_performed.new.under_way c.drop_performed.ensures.empty c.drop_performed.ensures.places c.perform_at.ensures.kept
 
 pub returns : goal.returns
-returns c = ends c.args.self.now c.loop-effect.self c.next_effect.new.self c.in_default.ensures.effects.0 c.in_default.ensures.effects.1 c.in_default.ensures.rest c.loop-effect.invariant
+returns c =
+    let did = c.next_effect.ensures in
+    ends c.args.self.now c.loop-self.self c.next_effect.new.self c.loop-self.under_way c.next_effect.new.under_way (did.none c.loop-self-test.false) did.rest c.loop-self.invariant

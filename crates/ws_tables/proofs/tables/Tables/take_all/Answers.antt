@@ -26,7 +26,7 @@ returns-clause-ok c =
       members = rw (c.in_ok-reserve-10.ensures.items ∙ (ap (λ (t : Tables). t.signals.items) agenda ∙ ap (λ (t : Tables). t.signals.items) copies.tables)) c.in_ok-prepare_signals.ensures.ok;
       copies = rw (c.in_ok-reserve-7.ensures.items ∙ ap (λ (t : Tables). t.tees.items) agenda) c.in_ok-copy_chunks.ensures.ok;
     })
-    (record { caused = c.in_ok-prepare_agenda.ensures.ok.caused; others = c.in_ok-prepare_agenda.ensures.ok.others })
+    (record { caused = c.in_ok-prepare_agenda.ensures.ok.caused; others = c.in_ok-prepare_agenda.ensures.ok.others; under_way = c.in_ok-prepare_agenda.ensures.ok.under_way })
     (grown-room _ c.reserve.new.self c.reserve_jobs.new.self queue.table queue.grows c.in_ok-reserve.ensures.ok)
     queue.ok
     (record {
