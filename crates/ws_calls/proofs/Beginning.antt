@@ -1,6 +1,6 @@
 -- A call or a job has begun: there are places for its effects and all that comes of them.
 use Rattle.std.proofs.Common.{◌≡◌, ◌≤◌, ℕ, zero, suc, ◌+◌, ◌⊎◌, inl, inr, ⊎_elim, List, [], ◌∷◌, ◌++◌, length, map, Option, Some, None, refl, sym, ap, subst, ◌∙◌, length-append, arith}
-use Rattle.std.specs.Prelude.{slice_get, vec_len}
+use Rattle.std.specs.Prelude.{slice_get, vec_len, vec_capacity}
 use Rattle.std.proofs.lemmas.List.{length-map}
 use Rattle.std.proofs.lemmas.List.Elements.{Contains-append_left, Contains-append_right}
 use Rattle.ws_value.specs.declared.ids.SignalId.{SignalId}
@@ -19,7 +19,7 @@ use Rattle.ws_steps.specs.Slots.{Slots, Done}
 use Rattle.ws_room_laws.proofs.Room.{Begins as BeginsWithin, begin-fits, job-fits}
 use Rattle.ws_laws.proofs.Begin.{begin-makes}
 use Rattle.ws_tables.specs.View.{slots_of, stream_of, signal_of, tee_of}
-use Rattle.ws_tables.specs.Room.{Places, places_of, room_of, queued_in, requested_in, described_in, waiting_in, aborts_in, IsWithin, HasLists, HasRooms, AllCovered, AllHaveMembers, IsCounted, HasFew, AreSourced, HasCopies, AreCopied, asked, HasRoomForAll, IsPrepared, IsResting, IsKept}
+use Rattle.ws_tables.specs.Room.{Places, places_of, room_of, queued_in, requested_in, described_in, waiting_in, aborts_in, IsWithin, HasLists, HasRooms, AllCovered, AllHaveMembers, IsCounted, HasFew, AreSourced, HasCopies, AreCopied, asked, CanTurn, HasRoomForAll, IsPrepared, IsResting, IsKept}
 use Rattle.ws_calls.specs.Begin.{IsBegun, IsEmpty, Answers, Begins, MakesNone, MakesOne, MakesTwo, MakesSignal, RecordsAfter}
 use Rattle.ws_tables.specs.declared.tables.Stream.{Stream as StreamRecord}
 use Rattle.ws_tables.specs.declared.tables.Stream.TheVariants.{Readable, Bytes, Writable}
@@ -389,11 +389,24 @@ module _ (d : Done) (t t' : Tables) (within : (π : Prices) (i : StreamId) (a : 
         copies = each-copied;
       }
 
+  turns-fit : t.under_way.items ≡ [] → CanTurn t'.caused.effects t'.under_way t'
+  turns-fit none =
+      let caps = start.places in
+      let uc = ap (λ (p : Places). vec_capacity p.under_way) caps in
+      let turns = later-is turns_alone t refl was in let turns' = later-is turns_alone t' refl (kept d t t' start was) in
+      let n = many-tees in
+      let most = tees-turns (slots_of t).tees in
+      record {
+        empty = ap (λ (p : Places). p.under_way.items) caps ∙ none;
+        places = let h = ready.under_way in let a = took.turns in omega (arith, h, a, uc, turns, turns', n, most);
+      }
+
 starts : (d : Done) (t t' : Tables)
     → ((π : Prices) (i : StreamId) (a : SignalId) → Counts π i → BeginsWithin π i a (all_kept π (slots_of t) + step_price π) (slots_of t) d)
     → IsPrepared t → IsResting t → Starts d t t' → IsBegun t'
 starts d t t' within ready rest start = record {
   others = ap (λ v. v.items) start.others ∙ rest.others;
+  turns = turns-fit d t t' within ready rest.kept start rest.under_way;
   room = fits d t t' within ready rest.kept start;
   kept = kept d t t' start rest.kept;
 }

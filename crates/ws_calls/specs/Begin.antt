@@ -15,7 +15,7 @@ use Rattle.ws_steps.specs.Places.{prices_of, queued_alone, requests_alone, membe
 use Rattle.ws_steps.specs.Slots.{Done}
 use Rattle.ws_steps.specs.Calls.{Begun, with_renewed, reject_renewed, add_port, start_end}
 use Rattle.ws_tables.specs.View.{slots_of}
-use Rattle.ws_tables.specs.Room.{places_of, queued_in, requested_in, described_in, HasRoomForAll, IsKept, KeepsRecords}
+use Rattle.ws_tables.specs.Room.{places_of, queued_in, requested_in, described_in, CanTurn, HasRoomForAll, IsKept, KeepsRecords}
 use Rattle.ws_tables.specs.declared.tables.Stream.{Stream}
 use Rattle.ws_tables.specs.declared.tables.Tables.{Tables}
 
@@ -171,6 +171,7 @@ pub record AddsEnd (side : Side) (t t' : Tables) : Type 0 where
 -- a call or a job has begun, and there are places for its effects and all that comes of them
 pub record IsBegun (t : Tables) : Type 0 where
   pub others : t.others.items ≡ []
+  pub turns : CanTurn t.caused.effects t.under_way t
   pub room : HasRoomForAll t.caused.effects t
   pub kept : IsKept t
 
@@ -192,6 +193,7 @@ pub record Renews (kept : Bool) (t t' : Tables) : Type 0 where
 pub record IsSameBeside (t t' : Tables) : Type 0 where
   pub caused : t'.caused ≡ t.caused
   pub others : t'.others ≡ t.others
+  pub under_way : t'.under_way ≡ t.under_way
   pub records : KeepsRecords t t'
   pub age : t'.age ≡ t.age
   pub promises : length t.promises.table.entries ≤ length t'.promises.table.entries

@@ -33,6 +33,7 @@ pub rests-still : (t : Tables) (u : Table) â†’ length t.promises.table.entries â
 rests-still t u more rest = record {
   caused = rest.caused;
   others = rest.others;
+  under_way = rest.under_way;
   kept = kept_promises t (record t.promises { table = u }) more rest.kept;
 }
 
@@ -44,6 +45,7 @@ ready-still t u less ready = record {
   hosts = ready.hosts;
   caused = ready.caused;
   others = ready.others;
+  under_way = ready.under_way;
   grown = ready.grown;
   places = ready.places;
   full = ready.full;

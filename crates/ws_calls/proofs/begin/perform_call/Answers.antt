@@ -30,6 +30,9 @@ begin-reply-requires-clause-room c =
 pub perform_effects-requires-clause-room : goal.perform_effects-requires-clause-room
 perform_effects-requires-clause-room c = (call-begins c.args.call c.begin-reply.result c.args.tables.now c.begin-reply.new.tables c.requires.prepared c.requires.resting c.begin-reply.ensures).room
 
+pub perform_effects-requires-clause-turns : goal.perform_effects-requires-clause-turns
+perform_effects-requires-clause-turns c = (call-begins c.args.call c.begin-reply.result c.args.tables.now c.begin-reply.new.tables c.requires.prepared c.requires.resting c.begin-reply.ensures).turns
+
 pub perform_effects-requires-clause-kept : goal.perform_effects-requires-clause-kept
 perform_effects-requires-clause-kept c = (call-begins c.args.call c.begin-reply.result c.args.tables.now c.begin-reply.new.tables c.requires.prepared c.requires.resting c.begin-reply.ensures).kept
 

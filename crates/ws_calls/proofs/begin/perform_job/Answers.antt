@@ -2,6 +2,7 @@ use Rattle.std.proofs.Common.{◌≡◌, ◌∙◌, true, sym, ap, arith}
 use Rattle.ws_steps.specs.Run.{is_idle}
 use Rattle.ws_steps.specs.Slots.{Slots, Done}
 use Rattle.ws_laws.proofs.Ages.{begin_job-age}
+use Rattle.ws_tables.specs.Room.{Places}
 use Rattle.ws_tables.specs.View.{slots_of}
 use Rattle.ws_calls.proofs.Beginning.{job-begins}
 use Rattle.ws_tables.proofs.Places.{kept_same}
@@ -23,6 +24,7 @@ returns-then-not-begin_job-clause-resting c =
     record {
       caused = did.caused ∙ ap (λ (d : Done). d.caused) (idle-begins (slots_of c.args.tables.now) (idle c));
       others = ap (λ v. v.items) did.others ∙ rest.others;
+      under_way = ap (λ (p : Places). p.under_way.items) did.places ∙ rest.under_way;
       kept = kept_same c.args.tables.now c.begin_job.new.tables (did.slots ∙ ap (λ (d : Done). d.slots) (idle-begins (slots_of c.args.tables.now) (idle c))) did.records rest.kept;
     }
 
@@ -33,6 +35,9 @@ returns-then-not-begin_job-clause-age c =
 
 pub perform_effects-requires-clause-room : goal.perform_effects-requires-clause-room
 perform_effects-requires-clause-room c = (job-begins c.args.tables.now c.begin_job.new.tables c.requires.prepared c.requires.resting c.begin_job.ensures.begins).room
+
+pub perform_effects-requires-clause-turns : goal.perform_effects-requires-clause-turns
+perform_effects-requires-clause-turns c = (job-begins c.args.tables.now c.begin_job.new.tables c.requires.prepared c.requires.resting c.begin_job.ensures.begins).turns
 
 pub perform_effects-requires-clause-kept : goal.perform_effects-requires-clause-kept
 perform_effects-requires-clause-kept c = (job-begins c.args.tables.now c.begin_job.new.tables c.requires.prepared c.requires.resting c.begin_job.ensures.begins).kept
