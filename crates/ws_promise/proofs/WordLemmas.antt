@@ -237,20 +237,20 @@ ended-names : (rank : Option ℕ) (m : ℕ) → ended_word rank ≢ At m
 ended-names None m e = cc
 ended-names (Some rank) m e = cc
 
-pub end : (ws : List Word) (ps : List Place) (ss : List (Option Slot)) (i k n : ℕ) (place : Place) (s : Slot) → Sound ws ps → Spot ws ps i k place → slots_of ws ps ≡ ss → slice_get ss i ≡ Some (Some s) → slots_of (slice_set ws i (ended_word place.slot.rank)) (slice_set ps k (record { tenant = Free n; slot = record { outcome = place.slot.outcome; follows = false; waits = 0; rank = None } })) ≡ slice_set ss i (Some (ended_slot s.rank))
+pub end : (ws : List Word) (ps : List Place) (ss : List (Option Slot)) (i k n : ℕ) (place : Place) (s : Slot) → Sound ws ps → Spot ws ps i k place → slots_of ws ps ≡ ss → slice_get ss i ≡ Some (Some s) → slots_of (slice_set ws i (ended_word place.slot.rank)) (slice_set ps k (record { tenant = Free n; slot = record { outcome = place.slot.outcome; follows = false; waits = 0; rank = None; first = None } })) ≡ slice_set ss i (Some (ended_slot s.rank))
 end ws ps ss i k n place s h p e g =
-    let x : Place = record { tenant = Free n; slot = record { outcome = place.slot.outcome; follows = false; waits = 0; rank = None } } in
+    let x : Place = record { tenant = Free n; slot = record { outcome = place.slot.outcome; follows = false; waits = 0; rank = None; first = None } } in
     let mine = spot-slot ws ps ss i k place p e in
     let is : place.slot ≡ s = cc in
     freed ws ps i k (ended_word place.slot.rank) x h p.at
     ∙ (ap (λ o. slice_set (slots_of ws ps) i o) (ended-slot (slice_set ps k x) place.slot.rank)
     ∙ (ap (λ xs. slice_set xs i (Some (ended_slot place.slot.rank))) e ∙ ap (λ (y : Slot). slice_set ss i (Some (ended_slot y.rank))) is))
 
-pub end-sound : (ws : List Word) (ps : List Place) (ss : List (Option Slot)) (i k n : ℕ) (place : Place) → Sound ws ps → Spot ws ps i k place → slots_of ws ps ≡ ss → is_pending_slot (slice_get ss i) ≡ true → Sound (slice_set ws i (ended_word place.slot.rank)) (slice_set ps k (record { tenant = Free n; slot = record { outcome = place.slot.outcome; follows = false; waits = 0; rank = None } }))
+pub end-sound : (ws : List Word) (ps : List Place) (ss : List (Option Slot)) (i k n : ℕ) (place : Place) → Sound ws ps → Spot ws ps i k place → slots_of ws ps ≡ ss → is_pending_slot (slice_get ss i) ≡ true → Sound (slice_set ws i (ended_word place.slot.rank)) (slice_set ps k (record { tenant = Free n; slot = record { outcome = place.slot.outcome; follows = false; waits = 0; rank = None; first = None } }))
 end-sound ws ps ss i k n place h p e q =
     let mine = spot-slot ws ps ss i k place p e in
     let pending = pending-is place.slot.outcome (sym (ap is_pending_slot mine) ∙ q) in
-    freed-sound ws ps i k (ended_word place.slot.rank) (record { tenant = Free n; slot = record { outcome = place.slot.outcome; follows = false; waits = 0; rank = None } }) h p.at (ended-names place.slot.rank) (ap (λ o. record { outcome = o; follows = false; waits = 0; rank = None }) pending)
+    freed-sound ws ps i k (ended_word place.slot.rank) (record { tenant = Free n; slot = record { outcome = place.slot.outcome; follows = false; waits = 0; rank = None; first = None } }) h p.at (ended-names place.slot.rank) (ap (λ o. record { outcome = o; follows = false; waits = 0; rank = None; first = None }) pending)
 
 -- where a promise is pending
 pub pending-within : (ss : List (Option Slot)) (i : ℕ) → is_pending_slot (slice_get ss i) ≡ true → i < length ss

@@ -17,11 +17,11 @@ pub record SeenSlots : Type 0 where
   pub limit : ℕ
 
 abbrev pub new_slot : Slot
-new_slot = record { outcome = Pending; follows = false; waits = 0; rank = None }
+new_slot = record { outcome = Pending; follows = false; waits = 0; rank = None; first = None }
 
 -- the slot of a promise that was fulfilled with undefined
 abbrev pub ended_slot : Option ℕ → Slot
-ended_slot rank = record { outcome = Fulfilled Undefined; follows = false; waits = 0; rank = rank }
+ended_slot rank = record { outcome = Fulfilled Undefined; follows = false; waits = 0; rank = rank; first = None }
 
 abbrev pub ended_word : Option ℕ → Word
 ended_word None = Ended

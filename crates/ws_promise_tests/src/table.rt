@@ -127,7 +127,7 @@ fn follows_and_tells(rt: HostRuntime) -> Result<(), Fail> {
     Ok(())
 }
 
-/// The job of a reaction to a promise that was fulfilled with undefined.
+/// The job of the reaction that scripts register, to a promise that was fulfilled with undefined.
 const UNDEFINED_JOB: Job = Job::Reaction {
     step: STEP,
     outcome: Ok(Plain::Undefined),
@@ -204,6 +204,37 @@ fn tells_of_the_ended(rt: HostRuntime) -> Result<(), Fail> {
         perform(&rt, &mut promises, line)?;
     }
     assert_eq!(rt; promises.queued(), 2);
+    Ok(())
+}
+
+/// The job of a reaction to a promise that was fulfilled with undefined.
+fn job_of(step: Step) -> Job {
+    Job::Reaction {
+        step,
+        outcome: Ok(Plain::Undefined),
+        derived: None,
+    }
+}
+
+#[test]
+fn queues_in_order(rt: HostRuntime) -> Result<(), Fail> {
+    let pull = |n: u32| Step::ReadablePull(StreamId(n));
+    let mut promises = Promises::make(rt.alloc())?;
+    promises.reserve(1)?;
+    let p = promises.fresh();
+    promises.reserve(1)?;
+    let q = promises.fresh();
+    for (on, n) in [(p, 1), (q, 2), (p, 3), (q, 4), (p, 5)] {
+        promises.reserve_jobs(1)?;
+        promises.react(on, pull(n), None);
+    }
+    promises.fulfil(p, Plain::Undefined);
+    assert_eq!(rt; promises.queued(), 3);
+    promises.fulfil(q, Plain::Undefined);
+    for n in [1, 3, 5, 2, 4] {
+        assert_eq!(rt; promises.next_job(), Some(job_of(pull(n))));
+    }
+    assert_eq!(rt; promises.next_job(), None);
     Ok(())
 }
 

@@ -1,4 +1,4 @@
-use Rattle.std.proofs.Common.{false, refl, ap, arith}
+use Rattle.std.proofs.Common.{None, false, refl, ap, arith}
 use Rattle.ws_promise.specs.declared.slots.Slot.{Slot}
 use Rattle.ws_promise.specs.Words.{SeenSlots}
 use Rattle.ws_promise.proofs.WordLemmas.{spot, put, put-sound, pending-at, pending-within}
@@ -16,7 +16,7 @@ returns-in-At-clause-items c = λ s g.
     let a = c.slots.inside in
     let shown = ap (λ (v : SeenSlots). v.items) c.slots.view_is in
     let here = spot a.words.items a.places.items c.args.slots.now.items c.args.p.0 c.in-At.k _ _ c.index.result.now c.index_mut.result.now c.slots.invariant.3 shown (pending-within c.args.slots.now.items c.args.p.0 c.requires) refl refl c.index.ensures c.in-At.is c.index_mut.ensures.value in
-    put a.words.items a.places.items c.args.slots.now.items c.args.p.0 c.in-At.k c.index_mut.result.now s (λ (x : Slot). record x { outcome = c.args.outcome; follows = false; waits = 0 }) c.slots.invariant.3 here shown g
+    put a.words.items a.places.items c.args.slots.now.items c.args.p.0 c.in-At.k c.index_mut.result.now s (λ (x : Slot). record x { outcome = c.args.outcome; follows = false; waits = 0; first = None }) c.slots.invariant.3 here shown g
 
 pub returns-in_default : goal.returns-in_default
 returns-in_default c =
