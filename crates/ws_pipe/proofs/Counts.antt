@@ -5,6 +5,9 @@ use Rattle.ws_value.specs.declared.ids.PipeId.{PipeId}
 use Rattle.ws_value.specs.declared.ids.PromiseId.{PromiseId}
 use Rattle.ws_value.specs.declared.value.Plain.{Plain}
 use Rattle.ws_value.specs.declared.value.Value.{Value}
+use Rattle.ws_value.specs.declared.value.Plain.TheVariants.{Undefined}
+use Rattle.ws_steps.specs.declared.readable.ReadableState.TheVariants.{Closed as ReadableClosed}
+use Rattle.ws_steps.specs.declared.writable.WritableState.TheVariants.{Closed as WritableClosed}
 use Rattle.ws_steps.specs.declared.pipes.Action.{Action}
 use Rattle.ws_steps.specs.declared.pipes.Ends.{Ends}
 use Rattle.ws_steps.specs.declared.pipes.Phase.{Phase}
@@ -43,6 +46,20 @@ pub fresh_length : (t : Table) → length (fresh t).entries ≡ length t.entries
 fresh_length t = length-fresh t
 
 -- what goes on with the unsettled writes and the promises
+
+-- some ends, for an operation that looks at none
+abbrev pub some_ends : Ends
+some_ends =
+    record {
+      source_state = ReadableClosed;
+      source_error = Undefined;
+      dest_state = WritableClosed;
+      dest_error = Undefined;
+      dest_closing = false;
+      dest_wants = false;
+      dest_ready = None;
+      dest_abort = None;
+    }
 
 abbrev Counted : Acts → Type 0
 Counted a = a.slots.unsettled ≤ length a.out.promises.entries

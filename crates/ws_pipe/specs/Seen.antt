@@ -9,7 +9,7 @@ use Rattle.ws_steps.specs.declared.effects.Effect.TheVariants.{Readable as OnRea
 use Rattle.ws_steps.specs.declared.pipes.Action.TheVariants.{AbortDest, CancelSource, CloseDest}
 use Rattle.ws_steps.specs.declared.pipes.Ends.{Ends}
 use Rattle.ws_steps.specs.declared.pipes.PipeOperation.{PipeOperation}
-use Rattle.ws_steps.specs.declared.pipes.PipeOperation.TheVariants.{Look, LookReady, KeepChunk, WriteChunk, GoOn, WriteEnded}
+use Rattle.ws_steps.specs.declared.pipes.PipeOperation.TheVariants.{Look, LookReady, KeepChunk, WriteChunk, GoOn, WriteEnded, Abort}
 use Rattle.ws_steps.specs.declared.readable.ReadableOperation.TheVariants.{Cancel}
 use Rattle.ws_steps.specs.declared.writable.WritableOperation.TheVariants.{ClosePropagating}
 use Rattle.ws_steps.specs.Effects.{type_error}
@@ -35,6 +35,15 @@ is_common WriteChunk = true
 is_common GoOn = true
 is_common WriteEnded = true
 is_common _ = false
+
+-- whether the pipe looks at its two ends in the operation
+abbrev pub looks : PipeOperation → Bool
+looks Look = true
+looks LookReady = true
+looks GoOn = true
+looks WriteEnded = true
+looks (Abort r) = true
+looks _ = false
 
 -- the actions that are one operation of an end
 

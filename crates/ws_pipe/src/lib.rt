@@ -12,6 +12,7 @@ mod shutdown;
 mod signal;
 
 pub use ends::PipeEnds;
+pub use operations::looks_at_ends;
 pub use pipe::Pipe;
 pub use signal::Signal;
 pub use ws_steps::{Action, Phase, PipeOperation, Prevent, SignalOperation};

@@ -1,17 +1,39 @@
 //! The operations of a pipe by their names.
-ghost use Rattle.std.specs.Prelude.{◌≡◌, ◌≤◌, false, length};
-ghost use Rattle.ws_pipe.specs.Seen.{HasRoomFor, acts_of, is_common};
+ghost use Rattle.std.specs.Prelude.{◌≡◌, ◌≤◌, false, length, true};
+ghost use Rattle.ws_pipe.specs.Seen.{HasRoomFor, acts_of, is_common, looks};
 ghost use Rattle.ws_promise.specs.Seen.{HasEffectRoom};
 ghost use Rattle.ws_steps.specs.Operations.{pipe_operation};
+ghost use Rattle.ws_steps.specs.declared.pipes.Ends.{Ends};
+ghost use Rattle.ws_steps.specs.declared.pipes.PipeOperation.TheVariants as operations;
 
 use crate::{Pipe, PipeEnds};
 use ws_promise::{Agenda, Promises, taken};
 use ws_steps::PipeOperation;
-use ws_value::PipeId;
+use ws_value::{PipeId, Plain};
+
+/// Whether a pipe looks at its two ends in this operation.
+#[inline(always)]
+pub fn looks_at_ends(operation: &PipeOperation) -> bool
+    ensures { result ≡ looks operation.now }
+{
+    match operation {
+        PipeOperation::Look
+        | PipeOperation::LookReady
+        | PipeOperation::GoOn
+        | PipeOperation::WriteEnded
+        | PipeOperation::Abort(_) => true,
+        PipeOperation::KeepChunk(_)
+        | PipeOperation::ReadEnded
+        | PipeOperation::WriteChunk
+        | PipeOperation::ActionSettled(_)
+        | PipeOperation::PartSettled(_)
+        | PipeOperation::NoParts => false,
+    }
+}
 
 impl Pipe {
-    /// Performs an operation of the pipe, whose number is `me` and whose two ends are these. No more writes are unsettled than there are promises.
-    pub fn perform(
+    /// Performs an operation in which the pipe, whose number is `me`, looks at its two ends. No more writes are unsettled than there are promises.
+    pub fn perform_with_ends(
         &mut self,
         me: PipeId,
         ends: &PipeEnds,
@@ -19,6 +41,7 @@ impl Pipe {
         fx: &mut Agenda,
         operation: &mut PipeOperation,
     )
+        requires looking { looks operation.old ≡ true }
         requires room { HasRoomFor operation.old p.old }
         requires counted { self.old.unsettled ≤ length p.old.table.entries }
         requires effect_room { HasEffectRoom 5 fx.old }
@@ -31,38 +54,85 @@ impl Pipe {
         match operation {
             PipeOperation::Look => self.look(me, ends, p, fx),
             PipeOperation::LookReady => self.look_ready(me, ends, p, fx),
-            PipeOperation::KeepChunk(chunk) => self.keep_chunk(me, p, taken(chunk)),
-            PipeOperation::WriteChunk => self.write_chunk(me, p, fx),
             PipeOperation::GoOn => self.go_on(me, ends, p, fx),
             PipeOperation::WriteEnded => self.write_ended(me, ends, p, fx),
-            _ => self.perform_uncommon(me, ends, p, fx, operation),
+            PipeOperation::Abort(reason) => self.perform_abort(me, ends, p, fx, reason),
+            _ => unreachable!(),
         }
     }
 
-    /// The same for what the way of a chunk doesn't meet, apart, so that `perform` has no locals for it.
+    /// Performs an operation in which the pipe doesn't look at its two ends, whatever they are.
+    #[inline(always)]
+    pub fn perform_without_ends(
+        &mut self,
+        me: PipeId,
+        p: &mut Promises,
+        fx: &mut Agenda,
+        operation: &mut PipeOperation,
+    )
+        requires unlooking { looks operation.old ≡ false }
+        requires room { HasRoomFor operation.old p.old }
+        requires counted { self.old.unsettled ≤ length p.old.table.entries }
+        requires effect_room { HasEffectRoom 5 fx.old }
+        ensures row { (ends : Ends) → acts_of self.new p.new fx.new
+            ≡ pipe_operation me ends operation.old (acts_of self.old p.old fx.old) }
+        ensures counted { self.new.unsettled ≤ length p.new.table.entries }
+        ensures promise_room { p.new.room ≡ p.old.room }
+        ensures effect_room { fx.new.capacity ≡ fx.old.capacity }
+    {
+        match operation {
+            PipeOperation::KeepChunk(chunk) => self.keep_chunk(me, p, taken(chunk)),
+            PipeOperation::WriteChunk => self.write_chunk(me, p, fx),
+            _ => self.perform_uncommon(me, p, fx, operation),
+        }
+    }
+
+    /// The abort by the pipe's signal, which the way of a chunk doesn't meet, apart, so that `perform_with_ends` has no locals for it.
     #[cold]
     #[inline(never)]
-    fn perform_uncommon(
+    fn perform_abort(
         &mut self,
         me: PipeId,
         ends: &PipeEnds,
         p: &mut Promises,
         fx: &mut Agenda,
+        reason: &Plain,
+    )
+        requires room { HasRoomFor (operations.Abort reason.now) p.old }
+        requires counted { self.old.unsettled ≤ length p.old.table.entries }
+        requires effect_room { HasEffectRoom 5 fx.old }
+        ensures row { acts_of self.new p.new fx.new
+            ≡ pipe_operation me ends.now (operations.Abort reason.now) (acts_of self.old p.old fx.old) }
+        ensures counted { self.new.unsettled ≤ length p.new.table.entries }
+        ensures promise_room { p.new.room ≡ p.old.room }
+        ensures effect_room { fx.new.capacity ≡ fx.old.capacity }
+    {
+        self.abort(me, ends, p, fx, *reason);
+    }
+
+    /// The same of `perform_without_ends`.
+    #[cold]
+    #[inline(never)]
+    fn perform_uncommon(
+        &mut self,
+        me: PipeId,
+        p: &mut Promises,
+        fx: &mut Agenda,
         operation: &mut PipeOperation,
     )
+        requires unlooking { looks operation.old ≡ false }
         requires uncommon { is_common operation.old ≡ false }
         requires room { HasRoomFor operation.old p.old }
         requires counted { self.old.unsettled ≤ length p.old.table.entries }
         requires effect_room { HasEffectRoom 5 fx.old }
-        ensures row { acts_of self.new p.new fx.new
-            ≡ pipe_operation me ends.now operation.old (acts_of self.old p.old fx.old) }
+        ensures row { (ends : Ends) → acts_of self.new p.new fx.new
+            ≡ pipe_operation me ends operation.old (acts_of self.old p.old fx.old) }
         ensures counted { self.new.unsettled ≤ length p.new.table.entries }
         ensures promise_room { p.new.room ≡ p.old.room }
         ensures effect_room { fx.new.capacity ≡ fx.old.capacity }
     {
         match operation {
             PipeOperation::ReadEnded => self.read_ended(me, p),
-            PipeOperation::Abort(reason) => self.abort(me, ends, p, fx, *reason),
             PipeOperation::ActionSettled(outcome) => self.action_settled(me, fx, *outcome),
             PipeOperation::PartSettled(outcome) => self.part_settled(p, *outcome),
             PipeOperation::NoParts => self.no_parts(p),
@@ -71,7 +141,8 @@ impl Pipe {
             | PipeOperation::KeepChunk(_)
             | PipeOperation::WriteChunk
             | PipeOperation::GoOn
-            | PipeOperation::WriteEnded => unreachable!(),
+            | PipeOperation::WriteEnded
+            | PipeOperation::Abort(_) => unreachable!(),
         }
     }
 }

@@ -9,7 +9,7 @@ use Rattle.ws_steps.specs.declared.effects.Effect.TheVariants.{Readable as OnRea
 use Rattle.ws_steps.specs.declared.readable.ReadableOperation.TheVariants.{Error as ErrorReadable}
 use Rattle.ws_steps.specs.declared.transform.TransformId.{TransformId}
 use Rattle.ws_steps.specs.declared.transform.TransformOperation.{TransformOperation}
-use Rattle.ws_steps.specs.declared.transform.TransformOperation.TheVariants.{SinkWrite, WriteGoesOn, TransformChunk, Enqueue, Enqueued, Unblock, SourcePull}
+use Rattle.ws_steps.specs.declared.transform.TransformOperation.TheVariants.{SinkWrite, WriteGoesOn, TransformChunk, Enqueue, Enqueued, Unblock, SourcePull, FlushSettled, AbortSettled, CancelSettled}
 use Rattle.ws_steps.specs.declared.writable.WritableOperation.TheVariants.{ErrorIfNeeded}
 use Rattle.ws_steps.specs.Transform.{Slots, Acts}
 use Rattle.ws_steps.specs.Places.{own_transform, promises_alone}
@@ -32,6 +32,16 @@ is_common Enqueued = true
 is_common Unblock = true
 is_common (SourcePull u) = true
 is_common _ = false
+
+-- whether the transform stream looks at its two halves in the operation
+abbrev pub looks : TransformOperation → Bool
+looks (WriteGoesOn d) = true
+looks (TransformChunk v d) = true
+looks Enqueued = true
+looks (FlushSettled p outcome) = true
+looks (AbortSettled p r outcome) = true
+looks (CancelSettled p r outcome) = true
+looks _ = false
 
 -- the readable half errs, and then the finish promise is settled
 abbrev pub error_readable_and_settle : StreamId → PromiseId → Plain → Result Plain Plain → List Effect

@@ -11,5 +11,6 @@ mod operations;
 mod transform;
 
 pub use halves::TransformHalves;
+pub use operations::looks_at_halves;
 pub use transform::Transform;
 pub use ws_steps::{Kind, Taker, TransformId, TransformOperation};
