@@ -1,12 +1,13 @@
 //! Pipes.
-ghost use Rattle.std.specs.Prelude.{◌≡◌, [], map, slice_get};
+ghost use Rattle.std.specs.Prelude.{◌≡◌, ◌<◌, [], length, map, slice_get, true};
+ghost use Rattle.ws_pipe.specs.Seen.{looks};
 ghost use Rattle.ws_steps.specs.Slots.{as_source, as_writable, ends_of};
 ghost use Rattle.ws_steps.specs.declared.effects.Effect.TheVariants as effect;
 ghost use Rattle.ws_tables.specs.Room.{HasRoomFor, IsKept, Performs};
 ghost use Rattle.ws_tables.specs.View.{stream_of};
 
 use crate::tables::{Stream, Tables};
-use ws_pipe::PipeEnds;
+use ws_pipe::{PipeEnds, looks_at_ends};
 use ws_steps::{PipeOperation, ReadableState, WritableState};
 use ws_value::{PipeId, Plain, StreamId};
 
@@ -47,6 +48,27 @@ fn pipe_ends(streams: &Vec<Stream>, source: StreamId, dest: StreamId) -> PipeEnd
 }
 
 impl Tables {
+    /// Performs an operation in which the pipe looks at its two ends, apart, so that the others have no locals for them.
+    fn perform_looking_pipe(&mut self, p: PipeId, operation: &mut PipeOperation)
+        requires quiet { self.old.caused.effects ≡ [] }
+        requires room { HasRoomFor (effect.Pipe p operation.old) self.old }
+        requires kept { IsKept self.old }
+        requires looking { looks operation.old ≡ true }
+        requires there { p.0 < length self.old.pipes.items }
+        ensures performs { Performs (effect.Pipe p operation.old) self.old self.new }
+        ensures kept { IsKept self.new }
+    {
+        let pipe = &self.pipes[p.0 as usize];
+        let ends = pipe_ends(&self.streams, pipe.source(), pipe.dest());
+        self.pipes[p.0 as usize].perform_with_ends(
+            p,
+            &ends,
+            &mut self.promises,
+            &mut self.caused,
+            operation,
+        );
+    }
+
     /// Performs an operation of the pipe of this number, where there is one.
     pub(crate) fn perform_pipe(&mut self, p: PipeId, operation: &mut PipeOperation)
         requires quiet { self.old.caused.effects ≡ [] }
@@ -58,8 +80,15 @@ impl Tables {
         if self.pipes.len() as u128 <= p.0 {
             return;
         }
-        let pipe = &self.pipes[p.0 as usize];
-        let ends = pipe_ends(&self.streams, pipe.source(), pipe.dest());
-        self.pipes[p.0 as usize].perform(p, &ends, &mut self.promises, &mut self.caused, operation);
+        if looks_at_ends(operation) {
+            self.perform_looking_pipe(p, operation);
+            return;
+        }
+        self.pipes[p.0 as usize].perform_without_ends(
+            p,
+            &mut self.promises,
+            &mut self.caused,
+            operation,
+        );
     }
 }

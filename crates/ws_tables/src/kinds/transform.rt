@@ -1,13 +1,14 @@
 //! Transform streams.
-ghost use Rattle.std.specs.Prelude.{◌≡◌, [], map, slice_get};
+ghost use Rattle.std.specs.Prelude.{◌≡◌, ◌<◌, [], length, map, slice_get, true};
 ghost use Rattle.ws_steps.specs.Slots.{as_readable, as_writable, halves_of};
 ghost use Rattle.ws_steps.specs.declared.effects.Effect.TheVariants as effect;
 ghost use Rattle.ws_tables.specs.Room.{HasRoomFor, KeepsRecords, Performs};
 ghost use Rattle.ws_tables.specs.View.{stream_of};
+ghost use Rattle.ws_transform.specs.Seen.{looks};
 
 use crate::tables::{Stream, Tables};
 use ws_steps::{ReadableState, TransformId, TransformOperation, WritableState};
-use ws_transform::TransformHalves;
+use ws_transform::{TransformHalves, looks_at_halves};
 use ws_value::{Plain, StreamId};
 
 /// What a transform stream with these halves looks at.
@@ -49,6 +50,26 @@ fn transform_halves(
 }
 
 impl Tables {
+    /// Performs an operation in which the transform stream looks at its two halves, apart, so that the others have no locals for them.
+    fn perform_looking_transform(&mut self, t: TransformId, operation: &mut TransformOperation)
+        requires quiet { self.old.caused.effects ≡ [] }
+        requires room { HasRoomFor (effect.Transform t operation.old) self.old }
+        requires looking { looks operation.old ≡ true }
+        requires there { t.0 < length self.old.transforms.items }
+        ensures performs { Performs (effect.Transform t operation.old) self.old self.new }
+        ensures records { KeepsRecords self.old self.new }
+    {
+        let transform = &self.transforms[t.0 as usize];
+        let halves = transform_halves(&self.streams, transform.readable(), transform.writable());
+        self.transforms[t.0 as usize].perform_with_halves(
+            t,
+            &halves,
+            &mut self.promises,
+            &mut self.caused,
+            operation,
+        );
+    }
+
     /// Performs an operation of the transform stream of this number, where there is one.
     pub(crate) fn perform_transform(&mut self, t: TransformId, operation: &mut TransformOperation)
         requires quiet { self.old.caused.effects ≡ [] }
@@ -59,11 +80,12 @@ impl Tables {
         if self.transforms.len() <= t.0 as usize {
             return;
         }
-        let transform = &self.transforms[t.0 as usize];
-        let halves = transform_halves(&self.streams, transform.readable(), transform.writable());
-        self.transforms[t.0 as usize].perform(
+        if looks_at_halves(operation) {
+            self.perform_looking_transform(t, operation);
+            return;
+        }
+        self.transforms[t.0 as usize].perform_without_halves(
             t,
-            &halves,
             &mut self.promises,
             &mut self.caused,
             operation,

@@ -6,7 +6,7 @@ use Rattle.ws_steps.specs.declared.effects.Effect.TheVariants.{Pipe}
 use Rattle.ws_steps.specs.declared.pipes.Ends.{Ends}
 use Rattle.ws_steps.specs.Operations.{pipe_operation}
 use Rattle.ws_steps.specs.Pipes as pipe
-use Rattle.ws_steps.specs.Slots.{Slots, Done, found, ends_of, ends_at, source_at, writable_at, put_pipe}
+use Rattle.ws_steps.specs.Slots.{Slots, Done, ends_at, put_pipe}
 use Rattle.ws_steps.specs.Turns.{row}
 use Rattle.ws_tables.specs.View.{slots_of}
 use Rattle.ws_tables.proofs.Counts.{entries-more, counted-put}
@@ -17,39 +17,28 @@ use Rattle.ws_tables.proofs.tables.Tables.perform_pipe.Goals as goal
 pub returns-then-len-p-clause-performs : goal.returns-then-len-p-clause-performs
 returns-then-len-p-clause-performs c = pipe-absent c.args.p c.args.operation.now c.args.self.now (omega (arith, c.args.self.now.pipes.ok.0)) c.requires.quiet
 
-pub perform-requires-clause-counted : goal.perform-requires-clause-counted
-perform-requires-clause-counted c =
+pub perform_without_ends-requires-clause-counted : goal.perform_without_ends-requires-clause-counted
+perform_without_ends-requires-clause-counted c =
     c.requires.kept.counted c.args.p.0 c.index_mut.result.now
     (stands-at c.args.self.now.pipes.items c.args.p.0 c.index_mut.result.now c.index_mut.result.now (omega arith) c.index_mut.ensures.value)
 
 at : (c : goal.After-self-1) → slice_get c.args.self.now.pipes.items c.args.p.0 ≡ Some c.index_mut.result.now
 at c = stands-at c.args.self.now.pipes.items c.args.p.0 c.index_mut.result.now c.index_mut.result.now (omega arith) c.index_mut.ensures.value
 
-ends-are : (c : goal.After-self-1) → c.pipe_ends-ends.result ≡ ends_at c.index_mut.result.now (slots_of c.args.self.now)
-ends-are c =
-    let s : Slots = slots_of c.args.self.now in
-    let there = stands-at c.args.self.now.pipes.items c.args.p.0 c.index-pipe.result.now c.index-pipe.result.now (omega arith) c.index-pipe.ensures in
-    let is = at c in
-    let same : c.index-pipe.result.now ≡ c.index_mut.result.now = cc in
-    c.pipe_ends-ends.ensures
-    ∙ (ap (λ i. ends_of (source_at i s) (writable_at c.dest.result s)) c.source.ensures
-    ∙ (ap (λ i. ends_of (source_at c.index-pipe.result.now.source s) (writable_at i s)) c.dest.ensures
-    ∙ ap (λ (x : pipe.Slots). ends_at x s) same))
-
 -- what the operation leaves and causes
-left : (c : goal.After-self-1) → row (Pipe c.args.p c.args.operation.now) (slots_of c.args.self.now) ≡ put_pipe c.args.p (slots_of c.args.self.now) (acts_of c.perform.new.self c.perform.new.p c.perform.new.fx)
+left : (c : goal.After-self-1) → row (Pipe c.args.p c.args.operation.now) (slots_of c.args.self.now) ≡ put_pipe c.args.p (slots_of c.args.self.now) (acts_of c.perform_without_ends.new.self c.perform_without_ends.new.p c.perform_without_ends.new.fx)
 left c =
     let s : Slots = slots_of c.args.self.now in
     let x : pipe.Slots = c.index_mut.result.now in
-    pipe-row c.args.p c.args.operation.now s x (acts_of c.perform.new.self c.perform.new.p c.perform.new.fx) (at c)
-    (c.perform.ensures.row
-    ∙ (ap (λ (es : List Effect). pipe_operation c.args.p c.pipe_ends-ends.result c.args.operation.now (record { slots = x; out = record { promises = s.promises; effects = es } })) c.requires.quiet
-    ∙ ap (λ (ends : Ends). pipe_operation c.args.p ends c.args.operation.now (record { slots = x; out = found s })) (ends-are c)))
+    pipe-row c.args.p c.args.operation.now s x (acts_of c.perform_without_ends.new.self c.perform_without_ends.new.p c.perform_without_ends.new.fx) (at c)
+    (c.perform_without_ends.ensures.row (ends_at x s)
+    ∙ ap (λ (es : List Effect). pipe_operation c.args.p (ends_at x s) c.args.operation.now (record { slots = x; out = record { promises = s.promises; effects = es } })) c.requires.quiet)
 
-took : (c : goal.After-self-1) → PipeTook c.args.operation.now c.perform.new.fx.effects
+took : (c : goal.After-self-1) → PipeTook c.args.operation.now c.perform_without_ends.new.fx.effects
 took c =
-    subst (λ (a : pipe.Acts). PipeTook c.args.operation.now a.out.effects) (sym c.perform.ensures.row)
-    (pipe-took c.args.p c.pipe_ends-ends.result c.args.operation.now (acts_of c.index_mut.result.now c.args.self.now.promises c.args.self.now.caused) c.requires.quiet)
+    let ends : Ends = ends_at c.index_mut.result.now (slots_of c.args.self.now) in
+    subst (λ (a : pipe.Acts). PipeTook c.args.operation.now a.out.effects) (sym (c.perform_without_ends.ensures.row ends))
+    (pipe-took c.args.p ends c.args.operation.now (acts_of c.index_mut.result.now c.args.self.now.promises c.args.self.now.caused) c.requires.quiet)
 
 pub returns-clause-performs : goal.returns-clause-performs
 returns-clause-performs c =
@@ -58,7 +47,7 @@ returns-clause-performs c =
       slots = ap (λ (d : Done). d.slots) (sym (left c));
       caused = ap (λ (d : Done). d.caused) (sym (left c));
       others = refl;
-      places = rw (c.perform.ensures.promise_room, c.perform.ensures.effect_room) refl;
+      places = rw (c.perform_without_ends.ensures.promise_room, c.perform_without_ends.ensures.effect_room) refl;
       lists = refl;
       rooms = λ none n h. h;
       grown = let q = t.queued in let r = t.requested in omega (arith, q, r);
@@ -78,6 +67,6 @@ returns-clause-kept c =
       members = was.members;
       copied = was.copied;
       sourced = was.sourced;
-      counted = counted-put (length old.promises.table.entries) (length c.perform.new.p.table.entries) old.pipes.items c.args.p.0 c.perform.new.self more was.counted c.perform.ensures.counted;
+      counted = counted-put (length old.promises.table.entries) (length c.perform_without_ends.new.p.table.entries) old.pipes.items c.args.p.0 c.perform_without_ends.new.self more was.counted c.perform_without_ends.ensures.counted;
       few = (was.few.0, was.few.1);
     }
