@@ -23,7 +23,7 @@ pub fn masked(alloc: Global, key: &[u8], place: u128, bytes: &[u8]) -> Result<Ch
     let mut text = Vec::with_capacity(alloc, bytes.len())?;
     let mut at = (place % key.len() as u128) as usize;
     for byte in bytes {
-        text.push(*byte ^ key[at])?;
+        text.push_reserved(*byte ^ key[at]);
         at += 1;
         if at == key.len() {
             at = 0;
