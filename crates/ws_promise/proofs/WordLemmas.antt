@@ -8,12 +8,12 @@ use Rattle.ws_value.specs.declared.value.Outcome.{Outcome}
 use Rattle.ws_value.specs.declared.value.Outcome.TheVariants.{Pending, Fulfilled, Given, Finished, Rejected}
 use Rattle.ws_steps.specs.Promises.{is_pending}
 use Rattle.ws_promise.specs.declared.slots.Slot.{Slot}
-use Rattle.ws_promise.specs.declared.slots.Word.{Word}
-use Rattle.ws_promise.specs.declared.slots.Word.TheVariants.{Ended, Watched, Released, At}
+use Rattle.ws_promise.specs.declared.words.Word.{Word}
+use Rattle.ws_promise.specs.declared.words.Word.TheVariants.{Ended, Watched, Released, At}
 use Rattle.ws_promise.specs.declared.slots.Tenant.{Tenant}
 use Rattle.ws_promise.specs.declared.slots.Tenant.TheVariants.{Free, Of}
 use Rattle.ws_promise.specs.declared.slots.Place.{Place}
-use Rattle.ws_promise.specs.Words.{Blank, Sound, Taken, ended_slot, ended_word, is_pending_slot, new_slot, slot_in, tenant_in, slot_of, slots_of}
+use Rattle.ws_promise.specs.Words.{Blank, Sound, Taken, ended_slot, is_pending_slot, new_slot, slot_in, tenant_in, slot_of, slots_of}
 use Rattle.ws_promise.proofs.EntryLemmas.{slice_set-same}
 
 -- a word tells of the same slot where its place stays
@@ -186,6 +186,15 @@ Blank-taken ps qs number k h t either = λ m n x g f. elim (either m) [
   | inr e ↦ h m n x (sym (t.others m e) ∙ g) f
 ]
 
+same-or_other : (m k : ℕ) → (m ≡ k) ⊎ (m ≢ k)
+same-or_other zero zero = inl refl
+same-or_other zero (suc k) = inr (omega arith)
+same-or_other (suc m) zero = inr (omega arith)
+same-or_other (suc m) (suc k) = elim (same-or_other m k) [ inl e ↦ inl (ap suc e) | inr n ↦ inr (λ e. n (omega (arith, e))) ]
+
+pub pushed-sound : (ws : List Word) (ps qs : List Place) (k : ℕ) → Sound ws ps → Taken ps qs (length ws) k → Sound (ws ++ At k ∷ []) qs
+pushed-sound ws ps qs k h t = taken-sound ws ps qs k h t (Blank-taken ps qs (length ws) k h.blank t (λ m. same-or_other m k))
+
 -- what is read where a promise has its place
 pub record Spot (ws : List Word) (ps : List Place) (i k : ℕ) (place : Place) : Type 0 where
   pub at : slice_get ws i ≡ Some (At k)
@@ -229,28 +238,33 @@ pending-is (Given v) h = cc
 pending-is (Finished v) h = cc
 pending-is (Rejected v) h = cc
 
-ended-slot : (ps : List Place) (rank : Option ℕ) → slot_of ps (ended_word rank) ≡ Some (ended_slot rank)
-ended-slot ps None = refl
-ended-slot ps (Some rank) = refl
+-- the place of a promise that a word tells from now on
+abbrev pub left : Place → ℕ → Place
+left place n = record { tenant = Free n; slot = record { outcome = place.slot.outcome; follows = false; waits = 0; rank = place.slot.rank; first = None } }
 
-ended-names : (rank : Option ℕ) (m : ℕ) → ended_word rank ≢ At m
-ended-names None m e = cc
-ended-names (Some rank) m e = cc
-
-pub end : (ws : List Word) (ps : List Place) (ss : List (Option Slot)) (i k n : ℕ) (place : Place) (s : Slot) → Sound ws ps → Spot ws ps i k place → slots_of ws ps ≡ ss → slice_get ss i ≡ Some (Some s) → slots_of (slice_set ws i (ended_word place.slot.rank)) (slice_set ps k (record { tenant = Free n; slot = record { outcome = place.slot.outcome; follows = false; waits = 0; rank = None; first = None } })) ≡ slice_set ss i (Some (ended_slot s.rank))
-end ws ps ss i k n place s h p e g =
-    let x : Place = record { tenant = Free n; slot = record { outcome = place.slot.outcome; follows = false; waits = 0; rank = None; first = None } } in
+pub end : (ws : List Word) (ps : List Place) (ss : List (Option Slot)) (i k n : ℕ) (place : Place) (s : Slot) → Sound ws ps → Spot ws ps i k place → place.slot.rank ≡ None → slots_of ws ps ≡ ss → slice_get ss i ≡ Some (Some s) → slots_of (slice_set ws i Ended) (slice_set ps k (left place n)) ≡ slice_set ss i (Some (ended_slot s.rank))
+end ws ps ss i k n place s h p r e g =
     let mine = spot-slot ws ps ss i k place p e in
     let is : place.slot ≡ s = cc in
-    freed ws ps i k (ended_word place.slot.rank) x h p.at
-    ∙ (ap (λ o. slice_set (slots_of ws ps) i o) (ended-slot (slice_set ps k x) place.slot.rank)
-    ∙ (ap (λ xs. slice_set xs i (Some (ended_slot place.slot.rank))) e ∙ ap (λ (y : Slot). slice_set ss i (Some (ended_slot y.rank))) is))
+    freed ws ps i k Ended (left place n) h p.at
+    ∙ (ap (λ xs. slice_set xs i (Some (ended_slot None))) e
+    ∙ (ap (λ o. slice_set ss i (Some (ended_slot o))) (sym r)
+    ∙ ap (λ (y : Slot). slice_set ss i (Some (ended_slot y.rank))) is))
 
-pub end-sound : (ws : List Word) (ps : List Place) (ss : List (Option Slot)) (i k n : ℕ) (place : Place) → Sound ws ps → Spot ws ps i k place → slots_of ws ps ≡ ss → is_pending_slot (slice_get ss i) ≡ true → Sound (slice_set ws i (ended_word place.slot.rank)) (slice_set ps k (record { tenant = Free n; slot = record { outcome = place.slot.outcome; follows = false; waits = 0; rank = None; first = None } }))
-end-sound ws ps ss i k n place h p e q =
+pub end-sound : (ws : List Word) (ps : List Place) (ss : List (Option Slot)) (i k n : ℕ) (place : Place) → Sound ws ps → Spot ws ps i k place → place.slot.rank ≡ None → slots_of ws ps ≡ ss → is_pending_slot (slice_get ss i) ≡ true → Sound (slice_set ws i Ended) (slice_set ps k (left place n))
+end-sound ws ps ss i k n place h p r e q =
     let mine = spot-slot ws ps ss i k place p e in
     let pending = pending-is place.slot.outcome (sym (ap is_pending_slot mine) ∙ q) in
-    freed-sound ws ps i k (ended_word place.slot.rank) (record { tenant = Free n; slot = record { outcome = place.slot.outcome; follows = false; waits = 0; rank = None; first = None } }) h p.at (ended-names place.slot.rank) (ap (λ o. record { outcome = o; follows = false; waits = 0; rank = None; first = None }) pending)
+    let first : (left place n).slot ≡ record { outcome = Pending; follows = false; waits = 0; rank = place.slot.rank; first = None } = ap (λ o. record { outcome = o; follows = false; waits = 0; rank = place.slot.rank; first = None }) pending in
+    let then : record { outcome = Pending; follows = false; waits = 0; rank = place.slot.rank; first = None } ≡ new_slot = ap (λ o. record { outcome = Pending; follows = false; waits = 0; rank = o; first = None }) r in
+    freed-sound ws ps i k Ended (left place n) h p.at (λ m e. cc) (first ∙ then)
+
+pub unranked : (ws : List Word) (ps : List Place) (i k : ℕ) (x y : Place) → Spot ws ps i k x → Spot ws ps i k y → x.slot.rank ≡ None → y.slot.rank ≡ None
+unranked ws ps i k x y a b r =
+    let one = a.read in
+    let other = b.read in
+    let is : x ≡ y = cc in
+    ap (λ (z : Place). z.slot.rank) (sym is) ∙ r
 
 -- where a promise is pending
 pub pending-within : (ss : List (Option Slot)) (i : ℕ) → is_pending_slot (slice_get ss i) ≡ true → i < length ss

@@ -5,8 +5,8 @@ use Rattle.ws_value.specs.declared.value.Outcome.TheVariants.{Pending, Fulfilled
 use Rattle.ws_value.specs.declared.value.Plain.TheVariants.{Undefined}
 use Rattle.ws_steps.specs.Promises.{is_pending}
 use Rattle.ws_promise.specs.declared.slots.Slot.{Slot}
-use Rattle.ws_promise.specs.declared.slots.Word.{Word}
-use Rattle.ws_promise.specs.declared.slots.Word.TheVariants.{Ended, Watched, Released, At}
+use Rattle.ws_promise.specs.declared.words.Word.{Word}
+use Rattle.ws_promise.specs.declared.words.Word.TheVariants.{Ended, Watched, Released, At}
 use Rattle.ws_promise.specs.declared.slots.Tenant.{Tenant}
 use Rattle.ws_promise.specs.declared.slots.Tenant.TheVariants.{Free, Of}
 use Rattle.ws_promise.specs.declared.slots.Place.{Place}
@@ -22,10 +22,6 @@ new_slot = record { outcome = Pending; follows = false; waits = 0; rank = None; 
 -- the slot of a promise that was fulfilled with undefined
 abbrev pub ended_slot : Option ℕ → Slot
 ended_slot rank = record { outcome = Fulfilled Undefined; follows = false; waits = 0; rank = rank; first = None }
-
-abbrev pub ended_word : Option ℕ → Word
-ended_word None = Ended
-ended_word (Some rank) = Watched rank
 
 abbrev pub slot_in : Option Place → Option Slot
 slot_in None = None
