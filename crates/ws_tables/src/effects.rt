@@ -3,6 +3,7 @@ ghost use Rattle.std.specs.Prelude.{◌≡◌, []};
 ghost use Rattle.ws_steps.specs.declared.effects.Effect.TheVariants as effect;
 ghost use Rattle.ws_tables.specs.Room.{HasRoomFor, IsKept, KeepsRecords, Performs};
 
+use crate::hosts::HostPromise;
 use crate::tables::Tables;
 use std::mem::replace;
 use ws_promise::taken;
@@ -171,7 +172,7 @@ impl Tables {
         let call = replace(call, HostCall::Pull(StreamId(0)));
         self.promises.tell(Event::Host { id, call });
         self.promises.use_this(promise, u);
-        self.hosts.push_reserved(Some(promise));
+        self.hosts.push_reserved(HostPromise::open(promise));
     }
 
     /// The steps of a read request, by whom it answers.

@@ -7,9 +7,11 @@
 
 mod agenda;
 mod effects;
+mod hosts;
 mod kinds;
 mod lookups;
 mod prepare;
 mod tables;
 
+pub use hosts::HostPromise;
 pub use tables::{Stream, Tables};

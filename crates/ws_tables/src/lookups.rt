@@ -39,7 +39,7 @@ impl Tables {
         if self.hosts.len() as u128 <= h.0 {
             return None;
         }
-        self.hosts[h.0 as usize]
+        self.hosts[h.0 as usize].promise()
     }
 
     /// The stream of a BYOB request.

@@ -2,6 +2,7 @@
 ghost use Rattle.std.specs.Prelude.{◌≡◌, IfOk};
 ghost use Rattle.ws_steps.specs.Slots.{empty};
 
+use crate::hosts::HostPromise;
 use std::alloc::Global;
 use ws_byte::ByteStream;
 use ws_cross::Port;
@@ -11,7 +12,7 @@ use ws_readable::Readable;
 use ws_steps::{Effect, Lock};
 use ws_tee::Tee;
 use ws_transform::Transform;
-use ws_value::{NoMemory, PromiseId, SignalId, StreamId};
+use ws_value::{NoMemory, SignalId, StreamId};
 use ws_writable::Writable;
 
 /// A readable stream with a default controller, one with a byte controller, or a writable stream.
@@ -35,7 +36,7 @@ pub struct Tables {
     pub locks: Vec<Lock>,
     pub promises: Promises,
     /// The promise of each call of a host's algorithm, until the host settles it.
-    pub hosts: Vec<Option<PromiseId>>,
+    pub hosts: Vec<HostPromise>,
     /// The stream of each BYOB request.
     pub byob_requests: Vec<StreamId>,
     /// What the effect under way has caused so far.
