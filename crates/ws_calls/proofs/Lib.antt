@@ -1,4 +1,5 @@
 pub mod Beginning
+pub mod First
 pub mod Idle
 pub mod Looking
 pub mod Made

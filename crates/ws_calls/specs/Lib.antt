@@ -1,2 +1,3 @@
 pub mod Begin
+pub mod First
 pub mod Reactions

@@ -8,6 +8,7 @@ ghost use Rattle.ws_tables.specs.Room.{IsPrepared, IsResting};
 ghost use Rattle.ws_tables.specs.View.{slots_of};
 ghost use Rattle.ws_calls.specs.Begin.{Answers, CanBegin, CanMake, IsSameBeside};
 
+use crate::first::begin_first;
 use crate::jobs::begin_job;
 use crate::{byob, controllers, locks, pipes, ports, readers, streams, tees, transforms, writers};
 use ws_steps::{Call, Reply};
@@ -123,8 +124,9 @@ pub fn perform_call(tables: &mut Tables, call: Call) -> Reply
     reply
 }
 
-/// Performs the first job with all that comes of it, where one is queued, in the places that there are.
-pub fn perform_job(tables: &mut Tables) -> bool
+/// Performs the first job with all that comes of it, where one is queued, by way of the agenda.
+#[inline(never)]
+fn perform_uncommon_job(tables: &mut Tables) -> bool
     requires prepared { IsPrepared tables.old }
     requires resting { IsResting tables.old }
     requires young { tables.old.age < 2 ^ 62 }
@@ -136,6 +138,25 @@ pub fn perform_job(tables: &mut Tables) -> bool
 {
     if !begin_job(tables) {
         return false;
+    }
+    tables.perform_effects();
+    tables.age += 1;
+    true
+}
+
+/// Performs the first job with all that comes of it, where one is queued, in the places that there are.
+pub fn perform_job(tables: &mut Tables) -> bool
+    requires prepared { IsPrepared tables.old }
+    requires resting { IsResting tables.old }
+    requires young { tables.old.age < 2 ^ 62 }
+    ensures worked { result ≡ not (run.is_idle (slots_of tables.old)) }
+    ensures slots { slots_of tables.new
+        ≡ (if run.is_idle (slots_of tables.old) then slots_of tables.old else run.after_job (slots_of tables.old)) }
+    ensures resting { IsResting tables.new }
+    ensures age { tables.new.age ≤ tables.old.age + 1 }
+{
+    if !begin_first(tables) {
+        return perform_uncommon_job(tables);
     }
     tables.perform_effects();
     tables.age += 1;

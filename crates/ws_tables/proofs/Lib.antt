@@ -3,6 +3,7 @@ pub mod ByteDid
 pub mod Bytes
 pub mod Counts
 pub mod Fits
+pub mod Going
 pub mod Handing
 pub mod Held
 pub mod Keeps

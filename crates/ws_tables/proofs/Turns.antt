@@ -12,7 +12,7 @@ use Rattle.ws_room_laws.proofs.Rows.{falls, measure-fall}
 use Rattle.ws_room_laws.proofs.Room.{effects-stand}
 use Rattle.ws_room_laws.proofs.Turns.{performed_next, performed_none}
 use Rattle.ws_tables.specs.View.{slots_of}
-use Rattle.ws_tables.specs.Room.{Places, Lists, HasRooms, EachHasRooms, RoomsStay, room_of, members_room, CanPutFirst, HasRoomFor, HasRoomForAll, AreCopied, IsKept, Performs, PerformsAll, AreEnough, CanTurn, TakesFirst, FindsNone, KeepsLeast, TakesOut, later, effects_of}
+use Rattle.ws_tables.specs.Room.{Places, Lists, HasRooms, EachHasRooms, RoomsStay, room_of, members_room, CanPutFirst, GoesOn, HasRoomFor, HasRoomForAll, AreCopied, IsKept, Performs, PerformsAll, AreEnough, CanTurn, TakesFirst, FindsNone, KeepsLeast, TakesOut, later, effects_of}
 use Rattle.ws_tables.specs.declared.tables.Stream.{Stream as StreamRecord}
 use Rattle.ws_tables.specs.declared.tables.Stream.TheVariants.{Readable, Bytes, Writable}
 use Rattle.ws_tables.specs.declared.tables.Tables.{Tables}
@@ -247,30 +247,23 @@ module _ (t s a : Tables) (e : Effect) (was : Performing t s) (first : effects_o
   pub found-kept : IsKept a
   found-kept = taken-kept s a out was.kept
 
-  module _ (b : Tables) (did : Performs e a b) where
-    left-is : effects_of b ≡ (row e (slots_of s)).caused ++ reverse a.others.items
-    left-is =
-        ap (λ es. es ++ reverse b.others.items) (did.caused ∙ ap (λ (x : Slots). (row e x).caused) out.slots)
-        ∙ ap (λ v. (row e (slots_of s)).caused ++ reverse v.items) did.others
-
-    slots-are : slots_of b ≡ (row e (slots_of s)).slots
-    slots-are = did.slots ∙ ap (λ (x : Slots). (row e x).slots) out.slots
-
+  module _ (b : Tables) (did : GoesOn e a b) where
     pub turn-fewer : measure (slots_of b) (effects_of b) < measure (slots_of s) (effects_of s)
     turn-fewer =
-        let falls = measure-fall e (reverse a.others.items) (slots_of s) in
-        let after = ap (measure (slots_of b)) left-is ∙ ap (λ (x : Slots). measure x ((row e (slots_of s)).caused ++ reverse a.others.items)) slots-are in
+        let less = did.fewer in
+        let same = ap (λ (x : Slots). measure x (e ∷ reverse a.others.items)) out.slots in
         let before = ap (measure (slots_of s)) first in
-        omega (arith, falls, after, before)
+        omega (arith, less, same, before)
 
-    pub turn-kept : IsKept b → Performing t b
-    turn-kept kept = record {
-      slots = rw (left-is, slots-are) (sym (performed_next (slots_of s) e (reverse a.others.items)) ∙ (ap (λ es. performed (causes es (slots_of s))) (sym first) ∙ was.slots));
-      room =
-          subst (λ v. HasRoomForAll (b.caused.effects ++ reverse v.items) b) (sym did.others)
-          (next-room e (reverse a.others.items) a b found found-kept did kept);
-      kept = kept;
-      fits = put-fits e (reverse a.others.items) a b found found-kept did (a.others.ok.0 ∙ sym (length-reverse a.others.items));
+    pub turn-kept : Performing t b
+    turn-kept = record {
+      slots =
+          did.slots
+          ∙ (ap (λ (x : Slots). performed (causes (e ∷ reverse a.others.items) x)) out.slots
+          ∙ (ap (λ es. performed (causes es (slots_of s))) (sym first) ∙ was.slots));
+      room = did.room;
+      kept = did.kept;
+      fits = did.fits;
     }
 
 -- the loop: the list for the effect under way stands beside the tables
@@ -290,27 +283,23 @@ module _ (t s a : Tables) (v w : Vec Effect) (was : Turning t s v) (took : Takes
     pub first-is : effects_of s ≡ e ∷ reverse a.others.items
     first-is = took.effects ∙ ap (λ es. es ++ reverse a.others.items) alone
 
-    pub turn-room : HasRoomFor e a
-    turn-room = room-for e (reverse a.others.items) a (found t s a e was.performing first-is out both.0)
+    pub turn-room : HasRoomForAll (e ∷ reverse a.others.items) a
+    turn-room = found t s a e was.performing first-is out both.0
 
-    module _ (b : Tables) (did : Performs e a b) where
+    pub turn-found : IsKept a
+    turn-found = found-kept t s a e was.performing first-is out both.0
+
+    module _ (b : Tables) (did : GoesOn e a b) where
       pub turn-less : measure (slots_of b) (effects_of b) < measure (slots_of s) (effects_of s)
       turn-less = turn-fewer t s a e was.performing first-is out both.0 b did
 
-      pub turn-on : (u : Vec Effect) → u.items ≡ [] → vec_capacity u ≡ vec_capacity w → IsKept b → Turning t b u
-      turn-on u empty places kept =
+      pub turn-on : (u : Vec Effect) → u.items ≡ [] → vec_capacity u ≡ vec_capacity w → Turning t b u
+      turn-on u empty places =
           let turns = subst (λ es. AreEnough (vec_capacity w) es s) first-is both.1 in
           let turns' : AreEnough (vec_capacity w) (e ∷ reverse a.others.items) a = rw (out.records.waiting, out.records.aborts, out.records.tees) turns in
           record {
-            performing = turn-kept t s a e was.performing first-is out both.0 b did kept;
-            turns =
-                record {
-                  empty = empty;
-                  places =
-                      rw places
-                      (subst (λ x. AreEnough (vec_capacity w) (b.caused.effects ++ reverse x.items) b) (sym did.others)
-                      (next-turns e (reverse a.others.items) a b (vec_capacity w) turns' (found-kept t s a e was.performing first-is out both.0) did kept));
-                };
+            performing = turn-kept t s a e was.performing first-is out both.0 b did;
+            turns = record { empty = empty; places = rw places (did.turns (vec_capacity w) turns') };
           }
 
 -- the loop begins
@@ -379,4 +368,15 @@ ends t s z v w none out turning =
       resting = record { caused = out.caused; others = none.others; under_way = none.under_way; kept = kept-with w z (taken-kept s z out was.kept) };
       age = ap (λ (x : Slots). x.age) same ∙ performed-age (causes t.caused.effects (slots_of t));
       events = let h = was.room.events in rw (out.promises) (omega (arith, h));
+    }
+
+-- nothing was caused, and nothing is performed
+pub none-caused : (t : Tables) → t.caused.effects ≡ [] → t.others.items ≡ [] → t.under_way.items ≡ [] → HasRoomForAll t.caused.effects t → IsKept t
+    → PerformsAll t t
+none-caused t none others under_way room kept =
+    record {
+      slots = sym (performed_none (slots_of t)) ∙ ap (λ es. performed (causes es (slots_of t))) (sym none);
+      resting = record { caused = none; others = others; under_way = under_way; kept = kept };
+      age = refl;
+      events = let h = room.events in omega (arith, h);
     }

@@ -10,7 +10,7 @@ use Rattle.ws_queue.specs.Seen.{Lists as TwoLists}
 use Rattle.ws_tee.specs.Seen.{SeenTee, CanHand}
 use Rattle.ws_steps.specs.declared.effects.Effect.{Effect}
 use Rattle.ws_steps.specs.Pipes as pipe
-use Rattle.ws_steps.specs.Places.{Prices, own, effect_price, prices_of, steps_price, abort_price, tees_keep, turns_alone, promises_alone, jobs_alone, events_alone, hosts_alone, queued_alone, requests_alone, requests_at, members_alone, descriptors_alone, copies_alone}
+use Rattle.ws_steps.specs.Places.{Prices, own, effect_price, prices_of, steps_price, abort_price, tees_keep, turns_alone, promises_alone, jobs_alone, events_alone, hosts_alone, queued_alone, requests_alone, requests_at, members_alone, descriptors_alone, copies_alone, measure}
 use Rattle.ws_steps.specs.Slots.{Slots, Stream as SeenStream, ReadableStream, ByteStream, WritableStream, causes, reads_any}
 use Rattle.ws_steps.specs.Tee as tee
 use Rattle.ws_steps.specs.Turns.{row, performed}
@@ -349,6 +349,17 @@ effects_of t = t.caused.effects ++ reverse t.others.items
 -- so many places are enough for these effects and all that comes of them
 abbrev pub AreEnough : ℕ → List Effect → Tables → Type 0
 AreEnough n es t = prices_of turns_alone es + later turns_alone t + 6 ≤ n
+
+-- an effect was performed, and maybe the one that it caused: what is left makes of the slots what the effect and those that wait make of them,
+-- takes fewer turns, and has its places
+pub record GoesOn (e : Effect) (t t' : Tables) : Type 0 where
+  pub slots : performed (causes (effects_of t') (slots_of t')) ≡ performed (causes (e ∷ reverse t.others.items) (slots_of t))
+  pub fewer : measure (slots_of t') (effects_of t') < measure (slots_of t) (e ∷ reverse t.others.items)
+  pub room : HasRoomForAll (effects_of t') t'
+  pub turns : (n : ℕ) → AreEnough n (e ∷ reverse t.others.items) t → AreEnough n (effects_of t') t'
+  pub fits : CanPutFirst t'
+  pub others : t'.others ≡ t.others
+  pub kept : IsKept t'
 
 -- the list for the effect under way is empty, and has places enough
 pub record CanTurn (es : List Effect) (v : Vec Effect) (t : Tables) : Type 0 where

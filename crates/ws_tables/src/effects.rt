@@ -1,7 +1,7 @@
 //! What one effect does.
-ghost use Rattle.std.specs.Prelude.{◌≡◌, []};
+ghost use Rattle.std.specs.Prelude.{◌≡◌, [], ◌∷◌, reverse};
 ghost use Rattle.ws_steps.specs.declared.effects.Effect.TheVariants as effect;
-ghost use Rattle.ws_tables.specs.Room.{HasRoomFor, IsKept, KeepsRecords, Performs};
+ghost use Rattle.ws_tables.specs.Room.{GoesOn, HasRoomFor, HasRoomForAll, IsKept, KeepsRecords, Performs};
 
 use crate::hosts::HostPromise;
 use crate::tables::Tables;
@@ -295,8 +295,8 @@ impl Tables {
 
     /// Performs an effect where it stands, and causes what comes of it.
     #[tactic(auto, using(crate::proofs::Places::kept_by), unfolding(ws_steps::specs::Turns::row))]
-    #[inline(never)]
-    pub(crate) fn perform_at(&mut self, effect: &mut Effect)
+    #[inline(always)]
+    fn perform_alone(&mut self, effect: &mut Effect)
         requires quiet { self.old.caused.effects ≡ [] }
         requires room { HasRoomFor effect.old self.old }
         requires kept { IsKept self.old }
@@ -332,6 +332,70 @@ impl Tables {
             Effect::Settle(promise, outcome) => self.promises.settle(*promise, *outcome),
             Effect::Queue(micro) => self.promises.micro(*micro),
             Effect::CallHost(call, u) => self.call_host(call, u),
+        }
+    }
+
+    /// Performs the pull algorithm with the operation or call that it is.
+    fn pull(&mut self, i: StreamId)
+        requires quiet { self.old.caused.effects ≡ [] }
+        requires room { HasRoomForAll (effect.PullAlgorithm i ∷ reverse self.old.others.items) self.old }
+        requires kept { IsKept self.old }
+        ensures { GoesOn (effect.PullAlgorithm i) self.old self.new }
+    {
+        match self.owner(i) {
+            Owner::HalfOf(t) => {
+                let u = Use::React(Step::ReadablePull(i), None);
+                self.perform_transform(t, &mut TransformOperation::SourcePull(u))
+            }
+            _ => self.pull_algorithm(i),
+        }
+    }
+
+    /// Performs the write algorithm with the operation that it is.
+    fn write(&mut self, i: StreamId)
+        requires quiet { self.old.caused.effects ≡ [] }
+        requires room { HasRoomForAll (effect.WriteAlgorithm i ∷ reverse self.old.others.items) self.old }
+        requires kept { IsKept self.old }
+        ensures { GoesOn (effect.WriteAlgorithm i) self.old self.new }
+    {
+        match self.owner(i) {
+            Owner::HalfOf(t) => {
+                let u = Use::React(Step::WritableWrite(i), None);
+                self.perform_transform(t, &mut TransformOperation::SinkWrite(u))
+            }
+            Owner::Host => self.perform_writable(i, &mut WritableOperation::HandOn(Taker::ToHost)),
+            _ => self.write_algorithm(i),
+        }
+    }
+
+    /// Performs the chunk steps of a read request with the operation that they are.
+    fn hand_chunk(&mut self, i: StreamId, request: &ReadRequest, chunk: &mut Value)
+        requires quiet { self.old.caused.effects ≡ [] }
+        requires room { HasRoomForAll (effect.ChunkSteps i request.now chunk.old ∷ reverse self.old.others.items) self.old }
+        requires kept { IsKept self.old }
+        ensures { GoesOn (effect.ChunkSteps i request.now chunk.old) self.old self.new }
+    {
+        match request {
+            ReadRequest::Pipe(p) => {
+                self.perform_pipe(*p, &mut PipeOperation::KeepChunk(taken(chunk)))
+            }
+            _ => self.chunk_steps(i, request, chunk),
+        }
+    }
+
+    /// Performs an effect where it stands. Where that causes but one, of a chunk's way through a pipe, it is performed as well: to put it on the agenda and to take it from there costs as much.
+    #[inline(never)]
+    pub(crate) fn perform_at(&mut self, effect: &mut Effect)
+        requires quiet { self.old.caused.effects ≡ [] }
+        requires room { HasRoomForAll (effect.old ∷ reverse self.old.others.items) self.old }
+        requires kept { IsKept self.old }
+        ensures { GoesOn effect.old self.old self.new }
+    {
+        match effect {
+            Effect::PullAlgorithm(i) => self.pull(*i),
+            Effect::WriteAlgorithm(i) => self.write(*i),
+            Effect::ChunkSteps(i, request, chunk) => self.hand_chunk(*i, request, chunk),
+            _ => self.perform_alone(effect),
         }
     }
 }

@@ -70,7 +70,7 @@ impl Tables {
     }
 
     /// Performs an operation of the pipe of this number, where there is one.
-    pub(crate) fn perform_pipe(&mut self, p: PipeId, operation: &mut PipeOperation)
+    pub fn perform_pipe(&mut self, p: PipeId, operation: &mut PipeOperation)
         requires quiet { self.old.caused.effects ≡ [] }
         requires room { HasRoomFor (effect.Pipe p operation.old) self.old }
         requires kept { IsKept self.old }

@@ -33,7 +33,7 @@ impl Tables {
     }
 
     /// Performs an operation of the readable stream of this number, where there is one, whichever its controller is.
-    pub(crate) fn perform_readable(&mut self, i: StreamId, operation: &mut ReadableOperation)
+    pub fn perform_readable(&mut self, i: StreamId, operation: &mut ReadableOperation)
         requires quiet { self.old.caused.effects ≡ [] }
         requires room { HasRoomFor (effect.Readable i operation.old) self.old }
         requires kept { IsKept self.old }

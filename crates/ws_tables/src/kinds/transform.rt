@@ -71,7 +71,7 @@ impl Tables {
     }
 
     /// Performs an operation of the transform stream of this number, where there is one.
-    pub(crate) fn perform_transform(&mut self, t: TransformId, operation: &mut TransformOperation)
+    pub fn perform_transform(&mut self, t: TransformId, operation: &mut TransformOperation)
         requires quiet { self.old.caused.effects ≡ [] }
         requires room { HasRoomFor (effect.Transform t operation.old) self.old }
         ensures performs { Performs (effect.Transform t operation.old) self.old self.new }

@@ -42,7 +42,7 @@ impl Tables {
     }
 
     /// Performs an operation of the writable stream of this number, where there is one.
-    pub(crate) fn perform_writable(&mut self, i: StreamId, operation: &mut WritableOperation)
+    pub fn perform_writable(&mut self, i: StreamId, operation: &mut WritableOperation)
         requires quiet { self.old.caused.effects ≡ [] }
         requires room { HasRoomFor (effect.Writable i operation.old) self.old }
         requires kept { IsKept self.old }

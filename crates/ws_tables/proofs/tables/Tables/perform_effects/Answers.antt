@@ -1,7 +1,12 @@
-use Rattle.std.proofs.Common.{sym, subst}
-use Rattle.ws_tables.proofs.Loops.{only-one}
-use Rattle.ws_tables.proofs.Turns.{Turning, begins, ends, turn-room, turn-less, turn-on}
+use Rattle.std.proofs.Common.{◌∙◌, sym, subst}
+use Rattle.ws_tables.proofs.Loops.{empty, only-one}
+use Rattle.ws_tables.proofs.Turns.{Turning, begins, ends, none-caused, turn-room, turn-found, turn-less, turn-on}
 use Rattle.ws_tables.proofs.tables.Tables.perform_effects.Goals as goal
+
+pub returns-then-len-eq0 : goal.returns-then-len-eq0
+returns-then-len-eq0 c =
+    none-caused c.args.self.now (empty c.args.self.now.caused.effects (sym c.len.ensures ∙ c.if-len-eq0.true)) c.requires.others c.requires.turns.empty
+    c.requires.room c.requires.kept
 
 pub loop-self-init : goal.loop-self-init
 loop-self-init c =
@@ -16,13 +21,21 @@ perform_at-requires-clause-room c =
     turn-room c.args.self.now c.loop-self.self c.next_effect.new.self c.loop-self.under_way c.next_effect.new.under_way c.loop-self.invariant first did.rest did.places
     c.index_mut.result.now alone
 
+pub perform_at-requires-clause-kept : goal.perform_at-requires-clause-kept
+perform_at-requires-clause-kept c =
+    let did = c.next_effect.ensures in
+    let first = did.found c.loop-self-test.true in
+    let alone = only-one c.next_effect.new.under_way.items c.index_mut.result.now first.alone c.index_mut.ensures.value in
+    turn-found c.args.self.now c.loop-self.self c.next_effect.new.self c.loop-self.under_way c.next_effect.new.under_way c.loop-self.invariant first did.rest did.places
+    c.index_mut.result.now alone
+
 pub loop-self-smaller : goal.loop-self-smaller
 loop-self-smaller c =
     let did = c.next_effect.ensures in
     let first = did.found c.loop-self-test.true in
     let alone = only-one c.next_effect.new.under_way.items c.index_mut.result.now first.alone c.index_mut.ensures.value in
     turn-less c.args.self.now c.loop-self.self c.next_effect.new.self c.loop-self.under_way c.next_effect.new.under_way c.loop-self.invariant first did.rest did.places
-    c.index_mut.result.now alone c.perform_at.new.self c.perform_at.ensures.performs
+    c.index_mut.result.now alone c.perform_at.new.self c.perform_at.ensures
 
 pub loop-self-preserved : goal.loop-self-preserved
 loop-self-preserved c =
@@ -30,8 +43,8 @@ loop-self-preserved c =
     let first = did.found c.loop-self-test.true in
     let alone = only-one c.next_effect.new.under_way.items c.index_mut.result.now first.alone c.index_mut.ensures.value in
     turn-on c.args.self.now c.loop-self.self c.next_effect.new.self c.loop-self.under_way c.next_effect.new.under_way c.loop-self.invariant first did.rest did.places
-    c.index_mut.result.now alone c.perform_at.new.self c.perform_at.ensures.performs
-    c.drop_performed.new.under_way c.drop_performed.ensures.empty c.drop_performed.ensures.places c.perform_at.ensures.kept
+    c.index_mut.result.now alone c.perform_at.new.self c.perform_at.ensures
+    c.drop_performed.new.under_way c.drop_performed.ensures.empty c.drop_performed.ensures.places
 
 pub returns : goal.returns
 returns c =

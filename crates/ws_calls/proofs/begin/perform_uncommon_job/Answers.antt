@@ -7,7 +7,7 @@ use Rattle.ws_tables.specs.View.{slots_of}
 use Rattle.ws_calls.proofs.Beginning.{job-begins}
 use Rattle.ws_tables.proofs.Places.{kept_same}
 use Rattle.ws_calls.proofs.Idle.{idle-begins, not-false}
-use Rattle.ws_calls.proofs.begin.perform_job.Goals as goal
+use Rattle.ws_calls.proofs.begin.perform_uncommon_job.Goals as goal
 
 idle : (c : goal.Then-not-begin_job) → is_idle (slots_of c.args.tables.now) ≡ true
 idle c = not-false (is_idle (slots_of c.args.tables.now)) (sym c.if-not-begin_job.true ∙ c.begin_job.ensures.worked)

@@ -1,0 +1,34 @@
+-- The one effect of a job that each chunk meets on its way through a pipe.
+use Rattle.std.specs.Prelude.{◌≡◌, false, Ok}
+use Rattle.ws_value.specs.declared.value.Plain.TheVariants.{Undefined}
+use Rattle.ws_steps.specs.declared.effects.Effect.{Effect}
+use Rattle.ws_steps.specs.declared.effects.Effect.TheVariants.{Readable, Writable, Pipe, Transform, Settle}
+use Rattle.ws_steps.specs.declared.pipes.PipeOperation.TheVariants.{WriteChunk, LookReady, WriteEnded}
+use Rattle.ws_steps.specs.declared.readable.ReadableOperation.TheVariants.{PullSettled}
+use Rattle.ws_steps.specs.declared.transform.TransformOperation.TheVariants.{WriteGoesOn as TransformGoesOn}
+use Rattle.ws_steps.specs.declared.writable.WritableOperation.TheVariants.{WriteSettled}
+use Rattle.ws_steps.specs.Jobs.{begin_job}
+use Rattle.ws_steps.specs.Run.{is_idle}
+use Rattle.ws_steps.specs.Slots.{causes}
+use Rattle.ws_steps.specs.Turns.{performed}
+use Rattle.ws_tables.specs.View.{slots_of}
+use Rattle.ws_tables.specs.declared.tables.Tables.{Tables}
+use Rattle.ws_calls.specs.declared.first.First.{First}
+use Rattle.ws_calls.specs.declared.first.First.TheVariants.{Pulled, Wrote, PipeWrites, PipeReady, PipeWrote, WriteGoesOn, Fulfils}
+use Rattle.ws_calls.specs.Begin.{IsBegun}
+
+abbrev pub effect_of : First → Effect
+effect_of (Pulled i) = Readable i (PullSettled (Ok Undefined))
+effect_of (Wrote i) = Writable i (WriteSettled (Ok Undefined))
+effect_of (PipeWrites p) = Pipe p WriteChunk
+effect_of (PipeReady p) = Pipe p LookReady
+effect_of (PipeWrote p) = Pipe p WriteEnded
+effect_of (WriteGoesOn t d) = Transform t (TransformGoesOn d)
+effect_of (Fulfils p) = Settle p (Ok Undefined)
+
+-- the first job was taken out of the queue and its first effect performed: what is caused makes of the slots what the job makes, and there
+-- are places for it
+pub record Began (t t' : Tables) : Type 0 where
+  pub begun : IsBegun t'
+  pub slots : performed (causes t'.caused.effects (slots_of t')) ≡ performed (begin_job (slots_of t))
+  pub busy : is_idle (slots_of t) ≡ false

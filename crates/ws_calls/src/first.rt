@@ -1,0 +1,195 @@
+//! The jobs that each chunk meets on its way through a pipe. Each has one effect, which is performed at once: to put it
+//! on the agenda and to take it from there costs as much as most effects do.
+ghost use Rattle.std.specs.Prelude.{◌≡◌, [], ◌∷◌, Ok, IfSome, true, false};
+ghost use Rattle.ws_value.specs.declared.value.Plain.TheVariants.{Undefined};
+ghost use Rattle.ws_steps.specs.Jobs.{job_effects, steps};
+ghost use Rattle.ws_tables.specs.Room.{HasRoomFor, IsKept, IsPrepared, IsResting, Performs};
+ghost use Rattle.ws_calls.specs.First.{Began, effect_of};
+ghost use Rattle.ws_calls.specs.declared.first.First.TheVariants as first;
+
+use ws_steps::{
+    Job, Micro, PipeOperation, ReadableOperation, Step, TransformId, TransformOperation,
+    WritableOperation,
+};
+use ws_tables::Tables;
+use ws_value::{PipeId, Plain, PromiseId, StreamId};
+
+/// The one effect of such a job.
+#[derive(Clone, Copy)]
+pub(crate) enum First {
+    /// The pull algorithm of a readable stream has ended.
+    Pulled(StreamId),
+    /// The write algorithm of a writable stream has ended.
+    Wrote(StreamId),
+    /// A pipe writes the chunk that it holds.
+    PipeWrites(PipeId),
+    /// The writer of a pipe has become ready.
+    PipeReady(PipeId),
+    /// A write of a pipe has settled.
+    PipeWrote(PipeId),
+    /// A write of a transform stream waits for its backpressure no longer.
+    WriteGoesOn(TransformId, PromiseId),
+    /// A promise is fulfilled with undefined.
+    Fulfils(PromiseId),
+}
+
+/// What the reaction of this step to a promise that was fulfilled with undefined performs, without a derived promise.
+#[inline(always)]
+fn first_of_step(step: &Step) -> Option<First>
+    ensures { IfSome result (λ first. steps step.now (Ok Undefined) ≡ effect_of first ∷ []) }
+{
+    match step {
+        Step::ReadablePull(i) => Some(First::Pulled(*i)),
+        Step::WritableWrite(i) => Some(First::Wrote(*i)),
+        Step::PipeReady(p) => Some(First::PipeReady(*p)),
+        Step::PipeWrote(p) => Some(First::PipeWrote(*p)),
+        Step::TransformChanged(t, promise) => Some(First::WriteGoesOn(*t, *promise)),
+        _ => None,
+    }
+}
+
+/// The one effect of a job, where it is such a job.
+#[inline(always)]
+fn first_of(job: &Job) -> Option<First>
+    ensures { IfSome result (λ first. job_effects job.now ≡ effect_of first ∷ []) }
+{
+    match job {
+        Job::Reaction {
+            step,
+            outcome: Ok(Plain::Undefined),
+            derived: None,
+        } => first_of_step(step),
+        Job::Reaction {
+            step: Step::Transformed(_),
+            outcome: Ok(Plain::Undefined),
+            derived: Some(promise),
+        } => Some(First::Fulfils(*promise)),
+        Job::Settle {
+            p,
+            outcome: Ok(Plain::Undefined),
+        } => Some(First::Fulfils(*p)),
+        Job::Micro(Micro::PipeWrite(p)) => Some(First::PipeWrites(*p)),
+        _ => None,
+    }
+}
+
+/// The pull algorithm of a readable stream has ended.
+fn pulled(tables: &mut Tables, i: StreamId)
+    requires quiet { tables.old.caused.effects ≡ [] }
+    requires room { HasRoomFor (effect_of (first.Pulled i)) tables.old }
+    requires kept { IsKept tables.old }
+    ensures performs { Performs (effect_of (first.Pulled i)) tables.old tables.new }
+    ensures kept { IsKept tables.new }
+{
+    let mut operation = ReadableOperation::PullSettled(Ok(Plain::Undefined));
+    tables.perform_readable(i, &mut operation);
+}
+
+/// The write algorithm of a writable stream has ended.
+fn wrote(tables: &mut Tables, i: StreamId)
+    requires quiet { tables.old.caused.effects ≡ [] }
+    requires room { HasRoomFor (effect_of (first.Wrote i)) tables.old }
+    requires kept { IsKept tables.old }
+    ensures performs { Performs (effect_of (first.Wrote i)) tables.old tables.new }
+    ensures kept { IsKept tables.new }
+{
+    let mut operation = WritableOperation::WriteSettled(Ok(Plain::Undefined));
+    tables.perform_writable(i, &mut operation);
+}
+
+/// A pipe writes the chunk that it holds.
+fn pipe_writes(tables: &mut Tables, p: PipeId)
+    requires quiet { tables.old.caused.effects ≡ [] }
+    requires room { HasRoomFor (effect_of (first.PipeWrites p)) tables.old }
+    requires kept { IsKept tables.old }
+    ensures performs { Performs (effect_of (first.PipeWrites p)) tables.old tables.new }
+    ensures kept { IsKept tables.new }
+{
+    let mut operation = PipeOperation::WriteChunk;
+    tables.perform_pipe(p, &mut operation);
+}
+
+/// The writer of a pipe has become ready.
+fn pipe_ready(tables: &mut Tables, p: PipeId)
+    requires quiet { tables.old.caused.effects ≡ [] }
+    requires room { HasRoomFor (effect_of (first.PipeReady p)) tables.old }
+    requires kept { IsKept tables.old }
+    ensures performs { Performs (effect_of (first.PipeReady p)) tables.old tables.new }
+    ensures kept { IsKept tables.new }
+{
+    let mut operation = PipeOperation::LookReady;
+    tables.perform_pipe(p, &mut operation);
+}
+
+/// A write of a pipe has settled.
+fn pipe_wrote(tables: &mut Tables, p: PipeId)
+    requires quiet { tables.old.caused.effects ≡ [] }
+    requires room { HasRoomFor (effect_of (first.PipeWrote p)) tables.old }
+    requires kept { IsKept tables.old }
+    ensures performs { Performs (effect_of (first.PipeWrote p)) tables.old tables.new }
+    ensures kept { IsKept tables.new }
+{
+    let mut operation = PipeOperation::WriteEnded;
+    tables.perform_pipe(p, &mut operation);
+}
+
+/// A write of a transform stream waits for its backpressure no longer.
+fn write_goes_on(tables: &mut Tables, t: TransformId, promise: PromiseId)
+    requires quiet { tables.old.caused.effects ≡ [] }
+    requires room { HasRoomFor (effect_of (first.WriteGoesOn t promise)) tables.old }
+    requires kept { IsKept tables.old }
+    ensures performs { Performs (effect_of (first.WriteGoesOn t promise)) tables.old tables.new }
+    ensures kept { IsKept tables.new }
+{
+    let mut operation = TransformOperation::WriteGoesOn(promise);
+    tables.perform_transform(t, &mut operation);
+}
+
+/// Fulfils a promise with undefined.
+#[tactic(auto, unfolding(ws_steps::specs::Turns::row))]
+fn fulfils(tables: &mut Tables, promise: PromiseId)
+    requires quiet { tables.old.caused.effects ≡ [] }
+    requires kept { IsKept tables.old }
+    ensures performs { Performs (effect_of (first.Fulfils promise)) tables.old tables.new }
+    ensures kept { IsKept tables.new }
+{
+    tables.promises.fulfil(promise, Plain::Undefined);
+}
+
+/// Performs such an effect. Each stands in a function of its own, since each local of a function costs at its entry.
+fn perform(tables: &mut Tables, first: First)
+    requires quiet { tables.old.caused.effects ≡ [] }
+    requires room { HasRoomFor (effect_of first) tables.old }
+    requires kept { IsKept tables.old }
+    ensures performs { Performs (effect_of first) tables.old tables.new }
+    ensures kept { IsKept tables.new }
+{
+    match first {
+        First::Pulled(i) => pulled(tables, i),
+        First::Wrote(i) => wrote(tables, i),
+        First::PipeWrites(p) => pipe_writes(tables, p),
+        First::PipeReady(p) => pipe_ready(tables, p),
+        First::PipeWrote(p) => pipe_wrote(tables, p),
+        First::WriteGoesOn(t, promise) => write_goes_on(tables, t, promise),
+        First::Fulfils(promise) => fulfils(tables, promise),
+    }
+}
+
+/// Takes the first job out of the queue and performs its one effect, where it is such a job. False says that nothing was
+/// done.
+pub(crate) fn begin_first(tables: &mut Tables) -> bool
+    requires prepared { IsPrepared tables.old }
+    requires resting { IsResting tables.old }
+    ensures began { result ≡ true → Began tables.old tables.new }
+    ensures untouched { result ≡ false → tables.new ≡ tables.old }
+{
+    let Some(job) = tables.promises.first_job() else {
+        return false;
+    };
+    let Some(first) = first_of(job) else {
+        return false;
+    };
+    tables.promises.drop_first_job();
+    perform(tables, first);
+    true
+}
