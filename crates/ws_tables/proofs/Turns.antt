@@ -369,14 +369,3 @@ ends t s z v w none out turning =
       age = ap (λ (x : Slots). x.age) same ∙ performed-age (causes t.caused.effects (slots_of t));
       events = let h = was.room.events in rw (out.promises) (omega (arith, h));
     }
-
--- nothing was caused, and nothing is performed
-pub none-caused : (t : Tables) → t.caused.effects ≡ [] → t.others.items ≡ [] → t.under_way.items ≡ [] → HasRoomForAll t.caused.effects t → IsKept t
-    → PerformsAll t t
-none-caused t none others under_way room kept =
-    record {
-      slots = sym (performed_none (slots_of t)) ∙ ap (λ es. performed (causes es (slots_of t))) (sym none);
-      resting = record { caused = none; others = others; under_way = under_way; kept = kept };
-      age = refl;
-      events = let h = room.events in omega (arith, h);
-    }

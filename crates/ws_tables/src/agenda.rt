@@ -63,9 +63,6 @@ impl Tables {
         requires kept { IsKept self.old }
         ensures { PerformsAll self.old self.new }
     {
-        if self.caused.len() == 0 {
-            return;
-        }
         let mut under_way = replace(&mut self.under_way, Vec::new(self.alloc));
         while self.next_effect(&mut under_way) {
             self.perform_at(&mut under_way[0]);

@@ -1,12 +1,7 @@
-use Rattle.std.proofs.Common.{◌∙◌, sym, subst}
-use Rattle.ws_tables.proofs.Loops.{empty, only-one}
-use Rattle.ws_tables.proofs.Turns.{Turning, begins, ends, none-caused, turn-room, turn-found, turn-less, turn-on}
+use Rattle.std.proofs.Common.{sym, subst}
+use Rattle.ws_tables.proofs.Loops.{only-one}
+use Rattle.ws_tables.proofs.Turns.{Turning, begins, ends, turn-room, turn-found, turn-less, turn-on}
 use Rattle.ws_tables.proofs.tables.Tables.perform_effects.Goals as goal
-
-pub returns-then-len-eq0 : goal.returns-then-len-eq0
-returns-then-len-eq0 c =
-    none-caused c.args.self.now (empty c.args.self.now.caused.effects (sym c.len.ensures ∙ c.if-len-eq0.true)) c.requires.others c.requires.turns.empty
-    c.requires.room c.requires.kept
 
 pub loop-self-init : goal.loop-self-init
 loop-self-init c =
