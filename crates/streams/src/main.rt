@@ -3,17 +3,19 @@
 
 use std::process::ExitCode;
 use ws_cli::process;
-use ws_io::{OpenGate, StdArguments, StdFiles, StdSink, StdSource};
+use ws_io::{HeldOutput, OpenGate, StdArguments, StdFiles, StdSink, StdSource};
 
 fn main(rt: HostRuntime) -> ExitCode {
-    process(
+    let output = HeldOutput::over(rt.alloc(), rt.stdout());
+    let ended = process(
         &rt,
         rt.alloc(),
         &StdArguments::over(&rt),
         &mut StdFiles::over(&rt),
-        &mut StdSource::over(rt.stdin()),
-        &mut StdSink::over(rt.stdout()),
-        &mut StdSink::over(rt.stderr()),
+        &mut StdSource::over(output.before(rt.stdin())),
+        &mut StdSink::over(&output),
+        &mut StdSink::over(output.before(rt.stderr())),
         &OpenGate,
-    )
+    );
+    output.end(ended, &mut StdSink::over(rt.stderr()))
 }

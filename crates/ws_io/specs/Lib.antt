@@ -2,6 +2,7 @@ pub mod Arguments
 pub mod Faults
 pub mod Feed
 pub mod Gain
+pub mod Held
 pub mod Moment
 pub mod Memory
 pub mod Files

@@ -3,6 +3,7 @@
 
 mod arguments;
 mod files;
+mod held;
 mod mem_files;
 mod mem_sink;
 mod mem_source;
@@ -19,6 +20,7 @@ mod whole;
 
 pub use arguments::{Arguments, ArgumentsRefused};
 pub use files::{Files, LoadRefused};
+pub use held::{AfterOutput, HeldOutput};
 pub use mem_files::MemFiles;
 pub use mem_sink::MemSink;
 pub use mem_source::MemSource;

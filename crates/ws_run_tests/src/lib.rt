@@ -1,4 +1,4 @@
-//! Tests of `run` and of the words: what the contracts leave open, and that they say what was meant; of the adapters over std; and of the values that every command moves.
+//! Tests of `run` and of the words: what the contracts leave open, and that they say what was meant; of the adapters over std and the output held back; and of the values that every command moves.
 #![tactic(auto)]
 
 #[cfg(test)]
@@ -7,6 +7,8 @@ mod cases;
 mod copying;
 #[cfg(test)]
 mod files;
+#[cfg(test)]
+mod held;
 #[cfg(test)]
 mod limits;
 #[cfg(test)]
