@@ -1,5 +1,6 @@
+pub mod Answered
+pub mod AtOnce
 pub mod Beginning
-pub mod First
 pub mod Idle
 pub mod Looking
 pub mod Made

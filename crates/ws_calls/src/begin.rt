@@ -10,8 +10,9 @@ ghost use Rattle.ws_calls.specs.Begin.{Answers, CanBegin, CanMake, IsSameBeside}
 
 use crate::first::begin_first;
 use crate::jobs::begin_job;
+use crate::settled::settle_done;
 use crate::{byob, controllers, locks, pipes, ports, readers, streams, tees, transforms, writers};
-use ws_steps::{Call, Reply};
+use ws_steps::{Answer, Call, Reply};
 use ws_tables::Tables;
 
 #[tactic(auto, unfolding(ws_steps::specs::Calls::begin))]
@@ -107,8 +108,9 @@ fn name(tables: &mut Tables, reply: Reply)
     }
 }
 
-/// Performs a call with all that comes of it, in the places that there are.
-pub fn perform_call(tables: &mut Tables, call: Call) -> Reply
+/// Performs a call with all that comes of it, by way of the agenda.
+#[inline(never)]
+fn perform_uncommon_call(tables: &mut Tables, call: Call) -> Reply
     requires prepared { IsPrepared tables.old }
     requires resting { IsResting tables.old }
     requires young { tables.old.age < 2 ^ 62 }
@@ -122,6 +124,22 @@ pub fn perform_call(tables: &mut Tables, call: Call) -> Reply
     name(tables, reply);
     tables.age += 1;
     reply
+}
+
+/// Performs a call with all that comes of it, in the places that there are.
+pub fn perform_call(tables: &mut Tables, call: Call) -> Reply
+    requires prepared { IsPrepared tables.old }
+    requires resting { IsResting tables.old }
+    requires young { tables.old.age < 2 ^ 62 }
+    ensures reply { result ≡ run.reply_to call (slots_of tables.old) }
+    ensures slots { slots_of tables.new ≡ run.after_call call (slots_of tables.old) }
+    ensures resting { IsResting tables.new }
+    ensures age { tables.new.age ≡ tables.old.age + 1 }
+{
+    match call {
+        Call::Settle(h, Answer::Ok) => settle_done(tables, h),
+        _ => perform_uncommon_call(tables, call),
+    }
 }
 
 /// Performs the first job with all that comes of it, where one is queued, by way of the agenda.

@@ -1,5 +1,5 @@
 -- The one effect of a job is performed at once: there are places for it and for all that comes of it.
-use Rattle.std.proofs.Common.{◌≡◌, ◌∙◌, ◌×◌, true, false, List, [], ◌∷◌, ◌++◌, Option, Some, None, refl, sym, ap, subst}
+use Rattle.std.proofs.Common.{◌≡◌, ◌∙◌, true, false, List, [], ◌∷◌, ◌++◌, Option, Some, None, refl, sym, ap, subst}
 use Rattle.std.specs.Prelude.{vec_capacity}
 use Rattle.std.proofs.lemmas.List.{append-nil}
 use Rattle.ws_steps.specs.declared.effects.Effect.{Effect}

@@ -4,7 +4,7 @@ use Rattle.ws_steps.specs.Slots.{Slots}
 use Rattle.ws_tables.specs.View.{stream_of, tee_of}
 use Rattle.ws_laws.proofs.Ages.{begin-age}
 use Rattle.ws_calls.proofs.Beginning.{call-begins}
-use Rattle.ws_calls.proofs.begin.perform_call.Goals as goal
+use Rattle.ws_calls.proofs.begin.perform_uncommon_call.Goals as goal
 
 pub begin-reply-requires-clause-room : goal.begin-reply-requires-clause-room
 begin-reply-requires-clause-room c =
