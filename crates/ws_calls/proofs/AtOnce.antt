@@ -1,5 +1,5 @@
 -- The one effect of a job is performed at once: there are places for it and for all that comes of it.
-use Rattle.std.proofs.Common.{◌≡◌, ◌∙◌, true, false, List, [], ◌∷◌, ◌++◌, Option, Some, None, refl, sym, ap, subst}
+use Rattle.std.proofs.Common.{◌≡◌, ◌∙◌, true, false, List, [], ◌∷◌, ◌++◌, Option, Some, None, refl, sym, ap, subst, arith}
 use Rattle.std.specs.Prelude.{vec_capacity}
 use Rattle.std.proofs.lemmas.List.{append-nil}
 use Rattle.ws_steps.specs.declared.effects.Effect.{Effect}
@@ -9,9 +9,9 @@ use Rattle.ws_steps.specs.Promises.{Table, next_job, first_job, after_next_job}
 use Rattle.ws_steps.specs.Queues.{is_empty}
 use Rattle.ws_steps.specs.Slots.{Slots, Done, causes}
 use Rattle.ws_steps.specs.Turns.{row, performed}
-use Rattle.ws_room_laws.proofs.Turns.{performed_next}
+use Rattle.ws_room_laws.proofs.Turns.{performed_next, performed_none}
 use Rattle.ws_tables.specs.View.{slots_of}
-use Rattle.ws_tables.specs.Room.{Places, AreEnough, CanTurn, HasRoomFor, HasRoomForAll, IsKept, IsPrepared, IsResting, Performs}
+use Rattle.ws_tables.specs.Room.{Places, AreEnough, CanTurn, HasRoomFor, HasRoomForAll, IsKept, IsPrepared, IsResting, Performs, PerformsAll}
 use Rattle.ws_tables.specs.declared.tables.Tables.{Tables}
 use Rattle.ws_tables.proofs.Places.{kept_same}
 use Rattle.ws_tables.proofs.Turns.{room-for, next-room, next-turns}
@@ -116,3 +116,13 @@ module _ (t : Tables) (ready : IsPrepared t) (rest : IsResting t) (job : Job) (e
             ∙ (sym (performed_next s e []) ∙ ap performed (sym (begins-with t job e there one)))));
         busy = first-busy t.promises.table.jobs job there;
       }
+
+-- nothing was caused, and nothing is left to perform
+pub none-caused : (t : Tables) → IsBegun t → t.caused.effects ≡ [] → PerformsAll t t
+none-caused t begun none =
+    record {
+      slots = sym (performed_none (slots_of t)) ∙ ap (λ es. performed (causes es (slots_of t))) (sym none);
+      resting = record { caused = none; others = begun.others; under_way = begun.turns.empty; kept = begun.kept };
+      age = refl;
+      events = let h = begun.room.events in omega (arith, h);
+    }

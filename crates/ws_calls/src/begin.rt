@@ -4,9 +4,9 @@ ghost use Rattle.ws_promise.specs.Seen.{HasEventRoom};
 ghost use Rattle.ws_steps.specs.Calls as calls;
 ghost use Rattle.ws_steps.specs.Run as run;
 ghost use Rattle.ws_steps.specs.declared.calls.Call.TheVariants as call;
-ghost use Rattle.ws_tables.specs.Room.{IsPrepared, IsResting};
+ghost use Rattle.ws_tables.specs.Room.{IsPrepared, IsResting, PerformsAll};
 ghost use Rattle.ws_tables.specs.View.{slots_of};
-ghost use Rattle.ws_calls.specs.Begin.{Answers, CanBegin, CanMake, IsSameBeside};
+ghost use Rattle.ws_calls.specs.Begin.{Answers, CanBegin, CanMake, IsBegun, IsSameBeside};
 
 use crate::first::begin_first;
 use crate::jobs::begin_job;
@@ -162,6 +162,17 @@ fn perform_uncommon_job(tables: &mut Tables) -> bool
     true
 }
 
+/// Performs what was caused, with all that comes of it. Mostly that is nothing where a promise was fulfilled.
+fn perform_caused(tables: &mut Tables)
+    requires { IsBegun tables.old }
+    ensures { PerformsAll tables.old tables.new }
+{
+    if tables.caused.len() == 0 {
+        return;
+    }
+    tables.perform_effects();
+}
+
 /// Performs the first job with all that comes of it, where one is queued, in the places that there are.
 pub fn perform_job(tables: &mut Tables) -> bool
     requires prepared { IsPrepared tables.old }
@@ -176,7 +187,7 @@ pub fn perform_job(tables: &mut Tables) -> bool
     if !begin_first(tables) {
         return perform_uncommon_job(tables);
     }
-    tables.perform_effects();
+    perform_caused(tables);
     tables.age += 1;
     true
 }

@@ -8,11 +8,11 @@ use Rattle.ws_calls.proofs.begin.perform_job.Goals as goal
 pub overflow_add-tables : goal.overflow_add-tables
 overflow_add-tables c =
     let old = slots_of c.args.tables.now in
-    let same = ap (λ (s : Slots). s.age) (c.perform_effects.ensures.slots ∙ (c.begin_first.ensures.began c.if-not-begin_first.false).slots) ∙ (performed-age (begin_job old) ∙ begin_job-age old) in
+    let same = ap (λ (s : Slots). s.age) (c.perform_caused.ensures.slots ∙ (c.begin_first.ensures.began c.if-not-begin_first.false).slots) ∙ (performed-age (begin_job old) ∙ begin_job-age old) in
     omega (arith, same, c.requires.young)
 
 pub returns-clause-age : goal.returns-clause-age
 returns-clause-age c =
     let old = slots_of c.args.tables.now in
-    let same = ap (λ (s : Slots). s.age) (c.perform_effects.ensures.slots ∙ (c.begin_first.ensures.began c.if-not-begin_first.false).slots) ∙ (performed-age (begin_job old) ∙ begin_job-age old) in
+    let same = ap (λ (s : Slots). s.age) (c.perform_caused.ensures.slots ∙ (c.begin_first.ensures.began c.if-not-begin_first.false).slots) ∙ (performed-age (begin_job old) ∙ begin_job-age old) in
     omega (arith, same)
