@@ -12,7 +12,7 @@ fn main(rt: HostRuntime) -> ExitCode {
         rt.alloc(),
         &StdArguments::over(&rt),
         &mut StdFiles::over(&rt),
-        &mut StdSource::over(output.before(rt.stdin())),
+        &mut StdSource::over(output.input(rt.alloc(), rt.stdin())),
         &mut StdSink::over(&output),
         &mut StdSink::over(output.before(rt.stderr())),
         &OpenGate,

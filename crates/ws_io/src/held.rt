@@ -1,7 +1,7 @@
-//! The output of a process held back: what it takes goes out once its buffer is full, once it is flushed, and before the process reads or writes anything else. So many small writes are one call of the system.
+//! The output of a process held back: what it takes goes out once its buffer is full, once it is flushed, and before the process reads or writes anything else. So many small writes are one call of the system, and so are many small reads of its input.
 ghost use Rattle.std.specs.Prelude.{◌≡◌, ◌⊎◌, [], OnOk};
 ghost use Rattle.std.specs.Io.{WritesAtMost};
-ghost use Rattle.std.specs.Io.Buffered.{writer_buffer, writer_contents, writer_capacity};
+ghost use Rattle.std.specs.Io.Buffered.{reader_buffer, reader_inner, writer_buffer, writer_contents, writer_capacity};
 ghost use Rattle.std.specs.Io.KnownBytes.{Keeps, WriteAppends};
 ghost use Rattle.std.specs.Process.{exit_status};
 ghost use Rattle.ws_io.specs.Gain.{KeepsTold};
@@ -11,8 +11,22 @@ use crate::std_source::REPEATS;
 use crate::{Sink, Status};
 use std::alloc::Global;
 use std::cell::RefCell;
-use std::io::{BufWriter, Error, ErrorKind, Read, Result, Write};
+use std::io::{BufReader, BufWriter, Error, ErrorKind, Read, Result, Write};
 use std::process::ExitCode;
+
+/// The room of each buffer. A pipe of Linux has as much.
+const ROOM: usize = 65_536;
+
+/// A reader that reads nothing ahead, for which no memory is taken.
+fn unbuffered<R: Read + Drop>(alloc: Global, inner: R) -> BufReader<R, Global>
+    ensures over { reader_inner result ≡ inner }
+    ensures unread { reader_buffer result ≡ [] }
+{
+    let Ok(reader) = BufReader::with_capacity(alloc, 0, inner) else {
+        unreachable!()
+    };
+    reader
+}
 
 /// A writer that holds nothing back, for which no memory is taken.
 fn straight<W: Write + Drop>(alloc: Global, inner: W) -> BufWriter<W, Global>
@@ -92,7 +106,7 @@ pub struct HeldOutput<W: Write + Drop>(RefCell<Holding<W>>);
 impl<W: Write + Copy> HeldOutput<W> {
     /// This writer, held back. Where there is no memory for the buffer, each write goes straight through.
     pub fn over(alloc: Global, inner: W) -> HeldOutput<W> {
-        let writer = match BufWriter::new(alloc, inner) {
+        let writer = match BufWriter::with_capacity(alloc, ROOM, inner) {
             Ok(writer) => writer,
             Err(_) => straight(alloc, inner),
         };
@@ -105,10 +119,27 @@ impl<W: Write + Copy> HeldOutput<W> {
 
 impl<W: Write + Drop> HeldOutput<W> {
     /// A reader or a writer of the same process, before each call of which all that is held goes out. Where that fails, so does the call.
-    pub fn before<T>(&self, inner: T) -> AfterOutput<'_, T, W> {
+    pub fn before<T>(&self, inner: T) -> AfterOutput<'_, T, W>
+        ensures { result.inner ≡ inner }
+    {
         AfterOutput {
             inner,
             output: self,
+        }
+    }
+
+    /// The input of the same process. It reads ahead as much as its buffer has room for, and before each such read all that is held goes out. Where there is no memory for the buffer, it reads nothing ahead.
+    pub fn input<R: Read + Copy>(
+        &self,
+        alloc: Global,
+        inner: R,
+    ) -> BufReader<AfterOutput<'_, R, W>, Global>
+        ensures over { (reader_inner result).inner ≡ inner }
+        ensures unread { reader_buffer result ≡ [] }
+    {
+        match BufReader::with_capacity(alloc, ROOM, self.before(inner)) {
+            Ok(reader) => reader,
+            Err(_) => unbuffered(alloc, self.before(inner)),
         }
     }
 

@@ -1,6 +1,6 @@
 //! The output held back, over a device that takes one byte a call and may be full, of which some calls are interrupted.
 use std::cell::Cell;
-use std::io::{self, ErrorKind, Write};
+use std::io::{self, ErrorKind, Read, Write};
 use std::process::ExitCode;
 use std::test::Fail;
 use ws_io::{HeldOutput, MemSink, Sink, Source, StdSink, StdSource};
@@ -35,6 +35,25 @@ impl Write for Device<'_> {
     }
 }
 
+/// Input that has these bytes for its first read and none for a later one, and counts its reads.
+#[derive(Clone, Copy)]
+struct Typed<'a> {
+    bytes: &'a [u8; 4],
+    reads: &'a Cell<u32>,
+}
+
+impl Read for Typed<'_> {
+    fn read(&mut self, room: &mut [u8]) -> io::Result<usize> {
+        let before = self.reads.get();
+        self.reads.set(before.saturating_add(1));
+        if before > 0 || room.len() < self.bytes.len() {
+            return Ok(0);
+        }
+        room[..4].copy_from_slice(self.bytes);
+        Ok(4)
+    }
+}
+
 /// What was taken goes out before a read, before a note and at the end, and no byte twice.
 #[test]
 fn held_bytes_go_out(rt: HostRuntime) -> Result<(), Fail> {
@@ -51,7 +70,9 @@ fn held_bytes_go_out(rt: HostRuntime) -> Result<(), Fail> {
         let mut room = [0u8; 4];
         assert!(rt; StdSink::over(&output).write(b"some") == Ok(4));
         assert!(rt; taken.get() == 0);
-        assert!(rt; StdSource::over(output.before(io::empty())).read(&mut room) == Ok(0));
+        assert!(rt;
+            StdSource::over(output.input(rt.alloc(), io::empty())).read(&mut room) == Ok(0)
+        );
         assert!(rt; taken.get() == 4);
         assert!(rt; StdSink::over(&output).write(b" byt") == Ok(4));
         assert!(rt; StdSink::over(output.before(io::sink())).write(b"note") == Ok(4));
@@ -62,6 +83,39 @@ fn held_bytes_go_out(rt: HostRuntime) -> Result<(), Fail> {
         assert!(rt; code == ExitCode::from(6) && notes.got().is_empty());
         assert!(rt; taken.get() == 10);
     }
+    Ok(())
+}
+
+/// Bytes that were read ahead are given without a read, and without a write of what was taken.
+#[test]
+fn the_input_is_read_ahead(rt: HostRuntime) -> Result<(), Fail> {
+    let (taken, interrupted, reads) = (Cell::new(0), Cell::new(0), Cell::new(0));
+    let output = HeldOutput::over(
+        rt.alloc(),
+        Device {
+            taken: &taken,
+            most: 10,
+            interrupted: &interrupted,
+        },
+    );
+    let mut source = StdSource::over(output.input(
+        rt.alloc(),
+        Typed {
+            bytes: b"abcd",
+            reads: &reads,
+        },
+    ));
+    let mut room = [0u8; 3];
+    assert!(rt; StdSink::over(&output).write(b"some") == Ok(4));
+    assert!(rt; source.read(&mut room) == Ok(3) && &room == b"abc");
+    assert!(rt; taken.get() == 4 && reads.get() == 1);
+    assert!(rt; StdSink::over(&output).write(b" byt") == Ok(4));
+    assert!(rt; source.read(&mut room) == Ok(1) && room[0] == b'd');
+    assert!(rt; taken.get() == 4 && reads.get() == 1);
+    assert!(rt; source.read(&mut room) == Ok(0));
+    assert!(rt; taken.get() == 8 && reads.get() == 2);
+    let mut notes = MemSink::make(rt.alloc(), 20, &[20], &[], &[])?;
+    assert!(rt; output.end(ExitCode::from(0), &mut notes) == ExitCode::from(0));
     Ok(())
 }
 
@@ -80,7 +134,7 @@ fn a_full_device_is_a_write_fault(rt: HostRuntime) -> Result<(), Fail> {
     let mut room = [0u8; 4];
     assert!(rt; StdSink::over(&output).write(TEXT) == Ok(10));
     assert!(rt;
-        StdSource::over(output.before(io::empty()))
+        StdSource::over(output.input(rt.alloc(), io::empty()))
             .read(&mut room)
             .is_err()
     );
