@@ -49,7 +49,8 @@ impl Read for Typed<'_> {
         if before > 0 || room.len() < self.bytes.len() {
             return Ok(0);
         }
-        room[..4].copy_from_slice(self.bytes);
+        let bytes = self.bytes;
+        room[..4].copy_from_slice(bytes);
         Ok(4)
     }
 }
@@ -114,6 +115,7 @@ fn the_input_is_read_ahead(rt: HostRuntime) -> Result<(), Fail> {
     assert!(rt; taken.get() == 4 && reads.get() == 1);
     assert!(rt; source.read(&mut room) == Ok(0));
     assert!(rt; taken.get() == 8 && reads.get() == 2);
+    drop(source);
     let mut notes = MemSink::make(rt.alloc(), 20, &[20], &[], &[])?;
     assert!(rt; output.end(ExitCode::from(0), &mut notes) == ExitCode::from(0));
     Ok(())
