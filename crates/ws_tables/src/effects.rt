@@ -335,7 +335,7 @@ impl Tables {
         }
     }
 
-    /// Performs the pull algorithm with the operation or call that it is.
+    /// Performs the pull algorithm; that of a transform stream with the operation that it is.
     fn pull(&mut self, i: StreamId)
         requires quiet { self.old.caused.effects ≡ [] }
         requires room { HasRoomForAll (effect.PullAlgorithm i ∷ reverse self.old.others.items) self.old }
@@ -351,7 +351,7 @@ impl Tables {
         }
     }
 
-    /// Performs the write algorithm with the operation that it is.
+    /// Performs the write algorithm; that of a transform stream or of the host with the operation that it is.
     fn write(&mut self, i: StreamId)
         requires quiet { self.old.caused.effects ≡ [] }
         requires room { HasRoomForAll (effect.WriteAlgorithm i ∷ reverse self.old.others.items) self.old }
@@ -368,7 +368,7 @@ impl Tables {
         }
     }
 
-    /// Performs the chunk steps of a read request with the operation that they are.
+    /// Performs the chunk steps of a read request; those of a pipe's with the operation that they are.
     fn hand_chunk(&mut self, i: StreamId, request: &ReadRequest, chunk: &mut Value)
         requires quiet { self.old.caused.effects ≡ [] }
         requires room { HasRoomForAll (effect.ChunkSteps i request.now chunk.old ∷ reverse self.old.others.items) self.old }
