@@ -1,3 +1,2 @@
 pub mod Begin
 pub mod First
-pub mod Reactions

@@ -1,11 +1,10 @@
 //! What a job begins with.
-ghost use Rattle.std.specs.Prelude.{◌≡◌, ◌≤◌, ◌+◌, ◌++◌, [], Ok, Result, false, not, length};
+ghost use Rattle.std.specs.Prelude.{◌≡◌, ◌≤◌, ◌+◌, ◌++◌, [], not, length};
 ghost use Rattle.ws_promise.specs.Seen.{HasEffectRoom};
 ghost use Rattle.ws_steps.specs.Jobs as jobs;
 ghost use Rattle.ws_steps.specs.Run.{is_idle};
 ghost use Rattle.ws_tables.specs.View.{slots_of};
 ghost use Rattle.ws_calls.specs.Begin.{Begins};
-ghost use Rattle.ws_calls.specs.Reactions.{is_common};
 
 use ws_promise::Agenda;
 use ws_steps::{
@@ -45,12 +44,9 @@ fn returned(step: &Step, outcome: &Result<Plain, Plain>) -> Result<Plain, Plain>
     }
 }
 
-/// Causes the steps of a reaction that no chunk meets on its way through a pipe.
-#[cold]
-#[inline(never)]
-fn cause_uncommon_steps(caused: &mut Agenda, step: &Step, outcome: &Result<Plain, Plain>)
+/// Causes the steps of a reaction.
+fn cause_steps(caused: &mut Agenda, step: &Step, outcome: &Result<Plain, Plain>)
     requires room { HasEffectRoom 1 caused.old }
-    requires uncommon { is_common step.now outcome.now ≡ false }
     ensures effects { caused.new.effects ≡ caused.old.effects ++ jobs.steps step.now outcome.now }
     ensures few { length caused.new.effects ≤ length caused.old.effects + 1 }
     ensures capacity { caused.new.capacity ≡ caused.old.capacity }
@@ -60,13 +56,19 @@ fn cause_uncommon_steps(caused: &mut Agenda, step: &Step, outcome: &Result<Plain
             let operation = ReadableOperation::StartSettled(*outcome);
             caused.push(Effect::Readable(*i, operation));
         }
-        Step::ReadablePull(_) => unreachable!(),
+        Step::ReadablePull(i) => {
+            let operation = ReadableOperation::PullSettled(*outcome);
+            caused.push(Effect::Readable(*i, operation));
+        }
         Step::ReturnUndefined => {}
         Step::WritableStart(i) => {
             let operation = WritableOperation::StartSettled(*outcome);
             caused.push(Effect::Writable(*i, operation));
         }
-        Step::WritableWrite(_) => unreachable!(),
+        Step::WritableWrite(i) => {
+            let operation = WritableOperation::WriteSettled(*outcome);
+            caused.push(Effect::Writable(*i, operation));
+        }
         Step::WritableClose(i) => {
             let operation = WritableOperation::CloseSettled(*outcome);
             caused.push(Effect::Writable(*i, operation));
@@ -76,8 +78,8 @@ fn cause_uncommon_steps(caused: &mut Agenda, step: &Step, outcome: &Result<Plain
             caused.push(Effect::Writable(*i, operation));
         }
         Step::PipeEnds(p) => caused.push(Effect::Pipe(*p, PipeOperation::Look)),
-        Step::PipeReady(_) => unreachable!(),
-        Step::PipeWrote(_) => unreachable!(),
+        Step::PipeReady(p) => caused.push(Effect::Pipe(*p, PipeOperation::LookReady)),
+        Step::PipeWrote(p) => caused.push(Effect::Pipe(*p, PipeOperation::WriteEnded)),
         Step::PipeActed(p) => {
             let operation = PipeOperation::ActionSettled(*outcome);
             caused.push(Effect::Pipe(*p, operation));
@@ -86,12 +88,15 @@ fn cause_uncommon_steps(caused: &mut Agenda, step: &Step, outcome: &Result<Plain
             let operation = PipeOperation::PartSettled(*outcome);
             caused.push(Effect::Pipe(*p, operation));
         }
-        Step::TransformChanged(_, promise) => match outcome {
-            Ok(_) => unreachable!(),
+        Step::TransformChanged(t, promise) => match outcome {
+            Ok(_) => {
+                let operation = TransformOperation::WriteGoesOn(*promise);
+                caused.push(Effect::Transform(*t, operation));
+            }
             Err(reason) => caused.push(Effect::Settle(*promise, Err(*reason))),
         },
         Step::Transformed(t) => match outcome {
-            Ok(_) => unreachable!(),
+            Ok(_) => {}
             Err(reason) => {
                 let operation = TransformOperation::Error(*reason);
                 caused.push(Effect::Transform(*t, operation));
@@ -120,52 +125,6 @@ fn cause_uncommon_steps(caused: &mut Agenda, step: &Step, outcome: &Result<Plain
             }
             Err(reason) => caused.push(Effect::Settle(*promise, Err(*reason))),
         },
-    }
-}
-
-/// Causes the steps of a reaction. Those that no chunk meets on its way through a pipe stand apart, since each local
-/// of a function costs at its entry.
-fn cause_steps(caused: &mut Agenda, step: &Step, outcome: &Result<Plain, Plain>)
-    requires room { HasEffectRoom 1 caused.old }
-    ensures effects { caused.new.effects ≡ caused.old.effects ++ jobs.steps step.now outcome.now }
-    ensures few { length caused.new.effects ≤ length caused.old.effects + 1 }
-    ensures capacity { caused.new.capacity ≡ caused.old.capacity }
-{
-    match step {
-        Step::ReadablePull(i) => {
-            let operation = ReadableOperation::PullSettled(*outcome);
-            caused.push(Effect::Readable(*i, operation));
-        }
-        Step::WritableWrite(i) => {
-            let operation = WritableOperation::WriteSettled(*outcome);
-            caused.push(Effect::Writable(*i, operation));
-        }
-        Step::PipeReady(p) => caused.push(Effect::Pipe(*p, PipeOperation::LookReady)),
-        Step::PipeWrote(p) => caused.push(Effect::Pipe(*p, PipeOperation::WriteEnded)),
-        Step::TransformChanged(t, promise) => match outcome {
-            Ok(_) => {
-                let operation = TransformOperation::WriteGoesOn(*promise);
-                caused.push(Effect::Transform(*t, operation));
-            }
-            Err(_) => cause_uncommon_steps(caused, step, outcome),
-        },
-        Step::Transformed(_) => match outcome {
-            Ok(_) => {}
-            Err(_) => cause_uncommon_steps(caused, step, outcome),
-        },
-        Step::ReadableStart(_)
-        | Step::ReturnUndefined
-        | Step::WritableStart(_)
-        | Step::WritableClose(_)
-        | Step::WritableAbort(_, _)
-        | Step::PipeEnds(_)
-        | Step::PipeActed(_)
-        | Step::PipePart(_)
-        | Step::TransformFlushed(_, _)
-        | Step::TransformAborted(_, _, _)
-        | Step::TransformCancelled(_, _, _)
-        | Step::TeeEnds(_)
-        | Step::PortUnblocked(_, _) => cause_uncommon_steps(caused, step, outcome),
     }
 }
 
